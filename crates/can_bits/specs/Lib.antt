@@ -1,0 +1,5 @@
+pub mod Digits
+pub mod Check
+pub mod Body
+pub mod Stuffing
+pub mod Line

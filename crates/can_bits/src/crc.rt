@@ -1,0 +1,33 @@
+ghost use Rattle.std.specs.Prelude.{◌≡◌, ◌<◌, List};
+ghost use Rattle.can_bits.specs.declared.level.Level.{Level as Bus};
+ghost use Rattle.can_bits.specs.Digits.{bits};
+ghost use Rattle.can_bits.specs.Check.{Crc};
+
+use super::level::Level;
+
+/// The generator x^15 + x^14 + x^10 + x^8 + x^7 + x^4 + x^3 + 1 without its first term.
+const GENERATOR: u16 = 0x4599;
+
+/// The check sequence of these levels as a number below 2^15, its first level the most significant digit
+/// (CRC-15/CAN: Bosch CAN 2.0 part A section 3.1.1, "CRC field").
+pub fn crc_of(levels: &[Level]) -> u16
+    ensures fits { result < 32768 }
+    ensures crc { Crc levels.now (bits 15 result) }
+    ensures only { (c : List Bus) → Crc levels.now c → c ≡ bits 15 result }
+{
+    let mut crc = 0;
+    for level in levels {
+        crc = crc_step(crc, *level);
+    }
+    crc
+}
+
+/// The check register after one level more.
+fn crc_step(crc: u16, level: Level) -> u16 {
+    let shifted = (crc & 0x3fff) << 1;
+    if (crc >> 14) ^ level.digit() == 1 {
+        shifted ^ GENERATOR
+    } else {
+        shifted
+    }
+}

@@ -1,0 +1,130 @@
+ghost use Rattle.std.specs.Prelude.{◌≡◌, ◌≢◌, ◌<◌, ◌≤◌, ◌↔◌, IfOk, length};
+ghost use Rattle.can_frame.specs.Frame.{IsFrame, id_limit, data_count};
+
+use super::copied::copied;
+use super::frame_fault::FrameFault;
+use arrayvec::ArrayVec;
+use std::marker::Model;
+
+/// A data frame or a remote frame of CAN 2.0, standard or extended (Bosch CAN 2.0 section 3.1, parts A and B).
+///
+/// Contracts see it as the plain record of what it says: `ext`, `id`, `rtr`, `dlc` and `bytes`.
+#[derive(Debug, PartialEq, Eq, Drop)]
+pub struct Frame {
+    ext: bool,
+    id: u32,
+    rtr: bool,
+    dlc: u8,
+    bytes: ArrayVec<u8, 8>,
+}
+
+impl Model for Frame {
+    ghost use Rattle.can_frame.specs.Frame.{FrameValue, IsFrame};
+
+    ghost Value = { FrameValue };
+
+    ghost view = { λ f. record { ext = f.ext; id = f.id; rtr = f.rtr; dlc = f.dlc; bytes = f.bytes.items } };
+
+    ghost invariant = { λ f. IsFrame (record { ext = f.ext; id = f.id; rtr = f.rtr; dlc = f.dlc; bytes = f.bytes.items }) };
+
+    ghost inverse = { λ v. record { ext = v.ext; id = v.id; rtr = v.rtr; dlc = v.dlc; bytes = record { items = v.bytes } } };
+}
+
+impl Frame {
+    /// The frame of these values: format (`ext`: extended), identifier, kind (`rtr`: remote frame), data length
+    /// code and data bytes. Codes 9 to 15 mean 8 bytes and are kept as given (ISO 11898-1); a remote frame has no
+    /// data whatever its code.
+    ///
+    /// Errors, the first that holds: [`FrameFault::IdRange`] for an identifier above 0x7FF, or 0x1FFF_FFFF where
+    /// extended; [`FrameFault::DlcRange`] for a code above 15; [`FrameFault::DataLength`] for another number of
+    /// bytes than the code says.
+    pub fn new(ext: bool, id: u32, rtr: bool, dlc: u8, bytes: &[u8]) -> Result<Frame, FrameFault>
+        ensures ok { IfOk result (λ f. f ≡ record { ext = ext; id = id; rtr = rtr; dlc = dlc; bytes = bytes.now }) }
+        ensures id_range { (result ≡ Err FrameFault.IdRange) ↔ (id_limit ext ≤ id) }
+        ensures dlc_range { (result ≡ Err FrameFault.DlcRange) ↔ ((id < id_limit ext) × (15 < dlc)) }
+        ensures data_length { (result ≡ Err FrameFault.DataLength)
+            ↔ ((id < id_limit ext) × (dlc < 16) × (length bytes.now ≢ data_count rtr dlc)) }
+    {
+        if id >= id_limit(ext) {
+            return Err(FrameFault::IdRange);
+        }
+        if dlc > 15 {
+            return Err(FrameFault::DlcRange);
+        }
+        if bytes.len() != data_count(rtr, dlc) {
+            return Err(FrameFault::DataLength);
+        }
+        Ok(Frame {
+            ext,
+            id,
+            rtr,
+            dlc,
+            bytes: copied(bytes),
+        })
+    }
+
+    /// Whether the frame is extended: a 29 bit identifier.
+    pub fn ext(&self) -> bool
+        ensures { result ≡ self.now.ext }
+    {
+        self.ext
+    }
+
+    /// The identifier, below 2^11 in a standard frame and below 2^29 in an extended one.
+    pub fn id(&self) -> u32
+        ensures value { result ≡ self.now.id }
+        ensures valid { IsFrame self.now }
+    {
+        self.id
+    }
+
+    /// Whether the frame is a remote frame, which asks for data and has none.
+    pub fn rtr(&self) -> bool
+        ensures { result ≡ self.now.rtr }
+    {
+        self.rtr
+    }
+
+    /// The data length code, 0 to 15, as it was given.
+    pub fn dlc(&self) -> u8
+        ensures value { result ≡ self.now.dlc }
+        ensures valid { IsFrame self.now }
+    {
+        self.dlc
+    }
+
+    /// The data bytes, at most 8.
+    pub fn bytes(&self) -> &[u8]
+        ensures value { result.now ≡ self.now.bytes }
+        ensures valid { IsFrame self.now }
+    {
+        self.bytes.as_slice()
+    }
+
+    /// An equal frame.
+    pub fn copy(&self) -> Frame
+        ensures { result ≡ self.now }
+    {
+        Frame {
+            ext: self.ext,
+            id: self.id,
+            rtr: self.rtr,
+            dlc: self.dlc,
+            bytes: copied(self.bytes.as_slice()),
+        }
+    }
+}
+
+/// The first number that is no identifier.
+fn id_limit(ext: bool) -> u32
+    ensures { result ≡ id_limit ext }
+{
+    if ext { 1 << 29 } else { 1 << 11 }
+}
+
+/// How many data bytes a frame of this kind and length code has.
+pub fn data_count(rtr: bool, dlc: u8) -> usize
+    ensures { result ≡ data_count rtr dlc }
+{
+    if rtr { 0 } else { usize::from(dlc.min(8)) }
+}
