@@ -3,3 +3,5 @@ pub mod Check
 pub mod Body
 pub mod Stuffing
 pub mod Line
+pub mod Fields
+pub mod Spelling

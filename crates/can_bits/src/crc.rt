@@ -29,7 +29,7 @@ fn crc_step(crc: u16, level: Level) -> u16
     ensures divides { (b : List Bus) → IsMultiple (value b * 32768 + crc) → IsMultiple (value (b ++ level ∷ []) * 32768 + result) }
 {
     let shifted = 2 * (crc % 0x4000);
-    if crc >> 14 == level.digit() {
+    if crc >> 14 == u16::from(level.digit()) {
         shifted
     } else {
         shifted ^ GENERATOR

@@ -14,6 +14,7 @@ pub enum Level {
 
 impl Level {
     ghost use Rattle.can_bits.specs.Digits.{digit, level_of, opposite};
+    ghost use Rattle.can_bits.specs.Fields.{is_recessive};
 
     /// The level of a binary digit: recessive is 1.
     pub fn of(digit: bool) -> Level
@@ -27,13 +28,23 @@ impl Level {
     }
 
     /// The binary digit of a level: dominant is 0, recessive is 1.
-    pub fn digit(self) -> u16
+    pub fn digit(self) -> u8
         ensures value { result ≡ digit self }
         ensures fits { result < 2 }
     {
         match self {
             Level::Dominant => 0,
             Level::Recessive => 1,
+        }
+    }
+
+    /// Whether the level is recessive.
+    pub fn is_recessive(self) -> bool
+        ensures { result ≡ is_recessive self }
+    {
+        match self {
+            Level::Dominant => false,
+            Level::Recessive => true,
         }
     }
 

@@ -3,12 +3,15 @@
 
 mod body;
 mod crc;
+mod fields;
 mod laws;
 mod level;
 mod line;
+mod line_fault;
 mod stuffing;
 
 pub use crc::crc_of;
 pub use laws::{a_list_has_one_check_sequence, a_stuffed_list_stuffs_one_list};
 pub use level::Level;
 pub use line::line_of;
+pub use line_fault::LineFault;
