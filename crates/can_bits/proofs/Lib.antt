@@ -4,3 +4,10 @@ pub mod Products
 pub mod Checks
 pub mod Runs
 pub mod Stuffs
+pub mod FieldLemmas
+pub mod Parts
+pub mod Going
+pub mod Ending
+pub mod Verdicts
+pub mod Steps
+pub mod Tails

@@ -1,6 +1,6 @@
 -- Lists from their last element.
-use Rattle.std.proofs.Common.{◌≡◌, ℕ, zero, suc, List, [], ◌∷◌, ◌++◌, reverse, replicate, refl, ap, ◌∙◌, add-one}
-use Rattle.std.proofs.lemmas.List.{reverse-append, replicate_more}
+use Rattle.std.proofs.Common.{◌<◌, length, take, drop, get_or, ◌≡◌, ◌≢◌, sym, ℕ, zero, suc, List, [], ◌∷◌, ◌++◌, reverse, replicate, refl, ap, ◌∙◌, add-one, ◌⊎◌, inl, inr}
+use Rattle.std.proofs.lemmas.List.{reverse-append, replicate_more, append_cancel_left, append-nil, take-append-drop, drop_more}
 
 -- a list with one more in front, reversed
 pub reverse-cons : {A : Type 0} (x : A) (l : List A) → reverse (x ∷ l) ≡ reverse l ++ x ∷ []
@@ -15,3 +15,42 @@ pub reverse-replicate : {A : Type 0} (n : ℕ) (x : A) → reverse (replicate n 
 reverse-replicate zero x = refl
 reverse-replicate (suc n) x =
     reverse-cons x (replicate n x) ∙ ap (λ l. l ++ x ∷ []) (reverse-replicate n x) ∙ replicate_more n x ∙ ap (λ k. replicate k x) (add-one n)
+
+-- of two fronts of one list one is a front of the other
+pub fronts : {A : Type 0} (a b x y : List A) → a ++ x ≡ b ++ y → ((c : List A) × (b ≡ a ++ c)) ⊎ ((c : List A) × (a ≡ b ++ c))
+fronts [] b x y e = inl (b, refl)
+fronts (u ∷ a) [] x y e = inr (u ∷ a, refl)
+fronts (u ∷ a) (v ∷ b) x y e =
+    let same : u ≡ v = cc in
+    let rest : a ++ x ≡ b ++ y = cc in
+    elim (fronts a b x y rest) [
+      inl longer ↦ let h = longer.1 in inl (longer.0, cc)
+      | inr shorter ↦ let h = shorter.1 in inr (shorter.0, cc)
+    ]
+
+-- a list is empty or has a last element
+pub last_of : {A : Type 0} (l : List A) → (l ≡ []) ⊎ ((before : List A) × (x : A) × (l ≡ before ++ x ∷ []))
+last_of [] = inl refl
+last_of (y ∷ l) =
+    elim (last_of l) [
+      inl none ↦ inr ([], y, ap (λ t. y ∷ t) none)
+      | inr some ↦ inr (y ∷ some.0, some.1, ap (λ t. y ∷ t) some.2)
+    ]
+
+-- the rest of a list after a front of it
+pub append-cancel : {A : Type 0} (a x y : List A) → a ++ x ≡ a ++ y → x ≡ y
+append-cancel a x y e = append_cancel_left a x y e
+
+-- a list is empty or has a first element
+pub cases_list : {A : Type 0} (l : List A) → (l ≡ []) ⊎ ((x : A) × (rest : List A) × (l ≡ x ∷ rest))
+cases_list [] = inl refl
+cases_list (x ∷ l) = inr (x, l, refl)
+
+-- a list with something after it isn't itself
+pub longer_not : {A : Type 0} (l : List A) (x : A) (rest : List A) → l ++ x ∷ rest ≢ l
+longer_not l x rest h = let none = append_cancel_left l (x ∷ rest) [] (h ∙ sym (append-nil l)) in cc
+
+-- a list at one of its places
+pub split_at : {A : Type 0} (l : List A) (i : ℕ) (d : A) → i < length l → l ≡ take i l ++ get_or l i d ∷ drop (suc i) l
+split_at l i d h =
+    sym (take-append-drop i l) ∙ ap (λ r. take i l ++ r) (drop_more l i d h ∙ ap (λ n. get_or l i d ∷ drop n l) (add-one i))

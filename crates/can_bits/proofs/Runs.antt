@@ -1,5 +1,5 @@
 -- Runs of equal levels in a list that has its newest level first.
-use Rattle.std.proofs.Common.{◌≡◌, ◌≢◌, ◌≤◌, inl, inr, ℕ, zero, suc, Bool, true, false, if◌then◌else◌, List, [], ◌∷◌, ◌++◌, reverse, replicate, drop, refl, ap, sym, subst, ◌∙◌, arith, append_assoc}
+use Rattle.std.proofs.Common.{◌+◌, ◌≡◌, ◌≢◌, ◌≤◌, inl, inr, ℕ, zero, suc, Bool, true, false, if◌then◌else◌, List, [], ◌∷◌, ◌++◌, reverse, replicate, drop, refl, ap, sym, subst, ◌∙◌, arith, append_assoc}
 use Rattle.std.proofs.lemmas.Bool.{cases_Bool, cases_lt}
 use Rattle.std.proofs.lemmas.List.{append-nil, reverse-append, reverse-reverse}
 use Rattle.can_bits.specs.declared.level.Level.{Level}
@@ -69,6 +69,15 @@ run-same x past = rw (same-refl x) refl
 -- another level begins a run
 pub run-other : (x y : Level) (past : List Level) → x ≢ y → run (x ∷ y ∷ past) ≡ 1
 run-other x y past h = rw (same-other x y h) refl
+
+-- a level makes the run longer by one at most
+pub run_one_more : (x : Level) (past : List Level) → run (x ∷ past) ≤ run past + 1
+run_one_more x [] = omega arith
+run_one_more x (y ∷ past) =
+    elim (cases_Bool (same x y)) [
+      inl t ↦ let e = ap (λ z. run (z ∷ y ∷ past)) (same-true x y t) ∙ run-same y past in omega (arith, e)
+      | inr f ↦ rw f (omega arith)
+    ]
 
 -- a list with the newest level first begins with n equal levels where its reverse ends in them
 pub ends_in_run : (n : ℕ) (past : List Level) → EndsInEqual (suc n) (reverse past) → suc n ≤ run past

@@ -91,7 +91,7 @@ pub Stuffed-unique : (w v s : List Level) → Stuffed w s → Stuffed v s → w 
 Stuffed-unique w v s hw hv = IsUnstuffed-unique w v s hw.unstuffed hv.unstuffed
 
 -- the other level is another one
-opposite-other : (x : Level) → opposite x ≢ x
+pub opposite-other : (x : Level) → opposite x ≢ x
 opposite-other Dominant h = cc
 opposite-other Recessive h = cc
 
@@ -112,17 +112,17 @@ pub Stands-nothing : (x : Level) → Stands [] [] x 0
 Stands-nothing x = record { short = tt; unstuffs = refl; leads = refl; few = omega arith }
 
 -- the run of a list is what leads it
-run-leads : (x : Level) (n : ℕ) (past : List Level) → Leads x n past → run past ≡ n
+pub run-leads : (x : Level) (n : ℕ) (past : List Level) → Leads x n past → run past ≡ n
 run-leads x n [] h = sym h
 run-leads x n (y ∷ past) h = sym h.1
 
 -- a level like the last one
-lead-same : (x : Level) (n : ℕ) (past : List Level) → Leads x n past → run (x ∷ past) ≡ n + 1
+pub lead-same : (x : Level) (n : ℕ) (past : List Level) → Leads x n past → run (x ∷ past) ≡ n + 1
 lead-same x n [] h = omega (arith, h)
 lead-same x n (y ∷ past) h = ap (λ z. run (z ∷ y ∷ past)) h.0 ∙ run-same y past ∙ omega (arith, h.1)
 
 -- another level
-lead-other : (x y : Level) (n : ℕ) (past : List Level) → Leads x n past → y ≢ x → run (y ∷ past) ≡ 1
+pub lead-other : (x y : Level) (n : ℕ) (past : List Level) → Leads x n past → y ≢ x → run (y ∷ past) ≡ 1
 lead-other x y n [] h other = refl
 lead-other x y n (z ∷ past) h other = run-other y z past (λ e. other (e ∙ sym h.0))
 

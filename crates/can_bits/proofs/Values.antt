@@ -1,11 +1,12 @@
 -- Levels as binary digits.
-use Rattle.std.proofs.Common.{◌≡◌, ◌+◌, ◌*◌, ◌/◌, ◌%◌, ◌^◌, ◌<◌, ◌==◌, ℕ, zero, suc, List, [], ◌∷◌, ◌++◌, length, refl, ap, sym, ◌∙◌, arith, append_assoc, add-one, ◌-◌}
+use Rattle.std.proofs.Common.{true, false, ◌≡◌, ◌+◌, ◌*◌, ◌/◌, ◌%◌, ◌^◌, ◌<◌, ◌==◌, ℕ, zero, suc, List, [], ◌∷◌, ◌++◌, length, refl, ap, sym, ◌∙◌, arith, append_assoc, add-one, ◌-◌}
 use Rattle.std.proofs.Math.Nat.{pow-succ'}
 use Rattle.std.proofs.lemmas.Nat.{shr-shr}
 use Rattle.std.proofs.lemmas.List.{length-append, append-nil}
 use Rattle.std.proofs.lemmas.List.Sums.{fold_push}
 use Rattle.can_bits.specs.declared.level.Level.{Level}
 use Rattle.can_bits.specs.declared.level.Level.TheVariants.{Dominant, Recessive}
+use Rattle.can_bits.specs.Fields.{is_recessive}
 use Rattle.can_bits.specs.Digits.{digit, level_of, bits, value}
 
 -- a digit is 0 or 1
@@ -95,3 +96,12 @@ value-injective (Recessive ∷ c) (Dominant ∷ d) n h =
     let same : length c ≡ length d = omega arith in
     let power = ap (λ k. 2 ^ k) same in
     absurd (omega (arith, power, value-lt d, value-append (Recessive ∷ []) c, value-append (Dominant ∷ []) d))
+
+-- a level that is recessive, and one that isn't
+pub recessive_by : (x : Level) → is_recessive x ≡ true → x ≡ Recessive
+recessive_by Dominant h = cc
+recessive_by Recessive h = refl
+
+pub dominant_by : (x : Level) → is_recessive x ≡ false → x ≡ Dominant
+dominant_by Dominant h = refl
+dominant_by Recessive h = cc

@@ -5,3 +5,4 @@ pub mod Stuffing
 pub mod Line
 pub mod Fields
 pub mod Spelling
+pub mod Reading

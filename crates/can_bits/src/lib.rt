@@ -3,15 +3,20 @@
 
 mod body;
 mod crc;
+mod decode;
 mod fields;
 mod laws;
 mod level;
 mod line;
 mod line_fault;
+mod part;
+mod reading;
 mod stuffing;
+mod tail;
 
 pub use crc::crc_of;
 pub use laws::{a_list_has_one_check_sequence, a_stuffed_list_stuffs_one_list};
 pub use level::Level;
 pub use line::line_of;
 pub use line_fault::LineFault;
+pub use reading::read_line;

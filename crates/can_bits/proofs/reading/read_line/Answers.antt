@@ -1,0 +1,8 @@
+use Rattle.can_bits.proofs.Verdicts.{judged_by, frame_only, fault_only}
+use Rattle.can_bits.proofs.reading.read_line.Goals as goal
+
+pub returns-clause-frame_only : goal.returns-clause-frame_only
+returns-clause-frame_only c = frame_only c.args.levels.now c.read.result (judged_by _ _ c.read.ensures.frame c.read.ensures.fault)
+
+pub returns-clause-fault_only : goal.returns-clause-fault_only
+returns-clause-fault_only c = fault_only c.args.levels.now c.read.result (judged_by _ _ c.read.ensures.frame c.read.ensures.fault)

@@ -1,0 +1,106 @@
+-- What levels say when they are read as a line.
+use Rattle.std.specs.Prelude.{Bool, true, false, ◌≡◌, ◌≢◌, ◌≤◌, ◌<◌, ◌⊎◌, ℕ, List, [], ◌∷◌, ◌++◌, length}
+use Rattle.can_frame.specs.Frame.{FrameValue}
+use Rattle.can_bits.specs.declared.level.Level.{Level}
+use Rattle.can_bits.specs.declared.level.Level.TheVariants.{Dominant, Recessive}
+use Rattle.can_bits.specs.declared.line_fault.LineFault.{LineFault}
+use Rattle.can_bits.specs.declared.line_fault.LineFault.TheVariants.{Stuff, Form, Crc as CheckFault, NoAck, Truncated, Trailing}
+use Rattle.can_bits.specs.Check.{Crc}
+use Rattle.can_bits.specs.Line.{StuffedPart, Line}
+
+-- l is a line of f with its check sequence, and it was acknowledged
+pub record IsReceived (f : FrameValue) (l : List Level) : Type 0 where
+  pub body : List Level
+  pub check : List Level
+  pub right : Crc body check
+  pub line : Line f body check Dominant l
+
+-- some line begins with these levels
+pub record Begins (l : List Level) : Type 0 where
+  pub frame : FrameValue
+  pub body : List Level
+  pub check : List Level
+  pub ack : Level
+  pub rest : List Level
+  pub line : Line frame body check ack (l ++ rest)
+
+-- the stuffed part of some line has come whole
+pub record IsPastPart (l : List Level) : Type 0 where
+  pub frame : FrameValue
+  pub body : List Level
+  pub check : List Level
+  pub part : List Level
+  pub rest : List Level
+  pub is_part : StuffedPart frame body check part
+  pub whole : l ≡ part ++ rest
+
+-- some line begins with these levels and has at least one more. Nothing is wrong with it so far: its check sequence is
+-- right, once the delimiter after it has come (nine levels are missing then), and it was acknowledged, once the
+-- acknowledgement slot has come (eight are missing)
+pub record IsOpen (l : List Level) : Type 0 where
+  pub frame : FrameValue
+  pub body : List Level
+  pub check : List Level
+  pub ack : Level
+  pub rest : List Level
+  pub line : Line frame body check ack (l ++ rest)
+  pub more : 1 ≤ length rest
+  pub right : length rest ≤ 9 → Crc body check
+  pub acked : length rest ≤ 8 → ack ≡ Dominant
+
+-- the levels are right up to here, and with the next one no line begins
+pub record BreaksAfter (front l : List Level) : Type 0 where
+  pub good : IsOpen front
+  pub wrong : Level
+  pub rest : List Level
+  pub whole : l ≡ front ++ wrong ∷ rest
+  pub none : ¬ Begins (front ++ wrong ∷ [])
+
+-- the next level belongs to the stuffed part, after the start of frame
+pub record IsInPart (front : List Level) : Type 0 where
+  pub begun : front ≢ []
+  pub before_end : ¬ IsPastPart front
+
+-- the whole stuffed part has come and the delimiter after it, and the check sequence is wrong
+pub record HasWrongCheck (l : List Level) : Type 0 where
+  pub frame : FrameValue
+  pub body : List Level
+  pub check : List Level
+  pub part : List Level
+  pub rest : List Level
+  pub is_part : StuffedPart frame body check part
+  pub wrong : ¬ Crc body check
+  pub whole : l ≡ part ++ Recessive ∷ rest
+
+-- the check sequence is right, and the level in the acknowledgement slot is recessive
+pub record IsNotAcknowledged (l : List Level) : Type 0 where
+  pub frame : FrameValue
+  pub body : List Level
+  pub check : List Level
+  pub part : List Level
+  pub rest : List Level
+  pub is_part : StuffedPart frame body check part
+  pub right : Crc body check
+  pub whole : l ≡ part ++ Recessive ∷ Recessive ∷ rest
+
+-- a received line has come, and after it more levels
+pub record GoesOnAfter (front l : List Level) : Type 0 where
+  pub frame : FrameValue
+  pub received : IsReceived frame front
+  pub next : Level
+  pub rest : List Level
+  pub whole : l ≡ front ++ next ∷ rest
+
+-- the first thing that is wrong with a list of levels, in order of place
+abbrev pub IsFirstFault : List Level → LineFault → Type 0
+IsFirstFault l (Stuff at) = (front : List Level) × BreaksAfter front l × IsInPart front × (length front ≡ at)
+IsFirstFault l (Form at) = (front : List Level) × BreaksAfter front l × ¬ IsInPart front × (length front ≡ at)
+IsFirstFault l CheckFault = HasWrongCheck l
+IsFirstFault l NoAck = IsNotAcknowledged l
+IsFirstFault l Truncated = IsOpen l
+IsFirstFault l (Trailing at) = (front : List Level) × GoesOnAfter front l × (length front ≡ at)
+
+-- a bool that says whether the check sequence is right
+abbrev pub SaysWhetherRight : Bool → List Level → List Level → Type 0
+SaysWhetherRight true b c = Crc b c
+SaysWhetherRight false b c = ¬ Crc b c

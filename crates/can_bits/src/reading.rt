@@ -1,0 +1,56 @@
+ghost use Rattle.std.specs.Prelude.{◌≡◌, ◌≤◌, ◌++◌, List, length, IfOk, IfErr};
+ghost use Rattle.can_frame.specs.Frame.{FrameValue};
+ghost use Rattle.can_bits.specs.Reading.{IsReceived, IsFirstFault, SaysWhetherRight};
+ghost use Rattle.can_bits.specs.declared.level.Level.{Level as Bus};
+ghost use Rattle.can_bits.specs.declared.line_fault.LineFault.{LineFault as Fault};
+
+use super::crc::crc_of;
+use super::decode::frame_of;
+use super::fields::number_of;
+use super::level::Level;
+use super::line_fault::LineFault;
+use super::part::read_part;
+use super::tail::judge_tail;
+use can_frame::Frame;
+
+/// How many levels a check sequence has.
+const CHECK: usize = 15;
+
+/// The frame whose acknowledged line these levels are.
+///
+/// Errors, the first in order of place: [`LineFault::Stuff`] and [`LineFault::Form`] at the first level with which no
+/// line begins; [`LineFault::Crc`] for a wrong check sequence, judged after its delimiter; [`LineFault::NoAck`] for a
+/// recessive acknowledgement slot; [`LineFault::Truncated`] where the levels end before the line does;
+/// [`LineFault::Trailing`] where they go on after it. Reserved bits and SRR are taken at either level, and all seven
+/// bits of the end of frame are recessive (Bosch CAN 2.0 part B section 3.1.1; ISO 11898-1). The order is this project's
+/// own rule.
+pub fn read_line(levels: &[Level]) -> Result<Frame, LineFault>
+    ensures frame { IfOk result (λ f. IsReceived f levels.now) }
+    ensures fault { IfErr result (IsFirstFault levels.now) }
+
+    // each answer is the only one
+    ensures frame_only { (f : FrameValue) → IsReceived f levels.now → result ≡ Ok f }
+    ensures fault_only { (e : Fault) → IsFirstFault levels.now e → result ≡ Err e }
+{
+    read(levels)
+}
+
+/// The same, with what each answer says.
+fn read(levels: &[Level]) -> Result<Frame, LineFault>
+    ensures frame { IfOk result (λ f. IsReceived f levels.now) }
+    ensures fault { IfErr result (IsFirstFault levels.now) }
+{
+    let part = read_part(levels)?;
+    let right = check_is_right(part.bits.as_slice());
+    judge_tail(&levels[part.count..], part.count, right)?;
+    Ok(frame_of(part.bits.as_slice()))
+}
+
+/// Whether the last 15 of these levels are the check sequence of those before.
+fn check_is_right(bits: &[Level]) -> bool
+    requires { 15 ≤ length bits.now }
+    ensures { (b c : List Bus) → bits.now ≡ b ++ c → length c ≡ 15 → SaysWhetherRight result b c }
+{
+    let (body, check) = bits.split_at(bits.len() - CHECK);
+    u32::from(crc_of(body)) == number_of(check)
+}
