@@ -1,6 +1,6 @@
 -- Lists from their last element.
-use Rattle.std.proofs.Common.{◌≡◌, ℕ, zero, suc, List, [], ◌∷◌, ◌++◌, reverse, replicate, refl, ap, ◌∙◌, add-one}
-use Rattle.std.proofs.lemmas.List.{reverse-append, replicate_more}
+use Rattle.std.proofs.Common.{◌≡◌, ℕ, zero, suc, List, [], ◌∷◌, ◌++◌, length, reverse, replicate, take, drop, refl, ap, sym, ◌∙◌, add-one}
+use Rattle.std.proofs.lemmas.List.{reverse-append, replicate_more, take_at, drop_at}
 
 -- a list with one more in front, reversed
 pub reverse-cons : {A : Type 0} (x : A) (l : List A) → reverse (x ∷ l) ≡ reverse l ++ x ∷ []
@@ -15,3 +15,10 @@ pub reverse-replicate : {A : Type 0} (n : ℕ) (x : A) → reverse (replicate n 
 reverse-replicate zero x = refl
 reverse-replicate (suc n) x =
     reverse-cons x (replicate n x) ∙ ap (λ l. l ++ x ∷ []) (reverse-replicate n x) ∙ replicate_more n x ∙ ap (λ k. replicate k x) (add-one n)
+
+-- equal lists, each in two parts: first parts of one length are equal, and so are the second ones
+pub append-split : {A : Type 0} (a b c d : List A) → length a ≡ length c → a ++ b ≡ c ++ d → (a ≡ c) × (b ≡ d)
+append-split a b c d n h = (
+  sym (take_at a b (length c) n) ∙ ap (λ l. take (length c) l) h ∙ take_at c d (length c) refl,
+  sym (drop_at a b (length c) n) ∙ ap (λ l. drop (length c) l) h ∙ drop_at c d (length c) refl,
+)
