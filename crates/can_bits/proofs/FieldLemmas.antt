@@ -25,7 +25,7 @@ says_as : {w : List Level} {format remote other : Bool} {code number : ℕ} → 
 says_as told r n = record { begins = told.begins; ext = told.ext; rtr = told.rtr ∙ r; dlc = told.dlc ∙ n }
 
 -- the level of a bit is recessive where the bit is 1
-recessive-level : (b : Bool) → is_recessive (level_of b) ≡ b
+pub recessive-level : (b : Bool) → is_recessive (level_of b) ≡ b
 recessive-level false = refl
 recessive-level true = refl
 
@@ -36,7 +36,7 @@ level_after a b n p q h e =
     get_or-append_right a b n p Dominant h (omega arith) ∙ ap (λ k. level_at b k) place
 
 -- equal levels write equal numbers
-four-same : (v w : List Level) (p q : ℕ) → ((k : ℕ) → k < 4 → level_at v (p + k) ≡ level_at w (q + k)) → four_from v p ≡ four_from w q
+pub four-same : (v w : List Level) (p q : ℕ) → ((k : ℕ) → k < 4 → level_at v (p + k) ≡ level_at w (q + k)) → four_from v p ≡ four_from w q
 four-same v w p q h =
     let p0 : p + 0 ≡ p = omega arith in
     let q0 : q + 0 ≡ q = omega arith in
@@ -48,7 +48,7 @@ four_after : (a b : List Level) (n p q : ℕ) → length a ≡ n → p ≡ n + q
 four_after a b n p q h e = four-same (a ++ b) b p q (λ k below. level_after a b n (p + k) (q + k) h (omega arith))
 
 -- the number of the first four levels
-four-value : (d rest : List Level) → length d ≡ 4 → four_from (d ++ rest) 0 ≡ value d
+pub four-value : (d rest : List Level) → length d ≡ 4 → four_from (d ++ rest) 0 ≡ value d
 four-value (a ∷ b ∷ c ∷ e ∷ []) rest h = omega arith
 four-value [] rest h = absurd (omega arith)
 four-value (a ∷ []) rest h = absurd (omega arith)
@@ -151,10 +151,14 @@ count-says w format remote code ext rtr dlc =
     ∙ ap (λ r. dlc_place format + 19 + 8 * data_count r (says_dlc w)) rtr
     ∙ ap (λ n. dlc_place format + 19 + 8 * data_count remote n) dlc
 
+-- what levels say that spell a frame
+pub says_spelled : (f : FrameValue) (b c w : List Level) → Spells f b c w → Says w f.ext f.rtr f.dlc
+says_spelled f b c w h = subst (λ l. Says l f.ext f.rtr f.dlc) (sym h.whole) (says_body f b c h.frame h.body)
+
 -- a body and 15 levels begin with a start of frame and are as many as they say
 pub whole_of : (f : FrameValue) (b c w : List Level) → Spells f b c w → IsWhole w
 whole_of f b c w h =
-    let told : Says w f.ext f.rtr f.dlc = subst (λ l. Says l f.ext f.rtr f.dlc) (sym h.whole) (says_body f b c h.frame h.body) in
+    let told = says_spelled f b c w h in
     let said = count-says w f.ext f.rtr f.dlc told.ext told.rtr told.dlc in
     record {
       begins = told.begins;

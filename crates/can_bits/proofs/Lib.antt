@@ -2,6 +2,7 @@ pub mod Lists
 pub mod Values
 pub mod Bytes
 pub mod FieldLemmas
+pub mod DecodeLemmas
 pub mod Products
 pub mod Checks
 pub mod Runs

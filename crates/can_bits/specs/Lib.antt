@@ -4,4 +4,5 @@ pub mod Body
 pub mod Stuffing
 pub mod Line
 pub mod Fields
+pub mod Data
 pub mod Spelling
