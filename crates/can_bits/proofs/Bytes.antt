@@ -1,12 +1,13 @@
 -- The levels of bytes.
-use Rattle.std.proofs.Common.{◌≡◌, ◌*◌, ◌^◌, ◌<◌, ℕ, zero, suc, List, [], ◌∷◌, ◌++◌, length, take, drop, refl, ap, sym, subst, ◌∙◌, arith, All}
+use Rattle.std.proofs.Common.{◌≡◌, ◌+◌, ◌*◌, ◌^◌, ◌<◌, ◌≤◌, ℕ, zero, suc, List, [], ◌∷◌, ◌++◌, length, take, drop, slice_range, refl, ap, sym, subst, ◌∙◌, arith, All}
 use Rattle.std.specs.List.{flat_map}
-use Rattle.std.proofs.lemmas.List.{length-append, length-take-le, length-drop, take-append-drop, nil_from_length}
-use Rattle.std.proofs.lemmas.List.Elements.{All-nil, All-cons}
+use Rattle.std.proofs.lemmas.List.{length-append, length-take-le, length-drop, take-append-drop, nil_from_length, append-nil}
+use Rattle.std.proofs.lemmas.Grind.{flat_map-append}
+use Rattle.std.proofs.lemmas.List.Elements.{All-nil, All-cons, All-append}
 use Rattle.can_bits.specs.declared.level.Level.{Level}
 use Rattle.can_bits.specs.Digits.{bits, value}
 use Rattle.can_bits.proofs.Values.{length-bits, bits-value, bits-injective, value-lt}
-use Rattle.can_bits.proofs.Lists.{append-split}
+use Rattle.can_bits.proofs.Lists.{append-split, length_range, take-range}
 
 -- eight levels a byte
 pub length_bytes : (bytes : List ℕ) → length (flat_map (bits 8) bytes) ≡ 8 * length bytes
@@ -46,3 +47,20 @@ bytes_of (suc n) l h =
         small = All-cons (λ byte. byte < 256) (value first) bytes small rest.small;
       },
     )
+
+-- a group of eight levels more is a byte more
+pub Writes-more : (bytes : List ℕ) (l : List Level) (k byte : ℕ) → 8 * k + 8 ≤ length l → Writes bytes (take (8 * k) l) →
+    byte ≡ value (slice_range l (8 * k) (8 * k + 8)) → Writes (bytes ++ byte ∷ []) (take (8 * (k + 1)) l)
+Writes-more bytes l k byte h written e =
+    let group : List Level = slice_range l (8 * k) (8 * k + 8) in
+    let count : length group ≡ 8 = length_range l (8 * k) (8 * k + 8) (omega arith) h ∙ omega arith in
+    let small : value group < 256 = subst (λ n. value group < 2 ^ n) count (value-lt group) in
+    let digits : bits 8 byte ≡ group = ap (λ n. bits 8 n) e ∙ bits-value 8 group count in
+    let place : 8 * k + 8 ≡ 8 * (k + 1) = omega arith in
+    let one : All (λ b. b < 256) (byte ∷ []) = All-cons (λ b. b < 256) byte [] (omega (arith, e)) (All-nil (λ b. b < 256)) in
+    record {
+      levels = flat_map-append (bits 8) bytes (byte ∷ []) ∙ ap (λ t. t ++ (bits 8 byte ++ [])) written.levels
+          ∙ ap (λ t. take (8 * k) l ++ t) (append-nil (bits 8 byte) ∙ digits) ∙ sym (take-range l (8 * k) (8 * k + 8) (omega arith))
+          ∙ ap (λ n. take n l) place;
+      small = All-append (λ b. b < 256) bytes (byte ∷ []) written.small one;
+    }

@@ -1,7 +1,7 @@
 -- The frame that levels spell.
 use Rattle.std.proofs.Common.{◌≡◌, ◌+◌, ◌-◌, ◌*◌, ◌/◌, ◌^◌, ◌<◌, ◌≤◌, ℕ, Bool, true, false, List, [], ◌∷◌, ◌++◌, length, drop, slice_range, refl, ap, sym, subst, ◌∙◌, arith, append_assoc}
 use Rattle.std.specs.List.{flat_map}
-use Rattle.std.proofs.lemmas.List.{get_or-drop, length-append, length-drop, length-take-le, drop_more}
+use Rattle.std.proofs.lemmas.List.{get_or-drop, length-append, length-drop, drop_more}
 use Rattle.std.proofs.lemmas.List.Folds.{drop_split}
 use Rattle.can_frame.specs.Frame.{FrameValue, IsFrame, id_limit, data_count}
 use Rattle.can_bits.specs.declared.level.Level.{Level}
@@ -11,7 +11,7 @@ use Rattle.can_bits.specs.Body.{head_bits, IsBody}
 use Rattle.can_bits.specs.Fields.{level_at, is_recessive, says_ext, rtr_place, dlc_place, says_rtr, four_from, says_dlc, IsWhole}
 use Rattle.can_bits.specs.Data.{id_by, says_id, data_place, says_bytes, data_levels}
 use Rattle.can_bits.specs.Spelling.{Spells}
-use Rattle.can_bits.proofs.Lists.{append-split}
+use Rattle.can_bits.proofs.Lists.{append-split, length_range}
 use Rattle.can_bits.proofs.Values.{length-bits, digit-lt, value-append, value-lt, bits-value, bits-injective, bits-split}
 use Rattle.can_bits.proofs.Bytes.{Writes, bytes_of, bytes-injective}
 use Rattle.can_bits.proofs.FieldLemmas.{four-same, four-value, length_head, says_spelled, whole_has_fields}
@@ -29,10 +29,6 @@ dominant-level Recessive h = cc
 recessive-is : (x : Level) → is_recessive x ≡ true → x ≡ Recessive
 recessive-is Dominant h = cc
 recessive-is Recessive h = refl
-
--- how many levels a part of a list has
-length_range : (w : List Level) (a b : ℕ) → a ≤ b → b ≤ length w → length (slice_range w a b) ≡ b - a
-length_range w a b h k = length-take-le (b - a) (drop a w) (omega (arith, length-drop a w))
 
 -- four levels of a list are the digits of the number that they write
 four_levels : (w : List Level) (p : ℕ) → p + 4 ≤ length w → drop p w ≡ bits 4 (four_from w p) ++ drop (p + 4) w

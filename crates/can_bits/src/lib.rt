@@ -3,6 +3,7 @@
 
 mod body;
 mod crc;
+mod decode;
 mod fields;
 mod laws;
 mod level;
