@@ -1,14 +1,15 @@
 -- The check sequence.
 use Rattle.std.proofs.Common.{◌≡◌, ◌+◌, ◌*◌, ◌/◌, ◌%◌, ◌^◌, ◌<◌, ◌≢◌, ◌-◌, ℕ, zero, suc, List, [], ◌∷◌, ◌++◌, refl, ap, sym, subst, ◌∙◌, arith}
-use Rattle.std.proofs.Common.{append_assoc, inl, inr}
-use Rattle.std.proofs.lemmas.Bool.{cases_eq}
+use Rattle.std.proofs.Common.{◌==◌, length, append_assoc, inl, inr}
+use Rattle.std.proofs.lemmas.Bool.{cases_eq, cases_Bool, eqb-true, eqb-false}
 use Rattle.std.proofs.lemmas.List.{append-nil}
 use Rattle.std.specs.Prelude.{bit_xor}
 use Rattle.std.specs.Int.Bits.{xor_block, xor_comm, xor_lt, xor_zero_l}
 use Rattle.can_bits.specs.declared.level.Level.{Level}
 use Rattle.can_bits.specs.Digits.{digit, bits, value}
+use Rattle.can_bits.specs.Reading.{SaysWhetherRight}
 use Rattle.can_bits.specs.Check.{generator, IsMultiple, Crc}
-use Rattle.can_bits.proofs.Values.{digit-lt, value-push, value-append, value-append-bits, value-lt, value-injective, length-bits}
+use Rattle.can_bits.proofs.Values.{digit-lt, value-push, value-append, value-append-bits, value-lt, value-injective, value-bits, length-bits}
 use Rattle.can_bits.proofs.Products.{IsMultiple-double, IsMultiple-double-add, multiples_agree}
 
 -- with these 15 digits after them the levels are a multiple of the generator
@@ -86,3 +87,15 @@ Crc_exists b =
     let (r, h) = divided_after [] b 0 Divided-nothing in
     let whole = Crc_of b r h in
     (bits 15 r, whole, λ d other. Crc-unique b d (bits 15 r) other whole)
+
+-- comparing a check sequence with the right one, as numbers
+pub says_whether : (b c : List Level) (n m : ℕ) → Crc b (bits 15 n) → n < 2 ^ 15 → ((d : List Level) → Crc b d → d ≡ bits 15 n) →
+    length c ≡ 15 → m ≡ value c → SaysWhetherRight (n == m) b c
+says_whether b c n m right fits only count number =
+    let writes = value-bits 15 n fits in
+    elim (cases_Bool (n == m)) [
+      | inl t ↦
+          let same : c ≡ bits 15 n = value-injective c (bits 15 n) (count ∙ sym (length-bits 15 n)) (sym number ∙ sym (eqb-true n m t) ∙ sym writes) in
+          rw t (subst (λ d. Crc b d) (sym same) right)
+      | inr f ↦ rw f (λ h. eqb-false n m f (sym writes ∙ ap value (sym (only c h)) ∙ sym number))
+    ]

@@ -1,24 +1,23 @@
 -- Where a line can only go on in one way.
-use Rattle.std.proofs.Common.{◌≡◌, ◌≢◌, ◌+◌, ◌<◌, ◌≤◌, ◌⊎◌, inl, inr, ℕ, List, [], ◌∷◌, ◌++◌, length, reverse, replicate, refl, ap, sym, subst, ◌∙◌, arith, append_assoc}
-use Rattle.std.proofs.lemmas.List.{append-nil, reverse-append, reverse-reverse, length-append, same_from_push}
+use Rattle.std.proofs.Common.{◌≡◌, ◌≤◌, ◌⊎◌, inl, inr, List, [], ◌∷◌, ◌++◌, reverse, refl, ap, sym, subst, ◌∙◌, arith, append_assoc}
+use Rattle.std.proofs.lemmas.List.{append-nil, reverse-append, reverse-reverse, same_from_push}
 use Rattle.can_frame.specs.Frame.{FrameValue}
 use Rattle.can_bits.specs.declared.level.Level.{Level}
 use Rattle.can_bits.specs.declared.level.Level.TheVariants.{Dominant, Recessive}
-use Rattle.can_bits.specs.Fields.{level_at, says_count, IsWhole}
+use Rattle.can_bits.specs.Fields.{level_at}
 use Rattle.can_bits.specs.Line.{StuffedPart, Line, tail}
 use Rattle.can_bits.specs.Reading.{Begins, IsPastPart}
 use Rattle.can_bits.proofs.Lists.{reverse-cons, reverse-push, fronts, last_of, append-cancel}
 use Rattle.can_bits.proofs.Runs.{run, IsShort}
-use Rattle.can_bits.proofs.Stuffs.{unstuffed}
-use Rattle.can_bits.proofs.Parts.{plain, IsPart, part_to, spelt, plain-part, beyond, part_once, unstuffed-later}
+use Rattle.can_bits.proofs.Parts.{plain, IsPart, part_to, spelt, beyond, part_once, unstuffed-later}
 use Rattle.can_bits.proofs.Going.{IsInside}
-use Rattle.can_bits.proofs.FieldLemmas.{Spells-unique}
+use Rattle.can_bits.proofs.DecodeLemmas.{Spells-unique}
 
 -- one list of levels has one stuffed part at its beginning
 pub same_part : {f g : FrameValue} {b c d e s t : List Level} (x y : List Level) → StuffedPart f b c s → StuffedPart g d e t → s ++ x ≡ t ++ y → s ≡ t
 same_part {s = s} {t = t} x y h k e =
     let whole : reverse (reverse s) ++ x ≡ reverse (reverse t) ++ y =
-        ap (λ l. l ++ x) (reverse-reverse s) ∙ e ∙ ap (λ l. l ++ y) (sym (reverse-reverse t)) in
+    ap (λ l. l ++ x) (reverse-reverse s) ∙ e ∙ ap (λ l. l ++ y) (sym (reverse-reverse t)) in
     sym (reverse-reverse s) ∙ ap reverse (part_once (reverse s) (reverse t) x y (part_to h) (part_to k) whole) ∙ reverse-reverse t
 
 -- one stuffed part has one frame, body and check sequence
@@ -43,33 +42,33 @@ line_at {f = f} {g = g} {b = b} {c = c} {d = d} {e = e} {ack = ack} part after r
       frame = spells.0;
       body = spells.1;
       check = spells.2;
-      tails = sym (append-cancel part (after ++ rest) (tail ack) (whole ∙ ap (λ p. p ++ tail ack) (sym same)))
+      tails = sym (append-cancel part (after ++ rest) (tail ack) (whole ∙ ap (λ p. p ++ tail ack) (sym same)));
     }
 
 -- no whole stuffed part has come where one goes on
 no_part : (q part : List Level) → IsPart part → IsInside (q ++ part) → ⊥
 no_part q part h k =
     elim (last_of q) [
-      inl none ↦
-        let P : List Level → Type 0 = λ l. IsInside (l ++ part) in
-        let here = subst P none k in
-        let count = h.whole.count in
-        let closed = h.closed in
-        let five = here.goes_on count in
-        omega arith
+      | inl none ↦
+          let P : List Level → Type 0 = λ l. IsInside (l ++ part) in
+          let here = subst P none k in
+          let count = h.whole.count in
+          let closed = h.closed in
+          let five = here.goes_on count in
+          omega arith
       | inr some ↦
-        let P : List Level → Type 0 = λ l. IsInside (l ++ part) in
-        let here = subst P some.2 k in
-        let more = beyond some.0 some.1 part h in
-        let fits = here.fits in
-        omega arith
+          let P : List Level → Type 0 = λ l. IsInside (l ++ part) in
+          let here = subst P some.2 k in
+          let more = beyond some.0 some.1 part h in
+          let fits = here.fits in
+          omega arith
     ]
 
 pub inside_not_past : (l : List Level) → IsInside (reverse l) → ¬ IsPastPart l
 inside_not_past l h = λ p.
     let P : List Level → Type 0 = λ q. IsInside q in
     no_part (reverse p.rest) (reverse p.part) (part_to p.is_part)
-        (subst P (ap reverse p.whole ∙ reverse-append p.part p.rest) h)
+    (subst P (ap reverse p.whole ∙ reverse-append p.part p.rest) h)
 
 -- a line that begins with these levels has its stuffed part past them or within
 pub begins_in : (l : List Level) → Begins l →
@@ -77,8 +76,8 @@ pub begins_in : (l : List Level) → Begins l →
 begins_in l h =
     let line = h.line in
     elim (fronts l line.part h.rest (tail h.ack) line.whole) [
-      inl longer ↦ let P : List Level → Type 0 = λ p. StuffedPart h.frame h.body h.check p in
-        inl (h.frame, h.body, h.check, longer.0, subst P longer.1 line.is_part)
+      | inl longer ↦ let P : List Level → Type 0 = λ p. StuffedPart h.frame h.body h.check p in
+          inl (h.frame, h.body, h.check, longer.0, subst P longer.1 line.is_part)
       | inr shorter ↦ inr (record { frame = h.frame; body = h.body; check = h.check; part = line.part; rest = shorter.0; is_part = line.is_part; whole = shorter.1 })
     ]
 
@@ -92,22 +91,22 @@ pub past_push : (l : List Level) (x : Level) → IsPastPart (l ++ x ∷ []) →
     IsPastPart l ⊎ ((f : FrameValue) × (b : List Level) × (c : List Level) × StuffedPart f b c (l ++ x ∷ []))
 past_push l x p =
     elim (last_of p.rest) [
-      inl none ↦
-        let P : List Level → Type 0 = λ s. StuffedPart p.frame p.body p.check s in
-        let all : p.part ≡ l ++ x ∷ [] = sym (append-nil p.part) ∙ ap (λ r. p.part ++ r) (sym none) ∙ sym p.whole in
-        inr (p.frame, p.body, p.check, subst P all p.is_part)
+      | inl none ↦
+          let P : List Level → Type 0 = λ s. StuffedPart p.frame p.body p.check s in
+          let all : p.part ≡ l ++ x ∷ [] = sym (append-nil p.part) ∙ ap (λ r. p.part ++ r) (sym none) ∙ sym p.whole in
+          inr (p.frame, p.body, p.check, subst P all p.is_part)
       | inr some ↦
-        let split : l ++ x ∷ [] ≡ (p.part ++ some.0) ++ some.1 ∷ [] =
-            p.whole ∙ ap (λ r. p.part ++ r) some.2 ∙ sym (append_assoc p.part some.0 (some.1 ∷ [])) in
-        let same = same_from_push l (p.part ++ some.0) x some.1 split in
-        inl (record { frame = p.frame; body = p.body; check = p.check; part = p.part; rest = some.0; is_part = p.is_part; whole = same.0 })
+          let split : l ++ x ∷ [] ≡ (p.part ++ some.0) ++ some.1 ∷ [] =
+          p.whole ∙ ap (λ r. p.part ++ r) some.2 ∙ sym (append_assoc p.part some.0 (some.1 ∷ [])) in
+          let same = same_from_push l (p.part ++ some.0) x some.1 split in
+          inl (record { frame = p.frame; body = p.body; check = p.check; part = p.part; rest = some.0; is_part = p.is_part; whole = same.0 })
     ]
 
 -- a stuffed part has no six equal levels
 six_in_part : {f : FrameValue} {b c : List Level} (l : List Level) (x : Level) (more : List Level) → StuffedPart f b c ((l ++ x ∷ []) ++ more) → 6 ≤ run (x ∷ reverse l) → ⊥
 six_in_part l x more part six =
     let turned : reverse ((l ++ x ∷ []) ++ more) ≡ reverse more ++ (x ∷ reverse l) =
-        reverse-append (l ++ x ∷ []) more ∙ ap (λ p. reverse more ++ p) (reverse-push l x) in
+    reverse-append (l ++ x ∷ []) more ∙ ap (λ p. reverse more ++ p) (reverse-push l x) in
     let P : List Level → Type 0 = λ p. IsShort p in
     let short = short_within (reverse more) (x ∷ reverse l) (subst P turned (part_to part).short) in
     let few = short.0 in
@@ -117,12 +116,12 @@ six_in_part l x more part six =
 pub no_sixth : (l : List Level) (x : Level) → IsInside (reverse l) → 6 ≤ run (x ∷ reverse l) → ¬ Begins (l ++ x ∷ [])
 no_sixth l x h six = λ begun.
     elim (begins_in (l ++ x ∷ []) begun) [
-      inl within ↦ six_in_part l x within.3 within.4 six
+      | inl within ↦ six_in_part l x within.3 within.4 six
       | inr past ↦ elim (past_push l x past) [
-        inl before ↦ inside_not_past l h before
+        | inl before ↦ inside_not_past l h before
         | inr here ↦
-          let P : List Level → Type 0 = λ s. StuffedPart here.0 here.1 here.2 s in
-          six_in_part l x [] (subst P (sym (append-nil (l ++ x ∷ []))) here.3) six
+            let P : List Level → Type 0 = λ s. StuffedPart here.0 here.1 here.2 s in
+            six_in_part l x [] (subst P (sym (append-nil (l ++ x ∷ []))) here.3) six
       ]
     ]
 
@@ -146,8 +145,8 @@ part_begins (Recessive ∷ s) part =
 pub no_start : (l : List Level) → ¬ Begins (Recessive ∷ l)
 no_start l = λ begun.
     elim (begins_in (Recessive ∷ l) begun) [
-      inl within ↦ let (rest, e) = part_begins ((Recessive ∷ l) ++ within.3) within.4 in cc
+      | inl within ↦ let (rest, e) = part_begins ((Recessive ∷ l) ++ within.3) within.4 in cc
       | inr past ↦ let (rest, e) = part_begins past.part past.is_part in
-        let whole : Recessive ∷ l ≡ (Dominant ∷ rest) ++ past.rest = past.whole ∙ ap (λ s. s ++ past.rest) e in
-        cc
+          let whole : Recessive ∷ l ≡ (Dominant ∷ rest) ++ past.rest = past.whole ∙ ap (λ s. s ++ past.rest) e in
+          cc
     ]

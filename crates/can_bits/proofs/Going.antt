@@ -1,19 +1,20 @@
 -- Whatever was right so far can go on to a line.
-use Rattle.std.proofs.Common.{◌≡◌, ◌+◌, ◌-◌, ◌<◌, ◌≤◌, ◌⊎◌, inl, inr, ℕ, List, [], ◌∷◌, ◌++◌, length, reverse, replicate, refl, ap, sym, subst, ◌∙◌, arith, append_assoc}
+use Rattle.std.proofs.Common.{◌≡◌, ◌-◌, ◌<◌, ◌≤◌, inl, inr, List, [], ◌∷◌, ◌++◌, length, reverse, replicate, refl, ap, sym, subst, ◌∙◌, arith, append_assoc}
 use Rattle.std.proofs.lemmas.Bool.{cases_lt}
-use Rattle.std.proofs.lemmas.List.{append-nil, reverse-append, reverse-reverse, length-append, length-replicate}
+use Rattle.std.proofs.lemmas.List.{reverse-append, reverse-reverse, length-append, length-replicate}
 use Rattle.can_frame.specs.Frame.{FrameValue}
 use Rattle.can_bits.specs.declared.level.Level.{Level}
-use Rattle.can_bits.specs.declared.level.Level.TheVariants.{Dominant, Recessive}
+use Rattle.can_bits.specs.declared.level.Level.TheVariants.{Dominant}
 use Rattle.can_bits.specs.Digits.{opposite}
 use Rattle.can_bits.specs.Fields.{level_at, says_count, IsWhole}
-use Rattle.can_bits.specs.Line.{StuffedPart, Line, tail}
-use Rattle.can_bits.specs.Reading.{IsOpen, Begins}
+use Rattle.can_bits.specs.Line.{StuffedPart, tail}
+use Rattle.can_bits.specs.Reading.{IsOpen}
 use Rattle.can_bits.proofs.Lists.{reverse-cons}
 use Rattle.can_bits.proofs.Runs.{run, run-other, run_one_more, IsShort}
 use Rattle.can_bits.proofs.Stuffs.{unstuffed, unstuffed-kept, unstuffed-dropped, opposite-other}
 use Rattle.can_bits.proofs.Parts.{plain, part_of}
-use Rattle.can_bits.proofs.FieldLemmas.{says_count-padded, level_at-padded, decoded}
+use Rattle.can_bits.proofs.FieldLemmas.{says_count-padded, level_at-padded}
+use Rattle.can_bits.proofs.DecodeLemmas.{decoded}
 
 -- levels that may follow: without their stuff bits they are these
 record Follows (more past : List Level) : Type 0 where
@@ -27,15 +28,15 @@ room : (past : List Level) → IsShort past → Follows [] past
 room [] short = record { later = []; short = tt; closed = omega arith; adds = refl }
 room (x ∷ past) short =
     elim (cases_lt (run (x ∷ past)) 5) [
-      inl few ↦ record { later = []; short = short; closed = few; adds = refl }
+      | inl few ↦ record { later = []; short = short; closed = few; adds = refl }
       | inr many ↦
-        let one = run-other (opposite x) x past (opposite-other x) in
-        record {
-          later = opposite x ∷ [];
-          short = (omega (arith, one), short);
-          closed = omega (arith, one);
-          adds = unstuffed-dropped (opposite x) (x ∷ past) many
-        }
+          let one = run-other (opposite x) x past (opposite-other x) in
+          record {
+            later = opposite x ∷ [];
+            short = (omega (arith, one), short);
+            closed = omega (arith, one);
+            adds = unstuffed-dropped (opposite x) (x ∷ past) many;
+          }
     ]
 
 -- any levels may follow, with stuff bits where they are due
@@ -47,13 +48,13 @@ extend (x ∷ more) past short few =
     let P : List Level → Type 0 = λ p. IsShort p in
     let few_ : List Level → Type 0 = λ p. run p < 5 in
     let joined : all.later ++ (next.later ++ x ∷ past) ≡ (all.later ++ (next.later ++ x ∷ [])) ++ past =
-        ap (λ l. all.later ++ l) (sym (append_assoc next.later (x ∷ []) past)) ∙ sym (append_assoc all.later (next.later ++ x ∷ []) past) in
+    ap (λ l. all.later ++ l) (sym (append_assoc next.later (x ∷ []) past)) ∙ sym (append_assoc all.later (next.later ++ x ∷ []) past) in
     record {
       later = all.later ++ (next.later ++ x ∷ []);
       short = subst P joined all.short;
       closed = subst few_ joined all.closed;
       adds = ap unstuffed (sym joined) ∙ all.adds ∙ ap (λ l. reverse more ++ l) (next.adds ∙ unstuffed-kept x past few)
-        ∙ sym (append_assoc (reverse more) (x ∷ []) (unstuffed past)) ∙ ap (λ l. l ++ unstuffed past) (sym (reverse-cons x more))
+          ∙ sym (append_assoc (reverse more) (x ∷ []) (unstuffed past)) ∙ ap (λ l. l ++ unstuffed past) (sym (reverse-cons x more));
     }
 
 -- the same, where a stuff bit may be due first
@@ -68,7 +69,7 @@ complete more past short =
       later = all.later ++ next.later;
       short = subst P joined all.short;
       closed = subst few_ joined all.closed;
-      adds = ap unstuffed (sym joined) ∙ all.adds ∙ ap (λ l. reverse more ++ l) next.adds
+      adds = ap unstuffed (sym joined) ∙ all.adds ∙ ap (λ l. reverse more ++ l) next.adds;
     }
 
 -- a stuffed part that goes on, newest level first
@@ -86,11 +87,11 @@ part_begun past short begins fits =
     let n = says_count w - length w in
     let all = complete (replicate n Dominant) past short in
     let added : plain (all.later ++ past) ≡ w ++ replicate n Dominant =
-        ap reverse all.adds ∙ reverse-append (reverse (replicate n Dominant)) (unstuffed past)
-            ∙ ap (λ l. w ++ l) (reverse-reverse (replicate n Dominant)) in
+    ap reverse all.adds ∙ reverse-append (reverse (replicate n Dominant)) (unstuffed past)
+    ∙ ap (λ l. w ++ l) (reverse-reverse (replicate n Dominant)) in
     let whole : IsWhole (w ++ replicate n Dominant) = record {
       begins = level_at-padded w n 0 ∙ begins;
-      count = length-append w (replicate n Dominant) ∙ omega (arith, length-replicate n Dominant, says_count-padded w n)
+      count = length-append w (replicate n Dominant) ∙ omega (arith, length-replicate n Dominant, says_count-padded w n);
     } in
     let P : List Level → Type 0 = λ l. IsWhole l in
     let (f, b, c, spells) = decoded (plain (all.later ++ past)) (subst P (sym added) whole) in
@@ -112,5 +113,5 @@ inside_open l h =
       line = record { part = l ++ later; is_part = subst Q (reverse-reverse l) part; whole = sym (append_assoc l later (tail Dominant)) };
       more = omega (arith, long);
       right = λ few. absurd (omega (arith, long, few));
-      acked = λ few. refl
+      acked = λ few. refl;
     }

@@ -1,13 +1,16 @@
 pub mod Lists
 pub mod Values
+pub mod Bytes
+pub mod FieldLemmas
+pub mod DecodeLemmas
 pub mod Products
 pub mod Checks
 pub mod Runs
 pub mod Stuffs
-pub mod FieldLemmas
 pub mod Parts
 pub mod Going
 pub mod Ending
 pub mod Verdicts
 pub mod Steps
 pub mod Tails
+pub mod LineLaws

@@ -1,6 +1,7 @@
--- Lists from their last element.
-use Rattle.std.proofs.Common.{◌<◌, length, take, drop, get_or, ◌≡◌, ◌≢◌, sym, ℕ, zero, suc, List, [], ◌∷◌, ◌++◌, reverse, replicate, refl, ap, ◌∙◌, add-one, ◌⊎◌, inl, inr}
-use Rattle.std.proofs.lemmas.List.{reverse-append, replicate_more, append_cancel_left, append-nil, take-append-drop, drop_more}
+-- Parts of lists, and lists from their last element.
+use Rattle.std.proofs.Common.{◌<◌, ◌≤◌, ◌+◌, ◌-◌, length, take, drop, get_or, slice_range, ◌≡◌, ◌≢◌, sym, ℕ, zero, suc, List, [], ◌∷◌, ◌++◌, reverse, replicate, refl, ap, ◌∙◌, add-one, arith, ◌⊎◌, inl, inr}
+use Rattle.std.proofs.lemmas.List.{reverse-append, replicate_more, append_cancel_left, append-nil, take-append-drop, drop_more, take_at, drop_at, length-take-le, length-drop}
+use Rattle.std.proofs.Math.Seq.{take-add}
 
 -- a list with one more in front, reversed
 pub reverse-cons : {A : Type 0} (x : A) (l : List A) → reverse (x ∷ l) ≡ reverse l ++ x ∷ []
@@ -24,7 +25,7 @@ fronts (u ∷ a) (v ∷ b) x y e =
     let same : u ≡ v = cc in
     let rest : a ++ x ≡ b ++ y = cc in
     elim (fronts a b x y rest) [
-      inl longer ↦ let h = longer.1 in inl (longer.0, cc)
+      | inl longer ↦ let h = longer.1 in inl (longer.0, cc)
       | inr shorter ↦ let h = shorter.1 in inr (shorter.0, cc)
     ]
 
@@ -33,7 +34,7 @@ pub last_of : {A : Type 0} (l : List A) → (l ≡ []) ⊎ ((before : List A) ×
 last_of [] = inl refl
 last_of (y ∷ l) =
     elim (last_of l) [
-      inl none ↦ inr ([], y, ap (λ t. y ∷ t) none)
+      | inl none ↦ inr ([], y, ap (λ t. y ∷ t) none)
       | inr some ↦ inr (y ∷ some.0, some.1, ap (λ t. y ∷ t) some.2)
     ]
 
@@ -54,3 +55,18 @@ longer_not l x rest h = let none = append_cancel_left l (x ∷ rest) [] (h ∙ s
 pub split_at : {A : Type 0} (l : List A) (i : ℕ) (d : A) → i < length l → l ≡ take i l ++ get_or l i d ∷ drop (suc i) l
 split_at l i d h =
     sym (take-append-drop i l) ∙ ap (λ r. take i l ++ r) (drop_more l i d h ∙ ap (λ n. get_or l i d ∷ drop n l) (add-one i))
+
+-- equal lists, each in two parts: first parts of one length are equal, and so are the second ones
+pub append-split : {A : Type 0} (a b c d : List A) → length a ≡ length c → a ++ b ≡ c ++ d → (a ≡ c) × (b ≡ d)
+append-split a b c d n h = (
+  sym (take_at a b (length c) n) ∙ ap (λ l. take (length c) l) h ∙ take_at c d (length c) refl,
+  sym (drop_at a b (length c) n) ∙ ap (λ l. drop (length c) l) h ∙ drop_at c d (length c) refl,
+)
+
+-- how many elements a part of a list has
+pub length_range : {A : Type 0} (l : List A) (a b : ℕ) → a ≤ b → b ≤ length l → length (slice_range l a b) ≡ b - a
+length_range l a b h k = length-take-le (b - a) (drop a l) (omega (arith, length-drop a l))
+
+-- one part more of a list
+pub take-range : {A : Type 0} (l : List A) (a b : ℕ) → a ≤ b → take b l ≡ take a l ++ slice_range l a b
+take-range l a b h = let e : b ≡ a + (b - a) = omega arith in ap (λ k. take k l) e ∙ take-add a (b - a) l

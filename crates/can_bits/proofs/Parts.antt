@@ -1,5 +1,5 @@
 -- Stuffed parts of lines, over lists that have their newest level first.
-use Rattle.std.proofs.Common.{◌≡◌, ◌+◌, ◌<◌, ◌≤◌, ◌⊎◌, inl, inr, ℕ, List, [], ◌∷◌, ◌++◌, length, reverse, refl, ap, sym, subst, ◌∙◌, arith, append_assoc}
+use Rattle.std.proofs.Common.{◌≡◌, ◌<◌, inl, inr, List, [], ◌∷◌, ◌++◌, length, reverse, refl, ap, sym, subst, ◌∙◌, arith, append_assoc}
 use Rattle.std.proofs.lemmas.Bool.{cases_lt}
 use Rattle.std.proofs.lemmas.List.{append-nil, reverse-append, reverse-reverse, length-append}
 use Rattle.can_frame.specs.Frame.{FrameValue}
@@ -9,8 +9,8 @@ use Rattle.can_bits.specs.Spelling.{Spells}
 use Rattle.can_bits.specs.Line.{StuffedPart}
 use Rattle.can_bits.proofs.Lists.{reverse-cons, fronts}
 use Rattle.can_bits.proofs.Runs.{run, IsShort}
-use Rattle.can_bits.proofs.Stuffs.{unstuffed, unstuffed-kept, unstuffed-dropped, IsStuffed, stuffed_from, stuffed_to}
-use Rattle.can_bits.proofs.FieldLemmas.{whole_of, says_count-more, whole_has_fields, decoded}
+use Rattle.can_bits.proofs.Stuffs.{unstuffed, unstuffed-kept, unstuffed-dropped, stuffed_from, stuffed_to}
+use Rattle.can_bits.proofs.FieldLemmas.{whole_of, says_count-more, whole_has_fields}
 
 -- the levels without their stuff bits, oldest first
 abbrev pub plain : List Level → List Level
@@ -46,7 +46,7 @@ part_of {f = f} {b = b} {c = c} past short closed spells =
       body = spells.body;
       check = spells.check;
       stuffed = stuffed_from (b ++ c) (reverse past)
-        (record { short = subst P (sym same) short; closed = subst few (sym same) closed; unstuffs = ap unstuffed same ∙ unstuffs })
+          (record { short = subst P (sym same) short; closed = subst few (sym same) closed; unstuffs = ap unstuffed same ∙ unstuffs });
     }
 
 -- levels that come later leave the earlier ones as they are
@@ -55,7 +55,7 @@ unstuffed-later [] past = ([], refl)
 unstuffed-later (x ∷ q) past =
     let (e, h) = unstuffed-later q past in
     elim (cases_lt (run (q ++ past)) 5) [
-      inl few ↦ (x ∷ e, unstuffed-kept x (q ++ past) few ∙ ap (λ l. x ∷ l) h)
+      | inl few ↦ (x ∷ e, unstuffed-kept x (q ++ past) few ∙ ap (λ l. x ∷ l) h)
       | inr many ↦ (e, unstuffed-dropped x (q ++ past) many ∙ h)
     ]
 
@@ -73,8 +73,8 @@ beyond q x part h =
     let (e, grown) = unstuffed-next q x part h.closed in
     let w = plain part in
     let longer : plain ((q ++ x ∷ []) ++ part) ≡ w ++ (x ∷ reverse e) =
-        ap reverse grown ∙ reverse-append e (x ∷ unstuffed part) ∙ ap (λ l. l ++ reverse e) (reverse-cons x (unstuffed part))
-            ∙ append_assoc w (x ∷ []) (reverse e) in
+    ap reverse grown ∙ reverse-append e (x ∷ unstuffed part) ∙ ap (λ l. l ++ reverse e) (reverse-cons x (unstuffed part))
+    ∙ append_assoc w (x ∷ []) (reverse e) in
     let same = says_count-more w (x ∷ reverse e) (whole_has_fields w h.whole) in
     let count = h.whole.count in
     rw longer (omega (arith, same, count, length-append w (x ∷ reverse e)))
@@ -84,8 +84,8 @@ extends_not : (c part longer : List Level) → IsPart part → IsPart longer →
 extends_not [] part longer h k e = sym (reverse-reverse longer) ∙ ap reverse (e ∙ append-nil (reverse part)) ∙ reverse-reverse part
 extends_not (x ∷ c) part longer h k e =
     let turned : longer ≡ (reverse c ++ x ∷ []) ++ part =
-        sym (reverse-reverse longer) ∙ ap reverse e ∙ reverse-append (reverse part) (x ∷ c) ∙ ap (λ l. l ++ reverse (reverse part)) (reverse-cons x c)
-            ∙ ap (λ l. (reverse c ++ x ∷ []) ++ l) (reverse-reverse part) in
+    sym (reverse-reverse longer) ∙ ap reverse e ∙ reverse-append (reverse part) (x ∷ c) ∙ ap (λ l. l ++ reverse (reverse part)) (reverse-cons x c)
+    ∙ ap (λ l. (reverse c ++ x ∷ []) ++ l) (reverse-reverse part) in
     let more = beyond (reverse c) x part h in
     let P : List Level → Type 0 = λ l. IsWhole (plain l) in
     let whole = subst P turned k.whole in
@@ -96,6 +96,6 @@ extends_not (x ∷ c) part longer h k e =
 pub part_once : (p r x y : List Level) → IsPart p → IsPart r → reverse p ++ x ≡ reverse r ++ y → p ≡ r
 part_once p r x y h k e =
     elim (fronts (reverse p) (reverse r) x y e) [
-      inl longer ↦ sym (extends_not longer.0 p r h k longer.1)
+      | inl longer ↦ sym (extends_not longer.0 p r h k longer.1)
       | inr shorter ↦ extends_not shorter.0 r p k h shorter.1
     ]

@@ -75,7 +75,7 @@ pub run_one_more : (x : Level) (past : List Level) → run (x ∷ past) ≤ run 
 run_one_more x [] = omega arith
 run_one_more x (y ∷ past) =
     elim (cases_Bool (same x y)) [
-      inl t ↦ let e = ap (λ z. run (z ∷ y ∷ past)) (same-true x y t) ∙ run-same y past in omega (arith, e)
+      | inl t ↦ let e = ap (λ z. run (z ∷ y ∷ past)) (same-true x y t) ∙ run-same y past in omega (arith, e)
       | inr f ↦ rw f (omega arith)
     ]
 

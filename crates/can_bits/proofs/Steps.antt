@@ -1,5 +1,5 @@
 -- The stuffed part is taken apart one level after the other.
-use Rattle.std.proofs.Common.{Bool, true, false, ◌*◌, ◌≡◌, ◌≢◌, ◌+◌, ◌<◌, ◌≤◌, ◌⊎◌, inl, inr, ℕ, List, [], ◌∷◌, ◌++◌, length, reverse, take, drop, get_or, suc, zero, add-one, refl, ap, sym, subst, ◌∙◌, arith}
+use Rattle.std.proofs.Common.{Bool, true, false, ◌*◌, ◌≡◌, ◌≢◌, ◌+◌, ◌<◌, ◌≤◌, ◌⊎◌, inl, inr, ℕ, List, [], ◌∷◌, ◌++◌, length, reverse, take, drop, get_or, suc, refl, ap, sym, subst, ◌∙◌, arith}
 use Rattle.std.proofs.lemmas.Bool.{cases_lt}
 use Rattle.std.proofs.lemmas.List.{reverse-reverse, length-take-le, length-reverse, take_more}
 use Rattle.can_frame.specs.Frame.{FrameValue, data_count}
@@ -46,7 +46,7 @@ inside_of past w last n h before =
       short = h.short;
       begins = subst P h.plain_is h.begins;
       fits = subst Q h.plain_is h.fits;
-      goes_on = λ e. subst count (sym (run-leads last n past h.leads)) (before.goes_on (ap length h.plain_is ∙ e ∙ ap says_count (sym h.plain_is)))
+      goes_on = λ e. subst count (sym (run-leads last n past h.leads)) (before.goes_on (ap length h.plain_is ∙ e ∙ ap says_count (sym h.plain_is)));
     }
 
 -- the run after a level like the last one, or another
@@ -57,11 +57,11 @@ run_same past w last n h = lead-same last n past h.leads
 nothing_before : (past : List Level) → [] ≡ plain past → past ≡ []
 nothing_before past e =
     elim (cases_list (reverse past)) [
-      inl none ↦ sym (reverse-reverse past) ∙ ap reverse none
+      | inl none ↦ sym (reverse-reverse past) ∙ ap reverse none
       | inr some ↦
-        let (later, first) = plain-first some.0 some.1 in
-        let wrong : [] ≡ some.0 ∷ later = e ∙ ap plain (sym (reverse-reverse past) ∙ ap reverse some.2) ∙ first in
-        absurd (omega (arith, ap length wrong))
+          let (later, first) = plain-first some.0 some.1 in
+          let wrong : [] ≡ some.0 ∷ later = e ∙ ap plain (sym (reverse-reverse past) ∙ ap reverse some.2) ∙ first in
+          absurd (omega (arith, ap length wrong))
     ]
 
 -- the first level that is kept is the start of frame
@@ -76,7 +76,7 @@ Holds-kept past w last x n m h before few counted most first =
     let open_run : run past < 5 = rw (run-leads last n past h.leads) few in
     let fits = h.fits in
     let room : length w < says_count w = elim (cases_lt (length w) (says_count w)) [
-      inl less ↦ less
+      | inl less ↦ less
       | inr all ↦ let five = before.goes_on (omega arith) in absurd (omega arith)
     ] in
     record {
@@ -85,7 +85,7 @@ Holds-kept past w last x n m h before few counted most first =
       fits = says_count-next w x room;
       plain_is = ap (λ l. l ++ x ∷ []) h.plain_is ∙ sym (reverse-cons x (unstuffed past)) ∙ ap reverse (sym (unstuffed-kept x past open_run));
       leads = (refl, sym counted);
-      most = omega arith
+      most = omega arith;
     }
 
 -- five equal levels and another one: it is a stuff bit
@@ -99,7 +99,7 @@ Holds-dropped past w last x h other =
       fits = h.fits;
       plain_is = h.plain_is ∙ ap reverse (sym (unstuffed-dropped x past five));
       leads = (refl, sym one);
-      most = omega arith
+      most = omega arith;
     }
 
 -- the part is whole
@@ -107,19 +107,18 @@ pub part_here : (levels w : List Level) (at : ℕ) (last : Level) (n : ℕ) → 
     IsWhole w × ((f : FrameValue) (b c : List Level) → Spells f b c w → StuffedPart f b c (take at levels))
 part_here levels w at last n h few count =
     let past = reverse (take at levels) in
-    let closed : run past < 5 = rw (run-leads last n past h.leads) few in
-    (
+    let closed : run past < 5 = rw (run-leads last n past h.leads) few in (
       record { begins = h.begins; count = count },
       λ f b c spells.
-        let P : List Level → Type 0 = λ l. Spells f b c l in
-        let Q : List Level → Type 0 = λ l. StuffedPart f b c l in
-        subst Q (reverse-reverse (take at levels)) (part_of past h.short closed (subst P h.plain_is spells))
+          let P : List Level → Type 0 = λ l. Spells f b c l in
+          let Q : List Level → Type 0 = λ l. StuffedPart f b c l in
+          subst Q (reverse-reverse (take at levels)) (part_of past h.short closed (subst P h.plain_is spells)),
     )
 
 -- the part goes on: a level more that isn't wrong
 pub before_here : (w : List Level) (n : ℕ) → (n < 5 → length w ≡ says_count w → ⊥) → IsBefore w n
 before_here w n h = record {
-  goes_on = λ e. elim (cases_lt n 5) [ inl few ↦ absurd (h few e) | inr many ↦ many ]
+  goes_on = λ e. elim (cases_lt n 5) [ inl few ↦ absurd (h few e) | inr many ↦ many ];
 }
 
 -- a sixth equal level
@@ -130,17 +129,16 @@ breaks_stuff levels w at last n full h before within same =
     let front = take at levels in
     let inside = inside_of (reverse front) w last n h before in
     let split : levels ≡ front ++ last ∷ drop (suc at) levels =
-        split_at levels at Dominant within ∙ ap (λ x. front ++ x ∷ drop (suc at) levels) same in
+    split_at levels at Dominant within ∙ ap (λ x. front ++ x ∷ drop (suc at) levels) same in
     let six : 6 ≤ run (last ∷ reverse front) = omega (arith, run_same (reverse front) w last n h) in
-    let five = run-leads last n (reverse front) h.leads in
-    (
+    let five = run-leads last n (reverse front) h.leads in (
       front,
       record { good = inside_open front inside; wrong = last; rest = drop (suc at) levels; whole = split; none = no_sixth front last inside six },
       record {
         begun = λ none. let wrong = sym (ap (λ l. run (reverse l)) none) ∙ five in absurd (omega arith);
-        before_end = inside_not_past front inside
+        before_end = inside_not_past front inside;
       },
-      length-take-le at levels (omega arith)
+      length-take-le at levels (omega arith),
     )
 
 -- a recessive start of frame
@@ -152,10 +150,10 @@ breaks_start rest = (
     wrong = Recessive;
     rest = rest;
     whole = refl;
-    none = no_start []
+    none = no_start [];
   },
   (λ inside. inside.begun refl),
-  refl
+  refl,
 )
 
 -- the levels end within the part
@@ -177,7 +175,7 @@ pub room_left : (past w : List Level) (last : Level) (n : ℕ) → Holds past w 
 room_left past w last n h before few =
     let fits = h.fits in
     elim (cases_lt (length w) (says_count w)) [
-      inl less ↦ omega (arith, less, says_count-most w)
+      | inl less ↦ omega (arith, less, says_count-most w)
       | inr all ↦ let five = before.goes_on (omega arith) in absurd (omega arith)
     ]
 

@@ -1,12 +1,12 @@
 -- What follows the stuffed part of a line.
 use Rattle.std.proofs.Common.{◌≡◌, ◌+◌, ◌-◌, ◌<◌, ◌≤◌, ℕ, zero, suc, List, [], ◌∷◌, ◌++◌, length, replicate, take, drop, get_or, refl, ap, sym, subst, ◌∙◌, arith, append_assoc}
-use Rattle.std.proofs.lemmas.List.{append-nil, length-append, length-replicate, append_cancel_left, replicate-append-replicate, take_all, nil_from_length}
+use Rattle.std.proofs.lemmas.List.{append-nil, length-append, length-replicate, replicate-append-replicate, take_all, nil_from_length}
 use Rattle.can_frame.specs.Frame.{FrameValue}
 use Rattle.can_bits.specs.declared.level.Level.{Level}
 use Rattle.can_bits.specs.declared.level.Level.TheVariants.{Dominant, Recessive}
 use Rattle.can_bits.specs.Check.{Crc}
 use Rattle.can_bits.specs.Line.{StuffedPart, Line, tail}
-use Rattle.can_bits.specs.Reading.{IsReceived, Begins, IsOpen, IsPastPart, IsInPart, BreaksAfter, GoesOnAfter}
+use Rattle.can_bits.specs.Reading.{IsReceived, IsOpen, IsInPart, BreaksAfter, GoesOnAfter}
 use Rattle.can_bits.proofs.Lists.{split_at}
 use Rattle.can_bits.proofs.Ending.{line_at}
 
@@ -24,9 +24,15 @@ past_here {f = f} {b = b} {c = c} part after h = λ inside.
 pub open_tail : {f : FrameValue} {b c : List Level} (part after rest : List Level) → StuffedPart f b c part → tail Dominant ≡ after ++ rest →
     1 ≤ length rest → (length rest ≤ 9 → Crc b c) → IsOpen (part ++ after)
 open_tail {f = f} {b = b} {c = c} part after rest h e more right = record {
-  frame = f; body = b; check = c; ack = Dominant; rest = rest;
+  frame = f;
+  body = b;
+  check = c;
+  ack = Dominant;
+  rest = rest;
   line = record { part = part; is_part = h; whole = append_assoc part after rest ∙ ap (λ l. part ++ l) (sym e) };
-  more = more; right = right; acked = λ _. refl
+  more = more;
+  right = right;
+  acked = λ _. refl;
 }
 
 -- the delimiter of the check sequence is dominant
@@ -35,18 +41,17 @@ pub form_delimiter : {f : FrameValue} {b c : List Level} (part rest : List Level
 form_delimiter part rest h =
     let whole = append-nil part in
     let Open : List Level → Type 0 = λ l. IsOpen l in
-    let Outside : List Level → Type 0 = λ l. IsInPart l → ⊥ in
-    (
+    let Outside : List Level → Type 0 = λ l. IsInPart l → ⊥ in (
       part,
       record {
         good = subst Open whole (open_tail part [] (tail Dominant) h refl (omega arith) (λ few. absurd (omega arith)));
         wrong = Dominant;
         rest = rest;
         whole = refl;
-        none = λ begun. let on = line_at part (Dominant ∷ []) begun.rest h begun.line in let wrong = on.tails in cc
+        none = λ begun. let on = line_at part (Dominant ∷ []) begun.rest h begun.line in let wrong = on.tails in cc;
       },
       subst Outside whole (past_here part [] h),
-      refl
+      refl,
     )
 
 -- among recessive levels there is no dominant one
@@ -69,11 +74,10 @@ tail_split k m e =
 -- in its end a dominant level stands
 pub form_end : {f : FrameValue} {b c : List Level} (part rest : List Level) (k : ℕ) → StuffedPart f b c part → Crc b c → k < 8 →
     (front : List Level) × BreaksAfter front (part ++ Recessive ∷ Dominant ∷ (replicate k Recessive ++ Dominant ∷ rest)) × (¬ IsInPart front)
-      × (length front ≡ length part + 2 + k)
+    × (length front ≡ length part + 2 + k)
 unfolding ended
 form_end part rest k h right few =
-    let more = 8 - k in
-    (
+    let more = 8 - k in (
       part ++ ended k,
       record {
         good = open_tail part (ended k) (replicate more Recessive) h (tail_split k more (omega arith)) (omega (arith, length-replicate more Recessive)) (λ _. right);
@@ -81,14 +85,14 @@ form_end part rest k h right few =
         rest = rest;
         whole = sym (append_assoc part (ended k) (Dominant ∷ rest));
         none = λ begun.
-          let P : List Level → Type 0 = λ l. Line begun.frame begun.body begun.check begun.ack (l ++ begun.rest) in
-          let on = line_at part (ended k ++ Dominant ∷ []) begun.rest h (subst P (append_assoc part (ended k) (Dominant ∷ [])) begun.line) in
-          let tails = on.tails in
-          let rest_ : replicate 8 Recessive ≡ (replicate k Recessive ++ Dominant ∷ []) ++ begun.rest = cc in
-          no_dominant 8 k begun.rest (rest_ ∙ append_assoc (replicate k Recessive) (Dominant ∷ []) begun.rest)
+            let P : List Level → Type 0 = λ l. Line begun.frame begun.body begun.check begun.ack (l ++ begun.rest) in
+            let on = line_at part (ended k ++ Dominant ∷ []) begun.rest h (subst P (append_assoc part (ended k) (Dominant ∷ [])) begun.line) in
+            let tails = on.tails in
+            let rest_ : replicate 8 Recessive ≡ (replicate k Recessive ++ Dominant ∷ []) ++ begun.rest = cc in
+            no_dominant 8 k begun.rest (rest_ ∙ append_assoc (replicate k Recessive) (Dominant ∷ []) begun.rest);
       },
       past_here part (ended k) h,
-      length-append part (ended k) ∙ omega (arith, length-replicate k Recessive)
+      length-append part (ended k) ∙ omega (arith, length-replicate k Recessive),
     )
 
 -- the levels end before the line does
@@ -113,9 +117,9 @@ trails {f = f} part x rest h right = (
     received = received_here part (tail Dominant) h right refl;
     next = x;
     rest = rest;
-    whole = sym (append_assoc part (tail Dominant) (x ∷ rest))
+    whole = sym (append_assoc part (tail Dominant) (x ∷ rest));
   },
-  length-append part (tail Dominant)
+  length-append part (tail Dominant),
 )
 
 -- the same, as the end of frame is read level by level: k of its levels were recessive
@@ -126,7 +130,7 @@ trails_in part rest k at h right count so_far eight within =
     let x = get_or rest k Dominant in
     let more = drop (suc k) rest in
     let split : rest ≡ replicate 8 Recessive ++ x ∷ more =
-        split_at rest k Dominant within ∙ ap (λ l. l ++ x ∷ more) (so_far ∙ ap (λ n. replicate n Recessive) eight) in
+    split_at rest k Dominant within ∙ ap (λ l. l ++ x ∷ more) (so_far ∙ ap (λ n. replicate n Recessive) eight) in
     let (front, on, long) = trails part x more h right in
     let P : List Level → Type 0 = λ r. GoesOnAfter front (part ++ Recessive ∷ Dominant ∷ r) in
     (front, subst P (sym split) on, omega (arith, long))
@@ -137,7 +141,7 @@ pub form_in : {f : FrameValue} {b c : List Level} (part rest : List Level) (k at
 form_in part rest k at h right count so_far few within dominant =
     let more = drop (suc k) rest in
     let split : rest ≡ replicate k Recessive ++ Dominant ∷ more =
-        split_at rest k Dominant within ∙ ap (λ l. l ++ get_or rest k Dominant ∷ more) so_far ∙ ap (λ x. replicate k Recessive ++ x ∷ more) dominant in
+    split_at rest k Dominant within ∙ ap (λ l. l ++ get_or rest k Dominant ∷ more) so_far ∙ ap (λ x. replicate k Recessive ++ x ∷ more) dominant in
     let (front, broke, outside, long) = form_end part more k h right few in
     let P : List Level → Type 0 = λ r. BreaksAfter front (part ++ Recessive ∷ Dominant ∷ r) in
     (front, subst P (sym split) broke, outside, omega (arith, long))

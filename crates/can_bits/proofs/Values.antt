@@ -1,5 +1,5 @@
 -- Levels as binary digits.
-use Rattle.std.proofs.Common.{true, false, ◌≡◌, ◌+◌, ◌*◌, ◌/◌, ◌%◌, ◌^◌, ◌<◌, ◌==◌, ℕ, zero, suc, List, [], ◌∷◌, ◌++◌, length, refl, ap, sym, ◌∙◌, arith, append_assoc, add-one, ◌-◌}
+use Rattle.std.proofs.Common.{true, false, ◌≡◌, ◌+◌, ◌*◌, ◌/◌, ◌%◌, ◌^◌, ◌<◌, ◌==◌, ℕ, zero, suc, List, [], ◌∷◌, ◌++◌, length, refl, ap, sym, subst, ◌∙◌, arith, append_assoc, add-one, ◌-◌}
 use Rattle.std.proofs.Math.Nat.{pow-succ'}
 use Rattle.std.proofs.lemmas.Nat.{shr-shr}
 use Rattle.std.proofs.lemmas.List.{length-append, append-nil}
@@ -105,3 +105,32 @@ recessive_by Recessive h = refl
 pub dominant_by : (x : Level) → is_recessive x ≡ false → x ≡ Dominant
 dominant_by Dominant h = refl
 dominant_by Recessive h = cc
+
+-- the number that its digits write
+pub value-bits : (n x : ℕ) → x < 2 ^ n → value (bits n x) ≡ x
+value-bits n x h = let whole : value (bits n x) ≡ value [] * 2 ^ n + x = value-append-bits n [] x h in omega (arith, whole)
+
+-- the digits of the number that levels write
+pub bits-value : (n : ℕ) (l : List Level) → length l ≡ n → bits n (value l) ≡ l
+bits-value n l h =
+    let small : value l < 2 ^ n = subst (λ k. value l < 2 ^ k) h (value-lt l) in
+    value-injective (bits n (value l)) l (length-bits n (value l) ∙ sym h) (value-bits n (value l) small)
+
+-- numbers with the same digits are the same
+pub bits-injective : (n x y : ℕ) → x < 2 ^ n → y < 2 ^ n → bits n x ≡ bits n y → x ≡ y
+bits-injective n x y hx hy h = sym (value-bits n x hx) ∙ ap value h ∙ value-bits n y hy
+
+-- the digits of a number, in two parts
+pub bits-split : (m n x : ℕ) → bits (m + n) x ≡ bits m (x / 2 ^ n) ++ bits n x
+unfolding bits
+bits-split m zero x =
+    let count : m + 0 ≡ m = omega arith in
+    let number : x ≡ x / 2 ^ 0 = omega arith in
+    ap (λ k. bits k x) count ∙ ap (λ y. bits m y) number ∙ sym (append-nil (bits m (x / 2 ^ 0)))
+bits-split m (suc n) x =
+    let count : m + suc n ≡ suc (m + n) = omega arith in
+    let power : 1 + n ≡ suc n = omega arith in
+    let half : x / 2 / 2 ^ n ≡ x / 2 ^ suc n = shr-shr x 1 n ∙ ap (λ k. x / 2 ^ k) power in
+    let last : List Level = level_of (x % 2 == 1) ∷ [] in
+    ap (λ k. bits k x) count ∙ ap (λ l. l ++ last) (bits-split m n (x / 2))
+    ∙ append_assoc (bits m (x / 2 / 2 ^ n)) (bits n (x / 2)) last ∙ ap (λ y. bits m y ++ (bits n (x / 2) ++ last)) half

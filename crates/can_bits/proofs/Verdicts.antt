@@ -1,5 +1,5 @@
 -- A list of levels is read in one way.
-use Rattle.std.proofs.Common.{◌≡◌, ◌≢◌, ◌+◌, ◌<◌, ◌≤◌, ◌⊎◌, inl, inr, ℕ, List, [], ◌∷◌, ◌++◌, length, replicate, IfOk, IfErr, Result, Ok, Err, refl, ap, sym, subst, ◌∙◌, arith, append_assoc}
+use Rattle.std.proofs.Common.{◌≡◌, ◌≢◌, ◌≤◌, inl, inr, List, [], ◌∷◌, ◌++◌, length, replicate, IfOk, IfErr, Result, Ok, Err, refl, ap, sym, subst, ◌∙◌, arith, append_assoc}
 use Rattle.std.proofs.lemmas.List.{append-nil, length-append}
 use Rattle.can_frame.specs.Frame.{FrameValue}
 use Rattle.can_bits.specs.declared.level.Level.{Level}
@@ -10,7 +10,7 @@ use Rattle.can_bits.specs.Check.{Crc}
 use Rattle.can_bits.specs.Line.{StuffedPart, Line, tail}
 use Rattle.can_bits.specs.Reading.{IsReceived, Begins, IsOpen, IsInPart, BreaksAfter, HasWrongCheck, IsNotAcknowledged, IsFirstFault}
 use Rattle.can_bits.proofs.Lists.{fronts, append-cancel, cases_list, longer_not}
-use Rattle.can_bits.proofs.Ending.{GoesOn, line_at, same_part, same_spelling}
+use Rattle.can_bits.proofs.Ending.{line_at, same_part, same_spelling}
 
 -- nothing is wrong with a line that begins with these levels
 record IsGood (p : List Level) : Type 0 where
@@ -84,7 +84,7 @@ stops_first l p q (y ∷ c) (ends same) begun rest e h =
     absurd (omega (arith, count, length-append l ((y ∷ c) ++ rest)))
 stops_first l p q (y ∷ c) (breaks x after whole none) begun rest e h =
     let both : x ∷ after ≡ (y ∷ c) ++ rest =
-        append-cancel p (x ∷ after) ((y ∷ c) ++ rest) (sym whole ∙ e ∙ ap (λ m. m ++ rest) h ∙ append_assoc p (y ∷ c) rest) in
+    append-cancel p (x ∷ after) ((y ∷ c) ++ rest) (sym whole ∙ e ∙ ap (λ m. m ++ rest) h ∙ append_assoc p (y ∷ c) rest) in
     let same : x ≡ y = cc in
     let P : List Level → Type 0 = λ m. Begins m in
     let front = begins_front (p ++ y ∷ []) c (subst P (h ∙ sym (append_assoc p (y ∷ []) c)) begun) in
@@ -100,12 +100,12 @@ stops_once l p q s t good other =
     let (x, hx) = rest_of s in
     let (y, hy) = rest_of t in
     elim (fronts p q x y (sym hx ∙ hy)) [
-      inl longer ↦
-        let none = stops_first l p q longer.0 s (good_begins other) y hy longer.1 in
-        sym (longer.1 ∙ ap (λ c. p ++ c) none ∙ append-nil p)
+      | inl longer ↦
+          let none = stops_first l p q longer.0 s (good_begins other) y hy longer.1 in
+          sym (longer.1 ∙ ap (λ c. p ++ c) none ∙ append-nil p)
       | inr shorter ↦
-        let none = stops_first l q p shorter.0 t (good_begins good) x hx shorter.1 in
-        shorter.1 ∙ ap (λ c. q ++ c) none ∙ append-nil q
+          let none = stops_first l q p shorter.0 t (good_begins good) x hx shorter.1 in
+          shorter.1 ∙ ap (λ c. q ++ c) none ∙ append-nil q
     ]
 
 -- what a reading that stops after this front of the levels says
@@ -122,12 +122,12 @@ Says l p (Err NoAck) = ⊥
 open_not_whole : {f : FrameValue} (p : List Level) → IsOpen p → IsReceived f p → ⊥
 open_not_whole p h k =
     elim (cases_list h.rest) [
-      inl none ↦ let more = h.more in let count = ap length none in omega arith
+      | inl none ↦ let more = h.more in let count = ap length none in omega arith
       | inr some ↦
-        let P : List Level → Type 0 = λ r. Line h.frame h.body h.check h.ack (p ++ r) in
-        let Q : List Level → Type 0 = λ m. Line h.frame h.body h.check h.ack m in
-        let line = subst Q (sym (append-nil (p ++ some.0 ∷ some.1))) (subst P some.2 h.line) in
-        whole_ends some.0 some.1 k (record { frame = h.frame; body = h.body; check = h.check; ack = h.ack; rest = []; line = line })
+          let P : List Level → Type 0 = λ r. Line h.frame h.body h.check h.ack (p ++ r) in
+          let Q : List Level → Type 0 = λ m. Line h.frame h.body h.check h.ack m in
+          let line = subst Q (sym (append-nil (p ++ some.0 ∷ some.1))) (subst P some.2 h.line) in
+          whole_ends some.0 some.1 k (record { frame = h.frame; body = h.body; check = h.check; ack = h.ack; rest = []; line = line })
     ]
 
 -- a line is that of one frame
@@ -201,15 +201,23 @@ Judged l (Err fault) = IsFirstFault l fault
 -- up to the delimiter after a wrong check sequence a line begins
 part_begun : {f : FrameValue} {b c : List Level} (part : List Level) → StuffedPart f b c part → Begins (part ++ Recessive ∷ [])
 part_begun {f = f} {b = b} {c = c} part h = record {
-  frame = f; body = b; check = c; ack = Dominant; rest = Dominant ∷ Recessive ∷ replicate 7 Recessive;
-  line = record { part = part; is_part = h; whole = append_assoc part (Recessive ∷ []) (Dominant ∷ Recessive ∷ replicate 7 Recessive) }
+  frame = f;
+  body = b;
+  check = c;
+  ack = Dominant;
+  rest = Dominant ∷ Recessive ∷ replicate 7 Recessive;
+  line = record { part = part; is_part = h; whole = append_assoc part (Recessive ∷ []) (Dominant ∷ Recessive ∷ replicate 7 Recessive) };
 }
 
 -- and up to a missing acknowledgement
 slot_begun : {f : FrameValue} {b c : List Level} (part : List Level) → StuffedPart f b c part → Begins (part ++ Recessive ∷ Recessive ∷ [])
 slot_begun {f = f} {b = b} {c = c} part h = record {
-  frame = f; body = b; check = c; ack = Recessive; rest = Recessive ∷ replicate 7 Recessive;
-  line = record { part = part; is_part = h; whole = append_assoc part (Recessive ∷ Recessive ∷ []) (Recessive ∷ replicate 7 Recessive) }
+  frame = f;
+  body = b;
+  check = c;
+  ack = Recessive;
+  rest = Recessive ∷ replicate 7 Recessive;
+  line = record { part = part; is_part = h; whole = append_assoc part (Recessive ∷ Recessive ∷ []) (Recessive ∷ replicate 7 Recessive) };
 }
 
 -- a good front that stops the reading reaches as far as any front that begins a line
@@ -217,9 +225,9 @@ reaches : (l p q rest : List Level) → Stops l p → Begins q → l ≡ q ++ re
 reaches l p q rest s begun e =
     let (x, hx) = rest_of s in
     elim (fronts p q x rest (sym hx ∙ e)) [
-      inl longer ↦
-        let none = stops_first l p q longer.0 s begun rest e longer.1 in
-        ([], sym (ap (λ m. m ++ []) longer.1 ∙ append-nil (p ++ longer.0) ∙ ap (λ c. p ++ c) none ∙ append-nil p))
+      | inl longer ↦
+          let none = stops_first l p q longer.0 s begun rest e longer.1 in
+          ([], sym (ap (λ m. m ++ []) longer.1 ∙ append-nil (p ++ longer.0) ∙ ap (λ c. p ++ c) none ∙ append-nil p))
       | inr shorter ↦ shorter
     ]
 
@@ -286,7 +294,7 @@ classed l (Err (Trailing at)) (p, on, count) =
       front = p;
       good = good_whole on.received;
       stops = breaks on.next on.rest on.whole (whole_ends on.next [] on.received);
-      says = ((λ same. longer_not p on.next on.rest (sym on.whole ∙ same)), (on.frame, on.received), count)
+      says = ((λ same. longer_not p on.next on.rest (sym on.whole ∙ same)), (on.frame, on.received), count);
     })
 
 -- the definitions give one answer

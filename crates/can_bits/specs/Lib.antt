@@ -4,5 +4,6 @@ pub mod Body
 pub mod Stuffing
 pub mod Line
 pub mod Fields
+pub mod Data
 pub mod Spelling
 pub mod Reading

@@ -1,5 +1,5 @@
 -- What levels say when they are read as a line.
-use Rattle.std.specs.Prelude.{Bool, true, false, ◌≡◌, ◌≢◌, ◌≤◌, ◌<◌, ◌⊎◌, ℕ, List, [], ◌∷◌, ◌++◌, length}
+use Rattle.std.specs.Prelude.{Bool, true, false, ◌≡◌, ◌≢◌, ◌≤◌, List, [], ◌∷◌, ◌++◌, length}
 use Rattle.can_frame.specs.Frame.{FrameValue}
 use Rattle.can_bits.specs.declared.level.Level.{Level}
 use Rattle.can_bits.specs.declared.level.Level.TheVariants.{Dominant, Recessive}
@@ -104,3 +104,9 @@ IsFirstFault l (Trailing at) = (front : List Level) × GoesOnAfter front l × (l
 abbrev pub SaysWhetherRight : Bool → List Level → List Level → Type 0
 SaysWhetherRight true b c = Crc b c
 SaysWhetherRight false b c = ¬ Crc b c
+
+-- the list is empty or begins with a dominant level
+abbrev pub BeginsDominant : List Level → Type 0
+BeginsDominant [] = Unit {0}
+BeginsDominant (Dominant ∷ l) = Unit {0}
+BeginsDominant (Recessive ∷ l) = ⊥

@@ -60,7 +60,11 @@ pub fn says_count(bits: &[Level]) -> usize
     ensures most { result ≤ 118 }
 {
     let code_end = if says_ext(bits) { 54 } else { 34 };
-    let data = if says_rtr(bits) { 0 } else { says_dlc(bits).min(8) };
+    let data = if says_rtr(bits) {
+        0
+    } else {
+        says_dlc(bits).min(8)
+    };
     code_end + 8 * usize::from(data)
 }
 

@@ -1,9 +1,12 @@
-//! Laws of check sequences and of stuffing. Each stands as the contract of a function that does nothing.
+//! Laws of check sequences, of stuffing and of lines. Each stands as the contract of a function that does nothing.
 
-ghost use Rattle.std.specs.Prelude.{◌≡◌, List};
+ghost use Rattle.std.specs.Prelude.{◌≡◌, ◌++◌, ◌∷◌, [], List, length};
 ghost use Rattle.can_bits.specs.declared.level.Level.{Level};
 ghost use Rattle.can_bits.specs.Check.{Crc};
-ghost use Rattle.can_bits.specs.Stuffing.{Stuffed};
+ghost use Rattle.can_frame.specs.Frame.{FrameValue};
+ghost use Rattle.can_bits.specs.Stuffing.{Stuffed, HasNoSixEqual};
+ghost use Rattle.can_bits.specs.Line.{StuffedPart, Line};
+ghost use Rattle.can_bits.specs.Reading.{BeginsDominant, IsPastPart, IsOpen};
 
 /// Every list of levels has exactly one check sequence.
 pub fn a_list_has_one_check_sequence()
@@ -13,4 +16,23 @@ pub fn a_list_has_one_check_sequence()
 /// A stuffed list is the stuffing of exactly one list.
 pub fn a_stuffed_list_stuffs_one_list()
     ensures { (w v s : List Level) → Stuffed w s → Stuffed v s → w ≡ v }
+{}
+
+/// Levels that begin dominant, have no six equal ones in a row and aren't past a whole stuffed part can go on to a line.
+pub fn a_good_beginning_can_go_on()
+    ensures { (l : List Level) → BeginsDominant l → HasNoSixEqual l → ¬ IsPastPart l → IsOpen l }
+{}
+
+/// A stuffed part says itself where it ends: of one list of levels there is one at most at its beginning.
+pub fn a_stuffed_part_says_where_it_ends()
+    ensures { (f g : FrameValue) (b c d e s t x y : List Level) → StuffedPart f b c s → StuffedPart g d e t
+        → s ++ x ≡ t ++ y → s ≡ t }
+{}
+
+/// Two lines with the same levels up to the sixth bit of the end of frame, all but the last, are lines of one frame with
+/// one body and one check sequence, and one is as long as the other.
+pub fn lines_with_the_same_levels_are_of_one_frame()
+    ensures { (f g : FrameValue) (b c d e : List Level) (ack other last : Level) (front rest : List Level)
+        → Line f b c ack (front ++ last ∷ []) → Line g d e other (front ++ rest)
+        → (f ≡ g) × (b ≡ d) × (c ≡ e) × (length rest ≡ 1) }
 {}

@@ -50,7 +50,10 @@ pub fn read_part(levels: &[Level]) -> Result<Part, LineFault>
         run = if same { run + 1 } else { 1 };
         last = *level;
         if run < 5 && bits.len() == says_count(bits.as_slice()) {
-            return Ok(Part { bits, count: at + 1 });
+            return Ok(Part {
+                bits,
+                count: at + 1,
+            });
         }
     }
     Err(LineFault::Truncated)

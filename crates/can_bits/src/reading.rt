@@ -1,5 +1,6 @@
-ghost use Rattle.std.specs.Prelude.{◌≡◌, ◌≤◌, ◌++◌, List, length, IfOk, IfErr};
+ghost use Rattle.std.specs.Prelude.{◌≡◌, ◌≤◌, ◌-◌, ◌++◌, List, length, slice_set, IfOk, IfErr};
 ghost use Rattle.can_frame.specs.Frame.{FrameValue};
+ghost use Rattle.can_bits.specs.Line.{IsSentLine};
 ghost use Rattle.can_bits.specs.Reading.{IsReceived, IsFirstFault, SaysWhetherRight};
 ghost use Rattle.can_bits.specs.declared.level.Level.{Level as Bus};
 ghost use Rattle.can_bits.specs.declared.line_fault.LineFault.{LineFault as Fault};
@@ -31,6 +32,10 @@ pub fn read_line(levels: &[Level]) -> Result<Frame, LineFault>
     // each answer is the only one
     ensures frame_only { (f : FrameValue) → IsReceived f levels.now → result ≡ Ok f }
     ensures fault_only { (e : Fault) → IsFirstFault levels.now e → result ≡ Err e }
+
+    // the line of a frame, acknowledged, gives the frame again
+    ensures sent { (f : FrameValue) (l : List Bus) → IsSentLine f l → levels.now ≡ slice_set l (length l - 9) Level.Dominant
+        → result ≡ Ok f }
 {
     read(levels)
 }

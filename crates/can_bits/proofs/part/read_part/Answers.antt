@@ -1,5 +1,5 @@
-use Rattle.std.proofs.Common.{ℕ, ◌⊎◌, inl, inr, ◌≡◌, ◌≢◌, ◌≤◌, ◌<◌, ◌+◌, ◌++◌, ◌∷◌, [], List, take, get_or, drop, reverse, length, refl, sym, subst, ap, ◌∙◌, arith, rules, lit<}
-use Rattle.std.proofs.lemmas.List.{take_more, take_all}
+use Rattle.std.proofs.Common.{ℕ, ◌⊎◌, inl, inr, ◌≡◌, ◌≢◌, ◌<◌, ◌+◌, ◌++◌, ◌∷◌, [], List, take, get_or, reverse, length, refl, sym, subst, ap, ◌∙◌, arith, rules, lit<}
+use Rattle.std.proofs.lemmas.List.{take_all}
 use Rattle.can_bits.specs.declared.level.Level.{Level}
 use Rattle.can_bits.specs.declared.level.Level.TheVariants.{Dominant}
 use Rattle.can_frame.specs.Frame.{FrameValue}
@@ -7,8 +7,7 @@ use Rattle.can_bits.specs.Spelling.{Spells}
 use Rattle.can_bits.specs.Line.{StuffedPart}
 use Rattle.can_bits.specs.Fields.{IsWhole, says_count}
 use Rattle.can_bits.proofs.Values.{recessive_by, dominant_by}
-use Rattle.can_bits.proofs.Lists.{reverse-push}
-use Rattle.can_bits.proofs.Steps.{Holds, IsBefore, Holds-nothing, IsBefore-nothing, Holds-kept, Holds-dropped, Holds-next, past_next, first_place, room_left, part_here, before_here, breaks_stuff, breaks_start_at, open_here}
+use Rattle.can_bits.proofs.Steps.{Holds, IsBefore, Holds-nothing, IsBefore-nothing, Holds-next, past_next, first_place, room_left, part_here, before_here, breaks_stuff, breaks_start_at, open_here}
 use Rattle.can_bits.proofs.part.read_part.Goals.{else-at-eq0-via-then-at-eq0+else-is_recessive, else-at-eq0-via-else-at-eq0, else-run-eq5-via-then-run-eq5+else-same, else-run-eq5-via-else-run-eq5, then-run-lt5, else-run-lt5, then-same-2, else-same-2, else-run-lt5-2-via-then-run-lt5-2+else-len-says_count, else-run-lt5-2-via-else-run-lt5-2}
 use Rattle.can_bits.proofs.part.read_part.Goals as goal
 
@@ -45,7 +44,7 @@ after : (levels w v : List Level) (at : ℕ) (last : Level) (n m : ℕ) → Hold
 after levels w v at last n m h before within start kept counted differs =
     let P : List Level → Type 0 = λ past. Holds past v (get_or levels at Dominant) m in
     subst P (sym (past_next levels at within))
-        (Holds-next (reverse (take at levels)) w v last (get_or levels at Dominant) n m h before (λ none. start (first_place levels at within none)) kept counted differs)
+    (Holds-next (reverse (take at levels)) w v last (get_or levels at Dominant) n m h before (λ none. start (first_place levels at within none)) kept counted differs)
 
 -- the part is whole: what holds after the last level
 whole_here : (c : goal.Then-len-says_count) → IsWhole c.if-run-lt5.bits.items ×
@@ -56,27 +55,27 @@ whole_here c =
     let loop = c.loop-at.invariant in
     let most = loop.holds.most in
     let start : c.loop-at.at ≡ 0 → x ≡ Dominant = λ none. elim c.else-at-eq0.branch [
-      else-at-eq0-via-then-at-eq0+else-is_recessive b ↦ dominant_by x (sym b.is_recessive.ensures ∙ b.if-is_recessive.false)
+      | else-at-eq0-via-then-at-eq0+else-is_recessive b ↦ dominant_by x (sym b.is_recessive.ensures ∙ b.if-is_recessive.false)
       | else-at-eq0-via-else-at-eq0 b ↦ absurd (b.if-at-eq0.false none)
     ] in
     let kept : ((c.loop-at.run < 5) × (c.if-run-lt5.bits.items ≡ c.loop-at.bits.items ++ x ∷ [])) ⊎ ((c.loop-at.run ≡ 5) × (c.if-run-lt5.bits.items ≡ c.loop-at.bits.items)) =
-      elim c.if-run-lt5.branch [
-        then-run-lt5 b ↦ inl (b.if-run-lt5.true, rw b.bits-is b.push.ensures.items)
-        | else-run-lt5 b ↦ inr (omega (arith, b.if-run-lt5.false, most), rw b.bits-is refl)
-      ] in
+    elim c.if-run-lt5.branch [
+      | then-run-lt5 b ↦ inl (b.if-run-lt5.true, rw b.bits-is b.push.ensures.items)
+      | else-run-lt5 b ↦ inr (omega (arith, b.if-run-lt5.false, most), rw b.bits-is refl)
+    ] in
     let counted : ((x ≡ last) × (c.if-same-2.run ≡ c.loop-at.run + 1)) ⊎ ((x ≢ last) × (c.if-same-2.run ≡ 1)) =
-      elim c.if-same-2.branch [
-        then-same-2 b ↦ inl (search rules, b.run-is)
-        | else-same-2 b ↦ inr (search rules, b.run-is)
-      ] in
+    elim c.if-same-2.branch [
+      | then-same-2 b ↦ inl (search rules, b.run-is)
+      | else-same-2 b ↦ inr (search rules, b.run-is)
+    ] in
     let differs : c.loop-at.run ≡ 5 → x ≢ last = λ five. elim c.else-run-eq5.branch [
-      else-run-eq5-via-then-run-eq5+else-same b ↦ search rules
+      | else-run-eq5-via-then-run-eq5+else-same b ↦ search rules
       | else-run-eq5-via-else-run-eq5 b ↦ absurd (b.if-run-eq5.false five)
     ] in
     let here = after c.args.levels.now c.loop-at.bits.items c.if-run-lt5.bits.items c.loop-at.at last c.loop-at.run c.if-same-2.run
-      loop.holds loop.before c.loop-at-test.true start kept counted differs in
+    loop.holds loop.before c.loop-at-test.true start kept counted differs in
     let full : length c.if-run-lt5.bits.items ≡ says_count c.if-run-lt5.bits.items =
-      sym c.len.ensures.value ∙ c.if-len-says_count.true ∙ c.says_count.ensures.value ∙ ap says_count c.as_slice.ensures.value in
+    sym c.len.ensures.value ∙ c.if-len-says_count.true ∙ c.says_count.ensures.value ∙ ap says_count c.as_slice.ensures.value in
     part_here c.args.levels.now c.if-run-lt5.bits.items (c.loop-at.at + 1) x c.if-same-2.run here c.if-run-lt5-2.true full
 
 pub returns-then-len-says_count-clause-whole : goal.returns-then-len-says_count-clause-whole
@@ -92,30 +91,30 @@ loop-at-preserved c =
     let loop = c.loop-at.invariant in
     let most = loop.holds.most in
     let start : c.loop-at.at ≡ 0 → x ≡ Dominant = λ none. elim c.else-at-eq0.branch [
-      else-at-eq0-via-then-at-eq0+else-is_recessive b ↦ dominant_by x (sym b.is_recessive.ensures ∙ b.if-is_recessive.false)
+      | else-at-eq0-via-then-at-eq0+else-is_recessive b ↦ dominant_by x (sym b.is_recessive.ensures ∙ b.if-is_recessive.false)
       | else-at-eq0-via-else-at-eq0 b ↦ absurd (b.if-at-eq0.false none)
     ] in
     let kept : ((c.loop-at.run < 5) × (c.if-run-lt5.bits.items ≡ c.loop-at.bits.items ++ x ∷ [])) ⊎ ((c.loop-at.run ≡ 5) × (c.if-run-lt5.bits.items ≡ c.loop-at.bits.items)) =
-      elim c.if-run-lt5.branch [
-        then-run-lt5 b ↦ inl (b.if-run-lt5.true, rw b.bits-is b.push.ensures.items)
-        | else-run-lt5 b ↦ inr (omega (arith, b.if-run-lt5.false, most), rw b.bits-is refl)
-      ] in
+    elim c.if-run-lt5.branch [
+      | then-run-lt5 b ↦ inl (b.if-run-lt5.true, rw b.bits-is b.push.ensures.items)
+      | else-run-lt5 b ↦ inr (omega (arith, b.if-run-lt5.false, most), rw b.bits-is refl)
+    ] in
     let counted : ((x ≡ last) × (c.if-same-2.run ≡ c.loop-at.run + 1)) ⊎ ((x ≢ last) × (c.if-same-2.run ≡ 1)) =
-      elim c.if-same-2.branch [
-        then-same-2 b ↦ inl (search rules, b.run-is)
-        | else-same-2 b ↦ inr (search rules, b.run-is)
-      ] in
+    elim c.if-same-2.branch [
+      | then-same-2 b ↦ inl (search rules, b.run-is)
+      | else-same-2 b ↦ inr (search rules, b.run-is)
+    ] in
     let differs : c.loop-at.run ≡ 5 → x ≢ last = λ five. elim c.else-run-eq5.branch [
-      else-run-eq5-via-then-run-eq5+else-same b ↦ search rules
+      | else-run-eq5-via-then-run-eq5+else-same b ↦ search rules
       | else-run-eq5-via-else-run-eq5 b ↦ absurd (b.if-run-eq5.false five)
     ] in
     record {
       holds = after c.args.levels.now c.loop-at.bits.items c.if-run-lt5.bits.items c.loop-at.at last c.loop-at.run c.if-same-2.run
-        loop.holds loop.before c.loop-at-test.true start kept counted differs;
+          loop.holds loop.before c.loop-at-test.true start kept counted differs;
       before = before_here c.if-run-lt5.bits.items c.if-same-2.run (λ few full. elim c.else-run-lt5-2.branch [
-        else-run-lt5-2-via-then-run-lt5-2+else-len-says_count b ↦ b.if-len-says_count.false (b.len.ensures.value ∙ full ∙ sym (b.says_count.ensures.value ∙ ap says_count b.as_slice.ensures.value))
+        | else-run-lt5-2-via-then-run-lt5-2+else-len-says_count b ↦ b.if-len-says_count.false (b.len.ensures.value ∙ full ∙ sym (b.says_count.ensures.value ∙ ap says_count b.as_slice.ensures.value))
         | else-run-lt5-2-via-else-run-lt5-2 b ↦ let many = b.if-run-lt5-2.false in omega arith
-      ])
+      ]);
     }
 
 pub returns-clause-fault : goal.returns-clause-fault

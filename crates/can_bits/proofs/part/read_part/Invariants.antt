@@ -6,5 +6,5 @@ use Rattle.can_bits.proofs.part.read_part.Given as goal
 abbrev pub invariant-loop-at : goal.invariant-loop-at
 invariant-loop-at l = record {
   holds : Holds (reverse (take l.at l.levels)) l.bits.items l.last l.run;
-  before : IsBefore l.bits.items l.run
+  before : IsBefore l.bits.items l.run;
 }

@@ -1,3 +1,7 @@
+use Rattle.std.proofs.Common.{List, sym, subst}
+use Rattle.can_bits.specs.declared.level.Level.{Level}
+use Rattle.can_bits.specs.Reading.{IsReceived}
+use Rattle.can_bits.proofs.LineLaws.{sent_received}
 use Rattle.can_bits.proofs.Verdicts.{judged_by, frame_only, fault_only}
 use Rattle.can_bits.proofs.reading.read_line.Goals as goal
 
@@ -6,3 +10,8 @@ returns-clause-frame_only c = frame_only c.args.levels.now c.read.result (judged
 
 pub returns-clause-fault_only : goal.returns-clause-fault_only
 returns-clause-fault_only c = fault_only c.args.levels.now c.read.result (judged_by _ _ c.read.ensures.frame c.read.ensures.fault)
+
+pub returns-clause-sent : goal.returns-clause-sent
+returns-clause-sent c f l h e =
+    let P = λ (m : List Level). IsReceived f m in
+    returns-clause-frame_only c f (subst P (sym e) (sent_received f l h))

@@ -6,5 +6,5 @@ use Rattle.can_bits.proofs.tail.judge_end.Given as goal
 abbrev pub invariant-loop-place : goal.invariant-loop-place
 invariant-loop-place l = record {
   recessive : take l.place l.rest ≡ replicate l.place Recessive;
-  few : l.place ≤ 8
+  few : l.place ≤ 8;
 }
