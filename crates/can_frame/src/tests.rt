@@ -107,13 +107,14 @@ fn passes(single: bool, acr: [u8; 4], amr: [u8; 4], message: &[u8]) -> Option<bo
 #[test]
 fn a_single_filter_passes_these_messages(rt: HostRuntime) {
     let none = [0; 4];
+    let extended: &[u8] = &[0x80, 0x24, 0x60, 0, 0];
     let standard = [0x24, 0x6f, 0x11, 0x22];
     let rows: [([u8; 4], &[u8], bool); 5] = [
         (standard, &[0x02, 0x24, 0x60, 0x11, 0x22], true),
         (standard, &[0x02, 0x24, 0x60, 0x11, 0x23], false),
         (standard, &[0x01, 0x24, 0x60, 0x11], true),
-        ([0x24, 0x60, 0x00, 0x03], &[0x80, 0x24, 0x60, 0x00, 0x00], true),
-        ([0x24, 0x60, 0x00, 0x04], &[0x80, 0x24, 0x60, 0x00, 0x00], false),
+        ([0x24, 0x60, 0, 3], extended, true),
+        ([0x24, 0x60, 0, 4], extended, false),
     ];
     for (acr, message, expected) in rows {
         assert_eq!(rt; passes(true, acr, none, message), Some(expected));
@@ -123,6 +124,7 @@ fn a_single_filter_passes_these_messages(rt: HostRuntime) {
 #[test]
 fn a_dual_filter_passes_these_messages(rt: HostRuntime) {
     let none = [0; 4];
+    let extended: &[u8] = &[0x80, 0x24, 0x60, 0, 0];
     let not_rtr = [0x00, 0x10, 0x00, 0x00];
     let standard = [0x24, 0x65, 0xff, 0xfa];
     let rows: [([u8; 4], [u8; 4], &[u8], bool); 6] = [
@@ -130,8 +132,8 @@ fn a_dual_filter_passes_these_messages(rt: HostRuntime) {
         (standard, not_rtr, &[0x01, 0x24, 0x60, 0x5b], false),
         (standard, not_rtr, &[0x00, 0x24, 0x60], true),
         (standard, not_rtr, &[0x41, 0x24, 0x70], true),
-        ([0x00, 0x00, 0x24, 0x60], none, &[0x80, 0x24, 0x60, 0x00, 0x00], true),
-        ([0x00, 0x00, 0x24, 0x61], none, &[0x80, 0x24, 0x60, 0x00, 0x00], false),
+        ([0, 0, 0x24, 0x60], none, extended, true),
+        ([0, 0, 0x24, 0x61], none, extended, false),
     ];
     for (acr, amr, message, expected) in rows {
         assert_eq!(rt; passes(false, acr, amr, message), Some(expected));
