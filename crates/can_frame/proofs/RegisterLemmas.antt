@@ -15,43 +15,51 @@ differing code mask low count number =
 bit_at-shifted : (n low i : ℕ) → bit_at (n / 2 ^ low) i ≡ bit_at n (low + i)
 bit_at-shifted n low i = ap (λ x. x % 2) (shr-shr n low i)
 
-module _ (code mask low count number : ℕ) where
+module _ (code mask low count number : ℕ) (room : low + count ≤ 8) (fits : mask < 256) where
+  -- bit i of the difference
+  abbrev differs : ℕ → ℕ
+  differs i = bit_at (differing code mask low count number) i
+
   -- a bit from `count` on never differs
-  bit_at-above : (i : ℕ) → count ≤ i → bit_at (differing code mask low count number) i ≡ 0
-  bit_at-above i above =
+  differs-above : (i : ℕ) → count ≤ i → differs i ≡ 0
+  differs-above i above =
       let both = bit_at_and (bit_and (bit_xor (code / 2 ^ low) number) ((255 - mask) / 2 ^ low)) (2 ^ count - 1) i in
       omega (arith, both, bit_at_ones_above count i above)
 
   -- a bit below `count` differs where the code bit isn't the number's and the mask bit is 0
-  bit_at-below : low + count ≤ 8 → mask < 256 → (i : ℕ) → i < count → bit_at (differing code mask low count number) i
-      ≡ min ((bit_at code (low + i) + bit_at number i) % 2) (1 - bit_at mask (low + i))
-  bit_at-below room fits i within =
+  differs-below : (i : ℕ) → i < count →
+      differs i ≡ min ((bit_at code (low + i) + bit_at number i) % 2) (1 - bit_at mask (low + i))
+  differs-below i within =
       let all = bit_at_and (bit_and (bit_xor (code / 2 ^ low) number) ((255 - mask) / 2 ^ low)) (2 ^ count - 1) i in
       let two = bit_at_and (bit_xor (code / 2 ^ low) number) ((255 - mask) / 2 ^ low) i in
       let sum = bit_at_xor (code / 2 ^ low) number i in
-      let open_bit = bit_at-shifted (255 - mask) low i ∙ bit_at_not w8 mask (low + i) fits (omega arith) in
-      omega (arith, all, two, sum, open_bit, bit_at-shifted code low i, bit_at_ones count i within, bit_at-lt code (low + i), bit_at-lt number i, bit_at-lt mask (low + i))
+      let shifted = bit_at-shifted code low i in
+      let unmasked = bit_at-shifted (255 - mask) low i ∙ bit_at_not w8 mask (low + i) fits (omega arith) in
+      let code_bit = bit_at-lt code (low + i) in
+      let number_bit = bit_at-lt number i in
+      let mask_bit = bit_at-lt mask (low + i) in
+      omega (arith, all, two, sum, shifted, unmasked, bit_at_ones count i within, code_bit, number_bit, mask_bit)
 
   -- where no bit differs the register matches
-  matches : low + count ≤ 8 → mask < 256 → differing code mask low count number ≡ 0 → Matches code mask low count number
-  matches room fits none i within compared =
-      let here = ap (λ x. bit_at x i) none in
-      omega (arith, here, bit_at-zero i, bit_at-below room fits i within, compared, bit_at-lt code (low + i), bit_at-lt number i)
+  matches : differing code mask low count number ≡ 0 → Matches code mask low count number
+  matches none i within compared =
+      let here = ap (λ x. bit_at x i) none ∙ bit_at-zero i in
+      omega (arith, here, differs-below i within, compared, bit_at-lt code (low + i), bit_at-lt number i)
+
+  -- where the register matches no bit below `count` differs, whether it is compared or not
+  same-below : Matches code mask low count number → (i : ℕ) → i < count →
+      (bit_at mask (low + i) < 1) ⊎ (1 ≤ bit_at mask (low + i)) → differs i ≡ 0
+  same-below same i within (inl compared) = omega (arith, differs-below i within, same i within (omega (arith, compared)))
+  same-below same i within (inr masked) = omega (arith, differs-below i within, masked)
 
   -- where the register matches no bit differs
-  none_differs : low + count ≤ 8 → mask < 256 → Matches code mask low count number → differing code mask low count number ≡ 0
-  none_differs room fits same = same_from_bits (differing code mask low count number) 0 (λ i. each i (cases_lt i count) ∙ sym (bit_at-zero i))
-    where
-      below : (i : ℕ) → i < count → (bit_at mask (low + i) < 1) ⊎ (1 ≤ bit_at mask (low + i)) → bit_at (differing code mask low count number) i ≡ 0
-      below i within (inl compared) = omega (arith, bit_at-below room fits i within, same i within (omega (arith, compared)))
-      below i within (inr masked) = omega (arith, bit_at-below room fits i within, masked)
-      each : (i : ℕ) → (i < count) ⊎ (count ≤ i) → bit_at (differing code mask low count number) i ≡ 0
-      each i (inl within) = below i within (cases_lt (bit_at mask (low + i)) 1)
-      each i (inr above) = bit_at-above i above
+  same-at : Matches code mask low count number → (i : ℕ) → (i < count) ⊎ (count ≤ i) → differs i ≡ 0
+  same-at same i (inl within) = same-below same i within (cases_lt (bit_at mask (low + i)) 1)
+  same-at same i (inr above) = differs-above i above
 
--- the register matches exactly where no bit differs
-pub matches_by_number : (code mask low count number : ℕ) → low + count ≤ 8 → mask < 256 →
-    IsTrue (nat_eq (differing code mask low count number) 0) ↔ Matches code mask low count number
-matches_by_number code mask low count number room fits =
-    ( λ t. matches code mask low count number room fits (eqb-true _ _ t)
-    , λ same. eq-eqb _ _ (none_differs code mask low count number room fits same) )
+  -- the register matches exactly where no bit differs
+  pub matches_by_number : IsTrue (nat_eq (differing code mask low count number) 0) ↔ Matches code mask low count number
+  matches_by_number = (
+    λ t. matches (eqb-true _ _ t),
+    λ same. eq-eqb _ _ (same_from_bits _ 0 (λ i. same-at same i (cases_lt i count) ∙ sym (bit_at-zero i))),
+  )

@@ -1,10 +1,12 @@
 ghost use Rattle.std.specs.Prelude.{◌≡◌, ◌<◌, ◌/◌, ◌^◌, ◌↔◌, ◌⊎◌, IsTrue, slice_index};
 ghost use Rattle.can_frame.specs.Message.{bit};
-ghost use Rattle.can_frame.specs.Filter.{Matches, Passes, PassesSingleStandard, PassesSingleExtended, PassesFirstStandard,
-    PassesSecondStandard, PassesFirstExtended, PassesSecondExtended, MatchesStandardHead, MatchesExtendedHead};
+ghost use Rattle.can_frame.specs.Filter.{Matches, MatchesStandardHead, MatchesExtendedHead, Passes};
+ghost use Rattle.can_frame.specs.Filter.{PassesSingleStandard, PassesSingleExtended};
+ghost use Rattle.can_frame.specs.Filter.{PassesFirstStandard, PassesSecondStandard};
+ghost use Rattle.can_frame.specs.Filter.{PassesFirstExtended, PassesSecondExtended};
 
 use super::frame::Frame;
-use super::register::{halves_match, Register};
+use super::register::{Register, halves_match};
 
 /// The acceptance filter: which received frames a controller keeps (SJA1000 data sheet, 6.4.15).
 ///
@@ -107,7 +109,8 @@ impl Filter {
             ⊎ PassesSecondStandard self.now.acr self.now.amr frame.now) }
     {
         let head = standard_head_matches(self.register(0), self.register(1), frame);
-        let halves = halves_match(self.register(1), self.register(3), frame.bytes().get(0).copied());
+        let byte = frame.bytes().get(0).copied();
+        let halves = halves_match(self.register(1), self.register(3), byte);
         let second = standard_head_matches(self.register(2), self.register(3), frame);
         (head && halves) || second
     }

@@ -1,7 +1,8 @@
 //! CAN frames, and the bytes in which an SJA1000 controller in PeliCAN mode holds them.
 //!
 //! A [`Frame`] is what a data or remote frame says. A [`Message`] is the same in the layout of the controller's
-//! transmit and receive buffers, 3 to 13 bytes. The two are one to one. No call of this crate takes memory.
+//! transmit and receive buffers, 3 to 13 bytes. The two are one to one. A [`Filter`] says which received frames the
+//! controller keeps. No call of this crate takes memory.
 #![tactic(auto)]
 
 mod copied;

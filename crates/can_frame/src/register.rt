@@ -6,7 +6,9 @@ ghost use Rattle.can_frame.specs.Filter.{Matches, MatchesByte, MatchesHalves};
 /// A mask bit of 1 means "don't care": its code bit isn't compared.
 #[derive(Clone, Copy)]
 pub struct Register {
+    /// The acceptance code.
     pub code: u8,
+    /// The acceptance mask.
     pub mask: u8,
 }
 

@@ -6,5 +6,6 @@ use Rattle.can_frame.proofs.register.Register.matches.Goals as goal
 -- the compared number is the one of the lemma, where no bit differs
 pub returns : goal.returns
 returns c =
-    let lemma = matches_by_number c.args.self.code c.args.self.mask c.args.low c.args.count c.args.number c.requires (omega arith) in
-    rw (c.from.ensures, c.from-2.ensures, one_shl c.args.count 32 (omega arith)) lemma
+    let a = c.args in
+    let lemma = matches_by_number a.self.code a.self.mask a.low a.count a.number c.requires (omega arith) in
+    rw (c.from.ensures, c.from-2.ensures, one_shl a.count 32 (omega arith)) lemma
