@@ -47,17 +47,18 @@ fn push_head(body: &mut ArrayVec<Level, 118>, frame: &Frame)
     ensures room { length body.new.items ≤ 35 }
 {
     let id = frame.id();
+    let rtr = Level::of(frame.rtr());
     body.push(Level::Dominant);
     if frame.ext() {
         push_bits(body, 11, id >> 18);
         body.push(Level::Recessive);
         body.push(Level::Recessive);
         push_bits(body, 18, id);
-        body.push(Level::of(frame.rtr()));
+        body.push(rtr);
         body.push(Level::Dominant);
     } else {
         push_bits(body, 11, id);
-        body.push(Level::of(frame.rtr()));
+        body.push(rtr);
         body.push(Level::Dominant);
     }
     body.push(Level::Dominant);

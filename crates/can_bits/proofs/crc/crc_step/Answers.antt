@@ -1,5 +1,6 @@
 use Rattle.std.proofs.Common.{◌∙◌, ◌*◌, ◌%◌, ◌^◌, sym, arith}
 use Rattle.std.specs.Int.Bits.{xor_lt}
+use Rattle.can_bits.specs.declared.crc.TheConstants.{GENERATOR}
 use Rattle.can_bits.proofs.Checks.{Divided, Divided-same, Divided-other}
 use Rattle.can_bits.proofs.crc.crc_step.Goals as goal
 
@@ -9,7 +10,7 @@ returns-then-crc-from-clause-divides c b h =
     (Divided-same b c.args.crc c.args.level before (c.if-crc-from.true ∙ c.from.ensures ∙ c.digit.ensures.value)).divides
 
 pub returns-else-crc-from-clause-fits : goal.returns-else-crc-from-clause-fits
-returns-else-crc-from-clause-fits c = xor_lt 15 (2 * (c.args.crc % 2 ^ 14)) 0x4599 (omega arith) (omega arith)
+returns-else-crc-from-clause-fits c = xor_lt 15 (2 * (c.args.crc % 2 ^ 14)) GENERATOR (omega arith) (omega arith)
 
 pub returns-else-crc-from-clause-divides : goal.returns-else-crc-from-clause-divides
 returns-else-crc-from-clause-divides c b h =
