@@ -7,3 +7,5 @@ pub mod Fields
 pub mod Data
 pub mod Spelling
 pub mod Reading
+pub mod Segments
+pub mod Streaming

@@ -11,6 +11,8 @@ mod line;
 mod line_fault;
 mod part;
 mod reading;
+mod segment;
+mod shift_event;
 mod stuffing;
 mod tail;
 
@@ -23,3 +25,5 @@ pub use level::Level;
 pub use line::line_of;
 pub use line_fault::LineFault;
 pub use reading::read_line;
+pub use segment::Segment;
+pub use shift_event::ShiftEvent;

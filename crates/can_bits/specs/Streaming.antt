@@ -1,0 +1,85 @@
+-- What a reader of one level at a time says. It takes either level in the acknowledgement slot.
+use Rattle.std.specs.Prelude.{◌≡◌, ◌≤◌, ℕ, Bool, true, false, List, [], ◌∷◌, ◌++◌, length, Option, Some, None, ◌↔◌, IfSome, IsTrue}
+use Rattle.can_frame.specs.Frame.{FrameValue}
+use Rattle.can_bits.specs.declared.level.Level.{Level}
+use Rattle.can_bits.specs.declared.level.Level.TheVariants.{Recessive}
+use Rattle.can_bits.specs.declared.segment.Segment.{Segment}
+use Rattle.can_bits.specs.declared.line_fault.LineFault.{LineFault}
+use Rattle.can_bits.specs.declared.line_fault.LineFault.TheVariants.{Stuff, Form, Crc as CheckFault, NoAck, Truncated, Trailing}
+use Rattle.can_bits.specs.declared.shift_event.ShiftEvent.{ShiftEvent}
+use Rattle.can_bits.specs.Check.{Crc}
+use Rattle.can_bits.specs.Line.{StuffedPart, Line}
+use Rattle.can_bits.specs.Reading.{Begins, IsPastPart, IsInPart}
+use Rattle.can_bits.specs.Segments.{IsNext}
+
+-- some line begins with these levels, and its check sequence is right once the acknowledgement delimiter has come
+-- (seven levels are missing then)
+pub record IsReadable (l : List Level) : Type 0 where
+  pub frame : FrameValue
+  pub body : List Level
+  pub check : List Level
+  pub ack : Level
+  pub rest : List Level
+  pub line : Line frame body check ack (l ++ rest)
+  pub right : length rest ≤ 7 → Crc body check
+
+-- the levels are a line of f with a right check sequence, with either level in the acknowledgement slot, but for this
+-- many levels at its end
+pub record IsLineButFor (missing : ℕ) (f : FrameValue) (l : List Level) : Type 0 where
+  pub body : List Level
+  pub check : List Level
+  pub ack : Level
+  pub rest : List Level
+  pub line : Line f body check ack (l ++ rest)
+  pub right : Crc body check
+  pub count : length rest ≡ missing
+
+-- a whole line has come
+abbrev pub IsOver : List Level → Type 0
+IsOver l = (f : FrameValue) × IsLineButFor 0 f l
+
+-- up to its acknowledgement slot these levels are a line, and its check sequence is wrong
+pub record EndsInWrongCheck (l : List Level) : Type 0 where
+  pub frame : FrameValue
+  pub body : List Level
+  pub check : List Level
+  pub part : List Level
+  pub ack : Level
+  pub is_part : StuffedPart frame body check part
+  pub wrong : ¬ Crc body check
+  pub whole : l ≡ part ++ Recessive ∷ ack ∷ []
+
+-- what is wrong with the level x after the levels l, which were right so far
+abbrev pub BreaksWith : List Level → Level → LineFault → Type 0
+BreaksWith l x (Stuff at) = (¬ Begins (l ++ x ∷ [])) × IsInPart l × (at ≡ length l)
+BreaksWith l x (Form at) = (¬ Begins (l ++ x ∷ [])) × (¬ IsInPart l) × (¬ IsOver l) × (at ≡ length l)
+BreaksWith l x CheckFault = EndsInWrongCheck l × (x ≡ Recessive)
+BreaksWith l x (Trailing at) = IsOver l × (at ≡ length l)
+BreaksWith l x NoAck = ⊥
+BreaksWith l x Truncated = ⊥
+
+-- the level goes on with a line, or is wrong in this way
+abbrev pub Judges : List Level → Level → Option LineFault → Type 0
+Judges l x None = IsReadable (l ++ x ∷ [])
+Judges l x (Some fault) = BreaksWith l x fault
+
+-- a frame comes with the sixth bit of its end of frame, and then alone
+pub record ShowsFrame (l : List Level) (shown : Option FrameValue) : Type 0 where
+  pub some : IfSome shown (λ f. IsLineButFor 1 f l)
+  pub only : (f : FrameValue) → IsLineButFor 1 f l → shown ≡ Some f
+
+-- the event of the level x after the levels l, which were right so far
+pub record IsEventOf (l : List Level) (x : Level) (event : ShiftEvent) : Type 0 where
+  pub place : IsNext l event.segment event.stuff
+  pub frame : ShowsFrame (l ++ x ∷ []) event.frame
+  pub fault : Judges l x event.fault
+
+-- the event of the level x after any levels: where one before was wrong, that one's event again
+pub record Tells (l : List Level) (x : Level) (event : ShiftEvent) : Type 0 where
+  pub right_so_far : IsReadable l → IsEventOf l x event
+  pub wrong_before : (front later : List Level) (y : Level) → IsReadable front → ¬ IsReadable (front ++ y ∷ []) → l ≡ front ++ y ∷ later → IsEventOf front y event
+
+-- whether the check sequence is right, once the stuffed part has come
+pub record TellsCheck (l : List Level) (answer : Option Bool) : Type 0 where
+  pub some : IfSome answer (λ right. IsPastPart l)
+  pub known : (f : FrameValue) (b c part after : List Level) → StuffedPart f b c part → l ≡ part ++ after → (right : Bool) × (answer ≡ Some right) × (IsTrue right ↔ Crc b c)
