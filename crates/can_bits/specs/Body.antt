@@ -1,5 +1,5 @@
--- The bits of a frame from its start to the end of its data, before stuffing (Bosch CAN 2.0 part B section 3.1.1;
--- ISO 11898-1, 10.4). The levels of reserved bits and of SRR are left open, since a receiver takes either.
+-- The bits of a frame from its start to the end of its data, before stuffing (Bosch CAN 2.0 part B section 3.2;
+-- ISO 11898-1). The levels of reserved bits and of SRR are left open, since a receiver takes either.
 use Rattle.std.specs.Prelude.{◌≡◌, ◌/◌, ◌^◌, ℕ, Bool, true, false, List, [], ◌∷◌, ◌++◌}
 use Rattle.std.specs.List.{flat_map}
 use Rattle.can_frame.specs.Frame.{FrameValue}
@@ -15,7 +15,8 @@ head_bits false id rtr srr r1 r0 = Dominant ∷ (bits 11 id ++ level_of rtr ∷ 
 head_bits true id rtr srr r1 r0 =
     Dominant ∷ (bits 11 (id / 2 ^ 18) ++ (srr ∷ Recessive ∷ (bits 18 id ++ level_of rtr ∷ r1 ∷ r0 ∷ [])))
 
--- the whole: then the data length code, and each data byte with its most significant bit first
+-- the body: that head, the data length code, and each data byte with its most significant bit first. A standard frame
+-- has no SRR and no r1
 abbrev pub body_bits : FrameValue → Level → Level → Level → List Level
 body_bits f srr r1 r0 = head_bits f.ext f.id f.rtr srr r1 r0 ++ (bits 4 f.dlc ++ flat_map (bits 8) f.bytes)
 

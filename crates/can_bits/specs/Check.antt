@@ -24,7 +24,8 @@ product p (coefficient ∷ coefficients) = bit_xor (scaled coefficient p) (2 * p
 abbrev pub IsMultiple : ℕ → Type 0
 IsMultiple n = (quotient : List Bool) × (n ≡ product generator quotient)
 
--- c is the check sequence of b: 15 levels, with which b, read as a polynomial, is a multiple of the generator
+-- c is the check sequence of b: 15 levels such that b followed by c, read as a polynomial, is a multiple of the generator.
+-- So c is the remainder of b times x^15 by the generator
 pub record Crc (b c : List Level) : Type 0 where
   pub count : length c ≡ 15
   pub divides : IsMultiple (value (b ++ c))

@@ -1,4 +1,4 @@
--- Levels as binary digits: dominant is 0, recessive is 1 (Bosch CAN 2.0 part A section 3, "Bus values").
+-- Levels as binary digits: dominant is 0, recessive is 1 (Bosch CAN 2.0 part A section 2, "Bus values").
 use Rattle.std.specs.Prelude.{◌+◌, ◌*◌, ◌/◌, ◌%◌, ◌==◌, ℕ, zero, suc, Bool, true, false, List, [], ◌∷◌, ◌++◌, fold}
 use Rattle.can_bits.specs.declared.level.Level.{Level}
 use Rattle.can_bits.specs.declared.level.Level.TheVariants.{Dominant, Recessive}

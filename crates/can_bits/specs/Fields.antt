@@ -1,4 +1,4 @@
--- Where the fields of a body stand, told from the body itself (Bosch CAN 2.0 part B section 3.1.1). A level that
+-- Where the fields of a body stand, told from the body itself (Bosch CAN 2.0 part B section 3.2). A level that
 -- hasn't come yet counts as dominant.
 use Rattle.std.specs.Prelude.{◌≡◌, ◌+◌, ◌*◌, ℕ, Bool, true, false, List, length, slice_index_or}
 use Rattle.can_frame.specs.Frame.{data_count}

@@ -1,4 +1,5 @@
--- The whole line of a frame, from its start to the end of frame (Bosch CAN 2.0 part A section 3.1.1).
+-- The whole line of a frame, from its start to the end of frame (Bosch CAN 2.0 part A section 3.1.1 and
+-- part B section 3.2).
 use Rattle.std.specs.Prelude.{◌≡◌, List, ◌∷◌, ◌++◌, length, replicate}
 use Rattle.can_frame.specs.Frame.{FrameValue, IsFrame}
 use Rattle.can_bits.specs.declared.level.Level.{Level}

@@ -20,5 +20,6 @@ pub data IsUnstuffed : List Level → List Level → Type 0 where
 -- s is w with its stuff bits: after five equal levels one that differs, stuff bits counted too
 pub record Stuffed (w s : List Level) : Type 0 where
   pub no_six : HasNoSixEqual s
+  -- a stuff bit that is due after the last level is there too
   pub closed : ¬ EndsInEqual 5 s
   pub unstuffed : IsUnstuffed w s

@@ -22,7 +22,8 @@ pub fn crc_of(levels: &[Level]) -> u16
     crc
 }
 
-/// The check register after one level more: what divides the levels and the register still does.
+/// The check register after one level more: where the generator divides the levels followed by the register, it divides
+/// the levels with this one more, followed by the result.
 fn crc_step(crc: u16, level: Level) -> u16
     requires { crc < 32768 }
     ensures fits { result < 32768 }

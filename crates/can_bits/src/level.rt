@@ -1,6 +1,6 @@
 ghost use Rattle.std.specs.Prelude.{◌≡◌, ◌<◌};
 
-/// A level of the bus (Bosch CAN 2.0 part A section 3, "Bus values").
+/// A level of the bus (Bosch CAN 2.0 part A section 2, "Bus values").
 ///
 /// The bus is dominant where any node drives dominant.
 #[derive(Clone, Copy, Debug, Default, PartialEq, Eq)]

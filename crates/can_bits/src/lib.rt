@@ -1,4 +1,6 @@
-//! The levels that a CAN frame puts on the bus: bits, check sequence, bit stuffing and the whole line.
+//! The levels that a CAN frame puts on the bus: bits, check sequence, bit stuffing and the whole line, made and read.
+//!
+//! Only `line_of` takes memory.
 #![tactic(auto)]
 
 mod body;

@@ -13,7 +13,7 @@ const LONGEST_LINE: usize = 157;
 
 /// The line that a transmitter of this frame puts on the bus: body, check sequence, stuff bits, and after them the
 /// delimiter of the check sequence, acknowledgement slot, its delimiter and end of frame, all recessive (Bosch CAN 2.0
-/// part A section 3.1.1).
+/// part A section 3.1.1 and part B section 3.2).
 ///
 /// Its room is reserved once. Answers [`OutOfMemory`] where that was refused.
 pub fn line_of(alloc: Global, frame: &Frame) -> Result<Vec<Level>, OutOfMemory>

@@ -1,4 +1,4 @@
--- What a CAN frame says (Bosch CAN 2.0 part A section 3.1 and part B section 3.1; ISO 11898-1).
+-- What a CAN frame says (Bosch CAN 2.0 part A section 3.1 and part B sections 3.1 and 3.2; ISO 11898-1).
 use Rattle.std.specs.Prelude.{◌≡◌, ◌<◌, ◌^◌, ℕ, Bool, true, false, List, length, min, All}
 
 -- format, identifier, kind, data length code and data bytes of a frame

@@ -6,7 +6,8 @@ use super::frame_fault::FrameFault;
 use arrayvec::ArrayVec;
 use std::marker::Model;
 
-/// A data frame or a remote frame of CAN 2.0, standard or extended (Bosch CAN 2.0 section 3.1, parts A and B).
+/// A data frame or a remote frame of CAN 2.0, standard or extended (Bosch CAN 2.0 part A section 3.1, part B sections
+/// 3.1 and 3.2).
 ///
 /// Contracts see it as the plain record of what it says: `ext`, `id`, `rtr`, `dlc` and `bytes`.
 #[derive(Debug, PartialEq, Eq, Drop)]
