@@ -1,0 +1,5 @@
+pub mod Receiving
+pub mod Sending
+pub mod Waits
+pub mod Apart
+pub mod RowOnce

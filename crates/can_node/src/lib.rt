@@ -4,11 +4,13 @@
 mod bit_events;
 mod cause;
 mod config;
+mod laws;
 mod outcome;
 mod request;
 
 pub use bit_events::BitEvents;
 pub use cause::Cause;
 pub use config::Config;
+pub use laws::pieces_are_told_apart;
 pub use outcome::Outcome;
 pub use request::Request;

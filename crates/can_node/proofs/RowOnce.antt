@@ -1,0 +1,84 @@
+-- At every place the pieces are told apart: of two that begin one list neither is a proper front of the other, and they are
+-- one piece that leads to one place.
+use Rattle.std.proofs.Common.{◌≡◌, ◌≢◌, List, [], ◌∷◌, ◌++◌, refl, ap, sym, ◌∙◌, subst, Option, Some, None}
+use Rattle.can_bits.specs.declared.level.Level.{Level}
+use Rattle.can_bits.specs.declared.level.Level.TheVariants.{Dominant, Recessive}
+use Rattle.can_node.specs.declared.request.Request.{Request}
+use Rattle.can_node.specs.Bits.{Bit, heard, forced}
+use Rattle.can_node.specs.Context.{Context}
+use Rattle.can_node.specs.Pieces.{Spot, Piece, sent_at}
+use Rattle.can_node.specs.Pieces.Spot.{Resting, Joining, AtIdle, SofSeen, AfterReception, Flagging, AfterFlag, Pausing}
+use Rattle.can_node.specs.Pieces.Piece.{Idle}
+use Rattle.can_node.specs.Frames.{Hears, Sends}
+use Rattle.can_node.specs.Table.{Row}
+use Rattle.can_node.specs.Table.Row.{idle, other, own, other_begun, own_begun}
+use Rattle.can_node.proofs.Apart.{AreOne, same_hears, recessive-other, dominant-other, joining_once, after_reception_once, flagging_once, after_flag_once, pausing_once}
+use Rattle.can_node.proofs.Receiving.{hears_once}
+use Rattle.can_node.proofs.Sending.{sends_once}
+
+-- a list that begins with two first bits begins with one
+heads : (s t : Bit) (x y : List Bit) → s ∷ x ≡ t ∷ y → s ≡ t
+heads s t x y e = cc
+
+-- and what follows it is one list
+rests : (s t : Bit) (x y : List Bit) → s ∷ x ≡ t ∷ y → x ≡ y
+rests s t x y e = cc
+
+-- an idle bit isn't the first one of another node's frame
+idle_no_frame : (x y : List Bit) → heard Recessive ∷ x ≡ heard Dominant ∷ y → ⊥
+idle_no_frame x y e = recessive-other (ap (λ (b : Bit). b.seen) (heads (heard Recessive) (heard Dominant) x y e))
+
+-- no request is sent where one is
+none_or_some : (sent : Option Request) (request : Request) → sent ≡ None → sent ≡ Some request → ⊥
+none_or_some sent request h k = let no : None ≡ Some request = sym h ∙ k in cc
+
+-- one request is sent at a place
+one_request : (sent : Option Request) (request another : Request) → sent ≡ Some request → sent ≡ Some another → another ≡ request
+one_request sent request another h k = let same : Some another ≡ Some request = sym k ∙ h in cc
+
+-- two pieces of one transmitter, with its request told twice
+sends_alike : (c : Context) (spot : Spot) (request another : Request) (a b x y : List Bit) (p q : Piece) (n m : Spot) →
+    sent_at c spot ≡ Some request → sent_at c spot ≡ Some another → Sends c.self_test request a p n → Sends c.self_test another b q m →
+    a ++ x ≡ b ++ y → AreOne a p n b q m
+sends_alike c spot request another a b x y p q n m h k s t e =
+    let same = one_request (sent_at c spot) request another h k in
+    let P : Request → Type 0 = λ r. Sends c.self_test r b q m in
+    sends_once c.self_test request a b x y p q n m s (subst P same t) e
+
+-- at an idle place: the bus stays idle, or another node's frame or an own one begins
+at_idle_once : (c : Context) (a b x y : List Bit) (p q : Piece) (n m : Spot) →
+    Row c AtIdle a p n → Row c AtIdle b q m → a ++ x ≡ b ++ y → AreOne a p n b q m
+at_idle_once c a b x y p q n m (idle none) (idle nothing) e = (refl, refl, refl)
+at_idle_once c a b x y p q n m (idle none) (other {bits = k} nothing h) e = absurd (idle_no_frame x (k ++ y) e)
+at_idle_once c a b x y p q n m (other {bits = l} none h) (idle nothing) e = absurd (idle_no_frame y (l ++ x) (sym e))
+at_idle_once c a b x y p q n m (idle none) (own {request = r} some s) e = absurd (none_or_some (sent_at c AtIdle) r none some)
+at_idle_once c a b x y p q n m (own {request = r} some s) (idle none) e = absurd (none_or_some (sent_at c AtIdle) r none some)
+at_idle_once c a b x y p q n m (other none h) (own {request = r} some s) e = absurd (none_or_some (sent_at c AtIdle) r none some)
+at_idle_once c a b x y p q n m (own {request = r} some s) (other none h) e = absurd (none_or_some (sent_at c AtIdle) r none some)
+at_idle_once c a b x y p q n m (other {bits = l} none h) (other {bits = k} nothing g) e =
+    let same = hears_once c.listen (Dominant ∷ []) l k x y p q n m h g (rests (heard Dominant) (heard Dominant) (l ++ x) (k ++ y) e) in
+    (ap (λ t. heard Dominant ∷ t) same.0, same.1, same.2)
+at_idle_once c a b x y p q n m (own {request = r} some s) (own {request = u} one t) e = sends_alike c AtIdle r u a b x y p q n m some one s t e
+
+-- where a frame began with the last bit of a pause
+sof_seen_once : (c : Context) (a b x y : List Bit) (p q : Piece) (n m : Spot) →
+    Row c SofSeen a p n → Row c SofSeen b q m → a ++ x ≡ b ++ y → AreOne a p n b q m
+sof_seen_once c a b x y p q n m (other_begun none h) (own_begun {request = r} some s) e = absurd (none_or_some (sent_at c SofSeen) r none some)
+sof_seen_once c a b x y p q n m (own_begun {request = r} some s) (other_begun none h) e = absurd (none_or_some (sent_at c SofSeen) r none some)
+sof_seen_once c a b x y p q n m (other_begun none h) (other_begun nothing g) e = hears_once c.listen (Dominant ∷ []) a b x y p q n m h g e
+sof_seen_once c a b x y p q n m (own_begun {request = r} some s) (own_begun {request = u} one t) e =
+    let same = sends_alike c SofSeen r u (forced Dominant ∷ a) (forced Dominant ∷ b) x y p q n m some one s t (ap (λ l. forced Dominant ∷ l) e) in
+    (rests (forced Dominant) (forced Dominant) a b same.0, same.1, same.2)
+
+-- of two pieces that are lawful at one place in one context neither is a proper front of the other, and equal lists are one
+-- piece and lead to one place
+pub row_once : (c : Context) (spot : Spot) (a b x y : List Bit) (p q : Piece) (n m : Spot) →
+    Row c spot a p n → Row c spot b q m → a ++ x ≡ b ++ y → (a ≡ b) × (p ≡ q) × (n ≡ m)
+row_once c Resting a b x y p q n m h k e = absurd (elim h [ ])
+row_once c Joining a b x y p q n m h k e = joining_once c a b x y p q n m h k e
+row_once c AtIdle a b x y p q n m h k e = at_idle_once c a b x y p q n m h k e
+row_once c SofSeen a b x y p q n m h k e = sof_seen_once c a b x y p q n m h k e
+row_once c AfterReception a b x y p q n m h k e = after_reception_once c a b x y p q n m h k e
+row_once c Flagging a b x y p q n m h k e = flagging_once c a b x y p q n m h k e
+row_once c AfterFlag a b x y p q n m h k e = after_flag_once c a b x y p q n m h k e
+row_once c Pausing a b x y p q n m h k e = pausing_once c a b x y p q n m h k e

@@ -1,0 +1,15 @@
+//! Laws of the cut of a record into pieces. Each stands as the contract of a function that does nothing.
+
+ghost use Rattle.std.specs.Prelude.{◌≡◌, ◌++◌, List};
+ghost use Rattle.can_node.specs.Bits.{Bit};
+ghost use Rattle.can_node.specs.Context.{Context};
+ghost use Rattle.can_node.specs.Pieces.{Spot, Piece};
+ghost use Rattle.can_node.specs.Table.{Row};
+
+/// Of two pieces that are lawful at one place in one context neither is a proper front of the other, and equal lists of
+/// bits are the same piece and lead to the same place (this project's own rule, of which the standard's rules for each
+/// place are the parts).
+pub fn pieces_are_told_apart()
+    ensures { (c : Context) (spot : Spot) (a b x y : List Bit) (p q : Piece) (n m : Spot) →
+        Row c spot a p n → Row c spot b q m → a ++ x ≡ b ++ y → (a ≡ b) × (p ≡ q) × (n ≡ m) }
+{}
