@@ -1,20 +1,20 @@
 -- At each place outside a frame the pieces are told apart: of two that begin one list neither is a proper front of the
 -- other, and they are one piece that leads to one place.
-use Rattle.std.proofs.Common.{◌≡◌, ◌≢◌, ◌+◌, ◌<◌, ◌≤◌, ℕ, zero, suc, IsTrue, List, [], ◌∷◌, ◌++◌, map, replicate, refl, ap, sym, ◌∙◌, subst, arith, inl, inr, if◌then◌else◌, nat_le}
+use Rattle.std.proofs.Common.{◌≡◌, ◌≢◌, ◌+◌, ◌<◌, ◌≤◌, ℕ, IsTrue, List, [], ◌∷◌, ◌++◌, replicate, refl, ap, sym, ◌∙◌, arith, inl, inr, if◌then◌else◌, nat_le}
 use Rattle.std.proofs.lemmas.Bool.{cases_Bool, le-leb, lt-leb}
-use Rattle.std.proofs.lemmas.List.{append_assoc, map-append, replicate-append-replicate}
+use Rattle.std.proofs.lemmas.List.{append_assoc}
 use Rattle.can_bits.specs.declared.level.Level.{Level}
 use Rattle.can_bits.specs.declared.level.Level.TheVariants.{Dominant, Recessive}
 use Rattle.can_bits.specs.declared.segment.Segment.TheVariants.{Delimiter}
 use Rattle.can_bits.specs.Stuffing.{EndsInEqual}
 use Rattle.can_node.specs.declared.cause.Cause.TheVariants.{Bit as BitError, Form as FormError}
-use Rattle.can_node.specs.Bits.{Bit, heard, forced, hears, forces, seen_of, IsFirst}
+use Rattle.can_node.specs.Bits.{Bit, hears, forces, seen_of, IsFirst}
 use Rattle.can_node.specs.Context.{Context, owes_suspension, pause_count, flag_level, join_count}
-use Rattle.can_node.specs.Pieces.{Spot, Piece, FaultPlace}
+use Rattle.can_node.specs.Pieces.{Spot, Piece}
 use Rattle.can_node.specs.Pieces.Spot.{Joining, AtIdle, SofSeen, AfterReception, Flagging, AfterFlag, Pausing}
 use Rattle.can_node.specs.Pieces.FaultPlace.{InFlag, InDelimiter}
-use Rattle.can_node.specs.Pieces.Piece.{Join, Idle, Fault, Last, Flag, Tail, Pause, PauseWithSof, PauseBroken}
-use Rattle.can_node.specs.Table.{Row, Elevens, flag_segment}
+use Rattle.can_node.specs.Pieces.Piece.{Fault, Flag, Tail, Pause, PauseWithSof, PauseBroken}
+use Rattle.can_node.specs.Table.{Row, flag_segment}
 use Rattle.can_node.specs.Table.Row.{join, last, last_overload, flag, flag_fault, flag_passive, tail, tail_overload, tail_fault, pause, pause_sof, pause_sof_owed, pause_broken, pause_broken_second}
 use Rattle.can_node.proofs.Waits.{first_once, elevens_once, IsWait, leading, wait_once}
 use Rattle.can_node.proofs.Waits.IsWait.{whole, cut_off}
@@ -78,8 +78,10 @@ flag_spot i = if nat_le 6 i then AfterFlag else Flagging
 
 -- a piece of a flag: by what the node drives in it
 data InFlagging (c : Context) (bits : List Bit) (p : Piece) (n : Spot) : Type 0 where
-  active : (i : ℕ) (l : List Level) → flag_level c ≡ Dominant → IsWait Dominant Recessive 6 i l → bits ≡ forces l → p ≡ flag_piece c i → n ≡ flag_spot i → InFlagging c bits p n
-  passive : (l : List Level) → flag_level c ≡ Recessive → IsFirst (EndsInEqual 6) l → bits ≡ hears l → p ≡ Flag → n ≡ AfterFlag → InFlagging c bits p n
+  active : (i : ℕ) (l : List Level) → flag_level c ≡ Dominant → IsWait Dominant Recessive 6 i l → bits ≡ forces l →
+      p ≡ flag_piece c i → n ≡ flag_spot i → InFlagging c bits p n
+  passive : (l : List Level) → flag_level c ≡ Recessive → IsFirst (EndsInEqual 6) l → bits ≡ hears l →
+      p ≡ Flag → n ≡ AfterFlag → InFlagging c bits p n
 
 in_flagging : (c : Context) (a : List Bit) (p : Piece) (n : Spot) → Row c Flagging a p n → InFlagging c a p n
 in_flagging c a p n (flag level) = active 6 (replicate 6 Dominant) level whole refl refl refl
@@ -92,14 +94,19 @@ flagging_as : (c : Context) (a b x y : List Bit) (p q : Piece) (n m : Spot) →
     InFlagging c a p n → InFlagging c b q m → a ++ x ≡ b ++ y → AreOne a p n b q m
 flagging_as c a b x y p q n m (active i l level h ea ep en) (active j k others g eb eq em) e =
     let lines = same_forces l k x y (ap (λ t. t ++ x) (sym ea) ∙ e ∙ ap (λ t. t ++ y) eb) in
-    let same = wait_once Dominant Recessive dominant-other 6 i j l k (seen_of x) (seen_of y) h g lines in
-    (ea ∙ ap (λ t. forces t) same.1 ∙ sym eb, ep ∙ ap (λ t. flag_piece c t) same.0 ∙ sym eq, en ∙ ap (λ t. flag_spot t) same.0 ∙ sym em)
+    let same = wait_once Dominant Recessive dominant-other 6 i j l k (seen_of x) (seen_of y) h g lines in (
+      ea ∙ ap (λ t. forces t) same.1 ∙ sym eb,
+      ep ∙ ap (λ t. flag_piece c t) same.0 ∙ sym eq,
+      en ∙ ap (λ t. flag_spot t) same.0 ∙ sym em,
+    )
 flagging_as c a b x y p q n m (passive l level h ea ep en) (passive k others g eb eq em) e =
     let lines = same_hears l k x y (ap (λ t. t ++ x) (sym ea) ∙ e ∙ ap (λ t. t ++ y) eb) in
     let same = first_once (EndsInEqual 6) l k (seen_of x) (seen_of y) h g lines in
     (ea ∙ ap (λ t. hears t) same ∙ sym eb, ep ∙ sym eq, en ∙ sym em)
-flagging_as c a b x y p q n m (active i l level h ea ep en) (passive k others g eb eq em) e = absurd (dominant-other (sym level ∙ others))
-flagging_as c a b x y p q n m (passive l level h ea ep en) (active j k others g eb eq em) e = absurd (recessive-other (sym level ∙ others))
+flagging_as c a b x y p q n m (active i l level h ea ep en) (passive k others g eb eq em) e =
+    absurd (dominant-other (sym level ∙ others))
+flagging_as c a b x y p q n m (passive l level h ea ep en) (active j k others g eb eq em) e =
+    absurd (recessive-other (sym level ∙ others))
 
 pub flagging_once : (c : Context) (a b x y : List Bit) (p q : Piece) (n m : Spot) →
     Row c Flagging a p n → Row c Flagging b q m → a ++ x ≡ b ++ y → AreOne a p n b q m
@@ -148,26 +155,33 @@ in_after_flag c a p n (tail_fault k i less) =
       spot_is = rw (lt-leb 7 i (omega arith)) refl;
     }
 
-after_flag_as : (a b x y : List Bit) (p q : Piece) (n m : Spot) → InAfterFlag a p n → InAfterFlag b q m → a ++ x ≡ b ++ y → AreOne a p n b q m
+after_flag_as : (a b x y : List Bit) (p q : Piece) (n m : Spot) → InAfterFlag a p n → InAfterFlag b q m →
+    a ++ x ≡ b ++ y → AreOne a p n b q m
 after_flag_as a b x y p q n m h g e =
     let front : List Level = replicate h.k Dominant in
     let other : List Level = replicate g.k Dominant in
-    let lines = same_hears (front ++ Recessive ∷ h.l) (other ++ Recessive ∷ g.l) x y (ap (λ t. t ++ x) (sym h.bits_are) ∙ e ∙ ap (λ t. t ++ y) g.bits_are) in
+    let joined = ap (λ t. t ++ x) (sym h.bits_are) ∙ e ∙ ap (λ t. t ++ y) g.bits_are in
+    let lines = same_hears (front ++ Recessive ∷ h.l) (other ++ Recessive ∷ g.l) x y joined in
     let begin = leading Dominant Recessive dominant-other (h.k) (g.k) (h.l ++ seen_of x) (g.l ++ seen_of y)
-    (sym (append_assoc front (Recessive ∷ h.l) (seen_of x)) ∙ lines ∙ append_assoc other (Recessive ∷ g.l) (seen_of y)) in
-    let rest = wait_once Recessive Dominant recessive-other 7 (h.i) (g.i) (h.l) (g.l) (seen_of x) (seen_of y) h.waits g.waits begin.1 in (
-      h.bits_are ∙ ap (λ t. hears (replicate t Dominant ++ Recessive ∷ h.l)) begin.0 ∙ ap (λ t. hears (other ++ Recessive ∷ t)) rest.1 ∙ sym g.bits_are,
+    (sym (append_assoc front (Recessive ∷ h.l) (seen_of x)) ∙ lines
+    ∙ append_assoc other (Recessive ∷ g.l) (seen_of y)) in
+    let rest = wait_once Recessive Dominant recessive-other 7 (h.i) (g.i) (h.l) (g.l) (seen_of x)
+    (seen_of y) h.waits g.waits begin.1 in (
+      h.bits_are ∙ ap (λ t. hears (replicate t Dominant ++ Recessive ∷ h.l)) begin.0
+          ∙ ap (λ t. hears (other ++ Recessive ∷ t)) rest.1 ∙ sym g.bits_are,
       h.piece_is ∙ ap (λ t. tail_piece t) rest.0 ∙ sym g.piece_is,
       h.spot_is ∙ ap (λ t. tail_spot t) rest.0 ∙ sym g.spot_is,
     )
 
 pub after_flag_once : (c : Context) (a b x y : List Bit) (p q : Piece) (n m : Spot) →
     Row c AfterFlag a p n → Row c AfterFlag b q m → a ++ x ≡ b ++ y → AreOne a p n b q m
-after_flag_once c a b x y p q n m h k e = after_flag_as a b x y p q n m (in_after_flag c a p n h) (in_after_flag c b q m k) e
+after_flag_once c a b x y p q n m h k e =
+    after_flag_as a b x y p q n m (in_after_flag c a p n h) (in_after_flag c b q m k) e
 
 -- ---- a pause
 
--- all of the recessive levels are a pause; the first or second level dominant is an overload, a later one a start of frame
+-- all of the recessive levels are a pause; the first or second level dominant is an overload, a later one is a
+-- start of frame
 abbrev pub pause_piece : ℕ → ℕ → Piece
 pause_piece count i = if nat_le count i then Pause else if nat_le 2 i then PauseWithSof else PauseBroken
 
@@ -184,8 +198,10 @@ record InPausing (count : ℕ) (bits : List Bit) (p : Piece) (n : Spot) : Type 0
   spot_is : n ≡ pause_spot count i
 
 -- a dominant level after i recessive ones, fewer than the pause has
-broken_at : (count i : ℕ) (bits : List Bit) (p : Piece) (n : Spot) → i < count → bits ≡ hears (replicate i Recessive ++ Dominant ∷ []) →
-    p ≡ (if nat_le 2 i then PauseWithSof else PauseBroken) → n ≡ (if nat_le 2 i then SofSeen else Flagging) → InPausing count bits p n
+broken_at : (count i : ℕ) (bits : List Bit) (p : Piece) (n : Spot) → i < count →
+    bits ≡ hears (replicate i Recessive ++ Dominant ∷ []) →
+    p ≡ (if nat_le 2 i then PauseWithSof else PauseBroken) → n ≡ (if nat_le 2 i then SofSeen else Flagging) →
+    InPausing count bits p n
 broken_at count i bits p n less eb ep en =
     let few = lt-leb count i less in
     record {
@@ -227,13 +243,17 @@ in_pausing c a p n pause_sof = broken_at (pause_count c) 2 a p n (let long = pau
 in_pausing c a p n (pause_sof_owed i owed less) =
     broken_at (pause_count c) (3 + i) a p n (let long = pause_owed c owed in omega arith) refl
     (rw (le-leb 2 (3 + i) (omega arith)) refl) (rw (le-leb 2 (3 + i) (omega arith)) refl)
-in_pausing c a p n pause_broken = broken_at (pause_count c) 0 a p n (let long = pause_long c in omega arith) refl refl refl
-in_pausing c a p n pause_broken_second = broken_at (pause_count c) 1 a p n (let long = pause_long c in omega arith) refl refl refl
+in_pausing c a p n pause_broken =
+    let long = pause_long c in broken_at (pause_count c) 0 a p n (omega arith) refl refl refl
+in_pausing c a p n pause_broken_second =
+    let long = pause_long c in broken_at (pause_count c) 1 a p n (omega arith) refl refl refl
 
-pausing_as : (count : ℕ) (a b x y : List Bit) (p q : Piece) (n m : Spot) → InPausing count a p n → InPausing count b q m → a ++ x ≡ b ++ y → AreOne a p n b q m
+pausing_as : (count : ℕ) (a b x y : List Bit) (p q : Piece) (n m : Spot) → InPausing count a p n →
+    InPausing count b q m → a ++ x ≡ b ++ y → AreOne a p n b q m
 pausing_as count a b x y p q n m h g e =
     let lines = same_hears (h.l) (g.l) x y (ap (λ t. t ++ x) (sym h.bits_are) ∙ e ∙ ap (λ t. t ++ y) g.bits_are) in
-    let same = wait_once Recessive Dominant recessive-other count (h.i) (g.i) (h.l) (g.l) (seen_of x) (seen_of y) h.waits g.waits lines in (
+    let same = wait_once Recessive Dominant recessive-other count (h.i) (g.i) (h.l) (g.l) (seen_of x)
+    (seen_of y) h.waits g.waits lines in (
       h.bits_are ∙ ap (λ t. hears t) same.1 ∙ sym g.bits_are,
       h.piece_is ∙ ap (λ t. pause_piece count t) same.0 ∙ sym g.piece_is,
       h.spot_is ∙ ap (λ t. pause_spot count t) same.0 ∙ sym g.spot_is,
@@ -241,4 +261,5 @@ pausing_as count a b x y p q n m h g e =
 
 pub pausing_once : (c : Context) (a b x y : List Bit) (p q : Piece) (n m : Spot) →
     Row c Pausing a p n → Row c Pausing b q m → a ++ x ≡ b ++ y → AreOne a p n b q m
-pausing_once c a b x y p q n m h k e = pausing_as (pause_count c) a b x y p q n m (in_pausing c a p n h) (in_pausing c b q m k) e
+pausing_once c a b x y p q n m h k e =
+    pausing_as (pause_count c) a b x y p q n m (in_pausing c a p n h) (in_pausing c b q m k) e

@@ -3,3 +3,5 @@ pub mod Sending
 pub mod Waits
 pub mod Apart
 pub mod RowOnce
+pub mod Judged
+pub mod JudgedEvents

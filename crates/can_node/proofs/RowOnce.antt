@@ -1,18 +1,16 @@
--- At every place the pieces are told apart: of two that begin one list neither is a proper front of the other, and they are
--- one piece that leads to one place.
-use Rattle.std.proofs.Common.{◌≡◌, ◌≢◌, List, [], ◌∷◌, ◌++◌, refl, ap, sym, ◌∙◌, subst, Option, Some, None}
-use Rattle.can_bits.specs.declared.level.Level.{Level}
+-- At every place the pieces are told apart: of two that begin one list neither is a proper front of the other, and they
+-- are one piece that leads to one place.
+use Rattle.std.proofs.Common.{◌≡◌, List, [], ◌∷◌, ◌++◌, refl, ap, sym, ◌∙◌, subst, Option, Some, None}
 use Rattle.can_bits.specs.declared.level.Level.TheVariants.{Dominant, Recessive}
 use Rattle.can_node.specs.declared.request.Request.{Request}
 use Rattle.can_node.specs.Bits.{Bit, heard, forced}
 use Rattle.can_node.specs.Context.{Context}
 use Rattle.can_node.specs.Pieces.{Spot, Piece, sent_at}
 use Rattle.can_node.specs.Pieces.Spot.{Resting, Joining, AtIdle, SofSeen, AfterReception, Flagging, AfterFlag, Pausing}
-use Rattle.can_node.specs.Pieces.Piece.{Idle}
-use Rattle.can_node.specs.Frames.{Hears, Sends}
+use Rattle.can_node.specs.Frames.{Sends}
 use Rattle.can_node.specs.Table.{Row}
 use Rattle.can_node.specs.Table.Row.{idle, other, own, other_begun, own_begun}
-use Rattle.can_node.proofs.Apart.{AreOne, same_hears, recessive-other, dominant-other, joining_once, after_reception_once, flagging_once, after_flag_once, pausing_once}
+use Rattle.can_node.proofs.Apart.{AreOne, recessive-other, joining_once, after_reception_once, flagging_once, after_flag_once, pausing_once}
 use Rattle.can_node.proofs.Receiving.{hears_once}
 use Rattle.can_node.proofs.Sending.{sends_once}
 
@@ -33,12 +31,14 @@ none_or_some : (sent : Option Request) (request : Request) → sent ≡ None →
 none_or_some sent request h k = let no : None ≡ Some request = sym h ∙ k in cc
 
 -- one request is sent at a place
-one_request : (sent : Option Request) (request another : Request) → sent ≡ Some request → sent ≡ Some another → another ≡ request
+one_request : (sent : Option Request) (request another : Request) → sent ≡ Some request → sent ≡ Some another →
+    another ≡ request
 one_request sent request another h k = let same : Some another ≡ Some request = sym k ∙ h in cc
 
 -- two pieces of one transmitter, with its request told twice
 sends_alike : (c : Context) (spot : Spot) (request another : Request) (a b x y : List Bit) (p q : Piece) (n m : Spot) →
-    sent_at c spot ≡ Some request → sent_at c spot ≡ Some another → Sends c.self_test request a p n → Sends c.self_test another b q m →
+    sent_at c spot ≡ Some request → sent_at c spot ≡ Some another → Sends c.self_test request a p n →
+    Sends c.self_test another b q m →
     a ++ x ≡ b ++ y → AreOne a p n b q m
 sends_alike c spot request another a b x y p q n m h k s t e =
     let same = one_request (sent_at c spot) request another h k in
@@ -51,27 +51,37 @@ at_idle_once : (c : Context) (a b x y : List Bit) (p q : Piece) (n m : Spot) →
 at_idle_once c a b x y p q n m (idle none) (idle nothing) e = (refl, refl, refl)
 at_idle_once c a b x y p q n m (idle none) (other {bits = k} nothing h) e = absurd (idle_no_frame x (k ++ y) e)
 at_idle_once c a b x y p q n m (other {bits = l} none h) (idle nothing) e = absurd (idle_no_frame y (l ++ x) (sym e))
-at_idle_once c a b x y p q n m (idle none) (own {request = r} some s) e = absurd (none_or_some (sent_at c AtIdle) r none some)
-at_idle_once c a b x y p q n m (own {request = r} some s) (idle none) e = absurd (none_or_some (sent_at c AtIdle) r none some)
-at_idle_once c a b x y p q n m (other none h) (own {request = r} some s) e = absurd (none_or_some (sent_at c AtIdle) r none some)
-at_idle_once c a b x y p q n m (own {request = r} some s) (other none h) e = absurd (none_or_some (sent_at c AtIdle) r none some)
+at_idle_once c a b x y p q n m (idle none) (own {request = r} some s) e =
+    absurd (none_or_some (sent_at c AtIdle) r none some)
+at_idle_once c a b x y p q n m (own {request = r} some s) (idle none) e =
+    absurd (none_or_some (sent_at c AtIdle) r none some)
+at_idle_once c a b x y p q n m (other none h) (own {request = r} some s) e =
+    absurd (none_or_some (sent_at c AtIdle) r none some)
+at_idle_once c a b x y p q n m (own {request = r} some s) (other none h) e =
+    absurd (none_or_some (sent_at c AtIdle) r none some)
 at_idle_once c a b x y p q n m (other {bits = l} none h) (other {bits = k} nothing g) e =
-    let same = hears_once c.listen (Dominant ∷ []) l k x y p q n m h g (rests (heard Dominant) (heard Dominant) (l ++ x) (k ++ y) e) in
+    let rest = rests (heard Dominant) (heard Dominant) (l ++ x) (k ++ y) e in
+    let same = hears_once c.listen (Dominant ∷ []) l k x y p q n m h g rest in
     (ap (λ t. heard Dominant ∷ t) same.0, same.1, same.2)
-at_idle_once c a b x y p q n m (own {request = r} some s) (own {request = u} one t) e = sends_alike c AtIdle r u a b x y p q n m some one s t e
+at_idle_once c a b x y p q n m (own {request = r} some s) (own {request = u} one t) e =
+    sends_alike c AtIdle r u a b x y p q n m some one s t e
 
 -- where a frame began with the last bit of a pause
 sof_seen_once : (c : Context) (a b x y : List Bit) (p q : Piece) (n m : Spot) →
     Row c SofSeen a p n → Row c SofSeen b q m → a ++ x ≡ b ++ y → AreOne a p n b q m
-sof_seen_once c a b x y p q n m (other_begun none h) (own_begun {request = r} some s) e = absurd (none_or_some (sent_at c SofSeen) r none some)
-sof_seen_once c a b x y p q n m (own_begun {request = r} some s) (other_begun none h) e = absurd (none_or_some (sent_at c SofSeen) r none some)
-sof_seen_once c a b x y p q n m (other_begun none h) (other_begun nothing g) e = hears_once c.listen (Dominant ∷ []) a b x y p q n m h g e
+sof_seen_once c a b x y p q n m (other_begun none h) (own_begun {request = r} some s) e =
+    absurd (none_or_some (sent_at c SofSeen) r none some)
+sof_seen_once c a b x y p q n m (own_begun {request = r} some s) (other_begun none h) e =
+    absurd (none_or_some (sent_at c SofSeen) r none some)
+sof_seen_once c a b x y p q n m (other_begun none h) (other_begun nothing g) e =
+    hears_once c.listen (Dominant ∷ []) a b x y p q n m h g e
 sof_seen_once c a b x y p q n m (own_begun {request = r} some s) (own_begun {request = u} one t) e =
-    let same = sends_alike c SofSeen r u (forced Dominant ∷ a) (forced Dominant ∷ b) x y p q n m some one s t (ap (λ l. forced Dominant ∷ l) e) in
+    let whole = ap (λ l. forced Dominant ∷ l) e in
+    let same = sends_alike c SofSeen r u (forced Dominant ∷ a) (forced Dominant ∷ b) x y p q n m some one s t whole in
     (rests (forced Dominant) (forced Dominant) a b same.0, same.1, same.2)
 
--- of two pieces that are lawful at one place in one context neither is a proper front of the other, and equal lists are one
--- piece and lead to one place
+-- of two pieces that are lawful at one place in one context neither is a proper front of the other, and equal lists are
+-- one piece and lead to one place
 pub row_once : (c : Context) (spot : Spot) (a b x y : List Bit) (p q : Piece) (n m : Spot) →
     Row c spot a p n → Row c spot b q m → a ++ x ≡ b ++ y → (a ≡ b) × (p ≡ q) × (n ≡ m)
 row_once c Resting a b x y p q n m h k e = absurd (elim h [ ])
