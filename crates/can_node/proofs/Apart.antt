@@ -1,6 +1,6 @@
 -- At each place outside a frame the pieces are told apart: of two that begin one list neither is a proper front of the
 -- other, and they are one piece that leads to one place.
-use Rattle.std.proofs.Common.{◌≡◌, ◌≢◌, ◌+◌, ◌<◌, ◌≤◌, ℕ, IsTrue, List, [], ◌∷◌, ◌++◌, replicate, refl, ap, sym, ◌∙◌, arith, inl, inr, if◌then◌else◌, nat_le}
+use Rattle.std.proofs.Common.{◌≡◌, ◌+◌, ◌<◌, ◌≤◌, ℕ, IsTrue, List, [], ◌∷◌, ◌++◌, replicate, refl, ap, sym, ◌∙◌, arith, inl, inr, if◌then◌else◌, nat_le}
 use Rattle.std.proofs.lemmas.Bool.{cases_Bool, le-leb, lt-leb}
 use Rattle.std.proofs.lemmas.List.{append_assoc}
 use Rattle.can_bits.specs.declared.level.Level.{Level}
@@ -16,37 +16,13 @@ use Rattle.can_node.specs.Pieces.FaultPlace.{InFlag, InDelimiter}
 use Rattle.can_node.specs.Pieces.Piece.{Fault, Flag, Tail, Pause, PauseWithSof, PauseBroken}
 use Rattle.can_node.specs.Table.{Row, flag_segment}
 use Rattle.can_node.specs.Table.Row.{join, last, last_overload, flag, flag_fault, flag_passive, tail, tail_overload, tail_fault, pause, pause_sof, pause_sof_owed, pause_broken, pause_broken_second}
+use Rattle.can_node.proofs.Seen.{same_hears, same_forces, recessive-other, dominant-other}
 use Rattle.can_node.proofs.Waits.{first_once, elevens_once, IsWait, leading, wait_once}
 use Rattle.can_node.proofs.Waits.IsWait.{whole, cut_off}
 
 -- one piece, with its bits and the place to which it leads
 abbrev pub AreOne : List Bit → Piece → Spot → List Bit → Piece → Spot → Type 0
 AreOne a p n b q m = (a ≡ b) × (p ≡ q) × (n ≡ m)
-
--- the levels of bits in which the node drives recessive, and those of more bits
-pub seen_hears : (l : List Level) (x : List Bit) → seen_of (hears l ++ x) ≡ l ++ seen_of x
-seen_hears [] x = refl
-seen_hears (u ∷ l) x = ap (λ t. u ∷ t) (seen_hears l x)
-
--- the same where it drives dominant
-pub seen_forces : (l : List Level) (x : List Bit) → seen_of (forces l ++ x) ≡ l ++ seen_of x
-seen_forces [] x = refl
-seen_forces (u ∷ l) x = ap (λ t. u ∷ t) (seen_forces l x)
-
--- two fronts of one list of bits, in all of which the node drives recessive, have levels that are fronts of one list
-pub same_hears : (l k : List Level) (x y : List Bit) → hears l ++ x ≡ hears k ++ y → l ++ seen_of x ≡ k ++ seen_of y
-same_hears l k x y e = sym (seen_hears l x) ∙ ap (λ (t : List Bit). seen_of t) e ∙ seen_hears k y
-
--- the same where it drives dominant
-pub same_forces : (l k : List Level) (x y : List Bit) → forces l ++ x ≡ forces k ++ y → l ++ seen_of x ≡ k ++ seen_of y
-same_forces l k x y e = sym (seen_forces l x) ∙ ap (λ (t : List Bit). seen_of t) e ∙ seen_forces k y
-
--- the two levels are two
-pub recessive-other : Recessive ≢ Dominant
-recessive-other h = cc
-
-pub dominant-other : Dominant ≢ Recessive
-dominant-other h = cc
 
 -- ---- waiting for the bus
 

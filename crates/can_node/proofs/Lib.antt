@@ -1,7 +1,13 @@
 pub mod Receiving
 pub mod Sending
+pub mod Seen
 pub mod Waits
 pub mod Apart
 pub mod RowOnce
 pub mod Judged
 pub mod JudgedEvents
+pub mod StuffFaults
+pub mod Computed
+pub mod Slices
+pub mod WorkedFault
+pub mod WorkedSender

@@ -1,0 +1,57 @@
+-- Moves by bits alone, with no other entry between them.
+use Rattle.std.proofs.Common.{◌≡◌, List, [], ◌∷◌, map, length, replicate, refl, ap, sym, subst, ◌∙◌, arith}
+use Rattle.std.proofs.lemmas.List.{length-append, nil_from_length}
+use Rattle.can_bits.specs.declared.level.Level.TheVariants.{Recessive}
+use Rattle.can_node.specs.Bits.{Bit, IsFirst}
+use Rattle.can_node.specs.Context.{Context}
+use Rattle.can_node.specs.Pieces.{Spot, Piece}
+use Rattle.can_node.specs.Record.{bits_in, Inner, EndsInBit, IsSlice}
+use Rattle.can_node.specs.Record.Entry.{Took}
+use Rattle.can_node.specs.Record.Inner.{none_left, took}
+use Rattle.can_node.specs.Table.{Row, EndsInEleven}
+use Rattle.can_node.specs.Effects.{after}
+use Rattle.can_node.specs.Cut.{Stays, Move}
+
+-- bits alone have nothing else between them
+inner_bits : (bits : List Bit) → Inner (map Took bits)
+inner_bits [] = none_left
+inner_bits (b ∷ bits) = took b (inner_bits bits)
+
+-- they end in a bit
+ends_in_bit : (b : Bit) (bits : List Bit) → EndsInBit (map Took (b ∷ bits))
+ends_in_bit b [] = record { before = []; bit = b; whole = refl }
+ends_in_bit b (y ∷ bits) =
+    let rest = ends_in_bit y bits in
+    record { before = Took b ∷ rest.before; bit = rest.bit; whole = ap (λ t. Took b ∷ t) rest.whole }
+
+-- so they are the entries of a piece
+pub slice_of : (b : Bit) (bits : List Bit) → IsSlice (map Took (b ∷ bits))
+slice_of b bits = record {
+  inner = inner_bits (b ∷ bits);
+  begins = record { bit = b; rest = map Took bits; whole = refl };
+  ends = ends_in_bit b bits;
+}
+
+-- the bits among them are they
+pub bits_took : (bits : List Bit) → bits_in (map Took bits) ≡ bits
+bits_took [] = refl
+bits_took (b ∷ bits) = ap (λ t. b ∷ t) (bits_took bits)
+
+-- a piece of bits alone
+pub by_bits : (c : Context) (spot next : Spot) (p : Piece) (b : Bit) (bits : List Bit) → Row c spot (b ∷ bits) p next →
+    Stays (after c spot (map Took (b ∷ bits)) p next) →
+    Move c spot (map Took (b ∷ bits)) (p ∷ []) (after c spot (map Took (b ∷ bits)) p next) next
+by_bits c spot next p b bits row stays =
+    let P : List Bit → Type 0 = λ t. Row c spot t p next in
+    Move.piece (map Took (b ∷ bits)) (slice_of b bits) (subst P (sym (bits_took (b ∷ bits))) row) stays
+
+-- eleven recessive levels are the first eleven
+pub first_eleven : IsFirst EndsInEleven (replicate 11 Recessive)
+first_eleven = record {
+  holds = ([], refl);
+  first = λ front rest whole ends.
+      let all = ap (λ t. length t) whole ∙ length-append front rest in
+      let part = ap (λ t. length t) ends.1 ∙ length-append ends.0 (replicate 11 Recessive) in
+      let eleven : length (replicate 11 Recessive) ≡ 11 = refl in
+      nil_from_length rest (omega (arith, all, part, eleven));
+}

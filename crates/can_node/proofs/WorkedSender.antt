@@ -1,0 +1,170 @@
+-- A record and its cut: a node starts, takes a request, waits for eleven recessive levels, and sends its frame alone on
+-- the bus. Nobody acknowledges it.
+use Rattle.std.proofs.Common.{◌≡◌, false, List, [], ◌∷◌, ◌++◌, map, replicate, refl, ap, sym, subst, ◌∙◌, arith, Some}
+use Rattle.can_bits.specs.declared.level.Level.{Level}
+use Rattle.can_bits.specs.declared.level.Level.TheVariants.{Dominant, Recessive}
+use Rattle.can_bits.specs.declared.segment.Segment.TheVariants.{AckSlot}
+use Rattle.can_bits.specs.Digits.{bits, value}
+use Rattle.can_bits.specs.Stuffing.{Stuffed}
+use Rattle.can_bits.specs.Body.{sent_body}
+use Rattle.can_bits.specs.Segments.IsNext.{after_part}
+use Rattle.can_node.specs.declared.cause.Cause.TheVariants.{Ack as AckError}
+use Rattle.can_node.specs.declared.config.Config.{Config}
+use Rattle.can_node.specs.declared.request.Request.{Request}
+use Rattle.can_node.specs.Bits.{Bit, heard, forced, hears, forces}
+use Rattle.can_node.specs.Context.{Context, fresh}
+use Rattle.can_node.specs.Context.Role.{Transmitter, Receiver}
+use Rattle.can_node.specs.Pieces.Spot.{Joining, AtIdle, Flagging, AfterFlag, Pausing}
+use Rattle.can_node.specs.Pieces.FaultPlace.{InSending}
+use Rattle.can_node.specs.Pieces.Piece.{Join, Fault, Flag, Tail, Pause}
+use Rattle.can_node.specs.Frames.{SentPart, Sends}
+use Rattle.can_node.specs.Frames.Fails.{no_ack}
+use Rattle.can_node.specs.Frames.Sends.{failed}
+use Rattle.can_node.specs.Record.{Entry}
+use Rattle.can_node.specs.Record.Entry.{Start, Send, Took}
+use Rattle.can_node.specs.Table.Elevens.{none_left, one_more}
+use Rattle.can_node.specs.Table.Row.{join, own, flag, tail, pause}
+use Rattle.can_node.specs.Cut.{Move, Found, IsCut}
+use Rattle.can_node.specs.Cut.IsOpenAt.{nothing}
+use Rattle.can_node.specs.Cut.Move.{started, sent}
+use Rattle.can_node.specs.Cut.From.{here, on}
+use Rattle.can_node.proofs.Computed.{stuffed_by}
+use Rattle.can_node.proofs.Slices.{by_bits, first_eleven}
+
+-- a request to send the standard data frame with the identifier 0 and no bytes
+abbrev pub asked : Request
+asked = record {
+  frame = record { ext = false; id = 0; rtr = false; dlc = 0; bytes = [] };
+  single_shot = false;
+  self_receive = false;
+}
+
+-- its check sequence
+abbrev zeros : List Level
+zeros = replicate 15 Dominant
+
+-- five dominant levels and their stuff bit
+abbrev five : List Level
+five = Dominant ∷ Dominant ∷ Dominant ∷ Dominant ∷ Dominant ∷ Recessive ∷ []
+
+-- its stuffed part: 34 dominant levels with six stuff bits
+abbrev pub part : List Level
+part = five ++ (five ++ (five ++ (five ++ (five ++ (five ++ replicate 4 Dominant)))))
+
+-- the body is nothing but dominant
+body_zeros : sent_body asked.frame ++ zeros ≡ replicate 34 Dominant
+unfolding bits
+body_zeros = refl
+
+-- so it is no more than 0
+value_zero : value (replicate 34 Dominant) ≡ 0
+value_zero = refl
+
+-- it is the part that a transmitter sends
+part_sent : SentPart asked.frame zeros part
+part_sent = record {
+  is_part = record {
+    frame = record { id = omega arith; dlc = omega arith; count = refl; bytes = λ k d less. absurd (omega (arith, less)) };
+    body = (Recessive, Dominant, Dominant, refl);
+    check = refl;
+    stuffed =
+        subst (λ w. Stuffed w part) (sym body_zeros) (stuffed_by (replicate 34 Dominant) part 4 refl refl (omega arith) refl);
+  };
+  right = record { count = refl; divides = ([], ap value body_zeros ∙ value_zero) };
+}
+
+-- a level that is seen as it is driven
+abbrev pub agreed : Level → Bit
+agreed x = record { driven = x; seen = x }
+
+-- the bits up to the acknowledgement slot
+abbrev pub unanswered : List Bit
+unanswered = map agreed (part ++ Recessive ∷ [])
+
+-- seen as driven, and then no acknowledgement
+fails : Sends false asked (unanswered ++ heard Recessive ∷ []) (Fault InSending AckError AckSlot) Flagging
+fails =
+    failed zeros part (Recessive ∷ replicate 7 Recessive) unanswered (heard Recessive) false part_sent
+    (record {
+      ack = Dominant;
+      fits = refl;
+      rest = Recessive ∷ Recessive ∷ replicate 7 Recessive;
+      others = Dominant ∷ Recessive ∷ replicate 7 Recessive;
+      driven = refl;
+      seen = refl;
+    })
+    refl refl (no_ack refl refl) (after_part part (Recessive ∷ []) part_sent.is_part refl)
+
+-- the context with the request, and so on to the end
+abbrev waiting : Context
+waiting = record fresh { held = Some asked }
+
+abbrev sending : Context
+sending = record waiting { role = Transmitter; tec = 8 }
+
+-- eleven recessive bits after a start: the node joins the bus
+joins : Move waiting Joining (map Took (hears (replicate 11 Recessive))) (Join ∷ []) waiting AtIdle
+joins =
+    by_bits waiting Joining AtIdle Join (heard Recessive) (hears (replicate 10 Recessive))
+    (join (one_more first_eleven none_left refl)) (omega arith)
+
+-- what follows the first of some bits
+abbrev rest_of : List Bit → List Bit
+rest_of [] = []
+rest_of (b ∷ bits) = bits
+
+-- the frame that isn't acknowledged: 8 for the transmitter
+is_unanswered :
+    Move waiting AtIdle (map Took (unanswered ++ heard Recessive ∷ [])) (Fault InSending AckError AckSlot ∷ [])
+    sending Flagging
+is_unanswered =
+    by_bits waiting AtIdle Flagging (Fault InSending AckError AckSlot) (forced Dominant)
+    (rest_of (unanswered ++ heard Recessive ∷ [])) (own refl fails) (omega arith)
+
+-- its active error flag
+flags : Move sending Flagging (map Took (forces (replicate 6 Dominant))) (Flag ∷ []) sending AfterFlag
+flags = by_bits sending Flagging AfterFlag Flag (forced Dominant) (forces (replicate 5 Dominant)) (flag refl) (omega arith)
+
+-- the delimiter
+ends : Move sending AfterFlag (map Took (hears (replicate 8 Recessive))) (Tail ∷ []) sending Pausing
+ends = by_bits sending AfterFlag Pausing Tail (heard Recessive) (hears (replicate 7 Recessive)) (tail 0) (omega arith)
+
+-- intermission
+rests : Move sending Pausing (map Took (hears (replicate 3 Recessive))) (Pause ∷ [])
+    (record sending { role = Receiver }) AtIdle
+rests = by_bits sending Pausing AtIdle Pause (heard Recessive) (hears (replicate 2 Recessive)) pause (omega arith)
+
+-- the record
+abbrev pub record_of_sender : Config → List Entry
+record_of_sender config =
+    Start (record config { listen = false; self_test = false }) ∷ Send asked ∷ map Took
+    (hears (replicate 11 Recessive)
+    ++ ((unanswered ++ heard Recessive ∷ []) ++ (forces (replicate 6 Dominant) ++ hears (replicate 11 Recessive))))
+
+-- its pieces, with activation and bit count
+abbrev pub pieces_of_sender : List Found
+pieces_of_sender =
+    (record { piece = Join; activation = 1; bits = 11 })
+    ∷ (record { piece = Fault InSending AckError AckSlot; activation = 1; bits = 53 })
+    ∷ (record { piece = Flag; activation = 1; bits = 59 })
+    ∷ (record { piece = Tail; activation = 1; bits = 67 })
+    ∷ (record { piece = Pause; activation = 1; bits = 70 })
+    ∷ []
+
+-- its cut: the transmit error counter is 8, and the request is still held
+pub cut_of_sender : (config : Config) →
+    (cut : IsCut (record_of_sender config) pieces_of_sender)
+    × (cut.context ≡ record waiting { tec = 8 }) × (cut.spot ≡ AtIdle)
+cut_of_sender config = (
+  record {
+    context = record waiting { tec = 8 };
+    spot = AtIdle;
+    rest = [];
+    from =
+        on (started (record config { listen = false; self_test = false }) [])
+        (on (sent asked (λ same. cc))
+        (on joins (on is_unanswered (on flags (on ends (on rests (here nothing (omega arith))))))));
+  },
+  refl,
+  refl,
+)
