@@ -11,3 +11,5 @@ pub mod Computed
 pub mod Slices
 pub mod WorkedFault
 pub mod WorkedSender
+pub mod WorkedLoss
+pub mod WorkedMoves

@@ -1,20 +1,25 @@
 -- Moves by bits alone, with no other entry between them.
-use Rattle.std.proofs.Common.{◌≡◌, List, [], ◌∷◌, map, length, replicate, refl, ap, sym, subst, ◌∙◌, arith}
+use Rattle.std.proofs.Common.{◌≡◌, List, [], ◌∷◌, map, length, replicate, refl, ap, sym, subst, ◌∙◌, arith, Option}
 use Rattle.std.proofs.lemmas.List.{length-append, nil_from_length}
 use Rattle.can_bits.specs.declared.level.Level.TheVariants.{Recessive}
-use Rattle.can_node.specs.Bits.{Bit, IsFirst}
-use Rattle.can_node.specs.Context.{Context}
+use Rattle.can_node.specs.Bits.{Bit, heard, hears, IsFirst}
+use Rattle.can_node.specs.declared.request.Request.{Request}
+use Rattle.can_node.specs.Context.{Context, fresh}
 use Rattle.can_node.specs.Pieces.{Spot, Piece}
+use Rattle.can_node.specs.Pieces.Spot.{Joining, AtIdle}
+use Rattle.can_node.specs.Pieces.Piece.{Join}
 use Rattle.can_node.specs.Record.{bits_in, Inner, EndsInBit, IsSlice}
 use Rattle.can_node.specs.Record.Entry.{Took}
-use Rattle.can_node.specs.Record.Inner.{none_left, took}
+use Rattle.can_node.specs.Record.Inner.{none_left as inner_end, took}
 use Rattle.can_node.specs.Table.{Row, EndsInEleven}
+use Rattle.can_node.specs.Table.Elevens.{none_left, one_more}
+use Rattle.can_node.specs.Table.Row.{join}
 use Rattle.can_node.specs.Effects.{after}
 use Rattle.can_node.specs.Cut.{Stays, Move}
 
 -- bits alone have nothing else between them
 inner_bits : (bits : List Bit) → Inner (map Took bits)
-inner_bits [] = none_left
+inner_bits [] = inner_end
 inner_bits (b ∷ bits) = took b (inner_bits bits)
 
 -- they end in a bit
@@ -55,3 +60,11 @@ first_eleven = record {
       let eleven : length (replicate 11 Recessive) ≡ 11 = refl in
       nil_from_length rest (omega (arith, all, part, eleven));
 }
+
+-- eleven recessive bits after a start: the node joins the bus, whatever request it holds
+pub joins : (held : Option Request) →
+    Move (record fresh { held = held }) Joining (map Took (hears (replicate 11 Recessive))) (Join ∷ [])
+    (record fresh { held = held }) AtIdle
+joins held =
+    by_bits (record fresh { held = held }) Joining AtIdle Join (heard Recessive) (hears (replicate 10 Recessive))
+    (join (one_more first_eleven none_left refl)) (omega arith)

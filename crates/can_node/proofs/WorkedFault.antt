@@ -1,6 +1,6 @@
 -- A record and its cut: a node starts, sees eleven recessive levels, and then six dominant ones. The sixth is a stuff
 -- error in the identifier.
-use Rattle.std.proofs.Common.{◌≡◌, true, false, List, [], ◌∷◌, ◌++◌, map, length, replicate, refl, arith}
+use Rattle.std.proofs.Common.{◌≡◌, true, false, List, [], ◌∷◌, ◌++◌, map, length, replicate, refl, sym, subst, ◌∙◌, ap, append_assoc, arith, None}
 use Rattle.can_bits.specs.declared.level.Level.TheVariants.{Dominant, Recessive}
 use Rattle.can_bits.specs.declared.segment.Segment.TheVariants.{Id28To21}
 use Rattle.can_bits.specs.Fields.{says_count}
@@ -15,22 +15,23 @@ use Rattle.can_node.specs.declared.cause.Cause.TheVariants.{Stuff as StuffError}
 use Rattle.can_node.specs.declared.config.Config.{Config}
 use Rattle.can_node.specs.Bits.{heard, hears}
 use Rattle.can_node.specs.Context.{fresh}
-use Rattle.can_node.specs.Pieces.Spot.{Joining, AtIdle, Flagging}
+use Rattle.can_node.specs.Pieces.Spot.{AtIdle, Flagging}
 use Rattle.can_node.specs.Pieces.FaultPlace.{InReception}
 use Rattle.can_node.specs.Pieces.Piece.{Join, Fault}
-use Rattle.can_node.specs.Frames.{BreaksOff}
+use Rattle.can_node.specs.Frames.{IsWithin, BreaksOff}
+use Rattle.can_bits.specs.declared.level.Level.{Level}
+use Rattle.can_bits.specs.Reading.{Begins, IsPastPart}
 use Rattle.can_node.specs.Frames.Hears.{broken}
 use Rattle.can_node.specs.Record.{Entry}
 use Rattle.can_node.specs.Record.Entry.{Start, Took}
-use Rattle.can_node.specs.Table.Elevens.{none_left, one_more}
-use Rattle.can_node.specs.Table.Row.{join, other}
+use Rattle.can_node.specs.Table.Row.{other}
 use Rattle.can_node.specs.Cut.{Move, Found, IsCut}
 use Rattle.can_node.specs.Cut.IsOpenAt.{nothing}
 use Rattle.can_node.specs.Cut.Move.{started}
 use Rattle.can_node.specs.Cut.From.{here, on}
 use Rattle.can_node.proofs.Computed.{short_by}
 use Rattle.can_node.proofs.StuffFaults.{within, stuff_fault}
-use Rattle.can_node.proofs.Slices.{by_bits, first_eleven}
+use Rattle.can_node.proofs.Slices.{by_bits, joins}
 
 -- five dominant levels are the beginning of a stuffed part
 five_inside : IsInside (replicate 5 Dominant)
@@ -44,29 +45,32 @@ five_inside =
       goes_on = λ whole. absurd (omega (arith, whole, count, few));
     }
 
--- the sixth is a stuff error of a receiver that saw the first
-sixth_breaks : BreaksOff false (Dominant ∷ []) (hears (replicate 5 Dominant)) StuffError Id28To21
-sixth_breaks =
+-- the sixth is a stuff error of a receiver, however many it saw before these bits
+pub sixth_breaks : (l before : List Level) → l ++ before ≡ replicate 5 Dominant →
+    BreaksOff false l (hears (before ++ Dominant ∷ [])) StuffError Id28To21
+sixth_breaks l before e =
+    let Within : List Level → Type 0 = λ t. IsWithin t in
+    let Past : List Level → Type 0 = λ t. IsPastPart t in
+    let Starts : List Level → Type 0 = λ t. Begins t in
+    let Next : List Level → Type 0 = λ t. IsNext t Id28To21 true in
     let unended = inside_not_past (replicate 5 Dominant) five_inside in
     let six : run (replicate 6 Dominant) ≡ 6 = refl in
     let next : IsNext (replicate 5 Dominant) Id28To21 true =
     stuff_bit (replicate 5 Dominant) (is_unstuffed (replicate 5 Dominant)) ([], Dominant, refl) unended in
-    stuff_fault false (Dominant ∷ []) (replicate 4 Dominant) Dominant Id28To21 true
-    (within (replicate 5 Dominant) five_inside) unended
-    (no_sixth (replicate 5 Dominant) Dominant five_inside (omega (arith, six))) next
-
--- eleven recessive bits after a start: the node joins the bus
-joins : Move fresh Joining (map Took (hears (replicate 11 Recessive))) (Join ∷ []) fresh AtIdle
-joins =
-    by_bits fresh Joining AtIdle Join (heard Recessive) (hears (replicate 10 Recessive))
-    (join (one_more first_eleven none_left refl)) (omega arith)
+    let all : l ++ (before ++ Dominant ∷ []) ≡ replicate 5 Dominant ++ Dominant ∷ [] =
+    sym (append_assoc l before (Dominant ∷ [])) ∙ ap (λ t. t ++ Dominant ∷ []) e in
+    stuff_fault false l before Dominant Id28To21 true
+    (subst Within (sym e) (within (replicate 5 Dominant) five_inside))
+    (λ past. unended (subst Past e past))
+    (λ begun. no_sixth (replicate 5 Dominant) Dominant five_inside (omega (arith, six)) (subst Starts all begun))
+    (subst Next (sym e) next)
 
 -- the six dominant bits
 breaks : Move fresh AtIdle (map Took (hears (replicate 6 Dominant))) (Fault InReception StuffError Id28To21 ∷ [])
     (record fresh { rec = 1 }) Flagging
 breaks =
     by_bits fresh AtIdle Flagging (Fault InReception StuffError Id28To21) (heard Dominant) (hears (replicate 5 Dominant))
-    (other refl (broken sixth_breaks)) (omega arith)
+    (other refl (broken (sixth_breaks (Dominant ∷ []) (replicate 4 Dominant) refl))) (omega arith)
 
 -- the record
 abbrev pub record_of_fault : Config → List Entry
@@ -90,7 +94,8 @@ cut_of_fault config = (
     spot = Flagging;
     rest = [];
     from =
-        on (started (record config { listen = false; self_test = false }) []) (on joins (on breaks (here nothing (omega arith))));
+        on (started (record config { listen = false; self_test = false }) [])
+        (on (joins None) (on breaks (here nothing (omega arith))));
   },
   refl,
   refl,

@@ -14,7 +14,7 @@ use Rattle.can_node.specs.declared.request.Request.{Request}
 use Rattle.can_node.specs.Bits.{Bit, heard, forced, hears, forces}
 use Rattle.can_node.specs.Context.{Context, fresh}
 use Rattle.can_node.specs.Context.Role.{Transmitter, Receiver}
-use Rattle.can_node.specs.Pieces.Spot.{Joining, AtIdle, Flagging, AfterFlag, Pausing}
+use Rattle.can_node.specs.Pieces.Spot.{AtIdle, Flagging, AfterFlag, Pausing}
 use Rattle.can_node.specs.Pieces.FaultPlace.{InSending}
 use Rattle.can_node.specs.Pieces.Piece.{Join, Fault, Flag, Tail, Pause}
 use Rattle.can_node.specs.Frames.{SentPart, Sends}
@@ -22,14 +22,13 @@ use Rattle.can_node.specs.Frames.Fails.{no_ack}
 use Rattle.can_node.specs.Frames.Sends.{failed}
 use Rattle.can_node.specs.Record.{Entry}
 use Rattle.can_node.specs.Record.Entry.{Start, Send, Took}
-use Rattle.can_node.specs.Table.Elevens.{none_left, one_more}
-use Rattle.can_node.specs.Table.Row.{join, own, flag, tail, pause}
+use Rattle.can_node.specs.Table.Row.{own, flag, tail, pause}
 use Rattle.can_node.specs.Cut.{Move, Found, IsCut}
 use Rattle.can_node.specs.Cut.IsOpenAt.{nothing}
 use Rattle.can_node.specs.Cut.Move.{started, sent}
 use Rattle.can_node.specs.Cut.From.{here, on}
 use Rattle.can_node.proofs.Computed.{stuffed_by}
-use Rattle.can_node.proofs.Slices.{by_bits, first_eleven}
+use Rattle.can_node.proofs.Slices.{by_bits, joins}
 
 -- a request to send the standard data frame with the identifier 0 and no bytes
 abbrev pub asked : Request
@@ -40,7 +39,7 @@ asked = record {
 }
 
 -- its check sequence
-abbrev zeros : List Level
+abbrev pub zeros : List Level
 zeros = replicate 15 Dominant
 
 -- five dominant levels and their stuff bit
@@ -61,7 +60,7 @@ value_zero : value (replicate 34 Dominant) ≡ 0
 value_zero = refl
 
 -- it is the part that a transmitter sends
-part_sent : SentPart asked.frame zeros part
+pub part_sent : SentPart asked.frame zeros part
 part_sent = record {
   is_part = record {
     frame = record { id = omega arith; dlc = omega arith; count = refl; bytes = λ k d less. absurd (omega (arith, less)) };
@@ -101,12 +100,6 @@ waiting = record fresh { held = Some asked }
 
 abbrev sending : Context
 sending = record waiting { role = Transmitter; tec = 8 }
-
--- eleven recessive bits after a start: the node joins the bus
-joins : Move waiting Joining (map Took (hears (replicate 11 Recessive))) (Join ∷ []) waiting AtIdle
-joins =
-    by_bits waiting Joining AtIdle Join (heard Recessive) (hears (replicate 10 Recessive))
-    (join (one_more first_eleven none_left refl)) (omega arith)
 
 -- what follows the first of some bits
 abbrev rest_of : List Bit → List Bit
@@ -163,7 +156,7 @@ cut_of_sender config = (
     from =
         on (started (record config { listen = false; self_test = false }) [])
         (on (sent asked (λ same. cc))
-        (on joins (on is_unanswered (on flags (on ends (on rests (here nothing (omega arith))))))));
+        (on (joins (Some asked)) (on is_unanswered (on flags (on ends (on rests (here nothing (omega arith))))))));
   },
   refl,
   refl,
