@@ -13,3 +13,5 @@ pub mod WorkedFault
 pub mod WorkedSender
 pub mod WorkedLoss
 pub mod WorkedMoves
+pub mod Acknowledging
+pub mod WorkedReception

@@ -43,7 +43,7 @@ abbrev pub zeros : List Level
 zeros = replicate 15 Dominant
 
 -- five dominant levels and their stuff bit
-abbrev five : List Level
+abbrev pub five : List Level
 five = Dominant ∷ Dominant ∷ Dominant ∷ Dominant ∷ Dominant ∷ Recessive ∷ []
 
 -- its stuffed part: 34 dominant levels with six stuff bits

@@ -1,0 +1,88 @@
+-- A record and its cut: a node starts, waits for eleven recessive levels, receives the frame of another node and
+-- acknowledges it.
+use Rattle.std.proofs.Common.{◌≡◌, false, List, [], ◌∷◌, ◌++◌, map, replicate, refl, arith, None}
+use Rattle.can_bits.specs.declared.level.Level.{Level}
+use Rattle.can_bits.specs.declared.level.Level.TheVariants.{Dominant, Recessive}
+use Rattle.can_bits.specs.Body.{sent_body}
+use Rattle.can_bits.specs.Digits.{bits}
+use Rattle.can_node.specs.declared.config.Config.{Config}
+use Rattle.can_node.specs.Bits.{Bit, heard, forced, hears}
+use Rattle.can_node.specs.Context.{fresh}
+use Rattle.can_node.specs.Pieces.Spot.{AtIdle, AfterReception, Pausing}
+use Rattle.can_node.specs.Pieces.Piece.{Join, Reception, Last, Pause}
+use Rattle.can_node.specs.Frames.{Hears}
+use Rattle.can_node.specs.Frames.Hears.{reception}
+use Rattle.can_node.specs.Record.{Entry}
+use Rattle.can_node.specs.Record.Entry.{Start, Took}
+use Rattle.can_node.specs.Table.Row.{other, last, pause}
+use Rattle.can_node.specs.Cut.{Move, Found, IsCut, received}
+use Rattle.can_node.specs.Cut.IsOpenAt.{nothing}
+use Rattle.can_node.specs.Cut.Move.{started}
+use Rattle.can_node.specs.Cut.From.{here, on}
+use Rattle.can_node.proofs.Acknowledging.{acknowledges}
+use Rattle.can_node.proofs.Slices.{by_bits, joins}
+use Rattle.can_node.proofs.WorkedSender.{asked, zeros, five, part, part_sent}
+
+-- what follows the start of frame in its stuffed part
+abbrev later : List Level
+later =
+    Dominant ∷ Dominant ∷ Dominant ∷ Dominant ∷ Recessive ∷ (five ++ (five ++ (five ++ (five ++ (five ++ replicate 4 Dominant)))))
+
+-- the bits after the start of frame, up to the sixth of the end of frame
+abbrev pub answered : List Bit
+answered = hears later ++ (heard Recessive ∷ forced Dominant ∷ hears (replicate 7 Recessive))
+
+-- they are a reception of the frame with the identifier 0
+hears_it : Hears false (Dominant ∷ []) answered (Reception asked.frame) AfterReception
+hears_it =
+    reception (sent_body asked.frame) zeros Dominant
+    (acknowledges asked.frame (sent_body asked.frame) zeros part part_sent.is_part part_sent.right (Dominant ∷ []) later 7 refl)
+    (record { part = part; is_part = part_sent.is_part; whole = refl }) part_sent.right refl
+
+-- the frame; the acknowledgement leaves the counter at 0
+receives : Move fresh AtIdle (map Took (heard Dominant ∷ answered)) (Reception asked.frame ∷ []) fresh AfterReception
+receives =
+    by_bits fresh AtIdle AfterReception (Reception asked.frame) (heard Dominant) answered (other refl hears_it) (omega arith)
+
+-- the seventh bit of its end
+ends : Move fresh AfterReception (Took (heard Recessive) ∷ []) (Last ∷ []) fresh Pausing
+ends = by_bits fresh AfterReception Pausing Last (heard Recessive) [] last (omega arith)
+
+-- intermission
+rests : Move fresh Pausing (map Took (hears (replicate 3 Recessive))) (Pause ∷ []) fresh AtIdle
+rests = by_bits fresh Pausing AtIdle Pause (heard Recessive) (hears (replicate 2 Recessive)) pause (omega arith)
+
+-- the record
+abbrev pub record_of_reception : Config → List Entry
+record_of_reception config =
+    Start (record config { listen = false; self_test = false })
+    ∷ map Took (hears (replicate 11 Recessive) ++ ((heard Dominant ∷ answered) ++ hears (replicate 4 Recessive)))
+
+-- its pieces, with activation and bit count
+abbrev pub pieces_of_reception : List Found
+pieces_of_reception =
+    (record { piece = Join; activation = 1; bits = 11 })
+    ∷ (record { piece = Reception asked.frame; activation = 1; bits = 60 })
+    ∷ (record { piece = Last; activation = 1; bits = 61 })
+    ∷ (record { piece = Pause; activation = 1; bits = 64 })
+    ∷ []
+
+-- its cut: all counters stay at 0
+pub cut_of_reception : (config : Config) →
+    (cut : IsCut (record_of_reception config) pieces_of_reception) × (cut.context ≡ fresh) × (cut.spot ≡ AtIdle)
+cut_of_reception config = (
+  record {
+    context = fresh;
+    spot = AtIdle;
+    rest = [];
+    from =
+        on (started (record config { listen = false; self_test = false }) [])
+        (on (joins None) (on receives (on ends (on rests (here nothing (omega arith))))));
+  },
+  refl,
+  refl,
+)
+
+-- the frame is received in the sixth bit of its end of frame, the record's 60th
+received_there : received pieces_of_reception ≡ (record { frame = asked.frame; activation = 1; bits = 60 }) ∷ []
+received_there = refl
