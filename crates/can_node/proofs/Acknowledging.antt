@@ -10,7 +10,7 @@ use Rattle.can_bits.proofs.Ending.{same_part}
 use Rattle.can_bits.proofs.Lists.{append-cancel, longer_not}
 use Rattle.can_node.specs.Bits.{Bit, heard, forced, hears, seen_of}
 use Rattle.can_node.specs.Frames.{IsAckDue, AllAnswer}
-use Rattle.can_node.proofs.Seen.{seen_heard}
+use Rattle.can_node.proofs.Heard.{seen_heard}
 
 -- two lists of bits one after the other
 answers_both : (listen : Bool) (l : List Level) (a b : List Bit) →

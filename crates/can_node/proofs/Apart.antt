@@ -16,7 +16,7 @@ use Rattle.can_node.specs.Pieces.FaultPlace.{InFlag, InDelimiter}
 use Rattle.can_node.specs.Pieces.Piece.{Fault, Flag, Tail, Pause, PauseWithSof, PauseBroken}
 use Rattle.can_node.specs.Table.{Row, flag_segment}
 use Rattle.can_node.specs.Table.Row.{join, last, last_overload, flag, flag_fault, flag_passive, tail, tail_overload, tail_fault, pause, pause_sof, pause_sof_owed, pause_broken, pause_broken_second}
-use Rattle.can_node.proofs.Seen.{same_hears, same_forces, recessive-other, dominant-other}
+use Rattle.can_node.proofs.Heard.{same_hears, same_forces, recessive-other, dominant-other}
 use Rattle.can_node.proofs.Waits.{first_once, elevens_once, IsWait, leading, wait_once}
 use Rattle.can_node.proofs.Waits.IsWait.{whole, cut_off}
 

@@ -1,6 +1,6 @@
 pub mod Receiving
 pub mod Sending
-pub mod Seen
+pub mod Heard
 pub mod Waits
 pub mod Apart
 pub mod RowOnce

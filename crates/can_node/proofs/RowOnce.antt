@@ -10,7 +10,7 @@ use Rattle.can_node.specs.Pieces.Spot.{Resting, Joining, AtIdle, SofSeen, AfterR
 use Rattle.can_node.specs.Frames.{Sends}
 use Rattle.can_node.specs.Table.{Row}
 use Rattle.can_node.specs.Table.Row.{idle, other, own, other_begun, own_begun}
-use Rattle.can_node.proofs.Seen.{recessive-other}
+use Rattle.can_node.proofs.Heard.{recessive-other}
 use Rattle.can_node.proofs.Apart.{AreOne, joining_once, after_reception_once, flagging_once, after_flag_once, pausing_once}
 use Rattle.can_node.proofs.Receiving.{hears_once}
 use Rattle.can_node.proofs.Sending.{sends_once}

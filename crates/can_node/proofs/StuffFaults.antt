@@ -12,7 +12,7 @@ use Rattle.can_bits.proofs.Going.{IsInside, part_begun}
 use Rattle.can_node.specs.declared.cause.Cause.{Cause}
 use Rattle.can_node.specs.declared.cause.Cause.TheVariants.{Stuff as StuffError}
 use Rattle.can_node.specs.Bits.{Bit, heard, forced, hears, seen_of}
-use Rattle.can_node.proofs.Seen.{no_forced, seen_heard, seen_both}
+use Rattle.can_node.proofs.Heard.{no_forced, seen_heard, seen_both}
 use Rattle.can_node.specs.Frames.{IsAckDue, Answers, AllAnswer, IsWithin, Breaks, BreaksOff}
 use Rattle.can_node.specs.Frames.Breaks.{stuff, form, check, own_ack}
 
