@@ -1,0 +1,14 @@
+//! The words of a command line, read as what the program `sja` is asked to do.
+//!
+//! [`parse`] takes the words, the program's name first, and answers a [`Task`]. The crate `clap` does the parsing;
+//! none of its types is seen from above.
+#![tactic(auto)]
+
+mod command;
+mod parsing;
+mod task;
+mod words_fault;
+
+pub use parsing::parse;
+pub use task::Task;
+pub use words_fault::WordsFault;
