@@ -1,5 +1,5 @@
 -- The whole line of a frame, from its start to the end of frame (Bosch CAN 2.0 part A section 3.1.1).
-use Rattle.std.specs.Prelude.{◌≡◌, List, [], ◌∷◌, ◌++◌, length, replicate}
+use Rattle.std.specs.Prelude.{◌≡◌, List, ◌∷◌, ◌++◌, length, replicate}
 use Rattle.can_frame.specs.Frame.{FrameValue, IsFrame}
 use Rattle.can_bits.specs.declared.level.Level.{Level}
 use Rattle.can_bits.specs.declared.level.Level.TheVariants.{Recessive}

@@ -82,6 +82,7 @@ pub fn push_bits(body: &mut ArrayVec<Level, 118>, count: u32, number: u32)
     ensures room { length body.new.items ≡ length body.old.items + count }
 {
     for k in 0..count {
-        body.push(Level::of((number >> (count - 1 - k)) & 1 == 1));
+        let digit = (number >> (count - 1 - k)) % 2;
+        body.push(Level::of(digit == 1));
     }
 }

@@ -1,7 +1,7 @@
-ghost use Rattle.std.specs.Prelude.{◌≡◌, ◌<◌, List};
+ghost use Rattle.std.specs.Prelude.{◌≡◌, ◌<◌, ◌+◌, ◌*◌, [], ◌∷◌, ◌++◌, List};
 ghost use Rattle.can_bits.specs.declared.level.Level.{Level as Bus};
-ghost use Rattle.can_bits.specs.Digits.{bits};
-ghost use Rattle.can_bits.specs.Check.{Crc};
+ghost use Rattle.can_bits.specs.Digits.{bits, value};
+ghost use Rattle.can_bits.specs.Check.{Crc, IsMultiple};
 
 use super::level::Level;
 
@@ -22,12 +22,16 @@ pub fn crc_of(levels: &[Level]) -> u16
     crc
 }
 
-/// The check register after one level more.
-fn crc_step(crc: u16, level: Level) -> u16 {
-    let shifted = (crc & 0x3fff) << 1;
-    if (crc >> 14) ^ level.digit() == 1 {
-        shifted ^ GENERATOR
-    } else {
+/// The check register after one level more: what divides the levels and the register still does.
+fn crc_step(crc: u16, level: Level) -> u16
+    requires { crc < 32768 }
+    ensures fits { result < 32768 }
+    ensures divides { (b : List Bus) → IsMultiple (value b * 32768 + crc) → IsMultiple (value (b ++ level ∷ []) * 32768 + result) }
+{
+    let shifted = 2 * (crc % 0x4000);
+    if crc >> 14 == level.digit() {
         shifted
+    } else {
+        shifted ^ GENERATOR
     }
 }

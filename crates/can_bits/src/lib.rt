@@ -9,5 +9,6 @@ mod line;
 mod stuffing;
 
 pub use crc::crc_of;
+pub use laws::{a_list_has_one_check_sequence, a_stuffed_list_stuffs_one_list};
 pub use level::Level;
 pub use line::line_of;

@@ -1,1 +1,2 @@
 pub mod MessageLemmas
+pub mod RegisterLemmas

@@ -1,3 +1,4 @@
 pub mod Frame
 pub mod Message
 pub mod Layout
+pub mod Filter

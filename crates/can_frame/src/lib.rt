@@ -5,6 +5,7 @@
 #![tactic(auto)]
 
 mod copied;
+mod filter;
 mod frame;
 mod frame_fault;
 mod laws;
@@ -12,9 +13,11 @@ mod layout;
 mod layout_fault;
 mod message;
 mod out_of_memory;
+mod register;
 #[cfg(test)]
 mod tests;
 
+pub use filter::Filter;
 pub use frame::Frame;
 pub use frame_fault::FrameFault;
 pub use laws::{every_message_has_one_frame, frames_with_one_message_are_one};
