@@ -28,15 +28,42 @@ fn encode_prints_the_line_of_a_frame(rt: HostRuntime) {
 #[test]
 fn encode_refuses_what_spells_no_message(rt: HostRuntime) {
     let rows: [Row; 9] = [
-        (&["sja", "encode", "0024"], Want::Refusal("sja: layout fault 1 Short\n")),
-        (&["sja", "encode", ""], Want::Refusal("sja: layout fault 1 Short\n")),
-        (&["sja", "encode", "00246000"], Want::Refusal("sja: layout fault 2 Long\n")),
-        (&["sja", "encode", "102460"], Want::Refusal("sja: layout fault 3 UnusedBit\n")),
-        (&["sja", "encode", "402460"], Want::Refusal("sja: layout fault 4 RtrDisagrees\n")),
-        (&["sja", "encode", "000"], Want::Refusal("sja: not hexadecimal\n")),
-        (&["sja", "encode", "00000g"], Want::Refusal("sja: not hexadecimal\n")),
-        (&["sja", "encode", "00 00 00"], Want::Refusal("sja: not hexadecimal\n")),
-        (&["sja", "encode", "0x000000"], Want::Refusal("sja: not hexadecimal\n")),
+        (
+            &["sja", "encode", "0024"],
+            Want::Refusal("sja: layout fault 1 Short\n"),
+        ),
+        (
+            &["sja", "encode", ""],
+            Want::Refusal("sja: layout fault 1 Short\n"),
+        ),
+        (
+            &["sja", "encode", "00246000"],
+            Want::Refusal("sja: layout fault 2 Long\n"),
+        ),
+        (
+            &["sja", "encode", "102460"],
+            Want::Refusal("sja: layout fault 3 UnusedBit\n"),
+        ),
+        (
+            &["sja", "encode", "402460"],
+            Want::Refusal("sja: layout fault 4 RtrDisagrees\n"),
+        ),
+        (
+            &["sja", "encode", "000"],
+            Want::Refusal("sja: not hexadecimal\n"),
+        ),
+        (
+            &["sja", "encode", "00000g"],
+            Want::Refusal("sja: not hexadecimal\n"),
+        ),
+        (
+            &["sja", "encode", "00 00 00"],
+            Want::Refusal("sja: not hexadecimal\n"),
+        ),
+        (
+            &["sja", "encode", "0x000000"],
+            Want::Refusal("sja: not hexadecimal\n"),
+        ),
     ];
     for (words, want) in rows {
         assert!(rt; gives(rt.alloc(), words, want), "{words:?}");

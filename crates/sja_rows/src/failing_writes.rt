@@ -27,10 +27,21 @@ impl Write for Failing {
 }
 
 /// The status for these words where the output takes so many writes and the error output so many.
-fn status(alloc: Global, words: &[&str], out_writes: usize, err_writes: usize) -> (Option<u8>, usize, usize) {
+fn status(
+    alloc: Global,
+    words: &[&str],
+    out_writes: usize,
+    err_writes: usize,
+) -> (Option<u8>, usize, usize) {
     let mut input: &[u8] = &[];
-    let mut out = Output::new(Failing { left: out_writes, taken: 0 });
-    let mut err = Output::new(Failing { left: err_writes, taken: 0 });
+    let mut out = Output::new(Failing {
+        left: out_writes,
+        taken: 0,
+    });
+    let mut err = Output::new(Failing {
+        left: err_writes,
+        taken: 0,
+    });
     let answer = sja_serial(alloc, words, &mut input, &mut out, &mut err);
     (answer, out.writer.taken, err.writer.taken)
 }

@@ -25,7 +25,7 @@ pub fn sja_serial<S: AsStr, R: Read, O: Write, E: Write>(
     ensures answered { (r : Request) → ParsesAs (map S.text words.now) r
         → out.new.failed ≡ false → err.new.failed ≡ false
         → Shows r result (O.contents out.old.writer) (O.contents out.new.writer)
-            (E.contents err.old.writer) (E.contents err.new.writer) }
+        (E.contents err.old.writer) (E.contents err.new.writer) }
     ensures unparsed { ((r : Request) → ¬ ParsesAs (map S.text words.now) r)
         → out.new.failed ≡ false → err.new.failed ≡ false
         → IsTurnedAway result (E.contents err.old.writer) (E.contents err.new.writer) }
@@ -50,10 +50,15 @@ pub fn sja_serial<S: AsStr, R: Read, O: Write, E: Write>(
 }
 
 /// Does the task, and gives the exit status.
-fn reply<O: Write, E: Write>(alloc: Global, task: Task<'_>, out: &mut Output<O>, err: &mut Output<E>) -> u8
+fn reply<O: Write, E: Write>(
+    alloc: Global,
+    task: Task<'_>,
+    out: &mut Output<O>,
+    err: &mut Output<E>,
+) -> u8
     ensures answered { out.new.failed ≡ false → err.new.failed ≡ false
         → Shows (request_of task.entry) (Some result) (O.contents out.old.writer) (O.contents out.new.writer)
-            (E.contents err.old.writer) (E.contents err.new.writer) }
+        (E.contents err.old.writer) (E.contents err.new.writer) }
     ensures one_writer { (out.new ≡ out.old) ⊎ (err.new ≡ err.old) }
     ensures failed { out.old.failed ≡ false → err.old.failed ≡ false
         → (out.new.failed ≡ true) ⊎ (err.new.failed ≡ true) → result ≡ 1 }
