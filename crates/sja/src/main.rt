@@ -16,15 +16,11 @@ fn main(rt: HostRuntime) -> ExitCode {
     let status = match env::args(&rt) {
         Ok(args) => match args.collect::<Vec<String>>(rt.alloc()) {
             Ok(words) => sja_serial(rt.alloc(), &words, &mut rt.stdin(), &mut out, &mut err),
-            Err(_) => {
-                err.refuse(Refusal::OutOfMemory);
-                Some(1)
-            }
+            Err(_) => Some(err.refuse(Refusal::OutOfMemory)),
         },
-        Err(error) if error.kind() == ErrorKind::OutOfMemory => {
-            err.refuse(Refusal::OutOfMemory);
-            Some(1)
-        }
+        Err(error) if error.kind() == ErrorKind::OutOfMemory => Some(err.refuse(
+            Refusal::OutOfMemory,
+        )),
         Err(_) => {
             err.put(NO_TEXT.as_bytes());
             Some(2)

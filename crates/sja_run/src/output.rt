@@ -38,8 +38,9 @@ impl<W: Write> Output<W> {
         }
     }
 
-    /// Writes the one line of a refusal.
-    pub fn refuse(&mut self, refusal: Refusal)
+    /// Writes the one line of a refusal, and gives its exit status.
+    pub fn refuse(&mut self, refusal: Refusal) -> u8
+        ensures status { result ≡ 1 }
         ensures written { self.new.failed ≡ false → (self.old.failed ≡ false)
             × Appends (W.contents self.old.writer) (W.contents self.new.writer) (refusal_line refusal) }
         ensures stopped { self.old.failed ≡ true → self.new ≡ self.old }
@@ -47,5 +48,6 @@ impl<W: Write> Output<W> {
         self.put(b"sja: ");
         self.put(refusal.text().as_bytes());
         self.put(b"\n");
+        1
     }
 }

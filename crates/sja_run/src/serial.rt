@@ -38,10 +38,7 @@ pub fn sja_serial<S: AsStr, R: Read, O: Write, E: Write>(
     let _ = input;
     match parse(alloc, words) {
         Ok(task) => Some(reply(alloc, task, out, err)),
-        Err(WordsFault::OutOfMemory) => {
-            err.refuse(Refusal::OutOfMemory);
-            Some(1)
-        }
+        Err(WordsFault::OutOfMemory) => Some(err.refuse(Refusal::OutOfMemory)),
         Err(WordsFault::Unparsed(text)) => {
             err.put(text.as_bytes());
             Some(if err.failed { 1 } else { 2 })
@@ -68,9 +65,6 @@ fn reply<O: Write, E: Write>(
             out.put(text.as_slice());
             if out.failed { 1 } else { 0 }
         }
-        Err(refusal) => {
-            err.refuse(refusal);
-            1
-        }
+        Err(refusal) => err.refuse(refusal),
     }
 }
