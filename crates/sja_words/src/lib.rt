@@ -5,10 +5,12 @@
 #![tactic(auto)]
 
 mod command;
+mod laws;
 mod parsing;
 mod task;
 mod words_fault;
 
+pub use laws::{a_message_is_needed, encode_and_a_text_parse};
 pub use parsing::parse;
 pub use task::Task;
 pub use words_fault::WordsFault;
