@@ -1,4 +1,4 @@
-ghost use Rattle.std.specs.Prelude.{◌≡◌, ◌⊎◌, Some, false, true, map};
+ghost use Rattle.std.specs.Prelude.{◌≡◌, ◌⊎◌, Some, IsSome, false, true, map};
 ghost use Rattle.sja_words.specs.Words.{Request, ParsesAs, request_of};
 ghost use Rattle.sja_run.specs.Answer.{Shows, IsTurnedAway};
 
@@ -30,6 +30,7 @@ pub fn sja_serial<S: AsStr, R: Read, O: Write, E: Write>(
         → out.new.failed ≡ false → err.new.failed ≡ false
         → IsTurnedAway result (E.contents err.old.writer) (E.contents err.new.writer) }
     ensures untouched { ((r : Request) → ¬ ParsesAs (map S.text words.now) r) → out.new ≡ out.old }
+    ensures status { IsSome result }
     ensures one_writer { (out.new ≡ out.old) ⊎ (err.new ≡ err.old) }
     ensures failed { out.old.failed ≡ false → err.old.failed ≡ false
         → (out.new.failed ≡ true) ⊎ (err.new.failed ≡ true) → result ≡ Some 1 }
