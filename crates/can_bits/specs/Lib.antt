@@ -9,3 +9,4 @@ pub mod Spelling
 pub mod Reading
 pub mod Segments
 pub mod Streaming
+pub mod Places

@@ -1,0 +1,38 @@
+-- What a node drives and sees.
+use Rattle.std.specs.Prelude.{◌≡◌, List, [], ◌++◌, map}
+use Rattle.can_bits.specs.declared.level.Level.{Level}
+use Rattle.can_bits.specs.declared.level.Level.TheVariants.{Dominant, Recessive}
+
+-- one bit of the bus: the level that the node drives, and the one that it sees
+pub record Bit : Type 0 where
+  pub driven : Level
+  pub seen : Level
+
+-- the node drives recessive and sees this level
+abbrev pub heard : Level → Bit
+heard x = record { driven = Recessive; seen = x }
+
+-- the node drives dominant and sees this level
+abbrev pub forced : Level → Bit
+forced x = record { driven = Dominant; seen = x }
+
+-- it drives recessive, and sees these levels
+abbrev pub hears : List Level → List Bit
+hears levels = map heard levels
+
+-- it drives dominant, and sees these levels
+abbrev pub forces : List Level → List Bit
+forces levels = map forced levels
+
+-- what was seen
+abbrev pub seen_of : List Bit → List Level
+seen_of bits = map (λ (b : Bit). b.seen) bits
+
+-- what was driven
+abbrev pub driven_of : List Bit → List Level
+driven_of bits = map (λ (b : Bit). b.driven) bits
+
+-- the list has the property, and no shorter front of it has
+pub record IsFirst {A : Type 0} (P : List A → Type 0) (l : List A) : Type 0 where
+  pub holds : P l
+  pub first : (front rest : List A) → l ≡ front ++ rest → P front → rest ≡ []

@@ -1,0 +1,130 @@
+-- What each bit changes in the context: error counters, role and request (Bosch CAN 2.0 part A sections 6 to 8).
+use Rattle.std.specs.Prelude.{◌+◌, ◌-◌, ◌%◌, ◌==◌, ◌&&◌, ◌||◌, not, ℕ, zero, suc, Bool, true, false, nat_le, min, fold, if◌then◌else◌, Option, Some, None, is_some, List, [], ◌∷◌, ◌++◌, length}
+use Rattle.can_bits.specs.declared.level.Level.{Level}
+use Rattle.can_bits.specs.declared.level.Level.TheVariants.{Dominant, Recessive}
+use Rattle.can_bits.specs.Places.{place_code}
+use Rattle.can_node.specs.declared.request.Request.{Request}
+use Rattle.can_node.specs.Bits.{Bit, seen_of}
+use Rattle.can_node.specs.Context.{Context, Role, FlagKind}
+use Rattle.can_node.specs.Context.Role.{Transmitter, Receiver}
+use Rattle.can_node.specs.Context.FlagKind.{ActiveError, PassiveError, Overload}
+use Rattle.can_node.specs.Pieces.{Spot, sent_at}
+use Rattle.can_node.specs.Pieces.Spot.{Resting, Joining, AtIdle, SofSeen, AfterReception, Flagging, AfterFlag, Pausing}
+
+-- ---- steps of the counters
+
+-- the receive error counter stops at 255 (this project's own rule)
+abbrev pub more_rec : ℕ → Context → Context
+more_rec n c = record c { rec = min 255 (c.rec + n) }
+
+abbrev pub more_tec : ℕ → Context → Context
+more_tec n c = record c { tec = c.tec + n }
+
+-- so much by the role: transmitter, receiver
+abbrev pub more_by : Role → ℕ → ℕ → Context → Context
+more_by Transmitter t r c = more_tec t c
+more_by Receiver t r c = more_rec r c
+
+-- an acknowledgement was sent and seen: one less, and from above 127 to 127
+abbrev pub rec_acknowledged : ℕ → ℕ
+rec_acknowledged n = if nat_le 128 n then 127 else n - 1
+
+-- no counter of a node that only listens steps
+abbrev pub unless_listening : Context → Context → Context
+unless_listening c new = if c.listen then c else new
+
+-- ---- the request
+
+-- a request that is tried once, or was aborted in progress, is dropped where it fails or loses
+abbrev pub drop_failed : Option Request → Context → Context
+drop_failed None c = c
+drop_failed (Some request) c = if request.single_shot || c.aborted then record c { held = None; aborted = false } else c
+
+-- ---- one bit, within a piece and at its end alike; done are the bits of the piece before it
+
+-- recessive levels at the end since the last eleven that counted
+abbrev pub next_run : ℕ → Level → ℕ
+next_run n Dominant = 0
+next_run n Recessive = if n == 10 then 0 else n + 1
+
+-- this level makes eleven recessive ones, none of which counted before
+abbrev pub ends_eleven : ℕ → Level → Bool
+ends_eleven n Dominant = false
+ends_eleven n Recessive = n == 10
+
+-- while bus-off stands each eleven recessive levels take one from the transmit error counter
+abbrev pub join_bit : Context → List Bit → Bit → Context
+join_bit c done b =
+    if (c.off && not c.listen) && ends_eleven (fold next_run 0 (seen_of done)) b.seen then record c { tec = c.tec - 1 } else c
+
+-- the place code where a transmitter drives recessive and sees dominant in the arbitration field, at no stuff bit
+abbrev pub lost_by : Option Request → List Level → Level → Level → Option ℕ
+lost_by (Some request) l Recessive Dominant = place_code request.frame.ext l
+lost_by (Some request) l Recessive Recessive = None
+lost_by (Some request) l Dominant Dominant = None
+lost_by (Some request) l Dominant Recessive = None
+lost_by None l driven seen = None
+
+-- arbitration lost: the node is receiver, and the request may be dropped
+abbrev pub lose : Context → Context
+lose c = record (drop_failed c.held c) { role = Receiver }
+
+-- a bit that a receiver of a frame drove dominant is its acknowledgement
+abbrev pub if_acknowledged : Level → Level → Context → Context
+if_acknowledged Dominant Dominant c = record c { rec = rec_acknowledged c.rec }
+if_acknowledged Dominant Recessive c = c
+if_acknowledged Recessive seen c = c
+
+-- a bit of a frame after these levels of it
+abbrev pub frame_bit : Role → Context → List Level → Bit → Context
+frame_bit Transmitter c l b = if is_some (lost_by c.held l b.driven b.seen) then lose c else c
+frame_bit Receiver c l b = if_acknowledged b.driven b.seen c
+
+-- the holder of a request becomes transmitter as it starts its frame
+abbrev pub first_bit : Option Request → Context → Context
+first_bit None c = c
+first_bit (Some request) c = record c { role = Transmitter }
+
+-- a bit at an idle place, or of a frame that began there
+abbrev pub idle_bit : Context → List Bit → Bit → Context
+idle_bit c [] b = first_bit (sent_at c AtIdle) c
+idle_bit c (first ∷ done) b = frame_bit c.role c (seen_of (first ∷ done)) b
+
+-- the owed step of a missing acknowledgement: at the first dominant level in the flag
+abbrev pub if_late : Level → Context → Context
+if_late Dominant c = if c.late then record (more_tec 8 c) { late = false } else c
+if_late Recessive c = c
+
+-- all of these levels are dominant
+abbrev pub are_dominant : List Level → Bool
+are_dominant [] = true
+are_dominant (Dominant ∷ l) = are_dominant l
+are_dominant (Recessive ∷ l) = false
+
+-- a receiver sees dominant right after its own error flag
+abbrev pub after_error_flag : List Bit → Role → FlagKind → Context → Context
+after_error_flag [] Receiver ActiveError c = more_rec 8 c
+after_error_flag [] Receiver PassiveError c = more_rec 8 c
+after_error_flag [] Receiver Overload c = c
+after_error_flag [] Transmitter flag c = c
+after_error_flag (b ∷ done) role flag c = c
+
+-- the eighth, sixteenth .. dominant level after a flag
+abbrev pub if_eighth : List Bit → Context → Context
+if_eighth done c = if are_dominant (seen_of done) && (length done + 1) % 8 == 0 then more_by c.role 8 8 c else c
+
+-- a level after a flag
+abbrev pub tail_level : Level → List Bit → Context → Context
+tail_level Dominant done c = unless_listening c (if_eighth done (after_error_flag done c.role c.flag c))
+tail_level Recessive done c = c
+
+-- the step of one bit at its place
+abbrev pub at_bit : Context → Spot → List Bit → Bit → Context
+at_bit c Resting done b = c
+at_bit c Joining done b = join_bit c done b
+at_bit c AtIdle done b = idle_bit c done b
+at_bit c SofSeen done b = frame_bit c.role c (Dominant ∷ seen_of done) b
+at_bit c AfterReception done b = c
+at_bit c Flagging done b = if_late b.seen c
+at_bit c AfterFlag done b = tail_level b.seen done c
+at_bit c Pausing done b = c

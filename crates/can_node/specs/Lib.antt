@@ -1,0 +1,10 @@
+pub mod Bits
+pub mod Context
+pub mod Pieces
+pub mod Frames
+pub mod Table
+pub mod Record
+pub mod Counting
+pub mod Effects
+pub mod Cut
+pub mod Events

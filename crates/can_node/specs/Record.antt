@@ -1,0 +1,49 @@
+-- The record of a node.
+use Rattle.std.specs.Prelude.{◌≡◌, List, [], ◌∷◌, ◌++◌}
+use Rattle.can_node.specs.declared.config.Config.{Config}
+use Rattle.can_node.specs.declared.request.Request.{Request}
+use Rattle.can_node.specs.Bits.{Bit}
+
+-- what happened to a node: a start, a stop, a bit, a request, an abort that changed something, and bus-off
+pub data Entry : Type 0 where
+  Start : Config → Entry
+  Stop : Entry
+  Took : Bit → Entry
+  Send : Request → Entry
+  Abort : Entry
+  Off : Entry
+
+-- the bits among entries
+abbrev pub bits_in : List Entry → List Bit
+bits_in [] = []
+bits_in (Took b ∷ entries) = b ∷ bits_in entries
+bits_in (Send request ∷ entries) = bits_in entries
+bits_in (Abort ∷ entries) = bits_in entries
+bits_in (Start config ∷ entries) = bits_in entries
+bits_in (Stop ∷ entries) = bits_in entries
+bits_in (Off ∷ entries) = bits_in entries
+
+-- bits, and requests and aborts, which may come anywhere between them
+pub data Inner : List Entry → Type 0 where
+  none_left : Inner []
+  took : {entries : List Entry} (b : Bit) → Inner entries → Inner (Took b ∷ entries)
+  sends : {entries : List Entry} (request : Request) → Inner entries → Inner (Send request ∷ entries)
+  aborts : {entries : List Entry} → Inner entries → Inner (Abort ∷ entries)
+
+-- the first entry is a bit
+pub record BeginsInBit (entries : List Entry) : Type 0 where
+  pub bit : Bit
+  pub rest : List Entry
+  pub whole : entries ≡ Took bit ∷ rest
+
+-- the last entry is a bit
+pub record EndsInBit (entries : List Entry) : Type 0 where
+  pub before : List Entry
+  pub bit : Bit
+  pub whole : entries ≡ before ++ Took bit ∷ []
+
+-- the entries of a piece, from its first bit to its last
+pub record IsSlice (entries : List Entry) : Type 0 where
+  pub inner : Inner entries
+  pub begins : BeginsInBit entries
+  pub ends : EndsInBit entries

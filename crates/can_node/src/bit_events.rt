@@ -1,0 +1,23 @@
+use super::cause::Cause;
+use super::outcome::Outcome;
+use can_bits::Segment;
+use can_frame::Frame;
+
+/// What one bit of the bus brings to a node.
+#[derive(Debug, PartialEq, Eq, Drop)]
+pub struct BitEvents {
+    /// A frame is valid from this bit on: the sixth bit of its end of frame.
+    pub received: Option<Frame>,
+    /// The request that was held has ended.
+    pub ended: Option<Outcome>,
+    /// Arbitration was lost at this place code.
+    pub lost: Option<u8>,
+    /// A fault, with the segment that it was in.
+    pub fault: Option<(Cause, Segment)>,
+    /// The node is receiver once the bit is over.
+    pub receiving: bool,
+    /// The node went bus-off.
+    pub went_off: bool,
+    /// Bus-off ended.
+    pub recovered: bool,
+}

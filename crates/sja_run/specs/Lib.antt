@@ -1,0 +1,5 @@
+pub mod Refusal
+pub mod Message
+pub mod LineText
+pub mod Encode
+pub mod Answer
