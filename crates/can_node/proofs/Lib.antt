@@ -1,0 +1,2 @@
+pub mod Nexts
+pub mod Receiving
