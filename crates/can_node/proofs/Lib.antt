@@ -1,2 +1,4 @@
 pub mod Nexts
+pub mod Seen
+pub mod Faults
 pub mod Receiving
