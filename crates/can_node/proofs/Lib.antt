@@ -2,3 +2,4 @@ pub mod Nexts
 pub mod Seen
 pub mod Faults
 pub mod Receiving
+pub mod Answering
