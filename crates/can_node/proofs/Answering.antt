@@ -4,15 +4,14 @@ use Rattle.std.proofs.lemmas.List.{append-nil}
 use Rattle.can_frame.specs.Frame.{FrameValue}
 use Rattle.can_bits.specs.declared.level.Level.{Level}
 use Rattle.can_bits.specs.declared.level.Level.TheVariants.{Dominant, Recessive}
-use Rattle.can_bits.specs.Body.{sent_body}
 use Rattle.can_bits.specs.Check.{Crc}
-use Rattle.can_bits.specs.Line.{StuffedPart, Line, tail, IsSentLine}
+use Rattle.can_bits.specs.Line.{StuffedPart, tail, IsSentLine}
 use Rattle.can_bits.specs.Streaming.{EndsInWrongCheck}
 use Rattle.can_bits.proofs.Lists.{append-cancel}
 use Rattle.can_bits.proofs.Ending.{same_part, same_spelling, part_begins}
 use Rattle.can_node.specs.Bits.{Bit, heard, forced, hears, seen_of}
 use Rattle.can_node.specs.Context.{Context}
-use Rattle.can_node.specs.Pieces.{Spot, Piece, sent_at}
+use Rattle.can_node.specs.Pieces.{sent_at}
 use Rattle.can_node.specs.Pieces.Spot.{AtIdle, AfterReception}
 use Rattle.can_node.specs.Pieces.Piece.{Reception}
 use Rattle.can_node.specs.Frames.{IsAckDue, Answers, AllAnswer, AckFits, Hears}
@@ -119,9 +118,10 @@ pub sent_received : (c : Context) (f : FrameValue) (l : List Level) → sent_at 
     (bits : List Bit) × Row c AtIdle bits (Reception f) AfterReception
 sent_received c f l idle (check, right, line) =
     let (rest, first) = part_begins line.part line.is_part in
-    let whole : (Dominant ∷ []) ++ (rest ++ Recessive ∷ []) ≡ line.part ++ Recessive ∷ [] = ap (λ m. m ++ Recessive ∷ []) (sym first) in
-    (heard Dominant ∷ reception_bits c.listen Dominant (rest ++ Recessive ∷ []),
-      other idle (line_received c.listen (Dominant ∷ []) (rest ++ Recessive ∷ []) line.part Dominant line.is_part right (fits c.listen) whole))
+    let whole : (Dominant ∷ []) ++ (rest ++ Recessive ∷ []) ≡ line.part ++ Recessive ∷ [] = ap (λ m. m ++ Recessive ∷ []) (sym first) in (
+      heard Dominant ∷ reception_bits c.listen Dominant (rest ++ Recessive ∷ []),
+      other idle (line_received c.listen (Dominant ∷ []) (rest ++ Recessive ∷ []) line.part Dominant line.is_part right (fits c.listen) whole),
+    )
   where
     fits : (listen : Bool) → AckFits listen Dominant
     fits true = tt

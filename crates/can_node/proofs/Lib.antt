@@ -3,3 +3,5 @@ pub mod Seen
 pub mod Faults
 pub mod Receiving
 pub mod Answering
+pub mod Breaking
+pub mod Completing

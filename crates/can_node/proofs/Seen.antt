@@ -18,12 +18,12 @@ seen_on l a b = ap (λ m. l ++ m) (seen-append a b) ∙ sym (append_assoc l (see
 pub seen_split : (l : List Level) (bits a b : List Bit) → bits ≡ a ++ b → l ++ seen_of bits ≡ (l ++ seen_of a) ++ seen_of b
 seen_split l bits a b e = ap (λ m. l ++ seen_of m) e ∙ seen_on l a b
 
--- what is driven in the last bit
-pub answers_last : (listen : Bool) (l : List Level) (before : List Bit) (last : Bit) →
-    AllAnswer listen l (before ++ last ∷ []) → Answers listen (l ++ seen_of before) last.driven
-answers_last listen l [] last h =
-    let P : List Level → Type 0 = λ m. Answers listen m last.driven in
+-- what is driven in one of the bits
+pub answers_at : (listen : Bool) (l : List Level) (before after : List Bit) (x : Bit) →
+    AllAnswer listen l (before ++ x ∷ after) → Answers listen (l ++ seen_of before) x.driven
+answers_at listen l [] after x h =
+    let P : List Level → Type 0 = λ m. Answers listen m x.driven in
     subst P (sym (append-nil l)) h.0
-answers_last listen l (b ∷ before) last h =
-    let P : List Level → Type 0 = λ m. Answers listen m last.driven in
-    subst P (append_assoc l (b.seen ∷ []) (seen_of before)) (answers_last listen (l ++ b.seen ∷ []) before last h.1)
+answers_at listen l (b ∷ before) after x h =
+    let P : List Level → Type 0 = λ m. Answers listen m x.driven in
+    subst P (append_assoc l (b.seen ∷ []) (seen_of before)) (answers_at listen (l ++ b.seen ∷ []) before after x h.1)
