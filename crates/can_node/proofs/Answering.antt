@@ -46,7 +46,7 @@ answers_once false l Recessive Dominant h k = absurd (h k)
 answers_once false l Recessive Recessive h k = refl
 
 -- where nothing is due it drives recessive, and so does one that only listens
-quiet : (listen : Bool) (l : List Level) → (IsAckDue l → ⊥) → Answers listen l Recessive
+pub quiet : (listen : Bool) (l : List Level) → (IsAckDue l → ⊥) → Answers listen l Recessive
 quiet true l none = refl
 quiet false l none = none
 
@@ -80,6 +80,7 @@ abbrev pub slot_bit : Bool → Level → Bit
 slot_bit true x = heard x
 slot_bit false x = forced x
 
+-- what it sees, and that it may drive so
 slot_seen : (listen : Bool) (x : Level) → (slot_bit listen x).seen ≡ x
 slot_seen true x = refl
 slot_seen false x = refl

@@ -50,6 +50,34 @@ right_front l a b h =
           h.answered before (after ++ b) (ap (λ m. m ++ b) e ∙ append_assoc before (forced Recessive ∷ after) b);
     }
 
+-- before the first bit
+pub right_nothing : (l : List Level) → IsReadable l → AllRight l []
+right_nothing l h =
+    let P : List Level → Type 0 = λ m. IsReadable m in
+    record {
+      readable = subst P (sym (append-nil l)) h;
+      answered = λ before after e. omega (arith, ap length e, length-append before (forced Recessive ∷ after));
+    }
+
+-- with one bit more
+pub right_next : (l : List Level) (bits : List Bit) (x : Bit) → AllRight l bits → IsReadable ((l ++ seen_of bits) ++ x.seen ∷ []) → x ≢ forced Recessive →
+    AllRight l (bits ++ x ∷ [])
+right_next l bits x h readable seen =
+    let P : List Level → Type 0 = λ m. IsReadable m in
+    record {
+      readable = subst P (sym (seen_split l (bits ++ x ∷ []) bits (x ∷ []) refl)) readable;
+      answered = λ before after e.
+          elim (last_of after) [
+            | inl none ↦
+                let here : bits ++ x ∷ [] ≡ before ++ forced Recessive ∷ [] = e ∙ ap (λ m. before ++ forced Recessive ∷ m) none in
+                seen (same_from_push bits before x (forced Recessive) here).1
+            | inr some ↦
+                let later : bits ++ x ∷ [] ≡ (before ++ forced Recessive ∷ some.0) ++ some.1 ∷ [] =
+                e ∙ ap (λ m. before ++ forced Recessive ∷ m) some.2 ∙ sym (append_assoc before (forced Recessive ∷ some.0) (some.1 ∷ [])) in
+                h.answered before some.0 (same_from_push bits (before ++ forced Recessive ∷ some.0) x some.1 later).0
+          ];
+    }
+
 -- what is readable begins a line
 abbrev pub readable_begins : (l : List Level) → IsReadable l → Begins l
 readable_begins l h = record { frame = h.frame; body = h.body; check = h.check; ack = h.ack; rest = h.rest; line = h.line }
@@ -112,12 +140,13 @@ past_or_not l begun =
       ]
     ]
 
--- the reader's faults are those of a receiver
+-- a fault of the stuffed part that the reader finds is one of the receiver
 pub stuff_breaks : (l : List Level) (before : List Bit) (last : Bit) (at : ℕ) → BreaksWith (l ++ seen_of before) last.seen (StuffFault at) → Breaks l (before ++ last ∷ []) StuffError
 stuff_breaks l before last at (none, inside, count) =
     let P : List Level → Type 0 = λ m. Begins m in
     stuff before last refl inside.before_end (λ begun. none (subst P (seen_split l (before ++ last ∷ []) before (last ∷ []) refl) begun))
 
+-- and so is one of a fixed level
 pub form_breaks : (l : List Level) (before : List Bit) (last : Bit) (at : ℕ) → l ++ seen_of before ≢ [] → IsReadable (l ++ seen_of before) →
     BreaksWith (l ++ seen_of before) last.seen (FormFault at) → Breaks l (before ++ last ∷ []) FormError
 form_breaks l before last at some readable (none, outside, over, count) =
@@ -140,6 +169,7 @@ recessive_there false l Dominant due w =
     let none = after_once l due.part w.part (Recessive ∷ []) (Recessive ∷ w.ack ∷ []) due.is_part w.is_part due.whole w.whole in
     cc
 
+-- and a wrong check sequence
 pub check_breaks : (listen : Bool) (l : List Level) (before : List Bit) (last : Bit) → AllAnswer listen l (before ++ last ∷ []) →
     BreaksWith (l ++ seen_of before) last.seen CheckFault → Breaks l (before ++ last ∷ []) CheckError
 check_breaks listen l before last answers (wrong, recessive) =

@@ -1,14 +1,15 @@
 -- A frame is received, from what the reader of one level at a time says.
-use Rattle.std.proofs.Common.{◌≡◌, ◌≢◌, Bool, true, false, inl, inr, List, [], ◌∷◌, ◌++◌, length, replicate, refl, ap, ap₂, sym, subst, ◌∙◌, arith, append_assoc}
-use Rattle.std.proofs.lemmas.List.{length_push, nil_from_length, same_from_push}
+use Rattle.std.proofs.Common.{◌≡◌, ◌≢◌, Bool, true, false, inl, inr, List, [], ◌∷◌, ◌++◌, length, reverse, replicate, refl, ap, ap₂, sym, subst, ◌∙◌, arith, append_assoc}
+use Rattle.std.proofs.lemmas.List.{length-append, length_push, nil_from_length, reverse-reverse, same_from_push}
 use Rattle.can_frame.specs.Frame.{FrameValue}
 use Rattle.can_bits.specs.declared.level.Level.{Level}
 use Rattle.can_bits.specs.declared.level.Level.TheVariants.{Dominant, Recessive}
 use Rattle.can_bits.specs.Check.{Crc}
-use Rattle.can_bits.specs.Line.{StuffedPart, Line}
+use Rattle.can_bits.specs.Line.{StuffedPart, Line, tail}
 use Rattle.can_bits.specs.Reading.{IsPastPart}
 use Rattle.can_bits.specs.Streaming.{IsReadable, IsLineButFor, IsOver}
 use Rattle.can_bits.proofs.Lists.{fronts, last_of, cases_list, append-cancel}
+use Rattle.can_bits.proofs.Going.{IsInside, part_begun}
 use Rattle.can_node.specs.Bits.{Bit, forced, seen_of}
 use Rattle.can_node.specs.Pieces.Spot.{AfterReception}
 use Rattle.can_node.specs.Pieces.Piece.{Reception}
@@ -35,6 +36,23 @@ within_here l h not_one not_over =
       ]
     ]
 
+-- a stuffed part that goes on has its whole tail before it
+pub inside_within : (l : List Level) → IsInside (reverse l) → IsWithin l
+inside_within l h =
+    let (f, b, c, later, part) = part_begun (reverse l) h.short h.begins h.fits in
+    let P : List Level → Type 0 = λ p. StuffedPart f b c (p ++ later) in
+    record {
+      begun = record {
+        frame = f;
+        body = b;
+        check = c;
+        ack = Dominant;
+        rest = later ++ tail Dominant;
+        line = record { part = l ++ later; is_part = subst P (reverse-reverse l) part; whole = sym (append_assoc l later (tail Dominant)) };
+      };
+      long = omega (arith, length-append later (tail Dominant));
+    }
+
 -- the bit at a place, from the levels seen
 bit_there : (bits : List Bit) (u : List Level) (x : Level) (v : List Level) → seen_of bits ≡ u ++ x ∷ v →
     (before : List Bit) × (b : Bit) × (after : List Bit) × (bits ≡ before ++ b ∷ after) × (seen_of before ≡ u) × (b.seen ≡ x)
@@ -56,6 +74,7 @@ forced_there : (l : List Level) (y : Level) → Answers false l y → IsAckDue l
 forced_there l Dominant answers due = refl
 forced_there l Recessive none due = absurd (none due)
 
+-- a level that isn't recessive is dominant
 not_recessive : (y : Level) → (y ≡ Recessive → ⊥) → y ≡ Dominant
 not_recessive Dominant h = refl
 not_recessive Recessive h = absurd (h refl)

@@ -5,3 +5,4 @@ pub mod Receiving
 pub mod Answering
 pub mod Breaking
 pub mod Completing
+pub mod Worked
