@@ -2,3 +2,11 @@ pub mod SentLines
 pub mod PlaceLemmas
 pub mod SentBits
 pub mod Sending
+pub mod Nexts
+pub mod Seen
+pub mod Faults
+pub mod Receiving
+pub mod Answering
+pub mod Breaking
+pub mod Completing
+pub mod Worked
