@@ -4,7 +4,9 @@ ghost use Rattle.std.specs.Prelude.{IfOk, IfErr};
 ghost use Rattle.sja_words.specs.Words.{request_of};
 ghost use Rattle.sja_run.specs.Answer.{IsPrinted, IsRefused};
 
+use super::decode::decoded;
 use super::encode::encoded;
+use super::filter::filtered;
 use super::refusal::Refusal;
 use sja_words::Task;
 use std::alloc::Global;
@@ -16,5 +18,12 @@ pub fn printed(alloc: Global, task: Task<'_>) -> Result<Vec<u8>, Refusal>
 {
     match task {
         Task::Encode(digits) => encoded(alloc, digits),
+        Task::Decode(digits) => decoded(alloc, digits),
+        Task::Filter {
+            single,
+            acr,
+            amr,
+            message,
+        } => filtered(alloc, single, acr, amr, message),
     }
 }

@@ -6,7 +6,10 @@
 #![tactic(auto)]
 
 mod answer;
+mod bytes_text;
+mod decode;
 mod encode;
+mod filter;
 mod line_text;
 mod message;
 mod output;

@@ -45,9 +45,9 @@ impl<W: Write> Output<W> {
             × Appends (W.contents self.old.writer) (W.contents self.new.writer) (refusal_line refusal) }
         ensures stopped { self.old.failed ≡ true → self.new ≡ self.old }
     {
-        self.put(b"sja: ");
-        self.put(refusal.text().as_bytes());
-        self.put(b"\n");
+        if !self.failed {
+            self.failed = writeln!(self.writer, "sja: {refusal}").is_err();
+        }
         1
     }
 }

@@ -1,16 +1,15 @@
--- From what the calls on a parse's matches answer to what its subcommand asks for.
-use Rattle.std.proofs.Common.{◌≡◌, ℕ, Bool, true, false, List, [], ◌∷◌, Option, Some, None, refl, codes}
+-- From what the calls on a parse's matches answer to the rows of its subcommand.
+use Rattle.std.proofs.Common.{◌≡◌, ℕ, Bool, true, false, List, [], ◌∷◌, Option, Some, None, refl}
 use Rattle.std.specs.Prelude.{option_map, option_and_then, find, slice_get, map, Box}
 use Rattle.std.specs.Str.{bytes_eq}
 use Rattle.std.specs.Box.{box_value}
 use Rattle.std.specs.Borrow.{Bor}
-use Rattle.clap.specs.Words.{Row, Text, first_of, first_value, found_of, rows_of, subcommand_rows, subcommand_rows_of, subcommand_name_of}
+use Rattle.clap.specs.Words.{Row, Text, first_of, first_value, found_of, rows_of, subcommand_rows}
 use Rattle.clap.specs.Walk.{row_of}
 use Rattle.clap.specs.declared.parser.matches.MatchedArg.{MatchedArg}
 use Rattle.clap.specs.declared.parser.matches.ArgMatches.{ArgMatches}
 use Rattle.clap.specs.declared.parser.matches.SubCommand.{SubCommand}
-use Rattle.clap.specs.declared.parser.matches.ArgMatches.TheViews.{out-ArgMatches, out-SubCommand}
-use Rattle.sja_words.specs.Words.{encode, request_in}
+use Rattle.clap.specs.declared.parser.matches.ArgMatches.TheViews.{out-SubCommand}
 
 -- the first text of a list of texts behind references
 first_now : (vs : List (Bor (List ℕ))) → slice_get (map (λ v. v.now) vs) 0 ≡ option_map (λ v. v.now) (slice_get vs 0)
@@ -30,8 +29,12 @@ first_of-entries (x ∷ xs) id = go (bytes_eq x.0.now id) refl (first_of-entries
     go true t rest = rw t (first_now x.1.vals.items)
     go false t rest = rw t rest
 
+-- the first value of an argument, in the matches and in their rows
+pub first_value-rows : (n : ArgMatches) (id : Text) → first_value (found_of n) id ≡ first_of id (rows_of (found_of n))
+first_value-rows n id = rw (first_of-entries (found_of n).entries.items id) refl
+
 -- the name and the rows of the subcommand that was found, from the two calls' answers
-found_rows : {Z : Type 0} (sub : Option (Box SubCommand Z)) (name : Text) (rows : List Row) →
+pub found_rows : {Z : Type 0} (sub : Option (Box SubCommand Z)) (name : Text) (rows : List Row) →
     Some name ≡ option_map (λ b. (out-SubCommand (box_value b)).name.now) sub →
     Some rows ≡ option_map (λ p. p.1) (subcommand_rows sub) → subcommand_rows sub ≡ Some (name, rows)
 found_rows None name rows named has = cc
@@ -39,16 +42,3 @@ found_rows (Some b) name rows named has =
     let n : name ≡ (out-SubCommand (box_value b)).name.now = cc in
     let r : rows ≡ rows_of (found_of (out-SubCommand (box_value b)).matches) = cc in
     rw (n, r) refl
-
--- the subcommand `encode` asks for the levels of its message, if it has one
-pub asked_encode : (m n : ArgMatches) (name : Text) (message : Option (Bor (List ℕ))) → Some name ≡ subcommand_name_of m →
-    Some (rows_of (found_of n)) ≡ option_map (λ p. p.1) (subcommand_rows (out-ArgMatches m).subcommand) → name ≡ codes "encode" →
-    option_map (λ s. s.now) message ≡ first_value (found_of n) (codes "MESSAGE") →
-    option_map (λ s. encode s.now) message ≡ request_in (subcommand_rows_of m)
-asked_encode m n name message named has is value =
-    let rows = found_rows (out-ArgMatches m).subcommand name (rows_of (found_of n)) named has in
-    rw (rows, is, first_of-entries (found_of n).entries.items (codes "MESSAGE"), ← value) (mapped message)
-  where
-    mapped : (o : Option (Bor (List ℕ))) → option_map (λ s. encode s.now) o ≡ option_map encode (option_map (λ s. s.now) o)
-    mapped None = refl
-    mapped (Some s) = refl

@@ -5,6 +5,7 @@
 #![tactic(auto)]
 
 mod command;
+mod found;
 mod laws;
 mod parsing;
 mod task;

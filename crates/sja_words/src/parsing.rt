@@ -1,11 +1,10 @@
-ghost use Rattle.std.specs.Prelude.{◌≡◌, map, IfOk, IfErr, option_map};
-ghost use Rattle.clap.specs.Words.{subcommand_rows_of};
-ghost use Rattle.sja_words.specs.Words.{Request, ParsesAs, request_of, request_in};
+ghost use Rattle.std.specs.Prelude.{◌≡◌, map, IfOk, IfErr};
+ghost use Rattle.sja_words.specs.Words.{Request, ParsesAs, request_of};
 
 use super::command::sja_command;
+use super::found::task_of;
 use super::task::Task;
 use super::words_fault::WordsFault;
-use clap::ArgMatches;
 use clap::error::ErrorKind;
 use std::alloc::Global;
 use std::convert::AsStr;
@@ -24,22 +23,14 @@ pub fn parse<'a, S: AsStr>(alloc: Global, words: &'a [S]) -> Result<Task<'a>, Wo
         Ok(matches) => match task_of(&matches) {
             Some(task) => Ok(task),
             None => {
-                let error = command.error(ErrorKind::MissingSubcommand, "the words name no task")?;
+                let error = command.error(
+                    ErrorKind::InvalidValue,
+                    "MODE is neither 'single' nor 'dual'",
+                )?;
                 Err(WordsFault::Unparsed(error.to_string(alloc)?))
             }
         },
         Err(error) if error.kind() == ErrorKind::OutOfMemory => Err(WordsFault::OutOfMemory),
         Err(error) => Err(WordsFault::Unparsed(error.to_string(alloc)?)),
-    }
-}
-
-/// The task of the subcommand that was found, with its arguments.
-fn task_of<'a>(matches: &ArgMatches<'a>) -> Option<Task<'a>>
-    ensures { option_map request_of result ≡ request_in (subcommand_rows_of matches.now) }
-{
-    let (name, arguments) = matches.subcommand()?;
-    match name {
-        "encode" => Some(Task::Encode(arguments.get_str("MESSAGE")?)),
-        _ => None,
     }
 }
