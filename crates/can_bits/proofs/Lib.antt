@@ -14,3 +14,4 @@ pub mod Verdicts
 pub mod Steps
 pub mod Tails
 pub mod LineLaws
+pub mod OneStuffing

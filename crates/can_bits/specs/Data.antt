@@ -1,4 +1,4 @@
--- The identifier and the data, told from a body itself (Bosch CAN 2.0 part B section 3.1.1).
+-- The identifier and the data, told from a body itself (Bosch CAN 2.0 part B section 3.2).
 use Rattle.std.specs.Prelude.{◌+◌, ◌*◌, ◌^◌, ℕ, Bool, true, false, List, slice_range}
 use Rattle.can_frame.specs.Frame.{data_count}
 use Rattle.can_bits.specs.declared.level.Level.{Level}

@@ -1,5 +1,6 @@
--- Where the fields of a body stand, told from the body itself (Bosch CAN 2.0 part B section 3.2). A level that
--- hasn't come yet counts as dominant.
+-- Where the fields of a body stand, told from a body and its check sequence, or a beginning of them (Bosch CAN 2.0
+-- part B section 3.2). A level that hasn't come yet counts as dominant: a beginning without its length code says more
+-- levels than it has all the same.
 use Rattle.std.specs.Prelude.{◌≡◌, ◌+◌, ◌*◌, ℕ, Bool, true, false, List, length, slice_index_or}
 use Rattle.can_frame.specs.Frame.{data_count}
 use Rattle.can_bits.specs.declared.level.Level.{Level}
@@ -42,11 +43,12 @@ four_from w place =
 abbrev pub says_dlc : List Level → ℕ
 says_dlc w = four_from w (dlc_place (says_ext w))
 
--- how many levels the body and its check sequence have, by what they say
+-- how many levels the body and its check sequence have, by what they say: up to the length code, its 4, the data, 15
 abbrev pub says_count : List Level → ℕ
 says_count w = dlc_place (says_ext w) + 19 + 8 * data_count (says_rtr w) (says_dlc w)
 
--- w begins with a start of frame and has as many levels as it says
+-- w begins with a start of frame and has as many levels as it says: these are the bodies with a check sequence of any
+-- frame
 pub record IsWhole (w : List Level) : Type 0 where
   pub begins : level_at w 0 ≡ Dominant
   pub count : length w ≡ says_count w

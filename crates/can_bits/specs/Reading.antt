@@ -24,7 +24,7 @@ pub record Begins (l : List Level) : Type 0 where
   pub rest : List Level
   pub line : Line frame body check ack (l ++ rest)
 
--- the stuffed part of some line has come whole
+-- the levels begin with the whole stuffed part of some line
 pub record IsPastPart (l : List Level) : Type 0 where
   pub frame : FrameValue
   pub body : List Level
@@ -56,7 +56,7 @@ pub record BreaksAfter (front l : List Level) : Type 0 where
   pub whole : l ≡ front ++ wrong ∷ rest
   pub none : ¬ Begins (front ++ wrong ∷ [])
 
--- the next level belongs to the stuffed part, after the start of frame
+-- where the levels so far begin a line: the next one belongs to the stuffed part, after the start of frame
 pub record IsInPart (front : List Level) : Type 0 where
   pub begun : front ≢ []
   pub before_end : ¬ IsPastPart front
@@ -105,7 +105,7 @@ abbrev pub SaysWhetherRight : Bool → List Level → List Level → Type 0
 SaysWhetherRight true b c = Crc b c
 SaysWhetherRight false b c = ¬ Crc b c
 
--- the list is empty or begins with a dominant level
+-- the levels begin with a dominant one, as far as they have come: there is none, or the first is dominant
 abbrev pub BeginsDominant : List Level → Type 0
 BeginsDominant [] = Unit {0}
 BeginsDominant (Dominant ∷ l) = Unit {0}

@@ -4,7 +4,7 @@ use Rattle.can_frame.specs.Frame.{FrameValue, IsFrame}
 use Rattle.can_bits.specs.declared.level.Level.{Level}
 use Rattle.can_bits.specs.Body.{IsBody}
 
--- w is a body b of the frame f and then a check sequence c, right or wrong
+-- the frame f is spelt by w: a body b of it and then a check sequence c, right or wrong
 pub record Spells (f : FrameValue) (b c w : List Level) : Type 0 where
   pub frame : IsFrame f
   pub body : IsBody f b

@@ -5,7 +5,7 @@ ghost use Rattle.can_bits.specs.declared.level.Level.{Level};
 ghost use Rattle.can_bits.specs.Check.{Crc};
 ghost use Rattle.can_frame.specs.Frame.{FrameValue};
 ghost use Rattle.can_bits.specs.Stuffing.{Stuffed, HasNoSixEqual};
-ghost use Rattle.can_bits.specs.Line.{StuffedPart, Line};
+ghost use Rattle.can_bits.specs.Line.{StuffedPart, Line, IsSentLine};
 ghost use Rattle.can_bits.specs.Reading.{BeginsDominant, IsPastPart, IsOpen};
 
 /// Every list of levels has exactly one check sequence.
@@ -16,6 +16,16 @@ pub fn a_list_has_one_check_sequence()
 /// A stuffed list is the stuffing of exactly one list.
 pub fn a_stuffed_list_stuffs_one_list()
     ensures { (w v s : List Level) → Stuffed w s → Stuffed v s → w ≡ v }
+{}
+
+/// A list has at most one stuffing.
+pub fn a_list_has_one_stuffing()
+    ensures { (w s t : List Level) → Stuffed w s → Stuffed w t → s ≡ t }
+{}
+
+/// A frame has at most one sent line.
+pub fn a_frame_has_one_sent_line()
+    ensures { (f : FrameValue) (l m : List Level) → IsSentLine f l → IsSentLine f m → l ≡ m }
 {}
 
 /// Levels that begin dominant, have no six equal ones in a row and aren't past a whole stuffed part can go on to a line.

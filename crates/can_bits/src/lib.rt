@@ -20,8 +20,9 @@ mod tail;
 
 pub use crc::crc_of;
 pub use laws::{
-    a_good_beginning_can_go_on, a_list_has_one_check_sequence, a_stuffed_list_stuffs_one_list,
-    a_stuffed_part_says_where_it_ends, lines_with_the_same_levels_are_of_one_frame,
+    a_frame_has_one_sent_line, a_good_beginning_can_go_on, a_list_has_one_check_sequence,
+    a_list_has_one_stuffing, a_stuffed_list_stuffs_one_list, a_stuffed_part_says_where_it_ends,
+    lines_with_the_same_levels_are_of_one_frame,
 };
 pub use level::Level;
 pub use line::line_of;

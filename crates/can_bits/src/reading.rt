@@ -23,8 +23,8 @@ const CHECK: usize = 15;
 /// line begins; [`LineFault::Crc`] for a wrong check sequence, judged after its delimiter; [`LineFault::NoAck`] for a
 /// recessive acknowledgement slot; [`LineFault::Truncated`] where the levels end before the line does;
 /// [`LineFault::Trailing`] where they go on after it. Reserved bits and SRR are taken at either level, and all seven
-/// bits of the end of frame are recessive (Bosch CAN 2.0 part B section 3.2; ISO 11898-1). The order is this project's
-/// own rule.
+/// bits of the end of frame are recessive (Bosch CAN 2.0 part B section 3.2; ISO 11898-1). The order, and that the last
+/// bit of the end of frame counts too, are this project's own rule.
 pub fn read_line(levels: &[Level]) -> Result<Frame, LineFault>
     ensures frame { IfOk result (λ f. IsReceived f levels.now) }
     ensures fault { IfErr result (IsFirstFault levels.now) }

@@ -12,6 +12,7 @@ use Rattle.can_node.specs.Table.{Row}
 use Rattle.can_node.specs.Table.Row.{idle, other, own, other_begun, own_begun}
 use Rattle.can_node.proofs.Heard.{recessive-other}
 use Rattle.can_node.proofs.Apart.{AreOne, joining_once, after_reception_once, flagging_once, after_flag_once, pausing_once}
+use Rattle.can_node.proofs.Nexts.{IsNext-unique}
 use Rattle.can_node.proofs.Receiving.{hears_once}
 use Rattle.can_node.proofs.Sending.{sends_once}
 
@@ -44,7 +45,7 @@ sends_alike : (c : Context) (spot : Spot) (request another : Request) (a b x y :
 sends_alike c spot request another a b x y p q n m h k s t e =
     let same = one_request (sent_at c spot) request another h k in
     let P : Request → Type 0 = λ r. Sends c.self_test r b q m in
-    sends_once c.self_test request a b x y p q n m s (subst P same t) e
+    sends_once hears_once IsNext-unique c.self_test request a b x y p q n m s (subst P same t) e
 
 -- at an idle place: the bus stays idle, or another node's frame or an own one begins
 at_idle_once : (c : Context) (a b x y : List Bit) (p q : Piece) (n m : Spot) →

@@ -1,42 +1,19 @@
 -- A stuff error in the stuffed part of a frame, as a receiver has it that acknowledges nothing so far.
-use Rattle.std.proofs.Common.{◌≡◌, Bool, true, false, inl, inr, List, [], ◌∷◌, ◌++◌, reverse, refl, ap, sym, subst, ◌∙◌, arith, append_assoc}
-use Rattle.std.proofs.lemmas.List.{reverse-reverse, length-append, map-append, same_from_push}
+use Rattle.std.proofs.Common.{◌≡◌, Bool, true, false, inl, inr, List, [], ◌∷◌, ◌++◌, refl, ap, sym, subst, ◌∙◌, append_assoc}
+use Rattle.std.proofs.lemmas.List.{map-append, same_from_push}
 use Rattle.can_bits.specs.declared.level.Level.{Level}
-use Rattle.can_bits.specs.declared.level.Level.TheVariants.{Dominant, Recessive}
+use Rattle.can_bits.specs.declared.level.Level.TheVariants.{Recessive}
 use Rattle.can_bits.specs.declared.segment.Segment.{Segment}
-use Rattle.can_bits.specs.Line.{StuffedPart, Line, tail}
+use Rattle.can_bits.specs.Line.{Line}
 use Rattle.can_bits.specs.Reading.{Begins, IsPastPart}
 use Rattle.can_bits.specs.Segments.{IsNext}
 use Rattle.can_bits.proofs.Lists.{last_of}
-use Rattle.can_bits.proofs.Going.{IsInside, part_begun}
 use Rattle.can_node.specs.declared.cause.Cause.{Cause}
 use Rattle.can_node.specs.declared.cause.Cause.TheVariants.{Stuff as StuffError}
 use Rattle.can_node.specs.Bits.{Bit, heard, forced, hears, seen_of}
 use Rattle.can_node.proofs.Heard.{no_forced, seen_heard, seen_both}
 use Rattle.can_node.specs.Frames.{IsAckDue, Answers, AllAnswer, IsWithin, Breaks, BreaksOff}
 use Rattle.can_node.specs.Frames.Breaks.{stuff, form, check, own_ack}
-
--- where less than the stuffed part has come, a line goes on and has ten levels more at least
-pub within : (l : List Level) → IsInside (reverse l) → IsWithin l
-within l h =
-    let (f, b, c, later, part) = part_begun (reverse l) h.short h.begins h.fits in
-    let Q : List Level → Type 0 = λ p. StuffedPart f b c (p ++ later) in
-    let long = length-append later (tail Dominant) in
-    record {
-      begun = record {
-        frame = f;
-        body = b;
-        check = c;
-        ack = Dominant;
-        rest = later ++ tail Dominant;
-        line = record {
-          part = l ++ later;
-          is_part = subst Q (reverse-reverse l) part;
-          whole = sym (append_assoc l later (tail Dominant));
-        };
-      };
-      long = omega (arith, long);
-    }
 
 -- a line that begins with levels begins with a front of them
 pub begins_front : (p q : List Level) → Begins (p ++ q) → Begins p
@@ -141,7 +118,8 @@ not_before l before last unended begun front rest cause e h =
 
 -- the receiver's fault: within the stuffed part a line goes on with the levels before the last one, and none with that one
 pub stuff_fault : (listen : Bool) (l before : List Level) (last : Level) (segment : Segment) (stuffed : Bool) →
-    IsWithin (l ++ before) → (IsPastPart (l ++ before) → ⊥) → (Begins (l ++ (before ++ last ∷ [])) → ⊥) → IsNext (l ++ before) segment stuffed →
+    IsWithin (l ++ before) → (IsPastPart (l ++ before) → ⊥) → (Begins (l ++ (before ++ last ∷ [])) → ⊥) →
+    IsNext (l ++ before) segment stuffed →
     BreaksOff listen l (hears (before ++ last ∷ [])) StuffError segment
 stuff_fault listen l before last segment stuffed early unended dead next =
     let Early : List Level → Type 0 = λ t. IsWithin (l ++ t) in

@@ -1,6 +1,6 @@
 -- A record and its cut: a node starts, sees eleven recessive levels, and then six dominant ones. The sixth is a stuff
 -- error in the identifier.
-use Rattle.std.proofs.Common.{◌≡◌, true, false, List, [], ◌∷◌, ◌++◌, map, length, replicate, refl, sym, subst, ◌∙◌, ap, append_assoc, arith, None}
+use Rattle.std.proofs.Common.{◌≡◌, Bool, true, false, List, [], ◌∷◌, ◌++◌, map, length, replicate, refl, sym, subst, ◌∙◌, ap, append_assoc, arith, None}
 use Rattle.can_bits.specs.declared.level.Level.TheVariants.{Dominant, Recessive}
 use Rattle.can_bits.specs.declared.segment.Segment.TheVariants.{Id28To21}
 use Rattle.can_bits.specs.Fields.{says_count}
@@ -14,7 +14,9 @@ use Rattle.can_bits.proofs.Ending.{inside_not_past, no_sixth}
 use Rattle.can_node.specs.declared.cause.Cause.TheVariants.{Stuff as StuffError}
 use Rattle.can_node.specs.declared.config.Config.{Config}
 use Rattle.can_node.specs.Bits.{heard, hears}
-use Rattle.can_node.specs.Context.{fresh}
+use Rattle.can_node.specs.Context.{Context, fresh}
+use Rattle.can_node.specs.Pieces.{sent_at}
+use Rattle.can_node.specs.Table.{Row}
 use Rattle.can_node.specs.Pieces.Spot.{AtIdle, Flagging}
 use Rattle.can_node.specs.Pieces.FaultPlace.{InReception}
 use Rattle.can_node.specs.Pieces.Piece.{Join, Fault}
@@ -30,7 +32,8 @@ use Rattle.can_node.specs.Cut.IsOpenAt.{nothing}
 use Rattle.can_node.specs.Cut.Move.{started}
 use Rattle.can_node.specs.Cut.From.{here, on}
 use Rattle.can_node.proofs.Computed.{short_by}
-use Rattle.can_node.proofs.StuffFaults.{within, stuff_fault}
+use Rattle.can_node.proofs.StuffFaults.{stuff_fault}
+use Rattle.can_node.proofs.Completing.{inside_within}
 use Rattle.can_node.proofs.Slices.{by_bits, joins}
 
 -- five dominant levels are the beginning of a stuffed part
@@ -46,9 +49,9 @@ five_inside =
     }
 
 -- the sixth is a stuff error of a receiver, however many it saw before these bits
-pub sixth_breaks : (l before : List Level) → l ++ before ≡ replicate 5 Dominant →
-    BreaksOff false l (hears (before ++ Dominant ∷ [])) StuffError Id28To21
-sixth_breaks l before e =
+pub sixth_breaks : (listen : Bool) (l before : List Level) → l ++ before ≡ replicate 5 Dominant →
+    BreaksOff listen l (hears (before ++ Dominant ∷ [])) StuffError Id28To21
+sixth_breaks listen l before e =
     let Within : List Level → Type 0 = λ t. IsWithin t in
     let Past : List Level → Type 0 = λ t. IsPastPart t in
     let Starts : List Level → Type 0 = λ t. Begins t in
@@ -59,18 +62,23 @@ sixth_breaks l before e =
     stuff_bit (replicate 5 Dominant) (is_unstuffed (replicate 5 Dominant)) ([], Dominant, refl) unended in
     let all : l ++ (before ++ Dominant ∷ []) ≡ replicate 5 Dominant ++ Dominant ∷ [] =
     sym (append_assoc l before (Dominant ∷ [])) ∙ ap (λ t. t ++ Dominant ∷ []) e in
-    stuff_fault false l before Dominant Id28To21 true
-    (subst Within (sym e) (within (replicate 5 Dominant) five_inside))
+    stuff_fault listen l before Dominant Id28To21 true
+    (subst Within (sym e) (inside_within (replicate 5 Dominant) five_inside))
     (λ past. unended (subst Past e past))
     (λ begun. no_sixth (replicate 5 Dominant) Dominant five_inside (omega (arith, six)) (subst Starts all begun))
     (subst Next (sym e) next)
+
+-- so six dominant bits are a fault where no request is sent
+pub six_dominant : (c : Context) → sent_at c AtIdle ≡ None →
+    Row c AtIdle (hears (replicate 6 Dominant)) (Fault InReception StuffError Id28To21) Flagging
+six_dominant c idle = other idle (broken (sixth_breaks c.listen (Dominant ∷ []) (replicate 4 Dominant) refl))
 
 -- the six dominant bits
 breaks : Move fresh AtIdle (map Took (hears (replicate 6 Dominant))) (Fault InReception StuffError Id28To21 ∷ [])
     (record fresh { rec = 1 }) Flagging
 breaks =
     by_bits fresh AtIdle Flagging (Fault InReception StuffError Id28To21) (heard Dominant) (hears (replicate 5 Dominant))
-    (other refl (broken (sixth_breaks (Dominant ∷ []) (replicate 4 Dominant) refl))) (omega arith)
+    (six_dominant fresh refl) (omega arith)
 
 -- the record
 abbrev pub record_of_fault : Config → List Entry

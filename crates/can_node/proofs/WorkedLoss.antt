@@ -97,7 +97,7 @@ loses =
       driven = refl;
       seen = refl;
     })
-    refl refl first_place (broken (sixth_breaks (Dominant ∷ Dominant ∷ []) (replicate 3 Dominant) refl))
+    refl refl first_place (broken (sixth_breaks false (Dominant ∷ Dominant ∷ []) (replicate 3 Dominant) refl))
 
 -- the context with the request
 abbrev waiting : Context

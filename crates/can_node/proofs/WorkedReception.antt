@@ -3,7 +3,6 @@
 use Rattle.std.proofs.Common.{◌≡◌, false, List, [], ◌∷◌, ◌++◌, map, replicate, refl, arith, None}
 use Rattle.can_bits.specs.declared.level.Level.{Level}
 use Rattle.can_bits.specs.declared.level.Level.TheVariants.{Dominant, Recessive}
-use Rattle.can_bits.specs.Body.{sent_body}
 use Rattle.can_bits.specs.Digits.{bits}
 use Rattle.can_node.specs.declared.config.Config.{Config}
 use Rattle.can_node.specs.Bits.{Bit, heard, forced, hears}
@@ -11,7 +10,6 @@ use Rattle.can_node.specs.Context.{fresh}
 use Rattle.can_node.specs.Pieces.Spot.{AtIdle, AfterReception, Pausing}
 use Rattle.can_node.specs.Pieces.Piece.{Join, Reception, Last, Pause}
 use Rattle.can_node.specs.Frames.{Hears}
-use Rattle.can_node.specs.Frames.Hears.{reception}
 use Rattle.can_node.specs.Record.{Entry}
 use Rattle.can_node.specs.Record.Entry.{Start, Took}
 use Rattle.can_node.specs.Table.Row.{other, last, pause}
@@ -19,9 +17,9 @@ use Rattle.can_node.specs.Cut.{Move, Found, IsCut, received}
 use Rattle.can_node.specs.Cut.IsOpenAt.{nothing}
 use Rattle.can_node.specs.Cut.Move.{started}
 use Rattle.can_node.specs.Cut.From.{here, on}
-use Rattle.can_node.proofs.Acknowledging.{acknowledges}
+use Rattle.can_node.proofs.Answering.{line_received}
 use Rattle.can_node.proofs.Slices.{by_bits, joins}
-use Rattle.can_node.proofs.WorkedSender.{asked, zeros, five, part, part_sent}
+use Rattle.can_node.proofs.WorkedSender.{asked, five, part, part_sent}
 
 -- what follows the start of frame in its stuffed part
 abbrev later : List Level
@@ -35,9 +33,7 @@ answered = hears later ++ (heard Recessive ∷ forced Dominant ∷ hears (replic
 -- they are a reception of the frame with the identifier 0
 hears_it : Hears false (Dominant ∷ []) answered (Reception asked.frame) AfterReception
 hears_it =
-    reception (sent_body asked.frame) zeros Dominant
-    (acknowledges asked.frame (sent_body asked.frame) zeros part part_sent.is_part part_sent.right (Dominant ∷ []) later 7 refl)
-    (record { part = part; is_part = part_sent.is_part; whole = refl }) part_sent.right refl
+    line_received false (Dominant ∷ []) (later ++ Recessive ∷ []) part Dominant part_sent.is_part part_sent.right refl refl
 
 -- the frame; the acknowledgement leaves the counter at 0
 receives : Move fresh AtIdle (map Took (heard Dominant ∷ answered)) (Reception asked.frame ∷ []) fresh AfterReception

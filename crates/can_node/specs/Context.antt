@@ -37,8 +37,16 @@ pub record Context : Type 0 where
 -- before anything happened
 abbrev pub fresh : Context
 fresh = record {
-  listen = false; self_test = false; held = None; aborted = false; role = Receiver;
-  tec = 0; rec = 0; off = false; flag = ActiveError; late = false
+  listen = false;
+  self_test = false;
+  held = None;
+  aborted = false;
+  role = Receiver;
+  tec = 0;
+  rec = 0;
+  off = false;
+  flag = ActiveError;
+  late = false;
 }
 
 abbrev pub is_transmitter : Role → Bool

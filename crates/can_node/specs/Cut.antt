@@ -1,5 +1,5 @@
 -- A record cut into pieces.
-use Rattle.std.specs.Prelude.{◌≡◌, ◌≢◌, ◌+◌, ◌<◌, ◌≤◌, ℕ, Option, Some, None, List, [], ◌∷◌, ◌++◌, map}
+use Rattle.std.specs.Prelude.{◌≢◌, ◌+◌, ◌<◌, ◌≤◌, ℕ, Option, Some, None, List, [], ◌∷◌, ◌++◌, map}
 use Rattle.can_frame.specs.Frame.{FrameValue}
 use Rattle.can_bits.specs.declared.level.Level.{Level}
 use Rattle.can_node.specs.declared.config.Config.{Config}
@@ -34,21 +34,21 @@ Stays c = c.tec < 256
 -- what may come next at a place: these entries, with a piece or none, and the context and the place after them
 pub data Move (c : Context) : Spot → List Entry → List Piece → Context → Spot → Type 0 where
   piece : {spot next : Spot} {p : Piece} (slice : List Entry) →
-    IsSlice slice → Row c spot (bits_in slice) p next → Stays (after c spot slice p next) → Move c spot slice (p ∷ []) (after c spot slice p next) next
+      IsSlice slice → Row c spot (bits_in slice) p next → Stays (after c spot slice p next) → Move c spot slice (p ∷ []) (after c spot slice p next) next
   -- requests and aborts between pieces
   sent : {spot : Spot} (request : Request) → spot ≢ Resting → Move c spot (Send request ∷ []) [] (with_send request c) spot
   aborted : {spot : Spot} → spot ≢ Resting → Move c spot (Abort ∷ []) [] (with_abort spot c) spot
   -- reset is left by a start, and any place by a stop
   started : (config : Config) (l : List Level) → Move c Resting (map Took (hears l) ++ Start config ∷ []) [] (with_start config c) Joining
   stopped : {spot : Spot} (slice : List Entry) → IsOpenAt c spot slice → Stays (along c spot [] slice) →
-    Move c spot (slice ++ Stop ∷ []) [] (with_stop (along c spot [] slice)) Resting
+      Move c spot (slice ++ Stop ∷ []) [] (with_stop (along c spot [] slice)) Resting
   -- bus-off comes right after the bit in which the transmit error counter reaches 256, within a piece or at its end
   off_within : {spot : Spot} (slice : List Entry) →
-    IsSlice slice → IsUnfinished c spot (bits_in slice) → 256 ≤ (along c spot [] slice).tec →
-    Move c spot (slice ++ Off ∷ []) [] (with_off (along c spot [] slice)) Resting
+      IsSlice slice → IsUnfinished c spot (bits_in slice) → 256 ≤ (along c spot [] slice).tec →
+      Move c spot (slice ++ Off ∷ []) [] (with_off (along c spot [] slice)) Resting
   off_after : {spot next : Spot} {p : Piece} (slice : List Entry) →
-    IsSlice slice → Row c spot (bits_in slice) p next → 256 ≤ (after c spot slice p next).tec →
-    Move c spot (slice ++ Off ∷ []) (p ∷ []) (with_off (after c spot slice p next)) Resting
+      IsSlice slice → Row c spot (bits_in slice) p next → 256 ≤ (after c spot slice p next).tec →
+      Move c spot (slice ++ Off ∷ []) (p ∷ []) (with_off (after c spot slice p next)) Resting
 
 -- how many starts and how many bits came so far
 pub record Count : Type 0 where
@@ -82,8 +82,8 @@ tagged k (p ∷ ps) = (record { piece = p; activation = k.starts; bits = k.bits 
 pub data From : Count → Context → Spot → List Entry → List Found → Context → Spot → List Entry → Type 0 where
   here : {k : Count} {c : Context} {spot : Spot} {slice : List Entry} → IsOpenAt c spot slice → Stays (along c spot [] slice) → From k c spot slice [] c spot slice
   on : {k : Count} {c next end : Context} {spot place last : Spot} {entries more rest : List Entry} {ps : List Piece} {qs : List Found} →
-    Move c spot entries ps next place → From (counted k entries) next place more qs end last rest →
-    From k c spot (entries ++ more) (tagged (counted k entries) ps ++ qs) end last rest
+      Move c spot entries ps next place → From (counted k entries) next place more qs end last rest →
+      From k c spot (entries ++ more) (tagged (counted k entries) ps ++ qs) end last rest
 
 -- nothing came yet
 abbrev pub none_yet : Count

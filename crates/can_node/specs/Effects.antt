@@ -1,5 +1,5 @@
 -- What a request, an abort, a start, a stop, bus-off and the end of a piece change in the context.
-use Rattle.std.specs.Prelude.{◌-◌, ◌&&◌, ◌||◌, not, ℕ, Bool, true, false, if◌then◌else◌, Option, Some, None, List, [], ◌∷◌, ◌++◌}
+use Rattle.std.specs.Prelude.{◌-◌, ◌&&◌, ◌||◌, not, Bool, true, false, if◌then◌else◌, Option, Some, None, List, [], ◌∷◌, ◌++◌}
 use Rattle.can_node.specs.declared.cause.Cause.{Cause}
 use Rattle.can_node.specs.declared.cause.Cause.TheVariants.{Bit as BitError, Stuff as StuffError, Form as FormError, Crc as CheckError, Ack as AckError}
 use Rattle.can_node.specs.declared.config.Config.{Config}

@@ -1,5 +1,5 @@
 -- What a bit brings.
-use Rattle.std.specs.Prelude.{◌&&◌, not, ℕ, Bool, true, false, nat_le, if◌then◌else◌, Option, Some, None, List, [], ◌∷◌}
+use Rattle.std.specs.Prelude.{◌&&◌, not, ℕ, Bool, true, false, nat_le, if◌then◌else◌, Option, Some, None, List, ◌∷◌}
 use Rattle.can_frame.specs.Frame.{FrameValue}
 use Rattle.can_bits.specs.declared.level.Level.{Level}
 use Rattle.can_bits.specs.declared.level.Level.TheVariants.{Dominant}
@@ -103,5 +103,5 @@ events_of step c spot done b =
       fault = fault_in step;
       receiving = not (is_transmitter now.role);
       went_off = nat_le 256 now.tec;
-      recovered = c.off && not now.off
+      recovered = c.off && not now.off;
     }

@@ -15,7 +15,7 @@ use Rattle.can_node.specs.declared.cause.Cause.{Cause}
 use Rattle.can_node.specs.declared.cause.Cause.TheVariants.{Bit as BitError, Stuff as StuffError, Form as FormError, Crc as CheckError, Ack as AckError}
 use Rattle.can_node.specs.declared.request.Request.{Request}
 use Rattle.can_node.specs.Bits.{Bit, heard, forced, seen_of, driven_of}
-use Rattle.can_node.specs.Pieces.{Spot, Piece, FaultPlace}
+use Rattle.can_node.specs.Pieces.{Spot, Piece}
 use Rattle.can_node.specs.Pieces.Spot.{AfterReception, Flagging, Pausing}
 use Rattle.can_node.specs.Pieces.FaultPlace.{InSending, InReception}
 use Rattle.can_node.specs.Pieces.Piece.{Reception, Sending, Fault}
@@ -79,9 +79,9 @@ pub record BreaksOff (listen : Bool) (l : List Level) (bits : List Bit) (cause :
 pub data Hears (listen : Bool) (l : List Level) : List Bit → Piece → Spot → Type 0 where
   -- all of a line with a right check sequence but its last level
   reception : {bits : List Bit} {f : FrameValue} (b c : List Level) (ack : Level) →
-    AllAnswer listen l bits → Line f b c ack ((l ++ seen_of bits) ++ Recessive ∷ []) → Crc b c → AckFits listen ack → Hears listen l bits (Reception f) AfterReception
+      AllAnswer listen l bits → Line f b c ack ((l ++ seen_of bits) ++ Recessive ∷ []) → Crc b c → AckFits listen ack → Hears listen l bits (Reception f) AfterReception
   broken : {bits : List Bit} {cause : Cause} {segment : Segment} →
-    BreaksOff listen l bits cause segment → Hears listen l bits (Fault InReception cause segment) Flagging
+      BreaksOff listen l bits cause segment → Hears listen l bits (Fault InReception cause segment) Flagging
 
 -- part is the stuffed part of the line that a transmitter of f sends, whose check sequence is c
 pub record SentPart (f : FrameValue) (c part : List Level) : Type 0 where
@@ -111,14 +111,14 @@ pub data Fails (self_test ext : Bool) (part : List Level) (before : List Bit) : 
 -- a transmitter's piece, from the start of its frame on
 pub data Sends (self_test : Bool) (request : Request) : List Bit → Piece → Spot → Type 0 where
   sending : {bits : List Bit} (c part : List Level) (ack : Level) →
-    SentPart request.frame c part → AckFits self_test ack → driven_of bits ≡ part ++ tail Recessive → seen_of bits ≡ part ++ tail ack →
-    Sends self_test request bits (Sending request) Pausing
+      SentPart request.frame c part → AckFits self_test ack → driven_of bits ≡ part ++ tail Recessive → seen_of bits ≡ part ++ tail ack →
+      Sends self_test request bits (Sending request) Pausing
   failed : {bits : List Bit} {cause : Cause} {segment : Segment} (c part rest : List Level) (before : List Bit) (last : Bit) (stuffed : Bool) →
-    SentPart request.frame c part → GoesWell self_test part before → bits ≡ before ++ last ∷ [] → part ++ tail Recessive ≡ driven_of bits ++ rest →
-    Fails self_test request.frame.ext part before last cause → IsNext (seen_of before) segment stuffed →
-    Sends self_test request bits (Fault InSending cause segment) Flagging
+      SentPart request.frame c part → GoesWell self_test part before → bits ≡ before ++ last ∷ [] → part ++ tail Recessive ≡ driven_of bits ++ rest →
+      Fails self_test request.frame.ext part before last cause → IsNext (seen_of before) segment stuffed →
+      Sends self_test request bits (Fault InSending cause segment) Flagging
   -- it loses arbitration where it drives recessive and sees dominant, and goes on as receiver
   lost : {bits : List Bit} {piece : Piece} {next : Spot} (c part rest : List Level) (before more : List Bit) (code : ℕ) →
-    SentPart request.frame c part → GoesWell self_test part before → bits ≡ before ++ heard Dominant ∷ more →
-    part ++ tail Recessive ≡ (driven_of before ++ Recessive ∷ []) ++ rest → place_code request.frame.ext (seen_of before) ≡ Some code →
-    Hears false (seen_of before ++ Dominant ∷ []) more piece next → Sends self_test request bits piece next
+      SentPart request.frame c part → GoesWell self_test part before → bits ≡ before ++ heard Dominant ∷ more →
+      part ++ tail Recessive ≡ (driven_of before ++ Recessive ∷ []) ++ rest → place_code request.frame.ext (seen_of before) ≡ Some code →
+      Hears false (seen_of before ++ Dominant ∷ []) more piece next → Sends self_test request bits piece next

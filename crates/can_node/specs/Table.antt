@@ -10,7 +10,7 @@ use Rattle.can_node.specs.declared.request.Request.{Request}
 use Rattle.can_node.specs.Bits.{Bit, heard, forced, hears, forces, IsFirst}
 use Rattle.can_node.specs.Context.{Context, FlagKind, owes_suspension, pause_count, flag_level, join_count}
 use Rattle.can_node.specs.Context.FlagKind.{ActiveError, PassiveError, Overload}
-use Rattle.can_node.specs.Pieces.{Spot, Piece, FaultPlace, sent_at}
+use Rattle.can_node.specs.Pieces.{Spot, Piece, sent_at}
 use Rattle.can_node.specs.Pieces.Spot.{Joining, AtIdle, SofSeen, AfterReception, Flagging, AfterFlag, Pausing}
 use Rattle.can_node.specs.Pieces.FaultPlace.{InFlag, InDelimiter}
 use Rattle.can_node.specs.Pieces.Piece.{Join, Idle, Fault, Last, Flag, Tail, Pause, PauseWithSof, PauseBroken}
@@ -38,14 +38,14 @@ pub data Row (c : Context) : Spot → List Bit → Piece → Spot → Type 0 whe
   idle : sent_at c AtIdle ≡ None → Row c AtIdle (heard Recessive ∷ []) Idle AtIdle
   -- another node's frame, and an own one, from its start on
   other : {bits : List Bit} {piece : Piece} {next : Spot} →
-    sent_at c AtIdle ≡ None → Hears c.listen (Dominant ∷ []) bits piece next → Row c AtIdle (heard Dominant ∷ bits) piece next
+      sent_at c AtIdle ≡ None → Hears c.listen (Dominant ∷ []) bits piece next → Row c AtIdle (heard Dominant ∷ bits) piece next
   own : {request : Request} {bits : List Bit} {piece : Piece} {next : Spot} →
-    sent_at c AtIdle ≡ Some request → Sends c.self_test request bits piece next → Row c AtIdle bits piece next
+      sent_at c AtIdle ≡ Some request → Sends c.self_test request bits piece next → Row c AtIdle bits piece next
   -- the same where the start of the frame was the last bit of a pause, from its second level on
   other_begun : {bits : List Bit} {piece : Piece} {next : Spot} →
-    sent_at c SofSeen ≡ None → Hears c.listen (Dominant ∷ []) bits piece next → Row c SofSeen bits piece next
+      sent_at c SofSeen ≡ None → Hears c.listen (Dominant ∷ []) bits piece next → Row c SofSeen bits piece next
   own_begun : {request : Request} {bits : List Bit} {piece : Piece} {next : Spot} →
-    sent_at c SofSeen ≡ Some request → Sends c.self_test request (forced Dominant ∷ bits) piece next → Row c SofSeen bits piece next
+      sent_at c SofSeen ≡ Some request → Sends c.self_test request (forced Dominant ∷ bits) piece next → Row c SofSeen bits piece next
   -- the seventh bit of the end of a received frame
   last : Row c AfterReception (heard Recessive ∷ []) Last Pausing
   last_overload : Row c AfterReception (heard Dominant ∷ []) Last Flagging

@@ -1,0 +1,30 @@
+//! The program `sja`: the arguments and the standard streams, handed to [`sja_serial`].
+#![tactic(auto)]
+
+use sja_run::{Output, Refusal, sja_serial};
+use std::env;
+use std::io::ErrorKind;
+use std::process::ExitCode;
+
+/// What the parser says of an argument that is no text.
+const NO_TEXT: &str = "error: invalid UTF-8 was detected in one or more arguments\n";
+
+/// Answers the exit status: 0 for done, 1 for refused, 2 for words that don't parse.
+fn main(rt: HostRuntime) -> ExitCode {
+    let mut out = Output::new(rt.stdout());
+    let mut err = Output::new(rt.stderr());
+    let status = match env::args(&rt) {
+        Ok(args) => match args.collect::<Vec<String>>(rt.alloc()) {
+            Ok(words) => sja_serial(rt.alloc(), &words, &mut rt.stdin(), &mut out, &mut err),
+            Err(_) => Some(err.refuse(Refusal::OutOfMemory)),
+        },
+        Err(error) if error.kind() == ErrorKind::OutOfMemory => Some(err.refuse(
+            Refusal::OutOfMemory,
+        )),
+        Err(_) => {
+            err.put(NO_TEXT.as_bytes());
+            Some(2)
+        }
+    };
+    ExitCode::from(status.unwrap_or(1))
+}

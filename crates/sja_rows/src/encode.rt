@@ -1,0 +1,90 @@
+//! `encode MESSAGE`.
+
+use super::row::{Row, Want, gives};
+
+/// The line of the standard data frame with identifier 0 and no data.
+const LEAST: &str = "00000100000100000100000100000100000100001111111111\n";
+
+/// The line of the standard data frame with identifier 0x123 and the data 11 22.
+const TWO_BYTES: &str = "00010010001100000110000100010010001000001100101101111111111111\n";
+
+/// The line of the extended remote frame with identifier 0x1FFF_FFFF and length code 3.
+const REMOTE: &str = "01111101111101111101111101111101111101100001111001000111110111111111111\n";
+
+#[test]
+fn encode_prints_the_line_of_a_frame(rt: HostRuntime) {
+    let rows: [Row; 5] = [
+        (&["sja", "encode", "000000"], Want::Text(LEAST)),
+        (&["another name", "encode", "000000"], Want::Text(LEAST)),
+        (&["sja", "encode", "0224601122"], Want::Text(TWO_BYTES)),
+        (&["sja", "encode", "c3fffffffc"], Want::Text(REMOTE)),
+        (&["sja", "encode", "C3FFfffFFC"], Want::Text(REMOTE)),
+    ];
+    for (words, want) in rows {
+        assert!(rt; gives(rt.alloc(), words, want), "{words:?}");
+    }
+}
+
+#[test]
+fn encode_refuses_what_spells_no_message(rt: HostRuntime) {
+    let rows: [Row; 9] = [
+        (
+            &["sja", "encode", "0024"],
+            Want::Refusal("sja: layout fault 1 Short\n"),
+        ),
+        (
+            &["sja", "encode", ""],
+            Want::Refusal("sja: layout fault 1 Short\n"),
+        ),
+        (
+            &["sja", "encode", "00246000"],
+            Want::Refusal("sja: layout fault 2 Long\n"),
+        ),
+        (
+            &["sja", "encode", "102460"],
+            Want::Refusal("sja: layout fault 3 UnusedBit\n"),
+        ),
+        (
+            &["sja", "encode", "402460"],
+            Want::Refusal("sja: layout fault 4 RtrDisagrees\n"),
+        ),
+        (
+            &["sja", "encode", "000"],
+            Want::Refusal("sja: not hexadecimal\n"),
+        ),
+        (
+            &["sja", "encode", "00000g"],
+            Want::Refusal("sja: not hexadecimal\n"),
+        ),
+        (
+            &["sja", "encode", "00 00 00"],
+            Want::Refusal("sja: not hexadecimal\n"),
+        ),
+        (
+            &["sja", "encode", "0x000000"],
+            Want::Refusal("sja: not hexadecimal\n"),
+        ),
+    ];
+    for (words, want) in rows {
+        assert!(rt; gives(rt.alloc(), words, want), "{words:?}");
+    }
+}
+
+#[test]
+fn other_words_give_the_parsers_text(rt: HostRuntime) {
+    let rows: [Row; 10] = [
+        (&[], Want::Usage),
+        (&["sja"], Want::Usage),
+        (&["sja", "encode"], Want::Usage),
+        (&["sja", "encode", "000000", "000000"], Want::Usage),
+        (&["sja", "encode", "--upper", "000000"], Want::Usage),
+        (&["sja", "transmit", "000000"], Want::Usage),
+        (&["sja", ""], Want::Usage),
+        (&["sja", "--help"], Want::Usage),
+        (&["sja", "help"], Want::Usage),
+        (&["sja", "encode", "-h"], Want::Usage),
+    ];
+    for (words, want) in rows {
+        assert!(rt; gives(rt.alloc(), words, want), "{words:?}");
+    }
+}

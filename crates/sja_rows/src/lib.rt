@@ -1,0 +1,19 @@
+//! Tests across crates: the program over words, a reader and writers in memory; lines, made and read.
+#![tactic(auto)]
+
+#[cfg(test)]
+mod decode;
+#[cfg(test)]
+mod encode;
+#[cfg(test)]
+mod failing_writes;
+#[cfg(test)]
+mod filter;
+#[cfg(test)]
+mod lines;
+#[cfg(test)]
+mod reading;
+#[cfg(test)]
+mod refused_memory;
+#[cfg(test)]
+mod row;

@@ -1,0 +1,21 @@
+use Rattle.std.proofs.Common.{rules, inr, ap, Some}
+use Rattle.sja_words.specs.Words.{request_of}
+use Rattle.sja_run.specs.declared.refusal.Refusal.TheVariants as refusal
+use Rattle.sja_run.proofs.Memory.{memory_refused}
+use Rattle.sja_run.proofs.serial.sja_serial.Goals as goal
+
+-- words that parse are never turned away
+pub returns-after-err-clause-answered : goal.returns-after-err-clause-answered
+returns-after-err-clause-answered g c = λ r parses _ _. search (rules, c.parse.ensures.refused r parses)
+
+-- words that gave a task parse
+pub returns-in-Ok-clause-unparsed : goal.returns-in-Ok-clause-unparsed
+returns-in-Ok-clause-unparsed g c = λ none _ _. absurd (none (request_of c.in-Ok.task) c.in-Ok.ensures.ok)
+
+pub returns-in-Ok-clause-untouched : goal.returns-in-Ok-clause-untouched
+returns-in-Ok-clause-untouched g c = λ none. absurd (none (request_of c.in-Ok.task) c.in-Ok.ensures.ok)
+
+-- memory may be refused while the words are parsed
+pub returns-in-Err-OutOfMemory-clause-answered : goal.returns-in-Err-OutOfMemory-clause-answered
+returns-in-Err-OutOfMemory-clause-answered g c = λ r _ _ told.
+    inr (refusal.OutOfMemory, memory_refused r, ap Some c.refuse.ensures.status, search rules, (c.refuse.ensures.written told).1)

@@ -1,0 +1,37 @@
+-- What the program does, by what the words ask for (this project's own rule).
+use Rattle.std.specs.Prelude.{◌≡◌, ◌⊎◌, ℕ, List, Option, Some}
+use Rattle.std.specs.Io.KnownBytes.{Appends, Keeps}
+use Rattle.sja_words.specs.Words.{Request, encode, decode, filter}
+use Rattle.sja_run.specs.declared.refusal.Refusal.{Refusal}
+use Rattle.sja_run.specs.declared.refusal.Refusal.TheVariants as refusal
+use Rattle.sja_run.specs.Decode.{IsDecoding, RefusesLine}
+use Rattle.sja_run.specs.Encode.{IsEncoding}
+use Rattle.sja_run.specs.Filter.{IsFiltering, RefusesFilter}
+use Rattle.sja_run.specs.Message.{RefusesMessage}
+use Rattle.sja_run.specs.Refusal.{refusal_line}
+
+-- the text that answers the request
+abbrev pub IsPrinted : Request → List ℕ → Type 0
+IsPrinted (encode digits) text = IsEncoding digits text
+IsPrinted (decode digits) text = IsDecoding digits text
+IsPrinted (filter single acr amr digits) text = IsFiltering single acr amr digits text
+
+-- why the request has no answer
+abbrev pub IsRefused : Request → Refusal → Type 0
+IsRefused (encode digits) r = RefusesMessage digits r
+IsRefused (decode digits) r = RefusesLine digits r
+IsRefused (filter single acr amr digits) r = RefusesFilter acr amr digits r
+
+-- The request, the exit status, and what the output and the error output held before and hold after.
+-- Either the text is on the output and the status is 0, or the refusal's line is on the error output and the status
+-- is 1; the other writer keeps what it held.
+abbrev pub Shows : Request → Option ℕ → Option (List ℕ) → Option (List ℕ) → Option (List ℕ) → Option (List ℕ) → Type 0
+Shows request status out_old out_new err_old err_new =
+    ((text : List ℕ) × IsPrinted request text × (status ≡ Some 0) × Appends out_old out_new text × Keeps err_old err_new)
+    ⊎ ((r : Refusal) × IsRefused request r × (status ≡ Some 1) × Keeps out_old out_new × Appends err_old err_new (refusal_line r))
+
+-- The words don't parse: the status is 2 and the error output has the parser's text, or memory was refused.
+abbrev pub IsTurnedAway : Option ℕ → Option (List ℕ) → Option (List ℕ) → Type 0
+IsTurnedAway status err_old err_new =
+    ((text : List ℕ) × (status ≡ Some 2) × Appends err_old err_new text)
+    ⊎ ((status ≡ Some 1) × Appends err_old err_new (refusal_line refusal.OutOfMemory))

@@ -1,0 +1,22 @@
+//! The program `sja`, over words, a reader and two writers.
+//!
+//! [`sja_serial`] is the whole program: it reads the words, does what they ask for, writes the exact text to its output
+//! or one line to its error output, and answers the exit status. [`Output`] is a writer that remembers a failed write.
+//! What the words ask for is a [`Task`], from the crate `sja_words`.
+#![tactic(auto)]
+
+mod answer;
+mod bytes_text;
+mod decode;
+mod encode;
+mod filter;
+mod line_text;
+mod message;
+mod output;
+mod refusal;
+mod serial;
+
+pub use output::Output;
+pub use refusal::Refusal;
+pub use serial::sja_serial;
+pub use sja_words::{Task, WordsFault, parse};

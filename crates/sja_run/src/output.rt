@@ -1,0 +1,53 @@
+ghost use Rattle.std.specs.Prelude.{◌≡◌, false, true};
+ghost use Rattle.std.specs.Io.KnownBytes.{Appends};
+ghost use Rattle.sja_run.specs.Refusal.{refusal_line};
+
+use super::refusal::Refusal;
+use std::io::Write;
+
+/// A writer, and whether a write to it has failed.
+///
+/// A contract can say of such a writer what it holds where no write failed.
+#[derive(Drop)]
+pub struct Output<W: Write> {
+    /// Where the bytes go.
+    pub writer: W,
+    /// A write has failed. Nothing more is written then.
+    pub failed: bool,
+}
+
+impl<W: Write> Output<W> {
+    /// A writer to which no write has failed.
+    pub fn new(writer: W) -> Output<W>
+        ensures { result ≡ record { writer = writer; failed = false } }
+    {
+        Output {
+            writer,
+            failed: false,
+        }
+    }
+
+    /// Writes these bytes. After a failed write nothing is written.
+    pub fn put(&mut self, bytes: &[u8])
+        ensures written { self.new.failed ≡ false → (self.old.failed ≡ false)
+            × Appends (W.contents self.old.writer) (W.contents self.new.writer) bytes.now }
+        ensures stopped { self.old.failed ≡ true → self.new ≡ self.old }
+    {
+        if !self.failed {
+            self.failed = self.writer.write_all(bytes).is_err();
+        }
+    }
+
+    /// Writes the one line of a refusal, and gives its exit status.
+    pub fn refuse(&mut self, refusal: Refusal) -> u8
+        ensures status { result ≡ 1 }
+        ensures written { self.new.failed ≡ false → (self.old.failed ≡ false)
+            × Appends (W.contents self.old.writer) (W.contents self.new.writer) (refusal_line refusal) }
+        ensures stopped { self.old.failed ≡ true → self.new ≡ self.old }
+    {
+        if !self.failed {
+            self.failed = writeln!(self.writer, "sja: {refusal}").is_err();
+        }
+        1
+    }
+}

@@ -1,0 +1,71 @@
+ghost use Rattle.std.specs.Prelude.{◌≡◌, ◌⊎◌, Some, IsSome, false, true, map};
+ghost use Rattle.sja_words.specs.Words.{Request, ParsesAs, request_of};
+ghost use Rattle.sja_run.specs.Answer.{Shows, IsTurnedAway};
+
+use super::answer::printed;
+use super::output::Output;
+use super::refusal::Refusal;
+use sja_words::{Task, WordsFault, parse};
+use std::alloc::Global;
+use std::convert::AsStr;
+use std::io::{Read, Write};
+
+/// The program, without threads: does what the words ask for, writes the text to `out` or one line to `err`, and
+/// answers the exit status. The first word is the program's name.
+///
+/// The status is 0 where the text was written, 1 where the argument or memory was refused or a write failed, and 2
+/// where the words don't parse or ask for help; then `err` has the parser's own text. `input` isn't read.
+pub fn sja_serial<S: AsStr, R: Read, O: Write, E: Write>(
+    alloc: Global,
+    words: &[S],
+    input: &mut R,
+    out: &mut Output<O>,
+    err: &mut Output<E>,
+) -> Option<u8>
+    ensures answered { (r : Request) → ParsesAs (map S.text words.now) r
+        → out.new.failed ≡ false → err.new.failed ≡ false
+        → Shows r result (O.contents out.old.writer) (O.contents out.new.writer)
+        (E.contents err.old.writer) (E.contents err.new.writer) }
+    ensures unparsed { ((r : Request) → ¬ ParsesAs (map S.text words.now) r)
+        → out.new.failed ≡ false → err.new.failed ≡ false
+        → IsTurnedAway result (E.contents err.old.writer) (E.contents err.new.writer) }
+    ensures untouched { ((r : Request) → ¬ ParsesAs (map S.text words.now) r) → out.new ≡ out.old }
+    ensures status { IsSome result }
+    ensures one_writer { (out.new ≡ out.old) ⊎ (err.new ≡ err.old) }
+    ensures failed { out.old.failed ≡ false → err.old.failed ≡ false
+        → (out.new.failed ≡ true) ⊎ (err.new.failed ≡ true) → result ≡ Some 1 }
+    ensures unread { input.new ≡ input.old }
+{
+    let _ = input;
+    match parse(alloc, words) {
+        Ok(task) => Some(reply(alloc, task, out, err)),
+        Err(WordsFault::OutOfMemory) => Some(err.refuse(Refusal::OutOfMemory)),
+        Err(WordsFault::Unparsed(text)) => {
+            err.put(text.as_bytes());
+            Some(if err.failed { 1 } else { 2 })
+        }
+    }
+}
+
+/// Does the task, and gives the exit status.
+fn reply<O: Write, E: Write>(
+    alloc: Global,
+    task: Task<'_>,
+    out: &mut Output<O>,
+    err: &mut Output<E>,
+) -> u8
+    ensures answered { out.new.failed ≡ false → err.new.failed ≡ false
+        → Shows (request_of task.entry) (Some result) (O.contents out.old.writer) (O.contents out.new.writer)
+        (E.contents err.old.writer) (E.contents err.new.writer) }
+    ensures one_writer { (out.new ≡ out.old) ⊎ (err.new ≡ err.old) }
+    ensures failed { out.old.failed ≡ false → err.old.failed ≡ false
+        → (out.new.failed ≡ true) ⊎ (err.new.failed ≡ true) → result ≡ 1 }
+{
+    match printed(alloc, task) {
+        Ok(text) => {
+            out.put(text.as_slice());
+            if out.failed { 1 } else { 0 }
+        }
+        Err(refusal) => err.refuse(refusal),
+    }
+}

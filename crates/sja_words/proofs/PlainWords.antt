@@ -1,0 +1,32 @@
+-- What some words ask for, by computing the parser's answer.
+use Rattle.std.proofs.Common.{◌≡◌, ◌==◌, ℕ, List, [], ◌∷◌, codes, refl, false, Some}
+use Rattle.clap.proofs.OnLiterals.{clap_on_literals}
+use Rattle.sja_words.specs.Words.{Request, ParsesAs, encode, asked, faults}
+
+-- `encode` and the empty text
+pub empty_text : (name : List ℕ) → ParsesAs (name ∷ codes "encode" ∷ [] ∷ []) (encode [])
+unfolding clap_on_literals asked faults
+empty_text name = record { taken = refl; asks = refl }
+
+-- `encode` and a text whose first byte is no `-`
+asked_text : (name rest : List ℕ) (x : ℕ) → (x == 45) ≡ false → asked (name ∷ codes "encode" ∷ (x ∷ rest) ∷ []) ≡ Some (encode (x ∷ rest))
+unfolding clap_on_literals asked
+asked_text name rest x h = simp h
+
+taken_text : (name rest : List ℕ) (x : ℕ) → (x == 45) ≡ false → faults (name ∷ codes "encode" ∷ (x ∷ rest) ∷ []) ≡ []
+unfolding clap_on_literals faults
+taken_text name rest x h = simp h
+
+-- the program's name alone
+pub no_subcommand : (name : List ℕ) (r : Request) → ¬ ParsesAs (name ∷ []) r
+unfolding clap_on_literals asked
+no_subcommand name r parses = cc (parses.asks)
+
+-- `encode` alone
+pub no_message : (name : List ℕ) (r : Request) → ¬ ParsesAs (name ∷ codes "encode" ∷ []) r
+unfolding clap_on_literals asked
+no_message name r parses = cc (parses.asks)
+
+-- both together
+pub text : (name rest : List ℕ) (x : ℕ) → (x == 45) ≡ false → ParsesAs (name ∷ codes "encode" ∷ (x ∷ rest) ∷ []) (encode (x ∷ rest))
+text name rest x h = record { taken = taken_text name rest x h; asks = asked_text name rest x h }

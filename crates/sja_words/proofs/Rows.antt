@@ -1,0 +1,44 @@
+-- From what the calls on a parse's matches answer to the rows of its subcommand.
+use Rattle.std.proofs.Common.{◌≡◌, ℕ, Bool, true, false, List, [], ◌∷◌, Option, Some, None, refl}
+use Rattle.std.specs.Prelude.{option_map, option_and_then, find, slice_get, map, Box}
+use Rattle.std.specs.Str.{bytes_eq}
+use Rattle.std.specs.Box.{box_value}
+use Rattle.std.specs.Borrow.{Bor}
+use Rattle.clap.specs.Words.{Row, Text, first_of, first_value, found_of, rows_of, subcommand_rows}
+use Rattle.clap.specs.Walk.{row_of}
+use Rattle.clap.specs.declared.parser.matches.MatchedArg.{MatchedArg}
+use Rattle.clap.specs.declared.parser.matches.ArgMatches.{ArgMatches}
+use Rattle.clap.specs.declared.parser.matches.SubCommand.{SubCommand}
+use Rattle.clap.specs.declared.parser.matches.ArgMatches.TheViews.{out-SubCommand}
+
+-- the first text of a list of texts behind references
+first_now : (vs : List (Bor (List ℕ))) → slice_get (map (λ v. v.now) vs) 0 ≡ option_map (λ v. v.now) (slice_get vs 0)
+first_now [] = refl
+first_now (v ∷ vs) = refl
+
+-- the first value of an argument, of the entries of a parse
+abbrev first_in : List (Bor (List ℕ) × MatchedArg) → Text → Option Text
+first_in xs id = option_and_then (λ a. option_map (λ s. s.now) (slice_get a.vals.items 0)) (option_map (λ e. e.1) (find (λ e. bytes_eq e.0.now id) xs))
+
+-- it is the same in the rows and in the matches
+first_of-entries : (xs : List (Bor (List ℕ) × MatchedArg)) (id : Text) → first_of id (map row_of xs) ≡ first_in xs id
+first_of-entries [] id = refl
+first_of-entries (x ∷ xs) id = go (bytes_eq x.0.now id) refl (first_of-entries xs id)
+  where
+    go : (t : Bool) → bytes_eq x.0.now id ≡ t → first_of id (map row_of xs) ≡ first_in xs id → first_of id (map row_of (x ∷ xs)) ≡ first_in (x ∷ xs) id
+    go true t rest = rw t (first_now x.1.vals.items)
+    go false t rest = rw t rest
+
+-- the first value of an argument, in the matches and in their rows
+pub first_value-rows : (n : ArgMatches) (id : Text) → first_value (found_of n) id ≡ first_of id (rows_of (found_of n))
+first_value-rows n id = rw (first_of-entries (found_of n).entries.items id) refl
+
+-- the name and the rows of the subcommand that was found, from the two calls' answers
+pub found_rows : {Z : Type 0} (sub : Option (Box SubCommand Z)) (name : Text) (rows : List Row) →
+    Some name ≡ option_map (λ b. (out-SubCommand (box_value b)).name.now) sub →
+    Some rows ≡ option_map (λ p. p.1) (subcommand_rows sub) → subcommand_rows sub ≡ Some (name, rows)
+found_rows None name rows named has = cc
+found_rows (Some b) name rows named has =
+    let n : name ≡ (out-SubCommand (box_value b)).name.now = cc in
+    let r : rows ≡ rows_of (found_of (out-SubCommand (box_value b)).matches) = cc in
+    rw (n, r) refl

@@ -1,0 +1,40 @@
+-- The command line of `sja`, as the parser's own description of commands (this project's own rule).
+use Rattle.std.specs.Prelude.{codes, true, Some}
+use Rattle.clap.specs.Words.{App, Rule, Text, new_app, new_rule, with_rule, with_subcommand}
+use Rattle.clap.specs.declared.builder.action.ArgAction.TheVariants.{Set}
+
+-- an argument without a flag, which must be given and takes one text
+abbrev pub text_rule : Text → Rule
+text_rule id = record (new_rule id) { required = true; action = Some Set }
+
+-- a command with one such argument
+abbrev pub text_app : Text → Text → App
+text_app name id = with_rule (new_app name) (text_rule id)
+
+-- `filter MODE ACR AMR MESSAGE`. That MODE is `single` or `dual` is judged after the parser
+abbrev pub filter_app : App
+filter_app =
+    with_rule
+    (with_rule
+    (with_rule
+    (with_rule
+    (new_app (codes "filter"))
+    (text_rule (codes "MODE")))
+    (text_rule (codes "ACR")))
+    (text_rule (codes "AMR")))
+    (text_rule (codes "MESSAGE"))
+
+-- a command of which one subcommand has to be given
+abbrev pub empty_app : App
+empty_app = let a = new_app (codes "sja") in record a { top = record a.top { subcommand_required = true } }
+
+-- the commands over one line: `encode MESSAGE` and `decode LINE`
+abbrev pub line_app : App
+line_app =
+    with_subcommand
+    (with_subcommand empty_app (text_app (codes "encode") (codes "MESSAGE")).top)
+    (text_app (codes "decode") (codes "LINE")).top
+
+-- the whole
+abbrev pub sja_app : App
+sja_app = with_subcommand line_app filter_app.top

@@ -1,0 +1,61 @@
+-- What words ask for (this project's own rule).
+use Rattle.std.specs.Prelude.{◌≡◌, ℕ, Bool, true, false, List, [], Option, Some, None, codes, if◌then◌else◌, option_map}
+use Rattle.std.specs.Str.{bytes_eq}
+use Rattle.clap.specs.Words.{Kinds, Row, Text, fault_of, first_of, subcommand_of}
+use Rattle.sja_words.specs.declared.task.Task.{Task}
+use Rattle.sja_words.specs.declared.task.Task.TheVariants.{Encode, Decode, Filter}
+use Rattle.sja_words.specs.CommandLine.{sja_app}
+
+-- what the program is asked for, with the texts of its arguments
+pub data Request : Type 0 where
+  encode : List ℕ → Request
+  decode : List ℕ → Request
+  filter : Bool → List ℕ → List ℕ → List ℕ → Request
+
+-- a task as what it asks for
+abbrev pub request_of : Task → Request
+request_of (Encode message) = encode message.now
+request_of (Decode line) = decode line.now
+request_of (Filter single acr amr message) = filter single acr.now amr.now message.now
+
+-- a mode: whether it is that of a single filter
+abbrev pub single_in : Text → Option Bool
+single_in mode =
+    if bytes_eq mode (codes "single") then Some true
+    else if bytes_eq mode (codes "dual") then Some false
+    else None
+
+-- what `filter` asks for, by its four arguments, where they are there and the first is a mode
+abbrev pub filter_in : Option Text → Option Text → Option Text → Option Text → Option Request
+filter_in (Some mode) (Some acr) (Some amr) (Some message) = option_map (λ single. filter single acr amr message) (single_in mode)
+filter_in (Some mode) (Some acr) (Some amr) None = None
+filter_in (Some mode) (Some acr) None message = None
+filter_in (Some mode) None amr message = None
+filter_in None acr amr message = None
+
+-- what a subcommand asks for, by its name and the values of its arguments
+abbrev pub request_by : Text → List Row → Option Request
+request_by name rows =
+    if bytes_eq name (codes "encode") then option_map encode (first_of (codes "MESSAGE") rows)
+    else if bytes_eq name (codes "decode") then option_map decode (first_of (codes "LINE") rows)
+    else if bytes_eq name (codes "filter") then
+    filter_in (first_of (codes "MODE") rows) (first_of (codes "ACR") rows) (first_of (codes "AMR") rows) (first_of (codes "MESSAGE") rows)
+    else None
+
+-- what the subcommand that was found asks for
+abbrev pub request_in : Option (Text × List Row) → Option Request
+request_in None = None
+request_in (Some (name, rows)) = request_by name rows
+
+-- why the parser refuses the words: the empty list where it takes them
+unfoldable pub faults : List Text → Kinds
+faults words = fault_of sja_app words
+
+-- what the subcommand that the parser finds in the words asks for
+unfoldable pub asked : List Text → Option Request
+asked words = request_in (subcommand_of sja_app words)
+
+-- the words, the program's name first, parse as this request
+pub record ParsesAs (words : List Text) (r : Request) : Type 0 where
+  pub taken : faults words ≡ []
+  pub asks : asked words ≡ Some r

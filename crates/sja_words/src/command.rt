@@ -1,0 +1,69 @@
+//! The command line of `sja` as the parser holds it.
+
+ghost use Rattle.std.specs.Prelude.{◌≡◌, IfOk, codes, false};
+ghost use Rattle.clap.specs.Words.{app_of, rule_of};
+ghost use Rattle.clap.specs.declared.builder.command.Command.TheViews.{out-Command};
+ghost use Rattle.sja_words.specs.CommandLine.{text_rule, text_app, filter_app, line_app, sja_app};
+
+use clap::{Arg, ArgAction, Command};
+use std::alloc::{AllocError, Global};
+
+/// An argument without a flag, which must be given and takes one text.
+fn text_argument<'a>(alloc: Global, id: &'a str) -> Arg<'a>
+    ensures rule { rule_of result ≡ text_rule id.entry.now }
+    ensures local { result.global ≡ false }
+{
+    Arg::new(alloc, id).required(true).action(ArgAction::Set)
+}
+
+/// `encode MESSAGE`.
+fn encode_command<'a>(alloc: Global) -> Result<Command<'a>, AllocError>
+    ensures app { IfOk result (λ command. app_of command ≡ text_app (codes "encode") (codes "MESSAGE")) }
+    ensures local { IfOk result (λ command. (out-Command command).has_globals ≡ false) }
+{
+    Command::new(alloc, "encode")
+        .about("Print the levels of a message's frame")
+        .arg(text_argument(alloc, "MESSAGE"))
+}
+
+/// `decode LINE`.
+fn decode_command<'a>(alloc: Global) -> Result<Command<'a>, AllocError>
+    ensures app { IfOk result (λ command. app_of command ≡ text_app (codes "decode") (codes "LINE")) }
+    ensures local { IfOk result (λ command. (out-Command command).has_globals ≡ false) }
+{
+    Command::new(alloc, "decode")
+        .about("Print the message of an acknowledged line")
+        .arg(text_argument(alloc, "LINE"))
+}
+
+/// `filter MODE ACR AMR MESSAGE`.
+fn filter_command<'a>(alloc: Global) -> Result<Command<'a>, AllocError>
+    ensures app { IfOk result (λ command. app_of command ≡ filter_app) }
+    ensures local { IfOk result (λ command. (out-Command command).has_globals ≡ false) }
+{
+    Command::new(alloc, "filter")
+        .about("Print whether an acceptance filter, single or dual, passes a message's frame")
+        .arg(text_argument(alloc, "MODE"))?
+        .arg(text_argument(alloc, "ACR"))?
+        .arg(text_argument(alloc, "AMR"))?
+        .arg(text_argument(alloc, "MESSAGE"))
+}
+
+/// The commands over one line.
+fn line_command<'a>(alloc: Global) -> Result<Command<'a>, AllocError>
+    ensures app { IfOk result (λ command. app_of command ≡ line_app) }
+    ensures local { IfOk result (λ command. (out-Command command).has_globals ≡ false) }
+{
+    Command::new(alloc, "sja")
+        .about("A model of SJA1000 CAN controllers on one bus")
+        .subcommand_required(true)
+        .subcommand(encode_command(alloc)?)?
+        .subcommand(decode_command(alloc)?)
+}
+
+/// The whole: a subcommand has to be given.
+pub fn sja_command<'a>(alloc: Global) -> Result<Command<'a>, AllocError>
+    ensures { IfOk result (λ command. app_of command ≡ sja_app) }
+{
+    line_command(alloc)?.subcommand(filter_command(alloc)?)
+}

@@ -1,0 +1,81 @@
+//! The task of the subcommand that the parser found.
+
+ghost use Rattle.std.specs.Prelude.{◌≡◌, codes, option_map};
+ghost use Rattle.clap.specs.Words.{first_of, found_of, rows_of, subcommand_rows_of};
+ghost use Rattle.sja_words.specs.Words.{decode, encode, filter_in, request_by, request_in, request_of, single_in};
+
+use super::task::Task;
+use clap::ArgMatches;
+
+/// The task of the subcommand that was found, with its arguments; nothing where its mode is none.
+pub fn task_of<'a>(matches: &ArgMatches<'a>) -> Option<Task<'a>>
+    ensures { option_map request_of result ≡ request_in (subcommand_rows_of matches.now) }
+{
+    let (name, arguments) = matches.subcommand()?;
+    task_by(name, arguments)
+}
+
+/// The task of a subcommand of this name.
+fn task_by<'a>(name: &str, arguments: &ArgMatches<'a>) -> Option<Task<'a>>
+    ensures { option_map request_of result ≡ request_by name.now (rows_of (found_of arguments.now)) }
+{
+    match name {
+        "encode" => encode_task(arguments),
+        "decode" => decode_task(arguments),
+        "filter" => filter_task(arguments),
+        _ => None,
+    }
+}
+
+/// `encode MESSAGE`.
+fn encode_task<'a>(arguments: &ArgMatches<'a>) -> Option<Task<'a>>
+    ensures { option_map request_of result
+        ≡ option_map encode (first_of (codes "MESSAGE") (rows_of (found_of arguments.now))) }
+{
+    Some(Task::Encode(text_at(arguments, "MESSAGE")?))
+}
+
+/// `decode LINE`.
+fn decode_task<'a>(arguments: &ArgMatches<'a>) -> Option<Task<'a>>
+    ensures { option_map request_of result
+        ≡ option_map decode (first_of (codes "LINE") (rows_of (found_of arguments.now))) }
+{
+    Some(Task::Decode(text_at(arguments, "LINE")?))
+}
+
+/// `filter MODE ACR AMR MESSAGE`.
+fn filter_task<'a>(arguments: &ArgMatches<'a>) -> Option<Task<'a>>
+    ensures { let rows = rows_of (found_of arguments.now) in option_map request_of result
+        ≡ filter_in (first_of (codes "MODE") rows) (first_of (codes "ACR") rows) (first_of (codes "AMR") rows)
+        (first_of (codes "MESSAGE") rows) }
+{
+    let mode = text_at(arguments, "MODE")?;
+    let acr = text_at(arguments, "ACR")?;
+    let amr = text_at(arguments, "AMR")?;
+    let message = text_at(arguments, "MESSAGE")?;
+    let single = single_of(mode)?;
+    Some(Task::Filter {
+        single,
+        acr,
+        amr,
+        message,
+    })
+}
+
+/// Whether this mode is that of a single filter; nothing where it is no mode.
+fn single_of(mode: &str) -> Option<bool>
+    ensures { result ≡ single_in mode.now }
+{
+    match mode {
+        "single" => Some(true),
+        "dual" => Some(false),
+        _ => None,
+    }
+}
+
+/// The text of an argument.
+fn text_at<'a>(arguments: &ArgMatches<'a>, id: &str) -> Option<&'a str>
+    ensures { option_map (λ text. text.now) result ≡ first_of id.now (rows_of (found_of arguments.now)) }
+{
+    arguments.get_str(id)
+}

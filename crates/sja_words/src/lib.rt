@@ -1,0 +1,17 @@
+//! The words of a command line, read as what the program `sja` is asked to do.
+//!
+//! [`parse`] takes the words, the program's name first, and answers a [`Task`]. The crate `clap` does the parsing;
+//! none of its types is seen from above.
+#![tactic(auto)]
+
+mod command;
+mod found;
+mod laws;
+mod parsing;
+mod task;
+mod words_fault;
+
+pub use laws::{a_message_is_needed, encode_and_a_text_parse};
+pub use parsing::parse;
+pub use task::Task;
+pub use words_fault::WordsFault;

@@ -1,0 +1,19 @@
+/// What the program is asked to do. The texts are those of the words that were parsed, not yet judged.
+#[derive(Clone, Copy, Debug)]
+pub enum Task<'a> {
+    /// `encode MESSAGE`: the levels that a transmitter of this message's frame sends.
+    Encode(&'a str),
+    /// `decode LINE`: the message of the frame whose acknowledged line this is.
+    Decode(&'a str),
+    /// `filter MODE ACR AMR MESSAGE`: whether an acceptance filter passes this message's frame.
+    Filter {
+        /// MODE is `single`, otherwise it is `dual`.
+        single: bool,
+        /// The acceptance code registers.
+        acr: &'a str,
+        /// The acceptance mask registers.
+        amr: &'a str,
+        /// The message.
+        message: &'a str,
+    },
+}

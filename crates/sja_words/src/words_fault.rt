@@ -1,0 +1,21 @@
+use std::alloc::AllocError;
+
+/// Why words give no task.
+#[derive(Debug, Drop)]
+pub enum WordsFault {
+    /// Memory was refused.
+    OutOfMemory,
+    /// The words don't parse, or ask for help. The parser's own text for the user, which ends with a line feed.
+    Unparsed(String),
+}
+
+impl From<AllocError> for WordsFault {
+    ghost use Rattle.std.specs.Prelude.{◌≡◌};
+    ghost use Rattle.sja_words.specs.declared.words_fault.WordsFault.TheVariants.{OutOfMemory};
+
+    ghost from_gives = { λ _ fault. fault ≡ OutOfMemory };
+
+    fn from(_error: AllocError) -> WordsFault {
+        WordsFault::OutOfMemory
+    }
+}
