@@ -84,7 +84,7 @@ start_unseen =
 goes_off : Move (record fresh { held = Some asked; tec = 248; rec = 5 }) AtIdle (Took (forced Recessive) ∷ Off ∷ [])
     (Fault InSending BitError StartOfFrame ∷ [])
     (record fresh { role = Transmitter; tec = 127; off = true; flag = PassiveError }) Resting
-goes_off = off_after (Took (forced Recessive) ∷ []) (slice_of (forced Recessive) []) (own refl start_unseen) (omega arith)
+goes_off = off_after (Took (forced Recessive) ∷ []) [] (forced Recessive) refl (omega arith) (slice_of (forced Recessive) []) (own refl start_unseen) (omega arith)
 
 -- six levels are the first six equal ones
 first_six : (x : Level) → IsFirst (EndsInEqual 6) (replicate 6 x)
@@ -106,7 +106,7 @@ owing = record fresh { held = Some asked; role = Transmitter; tec = 250; flag = 
 owed_off : Move owing Flagging (Took (heard Dominant) ∷ Off ∷ []) []
     (record fresh { role = Transmitter; tec = 127; off = true; flag = PassiveError }) Resting
 owed_off =
-    off_within (Took (heard Dominant) ∷ []) (slice_of (heard Dominant) [])
+    off_within (Took (heard Dominant) ∷ []) [] (heard Dominant) refl (omega arith) (slice_of (heard Dominant) [])
     (record {
       piece = Flag;
       next = AfterFlag;

@@ -1,5 +1,5 @@
 -- A record cut into pieces.
-use Rattle.std.specs.Prelude.{◌≢◌, ◌+◌, ◌<◌, ◌≤◌, ℕ, Option, Some, None, List, [], ◌∷◌, ◌++◌, map}
+use Rattle.std.specs.Prelude.{◌≡◌, ◌≢◌, ◌+◌, ◌<◌, ◌≤◌, ℕ, Option, Some, None, List, [], ◌∷◌, ◌++◌, map}
 use Rattle.can_frame.specs.Frame.{FrameValue}
 use Rattle.can_bits.specs.declared.level.Level.{Level}
 use Rattle.can_node.specs.declared.config.Config.{Config}
@@ -43,10 +43,10 @@ pub data Move (c : Context) : Spot → List Entry → List Piece → Context →
   stopped : {spot : Spot} (slice : List Entry) → IsOpenAt c spot slice → Stays (along c spot [] slice) →
       Move c spot (slice ++ Stop ∷ []) [] (with_stop (along c spot [] slice)) Resting
   -- bus-off comes right after the bit in which the transmit error counter reaches 256, within a piece or at its end
-  off_within : {spot : Spot} (slice : List Entry) →
+  off_within : {spot : Spot} (slice before : List Entry) (last : Bit) → slice ≡ before ++ Took last ∷ [] → Stays (along c spot [] before) →
       IsSlice slice → IsUnfinished c spot (bits_in slice) → 256 ≤ (along c spot [] slice).tec →
       Move c spot (slice ++ Off ∷ []) [] (with_off (along c spot [] slice)) Resting
-  off_after : {spot next : Spot} {p : Piece} (slice : List Entry) →
+  off_after : {spot next : Spot} {p : Piece} (slice before : List Entry) (last : Bit) → slice ≡ before ++ Took last ∷ [] → Stays (along c spot [] before) →
       IsSlice slice → Row c spot (bits_in slice) p next → 256 ≤ (after c spot slice p next).tec →
       Move c spot (slice ++ Off ∷ []) (p ∷ []) (with_off (after c spot slice p next)) Resting
 
