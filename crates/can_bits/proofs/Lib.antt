@@ -14,3 +14,11 @@ pub mod Verdicts
 pub mod Steps
 pub mod Tails
 pub mod LineLaws
+pub mod Ranges
+pub mod GrowLemmas
+pub mod Registers
+pub mod DataLemmas
+pub mod FrameLemmas
+pub mod PastLemmas
+pub mod Readables
+pub mod InsideLemmas

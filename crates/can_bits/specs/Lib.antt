@@ -9,3 +9,6 @@ pub mod Spelling
 pub mod Reading
 pub mod Segments
 pub mod Streaming
+pub mod Growing
+pub mod Gathering
+pub mod Shifts
