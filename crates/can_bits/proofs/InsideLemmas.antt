@@ -1,11 +1,12 @@
 -- A reader in the stuffed part.
-use Rattle.std.proofs.Common.{◌≡◌, ◌≢◌, ◌+◌, ◌-◌, ◌*◌, ◌<◌, ◌≤◌, ◌⊎◌, inl, inr, ℕ, true, false, Option, Some, None, List, [], ◌∷◌, ◌++◌, length, reverse, refl, ap, sym, subst, ◌∙◌, arith, append_assoc}
-use Rattle.std.proofs.lemmas.Bool.{cases_lt, cases_eq}
+use Rattle.std.proofs.Common.{◌≡◌, ◌≢◌, ◌+◌, ◌-◌, ◌*◌, ◌<◌, ◌≤◌, ◌⊎◌, inl, inr, nat_eq, ℕ, true, false, Option, Some, None, List, [], ◌∷◌, ◌++◌, length, reverse, refl, ap, sym, subst, ◌∙◌, arith, append_assoc}
+use Rattle.std.proofs.lemmas.Bool.{cases_lt, cases_eq, cases_Bool, eqb-true, eqb-false}
 use Rattle.std.proofs.lemmas.List.{append-nil, length-append, length-reverse, length_push, reverse-reverse, nil_from_length}
 use Rattle.can_frame.specs.Frame.{FrameValue}
 use Rattle.can_bits.specs.declared.level.Level.{Level}
 use Rattle.can_bits.specs.declared.level.Level.TheVariants.{Dominant, Recessive}
 use Rattle.can_bits.specs.declared.gathered.Gathered.{Gathered}
+use Rattle.can_bits.specs.declared.segment.Segment.{Segment}
 use Rattle.can_bits.specs.declared.line_fault.LineFault.{LineFault}
 use Rattle.can_bits.specs.declared.line_fault.LineFault.TheVariants.{Stuff, Form}
 use Rattle.can_bits.specs.Fields.{says_count}
@@ -15,7 +16,7 @@ use Rattle.can_bits.specs.Reading.{Begins, IsPastPart, IsInPart}
 use Rattle.can_bits.specs.Segments.{IsNext, segment_at}
 use Rattle.can_bits.specs.Segments.IsNext.{bit, stuff_bit}
 use Rattle.can_bits.specs.Streaming.{IsReadable, IsOver, BreaksWith}
-use Rattle.can_bits.specs.Shifts.{EndsInRun, BeginsPart, IsInside}
+use Rattle.can_bits.specs.Shifts.{EndsInRun, IsPartSoFar, BeginsPart, IsInside, IsPast}
 use Rattle.can_bits.specs.Shifts.EndsInRun.{nothing, longer, other}
 use Rattle.can_bits.proofs.Lists.{reverse-push}
 use Rattle.can_bits.proofs.Runs.{run, IsShort, ends_in_run, run_ends, short_from, no_six_from}
@@ -41,7 +42,7 @@ short_run [] h = omega arith
 short_run (x ∷ past) h = h.0
 
 -- the levels so far, newest first
-pub holds_by : {l w : List Level} {last : Level} {n : ℕ} → BeginsPart l w last n → Holds (reverse l) w last n
+pub holds_by : {l w : List Level} {last : Level} {n : ℕ} → IsPartSoFar l w last n → Holds (reverse l) w last n
 holds_by {l = l} {w = w} {last = last} {n = n} h =
     let P : List Level → Type 0 = λ m. HasNoSixEqual m in
     let short : IsShort (reverse l) = short_from (reverse l) (subst P (sym (reverse-reverse l)) h.no_six) in
@@ -59,15 +60,15 @@ pub before_by : {l w : List Level} {last : Level} {n : ℕ} → BeginsPart l w l
 before_by h = record { goes_on = h.goes_on }
 
 pub goes_by : {l w : List Level} {last : Level} {n : ℕ} → BeginsPart l w last n → GoesOn (reverse l)
-goes_by {l = l} {w = w} {last = last} {n = n} h = inside_of (reverse l) w last n (holds_by h) (before_by h)
+goes_by {l = l} {w = w} {last = last} {n = n} h = inside_of (reverse l) w last n (holds_by h.so_far) (before_by h)
 
 -- no whole part has come
 pub not_past : {l w : List Level} {last : Level} {n : ℕ} → BeginsPart l w last n → ¬ IsPastPart l
 not_past {l = l} h = inside_not_past l (goes_by h)
 
 -- and the other way round
-pub begins_by : {l w : List Level} {last : Level} {n : ℕ} → Holds (reverse l) w last n → EndsInRun last n l → (length w ≡ says_count w → 5 ≤ n) → BeginsPart l w last n
-begins_by {l = l} {w = w} {last = last} {n = n} h ends on =
+pub so_far_by : {l w : List Level} {last : Level} {n : ℕ} → Holds (reverse l) w last n → EndsInRun last n l → IsPartSoFar l w last n
+so_far_by {l = l} {w = w} h ends =
     let P : List Level → Type 0 = λ m. HasNoSixEqual m in
     let Q : List Level → Type 0 = λ m. IsUnstuffed m (reverse (reverse l)) in
     let R : List Level → Type 0 = λ m. IsUnstuffed w m in
@@ -77,28 +78,36 @@ begins_by {l = l} {w = w} {last = last} {n = n} h ends on =
       ends = ends;
       begins = h.begins;
       fits = h.fits;
-      goes_on = on;
     }
 
 -- five equal levels end the list, or fewer
 five : {l w : List Level} {last : Level} {n : ℕ} → BeginsPart l w last n → n ≡ 5 → EndsInEqual 5 l
 five {l = l} {last = last} {n = n} h full =
-    let counted = run-leads last n (reverse l) (leads_by h.ends) in
+    let counted = run-leads last n (reverse l) (leads_by h.so_far.ends) in
     subst (EndsInEqual 5) (reverse-reverse l) (run_ends 5 (reverse l) (omega (arith, counted, full)))
 
 few : {l w : List Level} {last : Level} {n : ℕ} → BeginsPart l w last n → n ≢ 5 → ¬ EndsInEqual 5 l
 few {l = l} {last = last} {n = n} h less = λ ends.
-    let most = (holds_by h).most in
-    let counted = run-leads last n (reverse l) (leads_by h.ends) in
+    let most = (holds_by h.so_far).most in
+    let counted = run-leads last n (reverse l) (leads_by h.so_far.ends) in
     let many = ends_in_run 4 (reverse l) (subst (EndsInEqual 5) (sym (reverse-reverse l)) ends) in
     less (omega (arith, counted, most, many))
 
 -- the segment of the next level
 pub next_bit : {l w : List Level} {last : Level} {n : ℕ} → BeginsPart l w last n → n ≢ 5 → IsNext l (segment_at w (length w)) false
-next_bit {w = w} h less = bit w h.unstuffed (few h less) (not_past h)
+next_bit {w = w} h less = bit w h.so_far.unstuffed (few h less) (not_past h)
 
 pub next_stuff_bit : {l w : List Level} {last : Level} {n : ℕ} → BeginsPart l w last n → n ≡ 5 → IsNext l (segment_at w (length w - 1)) true
-next_stuff_bit {w = w} h full = stuff_bit w h.unstuffed (five h full) (not_past h)
+next_stuff_bit {w = w} h full = stuff_bit w h.so_far.unstuffed (five h full) (not_past h)
+
+-- the two in one
+pub next_here : {l w : List Level} {last : Level} {n : ℕ} (segment : Segment) → BeginsPart l w last n →
+    (nat_eq n 5 ≡ true → segment ≡ segment_at w (length w - 1)) → (nat_eq n 5 ≡ false → segment ≡ segment_at w (length w)) → IsNext l segment (nat_eq n 5)
+next_here {l = l} {n = n} segment h stuff plain =
+    elim (cases_Bool (nat_eq n 5)) [
+      | inl t ↦ rw (t, stuff t) (next_stuff_bit h (eqb-true n 5 t))
+      | inr f ↦ rw (f, plain f) (next_bit h (eqb-false n 5 f))
+    ]
 
 -- a whole line hasn't come
 not_over : {l w : List Level} {last : Level} {n : ℕ} → BeginsPart l w last n → ¬ IsOver l
@@ -130,7 +139,7 @@ wrong_start {l = l} x at h count first recessive =
 -- a sixth equal level
 pub wrong_sixth : {l w : List Level} {last : Level} {n : ℕ} (x : Level) (at : ℕ) → BeginsPart l w last n → at ≡ length l → n ≡ 5 → x ≡ last → BreaksWith l x (Stuff at)
 wrong_sixth {l = l} {w = w} {last = last} {n = n} x at h count full like =
-    let leads = leads_by h.ends in
+    let leads = leads_by h.so_far.ends in
     let counted = run-leads last n (reverse l) leads in
     let six : run (x ∷ reverse l) ≡ 6 = ap (λ y. run (y ∷ reverse l)) like ∙ lead-same last n (reverse l) leads ∙ omega (arith, full) in (
       no_sixth l x (goes_by h) (omega (arith, six)),

@@ -22,3 +22,5 @@ pub mod FrameLemmas
 pub mod PastLemmas
 pub mod Readables
 pub mod InsideLemmas
+pub mod TakeLemmas
+pub mod ShiftLemmas

@@ -166,12 +166,13 @@ pub past_trailing : {g : Gathered} {count : ℕ} (n : ℕ) (l : List Level) (x :
 past_trailing n l x h many = let within = h.within in ((h.frame, past_but_for n 0 l h (omega (arith, many)) (omega (arith, many, within))), h.count)
 
 -- no frame comes with another level than the sixth bit of the end of frame
-pub past_shows_none : {g : Gathered} {count : ℕ} (n : ℕ) (l : List Level) (x : Level) → IsPast n g count l → n ≢ 8 → ShowsFrame (l ++ x ∷ []) None
-past_shows_none n l x h other = record {
+pub past_hides : {g : Gathered} {count : ℕ} (n : ℕ) (l : List Level) → IsPast n g count l → n ≢ 9 → ShowsFrame l None
+past_hides n l h other = record {
   some = tt;
   only = λ f but.
       let one = but.count in
-      let count = past_missing n l (x ∷ []) but.rest h but.line in
+      let P : List Level → Type 0 = λ m. Line f but.body but.check but.ack (m ++ but.rest) in
+      let count = past_missing n l [] but.rest h (subst P (sym (append-nil l)) but.line) in
       absurd (other (omega (arith, count, one)));
 }
 

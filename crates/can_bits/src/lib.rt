@@ -14,6 +14,7 @@ mod line_fault;
 mod part;
 mod place;
 mod reading;
+mod run;
 mod segment;
 mod shift;
 mod shift_event;

@@ -2,6 +2,7 @@ use super::gathered::Gathered;
 use super::level::Level;
 use super::line_fault::LineFault;
 use super::place::segment_after;
+use super::run::run_after;
 use super::segment::Segment;
 use super::shift_event::ShiftEvent;
 use super::shift_fault::ShiftFault;
@@ -29,10 +30,11 @@ pub struct Shift {
 }
 
 impl Shift {
-    ghost use Rattle.std.specs.Prelude.{◌≡◌, ◌≢◌, ◌+◌, ◌∷◌, ◌++◌, [], List, None, Some, IfSome};
+    ghost use Rattle.std.specs.Prelude.{◌≡◌, ◌≢◌, ◌⊎◌, ◌<◌, ◌+◌, length, ◌∷◌, ◌++◌, [], List, None, Some, IfSome};
     ghost use Rattle.can_bits.specs.declared.level.Level.{Level as Bus};
     ghost use Rattle.can_bits.specs.Streaming.{Tells, TellsCheck, IsEventOf, BreaksWith};
-    ghost use Rattle.can_bits.specs.Shifts.{StandsFor, ReadsAt, IsPast, fault_event};
+    ghost use Rattle.can_bits.specs.Shifts.{StandsFor, ReadsAt, IsPartSoFar, IsPast, fault_event};
+    ghost use Rattle.can_bits.specs.Gathering.{Gathers};
 
     /// A reader that has been given no level.
     pub fn new() -> Shift
@@ -117,20 +119,40 @@ impl Shift {
     /// Takes a level of the stuffed part that is right.
     fn take(&mut self, level: Level)
         ensures kept { self.new.wrong ≡ self.old.wrong }
+        ensures early { (self.new.stage ≡ Stage.Part) ⊎ (self.new.stage ≡ Stage.After 0) }
         ensures stands { (l : List Bus) → ReadsAt Stage.Part self.old l → (self.old.count ≡ 0 → level ≡ Level.Dominant)
             → (self.old.run ≡ 5 → level ≢ self.old.last) → ReadsAt self.new.stage self.new (l ++ level ∷ []) }
+    {
+        self.gather(level);
+        self.count = self.count.wrapping_add(1);
+        self.run = run_after(self.run, self.last, level);
+        self.last = level;
+        self.stage = self.stage_here();
+    }
+
+    /// Gathers a level that is no stuff bit.
+    fn gather(&mut self, level: Level)
+        ensures kept { self.new ≡ record self.old { gathered = self.new.gathered } }
+        ensures bit { (w : List Bus) → Gathers self.old.gathered w → length w < 118 → self.old.run ≢ 5
+            → Gathers self.new.gathered (w ++ level ∷ []) }
+        ensures stuff_bit { self.old.run ≡ 5 → self.new.gathered ≡ self.old.gathered }
     {
         if self.run != RUN {
             self.gathered.push(level);
         }
-        self.run = if level == self.last { self.run % 5 + 1 } else { 1 };
-        self.last = level;
-        self.count = self.count.wrapping_add(1);
-        self.stage = if self.run != RUN && self.gathered.is_whole() {
+    }
+
+    /// Whether the stuffed part goes on after its levels so far.
+    fn stage_here(&self) -> Stage
+        ensures early { (result ≡ Stage.Part) ⊎ (result ≡ Stage.After 0) }
+        ensures stands { (l w : List Bus) → IsPartSoFar l w self.now.last self.now.run → Gathers self.now.gathered w
+            → self.now.count ≡ length l → ReadsAt result self.now l }
+    {
+        if self.run != RUN && self.gathered.is_whole() {
             Stage::After(0)
         } else {
             Stage::Part
-        };
+        }
     }
 
     /// Takes a level after the stuffed part, of which n have come before.
