@@ -24,3 +24,4 @@ pub mod Readables
 pub mod InsideLemmas
 pub mod TakeLemmas
 pub mod ShiftLemmas
+pub mod DueLemmas

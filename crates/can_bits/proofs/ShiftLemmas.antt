@@ -72,7 +72,7 @@ tells_right l x event right h = record {
 }
 
 -- the wrong level of a reader that broke
-broke_wrong : (s : Shift) (l : List Level) (w : ShiftFault) (h : Broke w s l) → ¬ IsReadable (h.front ++ h.wrong ∷ [])
+pub broke_wrong : (s : Shift) (l : List Level) (w : ShiftFault) (h : Broke w s l) → ¬ IsReadable (h.front ++ h.wrong ∷ [])
 broke_wrong s l w h = breaks_not_readable h.front h.wrong w.fault h.event.fault
 
 -- the same event again
@@ -128,7 +128,7 @@ tells_none l inside = record {
 }
 
 -- a bool that says whether the check sequence is right
-says_so : (r : Bool) (b c : List Level) → SaysWhetherRight r b c → IsTrue r ↔ Crc b c
+pub says_so : (r : Bool) (b c : List Level) → SaysWhetherRight r b c → IsTrue r ↔ Crc b c
 says_so true b c h = (λ _. h, λ _. refl)
 says_so false b c h = (λ t. cc, λ right. absurd (h right))
 

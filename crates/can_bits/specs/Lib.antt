@@ -12,3 +12,4 @@ pub mod Streaming
 pub mod Growing
 pub mod Gathering
 pub mod Shifts
+pub mod Acknowledging

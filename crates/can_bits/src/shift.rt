@@ -7,7 +7,6 @@ use super::segment::Segment;
 use super::shift_event::ShiftEvent;
 use super::shift_fault::ShiftFault;
 use super::stage::Stage;
-use can_frame::Frame;
 
 /// How many equal levels a stuff bit follows.
 const RUN: u8 = 5;
@@ -30,9 +29,13 @@ pub struct Shift {
 }
 
 impl Shift {
-    ghost use Rattle.std.specs.Prelude.{◌≡◌, ◌≢◌, ◌⊎◌, ◌<◌, ◌+◌, length, ◌∷◌, ◌++◌, [], List, None, Some, IfSome};
+    ghost use Rattle.std.specs.Prelude.{◌≡◌, ◌≢◌, ◌⊎◌, ◌<◌, ◌+◌, ◌↔◌, ◌==◌, IsTrue, true, length, ◌∷◌, ◌++◌, [], List, None, Some, IfSome};
     ghost use Rattle.can_bits.specs.declared.level.Level.{Level as Bus};
-    ghost use Rattle.can_bits.specs.Streaming.{Tells, TellsCheck, IsEventOf, BreaksWith};
+    ghost use Rattle.can_bits.specs.Streaming.{Tells, TellsCheck, IsEventOf, BreaksWith, IsReadable, IsOver};
+    ghost use Rattle.can_bits.specs.Segments.{IsNext};
+    ghost use Rattle.can_bits.specs.Acknowledging.{IsAckDue};
+    ghost use Rattle.can_bits.specs.Line.{StuffedPart};
+    ghost use Rattle.can_frame.specs.Frame.{FrameValue};
     ghost use Rattle.can_bits.specs.Shifts.{StandsFor, ReadsAt, IsPartSoFar, IsPast, fault_event};
     ghost use Rattle.can_bits.specs.Gathering.{Gathers};
 
@@ -74,6 +77,40 @@ impl Shift {
         }
     }
 
+    /// Whether the next level is the acknowledgement slot of a line whose check sequence is right.
+    pub fn ack_is_due(&self) -> bool
+        ensures { (l : List Bus) → StandsFor self.now l → IsTrue result ↔ IsAckDue l }
+    {
+        if self.is_past(1) {
+            self.gathered.check_is_right()
+        } else {
+            false
+        }
+    }
+
+    /// Whether a whole line has come, and nothing after it.
+    pub fn is_over(&self) -> bool
+        ensures { (l : List Bus) → StandsFor self.now l → IsTrue result ↔ IsOver l }
+    {
+        self.is_past(10)
+    }
+
+    /// Whether all levels were right, and so many came after the stuffed part.
+    fn is_past(&self, count: u8) -> bool
+        ensures yes { (l : List Bus) → StandsFor self.now l → result ≡ true
+            → IsPast count self.now.gathered self.now.count l }
+        ensures only { (f : FrameValue) (l b c part after : List Bus) → StandsFor self.now l → IsReadable l → StuffedPart f b c part
+            → l ≡ part ++ after → length after ≡ count → result ≡ true }
+    {
+        match self.wrong {
+            Some(_) => false,
+            None => match self.stage {
+                Stage::Part => false,
+                Stage::After(n) => n == count,
+            },
+        }
+    }
+
     /// Takes a level of the stuffed part.
     fn step_inside(&mut self, level: Level) -> ShiftEvent
         requires right { self.old.wrong ≡ None }
@@ -82,11 +119,7 @@ impl Shift {
         ensures told { (l : List Bus) → ReadsAt Stage.Part self.old l → IsEventOf l level result }
     {
         let stuff = self.run == RUN;
-        let segment = if stuff {
-            self.gathered.last_segment()
-        } else {
-            self.gathered.next_segment()
-        };
+        let segment = self.segment_inside();
         match self.fault_inside(level) {
             Some(fault) => self.breaks(segment, stuff, fault),
             None => {
@@ -98,6 +131,17 @@ impl Shift {
                     fault: None,
                 }
             }
+        }
+    }
+
+    /// The segment of the next level of the stuffed part; a stuff bit belongs to that of the bit before it.
+    fn segment_inside(&self) -> Segment
+        ensures { (l : List Bus) → ReadsAt Stage.Part self.now l → IsNext l result (self.now.run == 5) }
+    {
+        if self.run == RUN {
+            self.gathered.last_segment()
+        } else {
+            self.gathered.next_segment()
         }
     }
 

@@ -10,17 +10,13 @@ use Rattle.can_bits.specs.Streaming.{IsEventOf}
 use Rattle.can_bits.specs.Shifts.{IsInside, ReadsAt, StandsFor}
 use Rattle.can_bits.proofs.InsideLemmas.{next_here}
 use Rattle.can_bits.proofs.ShiftLemmas.{wrong_event, broke_here, reads_readable, hides_early}
-use Rattle.can_bits.proofs.shift.Shift.step_inside.Goals.{then-stuff, else-stuff}
 use Rattle.can_bits.proofs.shift.Shift.step_inside.Goals as goal
 
 pub returns-in-Some-clause-stands : goal.returns-in-Some-clause-stands
 returns-in-Some-clause-stands c l h =
     let old = c.args.self.now in
-    let place : IsNext l c.if-stuff.segment (nat_eq old.run 5) =
-    next_here c.if-stuff.segment h.part
-    (λ t. elim c.if-stuff.branch [ then-stuff b ↦ b.segment-is ∙ b.last_segment-segment.ensures h.bits h.gathers | else-stuff b ↦ absurd (let f = b.if-stuff.false in cc) ])
-    (λ f. elim c.if-stuff.branch [ then-stuff b ↦ absurd (let t = b.if-stuff.true in cc) | else-stuff b ↦ b.segment-is ∙ b.next_segment-segment.ensures h.bits h.gathers ]) in
-    let w : ShiftFault = record { segment = c.if-stuff.segment; stuff = nat_eq old.run 5; fault = c.in-Some.fault } in
+    let place = c.segment_inside-segment.ensures l h in
+    let w : ShiftFault = record { segment = c.segment_inside-segment.result; stuff = nat_eq old.run 5; fault = c.in-Some.fault } in
     let s : Shift = record old { wrong = Some w } in
     let P : Shift → Type 0 = λ t. StandsFor t (l ++ c.args.level ∷ []) in
     let R : Stage → Type 0 = λ e. ReadsAt e s l in
@@ -30,21 +26,15 @@ returns-in-Some-clause-stands c l h =
 pub returns-in-Some-clause-told : goal.returns-in-Some-clause-told
 returns-in-Some-clause-told c l h =
     let old = c.args.self.now in
-    let place : IsNext l c.if-stuff.segment (nat_eq old.run 5) =
-    next_here c.if-stuff.segment h.part
-    (λ t. elim c.if-stuff.branch [ then-stuff b ↦ b.segment-is ∙ b.last_segment-segment.ensures h.bits h.gathers | else-stuff b ↦ absurd (let f = b.if-stuff.false in cc) ])
-    (λ f. elim c.if-stuff.branch [ then-stuff b ↦ absurd (let t = b.if-stuff.true in cc) | else-stuff b ↦ b.segment-is ∙ b.next_segment-segment.ensures h.bits h.gathers ]) in
-    let w : ShiftFault = record { segment = c.if-stuff.segment; stuff = nat_eq old.run 5; fault = c.in-Some.fault } in
+    let place = c.segment_inside-segment.ensures l h in
+    let w : ShiftFault = record { segment = c.segment_inside-segment.result; stuff = nat_eq old.run 5; fault = c.in-Some.fault } in
     let P : ShiftEvent → Type 0 = λ e. IsEventOf l c.args.level e in
     subst P (sym c.breaks.ensures.event) (wrong_event l c.args.level w place (c.in-Some.ensures.broken l h))
 
 pub returns-in-None-clause-told : goal.returns-in-None-clause-told
 returns-in-None-clause-told c l h =
     let old = c.args.self.now in
-    let place : IsNext l c.if-stuff.segment (nat_eq old.run 5) =
-    next_here c.if-stuff.segment h.part
-    (λ t. elim c.if-stuff.branch [ then-stuff b ↦ b.segment-is ∙ b.last_segment-segment.ensures h.bits h.gathers | else-stuff b ↦ absurd (let f = b.if-stuff.false in cc) ])
-    (λ f. elim c.if-stuff.branch [ then-stuff b ↦ absurd (let t = b.if-stuff.true in cc) | else-stuff b ↦ b.segment-is ∙ b.next_segment-segment.ensures h.bits h.gathers ]) in
+    let place = c.segment_inside-segment.ensures l h in
     let m = l ++ c.args.level ∷ [] in
     let new = c.take.new.self in
     let reads = c.take.ensures.stands l h (c.in-None.ensures.begins refl) (c.in-None.ensures.differs refl) in
