@@ -1,5 +1,5 @@
 -- How the data bytes grow by one level.
-use Rattle.std.proofs.Common.{◌≡◌, ◌≢◌, ◌+◌, ◌-◌, ◌*◌, ◌/◌, ◌%◌, ◌^◌, ◌<◌, ◌≤◌, ◌⊎◌, ℕ, Bool, true, false, List, [], ◌∷◌, ◌++◌, length, drop, get_or, slice_range, set, refl, ap, sym, subst, ◌∙◌, arith, inl, inr}
+use Rattle.std.proofs.Common.{◌≡◌, ◌+◌, ◌-◌, ◌*◌, ◌/◌, ◌%◌, ◌^◌, ◌<◌, ◌≤◌, ◌⊎◌, ℕ, Bool, true, false, List, [], ◌∷◌, ◌++◌, length, drop, get_or, slice_range, set, ap, sym, ◌∙◌, arith, inl, inr}
 use Rattle.std.proofs.Math.Nat.{pow-le-pow_right}
 use Rattle.std.proofs.lemmas.Bool.{cases_lt, cases_eq}
 use Rattle.std.proofs.lemmas.List.{length-take, length_push, get_or-set_same, get_or-set_other}
@@ -9,7 +9,7 @@ use Rattle.can_bits.specs.Digits.{digit, value}
 use Rattle.can_bits.specs.Fields.{says_ext, dlc_place}
 use Rattle.can_bits.specs.Data.{data_place}
 use Rattle.can_bits.specs.Growing.{byte_levels, HoldsData}
-use Rattle.can_bits.proofs.Values.{digit-lt, value-push, value-lt}
+use Rattle.can_bits.proofs.Values.{value-push, value-lt}
 use Rattle.can_bits.proofs.Ranges.{range_past, range_in, range_ended, range_before}
 use Rattle.can_bits.proofs.GrowLemmas.{ext_same}
 
@@ -62,26 +62,3 @@ data_in w x bytes first at place begun within group h =
                 ]) ∙ ap value (sym now)
           ];
     }
-
--- another level
-pub data_out : (w : List Level) (x : Level) (bytes : List ℕ) (first : ℕ) → first ≡ data_place (w ++ x ∷ []) →
-    (length w < first) ⊎ (first + 64 ≤ length w) → HoldsData bytes w → HoldsData bytes (w ++ x ∷ [])
-data_out w x bytes first place (inl early) h = record {
-  count = h.count;
-  each = λ k below.
-      let none : byte_levels (w ++ x ∷ []) k ≡ [] = range_past (w ++ x ∷ []) (data_place (w ++ x ∷ []) + 8 * k) (data_place (w ++ x ∷ []) + 8 * k + 8) (omega (arith, length_push w x)) in
-      let start : length w ≤ data_place w = elim (cases_lt (length w) 14) [
-        | inl few ↦ omega (arith, few, late (says_ext w))
-        | inr many ↦ omega (arith, place_same w x many)
-      ] in
-      let before : byte_levels w k ≡ [] = range_past w (data_place w + 8 * k) (data_place w + 8 * k + 8) (omega (arith, start)) in
-      h.each k below ∙ ap value (before ∙ sym none);
-}
-data_out w x bytes first place (inr ended) h = record {
-  count = h.count;
-  each = λ k below.
-      let same : data_place (w ++ x ∷ []) ≡ data_place w = place_same w x (omega (arith, late (says_ext (w ++ x ∷ [])))) in
-      let start = data_place w + 8 * k in
-      h.each k below ∙ ap value (sym (range_ended w x start (start + 8) (omega arith) (omega (arith, same))))
-      ∙ ap (λ p. value (slice_range (w ++ x ∷ []) (p + 8 * k) (p + 8 * k + 8))) (sym same);
-}

@@ -1,5 +1,5 @@
 -- When the acknowledgement is due, and when a whole line has come.
-use Rattle.std.proofs.Common.{◌≡◌, ◌≢◌, ◌+◌, ◌<◌, ◌≤◌, ◌↔◌, IsTrue, ℕ, Bool, true, false, Option, Some, None, List, [], ◌∷◌, ◌++◌, length, replicate, take, refl, ap, sym, subst, ◌∙◌, arith, append_assoc}
+use Rattle.std.proofs.Common.{◌≡◌, ◌↔◌, IsTrue, ℕ, Bool, Option, None, List, [], ◌∷◌, ◌++◌, length, replicate, take, refl, ap, sym, subst, ◌∙◌, arith, append_assoc}
 use Rattle.std.proofs.lemmas.List.{append-nil, length-take-le, nil_from_length}
 use Rattle.can_frame.specs.Frame.{FrameValue}
 use Rattle.can_bits.specs.declared.level.Level.{Level}

@@ -1,14 +1,13 @@
 -- How what a body says grows by one level.
-use Rattle.std.proofs.Common.{◌≡◌, ◌≢◌, ◌+◌, ◌-◌, ◌*◌, ◌/◌, ◌%◌, ◌^◌, ◌<◌, ◌≤◌, ◌⊎◌, ℕ, Bool, true, false, List, [], ◌∷◌, ◌++◌, length, drop, get_or, slice_range, set, if◌then◌else◌, nat_lt, nat_eq, refl, ap, sym, subst, ◌∙◌, arith, inl, inr, append_assoc}
+use Rattle.std.proofs.Common.{◌≡◌, ◌≢◌, ◌+◌, ◌*◌, ◌%◌, ◌^◌, ◌<◌, ◌≤◌, ◌⊎◌, ℕ, Bool, true, false, List, [], ◌∷◌, ◌++◌, length, drop, slice_range, if◌then◌else◌, nat_eq, refl, ap, sym, ◌∙◌, arith, inl, inr, append_assoc}
 use Rattle.std.proofs.lemmas.Bool.{cases_lt, cases_eq, lt-ltb, le-ltb}
 use Rattle.std.proofs.Math.Nat.{pow-le-pow_right}
-use Rattle.std.proofs.lemmas.List.{append-nil, length-append, length-take, length_push, get_or_past, get_or-set_same, get_or-set_other}
+use Rattle.std.proofs.lemmas.List.{append-nil, length-append, length-take, length_push, get_or_past}
 use Rattle.can_bits.specs.declared.level.Level.{Level}
-use Rattle.can_bits.specs.declared.level.Level.TheVariants.{Dominant, Recessive}
+use Rattle.can_bits.specs.declared.level.Level.TheVariants.{Dominant}
 use Rattle.can_bits.specs.Digits.{digit, value}
 use Rattle.can_bits.specs.Fields.{level_at, is_recessive, says_ext, dlc_place, four_from, says_dlc}
-use Rattle.can_bits.specs.Data.{data_place}
-use Rattle.can_bits.specs.Growing.{is_identifier, id_levels, weight, byte_levels, HoldsData}
+use Rattle.can_bits.specs.Growing.{is_identifier, id_levels, weight}
 use Rattle.can_bits.proofs.Values.{digit-lt, value-push, value-lt}
 use Rattle.can_bits.proofs.Ranges.{range_past, range_in, range_ended, range_before, at_push, at_other}
 

@@ -1,30 +1,26 @@
 -- A reader in the stuffed part.
-use Rattle.std.proofs.Common.{◌≡◌, ◌≢◌, ◌+◌, ◌-◌, ◌*◌, ◌<◌, ◌≤◌, ◌⊎◌, inl, inr, nat_eq, ℕ, true, false, Option, Some, None, List, [], ◌∷◌, ◌++◌, length, reverse, refl, ap, sym, subst, ◌∙◌, arith, append_assoc}
-use Rattle.std.proofs.lemmas.Bool.{cases_lt, cases_eq, cases_Bool, eqb-true, eqb-false}
-use Rattle.std.proofs.lemmas.List.{append-nil, length-append, length-reverse, length_push, reverse-reverse, nil_from_length}
-use Rattle.can_frame.specs.Frame.{FrameValue}
+use Rattle.std.proofs.Common.{◌≡◌, ◌≢◌, ◌+◌, ◌-◌, ◌≤◌, inl, inr, nat_eq, ℕ, true, false, List, [], ◌∷◌, ◌++◌, length, reverse, refl, ap, sym, subst, ◌∙◌, arith}
+use Rattle.std.proofs.lemmas.Bool.{cases_Bool, eqb-true, eqb-false}
+use Rattle.std.proofs.lemmas.List.{append-nil, reverse-reverse, nil_from_length}
 use Rattle.can_bits.specs.declared.level.Level.{Level}
-use Rattle.can_bits.specs.declared.level.Level.TheVariants.{Dominant, Recessive}
-use Rattle.can_bits.specs.declared.gathered.Gathered.{Gathered}
+use Rattle.can_bits.specs.declared.level.Level.TheVariants.{Recessive}
 use Rattle.can_bits.specs.declared.segment.Segment.{Segment}
-use Rattle.can_bits.specs.declared.line_fault.LineFault.{LineFault}
 use Rattle.can_bits.specs.declared.line_fault.LineFault.TheVariants.{Stuff, Form}
-use Rattle.can_bits.specs.Fields.{says_count}
 use Rattle.can_bits.specs.Stuffing.{EndsInEqual, HasNoSixEqual, IsUnstuffed}
-use Rattle.can_bits.specs.Line.{StuffedPart, Line, tail}
-use Rattle.can_bits.specs.Reading.{Begins, IsPastPart, IsInPart}
+use Rattle.can_bits.specs.Line.{tail}
+use Rattle.can_bits.specs.Reading.{Begins, IsPastPart}
 use Rattle.can_bits.specs.Segments.{IsNext, segment_at}
 use Rattle.can_bits.specs.Segments.IsNext.{bit, stuff_bit}
-use Rattle.can_bits.specs.Streaming.{IsReadable, IsOver, BreaksWith}
-use Rattle.can_bits.specs.Shifts.{EndsInRun, IsPartSoFar, BeginsPart, IsInside, IsPast}
+use Rattle.can_bits.specs.Streaming.{IsOver, BreaksWith}
+use Rattle.can_bits.specs.Shifts.{EndsInRun, IsPartSoFar, BeginsPart}
 use Rattle.can_bits.specs.Shifts.EndsInRun.{nothing, longer, other}
 use Rattle.can_bits.proofs.Lists.{reverse-push}
 use Rattle.can_bits.proofs.Runs.{run, IsShort, ends_in_run, run_ends, short_from, no_six_from}
 use Rattle.can_bits.proofs.Stuffs.{unstuffed_by, is_unstuffed, Leads, run-leads, lead-same, lead-other}
 use Rattle.can_bits.proofs.Parts.{plain}
-use Rattle.can_bits.proofs.Going.{IsInside as GoesOn, inside_open}
+use Rattle.can_bits.proofs.Going.{IsInside as GoesOn}
 use Rattle.can_bits.proofs.Ending.{inside_not_past, no_sixth, no_start}
-use Rattle.can_bits.proofs.Steps.{Holds, IsBefore, inside_of, Holds-next}
+use Rattle.can_bits.proofs.Steps.{Holds, IsBefore, inside_of}
 
 -- the last run, newest level first
 leads_by : {x : Level} {n : ℕ} {l : List Level} → EndsInRun x n l → Leads x n (reverse l)

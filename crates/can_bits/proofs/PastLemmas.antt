@@ -1,19 +1,18 @@
 -- A reader past the stuffed part.
-use Rattle.std.proofs.Common.{◌≡◌, ◌≢◌, ◌+◌, ◌-◌, ◌<◌, ◌≤◌, ◌⊎◌, inl, inr, ℕ, zero, suc, false, Option, Some, None, List, [], ◌∷◌, ◌++◌, length, replicate, take, drop, get_or, refl, ap, sym, subst, ◌∙◌, arith, append_assoc}
+use Rattle.std.proofs.Common.{◌≡◌, ◌≢◌, ◌+◌, ◌<◌, ◌≤◌, inl, inr, ℕ, zero, suc, false, Some, None, List, [], ◌∷◌, ◌++◌, length, take, drop, get_or, refl, ap, sym, subst, ◌∙◌, arith, append_assoc}
 use Rattle.std.proofs.lemmas.Bool.{cases_eq}
-use Rattle.std.proofs.lemmas.List.{append-nil, length-append, length-drop, length-take-le, length_push, take_more, take_all, take-append-drop, nil_from_length, get_or_append_left}
+use Rattle.std.proofs.lemmas.List.{append-nil, length-append, length-drop, length-take-le, length_push, take_more, take-append-drop, get_or_append_left}
 use Rattle.can_frame.specs.Frame.{FrameValue}
 use Rattle.can_bits.specs.declared.level.Level.{Level}
 use Rattle.can_bits.specs.declared.level.Level.TheVariants.{Dominant, Recessive}
 use Rattle.can_bits.specs.declared.gathered.Gathered.{Gathered}
-use Rattle.can_bits.specs.declared.line_fault.LineFault.{LineFault}
-use Rattle.can_bits.specs.declared.line_fault.LineFault.TheVariants.{Stuff, Form, Crc as CheckFault, NoAck, Truncated, Trailing}
+use Rattle.can_bits.specs.declared.line_fault.LineFault.TheVariants.{Form, Crc as CheckFault, Trailing}
 use Rattle.can_bits.specs.Check.{Crc}
 use Rattle.can_bits.specs.Line.{StuffedPart, Line, tail}
-use Rattle.can_bits.specs.Reading.{Begins, IsPastPart, IsInPart}
+use Rattle.can_bits.specs.Reading.{IsPastPart}
 use Rattle.can_bits.specs.Segments.{IsNext, segment_after}
 use Rattle.can_bits.specs.Segments.IsNext.{after_part}
-use Rattle.can_bits.specs.Streaming.{IsReadable, IsLineButFor, IsOver, EndsInWrongCheck, BreaksWith, ShowsFrame}
+use Rattle.can_bits.specs.Streaming.{IsReadable, IsLineButFor, BreaksWith, ShowsFrame}
 use Rattle.can_bits.specs.Shifts.{IsPast}
 use Rattle.can_bits.proofs.Ranges.{at_push}
 use Rattle.can_bits.proofs.Ending.{line_at}

@@ -1,5 +1,5 @@
 -- Levels that were right so far.
-use Rattle.std.proofs.Common.{◌≡◌, ◌≢◌, ◌+◌, ◌<◌, ◌≤◌, ◌⊎◌, inl, inr, ℕ, Option, Some, None, List, [], ◌∷◌, ◌++◌, length, refl, ap, sym, subst, ◌∙◌, arith, append_assoc}
+use Rattle.std.proofs.Common.{◌≡◌, inl, inr, None, List, [], ◌∷◌, ◌++◌, length, ap, sym, subst, ◌∙◌, arith, append_assoc}
 use Rattle.std.proofs.lemmas.List.{append-nil, length-append, nil_from_length}
 use Rattle.can_frame.specs.Frame.{FrameValue}
 use Rattle.can_bits.specs.declared.level.Level.{Level}
@@ -8,8 +8,8 @@ use Rattle.can_bits.specs.declared.line_fault.LineFault.{LineFault}
 use Rattle.can_bits.specs.declared.line_fault.LineFault.TheVariants.{Stuff, Form, Crc as CheckFault, NoAck, Truncated, Trailing}
 use Rattle.can_bits.specs.Check.{Crc}
 use Rattle.can_bits.specs.Line.{StuffedPart, Line, tail}
-use Rattle.can_bits.specs.Reading.{Begins, IsOpen, IsPastPart}
-use Rattle.can_bits.specs.Streaming.{IsReadable, IsLineButFor, BreaksWith, ShowsFrame}
+use Rattle.can_bits.specs.Reading.{Begins, IsOpen}
+use Rattle.can_bits.specs.Streaming.{IsReadable, BreaksWith, ShowsFrame}
 use Rattle.can_bits.proofs.Lists.{fronts, append-cancel, cases_list}
 use Rattle.can_bits.proofs.Ending.{line_at}
 use Rattle.can_bits.proofs.PastLemmas.{missing}

@@ -1,7 +1,7 @@
 -- A level more of the stuffed part.
-use Rattle.std.proofs.Common.{◌≡◌, ◌≢◌, ◌+◌, ◌-◌, ◌*◌, ◌<◌, ◌≤◌, ◌⊎◌, inl, inr, ℕ, Option, Some, None, List, [], ◌∷◌, ◌++◌, length, reverse, take, refl, ap, sym, subst, ◌∙◌, arith, append_assoc}
+use Rattle.std.proofs.Common.{◌≡◌, ◌≢◌, ◌+◌, ◌*◌, ◌<◌, ◌≤◌, ◌⊎◌, inl, inr, ℕ, None, List, [], ◌∷◌, ◌++◌, length, reverse, take, refl, ap, sym, subst, ◌∙◌, arith, append_assoc}
 use Rattle.std.proofs.lemmas.Bool.{cases_lt, cases_eq}
-use Rattle.std.proofs.lemmas.List.{append-nil, length-append, length-reverse, length_push, reverse-reverse, nil_from_length, length-take-le}
+use Rattle.std.proofs.lemmas.List.{append-nil, length-append, length-reverse, reverse-reverse, length-take-le}
 use Rattle.can_frame.specs.Frame.{FrameValue}
 use Rattle.can_bits.specs.declared.level.Level.{Level}
 use Rattle.can_bits.specs.declared.level.Level.TheVariants.{Dominant, Recessive}
@@ -19,7 +19,7 @@ use Rattle.can_bits.proofs.Stuffs.{unstuffed, unstuffed-kept, unstuffed-dropped,
 use Rattle.can_bits.proofs.Parts.{plain, part_of, part_to}
 use Rattle.can_bits.proofs.DecodeLemmas.{decoded}
 use Rattle.can_bits.proofs.Going.{inside_open}
-use Rattle.can_bits.proofs.Steps.{Holds, Holds-next, says_count-most, room_left}
+use Rattle.can_bits.proofs.Steps.{Holds, Holds-next, says_count-most}
 use Rattle.can_bits.proofs.InsideLemmas.{holds_by, before_by, goes_by, not_past, so_far_by}
 use Rattle.can_bits.proofs.Readables.{open_readable}
 

@@ -44,7 +44,7 @@ segments_of false count =
     (1, StartOfFrame) ∷ (9, Id28To21) ∷ (12, Id20To18) ∷ (13, RtrStandard) ∷ (14, Ide) ∷ (15, Reserved0) ∷ (19, LengthCode) ∷ (count - 15, Data) ∷ []
 segments_of true count =
     (1, StartOfFrame) ∷ (9, Id28To21) ∷ (12, Id20To18) ∷ (13, RtrStandard) ∷ (14, Ide) ∷ (19, Id17To13) ∷ (27, Id12To5) ∷ (32, Id4To0)
-        ∷ (33, RtrExtended) ∷ (34, Reserved1) ∷ (35, Reserved0) ∷ (39, LengthCode) ∷ (count - 15, Data) ∷ []
+    ∷ (33, RtrExtended) ∷ (34, Reserved1) ∷ (35, Reserved0) ∷ (39, LengthCode) ∷ (count - 15, Data) ∷ []
 
 -- the segment of the level at a place of a body and its check sequence that begins with w
 abbrev pub segment_at : List Level → ℕ → Segment

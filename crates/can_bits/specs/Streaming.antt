@@ -1,9 +1,8 @@
 -- What a reader of one level at a time says. It takes either level in the acknowledgement slot.
-use Rattle.std.specs.Prelude.{◌≡◌, ◌≤◌, ℕ, Bool, true, false, List, [], ◌∷◌, ◌++◌, length, Option, Some, None, ◌↔◌, IfSome, IsTrue}
+use Rattle.std.specs.Prelude.{◌≡◌, ◌≤◌, ℕ, Bool, List, [], ◌∷◌, ◌++◌, length, Option, Some, None, ◌↔◌, IfSome, IsTrue}
 use Rattle.can_frame.specs.Frame.{FrameValue}
 use Rattle.can_bits.specs.declared.level.Level.{Level}
 use Rattle.can_bits.specs.declared.level.Level.TheVariants.{Recessive}
-use Rattle.can_bits.specs.declared.segment.Segment.{Segment}
 use Rattle.can_bits.specs.declared.line_fault.LineFault.{LineFault}
 use Rattle.can_bits.specs.declared.line_fault.LineFault.TheVariants.{Stuff, Form, Crc as CheckFault, NoAck, Truncated, Trailing}
 use Rattle.can_bits.specs.declared.shift_event.ShiftEvent.{ShiftEvent}

@@ -1,4 +1,4 @@
-use Rattle.std.proofs.Common.{arith, sym}
+use Rattle.std.proofs.Common.{arith}
 use Rattle.can_bits.proofs.GrowLemmas.{dlc_push, four-small}
 use Rattle.can_bits.proofs.growing.dlc_after.Goals as goal
 

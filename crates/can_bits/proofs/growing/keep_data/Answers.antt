@@ -1,7 +1,7 @@
-use Rattle.std.proofs.Common.{◌≡◌, ◌+◌, ◌-◌, ◌/◌, ◌∙◌, ◌++◌, ◌∷◌, [], ap, sym, subst, arith, length, inl, inr}
+use Rattle.std.proofs.Common.{◌≡◌, ◌+◌, ◌-◌, ◌/◌, ◌∙◌, ◌++◌, ◌∷◌, [], ap, sym, arith, length}
 use Rattle.can_bits.specs.Fields.{dlc_place}
 use Rattle.can_bits.specs.Data.{data_place}
-use Rattle.can_bits.proofs.DataLemmas.{data_in, data_out}
+use Rattle.can_bits.proofs.DataLemmas.{data_in}
 use Rattle.can_bits.proofs.growing.keep_data.Goals.{then-ext, else-ext}
 use Rattle.can_bits.proofs.growing.keep_data.Goals as goal
 

@@ -1,9 +1,9 @@
-use Rattle.std.proofs.Common.{◌≡◌, ◌≢◌, ◌<◌, ◌≤◌, Err, ap, sym, subst, ◌∙◌, Some, take, length, arith, refl}
+use Rattle.std.proofs.Common.{◌≡◌, ◌≢◌, ◌<◌, Err, ap, ◌∙◌, take, length, arith, refl}
 use Rattle.std.proofs.lemmas.List.{length-take-le}
-use Rattle.can_frame.specs.Frame.{FrameValue, data_count, id_limit}
+use Rattle.can_frame.specs.Frame.{data_count, id_limit}
 use Rattle.can_frame.specs.declared.frame_fault.FrameFault.{FrameFault}
 use Rattle.can_frame.specs.declared.frame_fault.FrameFault.TheVariants.{IdRange, DlcRange, DataLength}
-use Rattle.can_bits.specs.Fields.{says_ext, says_rtr, says_dlc}
+use Rattle.can_bits.specs.Fields.{says_ext, says_rtr}
 use Rattle.can_bits.specs.Data.{says_bytes}
 use Rattle.can_bits.proofs.GrowLemmas.{four-small}
 use Rattle.can_bits.proofs.FrameLemmas.{gathered_frame, gathered_id}

@@ -1,4 +1,4 @@
-use Rattle.std.proofs.Common.{◌≡◌, ◌*◌, ◌+◌, ◌%◌, ◌^◌, ◌∙◌, ◌∷◌, ◌++◌, [], ap, sym, subst, arith, length}
+use Rattle.std.proofs.Common.{◌≡◌, ◌*◌, ◌+◌, ◌%◌, ◌∙◌, ◌∷◌, ◌++◌, [], ap, arith}
 use Rattle.std.proofs.lemmas.List.{length_push}
 use Rattle.can_bits.specs.Check.{IsMultiple}
 use Rattle.can_bits.specs.Digits.{value}

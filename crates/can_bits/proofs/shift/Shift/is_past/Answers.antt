@@ -1,4 +1,4 @@
-use Rattle.std.proofs.Common.{◌≡◌, ◌∙◌, Option, sym, subst}
+use Rattle.std.proofs.Common.{◌∙◌, Option, subst}
 use Rattle.std.proofs.lemmas.Bool.{eq-eqb}
 use Rattle.can_bits.specs.declared.shift_fault.ShiftFault.{ShiftFault}
 use Rattle.can_bits.specs.Shifts.{StandsBy}

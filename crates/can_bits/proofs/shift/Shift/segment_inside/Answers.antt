@@ -1,7 +1,5 @@
-use Rattle.std.proofs.Common.{◌≡◌, ◌==◌, true, false, sym, subst, Bool}
+use Rattle.std.proofs.Common.{◌≡◌, ◌==◌, true, false}
 use Rattle.std.proofs.lemmas.Bool.{eq-eqb, ne_eqb}
-use Rattle.can_bits.specs.declared.segment.Segment.{Segment}
-use Rattle.can_bits.specs.Segments.{IsNext}
 use Rattle.can_bits.proofs.InsideLemmas.{next_bit, next_stuff_bit}
 use Rattle.can_bits.proofs.shift.Shift.segment_inside.Goals as goal
 

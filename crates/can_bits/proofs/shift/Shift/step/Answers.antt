@@ -1,10 +1,10 @@
-use Rattle.std.proofs.Common.{◌≡◌, Option, Some, None, sym, subst}
+use Rattle.std.proofs.Common.{Option, sym, subst}
 use Rattle.can_bits.specs.declared.stage.Stage.{Stage}
 use Rattle.can_bits.specs.declared.stage.Stage.TheVariants.{Part, After}
 use Rattle.can_bits.specs.declared.shift_event.ShiftEvent.{ShiftEvent}
 use Rattle.can_bits.specs.declared.shift_fault.ShiftFault.{ShiftFault}
 use Rattle.can_bits.specs.Streaming.{Tells}
-use Rattle.can_bits.specs.Shifts.{ReadsAt, StandsBy, Broke}
+use Rattle.can_bits.specs.Shifts.{ReadsAt, StandsBy}
 use Rattle.can_bits.proofs.ShiftLemmas.{reads_readable, tells_right, tells_again}
 use Rattle.can_bits.proofs.shift.Shift.step.Goals as goal
 

@@ -1,14 +1,10 @@
-use Rattle.std.proofs.Common.{◌≡◌, ◌∙◌, ◌++◌, ◌∷◌, [], List, nat_eq, true, false, Option, Some, None, refl, sym, subst, ap}
-use Rattle.can_bits.specs.declared.level.Level.{Level}
+use Rattle.std.proofs.Common.{◌++◌, ◌∷◌, [], nat_eq, Some, refl, sym, subst}
 use Rattle.can_bits.specs.declared.stage.Stage.{Stage}
-use Rattle.can_bits.specs.declared.stage.Stage.TheVariants.{Part}
 use Rattle.can_bits.specs.declared.shift.Shift.{Shift}
 use Rattle.can_bits.specs.declared.shift_event.ShiftEvent.{ShiftEvent}
 use Rattle.can_bits.specs.declared.shift_fault.ShiftFault.{ShiftFault}
-use Rattle.can_bits.specs.Segments.{IsNext}
 use Rattle.can_bits.specs.Streaming.{IsEventOf}
-use Rattle.can_bits.specs.Shifts.{IsInside, ReadsAt, StandsFor}
-use Rattle.can_bits.proofs.InsideLemmas.{next_here}
+use Rattle.can_bits.specs.Shifts.{ReadsAt, StandsFor}
 use Rattle.can_bits.proofs.ShiftLemmas.{wrong_event, broke_here, reads_readable, hides_early}
 use Rattle.can_bits.proofs.shift.Shift.step_inside.Goals as goal
 

@@ -1,4 +1,4 @@
-use Rattle.std.proofs.Common.{◌≡◌, ◌≢◌, ◌+◌, ◌%◌, ◌∙◌, ◌++◌, ◌∷◌, [], ℕ, List, false, Option, Some, None, refl, sym, subst, arith, ap}
+use Rattle.std.proofs.Common.{◌≡◌, ◌+◌, ◌%◌, ◌∙◌, ◌++◌, ◌∷◌, [], ℕ, List, false, Option, Some, refl, sym, subst, arith}
 use Rattle.can_bits.specs.declared.level.Level.{Level}
 use Rattle.can_bits.specs.declared.segment.Segment.{Segment}
 use Rattle.can_bits.specs.declared.stage.Stage.{Stage}
@@ -9,7 +9,7 @@ use Rattle.can_bits.specs.declared.shift_fault.ShiftFault.{ShiftFault}
 use Rattle.can_frame.specs.Frame.{FrameValue}
 use Rattle.can_bits.specs.Segments.{IsNext}
 use Rattle.can_bits.specs.Streaming.{IsEventOf, ShowsFrame}
-use Rattle.can_bits.specs.Shifts.{IsPast, ReadsAt, StandsBy, StandsFor, fault_event}
+use Rattle.can_bits.specs.Shifts.{IsPast, ReadsAt, StandsBy, StandsFor}
 use Rattle.can_bits.proofs.PastLemmas.{past_next, past_readable, past_shows, past_hides}
 use Rattle.can_bits.proofs.TakeLemmas.{past_small}
 use Rattle.can_bits.proofs.ShiftLemmas.{wrong_event, broke_here}

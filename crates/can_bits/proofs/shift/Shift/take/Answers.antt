@@ -1,4 +1,4 @@
-use Rattle.std.proofs.Common.{◌≡◌, ◌≢◌, ◌+◌, ◌%◌, ◌<◌, ◌∙◌, ◌++◌, ◌∷◌, [], ℕ, List, length, reverse, inl, inr, refl, sym, subst, arith, ap}
+use Rattle.std.proofs.Common.{◌≡◌, ◌≢◌, ◌+◌, ◌%◌, ◌<◌, ◌∙◌, ◌++◌, ◌∷◌, [], List, length, reverse, inl, inr, refl, sym, subst, arith, ap}
 use Rattle.std.proofs.lemmas.Bool.{cases_eq}
 use Rattle.std.proofs.lemmas.List.{length_push}
 use Rattle.can_bits.specs.declared.level.Level.{Level}
@@ -26,7 +26,7 @@ returns-clause-stands c l h start differs =
     let counted = h.count in
     let count : (c.gather.new.self.count + 1) % 256 ≡ length (l ++ x ∷ []) = omega (arith, came, small, counted, length_push l x) in
     let same : x ≡ old.last → old.run < 5 → c.run_after-self.result ≡ old.run + 1 = λ like less.
-        c.run_after-self.ensures.same (like ∙ sym last) (omega (arith, ran, less)) ∙ omega (arith, ran) in
+    c.run_after-self.ensures.same (like ∙ sym last) (omega (arith, ran, less)) ∙ omega (arith, ran) in
     let fresh : x ≢ old.last → c.run_after-self.result ≡ 1 = λ other. c.run_after-self.ensures.other (λ e. other (e ∙ last)) in
     let first : l ≡ [] → x ≡ Dominant = λ none. start (counted ∙ ap length none) in
     let before : Shift = record {
