@@ -15,3 +15,14 @@ pub mod Steps
 pub mod Tails
 pub mod LineLaws
 pub mod OneStuffing
+pub mod Ranges
+pub mod GrowLemmas
+pub mod Registers
+pub mod DataLemmas
+pub mod FrameLemmas
+pub mod PastLemmas
+pub mod Readables
+pub mod InsideLemmas
+pub mod TakeLemmas
+pub mod ShiftLemmas
+pub mod DueLemmas

@@ -10,3 +10,7 @@ pub mod Reading
 pub mod Segments
 pub mod Streaming
 pub mod Places
+pub mod Growing
+pub mod Gathering
+pub mod Shifts
+pub mod Acknowledging

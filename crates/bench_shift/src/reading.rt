@@ -1,0 +1,47 @@
+use can_bits::{Level, Shift, ShiftEvent};
+use std::fmt::{Display, Error, Formatter, Write};
+
+/// What a reader told of all levels.
+#[derive(Drop)]
+pub struct Reading {
+    levels: u64,
+    frames: u64,
+    checksum: u64,
+}
+
+impl Reading {
+    /// Nothing was read.
+    pub fn new() -> Reading {
+        Reading {
+            levels: 0,
+            frames: 0,
+            checksum: 0,
+        }
+    }
+
+    /// Steps a new reader through a line.
+    pub fn read(&mut self, line: &[Level]) {
+        let mut shift = Shift::new();
+        for level in line {
+            let event = shift.step(*level);
+            self.add(&event);
+        }
+    }
+
+    /// Counts an event.
+    fn add(&mut self, event: &ShiftEvent) {
+        let code = u64::from(event.segment.code());
+        self.levels = self.levels.wrapping_add(1);
+        self.checksum = self.checksum.wrapping_mul(31).wrapping_add(2 * code + u64::from(event.stuff));
+        if let Some(frame) = &event.frame {
+            self.frames = self.frames.wrapping_add(1);
+            self.checksum = self.checksum.wrapping_add(u64::from(frame.id()));
+        }
+    }
+}
+
+impl Display for Reading {
+    fn fmt<W: Write>(&self, f: &mut Formatter<W>) -> Result<(), Error> {
+        write!(f, "levels {} frames {} checksum {:016x}", self.levels, self.frames, self.checksum)
+    }
+}

@@ -1,0 +1,5 @@
+use Rattle.can_bits.proofs.Registers.{register_says}
+use Rattle.can_bits.proofs.gathered.Gathered.check_is_right.Goals as goal
+
+pub returns : goal.returns
+returns c w b check g whole count = register_says w b check c.args.self.now.register g.fits g.divides whole count

@@ -1,0 +1,71 @@
+//! The segments of a line, by place.
+
+ghost use Rattle.std.specs.Prelude.{◌≡◌, ◌≤◌, true, false};
+ghost use Rattle.can_bits.specs.Segments.{segment_in, segments_of, segment_after};
+
+use super::segment::Segment;
+
+/// The segment of the level at a place of a body and its check sequence, which have `count` levels in all.
+pub fn segment_of(ext: bool, count: u8, place: u8) -> Segment
+    requires { 15 ≤ count }
+    ensures { result ≡ segment_in (segments_of ext count) place }
+{
+    if ext {
+        extended_segment(count, place)
+    } else {
+        standard_segment(count, place)
+    }
+}
+
+/// The same in a standard frame.
+fn standard_segment(count: u8, place: u8) -> Segment
+    requires { 15 ≤ count }
+    ensures { result ≡ segment_in (segments_of false count) place }
+{
+    match place {
+        0 => Segment::StartOfFrame,
+        1..=8 => Segment::Id28To21,
+        9..=11 => Segment::Id20To18,
+        12 => Segment::RtrStandard,
+        13 => Segment::Ide,
+        14 => Segment::Reserved0,
+        15..=18 => Segment::LengthCode,
+        _ if place < count - 15 => Segment::Data,
+        _ => Segment::CheckSequence,
+    }
+}
+
+/// The same in an extended frame.
+fn extended_segment(count: u8, place: u8) -> Segment
+    requires { 15 ≤ count }
+    ensures { result ≡ segment_in (segments_of true count) place }
+{
+    match place {
+        0 => Segment::StartOfFrame,
+        1..=8 => Segment::Id28To21,
+        9..=11 => Segment::Id20To18,
+        12 => Segment::RtrStandard,
+        13 => Segment::Ide,
+        14..=18 => Segment::Id17To13,
+        19..=26 => Segment::Id12To5,
+        27..=31 => Segment::Id4To0,
+        32 => Segment::RtrExtended,
+        33 => Segment::Reserved1,
+        34 => Segment::Reserved0,
+        35..=38 => Segment::LengthCode,
+        _ if place < count - 15 => Segment::Data,
+        _ => Segment::CheckSequence,
+    }
+}
+
+/// The segment of the n-th level after the stuffed part, counted from 0.
+pub fn segment_after(n: u8) -> Segment
+    ensures { result ≡ segment_after n }
+{
+    match n {
+        0 => Segment::CheckDelimiter,
+        1 => Segment::AckSlot,
+        2 => Segment::AckDelimiter,
+        _ => Segment::EndOfFrame,
+    }
+}
