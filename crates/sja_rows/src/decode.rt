@@ -1,13 +1,10 @@
 //! `decode LINE`.
 
-use super::row::{Row, Want, gives};
+use super::row::{Row, Said, Want, gives};
 use sja_run::{Output, sja_serial};
 use std::alloc::Global;
 use std::str;
 use std::test::Fail;
-
-/// The line of the standard data frame with identifier 0 and no data, as its transmitter sends it.
-const SENT: &str = "00000100000100000100000100000100000100001111111111";
 
 /// The same acknowledged: level 41 is dominant.
 const LEAST: &str = "00000100000100000100000100000100000100001011111111";
@@ -34,60 +31,42 @@ fn decode_prints_the_message_of_a_line(rt: HostRuntime) {
 
 #[test]
 fn decode_names_the_first_fault(rt: HostRuntime) {
-    let rows: [Row; 9] = [
+    let rows: [Said; 9] = [
+        // as it is sent
         (
-            &["sja", "decode", SENT],
+            "00000100000100000100000100000100000100001111111111",
             Want::Refusal("sja: line fault 4 NoAck\n"),
         ),
-        (&["sja", "decode", ""], TRUNCATED),
+        ("", TRUNCATED),
         // the last level is missing
         (
-            &[
-                "sja",
-                "decode",
-                "0000010000010000010000010000010000010000101111111",
-            ],
+            "0000010000010000010000010000010000010000101111111",
             TRUNCATED,
         ),
         // a level too many
         (
-            &[
-                "sja",
-                "decode",
-                "000001000001000001000001000001000001000010111111111",
-            ],
+            "000001000001000001000001000001000001000010111111111",
             Want::Refusal("sja: line fault 6 Trailing at 50\n"),
         ),
         // level 40 is dominant
         (
-            &[
-                "sja",
-                "decode",
-                "00000100000100000100000100000100000100000011111111",
-            ],
+            "00000100000100000100000100000100000100000011111111",
             Want::Refusal("sja: line fault 2 Form at 40\n"),
         ),
         // level 39 is recessive
         (
-            &[
-                "sja",
-                "decode",
-                "00000100000100000100000100000100000100011011111111",
-            ],
+            "00000100000100000100000100000100000100011011111111",
             Want::Refusal("sja: line fault 3 Crc\n"),
         ),
-        (
-            &["sja", "decode", "000000"],
-            Want::Refusal("sja: line fault 1 Stuff at 5\n"),
-        ),
-        (
-            &["sja", "decode", "1"],
-            Want::Refusal("sja: line fault 2 Form at 0\n"),
-        ),
-        (&["sja", "decode", "02"], Want::Refusal("sja: not a line\n")),
+        ("000000", Want::Refusal("sja: line fault 1 Stuff at 5\n")),
+        ("1", Want::Refusal("sja: line fault 2 Form at 0\n")),
+        ("02", Want::Refusal("sja: not a line\n")),
     ];
-    for (words, want) in rows {
-        assert!(rt; gives(rt.alloc(), words, want), "{words:?}");
+    for (line, want) in rows {
+        assert!(rt;
+            gives(rt.alloc(), &["sja", "decode", line], want),
+            "{line:?}"
+        );
     }
 }
 

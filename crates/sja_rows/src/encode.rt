@@ -1,6 +1,6 @@
 //! `encode MESSAGE`.
 
-use super::row::{Row, Want, gives};
+use super::row::{Row, Said, Want, gives};
 
 /// The line of the standard data frame with identifier 0 and no data.
 const LEAST: &str = "00000100000100000100000100000100000100001111111111\n";
@@ -27,46 +27,26 @@ fn encode_prints_the_line_of_a_frame(rt: HostRuntime) {
 
 #[test]
 fn encode_refuses_what_spells_no_message(rt: HostRuntime) {
-    let rows: [Row; 9] = [
+    let no_digits = Want::Refusal("sja: not hexadecimal\n");
+    let rows: [Said; 9] = [
+        ("0024", Want::Refusal("sja: layout fault 1 Short\n")),
+        ("", Want::Refusal("sja: layout fault 1 Short\n")),
+        ("00246000", Want::Refusal("sja: layout fault 2 Long\n")),
+        ("102460", Want::Refusal("sja: layout fault 3 UnusedBit\n")),
         (
-            &["sja", "encode", "0024"],
-            Want::Refusal("sja: layout fault 1 Short\n"),
-        ),
-        (
-            &["sja", "encode", ""],
-            Want::Refusal("sja: layout fault 1 Short\n"),
-        ),
-        (
-            &["sja", "encode", "00246000"],
-            Want::Refusal("sja: layout fault 2 Long\n"),
-        ),
-        (
-            &["sja", "encode", "102460"],
-            Want::Refusal("sja: layout fault 3 UnusedBit\n"),
-        ),
-        (
-            &["sja", "encode", "402460"],
+            "402460",
             Want::Refusal("sja: layout fault 4 RtrDisagrees\n"),
         ),
-        (
-            &["sja", "encode", "000"],
-            Want::Refusal("sja: not hexadecimal\n"),
-        ),
-        (
-            &["sja", "encode", "00000g"],
-            Want::Refusal("sja: not hexadecimal\n"),
-        ),
-        (
-            &["sja", "encode", "00 00 00"],
-            Want::Refusal("sja: not hexadecimal\n"),
-        ),
-        (
-            &["sja", "encode", "0x000000"],
-            Want::Refusal("sja: not hexadecimal\n"),
-        ),
+        ("000", no_digits),
+        ("00000g", no_digits),
+        ("00 00 00", no_digits),
+        ("0x000000", no_digits),
     ];
-    for (words, want) in rows {
-        assert!(rt; gives(rt.alloc(), words, want), "{words:?}");
+    for (message, want) in rows {
+        assert!(rt;
+            gives(rt.alloc(), &["sja", "encode", message], want),
+            "{message:?}"
+        );
     }
 }
 

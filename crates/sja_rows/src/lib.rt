@@ -2,6 +2,8 @@
 #![tactic(auto)]
 
 #[cfg(test)]
+mod agreement;
+#[cfg(test)]
 mod decode;
 #[cfg(test)]
 mod encode;
@@ -17,3 +19,5 @@ mod reading;
 mod refused_memory;
 #[cfg(test)]
 mod row;
+#[cfg(test)]
+mod streaming;

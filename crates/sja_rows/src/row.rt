@@ -17,6 +17,17 @@ pub enum Want {
 /// The words after the program's name, and what they give.
 pub type Row = (&'static [&'static str], Want);
 
+/// The same, with the words in one text and a space between two.
+pub type Said = (&'static str, Want);
+
+/// Whether the words of this text, the program's name first, give this.
+pub fn said(alloc: Global, text: &str, want: Want) -> bool {
+    match text.split(' ').collect::<Vec<&str>>(alloc) {
+        Ok(words) => gives(alloc, &words, want),
+        Err(_) => false,
+    }
+}
+
 /// Whether these words, the program's name first, give this. The input isn't read.
 pub fn gives(alloc: Global, words: &[&str], want: Want) -> bool {
     let input: &[u8] = b"unread";
