@@ -1,8 +1,8 @@
 -- How the data bytes grow by one level.
-use Rattle.std.proofs.Common.{◌≡◌, ◌+◌, ◌-◌, ◌*◌, ◌/◌, ◌%◌, ◌^◌, ◌<◌, ◌≤◌, ◌⊎◌, ℕ, Bool, true, false, List, [], ◌∷◌, ◌++◌, length, drop, get_or, slice_range, set, ap, sym, ◌∙◌, arith, inl, inr}
+use Rattle.std.proofs.Common.{◌≡◌, ◌+◌, ◌-◌, ◌*◌, ◌/◌, ◌%◌, ◌^◌, ◌<◌, ◌≤◌, ℕ, Bool, true, false, List, [], ◌∷◌, ◌++◌, length, drop, get_or, slice_range, set, ap, sym, ◌∙◌, arith, inl, inr}
 use Rattle.std.proofs.Math.Nat.{pow-le-pow_right}
 use Rattle.std.proofs.lemmas.Bool.{cases_lt, cases_eq}
-use Rattle.std.proofs.lemmas.List.{length-take, length_push, get_or-set_same, get_or-set_other}
+use Rattle.std.proofs.lemmas.List.{length-take, get_or-set_same, get_or-set_other}
 use Rattle.std.proofs.Math.ListN.{length-set}
 use Rattle.can_bits.specs.declared.level.Level.{Level}
 use Rattle.can_bits.specs.Digits.{digit, value}
@@ -10,7 +10,7 @@ use Rattle.can_bits.specs.Fields.{says_ext, dlc_place}
 use Rattle.can_bits.specs.Data.{data_place}
 use Rattle.can_bits.specs.Growing.{byte_levels, HoldsData}
 use Rattle.can_bits.proofs.Values.{value-push, value-lt}
-use Rattle.can_bits.proofs.Ranges.{range_past, range_in, range_ended, range_before}
+use Rattle.can_bits.proofs.Ranges.{range_in, range_ended, range_before}
 use Rattle.can_bits.proofs.GrowLemmas.{ext_same}
 
 -- the data begin after the format has come

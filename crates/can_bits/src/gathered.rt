@@ -21,10 +21,11 @@ pub struct Gathered {
 }
 
 impl Gathered {
-    ghost use Rattle.std.specs.Prelude.{◌≡◌, ◌<◌, ◌≤◌, ◌-◌, ◌∷◌, ◌++◌, [], List, length, Some, true, ◌↔◌, IsTrue};
+    ghost use Rattle.std.specs.Prelude.{◌≡◌, ◌+◌, ◌*◌, ◌^◌, ◌<◌, ◌≤◌, ◌-◌, ◌∷◌, ◌++◌, [], List, length, Some, true, ◌↔◌, IsTrue};
     ghost use Rattle.can_frame.specs.Frame.{FrameValue, data_count};
     ghost use Rattle.can_bits.specs.declared.level.Level.{Level as Bus};
-    ghost use Rattle.can_bits.specs.Check.{Crc};
+    ghost use Rattle.can_bits.specs.Check.{IsMultiple};
+    ghost use Rattle.can_bits.specs.Digits.{value};
     ghost use Rattle.can_bits.specs.Fields.{says_count};
     ghost use Rattle.can_bits.specs.Spelling.{Spells};
     ghost use Rattle.can_bits.specs.Reading.{SaysWhetherRight};
@@ -57,8 +58,18 @@ impl Gathered {
         self.dlc = dlc_after(self.dlc, ext, place, level);
         self.id = id_after(self.id, ext, place, level);
         keep_data(&mut self.bytes, ext, place, level);
-        self.register = crc_step(self.register % 0x8000, level);
         self.place = place.wrapping_add(1);
+        self.check(level);
+    }
+
+    /// Runs the check register over a level.
+    pub fn check(&mut self, level: Level)
+        ensures kept { self.new ≡ record self.old { register = self.new.register } }
+        ensures fits { self.new.register < 2 ^ 15 }
+        ensures divides { (w : List Bus) → self.old.register < 2 ^ 15 → IsMultiple (value w * 2 ^ 15 + self.old.register)
+            → IsMultiple (value (w ++ level ∷ []) * 2 ^ 15 + self.new.register) }
+    {
+        self.register = crc_step(self.register % 0x8000, level);
     }
 
     /// How many data bytes there are.

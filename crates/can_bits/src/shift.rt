@@ -11,6 +11,9 @@ use super::stage::Stage;
 /// How many equal levels a stuff bit follows.
 const RUN: u8 = 5;
 
+/// Which level after the stuffed part is the sixth bit of the end of frame, counted from 0.
+const SIXTH_END_BIT: u8 = 8;
+
 /// A reader of a line that is given one level at a time.
 ///
 /// It keeps no list of levels: the fields of the frame as far as they have come, the check register, the last run of
@@ -192,7 +195,8 @@ impl Shift {
         ensures stands { (l w : List Bus) → IsPartSoFar l w self.now.last self.now.run → Gathers self.now.gathered w
             → self.now.count ≡ length l → ReadsAt result self.now l }
     {
-        if self.run != RUN && self.gathered.is_whole() {
+        let closed = self.run != RUN;
+        if closed && self.gathered.is_whole() {
             Stage::After(0)
         } else {
             Stage::Part
@@ -215,7 +219,11 @@ impl Shift {
                 ShiftEvent {
                     segment,
                     stuff: false,
-                    frame: if n == 8 { self.gathered.frame() } else { None },
+                    frame: if n == SIXTH_END_BIT {
+                        self.gathered.frame()
+                    } else {
+                        None
+                    },
                     fault: None,
                 }
             }

@@ -13,7 +13,7 @@ use Rattle.can_bits.specs.Shifts.{IsPast, ReadsAt, StandsBy, StandsFor}
 use Rattle.can_bits.proofs.PastLemmas.{past_next, past_readable, past_shows, past_hides}
 use Rattle.can_bits.proofs.TakeLemmas.{past_small}
 use Rattle.can_bits.proofs.ShiftLemmas.{wrong_event, broke_here}
-use Rattle.can_bits.proofs.shift.Shift.step_past.Goals.{then-n-eq8, else-n-eq8}
+use Rattle.can_bits.proofs.shift.Shift.step_past.Goals.{then-n-eq-SIXTH_END_BIT, else-n-eq-SIXTH_END_BIT}
 use Rattle.can_bits.proofs.shift.Shift.step_past.Goals as goal
 
 -- the segment of the level
@@ -36,8 +36,8 @@ returns-in-Some-clause-told c l h =
     subst P (sym c.breaks.ensures.event)
     (wrong_event l c.args.level w (place c.segment_after-segment.ensures (past_next c.args.n l h)) (c.in-Some.ensures.broken l h))
 
-pub returns-after-n-eq8-clause-stands : goal.returns-after-n-eq8-clause-stands
-returns-after-n-eq8-clause-stands c l h =
+pub returns-after-n-eq-SIXTH_END_BIT-clause-stands : goal.returns-after-n-eq-SIXTH_END_BIT-clause-stands
+returns-after-n-eq-SIXTH_END_BIT-clause-stands c l h =
     let old = c.args.self.now in
     let next = c.in-None.ensures.goes_on l h refl in
     let m = l ++ c.args.level ∷ [] in
@@ -58,22 +58,22 @@ returns-after-n-eq8-clause-stands c l h =
     let R : Option ShiftFault → Type 0 = λ o. StandsBy o s m in
     subst R (sym c.requires.right) (subst P (sym place_) (subst Q (sym count) next))
 
-pub returns-after-n-eq8-clause-told : goal.returns-after-n-eq8-clause-told
-returns-after-n-eq8-clause-told c l h =
+pub returns-after-n-eq-SIXTH_END_BIT-clause-told : goal.returns-after-n-eq-SIXTH_END_BIT-clause-told
+returns-after-n-eq-SIXTH_END_BIT-clause-told c l h =
     let old = c.args.self.now in
     let next = c.in-None.ensures.goes_on l h refl in
     let m = l ++ c.args.level ∷ [] in
     let S : Option FrameValue → Type 0 = λ o. ShowsFrame m o in
     record {
       place = place c.segment_after-segment.ensures (past_next c.args.n l h);
-      frame = elim c.if-n-eq8.branch [
-        | then-n-eq8 b ↦
+      frame = elim c.if-n-eq-SIXTH_END_BIT.branch [
+        | then-n-eq-SIXTH_END_BIT b ↦
             let P : ℕ → Type 0 = λ k. IsPast (k + 1) old.gathered (old.count + 1) m in
-            let nine = subst P b.if-n-eq8.true next in
+            let nine = subst P b.if-n-eq-SIXTH_END_BIT.true next in
             let shown = b.frame.ensures nine.frame (nine.body ++ nine.check) nine.body nine.check nine.gathers
             (record { frame = nine.is_part.frame; body = nine.is_part.body; check = nine.is_part.check; whole = refl }) in
             subst S (sym (b.result-is ∙ shown)) (past_shows m nine)
-        | else-n-eq8 b ↦ subst S (sym b.result-is) (past_hides (c.args.n + 1) m next (λ nine. b.if-n-eq8.false (omega (arith, nine))))
+        | else-n-eq-SIXTH_END_BIT b ↦ subst S (sym b.result-is) (past_hides (c.args.n + 1) m next (λ nine. b.if-n-eq-SIXTH_END_BIT.false (omega (arith, nine))))
       ];
       fault = past_readable (c.args.n + 1) m next;
     }
