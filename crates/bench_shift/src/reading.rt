@@ -32,7 +32,10 @@ impl Reading {
     fn add(&mut self, event: &ShiftEvent) {
         let code = u64::from(event.segment.code());
         self.levels = self.levels.wrapping_add(1);
-        self.checksum = self.checksum.wrapping_mul(31).wrapping_add(2 * code + u64::from(event.stuff));
+        self.checksum = self
+            .checksum
+            .wrapping_mul(31)
+            .wrapping_add(2 * code + u64::from(event.stuff));
         if let Some(frame) = &event.frame {
             self.frames = self.frames.wrapping_add(1);
             self.checksum = self.checksum.wrapping_add(u64::from(frame.id()));
@@ -42,6 +45,10 @@ impl Reading {
 
 impl Display for Reading {
     fn fmt<W: Write>(&self, f: &mut Formatter<W>) -> Result<(), Error> {
-        write!(f, "levels {} frames {} checksum {:016x}", self.levels, self.frames, self.checksum)
+        write!(
+            f,
+            "levels {} frames {} checksum {:016x}",
+            self.levels, self.frames, self.checksum
+        )
     }
 }

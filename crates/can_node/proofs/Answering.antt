@@ -14,7 +14,8 @@ use Rattle.can_node.specs.Context.{Context}
 use Rattle.can_node.specs.Pieces.{sent_at}
 use Rattle.can_node.specs.Pieces.Spot.{AtIdle, AfterReception}
 use Rattle.can_node.specs.Pieces.Piece.{Reception}
-use Rattle.can_node.specs.Frames.{IsAckDue, Answers, AllAnswer, AckFits, Hears}
+use Rattle.can_bits.specs.Acknowledging.{IsAckDue}
+use Rattle.can_node.specs.Frames.{Answers, AllAnswer, AckFits, Hears}
 use Rattle.can_node.specs.Frames.Hears.{reception}
 use Rattle.can_node.specs.Table.{Row}
 use Rattle.can_node.specs.Table.Row.{other}

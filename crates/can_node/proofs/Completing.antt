@@ -13,7 +13,8 @@ use Rattle.can_bits.proofs.Going.{IsInside, part_begun}
 use Rattle.can_node.specs.Bits.{Bit, forced, seen_of}
 use Rattle.can_node.specs.Pieces.Spot.{AfterReception}
 use Rattle.can_node.specs.Pieces.Piece.{Reception}
-use Rattle.can_node.specs.Frames.{IsAckDue, Answers, AllAnswer, AckFits, IsWithin, Hears}
+use Rattle.can_bits.specs.Acknowledging.{IsAckDue}
+use Rattle.can_node.specs.Frames.{Answers, AllAnswer, AckFits, IsWithin, Hears}
 use Rattle.can_node.specs.Frames.Hears.{reception}
 use Rattle.can_node.proofs.Nexts.{past_here}
 use Rattle.can_node.proofs.Seen.{answers_at}

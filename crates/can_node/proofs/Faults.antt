@@ -12,7 +12,8 @@ use Rattle.can_bits.proofs.Ending.{line_at}
 use Rattle.can_node.specs.declared.cause.Cause.{Cause}
 use Rattle.can_node.specs.declared.cause.Cause.TheVariants.{Bit as BitError, Stuff as StuffError, Form as FormError, Crc as CheckError}
 use Rattle.can_node.specs.Bits.{Bit, heard, forced, seen_of}
-use Rattle.can_node.specs.Frames.{IsAckDue, Answers, AllAnswer, AckFits, Breaks}
+use Rattle.can_bits.specs.Acknowledging.{IsAckDue}
+use Rattle.can_node.specs.Frames.{Answers, AllAnswer, AckFits, Breaks}
 use Rattle.can_node.specs.Frames.Breaks.{stuff, form, check, own_ack}
 use Rattle.can_node.proofs.Seen.{seen_split, answers_at}
 

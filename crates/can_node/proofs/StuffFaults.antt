@@ -12,7 +12,8 @@ use Rattle.can_node.specs.declared.cause.Cause.{Cause}
 use Rattle.can_node.specs.declared.cause.Cause.TheVariants.{Stuff as StuffError}
 use Rattle.can_node.specs.Bits.{Bit, heard, forced, hears, seen_of}
 use Rattle.can_node.proofs.Heard.{no_forced, seen_heard, seen_both}
-use Rattle.can_node.specs.Frames.{IsAckDue, Answers, AllAnswer, IsWithin, Breaks, BreaksOff}
+use Rattle.can_bits.specs.Acknowledging.{IsAckDue}
+use Rattle.can_node.specs.Frames.{Answers, AllAnswer, IsWithin, Breaks, BreaksOff}
 use Rattle.can_node.specs.Frames.Breaks.{stuff, form, check, own_ack}
 
 -- a line that begins with levels begins with a front of them

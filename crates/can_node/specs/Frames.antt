@@ -10,6 +10,7 @@ use Rattle.can_bits.specs.Line.{StuffedPart, Line, tail}
 use Rattle.can_bits.specs.Reading.{Begins, IsPastPart}
 use Rattle.can_bits.specs.Segments.{IsNext}
 use Rattle.can_bits.specs.Streaming.{EndsInWrongCheck}
+use Rattle.can_bits.specs.Acknowledging.{IsAckDue}
 use Rattle.can_bits.specs.Places.{place_code, is_early_stuff}
 use Rattle.can_node.specs.declared.cause.Cause.{Cause}
 use Rattle.can_node.specs.declared.cause.Cause.TheVariants.{Bit as BitError, Stuff as StuffError, Form as FormError, Crc as CheckError, Ack as AckError}
@@ -19,16 +20,6 @@ use Rattle.can_node.specs.Pieces.{Spot, Piece}
 use Rattle.can_node.specs.Pieces.Spot.{AfterReception, Flagging, Pausing}
 use Rattle.can_node.specs.Pieces.FaultPlace.{InSending, InReception}
 use Rattle.can_node.specs.Pieces.Piece.{Reception, Sending, Fault}
-
--- the next level is the acknowledgement slot of a line whose check sequence is right
-pub record IsAckDue (l : List Level) : Type 0 where
-  pub frame : FrameValue
-  pub body : List Level
-  pub check : List Level
-  pub part : List Level
-  pub is_part : StuffedPart frame body check part
-  pub right : Crc body check
-  pub whole : l ≡ part ++ Recessive ∷ []
 
 -- what a receiver drives after these levels: dominant in the acknowledgement slot of a line whose check sequence is
 -- right, and there alone; a node that only listens drives recessive
