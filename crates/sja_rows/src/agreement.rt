@@ -27,9 +27,9 @@ fn some_frame(number: u64) -> Option<Frame> {
     Frame::new(ext, id, rtr, code, data.get(..count)?).ok()
 }
 
-/// The number of these bits, counted from this bit.
-fn bits_of(number: u64, from: u32, mask: u64) -> usize {
-    usize::try_from((number >> from) & mask).unwrap_or(0)
+/// The number of these lowest bits.
+fn low_bits(number: u64, mask: u64) -> usize {
+    usize::try_from(number & mask).unwrap_or(0)
 }
 
 /// The line of a frame, acknowledged, with one level turned, and cut or with levels past it.
@@ -40,13 +40,13 @@ fn some_levels(alloc: Global, frame: &Frame, number: u64) -> Result<Vec<Level>, 
     if let Some(level) = levels.get_mut(slot) {
         *level = Level::Dominant;
     }
-    if let Some(level) = levels.get_mut(bits_of(number, 20, 0xff)) {
+    if let Some(level) = levels.get_mut(low_bits(number >> 20, 0xff)) {
         *level = level.opposite();
     }
-    if bits_of(number, 30, 3) == 0 {
-        levels.truncate(bits_of(number, 32, 0x7f));
+    if low_bits(number >> 30, 3) == 0 {
+        levels.truncate(low_bits(number >> 32, 0x7f));
     }
-    if bits_of(number, 30, 7) == 1 {
+    if low_bits(number >> 30, 7) == 1 {
         levels.push(Level::Recessive)?;
     }
     Ok(levels)
