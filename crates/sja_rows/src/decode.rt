@@ -6,7 +6,7 @@ use std::alloc::Global;
 use std::str;
 use std::test::Fail;
 
-/// The same acknowledged: level 41 is dominant.
+/// The acknowledged line of the standard data frame of zeros without data: level 41 is dominant.
 const LEAST: &str = "00000100000100000100000100000100000100001011111111";
 
 /// The acknowledged line of the standard data frame with identifier 0x123 and the data 11 22: level 53 is dominant.

@@ -147,74 +147,31 @@ fn each_segment_has_its_code(rt: HostRuntime) -> Result<(), Fail> {
     Ok(())
 }
 
+/// Whether this is what breaks a line after the stuffed part of the frame of zeros.
+fn breaks_past(more: &str, segment: Segment, fault: LineFault) -> bool {
+    breaks(ZEROS, more, segment, false, fault)
+}
+
 /// Each kind of fault, at the level that is wrong and from then on.
 #[test]
 fn a_fault_is_answered_again(rt: HostRuntime) -> Result<(), Fail> {
+    let id = Segment::Id28To21;
     assert!(rt; breaks("", "1", Segment::StartOfFrame, false, LineFault::Form(0)));
-    assert!(rt; breaks("00000", "0", Segment::Id28To21, true, LineFault::Stuff(5)));
-    assert!(rt;
-        breaks(
-            "000001111",
-            "11",
-            Segment::Id28To21,
-            true,
-            LineFault::Stuff(10)
-        )
-    );
-    assert!(rt;
-        breaks(
-            ZEROS,
-            "0",
-            Segment::CheckDelimiter,
-            false,
-            LineFault::Form(40)
-        )
-    );
-    assert!(rt;
-        breaks(
-            ZEROS,
-            "100",
-            Segment::AckDelimiter,
-            false,
-            LineFault::Form(42)
-        )
-    );
-    assert!(rt;
-        breaks(
-            ZEROS,
-            "1010",
-            Segment::EndOfFrame,
-            false,
-            LineFault::Form(43)
-        )
-    );
-    assert!(rt;
-        breaks(
-            ZEROS,
-            "1011111110",
-            Segment::EndOfFrame,
-            false,
-            LineFault::Form(49)
-        )
-    );
-    assert!(rt;
-        breaks(
-            ZEROS,
-            "10111111111",
-            Segment::EndOfFrame,
-            false,
-            LineFault::Trailing(50)
-        )
-    );
-    assert!(rt;
-        breaks(
-            ZEROS,
-            "11111111110",
-            Segment::EndOfFrame,
-            false,
-            LineFault::Trailing(50)
-        )
-    );
+    assert!(rt; breaks("00000", "0", id, true, LineFault::Stuff(5)));
+    assert!(rt; breaks("000001111", "11", id, true, LineFault::Stuff(10)));
+    assert!(rt; breaks_past("0", Segment::CheckDelimiter, LineFault::Form(40)));
+    assert!(rt; breaks_past("100", Segment::AckDelimiter, LineFault::Form(42)));
+    assert!(rt; breaks_past("1010", Segment::EndOfFrame, LineFault::Form(43)));
+    Ok(())
+}
+
+/// The seventh bit of the end of frame, and a level after it.
+#[test]
+fn the_end_of_a_line_has_its_faults(rt: HostRuntime) -> Result<(), Fail> {
+    let end = Segment::EndOfFrame;
+    assert!(rt; breaks_past("1011111110", end, LineFault::Form(49)));
+    assert!(rt; breaks_past("10111111111", end, LineFault::Trailing(50)));
+    assert!(rt; breaks_past("11111111110", end, LineFault::Trailing(50)));
     Ok(())
 }
 
@@ -224,15 +181,8 @@ fn a_wrong_check_sequence_is_answered_after_the_slot(rt: HostRuntime) -> Result<
     let wrong = "0000010000010000010000010000010000010001";
     assert!(rt; breaks(wrong, "101", Segment::AckDelimiter, false, LineFault::Crc));
     assert!(rt; breaks(wrong, "111", Segment::AckDelimiter, false, LineFault::Crc));
-    assert!(rt;
-        breaks(
-            wrong,
-            "100",
-            Segment::AckDelimiter,
-            false,
-            LineFault::Form(42)
-        )
-    );
+    let form = LineFault::Form(42);
+    assert!(rt; breaks(wrong, "100", Segment::AckDelimiter, false, form));
     Ok(())
 }
 
