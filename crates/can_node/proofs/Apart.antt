@@ -12,7 +12,7 @@ use Rattle.can_node.specs.Bits.{Bit, hears, forces, seen_of, IsFirst}
 use Rattle.can_node.specs.Context.{Context, owes_suspension, pause_count, flag_level, join_count}
 use Rattle.can_node.specs.Pieces.{Spot, Piece}
 use Rattle.can_node.specs.Pieces.Spot.{Joining, AtIdle, SofSeen, AfterReception, Flagging, AfterFlag, Pausing}
-use Rattle.can_node.specs.Pieces.FaultPlace.{InFlag, InDelimiter}
+use Rattle.can_node.specs.declared.fault_place.FaultPlace.TheVariants.{InFlag, InDelimiter}
 use Rattle.can_node.specs.Pieces.Piece.{Fault, Flag, Tail, Pause, PauseWithSof, PauseBroken}
 use Rattle.can_node.specs.Table.{Row, flag_segment}
 use Rattle.can_node.specs.Table.Row.{join, last, last_overload, flag, flag_fault, flag_passive, tail, tail_overload, tail_fault, pause, pause_sof, pause_sof_owed, pause_broken, pause_broken_second}

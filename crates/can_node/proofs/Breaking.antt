@@ -17,14 +17,10 @@ use Rattle.can_node.specs.declared.cause.Cause.TheVariants.{Stuff as StuffError,
 use Rattle.can_node.specs.Bits.{Bit, heard, forced, seen_of}
 use Rattle.can_node.specs.Frames.{Answers, AllAnswer, IsWithin, Breaks, BreaksOff}
 use Rattle.can_node.specs.Frames.Breaks.{stuff, form, check, own_ack}
+use Rattle.can_node.specs.Stages.{AllRight}
 use Rattle.can_node.proofs.Nexts.{past_here, after_once}
 use Rattle.can_node.proofs.Seen.{seen_split, answers_at}
 use Rattle.can_node.proofs.Faults.{more_after}
-
--- so far nothing is wrong for a receiver: a line goes on, and each dominant level that it drove was seen
-pub record AllRight (l : List Level) (bits : List Bit) : Type 0 where
-  pub readable : IsReadable (l ++ seen_of bits)
-  pub answered : (before after : List Bit) → bits ≢ before ++ forced Recessive ∷ after
 
 -- a front of what is readable is readable
 readable_front : (p q : List Level) → IsReadable (p ++ q) → IsReadable p

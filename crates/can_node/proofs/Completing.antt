@@ -18,7 +18,8 @@ use Rattle.can_node.specs.Frames.{Answers, AllAnswer, AckFits, IsWithin, Hears}
 use Rattle.can_node.specs.Frames.Hears.{reception}
 use Rattle.can_node.proofs.Nexts.{past_here}
 use Rattle.can_node.proofs.Seen.{answers_at}
-use Rattle.can_node.proofs.Breaking.{AllRight, readable_begins}
+use Rattle.can_node.specs.Stages.{AllRight}
+use Rattle.can_node.proofs.Breaking.{readable_begins}
 
 -- what is readable and isn't a line but for its last level, nor a whole one, has two levels more at least
 pub within_here : (l : List Level) → IsReadable l → ((f : FrameValue) → IsLineButFor 1 f l → ⊥) → (IsOver l → ⊥) → IsWithin l

@@ -8,11 +8,11 @@ use Rattle.can_node.specs.declared.config.Config.{Config}
 use Rattle.can_node.specs.declared.request.Request.{Request}
 use Rattle.can_node.specs.Bits.{heard, forced, hears}
 use Rattle.can_node.specs.Context.{Context, fresh, owes_suspension, join_count}
-use Rattle.can_node.specs.Context.Role.{Transmitter, Receiver}
-use Rattle.can_node.specs.Context.FlagKind.{ActiveError, PassiveError, Overload}
-use Rattle.can_node.specs.Pieces.{FaultPlace}
+use Rattle.can_node.specs.declared.role.Role.TheVariants.{Transmitter, Receiver}
+use Rattle.can_node.specs.declared.flag_kind.FlagKind.TheVariants.{ActiveError, PassiveError, Overload}
+use Rattle.can_node.specs.declared.fault_place.FaultPlace.{FaultPlace}
 use Rattle.can_node.specs.Pieces.Spot.{Joining, AtIdle, SofSeen, Flagging, AfterFlag, Pausing}
-use Rattle.can_node.specs.Pieces.FaultPlace.{InSending, InReception, InFlag, InDelimiter}
+use Rattle.can_node.specs.declared.fault_place.FaultPlace.TheVariants.{InSending, InReception, InFlag, InDelimiter}
 use Rattle.can_node.specs.Pieces.Piece.{Join, Fault, Last, Flag, Tail, Pause, PauseWithSof, PauseBroken, Sending}
 use Rattle.can_node.specs.Record.Entry.{Took, Send}
 use Rattle.can_node.specs.Counting.{at_bit}

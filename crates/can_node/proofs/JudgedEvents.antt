@@ -8,7 +8,7 @@ use Rattle.can_node.specs.declared.outcome.Outcome.TheVariants.{Sent, Failed}
 use Rattle.can_node.specs.Bits.{heard, forced, hears}
 use Rattle.can_node.specs.Context.{fresh}
 use Rattle.can_node.specs.Pieces.Spot.{Joining, AtIdle, SofSeen, Flagging, Pausing}
-use Rattle.can_node.specs.Pieces.FaultPlace.{InSending, InFlag, InDelimiter}
+use Rattle.can_node.specs.declared.fault_place.FaultPlace.TheVariants.{InSending, InFlag, InDelimiter}
 use Rattle.can_node.specs.Pieces.Piece.{Join, Fault, Sending}
 use Rattle.can_node.specs.Effects.{with_send, with_abort, with_stop}
 use Rattle.can_node.specs.Events.{events_of}

@@ -13,7 +13,7 @@ use Rattle.can_bits.proofs.LineLaws.{lines_agree}
 use Rattle.can_node.specs.declared.cause.Cause.{Cause}
 use Rattle.can_node.specs.Bits.{Bit, seen_of}
 use Rattle.can_node.specs.Pieces.{Spot, Piece}
-use Rattle.can_node.specs.Pieces.FaultPlace.{InReception}
+use Rattle.can_node.specs.declared.fault_place.FaultPlace.TheVariants.{InReception}
 use Rattle.can_node.specs.Pieces.Piece.{Reception, Fault}
 use Rattle.can_node.specs.Frames.{AckFits, BreaksOff, Hears}
 use Rattle.can_node.specs.Frames.Hears.{reception, broken}

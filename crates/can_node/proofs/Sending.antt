@@ -14,7 +14,7 @@ use Rattle.can_node.specs.declared.request.Request.{Request}
 use Rattle.can_node.specs.Bits.{Bit, heard, seen_of, driven_of}
 use Rattle.can_node.specs.Pieces.{Spot, Piece}
 use Rattle.can_node.specs.Pieces.Spot.{Flagging, Pausing}
-use Rattle.can_node.specs.Pieces.FaultPlace.{InSending}
+use Rattle.can_node.specs.declared.fault_place.FaultPlace.TheVariants.{InSending}
 use Rattle.can_node.specs.Pieces.Piece.{Sending, Fault}
 use Rattle.can_node.specs.Frames.{Hears, SentPart, GoesWell, Fails, Sends}
 use Rattle.can_node.specs.Frames.Fails.{no_ack, stuff_bit, unseen, overdriven}

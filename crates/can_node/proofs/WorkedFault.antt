@@ -18,7 +18,7 @@ use Rattle.can_node.specs.Context.{Context, fresh}
 use Rattle.can_node.specs.Pieces.{sent_at}
 use Rattle.can_node.specs.Table.{Row}
 use Rattle.can_node.specs.Pieces.Spot.{AtIdle, Flagging}
-use Rattle.can_node.specs.Pieces.FaultPlace.{InReception}
+use Rattle.can_node.specs.declared.fault_place.FaultPlace.TheVariants.{InReception}
 use Rattle.can_node.specs.Pieces.Piece.{Join, Fault}
 use Rattle.can_node.specs.Frames.{IsWithin, BreaksOff}
 use Rattle.can_bits.specs.declared.level.Level.{Level}

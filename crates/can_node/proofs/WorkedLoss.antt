@@ -15,7 +15,7 @@ use Rattle.can_node.specs.declared.config.Config.{Config}
 use Rattle.can_node.specs.Bits.{forced, hears}
 use Rattle.can_node.specs.Context.{Context, fresh}
 use Rattle.can_node.specs.Pieces.Spot.{AtIdle, Flagging}
-use Rattle.can_node.specs.Pieces.FaultPlace.{InReception}
+use Rattle.can_node.specs.declared.fault_place.FaultPlace.TheVariants.{InReception}
 use Rattle.can_node.specs.Pieces.Piece.{Join, Fault}
 use Rattle.can_node.specs.Frames.{SentPart, Sends}
 use Rattle.can_node.specs.Frames.Hears.{broken}

@@ -15,10 +15,10 @@ use Rattle.can_bits.proofs.Ending.{part_begins}
 use Rattle.can_node.specs.declared.cause.Cause.TheVariants.{Bit as BitError}
 use Rattle.can_node.specs.Bits.{heard, forced, hears, IsFirst}
 use Rattle.can_node.specs.Context.{Context, fresh}
-use Rattle.can_node.specs.Context.Role.{Transmitter}
-use Rattle.can_node.specs.Context.FlagKind.{PassiveError}
+use Rattle.can_node.specs.declared.role.Role.TheVariants.{Transmitter}
+use Rattle.can_node.specs.declared.flag_kind.FlagKind.TheVariants.{PassiveError}
 use Rattle.can_node.specs.Pieces.Spot.{Resting, Joining, AtIdle, Flagging, AfterFlag}
-use Rattle.can_node.specs.Pieces.FaultPlace.{InSending}
+use Rattle.can_node.specs.declared.fault_place.FaultPlace.TheVariants.{InSending}
 use Rattle.can_node.specs.Pieces.Piece.{Join, Fault, Flag}
 use Rattle.can_node.specs.Frames.{Sends}
 use Rattle.can_node.specs.Frames.Fails.{unseen}

@@ -13,9 +13,9 @@ use Rattle.can_node.specs.declared.config.Config.{Config}
 use Rattle.can_node.specs.declared.request.Request.{Request}
 use Rattle.can_node.specs.Bits.{Bit, heard, forced, hears, forces}
 use Rattle.can_node.specs.Context.{Context, fresh}
-use Rattle.can_node.specs.Context.Role.{Transmitter, Receiver}
+use Rattle.can_node.specs.declared.role.Role.TheVariants.{Transmitter, Receiver}
 use Rattle.can_node.specs.Pieces.Spot.{AtIdle, Flagging, AfterFlag, Pausing}
-use Rattle.can_node.specs.Pieces.FaultPlace.{InSending}
+use Rattle.can_node.specs.declared.fault_place.FaultPlace.TheVariants.{InSending}
 use Rattle.can_node.specs.Pieces.Piece.{Join, Fault, Flag, Tail, Pause}
 use Rattle.can_node.specs.Frames.{SentPart, Sends}
 use Rattle.can_node.specs.Frames.Fails.{no_ack}

@@ -2,19 +2,11 @@
 use Rattle.std.specs.Prelude.{◌&&◌, ◌||◌, ℕ, Bool, true, false, nat_le, if◌then◌else◌, Option, Some, None}
 use Rattle.can_bits.specs.declared.level.Level.{Level}
 use Rattle.can_bits.specs.declared.level.Level.TheVariants.{Dominant, Recessive}
+use Rattle.can_node.specs.declared.role.Role.{Role}
+use Rattle.can_node.specs.declared.role.Role.TheVariants.{Transmitter, Receiver}
+use Rattle.can_node.specs.declared.flag_kind.FlagKind.{FlagKind}
+use Rattle.can_node.specs.declared.flag_kind.FlagKind.TheVariants.{ActiveError, PassiveError, Overload}
 use Rattle.can_node.specs.declared.request.Request.{Request}
-
--- whose frame it is: a node is transmitter from its own start of frame until it is idle, loses arbitration or takes
--- another node's start of frame
-pub data Role : Type 0 where
-  Transmitter : Role
-  Receiver : Role
-
--- the flags (Bosch CAN 2.0 part A sections 3.1.3 and 3.1.4)
-pub data FlagKind : Type 0 where
-  ActiveError : FlagKind
-  PassiveError : FlagKind
-  Overload : FlagKind
 
 -- what the lawfulness of a piece and its effect hang on
 pub record Context : Type 0 where

@@ -5,9 +5,11 @@ use Rattle.can_bits.specs.declared.level.Level.TheVariants.{Dominant, Recessive}
 use Rattle.can_bits.specs.Places.{place_code}
 use Rattle.can_node.specs.declared.request.Request.{Request}
 use Rattle.can_node.specs.Bits.{Bit, seen_of}
-use Rattle.can_node.specs.Context.{Context, Role, FlagKind}
-use Rattle.can_node.specs.Context.Role.{Transmitter, Receiver}
-use Rattle.can_node.specs.Context.FlagKind.{ActiveError, PassiveError, Overload}
+use Rattle.can_node.specs.declared.role.Role.{Role}
+use Rattle.can_node.specs.declared.flag_kind.FlagKind.{FlagKind}
+use Rattle.can_node.specs.Context.{Context}
+use Rattle.can_node.specs.declared.role.Role.TheVariants.{Transmitter, Receiver}
+use Rattle.can_node.specs.declared.flag_kind.FlagKind.TheVariants.{ActiveError, PassiveError, Overload}
 use Rattle.can_node.specs.Pieces.{Spot, sent_at}
 use Rattle.can_node.specs.Pieces.Spot.{Resting, Joining, AtIdle, SofSeen, AfterReception, Flagging, AfterFlag, Pausing}
 

@@ -5,12 +5,15 @@ use Rattle.can_node.specs.declared.cause.Cause.TheVariants.{Bit as BitError, Stu
 use Rattle.can_node.specs.declared.config.Config.{Config}
 use Rattle.can_node.specs.declared.request.Request.{Request}
 use Rattle.can_node.specs.Bits.{Bit}
-use Rattle.can_node.specs.Context.{Context, Role, FlagKind, is_transmitter, is_passive, is_held, owes_suspension}
-use Rattle.can_node.specs.Context.Role.{Transmitter, Receiver}
-use Rattle.can_node.specs.Context.FlagKind.{ActiveError, PassiveError, Overload}
-use Rattle.can_node.specs.Pieces.{Spot, Piece, FaultPlace}
+use Rattle.can_node.specs.declared.role.Role.{Role}
+use Rattle.can_node.specs.declared.flag_kind.FlagKind.{FlagKind}
+use Rattle.can_node.specs.Context.{Context, is_transmitter, is_passive, is_held, owes_suspension}
+use Rattle.can_node.specs.declared.role.Role.TheVariants.{Transmitter, Receiver}
+use Rattle.can_node.specs.declared.flag_kind.FlagKind.TheVariants.{ActiveError, PassiveError, Overload}
+use Rattle.can_node.specs.declared.fault_place.FaultPlace.{FaultPlace}
+use Rattle.can_node.specs.Pieces.{Spot, Piece}
 use Rattle.can_node.specs.Pieces.Spot.{Resting, Joining, AtIdle, SofSeen, AfterReception, Flagging, AfterFlag, Pausing}
-use Rattle.can_node.specs.Pieces.FaultPlace.{InSending, InReception, InFlag, InDelimiter}
+use Rattle.can_node.specs.declared.fault_place.FaultPlace.TheVariants.{InSending, InReception, InFlag, InDelimiter}
 use Rattle.can_node.specs.Pieces.Piece.{Join, Idle, Reception, Sending, Fault, Last, Flag, Tail, Pause, PauseWithSof, PauseBroken}
 use Rattle.can_node.specs.Record.{Entry}
 use Rattle.can_node.specs.Record.Entry.{Start, Stop, Took, Send, Abort, Off}

@@ -9,8 +9,9 @@ use Rattle.can_node.specs.declared.outcome.Outcome.{Outcome}
 use Rattle.can_node.specs.declared.outcome.Outcome.TheVariants.{Sent, Failed}
 use Rattle.can_node.specs.declared.bit_events.BitEvents.{BitEvents}
 use Rattle.can_node.specs.Bits.{Bit, seen_of}
-use Rattle.can_node.specs.Context.{Context, Role, is_transmitter, is_held}
-use Rattle.can_node.specs.Context.Role.{Transmitter, Receiver}
+use Rattle.can_node.specs.declared.role.Role.{Role}
+use Rattle.can_node.specs.Context.{Context, is_transmitter, is_held}
+use Rattle.can_node.specs.declared.role.Role.TheVariants.{Transmitter, Receiver}
 use Rattle.can_node.specs.Pieces.{Spot, Piece, received_by}
 use Rattle.can_node.specs.Pieces.Spot.{Resting, Joining, AtIdle, SofSeen, AfterReception, Flagging, AfterFlag, Pausing}
 use Rattle.can_node.specs.Pieces.Piece.{Join, Idle, Reception, Sending, Fault, Last, Flag, Tail, Pause, PauseWithSof, PauseBroken}

@@ -18,7 +18,7 @@ use Rattle.can_node.specs.declared.request.Request.{Request}
 use Rattle.can_node.specs.Bits.{Bit, heard, forced, seen_of, driven_of}
 use Rattle.can_node.specs.Pieces.{Spot, Piece}
 use Rattle.can_node.specs.Pieces.Spot.{AfterReception, Flagging, Pausing}
-use Rattle.can_node.specs.Pieces.FaultPlace.{InSending, InReception}
+use Rattle.can_node.specs.declared.fault_place.FaultPlace.TheVariants.{InSending, InReception}
 use Rattle.can_node.specs.Pieces.Piece.{Reception, Sending, Fault}
 
 -- what a receiver drives after these levels: dominant in the acknowledgement slot of a line whose check sequence is

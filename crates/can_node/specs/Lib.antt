@@ -8,3 +8,8 @@ pub mod Counting
 pub mod Effects
 pub mod Cut
 pub mod Events
+pub mod Driving
+pub mod Standing
+pub mod Stages
+pub mod Turns
+pub mod Stands

@@ -3,6 +3,7 @@ use Rattle.std.specs.Prelude.{if◌then◌else◌, Option, Some, None}
 use Rattle.can_frame.specs.Frame.{FrameValue}
 use Rattle.can_bits.specs.declared.segment.Segment.{Segment}
 use Rattle.can_node.specs.declared.cause.Cause.{Cause}
+use Rattle.can_node.specs.declared.fault_place.FaultPlace.{FaultPlace}
 use Rattle.can_node.specs.declared.request.Request.{Request}
 use Rattle.can_node.specs.Context.{Context, is_transmitter}
 
@@ -16,13 +17,6 @@ pub data Spot : Type 0 where
   Flagging : Spot
   AfterFlag : Spot
   Pausing : Spot
-
--- where a fault was
-pub data FaultPlace : Type 0 where
-  InSending : FaultPlace
-  InReception : FaultPlace
-  InFlag : FaultPlace
-  InDelimiter : FaultPlace
 
 -- waiting for the bus after a start; an idle bit; a frame of another node; an own frame; something wrong; the bit after a
 -- received frame; a flag; its delimiter; intermission and suspension; the same with the start of a frame as its last bit,

@@ -8,11 +8,12 @@ use Rattle.can_bits.specs.Stuffing.{EndsInEqual}
 use Rattle.can_node.specs.declared.cause.Cause.TheVariants.{Bit as BitError, Form as FormError}
 use Rattle.can_node.specs.declared.request.Request.{Request}
 use Rattle.can_node.specs.Bits.{Bit, heard, forced, hears, forces, IsFirst}
-use Rattle.can_node.specs.Context.{Context, FlagKind, owes_suspension, pause_count, flag_level, join_count}
-use Rattle.can_node.specs.Context.FlagKind.{ActiveError, PassiveError, Overload}
+use Rattle.can_node.specs.declared.flag_kind.FlagKind.{FlagKind}
+use Rattle.can_node.specs.Context.{Context, owes_suspension, pause_count, flag_level, join_count}
+use Rattle.can_node.specs.declared.flag_kind.FlagKind.TheVariants.{ActiveError, PassiveError, Overload}
 use Rattle.can_node.specs.Pieces.{Spot, Piece, sent_at}
 use Rattle.can_node.specs.Pieces.Spot.{Joining, AtIdle, SofSeen, AfterReception, Flagging, AfterFlag, Pausing}
-use Rattle.can_node.specs.Pieces.FaultPlace.{InFlag, InDelimiter}
+use Rattle.can_node.specs.declared.fault_place.FaultPlace.TheVariants.{InFlag, InDelimiter}
 use Rattle.can_node.specs.Pieces.Piece.{Join, Idle, Fault, Last, Flag, Tail, Pause, PauseWithSof, PauseBroken}
 use Rattle.can_node.specs.Frames.{Hears, Sends}
 

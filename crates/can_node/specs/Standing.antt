@@ -1,0 +1,27 @@
+-- What the fields of a node say of its context.
+use Rattle.std.specs.Prelude.{◌≡◌, Bool}
+use Rattle.can_node.specs.declared.standing.Standing.{Standing}
+use Rattle.can_node.specs.declared.flag_kind.FlagKind.{FlagKind}
+use Rattle.can_node.specs.Context.{Context}
+
+-- the context that the fields stand for
+abbrev pub context_of : Standing → Context
+context_of s = record {
+  listen = s.listen;
+  self_test = s.self_test;
+  held = s.held;
+  aborted = s.aborted;
+  role = s.role;
+  tec = s.counters.tec;
+  rec = s.counters.rec;
+  off = s.counters.off;
+  flag = s.flag;
+  late = s.late;
+}
+
+-- what doesn't change within a piece
+pub record IsKept (c now : Context) : Type 0 where
+  pub listen : now.listen ≡ c.listen
+  pub self_test : now.self_test ≡ c.self_test
+  pub off : now.off ≡ c.off
+  pub flag : now.flag ≡ c.flag

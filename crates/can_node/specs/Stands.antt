@@ -1,0 +1,125 @@
+-- A node that stands at a record, and what its calls do.
+use Rattle.std.specs.Prelude.{⊤, ◌≡◌, ◌≢◌, ◌⊎◌, ◌||◌, ◌&&◌, Bool, true, false, nat_le, if◌then◌else◌, Option, Some, None, Result, Ok, Err, List, [], ◌∷◌, ◌++◌}
+use Rattle.can_bits.specs.declared.level.Level.{Level}
+use Rattle.can_node.specs.declared.request.Request.{Request}
+use Rattle.can_node.specs.declared.aborted.Aborted.{Aborted}
+use Rattle.can_node.specs.declared.aborted.Aborted.TheVariants.{Unchanged, Marked, Dropped}
+use Rattle.can_node.specs.declared.phase.Phase.{Phase}
+use Rattle.can_node.specs.declared.phase.Phase.TheVariants.{Reset, Waiting, Idle as IdlePhase, Frame as FramePhase, Flag as FlagPhase, Delimiter as DelimiterPhase, Intermission, Suspension}
+use Rattle.can_node.specs.declared.counters.Counters.{Counters}
+use Rattle.can_node.specs.declared.state.State.{State}
+use Rattle.can_node.specs.declared.state.State.TheVariants.{Active, Passive, BusOff}
+use Rattle.can_node.specs.declared.bit_events.BitEvents.{BitEvents}
+use Rattle.can_node.specs.declared.node.Node.{Node}
+use Rattle.can_node.specs.Bits.{Bit}
+use Rattle.can_node.specs.Context.{Context, fresh, is_held}
+use Rattle.can_node.specs.Pieces.{Spot, Piece}
+use Rattle.can_node.specs.Pieces.Spot.{Resting}
+use Rattle.can_node.specs.Record.{Entry, bits_in}
+use Rattle.can_node.specs.Record.Entry.{Took, Send, Abort, Off}
+use Rattle.can_node.specs.Effects.{along, is_in_progress}
+use Rattle.can_node.specs.Cut.{From, Found, Count, none_yet, counted, tagged}
+use Rattle.can_node.specs.Events.{Step, events_of}
+use Rattle.can_node.specs.Events.Step.{Goes, Closes}
+use Rattle.can_node.specs.Driving.{Drives, phase_at}
+use Rattle.can_node.specs.Standing.{context_of}
+use Rattle.can_node.specs.Stages.{At}
+
+-- the node stands at this record, cut into these finished pieces, with a piece perhaps that isn't finished at its end
+pub record StandsAt (node : Node) (entries : List Entry) (found : List Found) : Type 0 where
+  pub context : Context
+  pub spot : Spot
+  pub slice : List Entry
+  pub from : From none_yet fresh Resting entries found context spot slice
+  pub shows : context_of node.standing ≡ along context spot [] slice
+  pub at : At node.stage node.shift context (along context spot [] slice) spot (bits_in slice)
+
+-- the context of the next bit
+abbrev pub now_of : (node : Node) (entries : List Entry) (found : List Found) → StandsAt node entries found → Context
+now_of node entries found h = along h.context h.spot [] h.slice
+
+-- the entries that a bit adds: its own, and that of bus-off
+abbrev pub entries_of : Bit → BitEvents → List Entry
+entries_of b e = if e.went_off then Took b ∷ Off ∷ [] else Took b ∷ []
+
+-- the piece that a bit finished, with its activation and the number of bits up to its end
+abbrev pub closed_by : Count → Step → List Found
+closed_by k Goes = []
+closed_by k (Closes piece next) = tagged k (piece ∷ [])
+
+-- one bit leads from a record to the record with it, and tells what the cut has there
+pub record Leads (node new : Node) (entries : List Entry) (found : List Found) (h : StandsAt node entries found) (b : Bit) (e : BitEvents) : Type 0 where
+  pub step : Step
+  pub told : e ≡ events_of step (now_of node entries found h) h.spot (bits_in h.slice) b
+  pub stands : StandsAt new (entries ++ entries_of b e) (found ++ closed_by (counted none_yet (entries ++ Took b ∷ [])) step)
+
+-- ---- what the calls do, for every record that the node stands at
+
+-- with one entry more, and the same pieces
+abbrev pub Enters : Node → Node → Entry → Type 0
+Enters old new entry = (entries : List Entry) (found : List Found) → StandsAt old entries found → StandsAt new (entries ++ entry ∷ []) found
+
+-- one bit, in which the node drove what it drives there
+abbrev pub Samples : Node → Node → Level → BitEvents → Type 0
+Samples old new seen result =
+    (entries : List Entry) (found : List Found) (h : StandsAt old entries found) (x : Level) →
+    Drives (now_of old entries found h) h.spot (bits_in h.slice) x → Leads old new entries found h (record { driven = x; seen = seen }) result
+
+-- the level is the one that the node drives next
+abbrev pub DrivesNext : Node → Level → Type 0
+DrivesNext node result =
+    (entries : List Entry) (found : List Found) (h : StandsAt node entries found) → Drives (now_of node entries found h) h.spot (bits_in h.slice) result
+
+-- the phase of the next bit
+abbrev pub ShowsPhase : Node → Phase → Type 0
+ShowsPhase node result = (entries : List Entry) (found : List Found) (h : StandsAt node entries found) → result ≡ phase_at h.spot (bits_in h.slice)
+
+-- the counters that the cut gives
+abbrev pub ShowsCounters : Node → Counters → Type 0
+ShowsCounters node result =
+    (entries : List Entry) (found : List Found) (h : StandsAt node entries found) →
+    let c = now_of node entries found h in (result.tec ≡ c.tec) × (result.rec ≡ c.rec) × (result.off ≡ c.off)
+
+-- bus-off, else passive from 128 on, else active
+abbrev pub state_of : Counters → State
+state_of k = if k.off then BusOff else if nat_le 128 k.tec || nat_le 128 k.rec then Passive else Active
+
+-- at rest: in reset, or idle with no request
+abbrev pub rests_in : Phase → Bool → Bool
+rests_in Reset held = true
+rests_in IdlePhase held = if held then false else true
+rests_in Waiting held = false
+rests_in FramePhase held = false
+rests_in FlagPhase held = false
+rests_in DelimiterPhase held = false
+rests_in Intermission held = false
+rests_in Suspension held = false
+
+abbrev pub ShowsRest : Node → Bool → Type 0
+ShowsRest node result =
+    (entries : List Entry) (found : List Found) (h : StandsAt node entries found) →
+    result ≡ rests_in (phase_at h.spot (bits_in h.slice)) (is_held (now_of node entries found h).held)
+
+-- a request is taken, or given back where the node is in reset or holds one
+abbrev pub Requests : Node → Node → Request → Result ⊤ Request → Type 0
+Requests old new request (Ok done) = Enters old new (Send request)
+    × ((entries : List Entry) (found : List Found) (h : StandsAt old entries found) → (h.spot ≢ Resting) × ((now_of old entries found h).held ≡ None))
+Requests old new request (Err back) = (back ≡ request) × (new ≡ old)
+    × ((entries : List Entry) (found : List Found) (h : StandsAt old entries found) → (h.spot ≡ Resting) ⊎ (is_held (now_of old entries found h).held ≡ true))
+
+-- a request in progress is marked, unless it would be dropped where it fails or loses anyway; any other is dropped
+abbrev pub abort_of : Bool → Option Request → Bool → Aborted
+abort_of in_progress None marked = Unchanged
+abort_of true (Some request) marked = if request.single_shot || marked then Unchanged else Marked
+abort_of false (Some request) marked = Dropped
+
+-- an abort that changed nothing enters nothing
+abbrev pub EntersAbort : Node → Node → Aborted → Type 0
+EntersAbort old new Unchanged = new ≡ old
+EntersAbort old new Marked = Enters old new Abort
+EntersAbort old new Dropped = Enters old new Abort
+
+abbrev pub Aborts : Node → Node → Aborted → Type 0
+Aborts old new result = EntersAbort old new result
+    × ((entries : List Entry) (found : List Found) (h : StandsAt old entries found) →
+    let c = now_of old entries found h in result ≡ abort_of (is_in_progress c h.spot) c.held c.aborted)
