@@ -1,5 +1,5 @@
 -- What the fields of a node say of its context.
-use Rattle.std.specs.Prelude.{◌≡◌, Bool}
+use Rattle.std.specs.Prelude.{◌≡◌, Bool, true, false, List, [], ◌∷◌}
 use Rattle.can_node.specs.declared.standing.Standing.{Standing}
 use Rattle.can_node.specs.declared.flag_kind.FlagKind.{FlagKind}
 use Rattle.can_node.specs.Context.{Context}
@@ -25,3 +25,8 @@ pub record IsKept (c now : Context) : Type 0 where
   pub self_test : now.self_test ≡ c.self_test
   pub off : now.off ≡ c.off
   pub flag : now.flag ≡ c.flag
+
+-- no bit came
+abbrev pub is_nil : {A : Type 0} → List A → Bool
+is_nil [] = true
+is_nil (b ∷ bits) = false

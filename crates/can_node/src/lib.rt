@@ -4,8 +4,10 @@
 mod aborted;
 mod bit_events;
 mod cause;
+mod closing;
 mod config;
 mod counters;
+mod counting;
 mod delimiting;
 mod done;
 mod fault_place;

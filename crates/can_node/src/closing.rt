@@ -1,0 +1,136 @@
+use super::cause::Cause;
+use super::done::Done;
+use super::fault_place::FaultPlace;
+use super::flag_kind::FlagKind;
+use super::role::Role;
+use super::standing::Standing;
+
+/// The end of a piece.
+impl Standing {
+    ghost use Rattle.std.specs.Prelude.{◌≡◌, ◌<◌, Option as Maybe};
+    ghost use Rattle.can_node.specs.declared.request.Request.{Request};
+    ghost use Rattle.can_node.specs.Context.{Context};
+    ghost use Rattle.can_node.specs.Pieces.Piece.{Join};
+    ghost use Rattle.can_node.specs.Effects.{closed, own_step, fault_step, transmitter_fault, flag_after, entering};
+    ghost use Rattle.can_node.specs.Standing.{context_of};
+    ghost use Rattle.can_node.specs.Turns.{piece_of, next_of, sending_of};
+
+    /// The end of a piece: its own step, and what the next place sets.
+    pub fn close(&mut self, done: &Done)
+        ensures { self.old.counters.tec < 900
+            → context_of self.new ≡ closed (piece_of self.old.held done.now) (next_of done.now) (context_of self.old) }
+    {
+        let flag = self.flag_after(done);
+        self.own_step(done);
+        self.enter(done, flag);
+    }
+
+    /// The kind of the flag that follows a piece; an error flag is active where both counters were below 128.
+    fn flag_after(&self, done: &Done) -> FlagKind
+        ensures { result ≡ flag_after (piece_of self.now.held done.now) (context_of self.now) }
+    {
+        match done {
+            Done::Fault(_, _, _) => {
+                if self.is_passive() {
+                    FlagKind::PassiveError
+                } else {
+                    FlagKind::ActiveError
+                }
+            }
+            _ => FlagKind::Overload,
+        }
+    }
+
+    /// The own step of a piece, beside those of its bits.
+    fn own_step(&mut self, done: &Done)
+        ensures { self.old.counters.tec < 900
+            → context_of self.new ≡ own_step (piece_of self.old.held done.now) (context_of self.old) }
+    {
+        match done {
+            Done::Join => self.joined(),
+            Done::Sent => self.sent(),
+            Done::Fault(place, cause, _) => self.fault_step(*place, *cause),
+            Done::Flag => self.late = false,
+            _ => {}
+        }
+    }
+
+    /// The bus was waited for: bus-off is over, unless the node only listens.
+    fn joined(&mut self)
+        ensures { context_of self.new ≡ own_step (Join) (context_of self.old) }
+    {
+        if self.counters.off && !self.listen {
+            self.counters.tec = 0;
+            self.counters.rec = 0;
+            self.counters.off = false;
+        }
+    }
+
+    /// The own frame was sent.
+    fn sent(&mut self)
+        ensures { context_of self.new ≡ own_step (sending_of self.old.held) (context_of self.old) }
+    {
+        if self.held.is_some() {
+            self.counters.tec = self.counters.tec.saturating_sub(1);
+            self.held = None;
+            self.aborted = false;
+        }
+    }
+
+    /// The own step of a fault.
+    fn fault_step(&mut self, place: FaultPlace, cause: Cause)
+        ensures { self.old.counters.tec < 900 → context_of self.new ≡ fault_step place cause (context_of self.old) }
+    {
+        match place {
+            FaultPlace::InSending => {
+                self.transmitter_fault(cause);
+                self.drop_failed();
+            }
+            FaultPlace::InReception => {
+                if !self.listen {
+                    self.more_rec(1);
+                }
+            }
+            FaultPlace::InFlag => self.more_by(8, 8),
+            FaultPlace::InDelimiter => {
+                if !self.listen {
+                    self.more_by(8, 1);
+                }
+            }
+        }
+    }
+
+    /// A transmitter's fault: eight, but for a stuff bit overdriven before its remote bit, and for a frame that a passive
+    /// transmitter gets no acknowledgement for: that step is owed.
+    fn transmitter_fault(&mut self, cause: Cause)
+        ensures kept { self.new.held ≡ self.old.held }
+        ensures step { self.old.counters.tec < 900 → context_of self.new ≡ transmitter_fault cause (context_of self.old) }
+    {
+        match cause {
+            Cause::Stuff => {}
+            Cause::Ack => {
+                if self.is_passive() {
+                    self.late = true;
+                } else {
+                    self.more_tec(8);
+                }
+            }
+            Cause::Bit | Cause::Form | Cause::Crc => self.more_tec(8),
+        }
+    }
+
+    /// What the next place sets: the role, or the kind of its flag.
+    fn enter(&mut self, done: &Done, flag: FlagKind)
+        ensures { (held : Maybe Request) (before : Context) → flag ≡ flag_after (piece_of held done.now) before
+            → context_of self.new ≡ entering (next_of done.now) (piece_of held done.now) before (context_of self.old) }
+    {
+        match done {
+            Done::Join | Done::Idle | Done::Pause => self.role = Role::Receiver,
+            Done::Start => self.role = self.role_after_sof(),
+            Done::Fault(_, _, _) | Done::Broken | Done::Last(true) | Done::Tail(true) => {
+                self.flag = flag;
+            }
+            Done::Received(_) | Done::Sent | Done::Flag | Done::Last(false) | Done::Tail(false) => {}
+        }
+    }
+}
