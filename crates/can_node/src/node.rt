@@ -1,12 +1,19 @@
+use super::aborted::Aborted;
 use super::bit_events::BitEvents;
 use super::config::Config;
 use super::counters::Counters;
+use super::outcome::Outcome;
 use super::phase::Phase;
+use super::request::Request;
 use super::stage::Stage;
 use super::standing::Standing;
+use super::turn::Turn;
 use can_bits::{Level, Shift};
 
-/// A node on the bus.
+/// A CAN node, bit by bit: what it drives, and what it makes of the levels that it sees (Bosch CAN 2.0 part A).
+///
+/// It keeps no list of levels and takes no memory. It stands at records: lists of what happened to it, each bit with
+/// the level driven and the level seen, and each such record is cut into pieces as the rules of the bus have it.
 #[derive(Debug, Drop)]
 pub struct Node {
     pub(crate) standing: Standing,
@@ -15,19 +22,129 @@ pub struct Node {
 }
 
 impl Node {
-    ghost use Rattle.std.specs.Prelude.{◌≡◌};
+    ghost use Rattle.std.specs.Prelude.{◌≡◌, ◌↔◌, []};
     ghost use Rattle.can_node.specs.Record.{Entry};
-    ghost use Rattle.can_node.specs.Stands.{ShowsPhase};
+    ghost use Rattle.can_node.specs.Stands.{StandsAt, InReset, Enters, DrivesNext, Samples, ShowsPhase, ShowsCounters, ShowsRest, Requests, Aborts};
 
-    /// The phase of the next bit.
+    /// A node in reset, to which nothing has happened.
+    pub fn new() -> Node
+        ensures { StandsAt result [] [] }
+    {
+        Node {
+            standing: Standing::new(),
+            stage: Stage::Resting,
+            shift: Shift::new(),
+        }
+    }
+
+    /// Leaves reset with this configuration, and waits for the bus. The node has to be in reset.
+    pub fn start(&mut self, config: Config)
+        requires reset { InReset self.old }
+        ensures { Enters self.old self.new (Entry.Start config) }
+    {
+        self.standing.start(&config);
+        self.stage = Stage::Joining(self.standing.join_count(), 0);
+    }
+
+    /// Enters reset at once. The request is dropped, and the error counters stay.
+    pub fn stop(&mut self)
+        ensures { Enters self.old self.new Entry.Stop }
+    {
+        self.standing.stop();
+        self.stage = Stage::Resting;
+    }
+
+    /// The level that the node drives in the next bit.
+    pub fn drive(&self) -> Level
+        ensures { DrivesNext self.now result }
+    {
+        self.level()
+    }
+
+    /// Sees the level of the bus in this bit, in which the node drove what [`drive`](Node::drive) says; in reset it looks
+    /// at no level.
+    pub fn sample(&mut self, level: Level) -> BitEvents
+        ensures { Samples self.old self.new level result }
+    {
+        let driven = self.level();
+        let lost = self.lost(driven, level);
+        let held = self.standing.held.is_some();
+        let off = self.standing.counters.off;
+        let turn = self.turn(driven, level, lost.is_some());
+        let received = self.received(&turn);
+        let sent = turn.is_sent();
+        let fault = turn.fault();
+        self.count(driven, level, lost.is_some());
+        self.go_on(turn);
+        let receiving = !self.standing.is_transmitter();
+        let recovered = off && !self.standing.counters.off;
+        let went_off = self.standing.counters.tec >= 256;
+        let ended = self.ended(held, sent);
+        self.go_off();
+        BitEvents {
+            received,
+            ended,
+            lost,
+            fault,
+            receiving,
+            went_off,
+            recovered,
+        }
+    }
+
+    /// Takes a request, to be sent as soon as the bus is idle. It is given back where one is held, or in reset.
+    pub fn request(&mut self, request: Request) -> Result<(), Request>
+        ensures { Requests self.old self.new request result }
+    {
+        if self.standing.held.is_some() {
+            return Err(request);
+        }
+        if let Stage::Resting = self.stage {
+            return Err(request);
+        }
+        self.standing.held = Some(request);
+        Ok(())
+    }
+
+    /// Aborts the request that is held: one in progress is marked, and dropped where it fails or loses arbitration, and
+    /// any other is dropped at once.
+    pub fn abort(&mut self) -> Aborted
+        ensures { Aborts self.old self.new result }
+    {
+        match &self.standing.held {
+            None => Aborted::Unchanged,
+            Some(request) => {
+                if !self.is_in_progress() {
+                    self.standing.held = None;
+                    Aborted::Dropped
+                } else if request.single_shot || self.standing.aborted {
+                    Aborted::Unchanged
+                } else {
+                    self.standing.aborted = true;
+                    Aborted::Marked
+                }
+            }
+        }
+    }
+
+    /// The error counters.
+    pub fn counters(&self) -> Counters
+        ensures { ShowsCounters self.now result }
+    {
+        self.standing.counters
+    }
+
+    /// Where the node is with its next bit.
     pub fn phase(&self) -> Phase
         ensures { ShowsPhase self.now result }
+        ensures reset { (result ≡ Phase.Reset) ↔ InReset self.now }
     {
         match self.stage {
             Stage::Resting => Phase::Reset,
             Stage::Joining(_, _) => Phase::Waiting,
             Stage::Idle => Phase::Idle,
-            Stage::InFrame | Stage::AfterReception => Phase::Frame,
+            Stage::InFrame => Phase::Frame,
+            Stage::AfterReception => Phase::Frame,
             Stage::Flagging(_, _) => Phase::Flag,
             Stage::AfterFlag(_, _) => Phase::Delimiter,
             Stage::Pausing(n) => {
@@ -37,6 +154,17 @@ impl Node {
                     Phase::Suspension
                 }
             }
+        }
+    }
+
+    /// Whether nothing is to come of its own accord: the node is in reset, or the bus is idle and no request is held.
+    pub fn at_rest(&self) -> bool
+        ensures { ShowsRest self.now result }
+    {
+        match self.stage {
+            Stage::Resting => true,
+            Stage::Idle => self.standing.held.is_none(),
+            _ => false,
         }
     }
 }
