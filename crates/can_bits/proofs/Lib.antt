@@ -26,3 +26,5 @@ pub mod InsideLemmas
 pub mod TakeLemmas
 pub mod ShiftLemmas
 pub mod DueLemmas
+pub mod PlaceLemmas
+pub mod PlacesNow

@@ -21,12 +21,12 @@ pub struct Gathered {
 }
 
 impl Gathered {
-    ghost use Rattle.std.specs.Prelude.{◌≡◌, ◌+◌, ◌*◌, ◌^◌, ◌<◌, ◌≤◌, ◌-◌, ◌∷◌, ◌++◌, [], List, length, Some, true, ◌↔◌, IsTrue};
+    ghost use Rattle.std.specs.Prelude.{◌≡◌, ◌+◌, ◌*◌, ◌^◌, ◌<◌, ◌≤◌, ◌-◌, ◌∷◌, ◌++◌, [], List, length, Some, true, ◌↔◌, IsTrue, None, ◌&&◌, nat_lt, nat_le, if◌then◌else◌};
     ghost use Rattle.can_frame.specs.Frame.{FrameValue, data_count};
     ghost use Rattle.can_bits.specs.declared.level.Level.{Level as Bus};
     ghost use Rattle.can_bits.specs.Check.{IsMultiple};
     ghost use Rattle.can_bits.specs.Digits.{value};
-    ghost use Rattle.can_bits.specs.Fields.{says_count};
+    ghost use Rattle.can_bits.specs.Fields.{says_count, rtr_place};
     ghost use Rattle.can_bits.specs.Spelling.{Spells};
     ghost use Rattle.can_bits.specs.Reading.{SaysWhetherRight};
     ghost use Rattle.can_bits.specs.Segments.{segment_at};
@@ -108,6 +108,25 @@ impl Gathered {
         ensures { (w : List Bus) → Gathers self.now w → result ≡ segment_at w (length w - 1) }
     {
         segment_of(self.ext, self.count(), self.place.saturating_sub(1))
+    }
+
+    /// Whether the next level isn't past the remote bit of that format.
+    pub fn is_early(&self, ext: bool) -> bool
+        ensures { (w : List Bus) → Gathers self.now w → result ≡ nat_le (length w) (rtr_place ext) }
+    {
+        self.place <= if ext { 32 } else { 12 }
+    }
+
+    /// The place code of the next level.
+    pub fn place_code(&self, ext: bool) -> Option<u8>
+        ensures { (w : List Bus) → Gathers self.now w
+            → result ≡ (if nat_lt 0 (length w) && nat_le (length w) (rtr_place ext) then Some (length w - 1) else None) }
+    {
+        if self.is_early(ext) {
+            self.place.checked_sub(1)
+        } else {
+            None
+        }
     }
 
     /// Whether the check sequence is right, once all levels have come.

@@ -1,5 +1,4 @@
 pub mod SentLines
-pub mod PlaceLemmas
 pub mod SentBits
 pub mod Sending
 pub mod Nexts

@@ -8,6 +8,7 @@ use Rattle.can_bits.specs.Line.{tail}
 use Rattle.can_bits.specs.Places.{place_code, is_early_stuff}
 use Rattle.can_bits.specs.Segments.{IsNext}
 use Rattle.can_bits.proofs.Lists.{fronts, append-cancel, append-split}
+use Rattle.can_bits.proofs.PlaceLemmas.{code_early, stuff_early}
 use Rattle.can_node.specs.declared.cause.Cause.{Cause}
 use Rattle.can_node.specs.declared.cause.Cause.TheVariants.{Bit as BitError, Stuff as StuffError, Ack as AckError}
 use Rattle.can_node.specs.declared.request.Request.{Request}
@@ -19,7 +20,6 @@ use Rattle.can_node.specs.Pieces.Piece.{Sending, Fault}
 use Rattle.can_node.specs.Frames.{Hears, SentPart, GoesWell, Fails, Sends}
 use Rattle.can_node.specs.Frames.Fails.{no_ack, stuff_bit, unseen, overdriven}
 use Rattle.can_node.specs.Frames.Sends.{sending, failed, lost}
-use Rattle.can_node.proofs.PlaceLemmas.{code_early, stuff_early}
 use Rattle.can_node.proofs.SentLines.{sent_part_once}
 use Rattle.can_node.proofs.SentBits.{well_front, lost_not_well, fails_not_well}
 

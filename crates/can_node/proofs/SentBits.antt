@@ -6,12 +6,12 @@ use Rattle.can_bits.specs.declared.level.Level.TheVariants.{Dominant, Recessive}
 use Rattle.can_bits.specs.Fields.{rtr_place}
 use Rattle.can_bits.specs.Places.{plain_count}
 use Rattle.can_bits.proofs.Lists.{append-split}
+use Rattle.can_bits.proofs.PlaceLemmas.{part_late, stuff_early}
 use Rattle.can_node.specs.declared.cause.Cause.{Cause}
 use Rattle.can_node.specs.declared.request.Request.{Request}
 use Rattle.can_node.specs.Bits.{Bit, heard, forced, seen_of, driven_of}
 use Rattle.can_node.specs.Frames.{AckFits, SentPart, GoesWell, Fails}
 use Rattle.can_node.specs.Frames.Fails.{no_ack, stuff_bit, unseen, overdriven}
-use Rattle.can_node.proofs.PlaceLemmas.{part_late, stuff_early}
 
 -- two lists that differ at one place at most: their levels at one place are equal, but at that one
 same_place : (q a b x y z : List Level) (u v ack : Level) → q ++ Recessive ∷ z ≡ a ++ u ∷ x → q ++ ack ∷ z ≡ b ++ v ∷ y →
@@ -86,7 +86,7 @@ slot_late : (self_test : Bool) (request : Request) (c part : List Level) (before
     length before ≡ length part + 1 → rtr_place request.frame.ext < plain_count (seen_of before)
 slot_late self_test request c part before h g count =
     let P : List Level → Type 0 = λ l. rtr_place request.frame.ext < plain_count l in
-    subst P (sym (seen_at_slot self_test part before g count)) (part_late request.frame c part Recessive h)
+    subst P (sym (seen_at_slot self_test part before g count)) (part_late request.frame.ext (Recessive ∷ []) h.is_part)
 
 -- a recessive level that is seen dominant before the remote bit doesn't go well
 pub lost_not_well : (self_test : Bool) (request : Request) (c part : List Level) (before : List Bit) → SentPart request.frame c part →

@@ -20,4 +20,6 @@ mod refused_memory;
 #[cfg(test)]
 mod row;
 #[cfg(test)]
+mod sending;
+#[cfg(test)]
 mod streaming;

@@ -1,19 +1,18 @@
 -- Places in the arbitration field.
 use Rattle.std.proofs.Common.{◌≡◌, ◌-◌, ◌&&◌, ◌<◌, ◌≤◌, inl, inr, ℕ, Bool, true, false, IsTrue, if◌then◌else◌, nat_le, nat_lt, Some, None, List, [], ◌∷◌, ◌++◌, reverse, length, refl, ap, sym, ◌∙◌, arith, append_assoc}
 use Rattle.std.proofs.lemmas.Bool.{cases_Bool, cases_lt, le-leb, lt-leb, leb-true, and_parts}
-use Rattle.std.proofs.lemmas.List.{append-nil, length-append, length-reverse}
+use Rattle.std.proofs.lemmas.List.{append-nil, length-append, length-reverse, reverse-append}
 use Rattle.can_bits.specs.declared.level.Level.{Level}
 use Rattle.can_bits.specs.declared.level.Level.TheVariants.{Dominant, Recessive}
-use Rattle.can_bits.specs.Body.{sent_body}
-use Rattle.can_bits.specs.Fields.{rtr_place, dlc_place}
+use Rattle.can_bits.specs.Fields.{rtr_place}
+use Rattle.can_bits.specs.Line.{StuffedPart}
 use Rattle.can_bits.specs.Places.{begins_in_five, is_full, unless_stuff, plain_after, plain_count, place_code, is_early_stuff}
-use Rattle.can_bits.proofs.FieldLemmas.{length_body}
+use Rattle.can_bits.proofs.FieldLemmas.{length_body, dlc_place-least}
 use Rattle.can_bits.proofs.Lists.{reverse-cons, reverse-push}
 use Rattle.can_bits.proofs.Parts.{plain, unstuffed-later}
 use Rattle.can_bits.proofs.Runs.{same, lead, run}
 use Rattle.can_bits.proofs.Stuffs.{unstuffed, unstuffed-kept, unstuffed-dropped, stuffed_to}
 use Rattle.can_frame.specs.Frame.{FrameValue}
-use Rattle.can_node.specs.Frames.{SentPart}
 
 -- a run is no longer than its list
 lead-le : (x : Level) (l : List Level) → lead x l ≤ length l
@@ -31,7 +30,7 @@ run-le [] = omega arith
 run-le (x ∷ l) = let less = lead-le x l in omega (arith, less)
 
 -- five equal levels at the beginning
-five-is : (l : List Level) → begins_in_five l ≡ nat_le 5 (run l)
+pub five-is : (l : List Level) → begins_in_five l ≡ nat_le 5 (run l)
 unfolding begins_in_five
 five-is [] = refl
 five-is (a ∷ []) = refl
@@ -82,21 +81,21 @@ plain_after-is before (x ∷ rest) =
 pub plain_count-is : (l : List Level) → plain_count l ≡ length (unstuffed (reverse l))
 plain_count-is l = ap length (plain_after-is [] l) ∙ length-reverse (unstuffed (reverse l))
 
--- the remote bit stands before the data length code
-rtr_early : (ext : Bool) → rtr_place ext < dlc_place ext
-rtr_early false = omega arith
-rtr_early true = omega arith
+-- the remote bit is among the first 33 levels, and a body has 19 at least
+rtr_most : (ext : Bool) → rtr_place ext ≤ 32
+rtr_most false = omega arith
+rtr_most true = omega arith
 
--- past its stuffed part a line is past the arbitration field
-pub part_late : (f : FrameValue) (c part : List Level) (x : Level) → SentPart f c part → rtr_place f.ext < plain_count (part ++ x ∷ [])
-part_late f c part x h =
-    let (e, later) = unstuffed-later (x ∷ []) (reverse part) in
-    let form = stuffed_to (sent_body f ++ c) part h.is_part.stuffed in
-    let all : unstuffed (reverse (part ++ x ∷ [])) ≡ e ++ reverse (sent_body f ++ c) =
-    ap unstuffed (reverse-push part x) ∙ later ∙ ap (λ l. e ++ l) form.unstuffs in
-    let count = plain_count-is (part ++ x ∷ []) ∙ ap length all ∙ length-append e (reverse (sent_body f ++ c)) in
-    let body = length_body f (sent_body f) h.is_part.frame h.is_part.body in
-    omega (arith, count, length-reverse (sent_body f ++ c), length-append (sent_body f) c, body, rtr_early f.ext)
+-- past its stuffed part a line is past the arbitration field of either format
+pub part_late : {f : FrameValue} {b c part : List Level} (ext : Bool) (after : List Level) → StuffedPart f b c part → rtr_place ext < plain_count (part ++ after)
+part_late {f = f} {b = b} {c = c} {part = part} ext after h =
+    let (e, later) = unstuffed-later (reverse after) (reverse part) in
+    let form = stuffed_to (b ++ c) part h.stuffed in
+    let all : unstuffed (reverse (part ++ after)) ≡ e ++ reverse (b ++ c) =
+    ap unstuffed (reverse-append part after) ∙ later ∙ ap (λ l. e ++ l) form.unstuffs in
+    let count = plain_count-is (part ++ after) ∙ ap length all ∙ length-append e (reverse (b ++ c)) in
+    let body = length_body f b h.frame h.body in
+    omega (arith, count, length-reverse (b ++ c), length-append b c, body, h.check, rtr_most ext, dlc_place-least f.ext)
 
 -- the parts of a choice
 chosen : (full within : Bool) (n code : ℕ) → (if full then None else if within then Some n else None) ≡ Some code →
@@ -119,3 +118,23 @@ pub stuff_early : (ext : Bool) (l : List Level) → IsTrue (is_early_stuff ext l
 stuff_early ext l h =
     let parts = and_parts (is_full l) (nat_le (plain_count l) (rtr_place ext)) h in
     (parts.0, leb-true (plain_count l) (rtr_place ext) parts.1)
+
+-- no place with a code past the remote bit
+none_by : (full more within : Bool) (n : ℕ) → within ≡ false → (if full then None else if more && within then Some n else None) ≡ None
+none_by true more within n e = refl
+none_by false true true n e = cc
+none_by false true false n e = refl
+none_by false false within n e = refl
+
+pub late_no_code : (ext : Bool) (l : List Level) → rtr_place ext < plain_count l → place_code ext l ≡ None
+late_no_code ext l late =
+    let n = plain_count l in
+    none_by (is_full l) (nat_lt 0 n) (nat_le n (rtr_place ext)) (n - 1) (lt-leb n (rtr_place ext) late)
+
+-- and no early stuff bit
+not_both : (a b : Bool) → b ≡ false → (a && b) ≡ false
+not_both false b e = refl
+not_both true b e = e
+
+pub late_no_stuff : (ext : Bool) (l : List Level) → rtr_place ext < plain_count l → is_early_stuff ext l ≡ false
+late_no_stuff ext l late = not_both (is_full l) (nat_le (plain_count l) (rtr_place ext)) (lt-leb (plain_count l) (rtr_place ext) late)

@@ -1,0 +1,19 @@
+use Rattle.std.proofs.Common.{sym, refl}
+use Rattle.can_bits.proofs.PlaceLemmas.{late_no_code}
+use Rattle.can_bits.proofs.PlacesNow.{reads_inside, reads_past, inside_count, inside_full, inside_not_full, past_late}
+use Rattle.can_bits.proofs.shift.Shift.place_code.Goals as goal
+
+pub returns-then-self-eq-RUN : goal.returns-then-self-eq-RUN
+returns-then-self-eq-RUN c l h right =
+    let inside = reads_inside c.args.self.now l c.in-Part.is h right in
+    rw (inside_full inside.part c.if-self-eq-RUN.true) refl
+
+pub returns-else-self-eq-RUN : goal.returns-else-self-eq-RUN
+returns-else-self-eq-RUN c l h right =
+    let inside = reads_inside c.args.self.now l c.in-Part.is h right in
+    rw (inside_not_full inside.part c.if-self-eq-RUN.false, inside_count inside.part) (c.place_code.ensures inside.bits inside.gathers)
+
+pub returns-in-After : goal.returns-in-After
+returns-in-After c l h right =
+    let n = c.in-After.field-0 in
+    sym (late_no_code c.args.ext l (past_late c.args.ext n l (reads_past c.args.self.now l n c.in-After.is h right)))

@@ -1,0 +1,107 @@
+//! A reader in the stuffed part.
+
+use super::super::level::Level;
+use super::super::line_fault::LineFault;
+use super::super::run::run_after;
+use super::super::segment::Segment;
+use super::super::shift_event::ShiftEvent;
+use super::super::stage::Stage;
+use super::{RUN, Shift};
+
+impl Shift {
+    ghost use Rattle.std.specs.Prelude.{◌≡◌, ◌≢◌, ◌⊎◌, ◌<◌, ◌==◌, length, ◌∷◌, ◌++◌, [], List, None, IfSome};
+    ghost use Rattle.can_bits.specs.declared.level.Level.{Level as Bus};
+    ghost use Rattle.can_bits.specs.Streaming.{IsEventOf, BreaksWith};
+    ghost use Rattle.can_bits.specs.Segments.{IsNext};
+    ghost use Rattle.can_bits.specs.Shifts.{StandsFor, ReadsAt, IsPartSoFar};
+    ghost use Rattle.can_bits.specs.Gathering.{Gathers};
+
+    /// Takes a level of the stuffed part.
+    pub(super) fn step_inside(&mut self, level: Level) -> ShiftEvent
+        requires right { self.old.wrong ≡ None }
+        requires inside { self.old.stage ≡ Stage.Part }
+        ensures stands { (l : List Bus) → ReadsAt Stage.Part self.old l → StandsFor self.new (l ++ level ∷ []) }
+        ensures told { (l : List Bus) → ReadsAt Stage.Part self.old l → IsEventOf l level result }
+    {
+        let stuff = self.run == RUN;
+        let segment = self.segment_inside();
+        match self.fault_inside(level) {
+            Some(fault) => self.breaks(segment, stuff, fault),
+            None => {
+                self.take(level);
+                ShiftEvent {
+                    segment,
+                    stuff,
+                    frame: None,
+                    fault: None,
+                }
+            }
+        }
+    }
+
+    /// The segment of the next level of the stuffed part; a stuff bit belongs to that of the bit before it.
+    fn segment_inside(&self) -> Segment
+        ensures { (l : List Bus) → ReadsAt Stage.Part self.now l → IsNext l result (self.now.run == 5) }
+    {
+        if self.run == RUN {
+            self.gathered.last_segment()
+        } else {
+            self.gathered.next_segment()
+        }
+    }
+
+    /// What is wrong with a level of the stuffed part.
+    fn fault_inside(&self, level: Level) -> Option<LineFault>
+        ensures broken { (l : List Bus) → ReadsAt Stage.Part self.now l → IfSome result (BreaksWith l level) }
+        ensures begins { result ≡ None → self.now.count ≡ 0 → level ≡ Level.Dominant }
+        ensures differs { result ≡ None → self.now.run ≡ 5 → level ≢ self.now.last }
+    {
+        if self.count == 0 && level.is_recessive() {
+            Some(LineFault::Form(0))
+        } else if self.run == RUN && level == self.last {
+            Some(LineFault::Stuff(usize::from(self.count)))
+        } else {
+            None
+        }
+    }
+
+    /// Takes a level of the stuffed part that is right.
+    fn take(&mut self, level: Level)
+        ensures kept { self.new.wrong ≡ self.old.wrong }
+        ensures early { (self.new.stage ≡ Stage.Part) ⊎ (self.new.stage ≡ Stage.After 0) }
+        ensures stands { (l : List Bus) → ReadsAt Stage.Part self.old l → (self.old.count ≡ 0 → level ≡ Level.Dominant)
+            → (self.old.run ≡ 5 → level ≢ self.old.last) → ReadsAt self.new.stage self.new (l ++ level ∷ []) }
+    {
+        self.gather(level);
+        self.count = self.count.wrapping_add(1);
+        self.run = run_after(self.run, self.last, level);
+        self.last = level;
+        self.stage = self.stage_here();
+    }
+
+    /// Gathers a level that is no stuff bit.
+    fn gather(&mut self, level: Level)
+        ensures kept { self.new ≡ record self.old { gathered = self.new.gathered } }
+        ensures bit { (w : List Bus) → Gathers self.old.gathered w → length w < 118 → self.old.run ≢ 5
+            → Gathers self.new.gathered (w ++ level ∷ []) }
+        ensures stuff_bit { self.old.run ≡ 5 → self.new.gathered ≡ self.old.gathered }
+    {
+        if self.run != RUN {
+            self.gathered.push(level);
+        }
+    }
+
+    /// Whether the stuffed part goes on after its levels so far.
+    fn stage_here(&self) -> Stage
+        ensures early { (result ≡ Stage.Part) ⊎ (result ≡ Stage.After 0) }
+        ensures stands { (l w : List Bus) → IsPartSoFar l w self.now.last self.now.run → Gathers self.now.gathered w
+            → self.now.count ≡ length l → ReadsAt result self.now l }
+    {
+        let closed = self.run != RUN;
+        if closed && self.gathered.is_whole() {
+            Stage::After(0)
+        } else {
+            Stage::Part
+        }
+    }
+}
