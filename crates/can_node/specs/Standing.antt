@@ -2,7 +2,9 @@
 use Rattle.std.specs.Prelude.{◌≡◌, Bool, true, false, List, [], ◌∷◌}
 use Rattle.can_node.specs.declared.standing.Standing.{Standing}
 use Rattle.can_node.specs.declared.flag_kind.FlagKind.{FlagKind}
-use Rattle.can_node.specs.Context.{Context}
+use Rattle.can_node.specs.Context.{Context, owes_suspension}
+use Rattle.can_node.specs.Pieces.{Spot}
+use Rattle.can_node.specs.Pieces.Spot.{Pausing}
 
 -- the context that the fields stand for
 abbrev pub context_of : Standing → Context
@@ -20,11 +22,12 @@ context_of s = record {
 }
 
 -- what doesn't change within a piece
-pub record IsKept (c now : Context) : Type 0 where
+pub record IsKept (spot : Spot) (c now : Context) : Type 0 where
   pub listen : now.listen ≡ c.listen
   pub self_test : now.self_test ≡ c.self_test
   pub off : now.off ≡ c.off
   pub flag : now.flag ≡ c.flag
+  pub owes : spot ≡ Pausing → owes_suspension now ≡ owes_suspension c
 
 -- no bit came
 abbrev pub is_nil : {A : Type 0} → List A → Bool

@@ -10,6 +10,7 @@ use Rattle.can_node.specs.declared.counters.Counters.{Counters}
 use Rattle.can_node.specs.declared.state.State.{State}
 use Rattle.can_node.specs.declared.state.State.TheVariants.{Active, Passive, BusOff}
 use Rattle.can_node.specs.declared.bit_events.BitEvents.{BitEvents}
+use Rattle.can_node.specs.declared.stage.Stage.TheVariants.{Resting as StageResting}
 use Rattle.can_node.specs.declared.node.Node.{Node}
 use Rattle.can_node.specs.Bits.{Bit}
 use Rattle.can_node.specs.Context.{Context, fresh, is_held}
@@ -52,6 +53,10 @@ pub record Leads (node new : Node) (entries : List Entry) (found : List Found) (
   pub step : Step
   pub told : e ≡ events_of step (now_of node entries found h) h.spot (bits_in h.slice) b
   pub stands : StandsAt new (entries ++ entries_of b e) (found ++ closed_by (counted none_yet (entries ++ Took b ∷ [])) step)
+
+-- the node is in reset
+abbrev pub InReset : Node → Type 0
+InReset node = node.stage ≡ StageResting
 
 -- ---- what the calls do, for every record that the node stands at
 

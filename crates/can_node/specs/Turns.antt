@@ -1,5 +1,5 @@
 -- What a bit makes of the piece under way.
-use Rattle.std.specs.Prelude.{◌≡◌, Bool, true, false, if◌then◌else◌, Option, Some, None, List, [], ◌∷◌, ◌++◌}
+use Rattle.std.specs.Prelude.{◌≡◌, Bool, nat_le, true, false, if◌then◌else◌, Option, Some, None, List, [], ◌∷◌, ◌++◌}
 use Rattle.can_bits.specs.declared.shift.Shift.{Shift}
 use Rattle.can_node.specs.declared.request.Request.{Request}
 use Rattle.can_node.specs.declared.done.Done.{Done}
@@ -14,6 +14,8 @@ use Rattle.can_node.specs.Pieces.Spot.{Resting, Joining, AtIdle, SofSeen, AfterR
 use Rattle.can_node.specs.Pieces.Piece.{Join, Idle, Reception, Sending, Fault, Last, Flag, Tail, Pause, PauseWithSof, PauseBroken}
 use Rattle.can_node.specs.Table.{Row}
 use Rattle.can_node.specs.Counting.{at_bit}
+use Rattle.can_node.specs.Effects.{closed, with_off}
+use Rattle.can_node.specs.declared.stage.Stage.{Stage}
 use Rattle.can_node.specs.Events.{Step}
 use Rattle.can_node.specs.Events.Step.{Goes, Closes}
 use Rattle.can_node.specs.Stages.{At, IsHearing, IsTelling}
@@ -59,7 +61,21 @@ step_of held (TurnCloses done) = Closes (piece_of held done) (next_of done)
 -- what the bit made of the piece: the node stands in it with one bit more, or these bits are the piece
 abbrev pub IsTurn : Shift → Context → Context → Spot → List Bit → Bit → Turn → Type 0
 IsTurn shift c now spot bits b (TurnGoes stage) = At stage shift c (at_bit now spot bits b) spot (bits ++ b ∷ [])
-IsTurn shift c now spot bits b (TurnCloses done) = Row c spot (bits ++ b ∷ []) (piece_of now.held done) (next_of done)
+IsTurn shift c now spot bits b (TurnCloses done) = Row c spot (bits ++ b ∷ []) (piece_of (at_bit now spot bits b).held done) (next_of done)
+
+-- the context after it, from the one after the steps of the bit
+abbrev pub resulted : Turn → Context → Context
+resulted (TurnGoes stage) c = c
+resulted (TurnCloses done) c = closed (piece_of c.held done) (next_of done) c
+
+-- where the node stands after it: in the piece under way, with these bits of it, or at the beginning of the next place
+abbrev pub AtAfter : Turn → Stage → Shift → Context → Context → Spot → List Bit → Type 0
+AtAfter (TurnGoes going) stage shift c now spot bits = At stage shift c now spot bits
+AtAfter (TurnCloses done) stage shift c now spot bits = At stage shift now now (next_of done) []
+
+-- bus-off, where the transmit error counter has come to 256
+abbrev pub off_if : Context → Context
+off_if c = if nat_le 256 c.tec then with_off c else c
 
 -- a bit of a frame for its receiver: it goes on as receiver, or these bits are the piece
 abbrev pub HearsOn : Context → Spot → List Bit → Turn → Type 0

@@ -115,7 +115,9 @@ impl Standing {
                     self.more_tec(8);
                 }
             }
-            Cause::Bit | Cause::Form | Cause::Crc => self.more_tec(8),
+            Cause::Bit => self.more_tec(8),
+            Cause::Form => self.more_tec(8),
+            Cause::Crc => self.more_tec(8),
         }
     }
 

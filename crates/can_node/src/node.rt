@@ -71,10 +71,10 @@ impl Node {
         let held = self.standing.held.is_some();
         let off = self.standing.counters.off;
         let turn = self.turn(driven, level, lost.is_some());
-        let received = self.received(&turn);
-        let sent = turn.is_sent();
-        let fault = turn.fault();
         self.count(driven, level, lost.is_some());
+        let received = self.received(&turn);
+        let sent = self.is_sent(&turn);
+        let fault = turn.fault();
         self.go_on(turn);
         let receiving = !self.standing.is_transmitter();
         let recovered = off && !self.standing.counters.off;
@@ -136,7 +136,7 @@ impl Node {
 
     /// Where the node is with its next bit.
     pub fn phase(&self) -> Phase
-        ensures { ShowsPhase self.now result }
+        ensures phase { ShowsPhase self.now result }
         ensures reset { (result ≡ Phase.Reset) ↔ InReset self.now }
     {
         match self.stage {
