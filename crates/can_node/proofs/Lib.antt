@@ -22,3 +22,5 @@ pub mod WorkedSender
 pub mod WorkedLoss
 pub mod WorkedReception
 pub mod WorkedMoves
+pub mod Along
+pub mod GoOn

@@ -28,7 +28,8 @@ impl Node {
 
     /// A node in reset, to which nothing has happened.
     pub fn new() -> Node
-        ensures { StandsAt result [] [] }
+        ensures stands { StandsAt result [] [] }
+        ensures reset { InReset result }
     {
         Node {
             standing: Standing::new(),
@@ -48,7 +49,8 @@ impl Node {
 
     /// Enters reset at once. The request is dropped, and the error counters stay.
     pub fn stop(&mut self)
-        ensures { Enters self.old self.new Entry.Stop }
+        ensures enters { Enters self.old self.new Entry.Stop }
+        ensures reset { InReset self.new }
     {
         self.standing.stop();
         self.stage = Stage::Resting;

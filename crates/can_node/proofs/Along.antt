@@ -1,0 +1,169 @@
+-- The context along the entries of a piece.
+use Rattle.std.proofs.Common.{◌≡◌, ◌≢◌, Bool, true, false, ◌&&◌, ◌||◌, ◌==◌, ◌+◌, ◌-◌, ◌%◌, length, not, ℕ, nat_le, Option, Some, None, is_some, List, [], ◌∷◌, ◌++◌, fold, refl, ap, sym, subst, ◌∙◌, append_assoc, if◌then◌else◌}
+use Rattle.std.proofs.lemmas.List.{append-nil}
+use Rattle.std.proofs.lemmas.Bool.{cases_Bool}
+use Rattle.can_bits.specs.declared.level.Level.{Level}
+use Rattle.can_bits.specs.declared.level.Level.TheVariants.{Dominant, Recessive}
+use Rattle.can_node.specs.declared.role.Role.{Role}
+use Rattle.can_node.specs.declared.role.Role.TheVariants.{Transmitter, Receiver}
+use Rattle.can_node.specs.declared.flag_kind.FlagKind.{FlagKind}
+use Rattle.can_node.specs.declared.flag_kind.FlagKind.TheVariants.{ActiveError, PassiveError, Overload}
+use Rattle.can_node.specs.declared.request.Request.{Request}
+use Rattle.can_node.specs.Bits.{Bit, seen_of}
+use Rattle.can_node.specs.Context.{Context, owes_suspension}
+use Rattle.can_node.specs.Counting.{at_bit, join_bit, next_run, ends_eleven, are_dominant, idle_bit, first_bit, frame_bit, lost_by, lose, drop_failed, if_acknowledged, if_late, tail_level, unless_listening, if_eighth, after_error_flag, more_by, more_rec, more_tec}
+use Rattle.can_node.specs.Effects.{along, with_send, with_abort, is_in_progress}
+use Rattle.can_node.specs.Pieces.{Spot, sent_at}
+use Rattle.can_node.specs.Pieces.Spot.{Resting, Joining, AtIdle, SofSeen, AfterReception, Flagging, AfterFlag, Pausing}
+use Rattle.can_node.specs.Record.{Entry, bits_in}
+use Rattle.can_node.specs.Record.Entry.{Start, Stop, Took, Send, Abort, Off}
+use Rattle.can_node.specs.Standing.{IsKept}
+
+-- the bits among two lists of entries
+pub bits_both : (a b : List Entry) → bits_in (a ++ b) ≡ bits_in a ++ bits_in b
+bits_both [] b = refl
+bits_both (Took x ∷ a) b = ap (λ l. x ∷ l) (bits_both a b)
+bits_both (Send request ∷ a) b = bits_both a b
+bits_both (Abort ∷ a) b = bits_both a b
+bits_both (Start config ∷ a) b = bits_both a b
+bits_both (Stop ∷ a) b = bits_both a b
+bits_both (Off ∷ a) b = bits_both a b
+
+-- the context after one list of entries and another
+pub along_both : (c : Context) (spot : Spot) (done : List Bit) (a b : List Entry) →
+    along c spot done (a ++ b) ≡ along (along c spot done a) spot (done ++ bits_in a) b
+along_both c spot done [] b = ap (λ l. along c spot l b) (sym (append-nil done))
+along_both c spot done (Took x ∷ a) b =
+    along_both (at_bit c spot done x) spot (done ++ x ∷ []) a b
+    ∙ ap (λ l. along (along (at_bit c spot done x) spot (done ++ x ∷ []) a) spot l b) (append_assoc done (x ∷ []) (bits_in a))
+along_both c spot done (Send request ∷ a) b = along_both (with_send request c) spot done a b
+along_both c spot done (Abort ∷ a) b = along_both (with_abort spot c) spot done a b
+along_both c spot done (Start config ∷ a) b = along_both c spot done a b
+along_both c spot done (Stop ∷ a) b = along_both c spot done a b
+along_both c spot done (Off ∷ a) b = along_both c spot done a b
+
+-- after a bit more
+pub along-bit : (c : Context) (spot : Spot) (slice : List Entry) (b : Bit) →
+    along c spot [] (slice ++ Took b ∷ []) ≡ at_bit (along c spot [] slice) spot (bits_in slice) b
+along-bit c spot slice b = along_both c spot [] slice (Took b ∷ [])
+
+-- what a context has that doesn't change within a piece
+abbrev pub AreKept : Context → Context → Type 0
+AreKept c d = (d.listen ≡ c.listen) × (d.self_test ≡ c.self_test) × (d.off ≡ c.off) × (d.flag ≡ c.flag)
+
+same : (c : Context) → AreKept c c
+same c = (refl, refl, refl, refl)
+
+-- of two contexts the one that a test chooses
+chosen : (test : Bool) (c d e : Context) → AreKept c d → AreKept c e → AreKept c (if test then d else e)
+chosen true c d e h k = h
+chosen false c d e h k = k
+
+-- a request that is dropped or not
+dropped : (held : Option Request) (c d : Context) → AreKept c d → AreKept c (drop_failed held d)
+dropped None c d h = h
+dropped (Some request) c d h = chosen (request.single_shot || d.aborted) c (record d { held = None; aborted = false }) d h h
+
+-- steps of the counters by the role
+stepped : (role : Role) (c d : Context) → AreKept c d → AreKept c (more_by role 8 8 d)
+stepped Transmitter c d h = h
+stepped Receiver c d h = h
+
+-- a bit of a frame
+in_frame : (role : Role) (c : Context) (l : List Level) (b : Bit) → AreKept c (frame_bit role c l b)
+in_frame Transmitter c l b =
+    chosen (is_some (lost_by c.held l b.driven b.seen)) c (lose c) c (let h = dropped c.held c c (same c) in h) (same c)
+in_frame Receiver c l b = acknowledged b.driven b.seen
+  where
+    acknowledged : (x y : Level) → AreKept c (if_acknowledged x y c)
+    acknowledged Dominant Dominant = same c
+    acknowledged Dominant Recessive = same c
+    acknowledged Recessive y = same c
+
+-- the first bit at an idle place
+at_first : (request : Option Request) (c : Context) → AreKept c (first_bit request c)
+at_first None c = same c
+at_first (Some request) c = same c
+
+-- a bit of a flag
+in_flag : (x : Level) (c : Context) → AreKept c (if_late x c)
+in_flag Dominant c = chosen c.late c (record (more_tec 8 c) { late = false }) c (same c) (same c)
+in_flag Recessive c = same c
+
+-- a bit after a flag
+after_flag : (done : List Bit) (role : Role) (flag : FlagKind) (c : Context) → AreKept c (after_error_flag done role flag c)
+after_flag [] Receiver ActiveError c = same c
+after_flag [] Receiver PassiveError c = same c
+after_flag [] Receiver Overload c = same c
+after_flag [] Transmitter flag c = same c
+after_flag (b ∷ done) role flag c = same c
+
+-- the eighth dominant level
+eighth : (done : List Bit) (c d : Context) → AreKept c d → AreKept c (if_eighth done d)
+eighth done c d h =
+    chosen (are_dominant (seen_of done) && (length done + 1) % 8 == 0) c (more_by d.role 8 8 d) d (stepped d.role c d h) h
+
+-- a level after a flag
+tail_kept : (x : Level) (done : List Bit) (c : Context) → AreKept c (tail_level x done c)
+tail_kept Dominant done c =
+    let first = after_error_flag done c.role c.flag c in
+    chosen c.listen c c (if_eighth done first) (same c) (eighth done c first (after_flag done c.role c.flag c))
+tail_kept Recessive done c = same c
+
+-- one bit
+one_bit : (c : Context) (spot : Spot) (done : List Bit) (b : Bit) → AreKept c (at_bit c spot done b)
+one_bit c Resting done b = same c
+one_bit c Joining done b =
+    chosen ((c.off && not c.listen) && ends_eleven (fold next_run 0 (seen_of done)) b.seen) c (record c { tec = c.tec - 1 }) c (same c) (same c)
+one_bit c AtIdle [] b = at_first (sent_at c AtIdle) c
+one_bit c AtIdle (x ∷ done) b = in_frame c.role c (seen_of (x ∷ done)) b
+one_bit c SofSeen done b = in_frame c.role c (Dominant ∷ seen_of done) b
+one_bit c AfterReception done b = same c
+one_bit c Flagging done b = in_flag b.seen c
+one_bit c AfterFlag done b = tail_kept b.seen done c
+one_bit c Pausing done b = same c
+
+-- two steps
+pub kept_both : (c d e : Context) → AreKept c d → AreKept d e → AreKept c e
+kept_both c d e h k = (k.0 ∙ h.0, k.1 ∙ h.1, k.2 ∙ h.2, k.3 ∙ h.3)
+
+-- an abort
+aborted : (c : Context) (spot : Spot) → AreKept c (with_abort spot c)
+aborted c spot = chosen (is_in_progress c spot) c (record c { aborted = true }) (record c { held = None }) (same c) (same c)
+
+-- all entries of a piece
+pub all_kept : (c : Context) (spot : Spot) (done : List Bit) (slice : List Entry) → AreKept c (along c spot done slice)
+all_kept c spot done [] = same c
+all_kept c spot done (Took b ∷ slice) =
+    let now = at_bit c spot done b in
+    kept_both c now (along now spot (done ++ b ∷ []) slice) (one_bit c spot done b) (all_kept now spot (done ++ b ∷ []) slice)
+all_kept c spot done (Send request ∷ slice) = all_kept (with_send request c) spot done slice
+all_kept c spot done (Abort ∷ slice) =
+    let now = with_abort spot c in
+    kept_both c now (along now spot done slice) (aborted c spot) (all_kept now spot done slice)
+all_kept c spot done (Start config ∷ slice) = all_kept c spot done slice
+all_kept c spot done (Stop ∷ slice) = all_kept c spot done slice
+all_kept c spot done (Off ∷ slice) = all_kept c spot done slice
+
+-- in a pause role and counters stay
+pausing_kept : (c : Context) (done : List Bit) (slice : List Entry) → owes_suspension (along c Pausing done slice) ≡ owes_suspension c
+pausing_kept c done [] = refl
+pausing_kept c done (Took b ∷ slice) = pausing_kept c (done ++ b ∷ []) slice
+pausing_kept c done (Send request ∷ slice) = pausing_kept (with_send request c) done slice
+pausing_kept c done (Abort ∷ slice) = pausing_kept (with_abort Pausing c) done slice
+pausing_kept c done (Start config ∷ slice) = pausing_kept c done slice
+pausing_kept c done (Stop ∷ slice) = pausing_kept c done slice
+pausing_kept c done (Off ∷ slice) = pausing_kept c done slice
+
+-- what doesn't change within a piece
+pub is_kept : (c : Context) (spot : Spot) (slice : List Entry) → IsKept spot c (along c spot [] slice)
+is_kept c spot slice =
+    let all = all_kept c spot [] slice in
+    let P : Spot → Type 0 = λ s. owes_suspension (along c s [] slice) ≡ owes_suspension c in
+    record {
+      listen = all.0;
+      self_test = all.1;
+      off = all.2;
+      flag = all.3;
+      owes = λ e. subst P (sym e) (pausing_kept c [] slice);
+    }
