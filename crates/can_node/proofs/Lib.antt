@@ -11,6 +11,7 @@ pub mod Breaking
 pub mod Completing
 pub mod Heard
 pub mod Waits
+pub mod Delimiters
 pub mod Apart
 pub mod RowOnce
 pub mod Judged
