@@ -1,6 +1,7 @@
 -- After a flag: what a level makes of its delimiter, and what the stage's counts say of the bits.
 use Rattle.std.proofs.Common.{◌≡◌, ◌+◌, ◌-◌, ◌%◌, ◌<◌, ◌≤◌, ◌==◌, ◌&&◌, ℕ, zero, suc, Bool, true, false, List, [], ◌∷◌, ◌++◌, replicate, length, refl, ap, sym, subst, ◌∙◌, arith, append_assoc}
-use Rattle.std.proofs.lemmas.List.{append-nil, replicate_more, replicate-append-replicate, length-replicate, length-append}
+use Rattle.std.proofs.lemmas.Bool.Decides.{nat_tests}
+use Rattle.std.proofs.lemmas.List.{append-nil, replicate_more, replicate-append-replicate, length-replicate, length-append, nil_from_length}
 use Rattle.can_bits.specs.declared.level.Level.{Level}
 use Rattle.can_bits.specs.declared.level.Level.TheVariants.{Dominant, Recessive}
 use Rattle.can_bits.specs.declared.segment.Segment.TheVariants.{Delimiter}
@@ -16,7 +17,7 @@ use Rattle.can_node.specs.Counting.{are_dominant}
 use Rattle.can_node.specs.Cut.{IsUnfinished}
 use Rattle.can_node.specs.Stages.{IsDelimiting, IsCycle}
 use Rattle.can_node.specs.Stages.IsCycle.{nothing, some}
-use Rattle.can_node.proofs.Heard.{hears_on, seen_heard}
+use Rattle.can_node.proofs.Heard.{hears_on, hears_length, seen_heard}
 
 -- no bit came yet
 pub delimits_from : IsDelimiting 0 0 []
@@ -107,3 +108,69 @@ open_delimiting d r c bits h =
       rest = hears (replicate (7 - r) Recessive);
       lawful = subst P (sym (delimited d r bits (replicate (suc (7 - r)) Recessive) (replicate 8 Recessive) h rest)) (tail h.count);
     }
+
+-- ---- what the counts say
+
+-- the eighth dominant level comes where seven were counted
+cycle_eighth : (k d : ℕ) → IsCycle k d → ((k + 1) % 8 == 0) ≡ (d == 7)
+cycle_eighth k d nothing = refl
+cycle_eighth k d (some j n less e) = grind (arith, nat_tests)
+
+-- none came exactly where none is counted
+cycle_none : (k d : ℕ) → IsCycle k d → d ≡ 0 → k ≡ 0
+cycle_none k d nothing e = refl
+cycle_none k d (some j n less e) h = omega arith
+
+none_cycle : (k d : ℕ) → IsCycle k d → k ≡ 0 → d ≡ 0
+none_cycle k d nothing e = refl
+none_cycle k d (some j n less e) h = omega arith
+
+-- levels of which the first are dominant are dominant if the others are
+all_dominant : (k : ℕ) (l : List Level) → are_dominant (replicate k Dominant ++ l) ≡ are_dominant l
+all_dominant zero l = refl
+all_dominant (suc k) l = all_dominant k l
+
+-- how many bits came
+delimiter_length : (d r : ℕ) (bits : List Bit) (h : IsDelimiting d r bits) → length bits ≡ h.count + r
+delimiter_length d r bits h =
+    let levels : List Level = replicate h.count Dominant ++ replicate r Recessive in
+    hears_length bits levels h.whole ∙ length-append (replicate h.count Dominant) (replicate r Recessive)
+    ∙ ap (λ n. n + length (replicate r Recessive)) (length-replicate h.count Dominant) ∙ ap (λ n. h.count + n) (length-replicate r Recessive)
+
+-- one more than a number isn't 0
+not_none : (i : ℕ) → (suc i == 0) ≡ false
+not_none i = grind (arith, nat_tests)
+
+-- all of the bits are dominant exactly where no recessive level is counted
+all_seen_dominant : (d r : ℕ) (bits : List Bit) → IsDelimiting d r bits → are_dominant (seen_of bits) ≡ (r == 0)
+all_seen_dominant d zero bits h =
+    ap (λ (t : List Bit). are_dominant (seen_of t)) h.whole
+    ∙ ap (λ t. are_dominant t) (seen_heard (replicate h.count Dominant ++ [])) ∙ all_dominant h.count []
+all_seen_dominant d (suc i) bits h =
+    ap (λ (t : List Bit). are_dominant (seen_of t)) h.whole
+    ∙ ap (λ t. are_dominant t) (seen_heard (replicate h.count Dominant ++ replicate (suc i) Recessive))
+    ∙ all_dominant h.count (replicate (suc i) Recessive) ∙ sym (not_none i)
+
+-- a next level would be the eighth, sixteenth .. dominant one exactly where seven are counted, and no recessive one
+pub eighth_is : (d r : ℕ) (bits : List Bit) → IsDelimiting d r bits →
+    (are_dominant (seen_of bits) && (length bits + 1) % 8 == 0) ≡ (r == 0 && d == 7)
+eighth_is d zero bits h =
+    let all = all_seen_dominant d zero bits h in
+    let long = delimiter_length d zero bits h in
+    let count : length bits ≡ h.count = omega arith in
+    rw (all, count) (cycle_eighth h.count d h.cycle)
+eighth_is d (suc i) bits h = rw (all_seen_dominant d (suc i) bits h, not_none i) refl
+
+-- no bit came where none is counted
+pub first_is : (d r : ℕ) (bits : List Bit) → IsDelimiting d r bits → d ≡ 0 → r ≡ 0 → bits ≡ []
+first_is d r bits h none few =
+    let long = delimiter_length d r bits h in
+    let count = cycle_none h.count d h.cycle none in
+    nil_from_length bits (omega arith)
+
+-- and none is counted where none came
+pub first_only : (d r : ℕ) (bits : List Bit) → IsDelimiting d r bits → bits ≡ [] → (d ≡ 0) × (r ≡ 0)
+first_only d r bits h none =
+    let long = delimiter_length d r bits h in
+    let empty : length bits ≡ 0 = ap (λ (t : List Bit). length t) none in
+    (none_cycle h.count d h.cycle (omega arith), omega arith)

@@ -12,6 +12,7 @@ pub mod Completing
 pub mod Heard
 pub mod Waits
 pub mod Delimiters
+pub mod Pauses
 pub mod Apart
 pub mod RowOnce
 pub mod Judged
