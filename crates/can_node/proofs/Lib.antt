@@ -13,6 +13,8 @@ pub mod Heard
 pub mod Waits
 pub mod Delimiters
 pub mod Pauses
+pub mod Firsts
+pub mod Flags
 pub mod Apart
 pub mod RowOnce
 pub mod Judged
