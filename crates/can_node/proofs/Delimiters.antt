@@ -33,7 +33,7 @@ pub dominant_after_flag : (d r : ℕ) (seen : Level) (bits : List Bit) → seen 
     IsDelimiting d r bits → IsDelimiting (d % 8 + 1) 0 (bits ++ heard seen ∷ [])
 dominant_after_flag d r seen bits level none h =
     let more : (replicate h.count Dominant ++ replicate r Recessive) ++ seen ∷ [] ≡ replicate (h.count + 1) Dominant ++ [] =
-        rw (level, none) (simp (append-nil, replicate_more)) in
+    rw (level, none) (simp (append-nil, replicate_more)) in
     record {
       count = h.count + 1;
       cycle = next_cycle h.count d h.cycle;
@@ -47,7 +47,7 @@ pub recessive_after_flag : (d r next : ℕ) (seen : Level) (bits : List Bit) →
 recessive_after_flag d r next seen bits level less e h =
     let front : List Level = replicate h.count Dominant in
     let more : (front ++ replicate r Recessive) ++ seen ∷ [] ≡ front ++ replicate next Recessive =
-        rw (level, e) (append_assoc front (replicate r Recessive) (Recessive ∷ []) ∙ ap (λ t. front ++ t) (replicate_more r Recessive)) in
+    rw (level, e) (append_assoc front (replicate r Recessive) (Recessive ∷ []) ∙ ap (λ t. front ++ t) (replicate_more r Recessive)) in
     record {
       count = h.count;
       cycle = h.cycle;
@@ -100,7 +100,7 @@ open_delimiting d r c bits h =
     let few = h.few in
     let all : r + suc (7 - r) ≡ 8 = omega arith in
     let rest : replicate r Recessive ++ replicate (suc (7 - r)) Recessive ≡ replicate 8 Recessive =
-        replicate-append-replicate r (suc (7 - r)) Recessive ∙ ap (λ k. replicate k Recessive) all in
+    replicate-append-replicate r (suc (7 - r)) Recessive ∙ ap (λ k. replicate k Recessive) all in
     record {
       piece = Tail;
       next = Pausing;

@@ -21,6 +21,7 @@ pub mod Judged
 pub mod JudgedEvents
 pub mod Computed
 pub mod Slices
+pub mod Joins
 pub mod StuffFaults
 pub mod WorkedFault
 pub mod WorkedSender

@@ -39,7 +39,7 @@ pause_ends c n seen bits level most h =
     let few = h.few in
     let all : n + 1 ≡ pause_count c = omega arith in
     let levels : replicate n Recessive ++ seen ∷ [] ≡ replicate (pause_count c) Recessive =
-        rw level (replicate_more n Recessive ∙ ap (λ k. replicate k Recessive) all) in
+    rw level (replicate_more n Recessive ∙ ap (λ k. replicate k Recessive) all) in
     subst P (sym (hears_on bits (replicate n Recessive) (seen ∷ []) (replicate (pause_count c) Recessive) h.whole levels)) pause
 
 -- the levels with a dominant one after them

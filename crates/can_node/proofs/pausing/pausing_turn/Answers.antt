@@ -16,8 +16,8 @@ returns-else-n-lt2 c shift before now bits owed h =
 pub returns-else-n-last : goal.returns-else-n-last
 returns-else-n-last c shift before now bits owed h =
     let count : pause_count before ≡ c.if-owed.last + 1 =
-        elim c.if-owed.branch [
-          | then-owed w ↦ omega (arith, w.last-is, pause_owed before (sym owed ∙ w.if-owed.true))
-          | else-owed w ↦ omega (arith, w.last-is, pause_short before (sym owed ∙ w.if-owed.false))
-        ] in
+    elim c.if-owed.branch [
+      | then-owed w ↦ omega (arith, w.last-is, pause_owed before (sym owed ∙ w.if-owed.true))
+      | else-owed w ↦ omega (arith, w.last-is, pause_short before (sym owed ∙ w.if-owed.false))
+    ] in
     pause_ends before c.args.n c.args.seen bits c.in-Recessive.is (omega arith) h
