@@ -1,6 +1,6 @@
 -- At each place outside a frame the pieces are told apart: of two that begin one list neither is a proper front of the
 -- other, and they are one piece that leads to one place.
-use Rattle.std.proofs.Common.{◌≡◌, ◌+◌, ◌<◌, ◌≤◌, ℕ, IsTrue, List, [], ◌∷◌, ◌++◌, replicate, refl, ap, sym, ◌∙◌, arith, inl, inr, if◌then◌else◌, nat_le}
+use Rattle.std.proofs.Common.{◌≡◌, ◌+◌, ◌<◌, ◌≤◌, ℕ, IsTrue, IsFalse, List, [], ◌∷◌, ◌++◌, replicate, refl, ap, sym, ◌∙◌, arith, inl, inr, if◌then◌else◌, nat_le}
 use Rattle.std.proofs.lemmas.Bool.{cases_Bool, le-leb, lt-leb}
 use Rattle.std.proofs.lemmas.List.{append_assoc}
 use Rattle.can_bits.specs.declared.level.Level.{Level}
@@ -203,15 +203,18 @@ all_at count =
     }
 
 -- a pause has three levels at least, and eleven where suspension is owed
-pause_long : (c : Context) → 3 ≤ pause_count c
+pub pause_long : (c : Context) → 3 ≤ pause_count c
 pause_long c =
     elim (cases_Bool (owes_suspension c)) [
       | inl t ↦ rw t (omega arith)
       | inr t ↦ rw t (omega arith)
     ]
 
-pause_owed : (c : Context) → IsTrue (owes_suspension c) → pause_count c ≡ 11
+pub pause_owed : (c : Context) → IsTrue (owes_suspension c) → pause_count c ≡ 11
 pause_owed c t = rw t refl
+
+pub pause_short : (c : Context) → IsFalse (owes_suspension c) → pause_count c ≡ 3
+pause_short c t = rw t refl
 
 in_pausing : (c : Context) (a : List Bit) (p : Piece) (n : Spot) → Row c Pausing a p n → InPausing (pause_count c) a p n
 in_pausing c a p n pause = all_at (pause_count c)

@@ -1,5 +1,6 @@
 -- Lists of bits in which the node drives one level throughout.
-use Rattle.std.proofs.Common.{◌≡◌, ◌≢◌, List, [], ◌∷◌, ◌++◌, refl, ap, sym, ◌∙◌}
+use Rattle.std.proofs.Common.{◌≡◌, ◌≢◌, List, [], ◌∷◌, ◌++◌, length, refl, ap, sym, ◌∙◌}
+use Rattle.std.proofs.lemmas.List.{map-append, length-map}
 use Rattle.can_bits.specs.declared.level.Level.{Level}
 use Rattle.can_bits.specs.declared.level.Level.TheVariants.{Dominant, Recessive}
 use Rattle.can_node.specs.Bits.{Bit, heard, forced, hears, forces, seen_of}
@@ -47,3 +48,15 @@ seen_heard (u ∷ l) = ap (λ t. u ∷ t) (seen_heard l)
 pub seen_both : (a b : List Bit) → seen_of (a ++ b) ≡ seen_of a ++ seen_of b
 seen_both [] b = refl
 seen_both (y ∷ a) b = ap (λ t. y.seen ∷ t) (seen_both a b)
+
+-- more bits in which it drives recessive
+pub hears_on : (bits : List Bit) (l k m : List Level) → bits ≡ hears l → l ++ k ≡ m → bits ++ hears k ≡ hears m
+hears_on bits l k m e more = ap (λ t. t ++ hears k) e ∙ sym (map-append heard l k) ∙ ap (λ t. hears t) more
+
+-- the same where it drives dominant
+pub forces_on : (bits : List Bit) (l k m : List Level) → bits ≡ forces l → l ++ k ≡ m → bits ++ forces k ≡ forces m
+forces_on bits l k m e more = ap (λ t. t ++ forces k) e ∙ sym (map-append forced l k) ∙ ap (λ t. forces t) more
+
+-- how many bits they are where it drives recessive
+pub hears_length : (bits : List Bit) (l : List Level) → bits ≡ hears l → length bits ≡ length l
+hears_length bits l e = ap (λ (t : List Bit). length t) e ∙ length-map l heard

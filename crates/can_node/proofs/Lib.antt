@@ -10,12 +10,17 @@ pub mod Breaking
 pub mod Completing
 pub mod Heard
 pub mod Waits
+pub mod Delimiters
+pub mod Pauses
+pub mod Firsts
+pub mod Flags
 pub mod Apart
 pub mod RowOnce
 pub mod Judged
 pub mod JudgedEvents
 pub mod Computed
 pub mod Slices
+pub mod Joins
 pub mod StuffFaults
 pub mod WorkedFault
 pub mod WorkedSender
