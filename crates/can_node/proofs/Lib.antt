@@ -18,6 +18,8 @@ pub mod JudgedEvents
 pub mod Computed
 pub mod Slices
 pub mod StuffFaults
+pub mod Starts
+pub mod Hearings
 pub mod WorkedFault
 pub mod WorkedSender
 pub mod WorkedLoss
