@@ -20,6 +20,7 @@ pub mod Slices
 pub mod StuffFaults
 pub mod Starts
 pub mod Hearings
+pub mod Beginnings
 pub mod WorkedFault
 pub mod WorkedSender
 pub mod WorkedLoss
