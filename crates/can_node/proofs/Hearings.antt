@@ -85,7 +85,7 @@ fault_row c spot bits x cause segment stuffed h answers breaks place =
     (broken (breaks_off_now c.listen h.levels h.more x cause segment stuffed (hearing_answers c spot bits x h answers) h.right h.within breaks (subst P h.seen place)))
 
 -- a whole line hasn't come
-pub within_not_over : (l : List Level) → IsWithin l → IsOver l → ⊥
+within_not_over : (l : List Level) → IsWithin l → IsOver l → ⊥
 within_not_over l h (f, but) =
     let begun = h.begun in
     let long = h.long in
@@ -156,7 +156,7 @@ wrong_row c spot bits x event fault h answers told some =
     fault_row c spot bits x (cause_by fault) event.segment event.stuff h answers (breaks_by c spot bits x fault h answers (subst P some here.fault)) here.place
 
 -- nothing is wrong with one bit more
-pub right_push : (c : Context) (spot : Spot) (bits : List Bit) (x : Bit) (h : IsHearing c spot bits) →
+right_push : (c : Context) (spot : Spot) (bits : List Bit) (x : Bit) (h : IsHearing c spot bits) →
     IsReadable (seen_of (frame_bits spot bits) ++ x.seen ∷ []) → x ≢ forced Recessive → AllRight h.levels (h.more ++ x ∷ [])
 right_push c spot bits x h readable seen =
     let P : List Level → Type 0 = λ m. IsReadable (m ++ x.seen ∷ []) in

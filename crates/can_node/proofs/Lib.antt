@@ -21,6 +21,8 @@ pub mod StuffFaults
 pub mod Starts
 pub mod Hearings
 pub mod Beginnings
+pub mod Slots
+pub mod Unfinished
 pub mod WorkedFault
 pub mod WorkedSender
 pub mod WorkedLoss
