@@ -68,7 +68,7 @@ bit_there (b ∷ bits) (y ∷ u) x v e =
     (b ∷ before, found, after, ap (λ m. b ∷ m) {y = before ++ found ∷ after} whole, ap (λ m. b.seen ∷ m) seen ∙ ap (λ z. z ∷ u) same, here)
 
 -- a bit from its two levels
-lost_there : (x : Bit) → x.driven ≡ Dominant → x.seen ≡ Recessive → x ≡ forced Recessive
+pub lost_there : (x : Bit) → x.driven ≡ Dominant → x.seen ≡ Recessive → x ≡ forced Recessive
 lost_there x d s = let P : Level → Level → Bit = λ y z. record { driven = y; seen = z } in ap₂ P d s
 
 -- where the acknowledgement slot is next a receiver that doesn't only listen drives dominant

@@ -22,6 +22,11 @@ pub mod Computed
 pub mod Slices
 pub mod Joins
 pub mod StuffFaults
+pub mod Starts
+pub mod Hearings
+pub mod Beginnings
+pub mod Slots
+pub mod Unfinished
 pub mod WorkedFault
 pub mod WorkedSender
 pub mod WorkedLoss

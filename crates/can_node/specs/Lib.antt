@@ -10,6 +10,7 @@ pub mod Cut
 pub mod Events
 pub mod Driving
 pub mod Standing
+pub mod Causes
 pub mod Stages
 pub mod Turns
 pub mod Stands

@@ -1,6 +1,7 @@
-ghost use Rattle.std.specs.Prelude.{List, ◌++◌, ◌∷◌, []};
+ghost use Rattle.std.specs.Prelude.{◌≡◌, List, ◌++◌, ◌∷◌, []};
 ghost use Rattle.can_bits.specs.declared.level.Level.{Level as Bus};
 ghost use Rattle.can_bits.specs.Shifts.{StandsFor};
+ghost use Rattle.can_node.specs.Causes.{cause_by};
 ghost use Rattle.can_node.specs.Bits.{Bit, seen_of};
 ghost use Rattle.can_node.specs.Context.{Context};
 ghost use Rattle.can_node.specs.Pieces.{Spot};
@@ -16,7 +17,9 @@ use super::turn::Turn;
 use can_bits::{Level, LineFault, Shift};
 
 /// The cause of a fault of a line.
-fn cause_of(fault: &LineFault) -> Cause {
+fn cause_of(fault: &LineFault) -> Cause
+    ensures { result ≡ cause_by fault.now }
+{
     match fault {
         LineFault::Stuff(_) => Cause::Stuff,
         LineFault::Crc => Cause::Crc,

@@ -1,0 +1,216 @@
+-- One bit of a frame for its receiver.
+use Rattle.std.specs.Prelude.{IfSome}
+use Rattle.std.proofs.Common.{◌≡◌, ◌≢◌, Bool, Option, None, Some, List, [], ◌∷◌, ◌++◌, length, ap, sym, subst, ◌∙◌, arith, append_assoc}
+use Rattle.std.proofs.lemmas.List.{append-nil, nil_from_length}
+use Rattle.can_frame.specs.Frame.{FrameValue}
+use Rattle.can_bits.specs.declared.level.Level.{Level}
+use Rattle.can_bits.specs.declared.level.Level.TheVariants.{Dominant, Recessive}
+use Rattle.can_bits.specs.declared.segment.Segment.{Segment}
+use Rattle.can_bits.specs.declared.line_fault.LineFault.{LineFault}
+use Rattle.can_bits.specs.declared.line_fault.LineFault.TheVariants.{Stuff as StuffFault, Form as FormFault, Crc as CheckFault, NoAck, Truncated, Trailing}
+use Rattle.can_bits.specs.declared.shift_event.ShiftEvent.{ShiftEvent}
+use Rattle.can_bits.specs.Line.{Line, tail}
+use Rattle.can_bits.specs.Segments.{IsNext}
+use Rattle.can_bits.specs.Streaming.{IsReadable, IsLineButFor, IsOver, BreaksWith, IsEventOf, Judges, Tells}
+use Rattle.can_bits.proofs.Ending.{line_at}
+use Rattle.can_bits.proofs.LineLaws.{lines_agree}
+use Rattle.can_node.specs.declared.cause.Cause.{Cause}
+use Rattle.can_node.specs.declared.cause.Cause.TheVariants.{Bit as BitError}
+use Rattle.can_node.specs.declared.fault_place.FaultPlace.TheVariants.{InReception}
+use Rattle.can_node.specs.Bits.{Bit, forced, seen_of}
+use Rattle.can_node.specs.Causes.{cause_by}
+use Rattle.can_node.specs.Context.{Context}
+use Rattle.can_node.specs.Pieces.{Spot, Piece}
+use Rattle.can_node.specs.Pieces.Spot.{Resting, Joining, AtIdle, SofSeen, AfterReception, Flagging, AfterFlag, Pausing}
+use Rattle.can_node.specs.Pieces.Piece.{Reception, Fault}
+use Rattle.can_node.specs.Frames.{Answers, AllAnswer, IsWithin, Breaks, Hears}
+use Rattle.can_node.specs.Frames.Breaks.{own_ack}
+use Rattle.can_node.specs.Frames.Hears.{broken}
+use Rattle.can_node.specs.Table.{Row}
+use Rattle.can_node.specs.Stages.{IsHearing, AllRight, frame_bits}
+use Rattle.can_node.proofs.Seen.{seen-append, seen_on}
+use Rattle.can_node.proofs.Breaking.{right_next, breaks_off_now, stuff_breaks, form_breaks, check_breaks}
+use Rattle.can_node.proofs.Completing.{within_here, received_now}
+use Rattle.can_node.proofs.Starts.{hearing_begun}
+
+-- what was seen of a frame with one bit more
+pub frame_push : (spot : Spot) (bits : List Bit) (x : Bit) → seen_of (frame_bits spot (bits ++ x ∷ [])) ≡ seen_of (frame_bits spot bits) ++ x.seen ∷ []
+frame_push SofSeen bits x = ap (λ m. Dominant ∷ m) (seen-append bits (x ∷ []))
+frame_push AtIdle bits x = seen-append bits (x ∷ [])
+frame_push Resting bits x = seen-append bits (x ∷ [])
+frame_push Joining bits x = seen-append bits (x ∷ [])
+frame_push AfterReception bits x = seen-append bits (x ∷ [])
+frame_push Flagging bits x = seen-append bits (x ∷ [])
+frame_push AfterFlag bits x = seen-append bits (x ∷ [])
+frame_push Pausing bits x = seen-append bits (x ∷ [])
+
+-- a receiver drives as it must with one bit more
+pub answers_push : (listen : Bool) (l : List Level) (bits : List Bit) (x : Bit) → AllAnswer listen l bits → Answers listen (l ++ seen_of bits) x.driven →
+    AllAnswer listen l (bits ++ x ∷ [])
+answers_push listen l [] x h last = (subst (λ m. Answers listen m x.driven) (append-nil l) last, tt)
+answers_push listen l (b ∷ bits) x h last =
+    let P : List Level → Type 0 = λ m. Answers listen m x.driven in
+    (h.0, answers_push listen (l ++ b.seen ∷ []) bits x h.1 (subst P (sym (append_assoc l (b.seen ∷ []) (seen_of bits))) last))
+
+-- what the receiver saw so far is readable
+pub hearing_readable : (c : Context) (spot : Spot) (bits : List Bit) → IsHearing c spot bits → IsReadable (seen_of (frame_bits spot bits))
+hearing_readable c spot bits h = let P : List Level → Type 0 = λ m. IsReadable m in subst P (sym h.seen) h.right.readable
+
+-- and has two levels to come
+pub hearing_within : (c : Context) (spot : Spot) (bits : List Bit) → IsHearing c spot bits → IsWithin (seen_of (frame_bits spot bits))
+hearing_within c spot bits h = let P : List Level → Type 0 = λ m. IsWithin m in subst P (sym h.seen) h.within
+
+-- what it drives, with one bit more
+pub hearing_answers : (c : Context) (spot : Spot) (bits : List Bit) (x : Bit) (h : IsHearing c spot bits) →
+    Answers c.listen (seen_of (frame_bits spot bits)) x.driven → AllAnswer c.listen h.levels (h.more ++ x ∷ [])
+hearing_answers c spot bits x h answers =
+    let P : List Level → Type 0 = λ m. Answers c.listen m x.driven in
+    answers_push c.listen h.levels h.more x h.answers (subst P h.seen answers)
+
+-- what it hears with one bit more is its piece
+pub row_push : (c : Context) (spot next : Spot) (bits : List Bit) (x : Bit) (p : Piece) (h : IsHearing c spot bits) →
+    Hears c.listen h.levels (h.more ++ x ∷ []) p next → Row c spot (bits ++ x ∷ []) p next
+row_push c spot next bits x p h hears =
+    let P : List Bit → Type 0 = λ m. Row c spot m p next in
+    let whole : bits ++ x ∷ [] ≡ h.before ++ (h.more ++ x ∷ []) = ap (λ m. m ++ x ∷ []) h.whole ∙ append_assoc h.before h.more (x ∷ []) in
+    subst P (sym whole) (h.row (h.more ++ x ∷ []) p next hears)
+
+-- something wrong with the next bit ends the piece
+pub fault_row : (c : Context) (spot : Spot) (bits : List Bit) (x : Bit) (cause : Cause) (segment : Segment) (stuffed : Bool) (h : IsHearing c spot bits) →
+    Answers c.listen (seen_of (frame_bits spot bits)) x.driven → Breaks h.levels (h.more ++ x ∷ []) cause →
+    IsNext (seen_of (frame_bits spot bits)) segment stuffed → Row c spot (bits ++ x ∷ []) (Fault InReception cause segment) Flagging
+fault_row c spot bits x cause segment stuffed h answers breaks place =
+    let P : List Level → Type 0 = λ m. IsNext m segment stuffed in
+    row_push c spot Flagging bits x (Fault InReception cause segment) h
+    (broken (breaks_off_now c.listen h.levels h.more x cause segment stuffed (hearing_answers c spot bits x h answers) h.right h.within breaks (subst P h.seen place)))
+
+-- a whole line hasn't come
+within_not_over : (l : List Level) → IsWithin l → IsOver l → ⊥
+within_not_over l h (f, but) =
+    let begun = h.begun in
+    let long = h.long in
+    let none = nil_from_length but.rest but.count in
+    let Q : List Level → Type 0 = λ m. Line begun.frame begun.body begun.check begun.ack (m ++ begun.rest) in
+    let whole : l ≡ but.line.part ++ tail but.ack = sym (append-nil l) ∙ ap (λ r. l ++ r) (sym none) ∙ but.line.whole in
+    let on = line_at but.line.part (tail but.ack) begun.rest but.line.is_part (subst Q whole begun.line) in
+    let count = ap length on.tails in
+    omega (arith, count, long)
+
+-- nor has it with one level more
+within_then_not_over : (l : List Level) (x : Level) → IsWithin l → IsOver (l ++ x ∷ []) → ⊥
+within_then_not_over l x h (f, but) =
+    let begun = h.begun in
+    let long = h.long in
+    let none = nil_from_length but.rest but.count in
+    let P : List Level → Type 0 = λ r. Line f but.body but.check but.ack ((l ++ x ∷ []) ++ r) in
+    let Q : List Level → Type 0 = λ m. Line f but.body but.check but.ack m in
+    let line = subst Q (append-nil (l ++ x ∷ [])) (subst P none but.line) in
+    let agree = lines_agree f begun.frame but.body but.check begun.body begun.check but.ack begun.ack x l begun.rest line begun.line in
+    let count = agree.3 in
+    omega (arith, count, long)
+
+-- what the reader finds wrong is wrong for the receiver
+breaks_by : (c : Context) (spot : Spot) (bits : List Bit) (x : Bit) (fault : LineFault) (h : IsHearing c spot bits) →
+    Answers c.listen (seen_of (frame_bits spot bits)) x.driven → BreaksWith (seen_of (frame_bits spot bits)) x.seen fault → Breaks h.levels (h.more ++ x ∷ []) (cause_by fault)
+breaks_by c spot bits x (StuffFault at) h answers broke =
+    let P : List Level → Type 0 = λ m. BreaksWith m x.seen (StuffFault at) in
+    stuff_breaks h.levels h.more x at (subst P h.seen broke)
+breaks_by c spot bits x (FormFault at) h answers broke =
+    let P : List Level → Type 0 = λ m. BreaksWith m x.seen (FormFault at) in
+    form_breaks h.levels h.more x at (λ none. hearing_begun c spot bits h (h.seen ∙ none)) h.right.readable (subst P h.seen broke)
+breaks_by c spot bits x CheckFault h answers broke =
+    let P : List Level → Type 0 = λ m. BreaksWith m x.seen CheckFault in
+    check_breaks c.listen h.levels h.more x (hearing_answers c spot bits x h answers) (subst P h.seen broke)
+breaks_by c spot bits x (Trailing at) h answers broke =
+    absurd (within_not_over (seen_of (frame_bits spot bits)) (hearing_within c spot bits h) broke.0)
+breaks_by c spot bits x NoAck h answers broke = absurd broke
+breaks_by c spot bits x Truncated h answers broke = absurd broke
+
+-- the event of the next bit
+hearing_event : (c : Context) (spot : Spot) (bits : List Bit) (x : Bit) (event : ShiftEvent) → IsHearing c spot bits →
+    Tells (seen_of (frame_bits spot bits)) x.seen event → IsEventOf (seen_of (frame_bits spot bits)) x.seen event
+hearing_event c spot bits x event h told = told.right_so_far (hearing_readable c spot bits h)
+
+-- a bit that isn't driven dominant, or isn't seen recessive
+pub not_lost_driven : (x : Bit) → x.driven ≡ Recessive → x ≢ forced Recessive
+not_lost_driven x e d = let wrong : Recessive ≡ Dominant = sym e ∙ ap (λ (b : Bit). b.driven) d in cc
+
+pub not_lost_seen : (x : Bit) → x.seen ≡ Dominant → x ≢ forced Recessive
+not_lost_seen x e d = let wrong : Dominant ≡ Recessive = sym e ∙ ap (λ (b : Bit). b.seen) d in cc
+
+-- its own acknowledgement isn't seen
+pub lost_row : (c : Context) (spot : Spot) (bits : List Bit) (x : Bit) (event : ShiftEvent) → IsHearing c spot bits →
+    Answers c.listen (seen_of (frame_bits spot bits)) x.driven → Tells (seen_of (frame_bits spot bits)) x.seen event → x ≡ forced Recessive →
+    Row c spot (bits ++ x ∷ []) (Fault InReception BitError event.segment) Flagging
+lost_row c spot bits x event h answers told lost =
+    fault_row c spot bits x BitError event.segment event.stuff h answers (own_ack h.more (ap (λ y. h.more ++ y ∷ []) lost))
+    (hearing_event c spot bits x event h told).place
+
+-- the reader finds a fault
+pub wrong_row : (c : Context) (spot : Spot) (bits : List Bit) (x : Bit) (event : ShiftEvent) (fault : LineFault) → IsHearing c spot bits →
+    Answers c.listen (seen_of (frame_bits spot bits)) x.driven → Tells (seen_of (frame_bits spot bits)) x.seen event → event.fault ≡ Some fault →
+    Row c spot (bits ++ x ∷ []) (Fault InReception (cause_by fault) event.segment) Flagging
+wrong_row c spot bits x event fault h answers told some =
+    let here = hearing_event c spot bits x event h told in
+    let P : Option LineFault → Type 0 = λ o. Judges (seen_of (frame_bits spot bits)) x.seen o in
+    fault_row c spot bits x (cause_by fault) event.segment event.stuff h answers (breaks_by c spot bits x fault h answers (subst P some here.fault)) here.place
+
+-- nothing is wrong with one bit more
+right_push : (c : Context) (spot : Spot) (bits : List Bit) (x : Bit) (h : IsHearing c spot bits) →
+    IsReadable (seen_of (frame_bits spot bits) ++ x.seen ∷ []) → x ≢ forced Recessive → AllRight h.levels (h.more ++ x ∷ [])
+right_push c spot bits x h readable seen =
+    let P : List Level → Type 0 = λ m. IsReadable (m ++ x.seen ∷ []) in
+    right_next h.levels h.more x h.right (subst P h.seen readable) seen
+
+-- what is seen with one bit more, after the levels at the beginning
+pub hearing_push : (c : Context) (spot : Spot) (bits : List Bit) (x : Bit) (h : IsHearing c spot bits) →
+    seen_of (frame_bits spot bits) ++ x.seen ∷ [] ≡ h.levels ++ seen_of (h.more ++ x ∷ [])
+hearing_push c spot bits x h = ap (λ m. m ++ x.seen ∷ []) h.seen ∙ sym (seen_on h.levels h.more (x ∷ []))
+
+-- the frame goes on
+pub hearing_next : (c : Context) (spot : Spot) (bits : List Bit) (x : Bit) → IsHearing c spot bits →
+    Answers c.listen (seen_of (frame_bits spot bits)) x.driven → x ≢ forced Recessive →
+    IsReadable (seen_of (frame_bits spot bits) ++ x.seen ∷ []) → IsWithin (seen_of (frame_bits spot bits) ++ x.seen ∷ []) → IsHearing c spot (bits ++ x ∷ [])
+hearing_next c spot bits x h answers seen readable within =
+    let P : List Level → Type 0 = λ m. IsWithin m in
+    record {
+      before = h.before;
+      more = h.more ++ x ∷ [];
+      levels = h.levels;
+      whole = ap (λ m. m ++ x ∷ []) h.whole ∙ append_assoc h.before h.more (x ∷ []);
+      seen = frame_push spot bits x ∙ hearing_push c spot bits x h;
+      row = h.row;
+      inside = h.inside;
+      answers = hearing_answers c spot bits x h answers;
+      right = right_push c spot bits x h readable seen;
+      within = subst P (hearing_push c spot bits x h) within;
+    }
+
+-- the reader finds no fault and shows no frame
+pub goes_on : (c : Context) (spot : Spot) (bits : List Bit) (x : Bit) (event : ShiftEvent) → IsHearing c spot bits →
+    Answers c.listen (seen_of (frame_bits spot bits)) x.driven → Tells (seen_of (frame_bits spot bits)) x.seen event → x ≢ forced Recessive →
+    event.fault ≡ None → event.frame ≡ None → IsHearing c spot (bits ++ x ∷ [])
+goes_on c spot bits x event h answers told seen right none =
+    let levels : List Level = seen_of (frame_bits spot bits) in
+    let here = hearing_event c spot bits x event h told in
+    let P : Option LineFault → Type 0 = λ o. Judges levels x.seen o in
+    let readable : IsReadable (levels ++ x.seen ∷ []) = subst P right here.fault in
+    let within = within_here (levels ++ x.seen ∷ []) readable
+    (λ f but. let wrong : None ≡ Some f = sym none ∙ here.frame.only f but in cc)
+    (within_then_not_over levels x.seen (hearing_within c spot bits h)) in
+    hearing_next c spot bits x h answers seen readable within
+
+-- the reader shows a frame
+pub received_row : (c : Context) (spot : Spot) (bits : List Bit) (x : Bit) (event : ShiftEvent) (f : FrameValue) → IsHearing c spot bits →
+    Answers c.listen (seen_of (frame_bits spot bits)) x.driven → Tells (seen_of (frame_bits spot bits)) x.seen event → x ≢ forced Recessive →
+    event.fault ≡ None → event.frame ≡ Some f → Row c spot (bits ++ x ∷ []) (Reception f) AfterReception
+received_row c spot bits x event f h answers told seen right some =
+    let levels : List Level = seen_of (frame_bits spot bits) in
+    let here = hearing_event c spot bits x event h told in
+    let P : Option LineFault → Type 0 = λ o. Judges levels x.seen o in
+    let Q : Option FrameValue → Type 0 = λ o. IfSome o (λ g. IsLineButFor 1 g (levels ++ x.seen ∷ [])) in
+    let R : List Level → Type 0 = λ m. IsLineButFor 1 f m in
+    let line : IsLineButFor 1 f (levels ++ x.seen ∷ []) = subst Q some here.frame.some in
+    row_push c spot AfterReception bits x (Reception f) h
+    (received_now c.listen h.levels (h.more ++ x ∷ []) f h.inside (hearing_answers c spot bits x h answers)
+    (right_push c spot bits x h (subst P right here.fault) seen) (subst R (hearing_push c spot bits x h) line))
