@@ -1,6 +1,7 @@
 pub mod SentLines
 pub mod PlaceLemmas
 pub mod SentBits
+pub mod WellNext
 pub mod Sending
 pub mod Nexts
 pub mod Seen

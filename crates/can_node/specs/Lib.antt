@@ -12,4 +12,5 @@ pub mod Driving
 pub mod Standing
 pub mod Stages
 pub mod Turns
+pub mod Telling
 pub mod Stands
