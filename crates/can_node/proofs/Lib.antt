@@ -2,6 +2,7 @@ pub mod SentLines
 pub mod PlaceLemmas
 pub mod SentBits
 pub mod WellNext
+pub mod Losing
 pub mod Sending
 pub mod Nexts
 pub mod Seen

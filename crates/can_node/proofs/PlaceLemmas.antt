@@ -31,7 +31,7 @@ run-le [] = omega arith
 run-le (x ∷ l) = let less = lead-le x l in omega (arith, less)
 
 -- five equal levels at the beginning
-five-is : (l : List Level) → begins_in_five l ≡ nat_le 5 (run l)
+pub five-is : (l : List Level) → begins_in_five l ≡ nat_le 5 (run l)
 unfolding begins_in_five
 five-is [] = refl
 five-is (a ∷ []) = refl
