@@ -15,10 +15,9 @@ use Rattle.can_node.specs.Frames.Sends.{lost}
 use Rattle.can_node.specs.Pieces.{Spot, Piece}
 use Rattle.can_node.specs.Stages.{IsHearing, IsTelling, IsFrameSpot, frame_bits}
 use Rattle.can_node.proofs.Breaking.{right_nothing}
-use Rattle.can_node.proofs.FramePlaces.{row_own, frame_more}
+use Rattle.can_node.proofs.FramePlaces.{row_own, frame_more, frame_seen}
 use Rattle.can_node.proofs.Losing.{lost_inside, lost_open, open_within}
 use Rattle.can_node.proofs.Nexts.{past_here}
-use Rattle.can_node.proofs.Seen.{seen-append}
 
 -- a bit from its two levels
 lost_bit : (x : Bit) → x.driven ≡ Recessive → x.seen ≡ Dominant → x ≡ heard Dominant
@@ -42,7 +41,7 @@ hears_on c now spot bits b code rest place h next drives sees some =
       more = [];
       levels = levels;
       whole = sym (append-nil all);
-      seen = ap (λ l. seen_of l) (frame_more spot bits (b ∷ []) place) ∙ seen-append before (b ∷ []) ∙ ap (λ x. seen_of before ++ x ∷ []) sees ∙ sym (append-nil levels);
+      seen = frame_seen spot bits b place ∙ ap (λ x. seen_of before ++ x ∷ []) sees ∙ sym (append-nil levels);
       row = λ more piece after hears.
           let split : frame_bits spot (all ++ more) ≡ before ++ heard Dominant ∷ more =
           ap (λ l. frame_bits spot l) (append_assoc bits (b ∷ []) more) ∙ frame_more spot bits (b ∷ more) place ∙ ap (λ x. before ++ x ∷ more) (lost_bit b drives sees) in

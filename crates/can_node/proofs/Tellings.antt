@@ -1,15 +1,16 @@
 -- A bit of a frame for its transmitter: there is a fault, or the frame goes on, or it is sent.
-use Rattle.std.proofs.Common.{◌≡◌, ◌≢◌, ◌+◌, ◌↔◌, IsTrue, Bool, true, false, Option, Some, None, is_some, List, [], ◌∷◌, ◌++◌, length, refl, ap, sym, subst, ◌∙◌}
-use Rattle.std.proofs.lemmas.List.{append-nil, map-append}
+use Rattle.std.proofs.Common.{◌≡◌, ◌≢◌, ◌+◌, ◌↔◌, IsTrue, ℕ, Bool, true, false, Option, Some, None, is_some, List, [], ◌∷◌, ◌++◌, length, refl, ap, sym, subst, ◌∙◌}
+use Rattle.std.proofs.lemmas.List.{append-nil, nil_from_length}
 use Rattle.can_bits.specs.declared.level.Level.{Level}
-use Rattle.can_bits.specs.declared.level.Level.TheVariants.{Recessive}
+use Rattle.can_bits.specs.declared.level.Level.TheVariants.{Dominant, Recessive}
 use Rattle.can_bits.specs.declared.shift_event.ShiftEvent.{ShiftEvent}
 use Rattle.can_bits.specs.Acknowledging.{IsAckDue}
 use Rattle.can_bits.specs.Line.{tail}
-use Rattle.can_bits.specs.Places.{is_early_stuff}
+use Rattle.can_bits.specs.Places.{place_code, is_early_stuff}
 use Rattle.can_bits.specs.Streaming.{IsOver, Tells}
 use Rattle.can_node.specs.declared.cause.Cause.{Cause}
 use Rattle.can_node.specs.declared.fault_place.FaultPlace.TheVariants.{InSending}
+use Rattle.can_node.specs.declared.request.Request.{Request}
 use Rattle.can_node.specs.Bits.{Bit, seen_of, driven_of}
 use Rattle.can_node.specs.Context.{Context}
 use Rattle.can_node.specs.Counting.{lost_by}
@@ -22,10 +23,11 @@ use Rattle.can_node.specs.Pieces.Piece.{Sending, Fault}
 use Rattle.can_node.specs.Stages.{IsTelling, IsFrameSpot, frame_bits}
 use Rattle.can_node.specs.Table.{Row}
 use Rattle.can_node.specs.Telling.{cause_with}
-use Rattle.can_node.specs.Turns.{sending_of}
+use Rattle.can_node.specs.Turns.{sending_of, GoesOn}
+use Rattle.can_node.proofs.AfterLoss.{hears_on, lost_not_over}
 use Rattle.can_node.proofs.FramePlaces.{row_own, frame_more, frame_seen}
 use Rattle.can_node.proofs.SentLines.{sent_part_once}
-use Rattle.can_node.proofs.WellNext.{driven_push, IsOneMore, well_next, well_slot, well_readable, due_at_slot, slot_at_due, over_at_end, end_at_over}
+use Rattle.can_node.proofs.WellNext.{driven_push, IsOneMore, well_next, well_slot, as_much_left, well_readable, due_at_slot, slot_at_due, over_at_end, end_at_over}
 use Rattle.can_node.proofs.WrongBits.{IsFine, cause_fails, none_fine}
 use Rattle.can_node.proofs.WrongBits.IsFine.{loses, fits_slot, is_seen}
 
@@ -120,3 +122,56 @@ tells_more {c = c} {spot = spot} {bits = bits} {driven = driven} {seen = seen} t
           let over = over_at_end c.self_test h.request.frame h.check h.part (frame_bits spot (bits ++ b ∷ [])) h.is_part one.well none in
           unended (subst P (frame_seen spot bits b t.place) over);
     }
+
+-- with the last level of its line it is sent
+told_sent : {c now : Context} {spot : Spot} {bits : List Bit} {driven seen : Level} {self_test slot early : Bool} →
+    IsTold c now spot bits driven seen self_test slot early false None → IsOver (seen_of (frame_bits spot bits) ++ seen ∷ []) →
+    Row c spot (bits ++ record { driven = driven; seen = seen } ∷ []) (sending_of now.held) Pausing
+told_sent {c = c} {spot = spot} {bits = bits} {driven = driven} {seen = seen} t over =
+    let h = t.telling in
+    let b : Bit = record { driven = driven; seen = seen } in
+    let all : List Bit = frame_bits spot (bits ++ b ∷ []) in
+    let g = (told_well t).well in
+    let P : List Level → Type 0 = λ l. IsOver l in
+    let none = end_at_over c.self_test h.request.frame h.check h.part all h.is_part g (subst P (sym (frame_seen spot bits b t.place)) over) in
+    let unseen : g.others ≡ [] = nil_from_length g.others (as_much_left c.self_test h.part all g ∙ ap length none) in
+    let sends : Sends c.self_test h.request all (Sending h.request) Pausing =
+    sending h.check h.part g.ack h.is_part g.fits
+    (sym (g.driven ∙ ap (λ l. driven_of all ++ l) none ∙ append-nil (driven_of all)))
+    (sym (g.seen ∙ ap (λ l. seen_of all ++ l) unseen ∙ append-nil (seen_of all))) in
+    let Q : Option Request → Type 0 = λ o. Row c spot (bits ++ b ∷ []) (sending_of o) Pausing in
+    subst Q (sym h.held) (row_own c spot h.request (bits ++ b ∷ []) (Sending h.request) Pausing t.place h.sent sends)
+
+-- ---- arbitration lost or not
+
+-- where it is lost
+record IsLost (ext : Bool) (l : List Level) (driven seen : Level) : Type 0 where
+  code : ℕ
+  drives : driven ≡ Recessive
+  sees : seen ≡ Dominant
+  some : place_code ext l ≡ Some code
+
+fine_lost : {ext self_test slot : Bool} (before : List Bit) (driven seen : Level) → IsFine ext before driven seen self_test slot true → IsLost ext (seen_of before) driven seen
+fine_lost before driven seen (loses code d s e) = record { code = code; drives = d; sees = s; some = e }
+
+told_lost : {c now : Context} {spot : Spot} {bits : List Bit} {driven seen : Level} {self_test slot early : Bool} (t : IsTold c now spot bits driven seen self_test slot early true None) →
+    IsLost t.telling.request.frame.ext (seen_of (frame_bits spot bits)) driven seen
+told_lost {spot = spot} {bits = bits} {driven = driven} {seen = seen} {self_test = self_test} {slot = slot} {early = early} t =
+    fine_lost (frame_bits spot bits) driven seen (none_fine t.telling.request (frame_bits spot bits) driven seen self_test slot early true t.lost_is t.cause_is)
+
+-- a whole line has come
+pub tells_sent : {c now : Context} {spot : Spot} {bits : List Bit} {driven seen : Level} {self_test slot early : Bool} (lost whole : Bool) →
+    IsTold c now spot bits driven seen self_test slot early lost None → IsTrue whole ↔ IsOver (seen_of (frame_bits spot bits) ++ seen ∷ []) → whole ≡ true →
+    (lost ≡ false) × Row c spot (bits ++ record { driven = driven; seen = seen } ∷ []) (sending_of now.held) Pausing
+tells_sent false whole t over here = (refl, told_sent t (over.0 here))
+tells_sent {c = c} {now = now} {spot = spot} {bits = bits} {seen = seen} true whole t over here =
+    let h = told_lost t in absurd (lost_not_over c now spot bits h.code seen t.telling h.sees h.some (over.0 here))
+
+-- more of it is to come
+pub tells_on : {c now : Context} {spot : Spot} {bits : List Bit} {driven seen : Level} {self_test slot early : Bool} (lost whole : Bool) →
+    IsTold c now spot bits driven seen self_test slot early lost None → IsTrue whole ↔ IsOver (seen_of (frame_bits spot bits) ++ seen ∷ []) → whole ≡ false →
+    GoesOn lost c now spot (bits ++ record { driven = driven; seen = seen } ∷ [])
+tells_on false whole t over here = tells_more t (λ all. (let wrong : true ≡ false = sym (over.1 all) ∙ here in cc))
+tells_on {c = c} {now = now} {spot = spot} {bits = bits} {driven = driven} {seen = seen} true whole t over here =
+    let h = told_lost t in
+    hears_on c now spot bits (record { driven = driven; seen = seen }) h.code t.sends.rest t.place t.telling (line_next t.telling t.sends) h.drives h.sees h.some
