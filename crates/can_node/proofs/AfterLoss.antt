@@ -1,5 +1,5 @@
 -- A transmitter that loses arbitration goes on as receiver.
-use Rattle.std.proofs.Common.{◌≡◌, false, ℕ, Some, List, [], ◌∷◌, ◌++◌, refl, ap, ap₂, sym, subst, ◌∙◌, append_assoc}
+use Rattle.std.proofs.Common.{◌≡◌, ℕ, Some, List, [], ◌∷◌, ◌++◌, ap, ap₂, sym, subst, ◌∙◌, append_assoc}
 use Rattle.std.proofs.lemmas.List.{append-nil}
 use Rattle.can_bits.specs.declared.level.Level.{Level}
 use Rattle.can_bits.specs.declared.level.Level.TheVariants.{Dominant, Recessive}
@@ -10,9 +10,9 @@ use Rattle.can_bits.proofs.DueLemmas.{over_part}
 use Rattle.can_bits.proofs.Readables.{open_readable}
 use Rattle.can_node.specs.Bits.{Bit, heard, seen_of, driven_of}
 use Rattle.can_node.specs.Context.{Context}
-use Rattle.can_node.specs.Frames.{Hears, IsWithin, Sends}
+use Rattle.can_node.specs.Frames.{Hears, IsWithin}
 use Rattle.can_node.specs.Frames.Sends.{lost}
-use Rattle.can_node.specs.Pieces.{Spot, Piece}
+use Rattle.can_node.specs.Pieces.{Spot}
 use Rattle.can_node.specs.Stages.{IsHearing, IsTelling, IsFrameSpot, frame_bits}
 use Rattle.can_node.proofs.Breaking.{right_nothing}
 use Rattle.can_node.proofs.FramePlaces.{row_own, frame_more, frame_seen}
