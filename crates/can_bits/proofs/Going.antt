@@ -1,7 +1,7 @@
 -- Whatever was right so far can go on to a line.
 use Rattle.std.proofs.Common.{◌≡◌, ◌-◌, ◌<◌, ◌≤◌, inl, inr, List, [], ◌∷◌, ◌++◌, length, reverse, replicate, refl, ap, sym, subst, ◌∙◌, arith, append_assoc}
 use Rattle.std.proofs.lemmas.Bool.{cases_lt}
-use Rattle.std.proofs.lemmas.List.{reverse-append, reverse-reverse, length-append, length-replicate}
+use Rattle.std.proofs.lemmas.List.{append-nil, reverse-append, reverse-reverse, length-append, length-replicate}
 use Rattle.can_frame.specs.Frame.{FrameValue}
 use Rattle.can_bits.specs.declared.level.Level.{Level}
 use Rattle.can_bits.specs.declared.level.Level.TheVariants.{Dominant}
@@ -9,9 +9,10 @@ use Rattle.can_bits.specs.Digits.{opposite}
 use Rattle.can_bits.specs.Fields.{level_at, says_count, IsWhole}
 use Rattle.can_bits.specs.Line.{StuffedPart, tail}
 use Rattle.can_bits.specs.Reading.{IsOpen}
+use Rattle.can_bits.specs.Stuffing.{Stuffed}
 use Rattle.can_bits.proofs.Lists.{reverse-cons}
 use Rattle.can_bits.proofs.Runs.{run, run-other, run_one_more, IsShort}
-use Rattle.can_bits.proofs.Stuffs.{unstuffed, unstuffed-kept, unstuffed-dropped, opposite-other}
+use Rattle.can_bits.proofs.Stuffs.{unstuffed, unstuffed-kept, unstuffed-dropped, opposite-other, IsStuffed, stuffed_from}
 use Rattle.can_bits.proofs.Parts.{plain, part_of}
 use Rattle.can_bits.proofs.FieldLemmas.{says_count-padded, level_at-padded}
 use Rattle.can_bits.proofs.DecodeLemmas.{decoded}
@@ -71,6 +72,21 @@ complete more past short =
       closed = subst few_ joined all.closed;
       adds = ap unstuffed (sym joined) ∙ all.adds ∙ ap (λ l. reverse more ++ l) next.adds;
     }
+
+-- every list has a stuffing
+pub stuffing_of : (w : List Level) → (s : List Level) × Stuffed w s
+stuffing_of w =
+    let all = complete w [] tt in
+    let s : List Level = reverse (all.later ++ []) in
+    let turned : reverse s ≡ all.later ++ [] = reverse-reverse (all.later ++ []) in
+    let P : List Level → Type 0 = λ p. IsShort p in
+    let few : List Level → Type 0 = λ p. run p < 5 in
+    let form : IsStuffed w (reverse s) = record {
+      short = subst P (sym turned) all.short;
+      closed = subst few (sym turned) all.closed;
+      unstuffs = ap unstuffed turned ∙ all.adds ∙ append-nil (reverse w);
+    } in
+    (s, stuffed_from w s form)
 
 -- a stuffed part that goes on, newest level first
 pub record IsInside (past : List Level) : Type 0 where

@@ -1,5 +1,11 @@
 pub mod SentLines
 pub mod SentBits
+pub mod WellNext
+pub mod Losing
+pub mod FramePlaces
+pub mod WrongBits
+pub mod AfterLoss
+pub mod Tellings
 pub mod Sending
 pub mod Nexts
 pub mod Seen

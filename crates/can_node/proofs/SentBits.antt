@@ -14,7 +14,7 @@ use Rattle.can_node.specs.Frames.{AckFits, SentPart, GoesWell, Fails}
 use Rattle.can_node.specs.Frames.Fails.{no_ack, stuff_bit, unseen, overdriven}
 
 -- two lists that differ at one place at most: their levels at one place are equal, but at that one
-same_place : (q a b x y z : List Level) (u v ack : Level) → q ++ Recessive ∷ z ≡ a ++ u ∷ x → q ++ ack ∷ z ≡ b ++ v ∷ y →
+pub same_place : (q a b x y z : List Level) (u v ack : Level) → q ++ Recessive ∷ z ≡ a ++ u ∷ x → q ++ ack ∷ z ≡ b ++ v ∷ y →
     length a ≡ length b →
     ((length a ≡ length q) × (u ≡ Recessive) × (v ≡ ack)) ⊎ ((length a ≢ length q) × (u ≡ v))
 same_place [] [] [] x y z u v ack e f n = inl (refl, cc, cc)
@@ -69,7 +69,7 @@ well_bit self_test part before last g =
     ]
 
 -- what was seen before the acknowledgement slot
-seen_at_slot : (self_test : Bool) (part : List Level) (before : List Bit) → GoesWell self_test part before →
+pub seen_at_slot : (self_test : Bool) (part : List Level) (before : List Bit) → GoesWell self_test part before →
     length before ≡ length part + 1 →
     seen_of before ≡ part ++ Recessive ∷ []
 seen_at_slot self_test part before g count =

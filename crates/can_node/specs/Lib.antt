@@ -13,4 +13,5 @@ pub mod Standing
 pub mod Causes
 pub mod Stages
 pub mod Turns
+pub mod Telling
 pub mod Stands

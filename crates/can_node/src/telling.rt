@@ -8,6 +8,7 @@ ghost use Rattle.can_node.specs.Counting.{lost_by};
 ghost use Rattle.can_node.specs.Pieces.{Spot};
 ghost use Rattle.can_node.specs.Driving.{SendsNext};
 ghost use Rattle.can_node.specs.Stages.{IsTelling, IsFrameSpot, frame_bits};
+ghost use Rattle.can_node.specs.Telling.{cause_with};
 ghost use Rattle.can_node.specs.Turns.{TellsOn};
 
 use super::cause::Cause;
@@ -26,7 +27,9 @@ fn wrong_with(
     early: bool,
     lost: bool,
     self_test: bool,
-) -> Option<Cause> {
+) -> Option<Cause>
+    ensures { result ≡ cause_with driven seen slot early lost self_test }
+{
     match driven {
         Level::Dominant => match seen {
             Level::Dominant => None,
