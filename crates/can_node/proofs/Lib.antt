@@ -40,3 +40,4 @@ pub mod WorkedReception
 pub mod WorkedMoves
 pub mod Along
 pub mod GoOn
+pub mod Calls
