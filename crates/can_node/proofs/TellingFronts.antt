@@ -10,10 +10,11 @@ use Rattle.can_bits.specs.Line.{StuffedPart, tail}
 use Rattle.can_bits.proofs.Ending.{part_begins}
 use Rattle.can_bits.proofs.Lists.{cases_list}
 use Rattle.can_node.specs.declared.request.Request.{Request}
+use Rattle.can_node.specs.declared.role.Role.TheVariants.{Transmitter}
 use Rattle.can_node.specs.Bits.{Bit, seen_of, driven_of}
 use Rattle.can_node.specs.Context.{Context}
 use Rattle.can_node.specs.Cut.{IsUnfinished}
-use Rattle.can_node.specs.Driving.{SendsNext}
+use Rattle.can_node.specs.Driving.{SendsNext, FrameDrives}
 use Rattle.can_node.specs.Frames.{Sends}
 use Rattle.can_node.specs.Frames.Sends.{sending}
 use Rattle.can_node.specs.Pieces.{Spot, sent_at}
@@ -123,6 +124,29 @@ telling_next c now spot bits h =
 
 pub drives_next : (c now : Context) (spot : Spot) (bits : List Bit) (h : IsTelling c now spot bits) → (x : Level) × SendsNext h.request (frame_bits spot bits) x
 drives_next c now spot bits h = let next = telling_next c now spot bits h in (next.level, next.sends)
+
+-- what a transmitter drives within its frame is that level
+pub drives_sends : (c now : Context) (spot : Spot) (bits : List Bit) (x : Level) (h : IsTelling c now spot bits) → FrameDrives Transmitter now (frame_bits spot bits) x →
+    SendsNext h.request (frame_bits spot bits) x
+drives_sends c now spot bits x h (request, held, sends) =
+    let whole : Some request ≡ Some h.request = sym held ∙ h.held in
+    let same : request ≡ h.request = cc in
+    let P : Request → Type 0 = λ r. SendsNext r (frame_bits spot bits) x in
+    subst P same sends
+
+-- nothing else of the context counts than the request that is held
+pub telling_kept : (c now other : Context) (spot : Spot) (bits : List Bit) → other.held ≡ now.held → IsTelling c now spot bits → IsTelling c other spot bits
+telling_kept c now other spot bits same h = record {
+  request = h.request;
+  sent = h.sent;
+  held = same ∙ h.held;
+  speaks = h.speaks;
+  check = h.check;
+  part = h.part;
+  is_part = h.is_part;
+  well = h.well;
+  more = h.more;
+}
 
 -- ---- the rest
 
