@@ -6,6 +6,7 @@ pub mod FramePlaces
 pub mod WrongBits
 pub mod AfterLoss
 pub mod Tellings
+pub mod TellingFronts
 pub mod Sending
 pub mod Nexts
 pub mod Seen

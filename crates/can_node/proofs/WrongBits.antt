@@ -58,7 +58,7 @@ pub data IsFine (ext : Bool) (before : List Bit) (driven seen : Level) (self_tes
   is_seen : slot ≡ false → driven ≡ seen → IsFine ext before driven seen self_test slot false
 
 -- a dominant level fits it in any case
-dominant_fits : (self_test : Bool) → AckFits self_test Dominant
+pub dominant_fits : (self_test : Bool) → AckFits self_test Dominant
 dominant_fits true = tt
 dominant_fits false = refl
 

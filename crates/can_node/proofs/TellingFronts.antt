@@ -1,0 +1,190 @@
+-- A transmitter within its frame: how it begins, what it drives next, and that it may go on to the end.
+use Rattle.std.proofs.Common.{◌≡◌, ◌≢◌, inl, inr, false, Some, List, [], ◌∷◌, ◌++◌, length, refl, ap, sym, subst, ◌∙◌, arith}
+use Rattle.std.proofs.lemmas.List.{length-append, length-map, map-append}
+use Rattle.can_frame.specs.Frame.{IsFrame}
+use Rattle.can_bits.specs.declared.level.Level.{Level}
+use Rattle.can_bits.specs.declared.level.Level.TheVariants.{Dominant, Recessive}
+use Rattle.can_bits.specs.Body.{sent_body}
+use Rattle.can_bits.specs.Check.{Crc}
+use Rattle.can_bits.specs.Line.{StuffedPart, tail}
+use Rattle.can_bits.proofs.Ending.{part_begins}
+use Rattle.can_bits.proofs.Lists.{cases_list}
+use Rattle.can_node.specs.declared.request.Request.{Request}
+use Rattle.can_node.specs.declared.role.Role.TheVariants.{Transmitter}
+use Rattle.can_node.specs.Bits.{Bit, seen_of, driven_of}
+use Rattle.can_node.specs.Context.{Context}
+use Rattle.can_node.specs.Cut.{IsUnfinished}
+use Rattle.can_node.specs.Driving.{SendsNext, FrameDrives}
+use Rattle.can_node.specs.Frames.{Sends}
+use Rattle.can_node.specs.Frames.Sends.{sending}
+use Rattle.can_node.specs.Pieces.{Spot, sent_at}
+use Rattle.can_node.specs.Pieces.Spot.{AtIdle, SofSeen, Pausing}
+use Rattle.can_node.specs.Pieces.Piece.{Sending}
+use Rattle.can_node.specs.Stages.{IsTelling, IsFrameSpot, frame_bits}
+use Rattle.can_node.specs.Table.{Row}
+use Rattle.can_node.proofs.FramePlaces.{row_own, frame_more}
+use Rattle.can_node.proofs.SentLines.{sent_part_of}
+use Rattle.can_node.proofs.WellNext.{as_much_left}
+use Rattle.can_node.proofs.WrongBits.{dominant_fits}
+
+-- ---- the beginning
+
+-- a tail isn't empty, whatever stands before it
+some_tail : (front : List Level) → front ++ tail Recessive ≢ []
+some_tail front e = omega (arith, ap length e, length-append front (tail Recessive))
+
+-- a request is to be sent where the bus is idle
+pub tells_from_idle : (c now : Context) (request : Request) → IsFrame request.frame → sent_at c AtIdle ≡ Some request → now.held ≡ Some request → c.listen ≡ false →
+    IsTelling c now AtIdle []
+tells_from_idle c now request frame sent held speaks =
+    let (check, part, is_part) = sent_part_of request.frame frame in
+    record {
+      request = request;
+      sent = sent;
+      held = held;
+      speaks = speaks;
+      check = check;
+      part = part;
+      is_part = is_part;
+      well = record { ack = Dominant; fits = dominant_fits c.self_test; rest = part ++ tail Recessive; others = part ++ tail Dominant; driven = refl; seen = refl };
+      more = some_tail part;
+    }
+
+-- or a pause ended with the start of its frame
+pub tells_from_pause : (c now : Context) (request : Request) → IsFrame request.frame → sent_at c SofSeen ≡ Some request → now.held ≡ Some request → c.listen ≡ false →
+    IsTelling c now SofSeen []
+tells_from_pause c now request frame sent held speaks =
+    let (check, part, is_part) = sent_part_of request.frame frame in
+    let (rest, begins) = part_begins part is_part.is_part in
+    record {
+      request = request;
+      sent = sent;
+      held = held;
+      speaks = speaks;
+      check = check;
+      part = part;
+      is_part = is_part;
+      well = record {
+        ack = Dominant;
+        fits = dominant_fits c.self_test;
+        rest = rest ++ tail Recessive;
+        others = rest ++ tail Dominant;
+        driven = ap (λ l. l ++ tail Recessive) begins;
+        seen = ap (λ l. l ++ tail Dominant) begins;
+      };
+      more = some_tail rest;
+    }
+
+-- the first level is dominant
+pub sends_start : (c now : Context) (h : IsTelling c now AtIdle []) → SendsNext h.request [] Dominant
+sends_start c now h =
+    let (rest, begins) = part_begins h.part h.is_part.is_part in
+    record { check = h.check; part = h.part; rest = rest ++ tail Recessive; is_part = h.is_part; whole = ap (λ l. l ++ tail Recessive) begins }
+
+-- ---- the next level
+
+-- the level that comes next in the line of a request, of which these bits came
+pub record HasNext (request : Request) (bits : List Bit) : Type 0 where
+  pub level : Level
+  pub ack : Level
+  pub check : List Level
+  pub part : List Level
+  pub others : List Level
+  pub rest : List Level
+  pub is_part : StuffedPart request.frame (sent_body request.frame) check part
+  pub right : Crc (sent_body request.frame) check
+  pub seen : part ++ tail ack ≡ seen_of bits ++ others
+  pub driven : part ++ tail Recessive ≡ driven_of bits ++ level ∷ rest
+  pub count : length (driven_of bits) ≡ length (seen_of bits)
+  pub sends : SendsNext request bits level
+
+pub telling_next : (c now : Context) (spot : Spot) (bits : List Bit) (h : IsTelling c now spot bits) → HasNext h.request (frame_bits spot bits)
+telling_next c now spot bits h =
+    let g = h.well in
+    let before : List Bit = frame_bits spot bits in
+    elim (cases_list g.rest) [
+      | inl none ↦ absurd (h.more none)
+      | inr some ↦
+          let driven : h.part ++ tail Recessive ≡ driven_of before ++ some.0 ∷ some.1 = g.driven ∙ ap (λ l. driven_of before ++ l) some.2 in
+          record {
+            level = some.0;
+            ack = g.ack;
+            check = h.check;
+            part = h.part;
+            others = g.others;
+            rest = some.1;
+            is_part = h.is_part.is_part;
+            right = h.is_part.right;
+            seen = g.seen;
+            driven = driven;
+            count = length-map before (λ (b : Bit). b.driven) ∙ sym (length-map before (λ (b : Bit). b.seen));
+            sends = record { check = h.check; part = h.part; rest = some.1; is_part = h.is_part; whole = driven };
+          }
+    ]
+
+pub drives_next : (c now : Context) (spot : Spot) (bits : List Bit) (h : IsTelling c now spot bits) → (x : Level) × SendsNext h.request (frame_bits spot bits) x
+drives_next c now spot bits h = let next = telling_next c now spot bits h in (next.level, next.sends)
+
+-- what a transmitter drives within its frame is that level
+pub drives_sends : (c now : Context) (spot : Spot) (bits : List Bit) (x : Level) (h : IsTelling c now spot bits) → FrameDrives Transmitter now (frame_bits spot bits) x →
+    SendsNext h.request (frame_bits spot bits) x
+drives_sends c now spot bits x h (request, held, sends) =
+    let whole : Some request ≡ Some h.request = sym held ∙ h.held in
+    let same : request ≡ h.request = cc in
+    let P : Request → Type 0 = λ r. SendsNext r (frame_bits spot bits) x in
+    subst P same sends
+
+-- nothing else of the context counts than the request that is held
+pub telling_kept : (c now other : Context) (spot : Spot) (bits : List Bit) → other.held ≡ now.held → IsTelling c now spot bits → IsTelling c other spot bits
+telling_kept c now other spot bits same h = record {
+  request = h.request;
+  sent = h.sent;
+  held = same ∙ h.held;
+  speaks = h.speaks;
+  check = h.check;
+  part = h.part;
+  is_part = h.is_part;
+  well = h.well;
+  more = h.more;
+}
+
+-- ---- the rest
+
+-- bits in which these levels are driven, and those seen
+abbrev bits_of : List Level → List Level → List Bit
+bits_of [] seen = []
+bits_of (x ∷ driven) [] = []
+bits_of (x ∷ driven) (y ∷ seen) = record { driven = x; seen = y } ∷ bits_of driven seen
+
+bits_driven : (driven seen : List Level) → length seen ≡ length driven → driven_of (bits_of driven seen) ≡ driven
+bits_driven [] seen e = refl
+bits_driven (x ∷ driven) [] e = absurd (omega (arith, e))
+bits_driven (x ∷ driven) (y ∷ seen) e = ap (λ l. x ∷ l) (bits_driven driven seen (omega (arith, e)))
+
+bits_seen : (driven seen : List Level) → length seen ≡ length driven → seen_of (bits_of driven seen) ≡ seen
+bits_seen [] [] e = refl
+bits_seen [] (y ∷ seen) e = absurd (omega (arith, e))
+bits_seen (x ∷ driven) [] e = absurd (omega (arith, e))
+bits_seen (x ∷ driven) (y ∷ seen) e = ap (λ l. y ∷ l) (bits_seen driven seen (omega (arith, e)))
+
+-- the rest of its line, acknowledged, may follow
+pub open_telling : (c now : Context) (spot : Spot) (bits : List Bit) → IsFrameSpot spot → IsTelling c now spot bits → IsUnfinished c spot bits
+open_telling c now spot bits place h =
+    let g = h.well in
+    let before : List Bit = frame_bits spot bits in
+    let more : List Bit = bits_of g.rest g.others in
+    let many = as_much_left c.self_test h.part before g in
+    let drives : driven_of more ≡ g.rest = bits_driven g.rest g.others many in
+    let sees : seen_of more ≡ g.others = bits_seen g.rest g.others many in
+    let sends : Sends c.self_test h.request (before ++ more) (Sending h.request) Pausing =
+    sending h.check h.part g.ack h.is_part g.fits
+    (map-append (λ (b : Bit). b.driven) before more ∙ ap (λ l. driven_of before ++ l) drives ∙ sym g.driven)
+    (map-append (λ (b : Bit). b.seen) before more ∙ ap (λ l. seen_of before ++ l) sees ∙ sym g.seen) in
+    let P : List Bit → Type 0 = λ l. Sends c.self_test h.request l (Sending h.request) Pausing in
+    let row = row_own c spot h.request (bits ++ more) (Sending h.request) Pausing place h.sent (subst P (sym (frame_more spot bits more place)) sends) in
+    elim (cases_list more) [
+      | inl none ↦ absurd (h.more (sym drives ∙ ap (λ l. driven_of l) none))
+      | inr some ↦
+          let Q : List Bit → Type 0 = λ l. Row c spot (bits ++ l) (Sending h.request) Pausing in
+          record { piece = Sending h.request; next = Pausing; more = some.0; rest = some.1; lawful = subst Q some.2 row }
+    ]
