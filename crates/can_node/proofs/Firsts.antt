@@ -1,6 +1,6 @@
 -- Lists of levels that wait for equal ones: no front of them has the property yet, and with all that is waited for they
 -- are the first that has it.
-use Rattle.std.proofs.Common.{◌≡◌, ◌+◌, ◌-◌, ◌<◌, ◌≤◌, ℕ, zero, suc, List, [], ◌∷◌, ◌++◌, replicate, length, refl, ap, sym, subst, ◌∙◌, arith, append_assoc, add-one, ◌⊎◌, inl, inr}
+use Rattle.std.proofs.Common.{◌≡◌, ◌+◌, ◌<◌, ◌≤◌, ℕ, zero, suc, List, [], ◌∷◌, ◌++◌, replicate, length, refl, ap, sym, subst, ◌∙◌, arith, append_assoc, add-one, ◌⊎◌, inl, inr}
 use Rattle.std.proofs.lemmas.List.{append-nil, append_cancel_left, replicate_more, same_from_push, length-append, nil_from_length}
 use Rattle.can_bits.specs.declared.level.Level.{Level}
 use Rattle.can_bits.proofs.Lists.{fronts}
@@ -16,10 +16,10 @@ never_empty [] b x e = cc
 never_empty (y ∷ a) b x e = cc
 
 -- no front of what came has it while one level at least is waited for
-pub none_yet : (P : List Level → Type 0) (l : List Level) (k : ℕ) (v : Level) → 1 ≤ k →
+pub no_front_yet : (P : List Level → Type 0) (l : List Level) (k : ℕ) (v : Level) → 1 ≤ k →
     IsFirst P (l ++ replicate k v) → HasNone P l
-none_yet P l zero v some h front rest e holds = absurd (omega arith)
-none_yet P l (suc k) v some h front rest e holds =
+no_front_yet P l zero v some h front rest e holds = absurd (omega arith)
+no_front_yet P l (suc k) v some h front rest e holds =
     let more : List Level = replicate (suc k) v in
     let whole = ap (λ t. t ++ more) e ∙ append_assoc front rest more in
     never_empty rest (replicate k v) v (h.first front (rest ++ more) whole holds)

@@ -1,6 +1,6 @@
 -- A flag: what a level makes of it.
 use Rattle.std.proofs.Common.{◌≡◌, ◌≢◌, ◌+◌, ◌-◌, ◌<◌, ◌≤◌, ℕ, zero, suc, List, [], ◌∷◌, ◌++◌, replicate, length, refl, ap, sym, subst, ◌∙◌, arith, append_assoc}
-use Rattle.std.proofs.lemmas.List.{append-nil, replicate_more, replicate-append-replicate, length-replicate, length-append}
+use Rattle.std.proofs.lemmas.List.{replicate-append-replicate, length-replicate, length-append}
 use Rattle.can_bits.specs.declared.level.Level.{Level}
 use Rattle.can_bits.specs.declared.level.Level.TheVariants.{Dominant, Recessive}
 use Rattle.can_bits.specs.declared.segment.Segment.{Segment}
@@ -17,7 +17,7 @@ use Rattle.can_node.specs.Table.Row.{flag, flag_fault, flag_passive}
 use Rattle.can_node.specs.Cut.{IsUnfinished}
 use Rattle.can_node.specs.Stages.{IsForcing, IsWaiting, IsFlagging}
 use Rattle.can_node.proofs.Heard.{hears_on, forces_on}
-use Rattle.can_node.proofs.Firsts.{none_yet, one_on, last_on, first_run, first_by_length, same_end, ends_as, before_end, end_as, push_run}
+use Rattle.can_node.proofs.Firsts.{no_front_yet, one_on, last_on, first_run, first_by_length, same_end, ends_as, before_end, end_as, push_run}
 
 -- ---- a dominant flag
 
@@ -52,7 +52,7 @@ six_long m ends =
     let six : length (replicate 6 ends.1) ≡ 6 = length-replicate 6 ends.1 in
     omega arith
 
--- no bit came yet
+-- no bit came yet, in a flag of either level
 flags_at : (c : Context) (level last : Level) → IsFlagging level 0 last c []
 flags_at c Dominant last = record { few = omega arith; whole = refl }
 flags_at c Recessive last = record {
@@ -63,6 +63,7 @@ flags_at c Recessive last = record {
   waits = first_by_length (EndsInEqual 6) (replicate 6 last) six_long ([], last, refl);
 }
 
+-- the same by what the node drives
 pub flags_from : (c : Context) (last : Level) → IsFlagging (flag_level c) 0 last c []
 flags_from c last = flags_at c (flag_level c) last
 
@@ -76,7 +77,6 @@ waits_in_flag c n last bits drives h =
 pub wait_goes : (c : Context) (n next : ℕ) (last seen : Level) (bits : List Bit) → seen ≡ last → n < 5 → next ≡ n + 1 →
     IsWaiting n last c bits → IsWaiting next seen c (bits ++ heard seen ∷ [])
 wait_goes c n next last seen bits same less e h =
-    let P : List Level → Type 0 = λ t. IsFirst (EndsInEqual 6) t in
     let Q : Level → Type 0 = λ v. IsWaiting next v c (bits ++ heard v ∷ []) in
     let go : Q last = record {
       levels = h.levels ++ last ∷ [];
@@ -136,7 +136,7 @@ pub wait_turns : (c : Context) (n : ℕ) (last seen : Level) (bits : List Bit) �
     IsWaiting n last c bits → IsWaiting 1 seen c (bits ++ heard seen ∷ [])
 wait_turns c n last seen bits other h =
     let few = h.few in
-    let none = none_yet (EndsInEqual 6) h.levels (6 - n) last (omega arith) h.waits in
+    let none = no_front_yet (EndsInEqual 6) h.levels (6 - n) last (omega arith) h.waits in
     let short = too_short n last seen h.levels other few h.none h.waits.holds in
     let P : List Level → Type 0 = λ t. IsFirst (EndsInEqual 6) t in
     let first = first_run (EndsInEqual 6) h.levels seen seen 5 none short (h.levels, seen, refl) in
@@ -148,8 +148,9 @@ wait_turns c n last seen bits other h =
       waits = subst P (sym (append_assoc h.levels (seen ∷ []) (replicate 5 seen))) first;
     }
 
--- ---- the flag goes on with the levels that are waited for
+-- ---- a flag that isn't finished: it goes on with the levels that are waited for
 
+-- with dominant levels
 open_forcing : (n : ℕ) (c : Context) (bits : List Bit) → flag_level c ≡ Dominant → IsForcing n c bits →
     IsUnfinished c Flagging bits
 open_forcing n c bits drives h =
@@ -165,6 +166,7 @@ open_forcing n c bits drives h =
       lawful = subst P (sym (forces_on bits (replicate n Dominant) (replicate (suc (5 - n)) Dominant) (replicate 6 Dominant) h.whole levels)) (flag drives);
     }
 
+-- with levels like the last one
 open_waiting : (n : ℕ) (last : Level) (c : Context) (bits : List Bit) → flag_level c ≡ Recessive → IsWaiting n last c bits →
     IsUnfinished c Flagging bits
 open_waiting n last c bits drives h =
@@ -181,11 +183,13 @@ open_waiting n last c bits drives h =
       lawful = subst P (sym (hears_on bits h.levels (replicate (suc (5 - n)) last) line h.whole levels)) (flag_passive drives h.waits);
     }
 
+-- by the flag's level
 open_flag : (level : Level) (n : ℕ) (last : Level) (c : Context) (bits : List Bit) → flag_level c ≡ level →
     IsFlagging level n last c bits → IsUnfinished c Flagging bits
 open_flag Dominant n last c bits drives h = open_forcing n c bits drives h
 open_flag Recessive n last c bits drives h = open_waiting n last c bits drives h
 
+-- by what the node drives
 pub open_flagging : (n : ℕ) (last : Level) (c : Context) (bits : List Bit) → IsFlagging (flag_level c) n last c bits →
     IsUnfinished c Flagging bits
 open_flagging n last c bits h = open_flag (flag_level c) n last c bits refl h

@@ -1,5 +1,5 @@
 -- Waiting for the bus: what a level makes of it.
-use Rattle.std.proofs.Common.{◌≡◌, ◌+◌, ◌-◌, ◌<◌, ◌≤◌, ◌==◌, ℕ, zero, suc, if◌then◌else◌, fold, List, [], ◌∷◌, ◌++◌, replicate, refl, ap, sym, subst, ◌∙◌, arith, append_assoc}
+use Rattle.std.proofs.Common.{◌≡◌, ◌+◌, ◌-◌, ◌<◌, ◌≤◌, ℕ, zero, suc, fold, List, [], ◌∷◌, ◌++◌, replicate, refl, ap, sym, subst, ◌∙◌, arith, append_assoc}
 use Rattle.std.proofs.lemmas.Bool.Decides.{nat_tests}
 use Rattle.std.proofs.lemmas.List.{append-nil}
 use Rattle.std.proofs.lemmas.List.Sums.{fold_push}
@@ -16,7 +16,7 @@ use Rattle.can_node.specs.Table.Row.{join}
 use Rattle.can_node.specs.Cut.{IsUnfinished}
 use Rattle.can_node.specs.Stages.{IsJoining}
 use Rattle.can_node.proofs.Heard.{hears_on, seen_both, dominant-other}
-use Rattle.can_node.proofs.Firsts.{none_yet, one_on, last_on, first_run, ends_as}
+use Rattle.can_node.proofs.Firsts.{no_front_yet, one_on, last_on, first_run, ends_as}
 use Rattle.can_node.proofs.Slices.{first_eleven}
 
 -- ---- elevens one after the other
@@ -44,7 +44,7 @@ recessive_elevens (suc n) =
     let more = recessive_elevens n in
     (replicate 11 Recessive ++ more.0, one_more first_eleven more.1 refl)
 
--- ---- the beginning
+-- ---- bits and levels
 
 -- no bit came yet
 pub joins_from : (c : Context) → 1 ≤ join_count c → IsJoining (join_count c) 0 c []
@@ -61,9 +61,7 @@ joins_from c some = record {
   counted = refl;
 }
 
--- ---- a level more
-
--- it changes the run at the end
+-- a level more changes the run at the end
 run_on : (bits : List Bit) (run next : ℕ) (seen x : Level) → seen ≡ x → next ≡ next_run run x →
     fold next_run 0 (seen_of bits) ≡ run → fold next_run 0 (seen_of (bits ++ heard seen ∷ [])) ≡ next
 run_on bits run next seen x same e counted =
@@ -82,7 +80,7 @@ levels_on left run seen x c bits h same =
 first_after_dominant : (l : List Level) (k : ℕ) → 1 ≤ k → IsFirst EndsInEleven (l ++ replicate k Recessive) →
     IsFirst EndsInEleven ((l ++ Dominant ∷ []) ++ replicate 11 Recessive)
 first_after_dominant l k some h =
-    let none = none_yet EndsInEleven l k Recessive some h in
+    let none = no_front_yet EndsInEleven l k Recessive some h in
     let line = append_assoc l (Dominant ∷ []) (replicate 11 Recessive) in
     let few : (i : ℕ) → i < 11 → EndsInEleven (l ++ Dominant ∷ replicate i Recessive) → ⊥ =
     λ i less ends. dominant-other (ends_as 11 i l ends.0 Dominant Recessive Recessive less ends.1) in
@@ -167,8 +165,9 @@ join_ends left run seen c bits level most last h =
     let all : h.done + 1 ≡ join_count c = omega arith in
     subst P (sym (levels_on left run seen Recessive c bits h level)) (join (subst Q all (join_more left run c bits h most)))
 
--- ---- the waiting goes on with recessive levels
+-- ---- a waiting that isn't finished
 
+-- it goes on with recessive levels
 pub open_joining : (left run : ℕ) (c : Context) (bits : List Bit) → IsJoining left run c bits → IsUnfinished c Joining bits
 open_joining left run c bits h =
     let P : List Bit → Type 0 = λ t. Row c Joining t Join AtIdle in

@@ -1,6 +1,7 @@
 -- Moves by bits alone, with no other entry between them.
-use Rattle.std.proofs.Common.{◌≡◌, List, [], ◌∷◌, map, length, replicate, refl, ap, sym, subst, ◌∙◌, arith, Option}
-use Rattle.std.proofs.lemmas.List.{length-append, nil_from_length}
+use Rattle.std.proofs.Common.{◌≡◌, ◌≤◌, List, [], ◌∷◌, map, length, replicate, refl, ap, sym, subst, ◌∙◌, arith, Option}
+use Rattle.std.proofs.lemmas.List.{length-append}
+use Rattle.can_bits.specs.declared.level.Level.{Level}
 use Rattle.can_bits.specs.declared.level.Level.TheVariants.{Recessive}
 use Rattle.can_node.specs.Bits.{Bit, heard, hears, IsFirst}
 use Rattle.can_node.specs.declared.request.Request.{Request}
@@ -16,6 +17,7 @@ use Rattle.can_node.specs.Table.Elevens.{none_left, one_more}
 use Rattle.can_node.specs.Table.Row.{join}
 use Rattle.can_node.specs.Effects.{after}
 use Rattle.can_node.specs.Cut.{Stays, Move}
+use Rattle.can_node.proofs.Firsts.{first_by_length}
 
 -- bits alone have nothing else between them
 inner_bits : (bits : List Bit) → Inner (map Took bits)
@@ -50,16 +52,16 @@ by_bits c spot next p b bits row stays =
     let P : List Bit → Type 0 = λ t. Row c spot t p next in
     Move.piece (map Took (b ∷ bits)) (slice_of b bits) (subst P (sym (bits_took (b ∷ bits))) row) stays
 
+-- a list that ends in eleven recessive levels has eleven
+eleven_long : (l : List Level) → EndsInEleven l → 11 ≤ length l
+eleven_long l ends =
+    let long = ap (λ (t : List Level). length t) ends.1 ∙ length-append ends.0 (replicate 11 Recessive) in
+    let eleven : length (replicate 11 Recessive) ≡ 11 = refl in
+    omega arith
+
 -- eleven recessive levels are the first eleven
 pub first_eleven : IsFirst EndsInEleven (replicate 11 Recessive)
-first_eleven = record {
-  holds = ([], refl);
-  first = λ front rest whole ends.
-      let all = ap (λ t. length t) whole ∙ length-append front rest in
-      let part = ap (λ t. length t) ends.1 ∙ length-append ends.0 (replicate 11 Recessive) in
-      let eleven : length (replicate 11 Recessive) ≡ 11 = refl in
-      nil_from_length rest (omega (arith, all, part, eleven));
-}
+first_eleven = first_by_length EndsInEleven (replicate 11 Recessive) eleven_long ([], refl)
 
 -- eleven recessive bits after a start: the node joins the bus, whatever request it holds
 pub joins : (held : Option Request) →
