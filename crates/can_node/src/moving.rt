@@ -52,7 +52,7 @@ impl Node {
     {
         match self.standing.role {
             Role::Transmitter => match &self.standing.held {
-                Some(_request) => Level::Recessive,
+                Some(request) => self.shift.next_sent(&request.frame),
                 None => Level::Recessive,
             },
             Role::Receiver => {
