@@ -103,7 +103,7 @@ past_push l x p =
     ]
 
 -- a stuffed part has no six equal levels
-six_in_part : {f : FrameValue} {b c : List Level} (l : List Level) (x : Level) (more : List Level) → StuffedPart f b c ((l ++ x ∷ []) ++ more) → 6 ≤ run (x ∷ reverse l) → ⊥
+pub six_in_part : {f : FrameValue} {b c : List Level} (l : List Level) (x : Level) (more : List Level) → StuffedPart f b c ((l ++ x ∷ []) ++ more) → 6 ≤ run (x ∷ reverse l) → ⊥
 six_in_part l x more part six =
     let turned : reverse ((l ++ x ∷ []) ++ more) ≡ reverse more ++ (x ∷ reverse l) =
     reverse-append (l ++ x ∷ []) more ∙ ap (λ p. reverse more ++ p) (reverse-push l x) in

@@ -30,7 +30,7 @@ recessive-level false = refl
 recessive-level true = refl
 
 -- a level past the first part of a list
-level_after : (a b : List Level) (n p q : ℕ) → length a ≡ n → p ≡ n + q → level_at (a ++ b) p ≡ level_at b q
+pub level_after : (a b : List Level) (n p q : ℕ) → length a ≡ n → p ≡ n + q → level_at (a ++ b) p ≡ level_at b q
 level_after a b n p q h e =
     let place : p - n ≡ q = omega arith in
     get_or-append_right a b n p Dominant h (omega arith) ∙ ap (λ k. level_at b k) place

@@ -28,3 +28,5 @@ pub mod ShiftLemmas
 pub mod DueLemmas
 pub mod PlaceLemmas
 pub mod PlacesNow
+pub mod SentLevels
+pub mod SentNext

@@ -119,22 +119,24 @@ stuff_early ext l h =
     let parts = and_parts (is_full l) (nat_le (plain_count l) (rtr_place ext)) h in
     (parts.0, leb-true (plain_count l) (rtr_place ext) parts.1)
 
--- no place with a code past the remote bit
+-- a choice that is none either way
 none_by : (full more within : Bool) (n : ℕ) → within ≡ false → (if full then None else if more && within then Some n else None) ≡ None
 none_by true more within n e = refl
 none_by false true true n e = cc
 none_by false true false n e = refl
 none_by false false within n e = refl
 
+-- past the remote bit no place has a code
 pub late_no_code : (ext : Bool) (l : List Level) → rtr_place ext < plain_count l → place_code ext l ≡ None
 late_no_code ext l late =
     let n = plain_count l in
     none_by (is_full l) (nat_lt 0 n) (nat_le n (rtr_place ext)) (n - 1) (lt-leb n (rtr_place ext) late)
 
--- and no early stuff bit
+-- both of two bits, where the second isn't set
 not_both : (a b : Bool) → b ≡ false → (a && b) ≡ false
 not_both false b e = refl
 not_both true b e = e
 
+-- nor is a stuff bit early there
 pub late_no_stuff : (ext : Bool) (l : List Level) → rtr_place ext < plain_count l → is_early_stuff ext l ≡ false
 late_no_stuff ext l late = not_both (is_full l) (nat_le (plain_count l) (rtr_place ext)) (lt-leb (plain_count l) (rtr_place ext) late)

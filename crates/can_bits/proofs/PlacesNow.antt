@@ -37,7 +37,7 @@ pub inside_count : {l w : List Level} {last : Level} {n : ℕ} → BeginsPart l 
 inside_count {l = l} {w = w} h = plain_count-is l ∙ ap length (unstuffed_by h.so_far.unstuffed) ∙ length-reverse w
 
 -- how many equal levels end them
-inside_run : {l w : List Level} {last : Level} {n : ℕ} → BeginsPart l w last n → run (reverse l) ≡ n
+pub inside_run : {l w : List Level} {last : Level} {n : ℕ} → BeginsPart l w last n → run (reverse l) ≡ n
 inside_run {l = l} {last = last} {n = n} h = let holds = holds_by h.so_far in run-leads last n (reverse l) holds.leads
 
 -- after five equal ones the next level is a stuff bit, and else none

@@ -3,6 +3,7 @@ use super::growing::{dlc_after, ext_after, id_after, keep_data, rtr_after};
 use super::level::Level;
 use super::place::segment_of;
 use super::segment::Segment;
+use super::sending::sent_level;
 use can_frame::Frame;
 
 /// What a body and its check sequence say so far, level by level and without stuff bits.
@@ -24,7 +25,8 @@ impl Gathered {
     ghost use Rattle.std.specs.Prelude.{◌≡◌, ◌+◌, ◌*◌, ◌^◌, ◌<◌, ◌≤◌, ◌-◌, ◌∷◌, ◌++◌, [], List, length, Some, true, ◌↔◌, IsTrue, None, ◌&&◌, nat_lt, nat_le, if◌then◌else◌};
     ghost use Rattle.can_frame.specs.Frame.{FrameValue, data_count};
     ghost use Rattle.can_bits.specs.declared.level.Level.{Level as Bus};
-    ghost use Rattle.can_bits.specs.Check.{IsMultiple};
+    ghost use Rattle.can_bits.specs.Check.{IsMultiple, Crc};
+    ghost use Rattle.can_bits.specs.Body.{sent_body};
     ghost use Rattle.can_bits.specs.Digits.{value};
     ghost use Rattle.can_bits.specs.Fields.{says_count, rtr_place};
     ghost use Rattle.can_bits.specs.Spelling.{Spells};
@@ -126,6 +128,17 @@ impl Gathered {
             self.place.checked_sub(1)
         } else {
             None
+        }
+    }
+
+    /// The next level of the body that a transmitter of this frame sends, or of its check sequence.
+    pub fn next_sent(&self, frame: &Frame) -> Level
+        ensures { (w c t : List Bus) (x : Bus) → Gathers self.now w → Crc (sent_body frame.now) c
+            → sent_body frame.now ++ c ≡ w ++ x ∷ t → result ≡ x }
+    {
+        match sent_level(frame, self.place) {
+            Some(level) => level,
+            None => Level::of(self.register >> 14 == 1),
         }
     }
 

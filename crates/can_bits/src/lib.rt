@@ -18,6 +18,7 @@ mod place;
 mod reading;
 mod run;
 mod segment;
+mod sending;
 mod shift;
 mod shift_event;
 mod shift_fault;

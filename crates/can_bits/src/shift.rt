@@ -6,6 +6,7 @@ use super::segment::Segment;
 use super::shift_event::ShiftEvent;
 use super::shift_fault::ShiftFault;
 use super::stage::Stage;
+use can_frame::Frame;
 
 mod inside;
 
@@ -38,7 +39,9 @@ impl Shift {
     ghost use Rattle.can_bits.specs.Streaming.{Tells, TellsCheck, IsEventOf, BreaksWith, IsReadable, IsOver};
     ghost use Rattle.can_bits.specs.Segments.{IsNext};
     ghost use Rattle.can_bits.specs.Acknowledging.{IsAckDue};
-    ghost use Rattle.can_bits.specs.Line.{StuffedPart};
+    ghost use Rattle.can_bits.specs.Line.{StuffedPart, tail};
+    ghost use Rattle.can_bits.specs.Body.{sent_body};
+    ghost use Rattle.can_bits.specs.Check.{Crc};
     ghost use Rattle.can_bits.specs.Places.{place_code, is_early_stuff};
     ghost use Rattle.can_frame.specs.Frame.{FrameValue};
     ghost use Rattle.can_bits.specs.Shifts.{StandsFor, ReadsAt, IsPartSoFar, IsPast, fault_event};
@@ -98,6 +101,19 @@ impl Shift {
         ensures { (l : List Bus) → StandsFor self.now l → IsTrue result ↔ IsOver l }
     {
         self.is_past(10)
+    }
+
+    /// The next level of the line that a transmitter of this frame sends, where the levels so far are a front of that
+    /// line, but for the acknowledgement slot (Bosch CAN 2.0 part A sections 3.1.1 and 5).
+    pub fn next_sent(&self, frame: &Frame) -> Level
+        ensures { (l others c part before rest : List Bus) (x ack : Bus) → StandsFor self.now l
+            → StuffedPart frame.now (sent_body frame.now) c part → Crc (sent_body frame.now) c → part ++ tail ack ≡ l ++ others
+            → part ++ tail Bus.Recessive ≡ before ++ x ∷ rest → length before ≡ length l → result ≡ x }
+    {
+        match self.stage {
+            Stage::Part => self.next_inside(frame),
+            Stage::After(_) => Level::Recessive,
+        }
     }
 
     /// The place code of the next level, where a transmitter of that format may lose arbitration there: 0 for the first

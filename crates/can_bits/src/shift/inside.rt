@@ -1,12 +1,13 @@
 //! A reader in the stuffed part.
 
-use super::super::level::Level;
-use super::super::line_fault::LineFault;
-use super::super::run::run_after;
-use super::super::segment::Segment;
-use super::super::shift_event::ShiftEvent;
-use super::super::stage::Stage;
 use super::{RUN, Shift};
+use crate::level::Level;
+use crate::line_fault::LineFault;
+use crate::run::run_after;
+use crate::segment::Segment;
+use crate::shift_event::ShiftEvent;
+use crate::stage::Stage;
+use can_frame::Frame;
 
 impl Shift {
     ghost use Rattle.std.specs.Prelude.{◌≡◌, ◌≢◌, ◌⊎◌, ◌<◌, ◌==◌, length, ◌∷◌, ◌++◌, [], List, None, IfSome};
@@ -15,6 +16,9 @@ impl Shift {
     ghost use Rattle.can_bits.specs.Segments.{IsNext};
     ghost use Rattle.can_bits.specs.Shifts.{StandsFor, ReadsAt, IsPartSoFar};
     ghost use Rattle.can_bits.specs.Gathering.{Gathers};
+    ghost use Rattle.can_bits.specs.Body.{sent_body};
+    ghost use Rattle.can_bits.specs.Check.{Crc};
+    ghost use Rattle.can_bits.specs.Line.{StuffedPart};
 
     /// Takes a level of the stuffed part.
     pub(super) fn step_inside(&mut self, level: Level) -> ShiftEvent
@@ -36,6 +40,18 @@ impl Shift {
                     fault: None,
                 }
             }
+        }
+    }
+
+    /// The next level of the stuffed part that a transmitter of this frame sends.
+    pub(super) fn next_inside(&self, frame: &Frame) -> Level
+        ensures { (l t c part : List Bus) (x : Bus) → ReadsAt Stage.Part self.now l → StuffedPart frame.now (sent_body frame.now) c part
+            → Crc (sent_body frame.now) c → part ≡ l ++ x ∷ t → result ≡ x }
+    {
+        if self.run == RUN {
+            self.last.opposite()
+        } else {
+            self.gathered.next_sent(frame)
         }
     }
 
