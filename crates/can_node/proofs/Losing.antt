@@ -19,7 +19,7 @@ use Rattle.can_bits.proofs.Runs.{run, run_one_more, IsShort, short_from, no_six_
 use Rattle.can_bits.proofs.Stuffs.{unstuffed, unstuffed-kept, stuffed_to}
 use Rattle.can_node.specs.Bits.{Bit, seen_of}
 use Rattle.can_node.specs.Frames.{SentPart, GoesWell, IsWithin}
-use Rattle.can_node.proofs.PlaceLemmas.{five-is, plain_count-is, code_early}
+use Rattle.can_bits.proofs.PlaceLemmas.{five-is, plain_count-is, code_early}
 
 -- a whole stuffed part has 34 levels at least that are no stuff bits
 part_long : {f : FrameValue} {b c : List Level} (part rest : List Level) → StuffedPart f b c part → 34 ≤ plain_count (part ++ rest)

@@ -139,7 +139,7 @@ pub record IsPausing (n : ℕ) (c : Context) (bits : List Bit) : Type 0 where
 abbrev pub At : Stage → Shift → Context → Context → Spot → List Bit → Type 0
 At StageResting shift c now spot bits = spot ≡ Resting
 At (StageJoining left run) shift c now spot bits = (spot ≡ Joining) × IsJoining left run c bits
-At StageIdle shift c now spot bits = (spot ≡ AtIdle) × (bits ≡ []) × (now.role ≡ Receiver)
+At StageIdle shift c now spot bits = (spot ≡ AtIdle) × (bits ≡ []) × (now.role ≡ Receiver) × (c ≡ now)
 At StageInFrame shift c now spot bits = IsReading shift c now spot bits
 At StageAfterReception shift c now spot bits = (spot ≡ AfterReception) × (bits ≡ [])
 At (StageFlagging n last) shift c now spot bits = (spot ≡ Flagging) × IsFlagging (flag_level c) n last c bits

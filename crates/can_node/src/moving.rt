@@ -119,8 +119,8 @@ impl Node {
     /// A bit where the bus is idle: it stays idle, or a frame begins.
     fn idle_turn(&mut self, driven: Level, seen: Level) -> Turn
         ensures kept { self.new ≡ record self.old { shift = self.new.shift } }
-        ensures turn { (c : Context) → IsKept AtIdle c (context_of self.old.standing) → Drives (context_of self.old.standing) AtIdle [] driven
-            → IsTurn self.new.shift c (context_of self.old.standing) AtIdle [] (record { driven = driven; seen = seen }) result }
+        ensures turn { let now = context_of self.old.standing in Drives now AtIdle [] driven
+            → IsTurn self.new.shift now now AtIdle [] (record { driven = driven; seen = seen }) result }
     {
         self.shift = Shift::new();
         if self.standing.sends() {
