@@ -32,13 +32,15 @@ next_cycle k d (some j n less e) = some (j + 1) ((n + 1) % 8) (omega arith) (ome
 pub dominant_after_flag : (d r : ℕ) (seen : Level) (bits : List Bit) → seen ≡ Dominant → r ≡ 0 →
     IsDelimiting d r bits → IsDelimiting (d % 8 + 1) 0 (bits ++ heard seen ∷ [])
 dominant_after_flag d r seen bits level none h =
-    let more : (replicate h.count Dominant ++ replicate r Recessive) ++ seen ∷ [] ≡ replicate (h.count + 1) Dominant ++ [] =
+    let line : List Level = replicate h.count Dominant ++ replicate r Recessive in
+    let on : List Level = replicate (h.count + 1) Dominant ++ [] in
+    let more : line ++ seen ∷ [] ≡ on =
     rw (level, none) (simp (append-nil, replicate_more)) in
     record {
       count = h.count + 1;
       cycle = next_cycle h.count d h.cycle;
       few = omega arith;
-      whole = hears_on bits (replicate h.count Dominant ++ replicate r Recessive) (seen ∷ []) (replicate (h.count + 1) Dominant ++ []) h.whole more;
+      whole = hears_on bits line (seen ∷ []) on h.whole more;
     }
 
 -- a recessive level, not the eighth
@@ -46,8 +48,9 @@ pub recessive_after_flag : (d r next : ℕ) (seen : Level) (bits : List Bit) →
     IsDelimiting d r bits → IsDelimiting d next (bits ++ heard seen ∷ [])
 recessive_after_flag d r next seen bits level less e h =
     let front : List Level = replicate h.count Dominant in
+    let line = append_assoc front (replicate r Recessive) (Recessive ∷ []) in
     let more : (front ++ replicate r Recessive) ++ seen ∷ [] ≡ front ++ replicate next Recessive =
-    rw (level, e) (append_assoc front (replicate r Recessive) (Recessive ∷ []) ∙ ap (λ t. front ++ t) (replicate_more r Recessive)) in
+    rw (level, e) (line ∙ ap (λ t. front ++ t) (replicate_more r Recessive)) in
     record {
       count = h.count;
       cycle = h.cycle;
@@ -56,8 +59,8 @@ recessive_after_flag d r next seen bits level less e h =
     }
 
 -- the levels after the dominant ones
-pub delimited : (d r : ℕ) (bits : List Bit) (l m : List Level) (h : IsDelimiting d r bits) → replicate r Recessive ++ l ≡ m →
-    bits ++ hears l ≡ hears (replicate h.count Dominant ++ m)
+pub delimited : (d r : ℕ) (bits : List Bit) (l m : List Level) (h : IsDelimiting d r bits) →
+    replicate r Recessive ++ l ≡ m → bits ++ hears l ≡ hears (replicate h.count Dominant ++ m)
 delimited d r bits l m h e =
     let front : List Level = replicate h.count Dominant in
     hears_on bits (front ++ replicate r Recessive) l (front ++ m) h.whole
@@ -101,12 +104,13 @@ open_delimiting d r c bits h =
     let all : r + suc (7 - r) ≡ 8 = omega arith in
     let rest : replicate r Recessive ++ replicate (suc (7 - r)) Recessive ≡ replicate 8 Recessive =
     replicate-append-replicate r (suc (7 - r)) Recessive ∙ ap (λ k. replicate k Recessive) all in
+    let whole = delimited d r bits (replicate (suc (7 - r)) Recessive) (replicate 8 Recessive) h rest in
     record {
       piece = Tail;
       next = Pausing;
       more = heard Recessive;
       rest = hears (replicate (7 - r) Recessive);
-      lawful = subst P (sym (delimited d r bits (replicate (suc (7 - r)) Recessive) (replicate 8 Recessive) h rest)) (tail h.count);
+      lawful = subst P (sym whole) (tail h.count);
     }
 
 -- ---- what the counts say
@@ -133,9 +137,11 @@ all_dominant (suc k) l = all_dominant k l
 -- how many bits came
 delimiter_length : (d r : ℕ) (bits : List Bit) (h : IsDelimiting d r bits) → length bits ≡ h.count + r
 delimiter_length d r bits h =
-    let levels : List Level = replicate h.count Dominant ++ replicate r Recessive in
-    hears_length bits levels h.whole ∙ length-append (replicate h.count Dominant) (replicate r Recessive)
-    ∙ ap (λ n. n + length (replicate r Recessive)) (length-replicate h.count Dominant) ∙ ap (λ n. h.count + n) (length-replicate r Recessive)
+    let front : List Level = replicate h.count Dominant in
+    let rest : List Level = replicate r Recessive in
+    hears_length bits (front ++ rest) h.whole ∙ length-append front rest
+    ∙ ap (λ n. n + length rest) (length-replicate h.count Dominant)
+    ∙ ap (λ n. h.count + n) (length-replicate r Recessive)
 
 -- one more than a number isn't 0
 not_none : (i : ℕ) → (suc i == 0) ≡ false

@@ -54,14 +54,15 @@ run_parts (suc j) v (x ∷ a) b e =
 run_ends : (P : List Level → Type 0) (l : List Level) (u v : Level) (j : ℕ) → HasNone P l →
     ((i : ℕ) → i < j → P (l ++ u ∷ replicate i v) → ⊥) → (part rest : List Level) →
     u ∷ replicate j v ≡ part ++ rest → P (l ++ part) → rest ≡ []
-run_ends P l u v j none few [] rest e holds = absurd (none (l ++ []) [] (sym (append-nil (l ++ []) ∙ append-nil l)) holds)
+run_ends P l u v j none few [] rest e holds =
+    absurd (none (l ++ []) [] (sym (append-nil (l ++ []) ∙ append-nil l)) holds)
 run_ends P l u v j none few (x ∷ part) rest e holds =
     let same : x ≡ u = cc in
     let others : part ++ rest ≡ replicate j v = cc in
     elim (run_parts j v part rest others) [
       | inl all ↦ all
       | inr less ↦
-          let is : l ++ x ∷ part ≡ l ++ u ∷ replicate less.0 v = ap (λ t. l ++ t) (let e2 = less.2 in cc) in
+          let is : l ++ x ∷ part ≡ l ++ u ∷ replicate less.0 v = let part_is = less.2 in cc in
           absurd (few less.0 less.1 (subst P is holds))
     ]
 
@@ -102,7 +103,8 @@ push_run a n w =
     ∙ sym (append_assoc a (replicate n w) (w ∷ []))
 
 -- the same after a level of its own
-push_on : (a : List Level) (u : Level) (n : ℕ) (w : Level) → a ++ u ∷ replicate (suc n) w ≡ (a ++ u ∷ replicate n w) ++ w ∷ []
+push_on : (a : List Level) (u : Level) (n : ℕ) (w : Level) →
+    a ++ u ∷ replicate (suc n) w ≡ (a ++ u ∷ replicate n w) ++ w ∷ []
 push_on a u n w =
     sym (append_assoc a (u ∷ []) (replicate (suc n) w)) ∙ push_run (a ++ u ∷ []) n w
     ∙ ap (λ t. t ++ w ∷ []) (append_assoc a (u ∷ []) (replicate n w))
@@ -122,8 +124,11 @@ ends_as (suc n) (suc j) a b u v w less e =
     ends_as n j a b u v w (omega arith) (same_from_push (a ++ u ∷ replicate j v) (b ++ replicate n w) v w lines).0
 
 -- what comes before the last k of them ends in the others
-pub before_end : (k n : ℕ) (a b : List Level) (v w : Level) → a ++ replicate k v ≡ b ++ replicate (n + k) w → a ≡ b ++ replicate n w
-before_end zero n a b v w e = sym (append-nil a) ∙ e ∙ ap (λ m. b ++ replicate m w) (let same : n + 0 ≡ n = omega arith in same)
+pub before_end : (k n : ℕ) (a b : List Level) (v w : Level) →
+    a ++ replicate k v ≡ b ++ replicate (n + k) w → a ≡ b ++ replicate n w
+before_end zero n a b v w e =
+    let same : n + 0 ≡ n = omega arith in
+    sym (append-nil a) ∙ e ∙ ap (λ m. b ++ replicate m w) same
 before_end (suc k) n a b v w e =
     let same : n + suc k ≡ suc (n + k) = omega arith in
     before_end k n a b v w (same_end a b k (n + k) v w (e ∙ ap (λ m. b ++ replicate m w) same)).0

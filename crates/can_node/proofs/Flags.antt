@@ -37,8 +37,8 @@ pub flag_breaks : (c : Context) (n : ℕ) (seen : Level) (kind : FlagKind) (segm
     Row c Flagging (bits ++ forced seen ∷ []) (Fault InFlag BitError segment) Flagging
 flag_breaks c n seen kind segment bits drives level same is h =
     let P : List Bit → Type 0 = λ t. Row c Flagging t (Fault InFlag BitError segment) Flagging in
-    let Q : Segment → Type 0 = λ s. Row c Flagging (forces (replicate n Dominant ++ Recessive ∷ [])) (Fault InFlag BitError s) Flagging in
     let line : List Level = replicate n Dominant ++ Recessive ∷ [] in
+    let Q : Segment → Type 0 = λ s. Row c Flagging (forces line) (Fault InFlag BitError s) Flagging in
     let levels : replicate n Dominant ++ seen ∷ [] ≡ line = rw level refl in
     subst P (sym (forces_on bits (replicate n Dominant) (seen ∷ []) line h.whole levels))
     (subst Q (sym (is ∙ ap (λ k. flag_segment k) same)) (flag_fault n drives h.few))
@@ -88,8 +88,8 @@ wait_goes c n next last seen bits same less e h =
     subst Q (sym same) go
 
 -- the sixth
-pub wait_ends : (c : Context) (n : ℕ) (last seen : Level) (bits : List Bit) → flag_level c ≡ Recessive → seen ≡ last → 5 ≤ n →
-    IsWaiting n last c bits → Row c Flagging (bits ++ heard seen ∷ []) Flag AfterFlag
+pub wait_ends : (c : Context) (n : ℕ) (last seen : Level) (bits : List Bit) → flag_level c ≡ Recessive →
+    seen ≡ last → 5 ≤ n → IsWaiting n last c bits → Row c Flagging (bits ++ heard seen ∷ []) Flag AfterFlag
 wait_ends c n last seen bits drives same most h =
     let P : List Bit → Type 0 = λ t. Row c Flagging t Flag AfterFlag in
     let few = h.few in
@@ -114,7 +114,8 @@ ends_in_last m k last levels six some has =
     let lines = has.2 ∙ ap (λ j. has.0 ++ replicate j has.1) (sym six) in
     let same : last ≡ has.1 = end_as k (suc m) levels has.0 last has.1 some lines in
     let front : levels ≡ has.0 ++ replicate (suc m) has.1 = before_end k (suc m) levels has.0 last has.1 lines in
-    (has.0 ++ replicate m has.1, front ∙ push_run has.0 m has.1 ∙ ap (λ x. (has.0 ++ replicate m has.1) ++ x ∷ []) (sym same))
+    let others : List Level = has.0 ++ replicate m has.1 in
+    (others, front ∙ push_run has.0 m has.1 ∙ ap (λ x. others ++ x ∷ []) (sym same))
 
 -- fewer than six levels that differ from the last one don't end in six equal ones
 too_short : (n : ℕ) (last seen : Level) (levels : List Level) → seen ≢ last → n < 6 → (n ≡ 0 → levels ≡ []) →
@@ -156,31 +157,34 @@ open_forcing : (n : ℕ) (c : Context) (bits : List Bit) → flag_level c ≡ Do
 open_forcing n c bits drives h =
     let P : List Bit → Type 0 = λ t. Row c Flagging t Flag AfterFlag in
     let few = h.few in
+    let more : List Level = replicate (suc (5 - n)) Dominant in
     let all : n + suc (5 - n) ≡ 6 = omega arith in
     let levels = replicate-append-replicate n (suc (5 - n)) Dominant ∙ ap (λ k. replicate k Dominant) all in
+    let whole = forces_on bits (replicate n Dominant) more (replicate 6 Dominant) h.whole levels in
     record {
       piece = Flag;
       next = AfterFlag;
       more = forced Dominant;
       rest = forces (replicate (5 - n) Dominant);
-      lawful = subst P (sym (forces_on bits (replicate n Dominant) (replicate (suc (5 - n)) Dominant) (replicate 6 Dominant) h.whole levels)) (flag drives);
+      lawful = subst P (sym whole) (flag drives);
     }
 
 -- with levels like the last one
-open_waiting : (n : ℕ) (last : Level) (c : Context) (bits : List Bit) → flag_level c ≡ Recessive → IsWaiting n last c bits →
-    IsUnfinished c Flagging bits
+open_waiting : (n : ℕ) (last : Level) (c : Context) (bits : List Bit) → flag_level c ≡ Recessive →
+    IsWaiting n last c bits → IsUnfinished c Flagging bits
 open_waiting n last c bits drives h =
     let P : List Bit → Type 0 = λ t. Row c Flagging t Flag AfterFlag in
     let few = h.few in
     let left : 6 - n ≡ suc (5 - n) = omega arith in
     let line : List Level = h.levels ++ replicate (6 - n) last in
     let levels = ap (λ k. h.levels ++ replicate k last) (sym left) in
+    let whole = hears_on bits h.levels (replicate (suc (5 - n)) last) line h.whole levels in
     record {
       piece = Flag;
       next = AfterFlag;
       more = heard last;
       rest = hears (replicate (5 - n) last);
-      lawful = subst P (sym (hears_on bits h.levels (replicate (suc (5 - n)) last) line h.whole levels)) (flag_passive drives h.waits);
+      lawful = subst P (sym whole) (flag_passive drives h.waits);
     }
 
 -- by the flag's level

@@ -163,12 +163,14 @@ join_ends left run seen c bits level most last h =
     let some = h.some in
     let count = h.count in
     let all : h.done + 1 ≡ join_count c = omega arith in
-    subst P (sym (levels_on left run seen Recessive c bits h level)) (join (subst Q all (join_more left run c bits h most)))
+    let elevens = subst Q all (join_more left run c bits h most) in
+    subst P (sym (levels_on left run seen Recessive c bits h level)) (join elevens)
 
 -- ---- a waiting that isn't finished
 
 -- it goes on with recessive levels
-pub open_joining : (left run : ℕ) (c : Context) (bits : List Bit) → IsJoining left run c bits → IsUnfinished c Joining bits
+pub open_joining : (left run : ℕ) (c : Context) (bits : List Bit) → IsJoining left run c bits →
+    IsUnfinished c Joining bits
 open_joining left run c bits h =
     let P : List Bit → Type 0 = λ t. Row c Joining t Join AtIdle in
     let less = h.few in

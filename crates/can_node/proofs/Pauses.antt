@@ -40,7 +40,8 @@ pause_ends c n seen bits level most h =
     let all : n + 1 ≡ pause_count c = omega arith in
     let levels : replicate n Recessive ++ seen ∷ [] ≡ replicate (pause_count c) Recessive =
     rw level (replicate_more n Recessive ∙ ap (λ k. replicate k Recessive) all) in
-    subst P (sym (hears_on bits (replicate n Recessive) (seen ∷ []) (replicate (pause_count c) Recessive) h.whole levels)) pause
+    let whole = hears_on bits (replicate n Recessive) (seen ∷ []) (replicate (pause_count c) Recessive) h.whole levels in
+    subst P (sym whole) pause
 
 -- the levels with a dominant one after them
 broken_off : (c : Context) (n : ℕ) (seen : Level) (bits : List Bit) → seen ≡ Dominant → IsPausing n c bits →
@@ -89,11 +90,13 @@ open_pausing n c bits h =
     let few = h.few in
     let left : ℕ = pause_count c - n - 1 in
     let all : n + suc left ≡ pause_count c = omega arith in
+    let more : List Level = replicate (suc left) Recessive in
     let levels = replicate-append-replicate n (suc left) Recessive ∙ ap (λ k. replicate k Recessive) all in
+    let whole = hears_on bits (replicate n Recessive) more (replicate (pause_count c) Recessive) h.whole levels in
     record {
       piece = Pause;
       next = AtIdle;
       more = heard Recessive;
       rest = hears (replicate left Recessive);
-      lawful = subst P (sym (hears_on bits (replicate n Recessive) (replicate (suc left) Recessive) (replicate (pause_count c) Recessive) h.whole levels)) pause;
+      lawful = subst P (sym whole) pause;
     }
