@@ -42,3 +42,5 @@ pub mod WorkedMoves
 pub mod Along
 pub mod GoOn
 pub mod Calls
+pub mod FrameTurns
+pub mod IdleTurns

@@ -58,10 +58,14 @@ abbrev pub step_of : Option Request → Turn → Step
 step_of held (TurnGoes stage) = Goes
 step_of held (TurnCloses done) = Closes (piece_of held done) (next_of done)
 
--- what the bit made of the piece: the node stands in it with one bit more, or these bits are the piece
+-- what a bit made of the piece under way, of which these bits have come: the node stands in it, or they are the piece
+abbrev pub IsMade : Shift → Context → Context → Spot → List Bit → Turn → Type 0
+IsMade shift c now spot bits (TurnGoes stage) = At stage shift c now spot bits
+IsMade shift c now spot bits (TurnCloses done) = Row c spot bits (piece_of now.held done) (next_of done)
+
+-- what this bit makes of it
 abbrev pub IsTurn : Shift → Context → Context → Spot → List Bit → Bit → Turn → Type 0
-IsTurn shift c now spot bits b (TurnGoes stage) = At stage shift c (at_bit now spot bits b) spot (bits ++ b ∷ [])
-IsTurn shift c now spot bits b (TurnCloses done) = Row c spot (bits ++ b ∷ []) (piece_of (at_bit now spot bits b).held done) (next_of done)
+IsTurn shift c now spot bits b turn = IsMade shift c (at_bit now spot bits b) spot (bits ++ b ∷ []) turn
 
 -- the context after it, from the one after the steps of the bit
 abbrev pub resulted : Turn → Context → Context

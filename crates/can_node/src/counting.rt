@@ -23,7 +23,8 @@ impl Standing {
     }
 
     pub fn more_tec(&mut self, n: u8)
-        ensures { self.old.counters.tec < 1000 → context_of self.new ≡ more_tec n (context_of self.old) }
+        ensures kept { self.new.held ≡ self.old.held }
+        ensures step { self.old.counters.tec < 1000 → context_of self.new ≡ more_tec n (context_of self.old) }
     {
         self.counters.tec = self.counters.tec.wrapping_add(u16::from(n));
     }

@@ -77,6 +77,7 @@ impl Node {
             }
             Done::Flag => self.stage = Stage::AfterFlag(0, 0),
             Done::Start => {
+                self.standing.frame_fits();
                 self.shift = Shift::new();
                 self.shift.step(Level::Dominant);
                 self.stage = Stage::InFrame;

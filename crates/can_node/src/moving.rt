@@ -16,6 +16,7 @@ impl Node {
     ghost use Rattle.std.specs.Prelude.{◌≡◌, List, [], is_some};
     ghost use Rattle.can_bits.specs.declared.level.Level.{Level as Bus};
     ghost use Rattle.can_bits.specs.declared.shift.Shift.{Shift as Reader};
+    ghost use Rattle.can_node.specs.declared.role.Role.TheVariants.{Receiver};
     ghost use Rattle.can_node.specs.Bits.{Bit};
     ghost use Rattle.can_node.specs.Context.{Context, flag_level};
     ghost use Rattle.can_node.specs.Pieces.{Spot};
@@ -119,10 +120,11 @@ impl Node {
     /// A bit where the bus is idle: it stays idle, or a frame begins.
     fn idle_turn(&mut self, driven: Level, seen: Level) -> Turn
         ensures kept { self.new ≡ record self.old { shift = self.new.shift } }
-        ensures turn { let now = context_of self.old.standing in Drives now AtIdle [] driven
+        ensures turn { let now = context_of self.old.standing in now.role ≡ Receiver → Drives now AtIdle [] driven
             → IsTurn self.new.shift now now AtIdle [] (record { driven = driven; seen = seen }) result }
     {
         self.shift = Shift::new();
+        self.standing.frame_fits();
         if self.standing.sends() {
             tell(&mut self.shift, self.standing.self_test, false, false, driven, seen)
         } else if seen.is_recessive() {

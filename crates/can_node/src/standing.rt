@@ -22,7 +22,8 @@ pub struct Standing {
 }
 
 impl Standing {
-    ghost use Rattle.std.specs.Prelude.{◌≡◌, ◌<◌, is_some};
+    ghost use Rattle.std.specs.Prelude.{◌≡◌, ◌<◌, is_some, Some};
+    ghost use Rattle.can_frame.specs.Frame.{IsFrame};
     ghost use Rattle.can_node.specs.Context.{Context, fresh, is_passive, is_transmitter, owes_suspension, flag_level, join_count};
     ghost use Rattle.can_node.specs.Pieces.{sent_at};
     ghost use Rattle.can_node.specs.Pieces.Spot.{AtIdle};
@@ -76,6 +77,15 @@ impl Standing {
         ensures { result ≡ is_some (sent_at (context_of self.now) AtIdle) }
     {
         !self.listen && self.held.is_some()
+    }
+
+    /// What the frame of a request says is a frame: its identifier, length code and data bytes fit.
+    pub fn frame_fits(&self)
+        ensures { (request : Request) → self.now.held ≡ Some request → IsFrame request.frame }
+    {
+        if let Some(request) = &self.held {
+            request.frame.dlc();
+        }
     }
 
     /// What the node drives in its flag.
