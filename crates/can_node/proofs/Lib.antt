@@ -43,4 +43,5 @@ pub mod Along
 pub mod GoOn
 pub mod Calls
 pub mod FrameTurns
+pub mod Ats
 pub mod IdleTurns

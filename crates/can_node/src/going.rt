@@ -7,6 +7,9 @@ use super::turn::Turn;
 use can_bits::{Level, Segment, Shift};
 use can_frame::Frame;
 
+/// At the beginning of a flag.
+const FLAG: Stage = Stage::Flagging(0, Level::Recessive);
+
 /// What follows from a bit: counters, the next place, and what is told of it.
 impl Node {
     ghost use Rattle.std.specs.Prelude.{Option as Maybe, ◌≡◌, ◌<◌, ◌≤◌, ◌++◌, ◌∷◌, [], List, is_some};
@@ -16,6 +19,8 @@ impl Node {
     ghost use Rattle.can_node.specs.Bits.{Bit};
     ghost use Rattle.can_node.specs.Context.{Context, is_held};
     ghost use Rattle.can_node.specs.Pieces.{Spot, received_by};
+    ghost use Rattle.can_node.specs.Pieces.Spot.{SofSeen};
+    ghost use Rattle.can_node.specs.Pieces.Piece.{PauseWithSof};
     ghost use Rattle.can_node.specs.Counting.{at_bit};
     ghost use Rattle.can_node.specs.Effects.{is_in_progress, closed};
     ghost use Rattle.can_node.specs.Events.{Step, lost_in, received_in, ended_in, sends_in};
@@ -63,26 +68,37 @@ impl Node {
     }
 
     /// Stands at the beginning of the place after a piece.
+    #[tactic(auto, using(crate::proofs::Flags::flags_from, crate::proofs::Delimiters::delimits_from, crate::proofs::Pauses::pauses_from))]
     fn enter(&mut self, done: &Done)
         ensures kept { self.new.standing ≡ self.old.standing }
         ensures at { (held : Maybe Request) (before : Context) → context_of self.old.standing ≡ closed (piece_of held done.now) (next_of done.now) before
             → At self.new.stage self.new.shift (context_of self.new.standing) (context_of self.new.standing) (next_of done.now) [] }
     {
         match done {
-            Done::Join | Done::Idle | Done::Pause => self.stage = Stage::Idle,
+            Done::Join => self.stage = Stage::Idle,
+            Done::Idle => self.stage = Stage::Idle,
+            Done::Pause => self.stage = Stage::Idle,
             Done::Received(_) => self.stage = Stage::AfterReception,
-            Done::Sent | Done::Last(false) | Done::Tail(false) => self.stage = Stage::Pausing(0),
-            Done::Fault(_, _, _) | Done::Broken | Done::Last(true) | Done::Tail(true) => {
-                self.stage = Stage::Flagging(0, Level::Recessive);
-            }
+            Done::Sent => self.stage = Stage::Pausing(0),
+            Done::Fault(_, _, _) => self.stage = FLAG,
+            Done::Broken => self.stage = FLAG,
+            Done::Last(overload) => self.stage = if *overload { FLAG } else { Stage::Pausing(0) },
+            Done::Tail(overload) => self.stage = if *overload { FLAG } else { Stage::Pausing(0) },
             Done::Flag => self.stage = Stage::AfterFlag(0, 0),
-            Done::Start => {
-                self.standing.frame_fits();
-                self.shift = Shift::new();
-                self.shift.step(Level::Dominant);
-                self.stage = Stage::InFrame;
-            }
+            Done::Start => self.begin_frame(),
         }
+    }
+
+    /// A frame began with the last bit of a pause.
+    fn begin_frame(&mut self)
+        ensures kept { self.new.standing ≡ self.old.standing }
+        ensures reads { (before : Context) → context_of self.old.standing ≡ closed PauseWithSof SofSeen before
+            → At self.new.stage self.new.shift (context_of self.new.standing) (context_of self.new.standing) SofSeen [] }
+    {
+        self.standing.frame_fits();
+        self.shift = Shift::new();
+        self.shift.step(Level::Dominant);
+        self.stage = Stage::InFrame;
     }
 
     /// Where the transmit error counter has come to 256 the node goes bus-off.
