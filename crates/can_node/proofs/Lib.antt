@@ -40,3 +40,7 @@ pub mod WorkedReception
 pub mod WorkedMoves
 pub mod Along
 pub mod GoOn
+pub mod Entries
+pub mod Ways
+pub mod MoveOnce
+pub mod CutOnce
