@@ -3,11 +3,11 @@ use Rattle.std.proofs.Common.{◌≡◌, ◌≢◌, ◌⊎◌, inl, inr, List, [
 use Rattle.std.proofs.lemmas.List.{append-nil, append_cancel_left, same_from_push}
 use Rattle.can_bits.proofs.Lists.{fronts, last_of}
 use Rattle.can_node.specs.declared.config.Config.{Config}
-use Rattle.can_node.specs.Bits.{Bit, heard, hears}
+use Rattle.can_node.specs.Bits.{heard, hears}
 use Rattle.can_node.specs.Context.{Context}
 use Rattle.can_node.specs.Pieces.{Spot}
 use Rattle.can_node.specs.Record.{Entry, bits_in, Inner, BeginsInBit, EndsInBit, IsSlice}
-use Rattle.can_node.specs.Record.Entry.{Start, Stop, Took, Send, Abort, Off}
+use Rattle.can_node.specs.Record.Entry.{Start, Stop, Took, Off}
 use Rattle.can_node.specs.Record.Inner.{none_left, took, sends, aborts}
 use Rattle.can_node.specs.Cut.{IsOpenAt}
 use Rattle.can_node.specs.Cut.IsOpenAt.{rests, nothing, begun}

@@ -1,22 +1,19 @@
 -- What may come next at a place is one move: two moves from one place in one record are the same.
-use Rattle.std.proofs.Common.{◌≡◌, ◌≢◌, ◌⊎◌, ◌<◌, ◌≤◌, inl, inr, List, [], ◌∷◌, ◌++◌, map, refl, ap, sym, subst, ◌∙◌, append_assoc, arith}
+use Rattle.std.proofs.Common.{◌≡◌, inl, inr, List, [], ◌∷◌, ◌++◌, refl, ap, sym, subst, ◌∙◌, append_assoc, arith}
 use Rattle.std.proofs.lemmas.List.{append-nil, append_cancel_left}
-use Rattle.can_node.specs.declared.config.Config.{Config}
-use Rattle.can_node.specs.declared.request.Request.{Request}
-use Rattle.can_node.specs.Bits.{Bit, hears}
+use Rattle.can_node.specs.Bits.{Bit}
 use Rattle.can_node.specs.Context.{Context}
 use Rattle.can_node.specs.Pieces.{Spot, Piece}
-use Rattle.can_node.specs.Pieces.Spot.{Resting, Joining}
 use Rattle.can_node.specs.Record.{Entry, bits_in, BeginsInBit, IsSlice}
-use Rattle.can_node.specs.Record.Entry.{Start, Stop, Took, Send, Abort, Off}
+use Rattle.can_node.specs.Record.Entry.{Took}
 use Rattle.can_node.specs.Table.{Row}
-use Rattle.can_node.specs.Effects.{with_send, with_abort, with_start, with_stop, with_off, along, after}
+use Rattle.can_node.specs.Effects.{with_off, after}
 use Rattle.can_node.specs.Cut.{IsUnfinished, IsOpenAt, Stays, Move}
 use Rattle.can_node.specs.Cut.IsOpenAt.{rests, nothing, begun}
 use Rattle.can_node.proofs.Along.{bits_both}
 use Rattle.can_node.proofs.GoOn.{no_rest_piece}
 use Rattle.can_node.proofs.RowOnce.{row_once}
-use Rattle.can_node.proofs.Entries.{IsOuter, IsPart, outer_once, inner_before, some_not_none, slices_once, open_part, slice_part}
+use Rattle.can_node.proofs.Entries.{IsOuter, IsPart, outer_once, inner_before, some_not_none, slices_once, open_part}
 use Rattle.can_node.proofs.Entries.IsOuter.{start, stop, off}
 use Rattle.can_node.proofs.Ways.{Between, Closing, Way, way_of}
 use Rattle.can_node.proofs.Ways.Between.{send, abort}
