@@ -81,35 +81,35 @@ level_kept : (c now : Context) → now.listen ≡ c.listen → now.flag ≡ c.fl
 level_kept c now listen flag = ap (λ t. if t then Recessive else level_of_flag now.flag) listen ∙ ap (λ f. if c.listen then Recessive else level_of_flag f) flag
 
 -- a dominant flag
-pub at_forcing : (n : ℕ) (last level driven seen : Level) (shift : Shift) (c now : Context) (bits : List Bit) (turn : Turn) →
-    IsFlagging (flag_level c) n last c bits → IsKept Flagging c now → driven ≡ flag_level now → level ≡ Dominant → level ≡ flag_level now →
-    ((shift : Shift) (c now : Context) (bits : List Bit) → flag_level c ≡ Dominant → now.flag ≡ c.flag → IsForcing n c bits → IsTurn shift c now Flagging bits (forced seen) turn) →
+pub at_forcing : (n : ℕ) (like level driven seen : Level) (shift : Shift) (c now : Context) (bits : List Bit) (turn : Turn) →
+    IsFlagging (flag_level c) n like c bits → IsKept Flagging c now → driven ≡ flag_level now → level ≡ Dominant → level ≡ flag_level now →
+    ((shift : Shift) (d e : Context) (bits : List Bit) → flag_level d ≡ Dominant → now.flag ≡ d.flag → IsForcing n d bits → IsTurn shift d e Flagging bits (forced seen) turn) →
     IsTurn shift c now Flagging bits (record { driven = driven; seen = seen }) turn
-at_forcing n last level driven seen shift c now bits turn h kept drives dominant same f =
+at_forcing n like level driven seen shift c now bits turn h kept drives dominant same f =
     let here : flag_level now ≡ Dominant = sym same ∙ dominant in
     let there : flag_level c ≡ Dominant = sym (level_kept c now kept.listen kept.flag) ∙ here in
-    let P : Level → Type 0 = λ x. IsFlagging x n last c bits in
+    let P : Level → Type 0 = λ x. IsFlagging x n like c bits in
     turn_at shift c now Flagging Flagging bits driven Dominant seen turn refl (drives ∙ here) (f shift c now bits there kept.flag (subst P there h))
 
 -- a passive flag
-pub at_waiting : (n : ℕ) (last level driven seen : Level) (shift : Shift) (c now : Context) (bits : List Bit) (turn : Turn) →
-    IsFlagging (flag_level c) n last c bits → IsKept Flagging c now → driven ≡ flag_level now → level ≡ Recessive → level ≡ flag_level now →
-    ((shift : Shift) (c now : Context) (bits : List Bit) → flag_level c ≡ Recessive → IsWaiting n last c bits → IsTurn shift c now Flagging bits (heard seen) turn) →
+pub at_waiting : (n : ℕ) (like level driven seen : Level) (shift : Shift) (c now : Context) (bits : List Bit) (turn : Turn) →
+    IsFlagging (flag_level c) n like c bits → IsKept Flagging c now → driven ≡ flag_level now → level ≡ Recessive → level ≡ flag_level now →
+    ((shift : Shift) (c now : Context) (bits : List Bit) → flag_level c ≡ Recessive → IsWaiting n like c bits → IsTurn shift c now Flagging bits (heard seen) turn) →
     IsTurn shift c now Flagging bits (record { driven = driven; seen = seen }) turn
-at_waiting n last level driven seen shift c now bits turn h kept drives recessive same f =
+at_waiting n like level driven seen shift c now bits turn h kept drives recessive same f =
     let here : flag_level now ≡ Recessive = sym same ∙ recessive in
     let there : flag_level c ≡ Recessive = sym (level_kept c now kept.listen kept.flag) ∙ here in
-    let P : Level → Type 0 = λ x. IsFlagging x n last c bits in
+    let P : Level → Type 0 = λ x. IsFlagging x n like c bits in
     turn_at shift c now Flagging Flagging bits driven Recessive seen turn refl (drives ∙ here) (f shift c now bits there (subst P there h))
 
 -- a flag
-pub at_flagging : (n : ℕ) (last : Level) (stage : Stage) (shift : Shift) (c now : Context) (spot : Spot) (bits : List Bit) (driven seen : Level) (turn : Turn) →
-    stage ≡ StageFlagging n last → At stage shift c now spot bits → IsKept spot c now → Drives now spot bits driven →
-    ((shift : Shift) (c : Context) (bits : List Bit) (driven : Level) → IsFlagging (flag_level c) n last c bits → IsKept Flagging c now → driven ≡ flag_level now →
+pub at_flagging : (n : ℕ) (like : Level) (stage : Stage) (shift : Shift) (c now : Context) (spot : Spot) (bits : List Bit) (driven seen : Level) (turn : Turn) →
+    stage ≡ StageFlagging n like → At stage shift c now spot bits → IsKept spot c now → Drives now spot bits driven →
+    ((shift : Shift) (c : Context) (bits : List Bit) (driven : Level) → IsFlagging (flag_level c) n like c bits → IsKept Flagging c now → driven ≡ flag_level now →
       IsTurn shift c now Flagging bits (record { driven = driven; seen = seen }) turn) →
     IsTurn shift c now spot bits (record { driven = driven; seen = seen }) turn
-at_flagging n last stage shift c now spot bits driven seen turn e h kept drives f =
-    let at = at_is (StageFlagging n last) stage shift c now spot bits e h in
+at_flagging n like stage shift c now spot bits driven seen turn e h kept drives f =
+    let at = at_is (StageFlagging n like) stage shift c now spot bits e h in
     let P : Spot → Type 0 = λ s. IsKept s c now in
     turn_at shift c now spot Flagging bits driven driven seen turn at.0 refl
     (f shift c bits driven at.1 (subst P at.0 kept) (driven_at now spot Flagging bits driven at.0 drives))

@@ -187,3 +187,8 @@ pub dominant_if : (x : Level) → is_recessive x ≡ false → x ≡ Dominant
 dominant_if Dominant e = refl
 dominant_if Recessive e = absurd cc
 
+
+-- a transmitter's reading
+pub telling_by : (shift : Shift) (c now : Context) (spot : Spot) (bits : List Bit) → now.role ≡ Transmitter → IsReading shift c now spot bits →
+    IsTelling c now spot bits
+telling_by shift c now spot bits e reading = let P : Role → Type 0 = λ r. ByRole r c now spot bits in subst P e reading.by_role

@@ -45,3 +45,7 @@ pub mod Calls
 pub mod FrameTurns
 pub mod Ats
 pub mod IdleTurns
+pub mod Entries
+pub mod Ways
+pub mod MoveOnce
+pub mod CutOnce

@@ -4,7 +4,9 @@ ghost use Rattle.std.specs.Prelude.{◌≡◌, ◌++◌, List};
 ghost use Rattle.can_node.specs.Bits.{Bit};
 ghost use Rattle.can_node.specs.Context.{Context};
 ghost use Rattle.can_node.specs.Pieces.{Spot, Piece};
+ghost use Rattle.can_node.specs.Record.{Entry};
 ghost use Rattle.can_node.specs.Table.{Row};
+ghost use Rattle.can_node.specs.Cut.{Found, IsCut};
 
 /// Of two pieces that are lawful at one place in one context neither is a proper front of the other, and equal lists of
 /// bits are the same piece and lead to the same place (this project's own rule, of which the standard's rules for each
@@ -12,4 +14,10 @@ ghost use Rattle.can_node.specs.Table.{Row};
 pub fn pieces_are_told_apart()
     ensures { (c : Context) (spot : Spot) (a b x y : List Bit) (p q : Piece) (n m : Spot) →
         Row c spot a p n → Row c spot b q m → a ++ x ≡ b ++ y → (a ≡ b) × (p ≡ q) × (n ≡ m) }
+{}
+
+/// A record has one cut: any two cuts of it have the same finished pieces, each in the same activation and with the same
+/// number of bits up to its end (this project's own rule).
+pub fn a_record_has_one_cut()
+    ensures { (entries : List Entry) (found others : List Found) → IsCut entries found → IsCut entries others → found ≡ others }
 {}

@@ -35,7 +35,7 @@ pub use bit_events::BitEvents;
 pub use cause::Cause;
 pub use config::Config;
 pub use counters::Counters;
-pub use laws::pieces_are_told_apart;
+pub use laws::{a_record_has_one_cut, pieces_are_told_apart};
 pub use node::Node;
 pub use outcome::Outcome;
 pub use phase::Phase;

@@ -6,7 +6,7 @@ use Rattle.can_node.proofs.node.Node.flag_turn.Goals as goal
 pub returns-in-Dominant : goal.returns-in-Dominant
 returns-in-Dominant c = λ shift d bits driven h kept drives.
     at_forcing c.args.n c.args.last c.flag_level.result driven c.args.seen shift d (context_of c.args.self.now.standing) bits c.forcing_turn.result
-    h kept drives c.in-Dominant.is c.flag_level.ensures (λ other e now more level kind. c.forcing_turn.ensures other e now more level kind)
+    h kept drives c.in-Dominant.is c.flag_level.ensures c.forcing_turn.ensures
 
 pub returns-in-Recessive : goal.returns-in-Recessive
 returns-in-Recessive c = λ shift d bits driven h kept drives.

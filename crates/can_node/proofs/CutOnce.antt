@@ -1,0 +1,67 @@
+-- A record has one cut.
+use Rattle.std.proofs.Common.{◌≡◌, List, [], ◌∷◌, ◌++◌, refl, ap, sym, subst, ◌∙◌, append_assoc}
+use Rattle.std.proofs.lemmas.List.{append_cancel_left}
+use Rattle.can_node.specs.Context.{Context, fresh}
+use Rattle.can_node.specs.Pieces.{Spot, Piece}
+use Rattle.can_node.specs.Pieces.Spot.{Resting}
+use Rattle.can_node.specs.Record.{Entry}
+use Rattle.can_node.specs.Cut.{IsOpenAt, Move, Count, counted, Found, tagged, From, none_yet, IsCut}
+use Rattle.can_node.specs.Cut.From.{here, on}
+use Rattle.can_node.proofs.Entries.{open_part, outer_not_within}
+use Rattle.can_node.proofs.Ways.{Way, way_of}
+use Rattle.can_node.proofs.Ways.Way.{finishes, comes, closes}
+use Rattle.can_node.proofs.MoveOnce.{move_once, open_no_piece, between_not_open}
+
+-- where less than a piece has come no move goes on among its entries
+way_or_open : (c next : Context) (spot place : Spot) (a entries x : List Entry) (ps : List Piece) → Way c spot a ps next place →
+    IsOpenAt c spot entries → entries ≡ a ++ x → ⊥
+way_or_open c next spot place a entries x ps (finishes {next = n} {p = p} slice is_slice row stays) opened e =
+    open_no_piece c spot n p a entries x is_slice.begins row e opened
+way_or_open c next spot place a entries x ps (comes entry between) opened e = between_not_open c next spot entry entries x between opened e
+way_or_open c next spot place a entries x ps (closes slice entry part out closing) opened e =
+    outer_not_within slice entries x entry out (open_part opened).inner (e ∙ append_assoc slice (entry ∷ []) x)
+
+-- so the end of a record is open at its place, or a move goes on there, and not both
+pub move_or_open : (c next : Context) (spot place : Spot) (a entries x : List Entry) (ps : List Piece) → Move c spot a ps next place →
+    IsOpenAt c spot entries → entries ≡ a ++ x → ⊥
+move_or_open c next spot place a entries x ps move opened e = way_or_open c next spot place a entries x ps (way_of move) opened e
+
+-- two cuts that have the same pieces, and end in the same context and at the same place, with the same entries open
+abbrev pub EndSame : List Found → Context → Spot → List Entry → List Found → Context → Spot → List Entry → Type 0
+EndSame found end last rest others other another more = (found ≡ others) × (end ≡ other) × (last ≡ another) × (rest ≡ more)
+
+-- what goes on after one of two equal moves goes on after the other
+after_same : (k j : Count) (c d end : Context) (s t last : Spot) (entries rest : List Entry) (found : List Found) → k ≡ j → c ≡ d → s ≡ t →
+    From k c s entries found end last rest → From j d t entries found end last rest
+after_same k j c d end s t last entries rest found count context spot from =
+    let P : Count → Type 0 = λ i. From i c s entries found end last rest in
+    let Q : Context → Type 0 = λ e. From j e s entries found end last rest in
+    let R : Spot → Type 0 = λ p. From j d p entries found end last rest in
+    subst R spot (subst Q context (subst P count from))
+
+-- from one place on a record is cut in one way
+pub from_once : (k : Count) (c end other : Context) (spot last another : Spot) (entries again rest more : List Entry) (found others : List Found) →
+    From k c spot entries found end last rest → From k c spot again others other another more → entries ≡ again →
+    EndSame found end last rest others other another more
+from_once k c end other spot last another entries again rest more found others (here opened stays) (here too standing) e = (refl, refl, refl, e)
+from_once k c end other spot last another entries again rest more found others (here opened stays)
+    (on {next = next} {place = place} {entries = first} {more = later} {ps = ps} move from) e =
+    absurd (move_or_open c next spot place first entries later ps move opened e)
+from_once k c end other spot last another entries again rest more found others
+    (on {next = next} {place = place} {entries = first} {more = later} {ps = ps} move from) (here opened stays) e =
+    absurd (move_or_open c next spot place first again later ps move opened (sym e))
+from_once k c end other spot last another entries again rest more found others
+    (on {next = next} {place = place} {entries = a} {more = x} {ps = ps} {qs = found_later} move from)
+    (on {next = after_it} {place = there} {entries = b} {more = y} {ps = qs} {qs = others_later} second on_from) e =
+    let same = move_once c next after_it spot place there a b x y ps qs move second e in
+    let count = ap (counted k) same.0 in
+    let rests = append_cancel_left b x y (ap (λ l. l ++ x) (sym same.0) ∙ e) in
+    let moved = after_same (counted k b) (counted k a) after_it next other there place another y more others_later (sym count) (sym same.2) (sym same.3) on_from in
+    let once = from_once (counted k a) next end other place last another x y rest more found_later others_later from moved rests in
+    let tags = ap (λ i. tagged i ps ++ found_later) count ∙ ap (λ l. tagged (counted k b) l ++ found_later) same.1 in
+    (tags ∙ ap (λ l. tagged (counted k b) qs ++ l) once.0, once.1, once.2, once.3)
+
+-- two cuts of one record have the same finished pieces
+pub cut_once : (entries : List Entry) (found others : List Found) → IsCut entries found → IsCut entries others → found ≡ others
+cut_once entries found others h k =
+    (from_once none_yet fresh h.context k.context Resting h.spot k.spot entries entries h.rest k.rest found others h.from k.from refl).0
