@@ -144,7 +144,7 @@ delimiter_length d r bits h =
     ∙ ap (λ n. h.count + n) (length-replicate r Recessive)
 
 -- one more than a number isn't 0
-not_none : (i : ℕ) → (suc i == 0) ≡ false
+pub not_none : (i : ℕ) → (suc i == 0) ≡ false
 not_none i = grind (arith, nat_tests)
 
 -- all of the bits are dominant exactly where no recessive level is counted

@@ -44,6 +44,8 @@ pub mod GoOn
 pub mod Calls
 pub mod FrameTurns
 pub mod Ats
+pub mod FrameStarts
+pub mod Counts
 pub mod IdleTurns
 pub mod Entries
 pub mod Ways

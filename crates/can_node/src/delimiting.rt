@@ -1,4 +1,4 @@
-ghost use Rattle.std.specs.Prelude.{List};
+ghost use Rattle.std.specs.Prelude.{◌≡◌, ◌==◌, ◌&&◌, List};
 ghost use Rattle.can_node.specs.Bits.{Bit, heard};
 ghost use Rattle.can_node.specs.Context.{Context};
 ghost use Rattle.can_node.specs.Pieces.Spot.{AfterFlag as AtAfterFlag};
@@ -36,4 +36,18 @@ pub fn delimiting_turn(dominant: u8, recessive: u8, seen: Level) -> Turn
             }
         }
     }
+}
+
+/// Whether no bit came after the flag.
+pub fn is_first(dominant: u8, recessive: u8) -> bool
+    ensures { result ≡ (dominant == 0 && recessive == 0) }
+{
+    dominant == 0 && recessive == 0
+}
+
+/// Whether a dominant level makes eight, sixteen .. of them, none other among them.
+pub fn is_eighth(dominant: u8, recessive: u8) -> bool
+    ensures { result ≡ (recessive == 0 && dominant == 7) }
+{
+    recessive == 0 && dominant == 7
 }

@@ -1,4 +1,5 @@
 use super::cause::Cause;
+use super::delimiting::{is_eighth, is_first};
 use super::done::Done;
 use super::node::Node;
 use super::outcome::Outcome;
@@ -43,8 +44,8 @@ impl Node {
             Stage::InFrame => self.standing.frame_bit(lost, driven, seen),
             Stage::Flagging(_, _) => self.standing.flag_bit(seen),
             Stage::AfterFlag(dominant, recessive) => {
-                let first = dominant == 0 && recessive == 0;
-                let eighth = recessive == 0 && dominant == 7;
+                let first = is_first(dominant, recessive);
+                let eighth = is_eighth(dominant, recessive);
                 self.standing.tail_bit(first, eighth, seen);
             }
         }

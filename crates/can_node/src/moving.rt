@@ -17,14 +17,17 @@ impl Node {
     ghost use Rattle.can_bits.specs.declared.level.Level.{Level as Bus};
     ghost use Rattle.can_bits.specs.declared.shift.Shift.{Shift as Reader};
     ghost use Rattle.can_node.specs.declared.role.Role.TheVariants.{Receiver};
-    ghost use Rattle.can_node.specs.Bits.{Bit};
+    ghost use Rattle.can_bits.specs.Places.{is_early_stuff};
+    ghost use Rattle.can_bits.specs.Shifts.{StandsFor};
+    ghost use Rattle.can_node.specs.Bits.{Bit, seen_of};
     ghost use Rattle.can_node.specs.Context.{Context, flag_level};
     ghost use Rattle.can_node.specs.Pieces.{Spot};
     ghost use Rattle.can_node.specs.Pieces.Spot.{AtIdle, Flagging as AtFlagging};
+    ghost use Rattle.can_node.specs.Frames.{Answers};
     ghost use Rattle.can_node.specs.Driving.{Drives};
     ghost use Rattle.can_node.specs.Events.{lost_in};
     ghost use Rattle.can_node.specs.Standing.{context_of, IsKept};
-    ghost use Rattle.can_node.specs.Stages.{At, IsReading, IsFlagging};
+    ghost use Rattle.can_node.specs.Stages.{At, IsReading, IsTelling, IsFlagging, frame_bits};
     ghost use Rattle.can_node.specs.Turns.{IsTurn};
 
     /// The level that the node drives in the next bit.
@@ -56,13 +59,20 @@ impl Node {
                 Some(request) => self.shift.next_sent(&request.frame),
                 None => Level::Recessive,
             },
-            Role::Receiver => {
-                if !self.standing.listen && self.shift.ack_is_due() {
-                    Level::Dominant
-                } else {
-                    Level::Recessive
-                }
-            }
+            Role::Receiver => self.answer(),
+        }
+    }
+
+    /// What a receiver drives in a frame: dominant where its acknowledgement is due, if it doesn't only listen.
+    fn answer(&self) -> Level
+        ensures { (l : List Bus) → StandsFor self.now.shift l → Answers self.now.standing.listen l result }
+    {
+        if self.standing.listen {
+            Level::Recessive
+        } else if self.shift.ack_is_due() {
+            Level::Dominant
+        } else {
+            Level::Recessive
         }
     }
 
@@ -146,12 +156,21 @@ impl Node {
         match self.standing.role {
             Role::Receiver => hear(&mut self.shift, driven, seen),
             Role::Transmitter => {
-                let early = match &self.standing.held {
-                    Some(request) => self.shift.is_early_stuff(request.frame.ext()),
-                    None => false,
-                };
+                let early = self.is_early();
                 tell(&mut self.shift, self.standing.self_test, early, lost, driven, seen)
             }
+        }
+    }
+
+    /// Whether the next level of a transmitter's line is a stuff bit before its remote bit.
+    fn is_early(&self) -> bool
+        ensures { (c : Context) (spot : Spot) (bits : List Bit) (h : IsTelling c (context_of self.now.standing) spot bits)
+            → StandsFor self.now.shift (seen_of (frame_bits spot bits))
+            → result ≡ is_early_stuff h.request.frame.ext (seen_of (frame_bits spot bits)) }
+    {
+        match &self.standing.held {
+            Some(request) => self.shift.is_early_stuff(request.frame.ext()),
+            None => false,
         }
     }
 

@@ -1,0 +1,15 @@
+use Rattle.std.proofs.Common.{refl, sym, ◌∙◌}
+use Rattle.can_node.proofs.FrameTurns.{answers_listening, answers_due, answers_none}
+use Rattle.can_node.proofs.node.Node.answer.Goals as goal
+
+-- src/moving.rt
+pub returns-then-self : goal.returns-then-self
+returns-then-self c = λ l stands. answers_listening c.args.self.now.standing.listen l c.if-self.true
+
+pub returns-then-ack_is_due : goal.returns-then-ack_is_due
+returns-then-ack_is_due c = λ l stands.
+    answers_due c.args.self.now.standing.listen c.ack_is_due.result l c.if-self.false c.if-ack_is_due.true (c.ack_is_due.ensures l stands)
+
+pub returns-else-ack_is_due : goal.returns-else-ack_is_due
+returns-else-ack_is_due c = λ l stands.
+    answers_none c.args.self.now.standing.listen c.ack_is_due.result l c.if-self.false c.if-ack_is_due.false (c.ack_is_due.ensures l stands)

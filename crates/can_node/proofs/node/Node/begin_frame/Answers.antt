@@ -1,0 +1,9 @@
+use Rattle.std.proofs.Common.{[]}
+use Rattle.can_node.specs.Standing.{context_of}
+use Rattle.can_node.proofs.FrameStarts.{starts_frame}
+use Rattle.can_node.proofs.node.Node.begin_frame.Goals as goal
+
+-- src/going.rt
+pub returns-clause-reads : goal.returns-clause-reads
+returns-clause-reads c = λ before same.
+    starts_frame c.step.new.self (context_of c.args.self.now.standing) before same c.frame_fits.ensures (c.step.ensures.stands [] c.new-self.ensures)
