@@ -49,7 +49,7 @@ new_stands node reset shows =
       slice = [];
       from = From.here nothing (omega arith);
       shows = shows;
-      at = subst P (sym reset) refl;
+      at = subst P (sym reset) (refl, refl);
     }
 
 -- ---- a start
@@ -93,7 +93,7 @@ pub started_stands : (old new : Node) (config : Config) (entries : List Entry) (
     StandsAt old entries found → StandsAt new (entries ++ Start config ∷ []) found
 started_stands old new config entries found reset shows stage h =
     let R : Stage → Type 0 = λ s. At s old.shift h.context (along h.context h.spot [] h.slice) h.spot (bits_in h.slice) in
-    let rest : h.spot ≡ Resting = subst R reset h.at in
+    let rest : h.spot ≡ Resting = (subst R reset h.at).0 in
     let now = with_start config h.context in
     let same : context_of new.standing ≡ now =
     shows ∙ ap (λ c. with_start config c) (h.shows ∙ rest_now h.context h.spot h.slice rest (open_end h.from)) in
@@ -124,5 +124,5 @@ stopped_stands old new entries found reset shows h =
       slice = [];
       from = subst P (append-nil found) (move_on (Stop ∷ []) [] h.from (stopped h.slice (open_end h.from) stays) stays);
       shows = shows ∙ ap (λ c. with_stop c) h.shows;
-      at = subst Q (sym reset) refl;
+      at = subst Q (sym reset) (refl, refl);
     }

@@ -44,6 +44,9 @@ pub mod GoOn
 pub mod Calls
 pub mod FrameTurns
 pub mod Ats
+pub mod Shown
+pub mod Sampling
+pub mod BitStands
 pub mod FrameStarts
 pub mod Counts
 pub mod IdleTurns

@@ -1,6 +1,6 @@
 -- How far a node is in the piece under way: what its stage says of the bits of the piece that came. c is the context
 -- right before the piece, and now the one of the next bit.
-use Rattle.std.specs.Prelude.{◌≡◌, ◌≢◌, ◌+◌, ◌-◌, ◌%◌, ◌<◌, ◌≤◌, ℕ, zero, suc, Bool, false, fold, Some, List, [], ◌∷◌, ◌++◌, replicate, length}
+use Rattle.std.specs.Prelude.{◌≡◌, ◌≢◌, ◌+◌, ◌-◌, ◌%◌, ◌<◌, ◌≤◌, ℕ, zero, suc, Bool, false, fold, Some, None, List, [], ◌∷◌, ◌++◌, replicate, length}
 use Rattle.can_bits.specs.declared.level.Level.{Level}
 use Rattle.can_bits.specs.declared.level.Level.TheVariants.{Dominant, Recessive}
 use Rattle.can_bits.specs.declared.shift.Shift.{Shift}
@@ -137,7 +137,7 @@ pub record IsPausing (n : ℕ) (c : Context) (bits : List Bit) : Type 0 where
 
 -- ---- the stage and the reader say where in the piece the node is
 abbrev pub At : Stage → Shift → Context → Context → Spot → List Bit → Type 0
-At StageResting shift c now spot bits = spot ≡ Resting
+At StageResting shift c now spot bits = (spot ≡ Resting) × (now.held ≡ None)
 At (StageJoining left run) shift c now spot bits = (spot ≡ Joining) × IsJoining left run c bits
 At StageIdle shift c now spot bits = (spot ≡ AtIdle) × (bits ≡ []) × (now.role ≡ Receiver) × (c ≡ now)
 At StageInFrame shift c now spot bits = IsReading shift c now spot bits

@@ -10,6 +10,8 @@ use super::standing::Standing;
 use super::turn::Turn;
 use can_bits::{Level, Shift};
 
+ghost use Rattle.std.specs.Prelude.{◌≡◌, ◌&&◌, not};
+
 /// A CAN node, bit by bit: what it drives, and what it makes of the levels that it sees (Bosch CAN 2.0 part A).
 ///
 /// It keeps no list of levels and takes no memory. It stands at records: lists of what happened to it, each bit with
@@ -79,7 +81,7 @@ impl Node {
         let fault = turn.fault();
         self.go_on(turn);
         let receiving = !self.standing.is_transmitter();
-        let recovered = off && !self.standing.counters.off;
+        let recovered = recovers(off, self.standing.counters.off);
         let went_off = self.standing.counters.tec >= 256;
         let ended = self.ended(held, sent);
         self.go_off();
@@ -115,11 +117,11 @@ impl Node {
     {
         match &self.standing.held {
             None => Aborted::Unchanged,
-            Some(request) => {
+            Some(_) => {
                 if !self.is_in_progress() {
                     self.standing.held = None;
                     Aborted::Dropped
-                } else if request.single_shot || self.standing.aborted {
+                } else if self.standing.drops() {
                     Aborted::Unchanged
                 } else {
                     self.standing.aborted = true;
@@ -163,10 +165,17 @@ impl Node {
     pub fn at_rest(&self) -> bool
         ensures { ShowsRest self.now result }
     {
-        match self.stage {
-            Stage::Resting => true,
-            Stage::Idle => self.standing.held.is_none(),
+        match self.phase() {
+            Phase::Reset => true,
+            Phase::Idle => self.standing.held.is_none(),
             _ => false,
         }
     }
+}
+
+/// Whether bus-off stood and stands no more.
+fn recovers(off: bool, still: bool) -> bool
+    ensures { result ≡ (off && not still) }
+{
+    off && !still
 }

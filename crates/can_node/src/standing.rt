@@ -22,7 +22,7 @@ pub struct Standing {
 }
 
 impl Standing {
-    ghost use Rattle.std.specs.Prelude.{◌≡◌, ◌<◌, is_some, Some};
+    ghost use Rattle.std.specs.Prelude.{◌≡◌, ◌<◌, ◌||◌, is_some, Some, None};
     ghost use Rattle.can_frame.specs.Frame.{IsFrame};
     ghost use Rattle.can_node.specs.Context.{Context, fresh, is_passive, is_transmitter, owes_suspension, flag_level, join_count};
     ghost use Rattle.can_node.specs.Pieces.{sent_at};
@@ -145,13 +145,20 @@ impl Standing {
     pub fn drop_failed(&mut self)
         ensures { context_of self.new ≡ drop_failed self.old.held (context_of self.old) }
     {
-        let drops = match &self.held {
-            None => false,
-            Some(request) => request.single_shot || self.aborted,
-        };
-        if drops {
+        if self.drops() {
             self.held = None;
             self.aborted = false;
+        }
+    }
+
+    /// Whether the request is dropped where it fails or loses: it is tried once, or was aborted in progress.
+    pub fn drops(&self) -> bool
+        ensures none { self.now.held ≡ None → result ≡ false }
+        ensures some { (request : Request) → self.now.held ≡ Some request → result ≡ (request.single_shot || self.now.aborted) }
+    {
+        match &self.held {
+            None => false,
+            Some(request) => request.single_shot || self.aborted,
         }
     }
 

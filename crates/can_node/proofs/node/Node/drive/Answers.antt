@@ -1,4 +1,7 @@
+use Rattle.can_node.proofs.Shown.{drive_shown}
+use Rattle.can_node.proofs.BitStands.{goes_stands}
 use Rattle.can_node.proofs.node.Node.drive.Goals as goal
 
+-- src/node.rt
 pub returns : goal.returns
-returns c = ?
+returns c = λ entries found h. drive_shown c.args.self.now entries found h c.level.result c.level.ensures

@@ -1,0 +1,161 @@
+-- A node that stands at a record stands, after a bit, at the record with it.
+use Rattle.std.proofs.Common.{◌≡◌, ◌≢◌, ◌⊎◌, ◌<◌, ◌≤◌, ℕ, Bool, true, false, nat_le, Option, Some, None, List, [], ◌∷◌, ◌++◌, refl, ap, sym, subst, ◌∙◌, arith, append_assoc, inl, inr, if◌then◌else◌}
+use Rattle.std.proofs.lemmas.List.{append-nil}
+use Rattle.std.proofs.lemmas.Bool.{cases_Bool, leb-true}
+use Rattle.can_bits.specs.declared.shift.Shift.{Shift}
+use Rattle.can_node.specs.declared.stage.Stage.{Stage}
+use Rattle.can_node.specs.declared.stage.Stage.TheVariants.{Resting as StageResting}
+use Rattle.can_node.specs.declared.done.Done.{Done}
+use Rattle.can_node.specs.declared.turn.Turn.{Turn}
+use Rattle.can_node.specs.declared.turn.Turn.TheVariants.{Goes as TurnGoes, Closes as TurnCloses}
+use Rattle.can_node.specs.declared.node.Node.{Node}
+use Rattle.can_node.specs.Bits.{Bit}
+use Rattle.can_node.specs.Context.{Context, fresh}
+use Rattle.can_node.specs.Pieces.{Spot, Piece}
+use Rattle.can_node.specs.Pieces.Spot.{Resting}
+use Rattle.can_node.specs.Record.{Entry, bits_in}
+use Rattle.can_node.specs.Record.Entry.{Took, Off}
+use Rattle.can_node.specs.Counting.{at_bit}
+use Rattle.can_node.specs.Effects.{along, after, with_off, closed}
+use Rattle.can_node.specs.Table.{Row}
+use Rattle.can_node.specs.Cut.{IsUnfinished, IsOpenAt, Stays, Move, From, Found, Count, none_yet, counted, tagged}
+use Rattle.can_node.specs.Cut.Move.{piece, off_within, off_after}
+use Rattle.can_node.specs.Driving.{Drives}
+use Rattle.can_node.specs.Standing.{context_of}
+use Rattle.can_node.specs.Stages.{At}
+use Rattle.can_node.specs.Turns.{IsMade, AtAfter, piece_of, next_of, step_of, resulted, off_if}
+use Rattle.can_node.specs.Stands.{StandsAt, closed_by}
+use Rattle.can_node.proofs.Along.{along-bit}
+use Rattle.can_node.proofs.GoOn.{counted_both, open_end, stays_end, move_on, open_on, no_rest_piece, slice_open}
+use Rattle.can_node.proofs.Sampling.{bits_push, some_bit, open_at, pushed_open, resting_or}
+
+-- a piece stands at no rest
+piece_away : {c : Context} {bits : List Bit} {p : Piece} {next : Spot} (spot : Spot) → Row c spot bits p next → spot ≢ Resting
+piece_away {c = c} {bits = bits} {p = p} {next = next} spot row e = let P : Spot → Type 0 = λ s. Row c s bits p next in no_rest_piece (subst P e row)
+
+-- nor does bus-off come in one
+off_away : (c : Context) (spot : Spot) (bits : List Bit) (b : Bit) → Stays c → 256 ≤ (at_bit c spot bits b).tec → spot ≢ Resting
+off_away c spot bits b stays off e =
+    let P : Spot → Type 0 = λ s. 256 ≤ (at_bit c s bits b).tec in
+    let same : 256 ≤ c.tec = subst P e off in
+    omega (arith, same, stays)
+
+-- ---- the piece under way goes on
+
+pub goes_stands : (old new : Node) (entries : List Entry) (found : List Found) (h : StandsAt old entries found) (b : Bit) (stage : Stage) (shift : Shift) →
+    let now = along h.context h.spot [] h.slice in let d = at_bit now h.spot (bits_in h.slice) b in
+    Drives now h.spot (bits_in h.slice) b.driven → At stage shift h.context d h.spot (bits_in h.slice ++ b ∷ []) → d.tec < 256 →
+    context_of new.standing ≡ d → new.stage ≡ stage → new.shift ≡ shift → StandsAt new (entries ++ Took b ∷ []) found
+goes_stands old new entries found h b stage shift drives at few shows same_stage same_shift =
+    let slice = h.slice ++ Took b ∷ [] in
+    let whole = along-bit h.context h.spot h.slice b in
+    let now = at_bit (along h.context h.spot [] h.slice) h.spot (bits_in h.slice) b in
+    let opened = pushed_open stage shift h.context now h.spot h.slice b (open_end h.from) drives at in
+    let stays : Stays (along h.context h.spot [] slice) = subst (λ c. Stays c) (sym whole) few in
+    let P : Context → Type 0 = λ c. At stage shift h.context c h.spot (bits_in h.slice ++ b ∷ []) in
+    let Q : List Bit → Type 0 = λ l. At stage shift h.context (along h.context h.spot [] slice) h.spot l in
+    let R : Stage → Type 0 = λ s. At s shift h.context (along h.context h.spot [] slice) h.spot (bits_in slice) in
+    let S : Shift → Type 0 = λ s. At new.stage s h.context (along h.context h.spot [] slice) h.spot (bits_in slice) in
+    record {
+      context = h.context;
+      spot = h.spot;
+      slice = slice;
+      from = open_on (Took b ∷ []) h.from opened stays;
+      shows = shows ∙ sym whole;
+      at = subst S (sym same_shift) (subst R (sym same_stage) (subst Q (sym (bits_push h.slice b)) (subst P (sym whole) at)));
+    }
+
+-- ---- the piece ends
+
+pub closes_stands : (old new : Node) (entries : List Entry) (found : List Found) (h : StandsAt old entries found) (b : Bit) (stage : Stage) (shift : Shift) (p : Piece) (next : Spot) →
+    let n = closed p next (at_bit (along h.context h.spot [] h.slice) h.spot (bits_in h.slice) b) in
+    Row h.context h.spot (bits_in h.slice ++ b ∷ []) p next → At stage shift n n next [] → n.tec < 256 →
+    context_of new.standing ≡ n → new.stage ≡ stage → new.shift ≡ shift →
+    StandsAt new (entries ++ Took b ∷ []) (found ++ tagged (counted none_yet (entries ++ Took b ∷ [])) (p ∷ []))
+closes_stands old new entries found h b stage shift p next row at few shows same_stage same_shift =
+    let slice = h.slice ++ Took b ∷ [] in
+    let n = closed p next (at_bit (along h.context h.spot [] h.slice) h.spot (bits_in h.slice) b) in
+    let whole : after h.context h.spot slice p next ≡ n = ap (λ c. closed p next c) (along-bit h.context h.spot h.slice b) in
+    let P : List Bit → Type 0 = λ l. Row h.context h.spot l p next in
+    let lawful : Row h.context h.spot (bits_in slice) p next = subst P (sym (bits_push h.slice b)) row in
+    let stays : Stays (after h.context h.spot slice p next) = subst (λ c. Stays c) (sym whole) few in
+    let Q : Context → Type 0 = λ c. Move h.context h.spot slice (p ∷ []) c next in
+    let move : Move h.context h.spot slice (p ∷ []) n next = subst Q whole (piece slice (slice_open b (piece_away h.spot row) (open_end h.from)) lawful stays) in
+    let R : Stage → Type 0 = λ s. At s shift n n next [] in
+    let S : Shift → Type 0 = λ s. At new.stage s n n next [] in
+    record {
+      context = n;
+      spot = next;
+      slice = [];
+      from = move_on (Took b ∷ []) (p ∷ []) h.from move few;
+      shows = shows;
+      at = subst S (sym same_shift) (subst R (sym same_stage) at);
+    }
+
+-- ---- bus-off
+
+-- after it the node rests
+off_rests : (node : Node) (c : Context) → node.stage ≡ StageResting → At node.stage node.shift (with_off c) (with_off c) Resting []
+off_rests node c reset =
+    let P : Stage → Type 0 = λ s. At s node.shift (with_off c) (with_off c) Resting [] in
+    subst P (sym reset) (refl, refl)
+
+-- the counts after a bit, and after bus-off too
+off_counts : (entries : List Entry) (b : Bit) → counted none_yet (entries ++ Took b ∷ Off ∷ []) ≡ counted none_yet (entries ++ Took b ∷ [])
+off_counts entries b = counted_both none_yet entries (Took b ∷ Off ∷ []) ∙ sym (counted_both none_yet entries (Took b ∷ []))
+
+-- within a piece
+pub off_goes : (old new : Node) (entries : List Entry) (found : List Found) (h : StandsAt old entries found) (b : Bit) (stage : Stage) (shift : Shift) →
+    let now = along h.context h.spot [] h.slice in let d = at_bit now h.spot (bits_in h.slice) b in
+    At stage shift h.context d h.spot (bits_in h.slice ++ b ∷ []) → 256 ≤ d.tec →
+    context_of new.standing ≡ with_off d → new.stage ≡ StageResting → StandsAt new (entries ++ Took b ∷ Off ∷ []) found
+off_goes old new entries found h b stage shift at off shows reset =
+    let slice = h.slice ++ Took b ∷ [] in
+    let now = along h.context h.spot [] h.slice in
+    let d = at_bit now h.spot (bits_in h.slice) b in
+    let whole = along-bit h.context h.spot h.slice b in
+    let stays = stays_end h.from in
+    let away = off_away now h.spot (bits_in h.slice) b stays off in
+    let unfinished = open_at stage shift h.context d h.spot (bits_in h.slice ++ b ∷ []) away (some_bit (bits_in h.slice) b) at in
+    let P : List Bit → Type 0 = λ l. IsUnfinished h.context h.spot l in
+    let far : 256 ≤ (along h.context h.spot [] slice).tec = subst (λ (c : Context). 256 ≤ c.tec) (sym whole) off in
+    let Q : Context → Type 0 = λ c. Move h.context h.spot (slice ++ Off ∷ []) [] (with_off c) Resting in
+    let move : Move h.context h.spot (slice ++ Off ∷ []) [] (with_off d) Resting =
+    subst Q whole (off_within slice h.slice b refl stays (slice_open b away (open_end h.from)) (subst P (sym (bits_push h.slice b)) unfinished) far) in
+    let R : List Entry → Type 0 = λ l. Move h.context h.spot l [] (with_off d) Resting in
+    let S : List Found → Type 0 = λ l. From none_yet fresh Resting (entries ++ Took b ∷ Off ∷ []) l (with_off d) Resting [] in
+    record {
+      context = with_off d;
+      spot = Resting;
+      slice = [];
+      from = subst S (append-nil found) (move_on (Took b ∷ Off ∷ []) [] h.from (subst R (append_assoc h.slice (Took b ∷ []) (Off ∷ [])) move) (omega arith));
+      shows = shows;
+      at = off_rests new d reset;
+    }
+
+-- at the end of a piece
+pub off_closes : (old new : Node) (entries : List Entry) (found : List Found) (h : StandsAt old entries found) (b : Bit) (p : Piece) (next : Spot) →
+    let n = closed p next (at_bit (along h.context h.spot [] h.slice) h.spot (bits_in h.slice) b) in
+    Row h.context h.spot (bits_in h.slice ++ b ∷ []) p next → 256 ≤ n.tec →
+    context_of new.standing ≡ with_off n → new.stage ≡ StageResting →
+    StandsAt new (entries ++ Took b ∷ Off ∷ []) (found ++ tagged (counted none_yet (entries ++ Took b ∷ [])) (p ∷ []))
+off_closes old new entries found h b p next row off shows reset =
+    let slice = h.slice ++ Took b ∷ [] in
+    let n = closed p next (at_bit (along h.context h.spot [] h.slice) h.spot (bits_in h.slice) b) in
+    let whole : after h.context h.spot slice p next ≡ n = ap (λ c. closed p next c) (along-bit h.context h.spot h.slice b) in
+    let P : List Bit → Type 0 = λ l. Row h.context h.spot l p next in
+    let lawful : Row h.context h.spot (bits_in slice) p next = subst P (sym (bits_push h.slice b)) row in
+    let far : 256 ≤ (after h.context h.spot slice p next).tec = subst (λ (c : Context). 256 ≤ c.tec) (sym whole) off in
+    let Q : Context → Type 0 = λ c. Move h.context h.spot (slice ++ Off ∷ []) (p ∷ []) (with_off c) Resting in
+    let move : Move h.context h.spot (slice ++ Off ∷ []) (p ∷ []) (with_off n) Resting =
+    subst Q whole (off_after slice h.slice b refl (stays_end h.from) (slice_open b (piece_away h.spot row) (open_end h.from)) lawful far) in
+    let R : List Entry → Type 0 = λ l. Move h.context h.spot l (p ∷ []) (with_off n) Resting in
+    let S : Count → Type 0 = λ k. From none_yet fresh Resting (entries ++ Took b ∷ Off ∷ []) (found ++ tagged k (p ∷ [])) (with_off n) Resting [] in
+    record {
+      context = with_off n;
+      spot = Resting;
+      slice = [];
+      from = subst S (off_counts entries b) (move_on (Took b ∷ Off ∷ []) (p ∷ []) h.from (subst R (append_assoc h.slice (Took b ∷ []) (Off ∷ [])) move) (omega arith));
+      shows = shows;
+      at = off_rests new n reset;
+    }

@@ -1,0 +1,71 @@
+-- What a node that stands at a record shows of it.
+use Rattle.std.proofs.Common.{◌≡◌, ◌≢◌, Bool, true, false, ◌&&◌, ◌||◌, not, is_some, Option, Some, None, List, [], ◌∷◌, refl, ap, sym, subst, ◌∙◌, if◌then◌else◌}
+use Rattle.can_bits.specs.declared.level.Level.{Level}
+use Rattle.can_bits.specs.declared.shift.Shift.{Shift}
+use Rattle.can_node.specs.declared.stage.Stage.{Stage}
+use Rattle.can_node.specs.declared.stage.Stage.TheVariants.{InFrame as StageInFrame}
+use Rattle.can_node.specs.declared.phase.Phase.{Phase}
+use Rattle.can_node.specs.declared.phase.Phase.TheVariants.{Reset, Waiting, Idle, Frame, Flag, Delimiter, Intermission, Suspension}
+use Rattle.can_node.specs.declared.node.Node.{Node}
+use Rattle.can_node.specs.declared.request.Request.{Request}
+use Rattle.can_node.specs.Bits.{Bit}
+use Rattle.can_node.specs.Context.{Context, is_held}
+use Rattle.can_node.specs.Pieces.{Spot}
+use Rattle.can_node.specs.Record.{Entry, bits_in}
+use Rattle.can_node.specs.Effects.{along}
+use Rattle.can_node.specs.Cut.{Found}
+use Rattle.can_node.specs.Driving.{Drives, phase_at}
+use Rattle.can_node.specs.Standing.{context_of, IsKept}
+use Rattle.can_node.specs.Stages.{At, IsInFrame, IsReading}
+use Rattle.can_node.specs.Stages.IsInFrame.{from_idle, from_pause}
+use Rattle.can_node.specs.Stands.{StandsAt, now_of, rests_in}
+use Rattle.can_node.proofs.Along.{is_kept}
+use Rattle.can_node.proofs.Ats.{at_is}
+
+-- where the node is, by its own fields
+pub at_shown : (node : Node) (entries : List Entry) (found : List Found) (h : StandsAt node entries found) →
+    At node.stage node.shift h.context (context_of node.standing) h.spot (bits_in h.slice)
+at_shown node entries found h =
+    let P : Context → Type 0 = λ d. At node.stage node.shift h.context d h.spot (bits_in h.slice) in
+    subst P (sym h.shows) h.at
+
+-- what its context keeps
+pub kept_shown : (node : Node) (entries : List Entry) (found : List Found) (h : StandsAt node entries found) →
+    IsKept h.spot h.context (context_of node.standing)
+kept_shown node entries found h =
+    let P : Context → Type 0 = λ d. IsKept h.spot h.context d in
+    subst P (sym h.shows) (is_kept h.context h.spot h.slice)
+
+-- what it drives
+pub drive_shown : (node : Node) (entries : List Entry) (found : List Found) (h : StandsAt node entries found) (x : Level) →
+    ((c : Context) (spot : Spot) (bits : List Bit) → At node.stage node.shift c (context_of node.standing) spot bits → IsKept spot c (context_of node.standing) →
+      Drives (context_of node.standing) spot bits x) →
+    Drives (now_of node entries found h) h.spot (bits_in h.slice) x
+drive_shown node entries found h x f =
+    let P : Context → Type 0 = λ d. Drives d h.spot (bits_in h.slice) x in
+    subst P h.shows (f h.context h.spot (bits_in h.slice) (at_shown node entries found h) (kept_shown node entries found h))
+
+-- its phase in a frame
+in_frame : (spot : Spot) (bits : List Bit) → IsInFrame spot bits → Frame ≡ phase_at spot bits
+in_frame spot bits (from_idle b more) = refl
+in_frame spot bits (from_pause more) = refl
+
+pub frame_shown : (node : Node) (entries : List Entry) (found : List Found) (h : StandsAt node entries found) → node.stage ≡ StageInFrame →
+    Frame ≡ phase_at h.spot (bits_in h.slice)
+frame_shown node entries found h e =
+    let reading = at_is StageInFrame node.stage node.shift h.context (now_of node entries found h) h.spot (bits_in h.slice) e h.at in
+    in_frame h.spot (bits_in h.slice) reading.place
+
+-- it doesn't rest in any other phase
+awake : (p : Phase) (held : Bool) → p ≢ Reset → p ≢ Idle → false ≡ rests_in p held
+awake Reset held off idle = absurd (off refl)
+awake Idle held off idle = absurd (idle refl)
+awake Waiting held off idle = refl
+awake Frame held off idle = refl
+awake Flag held off idle = refl
+awake Delimiter held off idle = refl
+awake Intermission held off idle = refl
+awake Suspension held off idle = refl
+
+pub awake_shown : (p q : Phase) (held : Bool) → p ≡ q → p ≢ Reset → p ≢ Idle → false ≡ rests_in q held
+awake_shown p q held e off idle = awake p held off idle ∙ ap (λ r. rests_in r held) e
