@@ -32,9 +32,9 @@ use Rattle.can_bits.proofs.PlacesNow.{inside_run}
 -- ---- in the body and its check sequence
 
 -- the level of a level's digit
-level-digit : (x : Level) → level_of (digit x == 1) ≡ x
-level-digit Dominant = refl
-level-digit Recessive = refl
+digit-level : (x : Level) → level_of (digit x == 1) ≡ x
+digit-level Dominant = refl
+digit-level Recessive = refl
 
 -- while a right check sequence comes the register is what is missing of it, moved up: its highest digit is the next level's
 pub next_check : (b c w t : List Level) (x : Level) (r : ℕ) → Crc b c → b ++ c ≡ w ++ x ∷ t → length b ≤ length w →
@@ -58,7 +58,7 @@ next_check b c w t x r right whole past fits divides =
     let parts : value left * 2 ^ j ≡ digit x * 2 ^ 14 + value t * 2 ^ j =
     ap (λ n. n * 2 ^ j) first ∙ omega (arith, ap (λ n. digit x * n) power) in
     let top : r / 2 ^ 14 ≡ digit x = omega (arith, same, parts, low) in
-    ap (λ n. level_of (n == 1)) top ∙ level-digit x
+    ap (λ n. level_of (n == 1)) top ∙ digit-level x
 
 -- while the body comes the next level is the body's
 pub next_body : (b c w t : List Level) (x y : Level) → b ++ c ≡ w ++ x ∷ t → slice_get b (length w) ≡ Some y → y ≡ x
