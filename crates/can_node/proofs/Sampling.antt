@@ -56,7 +56,7 @@ open_by Receiver c now spot bits place h = open_hearing c spot bits h
 moved : (c : Context) (spot s : Spot) (bits : List Bit) → spot ≡ s → IsUnfinished c s bits → IsUnfinished c spot bits
 moved c spot s bits e h = let P : Spot → Type 0 = λ z. IsUnfinished c z bits in subst P (sym e) h
 
-open_at : (stage : Stage) (shift : Shift) (c now : Context) (spot : Spot) (bits : List Bit) → spot ≢ Resting → bits ≢ [] → At stage shift c now spot bits →
+pub open_at : (stage : Stage) (shift : Shift) (c now : Context) (spot : Spot) (bits : List Bit) → spot ≢ Resting → bits ≢ [] → At stage shift c now spot bits →
     IsUnfinished c spot bits
 open_at StageResting shift c now spot bits away some at = absurd (away at.0)
 open_at (StageJoining left run) shift c now spot bits away some at = moved c spot Joining bits at.0 (open_joining left run c bits at.1)
@@ -70,11 +70,11 @@ open_at (StagePausing n) shift c now spot bits away some at = moved c spot Pausi
 -- ---- the entries of the piece with a bit more
 
 -- a bit more
-bits_push : (slice : List Entry) (b : Bit) → bits_in (slice ++ Took b ∷ []) ≡ bits_in slice ++ b ∷ []
+pub bits_push : (slice : List Entry) (b : Bit) → bits_in (slice ++ Took b ∷ []) ≡ bits_in slice ++ b ∷ []
 bits_push slice b = bits_both slice (Took b ∷ [])
 
 -- a list with a bit at its end has one
-some_bit : (bits : List Bit) (b : Bit) → bits ++ b ∷ [] ≢ []
+pub some_bit : (bits : List Bit) (b : Bit) → bits ++ b ∷ [] ≢ []
 some_bit [] b e = cc
 some_bit (x ∷ bits) b e = cc
 
@@ -97,7 +97,7 @@ piece_push c spot slice b away opened unfinished =
     begun (inner_both (inner_open away opened) (took b none_left)) (begins_open b away opened) (subst P (sym (bits_push slice b)) unfinished)
 
 -- whether a place is that of a rest
-resting_or : (spot : Spot) → (spot ≡ Resting) ⊎ (spot ≢ Resting)
+pub resting_or : (spot : Spot) → (spot ≡ Resting) ⊎ (spot ≢ Resting)
 resting_or Resting = inl refl
 resting_or Joining = inr (λ e. cc)
 resting_or AtIdle = inr (λ e. cc)
