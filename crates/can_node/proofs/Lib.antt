@@ -47,6 +47,9 @@ pub mod Ats
 pub mod Shown
 pub mod Sampling
 pub mod BitStands
+pub mod Told
+pub mod Sampled
+pub mod SampleSteps
 pub mod FrameStarts
 pub mod Counts
 pub mod IdleTurns
