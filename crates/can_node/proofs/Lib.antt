@@ -49,6 +49,7 @@ pub mod Sampling
 pub mod BitStands
 pub mod Told
 pub mod Sampled
+pub mod Requests
 pub mod SampleSteps
 pub mod FrameStarts
 pub mod Counts

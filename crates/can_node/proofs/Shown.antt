@@ -69,3 +69,17 @@ awake Suspension held off idle = refl
 
 pub awake_shown : (p q : Phase) (held : Bool) → p ≡ q → p ≢ Reset → p ≢ Idle → false ≡ rests_in q held
 awake_shown p q held e off idle = awake p held off idle ∙ ap (λ r. rests_in r held) e
+
+-- in idle it rests where it holds no request
+none_is : (held : Option Request) (none : Bool) → is_some held ≡ not none → none ≡ (if is_held held then false else true)
+none_is None true e = refl
+none_is None false e = absurd cc
+none_is (Some request) true e = absurd cc
+none_is (Some request) false e = refl
+
+pub idle_shown : (node : Node) (entries : List Entry) (found : List Found) (h : StandsAt node entries found) (p : Phase) (none : Bool) → p ≡ Idle →
+    p ≡ phase_at h.spot (bits_in h.slice) → is_some node.standing.held ≡ not none →
+    none ≡ rests_in (phase_at h.spot (bits_in h.slice)) (is_held (now_of node entries found h).held)
+idle_shown node entries found h p none e f g =
+    let held = (now_of node entries found h).held in
+    none_is held none (sym (ap (λ (c : Context). is_some c.held) h.shows) ∙ g) ∙ ap (λ q. rests_in q (is_held held)) (sym e ∙ f)
