@@ -23,3 +23,6 @@ pub mod WorkedSender
 pub mod WorkedLoss
 pub mod WorkedReception
 pub mod WorkedMoves
+pub mod FieldLevels
+pub mod Losing
+pub mod Winning

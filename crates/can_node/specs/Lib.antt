@@ -8,3 +8,4 @@ pub mod Counting
 pub mod Effects
 pub mod Cut
 pub mod Events
+pub mod Contending
