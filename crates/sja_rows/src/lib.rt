@@ -4,6 +4,8 @@
 #[cfg(test)]
 mod agreement;
 #[cfg(test)]
+mod arbitrate;
+#[cfg(test)]
 mod contention;
 #[cfg(test)]
 mod decode;
