@@ -14,20 +14,14 @@ fn arbitrate_prints_where_each_frame_loses(rt: HostRuntime) {
         ("sja arbitrate 002460 002440", Want::Text("10\n-\n")),
         ("sja arbitrate 002460 8024600000", Want::Text("-\n11\n")),
         ("sja arbitrate 402470 8024600000", Want::Text("-\n12\n")),
-        (
-            "sja arbitrate c024600004 8024600000",
-            Want::Text("31\n-\n"),
-        ),
+        ("sja arbitrate c024600004 8024600000", Want::Text("31\n-\n")),
         ("sja arbitrate 000020 000000", Want::Text("10\n-\n")),
         ("sja arbitrate 002460", Want::Text("-\n")),
         (
             "sja arbitrate 002460 002460 012460ff",
             Want::Text("-\n-\n-\n"),
         ),
-        (
-            "sja arbitrate C024600004 8024600000",
-            Want::Text("31\n-\n"),
-        ),
+        ("sja arbitrate C024600004 8024600000", Want::Text("31\n-\n")),
         (
             "sja arbitrate 008000 8024600000 8024700000 c024600004 8024600008 8124600000ff 002480 8024602000",
             Want::Text("0\n-\n13\n31\n30\n-\n8\n20\n"),
