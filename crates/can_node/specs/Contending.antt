@@ -35,8 +35,8 @@ pub record LosesToLeast (fs : List FrameValue) (f : FrameValue) (n : ℕ) : Type
   pub is_least : IsLeast fs least
   pub at : LosesAt (arbitration_field f) (arbitration_field least) n
 
--- what becomes of a frame among these: nothing is lost where it goes on, that is where it is least; else the place where
--- it loses
+-- what becomes of a frame among these: nothing is lost where it goes on, that is where it is least; else the place
+-- where it loses
 pub record Fares (fs : List FrameValue) (f : FrameValue) (lost : Option ℕ) : Type 0 where
   pub goes_on : (lost ≡ None) ↔ IsLeast fs f
   pub loses : (n : ℕ) → (lost ≡ Some n) ↔ LosesToLeast fs f n

@@ -9,9 +9,9 @@ use can_bits::Level;
 use can_frame::{Frame, OutOfMemory};
 use std::alloc::Global;
 
-/// What becomes of these frames if their transmitters start together on one bus: for each, in order, the place code where
-/// it loses arbitration, or nothing where it goes on. Those go on whose arbitration field is least, if dominant comes
-/// before recessive (Bosch CAN 2.0 part A section 3.1.1 and part B section 3.2).
+/// What becomes of these frames if their transmitters start together on one bus: for each, in order, the place code
+/// where it loses arbitration, or nothing where it goes on. Those go on whose arbitration field is least, if dominant
+/// comes before recessive (Bosch CAN 2.0 part A section 3.1.1 and part B section 3.2).
 ///
 /// Place codes (SJA1000 data sheet, 6.4.8, arbitration lost capture): 0 to 10 for ID.28 to ID.18, 11 for RTR of a
 /// standard frame or SRR, 12 for IDE, 13 to 30 for ID.17 to ID.0, 31 for RTR of an extended frame.

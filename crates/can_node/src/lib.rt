@@ -1,4 +1,7 @@
 //! One CAN node bit by bit: its record, and what a lawful cut of that record into pieces says.
+//!
+//! [`contend`] says which of several frames go on if their transmitters start together, and where the others lose
+//! arbitration. It alone takes memory.
 #![tactic(auto)]
 
 mod bit_events;

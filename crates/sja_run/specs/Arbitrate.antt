@@ -1,4 +1,5 @@
--- What `arbitrate` prints and refuses (this project's own rule; place codes are those of the SJA1000 data sheet, 6.4.8).
+-- What `arbitrate` prints and refuses (this project's own rule; the place codes are those of the SJA1000 data sheet,
+-- 6.4.8).
 use Rattle.std.specs.Prelude.{◌≡◌, ◌⊎◌, ℕ, List, [], ◌∷◌, ◌++◌, Option, Some, None, codes, decimal}
 use Rattle.std.specs.List.{AllZip, flat_map}
 use Rattle.can_frame.specs.Frame.{FrameValue, IsFrame}
@@ -22,10 +23,12 @@ pub record SpellsFrame (digits : List ℕ) (f : FrameValue) : Type 0 where
   pub frame : IsFrame f
   pub spelled : ReadsAs digits (message f)
 
--- the text tells, in their order, what becomes of the frames whose messages these are, if their transmitters start together
+-- the text tells, in their order, what becomes of the frames whose messages these are, if their transmitters start
+-- together
 abbrev pub IsArbitration : List (List ℕ) → List ℕ → Type 0
 IsArbitration messages text =
-    (fs : List FrameValue) × (places : List (Option ℕ)) × AllZip SpellsFrame messages fs × IsContention fs places × (text ≡ places_text places)
+    (fs : List FrameValue) × (places : List (Option ℕ)) × AllZip SpellsFrame messages fs × IsContention fs places
+    × (text ≡ places_text places)
 
 -- this one is refused, and those before it are messages
 pub record RefusesFirst (messages : List (List ℕ)) (refusal : Refusal) : Type 0 where

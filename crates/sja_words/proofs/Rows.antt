@@ -5,7 +5,7 @@ use Rattle.std.specs.Str.{bytes_eq}
 use Rattle.std.specs.Box.{box_value}
 use Rattle.std.specs.Borrow.{Bor}
 use Rattle.clap.specs.Words.{Row, Text, all_of, first_of, first_value, found_of, matched_of, raw_values, rows_of, subcommand_rows}
-use Rattle.clap.specs.Walk.{row_of, texts}
+use Rattle.clap.specs.Walk.{row_of}
 use Rattle.clap.specs.declared.parser.matches.MatchedArg.{MatchedArg}
 use Rattle.clap.specs.declared.parser.matches.ArgMatches.{ArgMatches}
 use Rattle.clap.specs.declared.parser.matches.SubCommand.{SubCommand}
@@ -42,10 +42,6 @@ found_rows (Some b) name rows named has =
     let n : name ≡ (out-SubCommand (box_value b)).name.now = cc in
     let r : rows ≡ rows_of (found_of (out-SubCommand (box_value b)).matches) = cc in
     rw (n, r) refl
-
--- all texts of a list of texts behind references
-all_now : (vs : List (Bor (List ℕ))) → map (λ v. v.now) vs ≡ texts vs
-all_now vs = refl
 
 -- all values of an argument, of the entries of a parse
 abbrev all_in : List (Bor (List ℕ) × MatchedArg) → Text → Option (List Text)

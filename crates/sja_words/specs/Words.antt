@@ -38,7 +38,8 @@ filter_in None acr amr message = None
 -- what `arbitrate` asks for, by the values of its argument: there are one to eight of them
 abbrev pub arbitrate_in : Option (List Text) → Option Request
 arbitrate_in None = None
-arbitrate_in (Some messages) = if nat_lt 0 (length messages) && nat_le (length messages) 8 then Some (arbitrate messages) else None
+arbitrate_in (Some messages) =
+    if nat_lt 0 (length messages) && nat_le (length messages) 8 then Some (arbitrate messages) else None
 
 -- what a subcommand asks for, by its name and the values of its arguments
 abbrev pub request_by : Text → List Row → Option Request
