@@ -58,3 +58,6 @@ pub mod Entries
 pub mod Ways
 pub mod MoveOnce
 pub mod CutOnce
+pub mod FieldLevels
+pub mod LostFields
+pub mod Winning

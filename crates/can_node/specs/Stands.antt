@@ -85,6 +85,13 @@ ShowsCounters node result =
     (entries : List Entry) (found : List Found) (h : StandsAt node entries found) →
     let c = now_of node entries found h in (result.tec ≡ c.tec) × (result.rec ≡ c.rec) × (result.off ≡ c.off)
 
+-- any cut of a record that the node stands at has the same finished pieces, and leads to the same context and place and
+-- to the same entries of a piece that isn't finished
+abbrev pub HasOneCut : Node → Type 0
+HasOneCut node =
+    (entries : List Entry) (found others : List Found) (h : StandsAt node entries found) (c : Context) (spot : Spot) (slice : List Entry) →
+    From none_yet fresh Resting entries others c spot slice → (found ≡ others) × (h.context ≡ c) × (h.spot ≡ spot) × (h.slice ≡ slice)
+
 -- bus-off, else passive from 128 on, else active
 abbrev pub state_of : Counters → State
 state_of k = if k.off then BusOff else if nat_le 128 k.tec || nat_le 128 k.rec then Passive else Active

@@ -26,7 +26,7 @@ pub struct Node {
 impl Node {
     ghost use Rattle.std.specs.Prelude.{◌≡◌, ◌↔◌, []};
     ghost use Rattle.can_node.specs.Record.{Entry};
-    ghost use Rattle.can_node.specs.Stands.{StandsAt, InReset, Enters, DrivesNext, Samples, ShowsPhase, ShowsCounters, ShowsRest, Requests, Aborts};
+    ghost use Rattle.can_node.specs.Stands.{StandsAt, InReset, Enters, DrivesNext, Samples, ShowsPhase, ShowsCounters, HasOneCut, ShowsRest, Requests, Aborts};
 
     /// A node in reset, to which nothing has happened.
     pub fn new() -> Node
@@ -132,8 +132,11 @@ impl Node {
     }
 
     /// The error counters.
+    ///
+    /// They are those that the cut of the record gives, and each record has one cut alone.
     pub fn counters(&self) -> Counters
-        ensures { ShowsCounters self.now result }
+        ensures counts { ShowsCounters self.now result }
+        ensures only { HasOneCut self.now }
     {
         self.standing.counters
     }

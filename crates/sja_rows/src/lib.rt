@@ -4,6 +4,10 @@
 #[cfg(test)]
 mod agreement;
 #[cfg(test)]
+mod arbitrate;
+#[cfg(test)]
+mod contention;
+#[cfg(test)]
 mod decode;
 #[cfg(test)]
 mod encode;
