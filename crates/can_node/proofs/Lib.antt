@@ -43,12 +43,14 @@ pub mod Along
 pub mod GoOn
 pub mod Calls
 pub mod FrameTurns
+pub mod FrameDrives
 pub mod Ats
 pub mod Shown
 pub mod Sampling
 pub mod BitStands
 pub mod Told
 pub mod Sampled
+pub mod Between
 pub mod Requests
 pub mod SampleSteps
 pub mod FrameStarts

@@ -1,5 +1,5 @@
 -- One bit, put together from the node's own steps: the level driven, the turn, the counts, the place after it, bus-off.
-use Rattle.std.proofs.Common.{◌≡◌, ◌<◌, ◌≤◌, ◌&&◌, not, ℕ, Bool, nat_le, Option, is_some, List, [], ◌∷◌, ◌++◌, refl, ap, ap₂, sym, subst, ◌∙◌, arith}
+use Rattle.std.proofs.Common.{◌≡◌, ◌<◌, ◌≤◌, ◌&&◌, not, ℕ, Bool, nat_le, Option, is_some, List, [], ◌∷◌, ◌++◌, ap, ap₂, sym, subst, ◌∙◌}
 use Rattle.can_frame.specs.Frame.{FrameValue}
 use Rattle.can_bits.specs.declared.level.Level.{Level}
 use Rattle.can_bits.specs.declared.segment.Segment.{Segment}
@@ -19,14 +19,14 @@ use Rattle.can_node.specs.Record.{Entry, bits_in}
 use Rattle.can_node.specs.Counting.{at_bit}
 use Rattle.can_node.specs.Effects.{along}
 use Rattle.can_node.specs.Cut.{Found, Stays}
-use Rattle.can_node.specs.Events.{Step, lost_in, received_in, fault_in, sends_in, ended_in, events_of}
+use Rattle.can_node.specs.Events.{Step, lost_in, received_in, fault_in, sends_in, ended_in}
 use Rattle.can_node.specs.Driving.{Drives}
 use Rattle.can_node.specs.Standing.{context_of, IsKept}
 use Rattle.can_node.specs.Stages.{At}
 use Rattle.can_node.specs.Turns.{IsMade, IsTurn, AtAfter, step_of, resulted, off_if}
 use Rattle.can_node.specs.Stands.{StandsAt, Leads, now_of}
 use Rattle.can_node.proofs.GoOn.{stays_end}
-use Rattle.can_node.proofs.Shown.{at_shown, kept_shown, drive_shown}
+use Rattle.can_node.proofs.Shown.{at_shown, kept_shown}
 use Rattle.can_node.proofs.Told.{made_of, told_all, stepped_is, held_is, bit_few, drives_once}
 use Rattle.can_node.proofs.Sampled.{leads_by}
 
@@ -57,15 +57,15 @@ pub sampled : (old turned counted gone new : Node) (entries : List Entry) (found
     EachPiece old (λ c spot bits. lost ≡ lost_in (context_of old.standing) spot bits (record { driven = driven; seen = seen })) →
     held ≡ is_some old.standing.held → loses ≡ is_some lost → losing ≡ is_some lost →
     EachPiece old (λ c spot bits. Drives (context_of old.standing) spot bits driven →
-      loses ≡ is_some (lost_in (context_of old.standing) spot bits (record { driven = driven; seen = seen })) →
-      IsTurn turned.shift c (context_of old.standing) spot bits (record { driven = driven; seen = seen }) turn) →
+    loses ≡ is_some (lost_in (context_of old.standing) spot bits (record { driven = driven; seen = seen })) →
+    IsTurn turned.shift c (context_of old.standing) spot bits (record { driven = driven; seen = seen }) turn) →
     turned ≡ record old { shift = turned.shift } → counted ≡ record turned { standing = counted.standing } →
     Counts turned.standing turned.stage (context_of counted.standing) driven seen losing →
     received ≡ received_in (step_of counted.standing.held turn) → sent ≡ sends_in (step_of counted.standing.held turn) →
     ((held : Option Request) → fault ≡ fault_in (step_of held turn)) →
     (counted.standing.counters.tec < 900 → context_of gone.standing ≡ resulted turn (context_of counted.standing)) →
     ((c now : Context) (spot : Spot) (bits : List Bit) (b : Bit) → counted.standing.counters.tec < 900 → context_of counted.standing ≡ at_bit now spot bits b →
-      IsTurn counted.shift c now spot bits b turn → AtAfter turn gone.stage gone.shift c (context_of gone.standing) spot (bits ++ b ∷ [])) →
+    IsTurn counted.shift c now spot bits b turn → AtAfter turn gone.stage gone.shift c (context_of gone.standing) spot (bits ++ b ∷ [])) →
     transmits ≡ is_transmitter gone.standing.role → recovered ≡ (old.standing.counters.off && not gone.standing.counters.off) →
     ((step : Step) (before : Context) → sent ≡ sends_in step → held ≡ is_held before.held → ended ≡ ended_in step before (context_of gone.standing)) →
     context_of new.standing ≡ off_if (context_of gone.standing) → (gone.standing.counters.tec < 256 → new ≡ gone) →
@@ -73,7 +73,7 @@ pub sampled : (old turned counted gone new : Node) (entries : List Entry) (found
     Leads old new entries found h (record { driven = x; seen = seen })
     (made_of received ended lost fault (not transmits) (nat_le 256 gone.standing.counters.tec) recovered)
 sampled old turned counted gone new entries found h x driven seen turn received ended lost fault transmits recovered held sent loses losing
-  drives level loss holds some again turns turn_kept count_kept counts receives sends faults goes places role recovers ends shows on off =
+    drives level loss holds some again turns turn_kept count_kept counts receives sends faults goes places role recovers ends shows on off =
     let c = h.context in
     let spot = h.spot in
     let bits = bits_in h.slice in
@@ -113,7 +113,7 @@ sampled old turned counted gone new entries found h x driven seen turn received 
     (recovers ∙ ap₂ (λ (k m : Context). k.off && not m.off) h.shows after) in
     let driven_now : Drives now spot bits driven = subst (λ k. Drives k spot bits driven) h.shows driving in
     let P : Level → Type 0 = λ y. Leads old new entries found h (record { driven = y; seen = seen })
-      (made_of received ended lost fault (not transmits) (nat_le 256 gone.standing.counters.tec) recovered) in
+    (made_of received ended lost fault (not transmits) (nat_le 256 gone.standing.counters.tec) recovered) in
     subst P (drives_once now spot bits driven x driven_now drives)
     (leads_by old new entries found h b turn gone.stage turned.shift gone.shift
     (made_of received ended lost fault (not transmits) (nat_le 256 gone.standing.counters.tec) recovered)

@@ -1,8 +1,7 @@
 -- One bit leads from a record to the record with it.
-use Rattle.std.proofs.Common.{◌≡◌, ◌<◌, ◌≤◌, ◌&&◌, not, ℕ, Bool, true, false, nat_le, Option, is_some, List, [], ◌∷◌, ◌++◌, refl, ap, sym, subst, ◌∙◌, arith, inl, inr, if◌then◌else◌}
+use Rattle.std.proofs.Common.{◌≡◌, ◌<◌, ◌≤◌, Bool, nat_le, List, [], ◌∷◌, ◌++◌, ap, sym, subst, ◌∙◌, inl, inr, if◌then◌else◌}
 use Rattle.std.proofs.lemmas.List.{append-nil}
 use Rattle.std.proofs.lemmas.Bool.{cases_lt, le-leb, lt-leb}
-use Rattle.can_bits.specs.declared.level.Level.{Level}
 use Rattle.can_bits.specs.declared.shift.Shift.{Shift}
 use Rattle.can_node.specs.declared.stage.Stage.{Stage}
 use Rattle.can_node.specs.declared.stage.Stage.TheVariants.{Resting as StageResting}
@@ -12,7 +11,6 @@ use Rattle.can_node.specs.declared.bit_events.BitEvents.{BitEvents}
 use Rattle.can_node.specs.declared.node.Node.{Node}
 use Rattle.can_node.specs.Bits.{Bit}
 use Rattle.can_node.specs.Context.{Context}
-use Rattle.can_node.specs.Pieces.{Spot}
 use Rattle.can_node.specs.Record.{Entry, bits_in}
 use Rattle.can_node.specs.Record.Entry.{Took, Off}
 use Rattle.can_node.specs.Counting.{at_bit}
@@ -22,7 +20,7 @@ use Rattle.can_node.specs.Events.{events_of}
 use Rattle.can_node.specs.Driving.{Drives}
 use Rattle.can_node.specs.Standing.{context_of}
 use Rattle.can_node.specs.Turns.{IsMade, AtAfter, piece_of, next_of, step_of, resulted, off_if}
-use Rattle.can_node.specs.Stands.{StandsAt, Leads, now_of, closed_by}
+use Rattle.can_node.specs.Stands.{StandsAt, Leads, closed_by}
 use Rattle.can_node.proofs.BitStands.{goes_stands, closes_stands, off_goes, off_closes}
 
 -- bus-off or not
@@ -58,7 +56,7 @@ stands_by old new entries found h b (TurnCloses done) stage reader shift drives 
     let d = at_bit (along h.context h.spot [] h.slice) h.spot (bits_in h.slice) b in
     let n = closed (piece_of d.held done) (next_of done) d in
     let P : Bool → Type 0 = λ w. StandsAt new (entries ++ entries_if w b)
-      (found ++ tagged (counted none_yet (entries ++ Took b ∷ [])) (piece_of d.held done ∷ [])) in
+    (found ++ tagged (counted none_yet (entries ++ Took b ∷ [])) (piece_of d.held done ∷ [])) in
     elim (cases_lt n.tec 256) [
       | inl few ↦
           let same = on few in

@@ -1,5 +1,5 @@
 -- What a bit tells is what the cut has there.
-use Rattle.std.proofs.Common.{◌≡◌, ◌<◌, ◌≤◌, ◌+◌, ◌-◌, ◌%◌, ◌==◌, ◌&&◌, ◌||◌, not, min, fold, length, ℕ, Bool, true, false, nat_le, Option, Some, None, is_some, List, [], ◌∷◌, ◌++◌, refl, ap, ap₂, sym, subst, ◌∙◌, arith, if◌then◌else◌}
+use Rattle.std.proofs.Common.{◌≡◌, ◌<◌, ◌≤◌, ◌+◌, ◌-◌, ◌%◌, ◌==◌, ◌&&◌, ◌||◌, not, fold, length, ℕ, Bool, true, false, nat_le, Option, Some, None, is_some, List, [], ◌∷◌, ◌++◌, refl, ap, sym, subst, ◌∙◌, arith, if◌then◌else◌}
 use Rattle.can_frame.specs.Frame.{FrameValue}
 use Rattle.can_bits.specs.declared.level.Level.{Level}
 use Rattle.can_bits.specs.declared.level.Level.TheVariants.{Dominant, Recessive}
@@ -20,7 +20,7 @@ use Rattle.can_node.specs.Bits.{Bit, forced, seen_of, driven_of}
 use Rattle.can_node.specs.Context.{Context, is_transmitter, is_held}
 use Rattle.can_node.specs.Pieces.{Spot, sent_at}
 use Rattle.can_node.specs.Pieces.Spot.{Resting, Joining, AtIdle, SofSeen, AfterReception, Flagging, AfterFlag, Pausing}
-use Rattle.can_node.specs.Counting.{at_bit, join_bit, next_run, ends_eleven, first_bit, frame_bit, lost_by, lose, drop_failed, if_acknowledged, if_late, tail_level, if_eighth, are_dominant, after_error_flag, more_by}
+use Rattle.can_node.specs.Counting.{at_bit, next_run, ends_eleven, first_bit, frame_bit, lost_by, lose, drop_failed, if_acknowledged, if_late, tail_level, if_eighth, are_dominant, after_error_flag, more_by}
 use Rattle.can_node.specs.Events.{Step, stepped, received_in, fault_in, ended_in, lost_in, events_of}
 use Rattle.can_node.specs.Driving.{Drives, FrameDrives, IdleDrives, SendsNext}
 use Rattle.can_node.specs.Turns.{step_of, resulted}
@@ -163,5 +163,5 @@ pub told_all : (c n : Context) (spot : Spot) (bits : List Bit) (b : Bit) (step :
     made_of received ended lost fault receiving went recovered ≡ events_of step c spot bits b
 told_all c n spot bits b step received ended lost fault receiving went recovered same r e l f i w v =
     let P : Context → Type 0 = λ d. made_of received ended lost fault receiving went recovered
-      ≡ made_of (received_in step) (ended_in step c d) (lost_in c spot bits b) (fault_in step) (not (is_transmitter d.role)) (nat_le 256 d.tec) (c.off && not d.off) in
+    ≡ made_of (received_in step) (ended_in step c d) (lost_in c spot bits b) (fault_in step) (not (is_transmitter d.role)) (nat_le 256 d.tec) (c.off && not d.off) in
     subst P (sym same) (λ j. made_of (r j) (e j) (l j) (f j) (i j) (w j) (v j))

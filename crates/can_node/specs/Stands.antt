@@ -1,5 +1,5 @@
 -- A node that stands at a record, and what its calls do.
-use Rattle.std.specs.Prelude.{⊤, ◌≡◌, ◌≢◌, ◌⊎◌, ◌||◌, ◌&&◌, Bool, true, false, nat_le, if◌then◌else◌, Option, Some, None, Result, Ok, Err, List, [], ◌∷◌, ◌++◌}
+use Rattle.std.specs.Prelude.{⊤, ◌≡◌, ◌≢◌, ◌⊎◌, ◌||◌, Bool, true, false, nat_le, if◌then◌else◌, Option, Some, None, Result, Ok, Err, List, [], ◌∷◌, ◌++◌}
 use Rattle.can_bits.specs.declared.level.Level.{Level}
 use Rattle.can_node.specs.declared.request.Request.{Request}
 use Rattle.can_node.specs.declared.aborted.Aborted.{Aborted}
@@ -14,7 +14,7 @@ use Rattle.can_node.specs.declared.stage.Stage.TheVariants.{Resting as StageRest
 use Rattle.can_node.specs.declared.node.Node.{Node}
 use Rattle.can_node.specs.Bits.{Bit}
 use Rattle.can_node.specs.Context.{Context, fresh, is_held}
-use Rattle.can_node.specs.Pieces.{Spot, Piece}
+use Rattle.can_node.specs.Pieces.{Spot}
 use Rattle.can_node.specs.Pieces.Spot.{Resting}
 use Rattle.can_node.specs.Record.{Entry, bits_in}
 use Rattle.can_node.specs.Record.Entry.{Took, Send, Abort, Off}

@@ -1,3 +1,5 @@
+ghost use Rattle.std.specs.Prelude.{◌≡◌, ◌&&◌, not};
+
 use super::aborted::Aborted;
 use super::bit_events::BitEvents;
 use super::config::Config;
@@ -9,8 +11,6 @@ use super::stage::Stage;
 use super::standing::Standing;
 use super::turn::Turn;
 use can_bits::{Level, Shift};
-
-ghost use Rattle.std.specs.Prelude.{◌≡◌, ◌&&◌, not};
 
 /// A CAN node, bit by bit: what it drives, and what it makes of the levels that it sees (Bosch CAN 2.0 part A).
 ///

@@ -1,4 +1,4 @@
-use Rattle.std.proofs.Common.{refl, sym, ap, ◌∙◌, ◌||◌, None, true, false, if◌then◌else◌}
+use Rattle.std.proofs.Common.{refl, sym, ap, ◌∙◌, None, true, false, if◌then◌else◌}
 use Rattle.can_node.specs.declared.aborted.Aborted.TheVariants.{Unchanged, Marked}
 use Rattle.can_node.proofs.Requests.{marked_stands, dropped_stands, abort_is, going_is}
 use Rattle.can_node.proofs.node.Node.abort.Goals as goal

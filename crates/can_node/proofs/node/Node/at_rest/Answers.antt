@@ -1,4 +1,3 @@
-use Rattle.std.proofs.Common.{sym, ◌∙◌}
 use Rattle.can_node.proofs.Shown.{awake_shown, idle_shown}
 use Rattle.can_node.proofs.node.Node.at_rest.Goals as goal
 

@@ -1,5 +1,4 @@
 use Rattle.std.proofs.Common.{refl, sym, ◌∙◌, None, Some}
-use Rattle.can_node.specs.Standing.{context_of}
 use Rattle.can_node.proofs.Requests.{sent_stands, awake_now, none_held, held_now}
 use Rattle.can_node.proofs.node.Node.request.Goals as goal
 
