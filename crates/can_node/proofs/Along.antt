@@ -1,7 +1,6 @@
 -- The context along the entries of a piece.
-use Rattle.std.proofs.Common.{◌≡◌, ◌≢◌, Bool, true, false, ◌&&◌, ◌||◌, ◌==◌, ◌+◌, ◌-◌, ◌%◌, length, not, ℕ, nat_le, Option, Some, None, is_some, List, [], ◌∷◌, ◌++◌, fold, refl, ap, sym, subst, ◌∙◌, append_assoc, if◌then◌else◌}
+use Rattle.std.proofs.Common.{◌≡◌, Bool, true, false, ◌&&◌, ◌||◌, ◌==◌, ◌+◌, ◌-◌, ◌%◌, length, not, Option, Some, None, is_some, List, [], ◌∷◌, ◌++◌, fold, refl, ap, sym, subst, ◌∙◌, append_assoc, if◌then◌else◌}
 use Rattle.std.proofs.lemmas.List.{append-nil}
-use Rattle.std.proofs.lemmas.Bool.{cases_Bool}
 use Rattle.can_bits.specs.declared.level.Level.{Level}
 use Rattle.can_bits.specs.declared.level.Level.TheVariants.{Dominant, Recessive}
 use Rattle.can_node.specs.declared.role.Role.{Role}
@@ -11,7 +10,7 @@ use Rattle.can_node.specs.declared.flag_kind.FlagKind.TheVariants.{ActiveError, 
 use Rattle.can_node.specs.declared.request.Request.{Request}
 use Rattle.can_node.specs.Bits.{Bit, seen_of}
 use Rattle.can_node.specs.Context.{Context, owes_suspension}
-use Rattle.can_node.specs.Counting.{at_bit, join_bit, next_run, ends_eleven, are_dominant, idle_bit, first_bit, frame_bit, lost_by, lose, drop_failed, if_acknowledged, if_late, tail_level, unless_listening, if_eighth, after_error_flag, more_by, more_rec, more_tec}
+use Rattle.can_node.specs.Counting.{at_bit, next_run, ends_eleven, are_dominant, first_bit, frame_bit, lost_by, lose, drop_failed, if_acknowledged, if_late, tail_level, if_eighth, after_error_flag, more_by, more_tec}
 use Rattle.can_node.specs.Effects.{along, with_send, with_abort, is_in_progress}
 use Rattle.can_node.specs.Pieces.{Spot, sent_at}
 use Rattle.can_node.specs.Pieces.Spot.{Resting, Joining, AtIdle, SofSeen, AfterReception, Flagging, AfterFlag, Pausing}

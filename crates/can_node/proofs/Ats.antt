@@ -1,16 +1,16 @@
 -- What a bit makes of each piece, from what the node's functions say of it.
-use Rattle.std.proofs.Common.{◌≡◌, ◌<◌, ◌+◌, ◌%◌, ◌==◌, ◌&&◌, not, ℕ, Bool, true, false, fold, length, Option, Some, None, is_some, List, [], ◌∷◌, ◌++◌, refl, ap, sym, subst, ◌∙◌, arith, if◌then◌else◌}
+use Rattle.std.proofs.Common.{◌≡◌, not, ℕ, Bool, List, [], ◌∷◌, ◌++◌, refl, ap, sym, subst, ◌∙◌, if◌then◌else◌}
 use Rattle.can_bits.specs.declared.level.Level.{Level}
 use Rattle.can_bits.specs.declared.level.Level.TheVariants.{Dominant, Recessive}
 use Rattle.can_bits.specs.declared.shift.Shift.{Shift}
 use Rattle.can_bits.specs.Fields.{is_recessive}
 use Rattle.can_node.specs.declared.stage.Stage.{Stage}
-use Rattle.can_node.specs.declared.stage.Stage.TheVariants.{Joining as StageJoining, Idle as StageIdle, InFrame as StageInFrame, AfterReception as StageAfterReception, Flagging as StageFlagging, AfterFlag as StageAfterFlag, Pausing as StagePausing}
+use Rattle.can_node.specs.declared.stage.Stage.TheVariants.{Joining as StageJoining, Idle as StageIdle, AfterReception as StageAfterReception, Flagging as StageFlagging, AfterFlag as StageAfterFlag, Pausing as StagePausing}
 use Rattle.can_node.specs.declared.role.Role.TheVariants.{Receiver}
 use Rattle.can_node.specs.declared.turn.Turn.{Turn}
-use Rattle.can_node.specs.Bits.{Bit, heard, forced, seen_of}
+use Rattle.can_node.specs.Bits.{Bit, heard, forced}
 use Rattle.can_node.specs.Context.{Context, owes_suspension, flag_level, level_of_flag}
-use Rattle.can_node.specs.Pieces.{Spot, Piece}
+use Rattle.can_node.specs.Pieces.{Spot}
 use Rattle.can_node.specs.Pieces.Spot.{Joining, AtIdle, AfterReception, Flagging, AfterFlag, Pausing}
 use Rattle.can_node.specs.Pieces.Piece.{Last}
 use Rattle.can_node.specs.Table.{Row}
@@ -106,7 +106,7 @@ at_waiting n like level driven seen shift c now bits turn h kept drives recessiv
 pub at_flagging : (n : ℕ) (like : Level) (stage : Stage) (shift : Shift) (c now : Context) (spot : Spot) (bits : List Bit) (driven seen : Level) (turn : Turn) →
     stage ≡ StageFlagging n like → At stage shift c now spot bits → IsKept spot c now → Drives now spot bits driven →
     ((shift : Shift) (c : Context) (bits : List Bit) (driven : Level) → IsFlagging (flag_level c) n like c bits → IsKept Flagging c now → driven ≡ flag_level now →
-      IsTurn shift c now Flagging bits (record { driven = driven; seen = seen }) turn) →
+    IsTurn shift c now Flagging bits (record { driven = driven; seen = seen }) turn) →
     IsTurn shift c now spot bits (record { driven = driven; seen = seen }) turn
 at_flagging n like stage shift c now spot bits driven seen turn e h kept drives f =
     let at = at_is (StageFlagging n like) stage shift c now spot bits e h in

@@ -1,13 +1,9 @@
 -- A node that stands at a record stands, after a bit, at the record with it.
-use Rattle.std.proofs.Common.{◌≡◌, ◌≢◌, ◌⊎◌, ◌<◌, ◌≤◌, ℕ, Bool, true, false, nat_le, Option, Some, None, List, [], ◌∷◌, ◌++◌, refl, ap, sym, subst, ◌∙◌, arith, append_assoc, inl, inr, if◌then◌else◌}
+use Rattle.std.proofs.Common.{◌≡◌, ◌≢◌, ◌<◌, ◌≤◌, List, [], ◌∷◌, ◌++◌, refl, ap, sym, subst, ◌∙◌, arith, append_assoc}
 use Rattle.std.proofs.lemmas.List.{append-nil}
-use Rattle.std.proofs.lemmas.Bool.{cases_Bool, leb-true}
 use Rattle.can_bits.specs.declared.shift.Shift.{Shift}
 use Rattle.can_node.specs.declared.stage.Stage.{Stage}
 use Rattle.can_node.specs.declared.stage.Stage.TheVariants.{Resting as StageResting}
-use Rattle.can_node.specs.declared.done.Done.{Done}
-use Rattle.can_node.specs.declared.turn.Turn.{Turn}
-use Rattle.can_node.specs.declared.turn.Turn.TheVariants.{Goes as TurnGoes, Closes as TurnCloses}
 use Rattle.can_node.specs.declared.node.Node.{Node}
 use Rattle.can_node.specs.Bits.{Bit}
 use Rattle.can_node.specs.Context.{Context, fresh}
@@ -18,16 +14,15 @@ use Rattle.can_node.specs.Record.Entry.{Took, Off}
 use Rattle.can_node.specs.Counting.{at_bit}
 use Rattle.can_node.specs.Effects.{along, after, with_off, closed}
 use Rattle.can_node.specs.Table.{Row}
-use Rattle.can_node.specs.Cut.{IsUnfinished, IsOpenAt, Stays, Move, From, Found, Count, none_yet, counted, tagged}
+use Rattle.can_node.specs.Cut.{IsUnfinished, Stays, Move, From, Found, Count, none_yet, counted, tagged}
 use Rattle.can_node.specs.Cut.Move.{piece, off_within, off_after}
 use Rattle.can_node.specs.Driving.{Drives}
 use Rattle.can_node.specs.Standing.{context_of}
 use Rattle.can_node.specs.Stages.{At}
-use Rattle.can_node.specs.Turns.{IsMade, AtAfter, piece_of, next_of, step_of, resulted, off_if}
-use Rattle.can_node.specs.Stands.{StandsAt, closed_by}
+use Rattle.can_node.specs.Stands.{StandsAt}
 use Rattle.can_node.proofs.Along.{along-bit}
 use Rattle.can_node.proofs.GoOn.{counted_both, open_end, stays_end, move_on, open_on, no_rest_piece, slice_open}
-use Rattle.can_node.proofs.Sampling.{bits_push, some_bit, open_at, pushed_open, resting_or}
+use Rattle.can_node.proofs.Sampling.{bits_push, some_bit, open_at, pushed_open}
 
 -- a piece stands at no rest
 piece_away : {c : Context} {bits : List Bit} {p : Piece} {next : Spot} (spot : Spot) → Row c spot bits p next → spot ≢ Resting

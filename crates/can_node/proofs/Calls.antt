@@ -1,28 +1,22 @@
 -- What a start, a stop, a request and an abort make of a record.
-use Rattle.std.proofs.Common.{◌≡◌, ◌≢◌, ◌<◌, ◌≤◌, ◌&&◌, not, Bool, true, false, ℕ, Option, Some, None, List, [], ◌∷◌, ◌++◌, map, refl, ap, sym, subst, ◌∙◌, arith, if◌then◌else◌}
+use Rattle.std.proofs.Common.{◌≡◌, ◌≤◌, ◌&&◌, not, Bool, true, false, List, [], ◌∷◌, ◌++◌, map, refl, ap, sym, subst, ◌∙◌, arith, if◌then◌else◌}
 use Rattle.std.proofs.lemmas.List.{append-nil}
-use Rattle.std.proofs.lemmas.Bool.{cases_Bool}
-use Rattle.can_bits.specs.declared.shift.Shift.{Shift}
 use Rattle.can_node.specs.declared.config.Config.{Config}
-use Rattle.can_node.specs.declared.request.Request.{Request}
-use Rattle.can_node.specs.declared.role.Role.{Role}
-use Rattle.can_node.specs.declared.role.Role.TheVariants.{Transmitter, Receiver}
 use Rattle.can_node.specs.declared.stage.Stage.{Stage}
-use Rattle.can_node.specs.declared.stage.Stage.TheVariants.{Resting as StageResting, Joining as StageJoining, Idle as StageIdle, InFrame as StageInFrame, AfterReception as StageAfterReception, Flagging as StageFlagging, AfterFlag as StageAfterFlag, Pausing as StagePausing}
+use Rattle.can_node.specs.declared.stage.Stage.TheVariants.{Resting as StageResting, Joining as StageJoining}
 use Rattle.can_node.specs.declared.node.Node.{Node}
-use Rattle.can_node.specs.Bits.{Bit, heard, hears}
+use Rattle.can_node.specs.Bits.{Bit, hears}
 use Rattle.can_node.specs.Context.{Context, fresh, join_count}
 use Rattle.can_node.specs.Pieces.{Spot}
-use Rattle.can_node.specs.Pieces.Spot.{Resting, Joining, AtIdle, SofSeen, AfterReception, Flagging, AfterFlag, Pausing}
+use Rattle.can_node.specs.Pieces.Spot.{Resting, Joining}
 use Rattle.can_node.specs.Record.{Entry, bits_in}
-use Rattle.can_node.specs.Record.Entry.{Start, Stop, Took, Send, Abort, Off}
+use Rattle.can_node.specs.Record.Entry.{Start, Stop, Took}
 use Rattle.can_node.specs.Effects.{along, with_start, with_stop}
-use Rattle.can_node.specs.Cut.{IsOpenAt, Stays, Move, From, Found, Count, none_yet}
-use Rattle.can_node.specs.Cut.IsOpenAt.{rests, nothing}
+use Rattle.can_node.specs.Cut.{IsOpenAt, Stays, Move, From, Found, none_yet}
+use Rattle.can_node.specs.Cut.IsOpenAt.{nothing}
 use Rattle.can_node.specs.Cut.Move.{started, stopped}
 use Rattle.can_node.specs.Standing.{context_of}
-use Rattle.can_node.specs.Stages.{At, IsInFrame, IsReading}
-use Rattle.can_node.specs.Stages.IsInFrame.{from_idle, from_pause}
+use Rattle.can_node.specs.Stages.{At}
 use Rattle.can_node.specs.Stands.{StandsAt}
 use Rattle.can_node.proofs.GoOn.{open_end, stays_end, move_on, rest_open}
 use Rattle.can_node.proofs.Joins.{joins_from}

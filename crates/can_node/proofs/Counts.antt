@@ -1,15 +1,13 @@
 -- The steps of a bit at each piece, from what the node's functions say of them.
-use Rattle.std.proofs.Common.{◌≡◌, ◌<◌, ◌+◌, ◌%◌, ◌==◌, ◌&&◌, ℕ, zero, suc, Bool, true, false, fold, length, Option, Some, None, is_some, List, [], ◌∷◌, ◌++◌, refl, ap, sym, subst, ◌∙◌, arith}
+use Rattle.std.proofs.Common.{◌≡◌, ◌<◌, ◌+◌, ◌%◌, ◌==◌, ◌&&◌, ℕ, zero, suc, Bool, false, fold, length, is_some, List, [], ◌∷◌, refl, ap, sym, subst, ◌∙◌, arith}
 use Rattle.can_bits.specs.declared.level.Level.{Level}
 use Rattle.can_bits.specs.declared.shift.Shift.{Shift}
-use Rattle.can_node.specs.declared.role.Role.{Role}
 use Rattle.can_node.specs.declared.role.Role.TheVariants.{Transmitter}
 use Rattle.can_node.specs.declared.stage.Stage.{Stage}
 use Rattle.can_node.specs.declared.stage.Stage.TheVariants.{Joining as StageJoining, InFrame as StageInFrame, AfterFlag as StageAfterFlag}
 use Rattle.can_node.specs.Bits.{Bit, seen_of}
 use Rattle.can_node.specs.Context.{Context}
 use Rattle.can_node.specs.Pieces.{Spot}
-use Rattle.can_node.specs.Pieces.Spot.{Joining, AfterFlag}
 use Rattle.can_node.specs.Counting.{at_bit, join_bit, next_run, frame_bit, lost_by, tail_level, are_dominant}
 use Rattle.can_node.specs.Events.{lost_in, lost_as}
 use Rattle.can_node.specs.Standing.{is_nil}

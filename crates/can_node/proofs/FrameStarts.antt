@@ -1,5 +1,5 @@
 -- A frame that begins with the last bit of a pause.
-use Rattle.std.proofs.Common.{◌≡◌, ◌&&◌, ◌||◌, not, Bool, true, false, Option, Some, None, List, [], ◌∷◌, ◌++◌, refl, ap, sym, subst, ◌∙◌, if◌then◌else◌}
+use Rattle.std.proofs.Common.{◌≡◌, ◌&&◌, ◌||◌, not, Bool, true, false, Option, Some, None, [], ◌∷◌, refl, ap, sym, ◌∙◌, if◌then◌else◌}
 use Rattle.can_frame.specs.Frame.{IsFrame}
 use Rattle.can_bits.specs.declared.level.Level.TheVariants.{Dominant}
 use Rattle.can_bits.specs.declared.shift.Shift.{Shift}
@@ -9,7 +9,6 @@ use Rattle.can_node.specs.declared.role.Role.TheVariants.{Transmitter, Receiver}
 use Rattle.can_node.specs.declared.request.Request.{Request}
 use Rattle.can_node.specs.Context.{Context, is_held, is_transmitter, owes_suspension}
 use Rattle.can_node.specs.Effects.{closed, role_after_sof}
-use Rattle.can_node.specs.Pieces.{sent_at}
 use Rattle.can_node.specs.Pieces.Spot.{SofSeen}
 use Rattle.can_node.specs.Pieces.Piece.{PauseWithSof}
 use Rattle.can_node.specs.Stages.{ByRole, IsReading}

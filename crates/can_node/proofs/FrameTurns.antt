@@ -1,43 +1,33 @@
 -- One bit of a frame, as the node has it.
-use Rattle.std.proofs.Common.{◌≡◌, ◌≢◌, ◌↔◌, ℕ, length, IsTrue, Bool, true, false, Option, Some, None, is_some, List, [], ◌∷◌, ◌++◌, refl, ap, sym, subst, ◌∙◌, if◌then◌else◌}
+use Rattle.std.proofs.Common.{◌≡◌, Bool, true, false, Option, Some, is_some, List, [], ◌∷◌, ◌++◌, refl, ap, sym, subst, ◌∙◌, if◌then◌else◌}
 use Rattle.can_bits.specs.declared.level.Level.{Level}
 use Rattle.can_bits.specs.declared.level.Level.TheVariants.{Dominant, Recessive}
 use Rattle.can_bits.specs.declared.shift.Shift.{Shift}
 use Rattle.can_bits.specs.Fields.{is_recessive}
-use Rattle.can_frame.specs.Frame.{IsFrame}
-use Rattle.can_bits.specs.Acknowledging.{IsAckDue}
-use Rattle.can_bits.specs.Body.{sent_body}
-use Rattle.can_bits.specs.Check.{Crc}
-use Rattle.can_bits.specs.Line.{StuffedPart, tail}
-use Rattle.can_bits.specs.Places.{is_early_stuff, place_code}
+use Rattle.can_bits.specs.Places.{is_early_stuff}
 use Rattle.can_bits.specs.Shifts.{StandsFor}
 use Rattle.can_bits.specs.Streaming.{IsReadable}
 use Rattle.can_node.specs.declared.role.Role.{Role}
 use Rattle.can_node.specs.declared.role.Role.TheVariants.{Transmitter, Receiver}
 use Rattle.can_node.specs.declared.request.Request.{Request}
 use Rattle.can_node.specs.declared.stage.Stage.{Stage}
-use Rattle.can_node.specs.declared.stage.Stage.TheVariants.{InFrame}
 use Rattle.can_node.specs.declared.turn.Turn.{Turn}
 use Rattle.can_node.specs.declared.turn.Turn.TheVariants.{Goes, Closes}
-use Rattle.can_node.specs.Bits.{Bit, heard, seen_of, driven_of}
+use Rattle.can_node.specs.Bits.{Bit, seen_of}
 use Rattle.can_node.specs.Context.{Context}
-use Rattle.can_node.specs.Pieces.{Spot, sent_at}
-use Rattle.can_node.specs.Pieces.Spot.{AtIdle}
-use Rattle.can_node.specs.Pieces.Piece.{Idle}
-use Rattle.can_node.specs.Counting.{at_bit, frame_bit, lost_by, lose, drop_failed, if_acknowledged}
+use Rattle.can_node.specs.Pieces.{Spot}
+use Rattle.can_node.specs.Counting.{at_bit, frame_bit, lost_by, lose, if_acknowledged}
 use Rattle.can_node.specs.Events.{lost_in, lost_as}
 use Rattle.can_node.specs.Frames.{Answers}
 use Rattle.can_node.specs.Table.{Row}
-use Rattle.can_node.specs.Table.Row.{idle}
 use Rattle.can_node.specs.Driving.{Drives, FrameDrives, SendsNext}
 use Rattle.can_node.specs.Standing.{IsKept}
 use Rattle.can_node.specs.Stages.{At, ByRole, IsFrameSpot, IsInFrame, IsReading, IsHearing, IsTelling, frame_bits}
 use Rattle.can_node.specs.Stages.IsFrameSpot.{idle_spot, pause_spot}
 use Rattle.can_node.specs.Stages.IsInFrame.{from_idle, from_pause}
-use Rattle.can_node.specs.Turns.{IsMade, IsTurn, HearsOn, TellsOn, GoesOn, piece_of, next_of}
+use Rattle.can_node.specs.Turns.{IsMade, IsTurn, HearsOn, TellsOn, piece_of, next_of}
 use Rattle.can_node.proofs.FramePlaces.{frame_seen}
-use Rattle.can_node.proofs.TellingFronts.{telling_kept, telling_next, drives_sends, tells_from_idle, sends_start}
-use Rattle.can_node.proofs.Beginnings.{hears_from_idle}
+use Rattle.can_node.proofs.TellingFronts.{telling_kept, drives_sends}
 use Rattle.can_node.proofs.WellNext.{well_readable}
 
 -- ---- a frame at its two places
@@ -130,7 +120,7 @@ pub hear_turn : (shift new : Shift) (c now : Context) (spot : Spot) (bits : List
     IsReading shift c now spot bits → IsKept spot c now → Drives now spot bits driven →
     ((l : List Level) → StandsFor shift l → StandsFor new (l ++ seen ∷ [])) →
     ((c : Context) (spot : Spot) (bits : List Bit) → StandsFor shift (seen_of (frame_bits spot bits)) → IsHearing c spot bits →
-      Answers c.listen (seen_of (frame_bits spot bits)) driven → HearsOn c spot (bits ++ record { driven = driven; seen = seen } ∷ []) turn) →
+    Answers c.listen (seen_of (frame_bits spot bits)) driven → HearsOn c spot (bits ++ record { driven = driven; seen = seen } ∷ []) turn) →
     IsTurn new c now spot bits (record { driven = driven; seen = seen }) turn
 hear_turn shift new c now spot bits driven seen turn receiver reading kept drives stands hears =
     let b : Bit = record { driven = driven; seen = seen } in
@@ -156,9 +146,9 @@ pub tell_turn : (shift new : Shift) (c now : Context) (spot : Spot) (bits : List
     lost ≡ is_some (lost_in now spot bits (record { driven = driven; seen = seen })) →
     ((l : List Level) → StandsFor shift l → StandsFor new (l ++ seen ∷ [])) →
     ((c now : Context) (spot : Spot) (bits : List Bit) → StandsFor shift (seen_of (frame_bits spot bits)) → IsFrameSpot spot → self_test ≡ c.self_test →
-      (h : IsTelling c now spot bits) → SendsNext h.request (frame_bits spot bits) driven → early ≡ is_early_stuff h.request.frame.ext (seen_of (frame_bits spot bits)) →
-      lost ≡ is_some (lost_by (Some h.request) (seen_of (frame_bits spot bits)) driven seen) →
-      TellsOn lost c now spot (bits ++ record { driven = driven; seen = seen } ∷ []) turn) →
+    (h : IsTelling c now spot bits) → SendsNext h.request (frame_bits spot bits) driven → early ≡ is_early_stuff h.request.frame.ext (seen_of (frame_bits spot bits)) →
+    lost ≡ is_some (lost_by (Some h.request) (seen_of (frame_bits spot bits)) driven seen) →
+    TellsOn lost c now spot (bits ++ record { driven = driven; seen = seen } ∷ []) turn) →
     IsTurn new c now spot bits (record { driven = driven; seen = seen }) turn
 tell_turn shift new c now spot bits driven seen self_test early lost turn transmitter place stood h strict drives soon loses stands tells_on =
     let b : Bit = record { driven = driven; seen = seen } in
@@ -191,78 +181,7 @@ pub dominant_if : (x : Level) → is_recessive x ≡ false → x ≡ Dominant
 dominant_if Dominant e = refl
 dominant_if Recessive e = absurd cc
 
-
 -- a transmitter's reading
 pub telling_by : (shift : Shift) (c now : Context) (spot : Spot) (bits : List Bit) → now.role ≡ Transmitter → IsReading shift c now spot bits →
     IsTelling c now spot bits
 telling_by shift c now spot bits e reading = let P : Role → Type 0 = λ r. ByRole r c now spot bits in subst P e reading.by_role
-
--- an early stuff bit of the request that a node holds
-pub early_by : (shift : Shift) (c now : Context) (spot : Spot) (bits : List Bit) (request : Request) (ext early : Bool) (h : IsTelling c now spot bits) →
-    now.held ≡ Some request → ext ≡ request.frame.ext → StandsFor shift (seen_of (frame_bits spot bits)) →
-    ((l : List Level) → StandsFor shift l → IsReadable l → early ≡ is_early_stuff ext l) →
-    early ≡ is_early_stuff h.request.frame.ext (seen_of (frame_bits spot bits))
-early_by shift c now spot bits request ext early h held kind stands f =
-    let l = seen_of (frame_bits spot bits) in
-    let whole : Some request ≡ Some h.request = sym held ∙ h.held in
-    let same : request ≡ h.request = cc in
-    f l stands (telling_readable c now spot bits h) ∙ ap (λ e. is_early_stuff e l) kind ∙ ap (λ r. is_early_stuff r.frame.ext l) same
-
--- a place code of its frame
-pub code_by : (shift : Shift) (c now : Context) (spot : Spot) (bits : List Bit) (driven seen : Level) (request : Request) (ext : Bool) (code : Option ℕ) → ext ≡ request.frame.ext →
-    now.role ≡ Transmitter → IsReading shift c now spot bits → now.held ≡ Some request → driven ≡ Recessive → seen ≡ Dominant →
-    ((l : List Level) → StandsFor shift l → IsReadable l → code ≡ place_code ext l) →
-    code ≡ lost_in now spot bits (record { driven = driven; seen = seen })
-code_by shift c now spot bits driven seen request ext code kind transmitter reading held drives sees f =
-    let b : Bit = record { driven = driven; seen = seen } in
-    let l = seen_of (frame_bits spot bits) in
-    let h = telling_by shift c now spot bits transmitter reading in
-    let there : lost_in now spot bits b ≡ lost_by (Some request) l Recessive Dominant =
-    lost_at now spot bits b reading.place ∙ ap (λ r. lost_as r now l b) transmitter ∙ ap (λ r. lost_by r l driven seen) held
-    ∙ ap (λ x. lost_by (Some request) l x seen) drives ∙ ap (λ x. lost_by (Some request) l Recessive x) sees in
-    f l reading.stands (telling_readable c now spot bits h) ∙ ap (λ e. place_code e l) kind ∙ sym there
-
--- ---- what the node drives
-
--- a transmitter
-pub telling_drives : (shift : Shift) (c now : Context) (spot : Spot) (bits : List Bit) (request : Request) (x : Level) →
-    now.role ≡ Transmitter → IsReading shift c now spot bits → now.held ≡ Some request →
-    ((l others check part before rest : List Level) (y ack : Level) → StandsFor shift l → StuffedPart request.frame (sent_body request.frame) check part →
-      Crc (sent_body request.frame) check → part ++ tail ack ≡ l ++ others → part ++ tail Recessive ≡ before ++ y ∷ rest → length before ≡ length l → x ≡ y) →
-    Drives now spot bits x
-telling_drives shift c now spot bits request x transmitter reading held f =
-    let h = telling_by shift c now spot bits transmitter reading in
-    let whole : Some request ≡ Some h.request = sym held ∙ h.held in
-    let same : request ≡ h.request = cc in
-    let next = telling_next c now spot bits h in
-    let bits = frame_bits spot bits in
-    let F : Request → Type 0 = λ r. (l others check part before rest : List Level) (y ack : Level) → StandsFor shift l → StuffedPart r.frame (sent_body r.frame) check part →
-      Crc (sent_body r.frame) check → part ++ tail ack ≡ l ++ others → part ++ tail Recessive ≡ before ++ y ∷ rest → length before ≡ length l → x ≡ y in
-    let drives : x ≡ next.level =
-    subst F same f (seen_of bits) next.others next.check next.part (driven_of bits) next.rest next.level next.ack reading.stands next.is_part next.right next.seen next.driven next.count in
-    let Sends : Level → Type 0 = λ y. SendsNext h.request bits y in
-    let Driving : Role → Type 0 = λ r. FrameDrives r now bits x in
-    drives_frame now spot _ x reading.place (subst Driving (sym transmitter) (h.request, h.held, subst Sends (sym drives) next.sends))
-
--- a receiver
-pub hearing_drives : (shift : Shift) (c now : Context) (spot : Spot) (bits : List Bit) (x : Level) →
-    now.role ≡ Receiver → IsReading shift c now spot bits → (StandsFor shift (seen_of (frame_bits spot bits)) → Answers now.listen (seen_of (frame_bits spot bits)) x) →
-    Drives now spot bits x
-hearing_drives shift c now spot bits x receiver reading f =
-    let Driving : Role → Type 0 = λ r. FrameDrives r now (frame_bits spot bits) x in
-    drives_frame now spot bits x reading.place (subst Driving (sym receiver) (f reading.stands))
-
--- its answer where it is due
-pub answers_due : (listen due : Bool) (l : List Level) → listen ≡ false → due ≡ true → (IsTrue due ↔ IsAckDue l) → Answers listen l Dominant
-answers_due true due l e d h = absurd cc
-answers_due false due l e d h = h.0 d
-
--- where it isn't
-pub answers_none : (listen due : Bool) (l : List Level) → listen ≡ false → due ≡ false → (IsTrue due ↔ IsAckDue l) → Answers listen l Recessive
-answers_none true due l e d h = absurd cc
-answers_none false due l e d h = λ ack. let yes : due ≡ true = h.1 ack in absurd cc
-
--- and where the node only listens
-pub answers_listening : (listen : Bool) (l : List Level) → listen ≡ true → Answers listen l Recessive
-answers_listening true l e = refl
-answers_listening false l e = absurd cc

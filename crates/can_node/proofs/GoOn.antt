@@ -1,18 +1,17 @@
 -- A cut goes on from the place where it is open.
-use Rattle.std.proofs.Common.{◌≡◌, ◌≢◌, ◌<◌, ◌≤◌, inl, inr, ℕ, List, [], ◌∷◌, ◌++◌, map, refl, ap, sym, subst, ◌∙◌, append_assoc}
-use Rattle.std.proofs.lemmas.List.{append-nil, map-append}
+use Rattle.std.proofs.Common.{◌≡◌, ◌≢◌, List, [], ◌∷◌, ◌++◌, map, refl, ap, sym, subst, ◌∙◌, append_assoc}
+use Rattle.std.proofs.lemmas.List.{append-nil}
 use Rattle.can_bits.specs.declared.level.Level.{Level}
-use Rattle.can_node.specs.declared.request.Request.{Request}
-use Rattle.can_node.specs.Bits.{Bit, heard, hears}
+use Rattle.can_node.specs.Bits.{Bit, hears}
 use Rattle.can_node.specs.Context.{Context}
 use Rattle.can_node.specs.Pieces.{Spot, Piece}
 use Rattle.can_node.specs.Pieces.Spot.{Resting}
-use Rattle.can_node.specs.Record.{Entry, bits_in, Inner, BeginsInBit, EndsInBit, IsSlice}
-use Rattle.can_node.specs.Record.Entry.{Start, Stop, Took, Send, Abort, Off}
+use Rattle.can_node.specs.Record.{Entry, Inner, BeginsInBit, IsSlice}
+use Rattle.can_node.specs.Record.Entry.{Took}
 use Rattle.can_node.specs.Record.Inner.{none_left, took, sends, aborts}
 use Rattle.can_node.specs.Effects.{along}
 use Rattle.can_node.specs.Table.{Row}
-use Rattle.can_node.specs.Cut.{IsUnfinished, IsOpenAt, Stays, Move, From, Found, Count, counted, counted_one, tagged}
+use Rattle.can_node.specs.Cut.{IsOpenAt, Stays, Move, From, Found, Count, counted, counted_one, tagged}
 use Rattle.can_node.specs.Cut.IsOpenAt.{rests, nothing, begun}
 use Rattle.can_node.specs.Cut.From.{here, on}
 
@@ -51,12 +50,12 @@ pub move_on : {k : Count} {c end next : Context} {spot last place : Spot} {entri
     From k c spot (entries ++ x) (found ++ tagged (counted k (entries ++ x)) ps) next place []
 move_on {k = k} {end = end} {next = next} {last = last} {place = place} {entries = entries} {slice = slice} x ps cut move stays =
     go_on x (tagged (counted k (entries ++ x)) ps) cut (λ j e.
-        let count : counted j (slice ++ x) ≡ counted k (entries ++ x) =
-        counted_both j slice x ∙ ap (λ i. counted i x) e ∙ sym (counted_both k entries x) in
-        let P : List Entry → Type 0 = λ l. From j end last l (tagged (counted k (entries ++ x)) ps) next place [] in
-        let Q : List Found → Type 0 = λ l. From j end last ((slice ++ x) ++ []) l next place [] in
-        let R : Count → Type 0 = λ i. From j end last ((slice ++ x) ++ []) (tagged i ps ++ []) next place [] in
-        subst P (append-nil (slice ++ x)) (subst Q (append-nil (tagged (counted k (entries ++ x)) ps)) (subst R count (on move (here nothing stays)))))
+    let count : counted j (slice ++ x) ≡ counted k (entries ++ x) =
+    counted_both j slice x ∙ ap (λ i. counted i x) e ∙ sym (counted_both k entries x) in
+    let P : List Entry → Type 0 = λ l. From j end last l (tagged (counted k (entries ++ x)) ps) next place [] in
+    let Q : List Found → Type 0 = λ l. From j end last ((slice ++ x) ++ []) l next place [] in
+    let R : Count → Type 0 = λ i. From j end last ((slice ++ x) ++ []) (tagged i ps ++ []) next place [] in
+    subst P (append-nil (slice ++ x)) (subst Q (append-nil (tagged (counted k (entries ++ x)) ps)) (subst R count (on move (here nothing stays)))))
 
 -- more entries of the piece under way
 pub open_on : {k : Count} {c end : Context} {spot last : Spot} {entries slice : List Entry} {found : List Found} (x : List Entry) →

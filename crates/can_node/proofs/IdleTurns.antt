@@ -1,5 +1,5 @@
 -- One bit where the bus is idle, as the node has it.
-use Rattle.std.proofs.Common.{◌≡◌, ◌≢◌, ◌↔◌, IsTrue, Bool, true, false, Option, Some, None, is_some, List, [], ◌∷◌, ◌++◌, refl, ap, sym, subst, ◌∙◌, if◌then◌else◌}
+use Rattle.std.proofs.Common.{◌≡◌, Bool, true, false, Option, Some, None, is_some, List, [], ◌∷◌, ◌++◌, refl, ap, sym, subst, ◌∙◌, if◌then◌else◌}
 use Rattle.can_bits.specs.declared.level.Level.{Level}
 use Rattle.can_bits.specs.declared.level.Level.TheVariants.{Dominant, Recessive}
 use Rattle.can_bits.specs.declared.shift.Shift.{Shift}
@@ -7,34 +7,26 @@ use Rattle.can_bits.specs.Fields.{is_recessive}
 use Rattle.can_frame.specs.Frame.{IsFrame}
 use Rattle.can_bits.specs.Places.{begins_in_five, is_early_stuff}
 use Rattle.can_bits.specs.Shifts.{StandsFor}
-use Rattle.can_bits.specs.Streaming.{IsReadable}
 use Rattle.can_node.specs.declared.role.Role.{Role}
 use Rattle.can_node.specs.declared.role.Role.TheVariants.{Transmitter, Receiver}
 use Rattle.can_node.specs.declared.request.Request.{Request}
-use Rattle.can_node.specs.declared.stage.Stage.{Stage}
-use Rattle.can_node.specs.declared.stage.Stage.TheVariants.{InFrame}
 use Rattle.can_node.specs.declared.turn.Turn.{Turn}
-use Rattle.can_node.specs.declared.turn.Turn.TheVariants.{Goes, Closes}
 use Rattle.can_node.specs.Bits.{Bit, heard, seen_of}
 use Rattle.can_node.specs.Context.{Context}
 use Rattle.can_node.specs.Pieces.{Spot, sent_at}
 use Rattle.can_node.specs.Pieces.Spot.{AtIdle}
 use Rattle.can_node.specs.Pieces.Piece.{Idle}
 use Rattle.can_node.specs.Counting.{first_bit, lost_by}
-use Rattle.can_node.specs.Events.{lost_in, lost_as}
-use Rattle.can_node.specs.Frames.{Answers}
 use Rattle.can_node.specs.Table.{Row}
 use Rattle.can_node.specs.Table.Row.{idle}
 use Rattle.can_node.specs.Driving.{IdleDrives, SendsNext}
-use Rattle.can_node.specs.Standing.{IsKept}
-use Rattle.can_node.specs.Stages.{At, ByRole, IsFrameSpot, IsInFrame, IsReading, IsHearing, IsTelling, frame_bits}
-use Rattle.can_node.specs.Stages.IsFrameSpot.{idle_spot, pause_spot}
-use Rattle.can_node.specs.Stages.IsInFrame.{from_idle, from_pause}
-use Rattle.can_node.specs.Turns.{IsMade, IsTurn, HearsOn, TellsOn, GoesOn, piece_of, next_of}
+use Rattle.can_node.specs.Stages.{ByRole, IsFrameSpot, IsReading, IsHearing, IsTelling, frame_bits}
+use Rattle.can_node.specs.Stages.IsFrameSpot.{idle_spot}
+use Rattle.can_node.specs.Stages.IsInFrame.{from_idle}
+use Rattle.can_node.specs.Turns.{IsMade, IsTurn, TellsOn}
 use Rattle.can_node.proofs.FrameTurns.{told_made, recessive_if, dominant_if}
-use Rattle.can_node.proofs.TellingFronts.{telling_kept, drives_sends, tells_from_idle, sends_start}
+use Rattle.can_node.proofs.TellingFronts.{tells_from_idle, sends_start}
 use Rattle.can_node.proofs.Beginnings.{hears_from_idle}
-use Rattle.can_node.proofs.WellNext.{well_readable}
 
 -- ---- a frame that begins where the bus is idle
 
@@ -53,9 +45,9 @@ idle_tells : (shift new : Shift) (now : Context) (request : Request) (driven see
     IsFrame request.frame → now.held ≡ Some request → now.listen ≡ false → self_test ≡ now.self_test → StandsFor shift [] → driven ≡ Dominant →
     ((l : List Level) → StandsFor shift l → StandsFor new (l ++ seen ∷ [])) →
     ((c now : Context) (spot : Spot) (bits : List Bit) → StandsFor shift (seen_of (frame_bits spot bits)) → IsFrameSpot spot → self_test ≡ c.self_test →
-      (h : IsTelling c now spot bits) → SendsNext h.request (frame_bits spot bits) driven → false ≡ is_early_stuff h.request.frame.ext (seen_of (frame_bits spot bits)) →
-      false ≡ is_some (lost_by (Some h.request) (seen_of (frame_bits spot bits)) driven seen) →
-      TellsOn false c now spot (bits ++ record { driven = driven; seen = seen } ∷ []) turn) →
+    (h : IsTelling c now spot bits) → SendsNext h.request (frame_bits spot bits) driven → false ≡ is_early_stuff h.request.frame.ext (seen_of (frame_bits spot bits)) →
+    false ≡ is_some (lost_by (Some h.request) (seen_of (frame_bits spot bits)) driven seen) →
+    TellsOn false c now spot (bits ++ record { driven = driven; seen = seen } ∷ []) turn) →
     IsMade new now (record now { role = Transmitter }) AtIdle (record { driven = driven; seen = seen } ∷ []) turn
 idle_tells shift new now request driven seen self_test turn fits held speaks strict stood first stands tells_on =
     let b : Bit = record { driven = driven; seen = seen } in
@@ -79,9 +71,9 @@ pub idle_sends : (shift new : Shift) (now : Context) (driven seen : Level) (self
     is_some (sent_at now AtIdle) ≡ true → ((request : Request) → now.held ≡ Some request → IsFrame request.frame) → self_test ≡ now.self_test → StandsFor shift [] →
     IdleDrives (sent_at now AtIdle) driven → ((l : List Level) → StandsFor shift l → StandsFor new (l ++ seen ∷ [])) →
     ((c now : Context) (spot : Spot) (bits : List Bit) → StandsFor shift (seen_of (frame_bits spot bits)) → IsFrameSpot spot → self_test ≡ c.self_test →
-      (h : IsTelling c now spot bits) → SendsNext h.request (frame_bits spot bits) driven → false ≡ is_early_stuff h.request.frame.ext (seen_of (frame_bits spot bits)) →
-      false ≡ is_some (lost_by (Some h.request) (seen_of (frame_bits spot bits)) driven seen) →
-      TellsOn false c now spot (bits ++ record { driven = driven; seen = seen } ∷ []) turn) →
+    (h : IsTelling c now spot bits) → SendsNext h.request (frame_bits spot bits) driven → false ≡ is_early_stuff h.request.frame.ext (seen_of (frame_bits spot bits)) →
+    false ≡ is_some (lost_by (Some h.request) (seen_of (frame_bits spot bits)) driven seen) →
+    TellsOn false c now spot (bits ++ record { driven = driven; seen = seen } ∷ []) turn) →
     IsTurn new now now AtIdle [] (record { driven = driven; seen = seen }) turn
 idle_sends shift new now driven seen self_test turn sends fits strict stood drives stands tells_on =
     let parts = sends_parts now.listen now.held sends in

@@ -43,10 +43,16 @@ pub mod Along
 pub mod GoOn
 pub mod Calls
 pub mod FrameTurns
+pub mod FrameDrives
 pub mod Ats
 pub mod Shown
 pub mod Sampling
 pub mod BitStands
+pub mod Told
+pub mod Sampled
+pub mod Between
+pub mod Requests
+pub mod SampleSteps
 pub mod FrameStarts
 pub mod Counts
 pub mod IdleTurns
@@ -54,3 +60,6 @@ pub mod Entries
 pub mod Ways
 pub mod MoveOnce
 pub mod CutOnce
+pub mod FieldLevels
+pub mod LostFields
+pub mod Winning

@@ -1,42 +1,27 @@
 -- A bit more of a record.
-use Rattle.std.proofs.Common.{◌≡◌, ◌≢◌, ◌⊎◌, ◌<◌, ◌≤◌, ◌&&◌, not, ℕ, Bool, true, false, nat_le, Option, Some, None, is_some, List, [], ◌∷◌, ◌++◌, map, refl, ap, sym, subst, ◌∙◌, arith, append_assoc, inl, inr, if◌then◌else◌}
-use Rattle.std.proofs.lemmas.List.{append-nil, map-append}
-use Rattle.std.proofs.lemmas.Bool.{cases_lt, leb-true, le-leb, lt-leb}
+use Rattle.std.proofs.Common.{◌≡◌, ◌≢◌, ◌⊎◌, List, [], ◌∷◌, ◌++◌, map, refl, ap, sym, subst, ◌∙◌, inl, inr}
+use Rattle.std.proofs.lemmas.List.{map-append}
 use Rattle.can_bits.specs.declared.level.Level.{Level}
-use Rattle.can_bits.specs.declared.level.Level.TheVariants.{Dominant, Recessive}
+use Rattle.can_bits.specs.declared.level.Level.TheVariants.{Recessive}
 use Rattle.can_bits.specs.declared.shift.Shift.{Shift}
 use Rattle.can_node.specs.declared.role.Role.{Role}
 use Rattle.can_node.specs.declared.role.Role.TheVariants.{Transmitter, Receiver}
-use Rattle.can_node.specs.declared.request.Request.{Request}
 use Rattle.can_node.specs.declared.stage.Stage.{Stage}
 use Rattle.can_node.specs.declared.stage.Stage.TheVariants.{Resting as StageResting, Joining as StageJoining, Idle as StageIdle, InFrame as StageInFrame, AfterReception as StageAfterReception, Flagging as StageFlagging, AfterFlag as StageAfterFlag, Pausing as StagePausing}
-use Rattle.can_node.specs.declared.turn.Turn.{Turn}
-use Rattle.can_node.specs.declared.turn.Turn.TheVariants.{Goes as TurnGoes, Closes as TurnCloses}
-use Rattle.can_node.specs.declared.bit_events.BitEvents.{BitEvents}
-use Rattle.can_node.specs.declared.node.Node.{Node}
 use Rattle.can_node.specs.Bits.{Bit, heard, hears}
-use Rattle.can_node.specs.Context.{Context, fresh}
-use Rattle.can_node.specs.Pieces.{Spot, Piece}
+use Rattle.can_node.specs.Context.{Context}
+use Rattle.can_node.specs.Pieces.{Spot}
 use Rattle.can_node.specs.Pieces.Spot.{Resting, Joining, AtIdle, AfterReception, Flagging, AfterFlag, Pausing}
 use Rattle.can_node.specs.Record.{Entry, bits_in}
-use Rattle.can_node.specs.Record.Entry.{Took, Off}
+use Rattle.can_node.specs.Record.Entry.{Took}
 use Rattle.can_node.specs.Record.Inner.{none_left, took}
-use Rattle.can_node.specs.Counting.{at_bit}
-use Rattle.can_node.specs.Effects.{along, after, with_off, closed}
-use Rattle.can_node.specs.Table.{Row}
-use Rattle.can_node.specs.Cut.{IsUnfinished, IsOpenAt, Stays, Move, From, Found, Count, none_yet, counted, tagged}
+use Rattle.can_node.specs.Effects.{along}
+use Rattle.can_node.specs.Cut.{IsUnfinished, IsOpenAt}
 use Rattle.can_node.specs.Cut.IsOpenAt.{rests, begun}
-use Rattle.can_node.specs.Cut.Move.{piece, off_within, off_after}
-use Rattle.can_node.specs.Events.{Step}
-use Rattle.can_node.specs.Events.Step.{Goes, Closes}
 use Rattle.can_node.specs.Driving.{Drives}
-use Rattle.can_node.specs.Standing.{context_of}
-use Rattle.can_node.specs.Stages.{At, ByRole, IsReading, IsInFrame}
-use Rattle.can_node.specs.Stages.IsInFrame.{from_idle, from_pause}
-use Rattle.can_node.specs.Turns.{IsMade, AtAfter, piece_of, next_of, step_of, resulted, off_if}
-use Rattle.can_node.specs.Stands.{StandsAt, entries_of, closed_by}
-use Rattle.can_node.proofs.Along.{bits_both, along-bit}
-use Rattle.can_node.proofs.GoOn.{counted_both, open_end, stays_end, move_on, open_on, inner_both, no_rest_piece, inner_open, begins_open, slice_open, rest_open}
+use Rattle.can_node.specs.Stages.{At, ByRole, IsInFrame}
+use Rattle.can_node.proofs.Along.{bits_both}
+use Rattle.can_node.proofs.GoOn.{inner_both, inner_open, begins_open, rest_open}
 use Rattle.can_node.proofs.Joins.{open_joining}
 use Rattle.can_node.proofs.Flags.{open_flagging}
 use Rattle.can_node.proofs.Delimiters.{open_delimiting}

@@ -1,8 +1,6 @@
 -- What a node that stands at a record shows of it.
-use Rattle.std.proofs.Common.{◌≡◌, ◌≢◌, Bool, true, false, ◌&&◌, ◌||◌, not, is_some, Option, Some, None, List, [], ◌∷◌, refl, ap, sym, subst, ◌∙◌, if◌then◌else◌}
+use Rattle.std.proofs.Common.{◌≡◌, ◌≢◌, Bool, true, false, not, is_some, Option, Some, None, List, refl, ap, sym, subst, ◌∙◌, if◌then◌else◌}
 use Rattle.can_bits.specs.declared.level.Level.{Level}
-use Rattle.can_bits.specs.declared.shift.Shift.{Shift}
-use Rattle.can_node.specs.declared.stage.Stage.{Stage}
 use Rattle.can_node.specs.declared.stage.Stage.TheVariants.{InFrame as StageInFrame}
 use Rattle.can_node.specs.declared.phase.Phase.{Phase}
 use Rattle.can_node.specs.declared.phase.Phase.TheVariants.{Reset, Waiting, Idle, Frame, Flag, Delimiter, Intermission, Suspension}
@@ -12,11 +10,10 @@ use Rattle.can_node.specs.Bits.{Bit}
 use Rattle.can_node.specs.Context.{Context, is_held}
 use Rattle.can_node.specs.Pieces.{Spot}
 use Rattle.can_node.specs.Record.{Entry, bits_in}
-use Rattle.can_node.specs.Effects.{along}
 use Rattle.can_node.specs.Cut.{Found}
 use Rattle.can_node.specs.Driving.{Drives, phase_at}
 use Rattle.can_node.specs.Standing.{context_of, IsKept}
-use Rattle.can_node.specs.Stages.{At, IsInFrame, IsReading}
+use Rattle.can_node.specs.Stages.{At, IsInFrame}
 use Rattle.can_node.specs.Stages.IsInFrame.{from_idle, from_pause}
 use Rattle.can_node.specs.Stands.{StandsAt, now_of, rests_in}
 use Rattle.can_node.proofs.Along.{is_kept}
@@ -39,7 +36,7 @@ kept_shown node entries found h =
 -- what it drives
 pub drive_shown : (node : Node) (entries : List Entry) (found : List Found) (h : StandsAt node entries found) (x : Level) →
     ((c : Context) (spot : Spot) (bits : List Bit) → At node.stage node.shift c (context_of node.standing) spot bits → IsKept spot c (context_of node.standing) →
-      Drives (context_of node.standing) spot bits x) →
+    Drives (context_of node.standing) spot bits x) →
     Drives (now_of node entries found h) h.spot (bits_in h.slice) x
 drive_shown node entries found h x f =
     let P : Context → Type 0 = λ d. Drives d h.spot (bits_in h.slice) x in
@@ -69,3 +66,17 @@ awake Suspension held off idle = refl
 
 pub awake_shown : (p q : Phase) (held : Bool) → p ≡ q → p ≢ Reset → p ≢ Idle → false ≡ rests_in q held
 awake_shown p q held e off idle = awake p held off idle ∙ ap (λ r. rests_in r held) e
+
+-- in idle it rests where it holds no request
+none_is : (held : Option Request) (none : Bool) → is_some held ≡ not none → none ≡ (if is_held held then false else true)
+none_is None true e = refl
+none_is None false e = absurd cc
+none_is (Some request) true e = absurd cc
+none_is (Some request) false e = refl
+
+pub idle_shown : (node : Node) (entries : List Entry) (found : List Found) (h : StandsAt node entries found) (p : Phase) (none : Bool) → p ≡ Idle →
+    p ≡ phase_at h.spot (bits_in h.slice) → is_some node.standing.held ≡ not none →
+    none ≡ rests_in (phase_at h.spot (bits_in h.slice)) (is_held (now_of node entries found h).held)
+idle_shown node entries found h p none e f g =
+    let held = (now_of node entries found h).held in
+    none_is held none (sym (ap (λ (c : Context). is_some c.held) h.shows) ∙ g) ∙ ap (λ q. rests_in q (is_held held)) (sym e ∙ f)

@@ -3,7 +3,6 @@
 use Rattle.std.proofs.Common.{◌≡◌, false, List, [], ◌∷◌, ◌++◌, map, replicate, refl, arith, None}
 use Rattle.can_bits.specs.declared.level.Level.{Level}
 use Rattle.can_bits.specs.declared.level.Level.TheVariants.{Dominant, Recessive}
-use Rattle.can_bits.specs.Digits.{bits}
 use Rattle.can_node.specs.declared.config.Config.{Config}
 use Rattle.can_node.specs.Bits.{Bit, heard, forced, hears}
 use Rattle.can_node.specs.Context.{fresh}

@@ -15,3 +15,4 @@ pub mod Stages
 pub mod Turns
 pub mod Telling
 pub mod Stands
+pub mod Contending

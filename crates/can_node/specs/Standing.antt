@@ -1,7 +1,6 @@
 -- What the fields of a node say of its context.
 use Rattle.std.specs.Prelude.{◌≡◌, Bool, true, false, List, [], ◌∷◌}
 use Rattle.can_node.specs.declared.standing.Standing.{Standing}
-use Rattle.can_node.specs.declared.flag_kind.FlagKind.{FlagKind}
 use Rattle.can_node.specs.Context.{Context, owes_suspension}
 use Rattle.can_node.specs.Pieces.{Spot}
 use Rattle.can_node.specs.Pieces.Spot.{Pausing}

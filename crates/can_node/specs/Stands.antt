@@ -1,5 +1,5 @@
 -- A node that stands at a record, and what its calls do.
-use Rattle.std.specs.Prelude.{⊤, ◌≡◌, ◌≢◌, ◌⊎◌, ◌||◌, ◌&&◌, Bool, true, false, nat_le, if◌then◌else◌, Option, Some, None, Result, Ok, Err, List, [], ◌∷◌, ◌++◌}
+use Rattle.std.specs.Prelude.{⊤, ◌≡◌, ◌≢◌, ◌⊎◌, ◌||◌, Bool, true, false, nat_le, if◌then◌else◌, Option, Some, None, Result, Ok, Err, List, [], ◌∷◌, ◌++◌}
 use Rattle.can_bits.specs.declared.level.Level.{Level}
 use Rattle.can_node.specs.declared.request.Request.{Request}
 use Rattle.can_node.specs.declared.aborted.Aborted.{Aborted}
@@ -14,7 +14,7 @@ use Rattle.can_node.specs.declared.stage.Stage.TheVariants.{Resting as StageRest
 use Rattle.can_node.specs.declared.node.Node.{Node}
 use Rattle.can_node.specs.Bits.{Bit}
 use Rattle.can_node.specs.Context.{Context, fresh, is_held}
-use Rattle.can_node.specs.Pieces.{Spot, Piece}
+use Rattle.can_node.specs.Pieces.{Spot}
 use Rattle.can_node.specs.Pieces.Spot.{Resting}
 use Rattle.can_node.specs.Record.{Entry, bits_in}
 use Rattle.can_node.specs.Record.Entry.{Took, Send, Abort, Off}
@@ -84,6 +84,13 @@ abbrev pub ShowsCounters : Node → Counters → Type 0
 ShowsCounters node result =
     (entries : List Entry) (found : List Found) (h : StandsAt node entries found) →
     let c = now_of node entries found h in (result.tec ≡ c.tec) × (result.rec ≡ c.rec) × (result.off ≡ c.off)
+
+-- any cut of a record that the node stands at has the same finished pieces, and leads to the same context and place and
+-- to the same entries of a piece that isn't finished
+abbrev pub HasOneCut : Node → Type 0
+HasOneCut node =
+    (entries : List Entry) (found others : List Found) (h : StandsAt node entries found) (c : Context) (spot : Spot) (slice : List Entry) →
+    From none_yet fresh Resting entries others c spot slice → (found ≡ others) × (h.context ≡ c) × (h.spot ≡ spot) × (h.slice ≡ slice)
 
 -- bus-off, else passive from 128 on, else active
 abbrev pub state_of : Counters → State

@@ -10,7 +10,7 @@ use Rattle.can_node.specs.declared.stage.Stage.TheVariants.{InFrame as StageInFr
 use Rattle.can_node.specs.Bits.{Bit}
 use Rattle.can_node.specs.Context.{Context}
 use Rattle.can_node.specs.Pieces.{Spot, Piece}
-use Rattle.can_node.specs.Pieces.Spot.{Resting, Joining, AtIdle, SofSeen, AfterReception, Flagging, AfterFlag, Pausing}
+use Rattle.can_node.specs.Pieces.Spot.{AtIdle, SofSeen, AfterReception, Flagging, AfterFlag, Pausing}
 use Rattle.can_node.specs.Pieces.Piece.{Join, Idle, Reception, Sending, Fault, Last, Flag, Tail, Pause, PauseWithSof, PauseBroken}
 use Rattle.can_node.specs.Table.{Row}
 use Rattle.can_node.specs.Counting.{at_bit}

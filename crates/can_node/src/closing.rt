@@ -132,7 +132,8 @@ impl Standing {
             Done::Fault(_, _, _) | Done::Broken | Done::Last(true) | Done::Tail(true) => {
                 self.flag = flag;
             }
-            Done::Received(_) | Done::Sent | Done::Flag | Done::Last(false) | Done::Tail(false) => {}
+            Done::Received(_) | Done::Sent | Done::Flag | Done::Last(false) | Done::Tail(false) =>
+                {}
         }
     }
 }

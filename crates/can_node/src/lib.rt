@@ -1,4 +1,12 @@
-//! One CAN node bit by bit: its record, and what a lawful cut of that record into pieces says.
+//! One CAN node bit by bit: what it drives, and what it makes of the levels that it sees.
+//!
+//! What happened to a node is its record: a list of starts, stops, requests, aborts and bits, each bit with the level
+//! driven and the level seen. A lawful cut of the record into pieces says what it means: which frames were received and
+//! sent, where there were faults, and how the error counters stand. A [`Node`] keeps no record, but it stands at records
+//! that have such a cut.
+//!
+//! [`contend`] says which of several frames go on if their transmitters start together, and where the others lose
+//! arbitration. It alone takes memory.
 #![tactic(auto)]
 
 mod aborted;
@@ -6,11 +14,14 @@ mod bit_events;
 mod cause;
 mod closing;
 mod config;
+mod contention;
+mod contention_laws;
 mod counters;
 mod counting;
 mod delimiting;
 mod done;
 mod fault_place;
+mod field;
 mod flag_kind;
 mod flagging;
 mod going;
@@ -34,6 +45,8 @@ pub use aborted::Aborted;
 pub use bit_events::BitEvents;
 pub use cause::Cause;
 pub use config::Config;
+pub use contention::contend;
+pub use contention_laws::{contention_has_one_answer, some_frame_goes_on};
 pub use counters::Counters;
 pub use laws::{a_record_has_one_cut, pieces_are_told_apart};
 pub use node::Node;

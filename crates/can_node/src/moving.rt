@@ -1,9 +1,9 @@
+use super::delimiting::delimiting_turn;
 use super::done::Done;
 use super::flagging::{forcing_turn, waiting_turn};
 use super::hearing::hear;
-use super::node::Node;
 use super::joining::joining_turn;
-use super::delimiting::delimiting_turn;
+use super::node::Node;
 use super::pausing::pausing_turn;
 use super::role::Role;
 use super::stage::Stage;
@@ -136,7 +136,14 @@ impl Node {
         self.shift = Shift::new();
         self.standing.frame_fits();
         if self.standing.sends() {
-            tell(&mut self.shift, self.standing.self_test, false, false, driven, seen)
+            tell(
+                &mut self.shift,
+                self.standing.self_test,
+                false,
+                false,
+                driven,
+                seen,
+            )
         } else if seen.is_recessive() {
             Turn::Closes(Done::Idle)
         } else {
@@ -157,7 +164,14 @@ impl Node {
             Role::Receiver => hear(&mut self.shift, driven, seen),
             Role::Transmitter => {
                 let early = self.is_early();
-                tell(&mut self.shift, self.standing.self_test, early, lost, driven, seen)
+                tell(
+                    &mut self.shift,
+                    self.standing.self_test,
+                    early,
+                    lost,
+                    driven,
+                    seen,
+                )
             }
         }
     }

@@ -1,3 +1,5 @@
+ghost use Rattle.std.specs.Prelude.{◌≡◌, ◌&&◌, not};
+
 use super::aborted::Aborted;
 use super::bit_events::BitEvents;
 use super::config::Config;
@@ -9,8 +11,6 @@ use super::stage::Stage;
 use super::standing::Standing;
 use super::turn::Turn;
 use can_bits::{Level, Shift};
-
-ghost use Rattle.std.specs.Prelude.{◌≡◌, ◌&&◌, not};
 
 /// A CAN node, bit by bit: what it drives, and what it makes of the levels that it sees (Bosch CAN 2.0 part A).
 ///
@@ -26,7 +26,7 @@ pub struct Node {
 impl Node {
     ghost use Rattle.std.specs.Prelude.{◌≡◌, ◌↔◌, []};
     ghost use Rattle.can_node.specs.Record.{Entry};
-    ghost use Rattle.can_node.specs.Stands.{StandsAt, InReset, Enters, DrivesNext, Samples, ShowsPhase, ShowsCounters, ShowsRest, Requests, Aborts};
+    ghost use Rattle.can_node.specs.Stands.{StandsAt, InReset, Enters, DrivesNext, Samples, ShowsPhase, ShowsCounters, HasOneCut, ShowsRest, Requests, Aborts};
 
     /// A node in reset, to which nothing has happened.
     pub fn new() -> Node
@@ -132,8 +132,11 @@ impl Node {
     }
 
     /// The error counters.
+    ///
+    /// They are those that the cut of the record gives, and each record has one cut alone.
     pub fn counters(&self) -> Counters
-        ensures { ShowsCounters self.now result }
+        ensures counts { ShowsCounters self.now result }
+        ensures only { HasOneCut self.now }
     {
         self.standing.counters
     }

@@ -22,7 +22,7 @@ pub struct Standing {
 }
 
 impl Standing {
-    ghost use Rattle.std.specs.Prelude.{◌≡◌, ◌<◌, ◌||◌, is_some, Some, None};
+    ghost use Rattle.std.specs.Prelude.{◌≡◌, ◌<◌, ◌||◌, is_some, Some, None, false};
     ghost use Rattle.can_frame.specs.Frame.{IsFrame};
     ghost use Rattle.can_node.specs.Context.{Context, fresh, is_passive, is_transmitter, owes_suspension, flag_level, join_count};
     ghost use Rattle.can_node.specs.Pieces.{sent_at};

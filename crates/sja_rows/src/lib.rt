@@ -4,9 +4,13 @@
 #[cfg(test)]
 mod agreement;
 #[cfg(test)]
+mod arbitrate;
+#[cfg(test)]
 mod confining;
 #[cfg(test)]
-mod contending;
+mod contenders;
+#[cfg(test)]
+mod contention;
 #[cfg(test)]
 mod decode;
 #[cfg(test)]
@@ -41,5 +45,7 @@ mod sending;
 mod station;
 #[cfg(test)]
 mod streaming;
+#[cfg(test)]
+mod together;
 #[cfg(test)]
 mod wire;

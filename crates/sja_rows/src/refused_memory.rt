@@ -3,23 +3,35 @@
 //! It takes no memory of its own, so that each allocation can be made to fail under it.
 
 use sja_run::{Output, sja_serial};
+use std::alloc::Global;
+
+/// Whether these words give this text and status 0, or the line and status 1.
+fn gives_or_tells(alloc: Global, words: &[&str], text: &[u8]) -> bool {
+    let mut input: &[u8] = &[];
+    let mut written = [0u8; 64];
+    let mut told = [0u8; 64];
+    let mut out = Output::new(written.as_mut_slice());
+    let mut err = Output::new(told.as_mut_slice());
+    let status = sja_serial(alloc, words, &mut input, &mut out, &mut err);
+    let out_count = 64 - out.writer.len().min(64);
+    let err_count = 64 - err.writer.len().min(64);
+    let line = b"sja: out of memory\n".as_slice();
+    if status == Some(0) {
+        err_count == 0 && written.get(..out_count) == Some(text)
+    } else {
+        status == Some(1) && out_count == 0 && told.get(..err_count) == Some(line)
+    }
+}
 
 #[test]
-fn refused_memory_gives_the_text_or_the_line(rt: HostRuntime) {
-    let mut input: &[u8] = &[];
-    let mut text = [0u8; 64];
-    let mut line = [0u8; 64];
-    let mut out = Output::new(text.as_mut_slice());
-    let mut err = Output::new(line.as_mut_slice());
+fn refused_memory_gives_the_line_or_the_levels(rt: HostRuntime) {
     let words = ["sja", "encode", "000000"].as_slice();
-    let status = sja_serial(rt.alloc(), words, &mut input, &mut out, &mut err);
-    let written = 64 - out.writer.len().min(64);
-    let told = 64 - err.writer.len().min(64);
-    if status == Some(0) {
-        assert_eq!(rt; (written, told), (51, 0));
-    } else {
-        assert_eq!(rt; status, Some(1));
-        assert_eq!(rt; (written, told), (0, 19));
-        assert!(rt; &line[..19] == b"sja: out of memory\n".as_slice());
-    }
+    let levels = b"00000100000100000100000100000100000100001111111111\n".as_slice();
+    assert!(rt; gives_or_tells(rt.alloc(), words, levels));
+}
+
+#[test]
+fn refused_memory_gives_the_line_or_the_places(rt: HostRuntime) {
+    let words = ["sja", "arbitrate", "002460", "002440", "402450"].as_slice();
+    assert!(rt; gives_or_tells(rt.alloc(), words, b"10\n-\n11\n".as_slice()));
 }

@@ -1,2 +1,3 @@
 pub mod Symbols
 pub mod Memory
+pub mod Spelled

@@ -1,9 +1,10 @@
 -- What the program does, by what the words ask for (this project's own rule).
 use Rattle.std.specs.Prelude.{◌≡◌, ◌⊎◌, ℕ, List, Option, Some}
 use Rattle.std.specs.Io.KnownBytes.{Appends, Keeps}
-use Rattle.sja_words.specs.Words.{Request, encode, decode, filter}
+use Rattle.sja_words.specs.Words.{Request, encode, decode, filter, arbitrate}
 use Rattle.sja_run.specs.declared.refusal.Refusal.{Refusal}
 use Rattle.sja_run.specs.declared.refusal.Refusal.TheVariants as refusal
+use Rattle.sja_run.specs.Arbitrate.{IsArbitration, RefusesMessages}
 use Rattle.sja_run.specs.Decode.{IsDecoding, RefusesLine}
 use Rattle.sja_run.specs.Encode.{IsEncoding}
 use Rattle.sja_run.specs.Filter.{IsFiltering, RefusesFilter}
@@ -15,12 +16,14 @@ abbrev pub IsPrinted : Request → List ℕ → Type 0
 IsPrinted (encode digits) text = IsEncoding digits text
 IsPrinted (decode digits) text = IsDecoding digits text
 IsPrinted (filter single acr amr digits) text = IsFiltering single acr amr digits text
+IsPrinted (arbitrate messages) text = IsArbitration messages text
 
 -- why the request has no answer
 abbrev pub IsRefused : Request → Refusal → Type 0
 IsRefused (encode digits) r = RefusesMessage digits r
 IsRefused (decode digits) r = RefusesLine digits r
 IsRefused (filter single acr amr digits) r = RefusesFilter acr amr digits r
+IsRefused (arbitrate messages) r = RefusesMessages messages r
 
 -- The request, the exit status, and what the output and the error output held before and hold after.
 -- Either the text is on the output and the status is 0, or the refusal's line is on the error output and the status

@@ -5,4 +5,5 @@ pub mod BytesText
 pub mod Encode
 pub mod Decode
 pub mod Filter
+pub mod Arbitrate
 pub mod Answer

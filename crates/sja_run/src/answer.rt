@@ -4,6 +4,7 @@ ghost use Rattle.std.specs.Prelude.{IfOk, IfErr};
 ghost use Rattle.sja_words.specs.Words.{request_of};
 ghost use Rattle.sja_run.specs.Answer.{IsPrinted, IsRefused};
 
+use super::arbitrate::arbitrated;
 use super::decode::decoded;
 use super::encode::encoded;
 use super::filter::filtered;
@@ -25,5 +26,6 @@ pub fn printed(alloc: Global, task: Task<'_>) -> Result<Vec<u8>, Refusal>
             amr,
             message,
         } => filtered(alloc, single, acr, amr, message),
+        Task::Arbitrate(messages) => arbitrated(alloc, messages.as_slice()),
     }
 }

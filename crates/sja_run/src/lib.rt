@@ -6,6 +6,7 @@
 #![tactic(auto)]
 
 mod answer;
+mod arbitrate;
 mod bytes_text;
 mod decode;
 mod encode;

@@ -1,3 +1,4 @@
 pub mod Rows
 pub mod Parses
 pub mod PlainWords
+pub mod Several

@@ -4,7 +4,7 @@ use Rattle.std.specs.Prelude.{option_map, option_and_then, find, slice_get, map,
 use Rattle.std.specs.Str.{bytes_eq}
 use Rattle.std.specs.Box.{box_value}
 use Rattle.std.specs.Borrow.{Bor}
-use Rattle.clap.specs.Words.{Row, Text, first_of, first_value, found_of, rows_of, subcommand_rows}
+use Rattle.clap.specs.Words.{Row, Text, all_of, first_of, first_value, found_of, matched_of, raw_values, rows_of, subcommand_rows}
 use Rattle.clap.specs.Walk.{row_of}
 use Rattle.clap.specs.declared.parser.matches.MatchedArg.{MatchedArg}
 use Rattle.clap.specs.declared.parser.matches.ArgMatches.{ArgMatches}
@@ -42,3 +42,20 @@ found_rows (Some b) name rows named has =
     let n : name ≡ (out-SubCommand (box_value b)).name.now = cc in
     let r : rows ≡ rows_of (found_of (out-SubCommand (box_value b)).matches) = cc in
     rw (n, r) refl
+
+-- all values of an argument, of the entries of a parse
+abbrev all_in : List (Bor (List ℕ) × MatchedArg) → Text → Option (List Text)
+all_in xs id = option_map raw_values (option_map (λ e. e.1) (find (λ e. bytes_eq e.0.now id) xs))
+
+-- they are the same in the rows and in the matches
+all_of-entries : (xs : List (Bor (List ℕ) × MatchedArg)) (id : Text) → all_of id (map row_of xs) ≡ all_in xs id
+all_of-entries [] id = refl
+all_of-entries (x ∷ xs) id = go (bytes_eq x.0.now id) refl (all_of-entries xs id)
+  where
+    go : (t : Bool) → bytes_eq x.0.now id ≡ t → all_of id (map row_of xs) ≡ all_in xs id → all_of id (map row_of (x ∷ xs)) ≡ all_in (x ∷ xs) id
+    go true t rest = rw t refl
+    go false t rest = rw t rest
+
+-- all values of an argument, in the matches and in their rows
+pub raw_values-rows : (n : ArgMatches) (id : Text) → option_map raw_values (matched_of (found_of n) id) ≡ all_of id (rows_of (found_of n))
+raw_values-rows n id = rw (all_of-entries (found_of n).entries.items id) refl

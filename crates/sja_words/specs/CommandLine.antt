@@ -24,6 +24,12 @@ filter_app =
     (text_rule (codes "AMR")))
     (text_rule (codes "MESSAGE"))
 
+-- `arbitrate MESSAGE..`, with one to eight messages
+abbrev pub arbitrate_app : App
+arbitrate_app =
+    with_rule (new_app (codes "arbitrate"))
+    (record (text_rule (codes "MESSAGE")) { range = Some (record { start_inclusive = 1; end_inclusive = 8 }) })
+
 -- a command of which one subcommand has to be given
 abbrev pub empty_app : App
 empty_app = let a = new_app (codes "sja") in record a { top = record a.top { subcommand_required = true } }
@@ -37,4 +43,4 @@ line_app =
 
 -- the whole
 abbrev pub sja_app : App
-sja_app = with_subcommand line_app filter_app.top
+sja_app = with_subcommand (with_subcommand line_app filter_app.top) arbitrate_app.top

@@ -1,9 +1,9 @@
 -- What words ask for (this project's own rule).
-use Rattle.std.specs.Prelude.{◌≡◌, ℕ, Bool, true, false, List, [], Option, Some, None, codes, if◌then◌else◌, option_map}
+use Rattle.std.specs.Prelude.{◌≡◌, ◌&&◌, ℕ, Bool, true, false, List, [], length, map, Option, Some, None, codes, if◌then◌else◌, nat_lt, nat_le, option_map}
 use Rattle.std.specs.Str.{bytes_eq}
-use Rattle.clap.specs.Words.{Kinds, Row, Text, fault_of, first_of, subcommand_of}
+use Rattle.clap.specs.Words.{Kinds, Row, Text, all_of, fault_of, first_of, subcommand_of}
 use Rattle.sja_words.specs.declared.task.Task.{Task}
-use Rattle.sja_words.specs.declared.task.Task.TheVariants.{Encode, Decode, Filter}
+use Rattle.sja_words.specs.declared.task.Task.TheVariants.{Encode, Decode, Filter, Arbitrate}
 use Rattle.sja_words.specs.CommandLine.{sja_app}
 
 -- what the program is asked for, with the texts of its arguments
@@ -11,12 +11,14 @@ pub data Request : Type 0 where
   encode : List ℕ → Request
   decode : List ℕ → Request
   filter : Bool → List ℕ → List ℕ → List ℕ → Request
+  arbitrate : List (List ℕ) → Request
 
 -- a task as what it asks for
 abbrev pub request_of : Task → Request
 request_of (Encode message) = encode message.now
 request_of (Decode line) = decode line.now
 request_of (Filter single acr amr message) = filter single acr.now amr.now message.now
+request_of (Arbitrate messages) = arbitrate (map (λ message. message.now) messages.items)
 
 -- a mode: whether it is that of a single filter
 abbrev pub single_in : Text → Option Bool
@@ -33,6 +35,12 @@ filter_in (Some mode) (Some acr) None message = None
 filter_in (Some mode) None amr message = None
 filter_in None acr amr message = None
 
+-- what `arbitrate` asks for, by the values of its argument: there are one to eight of them
+abbrev pub arbitrate_in : Option (List Text) → Option Request
+arbitrate_in None = None
+arbitrate_in (Some messages) =
+    if nat_lt 0 (length messages) && nat_le (length messages) 8 then Some (arbitrate messages) else None
+
 -- what a subcommand asks for, by its name and the values of its arguments
 abbrev pub request_by : Text → List Row → Option Request
 request_by name rows =
@@ -40,6 +48,7 @@ request_by name rows =
     else if bytes_eq name (codes "decode") then option_map decode (first_of (codes "LINE") rows)
     else if bytes_eq name (codes "filter") then
     filter_in (first_of (codes "MODE") rows) (first_of (codes "ACR") rows) (first_of (codes "AMR") rows) (first_of (codes "MESSAGE") rows)
+    else if bytes_eq name (codes "arbitrate") then arbitrate_in (all_of (codes "MESSAGE") rows)
     else None
 
 -- what the subcommand that was found asks for

@@ -3,7 +3,7 @@
 ghost use Rattle.std.specs.Prelude.{◌≡◌, IfOk, codes, false};
 ghost use Rattle.clap.specs.Words.{app_of, rule_of};
 ghost use Rattle.clap.specs.declared.builder.command.Command.TheViews.{out-Command};
-ghost use Rattle.sja_words.specs.CommandLine.{text_rule, text_app, filter_app, line_app, sja_app};
+ghost use Rattle.sja_words.specs.CommandLine.{text_rule, text_app, filter_app, arbitrate_app, line_app, sja_app};
 
 use clap::{Arg, ArgAction, Command};
 use std::alloc::{AllocError, Global};
@@ -49,6 +49,16 @@ fn filter_command<'a>(alloc: Global) -> Result<Command<'a>, AllocError>
         .arg(text_argument(alloc, "MESSAGE"))
 }
 
+/// `arbitrate MESSAGE..`, with one to eight messages.
+fn arbitrate_command<'a>(alloc: Global) -> Result<Command<'a>, AllocError>
+    ensures app { IfOk result (λ command. app_of command ≡ arbitrate_app) }
+    ensures local { IfOk result (λ command. (out-Command command).has_globals ≡ false) }
+{
+    Command::new(alloc, "arbitrate")
+        .about("Print where each of one to eight messages' frames loses arbitration to the others")
+        .arg(text_argument(alloc, "MESSAGE").num_args(1..=8))
+}
+
 /// The commands over one line.
 fn line_command<'a>(alloc: Global) -> Result<Command<'a>, AllocError>
     ensures app { IfOk result (λ command. app_of command ≡ line_app) }
@@ -65,5 +75,7 @@ fn line_command<'a>(alloc: Global) -> Result<Command<'a>, AllocError>
 pub fn sja_command<'a>(alloc: Global) -> Result<Command<'a>, AllocError>
     ensures { IfOk result (λ command. app_of command ≡ sja_app) }
 {
-    line_command(alloc)?.subcommand(filter_command(alloc)?)
+    line_command(alloc)?
+        .subcommand(filter_command(alloc)?)?
+        .subcommand(arbitrate_command(alloc)?)
 }

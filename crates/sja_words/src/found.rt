@@ -1,13 +1,16 @@
 //! The task of the subcommand that the parser found.
 
 ghost use Rattle.std.specs.Prelude.{◌≡◌, codes, option_map};
-ghost use Rattle.clap.specs.Words.{first_of, found_of, rows_of, subcommand_rows_of};
-ghost use Rattle.sja_words.specs.Words.{decode, encode, filter_in, request_by, request_in, request_of, single_in};
+ghost use Rattle.clap.specs.Words.{all_of, first_of, found_of, rows_of, subcommand_rows_of};
+ghost use Rattle.sja_words.specs.Words.{arbitrate_in, decode, encode, filter_in, request_by, request_in, request_of};
+ghost use Rattle.sja_words.specs.Words.{single_in};
 
 use super::task::Task;
+use arrayvec::ArrayVec;
 use clap::ArgMatches;
 
-/// The task of the subcommand that was found, with its arguments; nothing where its mode is none.
+/// The task of the subcommand that was found, with its arguments; nothing where its mode is none, or where there aren't
+/// one to eight messages.
 pub fn task_of<'a>(matches: &ArgMatches<'a>) -> Option<Task<'a>>
     ensures { option_map request_of result ≡ request_in (subcommand_rows_of matches.now) }
 {
@@ -23,6 +26,7 @@ fn task_by<'a>(name: &str, arguments: &ArgMatches<'a>) -> Option<Task<'a>>
         "encode" => encode_task(arguments),
         "decode" => decode_task(arguments),
         "filter" => filter_task(arguments),
+        "arbitrate" => arbitrate_task(arguments),
         _ => None,
     }
 }
@@ -60,6 +64,19 @@ fn filter_task<'a>(arguments: &ArgMatches<'a>) -> Option<Task<'a>>
         amr,
         message,
     })
+}
+
+/// `arbitrate MESSAGE..`.
+fn arbitrate_task<'a>(arguments: &ArgMatches<'a>) -> Option<Task<'a>>
+    ensures { option_map request_of result
+        ≡ arbitrate_in (all_of (codes "MESSAGE") (rows_of (found_of arguments.now))) }
+{
+    let texts = arguments.get_strs("MESSAGE")?;
+    let mut messages = ArrayVec::new();
+    if texts.is_empty() || messages.try_extend_from_slice(texts).is_err() {
+        return None;
+    }
+    Some(Task::Arbitrate(messages))
 }
 
 /// Whether this mode is that of a single filter; nothing where it is no mode.

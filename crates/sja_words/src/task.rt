@@ -1,5 +1,7 @@
+use arrayvec::ArrayVec;
+
 /// What the program is asked to do. The texts are those of the words that were parsed, not yet judged.
-#[derive(Clone, Copy, Debug)]
+#[derive(Debug, Drop)]
 pub enum Task<'a> {
     /// `encode MESSAGE`: the levels that a transmitter of this message's frame sends.
     Encode(&'a str),
@@ -16,4 +18,6 @@ pub enum Task<'a> {
         /// The message.
         message: &'a str,
     },
+    /// `arbitrate MESSAGE..`: what becomes of these one to eight messages' frames if their transmitters start together.
+    Arbitrate(ArrayVec<&'a str, 8>),
 }

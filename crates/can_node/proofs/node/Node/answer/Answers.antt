@@ -1,5 +1,4 @@
-use Rattle.std.proofs.Common.{refl, sym, ◌∙◌}
-use Rattle.can_node.proofs.FrameTurns.{answers_listening, answers_due, answers_none}
+use Rattle.can_node.proofs.FrameDrives.{answers_listening, answers_due, answers_none}
 use Rattle.can_node.proofs.node.Node.answer.Goals as goal
 
 -- src/moving.rt

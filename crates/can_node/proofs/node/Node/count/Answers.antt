@@ -1,4 +1,3 @@
-use Rattle.std.proofs.Common.{sym, ◌∙◌}
 use Rattle.can_node.specs.Standing.{context_of}
 use Rattle.can_node.proofs.Counts.{count_joining, count_frame, count_delimiting}
 use Rattle.can_node.proofs.node.Node.count.Goals as goal

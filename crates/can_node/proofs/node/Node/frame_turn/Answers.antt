@@ -1,4 +1,3 @@
-use Rattle.std.proofs.Common.{sym}
 use Rattle.can_node.specs.Standing.{context_of}
 use Rattle.can_node.proofs.FrameTurns.{hear_turn, tell_turn, telling_by}
 use Rattle.can_node.proofs.node.Node.frame_turn.Goals as goal

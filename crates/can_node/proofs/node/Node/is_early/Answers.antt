@@ -1,6 +1,6 @@
 use Rattle.std.proofs.Common.{sym, ◌∙◌}
 use Rattle.can_node.specs.Standing.{context_of}
-use Rattle.can_node.proofs.FrameTurns.{early_by}
+use Rattle.can_node.proofs.FrameDrives.{early_by}
 use Rattle.can_node.proofs.node.Node.is_early.Goals as goal
 
 -- src/moving.rt

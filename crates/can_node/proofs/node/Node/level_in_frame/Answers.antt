@@ -1,5 +1,5 @@
 use Rattle.can_node.specs.Standing.{context_of}
-use Rattle.can_node.proofs.FrameTurns.{telling_drives, hearing_drives}
+use Rattle.can_node.proofs.FrameDrives.{telling_drives, hearing_drives}
 use Rattle.can_node.proofs.node.Node.level_in_frame.Goals as goal
 
 -- src/moving.rt

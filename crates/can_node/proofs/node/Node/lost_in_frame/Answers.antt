@@ -1,6 +1,7 @@
 use Rattle.std.proofs.Common.{sym, ◌∙◌}
 use Rattle.can_node.specs.Standing.{context_of}
-use Rattle.can_node.proofs.FrameTurns.{code_by, recessive_if, dominant_if}
+use Rattle.can_node.proofs.FrameTurns.{recessive_if, dominant_if}
+use Rattle.can_node.proofs.FrameDrives.{code_by}
 use Rattle.can_node.proofs.node.Node.lost_in_frame.Goals as goal
 
 -- src/moving.rt

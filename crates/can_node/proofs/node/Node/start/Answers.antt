@@ -1,4 +1,4 @@
-use Rattle.std.proofs.Common.{refl, ap}
+use Rattle.std.proofs.Common.{ap}
 use Rattle.can_node.specs.declared.stage.Stage.TheVariants.{Joining}
 use Rattle.can_node.proofs.Calls.{started_stands}
 use Rattle.can_node.proofs.node.Node.start.Goals as goal

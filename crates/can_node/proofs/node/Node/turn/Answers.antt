@@ -1,5 +1,3 @@
-use Rattle.std.proofs.Common.{refl, ap, subst, sym, List}
-use Rattle.can_bits.specs.declared.shift.Shift.{Shift}
 use Rattle.can_node.specs.Standing.{context_of}
 use Rattle.can_node.proofs.Ats.{at_joining, at_idle, at_last, at_flagging, at_delimiting, at_pausing}
 use Rattle.can_node.proofs.node.Node.turn.Goals as goal

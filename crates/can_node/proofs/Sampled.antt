@@ -1,0 +1,84 @@
+-- One bit leads from a record to the record with it.
+use Rattle.std.proofs.Common.{◌≡◌, ◌<◌, ◌≤◌, Bool, nat_le, List, [], ◌∷◌, ◌++◌, ap, sym, subst, ◌∙◌, inl, inr, if◌then◌else◌}
+use Rattle.std.proofs.lemmas.List.{append-nil}
+use Rattle.std.proofs.lemmas.Bool.{cases_lt, le-leb, lt-leb}
+use Rattle.can_bits.specs.declared.shift.Shift.{Shift}
+use Rattle.can_node.specs.declared.stage.Stage.{Stage}
+use Rattle.can_node.specs.declared.stage.Stage.TheVariants.{Resting as StageResting}
+use Rattle.can_node.specs.declared.turn.Turn.{Turn}
+use Rattle.can_node.specs.declared.turn.Turn.TheVariants.{Goes as TurnGoes, Closes as TurnCloses}
+use Rattle.can_node.specs.declared.bit_events.BitEvents.{BitEvents}
+use Rattle.can_node.specs.declared.node.Node.{Node}
+use Rattle.can_node.specs.Bits.{Bit}
+use Rattle.can_node.specs.Context.{Context}
+use Rattle.can_node.specs.Record.{Entry, bits_in}
+use Rattle.can_node.specs.Record.Entry.{Took, Off}
+use Rattle.can_node.specs.Counting.{at_bit}
+use Rattle.can_node.specs.Effects.{along, closed, with_off}
+use Rattle.can_node.specs.Cut.{Found, none_yet, counted, tagged}
+use Rattle.can_node.specs.Events.{events_of}
+use Rattle.can_node.specs.Driving.{Drives}
+use Rattle.can_node.specs.Standing.{context_of}
+use Rattle.can_node.specs.Turns.{IsMade, AtAfter, piece_of, next_of, step_of, resulted, off_if}
+use Rattle.can_node.specs.Stands.{StandsAt, Leads, closed_by}
+use Rattle.can_node.proofs.BitStands.{goes_stands, closes_stands, off_goes, off_closes}
+
+-- bus-off or not
+off_is : (n : Context) → n.tec < 256 → off_if n ≡ n
+off_is n few = ap (λ t. if t then with_off n else n) (lt-leb 256 n.tec few)
+
+off_now : (n : Context) → 256 ≤ n.tec → off_if n ≡ with_off n
+off_now n far = ap (λ t. if t then with_off n else n) (le-leb 256 n.tec far)
+
+-- the entries that the bit adds
+abbrev pub entries_if : Bool → Bit → List Entry
+entries_if went b = if went then Took b ∷ Off ∷ [] else Took b ∷ []
+
+-- the node stands at the record with the bit
+stands_by : (old new : Node) (entries : List Entry) (found : List Found) (h : StandsAt old entries found) (b : Bit) (turn : Turn) (stage : Stage) (reader shift : Shift) →
+    let now = along h.context h.spot [] h.slice in let d = at_bit now h.spot (bits_in h.slice) b in let n = resulted turn d in
+    Drives now h.spot (bits_in h.slice) b.driven → IsMade reader h.context d h.spot (bits_in h.slice ++ b ∷ []) turn →
+    AtAfter turn stage shift h.context n h.spot (bits_in h.slice ++ b ∷ []) → context_of new.standing ≡ off_if n →
+    (n.tec < 256 → (new.stage ≡ stage) × (new.shift ≡ shift)) → (256 ≤ n.tec → new.stage ≡ StageResting) →
+    StandsAt new (entries ++ entries_if (nat_le 256 n.tec) b) (found ++ closed_by (counted none_yet (entries ++ Took b ∷ [])) (step_of d.held turn))
+stands_by old new entries found h b (TurnGoes going) stage reader shift drives made at shows on off =
+    let d = at_bit (along h.context h.spot [] h.slice) h.spot (bits_in h.slice) b in
+    let P : Bool → Type 0 = λ w. StandsAt new (entries ++ entries_if w b) found in
+    let Q : List Found → Type 0 = λ f. StandsAt new (entries ++ entries_if (nat_le 256 d.tec) b) f in
+    subst Q (sym (append-nil found)) (elim (cases_lt d.tec 256) [
+      | inl few ↦
+          let same = on few in
+          subst P (sym (lt-leb 256 d.tec few)) (goes_stands old new entries found h b stage shift drives at few (shows ∙ off_is d few) same.0 same.1)
+      | inr far ↦
+          subst P (sym (le-leb 256 d.tec far)) (off_goes old new entries found h b stage shift at far (shows ∙ off_now d far) (off far))
+    ])
+stands_by old new entries found h b (TurnCloses done) stage reader shift drives made at shows on off =
+    let d = at_bit (along h.context h.spot [] h.slice) h.spot (bits_in h.slice) b in
+    let n = closed (piece_of d.held done) (next_of done) d in
+    let P : Bool → Type 0 = λ w. StandsAt new (entries ++ entries_if w b)
+    (found ++ tagged (counted none_yet (entries ++ Took b ∷ [])) (piece_of d.held done ∷ [])) in
+    elim (cases_lt n.tec 256) [
+      | inl few ↦
+          let same = on few in
+          subst P (sym (lt-leb 256 n.tec few))
+          (closes_stands old new entries found h b stage shift (piece_of d.held done) (next_of done) made at few (shows ∙ off_is n few) same.0 same.1)
+      | inr far ↦
+          subst P (sym (le-leb 256 n.tec far))
+          (off_closes old new entries found h b (piece_of d.held done) (next_of done) made far (shows ∙ off_now n far) (off far))
+    ]
+
+-- and the bit tells what the cut has there
+pub leads_by : (old new : Node) (entries : List Entry) (found : List Found) (h : StandsAt old entries found) (b : Bit) (turn : Turn) (stage : Stage) (reader shift : Shift) (e : BitEvents) →
+    let now = along h.context h.spot [] h.slice in let d = at_bit now h.spot (bits_in h.slice) b in let n = resulted turn d in
+    Drives now h.spot (bits_in h.slice) b.driven → IsMade reader h.context d h.spot (bits_in h.slice ++ b ∷ []) turn →
+    AtAfter turn stage shift h.context n h.spot (bits_in h.slice ++ b ∷ []) → context_of new.standing ≡ off_if n →
+    (n.tec < 256 → (new.stage ≡ stage) × (new.shift ≡ shift)) → (256 ≤ n.tec → new.stage ≡ StageResting) →
+    e ≡ events_of (step_of d.held turn) now h.spot (bits_in h.slice) b → e.went_off ≡ nat_le 256 n.tec → Leads old new entries found h b e
+leads_by old new entries found h b turn stage reader shift e drives made at shows on off told went =
+    let d = at_bit (along h.context h.spot [] h.slice) h.spot (bits_in h.slice) b in
+    let P : Bool → Type 0 = λ w. StandsAt new (entries ++ entries_if w b) (found ++ closed_by (counted none_yet (entries ++ Took b ∷ [])) (step_of d.held turn)) in
+    record {
+      step = step_of d.held turn;
+      told = told;
+      stands = subst P (sym went) (stands_by old new entries found h b turn stage reader shift drives made at shows on off);
+    }
