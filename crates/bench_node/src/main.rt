@@ -1,8 +1,8 @@
 //! Runs nodes on one wire, so that their speed can be measured.
 //!
-//! `bench_node COUNT` has three nodes send one frame in turn, COUNT times in all. Of each frame one node is the sender and
-//! the others receive it. Prints how many bits the nodes saw, each node's own counted, and how many frames were sent and
-//! received, and a checksum of what the nodes were told of each bit: always the same text for a count.
+//! `bench_node COUNT` has three nodes send one frame in turn, COUNT times in all. Of each frame one node is the sender
+//! and the others receive it. Prints how many bits the nodes saw, each node's own counted, and how many frames were sent
+//! and received, and a checksum of what the nodes were told of each bit: always the same text for a count.
 #![tactic(auto)]
 
 mod tally;
@@ -17,7 +17,8 @@ use traffic::Traffic;
 /// The data of the frame that is sent.
 const DATA: [u8; 8] = [0x11, 0x22, 0x33, 0x44, 0x55, 0x66, 0x77, 0x88];
 
-/// Answers the exit status: 0 for done, 2 where the argument is no count, 1 where a frame wasn't sent or a write failed.
+/// Answers the exit status: 0 for done, 2 where the argument is no count, 1 where a frame wasn't sent or a write
+/// failed.
 fn main(rt: HostRuntime) -> ExitCode {
     let Some(count) = count_of(&rt) else {
         return ExitCode::from(2);
