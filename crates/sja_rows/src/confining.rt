@@ -1,16 +1,21 @@
 //! The error counters of a sender without others: error passive, bus-off and recovery. Bits count from 0 with the
 //! start.
 
-use super::given::{ZEROS, asked, counts, plain};
+use super::given::{ZEROS, asked, counts, restart};
 use can_bits::Level;
 use can_node::{BitEvents, Node, Phase, State};
 use std::test::Fail;
 
+/// The bit of a node that sees what it drives, or the other level where it is struck.
+fn bit_of(node: &mut Node, struck: bool) -> BitEvents {
+    let level = node.drive();
+    node.sample(if struck { level.opposite() } else { level })
+}
+
 /// So many bits in which the node sees what it drives.
 fn run(node: &mut Node, bits: u32) {
     for _ in 0..bits {
-        let level = node.drive();
-        node.sample(level);
+        bit_of(node, false);
     }
 }
 
@@ -34,12 +39,6 @@ fn is_struck(bit: u32) -> bool {
     let active = bit >= 11 && bit < 11 + 18 * 16 && (bit - 11) % 18 == 0;
     let passive = bit >= 307 && bit < 307 + 26 * 16 && (bit - 307) % 26 == 0;
     active || passive
-}
-
-/// The bit of a node that sees what it drives, or the other level where it is struck.
-fn bit_of(node: &mut Node, struck: bool) -> BitEvents {
-    let level = node.drive();
-    node.sample(if struck { level.opposite() } else { level })
 }
 
 /// A sender whose starts of frame are struck, up to bus-off.
@@ -69,7 +68,7 @@ fn a_sender_that_is_struck_goes_off(rt: HostRuntime) -> Result<(), Fail> {
     Ok(())
 }
 
-/// The counter that counts the waiting down after so many recessive levels: one for each eleven.
+/// The transmit error counter of a node that recovers, after so many recessive levels: one less for each eleven.
 fn left(levels: u32) -> u32 {
     127u32.saturating_sub(levels / 11)
 }
@@ -87,43 +86,27 @@ fn recovers(node: &mut Node) -> bool {
     right && counts(node, 0, 0) && node.phase() == Phase::Idle
 }
 
+/// Bits 698 to 2105 are recessive, the 128 times eleven.
 #[test]
 fn a_node_that_went_off_recovers_after_a_start(rt: HostRuntime) -> Result<(), Fail> {
     let mut node = gone_off()?;
-    node.stop();
-    node.start(plain());
+    restart(&mut node);
     assert!(rt; recovers(&mut node));
     assert!(rt; node.counters().state() == State::Active);
-    Ok(())
-}
-
-/// Bits 698 to 2105 are recessive.
-#[test]
-fn recovery_ends_with_bit_2105(rt: HostRuntime) -> Result<(), Fail> {
-    let mut node = gone_off()?;
-    node.stop();
-    node.start(plain());
-    for bit in 698..2105u32 {
-        let events = node.sample(Level::Recessive);
-        assert!(rt; !events.recovered, "at bit {bit}");
-    }
-    assert!(rt; counts(&node, 0, 0) && node.counters().off);
-    assert!(rt; node.sample(Level::Recessive).recovered);
     Ok(())
 }
 
 #[test]
 fn a_start_in_the_middle_of_recovery_begins_it_anew(rt: HostRuntime) -> Result<(), Fail> {
     let mut node = gone_off()?;
-    node.stop();
-    node.start(plain());
+    restart(&mut node);
     for _ in 0..700u32 {
         node.sample(Level::Recessive);
     }
     assert!(rt; counts(&node, 64, 0));
     node.stop();
     assert!(rt; counts(&node, 64, 0) && node.counters().off);
-    node.start(plain());
+    restart(&mut node);
     assert!(rt; recovers(&mut node));
     Ok(())
 }

@@ -28,6 +28,12 @@ pub fn started(config: Config) -> Node {
     node
 }
 
+/// A stop, and a start without a special mode. A node that is stopped may be stopped again.
+pub fn restart(node: &mut Node) {
+    node.stop();
+    node.start(plain());
+}
+
 /// A request for the frame of a message, to be tried again until it is sent.
 pub fn request_for(message: &[u8]) -> Result<Request, Fail> {
     Ok(Request {

@@ -88,3 +88,26 @@ fn six_dominant_levels_are_a_stuff_error(rt: HostRuntime) -> Result<(), Fail> {
     assert!(rt; counts(&node, 0, 1));
     Ok(())
 }
+
+/// Its own flag is over with bit 22. Bit 23 shows that others' flags follow, and each eight of them cost more.
+#[test]
+fn dominant_levels_after_a_flag_are_counted(rt: HostRuntime) -> Result<(), Fail> {
+    let mut node = started(plain());
+    assert!(rt; sees(&mut node, Level::Recessive, 11));
+    for bit in 11..46u32 {
+        node.sample(Level::Dominant);
+        let receive = match bit {
+            0..=15 => 0,
+            16..=22 => 1,
+            23..=29 => 9,
+            30..=37 => 17,
+            38..=45 => 25,
+            _ => 33,
+        };
+        assert!(rt; counts(&node, 0, receive), "at bit {bit}");
+    }
+    assert!(rt; rests(&mut node, Phase::Delimiter, 46..54));
+    assert!(rt; rests(&mut node, Phase::Intermission, 54..57));
+    assert!(rt; node.at_rest() && counts(&node, 0, 25));
+    Ok(())
+}

@@ -1,7 +1,7 @@
 //! Stops and starts in the middle of a frame. Bits count from 0 with the first start; a frame that was requested before
 //! begins with bit 11.
 
-use super::given::{ZEROS, asked, counts, is_quiet, plain, request_for, sees, started};
+use super::given::{ZEROS, asked, counts, is_quiet, plain, request_for, restart, sees, started};
 use super::station::Station;
 use super::wire::run;
 use can_bits::Level;
@@ -33,7 +33,7 @@ fn a_stop_in_a_frame_drops_the_request(rt: HostRuntime) -> Result<(), Fail> {
     node.stop();
     assert!(rt; node.phase() == Phase::Reset && node.at_rest());
     assert!(rt; looks_at_nothing(&mut node));
-    node.start(plain());
+    restart(&mut node);
     assert!(rt; sees(&mut node, Level::Recessive, 10) && node.phase() == Phase::Waiting);
     assert!(rt; sees(&mut node, Level::Dominant, 1) && node.phase() == Phase::Waiting);
     assert!(rt; sees(&mut node, Level::Recessive, 11) && node.phase() == Phase::Idle);
@@ -50,7 +50,7 @@ fn a_sender_stopped_in_a_frame_sends_another_later(rt: HostRuntime) -> Result<()
     stations[0].node.stop();
     run(&mut stations, 30..50, None);
     assert!(rt; counts(&stations[1].node, 0, 1));
-    stations[0].node.start(plain());
+    restart(&mut stations[0].node);
     assert!(rt; stations[0].node.request(request_for(&[0, 0, 0x20])?) == Ok(()));
     run(&mut stations, 50..250, None);
     assert!(rt; stations[0].sent.is_some() && stations[0].node.at_rest());
@@ -64,8 +64,7 @@ fn a_sender_stopped_in_a_frame_sends_another_later(rt: HostRuntime) -> Result<()
 fn a_receiver_started_in_a_frame_takes_the_next(rt: HostRuntime) -> Result<(), Fail> {
     let mut stations = [Station::new(asked(&ZEROS)?), Station::new(started(plain()))];
     run(&mut stations, 0..30, None);
-    stations[1].node.stop();
-    stations[1].node.start(plain());
+    restart(&mut stations[1].node);
     run(&mut stations, 30..61, None);
     assert!(rt; counts(&stations[0].node, 8, 0) && stations[1].received == 0);
     run(&mut stations, 61..250, None);

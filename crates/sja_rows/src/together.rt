@@ -1,11 +1,12 @@
 //! Stations that start their frames together, and where they lose arbitration. Bits count from 0 with the start; the
 //! frames begin with bit 11.
 
-use super::given::{ZEROS, asked, counts};
+use super::given::{ZEROS, asked, counts, plain, request_for, started};
 use super::station::Station;
-use super::wire::run_to_rest;
+use super::wire::{run, run_to_rest};
+use can_bits::Level;
 use can_frame::Message;
-use can_node::contend;
+use can_node::{Phase, contend};
 use std::alloc::Global;
 use std::test::Fail;
 
@@ -26,6 +27,23 @@ fn the_higher_identifier_loses_and_is_sent_later(rt: HostRuntime) -> Result<(), 
     assert!(rt; stations[1].received == 1 && stations[1].last == Some(higher));
     assert!(rt; stations[0].sent > Some(60));
     assert!(rt; counts(&stations[0].node, 0, 0) && counts(&stations[1].node, 0, 0));
+    Ok(())
+}
+
+/// Bit 63 is the third of intermission. A dominant level there is the start of frame for a sender too: it goes on with
+/// its identifier.
+#[test]
+fn a_sender_takes_the_start_of_frame_of_another(rt: HostRuntime) -> Result<(), Fail> {
+    let mut stations = [Station::new(asked(&ZEROS)?), Station::new(started(plain()))];
+    run(&mut stations, 0..63, None);
+    assert!(rt; stations[1].received == 1);
+    assert!(rt; stations[1].node.request(request_for(&ZEROS)?) == Ok(()));
+    for station in stations.iter_mut() {
+        station.sample(63, Level::Dominant);
+    }
+    assert!(rt; stations[1].node.phase() == Phase::Frame);
+    run(&mut stations, 64..113, None);
+    assert!(rt; stations[1].sent == Some(112) && stations[0].received == 1);
     Ok(())
 }
 
