@@ -1,6 +1,6 @@
 -- When the acknowledgement is due, and when a whole line has come.
-use Rattle.std.proofs.Common.{◌≡◌, ◌↔◌, IsTrue, ℕ, Bool, Option, None, List, [], ◌∷◌, ◌++◌, length, replicate, take, refl, ap, sym, subst, ◌∙◌, arith, append_assoc}
-use Rattle.std.proofs.lemmas.List.{append-nil, length-take-le, nil_from_length}
+use Rattle.std.proofs.Common.{◌≡◌, inl, inr, ◌↔◌, IsTrue, ℕ, Bool, Option, None, List, [], ◌∷◌, ◌++◌, length, replicate, take, refl, ap, sym, subst, ◌∙◌, arith, append_assoc}
+use Rattle.std.proofs.lemmas.List.{append-nil, length-take-le, length_push, nil_from_length, same_from_push}
 use Rattle.can_frame.specs.Frame.{FrameValue}
 use Rattle.can_bits.specs.declared.level.Level.{Level}
 use Rattle.can_bits.specs.declared.level.Level.TheVariants.{Dominant, Recessive}
@@ -12,10 +12,10 @@ use Rattle.can_bits.specs.declared.shift_fault.ShiftFault.{ShiftFault}
 use Rattle.can_bits.specs.Check.{Crc}
 use Rattle.can_bits.specs.Line.{StuffedPart, tail}
 use Rattle.can_bits.specs.Reading.{SaysWhetherRight}
-use Rattle.can_bits.specs.Streaming.{IsReadable, IsOver}
+use Rattle.can_bits.specs.Streaming.{IsReadable, IsLineButFor, IsOver}
 use Rattle.can_bits.specs.Acknowledging.{IsAckDue}
 use Rattle.can_bits.specs.Shifts.{IsInside, IsPast, ReadsAt, Broke, StandsBy, StandsFor}
-use Rattle.can_bits.proofs.Lists.{append-cancel}
+use Rattle.can_bits.proofs.Lists.{last_of, append-cancel}
 use Rattle.can_bits.proofs.Ending.{same_part, same_spelling}
 use Rattle.can_bits.proofs.Readables.{readable_front}
 use Rattle.can_bits.proofs.PastLemmas.{past_but_for}
@@ -92,6 +92,22 @@ over_part l h =
     let but = h.1 in
     let P : List Level → Type 0 = λ r. l ++ r ≡ but.line.part ++ tail but.ack in
     sym (append-nil l) ∙ subst P (nil_from_length but.rest but.count) but.line.whole
+
+-- a line but for its last level is its stuffed part and nine levels more
+pub sixth_part : (f : FrameValue) (l : List Level) (h : IsLineButFor 1 f l) → l ≡ h.line.part ++ (Recessive ∷ h.ack ∷ replicate 7 Recessive)
+sixth_part f l h =
+    elim (last_of h.rest) [
+      | inl none ↦ let count = h.count in absurd (omega (arith, count, ap length none))
+      | inr some ↦
+          let count = h.count in
+          let line = h.line in
+          let nine : List Level = Recessive ∷ h.ack ∷ replicate 7 Recessive in
+          let one : some.0 ≡ [] = nil_from_length some.0 (omega (arith, count, ap length some.2, length_push some.0 some.1)) in
+          let rest : h.rest ≡ some.1 ∷ [] = some.2 ∙ ap (λ m. m ++ some.1 ∷ []) one in
+          let whole : l ++ some.1 ∷ [] ≡ (line.part ++ nine) ++ Recessive ∷ [] =
+          ap (λ m. l ++ m) (sym rest) ∙ line.whole ∙ sym (append_assoc line.part nine (Recessive ∷ [])) in
+          (same_from_push l (line.part ++ nine) some.1 Recessive whole).0
+    ]
 
 -- a whole line has come
 pub over_by : {g : Gathered} {came : ℕ} (l : List Level) → IsPast 10 g came l → IsOver l

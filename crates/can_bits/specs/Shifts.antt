@@ -1,5 +1,5 @@
 -- The levels that a reader of one level at a time stands for.
-use Rattle.std.specs.Prelude.{◌≡◌, ◌≢◌, ◌≤◌, ◌+◌, ℕ, List, [], ◌∷◌, ◌++◌, length, take, Option, Some, None}
+use Rattle.std.specs.Prelude.{◌≡◌, ◌≢◌, ◌≤◌, ◌+◌, ◌==◌, ℕ, Bool, false, List, [], ◌∷◌, ◌++◌, length, take, Option, Some, None}
 use Rattle.can_frame.specs.Frame.{FrameValue}
 use Rattle.can_bits.specs.declared.level.Level.{Level}
 use Rattle.can_bits.specs.declared.level.Level.TheVariants.{Dominant}
@@ -13,7 +13,8 @@ use Rattle.can_bits.specs.Check.{Crc}
 use Rattle.can_bits.specs.Fields.{level_at, says_count}
 use Rattle.can_bits.specs.Stuffing.{HasNoSixEqual, IsUnstuffed}
 use Rattle.can_bits.specs.Line.{StuffedPart, tail}
-use Rattle.can_bits.specs.Streaming.{IsEventOf}
+use Rattle.can_bits.specs.Segments.{IsNext}
+use Rattle.can_bits.specs.Streaming.{IsReadable, IsEventOf, BreaksWith}
 use Rattle.can_bits.specs.Gathering.{Gathers}
 
 -- the list ends in just n levels like this one
@@ -83,3 +84,17 @@ StandsBy (Some w) s l = Broke w s l
 -- the reader was given these levels
 abbrev pub StandsFor : Shift → List Level → Type 0
 StandsFor s l = StandsBy s.wrong s l
+
+-- the next level is right after these, or wrong: then the segment that it belongs to, whether it is a stuff bit, and
+-- what is wrong with it
+abbrev pub JudgesAt : List Level → Level → Option ShiftFault → Type 0
+JudgesAt l x None = IsReadable (l ++ x ∷ [])
+JudgesAt l x (Some w) = IsNext l w.segment w.stuff × BreaksWith l x w.fault
+
+-- by a reader's own fields the next level is a stuff bit: the last five are equal
+abbrev pub stuff_at : Stage → ℕ → Bool
+stuff_at Part run = run == 5
+stuff_at (After n) run = false
+
+abbrev pub is_stuff_next : Shift → Bool
+is_stuff_next s = stuff_at s.stage s.run

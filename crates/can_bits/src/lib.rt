@@ -39,3 +39,4 @@ pub use reading::read_line;
 pub use segment::Segment;
 pub use shift::Shift;
 pub use shift_event::ShiftEvent;
+pub use shift_fault::ShiftFault;

@@ -9,6 +9,7 @@ use super::stage::Stage;
 use can_frame::Frame;
 
 mod inside;
+mod past;
 
 /// How many equal levels a stuff bit follows.
 const RUN: u8 = 5;
@@ -36,7 +37,7 @@ pub struct Shift {
 impl Shift {
     ghost use Rattle.std.specs.Prelude.{◌≡◌, ◌≢◌, ◌⊎◌, ◌<◌, ◌+◌, ◌↔◌, ◌==◌, IsTrue, true, length, ◌∷◌, ◌++◌, [], List, None, Some, IfSome};
     ghost use Rattle.can_bits.specs.declared.level.Level.{Level as Bus};
-    ghost use Rattle.can_bits.specs.Streaming.{Tells, TellsCheck, IsEventOf, BreaksWith, IsReadable, IsOver};
+    ghost use Rattle.can_bits.specs.Streaming.{Tells, TellsCheck, ShowsFrame, IsReadable, IsOver};
     ghost use Rattle.can_bits.specs.Segments.{IsNext};
     ghost use Rattle.can_bits.specs.Acknowledging.{IsAckDue};
     ghost use Rattle.can_bits.specs.Line.{StuffedPart, tail};
@@ -44,7 +45,7 @@ impl Shift {
     ghost use Rattle.can_bits.specs.Check.{Crc};
     ghost use Rattle.can_bits.specs.Places.{place_code, is_early_stuff};
     ghost use Rattle.can_frame.specs.Frame.{FrameValue};
-    ghost use Rattle.can_bits.specs.Shifts.{StandsFor, ReadsAt, IsPartSoFar, IsPast, fault_event};
+    ghost use Rattle.can_bits.specs.Shifts.{StandsFor, JudgesAt, IsPast, is_stuff_next};
     ghost use Rattle.can_bits.specs.Gathering.{Gathers};
 
     /// A reader that has been given no level.
@@ -61,17 +62,73 @@ impl Shift {
         }
     }
 
-    /// Takes the next level.
+    /// Takes the next level, and tells all of it.
     pub fn step(&mut self, level: Level) -> ShiftEvent
         ensures stands { (l : List Bus) → StandsFor self.old l → StandsFor self.new (l ++ level ∷ []) }
         ensures told { (l : List Bus) → StandsFor self.old l → Tells l level result }
     {
         match self.wrong {
             Some(wrong) => wrong.event(),
+            None => {
+                let stuff = self.is_stuff();
+                let segment = self.next_segment();
+                match self.advance(level) {
+                    Some(wrong) => wrong.event(),
+                    None => ShiftEvent {
+                        segment,
+                        stuff,
+                        frame: self.frame(),
+                        fault: None,
+                    },
+                }
+            }
+        }
+    }
+
+    /// Takes the next level, and answers what is wrong with it, if anything; after a wrong one that one again. It does
+    /// less than [`step`](Shift::step).
+    pub fn advance(&mut self, level: Level) -> Option<ShiftFault>
+        ensures stands { (l : List Bus) → StandsFor self.old l → StandsFor self.new (l ++ level ∷ []) }
+        ensures judged { (l : List Bus) → StandsFor self.old l → IsReadable l → JudgesAt l level result }
+        ensures again { (wrong : ShiftFault) → self.old.wrong ≡ Some wrong → result ≡ Some wrong }
+    {
+        match self.wrong {
+            Some(wrong) => Some(wrong),
             None => match self.stage {
-                Stage::Part => self.step_inside(level),
-                Stage::After(n) => self.step_past(n, level),
+                Stage::Part => self.advance_inside(level),
+                Stage::After(n) => self.advance_past(n, level),
             },
+        }
+    }
+
+    /// The segment of the next level; a stuff bit belongs to that of the bit before it.
+    pub fn next_segment(&self) -> Segment
+        ensures { (l : List Bus) → StandsFor self.now l → IsReadable l → IsNext l result (is_stuff_next self.now) }
+    {
+        match self.stage {
+            Stage::Part => self.segment_inside(),
+            Stage::After(n) => segment_after(n),
+        }
+    }
+
+    /// The frame, where the sixth bit of its end of frame came last.
+    pub fn frame(&self) -> Option<Frame>
+        ensures { (l : List Bus) → StandsFor self.now l → IsReadable l → ShowsFrame l result }
+    {
+        if self.is_past(SIXTH_END_BIT + 1) {
+            self.gathered.frame()
+        } else {
+            None
+        }
+    }
+
+    /// Whether the next level is a stuff bit.
+    fn is_stuff(&self) -> bool
+        ensures { result ≡ is_stuff_next self.now }
+    {
+        match self.stage {
+            Stage::Part => self.run == RUN,
+            Stage::After(_) => false,
         }
     }
 
@@ -159,57 +216,10 @@ impl Shift {
         }
     }
 
-    /// Takes a level after the stuffed part, of which n have come before.
-    fn step_past(&mut self, n: u8, level: Level) -> ShiftEvent
-        requires right { self.old.wrong ≡ None }
-        requires past { self.old.stage ≡ Stage.After n }
-        ensures stands { (l : List Bus) → ReadsAt (Stage.After n) self.old l → StandsFor self.new (l ++ level ∷ []) }
-        ensures told { (l : List Bus) → ReadsAt (Stage.After n) self.old l → IsEventOf l level result }
-    {
-        let segment = segment_after(n);
-        match self.fault_past(n, level) {
-            Some(fault) => self.breaks(segment, false, fault),
-            None => {
-                self.count = self.count.wrapping_add(1);
-                self.stage = Stage::After(n.wrapping_add(1));
-                ShiftEvent {
-                    segment,
-                    stuff: false,
-                    frame: if n == SIXTH_END_BIT {
-                        self.gathered.frame()
-                    } else {
-                        None
-                    },
-                    fault: None,
-                }
-            }
-        }
-    }
-
-    /// What is wrong with a level after the stuffed part, of which n have come before.
-    fn fault_past(&self, n: u8, level: Level) -> Option<LineFault>
-        ensures broken { (l : List Bus) → ReadsAt (Stage.After n) self.now l → IfSome result (BreaksWith l level) }
-        ensures goes_on { (l : List Bus) → ReadsAt (Stage.After n) self.now l → result ≡ None
-            → IsPast (n + 1) self.now.gathered (self.now.count + 1) (l ++ level ∷ []) }
-    {
-        let at = usize::from(self.count);
-        if n >= 10 {
-            Some(LineFault::Trailing(at))
-        } else if n == 1 {
-            None
-        } else if !level.is_recessive() {
-            Some(LineFault::Form(at))
-        } else if n == 2 && !self.gathered.check_is_right() {
-            Some(LineFault::Crc)
-        } else {
-            None
-        }
-    }
-
-    /// Keeps a fault, and answers its event.
-    fn breaks(&mut self, segment: Segment, stuff: bool, fault: LineFault) -> ShiftEvent
+    /// Keeps a fault, and answers it.
+    fn breaks(&mut self, segment: Segment, stuff: bool, fault: LineFault) -> ShiftFault
         ensures kept { self.new ≡ record self.old { wrong = Some (record { segment = segment; stuff = stuff; fault = fault }) } }
-        ensures event { result ≡ fault_event (record { segment = segment; stuff = stuff; fault = fault }) }
+        ensures fault { result ≡ record { segment = segment; stuff = stuff; fault = fault } }
     {
         let wrong = ShiftFault {
             segment,
@@ -217,6 +227,6 @@ impl Shift {
             fault,
         };
         self.wrong = Some(wrong);
-        wrong.event()
+        wrong
     }
 }

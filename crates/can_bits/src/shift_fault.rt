@@ -2,11 +2,14 @@ use super::line_fault::LineFault;
 use super::segment::Segment;
 use super::shift_event::ShiftEvent;
 
-/// The event of the first level that was wrong.
+/// The first level that was wrong.
 #[derive(Clone, Copy, Debug)]
 pub struct ShiftFault {
+    /// The segment that the level belongs to; a stuff bit belongs to that of the bit before it.
     pub segment: Segment,
+    /// Whether the level is a stuff bit.
     pub stuff: bool,
+    /// What is wrong with it.
     pub fault: LineFault,
 }
 
@@ -14,7 +17,7 @@ impl ShiftFault {
     ghost use Rattle.std.specs.Prelude.{◌≡◌};
     ghost use Rattle.can_bits.specs.Shifts.{fault_event};
 
-    /// The event.
+    /// The event of that level.
     pub fn event(self) -> ShiftEvent
         ensures { result ≡ fault_event self }
     {

@@ -1,6 +1,5 @@
 -- One bit of a frame for its receiver.
-use Rattle.std.specs.Prelude.{IfSome}
-use Rattle.std.proofs.Common.{◌≡◌, ◌≢◌, Bool, Option, None, Some, List, [], ◌∷◌, ◌++◌, length, ap, sym, subst, ◌∙◌, arith, append_assoc}
+use Rattle.std.proofs.Common.{◌≡◌, ◌≢◌, Bool, None, Some, List, [], ◌∷◌, ◌++◌, length, ap, sym, subst, ◌∙◌, arith, append_assoc}
 use Rattle.std.proofs.lemmas.List.{append-nil, nil_from_length}
 use Rattle.can_frame.specs.Frame.{FrameValue}
 use Rattle.can_bits.specs.declared.level.Level.{Level}
@@ -8,10 +7,11 @@ use Rattle.can_bits.specs.declared.level.Level.TheVariants.{Dominant, Recessive}
 use Rattle.can_bits.specs.declared.segment.Segment.{Segment}
 use Rattle.can_bits.specs.declared.line_fault.LineFault.{LineFault}
 use Rattle.can_bits.specs.declared.line_fault.LineFault.TheVariants.{Stuff as StuffFault, Form as FormFault, Crc as CheckFault, NoAck, Truncated, Trailing}
-use Rattle.can_bits.specs.declared.shift_event.ShiftEvent.{ShiftEvent}
+use Rattle.can_bits.specs.declared.shift_fault.ShiftFault.{ShiftFault}
 use Rattle.can_bits.specs.Line.{Line, tail}
 use Rattle.can_bits.specs.Segments.{IsNext}
-use Rattle.can_bits.specs.Streaming.{IsReadable, IsLineButFor, IsOver, BreaksWith, IsEventOf, Judges, Tells}
+use Rattle.can_bits.specs.Streaming.{IsReadable, IsLineButFor, IsOver, BreaksWith, ShowsFrame}
+use Rattle.can_bits.specs.Shifts.{JudgesAt}
 use Rattle.can_bits.proofs.Ending.{line_at}
 use Rattle.can_bits.proofs.LineLaws.{lines_agree}
 use Rattle.can_node.specs.declared.cause.Cause.{Cause}
@@ -126,11 +126,6 @@ breaks_by c spot bits x (Trailing at) h answers broke =
 breaks_by c spot bits x NoAck h answers broke = absurd broke
 breaks_by c spot bits x Truncated h answers broke = absurd broke
 
--- the event of the next bit
-hearing_event : (c : Context) (spot : Spot) (bits : List Bit) (x : Bit) (event : ShiftEvent) → IsHearing c spot bits →
-    Tells (seen_of (frame_bits spot bits)) x.seen event → IsEventOf (seen_of (frame_bits spot bits)) x.seen event
-hearing_event c spot bits x event h told = told.right_so_far (hearing_readable c spot bits h)
-
 -- a bit that isn't driven dominant, or isn't seen recessive
 pub not_lost_driven : (x : Bit) → x.driven ≡ Recessive → x ≢ forced Recessive
 not_lost_driven x e d = let wrong : Recessive ≡ Dominant = sym e ∙ ap (λ (b : Bit). b.driven) d in cc
@@ -139,21 +134,18 @@ pub not_lost_seen : (x : Bit) → x.seen ≡ Dominant → x ≢ forced Recessive
 not_lost_seen x e d = let wrong : Dominant ≡ Recessive = sym e ∙ ap (λ (b : Bit). b.seen) d in cc
 
 -- its own acknowledgement isn't seen
-pub lost_row : (c : Context) (spot : Spot) (bits : List Bit) (x : Bit) (event : ShiftEvent) → IsHearing c spot bits →
-    Answers c.listen (seen_of (frame_bits spot bits)) x.driven → Tells (seen_of (frame_bits spot bits)) x.seen event → x ≡ forced Recessive →
-    Row c spot (bits ++ x ∷ []) (Fault InReception BitError event.segment) Flagging
-lost_row c spot bits x event h answers told lost =
-    fault_row c spot bits x BitError event.segment event.stuff h answers (own_ack h.more (ap (λ y. h.more ++ y ∷ []) lost))
-    (hearing_event c spot bits x event h told).place
+pub lost_row : (c : Context) (spot : Spot) (bits : List Bit) (x : Bit) (segment : Segment) (stuffed : Bool) → IsHearing c spot bits →
+    Answers c.listen (seen_of (frame_bits spot bits)) x.driven → IsNext (seen_of (frame_bits spot bits)) segment stuffed → x ≡ forced Recessive →
+    Row c spot (bits ++ x ∷ []) (Fault InReception BitError segment) Flagging
+lost_row c spot bits x segment stuffed h answers place lost =
+    fault_row c spot bits x BitError segment stuffed h answers (own_ack h.more (ap (λ y. h.more ++ y ∷ []) lost)) place
 
 -- the reader finds a fault
-pub wrong_row : (c : Context) (spot : Spot) (bits : List Bit) (x : Bit) (event : ShiftEvent) (fault : LineFault) → IsHearing c spot bits →
-    Answers c.listen (seen_of (frame_bits spot bits)) x.driven → Tells (seen_of (frame_bits spot bits)) x.seen event → event.fault ≡ Some fault →
-    Row c spot (bits ++ x ∷ []) (Fault InReception (cause_by fault) event.segment) Flagging
-wrong_row c spot bits x event fault h answers told some =
-    let here = hearing_event c spot bits x event h told in
-    let P : Option LineFault → Type 0 = λ o. Judges (seen_of (frame_bits spot bits)) x.seen o in
-    fault_row c spot bits x (cause_by fault) event.segment event.stuff h answers (breaks_by c spot bits x fault h answers (subst P some here.fault)) here.place
+pub wrong_row : (c : Context) (spot : Spot) (bits : List Bit) (x : Bit) (w : ShiftFault) → IsHearing c spot bits →
+    Answers c.listen (seen_of (frame_bits spot bits)) x.driven → JudgesAt (seen_of (frame_bits spot bits)) x.seen (Some w) →
+    Row c spot (bits ++ x ∷ []) (Fault InReception (cause_by w.fault) w.segment) Flagging
+wrong_row c spot bits x w h answers broke =
+    fault_row c spot bits x (cause_by w.fault) w.segment w.stuff h answers (breaks_by c spot bits x w.fault h answers broke.1) broke.0
 
 -- nothing is wrong with one bit more
 right_push : (c : Context) (spot : Spot) (bits : List Bit) (x : Bit) (h : IsHearing c spot bits) →
@@ -187,30 +179,22 @@ hearing_next c spot bits x h answers seen readable within =
     }
 
 -- the reader finds no fault and shows no frame
-pub goes_on : (c : Context) (spot : Spot) (bits : List Bit) (x : Bit) (event : ShiftEvent) → IsHearing c spot bits →
-    Answers c.listen (seen_of (frame_bits spot bits)) x.driven → Tells (seen_of (frame_bits spot bits)) x.seen event → x ≢ forced Recessive →
-    event.fault ≡ None → event.frame ≡ None → IsHearing c spot (bits ++ x ∷ [])
-goes_on c spot bits x event h answers told seen right none =
+pub goes_on : (c : Context) (spot : Spot) (bits : List Bit) (x : Bit) → IsHearing c spot bits →
+    Answers c.listen (seen_of (frame_bits spot bits)) x.driven → x ≢ forced Recessive → IsReadable (seen_of (frame_bits spot bits) ++ x.seen ∷ []) →
+    ShowsFrame (seen_of (frame_bits spot bits) ++ x.seen ∷ []) None → IsHearing c spot (bits ++ x ∷ [])
+goes_on c spot bits x h answers seen readable none =
     let levels : List Level = seen_of (frame_bits spot bits) in
-    let here = hearing_event c spot bits x event h told in
-    let P : Option LineFault → Type 0 = λ o. Judges levels x.seen o in
-    let readable : IsReadable (levels ++ x.seen ∷ []) = subst P right here.fault in
     let within = within_here (levels ++ x.seen ∷ []) readable
-    (λ f but. let wrong : None ≡ Some f = sym none ∙ here.frame.only f but in cc)
+    (λ f but. let wrong : None ≡ Some f = none.only f but in cc)
     (within_then_not_over levels x.seen (hearing_within c spot bits h)) in
     hearing_next c spot bits x h answers seen readable within
 
 -- the reader shows a frame
-pub received_row : (c : Context) (spot : Spot) (bits : List Bit) (x : Bit) (event : ShiftEvent) (f : FrameValue) → IsHearing c spot bits →
-    Answers c.listen (seen_of (frame_bits spot bits)) x.driven → Tells (seen_of (frame_bits spot bits)) x.seen event → x ≢ forced Recessive →
-    event.fault ≡ None → event.frame ≡ Some f → Row c spot (bits ++ x ∷ []) (Reception f) AfterReception
-received_row c spot bits x event f h answers told seen right some =
-    let levels : List Level = seen_of (frame_bits spot bits) in
-    let here = hearing_event c spot bits x event h told in
-    let P : Option LineFault → Type 0 = λ o. Judges levels x.seen o in
-    let Q : Option FrameValue → Type 0 = λ o. IfSome o (λ g. IsLineButFor 1 g (levels ++ x.seen ∷ [])) in
+pub received_row : (c : Context) (spot : Spot) (bits : List Bit) (x : Bit) (f : FrameValue) → IsHearing c spot bits →
+    Answers c.listen (seen_of (frame_bits spot bits)) x.driven → x ≢ forced Recessive → IsReadable (seen_of (frame_bits spot bits) ++ x.seen ∷ []) →
+    ShowsFrame (seen_of (frame_bits spot bits) ++ x.seen ∷ []) (Some f) → Row c spot (bits ++ x ∷ []) (Reception f) AfterReception
+received_row c spot bits x f h answers seen readable shown =
     let R : List Level → Type 0 = λ m. IsLineButFor 1 f m in
-    let line : IsLineButFor 1 f (levels ++ x.seen ∷ []) = subst Q some here.frame.some in
     row_push c spot AfterReception bits x (Reception f) h
     (received_now c.listen h.levels (h.more ++ x ∷ []) f h.inside (hearing_answers c spot bits x h answers)
-    (right_push c spot bits x h (subst P right here.fault) seen) (subst R (hearing_push c spot bits x h) line))
+    (right_push c spot bits x h readable seen) (subst R (hearing_push c spot bits x h) shown.some))

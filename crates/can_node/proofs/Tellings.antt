@@ -3,11 +3,12 @@ use Rattle.std.proofs.Common.{◌≡◌, ◌+◌, ◌↔◌, IsTrue, ℕ, Bool, 
 use Rattle.std.proofs.lemmas.List.{append-nil, nil_from_length}
 use Rattle.can_bits.specs.declared.level.Level.{Level}
 use Rattle.can_bits.specs.declared.level.Level.TheVariants.{Dominant, Recessive}
-use Rattle.can_bits.specs.declared.shift_event.ShiftEvent.{ShiftEvent}
+use Rattle.can_bits.specs.declared.segment.Segment.{Segment}
+use Rattle.can_bits.specs.Segments.{IsNext}
 use Rattle.can_bits.specs.Acknowledging.{IsAckDue}
 use Rattle.can_bits.specs.Line.{tail}
 use Rattle.can_bits.specs.Places.{place_code, is_early_stuff}
-use Rattle.can_bits.specs.Streaming.{IsOver, Tells}
+use Rattle.can_bits.specs.Streaming.{IsReadable, IsOver}
 use Rattle.can_node.specs.declared.cause.Cause.{Cause}
 use Rattle.can_node.specs.declared.fault_place.FaultPlace.TheVariants.{InSending}
 use Rattle.can_node.specs.declared.request.Request.{Request}
@@ -59,20 +60,21 @@ here_slot {c = c} {spot = spot} {bits = bits} h due count =
     due.1 (due_at_slot c.self_test h.request.frame h.check h.part (frame_bits spot bits) h.is_part h.well count)
 
 -- ---- a fault
-pub tells_fault : {c now : Context} {spot : Spot} {bits : List Bit} {driven seen : Level} {self_test slot early lost : Bool} {cause : Cause} (event : ShiftEvent) →
-    IsTold c now spot bits driven seen self_test slot early lost (Some cause) → Tells (seen_of (frame_bits spot bits)) seen event →
-    (lost ≡ false) × Row c spot (bits ++ record { driven = driven; seen = seen } ∷ []) (Fault InSending cause event.segment) Flagging
-tells_fault {c = c} {spot = spot} {bits = bits} {driven = driven} {seen = seen} {slot = slot} {early = early} {lost = lost} {cause = cause} event t told =
+pub tells_fault : {c now : Context} {spot : Spot} {bits : List Bit} {driven seen : Level} {self_test slot early lost : Bool} {cause : Cause} (segment : Segment) (stuffed : Bool) →
+    IsTold c now spot bits driven seen self_test slot early lost (Some cause) →
+    (IsReadable (seen_of (frame_bits spot bits)) → IsNext (seen_of (frame_bits spot bits)) segment stuffed) →
+    (lost ≡ false) × Row c spot (bits ++ record { driven = driven; seen = seen } ∷ []) (Fault InSending cause segment) Flagging
+tells_fault {c = c} {spot = spot} {bits = bits} {driven = driven} {seen = seen} {slot = slot} {early = early} {lost = lost} {cause = cause} segment stuffed t place =
     let h = t.telling in
     let b : Bit = record { driven = driven; seen = seen } in
     let before : List Bit = frame_bits spot bits in
     let wrong = ap (λ s. cause_with driven seen slot early lost s) (sym t.same) ∙ t.cause_is in
     let fails = cause_fails h.request h.part before driven seen c.self_test slot early lost cause (slot_here h t.slot_is) (here_slot h t.slot_is) t.early_is t.lost_is wrong in
-    let next = told.right_so_far (well_readable c.self_test h.request.frame h.check h.part before h.is_part h.well) in
+    let next = place (well_readable c.self_test h.request.frame h.check h.part before h.is_part h.well) in
     let all : h.part ++ tail Recessive ≡ driven_of (before ++ b ∷ []) ++ t.sends.rest = line_next h t.sends ∙ sym (driven_push before b t.sends.rest) in
-    let P : List Bit → Type 0 = λ l. Sends c.self_test h.request l (Fault InSending cause event.segment) Flagging in
-    let sends = failed h.check h.part t.sends.rest before b event.stuff h.is_part h.well refl all fails.1 next.place in
-    (fails.0, row_own c spot h.request (bits ++ b ∷ []) (Fault InSending cause event.segment) Flagging t.place h.sent (subst P (sym (frame_more spot bits (b ∷ []) t.place)) sends))
+    let P : List Bit → Type 0 = λ l. Sends c.self_test h.request l (Fault InSending cause segment) Flagging in
+    let sends = failed h.check h.part t.sends.rest before b stuffed h.is_part h.well refl all fails.1 next in
+    (fails.0, row_own c spot h.request (bits ++ b ∷ []) (Fault InSending cause segment) Flagging t.place h.sent (subst P (sym (frame_more spot bits (b ∷ []) t.place)) sends))
 
 -- ---- no fault
 

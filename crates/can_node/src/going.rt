@@ -98,7 +98,7 @@ impl Node {
     {
         self.standing.frame_fits();
         self.shift = Shift::new();
-        self.shift.step(Level::Dominant);
+        self.shift.advance(Level::Dominant);
         self.stage = Stage::InFrame;
     }
 

@@ -37,15 +37,17 @@ pub fn hear(shift: &mut Shift, driven: Level, seen: Level) -> Turn
         → IsHearing c spot bits → Answers c.listen (seen_of (frame_bits spot bits)) driven
         → HearsOn c spot (bits ++ record { driven = driven; seen = seen } ∷ []) result }
 {
-    let event = shift.step(seen);
     if !driven.is_recessive() && seen.is_recessive() {
-        return Turn::Closes(Done::Fault(FaultPlace::InReception, Cause::Bit, event.segment));
+        let segment = shift.next_segment();
+        shift.advance(seen);
+        return Turn::Closes(Done::Fault(FaultPlace::InReception, Cause::Bit, segment));
     }
-    match event.fault {
-        Some(fault) => {
-            Turn::Closes(Done::Fault(FaultPlace::InReception, cause_of(&fault), event.segment))
+    match shift.advance(seen) {
+        Some(wrong) => {
+            let cause = cause_of(&wrong.fault);
+            Turn::Closes(Done::Fault(FaultPlace::InReception, cause, wrong.segment))
         }
-        None => match event.frame {
+        None => match shift.frame() {
             Some(frame) => Turn::Closes(Done::Received(frame)),
             None => Turn::Goes(Stage::InFrame),
         },

@@ -147,7 +147,7 @@ impl Node {
         } else if seen.is_recessive() {
             Turn::Closes(Done::Idle)
         } else {
-            self.shift.step(seen);
+            self.shift.advance(seen);
             Turn::Goes(Stage::InFrame)
         }
     }

@@ -75,10 +75,14 @@ pub fn tell(
         → TellsOn lost c now spot (bits ++ record { driven = driven; seen = seen } ∷ []) result }
 {
     let slot = shift.ack_is_due();
-    let event = shift.step(seen);
     match wrong_with(driven, seen, slot, early, lost, self_test) {
-        Some(cause) => { Turn::Closes(Done::Fault(FaultPlace::InSending, cause, event.segment)) }
+        Some(cause) => {
+            let segment = shift.next_segment();
+            shift.advance(seen);
+            Turn::Closes(Done::Fault(FaultPlace::InSending, cause, segment))
+        }
         None => {
+            shift.advance(seen);
             if shift.is_over() {
                 Turn::Closes(Done::Sent)
             } else {

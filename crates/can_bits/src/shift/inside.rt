@@ -5,40 +5,37 @@ use crate::level::Level;
 use crate::line_fault::LineFault;
 use crate::run::run_after;
 use crate::segment::Segment;
-use crate::shift_event::ShiftEvent;
+use crate::shift_fault::ShiftFault;
 use crate::stage::Stage;
 use can_frame::Frame;
 
 impl Shift {
     ghost use Rattle.std.specs.Prelude.{◌≡◌, ◌≢◌, ◌⊎◌, ◌<◌, ◌==◌, length, ◌∷◌, ◌++◌, [], List, None, IfSome};
     ghost use Rattle.can_bits.specs.declared.level.Level.{Level as Bus};
-    ghost use Rattle.can_bits.specs.Streaming.{IsEventOf, BreaksWith};
+    ghost use Rattle.can_bits.specs.Streaming.{BreaksWith};
     ghost use Rattle.can_bits.specs.Segments.{IsNext};
-    ghost use Rattle.can_bits.specs.Shifts.{StandsFor, ReadsAt, IsPartSoFar};
+    ghost use Rattle.can_bits.specs.Shifts.{StandsFor, ReadsAt, IsPartSoFar, JudgesAt};
     ghost use Rattle.can_bits.specs.Gathering.{Gathers};
     ghost use Rattle.can_bits.specs.Body.{sent_body};
     ghost use Rattle.can_bits.specs.Check.{Crc};
     ghost use Rattle.can_bits.specs.Line.{StuffedPart};
 
     /// Takes a level of the stuffed part.
-    pub(super) fn step_inside(&mut self, level: Level) -> ShiftEvent
+    pub(super) fn advance_inside(&mut self, level: Level) -> Option<ShiftFault>
         requires right { self.old.wrong ≡ None }
         requires inside { self.old.stage ≡ Stage.Part }
         ensures stands { (l : List Bus) → ReadsAt Stage.Part self.old l → StandsFor self.new (l ++ level ∷ []) }
-        ensures told { (l : List Bus) → ReadsAt Stage.Part self.old l → IsEventOf l level result }
+        ensures judged { (l : List Bus) → ReadsAt Stage.Part self.old l → JudgesAt l level result }
     {
-        let stuff = self.run == RUN;
-        let segment = self.segment_inside();
         match self.fault_inside(level) {
-            Some(fault) => self.breaks(segment, stuff, fault),
+            Some(fault) => {
+                let stuff = self.run == RUN;
+                let segment = self.segment_inside();
+                Some(self.breaks(segment, stuff, fault))
+            }
             None => {
                 self.take(level);
-                ShiftEvent {
-                    segment,
-                    stuff,
-                    frame: None,
-                    fault: None,
-                }
+                None
             }
         }
     }
@@ -56,7 +53,7 @@ impl Shift {
     }
 
     /// The segment of the next level of the stuffed part; a stuff bit belongs to that of the bit before it.
-    fn segment_inside(&self) -> Segment
+    pub(super) fn segment_inside(&self) -> Segment
         ensures { (l : List Bus) → ReadsAt Stage.Part self.now l → IsNext l result (self.now.run == 5) }
     {
         if self.run == RUN {

@@ -6,7 +6,7 @@ use Rattle.can_node.proofs.telling.tell.Goals as goal
 
 pub returns-in-Some-clause-turn : goal.returns-in-Some-clause-turn
 returns-in-Some-clause-turn c = λ context now spot bits stands place same h sends early lost.
-    tells_fault c.step-event.result
+    tells_fault c.next_segment-segment.result _
     (record {
       place = place;
       same = same;
@@ -17,7 +17,7 @@ returns-in-Some-clause-turn c = λ context now spot bits stands place same h sen
       slot_is = c.ack_is_due-slot.ensures (seen_of (frame_bits spot bits)) stands;
       cause_is = sym c.wrong_with.ensures ∙ c.in-Some.is;
     })
-    (c.step-event.ensures.told (seen_of (frame_bits spot bits)) stands)
+    (c.next_segment-segment.ensures (seen_of (frame_bits spot bits)) stands)
 
 pub returns-then-is_over-clause-turn : goal.returns-then-is_over-clause-turn
 returns-then-is_over-clause-turn c = λ context now spot bits stands place same h sends early lost.
@@ -32,7 +32,7 @@ returns-then-is_over-clause-turn c = λ context now spot bits stands place same 
       slot_is = c.ack_is_due-slot.ensures (seen_of (frame_bits spot bits)) stands;
       cause_is = sym c.wrong_with.ensures ∙ c.in-None.is;
     })
-    (c.is_over.ensures (seen_of (frame_bits spot bits) ++ c.args.seen ∷ []) (c.step-event.ensures.stands (seen_of (frame_bits spot bits)) stands))
+    (c.is_over.ensures (seen_of (frame_bits spot bits) ++ c.args.seen ∷ []) (c.advance-in-None.ensures.stands (seen_of (frame_bits spot bits)) stands))
     c.if-is_over.true
 
 pub returns-else-is_over-clause-turn : goal.returns-else-is_over-clause-turn
@@ -49,6 +49,6 @@ returns-else-is_over-clause-turn c = λ context now spot bits stands place same 
         slot_is = c.ack_is_due-slot.ensures (seen_of (frame_bits spot bits)) stands;
         cause_is = sym c.wrong_with.ensures ∙ c.in-None.is;
       })
-      (c.is_over.ensures (seen_of (frame_bits spot bits) ++ c.args.seen ∷ []) (c.step-event.ensures.stands (seen_of (frame_bits spot bits)) stands))
+      (c.is_over.ensures (seen_of (frame_bits spot bits) ++ c.args.seen ∷ []) (c.advance-in-None.ensures.stands (seen_of (frame_bits spot bits)) stands))
       c.if-is_over.false,
 )

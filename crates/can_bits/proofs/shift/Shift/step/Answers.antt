@@ -1,11 +1,10 @@
-use Rattle.std.proofs.Common.{Option, sym, subst}
-use Rattle.can_bits.specs.declared.stage.Stage.{Stage}
-use Rattle.can_bits.specs.declared.stage.Stage.TheVariants.{Part, After}
+use Rattle.std.proofs.Common.{◌++◌, ◌∷◌, [], Bool, Option, sym, subst}
 use Rattle.can_bits.specs.declared.shift_event.ShiftEvent.{ShiftEvent}
 use Rattle.can_bits.specs.declared.shift_fault.ShiftFault.{ShiftFault}
 use Rattle.can_bits.specs.Streaming.{Tells}
-use Rattle.can_bits.specs.Shifts.{ReadsAt, StandsBy}
-use Rattle.can_bits.proofs.ShiftLemmas.{reads_readable, tells_right, tells_again}
+use Rattle.can_bits.specs.Segments.{IsNext}
+use Rattle.can_bits.specs.Shifts.{StandsBy, JudgesAt, fault_event}
+use Rattle.can_bits.proofs.ShiftLemmas.{reads_readable, wrong_event, tells_right, tells_again}
 use Rattle.can_bits.proofs.shift.Shift.step.Goals as goal
 
 pub returns-in-Some-clause-told : goal.returns-in-Some-clause-told
@@ -15,18 +14,27 @@ returns-in-Some-clause-told c l h =
     let Q : ShiftEvent → Type 0 = λ e. Tells l c.args.level e in
     subst Q (sym c.event.ensures) (tells_again s l c.args.level c.in-Some.wrong (subst P c.in-Some.is h))
 
-pub returns-in-Part-clause-told : goal.returns-in-Part-clause-told
-returns-in-Part-clause-told c l h =
+pub returns-in-Some-advance-clause-told : goal.returns-in-Some-advance-clause-told
+returns-in-Some-advance-clause-told c l h =
     let s = c.args.self.now in
     let P : Option ShiftFault → Type 0 = λ o. StandsBy o s l in
-    let R : Stage → Type 0 = λ e. ReadsAt e s l in
-    let reads : ReadsAt Part s l = subst R c.in-Part.is (subst P c.in-None.is h) in
-    tells_right l c.args.level c.step_inside.result (reads_readable Part s l reads) (c.step_inside.ensures.told l reads)
+    let right = reads_readable s.stage s l (subst P c.in-None.is h) in
+    let J : Option ShiftFault → Type 0 = λ o. JudgesAt l c.args.level o in
+    let broke = subst J c.in-Some-advance.is (c.advance.ensures.judged l h right) in
+    let Q : ShiftEvent → Type 0 = λ e. Tells l c.args.level e in
+    subst Q (sym c.event-in-Some-advance.ensures)
+    (tells_right l c.args.level (fault_event c.in-Some-advance.wrong) right (wrong_event l c.args.level c.in-Some-advance.wrong broke.0 broke.1))
 
-pub returns-in-After-clause-told : goal.returns-in-After-clause-told
-returns-in-After-clause-told c l h =
+pub returns-in-None-advance-clause-told : goal.returns-in-None-advance-clause-told
+returns-in-None-advance-clause-told c l h =
     let s = c.args.self.now in
     let P : Option ShiftFault → Type 0 = λ o. StandsBy o s l in
-    let R : Stage → Type 0 = λ e. ReadsAt e s l in
-    let reads : ReadsAt (After c.in-After.n) s l = subst R c.in-After.is (subst P c.in-None.is h) in
-    tells_right l c.args.level c.step_past.result (reads_readable (After c.in-After.n) s l reads) (c.step_past.ensures.told l reads)
+    let right = reads_readable s.stage s l (subst P c.in-None.is h) in
+    let J : Option ShiftFault → Type 0 = λ o. JudgesAt l c.args.level o in
+    let on = subst J c.in-None-advance.is (c.advance.ensures.judged l h right) in
+    let N : Bool → Type 0 = λ b. IsNext l c.next_segment-segment.result b in
+    tells_right l c.args.level _ right (record {
+      place = subst N (sym c.is_stuff-stuff.ensures) (c.next_segment-segment.ensures l h right);
+      frame = c.frame.ensures (l ++ c.args.level ∷ []) (c.advance.ensures.stands l h) on;
+      fault = on;
+    })

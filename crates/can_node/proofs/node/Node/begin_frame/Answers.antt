@@ -6,4 +6,4 @@ use Rattle.can_node.proofs.node.Node.begin_frame.Goals as goal
 -- src/going.rt
 pub returns-clause-reads : goal.returns-clause-reads
 returns-clause-reads c = λ before same.
-    starts_frame c.step.new.self (context_of c.args.self.now.standing) before same c.frame_fits.ensures (c.step.ensures.stands [] c.new-self.ensures)
+    starts_frame c.advance.new.self (context_of c.args.self.now.standing) before same c.frame_fits.ensures (c.advance.ensures.stands [] c.new-self.ensures)

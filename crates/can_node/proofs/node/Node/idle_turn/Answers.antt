@@ -16,5 +16,5 @@ returns-then-is_recessive-clause-turn c = λ receiver drives.
 
 pub returns-else-is_recessive-clause-turn : goal.returns-else-is_recessive-clause-turn
 returns-else-is_recessive-clause-turn c = λ receiver drives.
-    idle_begins c.step.new.self (context_of c.args.self.now.standing) c.args.driven c.args.seen (sym c.sends.ensures ∙ c.if-sends.false) receiver drives
-    (sym c.is_recessive.ensures ∙ c.if-is_recessive.false) (c.step.ensures.stands [] c.new-self.ensures)
+    idle_begins c.advance.new.self (context_of c.args.self.now.standing) c.args.driven c.args.seen (sym c.sends.ensures ∙ c.if-sends.false) receiver drives
+    (sym c.is_recessive.ensures ∙ c.if-is_recessive.false) (c.advance.ensures.stands [] c.new-self.ensures)

@@ -1,12 +1,10 @@
 use Rattle.std.proofs.Common.{◌++◌, ◌∷◌, [], nat_eq, Some, refl, sym, subst}
 use Rattle.can_bits.specs.declared.stage.Stage.{Stage}
 use Rattle.can_bits.specs.declared.shift.Shift.{Shift}
-use Rattle.can_bits.specs.declared.shift_event.ShiftEvent.{ShiftEvent}
 use Rattle.can_bits.specs.declared.shift_fault.ShiftFault.{ShiftFault}
-use Rattle.can_bits.specs.Streaming.{IsEventOf}
-use Rattle.can_bits.specs.Shifts.{ReadsAt, StandsFor}
-use Rattle.can_bits.proofs.ShiftLemmas.{wrong_event, broke_here, reads_readable, hides_early}
-use Rattle.can_bits.proofs.shift.Shift.step_inside.Goals as goal
+use Rattle.can_bits.specs.Shifts.{ReadsAt, StandsFor, JudgesAt}
+use Rattle.can_bits.proofs.ShiftLemmas.{wrong_event, broke_here, reads_readable}
+use Rattle.can_bits.proofs.shift.Shift.advance_inside.Goals as goal
 
 pub returns-in-Some-clause-stands : goal.returns-in-Some-clause-stands
 returns-in-Some-clause-stands c l h =
@@ -19,23 +17,14 @@ returns-in-Some-clause-stands c l h =
     let event = wrong_event l c.args.level w place (c.in-Some.ensures.broken l h) in
     subst P (sym c.breaks.ensures.kept) (broke_here s l c.args.level w (subst R (sym c.requires.inside) h) event)
 
-pub returns-in-Some-clause-told : goal.returns-in-Some-clause-told
-returns-in-Some-clause-told c l h =
-    let old = c.args.self.now in
+pub returns-in-Some-clause-judged : goal.returns-in-Some-clause-judged
+returns-in-Some-clause-judged c l h =
     let place = c.segment_inside-segment.ensures l h in
-    let w : ShiftFault = record { segment = c.segment_inside-segment.result; stuff = nat_eq old.run 5; fault = c.in-Some.fault } in
-    let P : ShiftEvent → Type 0 = λ e. IsEventOf l c.args.level e in
-    subst P (sym c.breaks.ensures.event) (wrong_event l c.args.level w place (c.in-Some.ensures.broken l h))
+    let P : ShiftFault → Type 0 = λ w. JudgesAt l c.args.level (Some w) in
+    subst P (sym c.breaks.ensures.fault) (place, c.in-Some.ensures.broken l h)
 
-pub returns-in-None-clause-told : goal.returns-in-None-clause-told
-returns-in-None-clause-told c l h =
-    let old = c.args.self.now in
-    let place = c.segment_inside-segment.ensures l h in
-    let m = l ++ c.args.level ∷ [] in
+pub returns-in-None-clause-judged : goal.returns-in-None-clause-judged
+returns-in-None-clause-judged c l h =
     let new = c.take.new.self in
     let reads = c.take.ensures.stands l h (c.in-None.ensures.begins refl) (c.in-None.ensures.differs refl) in
-    record {
-      place = place;
-      frame = hides_early new.stage new m c.take.ensures.early reads;
-      fault = reads_readable new.stage new m reads;
-    }
+    reads_readable new.stage new (l ++ c.args.level ∷ []) reads

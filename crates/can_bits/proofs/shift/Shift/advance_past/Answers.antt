@@ -1,0 +1,56 @@
+use Rattle.std.proofs.Common.{◌≡◌, ◌+◌, ◌%◌, ◌∙◌, ◌++◌, ◌∷◌, [], ℕ, List, false, Option, Some, refl, sym, subst, arith}
+use Rattle.can_bits.specs.declared.level.Level.{Level}
+use Rattle.can_bits.specs.declared.segment.Segment.{Segment}
+use Rattle.can_bits.specs.declared.stage.Stage.{Stage}
+use Rattle.can_bits.specs.declared.stage.Stage.TheVariants.{After}
+use Rattle.can_bits.specs.declared.shift.Shift.{Shift}
+use Rattle.can_bits.specs.declared.shift_fault.ShiftFault.{ShiftFault}
+use Rattle.can_bits.specs.Segments.{IsNext}
+use Rattle.can_bits.specs.Shifts.{IsPast, ReadsAt, StandsBy, StandsFor, JudgesAt}
+use Rattle.can_bits.proofs.PastLemmas.{past_next, past_readable}
+use Rattle.can_bits.proofs.TakeLemmas.{past_small}
+use Rattle.can_bits.proofs.ShiftLemmas.{wrong_event, broke_here}
+use Rattle.can_bits.proofs.shift.Shift.advance_past.Goals as goal
+
+-- the segment of the level
+place : {l : List Level} {segment other : Segment} → segment ≡ other → IsNext l other false → IsNext l segment false
+place {l = l} e h = subst (λ (s : Segment). IsNext l s false) (sym e) h
+
+pub returns-in-Some-clause-stands : goal.returns-in-Some-clause-stands
+returns-in-Some-clause-stands c l h =
+    let w : ShiftFault = record { segment = c.segment_after.result; stuff = false; fault = c.in-Some.fault } in
+    let s : Shift = record c.args.self.now { wrong = Some w } in
+    let P : Shift → Type 0 = λ t. StandsFor t (l ++ c.args.level ∷ []) in
+    let R : Stage → Type 0 = λ e. ReadsAt e s l in
+    let event = wrong_event l c.args.level w (place c.segment_after.ensures (past_next c.args.n l h)) (c.in-Some.ensures.broken l h) in
+    subst P (sym c.breaks.ensures.kept) (broke_here s l c.args.level w (subst R (sym c.requires.past) h) event)
+
+pub returns-in-Some-clause-judged : goal.returns-in-Some-clause-judged
+returns-in-Some-clause-judged c l h =
+    let P : ShiftFault → Type 0 = λ w. JudgesAt l c.args.level (Some w) in
+    subst P (sym c.breaks.ensures.fault) (place c.segment_after.ensures (past_next c.args.n l h), c.in-Some.ensures.broken l h)
+
+pub returns-in-None-clause-stands : goal.returns-in-None-clause-stands
+returns-in-None-clause-stands c l h =
+    let old = c.args.self.now in
+    let next = c.in-None.ensures.goes_on l h refl in
+    let m = l ++ c.args.level ∷ [] in
+    let within = next.within in
+    let small = past_small (c.args.n + 1) m next in
+    let place_ : (c.args.n + 1) % 256 ≡ c.args.n + 1 = omega (arith, within) in
+    let count : (old.count + 1) % 256 ≡ old.count + 1 = omega (arith, small) in
+    let s : Shift = record {
+      count = (old.count + 1) % 256;
+      last = old.last;
+      run = old.run;
+      gathered = old.gathered;
+      stage = After ((c.args.n + 1) % 256);
+      wrong = old.wrong;
+    } in
+    let P : ℕ → Type 0 = λ k. IsPast k old.gathered ((old.count + 1) % 256) m in
+    let Q : ℕ → Type 0 = λ k. IsPast (c.args.n + 1) old.gathered k m in
+    let R : Option ShiftFault → Type 0 = λ o. StandsBy o s m in
+    subst R (sym c.requires.right) (subst P (sym place_) (subst Q (sym count) next))
+
+pub returns-in-None-clause-judged : goal.returns-in-None-clause-judged
+returns-in-None-clause-judged c l h = past_readable (c.args.n + 1) (l ++ c.args.level ∷ []) (c.in-None.ensures.goes_on l h refl)
