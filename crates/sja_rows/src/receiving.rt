@@ -1,0 +1,113 @@
+//! What a node on a wire without others makes of the levels that it sees: a frame, and six dominant levels. Bits count
+//! from 0 with the start; the node waits for eleven recessive levels first.
+
+use super::given::{counts, plain, sees, started};
+use can_bits::{Level, Segment};
+use can_frame::Frame;
+use can_node::{Cause, Node, Phase};
+use std::ops::Range;
+use std::test::Fail;
+
+/// The line of the standard frame with identifier 0 and no data. Its acknowledgement slot is level 41.
+const LINE: &str = "00000100000100000100000100000100000100001111111111";
+
+/// Whether the node is in this phase before each of these bits, in which it sees recessive levels.
+fn rests(node: &mut Node, phase: Phase, bits: Range<u32>) -> bool {
+    let mut rests = true;
+    for _ in bits {
+        rests = rests && node.phase() == phase && sees(node, Level::Recessive, 1);
+    }
+    rests
+}
+
+#[test]
+fn a_frame_is_acknowledged_and_received(rt: HostRuntime) -> Result<(), Fail> {
+    let frame = Frame::new(false, 0, false, 0, &[])?;
+    let mut node = started(plain());
+    assert!(rt; rests(&mut node, Phase::Waiting, 0..11));
+    assert!(rt; node.phase() == Phase::Idle);
+    for (place, digit) in LINE.as_bytes().iter().enumerate() {
+        let driven = node.drive();
+        assert!(rt;
+            (driven == Level::Dominant) == (place == 41),
+            "at level {place}"
+        );
+        let sent = Level::of(*digit == b'1');
+        let events = node.sample(if place == 41 { driven } else { sent });
+        assert!(rt;
+            events.received.is_some() == (place == 48),
+            "at level {place}"
+        );
+        assert!(rt; place != 48 || events.received == Some(frame.copy()));
+        assert!(rt; events.fault.is_none() && events.receiving);
+    }
+    assert!(rt; rests(&mut node, Phase::Intermission, 61..64));
+    assert!(rt; rests(&mut node, Phase::Idle, 64..80));
+    assert!(rt; node.at_rest() && counts(&node, 0, 0));
+    Ok(())
+}
+
+/// After each of three frames only two bits of intermission come.
+#[test]
+fn a_frame_may_begin_with_the_third_bit_of_intermission(rt: HostRuntime) -> Result<(), Fail> {
+    let mut node = started(plain());
+    assert!(rt; sees(&mut node, Level::Recessive, 11));
+    let mut received = 0u32;
+    for _ in 0..3u32 {
+        for digit in LINE.as_bytes() {
+            let acknowledged = node.drive() == Level::Dominant;
+            let events = node.sample(Level::of(*digit == b'1' && !acknowledged));
+            assert!(rt; events.fault.is_none());
+            if events.received.is_some() {
+                received = received.wrapping_add(1);
+            }
+        }
+        assert!(rt; rests(&mut node, Phase::Intermission, 0..2));
+    }
+    assert!(rt; received == 3 && counts(&node, 0, 0));
+    Ok(())
+}
+
+#[test]
+fn six_dominant_levels_are_a_stuff_error(rt: HostRuntime) -> Result<(), Fail> {
+    let mut node = started(plain());
+    assert!(rt; sees(&mut node, Level::Recessive, 11));
+    assert!(rt; sees(&mut node, Level::Dominant, 5));
+    let events = node.sample(Level::Dominant);
+    assert!(rt; events.fault == Some((Cause::Stuff, Segment::Id28To21)));
+    assert!(rt; events.receiving && counts(&node, 0, 1));
+    for bit in 17..23u32 {
+        assert!(rt; node.phase() == Phase::Flag, "at bit {bit}");
+        assert!(rt; node.drive() == Level::Dominant, "at bit {bit}");
+        let events = node.sample(Level::Dominant);
+        assert!(rt; events.fault.is_none(), "at bit {bit}");
+    }
+    assert!(rt; rests(&mut node, Phase::Delimiter, 23..31));
+    assert!(rt; rests(&mut node, Phase::Intermission, 31..34));
+    assert!(rt; rests(&mut node, Phase::Idle, 34..50));
+    assert!(rt; counts(&node, 0, 1));
+    Ok(())
+}
+
+/// Its own flag is over with bit 22. Bit 23 shows that others' flags follow, and each eight of them cost more.
+#[test]
+fn dominant_levels_after_a_flag_are_counted(rt: HostRuntime) -> Result<(), Fail> {
+    let mut node = started(plain());
+    assert!(rt; sees(&mut node, Level::Recessive, 11));
+    for bit in 11..46u32 {
+        node.sample(Level::Dominant);
+        let receive = match bit {
+            0..=15 => 0,
+            16..=22 => 1,
+            23..=29 => 9,
+            30..=37 => 17,
+            38..=45 => 25,
+            _ => 33,
+        };
+        assert!(rt; counts(&node, 0, receive), "at bit {bit}");
+    }
+    assert!(rt; rests(&mut node, Phase::Delimiter, 46..54));
+    assert!(rt; rests(&mut node, Phase::Intermission, 54..57));
+    assert!(rt; node.at_rest() && counts(&node, 0, 25));
+    Ok(())
+}
