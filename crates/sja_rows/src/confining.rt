@@ -34,7 +34,7 @@ fn a_sender_that_nobody_answers_becomes_passive_and_stays(rt: HostRuntime) -> Re
     Ok(())
 }
 
-/// Whether a bit is struck: every 18th from 11 on, 16 times, and every 26th from 307 on, 16 times.
+/// Whether a bit is struck, each a start of frame: every 18th from 11 on, 16 times, and every 26th from 307 on, 16 times.
 fn is_struck(bit: u32) -> bool {
     let active = bit >= 11 && bit < 11 + 18 * 16 && (bit - 11) % 18 == 0;
     let passive = bit >= 307 && bit < 307 + 26 * 16 && (bit - 307) % 26 == 0;
@@ -55,6 +55,7 @@ fn a_sender_that_is_struck_goes_off(rt: HostRuntime) -> Result<(), Fail> {
     let mut node = asked(&ZEROS)?;
     for bit in 0..698u32 {
         if is_struck(bit) {
+            assert!(rt; node.phase() == Phase::Idle, "at bit {bit}");
             assert!(rt; node.drive() == Level::Dominant, "at bit {bit}");
         }
         let events = bit_of(&mut node, is_struck(bit));

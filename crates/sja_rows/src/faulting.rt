@@ -3,9 +3,9 @@
 
 use super::given::{ZEROS, asked, counts, plain, started};
 use super::station::Station;
-use super::wire::run_to_rest;
-use can_bits::Segment;
-use can_node::Cause;
+use super::wire::{run, run_to_rest};
+use can_bits::{Level, Segment};
+use can_node::{Cause, Phase};
 use std::test::Fail;
 
 /// A sender and two receivers, of which one is struck in bit 50, the last one of the check sequence.
@@ -44,9 +44,13 @@ fn end_struck(place: usize) -> Result<[Station; 2], Fail> {
     Ok(stations)
 }
 
-/// It counts as received one bit before, and the dominant level is an overload flag.
+/// The frame is received one bit before. The receiver answers the dominant level with an overload flag.
 #[test]
 fn a_receiver_struck_in_the_last_bit_receives_once(rt: HostRuntime) -> Result<(), Fail> {
+    let mut struck = [Station::new(asked(&ZEROS)?), Station::new(started(plain()))];
+    run(&mut struck, 0..61, Some((60, 1)));
+    assert!(rt; struck[1].node.phase() == Phase::Flag);
+    assert!(rt; struck[1].node.drive() == Level::Dominant);
     let stations = end_struck(1)?;
     assert!(rt; stations[1].received == 1);
     assert!(rt; counts(&stations[0].node, 0, 0) && counts(&stations[1].node, 0, 0));
