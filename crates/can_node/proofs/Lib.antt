@@ -38,6 +38,8 @@ pub mod WorkedFault
 pub mod WorkedSender
 pub mod WorkedLoss
 pub mod WorkedReception
+pub mod WorkedCheck
+pub mod WorkedRetry
 pub mod WorkedMoves
 pub mod Along
 pub mod GoOn

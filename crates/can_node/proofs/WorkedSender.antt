@@ -81,7 +81,7 @@ abbrev pub unanswered : List Bit
 unanswered = map agreed (part ++ Recessive ∷ [])
 
 -- seen as driven, and then no acknowledgement
-fails : Sends false asked (unanswered ++ heard Recessive ∷ []) (Fault InSending AckError AckSlot) Flagging
+pub fails : Sends false asked (unanswered ++ heard Recessive ∷ []) (Fault InSending AckError AckSlot) Flagging
 fails =
     failed zeros part (Recessive ∷ replicate 7 Recessive) unanswered (heard Recessive) false part_sent
     (record {
@@ -95,19 +95,19 @@ fails =
     refl refl (no_ack refl refl) (after_part part (Recessive ∷ []) part_sent.is_part refl)
 
 -- the context with the request, and so on to the end
-abbrev waiting : Context
+abbrev pub waiting : Context
 waiting = record fresh { held = Some asked }
 
-abbrev sending : Context
+abbrev pub sending : Context
 sending = record waiting { role = Transmitter; tec = 8 }
 
 -- what follows the first of some bits
-abbrev rest_of : List Bit → List Bit
+abbrev pub rest_of : List Bit → List Bit
 rest_of [] = []
 rest_of (b ∷ bits) = bits
 
 -- the frame that isn't acknowledged: 8 for the transmitter
-is_unanswered :
+pub is_unanswered :
     Move waiting AtIdle (map Took (unanswered ++ heard Recessive ∷ [])) (Fault InSending AckError AckSlot ∷ [])
     sending Flagging
 is_unanswered =
@@ -115,15 +115,15 @@ is_unanswered =
     (rest_of (unanswered ++ heard Recessive ∷ [])) (own refl fails) (omega arith)
 
 -- its active error flag
-flags : Move sending Flagging (map Took (forces (replicate 6 Dominant))) (Flag ∷ []) sending AfterFlag
+pub flags : Move sending Flagging (map Took (forces (replicate 6 Dominant))) (Flag ∷ []) sending AfterFlag
 flags = by_bits sending Flagging AfterFlag Flag (forced Dominant) (forces (replicate 5 Dominant)) (flag refl) (omega arith)
 
 -- the delimiter
-ends : Move sending AfterFlag (map Took (hears (replicate 8 Recessive))) (Tail ∷ []) sending Pausing
+pub ends : Move sending AfterFlag (map Took (hears (replicate 8 Recessive))) (Tail ∷ []) sending Pausing
 ends = by_bits sending AfterFlag Pausing Tail (heard Recessive) (hears (replicate 7 Recessive)) (tail 0) (omega arith)
 
 -- intermission
-rests : Move sending Pausing (map Took (hears (replicate 3 Recessive))) (Pause ∷ [])
+pub rests : Move sending Pausing (map Took (hears (replicate 3 Recessive))) (Pause ∷ [])
     (record sending { role = Receiver }) AtIdle
 rests = by_bits sending Pausing AtIdle Pause (heard Recessive) (hears (replicate 2 Recessive)) pause (omega arith)
 
