@@ -1,4 +1,4 @@
--- What each bit changes in the context: error counters, role and request (Bosch CAN 2.0 part A sections 6 to 8).
+-- What each bit changes in the context: error counters, role and request (Bosch CAN 2.0 part A sections 6 and 7).
 use Rattle.std.specs.Prelude.{◌+◌, ◌-◌, ◌%◌, ◌==◌, ◌&&◌, ◌||◌, not, ℕ, Bool, true, false, nat_le, min, fold, if◌then◌else◌, Option, Some, None, is_some, List, [], ◌∷◌, length}
 use Rattle.can_bits.specs.declared.level.Level.{Level}
 use Rattle.can_bits.specs.declared.level.Level.TheVariants.{Dominant, Recessive}

@@ -1,6 +1,6 @@
 use super::state::State;
 
-/// The error counters of a node (Bosch CAN 2.0 part A section 8, fault confinement).
+/// The error counters of a node (Bosch CAN 2.0 part A section 7, fault confinement).
 #[derive(Clone, Copy, Debug, PartialEq, Eq)]
 pub struct Counters {
     /// The transmit error counter.

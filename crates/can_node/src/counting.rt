@@ -3,7 +3,7 @@ use super::role::Role;
 use super::standing::Standing;
 use can_bits::Level;
 
-/// The steps of one bit (Bosch CAN 2.0 part A section 8, fault confinement). The transmit error counter never comes far
+/// The steps of one bit (Bosch CAN 2.0 part A section 7, fault confinement). The transmit error counter never comes far
 /// above 256, where the node goes bus-off.
 impl Standing {
     ghost use Rattle.std.specs.Prelude.{◌≡◌, ◌<◌, ◌≤◌, ◌+◌, ◌%◌, ◌==◌, ◌&&◌, List, [], fold, length, is_some, Bool};
