@@ -1,7 +1,7 @@
 //! Runs nodes on one wire, so that their speed can be measured.
 //!
 //! `bench_node COUNT` has three nodes send one frame in turn, COUNT times in all. Of each frame one node is the sender
-//! and the others receive it. Prints how many bits the nodes saw, each node's own counted, and how many frames were sent
+//! and the others receive it. Prints how many bits the nodes saw, each node's own counted, how many frames were sent
 //! and received, and a checksum of what the nodes were told of each bit: always the same text for a count.
 #![tactic(auto)]
 

@@ -111,3 +111,38 @@ fn dominant_levels_after_a_flag_are_counted(rt: HostRuntime) -> Result<(), Fail>
     assert!(rt; node.at_rest() && counts(&node, 0, 25));
     Ok(())
 }
+
+/// A node that saw a stuff error and has sent its flag, with bit 22.
+fn flagged() -> Node {
+    let mut node = started(plain());
+    for bit in 0..23u32 {
+        node.sample(Level::of(bit < 11));
+    }
+    node
+}
+
+/// So many recessive levels come after the flag, and then a dominant one: in the delimiter, at its last bit, in
+/// intermission, at its third bit.
+#[test]
+fn a_dominant_level_after_a_flag_is_judged_by_its_place(rt: HostRuntime) -> Result<(), Fail> {
+    let form = Some((Cause::Form, Segment::Delimiter));
+    let rows = [
+        (1, form, Phase::Flag, 2),
+        (6, form, Phase::Flag, 2),
+        (7, None, Phase::Flag, 1),
+        (8, None, Phase::Flag, 1),
+        (9, None, Phase::Flag, 1),
+        (10, None, Phase::Frame, 1),
+    ];
+    for (levels, fault, phase, receive) in rows {
+        let mut node = flagged();
+        assert!(rt; sees(&mut node, Level::Recessive, levels), "after {levels}");
+        let events = node.sample(Level::Dominant);
+        assert!(rt;
+            events.fault == fault && node.phase() == phase,
+            "after {levels}"
+        );
+        assert!(rt; counts(&node, 0, receive), "after {levels}");
+    }
+    Ok(())
+}
