@@ -65,3 +65,9 @@ from_once k c end other spot last another entries again rest more found others
 pub cut_once : (entries : List Entry) (found others : List Found) → IsCut entries found → IsCut entries others → found ≡ others
 cut_once entries found others h k =
     (from_once none_yet fresh h.context k.context Resting h.spot k.spot entries entries h.rest k.rest found others h.from k.from refl).0
+
+-- and they lead to the same context and place, with the same entries open
+pub whole_once : (entries : List Entry) (found others : List Found) (h : IsCut entries found) (k : IsCut entries others) →
+    (found ≡ others) × (h.context ≡ k.context) × (h.spot ≡ k.spot) × (h.rest ≡ k.rest)
+whole_once entries found others h k =
+    from_once none_yet fresh h.context k.context Resting h.spot k.spot entries entries h.rest k.rest found others h.from k.from refl

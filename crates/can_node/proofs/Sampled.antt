@@ -1,5 +1,5 @@
 -- One bit leads from a record to the record with it.
-use Rattle.std.proofs.Common.{◌≡◌, ◌<◌, ◌≤◌, Bool, nat_le, List, [], ◌∷◌, ◌++◌, ap, sym, subst, ◌∙◌, inl, inr, if◌then◌else◌}
+use Rattle.std.proofs.Common.{◌≡◌, ◌<◌, ◌≤◌, Bool, true, false, nat_le, not, List, [], ◌∷◌, ◌++◌, refl, ap, sym, subst, ◌∙◌, inl, inr, if◌then◌else◌}
 use Rattle.std.proofs.lemmas.List.{append-nil}
 use Rattle.std.proofs.lemmas.Bool.{cases_lt, le-leb, lt-leb}
 use Rattle.can_bits.specs.declared.shift.Shift.{Shift}
@@ -10,9 +10,10 @@ use Rattle.can_node.specs.declared.turn.Turn.TheVariants.{Goes as TurnGoes, Clos
 use Rattle.can_node.specs.declared.bit_events.BitEvents.{BitEvents}
 use Rattle.can_node.specs.declared.node.Node.{Node}
 use Rattle.can_node.specs.Bits.{Bit}
-use Rattle.can_node.specs.Context.{Context}
+use Rattle.can_node.specs.Context.{Context, is_transmitter}
 use Rattle.can_node.specs.Record.{Entry, bits_in}
 use Rattle.can_node.specs.Record.Entry.{Took, Off}
+use Rattle.can_node.specs.Pieces.{Spot}
 use Rattle.can_node.specs.Counting.{at_bit}
 use Rattle.can_node.specs.Effects.{along, closed, with_off}
 use Rattle.can_node.specs.Cut.{Found, none_yet, counted, tagged}
@@ -67,6 +68,22 @@ stands_by old new entries found h b (TurnCloses done) stage reader shift drives 
           (off_closes old new entries found h b (piece_of d.held done) (next_of done) made far (shows ∙ off_now n far) (off far))
     ]
 
+-- the role that a bit tells is that of the context after it
+turn_role : (turn : Turn) (now : Context) (spot : Spot) (bits : List Bit) (b : Bit) → let d = at_bit now spot bits b in
+    (events_of (step_of d.held turn) now spot bits b).receiving ≡ not (is_transmitter (resulted turn d).role)
+turn_role (TurnGoes stage) now spot bits b = refl
+turn_role (TurnCloses done) now spot bits b = refl
+
+-- bus-off keeps the role
+off_role : (test : Bool) (n : Context) → (if test then with_off n else n).role ≡ n.role
+off_role true n = refl
+off_role false n = refl
+
+role_told : (e f : BitEvents) (n new : Context) → e ≡ f → f.receiving ≡ not (is_transmitter n.role) → new ≡ off_if n → e.receiving ≡ not (is_transmitter new.role)
+role_told e f n new told tells is =
+    ap (λ (x : BitEvents). x.receiving) told ∙ tells
+    ∙ ap (λ r. not (is_transmitter r)) (sym (ap (λ (c : Context). c.role) is ∙ off_role (nat_le 256 n.tec) n))
+
 -- and the bit tells what the cut has there
 pub leads_by : (old new : Node) (entries : List Entry) (found : List Found) (h : StandsAt old entries found) (b : Bit) (turn : Turn) (stage : Stage) (reader shift : Shift) (e : BitEvents) →
     let now = along h.context h.spot [] h.slice in let d = at_bit now h.spot (bits_in h.slice) b in let n = resulted turn d in
@@ -77,8 +94,12 @@ pub leads_by : (old new : Node) (entries : List Entry) (found : List Found) (h :
 leads_by old new entries found h b turn stage reader shift e drives made at shows on off told went =
     let d = at_bit (along h.context h.spot [] h.slice) h.spot (bits_in h.slice) b in
     let P : Bool → Type 0 = λ w. StandsAt new (entries ++ entries_if w b) (found ++ closed_by (counted none_yet (entries ++ Took b ∷ [])) (step_of d.held turn)) in
+    let there = subst P (sym went) (stands_by old new entries found h b turn stage reader shift drives made at shows on off) in
     record {
       step = step_of d.held turn;
       told = told;
-      stands = subst P (sym went) (stands_by old new entries found h b turn stage reader shift drives made at shows on off);
+      stands = there;
+      role = role_told e (events_of (step_of d.held turn) (along h.context h.spot [] h.slice) h.spot (bits_in h.slice) b) (resulted turn d)
+          (along there.context there.spot [] there.slice) told (turn_role turn (along h.context h.spot [] h.slice) h.spot (bits_in h.slice) b)
+          (sym there.shows ∙ shows);
     }

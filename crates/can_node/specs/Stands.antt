@@ -1,5 +1,5 @@
 -- A node that stands at a record, and what its calls do.
-use Rattle.std.specs.Prelude.{⊤, ◌≡◌, ◌≢◌, ◌⊎◌, ◌||◌, Bool, true, false, nat_le, if◌then◌else◌, Option, Some, None, Result, Ok, Err, List, [], ◌∷◌, ◌++◌}
+use Rattle.std.specs.Prelude.{⊤, ◌≡◌, ◌≢◌, ◌⊎◌, ◌||◌, not, Bool, true, false, nat_le, if◌then◌else◌, Option, Some, None, Result, Ok, Err, List, [], ◌∷◌, ◌++◌}
 use Rattle.can_bits.specs.declared.level.Level.{Level}
 use Rattle.can_node.specs.declared.request.Request.{Request}
 use Rattle.can_node.specs.declared.aborted.Aborted.{Aborted}
@@ -13,7 +13,7 @@ use Rattle.can_node.specs.declared.bit_events.BitEvents.{BitEvents}
 use Rattle.can_node.specs.declared.stage.Stage.TheVariants.{Resting as StageResting}
 use Rattle.can_node.specs.declared.node.Node.{Node}
 use Rattle.can_node.specs.Bits.{Bit}
-use Rattle.can_node.specs.Context.{Context, fresh, is_held}
+use Rattle.can_node.specs.Context.{Context, fresh, is_held, is_transmitter}
 use Rattle.can_node.specs.Pieces.{Spot}
 use Rattle.can_node.specs.Pieces.Spot.{Resting}
 use Rattle.can_node.specs.Record.{Entry, bits_in}
@@ -53,6 +53,8 @@ pub record Leads (node new : Node) (entries : List Entry) (found : List Found) (
   pub step : Step
   pub told : e ≡ events_of step (now_of node entries found h) h.spot (bits_in h.slice) b
   pub stands : StandsAt new (entries ++ entries_of b e) (found ++ closed_by (counted none_yet (entries ++ Took b ∷ [])) step)
+  -- and the role that it tells is the one that the node then has
+  pub role : e.receiving ≡ not (is_transmitter (now_of new (entries ++ entries_of b e) (found ++ closed_by (counted none_yet (entries ++ Took b ∷ [])) step) stands).role)
 
 -- the node is in reset
 abbrev pub InReset : Node → Type 0

@@ -17,7 +17,9 @@ pub fn pieces_are_told_apart()
 {}
 
 /// A record has one cut: any two cuts of it have the same finished pieces, each in the same activation and with the same
-/// number of bits up to its end (this project's own rule).
+/// number of bits up to its end, and lead to the same context, the same place and the same entries of a piece that isn't
+/// finished (this project's own rule).
 pub fn a_record_has_one_cut()
-    ensures { (entries : List Entry) (found others : List Found) → IsCut entries found → IsCut entries others → found ≡ others }
+    ensures { (entries : List Entry) (found others : List Found) (h : IsCut entries found) (k : IsCut entries others)
+        → (found ≡ others) × (h.context ≡ k.context) × (h.spot ≡ k.spot) × (h.rest ≡ k.rest) }
 {}

@@ -24,8 +24,9 @@ pub struct Node {
 }
 
 impl Node {
-    ghost use Rattle.std.specs.Prelude.{◌≡◌, ◌↔◌, []};
+    ghost use Rattle.std.specs.Prelude.{◌≡◌, ◌<◌, ◌↔◌, [], List};
     ghost use Rattle.can_node.specs.Record.{Entry};
+    ghost use Rattle.can_node.specs.Cut.{Found};
     ghost use Rattle.can_node.specs.Stands.{StandsAt, InReset, Enters, DrivesNext, Samples, ShowsPhase, ShowsCounters, HasOneCut, ShowsRest, Requests, Aborts};
 
     /// A node in reset, to which nothing has happened.
@@ -136,6 +137,7 @@ impl Node {
     /// They are those that the cut of the record gives, and each record has one cut alone.
     pub fn counters(&self) -> Counters
         ensures counts { ShowsCounters self.now result }
+        ensures below { (entries : List Entry) (found : List Found) → StandsAt self.now entries found → result.tec < 256 }
         ensures only { HasOneCut self.now }
     {
         self.standing.counters

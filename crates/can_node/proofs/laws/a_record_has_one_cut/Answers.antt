@@ -1,5 +1,5 @@
-use Rattle.can_node.proofs.CutOnce.{cut_once}
+use Rattle.can_node.proofs.CutOnce.{whole_once}
 use Rattle.can_node.proofs.laws.a_record_has_one_cut.Goals as goal
 
 pub returns : goal.returns
-returns c = cut_once
+returns c = whole_once
