@@ -156,10 +156,7 @@ between_by old new entries found entry held marked c spot slice cut nothing at w
     let R : Shift → Type 0 = λ s. At new.stage s next next spot [] in
     let on : Stays c = stays_end cut in
     record {
-      context = next;
-      spot = spot;
-      slice = [];
-      from = subst Q (append-nil found) (move_on (entry ∷ []) [] cut move on);
+      cut = record { context = next; spot = spot; rest = []; from = subst Q (append-nil found) (move_on (entry ∷ []) [] cut move on) };
       shows = shows ∙ ap (λ d. changed d held marked) was;
       at = subst R (sym shift) (subst S (sym stage) (at_start old.stage old.shift c held marked spot away stays at));
     }
@@ -180,18 +177,15 @@ between_by old new entries found entry held marked c spot slice cut (begun inner
     let S : Stage → Type 0 = λ s. At s old.shift c (along c spot [] more) spot (bits_in more) in
     let T : Shift → Type 0 = λ s. At new.stage s c (along c spot [] more) spot (bits_in more) in
     record {
-      context = c;
-      spot = spot;
-      slice = more;
-      from = open_on (entry ∷ []) cut opened (subst (λ d. Stays d) (sym whole) on);
+      cut = record { context = c; spot = spot; rest = more; from = open_on (entry ∷ []) cut opened (subst (λ d. Stays d) (sym whole) on) };
       shows = shows ∙ ap (λ d. changed d held marked) was ∙ sym whole;
       at = subst T (sym shift) (subst S (sym stage) (subst R (sym bits) (subst Q (sym whole) there)));
     }
 
 pub between_stands : (old new : Node) (entries : List Entry) (found : List Found) (h : StandsAt old entries found) (entry : Entry) (held : Option Request) (marked : Bool) →
-    let now = along h.context h.spot [] h.slice in
-    IsBetween entry h.spot → h.spot ≢ Resting → along now h.spot [] (entry ∷ []) ≡ changed now held marked → (old.stage ≡ StageInFrame → now.role ≡ Transmitter → held ≡ now.held) →
+    let now = along h.cut.context h.cut.spot [] h.cut.rest in
+    IsBetween entry h.cut.spot → h.cut.spot ≢ Resting → along now h.cut.spot [] (entry ∷ []) ≡ changed now held marked → (old.stage ≡ StageInFrame → now.role ≡ Transmitter → held ≡ now.held) →
     context_of new.standing ≡ changed (context_of old.standing) held marked → new.stage ≡ old.stage → new.shift ≡ old.shift →
     StandsAt new (entries ++ entry ∷ []) found
 between_stands old new entries found h entry held marked between away change stays shows stage shift =
-    between_by old new entries found entry held marked h.context h.spot h.slice h.from (open_end h.from) h.at h.shows between away change stays shows stage shift
+    between_by old new entries found entry held marked h.cut.context h.cut.spot h.cut.rest h.cut.from (open_end h.cut.from) h.at h.shows between away change stays shows stage shift

@@ -38,10 +38,7 @@ pub new_stands : (node : Node) → node.stage ≡ StageResting → context_of no
 new_stands node reset shows =
     let P : Stage → Type 0 = λ s. At s node.shift fresh fresh Resting [] in
     record {
-      context = fresh;
-      spot = Resting;
-      slice = [];
-      from = From.here nothing (omega arith);
+      cut = record { context = fresh; spot = Resting; rest = []; from = From.here nothing (omega arith) };
       shows = shows;
       at = subst P (sym reset) (refl, refl);
     }
@@ -86,19 +83,16 @@ pub started_stands : (old new : Node) (config : Config) (entries : List Entry) (
     context_of new.standing ≡ with_start config (context_of old.standing) → new.stage ≡ StageJoining (join_count (context_of new.standing)) 0 →
     StandsAt old entries found → StandsAt new (entries ++ Start config ∷ []) found
 started_stands old new config entries found reset shows stage h =
-    let R : Stage → Type 0 = λ s. At s old.shift h.context (along h.context h.spot [] h.slice) h.spot (bits_in h.slice) in
-    let rest : h.spot ≡ Resting = (subst R reset h.at).0 in
-    let now = with_start config h.context in
+    let R : Stage → Type 0 = λ s. At s old.shift h.cut.context (along h.cut.context h.cut.spot [] h.cut.rest) h.cut.spot (bits_in h.cut.rest) in
+    let rest : h.cut.spot ≡ Resting = (subst R reset h.at).0 in
+    let now = with_start config h.cut.context in
     let same : context_of new.standing ≡ now =
-    shows ∙ ap (λ c. with_start config c) (h.shows ∙ rest_now h.context h.spot h.slice rest (open_end h.from)) in
+    shows ∙ ap (λ c. with_start config c) (h.shows ∙ rest_now h.cut.context h.cut.spot h.cut.rest rest (open_end h.cut.from)) in
     let P : List Found → Type 0 = λ l. From none_yet fresh Resting (entries ++ Start config ∷ []) l now Joining [] in
     let Q : Stage → Type 0 = λ s. At s new.shift now now Joining [] in
     let waits : new.stage ≡ StageJoining (join_count now) 0 = stage ∙ ap (λ c. StageJoining (join_count c) 0) same in
     record {
-      context = now;
-      spot = Joining;
-      slice = [];
-      from = subst P (append-nil found) (started_on config rest h.from);
+      cut = record { context = now; spot = Joining; rest = []; from = subst P (append-nil found) (started_on config rest h.cut.from) };
       shows = same;
       at = subst Q (sym waits) (refl, joins_from now (join_some now.off));
     }
@@ -108,15 +102,12 @@ started_stands old new config entries found reset shows stage h =
 pub stopped_stands : (old new : Node) (entries : List Entry) (found : List Found) → new.stage ≡ StageResting →
     context_of new.standing ≡ with_stop (context_of old.standing) → StandsAt old entries found → StandsAt new (entries ++ Stop ∷ []) found
 stopped_stands old new entries found reset shows h =
-    let now = along h.context h.spot [] h.slice in
-    let stays = stays_end h.from in
+    let now = along h.cut.context h.cut.spot [] h.cut.rest in
+    let stays = stays_end h.cut.from in
     let P : List Found → Type 0 = λ l. From none_yet fresh Resting (entries ++ Stop ∷ []) l (with_stop now) Resting [] in
     let Q : Stage → Type 0 = λ s. At s new.shift (with_stop now) (with_stop now) Resting [] in
     record {
-      context = with_stop now;
-      spot = Resting;
-      slice = [];
-      from = subst P (append-nil found) (move_on (Stop ∷ []) [] h.from (stopped h.slice (open_end h.from) stays) stays);
+      cut = record { context = with_stop now; spot = Resting; rest = []; from = subst P (append-nil found) (move_on (Stop ∷ []) [] h.cut.from (stopped h.cut.rest (open_end h.cut.from) stays) stays) };
       shows = shows ∙ ap (λ c. with_stop c) h.shows;
       at = subst Q (sym reset) (refl, refl);
     }

@@ -24,7 +24,8 @@ use Rattle.can_node.specs.Driving.{Drives}
 use Rattle.can_node.specs.Standing.{context_of, IsKept}
 use Rattle.can_node.specs.Stages.{At}
 use Rattle.can_node.specs.Turns.{IsMade, IsTurn, AtAfter, step_of, resulted, off_if}
-use Rattle.can_node.specs.Stands.{StandsAt, Leads, now_of}
+use Rattle.can_node.specs.NextBit.{now_in}
+use Rattle.can_node.specs.Stands.{StandsAt, Leads}
 use Rattle.can_node.proofs.GoOn.{stays_end}
 use Rattle.can_node.proofs.Shown.{at_shown, kept_shown}
 use Rattle.can_node.proofs.Told.{made_of, told_all, stepped_is, held_is, bit_few, drives_once}
@@ -52,7 +53,7 @@ counts_kept old turned new driven seen lost kept f =
 -- one bit
 pub sampled : (old turned counted gone new : Node) (entries : List Entry) (found : List Found) (h : StandsAt old entries found) (x driven seen : Level) (turn : Turn)
     (received : Option FrameValue) (ended : Option Outcome) (lost : Option ℕ) (fault : Option (Cause × Segment)) (transmits recovered held sent loses losing : Bool) →
-    Drives (now_of old entries found h) h.spot (bits_in h.slice) x →
+    Drives (now_in h.cut) h.cut.spot (bits_in h.cut.rest) x →
     EachPiece old (λ c spot bits. Drives (context_of old.standing) spot bits driven) →
     EachPiece old (λ c spot bits. lost ≡ lost_in (context_of old.standing) spot bits (record { driven = driven; seen = seen })) →
     held ≡ is_some old.standing.held → loses ≡ is_some lost → losing ≡ is_some lost →
@@ -74,15 +75,15 @@ pub sampled : (old turned counted gone new : Node) (entries : List Entry) (found
     (made_of received ended lost fault (not transmits) (nat_le 256 gone.standing.counters.tec) recovered)
 sampled old turned counted gone new entries found h x driven seen turn received ended lost fault transmits recovered held sent loses losing
     drives level loss holds some again turns turn_kept count_kept counts receives sends faults goes places role recovers ends shows on off =
-    let c = h.context in
-    let spot = h.spot in
-    let bits = bits_in h.slice in
+    let c = h.cut.context in
+    let spot = h.cut.spot in
+    let bits = bits_in h.cut.rest in
     let K = context_of old.standing in
-    let now = along c spot [] h.slice in
+    let now = along c spot [] h.cut.rest in
     let b : Bit = record { driven = driven; seen = seen } in
     let at = at_shown old entries found h in
     let kept = kept_shown old entries found h in
-    let few : K.tec < 256 = subst (λ d. Stays d) (sym h.shows) (stays_end h.from) in
+    let few : K.tec < 256 = subst (λ d. Stays d) (sym h.shows) (stays_end h.cut.from) in
     let driving : Drives K spot bits driven = level c spot bits at kept in
     let lose : lost ≡ lost_in K spot bits b = loss c spot bits at kept in
     let d = at_bit now spot bits b in

@@ -37,13 +37,13 @@ entries_if went b = if went then Took b ∷ Off ∷ [] else Took b ∷ []
 
 -- the node stands at the record with the bit
 stands_by : (old new : Node) (entries : List Entry) (found : List Found) (h : StandsAt old entries found) (b : Bit) (turn : Turn) (stage : Stage) (reader shift : Shift) →
-    let now = along h.context h.spot [] h.slice in let d = at_bit now h.spot (bits_in h.slice) b in let n = resulted turn d in
-    Drives now h.spot (bits_in h.slice) b.driven → IsMade reader h.context d h.spot (bits_in h.slice ++ b ∷ []) turn →
-    AtAfter turn stage shift h.context n h.spot (bits_in h.slice ++ b ∷ []) → context_of new.standing ≡ off_if n →
+    let now = along h.cut.context h.cut.spot [] h.cut.rest in let d = at_bit now h.cut.spot (bits_in h.cut.rest) b in let n = resulted turn d in
+    Drives now h.cut.spot (bits_in h.cut.rest) b.driven → IsMade reader h.cut.context d h.cut.spot (bits_in h.cut.rest ++ b ∷ []) turn →
+    AtAfter turn stage shift h.cut.context n h.cut.spot (bits_in h.cut.rest ++ b ∷ []) → context_of new.standing ≡ off_if n →
     (n.tec < 256 → (new.stage ≡ stage) × (new.shift ≡ shift)) → (256 ≤ n.tec → new.stage ≡ StageResting) →
     StandsAt new (entries ++ entries_if (nat_le 256 n.tec) b) (found ++ closed_by (counted none_yet (entries ++ Took b ∷ [])) (step_of d.held turn))
 stands_by old new entries found h b (TurnGoes going) stage reader shift drives made at shows on off =
-    let d = at_bit (along h.context h.spot [] h.slice) h.spot (bits_in h.slice) b in
+    let d = at_bit (along h.cut.context h.cut.spot [] h.cut.rest) h.cut.spot (bits_in h.cut.rest) b in
     let P : Bool → Type 0 = λ w. StandsAt new (entries ++ entries_if w b) found in
     let Q : List Found → Type 0 = λ f. StandsAt new (entries ++ entries_if (nat_le 256 d.tec) b) f in
     subst Q (sym (append-nil found)) (elim (cases_lt d.tec 256) [
@@ -54,7 +54,7 @@ stands_by old new entries found h b (TurnGoes going) stage reader shift drives m
           subst P (sym (le-leb 256 d.tec far)) (off_goes old new entries found h b stage shift at far (shows ∙ off_now d far) (off far))
     ])
 stands_by old new entries found h b (TurnCloses done) stage reader shift drives made at shows on off =
-    let d = at_bit (along h.context h.spot [] h.slice) h.spot (bits_in h.slice) b in
+    let d = at_bit (along h.cut.context h.cut.spot [] h.cut.rest) h.cut.spot (bits_in h.cut.rest) b in
     let n = closed (piece_of d.held done) (next_of done) d in
     let P : Bool → Type 0 = λ w. StandsAt new (entries ++ entries_if w b)
     (found ++ tagged (counted none_yet (entries ++ Took b ∷ [])) (piece_of d.held done ∷ [])) in
@@ -86,20 +86,20 @@ role_told e f n new told tells is =
 
 -- and the bit tells what the cut has there
 pub leads_by : (old new : Node) (entries : List Entry) (found : List Found) (h : StandsAt old entries found) (b : Bit) (turn : Turn) (stage : Stage) (reader shift : Shift) (e : BitEvents) →
-    let now = along h.context h.spot [] h.slice in let d = at_bit now h.spot (bits_in h.slice) b in let n = resulted turn d in
-    Drives now h.spot (bits_in h.slice) b.driven → IsMade reader h.context d h.spot (bits_in h.slice ++ b ∷ []) turn →
-    AtAfter turn stage shift h.context n h.spot (bits_in h.slice ++ b ∷ []) → context_of new.standing ≡ off_if n →
+    let now = along h.cut.context h.cut.spot [] h.cut.rest in let d = at_bit now h.cut.spot (bits_in h.cut.rest) b in let n = resulted turn d in
+    Drives now h.cut.spot (bits_in h.cut.rest) b.driven → IsMade reader h.cut.context d h.cut.spot (bits_in h.cut.rest ++ b ∷ []) turn →
+    AtAfter turn stage shift h.cut.context n h.cut.spot (bits_in h.cut.rest ++ b ∷ []) → context_of new.standing ≡ off_if n →
     (n.tec < 256 → (new.stage ≡ stage) × (new.shift ≡ shift)) → (256 ≤ n.tec → new.stage ≡ StageResting) →
-    e ≡ events_of (step_of d.held turn) now h.spot (bits_in h.slice) b → e.went_off ≡ nat_le 256 n.tec → Leads old new entries found h b e
+    e ≡ events_of (step_of d.held turn) now h.cut.spot (bits_in h.cut.rest) b → e.went_off ≡ nat_le 256 n.tec → Leads old new entries found h b e
 leads_by old new entries found h b turn stage reader shift e drives made at shows on off told went =
-    let d = at_bit (along h.context h.spot [] h.slice) h.spot (bits_in h.slice) b in
+    let d = at_bit (along h.cut.context h.cut.spot [] h.cut.rest) h.cut.spot (bits_in h.cut.rest) b in
     let P : Bool → Type 0 = λ w. StandsAt new (entries ++ entries_if w b) (found ++ closed_by (counted none_yet (entries ++ Took b ∷ [])) (step_of d.held turn)) in
     let there = subst P (sym went) (stands_by old new entries found h b turn stage reader shift drives made at shows on off) in
     record {
       step = step_of d.held turn;
       told = told;
       stands = there;
-      role = role_told e (events_of (step_of d.held turn) (along h.context h.spot [] h.slice) h.spot (bits_in h.slice) b) (resulted turn d)
-          (along there.context there.spot [] there.slice) told (turn_role turn (along h.context h.spot [] h.slice) h.spot (bits_in h.slice) b)
+      role = role_told e (events_of (step_of d.held turn) (along h.cut.context h.cut.spot [] h.cut.rest) h.cut.spot (bits_in h.cut.rest) b) (resulted turn d)
+          (along there.cut.context there.cut.spot [] there.cut.rest) told (turn_role turn (along h.cut.context h.cut.spot [] h.cut.rest) h.cut.spot (bits_in h.cut.rest) b)
           (sym there.shows ∙ shows);
     }

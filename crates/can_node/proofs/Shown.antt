@@ -15,32 +15,33 @@ use Rattle.can_node.specs.Driving.{Drives, phase_at}
 use Rattle.can_node.specs.Standing.{context_of, IsKept}
 use Rattle.can_node.specs.Stages.{At, IsInFrame}
 use Rattle.can_node.specs.Stages.IsInFrame.{from_idle, from_pause}
-use Rattle.can_node.specs.Stands.{StandsAt, now_of, rests_in}
+use Rattle.can_node.specs.NextBit.{now_in, rests_in}
+use Rattle.can_node.specs.Stands.{StandsAt}
 use Rattle.can_node.proofs.Along.{is_kept}
 use Rattle.can_node.proofs.Ats.{at_is}
 
 -- where the node is, by its own fields
 pub at_shown : (node : Node) (entries : List Entry) (found : List Found) (h : StandsAt node entries found) →
-    At node.stage node.shift h.context (context_of node.standing) h.spot (bits_in h.slice)
+    At node.stage node.shift h.cut.context (context_of node.standing) h.cut.spot (bits_in h.cut.rest)
 at_shown node entries found h =
-    let P : Context → Type 0 = λ d. At node.stage node.shift h.context d h.spot (bits_in h.slice) in
+    let P : Context → Type 0 = λ d. At node.stage node.shift h.cut.context d h.cut.spot (bits_in h.cut.rest) in
     subst P (sym h.shows) h.at
 
 -- what its context keeps
 pub kept_shown : (node : Node) (entries : List Entry) (found : List Found) (h : StandsAt node entries found) →
-    IsKept h.spot h.context (context_of node.standing)
+    IsKept h.cut.spot h.cut.context (context_of node.standing)
 kept_shown node entries found h =
-    let P : Context → Type 0 = λ d. IsKept h.spot h.context d in
-    subst P (sym h.shows) (is_kept h.context h.spot h.slice)
+    let P : Context → Type 0 = λ d. IsKept h.cut.spot h.cut.context d in
+    subst P (sym h.shows) (is_kept h.cut.context h.cut.spot h.cut.rest)
 
 -- what it drives
 pub drive_shown : (node : Node) (entries : List Entry) (found : List Found) (h : StandsAt node entries found) (x : Level) →
     ((c : Context) (spot : Spot) (bits : List Bit) → At node.stage node.shift c (context_of node.standing) spot bits → IsKept spot c (context_of node.standing) →
     Drives (context_of node.standing) spot bits x) →
-    Drives (now_of node entries found h) h.spot (bits_in h.slice) x
+    Drives (now_in h.cut) h.cut.spot (bits_in h.cut.rest) x
 drive_shown node entries found h x f =
-    let P : Context → Type 0 = λ d. Drives d h.spot (bits_in h.slice) x in
-    subst P h.shows (f h.context h.spot (bits_in h.slice) (at_shown node entries found h) (kept_shown node entries found h))
+    let P : Context → Type 0 = λ d. Drives d h.cut.spot (bits_in h.cut.rest) x in
+    subst P h.shows (f h.cut.context h.cut.spot (bits_in h.cut.rest) (at_shown node entries found h) (kept_shown node entries found h))
 
 -- its phase in a frame
 in_frame : (spot : Spot) (bits : List Bit) → IsInFrame spot bits → Frame ≡ phase_at spot bits
@@ -48,10 +49,10 @@ in_frame spot bits (from_idle b more) = refl
 in_frame spot bits (from_pause more) = refl
 
 pub frame_shown : (node : Node) (entries : List Entry) (found : List Found) (h : StandsAt node entries found) → node.stage ≡ StageInFrame →
-    Frame ≡ phase_at h.spot (bits_in h.slice)
+    Frame ≡ phase_at h.cut.spot (bits_in h.cut.rest)
 frame_shown node entries found h e =
-    let reading = at_is StageInFrame node.stage node.shift h.context (now_of node entries found h) h.spot (bits_in h.slice) e h.at in
-    in_frame h.spot (bits_in h.slice) reading.place
+    let reading = at_is StageInFrame node.stage node.shift h.cut.context (now_in h.cut) h.cut.spot (bits_in h.cut.rest) e h.at in
+    in_frame h.cut.spot (bits_in h.cut.rest) reading.place
 
 -- it doesn't rest in any other phase
 awake : (p : Phase) (held : Bool) → p ≢ Reset → p ≢ Idle → false ≡ rests_in p held
@@ -75,8 +76,8 @@ none_is (Some request) true e = absurd cc
 none_is (Some request) false e = refl
 
 pub idle_shown : (node : Node) (entries : List Entry) (found : List Found) (h : StandsAt node entries found) (p : Phase) (none : Bool) → p ≡ Idle →
-    p ≡ phase_at h.spot (bits_in h.slice) → is_some node.standing.held ≡ not none →
-    none ≡ rests_in (phase_at h.spot (bits_in h.slice)) (is_held (now_of node entries found h).held)
+    p ≡ phase_at h.cut.spot (bits_in h.cut.rest) → is_some node.standing.held ≡ not none →
+    none ≡ rests_in (phase_at h.cut.spot (bits_in h.cut.rest)) (is_held (now_in h.cut).held)
 idle_shown node entries found h p none e f g =
-    let held = (now_of node entries found h).held in
+    let held = (now_in h.cut).held in
     none_is held none (sym (ap (λ (c : Context). is_some c.held) h.shows) ∙ g) ∙ ap (λ q. rests_in q (is_held held)) (sym e ∙ f)

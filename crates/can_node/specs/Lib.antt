@@ -9,6 +9,7 @@ pub mod Effects
 pub mod Cut
 pub mod Events
 pub mod Driving
+pub mod NextBit
 pub mod Standing
 pub mod Causes
 pub mod Stages

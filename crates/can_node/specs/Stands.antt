@@ -5,7 +5,6 @@ use Rattle.can_node.specs.declared.request.Request.{Request}
 use Rattle.can_node.specs.declared.aborted.Aborted.{Aborted}
 use Rattle.can_node.specs.declared.aborted.Aborted.TheVariants.{Unchanged, Marked, Dropped}
 use Rattle.can_node.specs.declared.phase.Phase.{Phase}
-use Rattle.can_node.specs.declared.phase.Phase.TheVariants.{Reset, Waiting, Idle as IdlePhase, Frame as FramePhase, Flag as FlagPhase, Delimiter as DelimiterPhase, Intermission, Suspension}
 use Rattle.can_node.specs.declared.counters.Counters.{Counters}
 use Rattle.can_node.specs.declared.state.State.{State}
 use Rattle.can_node.specs.declared.state.State.TheVariants.{Active, Passive, BusOff}
@@ -13,31 +12,24 @@ use Rattle.can_node.specs.declared.bit_events.BitEvents.{BitEvents}
 use Rattle.can_node.specs.declared.stage.Stage.TheVariants.{Resting as StageResting}
 use Rattle.can_node.specs.declared.node.Node.{Node}
 use Rattle.can_node.specs.Bits.{Bit}
-use Rattle.can_node.specs.Context.{Context, fresh, is_held, is_transmitter}
-use Rattle.can_node.specs.Pieces.{Spot}
+use Rattle.can_node.specs.Context.{is_held, is_transmitter}
 use Rattle.can_node.specs.Pieces.Spot.{Resting}
-use Rattle.can_node.specs.Record.{Entry, bits_in}
+use Rattle.can_node.specs.Record.{Entry}
 use Rattle.can_node.specs.Record.Entry.{Took, Send, Abort, Off}
-use Rattle.can_node.specs.Effects.{along, is_in_progress}
-use Rattle.can_node.specs.Cut.{From, Found, Count, none_yet, counted, tagged}
+use Rattle.can_node.specs.Effects.{is_in_progress}
+use Rattle.can_node.specs.Cut.{Found, IsCut, Count, none_yet, counted, tagged}
 use Rattle.can_node.specs.Events.{Step, events_of}
 use Rattle.can_node.specs.Events.Step.{Goes, Closes}
-use Rattle.can_node.specs.Driving.{Drives, phase_at}
+use Rattle.can_node.specs.NextBit.{now_in, open_bits, phase_in, DrivesIn, is_at_rest}
 use Rattle.can_node.specs.Standing.{context_of}
 use Rattle.can_node.specs.Stages.{At}
 
 -- the node stands at this record, cut into these finished pieces, with a piece perhaps that isn't finished at its end
 pub record StandsAt (node : Node) (entries : List Entry) (found : List Found) : Type 0 where
-  pub context : Context
-  pub spot : Spot
-  pub slice : List Entry
-  pub from : From none_yet fresh Resting entries found context spot slice
-  pub shows : context_of node.standing ≡ along context spot [] slice
-  pub at : At node.stage node.shift context (along context spot [] slice) spot (bits_in slice)
-
--- the context of the next bit
-abbrev pub now_of : (node : Node) (entries : List Entry) (found : List Found) → StandsAt node entries found → Context
-now_of node entries found h = along h.context h.spot [] h.slice
+  pub cut : IsCut entries found
+  -- its fields say the context of the next bit, and how far the piece that isn't finished has come
+  pub shows : context_of node.standing ≡ now_in cut
+  pub at : At node.stage node.shift cut.context (now_in cut) cut.spot (open_bits cut)
 
 -- the entries that a bit adds: its own, and that of bus-off
 abbrev pub entries_of : Bit → BitEvents → List Entry
@@ -51,10 +43,10 @@ closed_by k (Closes piece next) = tagged k (piece ∷ [])
 -- one bit leads from a record to the record with it, and tells what the cut has there
 pub record Leads (node new : Node) (entries : List Entry) (found : List Found) (h : StandsAt node entries found) (b : Bit) (e : BitEvents) : Type 0 where
   pub step : Step
-  pub told : e ≡ events_of step (now_of node entries found h) h.spot (bits_in h.slice) b
+  pub told : e ≡ events_of step (now_in h.cut) h.cut.spot (open_bits h.cut) b
   pub stands : StandsAt new (entries ++ entries_of b e) (found ++ closed_by (counted none_yet (entries ++ Took b ∷ [])) step)
-  -- and the role that it tells is the one that the node then has
-  pub role : e.receiving ≡ not (is_transmitter (now_of new (entries ++ entries_of b e) (found ++ closed_by (counted none_yet (entries ++ Took b ∷ [])) step) stands).role)
+  -- the role that it tells is the one that the node then has
+  pub role : e.receiving ≡ not (is_transmitter (now_in stands.cut).role)
 
 -- the node is in reset
 abbrev pub InReset : Node → Type 0
@@ -70,56 +62,42 @@ Enters old new entry = (entries : List Entry) (found : List Found) → StandsAt 
 abbrev pub Samples : Node → Node → Level → BitEvents → Type 0
 Samples old new seen result =
     (entries : List Entry) (found : List Found) (h : StandsAt old entries found) (x : Level) →
-    Drives (now_of old entries found h) h.spot (bits_in h.slice) x → Leads old new entries found h (record { driven = x; seen = seen }) result
+    DrivesIn h.cut x → Leads old new entries found h (record { driven = x; seen = seen }) result
 
 -- the level is the one that the node drives next
 abbrev pub DrivesNext : Node → Level → Type 0
-DrivesNext node result =
-    (entries : List Entry) (found : List Found) (h : StandsAt node entries found) → Drives (now_of node entries found h) h.spot (bits_in h.slice) result
+DrivesNext node result = (entries : List Entry) (found : List Found) (h : StandsAt node entries found) → DrivesIn h.cut result
 
 -- the phase of the next bit
 abbrev pub ShowsPhase : Node → Phase → Type 0
-ShowsPhase node result = (entries : List Entry) (found : List Found) (h : StandsAt node entries found) → result ≡ phase_at h.spot (bits_in h.slice)
+ShowsPhase node result = (entries : List Entry) (found : List Found) (h : StandsAt node entries found) → result ≡ phase_in h.cut
 
 -- the counters that the cut gives
 abbrev pub ShowsCounters : Node → Counters → Type 0
 ShowsCounters node result =
     (entries : List Entry) (found : List Found) (h : StandsAt node entries found) →
-    let c = now_of node entries found h in (result.tec ≡ c.tec) × (result.rec ≡ c.rec) × (result.off ≡ c.off)
+    let c = now_in h.cut in (result.tec ≡ c.tec) × (result.rec ≡ c.rec) × (result.off ≡ c.off)
 
--- any cut of a record that the node stands at has the same finished pieces, and leads to the same context and place and
--- to the same entries of a piece that isn't finished
-abbrev pub HasOneCut : Node → Type 0
-HasOneCut node =
-    (entries : List Entry) (found others : List Found) (h : StandsAt node entries found) (c : Context) (spot : Spot) (slice : List Entry) →
-    From none_yet fresh Resting entries others c spot slice → (found ≡ others) × (h.context ≡ c) × (h.spot ≡ spot) × (h.slice ≡ slice)
+-- two cuts of a record are one: the same finished pieces, context and place, and the same entries of a piece that isn't
+-- finished
+abbrev pub HasOneCut : List Entry → Type 0
+HasOneCut entries =
+    (found others : List Found) (h : IsCut entries found) (k : IsCut entries others) →
+    (found ≡ others) × (h.context ≡ k.context) × (h.spot ≡ k.spot) × (h.rest ≡ k.rest)
 
 -- bus-off, else passive from 128 on, else active
 abbrev pub state_of : Counters → State
 state_of k = if k.off then BusOff else if nat_le 128 k.tec || nat_le 128 k.rec then Passive else Active
 
--- at rest: in reset, or idle with no request
-abbrev pub rests_in : Phase → Bool → Bool
-rests_in Reset held = true
-rests_in IdlePhase held = if held then false else true
-rests_in Waiting held = false
-rests_in FramePhase held = false
-rests_in FlagPhase held = false
-rests_in DelimiterPhase held = false
-rests_in Intermission held = false
-rests_in Suspension held = false
-
 abbrev pub ShowsRest : Node → Bool → Type 0
-ShowsRest node result =
-    (entries : List Entry) (found : List Found) (h : StandsAt node entries found) →
-    result ≡ rests_in (phase_at h.spot (bits_in h.slice)) (is_held (now_of node entries found h).held)
+ShowsRest node result = (entries : List Entry) (found : List Found) (h : StandsAt node entries found) → result ≡ is_at_rest h.cut
 
 -- a request is taken, or given back where the node is in reset or holds one
 abbrev pub Requests : Node → Node → Request → Result ⊤ Request → Type 0
 Requests old new request (Ok done) = Enters old new (Send request)
-    × ((entries : List Entry) (found : List Found) (h : StandsAt old entries found) → (h.spot ≢ Resting) × ((now_of old entries found h).held ≡ None))
+    × ((entries : List Entry) (found : List Found) (h : StandsAt old entries found) → (h.cut.spot ≢ Resting) × ((now_in h.cut).held ≡ None))
 Requests old new request (Err back) = (back ≡ request) × (new ≡ old)
-    × ((entries : List Entry) (found : List Found) (h : StandsAt old entries found) → (h.spot ≡ Resting) ⊎ (is_held (now_of old entries found h).held ≡ true))
+    × ((entries : List Entry) (found : List Found) (h : StandsAt old entries found) → (h.cut.spot ≡ Resting) ⊎ (is_held (now_in h.cut).held ≡ true))
 
 -- a request in progress is marked, unless it would be dropped where it fails or loses anyway; any other is dropped
 abbrev pub abort_of : Bool → Option Request → Bool → Aborted
@@ -136,4 +114,4 @@ EntersAbort old new Dropped = Enters old new Abort
 abbrev pub Aborts : Node → Node → Aborted → Type 0
 Aborts old new result = EntersAbort old new result
     × ((entries : List Entry) (found : List Found) (h : StandsAt old entries found) →
-    let c = now_of old entries found h in result ≡ abort_of (is_in_progress c h.spot) c.held c.aborted)
+    let c = now_in h.cut in result ≡ abort_of (is_in_progress c h.cut.spot) c.held c.aborted)

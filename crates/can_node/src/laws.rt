@@ -6,7 +6,7 @@ ghost use Rattle.can_node.specs.Context.{Context};
 ghost use Rattle.can_node.specs.Pieces.{Spot, Piece};
 ghost use Rattle.can_node.specs.Record.{Entry};
 ghost use Rattle.can_node.specs.Table.{Row};
-ghost use Rattle.can_node.specs.Cut.{Found, IsCut};
+ghost use Rattle.can_node.specs.Stands.{HasOneCut};
 
 /// Of two pieces that are lawful at one place in one context neither is a proper front of the other, and equal lists of
 /// bits are the same piece and lead to the same place (this project's own rule, of which the standard's rules for each
@@ -20,6 +20,5 @@ pub fn pieces_are_told_apart()
 /// number of bits up to its end, and lead to the same context, the same place and the same entries of a piece that isn't
 /// finished (this project's own rule).
 pub fn a_record_has_one_cut()
-    ensures { (entries : List Entry) (found others : List Found) (h : IsCut entries found) (k : IsCut entries others)
-        → (found ≡ others) × (h.context ≡ k.context) × (h.spot ≡ k.spot) × (h.rest ≡ k.rest) }
+    ensures { (entries : List Entry) → HasOneCut entries }
 {}

@@ -27,7 +27,7 @@ impl Node {
     ghost use Rattle.std.specs.Prelude.{◌≡◌, ◌<◌, ◌↔◌, [], List};
     ghost use Rattle.can_node.specs.Record.{Entry};
     ghost use Rattle.can_node.specs.Cut.{Found};
-    ghost use Rattle.can_node.specs.Stands.{StandsAt, InReset, Enters, DrivesNext, Samples, ShowsPhase, ShowsCounters, HasOneCut, ShowsRest, Requests, Aborts};
+    ghost use Rattle.can_node.specs.Stands.{StandsAt, InReset, Enters, DrivesNext, Samples, ShowsPhase, ShowsCounters, ShowsRest, Requests, Aborts};
 
     /// A node in reset, to which nothing has happened.
     pub fn new() -> Node
@@ -132,13 +132,11 @@ impl Node {
         }
     }
 
-    /// The error counters.
-    ///
-    /// They are those that the cut of the record gives, and each record has one cut alone.
+    /// The error counters, as the cut of the record gives them: there is one alone ([`a_record_has_one_cut`](super::laws)).
+    /// The transmit error counter is below 256.
     pub fn counters(&self) -> Counters
         ensures counts { ShowsCounters self.now result }
         ensures below { (entries : List Entry) (found : List Found) → StandsAt self.now entries found → result.tec < 256 }
-        ensures only { HasOneCut self.now }
     {
         self.standing.counters
     }
