@@ -62,6 +62,10 @@ pub mod Entries
 pub mod Ways
 pub mod MoveOnce
 pub mod CutOnce
+pub mod Through
+pub mod Rests
+pub mod Longer
+pub mod ElevenSteps
 pub mod FieldLevels
 pub mod LostFields
 pub mod Winning

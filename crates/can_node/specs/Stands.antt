@@ -1,5 +1,6 @@
 -- A node that stands at a record, and what its calls do.
 use Rattle.std.specs.Prelude.{⊤, ◌≡◌, ◌≢◌, ◌⊎◌, ◌||◌, not, Bool, true, false, nat_le, if◌then◌else◌, Option, Some, None, Result, Ok, Err, List, [], ◌∷◌, ◌++◌}
+use Rattle.can_frame.specs.Frame.{FrameValue}
 use Rattle.can_bits.specs.declared.level.Level.{Level}
 use Rattle.can_node.specs.declared.request.Request.{Request}
 use Rattle.can_node.specs.declared.aborted.Aborted.{Aborted}
@@ -17,7 +18,7 @@ use Rattle.can_node.specs.Pieces.Spot.{Resting}
 use Rattle.can_node.specs.Record.{Entry}
 use Rattle.can_node.specs.Record.Entry.{Took, Send, Abort, Off}
 use Rattle.can_node.specs.Effects.{is_in_progress}
-use Rattle.can_node.specs.Cut.{Found, IsCut, Count, none_yet, counted, tagged}
+use Rattle.can_node.specs.Cut.{Found, IsCut, Heard, received, Count, none_yet, counted, tagged}
 use Rattle.can_node.specs.Events.{Step, events_of}
 use Rattle.can_node.specs.Events.Step.{Goes, Closes}
 use Rattle.can_node.specs.NextBit.{now_in, open_bits, phase_in, DrivesIn, is_at_rest}
@@ -52,6 +53,23 @@ pub record Leads (node new : Node) (entries : List Entry) (found : List Found) (
 abbrev pub InReset : Node → Type 0
 InReset node = node.stage ≡ StageResting
 
+-- the frame that a bit tells, as the cut has it
+abbrev pub heard_now : Option FrameValue → Count → List Heard
+heard_now None k = []
+heard_now (Some f) k = (record { frame = f; activation = k.starts; bits = k.bits }) ∷ []
+
+-- after a bit the node stands at the record with it, and the frames received are those before and the one that it tells
+pub record TakesBit (new : Node) (entries : List Entry) (found : List Found) (b : Bit) (e : BitEvents) : Type 0 where
+  pub more : List Found
+  pub stands : StandsAt new (entries ++ entries_of b e) (found ++ more)
+  pub heard : received (found ++ more) ≡ received found ++ heard_now e.received (counted none_yet (entries ++ Took b ∷ []))
+
+-- in reset a bit brings nothing: no frame is received, bus-off doesn't come, and the node stays in reset
+pub record Rests (new : Node) (e : BitEvents) : Type 0 where
+  pub nothing : e.received ≡ None
+  pub stays : e.went_off ≡ false
+  pub reset : InReset new
+
 -- ---- what the calls do, for every record that the node stands at
 
 -- with one entry more, and the same pieces
@@ -63,6 +81,10 @@ abbrev pub Samples : Node → Node → Level → BitEvents → Type 0
 Samples old new seen result =
     (entries : List Entry) (found : List Found) (h : StandsAt old entries found) (x : Level) →
     DrivesIn h.cut x → Leads old new entries found h (record { driven = x; seen = seen }) result
+
+-- a node in reset stays there, whatever it sees
+abbrev pub StaysReset : Node → Node → BitEvents → Type 0
+StaysReset old new e = InReset old → (entries : List Entry) (found : List Found) → StandsAt old entries found → Rests new e
 
 -- the level is the one that the node drives next
 abbrev pub DrivesNext : Node → Level → Type 0

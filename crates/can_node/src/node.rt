@@ -24,10 +24,10 @@ pub struct Node {
 }
 
 impl Node {
-    ghost use Rattle.std.specs.Prelude.{◌≡◌, ◌<◌, ◌↔◌, [], List};
+    ghost use Rattle.std.specs.Prelude.{◌≡◌, ◌<◌, ◌↔◌, [], List, IsTrue};
     ghost use Rattle.can_node.specs.Record.{Entry};
     ghost use Rattle.can_node.specs.Cut.{Found};
-    ghost use Rattle.can_node.specs.Stands.{StandsAt, InReset, Enters, DrivesNext, Samples, ShowsPhase, ShowsCounters, ShowsRest, Requests, Aborts};
+    ghost use Rattle.can_node.specs.Stands.{StandsAt, InReset, Enters, DrivesNext, Samples, StaysReset, ShowsPhase, ShowsCounters, ShowsRest, Requests, Aborts};
 
     /// A node in reset, to which nothing has happened.
     pub fn new() -> Node
@@ -69,7 +69,9 @@ impl Node {
     /// Sees the level of the bus in this bit, in which the node drove what [`drive`](Node::drive) says; in reset it looks
     /// at no level.
     pub fn sample(&mut self, level: Level) -> BitEvents
-        ensures { Samples self.old self.new level result }
+        ensures samples { Samples self.old self.new level result }
+        ensures off { IsTrue result.went_off → InReset self.new }
+        ensures rests { StaysReset self.old self.new result }
     {
         let driven = self.level();
         let lost = self.lost(driven, level);
