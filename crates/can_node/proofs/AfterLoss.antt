@@ -14,6 +14,7 @@ use Rattle.can_node.specs.Frames.{Hears, IsWithin}
 use Rattle.can_node.specs.Frames.Sends.{lost}
 use Rattle.can_node.specs.Pieces.{Spot}
 use Rattle.can_node.specs.Stages.{IsHearing, IsTelling, IsFrameSpot, frame_bits}
+use Rattle.can_node.proofs.Seen.{answers_none}
 use Rattle.can_node.proofs.Breaking.{right_nothing}
 use Rattle.can_node.proofs.FramePlaces.{row_own, frame_more, frame_seen}
 use Rattle.can_node.proofs.Losing.{lost_inside, lost_open, open_within}
@@ -49,7 +50,7 @@ hears_on c now spot bits b code rest place h next drives sees some =
           row_own c spot h.request (all ++ more) piece after place h.sent
           (lost h.check h.part rest before more code h.is_part h.well split driven some speaks);
       inside = inside;
-      answers = tt;
+      answers = answers_none c.listen levels;
       right = right_nothing levels (open_readable levels goes);
       within = subst Within (sym (append-nil levels)) (open_within levels goes inside);
     }

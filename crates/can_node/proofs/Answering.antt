@@ -20,7 +20,7 @@ use Rattle.can_node.specs.Frames.Hears.{reception}
 use Rattle.can_node.specs.Table.{Row}
 use Rattle.can_node.specs.Table.Row.{other}
 use Rattle.can_node.proofs.Nexts.{after_once}
-use Rattle.can_node.proofs.Seen.{seen-append}
+use Rattle.can_node.proofs.Seen.{seen-append, answers_none, answers_cons}
 
 -- one line has one acknowledgement slot
 pub ack_due_once : (l rest : List Level) → IsAckDue l → IsAckDue (l ++ rest) → rest ≡ []
@@ -57,19 +57,17 @@ quiet_before listen l [] bits due h = subst (λ m. AllAnswer listen m bits) (app
 quiet_before listen l (x ∷ u) bits due h =
     let P : List Level → Type 0 = λ m. AllAnswer listen m bits in
     let Q : List Level → Type 0 = λ m. IsAckDue m in
-    let joined = sym (append_assoc l (x ∷ []) u) in (
-      quiet listen l (λ early. let none = ack_due_once l (x ∷ u) early due in cc),
-      quiet_before listen (l ++ x ∷ []) u bits (subst Q joined due) (subst P joined h),
-    )
+    let joined = sym (append_assoc l (x ∷ []) u) in
+    answers_cons listen l (heard x) (hears u ++ bits) (quiet listen l (λ early. let none = ack_due_once l (x ∷ u) early due in cc))
+    (quiet_before listen (l ++ x ∷ []) u bits (subst Q joined due) (subst P joined h))
 
 -- and after it
 quiet_after : (listen : Bool) (l : List Level) (x : Level) (u v : List Level) → IsAckDue l → AllAnswer listen (l ++ x ∷ u) (hears v)
-quiet_after listen l x u [] due = tt
+quiet_after listen l x u [] due = answers_none listen (l ++ x ∷ u)
 quiet_after listen l x u (y ∷ v) due =
-    let P : List Level → Type 0 = λ m. AllAnswer listen m (hears v) in (
-      quiet listen (l ++ x ∷ u) (λ late. let none = ack_due_once l (x ∷ u) due late in cc),
-      subst P (sym (append_assoc l (x ∷ u) (y ∷ []))) (quiet_after listen l x (u ++ y ∷ []) v due),
-    )
+    let P : List Level → Type 0 = λ m. AllAnswer listen m (hears v) in
+    answers_cons listen (l ++ x ∷ u) (heard y) (hears v) (quiet listen (l ++ x ∷ u) (λ late. let none = ack_due_once l (x ∷ u) due late in cc))
+    (subst P (sym (append_assoc l (x ∷ u) (y ∷ []))) (quiet_after listen l x (u ++ y ∷ []) v due))
 
 -- what was seen where recessive was driven
 seen-hears : (l : List Level) → seen_of (hears l) ≡ l
@@ -104,7 +102,8 @@ line_received {f = f} {b = b} {c = c} listen l u part ack h right fits e =
     let later = hears (replicate 7 Recessive) in
     let P : Level → Type 0 = λ x. AllAnswer listen ((l ++ u) ++ x ∷ []) later in
     let after : AllAnswer listen (l ++ u) (slot ∷ later) =
-    (slot_answers listen (l ++ u) ack due, subst P (sym (slot_seen listen ack)) (quiet_after listen (l ++ u) ack [] (replicate 7 Recessive) due)) in
+    answers_cons listen (l ++ u) slot later (slot_answers listen (l ++ u) ack due)
+    (subst P (sym (slot_seen listen ack)) (quiet_after listen (l ++ u) ack [] (replicate 7 Recessive) due)) in
     let seen : seen_of (reception_bits listen ack u) ≡ u ++ ack ∷ replicate 7 Recessive =
     seen-append (hears u) (slot ∷ later) ∙ ap (λ m. m ++ seen_of (slot ∷ later)) (seen-hears u)
     ∙ ap (λ x. u ++ x ∷ replicate 7 Recessive) (slot_seen listen ack) in

@@ -18,6 +18,7 @@ use Rattle.can_node.specs.Frames.{IsWithin, Hears}
 use Rattle.can_node.specs.Table.{Row}
 use Rattle.can_node.specs.Table.Row.{other, other_begun}
 use Rattle.can_node.specs.Stages.{IsHearing, frame_bits}
+use Rattle.can_node.proofs.Seen.{answers_none}
 use Rattle.can_node.proofs.Breaking.{right_nothing}
 
 -- a node that saw these levels of a frame, and is its receiver from there on
@@ -34,7 +35,7 @@ hearing_at c spot bits levels seen readable inside within row =
       seen = seen ∙ sym (append-nil levels);
       row = row;
       inside = inside;
-      answers = tt;
+      answers = answers_none c.listen levels;
       right = right_nothing levels readable;
       within = subst P (sym (append-nil levels)) within;
     }

@@ -19,7 +19,7 @@ use Rattle.can_node.specs.Frames.{Answers, AllAnswer, IsWithin, Breaks, BreaksOf
 use Rattle.can_node.specs.Frames.Breaks.{stuff, form, check, own_ack}
 use Rattle.can_node.specs.Stages.{AllRight}
 use Rattle.can_node.proofs.Nexts.{past_here, after_once}
-use Rattle.can_node.proofs.Seen.{seen_split, answers_at}
+use Rattle.can_node.proofs.Seen.{seen_split}
 use Rattle.can_node.proofs.Faults.{more_after}
 
 -- a front of what is readable is readable
@@ -169,5 +169,5 @@ recessive_there false l Dominant due w =
 pub check_breaks : (listen : Bool) (l : List Level) (before : List Bit) (last : Bit) → AllAnswer listen l (before ++ last ∷ []) →
     BreaksWith (l ++ seen_of before) last.seen CheckFault → Breaks l (before ++ last ∷ []) CheckError
 check_breaks listen l before last answers (wrong, recessive) =
-    let driven = recessive_there listen (l ++ seen_of before) last.driven (answers_at listen l before [] last answers) wrong in
+    let driven = recessive_there listen (l ++ seen_of before) last.driven (answers before [] last refl) wrong in
     check before (ap (λ x. before ++ x ∷ []) (both_recessive last driven recessive)) wrong

@@ -17,7 +17,6 @@ use Rattle.can_bits.specs.Acknowledging.{IsAckDue}
 use Rattle.can_node.specs.Frames.{Answers, AllAnswer, AckFits, IsWithin, Hears}
 use Rattle.can_node.specs.Frames.Hears.{reception}
 use Rattle.can_node.proofs.Nexts.{past_here}
-use Rattle.can_node.proofs.Seen.{answers_at}
 use Rattle.can_node.specs.Stages.{AllRight}
 use Rattle.can_node.proofs.Breaking.{readable_begins}
 
@@ -103,7 +102,7 @@ acknowledged {f = f} {b = b} {c = c} false l part bits ack later h right inside 
             right = right;
             whole = ap (λ m. l ++ m) seen ∙ sym longer.1;
           } in
-          let driven = forced_there (l ++ seen_of before) slot.driven (answers_at false l before after slot (subst P whole answers)) due in
+          let driven = forced_there (l ++ seen_of before) slot.driven (answers before after slot whole) due in
           not_recessive ack (λ lost. answered before after (whole ∙ ap (λ x. before ++ x ∷ after) (lost_there slot driven (here ∙ lost))))
     ]
 

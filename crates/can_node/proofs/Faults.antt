@@ -15,7 +15,7 @@ use Rattle.can_node.specs.Bits.{Bit, heard, forced, seen_of}
 use Rattle.can_bits.specs.Acknowledging.{IsAckDue}
 use Rattle.can_node.specs.Frames.{Answers, AllAnswer, AckFits, Breaks}
 use Rattle.can_node.specs.Frames.Breaks.{stuff, form, check, own_ack}
-use Rattle.can_node.proofs.Seen.{seen_split, answers_at}
+use Rattle.can_node.proofs.Seen.{seen_split}
 
 -- a stuffed part and a front of its tail begin a line
 pub tail_begins : {f : FrameValue} {b c l : List Level} (part front rest : List Level) (ack : Level) →
@@ -82,7 +82,7 @@ breaks_at listen l before last bits cause answers e (check other d ends) =
 breaks_at listen l before last bits cause answers e (own_ack other d) =
     let same = same_from_push before other last (forced Recessive) (sym e ∙ d) in
     let P : List Bit → Type 0 = λ m. AllAnswer listen l m in
-    let due = forced_due listen (l ++ seen_of before) last Recessive same.1 (answers_at listen l before [] last (subst P e answers)) in
+    let due = forced_due listen (l ++ seen_of before) last Recessive same.1 (answers before [] last e) in
     lost_ack due.0 same.1 due.1
 
 -- neither a stuff bit nor a fixed level is wrong where a check sequence is

@@ -28,7 +28,7 @@ use Rattle.can_node.specs.Frames.Breaks.{own_ack}
 use Rattle.can_node.specs.Frames.Hears.{broken}
 use Rattle.can_node.specs.Table.{Row}
 use Rattle.can_node.specs.Stages.{IsHearing, AllRight, frame_bits}
-use Rattle.can_node.proofs.Seen.{seen-append, seen_on}
+use Rattle.can_node.proofs.Seen.{seen-append, seen_on, answers_push}
 use Rattle.can_node.proofs.Breaking.{right_next, breaks_off_now, stuff_breaks, form_breaks, check_breaks}
 use Rattle.can_node.proofs.Completing.{within_here, received_now}
 use Rattle.can_node.proofs.Starts.{hearing_begun}
@@ -43,14 +43,6 @@ frame_push AfterReception bits x = seen-append bits (x ∷ [])
 frame_push Flagging bits x = seen-append bits (x ∷ [])
 frame_push AfterFlag bits x = seen-append bits (x ∷ [])
 frame_push Pausing bits x = seen-append bits (x ∷ [])
-
--- a receiver drives as it must with one bit more
-pub answers_push : (listen : Bool) (l : List Level) (bits : List Bit) (x : Bit) → AllAnswer listen l bits → Answers listen (l ++ seen_of bits) x.driven →
-    AllAnswer listen l (bits ++ x ∷ [])
-answers_push listen l [] x h last = (subst (λ m. Answers listen m x.driven) (append-nil l) last, tt)
-answers_push listen l (b ∷ bits) x h last =
-    let P : List Level → Type 0 = λ m. Answers listen m x.driven in
-    (h.0, answers_push listen (l ++ b.seen ∷ []) bits x h.1 (subst P (sym (append_assoc l (b.seen ∷ []) (seen_of bits))) last))
 
 -- what the receiver saw so far is readable
 pub hearing_readable : (c : Context) (spot : Spot) (bits : List Bit) → IsHearing c spot bits → IsReadable (seen_of (frame_bits spot bits))

@@ -18,12 +18,39 @@ seen_on l a b = ap (λ m. l ++ m) (seen-append a b) ∙ sym (append_assoc l (see
 pub seen_split : (l : List Level) (bits a b : List Bit) → bits ≡ a ++ b → l ++ seen_of bits ≡ (l ++ seen_of a) ++ seen_of b
 seen_split l bits a b e = ap (λ m. l ++ seen_of m) e ∙ seen_on l a b
 
--- what is driven in one of the bits
-pub answers_at : (listen : Bool) (l : List Level) (before after : List Bit) (x : Bit) →
-    AllAnswer listen l (before ++ x ∷ after) → Answers listen (l ++ seen_of before) x.driven
-answers_at listen l [] after x h =
+-- there is no bit to answer in
+pub answers_none : (listen : Bool) (l : List Level) → AllAnswer listen l []
+answers_none listen l [] after b e = absurd cc
+answers_none listen l (x ∷ before) after b e = absurd cc
+
+-- a first bit and all later ones
+pub answers_cons : (listen : Bool) (l : List Level) (x : Bit) (bits : List Bit) → Answers listen l x.driven → AllAnswer listen (l ++ x.seen ∷ []) bits →
+    AllAnswer listen l (x ∷ bits)
+answers_cons listen l x bits first later [] after b e =
     let P : List Level → Type 0 = λ m. Answers listen m x.driven in
-    subst P (sym (append-nil l)) h.0
-answers_at listen l (b ∷ before) after x h =
+    let Q : Bit → Type 0 = λ y. Answers listen (l ++ []) y.driven in
+    let same : x ≡ b = cc in
+    subst Q same (subst P (sym (append-nil l)) first)
+answers_cons listen l x bits first later (y ∷ before) after b e =
+    let same : x ≡ y = cc in
+    let rest : bits ≡ before ++ b ∷ after = cc in
+    let P : List Level → Type 0 = λ m. Answers listen m b.driven in
+    let seen : (l ++ x.seen ∷ []) ++ seen_of before ≡ l ++ y.seen ∷ seen_of before =
+    append_assoc l (x.seen ∷ []) (seen_of before) ∙ ap (λ (z : Bit). l ++ z.seen ∷ seen_of before) same in
+    subst P seen (later before after b rest)
+
+-- the bits before one more
+answers_front : (listen : Bool) (l : List Level) (x : Bit) (bits : List Bit) → AllAnswer listen l (x ∷ bits) → AllAnswer listen (l ++ x.seen ∷ []) bits
+answers_front listen l x bits h before after b e =
+    let P : List Level → Type 0 = λ m. Answers listen m b.driven in
+    subst P (sym (append_assoc l (x.seen ∷ []) (seen_of before))) (h (x ∷ before) after b (ap (λ m. x ∷ m) e))
+
+-- one bit more at the end
+pub answers_push : (listen : Bool) (l : List Level) (bits : List Bit) (x : Bit) → AllAnswer listen l bits → Answers listen (l ++ seen_of bits) x.driven →
+    AllAnswer listen l (bits ++ x ∷ [])
+answers_push listen l [] x h last =
+    answers_cons listen l x [] (subst (λ m. Answers listen m x.driven) (append-nil l) last) (answers_none listen (l ++ x.seen ∷ []))
+answers_push listen l (b ∷ bits) x h last =
     let P : List Level → Type 0 = λ m. Answers listen m x.driven in
-    subst P (append_assoc l (b.seen ∷ []) (seen_of before)) (answers_at listen (l ++ b.seen ∷ []) before after x h.1)
+    answers_cons listen l b (bits ++ x ∷ []) (subst (λ m. Answers listen m b.driven) (append-nil l) (h [] bits b refl))
+    (answers_push listen (l ++ b.seen ∷ []) bits x (answers_front listen l b bits h) (subst P (sym (append_assoc l (b.seen ∷ []) (seen_of bits))) last))

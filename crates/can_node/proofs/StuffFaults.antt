@@ -11,6 +11,7 @@ use Rattle.can_bits.proofs.Lists.{last_of}
 use Rattle.can_node.specs.declared.cause.Cause.{Cause}
 use Rattle.can_node.specs.declared.cause.Cause.TheVariants.{Stuff as StuffError}
 use Rattle.can_node.specs.Bits.{Bit, heard, forced, hears, seen_of}
+use Rattle.can_node.proofs.Seen.{answers_none, answers_cons}
 use Rattle.can_node.proofs.Heard.{no_forced, seen_heard, seen_both}
 use Rattle.can_bits.specs.Acknowledging.{IsAckDue}
 use Rattle.can_node.specs.Frames.{Answers, AllAnswer, IsWithin, Breaks, BreaksOff}
@@ -61,12 +62,12 @@ answers_recessive false l unended = λ due. unended (due_past l due)
 -- and so it does in all bits up to the first after which the part may have come
 pub all_recessive : (listen : Bool) (l before : List Level) (last : Level) → (IsPastPart (l ++ before) → ⊥) →
     AllAnswer listen l (hears (before ++ last ∷ []))
-all_recessive listen l [] last unended = (answers_recessive listen l (λ p. unended (past_more l [] p)), tt)
+all_recessive listen l [] last unended =
+    answers_cons listen l (heard last) [] (answers_recessive listen l (λ p. unended (past_more l [] p))) (answers_none listen (l ++ last ∷ []))
 all_recessive listen l (u ∷ before) last unended =
-    let P : List Level → Type 0 = λ t. IsPastPart t in (
-      answers_recessive listen l (λ p. unended (past_more l (u ∷ before) p)),
-      all_recessive listen (l ++ u ∷ []) before last (λ p. unended (subst P (append_assoc l (u ∷ []) before) p)),
-    )
+    let P : List Level → Type 0 = λ t. IsPastPart t in
+    answers_cons listen l (heard u) (hears (before ++ last ∷ [])) (answers_recessive listen l (λ p. unended (past_more l (u ∷ before) p)))
+    (all_recessive listen (l ++ u ∷ []) before last (λ p. unended (subst P (append_assoc l (u ∷ []) before) p)))
 
 -- the levels of some bits, after the levels l, with those of more bits
 joined : (l before : List Level) (front rest : List Bit) → hears before ≡ front ++ rest →

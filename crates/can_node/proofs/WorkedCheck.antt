@@ -31,6 +31,7 @@ use Rattle.can_node.specs.Cut.{Move, Found, IsCut}
 use Rattle.can_node.specs.Cut.IsOpenAt.{nothing}
 use Rattle.can_node.specs.Cut.Move.{started}
 use Rattle.can_node.specs.Cut.From.{here, on}
+use Rattle.can_node.proofs.Seen.{answers_none, answers_cons}
 use Rattle.can_node.proofs.Breaking.{breaks_off_now}
 use Rattle.can_node.proofs.Computed.{stuffed_by}
 use Rattle.can_node.proofs.Heard.{no_forced}
@@ -83,11 +84,10 @@ none_due {b = b} {c = c} part l rest ack h wrong e due =
 -- so a receiver drives recessive throughout
 all_quiet : {f : FrameValue} {b c : List Level} (part l u rest : List Level) (ack : Level) → StuffedPart f b c part → (Crc b c → ⊥) → l ++ (u ++ rest) ≡ part ++ tail ack →
     AllAnswer false l (hears u)
-all_quiet part l [] rest ack h wrong e = tt
-all_quiet part l (x ∷ u) rest ack h wrong e = (
-  λ due. none_due part l (x ∷ (u ++ rest)) ack h wrong e due,
-  all_quiet part (l ++ x ∷ []) u rest ack h wrong (append_assoc l (x ∷ []) (u ++ rest) ∙ e),
-)
+all_quiet part l [] rest ack h wrong e = answers_none false l
+all_quiet part l (x ∷ u) rest ack h wrong e =
+    answers_cons false l (heard x) (hears u) (λ due. none_due part l (x ∷ (u ++ rest)) ack h wrong e due)
+    (all_quiet part (l ++ x ∷ []) u rest ack h wrong (append_assoc l (x ∷ []) (u ++ rest) ∙ e))
 
 -- ---- the fault
 

@@ -28,10 +28,9 @@ Answers true l x = x ≡ Recessive
 Answers false l Dominant = IsAckDue l
 Answers false l Recessive = IsAckDue l → ⊥
 
--- a receiver that has seen these levels drives so in all these bits
+-- a receiver that has seen these levels drives so in each of these bits
 abbrev pub AllAnswer : Bool → List Level → List Bit → Type 0
-AllAnswer listen l [] = Unit {0}
-AllAnswer listen l (b ∷ bits) = Answers listen l b.driven × AllAnswer listen (l ++ b.seen ∷ []) bits
+AllAnswer listen l bits = (before after : List Bit) (b : Bit) → bits ≡ before ++ b ∷ after → Answers listen (l ++ seen_of before) b.driven
 
 -- the level in the acknowledgement slot: dominant, or where no acknowledgement is needed either one
 abbrev pub AckFits : Bool → Level → Type 0
