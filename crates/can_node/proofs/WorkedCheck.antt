@@ -31,12 +31,13 @@ use Rattle.can_node.specs.Cut.{Move, Found, IsCut}
 use Rattle.can_node.specs.Cut.IsOpenAt.{nothing}
 use Rattle.can_node.specs.Cut.Move.{started}
 use Rattle.can_node.specs.Cut.From.{here, on}
+use Rattle.can_node.specs.WorkedReception.{five}
 use Rattle.can_node.proofs.Seen.{answers_none, answers_cons}
 use Rattle.can_node.proofs.Breaking.{breaks_off_now}
 use Rattle.can_node.proofs.Computed.{stuffed_by}
 use Rattle.can_node.proofs.Heard.{no_forced}
 use Rattle.can_node.proofs.Slices.{by_bits, joins}
-use Rattle.can_node.proofs.WorkedSender.{asked, zeros, five, part_sent}
+use Rattle.can_node.proofs.WorkedSender.{asked, zeros, part_sent}
 
 -- a check sequence for the frame with the identifier 0 that is wrong in its last bit
 abbrev pub wrong_check : List Level

@@ -16,28 +16,22 @@ use Rattle.can_node.specs.Cut.{Move, Found, IsCut, received}
 use Rattle.can_node.specs.Cut.IsOpenAt.{nothing}
 use Rattle.can_node.specs.Cut.Move.{started}
 use Rattle.can_node.specs.Cut.From.{here, on}
+use Rattle.can_node.specs.declared.phase.Phase.TheVariants.{Idle as IdlePhase}
+use Rattle.can_node.specs.NextBit.{now_in, phase_in}
+use Rattle.can_node.specs.WorkedReception.{zero_frame, after_sof, answered, record_of_reception, pieces_of_reception}
 use Rattle.can_node.proofs.Answering.{line_received}
 use Rattle.can_node.proofs.Slices.{by_bits, joins}
-use Rattle.can_node.proofs.WorkedSender.{asked, five, part, part_sent}
-
--- what follows the start of frame in its stuffed part
-abbrev later : List Level
-later =
-    Dominant ∷ Dominant ∷ Dominant ∷ Dominant ∷ Recessive ∷ (five ++ (five ++ (five ++ (five ++ (five ++ replicate 4 Dominant)))))
-
--- the bits after the start of frame, up to the sixth of the end of frame
-abbrev pub answered : List Bit
-answered = hears later ++ (heard Recessive ∷ forced Dominant ∷ hears (replicate 7 Recessive))
+use Rattle.can_node.proofs.WorkedSender.{part, part_sent}
 
 -- they are a reception of the frame with the identifier 0
-hears_it : Hears false (Dominant ∷ []) answered (Reception asked.frame) AfterReception
+hears_it : Hears false (Dominant ∷ []) answered (Reception zero_frame) AfterReception
 hears_it =
-    line_received false (Dominant ∷ []) (later ++ Recessive ∷ []) part Dominant part_sent.is_part part_sent.right refl refl
+    line_received false (Dominant ∷ []) (after_sof ++ Recessive ∷ []) part Dominant part_sent.is_part part_sent.right refl refl
 
 -- the frame; the acknowledgement leaves the counter at 0
-receives : Move fresh AtIdle (map Took (heard Dominant ∷ answered)) (Reception asked.frame ∷ []) fresh AfterReception
+receives : Move fresh AtIdle (map Took (heard Dominant ∷ answered)) (Reception zero_frame ∷ []) fresh AfterReception
 receives =
-    by_bits fresh AtIdle AfterReception (Reception asked.frame) (heard Dominant) answered (other refl hears_it) (omega arith)
+    by_bits fresh AtIdle AfterReception (Reception zero_frame) (heard Dominant) answered (other refl hears_it) (omega arith)
 
 -- the seventh bit of its end
 ends : Move fresh AfterReception (Took (heard Recessive) ∷ []) (Last ∷ []) fresh Pausing
@@ -47,24 +41,9 @@ ends = by_bits fresh AfterReception Pausing Last (heard Recessive) [] last (omeg
 rests : Move fresh Pausing (map Took (hears (replicate 3 Recessive))) (Pause ∷ []) fresh AtIdle
 rests = by_bits fresh Pausing AtIdle Pause (heard Recessive) (hears (replicate 2 Recessive)) pause (omega arith)
 
--- the record
-abbrev pub record_of_reception : Config → List Entry
-record_of_reception config =
-    Start (record config { listen = false; self_test = false })
-    ∷ map Took (hears (replicate 11 Recessive) ++ ((heard Dominant ∷ answered) ++ hears (replicate 4 Recessive)))
-
--- its pieces, with activation and bit count
-abbrev pub pieces_of_reception : List Found
-pieces_of_reception =
-    (record { piece = Join; activation = 1; bits = 11 })
-    ∷ (record { piece = Reception asked.frame; activation = 1; bits = 60 })
-    ∷ (record { piece = Last; activation = 1; bits = 61 })
-    ∷ (record { piece = Pause; activation = 1; bits = 64 })
-    ∷ []
-
 -- its cut: all counters stay at 0
 pub cut_of_reception : (config : Config) →
-    (cut : IsCut (record_of_reception config) pieces_of_reception) × (cut.context ≡ fresh) × (cut.spot ≡ AtIdle)
+    (cut : IsCut (record_of_reception config) pieces_of_reception) × (now_in cut ≡ fresh) × (phase_in cut ≡ IdlePhase)
 cut_of_reception config = (
   record {
     context = fresh;
@@ -77,7 +56,3 @@ cut_of_reception config = (
   refl,
   refl,
 )
-
--- the frame is received in the sixth bit of its end of frame, the record's 60th
-received_there : received pieces_of_reception ≡ (record { frame = asked.frame; activation = 1; bits = 60 }) ∷ []
-received_there = refl

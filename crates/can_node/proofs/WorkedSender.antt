@@ -27,13 +27,14 @@ use Rattle.can_node.specs.Cut.{Move, Found, IsCut}
 use Rattle.can_node.specs.Cut.IsOpenAt.{nothing}
 use Rattle.can_node.specs.Cut.Move.{started, sent}
 use Rattle.can_node.specs.Cut.From.{here, on}
+use Rattle.can_node.specs.WorkedReception.{zero_frame, five}
 use Rattle.can_node.proofs.Computed.{stuffed_by}
 use Rattle.can_node.proofs.Slices.{by_bits, joins}
 
 -- a request to send the standard data frame with the identifier 0 and no bytes
 abbrev pub asked : Request
 asked = record {
-  frame = record { ext = false; id = 0; rtr = false; dlc = 0; bytes = [] };
+  frame = zero_frame;
   single_shot = false;
   self_receive = false;
 }
@@ -41,10 +42,6 @@ asked = record {
 -- its check sequence
 abbrev pub zeros : List Level
 zeros = replicate 15 Dominant
-
--- five dominant levels and their stuff bit
-abbrev pub five : List Level
-five = Dominant ∷ Dominant ∷ Dominant ∷ Dominant ∷ Dominant ∷ Recessive ∷ []
 
 -- its stuffed part: 34 dominant levels with six stuff bits
 abbrev pub part : List Level

@@ -17,3 +17,4 @@ pub mod Turns
 pub mod Telling
 pub mod Stands
 pub mod Contending
+pub mod WorkedReception

@@ -1,11 +1,20 @@
 //! Laws of the cut of a record into pieces. Each stands as the contract of a function that does nothing.
 
-ghost use Rattle.std.specs.Prelude.{◌≡◌, ◌++◌, List};
-ghost use Rattle.can_node.specs.Bits.{Bit};
-ghost use Rattle.can_node.specs.Context.{Context};
+ghost use Rattle.std.specs.Prelude.{◌≡◌, ◌++◌, ◌-◌, ℕ, true, false, map, List, []};
+ghost use Rattle.can_bits.specs.declared.level.Level.{Level};
+ghost use Rattle.can_node.specs.declared.config.Config.{Config};
+ghost use Rattle.can_node.specs.declared.phase.Phase.{Phase};
+ghost use Rattle.can_node.specs.Bits.{Bit, hears};
+ghost use Rattle.can_node.specs.Context.{Context, fresh};
 ghost use Rattle.can_node.specs.Pieces.{Spot, Piece};
+ghost use Rattle.can_node.specs.Pieces.Spot.{Joining};
 ghost use Rattle.can_node.specs.Record.{Entry};
-ghost use Rattle.can_node.specs.Table.{Row};
+ghost use Rattle.can_node.specs.Record.Entry.{Took};
+ghost use Rattle.can_node.specs.Table.{Row, Elevens};
+ghost use Rattle.can_node.specs.Effects.{along};
+ghost use Rattle.can_node.specs.Cut.{IsCut, received};
+ghost use Rattle.can_node.specs.NextBit.{now_in, phase_in};
+ghost use Rattle.can_node.specs.WorkedReception.{record_of_reception, pieces_of_reception, frames_of_reception};
 ghost use Rattle.can_node.specs.Stands.{HasOneCut};
 
 /// Of two pieces that are lawful at one place in one context neither is a proper front of the other, and equal lists of
@@ -21,4 +30,21 @@ pub fn pieces_are_told_apart()
 /// finished (this project's own rule).
 pub fn a_record_has_one_cut()
     ensures { (entries : List Entry) → HasOneCut entries }
+{}
+
+/// After bus-off, where the node doesn't only listen, each list of levels with its first eleven successive recessive ones
+/// at its end takes one from the transmit error counter (Bosch CAN 2.0 part A section 7; the counter's way down is the
+/// SJA1000 data sheet's, 6.4.12).
+pub fn each_eleven_takes_one()
+    ensures { (c : Context) (n : ℕ) (l : List Level) → c.off ≡ true → c.listen ≡ false → Elevens n l
+        → along c Joining [] (map Took (hears l)) ≡ record c { tec = c.tec - n } }
+{}
+
+/// A record worked by hand has the cut that it should have: a node that starts without self test and listen only, and sees the standard data frame with the
+/// identifier 0 and no bytes, of another node, receives it with the sixth bit of EOF, and is idle after intermission with
+/// all counters at 0.
+pub fn a_frame_of_another_node_is_received()
+    ensures cut { (config : Config) → (cut : IsCut (record_of_reception config) pieces_of_reception)
+        × (now_in cut ≡ fresh) × (phase_in cut ≡ Phase.Idle) }
+    ensures frames { received pieces_of_reception ≡ frames_of_reception }
 {}

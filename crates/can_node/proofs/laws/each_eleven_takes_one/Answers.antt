@@ -1,0 +1,5 @@
+use Rattle.can_node.proofs.ElevenSteps.{takes}
+use Rattle.can_node.proofs.laws.each_eleven_takes_one.Goals as goal
+
+pub returns : goal.returns
+returns c = takes

@@ -1,0 +1,48 @@
+-- A record worked by hand, with its finished pieces: a node starts, waits for eleven recessive levels, receives the frame of
+-- another node and acknowledges it.
+use Rattle.std.specs.Prelude.{false, List, [], ◌∷◌, ◌++◌, map, replicate}
+use Rattle.can_frame.specs.Frame.{FrameValue}
+use Rattle.can_bits.specs.declared.level.Level.{Level}
+use Rattle.can_bits.specs.declared.level.Level.TheVariants.{Dominant, Recessive}
+use Rattle.can_node.specs.declared.config.Config.{Config}
+use Rattle.can_node.specs.Bits.{Bit, heard, forced, hears}
+use Rattle.can_node.specs.Pieces.Piece.{Join, Reception, Last, Pause}
+use Rattle.can_node.specs.Record.{Entry}
+use Rattle.can_node.specs.Record.Entry.{Start, Took}
+use Rattle.can_node.specs.Cut.{Found, Heard}
+
+-- the standard data frame with the identifier 0 and no bytes
+abbrev pub zero_frame : FrameValue
+zero_frame = record { ext = false; id = 0; rtr = false; dlc = 0; bytes = [] }
+
+-- five dominant levels and their stuff bit
+abbrev pub five : List Level
+five = Dominant ∷ Dominant ∷ Dominant ∷ Dominant ∷ Dominant ∷ Recessive ∷ []
+
+-- the stuffed part of its line after SOF: 33 dominant levels, of identifier, RTR, IDE, r0, DLC and CRC sequence, with six
+-- stuff bits
+abbrev pub after_sof : List Level
+after_sof = Dominant ∷ Dominant ∷ Dominant ∷ Dominant ∷ Recessive ∷ (five ++ (five ++ (five ++ (five ++ (five ++ replicate 4 Dominant)))))
+
+-- the bits after SOF, up to the sixth of EOF: CRC delimiter, its own acknowledgement in the ACK slot, ACK delimiter, EOF
+abbrev pub answered : List Bit
+answered = hears after_sof ++ (heard Recessive ∷ forced Dominant ∷ hears (replicate 7 Recessive))
+
+-- the record: the seventh bit of EOF and intermission follow
+abbrev pub record_of_reception : Config → List Entry
+record_of_reception config =
+    Start (record config { listen = false; self_test = false })
+    ∷ map Took (hears (replicate 11 Recessive) ++ ((heard Dominant ∷ answered) ++ hears (replicate 4 Recessive)))
+
+-- its finished pieces, with activation and bit count
+abbrev pub pieces_of_reception : List Found
+pieces_of_reception =
+    (record { piece = Join; activation = 1; bits = 11 })
+    ∷ (record { piece = Reception zero_frame; activation = 1; bits = 60 })
+    ∷ (record { piece = Last; activation = 1; bits = 61 })
+    ∷ (record { piece = Pause; activation = 1; bits = 64 })
+    ∷ []
+
+-- the frame is received in the sixth bit of EOF, the record's 60th
+abbrev pub frames_of_reception : List Heard
+frames_of_reception = (record { frame = zero_frame; activation = 1; bits = 60 }) ∷ []
