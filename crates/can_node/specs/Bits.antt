@@ -9,20 +9,20 @@ pub record Bit : Type 0 where
   pub seen : Level
 
 -- the node drives recessive and sees this level
-abbrev pub heard : Level → Bit
-heard x = record { driven = Recessive; seen = x }
+abbrev pub recessive_bit : Level → Bit
+recessive_bit x = record { driven = Recessive; seen = x }
 
 -- the node drives dominant and sees this level
-abbrev pub forced : Level → Bit
-forced x = record { driven = Dominant; seen = x }
+abbrev pub dominant_bit : Level → Bit
+dominant_bit x = record { driven = Dominant; seen = x }
 
 -- it drives recessive, and sees these levels
-abbrev pub hears : List Level → List Bit
-hears levels = map heard levels
+abbrev pub recessive_bits : List Level → List Bit
+recessive_bits levels = map recessive_bit levels
 
 -- it drives dominant, and sees these levels
-abbrev pub forces : List Level → List Bit
-forces levels = map forced levels
+abbrev pub dominant_bits : List Level → List Bit
+dominant_bits levels = map dominant_bit levels
 
 -- what was seen
 abbrev pub seen_of : List Bit → List Level

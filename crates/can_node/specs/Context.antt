@@ -9,7 +9,7 @@ use Rattle.can_node.specs.declared.flag_kind.FlagKind.TheVariants.{ActiveError, 
 use Rattle.can_node.specs.declared.request.Request.{Request}
 
 -- what the lawfulness of a piece and its effect hang on
-pub record Context : Type 0 where
+pub record ContextValue : Type 0 where
   -- listen only mode; self test mode, in which an own frame needs no acknowledgement
   pub listen : Bool
   pub self_test : Bool
@@ -27,7 +27,7 @@ pub record Context : Type 0 where
   pub late : Bool
 
 -- before anything happened
-abbrev pub fresh : Context
+abbrev pub fresh : ContextValue
 fresh = record {
   listen = false;
   self_test = false;
@@ -46,16 +46,16 @@ is_transmitter Transmitter = true
 is_transmitter Receiver = false
 
 -- error passive: a counter has come to 128
-abbrev pub is_passive : Context → Bool
+abbrev pub is_passive : ContextValue → Bool
 is_passive c = nat_le 128 c.tec || nat_le 128 c.rec
 
 -- a passive transmitter waits longer before it may start again: suspension
-abbrev pub owes_suspension : Context → Bool
+abbrev pub owes_suspension : ContextValue → Bool
 owes_suspension c = is_transmitter c.role && is_passive c
 
 -- how many recessive levels a pause has: intermission, and suspension where it is owed
-abbrev pub pause_count : Context → ℕ
-pause_count c = if owes_suspension c then 11 else 3
+abbrev pub interframe_count : ContextValue → ℕ
+interframe_count c = if owes_suspension c then 11 else 3
 
 abbrev pub is_held : Option Request → Bool
 is_held None = false
@@ -68,9 +68,9 @@ level_of_flag PassiveError = Recessive
 level_of_flag Overload = Dominant
 
 -- what the node drives in its flag; a node that only listens drives nothing
-abbrev pub flag_level : Context → Level
+abbrev pub flag_level : ContextValue → Level
 flag_level c = if c.listen then Recessive else level_of_flag c.flag
 
 -- how often eleven successive recessive levels are waited for after a start
-abbrev pub join_count : Context → ℕ
-join_count c = if c.off then 128 else 1
+abbrev pub integration_count : ContextValue → ℕ
+integration_count c = if c.off then 128 else 1

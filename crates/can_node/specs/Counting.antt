@@ -7,23 +7,23 @@ use Rattle.can_node.specs.declared.request.Request.{Request}
 use Rattle.can_node.specs.Bits.{Bit, seen_of}
 use Rattle.can_node.specs.declared.role.Role.{Role}
 use Rattle.can_node.specs.declared.flag_kind.FlagKind.{FlagKind}
-use Rattle.can_node.specs.Context.{Context}
+use Rattle.can_node.specs.Context.{ContextValue}
 use Rattle.can_node.specs.declared.role.Role.TheVariants.{Transmitter, Receiver}
 use Rattle.can_node.specs.declared.flag_kind.FlagKind.TheVariants.{ActiveError, PassiveError, Overload}
-use Rattle.can_node.specs.Pieces.{Spot, sent_at}
-use Rattle.can_node.specs.Pieces.Spot.{Resting, Joining, AtIdle, SofSeen, AfterReception, Flagging, AfterFlag, Pausing}
+use Rattle.can_node.specs.Pieces.{Place, sent_at}
+use Rattle.can_node.specs.Pieces.Place.{AtReset, AtIntegration, AtIdle, AfterSof, AtLastEofBit, AtFlag, AtDelimiter, AtInterframeSpace}
 
 -- ---- steps of the counters
 
 -- the receive error counter stops at 255 (this project's own rule)
-abbrev pub more_rec : ℕ → Context → Context
+abbrev pub more_rec : ℕ → ContextValue → ContextValue
 more_rec n c = record c { rec = min 255 (c.rec + n) }
 
-abbrev pub more_tec : ℕ → Context → Context
+abbrev pub more_tec : ℕ → ContextValue → ContextValue
 more_tec n c = record c { tec = c.tec + n }
 
 -- so much by the role: transmitter, receiver
-abbrev pub more_by : Role → ℕ → ℕ → Context → Context
+abbrev pub more_by : Role → ℕ → ℕ → ContextValue → ContextValue
 more_by Transmitter t r c = more_tec t c
 more_by Receiver t r c = more_rec r c
 
@@ -32,13 +32,13 @@ abbrev pub rec_acknowledged : ℕ → ℕ
 rec_acknowledged n = if nat_le 128 n then 127 else n - 1
 
 -- no counter of a node that only listens steps
-abbrev pub unless_listening : Context → Context → Context
+abbrev pub unless_listening : ContextValue → ContextValue → ContextValue
 unless_listening c new = if c.listen then c else new
 
 -- ---- the request
 
 -- a request that is tried once, or was aborted in progress, is dropped where it fails or loses
-abbrev pub drop_failed : Option Request → Context → Context
+abbrev pub drop_failed : Option Request → ContextValue → ContextValue
 drop_failed None c = c
 drop_failed (Some request) c = if request.single_shot || c.aborted then record c { held = None; aborted = false } else c
 
@@ -55,8 +55,8 @@ ends_eleven n Dominant = false
 ends_eleven n Recessive = n == 10
 
 -- while bus-off stands each eleven recessive levels take one from the transmit error counter
-abbrev pub join_bit : Context → List Bit → Bit → Context
-join_bit c done b =
+abbrev pub integration_bit : ContextValue → List Bit → Bit → ContextValue
+integration_bit c done b =
     if (c.off && not c.listen) && ends_eleven (fold next_run 0 (seen_of done)) b.seen then record c { tec = c.tec - 1 } else c
 
 -- the place code where a transmitter drives recessive and sees dominant in the arbitration field, at no stuff bit
@@ -68,32 +68,32 @@ lost_by (Some request) l Dominant Recessive = None
 lost_by None l driven seen = None
 
 -- arbitration lost: the node is receiver, and the request may be dropped
-abbrev pub lose : Context → Context
+abbrev pub lose : ContextValue → ContextValue
 lose c = record (drop_failed c.held c) { role = Receiver }
 
 -- a bit that a receiver of a frame drove dominant is its acknowledgement
-abbrev pub if_acknowledged : Level → Level → Context → Context
+abbrev pub if_acknowledged : Level → Level → ContextValue → ContextValue
 if_acknowledged Dominant Dominant c = record c { rec = rec_acknowledged c.rec }
 if_acknowledged Dominant Recessive c = c
 if_acknowledged Recessive seen c = c
 
 -- a bit of a frame after these levels of it
-abbrev pub frame_bit : Role → Context → List Level → Bit → Context
+abbrev pub frame_bit : Role → ContextValue → List Level → Bit → ContextValue
 frame_bit Transmitter c l b = if is_some (lost_by c.held l b.driven b.seen) then lose c else c
 frame_bit Receiver c l b = if_acknowledged b.driven b.seen c
 
 -- the holder of a request becomes transmitter as it starts its frame
-abbrev pub first_bit : Option Request → Context → Context
+abbrev pub first_bit : Option Request → ContextValue → ContextValue
 first_bit None c = c
 first_bit (Some request) c = record c { role = Transmitter }
 
 -- a bit at an idle place, or of a frame that began there
-abbrev pub idle_bit : Context → List Bit → Bit → Context
+abbrev pub idle_bit : ContextValue → List Bit → Bit → ContextValue
 idle_bit c [] b = first_bit (sent_at c AtIdle) c
 idle_bit c (first ∷ done) b = frame_bit c.role c (seen_of (first ∷ done)) b
 
 -- the owed step of a missing acknowledgement: at the first dominant level in the flag
-abbrev pub if_late : Level → Context → Context
+abbrev pub if_late : Level → ContextValue → ContextValue
 if_late Dominant c = if c.late then record (more_tec 8 c) { late = false } else c
 if_late Recessive c = c
 
@@ -104,7 +104,7 @@ are_dominant (Dominant ∷ l) = are_dominant l
 are_dominant (Recessive ∷ l) = false
 
 -- a receiver sees dominant right after its own error flag
-abbrev pub after_error_flag : List Bit → Role → FlagKind → Context → Context
+abbrev pub after_error_flag : List Bit → Role → FlagKind → ContextValue → ContextValue
 after_error_flag [] Receiver ActiveError c = more_rec 8 c
 after_error_flag [] Receiver PassiveError c = more_rec 8 c
 after_error_flag [] Receiver Overload c = c
@@ -112,21 +112,21 @@ after_error_flag [] Transmitter flag c = c
 after_error_flag (b ∷ done) role flag c = c
 
 -- the eighth, sixteenth .. dominant level after a flag
-abbrev pub if_eighth : List Bit → Context → Context
+abbrev pub if_eighth : List Bit → ContextValue → ContextValue
 if_eighth done c = if are_dominant (seen_of done) && (length done + 1) % 8 == 0 then more_by c.role 8 8 c else c
 
 -- a level after a flag
-abbrev pub tail_level : Level → List Bit → Context → Context
-tail_level Dominant done c = unless_listening c (if_eighth done (after_error_flag done c.role c.flag c))
-tail_level Recessive done c = c
+abbrev pub delimiter_level : Level → List Bit → ContextValue → ContextValue
+delimiter_level Dominant done c = unless_listening c (if_eighth done (after_error_flag done c.role c.flag c))
+delimiter_level Recessive done c = c
 
 -- the step of one bit at its place
-abbrev pub at_bit : Context → Spot → List Bit → Bit → Context
-at_bit c Resting done b = c
-at_bit c Joining done b = join_bit c done b
+abbrev pub at_bit : ContextValue → Place → List Bit → Bit → ContextValue
+at_bit c AtReset done b = c
+at_bit c AtIntegration done b = integration_bit c done b
 at_bit c AtIdle done b = idle_bit c done b
-at_bit c SofSeen done b = frame_bit c.role c (Dominant ∷ seen_of done) b
-at_bit c AfterReception done b = c
-at_bit c Flagging done b = if_late b.seen c
-at_bit c AfterFlag done b = tail_level b.seen done c
-at_bit c Pausing done b = c
+at_bit c AfterSof done b = frame_bit c.role c (Dominant ∷ seen_of done) b
+at_bit c AtLastEofBit done b = c
+at_bit c AtFlag done b = if_late b.seen c
+at_bit c AtDelimiter done b = delimiter_level b.seen done c
+at_bit c AtInterframeSpace done b = c

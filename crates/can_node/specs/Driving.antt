@@ -8,14 +8,14 @@ use Rattle.can_node.specs.declared.role.Role.TheVariants.{Transmitter, Receiver}
 use Rattle.can_node.specs.declared.request.Request.{Request}
 use Rattle.can_node.specs.declared.phase.Phase.{Phase}
 use Rattle.can_node.specs.declared.phase.Phase.TheVariants.{Reset, Waiting, Idle as IdlePhase, Frame as FramePhase, Flag as FlagPhase, Delimiter as DelimiterPhase, Intermission, Suspension}
-use Rattle.can_node.specs.Bits.{Bit, forced, seen_of, driven_of}
-use Rattle.can_node.specs.Context.{Context, flag_level}
-use Rattle.can_node.specs.Pieces.{Spot, sent_at}
-use Rattle.can_node.specs.Pieces.Spot.{Resting, Joining, AtIdle, SofSeen, AfterReception, Flagging, AfterFlag, Pausing}
-use Rattle.can_node.specs.Frames.{Answers, SentPart}
+use Rattle.can_node.specs.Bits.{Bit, dominant_bit, seen_of, driven_of}
+use Rattle.can_node.specs.Context.{ContextValue, flag_level}
+use Rattle.can_node.specs.Pieces.{Place, sent_at}
+use Rattle.can_node.specs.Pieces.Place.{AtReset, AtIntegration, AtIdle, AfterSof, AtLastEofBit, AtFlag, AtDelimiter, AtInterframeSpace}
+use Rattle.can_node.specs.Frames.{Acknowledges, SentPart}
 
 -- the next level of the line that a transmitter sends, of which these bits came
-pub record SendsNext (request : Request) (bits : List Bit) (x : Level) : Type 0 where
+pub record TransmitsNext (request : Request) (bits : List Bit) (x : Level) : Type 0 where
   pub check : List Level
   pub part : List Level
   pub rest : List Level
@@ -23,9 +23,9 @@ pub record SendsNext (request : Request) (bits : List Bit) (x : Level) : Type 0 
   pub whole : part ++ tail Recessive ≡ driven_of bits ++ x ∷ rest
 
 -- what a node drives within a frame: the next level of its line, or its answer
-abbrev pub FrameDrives : Role → Context → List Bit → Level → Type 0
-FrameDrives Transmitter c bits x = (request : Request) × (c.held ≡ Some request) × SendsNext request bits x
-FrameDrives Receiver c bits x = Answers c.listen (seen_of bits) x
+abbrev pub FrameDrives : Role → ContextValue → List Bit → Level → Type 0
+FrameDrives Transmitter c bits x = (request : Request) × (c.held ≡ Some request) × TransmitsNext request bits x
+FrameDrives Receiver c bits x = Acknowledges c.listen (seen_of bits) x
 
 -- what it drives where the bus is idle: the start of a frame, where one is to be sent
 abbrev pub IdleDrives : Option Request → Level → Type 0
@@ -33,25 +33,25 @@ IdleDrives None x = x ≡ Recessive
 IdleDrives (Some request) x = x ≡ Dominant
 
 -- what it drives in the next bit, where these bits of the piece at this place came
-abbrev pub Drives : Context → Spot → List Bit → Level → Type 0
-Drives c Resting bits x = x ≡ Recessive
-Drives c Joining bits x = x ≡ Recessive
+abbrev pub Drives : ContextValue → Place → List Bit → Level → Type 0
+Drives c AtReset bits x = x ≡ Recessive
+Drives c AtIntegration bits x = x ≡ Recessive
 Drives c AtIdle [] x = IdleDrives (sent_at c AtIdle) x
 Drives c AtIdle (b ∷ bits) x = FrameDrives c.role c (b ∷ bits) x
-Drives c SofSeen bits x = FrameDrives c.role c (forced Dominant ∷ bits) x
-Drives c AfterReception bits x = x ≡ Recessive
-Drives c Flagging bits x = x ≡ flag_level c
-Drives c AfterFlag bits x = x ≡ Recessive
-Drives c Pausing bits x = x ≡ Recessive
+Drives c AfterSof bits x = FrameDrives c.role c (dominant_bit Dominant ∷ bits) x
+Drives c AtLastEofBit bits x = x ≡ Recessive
+Drives c AtFlag bits x = x ≡ flag_level c
+Drives c AtDelimiter bits x = x ≡ Recessive
+Drives c AtInterframeSpace bits x = x ≡ Recessive
 
 -- the phase of the next bit
-abbrev pub phase_at : Spot → List Bit → Phase
-phase_at Resting bits = Reset
-phase_at Joining bits = Waiting
+abbrev pub phase_at : Place → List Bit → Phase
+phase_at AtReset bits = Reset
+phase_at AtIntegration bits = Waiting
 phase_at AtIdle [] = IdlePhase
 phase_at AtIdle (b ∷ bits) = FramePhase
-phase_at SofSeen bits = FramePhase
-phase_at AfterReception bits = FramePhase
-phase_at Flagging bits = FlagPhase
-phase_at AfterFlag bits = DelimiterPhase
-phase_at Pausing bits = if nat_lt (length bits) 3 then Intermission else Suspension
+phase_at AfterSof bits = FramePhase
+phase_at AtLastEofBit bits = FramePhase
+phase_at AtFlag bits = FlagPhase
+phase_at AtDelimiter bits = DelimiterPhase
+phase_at AtInterframeSpace bits = if nat_lt (length bits) 3 then Intermission else Suspension

@@ -7,16 +7,16 @@ use Rattle.can_node.specs.declared.request.Request.{Request}
 use Rattle.can_node.specs.Bits.{Bit}
 use Rattle.can_node.specs.declared.role.Role.{Role}
 use Rattle.can_node.specs.declared.flag_kind.FlagKind.{FlagKind}
-use Rattle.can_node.specs.Context.{Context, is_transmitter, is_passive, is_held, owes_suspension}
+use Rattle.can_node.specs.Context.{ContextValue, is_transmitter, is_passive, is_held, owes_suspension}
 use Rattle.can_node.specs.declared.role.Role.TheVariants.{Transmitter, Receiver}
 use Rattle.can_node.specs.declared.flag_kind.FlagKind.TheVariants.{ActiveError, PassiveError, Overload}
-use Rattle.can_node.specs.declared.fault_place.FaultPlace.{FaultPlace}
-use Rattle.can_node.specs.Pieces.{Spot, Piece}
-use Rattle.can_node.specs.Pieces.Spot.{Resting, Joining, AtIdle, SofSeen, AfterReception, Flagging, AfterFlag, Pausing}
-use Rattle.can_node.specs.declared.fault_place.FaultPlace.TheVariants.{InSending, InReception, InFlag, InDelimiter}
-use Rattle.can_node.specs.Pieces.Piece.{Join, Idle, Reception, Sending, Fault, Last, Flag, Tail, Pause, PauseWithSof, PauseBroken}
+use Rattle.can_node.specs.declared.fault_site.FaultSite.{FaultSite}
+use Rattle.can_node.specs.Pieces.{Place, Piece}
+use Rattle.can_node.specs.Pieces.Place.{AtReset, AtIntegration, AtIdle, AfterSof, AtLastEofBit, AtFlag, AtDelimiter, AtInterframeSpace}
+use Rattle.can_node.specs.declared.fault_site.FaultSite.TheVariants.{InTransmission, InReception, InFlag, InDelimiter}
+use Rattle.can_node.specs.Pieces.Piece.{Integration, IdleBit, Reception, Transmission, Fault, LastEofBit, Flag, Delimiter, InterframeSpace, InterframeSpaceWithSof, InterframeSpaceBroken}
 use Rattle.can_node.specs.Record.{Entry}
-use Rattle.can_node.specs.Record.Entry.{Start, Stop, Took, Send, Abort, Off}
+use Rattle.can_node.specs.Record.Entry.{Start, Stop, OneBit, Send, Abort, BusOff}
 use Rattle.can_node.specs.Counting.{more_rec, more_tec, more_by, unless_listening, drop_failed, at_bit}
 
 -- ---- entries other than bits
@@ -26,53 +26,53 @@ abbrev pub keep_first : Option Request → Request → Option Request
 keep_first None request = Some request
 keep_first (Some held) request = Some held
 
-abbrev pub with_send : Request → Context → Context
+abbrev pub with_send : Request → ContextValue → ContextValue
 with_send request c = record c { held = keep_first c.held request }
 
 -- an own frame is going out: a request is in progress
-abbrev pub is_in_progress : Context → Spot → Bool
+abbrev pub is_in_progress : ContextValue → Place → Bool
 is_in_progress c AtIdle = is_transmitter c.role
-is_in_progress c SofSeen = is_transmitter c.role
-is_in_progress c Resting = false
-is_in_progress c Joining = false
-is_in_progress c AfterReception = false
-is_in_progress c Flagging = false
-is_in_progress c AfterFlag = false
-is_in_progress c Pausing = false
+is_in_progress c AfterSof = is_transmitter c.role
+is_in_progress c AtReset = false
+is_in_progress c AtIntegration = false
+is_in_progress c AtLastEofBit = false
+is_in_progress c AtFlag = false
+is_in_progress c AtDelimiter = false
+is_in_progress c AtInterframeSpace = false
 
 -- an abort marks the request in progress, and drops any other
-abbrev pub with_abort : Spot → Context → Context
-with_abort spot c = if is_in_progress c spot then record c { aborted = true } else record c { held = None }
+abbrev pub with_abort : Place → ContextValue → ContextValue
+with_abort place c = if is_in_progress c place then record c { aborted = true } else record c { held = None }
 
 -- a start takes the configuration; while bus-off stands the waiting begins anew, unless the node only listens
-abbrev pub with_start : Config → Context → Context
+abbrev pub with_start : Config → ContextValue → ContextValue
 with_start config c =
     if c.off && not config.listen then record c { listen = config.listen; self_test = config.self_test; tec = 127; rec = 0 }
     else record c { listen = config.listen; self_test = config.self_test }
 
 -- a stop drops the request and keeps counters and role
-abbrev pub with_stop : Context → Context
+abbrev pub with_stop : ContextValue → ContextValue
 with_stop c = record c { held = None; aborted = false; late = false }
 
 -- bus-off drops the request and sets the counters to 127 and 0
-abbrev pub with_off : Context → Context
+abbrev pub with_off : ContextValue → ContextValue
 with_off c = record (with_stop c) { tec = 127; rec = 0; off = true }
 
 -- the context after these entries of one piece, of which these bits were done before
-abbrev pub along : Context → Spot → List Bit → List Entry → Context
-along c spot done [] = c
-along c spot done (Took b ∷ entries) = along (at_bit c spot done b) spot (done ++ b ∷ []) entries
-along c spot done (Send request ∷ entries) = along (with_send request c) spot done entries
-along c spot done (Abort ∷ entries) = along (with_abort spot c) spot done entries
-along c spot done (Start config ∷ entries) = along c spot done entries
-along c spot done (Stop ∷ entries) = along c spot done entries
-along c spot done (Off ∷ entries) = along c spot done entries
+abbrev pub along : ContextValue → Place → List Bit → List Entry → ContextValue
+along c place done [] = c
+along c place done (OneBit b ∷ entries) = along (at_bit c place done b) place (done ++ b ∷ []) entries
+along c place done (Send request ∷ entries) = along (with_send request c) place done entries
+along c place done (Abort ∷ entries) = along (with_abort place c) place done entries
+along c place done (Start config ∷ entries) = along c place done entries
+along c place done (Stop ∷ entries) = along c place done entries
+along c place done (BusOff ∷ entries) = along c place done entries
 
 -- ---- the end of a piece
 
 -- a transmitter's fault: eight, but for a stuff bit overdriven before its remote bit, and for a frame that a passive
 -- transmitter gets no acknowledgement for: that step is owed
-abbrev pub transmitter_fault : Cause → Context → Context
+abbrev pub transmitter_fault : Cause → ContextValue → ContextValue
 transmitter_fault BitError c = more_tec 8 c
 transmitter_fault StuffError c = c
 transmitter_fault FormError c = more_tec 8 c
@@ -80,63 +80,63 @@ transmitter_fault CheckError c = more_tec 8 c
 transmitter_fault AckError c = if is_passive c then record c { late = true } else more_tec 8 c
 
 -- the own step of a fault, by where it was
-abbrev pub fault_step : FaultPlace → Cause → Context → Context
-fault_step InSending cause c = drop_failed c.held (transmitter_fault cause c)
+abbrev pub fault_step : FaultSite → Cause → ContextValue → ContextValue
+fault_step InTransmission cause c = drop_failed c.held (transmitter_fault cause c)
 fault_step InReception cause c = unless_listening c (more_rec 1 c)
 fault_step InFlag cause c = more_by c.role 8 8 c
 fault_step InDelimiter cause c = unless_listening c (more_by c.role 8 1 c)
 
 -- the own step of a piece, beside those of its bits
-abbrev pub own_step : Piece → Context → Context
-own_step Join c = if c.off && not c.listen then record c { tec = 0; rec = 0; off = false } else c
-own_step (Sending request) c = record c { tec = c.tec - 1; held = None; aborted = false }
-own_step (Fault place cause segment) c = fault_step place cause c
+abbrev pub own_step : Piece → ContextValue → ContextValue
+own_step Integration c = if c.off && not c.listen then record c { tec = 0; rec = 0; off = false } else c
+own_step (Transmission request) c = record c { tec = c.tec - 1; held = None; aborted = false }
+own_step (Fault site cause segment) c = fault_step site cause c
 own_step Flag c = record c { late = false }
-own_step Idle c = c
+own_step IdleBit c = c
 own_step (Reception f) c = c
-own_step Last c = c
-own_step Tail c = c
-own_step Pause c = c
-own_step PauseWithSof c = c
-own_step PauseBroken c = c
+own_step LastEofBit c = c
+own_step Delimiter c = c
+own_step InterframeSpace c = c
+own_step InterframeSpaceWithSof c = c
+own_step InterframeSpaceBroken c = c
 
 -- an error flag is active where both counters were below 128 before the fault's own step
-abbrev pub error_flag : Context → FlagKind
+abbrev pub error_flag : ContextValue → FlagKind
 error_flag c = if is_passive c then PassiveError else ActiveError
 
 -- the kind of the flag that follows a piece: after a fault an error flag, else an overload flag
-abbrev pub flag_after : Piece → Context → FlagKind
-flag_after (Fault place cause segment) c = error_flag c
-flag_after Join c = Overload
-flag_after Idle c = Overload
+abbrev pub flag_after : Piece → ContextValue → FlagKind
+flag_after (Fault site cause segment) c = error_flag c
+flag_after Integration c = Overload
+flag_after IdleBit c = Overload
 flag_after (Reception f) c = Overload
-flag_after (Sending request) c = Overload
-flag_after Last c = Overload
+flag_after (Transmission request) c = Overload
+flag_after LastEofBit c = Overload
 flag_after Flag c = Overload
-flag_after Tail c = Overload
-flag_after Pause c = Overload
-flag_after PauseWithSof c = Overload
-flag_after PauseBroken c = Overload
+flag_after Delimiter c = Overload
+flag_after InterframeSpace c = Overload
+flag_after InterframeSpaceWithSof c = Overload
+flag_after InterframeSpaceBroken c = Overload
 
 -- where a frame starts in a pause the holder of a request is transmitter, unless it owes suspension or only listens
-abbrev pub role_after_sof : Context → Role
+abbrev pub role_after_sof : ContextValue → Role
 role_after_sof c = if is_held c.held && not (c.listen || owes_suspension c) then Transmitter else Receiver
 
 -- what the next place sets: the kind of its flag, or the role
-abbrev pub entering : Spot → Piece → Context → Context → Context
-entering Flagging piece before c = record c { flag = flag_after piece before }
+abbrev pub entering : Place → Piece → ContextValue → ContextValue → ContextValue
+entering AtFlag piece before c = record c { flag = flag_after piece before }
 entering AtIdle piece before c = record c { role = Receiver }
-entering SofSeen piece before c = record c { role = role_after_sof c }
-entering Resting piece before c = c
-entering Joining piece before c = c
-entering AfterReception piece before c = c
-entering AfterFlag piece before c = c
-entering Pausing piece before c = c
+entering AfterSof piece before c = record c { role = role_after_sof c }
+entering AtReset piece before c = c
+entering AtIntegration piece before c = c
+entering AtLastEofBit piece before c = c
+entering AtDelimiter piece before c = c
+entering AtInterframeSpace piece before c = c
 
 -- the context after a piece, from the one after all the steps of its bits
-abbrev pub closed : Piece → Spot → Context → Context
+abbrev pub closed : Piece → Place → ContextValue → ContextValue
 closed piece next c = entering next piece c (own_step piece c)
 
 -- the context after the entries of a piece
-abbrev pub after : Context → Spot → List Entry → Piece → Spot → Context
-after c spot slice piece next = closed piece next (along c spot [] slice)
+abbrev pub after : ContextValue → Place → List Entry → Piece → Place → ContextValue
+after c place slice piece next = closed piece next (along c place [] slice)

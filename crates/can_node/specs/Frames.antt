@@ -15,22 +15,22 @@ use Rattle.can_bits.specs.Places.{place_code, is_early_stuff}
 use Rattle.can_node.specs.declared.cause.Cause.{Cause}
 use Rattle.can_node.specs.declared.cause.Cause.TheVariants.{Bit as BitError, Stuff as StuffError, Form as FormError, Crc as CheckError, Ack as AckError}
 use Rattle.can_node.specs.declared.request.Request.{Request}
-use Rattle.can_node.specs.Bits.{Bit, heard, forced, seen_of, driven_of}
-use Rattle.can_node.specs.Pieces.{Spot, Piece}
-use Rattle.can_node.specs.Pieces.Spot.{AfterReception, Flagging, Pausing}
-use Rattle.can_node.specs.declared.fault_place.FaultPlace.TheVariants.{InSending, InReception}
-use Rattle.can_node.specs.Pieces.Piece.{Reception, Sending, Fault}
+use Rattle.can_node.specs.Bits.{Bit, recessive_bit, dominant_bit, seen_of, driven_of}
+use Rattle.can_node.specs.Pieces.{Place, Piece}
+use Rattle.can_node.specs.Pieces.Place.{AtLastEofBit, AtFlag, AtInterframeSpace}
+use Rattle.can_node.specs.declared.fault_site.FaultSite.TheVariants.{InTransmission, InReception}
+use Rattle.can_node.specs.Pieces.Piece.{Reception, Transmission, Fault}
 
 -- what a receiver drives after these levels: dominant in the acknowledgement slot of a line whose check sequence is
 -- right, and there alone; a node that only listens drives recessive
-abbrev pub Answers : Bool → List Level → Level → Type 0
-Answers true l x = x ≡ Recessive
-Answers false l Dominant = IsAckDue l
-Answers false l Recessive = IsAckDue l → ⊥
+abbrev pub Acknowledges : Bool → List Level → Level → Type 0
+Acknowledges true l x = x ≡ Recessive
+Acknowledges false l Dominant = IsAckDue l
+Acknowledges false l Recessive = IsAckDue l → ⊥
 
 -- a receiver that has seen these levels drives so in each of these bits
-abbrev pub AllAnswer : Bool → List Level → List Bit → Type 0
-AllAnswer listen l bits = (before after : List Bit) (b : Bit) → bits ≡ before ++ b ∷ after → Answers listen (l ++ seen_of before) b.driven
+abbrev pub AllAcknowledge : Bool → List Level → List Bit → Type 0
+AllAcknowledge listen l bits = (before after : List Bit) (b : Bit) → bits ≡ before ++ b ∷ after → Acknowledges listen (l ++ seen_of before) b.driven
 
 -- the level in the acknowledgement slot: dominant, or where no acknowledgement is needed either one
 abbrev pub AckFits : Bool → Level → Type 0
@@ -49,13 +49,13 @@ pub data Breaks (l : List Level) : List Bit → Cause → Type 0 where
   -- nor so, after it
   form : {bits : List Bit} (before : List Bit) (last : Bit) → bits ≡ before ++ last ∷ [] → IsPastPart (l ++ seen_of before) → (Begins (l ++ seen_of bits) → ⊥) → Breaks l bits FormError
   -- the acknowledgement delimiter after a wrong check sequence
-  check : {bits : List Bit} (before : List Bit) → bits ≡ before ++ heard Recessive ∷ [] → EndsInWrongCheck (l ++ seen_of before) → Breaks l bits CheckError
+  check : {bits : List Bit} (before : List Bit) → bits ≡ before ++ recessive_bit Recessive ∷ [] → EndsInWrongCheck (l ++ seen_of before) → Breaks l bits CheckError
   -- its own acknowledgement isn't seen
-  own_ack : {bits : List Bit} (before : List Bit) → bits ≡ before ++ forced Recessive ∷ [] → Breaks l bits BitError
+  own_ack : {bits : List Bit} (before : List Bit) → bits ≡ before ++ dominant_bit Recessive ∷ [] → Breaks l bits BitError
 
 -- a receiver's fault: the shortest list of a kind above, before the seventh bit of the end of frame
 pub record BreaksOff (listen : Bool) (l : List Level) (bits : List Bit) (cause : Cause) (segment : Segment) : Type 0 where
-  pub answers : AllAnswer listen l bits
+  pub answers : AllAcknowledge listen l bits
   pub before : List Bit
   pub last : Bit
   pub whole : bits ≡ before ++ last ∷ []
@@ -63,15 +63,15 @@ pub record BreaksOff (listen : Bool) (l : List Level) (bits : List Bit) (cause :
   pub breaks : Breaks l bits cause
   pub first : (front rest : List Bit) (other : Cause) → bits ≡ front ++ rest → Breaks l front other → rest ≡ []
   pub stuff_bit : Bool
-  pub place : IsNext (l ++ seen_of before) segment stuff_bit
+  pub site : IsNext (l ++ seen_of before) segment stuff_bit
 
 -- a receiver's piece, after the levels l of the frame
-pub data Hears (listen : Bool) (l : List Level) : List Bit → Piece → Spot → Type 0 where
+pub data Receives (listen : Bool) (l : List Level) : List Bit → Piece → Place → Type 0 where
   -- all of a line with a right check sequence but its last level
   reception : {bits : List Bit} {f : FrameValue} (b c : List Level) (ack : Level) →
-      AllAnswer listen l bits → Line f b c ack ((l ++ seen_of bits) ++ Recessive ∷ []) → Crc b c → AckFits listen ack → Hears listen l bits (Reception f) AfterReception
+      AllAcknowledge listen l bits → Line f b c ack ((l ++ seen_of bits) ++ Recessive ∷ []) → Crc b c → AckFits listen ack → Receives listen l bits (Reception f) AtLastEofBit
   broken : {bits : List Bit} {cause : Cause} {segment : Segment} →
-      BreaksOff listen l bits cause segment → Hears listen l bits (Fault InReception cause segment) Flagging
+      BreaksOff listen l bits cause segment → Receives listen l bits (Fault InReception cause segment) AtFlag
 
 -- part is the stuffed part of the line that a transmitter of f sends, whose check sequence is c
 pub record SentPart (f : FrameValue) (c part : List Level) : Type 0 where
@@ -90,25 +90,25 @@ pub record GoesWell (self_test : Bool) (part : List Level) (bits : List Bit) : T
 -- what is wrong with this bit for a transmitter whose line went well before it
 pub data Fails (self_test ext : Bool) (part : List Level) (before : List Bit) : Bit → Cause → Type 0 where
   -- its frame isn't acknowledged
-  no_ack : self_test ≡ false → length before ≡ length part + 1 → Fails self_test ext part before (heard Recessive) AckError
+  no_ack : self_test ≡ false → length before ≡ length part + 1 → Fails self_test ext part before (recessive_bit Recessive) AckError
   -- a recessive stuff bit before its remote bit is seen dominant
-  stuff_bit : IsTrue (is_early_stuff ext (seen_of before)) → Fails self_test ext part before (heard Dominant) StuffError
+  stuff_bit : IsTrue (is_early_stuff ext (seen_of before)) → Fails self_test ext part before (recessive_bit Dominant) StuffError
   -- a dominant level isn't seen
-  unseen : Fails self_test ext part before (forced Recessive) BitError
+  unseen : Fails self_test ext part before (dominant_bit Recessive) BitError
   -- a recessive level is seen dominant, where that is neither an acknowledgement nor a loss of arbitration
-  overdriven : length before ≢ length part + 1 → IsFalse (is_early_stuff ext (seen_of before)) → place_code ext (seen_of before) ≡ None → Fails self_test ext part before (heard Dominant) BitError
+  overdriven : length before ≢ length part + 1 → IsFalse (is_early_stuff ext (seen_of before)) → place_code ext (seen_of before) ≡ None → Fails self_test ext part before (recessive_bit Dominant) BitError
 
 -- a transmitter's piece, from the start of its frame on
-pub data Sends (self_test : Bool) (request : Request) : List Bit → Piece → Spot → Type 0 where
+pub data Transmits (self_test : Bool) (request : Request) : List Bit → Piece → Place → Type 0 where
   sending : {bits : List Bit} (c part : List Level) (ack : Level) →
       SentPart request.frame c part → AckFits self_test ack → driven_of bits ≡ part ++ tail Recessive → seen_of bits ≡ part ++ tail ack →
-      Sends self_test request bits (Sending request) Pausing
+      Transmits self_test request bits (Transmission request) AtInterframeSpace
   failed : {bits : List Bit} {cause : Cause} {segment : Segment} (c part rest : List Level) (before : List Bit) (last : Bit) (stuffed : Bool) →
       SentPart request.frame c part → GoesWell self_test part before → bits ≡ before ++ last ∷ [] → part ++ tail Recessive ≡ driven_of bits ++ rest →
       Fails self_test request.frame.ext part before last cause → IsNext (seen_of before) segment stuffed →
-      Sends self_test request bits (Fault InSending cause segment) Flagging
+      Transmits self_test request bits (Fault InTransmission cause segment) AtFlag
   -- it loses arbitration where it drives recessive and sees dominant, and goes on as receiver
-  lost : {bits : List Bit} {piece : Piece} {next : Spot} (c part rest : List Level) (before more : List Bit) (code : ℕ) →
-      SentPart request.frame c part → GoesWell self_test part before → bits ≡ before ++ heard Dominant ∷ more →
+  lost : {bits : List Bit} {piece : Piece} {next : Place} (c part rest : List Level) (before more : List Bit) (code : ℕ) →
+      SentPart request.frame c part → GoesWell self_test part before → bits ≡ before ++ recessive_bit Dominant ∷ more →
       part ++ tail Recessive ≡ (driven_of before ++ Recessive ∷ []) ++ rest → place_code request.frame.ext (seen_of before) ≡ Some code →
-      Hears false (seen_of before ++ Dominant ∷ []) more piece next → Sends self_test request bits piece next
+      Receives false (seen_of before ++ Dominant ∷ []) more piece next → Transmits self_test request bits piece next

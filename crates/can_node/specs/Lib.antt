@@ -10,11 +10,7 @@ pub mod Cut
 pub mod Events
 pub mod Driving
 pub mod NextBit
-pub mod Standing
-pub mod Causes
-pub mod Stages
-pub mod Turns
-pub mod Telling
+pub mod Machine
 pub mod Stands
 pub mod Contending
 pub mod WorkedReception

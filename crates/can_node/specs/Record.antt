@@ -8,25 +8,25 @@ use Rattle.can_node.specs.Bits.{Bit}
 pub data Entry : Type 0 where
   Start : Config → Entry
   Stop : Entry
-  Took : Bit → Entry
+  OneBit : Bit → Entry
   Send : Request → Entry
   Abort : Entry
-  Off : Entry
+  BusOff : Entry
 
 -- the bits among entries
 abbrev pub bits_in : List Entry → List Bit
 bits_in [] = []
-bits_in (Took b ∷ entries) = b ∷ bits_in entries
+bits_in (OneBit b ∷ entries) = b ∷ bits_in entries
 bits_in (Send request ∷ entries) = bits_in entries
 bits_in (Abort ∷ entries) = bits_in entries
 bits_in (Start config ∷ entries) = bits_in entries
 bits_in (Stop ∷ entries) = bits_in entries
-bits_in (Off ∷ entries) = bits_in entries
+bits_in (BusOff ∷ entries) = bits_in entries
 
 -- bits, and requests and aborts, which may come anywhere between them
 pub data Inner : List Entry → Type 0 where
   none_left : Inner []
-  took : {entries : List Entry} (b : Bit) → Inner entries → Inner (Took b ∷ entries)
+  took : {entries : List Entry} (b : Bit) → Inner entries → Inner (OneBit b ∷ entries)
   sends : {entries : List Entry} (request : Request) → Inner entries → Inner (Send request ∷ entries)
   aborts : {entries : List Entry} → Inner entries → Inner (Abort ∷ entries)
 
@@ -34,13 +34,13 @@ pub data Inner : List Entry → Type 0 where
 pub record BeginsInBit (entries : List Entry) : Type 0 where
   pub bit : Bit
   pub rest : List Entry
-  pub whole : entries ≡ Took bit ∷ rest
+  pub whole : entries ≡ OneBit bit ∷ rest
 
 -- the last entry is a bit
 pub record EndsInBit (entries : List Entry) : Type 0 where
   pub before : List Entry
   pub bit : Bit
-  pub whole : entries ≡ before ++ Took bit ∷ []
+  pub whole : entries ≡ before ++ OneBit bit ∷ []
 
 -- the entries of a piece, from its first bit to its last
 pub record IsSlice (entries : List Entry) : Type 0 where

@@ -10,59 +10,59 @@ use Rattle.can_node.specs.declared.counters.Counters.{Counters}
 use Rattle.can_node.specs.declared.state.State.{State}
 use Rattle.can_node.specs.declared.state.State.TheVariants.{Active, Passive, BusOff}
 use Rattle.can_node.specs.declared.bit_events.BitEvents.{BitEvents}
-use Rattle.can_node.specs.declared.stage.Stage.TheVariants.{Resting as StageResting}
+use Rattle.can_node.specs.declared.stage.Stage.TheVariants.{InReset as StageInReset}
 use Rattle.can_node.specs.declared.node.Node.{Node}
 use Rattle.can_node.specs.Bits.{Bit}
 use Rattle.can_node.specs.Context.{is_held, is_transmitter}
-use Rattle.can_node.specs.Pieces.Spot.{Resting}
+use Rattle.can_node.specs.Pieces.Place.{AtReset}
 use Rattle.can_node.specs.Record.{Entry}
-use Rattle.can_node.specs.Record.Entry.{Took, Send, Abort, Off}
+use Rattle.can_node.specs.Record.Entry.{OneBit, Send, Abort, BusOff}
 use Rattle.can_node.specs.Effects.{is_in_progress}
-use Rattle.can_node.specs.Cut.{Found, IsCut, Heard, received, Count, none_yet, counted, tagged}
+use Rattle.can_node.specs.Cut.{FinishedPiece, IsCut, ReceivedFrame, received, Count, none_yet, counted, tagged}
 use Rattle.can_node.specs.Events.{Step, events_of}
-use Rattle.can_node.specs.Events.Step.{Goes, Closes}
+use Rattle.can_node.specs.Events.Step.{Within, Finishes}
 use Rattle.can_node.specs.NextBit.{now_in, open_bits, phase_in, DrivesIn, is_at_rest}
-use Rattle.can_node.specs.Standing.{context_of}
-use Rattle.can_node.specs.Stages.{At}
+use Rattle.can_node.specs.Machine.Standing.{context_of}
+use Rattle.can_node.specs.Machine.Stages.{At}
 
 -- the node stands at this record, cut into these finished pieces, with a piece perhaps that isn't finished at its end
-pub record StandsAt (node : Node) (entries : List Entry) (found : List Found) : Type 0 where
+pub record StandsAt (node : Node) (entries : List Entry) (found : List FinishedPiece) : Type 0 where
   pub cut : IsCut entries found
   -- its fields say the context of the next bit, and how far the piece that isn't finished has come
-  pub shows : context_of node.standing ≡ now_in cut
-  pub at : At node.stage node.shift cut.context (now_in cut) cut.spot (open_bits cut)
+  pub shows : context_of node.context ≡ now_in cut
+  pub at : At node.stage node.shift cut.context (now_in cut) cut.place (open_bits cut)
 
 -- the entries that a bit adds: its own, and that of bus-off
 abbrev pub entries_of : Bit → BitEvents → List Entry
-entries_of b e = if e.went_off then Took b ∷ Off ∷ [] else Took b ∷ []
+entries_of b e = if e.went_off then OneBit b ∷ BusOff ∷ [] else OneBit b ∷ []
 
 -- the piece that a bit finished, with its activation and the number of bits up to its end
-abbrev pub closed_by : Count → Step → List Found
-closed_by k Goes = []
-closed_by k (Closes piece next) = tagged k (piece ∷ [])
+abbrev pub closed_by : Count → Step → List FinishedPiece
+closed_by k Within = []
+closed_by k (Finishes piece next) = tagged k (piece ∷ [])
 
 -- one bit leads from a record to the record with it, and tells what the cut has there
-pub record Leads (node new : Node) (entries : List Entry) (found : List Found) (h : StandsAt node entries found) (b : Bit) (e : BitEvents) : Type 0 where
+pub record Leads (node new : Node) (entries : List Entry) (found : List FinishedPiece) (h : StandsAt node entries found) (b : Bit) (e : BitEvents) : Type 0 where
   pub step : Step
-  pub told : e ≡ events_of step (now_in h.cut) h.cut.spot (open_bits h.cut) b
-  pub stands : StandsAt new (entries ++ entries_of b e) (found ++ closed_by (counted none_yet (entries ++ Took b ∷ [])) step)
+  pub told : e ≡ events_of step (now_in h.cut) h.cut.place (open_bits h.cut) b
+  pub stands : StandsAt new (entries ++ entries_of b e) (found ++ closed_by (counted none_yet (entries ++ OneBit b ∷ [])) step)
   -- the role that it tells is the one that the node then has
   pub role : e.receiving ≡ not (is_transmitter (now_in stands.cut).role)
 
 -- the node is in reset
 abbrev pub InReset : Node → Type 0
-InReset node = node.stage ≡ StageResting
+InReset node = node.stage ≡ StageInReset
 
 -- the frame that a bit tells, as the cut has it
-abbrev pub heard_now : Option FrameValue → Count → List Heard
-heard_now None k = []
-heard_now (Some f) k = (record { frame = f; activation = k.starts; bits = k.bits }) ∷ []
+abbrev pub received_now : Option FrameValue → Count → List ReceivedFrame
+received_now None k = []
+received_now (Some f) k = (record { frame = f; activation = k.starts; bits = k.bits }) ∷ []
 
 -- after a bit the node stands at the record with it, and the frames received are those before and the one that it tells
-pub record TakesBit (new : Node) (entries : List Entry) (found : List Found) (b : Bit) (e : BitEvents) : Type 0 where
-  pub more : List Found
+pub record TakesBit (new : Node) (entries : List Entry) (found : List FinishedPiece) (b : Bit) (e : BitEvents) : Type 0 where
+  pub more : List FinishedPiece
   pub stands : StandsAt new (entries ++ entries_of b e) (found ++ more)
-  pub heard : received (found ++ more) ≡ received found ++ heard_now e.received (counted none_yet (entries ++ Took b ∷ []))
+  pub recessive_bit : received (found ++ more) ≡ received found ++ received_now e.received (counted none_yet (entries ++ OneBit b ∷ []))
 
 -- in reset a bit brings nothing: no frame is received, bus-off doesn't come, and the node stays in reset
 pub record Rests (new : Node) (e : BitEvents) : Type 0 where
@@ -74,52 +74,52 @@ pub record Rests (new : Node) (e : BitEvents) : Type 0 where
 
 -- with one entry more, and the same pieces
 abbrev pub Enters : Node → Node → Entry → Type 0
-Enters old new entry = (entries : List Entry) (found : List Found) → StandsAt old entries found → StandsAt new (entries ++ entry ∷ []) found
+Enters old new entry = (entries : List Entry) (found : List FinishedPiece) → StandsAt old entries found → StandsAt new (entries ++ entry ∷ []) found
 
 -- one bit, in which the node drove what it drives there
 abbrev pub Samples : Node → Node → Level → BitEvents → Type 0
 Samples old new seen result =
-    (entries : List Entry) (found : List Found) (h : StandsAt old entries found) (x : Level) →
+    (entries : List Entry) (found : List FinishedPiece) (h : StandsAt old entries found) (x : Level) →
     DrivesIn h.cut x → Leads old new entries found h (record { driven = x; seen = seen }) result
 
 -- a node in reset stays there, whatever it sees
 abbrev pub StaysReset : Node → Node → BitEvents → Type 0
-StaysReset old new e = InReset old → (entries : List Entry) (found : List Found) → StandsAt old entries found → Rests new e
+StaysReset old new e = InReset old → (entries : List Entry) (found : List FinishedPiece) → StandsAt old entries found → Rests new e
 
 -- the level is the one that the node drives next
 abbrev pub DrivesNext : Node → Level → Type 0
-DrivesNext node result = (entries : List Entry) (found : List Found) (h : StandsAt node entries found) → DrivesIn h.cut result
+DrivesNext node result = (entries : List Entry) (found : List FinishedPiece) (h : StandsAt node entries found) → DrivesIn h.cut result
 
 -- the phase of the next bit
 abbrev pub ShowsPhase : Node → Phase → Type 0
-ShowsPhase node result = (entries : List Entry) (found : List Found) (h : StandsAt node entries found) → result ≡ phase_in h.cut
+ShowsPhase node result = (entries : List Entry) (found : List FinishedPiece) (h : StandsAt node entries found) → result ≡ phase_in h.cut
 
 -- the counters that the cut gives
 abbrev pub ShowsCounters : Node → Counters → Type 0
 ShowsCounters node result =
-    (entries : List Entry) (found : List Found) (h : StandsAt node entries found) →
+    (entries : List Entry) (found : List FinishedPiece) (h : StandsAt node entries found) →
     let c = now_in h.cut in (result.tec ≡ c.tec) × (result.rec ≡ c.rec) × (result.off ≡ c.off)
 
 -- two cuts of a record are one: the same finished pieces, context and place, and the same entries of a piece that isn't
 -- finished
 abbrev pub HasOneCut : List Entry → Type 0
 HasOneCut entries =
-    (found others : List Found) (h : IsCut entries found) (k : IsCut entries others) →
-    (found ≡ others) × (h.context ≡ k.context) × (h.spot ≡ k.spot) × (h.rest ≡ k.rest)
+    (found others : List FinishedPiece) (h : IsCut entries found) (k : IsCut entries others) →
+    (found ≡ others) × (h.context ≡ k.context) × (h.place ≡ k.place) × (h.rest ≡ k.rest)
 
 -- bus-off, else passive from 128 on, else active
 abbrev pub state_of : Counters → State
 state_of k = if k.off then BusOff else if nat_le 128 k.tec || nat_le 128 k.rec then Passive else Active
 
 abbrev pub ShowsRest : Node → Bool → Type 0
-ShowsRest node result = (entries : List Entry) (found : List Found) (h : StandsAt node entries found) → result ≡ is_at_rest h.cut
+ShowsRest node result = (entries : List Entry) (found : List FinishedPiece) (h : StandsAt node entries found) → result ≡ is_at_rest h.cut
 
 -- a request is taken, or given back where the node is in reset or holds one
 abbrev pub Requests : Node → Node → Request → Result ⊤ Request → Type 0
 Requests old new request (Ok done) = Enters old new (Send request)
-    × ((entries : List Entry) (found : List Found) (h : StandsAt old entries found) → (h.cut.spot ≢ Resting) × ((now_in h.cut).held ≡ None))
+    × ((entries : List Entry) (found : List FinishedPiece) (h : StandsAt old entries found) → (h.cut.place ≢ AtReset) × ((now_in h.cut).held ≡ None))
 Requests old new request (Err back) = (back ≡ request) × (new ≡ old)
-    × ((entries : List Entry) (found : List Found) (h : StandsAt old entries found) → (h.cut.spot ≡ Resting) ⊎ (is_held (now_in h.cut).held ≡ true))
+    × ((entries : List Entry) (found : List FinishedPiece) (h : StandsAt old entries found) → (h.cut.place ≡ AtReset) ⊎ (is_held (now_in h.cut).held ≡ true))
 
 -- a request in progress is marked, unless it would be dropped where it fails or loses anyway; any other is dropped
 abbrev pub abort_of : Bool → Option Request → Bool → Aborted
@@ -135,5 +135,5 @@ EntersAbort old new Dropped = Enters old new Abort
 
 abbrev pub Aborts : Node → Node → Aborted → Type 0
 Aborts old new result = EntersAbort old new result
-    × ((entries : List Entry) (found : List Found) (h : StandsAt old entries found) →
-    let c = now_in h.cut in result ≡ abort_of (is_in_progress c h.cut.spot) c.held c.aborted)
+    × ((entries : List Entry) (found : List FinishedPiece) (h : StandsAt old entries found) →
+    let c = now_in h.cut in result ≡ abort_of (is_in_progress c h.cut.place) c.held c.aborted)

@@ -7,15 +7,15 @@ use Rattle.can_bits.specs.declared.segment.Segment.TheVariants.{ActiveErrorFlag,
 use Rattle.can_bits.specs.Stuffing.{EndsInEqual}
 use Rattle.can_node.specs.declared.cause.Cause.TheVariants.{Bit as BitError, Form as FormError}
 use Rattle.can_node.specs.declared.request.Request.{Request}
-use Rattle.can_node.specs.Bits.{Bit, heard, forced, hears, forces, IsFirst}
+use Rattle.can_node.specs.Bits.{Bit, recessive_bit, dominant_bit, recessive_bits, dominant_bits, IsFirst}
 use Rattle.can_node.specs.declared.flag_kind.FlagKind.{FlagKind}
-use Rattle.can_node.specs.Context.{Context, owes_suspension, pause_count, flag_level, join_count}
+use Rattle.can_node.specs.Context.{ContextValue, owes_suspension, interframe_count, flag_level, integration_count}
 use Rattle.can_node.specs.declared.flag_kind.FlagKind.TheVariants.{ActiveError, PassiveError, Overload}
-use Rattle.can_node.specs.Pieces.{Spot, Piece, sent_at}
-use Rattle.can_node.specs.Pieces.Spot.{Joining, AtIdle, SofSeen, AfterReception, Flagging, AfterFlag, Pausing}
-use Rattle.can_node.specs.declared.fault_place.FaultPlace.TheVariants.{InFlag, InDelimiter}
-use Rattle.can_node.specs.Pieces.Piece.{Join, Idle, Fault, Last, Flag, Tail, Pause, PauseWithSof, PauseBroken}
-use Rattle.can_node.specs.Frames.{Hears, Sends}
+use Rattle.can_node.specs.Pieces.{Place, Piece, sent_at}
+use Rattle.can_node.specs.Pieces.Place.{AtIntegration, AtIdle, AfterSof, AtLastEofBit, AtFlag, AtDelimiter, AtInterframeSpace}
+use Rattle.can_node.specs.declared.fault_site.FaultSite.TheVariants.{InFlag, InDelimiter}
+use Rattle.can_node.specs.Pieces.Piece.{Integration, IdleBit, Fault, LastEofBit, Flag, Delimiter, InterframeSpace, InterframeSpaceWithSof, InterframeSpaceBroken}
+use Rattle.can_node.specs.Frames.{Receives, Transmits}
 
 -- eleven recessive levels at the end
 abbrev pub EndsInEleven : List Level → Type 0
@@ -33,37 +33,37 @@ flag_segment PassiveError = ActiveErrorFlag
 flag_segment Overload = OverloadFlag
 
 -- in this context these bits may be this piece at this place, and it leads to that place
-pub data Row (c : Context) : Spot → List Bit → Piece → Spot → Type 0 where
+pub data Row (c : ContextValue) : Place → List Bit → Piece → Place → Type 0 where
   -- after a start eleven recessive levels are waited for, after bus-off 128 times
-  join : {l : List Level} → Elevens (join_count c) l → Row c Joining (hears l) Join AtIdle
-  idle : sent_at c AtIdle ≡ None → Row c AtIdle (heard Recessive ∷ []) Idle AtIdle
+  integration : {l : List Level} → Elevens (integration_count c) l → Row c AtIntegration (recessive_bits l) Integration AtIdle
+  idle : sent_at c AtIdle ≡ None → Row c AtIdle (recessive_bit Recessive ∷ []) IdleBit AtIdle
   -- another node's frame, and an own one, from its start on
-  other : {bits : List Bit} {piece : Piece} {next : Spot} →
-      sent_at c AtIdle ≡ None → Hears c.listen (Dominant ∷ []) bits piece next → Row c AtIdle (heard Dominant ∷ bits) piece next
-  own : {request : Request} {bits : List Bit} {piece : Piece} {next : Spot} →
-      sent_at c AtIdle ≡ Some request → Sends c.self_test request bits piece next → Row c AtIdle bits piece next
+  other : {bits : List Bit} {piece : Piece} {next : Place} →
+      sent_at c AtIdle ≡ None → Receives c.listen (Dominant ∷ []) bits piece next → Row c AtIdle (recessive_bit Dominant ∷ bits) piece next
+  own : {request : Request} {bits : List Bit} {piece : Piece} {next : Place} →
+      sent_at c AtIdle ≡ Some request → Transmits c.self_test request bits piece next → Row c AtIdle bits piece next
   -- the same where the start of the frame was the last bit of a pause, from its second level on
-  other_begun : {bits : List Bit} {piece : Piece} {next : Spot} →
-      sent_at c SofSeen ≡ None → Hears c.listen (Dominant ∷ []) bits piece next → Row c SofSeen bits piece next
-  own_begun : {request : Request} {bits : List Bit} {piece : Piece} {next : Spot} →
-      sent_at c SofSeen ≡ Some request → Sends c.self_test request (forced Dominant ∷ bits) piece next → Row c SofSeen bits piece next
+  other_begun : {bits : List Bit} {piece : Piece} {next : Place} →
+      sent_at c AfterSof ≡ None → Receives c.listen (Dominant ∷ []) bits piece next → Row c AfterSof bits piece next
+  own_begun : {request : Request} {bits : List Bit} {piece : Piece} {next : Place} →
+      sent_at c AfterSof ≡ Some request → Transmits c.self_test request (dominant_bit Dominant ∷ bits) piece next → Row c AfterSof bits piece next
   -- the seventh bit of the end of a received frame
-  last : Row c AfterReception (heard Recessive ∷ []) Last Pausing
-  last_overload : Row c AfterReception (heard Dominant ∷ []) Last Flagging
+  last_eof_bit : Row c AtLastEofBit (recessive_bit Recessive ∷ []) LastEofBit AtInterframeSpace
+  last_eof_bit_overload : Row c AtLastEofBit (recessive_bit Dominant ∷ []) LastEofBit AtFlag
   -- an active error flag or overload flag: six dominant levels, or broken off by a recessive one
-  flag : flag_level c ≡ Dominant → Row c Flagging (forces (replicate 6 Dominant)) Flag AfterFlag
-  flag_fault : (i : ℕ) → flag_level c ≡ Dominant → i < 6 → Row c Flagging (forces (replicate i Dominant ++ Recessive ∷ [])) (Fault InFlag BitError (flag_segment c.flag)) Flagging
+  flag : flag_level c ≡ Dominant → Row c AtFlag (dominant_bits (replicate 6 Dominant)) Flag AtDelimiter
+  flag_fault : (i : ℕ) → flag_level c ≡ Dominant → i < 6 → Row c AtFlag (dominant_bits (replicate i Dominant ++ Recessive ∷ [])) (Fault InFlag BitError (flag_segment c.flag)) AtFlag
   -- a passive flag ends with the first six equal levels
-  flag_passive : {l : List Level} → flag_level c ≡ Recessive → IsFirst (EndsInEqual 6) l → Row c Flagging (hears l) Flag AfterFlag
+  flag_passive : {l : List Level} → flag_level c ≡ Recessive → IsFirst (EndsInEqual 6) l → Row c AtFlag (recessive_bits l) Flag AtDelimiter
   -- after a flag: any number of dominant levels, and eight recessive ones; a dominant one at the eighth is an overload, and
   -- one before it is a fault
-  tail : (k : ℕ) → Row c AfterFlag (hears (replicate k Dominant ++ replicate 8 Recessive)) Tail Pausing
-  tail_overload : (k : ℕ) → Row c AfterFlag (hears (replicate k Dominant ++ (replicate 7 Recessive ++ Dominant ∷ []))) Tail Flagging
-  tail_fault : (k i : ℕ) → i < 6 → Row c AfterFlag (hears (replicate k Dominant ++ (replicate (suc i) Recessive ++ Dominant ∷ []))) (Fault InDelimiter FormError Delimiter) Flagging
+  delimiter : (k : ℕ) → Row c AtDelimiter (recessive_bits (replicate k Dominant ++ replicate 8 Recessive)) Delimiter AtInterframeSpace
+  delimiter_overload : (k : ℕ) → Row c AtDelimiter (recessive_bits (replicate k Dominant ++ (replicate 7 Recessive ++ Dominant ∷ []))) Delimiter AtFlag
+  delimiter_fault : (k i : ℕ) → i < 6 → Row c AtDelimiter (recessive_bits (replicate k Dominant ++ (replicate (suc i) Recessive ++ Dominant ∷ []))) (Fault InDelimiter FormError Delimiter) AtFlag
   -- intermission, and suspension where it is owed; a dominant third bit, or one in suspension, is a start of frame; one
   -- before it is an overload
-  pause : Row c Pausing (hears (replicate (pause_count c) Recessive)) Pause AtIdle
-  pause_sof : Row c Pausing (hears (Recessive ∷ Recessive ∷ Dominant ∷ [])) PauseWithSof SofSeen
-  pause_sof_owed : (i : ℕ) → IsTrue (owes_suspension c) → i < 8 → Row c Pausing (hears (replicate (3 + i) Recessive ++ Dominant ∷ [])) PauseWithSof SofSeen
-  pause_broken : Row c Pausing (heard Dominant ∷ []) PauseBroken Flagging
-  pause_broken_second : Row c Pausing (heard Recessive ∷ heard Dominant ∷ []) PauseBroken Flagging
+  interframe_space : Row c AtInterframeSpace (recessive_bits (replicate (interframe_count c) Recessive)) InterframeSpace AtIdle
+  interframe_space_sof : Row c AtInterframeSpace (recessive_bits (Recessive ∷ Recessive ∷ Dominant ∷ [])) InterframeSpaceWithSof AfterSof
+  suspend_transmission_sof : (i : ℕ) → IsTrue (owes_suspension c) → i < 8 → Row c AtInterframeSpace (recessive_bits (replicate (3 + i) Recessive ++ Dominant ∷ [])) InterframeSpaceWithSof AfterSof
+  intermission_overload : Row c AtInterframeSpace (recessive_bit Dominant ∷ []) InterframeSpaceBroken AtFlag
+  intermission_overload_second : Row c AtInterframeSpace (recessive_bit Recessive ∷ recessive_bit Dominant ∷ []) InterframeSpaceBroken AtFlag

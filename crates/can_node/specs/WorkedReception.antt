@@ -5,11 +5,11 @@ use Rattle.can_frame.specs.Frame.{FrameValue}
 use Rattle.can_bits.specs.declared.level.Level.{Level}
 use Rattle.can_bits.specs.declared.level.Level.TheVariants.{Dominant, Recessive}
 use Rattle.can_node.specs.declared.config.Config.{Config}
-use Rattle.can_node.specs.Bits.{Bit, heard, forced, hears}
-use Rattle.can_node.specs.Pieces.Piece.{Join, Reception, Last, Pause}
+use Rattle.can_node.specs.Bits.{Bit, recessive_bit, dominant_bit, recessive_bits}
+use Rattle.can_node.specs.Pieces.Piece.{Integration, Reception, LastEofBit, InterframeSpace}
 use Rattle.can_node.specs.Record.{Entry}
-use Rattle.can_node.specs.Record.Entry.{Start, Took}
-use Rattle.can_node.specs.Cut.{Found, Heard}
+use Rattle.can_node.specs.Record.Entry.{Start, OneBit}
+use Rattle.can_node.specs.Cut.{FinishedPiece, ReceivedFrame}
 
 -- the standard data frame with the identifier 0 and no bytes
 abbrev pub zero_frame : FrameValue
@@ -26,23 +26,23 @@ after_sof = Dominant ∷ Dominant ∷ Dominant ∷ Dominant ∷ Recessive ∷ (f
 
 -- the bits after SOF, up to the sixth of EOF: CRC delimiter, its own acknowledgement in the ACK slot, ACK delimiter, EOF
 abbrev pub answered : List Bit
-answered = hears after_sof ++ (heard Recessive ∷ forced Dominant ∷ hears (replicate 7 Recessive))
+answered = recessive_bits after_sof ++ (recessive_bit Recessive ∷ dominant_bit Dominant ∷ recessive_bits (replicate 7 Recessive))
 
 -- the record: the seventh bit of EOF and intermission follow
 abbrev pub record_of_reception : Config → List Entry
 record_of_reception config =
     Start (record config { listen = false; self_test = false })
-    ∷ map Took (hears (replicate 11 Recessive) ++ ((heard Dominant ∷ answered) ++ hears (replicate 4 Recessive)))
+    ∷ map OneBit (recessive_bits (replicate 11 Recessive) ++ ((recessive_bit Dominant ∷ answered) ++ recessive_bits (replicate 4 Recessive)))
 
 -- its finished pieces, with activation and bit count
-abbrev pub pieces_of_reception : List Found
+abbrev pub pieces_of_reception : List FinishedPiece
 pieces_of_reception =
-    (record { piece = Join; activation = 1; bits = 11 })
+    (record { piece = Integration; activation = 1; bits = 11 })
     ∷ (record { piece = Reception zero_frame; activation = 1; bits = 60 })
-    ∷ (record { piece = Last; activation = 1; bits = 61 })
-    ∷ (record { piece = Pause; activation = 1; bits = 64 })
+    ∷ (record { piece = LastEofBit; activation = 1; bits = 61 })
+    ∷ (record { piece = InterframeSpace; activation = 1; bits = 64 })
     ∷ []
 
 -- the frame is received in the sixth bit of EOF, the record's 60th
-abbrev pub frames_of_reception : List Heard
+abbrev pub frames_of_reception : List ReceivedFrame
 frames_of_reception = (record { frame = zero_frame; activation = 1; bits = 60 }) ∷ []

@@ -1,22 +1,22 @@
 use super::cause::Cause;
-use super::done::Done;
-use super::fault_place::FaultPlace;
+use super::ending::Ending;
+use super::fault_site::FaultSite;
 use super::flag_kind::FlagKind;
 use super::role::Role;
-use super::standing::Standing;
+use super::context::Context;
 
 /// The end of a piece.
-impl Standing {
+impl Context {
     ghost use Rattle.std.specs.Prelude.{◌≡◌, ◌<◌, Option as Maybe};
     ghost use Rattle.can_node.specs.declared.request.Request.{Request};
-    ghost use Rattle.can_node.specs.Context.{Context};
-    ghost use Rattle.can_node.specs.Pieces.Piece.{Join};
+    ghost use Rattle.can_node.specs.Context.{ContextValue};
+    ghost use Rattle.can_node.specs.Pieces.Piece.{Integration};
     ghost use Rattle.can_node.specs.Effects.{closed, own_step, fault_step, transmitter_fault, flag_after, entering};
-    ghost use Rattle.can_node.specs.Standing.{context_of};
-    ghost use Rattle.can_node.specs.Turns.{piece_of, next_of, sending_of};
+    ghost use Rattle.can_node.specs.Machine.Standing.{context_of};
+    ghost use Rattle.can_node.specs.Machine.Turns.{piece_of, next_of, sending_of};
 
     /// The end of a piece: its own step, and what the next place sets.
-    pub fn close(&mut self, done: &Done)
+    pub fn close(&mut self, done: &Ending)
         ensures { self.old.counters.tec < 900
             → context_of self.new ≡ closed (piece_of self.old.held done.now) (next_of done.now) (context_of self.old) }
     {
@@ -26,11 +26,11 @@ impl Standing {
     }
 
     /// The kind of the flag that follows a piece; an error flag is active where both counters were below 128.
-    fn flag_after(&self, done: &Done) -> FlagKind
+    fn flag_after(&self, done: &Ending) -> FlagKind
         ensures { result ≡ flag_after (piece_of self.now.held done.now) (context_of self.now) }
     {
         match done {
-            Done::Fault(_, _, _) => {
+            Ending::Fault(_, _, _) => {
                 if self.is_passive() {
                     FlagKind::PassiveError
                 } else {
@@ -42,22 +42,22 @@ impl Standing {
     }
 
     /// The own step of a piece, beside those of its bits.
-    fn own_step(&mut self, done: &Done)
+    fn own_step(&mut self, done: &Ending)
         ensures { self.old.counters.tec < 900
             → context_of self.new ≡ own_step (piece_of self.old.held done.now) (context_of self.old) }
     {
         match done {
-            Done::Join => self.joined(),
-            Done::Sent => self.sent(),
-            Done::Fault(place, cause, _) => self.fault_step(*place, *cause),
-            Done::Flag => self.late = false,
+            Ending::Integration => self.joined(),
+            Ending::Sent => self.sent(),
+            Ending::Fault(place, cause, _) => self.fault_step(*place, *cause),
+            Ending::Flag => self.late = false,
             _ => {}
         }
     }
 
     /// The bus was waited for: bus-off is over, unless the node only listens.
     fn joined(&mut self)
-        ensures { context_of self.new ≡ own_step (Join) (context_of self.old) }
+        ensures { context_of self.new ≡ own_step (Integration) (context_of self.old) }
     {
         if self.counters.off && !self.listen {
             self.counters.tec = 0;
@@ -78,21 +78,21 @@ impl Standing {
     }
 
     /// The own step of a fault.
-    fn fault_step(&mut self, place: FaultPlace, cause: Cause)
+    fn fault_step(&mut self, place: FaultSite, cause: Cause)
         ensures { self.old.counters.tec < 900 → context_of self.new ≡ fault_step place cause (context_of self.old) }
     {
         match place {
-            FaultPlace::InSending => {
+            FaultSite::InTransmission => {
                 self.transmitter_fault(cause);
                 self.drop_failed();
             }
-            FaultPlace::InReception => {
+            FaultSite::InReception => {
                 if !self.listen {
                     self.more_rec(1);
                 }
             }
-            FaultPlace::InFlag => self.more_by(8, 8),
-            FaultPlace::InDelimiter => {
+            FaultSite::InFlag => self.more_by(8, 8),
+            FaultSite::InDelimiter => {
                 if !self.listen {
                     self.more_by(8, 1);
                 }
@@ -122,17 +122,17 @@ impl Standing {
     }
 
     /// What the next place sets: the role, or the kind of its flag.
-    fn enter(&mut self, done: &Done, flag: FlagKind)
-        ensures { (held : Maybe Request) (before : Context) → flag ≡ flag_after (piece_of held done.now) before
+    fn enter(&mut self, done: &Ending, flag: FlagKind)
+        ensures { (held : Maybe Request) (before : ContextValue) → flag ≡ flag_after (piece_of held done.now) before
             → context_of self.new ≡ entering (next_of done.now) (piece_of held done.now) before (context_of self.old) }
     {
         match done {
-            Done::Join | Done::Idle | Done::Pause => self.role = Role::Receiver,
-            Done::Start => self.role = self.role_after_sof(),
-            Done::Fault(_, _, _) | Done::Broken | Done::Last(true) | Done::Tail(true) => {
+            Ending::Integration | Ending::IdleBit | Ending::InterframeSpace => self.role = Role::Receiver,
+            Ending::Sof => self.role = self.role_after_sof(),
+            Ending::Fault(_, _, _) | Ending::Broken | Ending::LastEofBit(true) | Ending::Delimiter(true) => {
                 self.flag = flag;
             }
-            Done::Received(_) | Done::Sent | Done::Flag | Done::Last(false) | Done::Tail(false) =>
+            Ending::Received(_) | Ending::Sent | Ending::Flag | Ending::LastEofBit(false) | Ending::Delimiter(false) =>
                 {}
         }
     }

@@ -4,7 +4,7 @@ ghost use Rattle.std.specs.Prelude.{◌≡◌, ◌<◌, ◌↔◌, ℕ, IfOk, Is
 ghost use Rattle.can_frame.specs.Frame.{FrameValue};
 ghost use Rattle.can_node.specs.Contending.{arbitration_field, IsContention, IsLeast, LosesAt};
 
-use super::field::{LONGEST_FIELD, field_level};
+use super::arbitration_field::{LONGEST_FIELD, field_level};
 use can_bits::Level;
 use can_frame::{Frame, OutOfMemory};
 use std::alloc::Global;

@@ -1,20 +1,20 @@
 use super::flag_kind::FlagKind;
 use super::role::Role;
-use super::standing::Standing;
+use super::context::Context;
 use can_bits::Level;
 
 /// The steps of one bit (Bosch CAN 2.0 part A section 7, fault confinement). The transmit error counter never comes far
 /// above 256, where the node goes bus-off.
-impl Standing {
+impl Context {
     ghost use Rattle.std.specs.Prelude.{◌≡◌, ◌<◌, ◌≤◌, ◌+◌, ◌%◌, ◌==◌, ◌&&◌, List, [], fold, length, is_some, Bool};
     ghost use Rattle.can_bits.specs.declared.level.Level.{Level as Bus};
     ghost use Rattle.can_node.specs.declared.role.Role.TheVariants.{Transmitter};
     ghost use Rattle.can_node.specs.Bits.{Bit, seen_of};
     ghost use Rattle.can_node.specs.Pieces.{sent_at};
-    ghost use Rattle.can_node.specs.Pieces.Spot.{AtIdle};
-    ghost use Rattle.can_node.specs.Counting.{more_rec, more_tec, more_by, join_bit, next_run, first_bit, frame_bit, lost_by, if_late, tail_level, are_dominant, after_error_flag, if_acknowledged};
-    ghost use Rattle.can_node.specs.Standing.{is_nil};
-    ghost use Rattle.can_node.specs.Standing.{context_of};
+    ghost use Rattle.can_node.specs.Pieces.Place.{AtIdle};
+    ghost use Rattle.can_node.specs.Counting.{more_rec, more_tec, more_by, integration_bit, next_run, first_bit, frame_bit, lost_by, if_late, delimiter_level, are_dominant, after_error_flag, if_acknowledged};
+    ghost use Rattle.can_node.specs.Machine.Standing.{is_nil};
+    ghost use Rattle.can_node.specs.Machine.Standing.{context_of};
 
     pub fn more_rec(&mut self, n: u8)
         ensures { context_of self.new ≡ more_rec n (context_of self.old) }
@@ -40,9 +40,9 @@ impl Standing {
     }
 
     /// A bit while the bus is waited for, after a run of so many recessive levels.
-    pub fn join_bit(&mut self, run: u8, seen: Level)
+    pub fn integration_bit(&mut self, run: u8, seen: Level)
         ensures { (done : List Bit) (b : Bit) → fold next_run 0 (seen_of done) ≡ run → b.seen ≡ seen
-            → context_of self.new ≡ join_bit (context_of self.old) done b }
+            → context_of self.new ≡ integration_bit (context_of self.old) done b }
     {
         if self.counters.off && !self.listen && seen.is_recessive() && run == 10 {
             self.counters.tec = self.counters.tec.saturating_sub(1);
@@ -97,10 +97,10 @@ impl Standing {
     }
 
     /// A bit after a flag: the first one or not, and one that makes eight, sixteen .. dominant levels or not.
-    pub fn tail_bit(&mut self, first: bool, eighth: bool, seen: Level)
+    pub fn delimiter_bit(&mut self, first: bool, eighth: bool, seen: Level)
         ensures { (done : List Bit) → self.old.counters.tec < 1000 → first ≡ is_nil done
             → eighth ≡ (are_dominant (seen_of done) && (length done + 1) % 8 == 0)
-            → context_of self.new ≡ tail_level seen done (context_of self.old) }
+            → context_of self.new ≡ delimiter_level seen done (context_of self.old) }
     {
         if seen.is_recessive() || self.listen {
             return;

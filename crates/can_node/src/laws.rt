@@ -4,12 +4,12 @@ ghost use Rattle.std.specs.Prelude.{◌≡◌, ◌++◌, ◌-◌, ℕ, true, fal
 ghost use Rattle.can_bits.specs.declared.level.Level.{Level};
 ghost use Rattle.can_node.specs.declared.config.Config.{Config};
 ghost use Rattle.can_node.specs.declared.phase.Phase.{Phase};
-ghost use Rattle.can_node.specs.Bits.{Bit, hears};
-ghost use Rattle.can_node.specs.Context.{Context, fresh};
-ghost use Rattle.can_node.specs.Pieces.{Spot, Piece};
-ghost use Rattle.can_node.specs.Pieces.Spot.{Joining};
+ghost use Rattle.can_node.specs.Bits.{Bit, recessive_bits};
+ghost use Rattle.can_node.specs.Context.{ContextValue, fresh};
+ghost use Rattle.can_node.specs.Pieces.{Place, Piece};
+ghost use Rattle.can_node.specs.Pieces.Place.{AtIntegration};
 ghost use Rattle.can_node.specs.Record.{Entry};
-ghost use Rattle.can_node.specs.Record.Entry.{Took};
+ghost use Rattle.can_node.specs.Record.Entry.{OneBit};
 ghost use Rattle.can_node.specs.Table.{Row, Elevens};
 ghost use Rattle.can_node.specs.Effects.{along};
 ghost use Rattle.can_node.specs.Cut.{IsCut, received};
@@ -21,8 +21,8 @@ ghost use Rattle.can_node.specs.Stands.{HasOneCut};
 /// bits are the same piece and lead to the same place (this project's own rule, of which the standard's rules for each
 /// place are the parts).
 pub fn pieces_are_told_apart()
-    ensures { (c : Context) (spot : Spot) (a b x y : List Bit) (p q : Piece) (n m : Spot) →
-        Row c spot a p n → Row c spot b q m → a ++ x ≡ b ++ y → (a ≡ b) × (p ≡ q) × (n ≡ m) }
+    ensures { (c : ContextValue) (place : Place) (a b x y : List Bit) (p q : Piece) (n m : Place) →
+        Row c place a p n → Row c place b q m → a ++ x ≡ b ++ y → (a ≡ b) × (p ≡ q) × (n ≡ m) }
 {}
 
 /// A record has one cut: any two cuts of it have the same finished pieces, each in the same activation and with the same
@@ -36,8 +36,8 @@ pub fn a_record_has_one_cut()
 /// at its end takes one from the transmit error counter (Bosch CAN 2.0 part A section 7; the counter's way down is the
 /// SJA1000 data sheet's, 6.4.12).
 pub fn each_eleven_takes_one()
-    ensures { (c : Context) (n : ℕ) (l : List Level) → c.off ≡ true → c.listen ≡ false → Elevens n l
-        → along c Joining [] (map Took (hears l)) ≡ record c { tec = c.tec - n } }
+    ensures { (c : ContextValue) (n : ℕ) (l : List Level) → c.off ≡ true → c.listen ≡ false → Elevens n l
+        → along c AtIntegration [] (map OneBit (recessive_bits l)) ≡ record c { tec = c.tec - n } }
 {}
 
 /// A record worked by hand has the cut that it should have: a node that starts without self test and listen only, and sees the standard data frame with the

@@ -8,8 +8,8 @@ use super::outcome::Outcome;
 use super::phase::Phase;
 use super::request::Request;
 use super::stage::Stage;
-use super::standing::Standing;
-use super::turn::Turn;
+use super::context::Context;
+use super::after_bit::AfterBit;
 use can_bits::{Level, Shift};
 
 /// A CAN node, bit by bit: what it drives, and what it makes of the levels that it sees (Bosch CAN 2.0 part A).
@@ -18,7 +18,7 @@ use can_bits::{Level, Shift};
 /// the level driven and the level seen, and each such record is cut into pieces as the rules of the bus have it.
 #[derive(Debug, Drop)]
 pub struct Node {
-    pub(crate) standing: Standing,
+    pub(crate) context: Context,
     pub(crate) stage: Stage,
     pub(crate) shift: Shift,
 }
@@ -26,7 +26,7 @@ pub struct Node {
 impl Node {
     ghost use Rattle.std.specs.Prelude.{◌≡◌, ◌<◌, ◌↔◌, [], List, IsTrue};
     ghost use Rattle.can_node.specs.Record.{Entry};
-    ghost use Rattle.can_node.specs.Cut.{Found};
+    ghost use Rattle.can_node.specs.Cut.{FinishedPiece};
     ghost use Rattle.can_node.specs.Stands.{StandsAt, InReset, Enters, DrivesNext, Samples, StaysReset, ShowsPhase, ShowsCounters, ShowsRest, Requests, Aborts};
 
     /// A node in reset, to which nothing has happened.
@@ -35,8 +35,8 @@ impl Node {
         ensures reset { InReset result }
     {
         Node {
-            standing: Standing::new(),
-            stage: Stage::Resting,
+            context: Context::new(),
+            stage: Stage::InReset,
             shift: Shift::new(),
         }
     }
@@ -46,8 +46,8 @@ impl Node {
         requires reset { InReset self.old }
         ensures { Enters self.old self.new (Entry.Start config) }
     {
-        self.standing.start(&config);
-        self.stage = Stage::Joining(self.standing.join_count(), 0);
+        self.context.start(&config);
+        self.stage = Stage::Integrating(self.context.integration_count(), 0);
     }
 
     /// Enters reset at once. The request is dropped, and the error counters stay.
@@ -55,8 +55,8 @@ impl Node {
         ensures enters { Enters self.old self.new Entry.Stop }
         ensures reset { InReset self.new }
     {
-        self.standing.stop();
-        self.stage = Stage::Resting;
+        self.context.stop();
+        self.stage = Stage::InReset;
     }
 
     /// The level that the node drives in the next bit.
@@ -75,17 +75,17 @@ impl Node {
     {
         let driven = self.level();
         let lost = self.lost(driven, level);
-        let held = self.standing.held.is_some();
-        let off = self.standing.counters.off;
+        let held = self.context.held.is_some();
+        let off = self.context.counters.off;
         let turn = self.turn(driven, level, lost.is_some());
         self.count(driven, level, lost.is_some());
         let received = self.received(&turn);
         let sent = self.is_sent(&turn);
         let fault = turn.fault();
         self.go_on(turn);
-        let receiving = !self.standing.is_transmitter();
-        let recovered = recovers(off, self.standing.counters.off);
-        let went_off = self.standing.counters.tec >= 256;
+        let receiving = !self.context.is_transmitter();
+        let recovered = recovers(off, self.context.counters.off);
+        let went_off = self.context.counters.tec >= 256;
         let ended = self.ended(held, sent);
         self.go_off();
         BitEvents {
@@ -103,13 +103,13 @@ impl Node {
     pub fn request(&mut self, request: Request) -> Result<(), Request>
         ensures { Requests self.old self.new request result }
     {
-        if self.standing.held.is_some() {
+        if self.context.held.is_some() {
             return Err(request);
         }
-        if let Stage::Resting = self.stage {
+        if let Stage::InReset = self.stage {
             return Err(request);
         }
-        self.standing.held = Some(request);
+        self.context.held = Some(request);
         Ok(())
     }
 
@@ -118,16 +118,16 @@ impl Node {
     pub fn abort(&mut self) -> Aborted
         ensures { Aborts self.old self.new result }
     {
-        match &self.standing.held {
+        match &self.context.held {
             None => Aborted::Unchanged,
             Some(_) => {
                 if !self.is_in_progress() {
-                    self.standing.held = None;
+                    self.context.held = None;
                     Aborted::Dropped
-                } else if self.standing.drops() {
+                } else if self.context.drops() {
                     Aborted::Unchanged
                 } else {
-                    self.standing.aborted = true;
+                    self.context.aborted = true;
                     Aborted::Marked
                 }
             }
@@ -138,9 +138,9 @@ impl Node {
     /// The transmit error counter is below 256.
     pub fn counters(&self) -> Counters
         ensures counts { ShowsCounters self.now result }
-        ensures below { (entries : List Entry) (found : List Found) → StandsAt self.now entries found → result.tec < 256 }
+        ensures below { (entries : List Entry) (found : List FinishedPiece) → StandsAt self.now entries found → result.tec < 256 }
     {
-        self.standing.counters
+        self.context.counters
     }
 
     /// Where the node is with its next bit.
@@ -149,14 +149,14 @@ impl Node {
         ensures reset { (result ≡ Phase.Reset) ↔ InReset self.now }
     {
         match self.stage {
-            Stage::Resting => Phase::Reset,
-            Stage::Joining(_, _) => Phase::Waiting,
-            Stage::Idle => Phase::Idle,
+            Stage::InReset => Phase::Reset,
+            Stage::Integrating(_, _) => Phase::Waiting,
+            Stage::BusIdle => Phase::Idle,
             Stage::InFrame => Phase::Frame,
-            Stage::AfterReception => Phase::Frame,
-            Stage::Flagging(_, _) => Phase::Flag,
-            Stage::AfterFlag(_, _) => Phase::Delimiter,
-            Stage::Pausing(n) => {
+            Stage::LastEofBit => Phase::Frame,
+            Stage::InFlag(_, _) => Phase::Flag,
+            Stage::InDelimiter(_, _) => Phase::Delimiter,
+            Stage::InInterframeSpace(n) => {
                 if n < 3 {
                     Phase::Intermission
                 } else {
@@ -172,7 +172,7 @@ impl Node {
     {
         match self.phase() {
             Phase::Reset => true,
-            Phase::Idle => self.standing.held.is_none(),
+            Phase::Idle => self.context.held.is_none(),
             _ => false,
         }
     }

@@ -4,7 +4,7 @@ use Rattle.std.proofs.lemmas.List.{take_more}
 use Rattle.std.proofs.lemmas.Option.{slice_get_read}
 use Rattle.can_frame.specs.Frame.{FrameValue}
 use Rattle.can_node.specs.Contending.{Fares}
-use Rattle.can_node.proofs.Winning.{fares_by, zip_push}
+use Rattle.can_node.proofs.Contending.Winning.{fares_by, zip_push}
 use Rattle.can_node.proofs.contention.contend.Goals as goal
 
 pub loop-frame-preserved : goal.loop-frame-preserved

@@ -5,8 +5,8 @@ use Rattle.can_bits.specs.declared.level.Level.{Level}
 use Rattle.can_bits.specs.declared.level.Level.TheVariants.{Dominant, Recessive}
 use Rattle.can_bits.specs.contracts.level.LevelPartialEq.TheImpl.{eq-value}
 use Rattle.can_node.specs.Contending.{arbitration_field}
-use Rattle.can_node.proofs.FieldLevels.{length_field}
-use Rattle.can_node.proofs.LostFields.{same_more, loses_nowhere, loses_not_within}
+use Rattle.can_node.proofs.Contending.FieldLevels.{length_field}
+use Rattle.can_node.proofs.Contending.LostFields.{same_more, loses_nowhere, loses_not_within}
 use Rattle.can_node.proofs.contention.place_lost.Goals as goal
 
 -- what the comparison of two levels says

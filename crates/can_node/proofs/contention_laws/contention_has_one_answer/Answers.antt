@@ -1,4 +1,4 @@
-use Rattle.can_node.proofs.Winning.{one_contention}
+use Rattle.can_node.proofs.Contending.Winning.{one_contention}
 use Rattle.can_node.proofs.contention_laws.contention_has_one_answer.Goals as goal
 
 pub returns : goal.returns

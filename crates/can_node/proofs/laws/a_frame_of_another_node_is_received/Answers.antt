@@ -1,5 +1,5 @@
 use Rattle.std.proofs.Common.{refl}
-use Rattle.can_node.proofs.WorkedReception.{cut_of_reception}
+use Rattle.can_node.proofs.Examples.ReceivedFrame.{cut_of_reception}
 use Rattle.can_node.proofs.laws.a_frame_of_another_node_is_received.Goals as goal
 
 pub returns-clause-cut : goal.returns-clause-cut

@@ -1,4 +1,4 @@
-use Rattle.can_node.proofs.ElevenSteps.{takes}
+use Rattle.can_node.proofs.Waiting.ElevenSteps.{takes}
 use Rattle.can_node.proofs.laws.each_eleven_takes_one.Goals as goal
 
 pub returns : goal.returns

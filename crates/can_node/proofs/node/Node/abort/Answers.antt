@@ -1,6 +1,6 @@
 use Rattle.std.proofs.Common.{refl, sym, ap, ◌∙◌, None, true, false, if◌then◌else◌}
 use Rattle.can_node.specs.declared.aborted.Aborted.TheVariants.{Unchanged, Marked}
-use Rattle.can_node.proofs.Requests.{marked_stands, dropped_stands, abort_is, going_is}
+use Rattle.can_node.proofs.Machine.Requests.{marked_stands, dropped_stands, abort_is, going_is}
 use Rattle.can_node.proofs.node.Node.abort.Goals as goal
 
 -- src/node.rt
@@ -8,8 +8,8 @@ pub returns-then-not-is_in_progress : goal.returns-then-not-is_in_progress
 returns-then-not-is_in_progress c =
     let old = c.args.self.now in
     let going = going_is old c.is_in_progress.result false c.if-not-is_in_progress.true c.is_in_progress.ensures in (
-      dropped_stands old (record old { standing = record old.standing { held = None } }) c.in-Some.field-0 c.in-Some.is going refl refl refl,
-      λ entries found h. abort_is old entries found h c.in-Some.field-0 false old.standing.aborted c.in-Some.is (sym (going entries found h)) refl,
+      dropped_stands old (record old { context = record old.context { held = None } }) c.in-Some.field-0 c.in-Some.is going refl refl refl,
+      λ entries found h. abort_is old entries found h c.in-Some.field-0 false old.context.aborted c.in-Some.is (sym (going entries found h)) refl,
     )
 
 pub returns-then-drops : goal.returns-then-drops
@@ -20,7 +20,7 @@ returns-then-drops c =
       refl,
       λ entries found h.
           ap (λ t. if t then Unchanged else Marked) (sym drops)
-          ∙ abort_is old entries found h c.in-Some.field-0 true old.standing.aborted c.in-Some.is (sym (going entries found h)) refl,
+          ∙ abort_is old entries found h c.in-Some.field-0 true old.context.aborted c.in-Some.is (sym (going entries found h)) refl,
     )
 
 pub returns-else-drops : goal.returns-else-drops
@@ -28,8 +28,8 @@ returns-else-drops c =
     let old = c.args.self.now in
     let going = going_is old c.is_in_progress.result true c.if-not-is_in_progress.false c.is_in_progress.ensures in
     let drops = sym (c.drops.ensures.some c.in-Some.field-0 c.in-Some.is) ∙ c.if-drops.false in (
-      marked_stands old (record old { standing = record old.standing { aborted = true } }) c.in-Some.field-0 c.in-Some.is going refl refl refl,
+      marked_stands old (record old { context = record old.context { aborted = true } }) c.in-Some.field-0 c.in-Some.is going refl refl refl,
       λ entries found h.
           ap (λ t. if t then Unchanged else Marked) (sym drops)
-          ∙ abort_is old entries found h c.in-Some.field-0 true old.standing.aborted c.in-Some.is (sym (going entries found h)) refl,
+          ∙ abort_is old entries found h c.in-Some.field-0 true old.context.aborted c.in-Some.is (sym (going entries found h)) refl,
     )

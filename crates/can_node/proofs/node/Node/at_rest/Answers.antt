@@ -1,4 +1,4 @@
-use Rattle.can_node.proofs.Shown.{awake_shown, idle_shown}
+use Rattle.can_node.proofs.Machine.Shown.{awake_shown, idle_shown}
 use Rattle.can_node.proofs.node.Node.at_rest.Goals as goal
 
 -- src/node.rt

@@ -1,9 +1,9 @@
 use Rattle.std.proofs.Common.{[]}
-use Rattle.can_node.specs.Standing.{context_of}
-use Rattle.can_node.proofs.FrameStarts.{starts_frame}
+use Rattle.can_node.specs.Machine.Standing.{context_of}
+use Rattle.can_node.proofs.Machine.FrameStarts.{starts_frame}
 use Rattle.can_node.proofs.node.Node.begin_frame.Goals as goal
 
 -- src/going.rt
 pub returns-clause-reads : goal.returns-clause-reads
 returns-clause-reads c = λ before same.
-    starts_frame c.advance.new.self (context_of c.args.self.now.standing) before same c.frame_fits.ensures (c.advance.ensures.stands [] c.new-self.ensures)
+    starts_frame c.advance.new.self (context_of c.args.self.now.context) before same c.frame_fits.ensures (c.advance.ensures.stands [] c.new-self.ensures)

@@ -1,4 +1,4 @@
-use Rattle.can_node.proofs.Shown.{drive_shown}
+use Rattle.can_node.proofs.Machine.Shown.{drive_shown}
 use Rattle.can_node.proofs.node.Node.drive.Goals as goal
 
 -- src/node.rt

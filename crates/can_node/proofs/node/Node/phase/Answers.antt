@@ -1,4 +1,4 @@
-use Rattle.can_node.proofs.Shown.{frame_shown}
+use Rattle.can_node.proofs.Machine.Shown.{frame_shown}
 use Rattle.can_node.proofs.node.Node.phase.Goals as goal
 
 -- src/node.rt

@@ -1,6 +1,6 @@
-use Rattle.can_node.proofs.Shown.{drive_shown}
-use Rattle.can_node.proofs.SampleSteps.{sampled}
-use Rattle.can_node.proofs.Rests.{rests_at}
+use Rattle.can_node.proofs.Machine.Shown.{drive_shown}
+use Rattle.can_node.proofs.Machine.SampleSteps.{sampled}
+use Rattle.can_node.proofs.Machine.Rests.{rests_at}
 use Rattle.can_node.proofs.node.Node.sample.Goals as goal
 
 -- src/node.rt
@@ -11,8 +11,8 @@ returns-clause-samples c = λ entries found h x drives.
     c.is_some-held.result c.is_sent-sent.result c.is_some.result c.is_some-2.result
     drives c.level-driven.ensures c.lost-lost.ensures c.is_some-held.ensures c.is_some.ensures c.is_some-2.ensures c.turn-turn.ensures.turn
     c.turn-turn.ensures.kept c.count.ensures.kept c.count.ensures.counts c.received-received.ensures c.is_sent-sent.ensures c.fault-fault.ensures
-    c.go_on.ensures.standing c.go_on.ensures.at c.is_transmitter-receiving.ensures c.recovers-recovered.ensures c.ended-ended.ensures
-    c.go_off.ensures.standing c.go_off.ensures.on c.go_off.ensures.off
+    c.go_on.ensures.context c.go_on.ensures.at c.is_transmitter-receiving.ensures c.recovers-recovered.ensures c.ended-ended.ensures
+    c.go_off.ensures.context c.go_off.ensures.on c.go_off.ensures.off
 
 pub returns-clause-rests : goal.returns-clause-rests
 returns-clause-rests c = λ reset entries found h.

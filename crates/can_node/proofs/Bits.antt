@@ -1,0 +1,6 @@
+pub mod Seen
+pub mod DrivenAlike
+pub mod Nexts
+pub mod Slots
+pub mod FramePlaces
+pub mod Computed

@@ -1,0 +1,3 @@
+pub mod FieldLevels
+pub mod LostFields
+pub mod Winning

@@ -1,0 +1,17 @@
+pub mod Ats
+pub mod Counts
+pub mod Calls
+pub mod Between
+pub mod Requests
+pub mod Rests
+pub mod FrameTurns
+pub mod FrameDrives
+pub mod FrameStarts
+pub mod IdleTurns
+pub mod Sampling
+pub mod BitStands
+pub mod Told
+pub mod Sampled
+pub mod SampleSteps
+pub mod Shown
+pub mod Along

@@ -1,0 +1,168 @@
+-- The context along the entries of a piece.
+use Rattle.std.proofs.Common.{◌≡◌, Bool, true, false, ◌&&◌, ◌||◌, ◌==◌, ◌+◌, ◌-◌, ◌%◌, length, not, Option, Some, None, is_some, List, [], ◌∷◌, ◌++◌, fold, refl, ap, sym, subst, ◌∙◌, append_assoc, if◌then◌else◌}
+use Rattle.std.proofs.lemmas.List.{append-nil}
+use Rattle.can_bits.specs.declared.level.Level.{Level}
+use Rattle.can_bits.specs.declared.level.Level.TheVariants.{Dominant, Recessive}
+use Rattle.can_node.specs.declared.role.Role.{Role}
+use Rattle.can_node.specs.declared.role.Role.TheVariants.{Transmitter, Receiver}
+use Rattle.can_node.specs.declared.flag_kind.FlagKind.{FlagKind}
+use Rattle.can_node.specs.declared.flag_kind.FlagKind.TheVariants.{ActiveError, PassiveError, Overload}
+use Rattle.can_node.specs.declared.request.Request.{Request}
+use Rattle.can_node.specs.Bits.{Bit, seen_of}
+use Rattle.can_node.specs.Context.{ContextValue, owes_suspension}
+use Rattle.can_node.specs.Counting.{at_bit, next_run, ends_eleven, are_dominant, first_bit, frame_bit, lost_by, lose, drop_failed, if_acknowledged, if_late, delimiter_level, if_eighth, after_error_flag, more_by, more_tec}
+use Rattle.can_node.specs.Effects.{along, with_send, with_abort, is_in_progress}
+use Rattle.can_node.specs.Pieces.{Place, sent_at}
+use Rattle.can_node.specs.Pieces.Place.{AtReset, AtIntegration, AtIdle, AfterSof, AtLastEofBit, AtFlag, AtDelimiter, AtInterframeSpace}
+use Rattle.can_node.specs.Record.{Entry, bits_in}
+use Rattle.can_node.specs.Record.Entry.{Start, Stop, OneBit, Send, Abort, BusOff}
+use Rattle.can_node.specs.Machine.Standing.{IsKept}
+
+-- the bits among two lists of entries
+pub bits_both : (a b : List Entry) → bits_in (a ++ b) ≡ bits_in a ++ bits_in b
+bits_both [] b = refl
+bits_both (OneBit x ∷ a) b = ap (λ l. x ∷ l) (bits_both a b)
+bits_both (Send request ∷ a) b = bits_both a b
+bits_both (Abort ∷ a) b = bits_both a b
+bits_both (Start config ∷ a) b = bits_both a b
+bits_both (Stop ∷ a) b = bits_both a b
+bits_both (BusOff ∷ a) b = bits_both a b
+
+-- the context after one list of entries and another
+pub along_both : (c : ContextValue) (place : Place) (done : List Bit) (a b : List Entry) →
+    along c place done (a ++ b) ≡ along (along c place done a) place (done ++ bits_in a) b
+along_both c place done [] b = ap (λ l. along c place l b) (sym (append-nil done))
+along_both c place done (OneBit x ∷ a) b =
+    along_both (at_bit c place done x) place (done ++ x ∷ []) a b
+    ∙ ap (λ l. along (along (at_bit c place done x) place (done ++ x ∷ []) a) place l b) (append_assoc done (x ∷ []) (bits_in a))
+along_both c place done (Send request ∷ a) b = along_both (with_send request c) place done a b
+along_both c place done (Abort ∷ a) b = along_both (with_abort place c) place done a b
+along_both c place done (Start config ∷ a) b = along_both c place done a b
+along_both c place done (Stop ∷ a) b = along_both c place done a b
+along_both c place done (BusOff ∷ a) b = along_both c place done a b
+
+-- after a bit more
+pub along-bit : (c : ContextValue) (place : Place) (slice : List Entry) (b : Bit) →
+    along c place [] (slice ++ OneBit b ∷ []) ≡ at_bit (along c place [] slice) place (bits_in slice) b
+along-bit c place slice b = along_both c place [] slice (OneBit b ∷ [])
+
+-- what a context has that doesn't change within a piece
+abbrev pub AreKept : ContextValue → ContextValue → Type 0
+AreKept c d = (d.listen ≡ c.listen) × (d.self_test ≡ c.self_test) × (d.off ≡ c.off) × (d.flag ≡ c.flag)
+
+same : (c : ContextValue) → AreKept c c
+same c = (refl, refl, refl, refl)
+
+-- of two contexts the one that a test chooses
+chosen : (test : Bool) (c d e : ContextValue) → AreKept c d → AreKept c e → AreKept c (if test then d else e)
+chosen true c d e h k = h
+chosen false c d e h k = k
+
+-- a request that is dropped or not
+dropped : (held : Option Request) (c d : ContextValue) → AreKept c d → AreKept c (drop_failed held d)
+dropped None c d h = h
+dropped (Some request) c d h = chosen (request.single_shot || d.aborted) c (record d { held = None; aborted = false }) d h h
+
+-- steps of the counters by the role
+stepped : (role : Role) (c d : ContextValue) → AreKept c d → AreKept c (more_by role 8 8 d)
+stepped Transmitter c d h = h
+stepped Receiver c d h = h
+
+-- a bit of a frame
+in_frame : (role : Role) (c : ContextValue) (l : List Level) (b : Bit) → AreKept c (frame_bit role c l b)
+in_frame Transmitter c l b =
+    chosen (is_some (lost_by c.held l b.driven b.seen)) c (lose c) c (let h = dropped c.held c c (same c) in h) (same c)
+in_frame Receiver c l b = acknowledged b.driven b.seen
+  where
+    acknowledged : (x y : Level) → AreKept c (if_acknowledged x y c)
+    acknowledged Dominant Dominant = same c
+    acknowledged Dominant Recessive = same c
+    acknowledged Recessive y = same c
+
+-- the first bit at an idle place
+at_first : (request : Option Request) (c : ContextValue) → AreKept c (first_bit request c)
+at_first None c = same c
+at_first (Some request) c = same c
+
+-- a bit of a flag
+in_flag : (x : Level) (c : ContextValue) → AreKept c (if_late x c)
+in_flag Dominant c = chosen c.late c (record (more_tec 8 c) { late = false }) c (same c) (same c)
+in_flag Recessive c = same c
+
+-- a bit after a flag
+after_flag : (done : List Bit) (role : Role) (flag : FlagKind) (c : ContextValue) → AreKept c (after_error_flag done role flag c)
+after_flag [] Receiver ActiveError c = same c
+after_flag [] Receiver PassiveError c = same c
+after_flag [] Receiver Overload c = same c
+after_flag [] Transmitter flag c = same c
+after_flag (b ∷ done) role flag c = same c
+
+-- the eighth dominant level
+eighth : (done : List Bit) (c d : ContextValue) → AreKept c d → AreKept c (if_eighth done d)
+eighth done c d h =
+    chosen (are_dominant (seen_of done) && (length done + 1) % 8 == 0) c (more_by d.role 8 8 d) d (stepped d.role c d h) h
+
+-- a level after a flag
+tail_kept : (x : Level) (done : List Bit) (c : ContextValue) → AreKept c (delimiter_level x done c)
+tail_kept Dominant done c =
+    let first = after_error_flag done c.role c.flag c in
+    chosen c.listen c c (if_eighth done first) (same c) (eighth done c first (after_flag done c.role c.flag c))
+tail_kept Recessive done c = same c
+
+-- one bit
+one_bit : (c : ContextValue) (place : Place) (done : List Bit) (b : Bit) → AreKept c (at_bit c place done b)
+one_bit c AtReset done b = same c
+one_bit c AtIntegration done b =
+    chosen ((c.off && not c.listen) && ends_eleven (fold next_run 0 (seen_of done)) b.seen) c (record c { tec = c.tec - 1 }) c (same c) (same c)
+one_bit c AtIdle [] b = at_first (sent_at c AtIdle) c
+one_bit c AtIdle (x ∷ done) b = in_frame c.role c (seen_of (x ∷ done)) b
+one_bit c AfterSof done b = in_frame c.role c (Dominant ∷ seen_of done) b
+one_bit c AtLastEofBit done b = same c
+one_bit c AtFlag done b = in_flag b.seen c
+one_bit c AtDelimiter done b = tail_kept b.seen done c
+one_bit c AtInterframeSpace done b = same c
+
+-- two steps
+pub kept_both : (c d e : ContextValue) → AreKept c d → AreKept d e → AreKept c e
+kept_both c d e h k = (k.0 ∙ h.0, k.1 ∙ h.1, k.2 ∙ h.2, k.3 ∙ h.3)
+
+-- an abort
+aborted : (c : ContextValue) (place : Place) → AreKept c (with_abort place c)
+aborted c place = chosen (is_in_progress c place) c (record c { aborted = true }) (record c { held = None }) (same c) (same c)
+
+-- all entries of a piece
+pub all_kept : (c : ContextValue) (place : Place) (done : List Bit) (slice : List Entry) → AreKept c (along c place done slice)
+all_kept c place done [] = same c
+all_kept c place done (OneBit b ∷ slice) =
+    let now = at_bit c place done b in
+    kept_both c now (along now place (done ++ b ∷ []) slice) (one_bit c place done b) (all_kept now place (done ++ b ∷ []) slice)
+all_kept c place done (Send request ∷ slice) = all_kept (with_send request c) place done slice
+all_kept c place done (Abort ∷ slice) =
+    let now = with_abort place c in
+    kept_both c now (along now place done slice) (aborted c place) (all_kept now place done slice)
+all_kept c place done (Start config ∷ slice) = all_kept c place done slice
+all_kept c place done (Stop ∷ slice) = all_kept c place done slice
+all_kept c place done (BusOff ∷ slice) = all_kept c place done slice
+
+-- in a pause role and counters stay
+interframe_kept : (c : ContextValue) (done : List Bit) (slice : List Entry) → owes_suspension (along c AtInterframeSpace done slice) ≡ owes_suspension c
+interframe_kept c done [] = refl
+interframe_kept c done (OneBit b ∷ slice) = interframe_kept c (done ++ b ∷ []) slice
+interframe_kept c done (Send request ∷ slice) = interframe_kept (with_send request c) done slice
+interframe_kept c done (Abort ∷ slice) = interframe_kept (with_abort AtInterframeSpace c) done slice
+interframe_kept c done (Start config ∷ slice) = interframe_kept c done slice
+interframe_kept c done (Stop ∷ slice) = interframe_kept c done slice
+interframe_kept c done (BusOff ∷ slice) = interframe_kept c done slice
+
+-- what doesn't change within a piece
+pub is_kept : (c : ContextValue) (place : Place) (slice : List Entry) → IsKept place c (along c place [] slice)
+is_kept c place slice =
+    let all = all_kept c place [] slice in
+    let P : Place → Type 0 = λ s. owes_suspension (along c s [] slice) ≡ owes_suspension c in
+    record {
+      listen = all.0;
+      self_test = all.1;
+      off = all.2;
+      flag = all.3;
+      owes = λ e. subst P (sym e) (interframe_kept c [] slice);
+    }

@@ -1,0 +1,124 @@
+-- One bit, put together from the node's own steps: the level driven, the turn, the counts, the place after it, bus-off.
+use Rattle.std.proofs.Common.{◌≡◌, ◌<◌, ◌≤◌, ◌&&◌, not, ℕ, Bool, nat_le, Option, is_some, List, [], ◌∷◌, ◌++◌, ap, ap₂, sym, subst, ◌∙◌}
+use Rattle.can_frame.specs.Frame.{FrameValue}
+use Rattle.can_bits.specs.declared.level.Level.{Level}
+use Rattle.can_bits.specs.declared.segment.Segment.{Segment}
+use Rattle.can_bits.specs.declared.shift.Shift.{Shift}
+use Rattle.can_node.specs.declared.cause.Cause.{Cause}
+use Rattle.can_node.specs.declared.outcome.Outcome.{Outcome}
+use Rattle.can_node.specs.declared.request.Request.{Request}
+use Rattle.can_node.specs.declared.stage.Stage.{Stage}
+use Rattle.can_node.specs.declared.stage.Stage.TheVariants.{InReset as StageInReset}
+use Rattle.can_node.specs.declared.context.Context.{Context}
+use Rattle.can_node.specs.declared.after_bit.AfterBit.{AfterBit}
+use Rattle.can_node.specs.declared.node.Node.{Node}
+use Rattle.can_node.specs.Bits.{Bit}
+use Rattle.can_node.specs.Context.{ContextValue, is_transmitter, is_held}
+use Rattle.can_node.specs.Pieces.{Place}
+use Rattle.can_node.specs.Record.{Entry, bits_in}
+use Rattle.can_node.specs.Counting.{at_bit}
+use Rattle.can_node.specs.Effects.{along}
+use Rattle.can_node.specs.Cut.{FinishedPiece, IsOnBus}
+use Rattle.can_node.specs.Events.{Step, lost_in, received_in, fault_in, sends_in, ended_in}
+use Rattle.can_node.specs.Driving.{Drives}
+use Rattle.can_node.specs.Machine.Standing.{context_of, IsKept}
+use Rattle.can_node.specs.Machine.Stages.{At}
+use Rattle.can_node.specs.Machine.Turns.{IsMade, IsTurn, AtAfter, step_of, resulted, off_if}
+use Rattle.can_node.specs.NextBit.{now_in}
+use Rattle.can_node.specs.Stands.{StandsAt, Leads}
+use Rattle.can_node.proofs.OneCut.GoOn.{stays_end}
+use Rattle.can_node.proofs.Machine.Shown.{at_shown, kept_shown}
+use Rattle.can_node.proofs.Machine.Told.{made_of, told_all, stepped_is, held_is, bit_few, drives_once}
+use Rattle.can_node.proofs.Machine.Sampled.{leads_by}
+
+-- what a node's step says of each piece that it may stand in
+abbrev pub EachPiece : Node → (ContextValue → Place → List Bit → Type 0) → Type 0
+EachPiece node P = (c : ContextValue) (place : Place) (bits : List Bit) → At node.stage node.shift c (context_of node.context) place bits →
+    IsKept place c (context_of node.context) → P c place bits
+
+-- the counts of a bit
+abbrev pub Counts : Context → Stage → ContextValue → Level → Level → Bool → Type 0
+Counts context stage new driven seen lost = (shift : Shift) (c : ContextValue) (place : Place) (bits : List Bit) → At stage shift c (context_of context) place bits →
+    context.counters.tec < 256 → lost ≡ is_some (lost_in (context_of context) place bits (record { driven = driven; seen = seen })) →
+    new ≡ at_bit (context_of context) place bits (record { driven = driven; seen = seen })
+
+-- the counts are those of a node that differs in its reader alone
+pub counts_kept : (old turned : Node) (new : ContextValue) (driven seen : Level) (lost : Bool) → turned ≡ record old { shift = turned.shift } →
+    Counts turned.context turned.stage new driven seen lost → Counts old.context old.stage new driven seen lost
+counts_kept old turned new driven seen lost kept f =
+    let P : Context → Type 0 = λ s. Counts s turned.stage new driven seen lost in
+    let Q : Stage → Type 0 = λ s. Counts old.context s new driven seen lost in
+    subst Q (ap (λ (n : Node). n.stage) kept) (subst P (ap (λ (n : Node). n.context) kept) f)
+
+-- one bit
+pub sampled : (old turned counted gone new : Node) (entries : List Entry) (found : List FinishedPiece) (h : StandsAt old entries found) (x driven seen : Level) (turn : AfterBit)
+    (received : Option FrameValue) (ended : Option Outcome) (lost : Option ℕ) (fault : Option (Cause × Segment)) (transmits recovered held sent loses losing : Bool) →
+    Drives (now_in h.cut) h.cut.place (bits_in h.cut.rest) x →
+    EachPiece old (λ c place bits. Drives (context_of old.context) place bits driven) →
+    EachPiece old (λ c place bits. lost ≡ lost_in (context_of old.context) place bits (record { driven = driven; seen = seen })) →
+    held ≡ is_some old.context.held → loses ≡ is_some lost → losing ≡ is_some lost →
+    EachPiece old (λ c place bits. Drives (context_of old.context) place bits driven →
+    loses ≡ is_some (lost_in (context_of old.context) place bits (record { driven = driven; seen = seen })) →
+    IsTurn turned.shift c (context_of old.context) place bits (record { driven = driven; seen = seen }) turn) →
+    turned ≡ record old { shift = turned.shift } → counted ≡ record turned { context = counted.context } →
+    Counts turned.context turned.stage (context_of counted.context) driven seen losing →
+    received ≡ received_in (step_of counted.context.held turn) → sent ≡ sends_in (step_of counted.context.held turn) →
+    ((held : Option Request) → fault ≡ fault_in (step_of held turn)) →
+    (counted.context.counters.tec < 900 → context_of gone.context ≡ resulted turn (context_of counted.context)) →
+    ((c now : ContextValue) (place : Place) (bits : List Bit) (b : Bit) → counted.context.counters.tec < 900 → context_of counted.context ≡ at_bit now place bits b →
+    IsTurn counted.shift c now place bits b turn → AtAfter turn gone.stage gone.shift c (context_of gone.context) place (bits ++ b ∷ [])) →
+    transmits ≡ is_transmitter gone.context.role → recovered ≡ (old.context.counters.off && not gone.context.counters.off) →
+    ((step : Step) (before : ContextValue) → sent ≡ sends_in step → held ≡ is_held before.held → ended ≡ ended_in step before (context_of gone.context)) →
+    context_of new.context ≡ off_if (context_of gone.context) → (gone.context.counters.tec < 256 → new ≡ gone) →
+    (256 ≤ gone.context.counters.tec → new.stage ≡ StageInReset) →
+    Leads old new entries found h (record { driven = x; seen = seen })
+    (made_of received ended lost fault (not transmits) (nat_le 256 gone.context.counters.tec) recovered)
+sampled old turned counted gone new entries found h x driven seen turn received ended lost fault transmits recovered held sent loses losing
+    drives level loss holds some again turns turn_kept count_kept counts receives sends faults goes places role recovers ends shows on off =
+    let c = h.cut.context in
+    let place = h.cut.place in
+    let bits = bits_in h.cut.rest in
+    let K = context_of old.context in
+    let now = along c place [] h.cut.rest in
+    let b : Bit = record { driven = driven; seen = seen } in
+    let at = at_shown old entries found h in
+    let kept = kept_shown old entries found h in
+    let few : K.tec < 256 = subst (λ d. IsOnBus d) (sym h.shows) (stays_end h.cut.from) in
+    let driving : Drives K place bits driven = level c place bits at kept in
+    let lose : lost ≡ lost_in K place bits b = loss c place bits at kept in
+    let d = at_bit now place bits b in
+    let bit : context_of counted.context ≡ at_bit K place bits b =
+    counts_kept old turned (context_of counted.context) driven seen losing turn_kept counts old.shift c place bits at few (again ∙ ap is_some lose) in
+    let here : context_of counted.context ≡ d = bit ∙ ap (λ k. at_bit k place bits b) h.shows in
+    let less : counted.context.counters.tec < 900 = subst (λ (k : ContextValue). k.tec < 900) (sym bit) (bit_few K place bits b few) in
+    let n = resulted turn d in
+    let after : context_of gone.context ≡ n = goes less ∙ ap (λ k. resulted turn k) here in
+    let made : IsMade turned.shift c (at_bit K place bits b) place (bits ++ b ∷ []) turn = turns c place bits at kept driving (some ∙ ap is_some lose) in
+    let Made : ContextValue → Type 0 = λ k. IsMade turned.shift c (at_bit k place bits b) place (bits ++ b ∷ []) turn in
+    let Shifted : Shift → Type 0 = λ s. IsTurn s c K place bits b turn in
+    let reader : turned.shift ≡ counted.shift = sym (ap (λ (m : Node). m.shift) count_kept) in
+    let site = places c K place bits b less bit (subst Shifted reader made) in
+    let Placed : ContextValue → Type 0 = λ k. AtAfter turn gone.stage gone.shift c k place (bits ++ b ∷ []) in
+    let step = step_of d.held turn in
+    let same : counted.context.held ≡ d.held = ap (λ (k : ContextValue). k.held) here in
+    let went : nat_le 256 gone.context.counters.tec ≡ nat_le 256 n.tec = ap (λ (k : ContextValue). nat_le 256 k.tec) after in
+    let was : is_held now.held ≡ is_some old.context.held = sym (held_is now.held) ∙ sym (ap (λ (k : ContextValue). is_some k.held) h.shows) in
+    let told = told_all now n place bits b step received ended lost fault (not transmits) (nat_le 256 gone.context.counters.tec) recovered
+    (stepped_is turn now place bits b)
+    (receives ∙ ap (λ r. received_in (step_of r turn)) same)
+    (ends step now (sends ∙ ap (λ r. sends_in (step_of r turn)) same) (holds ∙ sym was) ∙ ap (λ k. ended_in step now k) after)
+    (lose ∙ ap (λ k. lost_in k place bits b) h.shows)
+    (faults d.held)
+    (ap not (role ∙ ap (λ (k : ContextValue). is_transmitter k.role) after))
+    went
+    (recovers ∙ ap₂ (λ (k m : ContextValue). k.off && not m.off) h.shows after) in
+    let driven_now : Drives now place bits driven = subst (λ k. Drives k place bits driven) h.shows driving in
+    let P : Level → Type 0 = λ y. Leads old new entries found h (record { driven = y; seen = seen })
+    (made_of received ended lost fault (not transmits) (nat_le 256 gone.context.counters.tec) recovered) in
+    subst P (drives_once now place bits driven x driven_now drives)
+    (leads_by old new entries found h b turn gone.stage turned.shift gone.shift
+    (made_of received ended lost fault (not transmits) (nat_le 256 gone.context.counters.tec) recovered)
+    driven_now (subst Made h.shows made) (subst Placed after site) (shows ∙ ap off_if after)
+    (λ less. let same = on (subst (λ (k : ContextValue). k.tec < 256) (sym after) less) in (ap (λ (m : Node). m.stage) same, ap (λ (m : Node). m.shift) same))
+    (λ far. off (subst (λ (k : ContextValue). 256 ≤ k.tec) (sym after) far))
+    told went)

@@ -1,0 +1,83 @@
+-- What a node that stands at a record shows of it.
+use Rattle.std.proofs.Common.{◌≡◌, ◌≢◌, Bool, true, false, not, is_some, Option, Some, None, List, refl, ap, sym, subst, ◌∙◌, if◌then◌else◌}
+use Rattle.can_bits.specs.declared.level.Level.{Level}
+use Rattle.can_node.specs.declared.stage.Stage.TheVariants.{InFrame as StageInFrame}
+use Rattle.can_node.specs.declared.phase.Phase.{Phase}
+use Rattle.can_node.specs.declared.phase.Phase.TheVariants.{Reset, Waiting, Idle, Frame, Flag, Delimiter, Intermission, Suspension}
+use Rattle.can_node.specs.declared.node.Node.{Node}
+use Rattle.can_node.specs.declared.request.Request.{Request}
+use Rattle.can_node.specs.Bits.{Bit}
+use Rattle.can_node.specs.Context.{ContextValue, is_held}
+use Rattle.can_node.specs.Pieces.{Place}
+use Rattle.can_node.specs.Record.{Entry, bits_in}
+use Rattle.can_node.specs.Cut.{FinishedPiece}
+use Rattle.can_node.specs.Driving.{Drives, phase_at}
+use Rattle.can_node.specs.Machine.Standing.{context_of, IsKept}
+use Rattle.can_node.specs.Machine.Stages.{At, IsInFrame}
+use Rattle.can_node.specs.Machine.Stages.IsInFrame.{from_idle, from_pause}
+use Rattle.can_node.specs.NextBit.{now_in, rests_in}
+use Rattle.can_node.specs.Stands.{StandsAt}
+use Rattle.can_node.proofs.Machine.Along.{is_kept}
+use Rattle.can_node.proofs.Machine.Ats.{at_is}
+
+-- where the node is, by its own fields
+pub at_shown : (node : Node) (entries : List Entry) (found : List FinishedPiece) (h : StandsAt node entries found) →
+    At node.stage node.shift h.cut.context (context_of node.context) h.cut.place (bits_in h.cut.rest)
+at_shown node entries found h =
+    let P : ContextValue → Type 0 = λ d. At node.stage node.shift h.cut.context d h.cut.place (bits_in h.cut.rest) in
+    subst P (sym h.shows) h.at
+
+-- what its context keeps
+pub kept_shown : (node : Node) (entries : List Entry) (found : List FinishedPiece) (h : StandsAt node entries found) →
+    IsKept h.cut.place h.cut.context (context_of node.context)
+kept_shown node entries found h =
+    let P : ContextValue → Type 0 = λ d. IsKept h.cut.place h.cut.context d in
+    subst P (sym h.shows) (is_kept h.cut.context h.cut.place h.cut.rest)
+
+-- what it drives
+pub drive_shown : (node : Node) (entries : List Entry) (found : List FinishedPiece) (h : StandsAt node entries found) (x : Level) →
+    ((c : ContextValue) (place : Place) (bits : List Bit) → At node.stage node.shift c (context_of node.context) place bits → IsKept place c (context_of node.context) →
+    Drives (context_of node.context) place bits x) →
+    Drives (now_in h.cut) h.cut.place (bits_in h.cut.rest) x
+drive_shown node entries found h x f =
+    let P : ContextValue → Type 0 = λ d. Drives d h.cut.place (bits_in h.cut.rest) x in
+    subst P h.shows (f h.cut.context h.cut.place (bits_in h.cut.rest) (at_shown node entries found h) (kept_shown node entries found h))
+
+-- its phase in a frame
+in_frame : (place : Place) (bits : List Bit) → IsInFrame place bits → Frame ≡ phase_at place bits
+in_frame place bits (from_idle b more) = refl
+in_frame place bits (from_pause more) = refl
+
+pub frame_shown : (node : Node) (entries : List Entry) (found : List FinishedPiece) (h : StandsAt node entries found) → node.stage ≡ StageInFrame →
+    Frame ≡ phase_at h.cut.place (bits_in h.cut.rest)
+frame_shown node entries found h e =
+    let reading = at_is StageInFrame node.stage node.shift h.cut.context (now_in h.cut) h.cut.place (bits_in h.cut.rest) e h.at in
+    in_frame h.cut.place (bits_in h.cut.rest) reading.site
+
+-- it doesn't rest in any other phase
+awake : (p : Phase) (held : Bool) → p ≢ Reset → p ≢ Idle → false ≡ rests_in p held
+awake Reset held off idle = absurd (off refl)
+awake Idle held off idle = absurd (idle refl)
+awake Waiting held off idle = refl
+awake Frame held off idle = refl
+awake Flag held off idle = refl
+awake Delimiter held off idle = refl
+awake Intermission held off idle = refl
+awake Suspension held off idle = refl
+
+pub awake_shown : (p q : Phase) (held : Bool) → p ≡ q → p ≢ Reset → p ≢ Idle → false ≡ rests_in q held
+awake_shown p q held e off idle = awake p held off idle ∙ ap (λ r. rests_in r held) e
+
+-- in idle it rests where it holds no request
+none_is : (held : Option Request) (none : Bool) → is_some held ≡ not none → none ≡ (if is_held held then false else true)
+none_is None true e = refl
+none_is None false e = absurd cc
+none_is (Some request) true e = absurd cc
+none_is (Some request) false e = refl
+
+pub idle_shown : (node : Node) (entries : List Entry) (found : List FinishedPiece) (h : StandsAt node entries found) (p : Phase) (none : Bool) → p ≡ Idle →
+    p ≡ phase_at h.cut.place (bits_in h.cut.rest) → is_some node.context.held ≡ not none →
+    none ≡ rests_in (phase_at h.cut.place (bits_in h.cut.rest)) (is_held (now_in h.cut).held)
+idle_shown node entries found h p none e f g =
+    let held = (now_in h.cut).held in
+    none_is held none (sym (ap (λ (c : ContextValue). is_some c.held) h.shows) ∙ g) ∙ ap (λ q. rests_in q (is_held held)) (sym e ∙ f)

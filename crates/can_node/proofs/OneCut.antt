@@ -1,0 +1,10 @@
+pub mod Apart
+pub mod RowOnce
+pub mod MoveOnce
+pub mod Ways
+pub mod Entries
+pub mod CutOnce
+pub mod Through
+pub mod GoOn
+pub mod Longer
+pub mod Slices

@@ -1,0 +1,81 @@
+-- Where a receiver's frame begins.
+use Rattle.std.proofs.Common.{◌≡◌, None, List, [], ◌∷◌, ◌++◌, refl, sym, subst, ◌∙◌, arith, append_assoc, inl, inr}
+use Rattle.std.proofs.lemmas.List.{append-nil, length-append}
+use Rattle.can_frame.specs.Frame.{FrameValue}
+use Rattle.can_bits.specs.declared.level.Level.{Level}
+use Rattle.can_bits.specs.declared.level.Level.TheVariants.{Dominant}
+use Rattle.can_bits.specs.Line.{StuffedPart, tail}
+use Rattle.can_bits.specs.Reading.{Begins, IsPastPart}
+use Rattle.can_bits.specs.Streaming.{IsReadable}
+use Rattle.can_bits.proofs.Going.{IsInside, part_begun}
+use Rattle.can_bits.proofs.Ending.{begins_in, inside_not_past}
+use Rattle.can_bits.proofs.Readables.{part_readable}
+use Rattle.can_node.specs.Bits.{Bit, recessive_bit, seen_of}
+use Rattle.can_node.specs.Context.{ContextValue}
+use Rattle.can_node.specs.Pieces.{Place, Piece, sent_at}
+use Rattle.can_node.specs.Pieces.Place.{AtIdle, AfterSof}
+use Rattle.can_node.specs.Frames.{IsWithin, Receives}
+use Rattle.can_node.specs.Table.{Row}
+use Rattle.can_node.specs.Table.Row.{other, other_begun}
+use Rattle.can_node.specs.Machine.Stages.{IsReceiving, frame_bits}
+use Rattle.can_node.proofs.Bits.Seen.{acknowledges_none}
+use Rattle.can_node.proofs.Reception.Breaking.{right_nothing}
+
+-- a node that saw these levels of a frame, and is its receiver from there on
+pub receiving_at : (c : ContextValue) (place : Place) (bits : List Bit) (levels : List Level) → seen_of (frame_bits place bits) ≡ levels →
+    IsReadable levels → (IsPastPart levels → ⊥) → IsWithin levels →
+    ((all : List Bit) (p : Piece) (next : Place) → Receives c.listen levels all p next → Row c place (bits ++ all) p next) → IsReceiving c place bits
+receiving_at c place bits levels seen readable inside within row =
+    let P : List Level → Type 0 = λ m. IsWithin m in
+    record {
+      before = bits;
+      more = [];
+      levels = levels;
+      whole = sym (append-nil bits);
+      seen = seen ∙ sym (append-nil levels);
+      row = row;
+      inside = inside;
+      answers = acknowledges_none c.listen levels;
+      right = right_nothing levels readable;
+      within = subst P (sym (append-nil levels)) within;
+    }
+
+-- a front of a stuffed part is readable, and has a whole tail to come
+pub front_good : {f : FrameValue} {b c : List Level} (l more : List Level) → StuffedPart f b c (l ++ more) → IsReadable l × IsWithin l
+front_good {f = f} {b = b} {c = c} l more part =
+    let readable = part_readable l more part in (
+      readable,
+      record {
+        begun = record { frame = f; body = b; check = c; ack = Dominant; rest = more ++ tail Dominant; line = record { part = l ++ more; is_part = part; whole = sym (append_assoc l more (tail Dominant)) } };
+        long = omega (arith, length-append more (tail Dominant));
+      },
+    )
+
+-- what begins a line and isn't past its stuffed part is readable, and has two levels to come
+pub begins_good : (l : List Level) → Begins l → (IsPastPart l → ⊥) → IsReadable l × IsWithin l
+begins_good l begun inside =
+    elim (begins_in l begun) [
+      | inl part ↦ front_good l part.3 part.4
+      | inr past ↦ absurd (inside past)
+    ]
+
+-- the start of a frame alone
+start_inside : IsInside (Dominant ∷ [])
+start_inside = record { short = (omega arith, tt); begins = refl; fits = omega arith; goes_on = λ whole. absurd (omega (arith, whole)) }
+
+start_good : IsReadable (Dominant ∷ []) × IsWithin (Dominant ∷ [])
+start_good =
+    let (f, b, c, later, part) = part_begun (Dominant ∷ []) start_inside.short start_inside.begins start_inside.fits in
+    front_good (Dominant ∷ []) later part
+
+-- another node starts a frame where the bus is idle
+pub receives_from_idle : (c : ContextValue) → sent_at c AtIdle ≡ None → IsReceiving c AtIdle (recessive_bit Dominant ∷ [])
+receives_from_idle c none =
+    receiving_at c AtIdle (recessive_bit Dominant ∷ []) (Dominant ∷ []) refl start_good.0 (inside_not_past (Dominant ∷ []) start_inside) start_good.1
+    (λ all p next recessive_bits. other none recessive_bits)
+
+-- and with the last bit of a pause
+pub receives_from_pause : (c : ContextValue) → sent_at c AfterSof ≡ None → IsReceiving c AfterSof []
+receives_from_pause c none =
+    receiving_at c AfterSof [] (Dominant ∷ []) refl start_good.0 (inside_not_past (Dominant ∷ []) start_inside) start_good.1
+    (λ all p next recessive_bits. other_begun none recessive_bits)

@@ -1,0 +1,9 @@
+pub mod SentLines
+pub mod SentBits
+pub mod WellNext
+pub mod WrongBits
+pub mod Losing
+pub mod AfterLoss
+pub mod TransmitterBits
+pub mod TransmitterFronts
+pub mod TransmissionOnce

@@ -1,0 +1,199 @@
+-- A flag: what a level makes of it.
+use Rattle.std.proofs.Common.{◌≡◌, ◌≢◌, ◌+◌, ◌-◌, ◌<◌, ◌≤◌, ℕ, zero, suc, List, [], ◌∷◌, ◌++◌, replicate, length, refl, ap, sym, subst, ◌∙◌, arith, append_assoc}
+use Rattle.std.proofs.lemmas.List.{replicate-append-replicate, length-replicate, length-append}
+use Rattle.can_bits.specs.declared.level.Level.{Level}
+use Rattle.can_bits.specs.declared.level.Level.TheVariants.{Dominant, Recessive}
+use Rattle.can_bits.specs.declared.segment.Segment.{Segment}
+use Rattle.can_bits.specs.Stuffing.{EndsInEqual}
+use Rattle.can_node.specs.declared.cause.Cause.TheVariants.{Bit as BitError}
+use Rattle.can_node.specs.declared.fault_site.FaultSite.TheVariants.{InFlag}
+use Rattle.can_node.specs.declared.flag_kind.FlagKind.{FlagKind}
+use Rattle.can_node.specs.Bits.{Bit, recessive_bit, dominant_bit, recessive_bits, dominant_bits, IsFirst}
+use Rattle.can_node.specs.Context.{ContextValue, flag_level}
+use Rattle.can_node.specs.Pieces.Place.{AtFlag, AtDelimiter}
+use Rattle.can_node.specs.Pieces.Piece.{Fault, Flag}
+use Rattle.can_node.specs.Table.{Row, flag_segment}
+use Rattle.can_node.specs.Table.Row.{flag, flag_fault, flag_passive}
+use Rattle.can_node.specs.Cut.{IsUnfinished}
+use Rattle.can_node.specs.Machine.Stages.{IsInDominantFlag, IsInPassiveFlag, IsInFlag}
+use Rattle.can_node.proofs.Bits.DrivenAlike.{receives_on, forces_on}
+use Rattle.can_node.proofs.Waiting.Firsts.{no_front_yet, one_on, last_on, first_run, first_by_length, same_end, ends_as, before_end, end_as, push_run}
+
+-- ---- a dominant flag
+
+-- six dominant levels are a flag
+pub flag_ends : (c : ContextValue) (n : ℕ) (seen : Level) (bits : List Bit) → flag_level c ≡ Dominant → seen ≡ Dominant →
+    5 ≤ n → IsInDominantFlag n c bits → Row c AtFlag (bits ++ dominant_bit seen ∷ []) Flag AtDelimiter
+flag_ends c n seen bits drives level most h =
+    let P : List Bit → Type 0 = λ t. Row c AtFlag t Flag AtDelimiter in
+    let few = h.few in
+    let five : n ≡ 5 = omega arith in
+    let levels : replicate n Dominant ++ seen ∷ [] ≡ replicate 6 Dominant = rw (five, level) refl in
+    subst P (sym (forces_on bits (replicate n Dominant) (seen ∷ []) (replicate 6 Dominant) h.whole levels)) (flag drives)
+
+-- a recessive level before is a fault
+pub flag_breaks : (c : ContextValue) (n : ℕ) (seen : Level) (kind : FlagKind) (segment : Segment) (bits : List Bit) →
+    flag_level c ≡ Dominant → seen ≡ Recessive → kind ≡ c.flag → segment ≡ flag_segment kind → IsInDominantFlag n c bits →
+    Row c AtFlag (bits ++ dominant_bit seen ∷ []) (Fault InFlag BitError segment) AtFlag
+flag_breaks c n seen kind segment bits drives level same is h =
+    let P : List Bit → Type 0 = λ t. Row c AtFlag t (Fault InFlag BitError segment) AtFlag in
+    let line : List Level = replicate n Dominant ++ Recessive ∷ [] in
+    let Q : Segment → Type 0 = λ s. Row c AtFlag (dominant_bits line) (Fault InFlag BitError s) AtFlag in
+    let levels : replicate n Dominant ++ seen ∷ [] ≡ line = rw level refl in
+    subst P (sym (forces_on bits (replicate n Dominant) (seen ∷ []) line h.whole levels))
+    (subst Q (sym (is ∙ ap (λ k. flag_segment k) same)) (flag_fault n drives h.few))
+
+-- ---- a passive flag
+
+-- a list that ends in six equal levels has six
+six_long : (m : List Level) → EndsInEqual 6 m → 6 ≤ length m
+six_long m ends =
+    let long = ap (λ (t : List Level). length t) ends.2 ∙ length-append ends.0 (replicate 6 ends.1) in
+    let six : length (replicate 6 ends.1) ≡ 6 = length-replicate 6 ends.1 in
+    omega arith
+
+-- no bit came yet, in a flag of either level
+flags_at : (c : ContextValue) (level last : Level) → IsInFlag level 0 last c []
+flags_at c Dominant last = record { few = omega arith; whole = refl }
+flags_at c Recessive last = record {
+  levels = [];
+  whole = refl;
+  few = omega arith;
+  none = λ e. refl;
+  waits = first_by_length (EndsInEqual 6) (replicate 6 last) six_long ([], last, refl);
+}
+
+-- the same by what the node drives
+pub flags_from : (c : ContextValue) (last : Level) → IsInFlag (flag_level c) 0 last c []
+flags_from c last = flags_at c (flag_level c) last
+
+-- a node that drives recessive waits in its flag
+pub waits_in_flag : (c : ContextValue) (n : ℕ) (last : Level) (bits : List Bit) → flag_level c ≡ Recessive →
+    IsInPassiveFlag n last c bits → IsInFlag (flag_level c) n last c bits
+waits_in_flag c n last bits drives h =
+    let P : Level → Type 0 = λ v. IsInFlag v n last c bits in subst P (sym drives) h
+
+-- one more level like the last one, not the sixth
+pub wait_goes : (c : ContextValue) (n next : ℕ) (last seen : Level) (bits : List Bit) → seen ≡ last → n < 5 → next ≡ n + 1 →
+    IsInPassiveFlag n last c bits → IsInPassiveFlag next seen c (bits ++ recessive_bit seen ∷ [])
+wait_goes c n next last seen bits same less e h =
+    let Q : Level → Type 0 = λ v. IsInPassiveFlag next v c (bits ++ recessive_bit v ∷ []) in
+    let go : Q last = record {
+      levels = h.levels ++ last ∷ [];
+      whole = receives_on bits h.levels (last ∷ []) (h.levels ++ last ∷ []) h.whole refl;
+      few = omega arith;
+      none = λ none. absurd (omega arith);
+      waits = one_on (EndsInEqual 6) h.levels (6 - n) (6 - next) last (omega arith) h.waits;
+    } in
+    subst Q (sym same) go
+
+-- the sixth
+pub wait_ends : (c : ContextValue) (n : ℕ) (last seen : Level) (bits : List Bit) → flag_level c ≡ Recessive →
+    seen ≡ last → 5 ≤ n → IsInPassiveFlag n last c bits → Row c AtFlag (bits ++ recessive_bit seen ∷ []) Flag AtDelimiter
+wait_ends c n last seen bits drives same most h =
+    let P : List Bit → Type 0 = λ t. Row c AtFlag t Flag AtDelimiter in
+    let few = h.few in
+    let line : List Level = h.levels ++ last ∷ [] in
+    let levels : h.levels ++ seen ∷ [] ≡ line = rw same refl in
+    subst P (sym (receives_on bits h.levels (seen ∷ []) line h.whole levels))
+    (flag_passive drives (last_on (EndsInEqual 6) h.levels (6 - n) last (omega arith) h.waits))
+
+-- a level and another one, fewer than six times, don't end in six equal ones
+no_mix : (front : List Level) (x seen : Level) (i : ℕ) → seen ≢ x → i < 5 →
+    EndsInEqual 6 ((front ++ x ∷ []) ++ seen ∷ replicate i seen) → ⊥
+no_mix front x seen i other less ends =
+    let line = sym (append_assoc front (x ∷ []) (seen ∷ replicate i seen)) ∙ ends.2 in
+    let first : x ≡ ends.1 = ends_as 6 (suc i) front ends.0 x seen ends.1 (omega arith) line in
+    let later : seen ≡ ends.1 = (same_end (front ++ x ∷ []) ends.0 i 5 seen ends.1 ends.2).1 in
+    other (later ∙ sym first)
+
+-- the levels end in the last one, of which six are waited for
+ends_in_last : (m k : ℕ) (last : Level) (levels : List Level) → suc m + k ≡ 6 → 1 ≤ k →
+    EndsInEqual 6 (levels ++ replicate k last) → (front : List Level) × (levels ≡ front ++ last ∷ [])
+ends_in_last m k last levels six some has =
+    let lines = has.2 ∙ ap (λ j. has.0 ++ replicate j has.1) (sym six) in
+    let same : last ≡ has.1 = end_as k (suc m) levels has.0 last has.1 some lines in
+    let front : levels ≡ has.0 ++ replicate (suc m) has.1 = before_end k (suc m) levels has.0 last has.1 lines in
+    let others : List Level = has.0 ++ replicate m has.1 in
+    (others, front ∙ push_run has.0 m has.1 ∙ ap (λ x. others ++ x ∷ []) (sym same))
+
+-- fewer than six levels that differ from the last one don't end in six equal ones
+too_short : (n : ℕ) (last seen : Level) (levels : List Level) → seen ≢ last → n < 6 → (n ≡ 0 → levels ≡ []) →
+    EndsInEqual 6 (levels ++ replicate (6 - n) last) →
+    (i : ℕ) → i < 5 → EndsInEqual 6 (levels ++ seen ∷ replicate i seen) → ⊥
+too_short zero last seen levels other few none has i less ends =
+    let long = six_long (levels ++ seen ∷ replicate i seen) ends in
+    let all = length-append levels (seen ∷ replicate i seen) in
+    let part = length-replicate i seen in
+    let empty : length levels ≡ 0 = ap (λ (t : List Level). length t) (none refl) in
+    omega arith
+too_short (suc m) last seen levels other few none has i less ends =
+    let is = ends_in_last m (6 - suc m) last levels (omega arith) (omega arith) has in
+    let P : List Level → Type 0 = λ t. EndsInEqual 6 (t ++ seen ∷ replicate i seen) in
+    no_mix is.0 last seen i other less (subst P is.1 ends)
+
+-- another level: it is the first of its kind
+pub wait_turns : (c : ContextValue) (n : ℕ) (last seen : Level) (bits : List Bit) → seen ≢ last →
+    IsInPassiveFlag n last c bits → IsInPassiveFlag 1 seen c (bits ++ recessive_bit seen ∷ [])
+wait_turns c n last seen bits other h =
+    let few = h.few in
+    let none = no_front_yet (EndsInEqual 6) h.levels (6 - n) last (omega arith) h.waits in
+    let short = too_short n last seen h.levels other few h.none h.waits.holds in
+    let P : List Level → Type 0 = λ t. IsFirst (EndsInEqual 6) t in
+    let first = first_run (EndsInEqual 6) h.levels seen seen 5 none short (h.levels, seen, refl) in
+    record {
+      levels = h.levels ++ seen ∷ [];
+      whole = receives_on bits h.levels (seen ∷ []) (h.levels ++ seen ∷ []) h.whole refl;
+      few = omega arith;
+      none = λ none. absurd (omega arith);
+      waits = subst P (sym (append_assoc h.levels (seen ∷ []) (replicate 5 seen))) first;
+    }
+
+-- ---- a flag that isn't finished: it goes on with the levels that are waited for
+
+-- with dominant levels
+open_forcing : (n : ℕ) (c : ContextValue) (bits : List Bit) → flag_level c ≡ Dominant → IsInDominantFlag n c bits →
+    IsUnfinished c AtFlag bits
+open_forcing n c bits drives h =
+    let P : List Bit → Type 0 = λ t. Row c AtFlag t Flag AtDelimiter in
+    let few = h.few in
+    let more : List Level = replicate (suc (5 - n)) Dominant in
+    let all : n + suc (5 - n) ≡ 6 = omega arith in
+    let levels = replicate-append-replicate n (suc (5 - n)) Dominant ∙ ap (λ k. replicate k Dominant) all in
+    let whole = forces_on bits (replicate n Dominant) more (replicate 6 Dominant) h.whole levels in
+    record {
+      piece = Flag;
+      next = AtDelimiter;
+      more = dominant_bit Dominant;
+      rest = dominant_bits (replicate (5 - n) Dominant);
+      lawful = subst P (sym whole) (flag drives);
+    }
+
+-- with levels like the last one
+open_waiting : (n : ℕ) (last : Level) (c : ContextValue) (bits : List Bit) → flag_level c ≡ Recessive →
+    IsInPassiveFlag n last c bits → IsUnfinished c AtFlag bits
+open_waiting n last c bits drives h =
+    let P : List Bit → Type 0 = λ t. Row c AtFlag t Flag AtDelimiter in
+    let few = h.few in
+    let left : 6 - n ≡ suc (5 - n) = omega arith in
+    let line : List Level = h.levels ++ replicate (6 - n) last in
+    let levels = ap (λ k. h.levels ++ replicate k last) (sym left) in
+    let whole = receives_on bits h.levels (replicate (suc (5 - n)) last) line h.whole levels in
+    record {
+      piece = Flag;
+      next = AtDelimiter;
+      more = recessive_bit last;
+      rest = recessive_bits (replicate (5 - n) last);
+      lawful = subst P (sym whole) (flag_passive drives h.waits);
+    }
+
+-- by the flag's level
+open_flag : (level : Level) (n : ℕ) (last : Level) (c : ContextValue) (bits : List Bit) → flag_level c ≡ level →
+    IsInFlag level n last c bits → IsUnfinished c AtFlag bits
+open_flag Dominant n last c bits drives h = open_forcing n c bits drives h
+open_flag Recessive n last c bits drives h = open_waiting n last c bits drives h
+
+-- by what the node drives
+pub open_flagging : (n : ℕ) (last : Level) (c : ContextValue) (bits : List Bit) → IsInFlag (flag_level c) n last c bits →
+    IsUnfinished c AtFlag bits
+open_flagging n last c bits h = open_flag (flag_level c) n last c bits refl h

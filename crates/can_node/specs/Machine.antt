@@ -1,0 +1,5 @@
+pub mod Standing
+pub mod Stages
+pub mod Turns
+pub mod Causes
+pub mod TransmitterCauses

@@ -1,0 +1,34 @@
+-- What the fields of a node say of its context.
+use Rattle.std.specs.Prelude.{◌≡◌, Bool, true, false, List, [], ◌∷◌}
+use Rattle.can_node.specs.declared.context.Context.{Context}
+use Rattle.can_node.specs.Context.{ContextValue, owes_suspension}
+use Rattle.can_node.specs.Pieces.{Place}
+use Rattle.can_node.specs.Pieces.Place.{AtInterframeSpace}
+
+-- the context that the fields stand for
+abbrev pub context_of : Context → ContextValue
+context_of s = record {
+  listen = s.listen;
+  self_test = s.self_test;
+  held = s.held;
+  aborted = s.aborted;
+  role = s.role;
+  tec = s.counters.tec;
+  rec = s.counters.rec;
+  off = s.counters.off;
+  flag = s.flag;
+  late = s.late;
+}
+
+-- what doesn't change within a piece
+pub record IsKept (place : Place) (c now : ContextValue) : Type 0 where
+  pub listen : now.listen ≡ c.listen
+  pub self_test : now.self_test ≡ c.self_test
+  pub off : now.off ≡ c.off
+  pub flag : now.flag ≡ c.flag
+  pub owes : place ≡ AtInterframeSpace → owes_suspension now ≡ owes_suspension c
+
+-- no bit came
+abbrev pub is_nil : {A : Type 0} → List A → Bool
+is_nil [] = true
+is_nil (b ∷ bits) = false

@@ -1,0 +1,184 @@
+use super::config::Config;
+use super::counters::Counters;
+use super::flag_kind::FlagKind;
+use super::request::Request;
+use super::role::Role;
+use can_bits::Level;
+
+/// What a node knows of itself beside the piece under way.
+#[derive(Debug, Drop)]
+pub struct Context {
+    pub listen: bool,
+    pub self_test: bool,
+    /// The request, and whether it was aborted in progress.
+    pub held: Option<Request>,
+    pub aborted: bool,
+    pub role: Role,
+    pub counters: Counters,
+    /// The flag that is due, or that came last.
+    pub flag: FlagKind,
+    /// A passive transmitter's step for a missing acknowledgement is owed.
+    pub late: bool,
+}
+
+impl Context {
+    ghost use Rattle.std.specs.Prelude.{◌≡◌, ◌<◌, ◌||◌, is_some, Some, None, false};
+    ghost use Rattle.can_frame.specs.Frame.{IsFrame};
+    ghost use Rattle.can_node.specs.Context.{ContextValue, fresh, is_passive, is_transmitter, owes_suspension, flag_level, integration_count};
+    ghost use Rattle.can_node.specs.Pieces.{sent_at};
+    ghost use Rattle.can_node.specs.Pieces.Place.{AtIdle};
+    ghost use Rattle.can_node.specs.Effects.{with_start, with_stop, with_off, role_after_sof};
+    ghost use Rattle.can_node.specs.Counting.{drop_failed, lose};
+    ghost use Rattle.can_node.specs.Machine.Standing.{context_of};
+
+    /// Before anything happened.
+    pub fn new() -> Context
+        ensures { context_of result ≡ fresh }
+    {
+        Context {
+            listen: false,
+            self_test: false,
+            held: None,
+            aborted: false,
+            role: Role::Receiver,
+            counters: Counters {
+                tec: 0,
+                rec: 0,
+                off: false,
+            },
+            flag: FlagKind::ActiveError,
+            late: false,
+        }
+    }
+
+    pub fn is_transmitter(&self) -> bool
+        ensures { result ≡ is_transmitter self.now.role }
+    {
+        match self.role {
+            Role::Transmitter => true,
+            Role::Receiver => false,
+        }
+    }
+
+    pub fn is_passive(&self) -> bool
+        ensures { result ≡ is_passive (context_of self.now) }
+    {
+        self.counters.tec >= 128 || self.counters.rec >= 128
+    }
+
+    pub fn owes_suspension(&self) -> bool
+        ensures { result ≡ owes_suspension (context_of self.now) }
+    {
+        self.is_transmitter() && self.is_passive()
+    }
+
+    /// Whether it starts its own frame where the bus is idle.
+    pub fn sends(&self) -> bool
+        ensures { result ≡ is_some (sent_at (context_of self.now) AtIdle) }
+    {
+        !self.listen && self.held.is_some()
+    }
+
+    /// What the frame of a request says is a frame: its identifier, length code and data bytes fit.
+    pub fn frame_fits(&self)
+        ensures { (request : Request) → self.now.held ≡ Some request → IsFrame request.frame }
+    {
+        if let Some(request) = &self.held {
+            request.frame.dlc();
+        }
+    }
+
+    /// What the node drives in its flag.
+    pub fn flag_level(&self) -> Level
+        ensures { result ≡ flag_level (context_of self.now) }
+    {
+        if self.listen {
+            return Level::Recessive;
+        }
+        match self.flag {
+            FlagKind::ActiveError | FlagKind::Overload => Level::Dominant,
+            FlagKind::PassiveError => Level::Recessive,
+        }
+    }
+
+    /// How often eleven recessive levels are waited for after a start.
+    pub fn integration_count(&self) -> u8
+        ensures { result ≡ integration_count (context_of self.now) }
+    {
+        if self.counters.off { 128 } else { 1 }
+    }
+
+    /// Takes the configuration; while bus-off stands the waiting begins anew, unless the node only listens.
+    pub fn start(&mut self, config: &Config)
+        ensures { context_of self.new ≡ with_start config.now (context_of self.old) }
+    {
+        self.listen = config.listen;
+        self.self_test = config.self_test;
+        if self.counters.off && !config.listen {
+            self.counters.tec = 127;
+            self.counters.rec = 0;
+        }
+    }
+
+    /// Drops the request.
+    pub fn stop(&mut self)
+        ensures { context_of self.new ≡ with_stop (context_of self.old) }
+    {
+        self.held = None;
+        self.aborted = false;
+        self.late = false;
+    }
+
+    /// Goes bus-off.
+    pub fn go_off(&mut self)
+        ensures { context_of self.new ≡ with_off (context_of self.old) }
+    {
+        self.stop();
+        self.counters = Counters {
+            tec: 127,
+            rec: 0,
+            off: true,
+        };
+    }
+
+    /// Drops a request that is tried once, or was aborted in progress, where it fails or loses.
+    pub fn drop_failed(&mut self)
+        ensures { context_of self.new ≡ drop_failed self.old.held (context_of self.old) }
+    {
+        if self.drops() {
+            self.held = None;
+            self.aborted = false;
+        }
+    }
+
+    /// Whether the request is dropped where it fails or loses: it is tried once, or was aborted in progress.
+    pub fn drops(&self) -> bool
+        ensures none { self.now.held ≡ None → result ≡ false }
+        ensures some { (request : Request) → self.now.held ≡ Some request → result ≡ (request.single_shot || self.now.aborted) }
+    {
+        match &self.held {
+            None => false,
+            Some(request) => request.single_shot || self.aborted,
+        }
+    }
+
+    /// Loses arbitration.
+    pub fn lose(&mut self)
+        ensures { context_of self.new ≡ lose (context_of self.old) }
+    {
+        self.drop_failed();
+        self.role = Role::Receiver;
+    }
+
+    /// The role where a frame started in a pause: the holder of a request sends, unless it owes suspension or only
+    /// listens.
+    pub fn role_after_sof(&self) -> Role
+        ensures { result ≡ role_after_sof (context_of self.now) }
+    {
+        if self.held.is_some() && !(self.listen || self.owes_suspension()) {
+            Role::Transmitter
+        } else {
+            Role::Receiver
+        }
+    }
+}

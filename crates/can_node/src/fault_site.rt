@@ -1,0 +1,10 @@
+/// In which piece a fault was.
+#[derive(Clone, Copy, Debug)]
+pub enum FaultSite {
+    InTransmission,
+    InReception,
+    /// In an active error flag or an overload flag.
+    InFlag,
+    /// In the delimiter after a flag.
+    InDelimiter,
+}

@@ -1,0 +1,55 @@
+ghost use Rattle.std.specs.Prelude.{◌≡◌, List, ◌++◌, ◌∷◌, []};
+ghost use Rattle.can_bits.specs.declared.level.Level.{Level as Bus};
+ghost use Rattle.can_bits.specs.Shifts.{StandsFor};
+ghost use Rattle.can_node.specs.Machine.Causes.{cause_by};
+ghost use Rattle.can_node.specs.Bits.{Bit, seen_of};
+ghost use Rattle.can_node.specs.Context.{ContextValue};
+ghost use Rattle.can_node.specs.Pieces.{Place};
+ghost use Rattle.can_node.specs.Frames.{Acknowledges};
+ghost use Rattle.can_node.specs.Machine.Stages.{IsReceiving, frame_bits};
+ghost use Rattle.can_node.specs.Machine.Turns.{ReceivesOn};
+
+use super::cause::Cause;
+use super::ending::Ending;
+use super::fault_site::FaultSite;
+use super::stage::Stage;
+use super::after_bit::AfterBit;
+use can_bits::{Level, LineFault, Shift};
+
+/// The cause of a fault of a line.
+fn cause_of(fault: &LineFault) -> Cause
+    ensures { result ≡ cause_by fault.now }
+{
+    match fault {
+        LineFault::Stuff(_) => Cause::Stuff,
+        LineFault::Crc => Cause::Crc,
+        LineFault::Form(_) | LineFault::NoAck | LineFault::Truncated | LineFault::Trailing(_) =>
+            Cause::Form,
+    }
+}
+
+/// A bit of a frame for its receiver: the frame goes on, or it is received with the sixth bit of its end, or there is a
+/// fault: a level with which no line goes on, the delimiter after a wrong check sequence, or an acknowledgement of its
+/// own that isn't seen.
+pub fn receive(shift: &mut Shift, driven: Level, seen: Level) -> AfterBit
+    ensures stands { (l : List Bus) → StandsFor shift.old l → StandsFor shift.new (l ++ seen ∷ []) }
+    ensures turn { (c : ContextValue) (place : Place) (bits : List Bit) → StandsFor shift.old (seen_of (frame_bits place bits))
+        → IsReceiving c place bits → Acknowledges c.listen (seen_of (frame_bits place bits)) driven
+        → ReceivesOn c place (bits ++ record { driven = driven; seen = seen } ∷ []) result }
+{
+    if !driven.is_recessive() && seen.is_recessive() {
+        let segment = shift.next_segment();
+        shift.advance(seen);
+        return AfterBit::Ended(Ending::Fault(FaultSite::InReception, Cause::Bit, segment));
+    }
+    match shift.advance(seen) {
+        Some(wrong) => {
+            let cause = cause_of(&wrong.fault);
+            AfterBit::Ended(Ending::Fault(FaultSite::InReception, cause, wrong.segment))
+        }
+        None => match shift.frame() {
+            Some(frame) => AfterBit::Ended(Ending::Received(frame)),
+            None => AfterBit::InPiece(Stage::InFrame),
+        },
+    }
+}
