@@ -24,7 +24,7 @@ pub record ContextValue : Type 0 where
   -- the flag that is due, or that came last
   pub flag : FlagKind
   -- a passive transmitter's step for a missing acknowledgement is owed, until a dominant level is seen in its flag
-  pub late : Bool
+  pub ack_step_owed : Bool
 
 -- before anything happened
 abbrev pub fresh : ContextValue
@@ -38,7 +38,7 @@ fresh = record {
   rec = 0;
   off = false;
   flag = ActiveError;
-  late = false;
+  ack_step_owed = false;
 }
 
 abbrev pub is_transmitter : Role → Bool

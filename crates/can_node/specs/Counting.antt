@@ -93,9 +93,9 @@ idle_bit c [] b = first_bit (sent_at c AtIdle) c
 idle_bit c (first ∷ done) b = frame_bit c.role c (seen_of (first ∷ done)) b
 
 -- the owed step of a missing acknowledgement: at the first dominant level in the flag
-abbrev pub if_late : Level → ContextValue → ContextValue
-if_late Dominant c = if c.late then record (more_tec 8 c) { late = false } else c
-if_late Recessive c = c
+abbrev pub if_ack_step_owed : Level → ContextValue → ContextValue
+if_ack_step_owed Dominant c = if c.ack_step_owed then record (more_tec 8 c) { ack_step_owed = false } else c
+if_ack_step_owed Recessive c = c
 
 -- all of these levels are dominant
 abbrev pub are_dominant : List Level → Bool
@@ -127,6 +127,6 @@ at_bit c AtIntegration done b = integration_bit c done b
 at_bit c AtIdle done b = idle_bit c done b
 at_bit c AfterSof done b = frame_bit c.role c (Dominant ∷ seen_of done) b
 at_bit c AtLastEofBit done b = c
-at_bit c AtFlag done b = if_late b.seen c
+at_bit c AtFlag done b = if_ack_step_owed b.seen c
 at_bit c AtDelimiter done b = delimiter_level b.seen done c
 at_bit c AtInterframeSpace done b = c

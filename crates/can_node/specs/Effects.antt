@@ -44,15 +44,17 @@ is_in_progress c AtInterframeSpace = false
 abbrev pub with_abort : Place → ContextValue → ContextValue
 with_abort place c = if is_in_progress c place then record c { aborted = true } else record c { held = None }
 
--- a start takes the configuration; while bus-off stands the waiting begins anew, unless the node only listens
+-- while bus-off stands the waiting of a node that doesn't only listen begins anew
+abbrev pub recounted : ContextValue → ContextValue
+recounted c = if c.off && not c.listen then record c { tec = 127; rec = 0 } else c
+
+-- a start takes the configuration
 abbrev pub with_start : Config → ContextValue → ContextValue
-with_start config c =
-    if c.off && not config.listen then record c { listen = config.listen; self_test = config.self_test; tec = 127; rec = 0 }
-    else record c { listen = config.listen; self_test = config.self_test }
+with_start config c = recounted (record c { listen = config.listen; self_test = config.self_test })
 
 -- a stop drops the request and keeps counters and role
 abbrev pub with_stop : ContextValue → ContextValue
-with_stop c = record c { held = None; aborted = false; late = false }
+with_stop c = record c { held = None; aborted = false; ack_step_owed = false }
 
 -- bus-off drops the request and sets the counters to 127 and 0
 abbrev pub with_off : ContextValue → ContextValue
@@ -77,7 +79,7 @@ transmitter_fault BitError c = more_tec 8 c
 transmitter_fault StuffError c = c
 transmitter_fault FormError c = more_tec 8 c
 transmitter_fault CheckError c = more_tec 8 c
-transmitter_fault AckError c = if is_passive c then record c { late = true } else more_tec 8 c
+transmitter_fault AckError c = if is_passive c then record c { ack_step_owed = true } else more_tec 8 c
 
 -- the own step of a fault, by where it was
 abbrev pub fault_step : FaultSite → Cause → ContextValue → ContextValue
@@ -91,7 +93,7 @@ abbrev pub own_step : Piece → ContextValue → ContextValue
 own_step Integration c = if c.off && not c.listen then record c { tec = 0; rec = 0; off = false } else c
 own_step (Transmission request) c = record c { tec = c.tec - 1; held = None; aborted = false }
 own_step (Fault site cause segment) c = fault_step site cause c
-own_step Flag c = record c { late = false }
+own_step Flag c = record c { ack_step_owed = false }
 own_step IdleBit c = c
 own_step (Reception f) c = c
 own_step LastEofBit c = c

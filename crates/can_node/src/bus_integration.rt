@@ -1,27 +1,35 @@
+//! Bus integration: a node that starts waits for the bus (Bosch CAN 2.0 part A section 7, ISO 11898-1).
 ghost use Rattle.std.specs.Prelude.{List};
 ghost use Rattle.can_node.specs.Bits.{Bit, recessive_bit};
 ghost use Rattle.can_node.specs.Context.{ContextValue};
-ghost use Rattle.can_node.specs.Pieces.Place.{AtIntegration as AtJoining};
+ghost use Rattle.can_node.specs.Pieces.Place.{AtIntegration};
 ghost use Rattle.can_node.specs.Machine.Stages.{IsIntegrating};
 ghost use Rattle.can_node.specs.Machine.Turns.{IsTurn};
 
+use super::after_bit::AfterBit;
 use super::ending::Ending;
 use super::stage::Stage;
-use super::after_bit::AfterBit;
 use can_bits::{Level, Shift};
 
-/// A bit while the bus is waited for: eleven successive recessive levels, so many times.
+/// The last of eleven successive recessive levels has this number, from 0.
+const LAST_OF_ELEVEN: u8 = 10;
+
+/// A bit while the bus is waited for: eleven successive recessive levels, so many times; a dominant one begins the present
+/// eleven anew.
 pub fn after_integration_bit(left: u8, run: u8, seen: Level) -> AfterBit
     ensures { (shift : Shift) (c now : ContextValue) (bits : List Bit) → IsIntegrating left run c bits
-        → IsTurn shift c now AtJoining bits (recessive_bit seen) result }
+        → IsTurn shift c now AtIntegration bits (recessive_bit seen) result }
 {
     match seen {
-        Level::Dominant => AfterBit::InPiece(Stage::Integrating(left, 0)),
+        Level::Dominant => AfterBit::InPiece(Stage::Integrating { left, run: 0 }),
         Level::Recessive => {
-            if run < 10 {
-                AfterBit::InPiece(Stage::Integrating(left, run.wrapping_add(1)))
+            if run < LAST_OF_ELEVEN {
+                AfterBit::InPiece(Stage::Integrating { left, run: run + 1 })
             } else if left > 1 {
-                AfterBit::InPiece(Stage::Integrating(left.wrapping_sub(1), 0))
+                AfterBit::InPiece(Stage::Integrating {
+                    left: left - 1,
+                    run: 0,
+                })
             } else {
                 AfterBit::Ended(Ending::Integration)
             }

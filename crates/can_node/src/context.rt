@@ -1,3 +1,4 @@
+//! What a node knows of itself beside the piece under way.
 use super::config::Config;
 use super::counters::Counters;
 use super::flag_kind::FlagKind;
@@ -5,7 +6,8 @@ use super::request::Request;
 use super::role::Role;
 use can_bits::Level;
 
-/// What a node knows of itself beside the piece under way.
+/// The context of a node's next bit: configuration, request, role, error counters and flag. How far the piece under way has
+/// come is the [`Stage`](super::stage::Stage)'s.
 #[derive(Debug, Drop)]
 pub struct Context {
     pub listen: bool,
@@ -18,17 +20,17 @@ pub struct Context {
     /// The flag that is due, or that came last.
     pub flag: FlagKind,
     /// A passive transmitter's step for a missing acknowledgement is owed.
-    pub late: bool,
+    pub ack_step_owed: bool,
 }
 
 impl Context {
-    ghost use Rattle.std.specs.Prelude.{◌≡◌, ◌<◌, ◌||◌, is_some, Some, None, false};
+    ghost use Rattle.std.specs.Prelude.{◌≡◌, ◌||◌, is_some, Some, None, false};
     ghost use Rattle.can_frame.specs.Frame.{IsFrame};
-    ghost use Rattle.can_node.specs.Context.{ContextValue, fresh, is_passive, is_transmitter, owes_suspension, flag_level, integration_count};
+    ghost use Rattle.can_node.specs.Context.{ContextValue, fresh, is_transmitter, owes_suspension, flag_level};
     ghost use Rattle.can_node.specs.Pieces.{sent_at};
     ghost use Rattle.can_node.specs.Pieces.Place.{AtIdle};
-    ghost use Rattle.can_node.specs.Effects.{with_start, with_stop, with_off, role_after_sof};
-    ghost use Rattle.can_node.specs.Counting.{drop_failed, lose};
+    ghost use Rattle.can_node.specs.Effects.{with_start, with_stop, role_after_sof};
+    ghost use Rattle.can_node.specs.Counting.{drop_failed, first_bit};
     ghost use Rattle.can_node.specs.Machine.Standing.{context_of};
 
     /// Before anything happened.
@@ -41,16 +43,13 @@ impl Context {
             held: None,
             aborted: false,
             role: Role::Receiver,
-            counters: Counters {
-                tec: 0,
-                rec: 0,
-                off: false,
-            },
+            counters: Counters::zero(),
             flag: FlagKind::ActiveError,
-            late: false,
+            ack_step_owed: false,
         }
     }
 
+    /// Whether it sends the frame that is on the bus, or sent the one that came last.
     pub fn is_transmitter(&self) -> bool
         ensures { result ≡ is_transmitter self.now.role }
     {
@@ -60,12 +59,7 @@ impl Context {
         }
     }
 
-    pub fn is_passive(&self) -> bool
-        ensures { result ≡ is_passive (context_of self.now) }
-    {
-        self.counters.tec >= 128 || self.counters.rec >= 128
-    }
-
+    /// Suspend transmission is owed: an error passive transmitter waits eight bits more after intermission.
     pub fn owes_suspension(&self) -> bool
         ensures { result ≡ owes_suspension (context_of self.now) }
     {
@@ -79,7 +73,16 @@ impl Context {
         !self.listen && self.held.is_some()
     }
 
-    /// What the frame of a request says is a frame: its identifier, length code and data bytes fit.
+    /// The first bit where the bus is idle: the holder of a request is transmitter from its SOF on.
+    pub fn begin_own_frame(&mut self)
+        ensures { context_of self.new ≡ first_bit (sent_at (context_of self.old) AtIdle) (context_of self.old) }
+    {
+        if self.sends() {
+            self.role = Role::Transmitter;
+        }
+    }
+
+    /// What the frame of a request says is a frame: its identifier, DLC and data bytes fit.
     pub fn frame_fits(&self)
         ensures { (request : Request) → self.now.held ≡ Some request → IsFrame request.frame }
     {
@@ -101,23 +104,13 @@ impl Context {
         }
     }
 
-    /// How often eleven recessive levels are waited for after a start.
-    pub fn integration_count(&self) -> u8
-        ensures { result ≡ integration_count (context_of self.now) }
-    {
-        if self.counters.off { 128 } else { 1 }
-    }
-
     /// Takes the configuration; while bus-off stands the waiting begins anew, unless the node only listens.
     pub fn start(&mut self, config: &Config)
         ensures { context_of self.new ≡ with_start config.now (context_of self.old) }
     {
         self.listen = config.listen;
         self.self_test = config.self_test;
-        if self.counters.off && !config.listen {
-            self.counters.tec = 127;
-            self.counters.rec = 0;
-        }
+        self.recount();
     }
 
     /// Drops the request.
@@ -126,19 +119,7 @@ impl Context {
     {
         self.held = None;
         self.aborted = false;
-        self.late = false;
-    }
-
-    /// Goes bus-off.
-    pub fn go_off(&mut self)
-        ensures { context_of self.new ≡ with_off (context_of self.old) }
-    {
-        self.stop();
-        self.counters = Counters {
-            tec: 127,
-            rec: 0,
-            off: true,
-        };
+        self.ack_step_owed = false;
     }
 
     /// Drops a request that is tried once, or was aborted in progress, where it fails or loses.
@@ -162,16 +143,8 @@ impl Context {
         }
     }
 
-    /// Loses arbitration.
-    pub fn lose(&mut self)
-        ensures { context_of self.new ≡ lose (context_of self.old) }
-    {
-        self.drop_failed();
-        self.role = Role::Receiver;
-    }
-
-    /// The role where a frame started in a pause: the holder of a request sends, unless it owes suspension or only
-    /// listens.
+    /// The role where SOF came in interframe space: the holder of a request transmits, unless it owes suspend transmission
+    /// or only listens.
     pub fn role_after_sof(&self) -> Role
         ensures { result ≡ role_after_sof (context_of self.now) }
     {

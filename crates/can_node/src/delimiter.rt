@@ -1,38 +1,53 @@
+//! Error delimiters and overload delimiters: what comes after a flag (Bosch CAN 2.0 part A sections 3.1.3 and 3.1.4).
 ghost use Rattle.std.specs.Prelude.{◌≡◌, ◌==◌, ◌&&◌, List};
 ghost use Rattle.can_node.specs.Bits.{Bit, recessive_bit};
 ghost use Rattle.can_node.specs.Context.{ContextValue};
-ghost use Rattle.can_node.specs.Pieces.Place.{AtDelimiter as AtAfterFlag};
+ghost use Rattle.can_node.specs.Pieces.Place.{AtDelimiter};
 ghost use Rattle.can_node.specs.Machine.Stages.{IsInDelimiter};
 ghost use Rattle.can_node.specs.Machine.Turns.{IsTurn};
 
+use super::after_bit::AfterBit;
 use super::cause::Cause;
 use super::ending::Ending;
 use super::fault_site::FaultSite;
+use super::overload_condition::OverloadCondition;
 use super::stage::Stage;
-use super::after_bit::AfterBit;
 use can_bits::{Level, Segment, Shift};
 
-/// A bit after a flag: dominant levels of others' flags, and then eight recessive ones; a dominant level at the eighth
-/// is an overload, and one before it is a fault.
+/// How many recessive levels of a delimiter come before its last.
+const BEFORE_LAST: u8 = 7;
+
+/// A bit after a flag: dominant levels of others' flags, and then eight recessive ones; a dominant level at the eighth is an
+/// overload condition, and one before it a form error.
 pub fn after_delimiter_bit(dominant: u8, recessive: u8, seen: Level) -> AfterBit
     ensures { (shift : Shift) (c now : ContextValue) (bits : List Bit) → IsInDelimiter dominant recessive bits
-        → IsTurn shift c now AtAfterFlag bits (recessive_bit seen) result }
+        → IsTurn shift c now AtDelimiter bits (recessive_bit seen) result }
 {
     match seen {
         Level::Dominant => {
             if recessive == 0 {
-                AfterBit::InPiece(Stage::InDelimiter(dominant % 8 + 1, 0))
-            } else if recessive < 7 {
-                AfterBit::Ended(Ending::Fault(FaultSite::InDelimiter, Cause::Form, Segment::Delimiter))
+                AfterBit::InPiece(Stage::InDelimiter {
+                    dominant: dominant % 8 + 1,
+                    recessive: 0,
+                })
+            } else if recessive < BEFORE_LAST {
+                AfterBit::Ended(Ending::Fault {
+                    site: FaultSite::InDelimiter,
+                    cause: Cause::Form,
+                    segment: Segment::Delimiter,
+                })
             } else {
-                AfterBit::Ended(Ending::Delimiter(true))
+                AfterBit::Ended(Ending::Overload(OverloadCondition::LastDelimiterBit))
             }
         }
         Level::Recessive => {
-            if recessive < 7 {
-                AfterBit::InPiece(Stage::InDelimiter(dominant, recessive.wrapping_add(1)))
+            if recessive < BEFORE_LAST {
+                AfterBit::InPiece(Stage::InDelimiter {
+                    dominant,
+                    recessive: recessive + 1,
+                })
             } else {
-                AfterBit::Ended(Ending::Delimiter(false))
+                AfterBit::Ended(Ending::Delimiter)
             }
         }
     }

@@ -1,22 +1,31 @@
+//! How a piece of a node's record ended.
 use super::cause::Cause;
 use super::fault_site::FaultSite;
+use super::overload_condition::OverloadCondition;
+use super::request::Request;
 use can_bits::Segment;
 use can_frame::Frame;
 
-/// How a piece ended. Where a piece may end in an overload, the flag says whether it did.
+/// How a piece ended, with what the end tells.
 #[derive(Debug, Drop)]
 pub enum Ending {
+    /// The bus was waited for.
     Integration,
+    /// A recessive bit of an idle bus.
     IdleBit,
     Received(Frame),
-    Sent,
-    Fault(FaultSite, Cause, Segment),
-    LastEofBit(bool),
+    Sent(Request),
+    Fault {
+        site: FaultSite,
+        cause: Cause,
+        segment: Segment,
+    },
+    LastEofBit,
     Flag,
-    Delimiter(bool),
+    Delimiter,
     InterframeSpace,
-    /// The pause ended with the start of a frame.
+    /// Interframe space ended with the SOF of a frame.
     Sof,
-    /// The pause was broken off.
-    Broken,
+    /// An overload flag is due.
+    Overload(OverloadCondition),
 }

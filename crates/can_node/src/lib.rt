@@ -10,36 +10,40 @@
 #![tactic(auto)]
 
 mod aborted;
+mod after_bit;
+mod arbitration;
+mod arbitration_field;
+mod bit;
 mod bit_events;
+mod bus_integration;
 mod cause;
-mod closing;
 mod config;
 mod contention;
 mod contention_laws;
+mod context;
 mod counters;
-mod counting;
 mod delimiter;
+mod drive;
 mod ending;
+mod events;
+mod fault_confinement;
 mod fault_site;
-mod arbitration_field;
-mod flag_kind;
 mod flag;
-mod going;
-mod receive;
-mod bus_integration;
+mod flag_kind;
+mod interframe_space;
 mod laws;
-mod moving;
+mod next_place;
 mod node;
 mod outcome;
-mod interframe_space;
+mod overload_condition;
+mod own_bit;
 mod phase;
+mod receive;
 mod request;
 mod role;
 mod stage;
-mod context;
 mod state;
 mod transmit;
-mod after_bit;
 
 pub use aborted::Aborted;
 pub use bit_events::BitEvents;
@@ -49,7 +53,8 @@ pub use contention::contend;
 pub use contention_laws::{contention_has_one_answer, some_frame_goes_on};
 pub use counters::Counters;
 pub use laws::{
-    a_frame_of_another_node_is_received, a_record_has_one_cut, each_eleven_takes_one, pieces_are_told_apart,
+    a_frame_of_another_node_is_received, a_record_has_one_cut, each_eleven_takes_one,
+    pieces_are_told_apart,
 };
 pub use node::Node;
 pub use outcome::Outcome;

@@ -1,16 +1,19 @@
 ghost use Rattle.std.specs.Prelude.{◌≡◌, ◌&&◌, not};
 
 use super::aborted::Aborted;
+use super::after_bit::AfterBit;
 use super::bit_events::BitEvents;
 use super::config::Config;
-use super::counters::Counters;
+use super::context::Context;
+use super::counters::{BUS_OFF, Counters};
 use super::outcome::Outcome;
 use super::phase::Phase;
 use super::request::Request;
 use super::stage::Stage;
-use super::context::Context;
-use super::after_bit::AfterBit;
 use can_bits::{Level, Shift};
+
+/// How many bits intermission has (Bosch CAN 2.0 part A section 3.1.5).
+const INTERMISSION: u8 = 3;
 
 /// A CAN node, bit by bit: what it drives, and what it makes of the levels that it sees (Bosch CAN 2.0 part A).
 ///
@@ -26,6 +29,12 @@ pub struct Node {
 impl Node {
     ghost use Rattle.std.specs.Prelude.{◌≡◌, ◌<◌, ◌↔◌, [], List, IsTrue};
     ghost use Rattle.can_node.specs.Record.{Entry};
+    ghost use Rattle.can_node.specs.Bits.{Bit};
+    ghost use Rattle.can_node.specs.Context.{ContextValue};
+    ghost use Rattle.can_node.specs.Pieces.{Place};
+    ghost use Rattle.can_node.specs.Effects.{is_in_progress};
+    ghost use Rattle.can_node.specs.Machine.Standing.{context_of};
+    ghost use Rattle.can_node.specs.Machine.Stages.{At};
     ghost use Rattle.can_node.specs.Cut.{FinishedPiece};
     ghost use Rattle.can_node.specs.Stands.{StandsAt, InReset, Enters, DrivesNext, Samples, StaysReset, ShowsPhase, ShowsCounters, ShowsRest, Requests, Aborts};
 
@@ -47,7 +56,10 @@ impl Node {
         ensures { Enters self.old self.new (Entry.Start config) }
     {
         self.context.start(&config);
-        self.stage = Stage::Integrating(self.context.integration_count(), 0);
+        self.stage = Stage::Integrating {
+            left: self.context.integration_count(),
+            run: 0,
+        };
     }
 
     /// Enters reset at once. The request is dropped, and the error counters stay.
@@ -63,7 +75,7 @@ impl Node {
     pub fn drive(&self) -> Level
         ensures { DrivesNext self.now result }
     {
-        self.level()
+        self.next_level()
     }
 
     /// Sees the level of the bus in this bit, in which the node drove what [`drive`](Node::drive) says; in reset it looks
@@ -73,19 +85,18 @@ impl Node {
         ensures off { IsTrue result.went_off → InReset self.new }
         ensures rests { StaysReset self.old self.new result }
     {
-        let driven = self.level();
-        let lost = self.lost(driven, level);
+        let driven = self.next_level();
+        let lost = self.lost_arbitration(driven, level);
         let held = self.context.held.is_some();
         let off = self.context.counters.off;
-        let turn = self.turn(driven, level, lost.is_some());
-        self.count(driven, level, lost.is_some());
-        let received = self.received(&turn);
-        let sent = self.is_sent(&turn);
-        let fault = turn.fault();
-        self.go_on(turn);
+        let after = self.after_bit(driven, level, lost.is_some());
+        let received = after.received();
+        let sent = after.is_sent();
+        let fault = after.fault();
+        self.go_to(after);
         let receiving = !self.context.is_transmitter();
         let recovered = recovers(off, self.context.counters.off);
-        let went_off = self.context.counters.tec >= 256;
+        let went_off = self.context.counters.tec >= BUS_OFF;
         let ended = self.ended(held, sent);
         self.go_off();
         BitEvents {
@@ -134,6 +145,17 @@ impl Node {
         }
     }
 
+    /// Whether an own frame is going out.
+    fn is_in_progress(&self) -> bool
+        ensures { (c : ContextValue) (place : Place) (bits : List Bit) → At self.now.stage self.now.shift c (context_of self.now.context) place bits
+            → result ≡ is_in_progress (context_of self.now.context) place }
+    {
+        match self.stage {
+            Stage::InFrame => self.context.is_transmitter(),
+            _ => false,
+        }
+    }
+
     /// The error counters, as the cut of the record gives them: there is one alone ([`a_record_has_one_cut`](super::laws)).
     /// The transmit error counter is below 256.
     pub fn counters(&self) -> Counters
@@ -150,14 +172,17 @@ impl Node {
     {
         match self.stage {
             Stage::InReset => Phase::Reset,
-            Stage::Integrating(_, _) => Phase::Waiting,
+            Stage::Integrating { left: _, run: _ } => Phase::Waiting,
             Stage::BusIdle => Phase::Idle,
             Stage::InFrame => Phase::Frame,
             Stage::LastEofBit => Phase::Frame,
-            Stage::InFlag(_, _) => Phase::Flag,
-            Stage::InDelimiter(_, _) => Phase::Delimiter,
-            Stage::InInterframeSpace(n) => {
-                if n < 3 {
+            Stage::InFlag { bits: _, last: _ } => Phase::Flag,
+            Stage::InDelimiter {
+                dominant: _,
+                recessive: _,
+            } => Phase::Delimiter,
+            Stage::InInterframeSpace { bits } => {
+                if bits < INTERMISSION {
                     Phase::Intermission
                 } else {
                     Phase::Suspension

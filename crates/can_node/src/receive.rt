@@ -1,3 +1,4 @@
+//! A bit of a frame for its receiver (Bosch CAN 2.0 part A sections 3.1.1 and 6).
 ghost use Rattle.std.specs.Prelude.{◌≡◌, List, ◌++◌, ◌∷◌, []};
 ghost use Rattle.can_bits.specs.declared.level.Level.{Level as Bus};
 ghost use Rattle.can_bits.specs.Shifts.{StandsFor};
@@ -9,12 +10,12 @@ ghost use Rattle.can_node.specs.Frames.{Acknowledges};
 ghost use Rattle.can_node.specs.Machine.Stages.{IsReceiving, frame_bits};
 ghost use Rattle.can_node.specs.Machine.Turns.{ReceivesOn};
 
+use super::after_bit::AfterBit;
 use super::cause::Cause;
 use super::ending::Ending;
 use super::fault_site::FaultSite;
 use super::stage::Stage;
-use super::after_bit::AfterBit;
-use can_bits::{Level, LineFault, Shift};
+use can_bits::{Level, LineFault, Segment, Shift};
 
 /// The cause of a fault of a line.
 fn cause_of(fault: &LineFault) -> Cause
@@ -28,9 +29,20 @@ fn cause_of(fault: &LineFault) -> Cause
     }
 }
 
-/// A bit of a frame for its receiver: the frame goes on, or it is received with the sixth bit of its end, or there is a
-/// fault: a level with which no line goes on, the delimiter after a wrong check sequence, or an acknowledgement of its
-/// own that isn't seen.
+/// An error that a receiver finds.
+fn error(cause: Cause, segment: Segment) -> AfterBit
+    ensures { result ≡ AfterBit.Ended (Ending.Fault FaultSite.InReception cause segment) }
+{
+    AfterBit::Ended(Ending::Fault {
+        site: FaultSite::InReception,
+        cause,
+        segment,
+    })
+}
+
+/// A bit of a frame for its receiver: the frame goes on, or it is received with the sixth bit of EOF, or there is an error:
+/// a level with which no line goes on (stuff error or form error), the ACK delimiter after a wrong CRC sequence (CRC error),
+/// or an acknowledgement of its own that isn't seen (bit error).
 pub fn receive(shift: &mut Shift, driven: Level, seen: Level) -> AfterBit
     ensures stands { (l : List Bus) → StandsFor shift.old l → StandsFor shift.new (l ++ seen ∷ []) }
     ensures turn { (c : ContextValue) (place : Place) (bits : List Bit) → StandsFor shift.old (seen_of (frame_bits place bits))
@@ -40,13 +52,10 @@ pub fn receive(shift: &mut Shift, driven: Level, seen: Level) -> AfterBit
     if !driven.is_recessive() && seen.is_recessive() {
         let segment = shift.next_segment();
         shift.advance(seen);
-        return AfterBit::Ended(Ending::Fault(FaultSite::InReception, Cause::Bit, segment));
+        return error(Cause::Bit, segment);
     }
     match shift.advance(seen) {
-        Some(wrong) => {
-            let cause = cause_of(&wrong.fault);
-            AfterBit::Ended(Ending::Fault(FaultSite::InReception, cause, wrong.segment))
-        }
+        Some(wrong) => error(cause_of(&wrong.fault), wrong.segment),
         None => match shift.frame() {
             Some(frame) => AfterBit::Ended(Ending::Received(frame)),
             None => AfterBit::InPiece(Stage::InFrame),

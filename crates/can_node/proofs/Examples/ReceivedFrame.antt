@@ -1,18 +1,16 @@
 -- A record and its cut: a node starts, waits for eleven recessive levels, receives the frame of another node and
 -- acknowledges it.
-use Rattle.std.proofs.Common.{◌≡◌, false, List, [], ◌∷◌, ◌++◌, map, replicate, refl, arith, None}
-use Rattle.can_bits.specs.declared.level.Level.{Level}
+use Rattle.std.proofs.Common.{◌≡◌, false, [], ◌∷◌, ◌++◌, map, replicate, refl, arith, None}
 use Rattle.can_bits.specs.declared.level.Level.TheVariants.{Dominant, Recessive}
 use Rattle.can_node.specs.declared.config.Config.{Config}
-use Rattle.can_node.specs.Bits.{Bit, recessive_bit, dominant_bit, recessive_bits}
+use Rattle.can_node.specs.Bits.{recessive_bit, recessive_bits}
 use Rattle.can_node.specs.Context.{fresh}
 use Rattle.can_node.specs.Pieces.Place.{AtIdle, AtLastEofBit, AtInterframeSpace}
-use Rattle.can_node.specs.Pieces.Piece.{Integration, Reception, LastEofBit, InterframeSpace}
+use Rattle.can_node.specs.Pieces.Piece.{Reception, LastEofBit, InterframeSpace}
 use Rattle.can_node.specs.Frames.{Receives}
-use Rattle.can_node.specs.Record.{Entry}
-use Rattle.can_node.specs.Record.Entry.{Start, OneBit}
+use Rattle.can_node.specs.Record.Entry.{OneBit}
 use Rattle.can_node.specs.Table.Row.{other, last_eof_bit, interframe_space}
-use Rattle.can_node.specs.Cut.{Move, FinishedPiece, IsCut, received}
+use Rattle.can_node.specs.Cut.{Move, IsCut}
 use Rattle.can_node.specs.Cut.IsOpenAt.{nothing}
 use Rattle.can_node.specs.Cut.Move.{started}
 use Rattle.can_node.specs.Cut.From.{here, on}

@@ -100,7 +100,7 @@ first_six x = record {
 
 -- a passive transmitter whose frame wasn't acknowledged
 abbrev owing : ContextValue
-owing = record fresh { held = Some asked; role = Transmitter; tec = 250; flag = PassiveError; late = true }
+owing = record fresh { held = Some asked; role = Transmitter; tec = 250; flag = PassiveError; ack_step_owed = true }
 
 -- a dominant level in its flag is the owed step, and with it the node goes bus-off within the flag
 owed_off : Move owing AtFlag (OneBit (recessive_bit Dominant) ∷ BusOff ∷ []) []

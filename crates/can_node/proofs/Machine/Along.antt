@@ -10,7 +10,7 @@ use Rattle.can_node.specs.declared.flag_kind.FlagKind.TheVariants.{ActiveError, 
 use Rattle.can_node.specs.declared.request.Request.{Request}
 use Rattle.can_node.specs.Bits.{Bit, seen_of}
 use Rattle.can_node.specs.Context.{ContextValue, owes_suspension}
-use Rattle.can_node.specs.Counting.{at_bit, next_run, ends_eleven, are_dominant, first_bit, frame_bit, lost_by, lose, drop_failed, if_acknowledged, if_late, delimiter_level, if_eighth, after_error_flag, more_by, more_tec}
+use Rattle.can_node.specs.Counting.{at_bit, next_run, ends_eleven, are_dominant, first_bit, frame_bit, lost_by, lose, drop_failed, if_acknowledged, if_ack_step_owed, delimiter_level, if_eighth, after_error_flag, more_by, more_tec}
 use Rattle.can_node.specs.Effects.{along, with_send, with_abort, is_in_progress}
 use Rattle.can_node.specs.Pieces.{Place, sent_at}
 use Rattle.can_node.specs.Pieces.Place.{AtReset, AtIntegration, AtIdle, AfterSof, AtLastEofBit, AtFlag, AtDelimiter, AtInterframeSpace}
@@ -85,8 +85,8 @@ at_first None c = same c
 at_first (Some request) c = same c
 
 -- a bit of a flag
-in_flag : (x : Level) (c : ContextValue) → AreKept c (if_late x c)
-in_flag Dominant c = chosen c.late c (record (more_tec 8 c) { late = false }) c (same c) (same c)
+in_flag : (x : Level) (c : ContextValue) → AreKept c (if_ack_step_owed x c)
+in_flag Dominant c = chosen c.ack_step_owed c (record (more_tec 8 c) { ack_step_owed = false }) c (same c) (same c)
 in_flag Recessive c = same c
 
 -- a bit after a flag

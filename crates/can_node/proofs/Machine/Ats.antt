@@ -1,9 +1,8 @@
 -- What a bit makes of each piece, from what the node's functions say of it.
-use Rattle.std.proofs.Common.{◌≡◌, not, ℕ, Bool, List, [], ◌∷◌, ◌++◌, refl, ap, sym, subst, ◌∙◌, if◌then◌else◌}
+use Rattle.std.proofs.Common.{◌≡◌, ℕ, Bool, List, [], refl, ap, sym, subst, ◌∙◌, if◌then◌else◌}
 use Rattle.can_bits.specs.declared.level.Level.{Level}
 use Rattle.can_bits.specs.declared.level.Level.TheVariants.{Dominant, Recessive}
 use Rattle.can_bits.specs.declared.shift.Shift.{Shift}
-use Rattle.can_bits.specs.Fields.{is_recessive}
 use Rattle.can_node.specs.declared.stage.Stage.{Stage}
 use Rattle.can_node.specs.declared.stage.Stage.TheVariants.{Integrating as StageIntegrating, BusIdle as StageBusIdle, LastEofBit as StageLastEofBit, InFlag as StageInFlag, InDelimiter as StageInDelimiter, InInterframeSpace as StageInInterframeSpace}
 use Rattle.can_node.specs.declared.role.Role.TheVariants.{Receiver}
@@ -12,13 +11,11 @@ use Rattle.can_node.specs.Bits.{Bit, recessive_bit, dominant_bit}
 use Rattle.can_node.specs.Context.{ContextValue, owes_suspension, flag_level, level_of_flag}
 use Rattle.can_node.specs.Pieces.{Place}
 use Rattle.can_node.specs.Pieces.Place.{AtIntegration, AtIdle, AtLastEofBit, AtFlag, AtDelimiter, AtInterframeSpace}
-use Rattle.can_node.specs.Pieces.Piece.{LastEofBit}
-use Rattle.can_node.specs.Table.{Row}
 use Rattle.can_node.specs.Table.Row.{last_eof_bit, last_eof_bit_overload}
 use Rattle.can_node.specs.Driving.{Drives}
 use Rattle.can_node.specs.Machine.Standing.{IsKept}
 use Rattle.can_node.specs.Machine.Stages.{At, IsIntegrating, IsInFlag, IsInDominantFlag, IsInPassiveFlag, IsInDelimiter, IsInInterframeSpace}
-use Rattle.can_node.specs.Machine.Turns.{IsTurn}
+use Rattle.can_node.specs.Machine.Turns.{IsTurn, after_last_eof}
 
 -- the stage is this one
 pub at_is : (s : Stage) (stage : Stage) (shift : Shift) (c now : ContextValue) (place : Place) (bits : List Bit) → stage ≡ s → At stage shift c now place bits →
@@ -59,22 +56,20 @@ at_idle stage shift new c now place bits driven seen turn e h drives f =
     let S : List Bit → Type 0 = λ l. Drives now AtIdle l driven in
     subst P (sym at.0) (subst Q (sym at.1) (subst R (sym at.3) (f at.2 (subst S at.1 (driven_at now place AtIdle bits driven at.0 drives)))))
 
--- the bit after a received frame
-pub at_last : (stage : Stage) (shift : Shift) (c now : ContextValue) (place : Place) (bits : List Bit) (driven seen : Level) (recessive : Bool) →
-    stage ≡ StageLastEofBit → At stage shift c now place bits → Drives now place bits driven → recessive ≡ is_recessive seen →
-    Row c place (bits ++ record { driven = driven; seen = seen } ∷ []) LastEofBit (if not recessive then AtFlag else AtInterframeSpace)
-at_last stage shift c now place bits driven seen recessive e h drives test =
+-- the seventh bit of EOF of a received frame
+last_row : (x : Level) (shift : Shift) (c now : ContextValue) → IsTurn shift c now AtLastEofBit [] (recessive_bit x) (after_last_eof x)
+last_row Dominant shift c now = last_eof_bit_overload
+last_row Recessive shift c now = last_eof_bit
+
+pub at_last : (stage : Stage) (shift : Shift) (c now : ContextValue) (place : Place) (bits : List Bit) (driven seen : Level) (turn : AfterBit) →
+    stage ≡ StageLastEofBit → At stage shift c now place bits → Drives now place bits driven → turn ≡ after_last_eof seen →
+    IsTurn shift c now place bits (record { driven = driven; seen = seen }) turn
+at_last stage shift c now place bits driven seen turn e h drives is =
     let at = at_is StageLastEofBit stage shift c now place bits e h in
-    let d : driven ≡ Recessive = driven_at now place AtLastEofBit bits driven at.0 drives in
-    let Next : Bool → Type 0 = λ r. Row c place (bits ++ record { driven = driven; seen = seen } ∷ []) LastEofBit (if not r then AtFlag else AtInterframeSpace) in
-    let P : Place → Type 0 = λ s. Row c s (bits ++ record { driven = driven; seen = seen } ∷ []) LastEofBit (if not (is_recessive seen) then AtFlag else AtInterframeSpace) in
-    let Q : List Bit → Type 0 = λ l. Row c AtLastEofBit (l ++ record { driven = driven; seen = seen } ∷ []) LastEofBit (if not (is_recessive seen) then AtFlag else AtInterframeSpace) in
-    let R : Level → Type 0 = λ x. Row c AtLastEofBit (record { driven = x; seen = seen } ∷ []) LastEofBit (if not (is_recessive seen) then AtFlag else AtInterframeSpace) in
-    subst Next (sym test) (subst P (sym at.0) (subst Q (sym at.1) (subst R (sym d) (row seen))))
-  where
-    row : (x : Level) → Row c AtLastEofBit (recessive_bit x ∷ []) LastEofBit (if not (is_recessive x) then AtFlag else AtInterframeSpace)
-    row Dominant = last_eof_bit_overload
-    row Recessive = last_eof_bit
+    let P : AfterBit → Type 0 = λ t. IsTurn shift c now AtLastEofBit [] (recessive_bit seen) t in
+    let Q : List Bit → Type 0 = λ l. IsTurn shift c now AtLastEofBit l (recessive_bit seen) turn in
+    turn_at shift c now place AtLastEofBit bits driven Recessive seen turn at.0 (driven_at now place AtLastEofBit bits driven at.0 drives)
+    (subst Q (sym at.1) (subst P (sym is) (last_row seen shift c now)))
 
 -- what a context keeps fixes what is driven in a flag
 level_kept : (c now : ContextValue) → now.listen ≡ c.listen → now.flag ≡ c.flag → flag_level now ≡ flag_level c

@@ -1,10 +1,9 @@
 -- One bit of a frame, as the node has it.
-use Rattle.std.proofs.Common.{◌≡◌, Bool, true, false, Option, Some, is_some, List, [], ◌∷◌, ◌++◌, refl, ap, sym, subst, ◌∙◌, if◌then◌else◌}
+use Rattle.std.proofs.Common.{◌≡◌, Bool, true, false, Some, is_some, List, [], ◌∷◌, ◌++◌, refl, ap, sym, subst, ◌∙◌, if◌then◌else◌}
 use Rattle.can_bits.specs.declared.level.Level.{Level}
 use Rattle.can_bits.specs.declared.level.Level.TheVariants.{Dominant, Recessive}
 use Rattle.can_bits.specs.declared.shift.Shift.{Shift}
 use Rattle.can_bits.specs.Fields.{is_recessive}
-use Rattle.can_bits.specs.Places.{is_early_stuff}
 use Rattle.can_bits.specs.Shifts.{StandsFor}
 use Rattle.can_bits.specs.Streaming.{IsReadable}
 use Rattle.can_node.specs.declared.role.Role.{Role}
@@ -19,13 +18,12 @@ use Rattle.can_node.specs.Pieces.{Place}
 use Rattle.can_node.specs.Counting.{at_bit, frame_bit, lost_by, lose, if_acknowledged}
 use Rattle.can_node.specs.Events.{lost_in, lost_as}
 use Rattle.can_node.specs.Frames.{Acknowledges}
-use Rattle.can_node.specs.Table.{Row}
 use Rattle.can_node.specs.Driving.{Drives, FrameDrives, TransmitsNext}
 use Rattle.can_node.specs.Machine.Standing.{IsKept}
 use Rattle.can_node.specs.Machine.Stages.{At, ByRole, IsFramePlace, IsInFrame, IsReading, IsReceiving, IsTransmitting, frame_bits}
 use Rattle.can_node.specs.Machine.Stages.IsFramePlace.{idle_place, pause_place}
 use Rattle.can_node.specs.Machine.Stages.IsInFrame.{from_idle, from_pause}
-use Rattle.can_node.specs.Machine.Turns.{IsMade, IsTurn, ReceivesOn, TransmitsOn, piece_of, next_of}
+use Rattle.can_node.specs.Machine.Turns.{IsMade, IsTurn, ReceivesOn, TransmitsOn}
 use Rattle.can_node.proofs.Bits.FramePlaces.{frame_seen}
 use Rattle.can_node.proofs.Transmission.TransmitterFronts.{transmitting_kept, drives_sends}
 use Rattle.can_node.proofs.Transmission.WellNext.{well_readable}
@@ -75,7 +73,7 @@ received_made (InPiece stage) shift c now place bits receiver site stands h =
     let P : Stage → Type 0 = λ s. At s shift c now place bits in
     let Q : Role → Type 0 = λ r. ByRole r c now place bits in
     subst P (sym h.0) (record { site = site; stands = stands; by_role = subst Q (sym receiver) h.1 })
-received_made (Ended done) shift c now place bits receiver site stands row = row now.held
+received_made (Ended done) shift c now place bits receiver site stands row = row
 
 -- a role after a bit in which arbitration was lost or not
 abbrev pub role_if : Bool → Role
@@ -94,9 +92,7 @@ told_made true (InPiece stage) shift c now other place bits role held site stand
     let P : Stage → Type 0 = λ s. At s shift c other place bits in
     let Q : Role → Type 0 = λ r. ByRole r c other place bits in
     subst P (sym h.0) (record { site = site; stands = stands; by_role = subst Q (sym role) h.1 })
-told_made false (Ended done) shift c now other place bits role held site stands h =
-    let P : Option Request → Type 0 = λ r. Row c place bits (piece_of r done) (next_of done) in
-    subst P (sym (held refl)) h.1
+told_made false (Ended done) shift c now other place bits role held site stands h = h.1
 told_made true (Ended done) shift c now other place bits role held site stands h = let wrong : true ≡ false = h.0 in absurd cc
 
 -- ---- the context after it
@@ -139,25 +135,29 @@ receive_turn shift new c now place bits driven seen turn receiver reading kept d
     subst Made (sym (frame_at now place bits b site))
     (received_made turn new c (frame_bit now.role now l b) place (bits ++ b ∷ []) role (still_in place bits b site) stood recessive_bit)
 
+-- a request that is held is one
+pub one_request : {a b : Request} → Some a ≡ Some b → a ≡ b
+one_request e = cc
+
 -- a transmitter's bit
-pub transmit_turn : (shift new : Shift) (c now : ContextValue) (place : Place) (bits : List Bit) (driven seen : Level) (self_test early lost : Bool) (turn : AfterBit) →
-    now.role ≡ Transmitter → IsInFrame place bits → StandsFor shift (seen_of (frame_bits place bits)) → (h : IsTransmitting c now place bits) → self_test ≡ c.self_test →
-    Drives now place bits driven → early ≡ is_early_stuff h.request.frame.ext (seen_of (frame_bits place bits)) →
+pub transmit_turn : (shift new : Shift) (c now : ContextValue) (place : Place) (bits : List Bit) (driven seen : Level) (self_test lost : Bool) (request : Request) (turn : AfterBit) →
+    now.role ≡ Transmitter → IsInFrame place bits → StandsFor shift (seen_of (frame_bits place bits)) → (h : IsTransmitting c now place bits) → self_test ≡ c.self_test → now.held ≡ Some request →
+    Drives now place bits driven →
     lost ≡ is_some (lost_in now place bits (record { driven = driven; seen = seen })) →
     ((l : List Level) → StandsFor shift l → StandsFor new (l ++ seen ∷ [])) →
     ((c now : ContextValue) (place : Place) (bits : List Bit) → StandsFor shift (seen_of (frame_bits place bits)) → IsFramePlace place → self_test ≡ c.self_test →
-    (h : IsTransmitting c now place bits) → TransmitsNext h.request (frame_bits place bits) driven → early ≡ is_early_stuff h.request.frame.ext (seen_of (frame_bits place bits)) →
+    (h : IsTransmitting c now place bits) → request ≡ h.request → TransmitsNext h.request (frame_bits place bits) driven →
     lost ≡ is_some (lost_by (Some h.request) (seen_of (frame_bits place bits)) driven seen) →
     TransmitsOn lost c now place (bits ++ record { driven = driven; seen = seen } ∷ []) turn) →
     IsTurn new c now place bits (record { driven = driven; seen = seen }) turn
-transmit_turn shift new c now place bits driven seen self_test early lost turn transmitter site stood h strict drives soon loses stands transmits_on =
+transmit_turn shift new c now place bits driven seen self_test lost request turn transmitter site stood h strict held drives loses stands transmits_on =
     let b : Bit = record { driven = driven; seen = seen } in
     let l = seen_of (frame_bits place bits) in
     let Driving : Role → Type 0 = λ r. FrameDrives r now (frame_bits place bits) driven in
     let sends = drives_sends c now place bits driven h (subst Driving transmitter (frame_drives now place bits driven site drives)) in
     let same : lost ≡ is_some (lost_by now.held l driven seen) =
     loses ∙ ap is_some (lost_at now place bits b site) ∙ ap (λ r. is_some (lost_as r now l b)) transmitter in
-    let told = transmits_on c now place bits stood (place_of place bits site) strict h sends soon (same ∙ ap (λ r. is_some (lost_by r l driven seen)) h.held) in
+    let told = transmits_on c now place bits stood (place_of place bits site) strict h (one_request (sym held ∙ h.held)) sends (same ∙ ap (λ r. is_some (lost_by r l driven seen)) h.held) in
     let Context : List Level → Type 0 = λ m. StandsFor new m in
     let more = subst Context (sym (frame_seen place bits b (place_of place bits site))) (stands l stood) in
     let Made : ContextValue → Type 0 = λ d. IsMade new c d place (bits ++ b ∷ []) turn in

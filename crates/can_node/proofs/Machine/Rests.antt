@@ -1,7 +1,7 @@
 -- A node in reset stays there: it receives nothing and can't go bus-off.
 use Rattle.std.proofs.Common.{◌≡◌, Bool, true, false, None, List, [], ◌∷◌, ◌++◌, map, refl, sym, ap, ◌∙◌, subst, append_assoc}
 use Rattle.std.specs.Prelude.{if◌then◌else◌}
-use Rattle.std.proofs.lemmas.List.{append-nil, append_cancel_left}
+use Rattle.std.proofs.lemmas.List.{append_cancel_left}
 use Rattle.can_bits.specs.declared.level.Level.{Level}
 use Rattle.can_bits.specs.declared.level.Level.TheVariants.{Recessive}
 use Rattle.can_bits.specs.declared.shift.Shift.{Shift}
@@ -22,7 +22,7 @@ use Rattle.can_node.specs.Cut.From.{here, on}
 use Rattle.can_node.specs.Events.{Step, received_in}
 use Rattle.can_node.specs.Events.Step.{Within, Finishes}
 use Rattle.can_node.specs.Driving.{Drives}
-use Rattle.can_node.specs.NextBit.{now_in, open_bits, DrivesIn}
+use Rattle.can_node.specs.NextBit.{now_in, DrivesIn}
 use Rattle.can_node.specs.Machine.Stages.{At, IsInFrame}
 use Rattle.can_node.specs.Stands.{StandsAt, Leads, InReset, Rests, closed_by}
 use Rattle.can_node.proofs.Machine.Ats.{at_is}
@@ -105,7 +105,6 @@ more_bits (y ∷ l) seen = ap (λ r. OneBit (recessive_bit y) ∷ r) (more_bits 
 
 module _ (old new : Node) (entries : List Entry) (found : List FinishedPiece) (h : StandsAt old entries found) (seen : Level) (e : BitEvents) (reset : InReset old)
     (x : Level) (drives : DrivesIn h.cut x) (leads : Leads old new entries found h (record { driven = x; seen = seen }) e) where
-
   at : h.cut.place ≡ AtReset
   at = rest_place old.stage old.shift h.cut.context (now_in h.cut) h.cut.place (bits_in h.cut.rest) reset h.at
 

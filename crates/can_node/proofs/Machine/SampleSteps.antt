@@ -6,7 +6,6 @@ use Rattle.can_bits.specs.declared.segment.Segment.{Segment}
 use Rattle.can_bits.specs.declared.shift.Shift.{Shift}
 use Rattle.can_node.specs.declared.cause.Cause.{Cause}
 use Rattle.can_node.specs.declared.outcome.Outcome.{Outcome}
-use Rattle.can_node.specs.declared.request.Request.{Request}
 use Rattle.can_node.specs.declared.stage.Stage.{Stage}
 use Rattle.can_node.specs.declared.stage.Stage.TheVariants.{InReset as StageInReset}
 use Rattle.can_node.specs.declared.context.Context.{Context}
@@ -62,8 +61,8 @@ pub sampled : (old turned counted gone new : Node) (entries : List Entry) (found
     IsTurn turned.shift c (context_of old.context) place bits (record { driven = driven; seen = seen }) turn) →
     turned ≡ record old { shift = turned.shift } → counted ≡ record turned { context = counted.context } →
     Counts turned.context turned.stage (context_of counted.context) driven seen losing →
-    received ≡ received_in (step_of counted.context.held turn) → sent ≡ sends_in (step_of counted.context.held turn) →
-    ((held : Option Request) → fault ≡ fault_in (step_of held turn)) →
+    received ≡ received_in (step_of turn) → sent ≡ sends_in (step_of turn) →
+    fault ≡ fault_in (step_of turn) →
     (counted.context.counters.tec < 900 → context_of gone.context ≡ resulted turn (context_of counted.context)) →
     ((c now : ContextValue) (place : Place) (bits : List Bit) (b : Bit) → counted.context.counters.tec < 900 → context_of counted.context ≡ at_bit now place bits b →
     IsTurn counted.shift c now place bits b turn → AtAfter turn gone.stage gone.shift c (context_of gone.context) place (bits ++ b ∷ [])) →
@@ -99,16 +98,15 @@ sampled old turned counted gone new entries found h x driven seen turn received 
     let reader : turned.shift ≡ counted.shift = sym (ap (λ (m : Node). m.shift) count_kept) in
     let site = places c K place bits b less bit (subst Shifted reader made) in
     let Placed : ContextValue → Type 0 = λ k. AtAfter turn gone.stage gone.shift c k place (bits ++ b ∷ []) in
-    let step = step_of d.held turn in
-    let same : counted.context.held ≡ d.held = ap (λ (k : ContextValue). k.held) here in
+    let step = step_of turn in
     let went : nat_le 256 gone.context.counters.tec ≡ nat_le 256 n.tec = ap (λ (k : ContextValue). nat_le 256 k.tec) after in
     let was : is_held now.held ≡ is_some old.context.held = sym (held_is now.held) ∙ sym (ap (λ (k : ContextValue). is_some k.held) h.shows) in
     let told = told_all now n place bits b step received ended lost fault (not transmits) (nat_le 256 gone.context.counters.tec) recovered
     (stepped_is turn now place bits b)
-    (receives ∙ ap (λ r. received_in (step_of r turn)) same)
-    (ends step now (sends ∙ ap (λ r. sends_in (step_of r turn)) same) (holds ∙ sym was) ∙ ap (λ k. ended_in step now k) after)
+    receives
+    (ends step now sends (holds ∙ sym was) ∙ ap (λ k. ended_in step now k) after)
     (lose ∙ ap (λ k. lost_in k place bits b) h.shows)
-    (faults d.held)
+    faults
     (ap not (role ∙ ap (λ (k : ContextValue). is_transmitter k.role) after))
     went
     (recovers ∙ ap₂ (λ (k m : ContextValue). k.off && not m.off) h.shows after) in

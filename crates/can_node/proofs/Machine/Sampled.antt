@@ -41,7 +41,7 @@ stands_by : (old new : Node) (entries : List Entry) (found : List FinishedPiece)
     Drives now h.cut.place (bits_in h.cut.rest) b.driven → IsMade reader h.cut.context d h.cut.place (bits_in h.cut.rest ++ b ∷ []) turn →
     AtAfter turn stage shift h.cut.context n h.cut.place (bits_in h.cut.rest ++ b ∷ []) → context_of new.context ≡ off_if n →
     (n.tec < 256 → (new.stage ≡ stage) × (new.shift ≡ shift)) → (256 ≤ n.tec → new.stage ≡ StageInReset) →
-    StandsAt new (entries ++ entries_if (nat_le 256 n.tec) b) (found ++ closed_by (counted none_yet (entries ++ OneBit b ∷ [])) (step_of d.held turn))
+    StandsAt new (entries ++ entries_if (nat_le 256 n.tec) b) (found ++ closed_by (counted none_yet (entries ++ OneBit b ∷ [])) (step_of turn))
 stands_by old new entries found h b (InPiece going) stage reader shift drives made at shows on off =
     let d = at_bit (along h.cut.context h.cut.place [] h.cut.rest) h.cut.place (bits_in h.cut.rest) b in
     let P : Bool → Type 0 = λ w. StandsAt new (entries ++ entries_if w b) found in
@@ -55,22 +55,22 @@ stands_by old new entries found h b (InPiece going) stage reader shift drives ma
     ])
 stands_by old new entries found h b (Ended done) stage reader shift drives made at shows on off =
     let d = at_bit (along h.cut.context h.cut.place [] h.cut.rest) h.cut.place (bits_in h.cut.rest) b in
-    let n = closed (piece_of d.held done) (next_of done) d in
+    let n = closed (piece_of done) (next_of done) d in
     let P : Bool → Type 0 = λ w. StandsAt new (entries ++ entries_if w b)
-    (found ++ tagged (counted none_yet (entries ++ OneBit b ∷ [])) (piece_of d.held done ∷ [])) in
+    (found ++ tagged (counted none_yet (entries ++ OneBit b ∷ [])) (piece_of done ∷ [])) in
     elim (cases_lt n.tec 256) [
       | inl few ↦
           let same = on few in
           subst P (sym (lt-leb 256 n.tec few))
-          (closes_stands old new entries found h b stage shift (piece_of d.held done) (next_of done) made at few (shows ∙ off_is n few) same.0 same.1)
+          (closes_stands old new entries found h b stage shift (piece_of done) (next_of done) made at few (shows ∙ off_is n few) same.0 same.1)
       | inr far ↦
           subst P (sym (le-leb 256 n.tec far))
-          (off_closes old new entries found h b (piece_of d.held done) (next_of done) made far (shows ∙ off_now n far) (off far))
+          (off_closes old new entries found h b (piece_of done) (next_of done) made far (shows ∙ off_now n far) (off far))
     ]
 
 -- the role that a bit tells is that of the context after it
 turn_role : (turn : AfterBit) (now : ContextValue) (place : Place) (bits : List Bit) (b : Bit) → let d = at_bit now place bits b in
-    (events_of (step_of d.held turn) now place bits b).receiving ≡ not (is_transmitter (resulted turn d).role)
+    (events_of (step_of turn) now place bits b).receiving ≡ not (is_transmitter (resulted turn d).role)
 turn_role (InPiece stage) now place bits b = refl
 turn_role (Ended done) now place bits b = refl
 
@@ -90,16 +90,16 @@ pub leads_by : (old new : Node) (entries : List Entry) (found : List FinishedPie
     Drives now h.cut.place (bits_in h.cut.rest) b.driven → IsMade reader h.cut.context d h.cut.place (bits_in h.cut.rest ++ b ∷ []) turn →
     AtAfter turn stage shift h.cut.context n h.cut.place (bits_in h.cut.rest ++ b ∷ []) → context_of new.context ≡ off_if n →
     (n.tec < 256 → (new.stage ≡ stage) × (new.shift ≡ shift)) → (256 ≤ n.tec → new.stage ≡ StageInReset) →
-    e ≡ events_of (step_of d.held turn) now h.cut.place (bits_in h.cut.rest) b → e.went_off ≡ nat_le 256 n.tec → Leads old new entries found h b e
+    e ≡ events_of (step_of turn) now h.cut.place (bits_in h.cut.rest) b → e.went_off ≡ nat_le 256 n.tec → Leads old new entries found h b e
 leads_by old new entries found h b turn stage reader shift e drives made at shows on off told went =
     let d = at_bit (along h.cut.context h.cut.place [] h.cut.rest) h.cut.place (bits_in h.cut.rest) b in
-    let P : Bool → Type 0 = λ w. StandsAt new (entries ++ entries_if w b) (found ++ closed_by (counted none_yet (entries ++ OneBit b ∷ [])) (step_of d.held turn)) in
+    let P : Bool → Type 0 = λ w. StandsAt new (entries ++ entries_if w b) (found ++ closed_by (counted none_yet (entries ++ OneBit b ∷ [])) (step_of turn)) in
     let there = subst P (sym went) (stands_by old new entries found h b turn stage reader shift drives made at shows on off) in
     record {
-      step = step_of d.held turn;
+      step = step_of turn;
       told = told;
       stands = there;
-      role = role_told e (events_of (step_of d.held turn) (along h.cut.context h.cut.place [] h.cut.rest) h.cut.place (bits_in h.cut.rest) b) (resulted turn d)
+      role = role_told e (events_of (step_of turn) (along h.cut.context h.cut.place [] h.cut.rest) h.cut.place (bits_in h.cut.rest) b) (resulted turn d)
           (along there.cut.context there.cut.place [] there.cut.rest) told (turn_role turn (along h.cut.context h.cut.place [] h.cut.rest) h.cut.place (bits_in h.cut.rest) b)
           (sym there.shows ∙ shows);
     }

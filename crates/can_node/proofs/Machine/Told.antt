@@ -20,7 +20,7 @@ use Rattle.can_node.specs.Bits.{Bit, dominant_bit, seen_of, driven_of}
 use Rattle.can_node.specs.Context.{ContextValue, is_transmitter, is_held}
 use Rattle.can_node.specs.Pieces.{Place, sent_at}
 use Rattle.can_node.specs.Pieces.Place.{AtReset, AtIntegration, AtIdle, AfterSof, AtLastEofBit, AtFlag, AtDelimiter, AtInterframeSpace}
-use Rattle.can_node.specs.Counting.{at_bit, next_run, ends_eleven, first_bit, frame_bit, lost_by, lose, drop_failed, if_acknowledged, if_late, delimiter_level, if_eighth, are_dominant, after_error_flag, more_by}
+use Rattle.can_node.specs.Counting.{at_bit, next_run, ends_eleven, first_bit, frame_bit, lost_by, lose, drop_failed, if_acknowledged, if_ack_step_owed, delimiter_level, if_eighth, are_dominant, after_error_flag, more_by}
 use Rattle.can_node.specs.Events.{Step, stepped, received_in, fault_in, ended_in, lost_in, events_of}
 use Rattle.can_node.specs.Driving.{Drives, FrameDrives, IdleDrives, TransmitsNext}
 use Rattle.can_node.specs.Machine.Turns.{step_of, resulted}
@@ -91,8 +91,8 @@ first_near : (sent : Option Request) (c : ContextValue) → (first_bit sent c).t
 first_near None c = at_all c c refl
 first_near (Some request) c = at_all c c refl
 
-late_near : (x : Level) (c : ContextValue) → (if_late x c).tec ≤ c.tec + 8
-late_near Dominant c = near_if c.late c (record c { tec = c.tec + 8; late = false }) c (omega arith) (at_all c c refl)
+late_near : (x : Level) (c : ContextValue) → (if_ack_step_owed x c).tec ≤ c.tec + 8
+late_near Dominant c = near_if c.ack_step_owed c (record c { tec = c.tec + 8; ack_step_owed = false }) c (omega arith) (at_all c c refl)
 late_near Recessive c = at_all c c refl
 
 role_near : (role : Role) (c : ContextValue) → (more_by role 8 8 c).tec ≤ c.tec + 8
@@ -134,7 +134,7 @@ bit_few c place done b few = let near = bit_near c place done b in omega (arith,
 
 -- the context after the bit
 pub stepped_is : (turn : AfterBit) (c : ContextValue) (place : Place) (bits : List Bit) (b : Bit) →
-    stepped (step_of (at_bit c place bits b).held turn) c place bits b ≡ resulted turn (at_bit c place bits b)
+    stepped (step_of turn) c place bits b ≡ resulted turn (at_bit c place bits b)
 stepped_is (InPiece stage) c place bits b = refl
 stepped_is (Ended done) c place bits b = refl
 

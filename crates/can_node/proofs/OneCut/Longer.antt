@@ -69,7 +69,7 @@ tags_within k c end place last entries rest found (on {next = next} {site = site
     let most = bits_within (counted k a) x in
     let few : (counted k a).bits ≤ n = omega (same, most, arith) in
     let rest_by : All (EndsBy n) later =
-        let P : ℕ → Type 0 = λ m. All (EndsBy m) later in subst P (sym same) (tags_within (counted k a) next end site last x rest later from) in
+    let P : ℕ → Type 0 = λ m. All (EndsBy m) later in subst P (sym same) (tags_within (counted k a) next end site last x rest later from) in
     All-append (EndsBy n) (tagged (counted k a) ps) later (tagged_by (counted k a) n ps few) rest_by
 
 -- of a record's cut: so a frame whose number is that of the last bit is newly received

@@ -1,8 +1,8 @@
 -- A cut of a longer record goes through the place where the cut of a front of it is open.
-use Rattle.std.proofs.Common.{◌≡◌, List, [], ◌∷◌, ◌++◌, refl, sym, ap, ◌∙◌, subst, append_assoc}
+use Rattle.std.proofs.Common.{◌≡◌, List, ◌++◌, refl, sym, ap, ◌∙◌, subst, append_assoc}
 use Rattle.std.proofs.lemmas.List.{append_cancel_left}
 use Rattle.can_node.specs.Context.{ContextValue}
-use Rattle.can_node.specs.Pieces.{Place, Piece}
+use Rattle.can_node.specs.Pieces.{Place}
 use Rattle.can_node.specs.Record.{Entry}
 use Rattle.can_node.specs.Cut.{From, FinishedPiece, Count, counted, tagged}
 use Rattle.can_node.specs.Cut.From.{here, on}

@@ -139,25 +139,25 @@ rec_stops = refl
 missing_acknowledgement : (failed InTransmission AckError passive_sender ≡ record passive_sender {
   flag =
       PassiveError;
-  late = true;
+  ack_step_owed = true;
 })
     × (failed InTransmission AckError sender ≡ record sender { flag = ActiveError; tec = 8 })
 missing_acknowledgement = (refl, refl)
 
 -- the owed step is made once, at the first dominant level in the flag
 owed_once : ((along (record passive_sender {
-  late =
+  ack_step_owed =
       true;
 }) AtFlag [] (map OneBit (recessive_bits (Recessive ∷ Recessive ∷ [])))).tec ≡ 128)
     × ((along (record passive_sender {
-      late =
+      ack_step_owed =
           true;
     }) AtFlag [] (map OneBit (recessive_bits (Recessive ∷ Dominant ∷ [])))).tec ≡ 136)
-    × ((along (record passive_sender { late = true }) AtFlag [] (map OneBit (recessive_bits (replicate 5 Dominant)))).tec ≡ 136)
+    × ((along (record passive_sender { ack_step_owed = true }) AtFlag [] (map OneBit (recessive_bits (replicate 5 Dominant)))).tec ≡ 136)
 owed_once = (refl, refl, refl)
 
 -- where the flag ends with no dominant level it is owed no more
-owed_no_more : closed Flag AtDelimiter (record passive_sender { late = true }) ≡ passive_sender
+owed_no_more : closed Flag AtDelimiter (record passive_sender { ack_step_owed = true }) ≡ passive_sender
 owed_no_more = refl
 
 -- a recessive stuff bit overdriven before the remote bit changes no counter

@@ -41,7 +41,7 @@ kept_in_flags : ((failed InFlag BitError (record sender { held = Some once })).h
 kept_in_flags = (refl, refl)
 
 -- a stop drops the request, and keeps counters and role
-stopping : with_stop (record passive_sender { late = true; aborted = true }) ≡ record passive_sender { held = None }
+stopping : with_stop (record passive_sender { ack_step_owed = true; aborted = true }) ≡ record passive_sender { held = None }
 stopping = refl
 
 -- ---- what a bit brings

@@ -23,8 +23,9 @@ use Rattle.can_node.specs.Pieces.Place.{AtFlag, AtInterframeSpace}
 use Rattle.can_node.specs.Pieces.Piece.{Transmission, Fault}
 use Rattle.can_node.specs.Machine.Stages.{IsTransmitting, IsFramePlace, frame_bits}
 use Rattle.can_node.specs.Table.{Row}
-use Rattle.can_node.specs.Machine.TransmitterCauses.{cause_with}
-use Rattle.can_node.specs.Machine.Turns.{sending_of, GoesOnAs}
+use Rattle.can_node.specs.declared.own_bit.OwnBit.{OwnBit}
+use Rattle.can_node.specs.Machine.TransmitterCauses.{cause_of_bit, kind_of}
+use Rattle.can_node.specs.Machine.Turns.{GoesOnAs}
 use Rattle.can_node.proofs.Transmission.AfterLoss.{receives_on, lost_not_over}
 use Rattle.can_node.proofs.Bits.FramePlaces.{row_own, frame_more, frame_seen}
 use Rattle.can_node.proofs.Transmission.SentLines.{sent_part_once}
@@ -41,7 +42,27 @@ pub record IsTold (c now : ContextValue) (place : Place) (bits : List Bit) (driv
   pub early_is : early ≡ is_early_stuff telling.request.frame.ext (seen_of (frame_bits place bits))
   pub lost_is : lost ≡ is_some (lost_by (Some telling.request) (seen_of (frame_bits place bits)) driven seen)
   pub slot_is : IsTrue slot ↔ IsAckDue (seen_of (frame_bits place bits))
-  pub cause_is : cause_with driven seen slot early lost self_test ≡ cause
+  pub cause_is : cause_of_bit driven seen (kind_of slot early lost) self_test ≡ cause
+
+-- the same from what the code finds
+pub told_by : {c now : ContextValue} {place : Place} {bits : List Bit} {driven seen : Level} {self_test lost ext : Bool} {kind : OwnBit} {cause : Option Cause}
+    (request : Request) → IsFramePlace place → self_test ≡ c.self_test → (h : IsTransmitting c now place bits) → request ≡ h.request →
+    TransmitsNext h.request (frame_bits place bits) driven → lost ≡ is_some (lost_by (Some h.request) (seen_of (frame_bits place bits)) driven seen) →
+    ext ≡ request.frame.ext →
+    (slot : Bool) × (IsTrue slot ↔ IsAckDue (seen_of (frame_bits place bits))) × (kind ≡ kind_of slot (is_early_stuff ext (seen_of (frame_bits place bits))) lost) →
+    cause ≡ cause_of_bit driven seen kind self_test →
+    (slot : Bool) × (told : IsTold c now place bits driven seen self_test slot (is_early_stuff ext (seen_of (frame_bits place bits))) lost cause)
+    × (told.telling.request ≡ h.request)
+told_by {place = place} {bits = bits} {driven = driven} {seen = seen} {self_test = self_test} request site same h one sends lost format own wrong = (own.0, record {
+  site = site;
+  same = same;
+  telling = h;
+  sends = sends;
+  early_is = ap (λ e. is_early_stuff e (seen_of (frame_bits place bits))) (format ∙ ap (λ (r : Request). r.frame.ext) one);
+  lost_is = lost;
+  slot_is = own.1;
+  cause_is = sym (wrong ∙ ap (λ k. cause_of_bit driven seen k self_test) own.2);
+}, refl)
 
 -- the driven level is the next one of its line
 pub line_next : {c now : ContextValue} {place : Place} {bits : List Bit} {x : Level} (h : IsTransmitting c now place bits) (s : TransmitsNext h.request (frame_bits place bits) x) →
@@ -68,7 +89,7 @@ transmits_fault {c = c} {place = place} {bits = bits} {driven = driven} {seen = 
     let h = t.telling in
     let b : Bit = record { driven = driven; seen = seen } in
     let before : List Bit = frame_bits place bits in
-    let wrong = ap (λ s. cause_with driven seen slot early lost s) (sym t.same) ∙ t.cause_is in
+    let wrong = ap (λ s. cause_of_bit driven seen (kind_of slot early lost) s) (sym t.same) ∙ t.cause_is in
     let fails = cause_fails h.request h.part before driven seen c.self_test slot early lost cause (slot_here h t.slot_is) (here_slot h t.slot_is) t.early_is t.lost_is wrong in
     let next = site (well_readable c.self_test h.request.frame h.check h.part before h.is_part h.well) in
     let all : h.part ++ tail Recessive ≡ driven_of (before ++ b ∷ []) ++ t.sends.rest = line_next h t.sends ∙ sym (driven_push before b t.sends.rest) in
@@ -96,7 +117,7 @@ told_well {c = c} {place = place} {bits = bits} {driven = driven} {seen = seen} 
     let h = t.telling in
     let b : Bit = record { driven = driven; seen = seen } in
     let before : List Bit = frame_bits place bits in
-    let right = ap (λ s. cause_with driven seen slot early false s) (sym t.same) ∙ t.cause_is in
+    let right = ap (λ s. cause_of_bit driven seen (kind_of slot early false) s) (sym t.same) ∙ t.cause_is in
     let fine = none_fine h.request before driven seen c.self_test slot early false t.lost_is right in
     let P : List Bit → Type 0 = λ l. IsOneMore c.self_test h.part l t.sends.rest in
     subst P (sym (frame_more place bits (b ∷ []) t.site))
@@ -127,8 +148,8 @@ transmits_more {c = c} {place = place} {bits = bits} {driven = driven} {seen = s
 
 -- with the last level of its line it is sent
 told_sent : {c now : ContextValue} {place : Place} {bits : List Bit} {driven seen : Level} {self_test slot early : Bool} →
-    IsTold c now place bits driven seen self_test slot early false None → IsOver (seen_of (frame_bits place bits) ++ seen ∷ []) →
-    Row c place (bits ++ record { driven = driven; seen = seen } ∷ []) (sending_of now.held) AtInterframeSpace
+    (t : IsTold c now place bits driven seen self_test slot early false None) → IsOver (seen_of (frame_bits place bits) ++ seen ∷ []) →
+    Row c place (bits ++ record { driven = driven; seen = seen } ∷ []) (Transmission t.telling.request) AtInterframeSpace
 told_sent {c = c} {place = place} {bits = bits} {driven = driven} {seen = seen} t over =
     let h = t.telling in
     let b : Bit = record { driven = driven; seen = seen } in
@@ -141,8 +162,7 @@ told_sent {c = c} {place = place} {bits = bits} {driven = driven} {seen = seen} 
     sending h.check h.part g.ack h.is_part g.fits
     (sym (g.driven ∙ ap (λ l. driven_of all ++ l) none ∙ append-nil (driven_of all)))
     (sym (g.seen ∙ ap (λ l. seen_of all ++ l) unseen ∙ append-nil (seen_of all))) in
-    let Q : Option Request → Type 0 = λ o. Row c place (bits ++ b ∷ []) (sending_of o) AtInterframeSpace in
-    subst Q (sym h.held) (row_own c place h.request (bits ++ b ∷ []) (Transmission h.request) AtInterframeSpace t.site h.sent sends)
+    row_own c place h.request (bits ++ b ∷ []) (Transmission h.request) AtInterframeSpace t.site h.sent sends
 
 -- ---- arbitration lost or not
 
@@ -163,10 +183,13 @@ told_lost {place = place} {bits = bits} {driven = driven} {seen = seen} {self_te
 
 -- a whole line has come
 pub transmits_sent : {c now : ContextValue} {place : Place} {bits : List Bit} {driven seen : Level} {self_test slot early : Bool} (lost whole : Bool) →
-    IsTold c now place bits driven seen self_test slot early lost None → IsTrue whole ↔ IsOver (seen_of (frame_bits place bits) ++ seen ∷ []) → whole ≡ true →
-    (lost ≡ false) × Row c place (bits ++ record { driven = driven; seen = seen } ∷ []) (sending_of now.held) AtInterframeSpace
-transmits_sent false whole t over here = (refl, told_sent t (over.0 here))
-transmits_sent {c = c} {now = now} {place = place} {bits = bits} {seen = seen} true whole t over here =
+    (t : IsTold c now place bits driven seen self_test slot early lost None) → (request : Request) → request ≡ t.telling.request →
+    IsTrue whole ↔ IsOver (seen_of (frame_bits place bits) ++ seen ∷ []) → whole ≡ true →
+    (lost ≡ false) × Row c place (bits ++ record { driven = driven; seen = seen } ∷ []) (Transmission request) AtInterframeSpace
+transmits_sent {c = c} {place = place} {bits = bits} {driven = driven} {seen = seen} false whole t request same over here =
+    let P : Request → Type 0 = λ r. Row c place (bits ++ record { driven = driven; seen = seen } ∷ []) (Transmission r) AtInterframeSpace in
+    (refl, subst P (sym same) (told_sent t (over.0 here)))
+transmits_sent {c = c} {now = now} {place = place} {bits = bits} {seen = seen} true whole t request same over here =
     let h = told_lost t in absurd (lost_not_over c now place bits h.code seen t.telling h.sees h.some (over.0 here))
 
 -- more of it is to come

@@ -10,7 +10,7 @@ use Rattle.can_node.specs.Bits.{Bit, dominant_bit, recessive_bit, seen_of}
 use Rattle.can_node.specs.Counting.{lost_by}
 use Rattle.can_node.specs.Frames.{AckFits, Fails}
 use Rattle.can_node.specs.Frames.Fails.{no_ack, stuff_bit, unseen, overdriven}
-use Rattle.can_node.specs.Machine.TransmitterCauses.{cause_with}
+use Rattle.can_node.specs.Machine.TransmitterCauses.{cause_of_bit, kind_of}
 
 -- an option that isn't some is none
 none_of : (o : Option ℕ) → false ≡ is_some o → o ≡ None
@@ -26,7 +26,7 @@ some_of (Some n) h = (n, refl)
 pub cause_fails : (request : Request) (part : List Level) (before : List Bit) (driven seen : Level) (self_test slot early lost : Bool) (cause : Cause) →
     (slot ≡ true → length before ≡ length part + 1) → (length before ≡ length part + 1 → slot ≡ true) →
     early ≡ is_early_stuff request.frame.ext (seen_of before) → lost ≡ is_some (lost_by (Some request) (seen_of before) driven seen) →
-    cause_with driven seen slot early lost self_test ≡ Some cause →
+    cause_of_bit driven seen (kind_of slot early lost) self_test ≡ Some cause →
     (lost ≡ false) × Fails self_test request.frame.ext part before (record { driven = driven; seen = seen }) cause
 cause_fails request part before Dominant Dominant self_test slot early lost cause due only at losing e = absurd (let wrong : None ≡ Some cause = e in cc)
 cause_fails request part before Dominant Recessive self_test slot early lost cause due only at losing e =
@@ -38,7 +38,9 @@ cause_fails request part before Recessive Recessive false true early lost cause 
     let P : Cause → Type 0 = λ k. Fails false request.frame.ext part before (recessive_bit Recessive) k in
     let same : AckError ≡ cause = cc in
     (losing, subst P same (no_ack refl (due refl)))
-cause_fails request part before Recessive Recessive self_test false early lost cause due only at losing e = absurd (let wrong : None ≡ Some cause = e in cc)
+cause_fails request part before Recessive Recessive self_test false early true cause due only at losing e = absurd (let wrong : None ≡ Some cause = e in cc)
+cause_fails request part before Recessive Recessive self_test false true false cause due only at losing e = absurd (let wrong : None ≡ Some cause = e in cc)
+cause_fails request part before Recessive Recessive self_test false false false cause due only at losing e = absurd (let wrong : None ≡ Some cause = e in cc)
 cause_fails request part before Recessive Dominant self_test true early lost cause due only at losing e = absurd (let wrong : None ≡ Some cause = e in cc)
 cause_fails request part before Recessive Dominant self_test false early true cause due only at losing e = absurd (let wrong : None ≡ Some cause = e in cc)
 cause_fails request part before Recessive Dominant self_test false true false cause due only at losing e =
@@ -63,7 +65,7 @@ dominant_fits true = tt
 dominant_fits false = refl
 
 pub none_fine : (request : Request) (before : List Bit) (driven seen : Level) (self_test slot early lost : Bool) →
-    lost ≡ is_some (lost_by (Some request) (seen_of before) driven seen) → cause_with driven seen slot early lost self_test ≡ None →
+    lost ≡ is_some (lost_by (Some request) (seen_of before) driven seen) → cause_of_bit driven seen (kind_of slot early lost) self_test ≡ None →
     IsFine request.frame.ext before driven seen self_test slot lost
 none_fine request before Dominant Dominant self_test true early false losing e = fits_slot refl (dominant_fits self_test)
 none_fine request before Dominant Dominant self_test false early false losing e = is_seen refl refl

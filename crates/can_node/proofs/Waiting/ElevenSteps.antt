@@ -1,6 +1,6 @@
 -- While bus-off stands the waiting takes one from the transmit error counter for each eleven recessive levels.
-use Rattle.std.proofs.Common.{◌≡◌, ◌≢◌, ◌+◌, ◌-◌, ◌<◌, ◌≤◌, ◌&&◌, ◌==◌, not, inl, inr, ℕ, zero, suc, Bool, true, false, if◌then◌else◌, fold, List, [], ◌∷◌, ◌++◌, map, replicate, length, refl, ap, sym, subst, ◌∙◌, arith, append_assoc}
-use Rattle.std.proofs.lemmas.Bool.{cases_lt, lt-ltb, le-leb}
+use Rattle.std.proofs.Common.{◌≡◌, ◌+◌, ◌-◌, ◌<◌, ◌&&◌, ◌==◌, not, inl, inr, ℕ, zero, suc, Bool, true, false, if◌then◌else◌, fold, List, [], ◌∷◌, ◌++◌, map, replicate, length, refl, ap, sym, subst, ◌∙◌, arith, append_assoc}
+use Rattle.std.proofs.lemmas.Bool.{cases_lt}
 use Rattle.std.proofs.lemmas.Bool.Decides.{nat_tests}
 use Rattle.std.proofs.lemmas.List.{append-nil, length-append, length-replicate}
 use Rattle.std.proofs.lemmas.List.Sums.{fold_push}
@@ -9,7 +9,6 @@ use Rattle.can_bits.specs.declared.level.Level.TheVariants.{Dominant, Recessive}
 use Rattle.can_bits.proofs.Lists.{fronts, append-cancel}
 use Rattle.can_node.specs.Bits.{Bit, recessive_bit, recessive_bits, seen_of, IsFirst}
 use Rattle.can_node.specs.Context.{ContextValue}
-use Rattle.can_node.specs.Record.{Entry}
 use Rattle.can_node.specs.Record.Entry.{OneBit}
 use Rattle.can_node.specs.Pieces.Place.{AtIntegration}
 use Rattle.can_node.specs.Table.{EndsInEleven, Elevens}
@@ -108,9 +107,10 @@ one_in r (Dominant ∷ m) b few h =
       holds = after_dominant r m h.holds;
       first = λ front rest e has.
           h.first (replicate r Recessive ++ Dominant ∷ front) rest
-          (ap (λ t. replicate r Recessive ++ Dominant ∷ t) e ∙ sym (append_assoc (replicate r Recessive) (Dominant ∷ front) rest))
-          (replicate r Recessive ++ Dominant ∷ has.0,
-            ap (λ t. replicate r Recessive ++ Dominant ∷ t) has.1 ∙ sym (append_assoc (replicate r Recessive) (Dominant ∷ has.0) (replicate 11 Recessive)));
+          (ap (λ t. replicate r Recessive ++ Dominant ∷ t) e ∙ sym (append_assoc (replicate r Recessive) (Dominant ∷ front) rest)) (
+            replicate r Recessive ++ Dominant ∷ has.0,
+            ap (λ t. replicate r Recessive ++ Dominant ∷ t) has.1 ∙ sym (append_assoc (replicate r Recessive) (Dominant ∷ has.0) (replicate 11 Recessive)),
+          );
     })
 one_in r (Recessive ∷ m) b few h =
     let P : List Level → Type 0 = λ t. IsFirst EndsInEleven t in

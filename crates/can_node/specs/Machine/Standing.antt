@@ -17,7 +17,7 @@ context_of s = record {
   rec = s.counters.rec;
   off = s.counters.off;
   flag = s.flag;
-  late = s.late;
+  ack_step_owed = s.ack_step_owed;
 }
 
 -- what doesn't change within a piece

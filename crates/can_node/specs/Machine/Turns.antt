@@ -1,9 +1,12 @@
 -- What a bit makes of the piece under way.
-use Rattle.std.specs.Prelude.{◌≡◌, Bool, nat_le, true, false, if◌then◌else◌, Option, Some, None, List, [], ◌∷◌, ◌++◌}
+use Rattle.std.specs.Prelude.{◌≡◌, Bool, nat_le, true, false, if◌then◌else◌, List, [], ◌∷◌, ◌++◌}
 use Rattle.can_bits.specs.declared.shift.Shift.{Shift}
-use Rattle.can_node.specs.declared.request.Request.{Request}
 use Rattle.can_node.specs.declared.ending.Ending.{Ending}
-use Rattle.can_node.specs.declared.ending.Ending.TheVariants.{Integration as DoneIntegration, IdleBit as DoneIdleBit, Received, Sent, Fault as DoneFault, LastEofBit as DoneLastEofBit, Flag as DoneFlag, Delimiter as DoneDelimiter, InterframeSpace as DoneInterframeSpace, Sof, Broken}
+use Rattle.can_node.specs.declared.ending.Ending.TheVariants.{Integration as EndingIntegration, IdleBit as EndingIdleBit, Received, Sent, Fault as EndingFault, LastEofBit as EndingLastEofBit, Flag as EndingFlag, Delimiter as EndingDelimiter, InterframeSpace as EndingInterframeSpace, Sof, Overload}
+use Rattle.can_node.specs.declared.overload_condition.OverloadCondition.{OverloadCondition}
+use Rattle.can_node.specs.declared.overload_condition.OverloadCondition.TheVariants.{Intermission, LastDelimiterBit, LastEofBit as LastEof}
+use Rattle.can_bits.specs.declared.level.Level.{Level}
+use Rattle.can_bits.specs.declared.level.Level.TheVariants.{Dominant, Recessive}
 use Rattle.can_node.specs.declared.after_bit.AfterBit.{AfterBit}
 use Rattle.can_node.specs.declared.after_bit.AfterBit.TheVariants.{InPiece, Ended}
 use Rattle.can_node.specs.declared.stage.Stage.TheVariants.{InFrame as StageInFrame}
@@ -20,48 +23,54 @@ use Rattle.can_node.specs.Events.{Step}
 use Rattle.can_node.specs.Events.Step.{Within, Finishes}
 use Rattle.can_node.specs.Machine.Stages.{At, IsReceiving, IsTransmitting}
 
--- the own frame that was sent
-abbrev pub sending_of : Option Request → Piece
-sending_of (Some request) = Transmission request
-sending_of None = IdleBit
+-- the piece that ended with an overload condition
+abbrev pub overloaded : OverloadCondition → Piece
+overloaded Intermission = InterframeSpaceBroken
+overloaded LastDelimiterBit = Delimiter
+overloaded LastEof = LastEofBit
 
--- the piece that ended, of a node that held this request
-abbrev pub piece_of : Option Request → Ending → Piece
-piece_of held DoneIntegration = Integration
-piece_of held DoneIdleBit = IdleBit
-piece_of held (Received frame) = Reception frame
-piece_of held Sent = sending_of held
-piece_of held (DoneFault site cause segment) = Fault site cause segment
-piece_of held (DoneLastEofBit overload) = LastEofBit
-piece_of held DoneFlag = Flag
-piece_of held (DoneDelimiter overload) = Delimiter
-piece_of held DoneInterframeSpace = InterframeSpace
-piece_of held Sof = InterframeSpaceWithSof
-piece_of held Broken = InterframeSpaceBroken
+-- the piece that ended
+abbrev pub piece_of : Ending → Piece
+piece_of EndingIntegration = Integration
+piece_of EndingIdleBit = IdleBit
+piece_of (Received frame) = Reception frame
+piece_of (Sent request) = Transmission request
+piece_of (EndingFault site cause segment) = Fault site cause segment
+piece_of EndingLastEofBit = LastEofBit
+piece_of EndingFlag = Flag
+piece_of EndingDelimiter = Delimiter
+piece_of EndingInterframeSpace = InterframeSpace
+piece_of Sof = InterframeSpaceWithSof
+piece_of (Overload condition) = overloaded condition
 
 -- the place to which it leads
 abbrev pub next_of : Ending → Place
-next_of DoneIntegration = AtIdle
-next_of DoneIdleBit = AtIdle
+next_of EndingIntegration = AtIdle
+next_of EndingIdleBit = AtIdle
 next_of (Received frame) = AtLastEofBit
-next_of Sent = AtInterframeSpace
-next_of (DoneFault site cause segment) = AtFlag
-next_of (DoneLastEofBit overload) = if overload then AtFlag else AtInterframeSpace
-next_of DoneFlag = AtDelimiter
-next_of (DoneDelimiter overload) = if overload then AtFlag else AtInterframeSpace
-next_of DoneInterframeSpace = AtIdle
+next_of (Sent request) = AtInterframeSpace
+next_of (EndingFault site cause segment) = AtFlag
+next_of EndingLastEofBit = AtInterframeSpace
+next_of EndingFlag = AtDelimiter
+next_of EndingDelimiter = AtInterframeSpace
+next_of EndingInterframeSpace = AtIdle
 next_of Sof = AfterSof
-next_of Broken = AtFlag
+next_of (Overload condition) = AtFlag
+
+-- what the seventh bit of EOF of a received frame makes of it
+abbrev pub after_last_eof : Level → AfterBit
+after_last_eof Dominant = Ended (Overload LastEof)
+after_last_eof Recessive = Ended EndingLastEofBit
 
 -- the step of the cut
-abbrev pub step_of : Option Request → AfterBit → Step
-step_of held (InPiece stage) = Within
-step_of held (Ended done) = Finishes (piece_of held done) (next_of done)
+abbrev pub step_of : AfterBit → Step
+step_of (InPiece stage) = Within
+step_of (Ended ending) = Finishes (piece_of ending) (next_of ending)
 
 -- what a bit made of the piece under way, of which these bits have come: the node stands in it, or they are the piece
 abbrev pub IsMade : Shift → ContextValue → ContextValue → Place → List Bit → AfterBit → Type 0
 IsMade shift c now place bits (InPiece stage) = At stage shift c now place bits
-IsMade shift c now place bits (Ended done) = Row c place bits (piece_of now.held done) (next_of done)
+IsMade shift c now place bits (Ended ending) = Row c place bits (piece_of ending) (next_of ending)
 
 -- what this bit makes of it
 abbrev pub IsTurn : Shift → ContextValue → ContextValue → Place → List Bit → Bit → AfterBit → Type 0
@@ -70,12 +79,12 @@ IsTurn shift c now place bits b turn = IsMade shift c (at_bit now place bits b) 
 -- the context after it, from the one after the steps of the bit
 abbrev pub resulted : AfterBit → ContextValue → ContextValue
 resulted (InPiece stage) c = c
-resulted (Ended done) c = closed (piece_of c.held done) (next_of done) c
+resulted (Ended ending) c = closed (piece_of ending) (next_of ending) c
 
 -- where the node stands after it: in the piece under way, with these bits of it, or at the beginning of the next place
 abbrev pub AtAfter : AfterBit → Stage → Shift → ContextValue → ContextValue → Place → List Bit → Type 0
 AtAfter (InPiece going) stage shift c now place bits = At stage shift c now place bits
-AtAfter (Ended done) stage shift c now place bits = At stage shift now now (next_of done) []
+AtAfter (Ended ending) stage shift c now place bits = At stage shift now now (next_of ending) []
 
 -- bus-off, where the transmit error counter has come to 256
 abbrev pub off_if : ContextValue → ContextValue
@@ -84,7 +93,7 @@ off_if c = if nat_le 256 c.tec then with_off c else c
 -- a bit of a frame for its receiver: it goes on as receiver, or these bits are the piece
 abbrev pub ReceivesOn : ContextValue → Place → List Bit → AfterBit → Type 0
 ReceivesOn c place bits (InPiece stage) = (stage ≡ StageInFrame) × IsReceiving c place bits
-ReceivesOn c place bits (Ended done) = (held : Option Request) → Row c place bits (piece_of held done) (next_of done)
+ReceivesOn c place bits (Ended ending) = Row c place bits (piece_of ending) (next_of ending)
 
 -- a bit of a frame for its transmitter, which lost arbitration in it or not
 abbrev pub GoesOnAs : Bool → ContextValue → ContextValue → Place → List Bit → Type 0
@@ -93,4 +102,4 @@ GoesOnAs false c now place bits = IsTransmitting c now place bits
 
 abbrev pub TransmitsOn : Bool → ContextValue → ContextValue → Place → List Bit → AfterBit → Type 0
 TransmitsOn lost c now place bits (InPiece stage) = (stage ≡ StageInFrame) × GoesOnAs lost c now place bits
-TransmitsOn lost c now place bits (Ended done) = (lost ≡ false) × Row c place bits (piece_of now.held done) (next_of done)
+TransmitsOn lost c now place bits (Ended ending) = (lost ≡ false) × Row c place bits (piece_of ending) (next_of ending)

@@ -6,10 +6,10 @@ pub returns-in-Dominant : goal.returns-in-Dominant
 returns-in-Dominant c shift before now bits h =
     (refl, join_breaks c.args.left c.args.run c.args.seen before bits c.in-Dominant.is h)
 
-pub returns-then-run-lt10 : goal.returns-then-run-lt10
-returns-then-run-lt10 c shift before now bits h = (
+pub returns-then-run-lt-LAST_OF_ELEVEN : goal.returns-then-run-lt-LAST_OF_ELEVEN
+returns-then-run-lt-LAST_OF_ELEVEN c shift before now bits h = (
   refl,
-  join_goes c.args.left c.args.run _ c.args.seen before bits c.in-Recessive.is c.if-run-lt10.true (omega arith) h,
+  join_goes c.args.left c.args.run _ c.args.seen before bits c.in-Recessive.is c.if-run-lt-LAST_OF_ELEVEN.true (omega arith) h,
 )
 
 pub returns-then-left-gt1 : goal.returns-then-left-gt1

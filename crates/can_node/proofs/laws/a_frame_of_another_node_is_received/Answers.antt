@@ -1,4 +1,3 @@
-use Rattle.std.proofs.Common.{refl}
 use Rattle.can_node.proofs.Examples.ReceivedFrame.{cut_of_reception}
 use Rattle.can_node.proofs.laws.a_frame_of_another_node_is_received.Goals as goal
 

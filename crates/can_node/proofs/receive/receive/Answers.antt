@@ -13,22 +13,22 @@ use Rattle.can_node.proofs.receive.receive.Goals.{else-not-is_recessive-via-then
 use Rattle.can_node.proofs.receive.receive.Goals as goal
 
 pub returns-then-is_recessive-clause-turn : goal.returns-then-is_recessive-clause-turn
-returns-then-is_recessive-clause-turn c context place bits stands h answers held =
+returns-then-is_recessive-clause-turn c context place bits stands h answers =
     let x : Bit = record { driven = c.args.driven; seen = c.args.seen } in
     let lost = lost_there x (dominant_by c.args.driven (sym c.is_recessive.ensures ∙ c.if-not-is_recessive.true))
     (recessive_by c.args.seen (sym c.is_recessive-then-not-is_recessive.ensures ∙ c.if-is_recessive.true)) in
-    lost_row context place bits x c.next_segment-segment.result _ h answers (c.next_segment-segment.ensures _ stands (receiving_readable context place bits h)) lost
+    rw c.error.ensures (lost_row context place bits x c.next_segment-segment.result _ h answers (c.next_segment-segment.ensures _ stands (receiving_readable context place bits h)) lost)
 
 pub returns-in-Some-clause-turn : goal.returns-in-Some-clause-turn
-returns-in-Some-clause-turn c context place bits stands h answers held =
+returns-in-Some-clause-turn c context place bits stands h answers =
     let x : Bit = record { driven = c.args.driven; seen = c.args.seen } in
     let l : _ = seen_of (frame_bits place bits) in
     let J : Option ShiftFault → Type 0 = λ o. JudgesAt l c.args.seen o in
     let broke = subst J c.in-Some.is (c.advance-2.ensures.judged l stands (receiving_readable context place bits h)) in
-    rw c.cause_of-cause.ensures (wrong_row context place bits x c.in-Some.wrong h answers broke)
+    rw (c.error-in-Some.ensures, c.cause_of.ensures) (wrong_row context place bits x c.in-Some.wrong h answers broke)
 
 pub returns-in-Some-frame-clause-turn : goal.returns-in-Some-frame-clause-turn
-returns-in-Some-frame-clause-turn c context place bits stands h answers held =
+returns-in-Some-frame-clause-turn c context place bits stands h answers =
     let x : Bit = record { driven = c.args.driven; seen = c.args.seen } in
     let l : _ = seen_of (frame_bits place bits) in
     let seen : x ≢ dominant_bit Recessive = elim c.else-not-is_recessive.branch [

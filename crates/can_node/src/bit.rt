@@ -1,0 +1,150 @@
+//! One bit of a node: what it makes of the piece under way, by the node's stage.
+ghost use Rattle.std.specs.Prelude.{◌≡◌};
+ghost use Rattle.can_node.specs.Machine.Turns.{after_last_eof};
+
+use super::after_bit::AfterBit;
+use super::bus_integration::after_integration_bit;
+use super::delimiter::{after_delimiter_bit, is_eighth, is_first};
+use super::ending::Ending;
+use super::interframe_space::after_interframe_bit;
+use super::node::Node;
+use super::overload_condition::OverloadCondition;
+use super::receive::receive;
+use super::role::Role;
+use super::stage::Stage;
+use super::transmit::transmit;
+use can_bits::{Level, Shift};
+
+impl Node {
+    ghost use Rattle.std.specs.Prelude.{◌≡◌, ◌<◌, List, [], is_some, None};
+    ghost use Rattle.can_bits.specs.declared.shift.Shift.{Shift as Reader};
+    ghost use Rattle.can_node.specs.declared.role.Role.TheVariants.{Receiver};
+    ghost use Rattle.can_bits.specs.Shifts.{StandsFor};
+    ghost use Rattle.can_node.specs.Bits.{Bit, recessive_bit};
+    ghost use Rattle.can_node.specs.Context.{ContextValue};
+    ghost use Rattle.can_node.specs.Pieces.{Place, sent_at};
+    ghost use Rattle.can_node.specs.Pieces.Place.{AtIdle};
+    ghost use Rattle.can_node.specs.Counting.{at_bit};
+    ghost use Rattle.can_node.specs.Driving.{Drives};
+    ghost use Rattle.can_node.specs.Events.{lost_in};
+    ghost use Rattle.can_node.specs.Machine.Standing.{context_of, IsKept};
+    ghost use Rattle.can_node.specs.Machine.Stages.{At, IsReading};
+    ghost use Rattle.can_node.specs.Machine.Turns.{IsTurn};
+
+    /// A bit, with its own steps of counters, role and request; arbitration is lost in it or not.
+    pub(crate) fn after_bit(&mut self, driven: Level, seen: Level, lost: bool) -> AfterBit
+        ensures kept { self.new ≡ record self.old { shift = self.new.shift; context = self.new.context } }
+        ensures turn { (c : ContextValue) (place : Place) (bits : List Bit) → At self.old.stage self.old.shift c (context_of self.old.context) place bits
+            → IsKept place c (context_of self.old.context) → Drives (context_of self.old.context) place bits driven
+            → lost ≡ is_some (lost_in (context_of self.old.context) place bits (record { driven = driven; seen = seen }))
+            → IsTurn self.new.shift c (context_of self.old.context) place bits (record { driven = driven; seen = seen }) result }
+        ensures steps { (reader : Reader) (c : ContextValue) (place : Place) (bits : List Bit) → At self.old.stage reader c (context_of self.old.context) place bits
+            → self.old.context.counters.tec < 256
+            → lost ≡ is_some (lost_in (context_of self.old.context) place bits (record { driven = driven; seen = seen }))
+            → context_of self.new.context ≡ at_bit (context_of self.old.context) place bits (record { driven = driven; seen = seen }) }
+    {
+        match self.stage {
+            Stage::InReset => AfterBit::InPiece(Stage::InReset),
+            Stage::Integrating { left, run } => {
+                self.context.integration_bit(run, seen);
+                after_integration_bit(left, run, seen)
+            }
+            Stage::BusIdle => {
+                let after = self.after_idle_bit(driven, seen);
+                self.context.begin_own_frame();
+                after
+            }
+            Stage::InFrame => {
+                let after = self.after_frame_bit(driven, seen, lost);
+                self.context.frame_bit(lost, driven, seen);
+                after
+            }
+            Stage::LastEofBit => after_last_eof_bit(seen),
+            Stage::InFlag { bits, last } => {
+                let after = self.after_flag_bit(bits, last, seen);
+                self.context.flag_bit(seen);
+                after
+            }
+            Stage::InDelimiter {
+                dominant,
+                recessive,
+            } => {
+                let first = is_first(dominant, recessive);
+                self.context
+                    .delimiter_bit(first, is_eighth(dominant, recessive), seen);
+                after_delimiter_bit(dominant, recessive, seen)
+            }
+            Stage::InInterframeSpace { bits } => after_interframe_bit(
+                bits,
+                self.context.owes_suspension(),
+                seen,
+            ),
+        }
+    }
+
+    /// A bit where the bus is idle: it stays idle, or a frame begins with its SOF.
+    fn after_idle_bit(&mut self, driven: Level, seen: Level) -> AfterBit
+        ensures kept { self.new ≡ record self.old { shift = self.new.shift } }
+        ensures turn { let now = context_of self.old.context in now.role ≡ Receiver → Drives now AtIdle [] driven
+            → IsTurn self.new.shift now now AtIdle [] (record { driven = driven; seen = seen }) result }
+    {
+        self.shift = Shift::new();
+        self.context.frame_fits();
+        match &self.context.held {
+            Some(request) if !self.context.listen => {
+                transmit(&mut self.shift, request, self.context.self_test, false, driven, seen)
+            }
+            _ => self.after_other_idle_bit(seen),
+        }
+    }
+
+    /// The same where no frame of the node's own begins.
+    fn after_other_idle_bit(&mut self, seen: Level) -> AfterBit
+        ensures kept { self.new ≡ record self.old { shift = self.new.shift } }
+        ensures turn { let now = context_of self.old.context in sent_at now AtIdle ≡ None → now.role ≡ Receiver → StandsFor self.old.shift []
+            → IsTurn self.new.shift now now AtIdle [] (recessive_bit seen) result }
+    {
+        if seen.is_recessive() {
+            AfterBit::Ended(Ending::IdleBit)
+        } else {
+            self.shift.advance(seen);
+            AfterBit::InPiece(Stage::InFrame)
+        }
+    }
+
+    /// A bit of a frame, after its SOF.
+    fn after_frame_bit(&mut self, driven: Level, seen: Level, lost: bool) -> AfterBit
+        ensures kept { self.new ≡ record self.old { shift = self.new.shift } }
+        ensures turn { (c : ContextValue) (place : Place) (bits : List Bit) → IsReading self.old.shift c (context_of self.old.context) place bits
+            → IsKept place c (context_of self.old.context) → Drives (context_of self.old.context) place bits driven
+            → lost ≡ is_some (lost_in (context_of self.old.context) place bits (record { driven = driven; seen = seen }))
+            → IsTurn self.new.shift c (context_of self.old.context) place bits (record { driven = driven; seen = seen }) result }
+    {
+        match self.context.role {
+            Role::Receiver => receive(&mut self.shift, driven, seen),
+            Role::Transmitter => match &self.context.held {
+                Some(request) => {
+                    transmit(
+                        &mut self.shift,
+                        request,
+                        self.context.self_test,
+                        lost,
+                        driven,
+                        seen,
+                    )
+                }
+                None => AfterBit::InPiece(Stage::InFrame),
+            },
+        }
+    }
+}
+
+/// The seventh bit of EOF of a received frame: a dominant level is an overload condition.
+fn after_last_eof_bit(seen: Level) -> AfterBit
+    ensures { result ≡ after_last_eof seen }
+{
+    match seen {
+        Level::Dominant => AfterBit::Ended(Ending::Overload(OverloadCondition::LastEofBit)),
+        Level::Recessive => AfterBit::Ended(Ending::LastEofBit),
+    }
+}

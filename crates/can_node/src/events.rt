@@ -1,0 +1,81 @@
+//! What a bit tells.
+use super::after_bit::AfterBit;
+use super::cause::Cause;
+use super::counters::BUS_OFF;
+use super::ending::Ending;
+use super::node::Node;
+use super::outcome::Outcome;
+use can_bits::Segment;
+use can_frame::Frame;
+
+impl AfterBit {
+    ghost use Rattle.std.specs.Prelude.{◌≡◌};
+    ghost use Rattle.can_node.specs.Events.{fault_in, received_in, sends_in};
+    ghost use Rattle.can_node.specs.Machine.Turns.{step_of};
+
+    /// The frame that is valid from this bit on: another node's, or an own one that was to be received too.
+    pub fn received(&self) -> Option<Frame>
+        ensures { result ≡ received_in (step_of self.now) }
+    {
+        match self {
+            AfterBit::Ended(Ending::Received(frame)) => Some(frame.copy()),
+            AfterBit::Ended(Ending::Sent(request)) => {
+                if request.self_receive {
+                    Some(request.frame.copy())
+                } else {
+                    None
+                }
+            }
+            _ => None,
+        }
+    }
+
+    /// Whether the own frame was sent with this bit.
+    pub fn is_sent(&self) -> bool
+        ensures { result ≡ sends_in (step_of self.now) }
+    {
+        match self {
+            AfterBit::Ended(Ending::Sent(_)) => true,
+            _ => false,
+        }
+    }
+
+    /// The error that was found in this bit, with its segment.
+    pub fn fault(&self) -> Option<(Cause, Segment)>
+        ensures { result ≡ fault_in (step_of self.now) }
+    {
+        match self {
+            AfterBit::Ended(
+                Ending::Fault {
+                    site: _,
+                    cause,
+                    segment,
+                },
+            ) => Some((*cause, *segment)),
+            _ => None,
+        }
+    }
+}
+
+impl Node {
+    ghost use Rattle.std.specs.Prelude.{◌≡◌};
+    ghost use Rattle.can_node.specs.Context.{ContextValue, is_held};
+    ghost use Rattle.can_node.specs.Events.{Step, ended_in, sends_in};
+    ghost use Rattle.can_node.specs.Machine.Standing.{context_of};
+
+    /// How a request ended that was held before the bit or not.
+    pub(crate) fn ended(&self, held: bool, sent: bool) -> Option<Outcome>
+        ensures { (step : Step) (before : ContextValue) → sent ≡ sends_in step → held ≡ is_held before.held
+            → result ≡ ended_in step before (context_of self.now.context) }
+    {
+        if self.context.counters.tec >= BUS_OFF {
+            None
+        } else if sent {
+            Some(Outcome::Sent)
+        } else if held && self.context.held.is_none() {
+            Some(Outcome::Failed)
+        } else {
+            None
+        }
+    }
+}

@@ -1,0 +1,156 @@
+//! What follows a bit: the piece goes on, or ends and leads to the next place, or bus-off comes.
+use super::after_bit::AfterBit;
+use super::context::Context;
+use super::counters::BUS_OFF;
+use super::ending::Ending;
+use super::flag_kind::FlagKind;
+use super::node::Node;
+use super::role::Role;
+use super::stage::Stage;
+use can_bits::{Level, Shift};
+
+/// At the beginning of a flag.
+const FLAG: Stage = Stage::InFlag {
+    bits: 0,
+    last: Level::Recessive,
+};
+
+/// At the beginning of interframe space.
+const INTERFRAME_SPACE: Stage = Stage::InInterframeSpace { bits: 0 };
+
+impl Node {
+    ghost use Rattle.std.specs.Prelude.{◌≡◌, ◌<◌, ◌≤◌, ◌++◌, ◌∷◌, [], List};
+    ghost use Rattle.can_node.specs.declared.stage.Stage.TheVariants.{InReset as StageInReset};
+    ghost use Rattle.can_node.specs.Bits.{Bit};
+    ghost use Rattle.can_node.specs.Context.{ContextValue};
+    ghost use Rattle.can_node.specs.Pieces.{Place};
+    ghost use Rattle.can_node.specs.Pieces.Place.{AfterSof};
+    ghost use Rattle.can_node.specs.Pieces.Piece.{InterframeSpaceWithSof};
+    ghost use Rattle.can_node.specs.Counting.{at_bit};
+    ghost use Rattle.can_node.specs.Effects.{closed};
+    ghost use Rattle.can_node.specs.Machine.Standing.{context_of};
+    ghost use Rattle.can_node.specs.Machine.Stages.{At};
+    ghost use Rattle.can_node.specs.Machine.Turns.{next_of, piece_of, IsTurn, resulted, AtAfter, off_if};
+
+    /// Stands in the piece under way, or at the place after it.
+    pub(crate) fn go_to(&mut self, after: AfterBit)
+        ensures context { self.old.context.counters.tec < 900
+            → context_of self.new.context ≡ resulted after (context_of self.old.context) }
+        ensures at { (c now : ContextValue) (place : Place) (bits : List Bit) (b : Bit) → self.old.context.counters.tec < 900
+            → context_of self.old.context ≡ at_bit now place bits b → IsTurn self.old.shift c now place bits b after
+            → AtAfter after self.new.stage self.new.shift c (context_of self.new.context) place (bits ++ b ∷ []) }
+    {
+        match after {
+            AfterBit::InPiece(stage) => self.stage = stage,
+            AfterBit::Ended(ending) => {
+                self.context.end_piece(&ending);
+                self.begin_place(&ending);
+            }
+        }
+    }
+
+    /// Stands at the beginning of the place after a piece.
+    #[tactic(auto, using(crate::proofs::Waiting::Flags::flags_from, crate::proofs::Waiting::Delimiters::delimits_from, crate::proofs::Waiting::InterframeSpaces::interframes_from))]
+    fn begin_place(&mut self, ending: &Ending)
+        ensures kept { self.new.context ≡ self.old.context }
+        ensures at { (before : ContextValue) → context_of self.old.context ≡ closed (piece_of ending.now) (next_of ending.now) before
+            → At self.new.stage self.new.shift (context_of self.new.context) (context_of self.new.context) (next_of ending.now) [] }
+    {
+        match ending {
+            Ending::Integration => self.stage = Stage::BusIdle,
+            Ending::IdleBit => self.stage = Stage::BusIdle,
+            Ending::InterframeSpace => self.stage = Stage::BusIdle,
+            Ending::Received(_) => self.stage = Stage::LastEofBit,
+            Ending::Sent(_) => self.stage = INTERFRAME_SPACE,
+            Ending::LastEofBit => self.stage = INTERFRAME_SPACE,
+            Ending::Delimiter => self.stage = INTERFRAME_SPACE,
+            Ending::Fault {
+                site: _,
+                cause: _,
+                segment: _,
+            } => self.stage = FLAG,
+            Ending::Overload(_) => self.stage = FLAG,
+            Ending::Flag => self.stage = Stage::InDelimiter {
+                dominant: 0,
+                recessive: 0,
+            },
+            Ending::Sof => self.begin_frame(),
+        }
+    }
+
+    /// A frame began with the last bit of interframe space: its SOF.
+    fn begin_frame(&mut self)
+        ensures kept { self.new.context ≡ self.old.context }
+        ensures reads { (before : ContextValue) → context_of self.old.context ≡ closed InterframeSpaceWithSof AfterSof before
+            → At self.new.stage self.new.shift (context_of self.new.context) (context_of self.new.context) AfterSof [] }
+    {
+        self.context.frame_fits();
+        self.shift = Shift::new();
+        self.shift.advance(Level::Dominant);
+        self.stage = Stage::InFrame;
+    }
+
+    /// Where TEC has come to 256 the node goes bus-off.
+    pub(crate) fn go_off(&mut self)
+        ensures context { context_of self.new.context ≡ off_if (context_of self.old.context) }
+        ensures on { self.old.context.counters.tec < 256 → self.new ≡ self.old }
+        ensures off { 256 ≤ self.old.context.counters.tec → self.new.stage ≡ StageInReset }
+    {
+        if self.context.counters.tec >= BUS_OFF {
+            self.context.go_off();
+            self.stage = Stage::InReset;
+        }
+    }
+}
+
+impl Context {
+    ghost use Rattle.std.specs.Prelude.{◌≡◌, ◌<◌};
+    ghost use Rattle.can_node.specs.Context.{ContextValue};
+    ghost use Rattle.can_node.specs.Effects.{closed, error_flag, flag_after, entering};
+    ghost use Rattle.can_node.specs.Machine.Standing.{context_of};
+    ghost use Rattle.can_node.specs.Machine.Turns.{piece_of, next_of};
+
+    /// The end of a piece: its own step, and what the next place sets.
+    fn end_piece(&mut self, ending: &Ending)
+        ensures { self.old.counters.tec < 900
+            → context_of self.new ≡ closed (piece_of ending.now) (next_of ending.now) (context_of self.old) }
+    {
+        let flag = self.error_flag();
+        self.end_step(ending);
+        self.set_for_next_place(ending, flag);
+    }
+
+    /// The error flag that an error would lead to: active where both counters are below 128.
+    fn error_flag(&self) -> FlagKind
+        ensures { result ≡ error_flag (context_of self.now) }
+    {
+        if self.is_passive() {
+            FlagKind::PassiveError
+        } else {
+            FlagKind::ActiveError
+        }
+    }
+
+    /// What the next place sets: the role, or the kind of its flag.
+    fn set_for_next_place(&mut self, ending: &Ending, kind: FlagKind)
+        ensures { (before : ContextValue) → kind ≡ error_flag before
+            → context_of self.new ≡ entering (next_of ending.now) (piece_of ending.now) before (context_of self.old) }
+    {
+        match ending {
+            Ending::Integration | Ending::IdleBit | Ending::InterframeSpace => self.role =
+                Role::Receiver,
+            Ending::Sof => self.role = self.role_after_sof(),
+            Ending::Fault {
+                site: _,
+                cause: _,
+                segment: _,
+            } => self.flag = kind,
+            Ending::Overload(_) => self.flag = FlagKind::Overload,
+            Ending::Received(_)
+            | Ending::Sent(_)
+            | Ending::LastEofBit
+            | Ending::Flag
+            | Ending::Delimiter => {}
+        }
+    }
+}
