@@ -30,19 +30,25 @@ recessive-is : (x : Level) → is_recessive x ≡ true → x ≡ Recessive
 recessive-is Dominant h = cc
 recessive-is Recessive h = refl
 
--- four levels of a list are the digits of the number that they write
-four_levels : (w : List Level) (p : ℕ) → p + 4 ≤ length w → drop p w ≡ bits 4 (four_from w p) ++ drop (p + 4) w
-four_levels w p h =
+-- the number that four levels write
+pub four_is : (w : List Level) (p : ℕ) → p + 4 ≤ length w → four_from w p ≡ value (slice_range w p (p + 4))
+four_is w p h =
     let four : List Level = slice_range w p (p + 4) in
     let split : drop p w ≡ four ++ drop (p + 4) w = drop_split w p (p + 4) (omega arith) in
     let count : length four ≡ 4 = length_range w p (p + 4) (omega arith) h ∙ omega arith in
     let here : four_from w p ≡ four_from (drop p w) 0 = four-same w (drop p w) p 0 (λ k below.
     let place : 0 + k ≡ k = omega arith in sym (get_or-drop p w k Dominant) ∙ ap (λ q. level_at (drop p w) q) (sym place)) in
-    let number : four_from w p ≡ value four = here ∙ ap (λ l. four_from l 0) split ∙ four-value four (drop (p + 4) w) count in
-    split ∙ ap (λ l. l ++ drop (p + 4) w) (sym (ap (λ n. bits 4 n) number ∙ bits-value 4 four count))
+    here ∙ ap (λ l. four_from l 0) split ∙ four-value four (drop (p + 4) w) count
+
+-- four levels of a list are the digits of the number that they write
+four_levels : (w : List Level) (p : ℕ) → p + 4 ≤ length w → drop p w ≡ bits 4 (four_from w p) ++ drop (p + 4) w
+four_levels w p h =
+    let four : List Level = slice_range w p (p + 4) in
+    let count : length four ≡ 4 = length_range w p (p + 4) (omega arith) h ∙ omega arith in
+    drop_split w p (p + 4) (omega arith) ∙ ap (λ l. l ++ drop (p + 4) w) (sym (ap (λ n. bits 4 n) (four_is w p h) ∙ bits-value 4 four count))
 
 -- four digits write a number below 16
-four-lt : (w : List Level) (p : ℕ) → four_from w p < 16
+pub four-lt : (w : List Level) (p : ℕ) → four_from w p < 16
 four-lt w p =
     omega (arith, digit-lt (level_at w p), digit-lt (level_at w (p + 1)), digit-lt (level_at w (p + 2)), digit-lt (level_at w (p + 3)))
 

@@ -16,9 +16,9 @@ pub mod Tails
 pub mod LineLaws
 pub mod OneStuffing
 pub mod Ranges
-pub mod GrowLemmas
 pub mod Registers
-pub mod DataLemmas
+pub mod Packed
+pub mod Marks
 pub mod FrameLemmas
 pub mod PastLemmas
 pub mod Readables
@@ -26,7 +26,10 @@ pub mod InsideLemmas
 pub mod TakeLemmas
 pub mod ShiftLemmas
 pub mod DueLemmas
+pub mod QuickLemmas
 pub mod PlaceLemmas
+pub mod PlaceLaws
 pub mod PlacesNow
 pub mod SentLevels
 pub mod SentNext
+pub mod PackedBody

@@ -20,6 +20,7 @@ use Rattle.can_bits.specs.Streaming.{IsReadable}
 use Rattle.can_bits.specs.Shifts.{BeginsPart, IsPast}
 use Rattle.can_bits.proofs.Lists.{fronts, append-split, cases_list, reverse-cons}
 use Rattle.can_bits.proofs.Values.{value-append, value-lt}
+use Rattle.can_bits.proofs.Packed.{digit-level}
 use Rattle.can_bits.proofs.Products.{multiples_agree}
 use Rattle.can_bits.proofs.Registers.{shifted_up}
 use Rattle.can_bits.proofs.Runs.{run}
@@ -30,11 +31,6 @@ use Rattle.can_bits.proofs.InsideLemmas.{holds_by}
 use Rattle.can_bits.proofs.PlacesNow.{inside_run}
 
 -- ---- in the body and its check sequence
-
--- the level of a level's digit
-digit-level : (x : Level) → level_of (digit x == 1) ≡ x
-digit-level Dominant = refl
-digit-level Recessive = refl
 
 -- while a right check sequence comes the register is what is missing of it, moved up: its highest digit is the next level's
 pub next_check : (b c w t : List Level) (x : Level) (r : ℕ) → Crc b c → b ++ c ≡ w ++ x ∷ t → length b ≤ length w →

@@ -13,7 +13,7 @@ use Rattle.can_bits.specs.Line.{StuffedPart, tail}
 use Rattle.can_bits.specs.Reading.{IsPastPart, SaysWhetherRight}
 use Rattle.can_bits.specs.Segments.{IsNext}
 use Rattle.can_bits.specs.Streaming.{IsReadable, BreaksWith, ShowsFrame, IsEventOf, Tells, TellsCheck}
-use Rattle.can_bits.specs.Shifts.{IsInside, IsPast, ReadsAt, Broke, StandsBy, fault_event}
+use Rattle.can_bits.specs.Shifts.{IsInside, IsPast, ReadsAt, Broke, StandsBy, JudgesAt, fault_event}
 use Rattle.can_bits.proofs.Lists.{fronts, append-cancel, cases_list}
 use Rattle.can_bits.proofs.Ending.{same_part, same_spelling}
 use Rattle.can_bits.proofs.Readables.{readable_front, part_readable, breaks_not_readable, wrong_shows_none, first_once}
@@ -87,6 +87,19 @@ tells_again s l x w h =
           let Q : List Level → Type 0 = λ m. IsEventOf m y (fault_event w) in
           subst Q same.0 (subst P same.1 h.event);
     }
+
+-- and so the same fault
+pub judged_again : (s : Shift) (l front later : List Level) (y : Level) (w : ShiftFault) → Broke w s l → IsReadable front → ¬ IsReadable (front ++ y ∷ []) →
+    l ≡ front ++ y ∷ later → JudgesAt front y (Some w)
+judged_again s l front later y w h right wrong whole =
+    let event = (tells_again s l y w h).wrong_before front later y right wrong whole in
+    (event.place, event.fault)
+
+-- what a reader without a fault stands for has no wrong level
+pub never_broke : (s : Shift) (l front later : List Level) (y : Level) → ReadsAt s.stage s l → ¬ IsReadable (front ++ y ∷ []) → l ≡ front ++ y ∷ later → ⊥
+never_broke s l front later y h wrong whole =
+    let P : List Level → Type 0 = λ m. IsReadable m in
+    wrong (readable_front (front ++ y ∷ []) later (subst P (whole ∙ sym (append_assoc front (y ∷ []) later)) (reads_readable s.stage s l h)))
 
 -- no stuffed part ends after a fault in it
 none_after : {g : Gathered} {came : ℕ} {last : Level} {n : ℕ} (front later : List Level) (y : Level) → IsInside g came last n front → ¬ IsReadable (front ++ y ∷ []) →

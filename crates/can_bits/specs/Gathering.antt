@@ -1,19 +1,21 @@
--- What is kept of a body and its check sequence while their levels come.
-use Rattle.std.specs.Prelude.{◌≡◌, ◌+◌, ◌*◌, ◌<◌, ◌^◌, List, length}
+-- What is kept of a body and its CRC sequence while their levels come.
+use Rattle.std.specs.Prelude.{◌≡◌, ◌+◌, ◌*◌, ◌<◌, ◌^◌, ℕ, nat_lt, if◌then◌else◌, List, length}
 use Rattle.can_bits.specs.declared.level.Level.{Level}
 use Rattle.can_bits.specs.declared.gathered.Gathered.{Gathered}
 use Rattle.can_bits.specs.Digits.{value}
 use Rattle.can_bits.specs.Check.{IsMultiple}
-use Rattle.can_bits.specs.Fields.{says_ext, says_rtr, says_dlc}
-use Rattle.can_bits.specs.Growing.{id_levels, HoldsData}
+use Rattle.can_bits.specs.Fields.{says_count}
+use Rattle.can_bits.specs.Data.{data_place}
+use Rattle.can_bits.specs.Packing.{Packs}
+
+-- at how many levels more is known: at the end of a standard frame's DLC, where the format is known; at the end of an
+-- extended frame's DLC; and at the end of the CRC sequence, once the DLC has come
+abbrev pub mark_of : List Level → ℕ
+mark_of w = if nat_lt (length w) 19 then 19 else if nat_lt (length w) (data_place w) then data_place w else says_count w
 
 -- g is what the levels w say, without stuff bits. With the register after them they are a multiple of the generator
 pub record Gathers (g : Gathered) (w : List Level) : Type 0 where
-  pub place : g.place ≡ length w
-  pub ext : g.ext ≡ says_ext w
-  pub rtr : g.rtr ≡ says_rtr w
-  pub dlc : g.dlc ≡ says_dlc w
-  pub id : g.id ≡ value (id_levels (says_ext w) w)
-  pub bytes : HoldsData g.bytes w
+  pub packs : Packs g.word g.place w
+  pub mark : g.mark ≡ mark_of w
   pub fits : g.register < 2 ^ 15
   pub divides : IsMultiple (value w * 2 ^ 15 + g.register)

@@ -10,7 +10,8 @@ pub mod Reading
 pub mod Segments
 pub mod Streaming
 pub mod Places
-pub mod Growing
+pub mod Arbitration
+pub mod Packing
 pub mod Gathering
 pub mod Shifts
 pub mod Acknowledging

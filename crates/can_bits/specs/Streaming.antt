@@ -22,6 +22,11 @@ pub record IsReadable (l : List Level) : Type 0 where
   pub line : Line frame body check ack (l ++ rest)
   pub right : length rest ≤ 7 → Crc body check
 
+-- the level x after the levels l belongs to the stuffed part, past SOF, and is right
+pub record IsRightInside (l : List Level) (x : Level) : Type 0 where
+  pub inside : IsInPart l
+  pub right : IsReadable (l ++ x ∷ [])
+
 -- the levels are a line of f with a right check sequence, with either level in the acknowledgement slot, but for this
 -- many levels at its end
 pub record IsLineButFor (missing : ℕ) (f : FrameValue) (l : List Level) : Type 0 where

@@ -1,10 +1,12 @@
 //! Laws of check sequences, of stuffing and of lines. Each stands as the contract of a function that does nothing.
 
-ghost use Rattle.std.specs.Prelude.{◌≡◌, ◌++◌, ◌∷◌, [], List, length};
+ghost use Rattle.std.specs.Prelude.{◌≡◌, ◌↔◌, ◌++◌, ◌∷◌, [], ℕ, Bool, IsTrue, Some, List, length};
 ghost use Rattle.can_bits.specs.declared.level.Level.{Level};
 ghost use Rattle.can_bits.specs.Check.{Crc};
 ghost use Rattle.can_frame.specs.Frame.{FrameValue};
 ghost use Rattle.can_bits.specs.Stuffing.{Stuffed, HasNoSixEqual};
+ghost use Rattle.can_bits.specs.Arbitration.{IsAtPlace, IsStuffBeforeRtr};
+ghost use Rattle.can_bits.specs.Places.{place_code, is_early_stuff};
 ghost use Rattle.can_bits.specs.Line.{StuffedPart, Line, IsSentLine};
 ghost use Rattle.can_bits.specs.Reading.{BeginsDominant, IsPastPart, IsOpen};
 
@@ -45,4 +47,14 @@ pub fn lines_with_the_same_levels_are_of_one_frame()
     ensures { (f g : FrameValue) (b c d e : List Level) (ack other last : Level) (front rest : List Level)
         → Line f b c ack (front ++ last ∷ []) → Line g d e other (front ++ rest)
         → (f ≡ g) × (b ≡ d) × (c ≡ e) × (length rest ≡ 1) }
+{}
+
+/// A place code is the place of the next level in the arbitration field, counted without stuff bits; a stuff bit has none.
+pub fn a_place_code_counts_no_stuff_bits()
+    ensures { (ext : Bool) (l : List Level) (code : ℕ) → (place_code ext l ≡ Some code) ↔ IsAtPlace ext l code }
+{}
+
+/// A stuff bit is early where it comes before RTR of the format.
+pub fn an_early_stuff_bit_comes_before_rtr()
+    ensures { (ext : Bool) (l : List Level) → IsTrue (is_early_stuff ext l) ↔ IsStuffBeforeRtr ext l }
 {}

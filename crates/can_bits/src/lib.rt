@@ -8,7 +8,6 @@ mod crc;
 mod decode;
 mod fields;
 mod gathered;
-mod growing;
 mod laws;
 mod level;
 mod line;
@@ -19,6 +18,7 @@ mod reading;
 mod run;
 mod segment;
 mod sending;
+mod sent_body;
 mod shift;
 mod shift_event;
 mod shift_fault;
@@ -29,7 +29,8 @@ mod tail;
 pub use crc::crc_of;
 pub use laws::{
     a_frame_has_one_sent_line, a_good_beginning_can_go_on, a_list_has_one_check_sequence,
-    a_list_has_one_stuffing, a_stuffed_list_stuffs_one_list, a_stuffed_part_says_where_it_ends,
+    a_list_has_one_stuffing, a_place_code_counts_no_stuff_bits, a_stuffed_list_stuffs_one_list,
+    a_stuffed_part_says_where_it_ends, an_early_stuff_bit_comes_before_rtr,
     lines_with_the_same_levels_are_of_one_frame,
 };
 pub use level::Level;
@@ -37,6 +38,7 @@ pub use line::line_of;
 pub use line_fault::LineFault;
 pub use reading::read_line;
 pub use segment::Segment;
+pub use sent_body::SentBody;
 pub use shift::Shift;
 pub use shift_event::ShiftEvent;
 pub use shift_fault::ShiftFault;

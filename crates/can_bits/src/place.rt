@@ -1,13 +1,12 @@
 //! The segments of a line, by place.
 
-ghost use Rattle.std.specs.Prelude.{◌≡◌, ◌≤◌, true, false};
+ghost use Rattle.std.specs.Prelude.{◌≡◌, true, false};
 ghost use Rattle.can_bits.specs.Segments.{segment_in, segments_of, segment_after};
 
 use super::segment::Segment;
 
 /// The segment of the level at a place of a body and its check sequence, which have `count` levels in all.
 pub fn segment_of(ext: bool, count: u8, place: u8) -> Segment
-    requires { 15 ≤ count }
     ensures { result ≡ segment_in (segments_of ext count) place }
 {
     if ext {
@@ -19,7 +18,6 @@ pub fn segment_of(ext: bool, count: u8, place: u8) -> Segment
 
 /// The same in a standard frame.
 fn standard_segment(count: u8, place: u8) -> Segment
-    requires { 15 ≤ count }
     ensures { result ≡ segment_in (segments_of false count) place }
 {
     match place {
@@ -30,14 +28,13 @@ fn standard_segment(count: u8, place: u8) -> Segment
         13 => Segment::Ide,
         14 => Segment::Reserved0,
         15..=18 => Segment::LengthCode,
-        _ if place < count - 15 => Segment::Data,
+        _ if place < count.saturating_sub(15) => Segment::Data,
         _ => Segment::CheckSequence,
     }
 }
 
 /// The same in an extended frame.
 fn extended_segment(count: u8, place: u8) -> Segment
-    requires { 15 ≤ count }
     ensures { result ≡ segment_in (segments_of true count) place }
 {
     match place {
@@ -53,7 +50,7 @@ fn extended_segment(count: u8, place: u8) -> Segment
         33 => Segment::Reserved1,
         34 => Segment::Reserved0,
         35..=38 => Segment::LengthCode,
-        _ if place < count - 15 => Segment::Data,
+        _ if place < count.saturating_sub(15) => Segment::Data,
         _ => Segment::CheckSequence,
     }
 }

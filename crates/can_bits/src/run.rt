@@ -7,5 +7,9 @@ pub fn run_after(run: u8, last: Level, level: Level) -> u8
     ensures same { level ≡ last → run < 5 → result ≡ run + 1 }
     ensures other { level ≢ last → result ≡ 1 }
 {
-    if level == last { run % 5 + 1 } else { 1 }
+    if level == last {
+        run.wrapping_add(1)
+    } else {
+        1
+    }
 }

@@ -10,6 +10,7 @@ use can_frame::Frame;
 
 mod inside;
 mod past;
+mod quick;
 
 /// How many equal levels a stuff bit follows.
 const RUN: u8 = 5;
@@ -35,7 +36,7 @@ pub struct Shift {
 }
 
 impl Shift {
-    ghost use Rattle.std.specs.Prelude.{◌≡◌, ◌≢◌, ◌⊎◌, ◌<◌, ◌+◌, ◌↔◌, ◌==◌, IsTrue, true, length, ◌∷◌, ◌++◌, [], List, None, Some, IfSome};
+    ghost use Rattle.std.specs.Prelude.{◌≡◌, ◌≢◌, ◌⊎◌, ◌<◌, ◌+◌, ◌↔◌, ◌==◌, Bool, IsTrue, true, length, ◌∷◌, ◌++◌, [], List, None, Some, IfSome};
     ghost use Rattle.can_bits.specs.declared.level.Level.{Level as Bus};
     ghost use Rattle.can_bits.specs.Streaming.{Tells, TellsCheck, ShowsFrame, IsReadable, IsOver};
     ghost use Rattle.can_bits.specs.Segments.{IsNext};
@@ -71,7 +72,7 @@ impl Shift {
             Some(wrong) => wrong.event(),
             None => {
                 let stuff = self.is_stuff();
-                let segment = self.next_segment();
+                let segment = self.segment_here();
                 match self.advance(level) {
                     Some(wrong) => wrong.event(),
                     None => ShiftEvent {
@@ -90,7 +91,8 @@ impl Shift {
     pub fn advance(&mut self, level: Level) -> Option<ShiftFault>
         ensures stands { (l : List Bus) → StandsFor self.old l → StandsFor self.new (l ++ level ∷ []) }
         ensures judged { (l : List Bus) → StandsFor self.old l → IsReadable l → JudgesAt l level result }
-        ensures again { (wrong : ShiftFault) → self.old.wrong ≡ Some wrong → result ≡ Some wrong }
+        ensures again { (l front later : List Bus) (y : Bus) → StandsFor self.old l → IsReadable front → ¬ IsReadable (front ++ y ∷ [])
+            → l ≡ front ++ y ∷ later → JudgesAt front y result }
     {
         match self.wrong {
             Some(wrong) => Some(wrong),
@@ -103,6 +105,13 @@ impl Shift {
 
     /// The segment of the next level; a stuff bit belongs to that of the bit before it.
     pub fn next_segment(&self) -> Segment
+        ensures { (l : List Bus) → StandsFor self.now l → IsReadable l → (stuff : Bool) × IsNext l result stuff }
+    {
+        self.segment_here()
+    }
+
+    /// The same, and whether the next level is a stuff bit as the reader's own fields say it.
+    fn segment_here(&self) -> Segment
         ensures { (l : List Bus) → StandsFor self.now l → IsReadable l → IsNext l result (is_stuff_next self.now) }
     {
         match self.stage {

@@ -79,7 +79,7 @@ impl Shift {
     }
 
     /// Takes a level of the stuffed part that is right.
-    fn take(&mut self, level: Level)
+    pub(super) fn take(&mut self, level: Level)
         ensures kept { self.new.wrong ≡ self.old.wrong }
         ensures early { (self.new.stage ≡ Stage.Part) ⊎ (self.new.stage ≡ Stage.After 0) }
         ensures stands { (l : List Bus) → ReadsAt Stage.Part self.old l → (self.old.count ≡ 0 → level ≡ Level.Dominant)

@@ -81,11 +81,11 @@ here_slot {c = c} {place = place} {bits = bits} h due count =
     due.1 (due_at_slot c.self_test h.request.frame h.check h.part (frame_bits place bits) h.is_part h.well count)
 
 -- ---- a fault
-pub transmits_fault : {c now : ContextValue} {place : Place} {bits : List Bit} {driven seen : Level} {self_test slot early lost : Bool} {cause : Cause} (segment : Segment) (stuffed : Bool) →
+pub transmits_fault : {c now : ContextValue} {place : Place} {bits : List Bit} {driven seen : Level} {self_test slot early lost : Bool} {cause : Cause} (segment : Segment) →
     IsTold c now place bits driven seen self_test slot early lost (Some cause) →
-    (IsReadable (seen_of (frame_bits place bits)) → IsNext (seen_of (frame_bits place bits)) segment stuffed) →
+    (IsReadable (seen_of (frame_bits place bits)) → (stuff : Bool) × IsNext (seen_of (frame_bits place bits)) segment stuff) →
     (lost ≡ false) × Row c place (bits ++ record { driven = driven; seen = seen } ∷ []) (Fault InTransmission cause segment) AtFlag
-transmits_fault {c = c} {place = place} {bits = bits} {driven = driven} {seen = seen} {slot = slot} {early = early} {lost = lost} {cause = cause} segment stuffed t site =
+transmits_fault {c = c} {place = place} {bits = bits} {driven = driven} {seen = seen} {slot = slot} {early = early} {lost = lost} {cause = cause} segment t site =
     let h = t.telling in
     let b : Bit = record { driven = driven; seen = seen } in
     let before : List Bit = frame_bits place bits in
@@ -94,7 +94,7 @@ transmits_fault {c = c} {place = place} {bits = bits} {driven = driven} {seen = 
     let next = site (well_readable c.self_test h.request.frame h.check h.part before h.is_part h.well) in
     let all : h.part ++ tail Recessive ≡ driven_of (before ++ b ∷ []) ++ t.sends.rest = line_next h t.sends ∙ sym (driven_push before b t.sends.rest) in
     let P : List Bit → Type 0 = λ l. Transmits c.self_test h.request l (Fault InTransmission cause segment) AtFlag in
-    let sends = failed h.check h.part t.sends.rest before b stuffed h.is_part h.well refl all fails.1 next in
+    let sends = failed h.check h.part t.sends.rest before b next.0 h.is_part h.well refl all fails.1 next.1 in
     (fails.0, row_own c place h.request (bits ++ b ∷ []) (Fault InTransmission cause segment) AtFlag t.site h.sent (subst P (sym (frame_more place bits (b ∷ []) t.site)) sends))
 
 -- ---- no fault

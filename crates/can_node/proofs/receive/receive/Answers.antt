@@ -17,7 +17,7 @@ returns-then-is_recessive-clause-turn c context place bits stands h answers =
     let x : Bit = record { driven = c.args.driven; seen = c.args.seen } in
     let lost = lost_there x (dominant_by c.args.driven (sym c.is_recessive.ensures ∙ c.if-not-is_recessive.true))
     (recessive_by c.args.seen (sym c.is_recessive-then-not-is_recessive.ensures ∙ c.if-is_recessive.true)) in
-    rw c.error.ensures (lost_row context place bits x c.next_segment-segment.result _ h answers (c.next_segment-segment.ensures _ stands (receiving_readable context place bits h)) lost)
+    rw c.error.ensures (lost_row context place bits x c.next_segment-segment.result _ h answers (c.next_segment-segment.ensures _ stands (receiving_readable context place bits h)).1 lost)
 
 pub returns-in-Some-clause-turn : goal.returns-in-Some-clause-turn
 returns-in-Some-clause-turn c context place bits stands h answers =

@@ -9,7 +9,7 @@ pub returns-in-Some-clause-turn : goal.returns-in-Some-clause-turn
 returns-in-Some-clause-turn c = λ context now place bits stands site same h one sends lost.
     let own = c.own_bit-kind.ensures (seen_of (frame_bits place bits)) stands (transmitting_readable context now place bits h) in
     let told = told_by c.args.request.now site same h one sends lost c.ext.ensures own (sym c.in-Some.is ∙ c.error_in.ensures) in
-    transmits_fault c.next_segment-segment.result _ told.1 (c.next_segment-segment.ensures (seen_of (frame_bits place bits)) stands)
+    transmits_fault c.next_segment-segment.result told.1 (c.next_segment-segment.ensures (seen_of (frame_bits place bits)) stands)
 
 pub returns-then-is_over-clause-turn : goal.returns-then-is_over-clause-turn
 returns-then-is_over-clause-turn c = λ context now place bits stands site same h one sends lost.

@@ -1,25 +1,28 @@
-use Rattle.std.proofs.Common.{◌≡◌, ◌≢◌, ◌<◌, Err, ap, ◌∙◌, take, length, arith, refl}
-use Rattle.std.proofs.lemmas.List.{length-take-le}
+use Rattle.std.proofs.Common.{◌≡◌, ◌≢◌, Err, Some, ap, ◌∙◌, length, arith, refl, sym}
 use Rattle.can_frame.specs.Frame.{data_count, id_limit}
 use Rattle.can_frame.specs.declared.frame_fault.FrameFault.{FrameFault}
 use Rattle.can_frame.specs.declared.frame_fault.FrameFault.TheVariants.{IdRange, DlcRange, DataLength}
-use Rattle.can_bits.specs.Fields.{says_ext, says_rtr}
-use Rattle.can_bits.specs.Data.{says_bytes}
-use Rattle.can_bits.proofs.GrowLemmas.{four-small}
-use Rattle.can_bits.proofs.FrameLemmas.{gathered_frame, gathered_id}
+use Rattle.can_bits.specs.Fields.{says_rtr}
+use Rattle.can_bits.proofs.FieldLemmas.{whole_of, whole_has_fields}
+use Rattle.can_bits.proofs.DecodeLemmas.{said_frame, says_id-lt}
+use Rattle.can_bits.proofs.FrameLemmas.{said_is}
 use Rattle.can_bits.proofs.gathered.Gathered.frame.Goals as goal
 
 pub returns-in-Ok : goal.returns-in-Ok
 returns-in-Ok c f w b check g spells =
-    let bytes = c.args.self.now.bytes in
-    let count : c.from.result ≡ says_bytes w =
-    c.from.ensures ∙ c.data_count.ensures.value ∙ ap (λ r. data_count r c.args.self.now.dlc) g.rtr ∙ ap (λ n. data_count (says_rtr w) n) g.dlc in
-    let same = gathered_frame f w b check bytes c.args.self.now.id spells g.bytes g.id in
-    let ext = g.ext in
-    let rtr = g.rtr in
-    let dlc = g.dlc in
-    let made : c.in-Ok.frame ≡ f = cc (c.in-Ok.ensures.ok, same, ext, rtr, dlc, count) in
-    cc
+    let whole = whole_of f b check w spells in
+    let fields = whole_has_fields w whole in
+    let bytes = c.data-data.result.items in
+    let ext = c.ext.ensures w g.packs in
+    let id = c.id.ensures w g.packs (omega (arith, fields)) in
+    let rtr = c.rtr.ensures w g.packs in
+    let dlc = c.dlc.ensures.value w g.packs fields in
+    let same_data = c.as_slice.ensures.value in
+    let same = said_is f w b check bytes spells
+    (record { levels = c.data-data.ensures.value w g.packs whole; small = c.data-data.ensures.small })
+    (c.data-data.ensures.count w g.packs whole) in
+    let made : c.in-Ok.frame ≡ said_frame w bytes = cc (c.in-Ok.ensures.ok, ext, id, rtr, dlc, same_data) in
+    ap Some (made ∙ same)
 
 -- a fault is one of three
 no_fault : (e : FrameFault) → e ≢ IdRange → e ≢ DlcRange → e ≢ DataLength → ⊥
@@ -29,19 +32,17 @@ no_fault DataLength a b c = c refl
 
 pub returns-in-Err : goal.returns-in-Err
 returns-in-Err c f w b check g spells =
-    let bytes = c.args.self.now.bytes in
-    let id = c.args.self.now.id in
+    let whole = whole_of f b check w spells in
+    let fields = whole_has_fields w whole in
     let h = c.in-Err.ensures in
-    let eight = g.bytes.count in
-    let ext = g.ext in
-    let limit : id_limit c.args.self.now.ext ≡ id_limit (says_ext w) = ap id_limit ext in
-    let small : id < id_limit (says_ext w) = gathered_id f w b check id spells g.id in
-    let most = c.data_count.ensures.most in
-    let from = c.from.ensures in
-    let code = g.dlc in
-    let count : length (take c.from.result bytes) ≡ data_count c.args.self.now.rtr c.args.self.now.dlc =
-    length-take-le c.from.result bytes (omega arith) ∙ c.from.ensures ∙ c.data_count.ensures.value in
+    let ext = c.ext.ensures w g.packs in
+    let id = c.id.ensures w g.packs (omega (arith, fields)) in
+    let limit = ap id_limit ext in
+    let small = says_id-lt w whole in
+    let code = c.dlc.ensures.fits in
+    let count = ap length c.as_slice.ensures.value ∙ c.data-data.ensures.count w g.packs whole
+    ∙ sym (ap (λ r. data_count r c.dlc.result) (c.rtr.ensures w g.packs) ∙ ap (λ n. data_count (says_rtr w) n) (c.dlc.ensures.value w g.packs fields)) in
     absurd (no_fault c.in-Err.field-0
-    (λ e. let over = h.id_range.0 (ap Err e) in omega (arith, over, small, limit))
-    (λ e. let over = h.dlc_range.0 (ap Err e) in omega (arith, over.1, code, four-small w))
+    (λ e. let over = h.id_range.0 (ap Err e) in omega (arith, over, small, limit, id))
+    (λ e. let over = h.dlc_range.0 (ap Err e) in omega (arith, over.1, code))
     (λ e. let wrong = h.data_length.0 (ap Err e) in wrong.2 count))

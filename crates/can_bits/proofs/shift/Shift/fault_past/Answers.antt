@@ -3,7 +3,7 @@ use Rattle.can_bits.specs.Check.{Crc}
 use Rattle.can_bits.specs.Reading.{SaysWhetherRight}
 use Rattle.can_bits.specs.Shifts.{IsPast}
 use Rattle.can_bits.proofs.Values.{recessive_by, dominant_by}
-use Rattle.can_bits.proofs.PastLemmas.{past_slot, past_form, past_recessive}
+use Rattle.can_bits.proofs.PastLemmas.{past_slot, past_form, past_recessive, past_wrong, past_trailing}
 use Rattle.can_bits.proofs.shift.Shift.fault_past.Goals.{else-n-eq2-via-then-n-eq2+else-not-check_is_right, else-n-eq2-via-else-n-eq2}
 use Rattle.can_bits.proofs.shift.Shift.fault_past.Goals as goal
 
@@ -30,3 +30,17 @@ returns-else-n-eq2-clause-goes_on c l h none =
       | else-n-eq2-via-else-n-eq2 b ↦ absurd (b.if-n-eq2.false two)
     ] in
     past_recessive c.args.n l c.args.level h (omega (arith, c.if-n-ge10.false)) c.if-n-eq1.false recessive right
+
+pub returns-then-n-ge10-clause-broken : goal.returns-then-n-ge10-clause-broken
+returns-then-n-ge10-clause-broken c l h =
+    let (over, count) = past_trailing c.args.n l c.args.level h c.if-n-ge10.true in
+    (over, c.from-at.ensures ∙ count)
+
+pub returns-then-not-check_is_right-clause-broken : goal.returns-then-not-check_is_right-clause-broken
+returns-then-not-check_is_right-clause-broken c l h =
+    let s = c.args.self.now in
+    let P : ℕ → Type 0 = λ n. IsPast n s.gathered s.count l in
+    let two = subst P c.if-n-eq2.true h in
+    let wrong = subst (λ r. SaysWhetherRight r two.body two.check) c.if-not-check_is_right.true
+    (c.check_is_right.ensures (two.body ++ two.check) two.body two.check two.gathers refl two.is_part.check) in
+    past_wrong l c.args.level two wrong (recessive_by c.args.level (sym c.is_recessive.ensures ∙ c.if-not-is_recessive.false))

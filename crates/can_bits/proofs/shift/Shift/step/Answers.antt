@@ -32,9 +32,9 @@ returns-in-None-advance-clause-told c l h =
     let right = reads_readable s.stage s l (subst P c.in-None.is h) in
     let J : Option ShiftFault → Type 0 = λ o. JudgesAt l c.args.level o in
     let on = subst J c.in-None-advance.is (c.advance.ensures.judged l h right) in
-    let N : Bool → Type 0 = λ b. IsNext l c.next_segment-segment.result b in
+    let N : Bool → Type 0 = λ b. IsNext l c.segment_here-segment.result b in
     tells_right l c.args.level _ right (record {
-      place = subst N (sym c.is_stuff-stuff.ensures) (c.next_segment-segment.ensures l h right);
+      place = subst N (sym c.is_stuff-stuff.ensures) (c.segment_here-segment.ensures l h right);
       frame = c.frame.ensures (l ++ c.args.level ∷ []) (c.advance.ensures.stands l h) on;
       fault = on;
     })

@@ -1,7 +1,7 @@
 use Rattle.std.proofs.Common.{◌≡◌, ◌*◌, ◌+◌, ◌%◌, arith}
 use Rattle.can_bits.specs.Check.{IsMultiple}
 use Rattle.can_bits.specs.Digits.{value}
-use Rattle.can_bits.proofs.gathered.Gathered.check.Goals as goal
+use Rattle.can_bits.proofs.gathered.Gathered.divide.Goals as goal
 
 pub returns-clause-divides : goal.returns-clause-divides
 returns-clause-divides c w fits h =
