@@ -11,7 +11,7 @@ pub struct SentBody {
 }
 
 impl SentBody {
-    ghost use Rattle.std.specs.Prelude.{◌≡◌, ◌≤◌, ◌<◌, ◌+◌, ◌^◌, ◌++◌, List, length};
+    ghost use Rattle.std.specs.Prelude.{◌≡◌, ◌≤◌, ◌<◌, ◌+◌, ◌^◌, ◌++◌, [], List, length};
     ghost use Rattle.std.specs.List.{slice_get};
     ghost use Rattle.can_frame.specs.Frame.{FrameValue, IsFrame};
     ghost use Rattle.can_bits.specs.declared.level.Level.{Level as Bus};
@@ -20,9 +20,17 @@ impl SentBody {
     ghost use Rattle.can_bits.specs.Body.{head_bits, sent_body};
     ghost use Rattle.can_bits.specs.Packing.{Packs, IsSentBody};
 
+    /// No levels.
+    pub fn empty() -> SentBody
+        ensures { Packs result.word result.length [] }
+    {
+        SentBody { word: 0, length: 0 }
+    }
+
     /// The packed body of a frame: SOF, arbitration field, control field and data field (Bosch CAN 2.0 part B section 3.2).
     pub fn of(frame: &Frame) -> SentBody
-        ensures { IsSentBody result frame.now }
+        ensures packs { IsSentBody result frame.now }
+        ensures valid { IsFrame frame.now }
     {
         let mut body = SentBody::head(frame).followed_by(4, u32::from(frame.dlc()));
         for byte in frame.bytes() {

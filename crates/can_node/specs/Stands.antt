@@ -1,5 +1,5 @@
 -- A node that stands at a record, and what its calls do.
-use Rattle.std.specs.Prelude.{⊤, ◌≡◌, ◌≢◌, ◌⊎◌, ◌||◌, not, Bool, true, false, nat_le, if◌then◌else◌, Option, Some, None, Result, Ok, Err, List, [], ◌∷◌, ◌++◌}
+use Rattle.std.specs.Prelude.{⊤, ◌≡◌, ◌≢◌, ◌⊎◌, ◌||◌, not, Bool, true, false, nat_le, nat_lt, if◌then◌else◌, Option, Some, None, Result, Ok, Err, List, [], ◌∷◌, ◌++◌}
 use Rattle.can_frame.specs.Frame.{FrameValue}
 use Rattle.can_bits.specs.declared.level.Level.{Level}
 use Rattle.can_node.specs.declared.request.Request.{Request}
@@ -10,7 +10,9 @@ use Rattle.can_node.specs.declared.counters.Counters.{Counters}
 use Rattle.can_node.specs.declared.state.State.{State}
 use Rattle.can_node.specs.declared.state.State.TheVariants.{Active, Passive, BusOff}
 use Rattle.can_node.specs.declared.bit_events.BitEvents.{BitEvents}
-use Rattle.can_node.specs.declared.stage.Stage.TheVariants.{InReset as StageInReset}
+use Rattle.can_node.specs.declared.phase.Phase.TheVariants.{Reset, Waiting, Idle as IdlePhase, Frame as FramePhase, Flag as FlagPhase, Delimiter as DelimiterPhase, Intermission, Suspension}
+use Rattle.can_node.specs.declared.stage.Stage.{Stage}
+use Rattle.can_node.specs.declared.stage.Stage.TheVariants.{InReset as StageInReset, Integrating as StageIntegrating, BusIdle as StageBusIdle, InFrame as StageInFrame, LastEofBit as StageLastEofBit, InFlag as StageInFlag, InDelimiter as StageInDelimiter, InInterframeSpace as StageInInterframeSpace}
 use Rattle.can_node.specs.declared.node.Node.{Node}
 use Rattle.can_node.specs.Bits.{Bit}
 use Rattle.can_node.specs.Context.{is_held, is_transmitter}
@@ -22,15 +24,23 @@ use Rattle.can_node.specs.Cut.{FinishedPiece, IsCut, ReceivedFrame, received, Co
 use Rattle.can_node.specs.Events.{Step, events_of}
 use Rattle.can_node.specs.Events.Step.{Within, Finishes}
 use Rattle.can_node.specs.NextBit.{now_in, open_bits, phase_in, DrivesIn, is_at_rest}
-use Rattle.can_node.specs.Machine.Standing.{context_of}
+use Rattle.can_node.specs.Machine.Standing.{context_of, HasBody}
 use Rattle.can_node.specs.Machine.Stages.{At}
 
--- the node stands at this record, cut into these finished pieces, with a piece perhaps that isn't finished at its end
-pub record StandsAt (node : Node) (entries : List Entry) (found : List FinishedPiece) : Type 0 where
+-- by its fields the node stands at this record, cut into these finished pieces, with a piece perhaps that isn't finished at
+-- its end: they say the context of the next bit, and how far that piece has come
+pub record FollowsAt (node : Node) (entries : List Entry) (found : List FinishedPiece) : Type 0 where
   pub cut : IsCut entries found
-  -- its fields say the context of the next bit, and how far the piece that isn't finished has come
   pub shows : context_of node.context ≡ now_in cut
   pub at : At node.stage node.shift cut.context (now_in cut) cut.place (open_bits cut)
+
+-- the node stands at this record: and it keeps the level that is driven in the next bit, and the body of its request
+pub record StandsAt (node : Node) (entries : List Entry) (found : List FinishedPiece) : Type 0 where
+  pub cut : IsCut entries found
+  pub shows : context_of node.context ≡ now_in cut
+  pub at : At node.stage node.shift cut.context (now_in cut) cut.place (open_bits cut)
+  pub next : DrivesIn cut node.next
+  pub body : HasBody node.context node.body
 
 -- the entries that a bit adds: its own, and that of bus-off
 abbrev pub entries_of : Bit → BitEvents → List Entry
@@ -69,6 +79,53 @@ pub record Rests (new : Node) (e : BitEvents) : Type 0 where
   pub nothing : e.received ≡ None
   pub stays : e.went_off ≡ false
   pub reset : InReset new
+
+-- ---- what a node shows, at whatever record it stands
+
+-- whether it is receiver
+abbrev pub is_receiving : Node → Bool
+is_receiving node = not (is_transmitter node.context.role)
+
+-- its error counters
+abbrev pub shown_counters : Node → Counters
+shown_counters node = node.context.counters
+
+abbrev pub phase_of_stage : Stage → Phase
+phase_of_stage StageInReset = Reset
+phase_of_stage (StageIntegrating left run) = Waiting
+phase_of_stage StageBusIdle = IdlePhase
+phase_of_stage StageInFrame = FramePhase
+phase_of_stage StageLastEofBit = FramePhase
+phase_of_stage (StageInFlag bits last) = FlagPhase
+phase_of_stage (StageInDelimiter dominant recessive) = DelimiterPhase
+phase_of_stage (StageInInterframeSpace bits) = if nat_lt bits 3 then Intermission else Suspension
+
+-- the phase of its next bit
+abbrev pub shown_phase : Node → Phase
+shown_phase node = phase_of_stage node.stage
+
+-- whether it holds a request
+abbrev pub holds_request : Node → Bool
+holds_request node = is_held node.context.held
+
+-- after a bit it shows what it showed before: the counters, the phase, the role, and whether it holds a request
+pub record ShowsSame (old new : Node) : Type 0 where
+  pub counters : shown_counters new ≡ shown_counters old
+  pub phase : shown_phase new ≡ shown_phase old
+  pub receiving : is_receiving new ≡ is_receiving old
+  pub holds : holds_request new ≡ holds_request old
+
+-- what a bit tells in which nothing happened, to a receiver or not
+abbrev pub nothing : Bool → BitEvents
+nothing receiving = record {
+  received = None;
+  ended = None;
+  lost = None;
+  fault = None;
+  receiving = receiving;
+  went_off = false;
+  recovered = false;
+}
 
 -- ---- what the calls do, for every record that the node stands at
 

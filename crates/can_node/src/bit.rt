@@ -1,9 +1,11 @@
 //! One bit of a node: what it makes of the piece under way, by the node's stage.
-ghost use Rattle.std.specs.Prelude.{◌≡◌};
+ghost use Rattle.std.specs.Prelude.{◌≡◌, ◌&&◌, not};
 ghost use Rattle.can_node.specs.Machine.Turns.{after_last_eof};
 
 use super::after_bit::AfterBit;
+use super::bit_events::BitEvents;
 use super::bus_integration::after_integration_bit;
+use super::counters::BUS_OFF;
 use super::delimiter::{after_delimiter_bit, is_eighth, is_first};
 use super::ending::Ending;
 use super::interframe_space::after_interframe_bit;
@@ -16,7 +18,7 @@ use super::transmit::transmit;
 use can_bits::{Level, Shift};
 
 impl Node {
-    ghost use Rattle.std.specs.Prelude.{◌≡◌, ◌<◌, List, [], is_some, None};
+    ghost use Rattle.std.specs.Prelude.{◌≡◌, ◌<◌, List, [], is_some, None, IsTrue};
     ghost use Rattle.can_bits.specs.declared.shift.Shift.{Shift as Reader};
     ghost use Rattle.can_node.specs.declared.role.Role.TheVariants.{Receiver};
     ghost use Rattle.can_bits.specs.Shifts.{StandsFor};
@@ -27,15 +29,48 @@ impl Node {
     ghost use Rattle.can_node.specs.Counting.{at_bit};
     ghost use Rattle.can_node.specs.Driving.{Drives};
     ghost use Rattle.can_node.specs.Events.{lost_in};
-    ghost use Rattle.can_node.specs.Machine.Standing.{context_of, IsKept};
+    ghost use Rattle.can_node.specs.Machine.Standing.{context_of, HasBody, IsKept};
+    ghost use Rattle.can_node.specs.Stands.{InReset, Samples};
     ghost use Rattle.can_node.specs.Machine.Stages.{At, IsReading};
     ghost use Rattle.can_node.specs.Machine.Turns.{IsTurn};
+
+    /// A bit, with all that it brings: the general way.
+    #[inline(never)]
+    pub(crate) fn sample_fully(&mut self, level: Level) -> BitEvents
+        ensures samples { Samples self.old self.new level result }
+        ensures off { IsTrue result.went_off → InReset self.new }
+    {
+        let driven = self.next;
+        let lost = self.lost_arbitration(driven, level);
+        let held = self.context.held.is_some();
+        let off = self.context.counters.off;
+        let after = self.after_bit(driven, level, lost.is_some());
+        let received = after.received();
+        let sent = after.is_sent();
+        let fault = after.fault();
+        self.go_to(after);
+        let receiving = !self.context.is_transmitter();
+        let recovered = recovers(off, self.context.counters.off);
+        let went_off = self.context.counters.tec >= BUS_OFF;
+        let ended = self.ended(held, sent);
+        self.go_off();
+        self.next = self.next_level();
+        BitEvents {
+            received,
+            ended,
+            lost,
+            fault,
+            receiving,
+            went_off,
+            recovered,
+        }
+    }
 
     /// A bit, with its own steps of counters, role and request; arbitration is lost in it or not.
     pub(crate) fn after_bit(&mut self, driven: Level, seen: Level, lost: bool) -> AfterBit
         ensures kept { self.new ≡ record self.old { shift = self.new.shift; context = self.new.context } }
         ensures turn { (c : ContextValue) (place : Place) (bits : List Bit) → At self.old.stage self.old.shift c (context_of self.old.context) place bits
-            → IsKept place c (context_of self.old.context) → Drives (context_of self.old.context) place bits driven
+            → IsKept place c (context_of self.old.context) → HasBody self.old.context self.old.body → Drives (context_of self.old.context) place bits driven
             → lost ≡ is_some (lost_in (context_of self.old.context) place bits (record { driven = driven; seen = seen }))
             → IsTurn self.new.shift c (context_of self.old.context) place bits (record { driven = driven; seen = seen }) result }
         ensures steps { (reader : Reader) (c : ContextValue) (place : Place) (bits : List Bit) → At self.old.stage reader c (context_of self.old.context) place bits
@@ -85,11 +120,10 @@ impl Node {
     /// A bit where the bus is idle: it stays idle, or a frame begins with its SOF.
     fn after_idle_bit(&mut self, driven: Level, seen: Level) -> AfterBit
         ensures kept { self.new ≡ record self.old { shift = self.new.shift } }
-        ensures turn { let now = context_of self.old.context in now.role ≡ Receiver → Drives now AtIdle [] driven
+        ensures turn { let now = context_of self.old.context in now.role ≡ Receiver → HasBody self.old.context self.old.body → Drives now AtIdle [] driven
             → IsTurn self.new.shift now now AtIdle [] (record { driven = driven; seen = seen }) result }
     {
         self.shift = Shift::new();
-        self.context.frame_fits();
         match &self.context.held {
             Some(request) if !self.context.listen => {
                 transmit(&mut self.shift, request, self.context.self_test, false, driven, seen)
@@ -116,7 +150,7 @@ impl Node {
     fn after_frame_bit(&mut self, driven: Level, seen: Level, lost: bool) -> AfterBit
         ensures kept { self.new ≡ record self.old { shift = self.new.shift } }
         ensures turn { (c : ContextValue) (place : Place) (bits : List Bit) → IsReading self.old.shift c (context_of self.old.context) place bits
-            → IsKept place c (context_of self.old.context) → Drives (context_of self.old.context) place bits driven
+            → IsKept place c (context_of self.old.context) → HasBody self.old.context self.old.body → Drives (context_of self.old.context) place bits driven
             → lost ≡ is_some (lost_in (context_of self.old.context) place bits (record { driven = driven; seen = seen }))
             → IsTurn self.new.shift c (context_of self.old.context) place bits (record { driven = driven; seen = seen }) result }
     {
@@ -147,4 +181,11 @@ fn after_last_eof_bit(seen: Level) -> AfterBit
         Level::Dominant => AfterBit::Ended(Ending::Overload(OverloadCondition::LastEofBit)),
         Level::Recessive => AfterBit::Ended(Ending::LastEofBit),
     }
+}
+
+/// Whether bus-off stood and stands no more.
+fn recovers(off: bool, still: bool) -> bool
+    ensures { result ≡ (off && not still) }
+{
+    off && !still
 }

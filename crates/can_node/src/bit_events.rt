@@ -21,3 +21,23 @@ pub struct BitEvents {
     /// Bus-off ended.
     pub recovered: bool,
 }
+
+impl BitEvents {
+    ghost use Rattle.std.specs.Prelude.{◌≡◌};
+    ghost use Rattle.can_node.specs.Stands.{nothing};
+
+    /// A bit in which nothing happened, to a receiver or not.
+    pub(crate) fn nothing(receiving: bool) -> BitEvents
+        ensures { result ≡ nothing receiving }
+    {
+        BitEvents {
+            received: None,
+            ended: None,
+            lost: None,
+            fault: None,
+            receiving,
+            went_off: false,
+            recovered: false,
+        }
+    }
+}

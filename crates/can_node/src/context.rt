@@ -25,7 +25,6 @@ pub struct Context {
 
 impl Context {
     ghost use Rattle.std.specs.Prelude.{◌≡◌, ◌||◌, is_some, Some, None, false};
-    ghost use Rattle.can_frame.specs.Frame.{IsFrame};
     ghost use Rattle.can_node.specs.Context.{ContextValue, fresh, is_transmitter, owes_suspension, flag_level};
     ghost use Rattle.can_node.specs.Pieces.{sent_at};
     ghost use Rattle.can_node.specs.Pieces.Place.{AtIdle};
@@ -79,15 +78,6 @@ impl Context {
     {
         if self.sends() {
             self.role = Role::Transmitter;
-        }
-    }
-
-    /// What the frame of a request says is a frame: its identifier, DLC and data bytes fit.
-    pub fn frame_fits(&self)
-        ensures { (request : Request) → self.now.held ≡ Some request → IsFrame request.frame }
-    {
-        if let Some(request) = &self.held {
-            request.frame.dlc();
         }
     }
 

@@ -13,13 +13,14 @@ impl Node {
     ghost use Rattle.can_node.specs.Pieces.{Place};
     ghost use Rattle.can_node.specs.Frames.{Acknowledges};
     ghost use Rattle.can_node.specs.Driving.{Drives};
-    ghost use Rattle.can_node.specs.Machine.Standing.{context_of, IsKept};
+    ghost use Rattle.can_node.specs.Machine.Standing.{context_of, HasBody, IsKept};
     ghost use Rattle.can_node.specs.Machine.Stages.{At, IsReading};
 
     /// The level that the node drives in the next bit.
     pub(crate) fn next_level(&self) -> Level
         ensures { (c : ContextValue) (place : Place) (bits : List Bit) → At self.now.stage self.now.shift c (context_of self.now.context) place bits
-            → IsKept place c (context_of self.now.context) → Drives (context_of self.now.context) place bits result }
+            → IsKept place c (context_of self.now.context) → HasBody self.now.context self.now.body
+            → Drives (context_of self.now.context) place bits result }
     {
         match self.stage {
             Stage::BusIdle => {
@@ -38,19 +39,17 @@ impl Node {
     /// The level that it drives in a frame: the next one of its line, or its acknowledgement.
     fn level_in_frame(&self) -> Level
         ensures { (c : ContextValue) (place : Place) (bits : List Bit) → IsReading self.now.shift c (context_of self.now.context) place bits
-            → IsKept place c (context_of self.now.context) → Drives (context_of self.now.context) place bits result }
+            → IsKept place c (context_of self.now.context) → HasBody self.now.context self.now.body
+            → Drives (context_of self.now.context) place bits result }
     {
         match self.context.role {
-            Role::Transmitter => match &self.context.held {
-                Some(request) => self.shift.next_sent(&request.frame),
-                None => Level::Recessive,
-            },
+            Role::Transmitter => self.shift.next_of(&self.body),
             Role::Receiver => self.acknowledgement(),
         }
     }
 
     /// What a receiver drives in a frame: dominant in the ACK slot after a right CRC sequence, if it doesn't only listen.
-    fn acknowledgement(&self) -> Level
+    pub(crate) fn acknowledgement(&self) -> Level
         ensures { (l : List Bus) → StandsFor self.now.shift l → Acknowledges self.now.context.listen l result }
     {
         if self.context.listen {

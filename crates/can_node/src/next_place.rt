@@ -28,15 +28,17 @@ impl Node {
     ghost use Rattle.can_node.specs.Pieces.Piece.{InterframeSpaceWithSof};
     ghost use Rattle.can_node.specs.Counting.{at_bit};
     ghost use Rattle.can_node.specs.Effects.{closed};
-    ghost use Rattle.can_node.specs.Machine.Standing.{context_of};
+    ghost use Rattle.can_node.specs.Machine.Standing.{context_of, HasBody};
     ghost use Rattle.can_node.specs.Machine.Stages.{At};
     ghost use Rattle.can_node.specs.Machine.Turns.{next_of, piece_of, IsTurn, resulted, AtAfter, off_if};
 
     /// Stands in the piece under way, or at the place after it.
     pub(crate) fn go_to(&mut self, after: AfterBit)
+        ensures body { self.new.body ≡ self.old.body }
         ensures context { self.old.context.counters.tec < 900
             → context_of self.new.context ≡ resulted after (context_of self.old.context) }
         ensures at { (c now : ContextValue) (place : Place) (bits : List Bit) (b : Bit) → self.old.context.counters.tec < 900
+            → HasBody self.old.context self.old.body
             → context_of self.old.context ≡ at_bit now place bits b → IsTurn self.old.shift c now place bits b after
             → AtAfter after self.new.stage self.new.shift c (context_of self.new.context) place (bits ++ b ∷ []) }
     {
@@ -52,8 +54,8 @@ impl Node {
     /// Stands at the beginning of the place after a piece.
     #[tactic(auto, using(crate::proofs::Waiting::Flags::flags_from, crate::proofs::Waiting::Delimiters::delimits_from, crate::proofs::Waiting::InterframeSpaces::interframes_from))]
     fn begin_place(&mut self, ending: &Ending)
-        ensures kept { self.new.context ≡ self.old.context }
-        ensures at { (before : ContextValue) → context_of self.old.context ≡ closed (piece_of ending.now) (next_of ending.now) before
+        ensures kept { self.new ≡ record self.old { stage = self.new.stage; shift = self.new.shift } }
+        ensures at { (before : ContextValue) → HasBody self.old.context self.old.body → context_of self.old.context ≡ closed (piece_of ending.now) (next_of ending.now) before
             → At self.new.stage self.new.shift (context_of self.new.context) (context_of self.new.context) (next_of ending.now) [] }
     {
         match ending {
@@ -80,11 +82,10 @@ impl Node {
 
     /// A frame began with the last bit of interframe space: its SOF.
     fn begin_frame(&mut self)
-        ensures kept { self.new.context ≡ self.old.context }
-        ensures reads { (before : ContextValue) → context_of self.old.context ≡ closed InterframeSpaceWithSof AfterSof before
+        ensures kept { self.new ≡ record self.old { stage = self.new.stage; shift = self.new.shift } }
+        ensures reads { (before : ContextValue) → HasBody self.old.context self.old.body → context_of self.old.context ≡ closed InterframeSpaceWithSof AfterSof before
             → At self.new.stage self.new.shift (context_of self.new.context) (context_of self.new.context) AfterSof [] }
     {
-        self.context.frame_fits();
         self.shift = Shift::new();
         self.shift.advance(Level::Dominant);
         self.stage = Stage::InFrame;
@@ -92,6 +93,7 @@ impl Node {
 
     /// Where TEC has come to 256 the node goes bus-off.
     pub(crate) fn go_off(&mut self)
+        ensures body { self.new.body ≡ self.old.body }
         ensures context { context_of self.new.context ≡ off_if (context_of self.old.context) }
         ensures on { self.old.context.counters.tec < 256 → self.new ≡ self.old }
         ensures off { 256 ≤ self.old.context.counters.tec → self.new.stage ≡ StageInReset }

@@ -1,16 +1,14 @@
-ghost use Rattle.std.specs.Prelude.{◌≡◌, ◌&&◌, not};
-
 use super::aborted::Aborted;
 use super::after_bit::AfterBit;
 use super::bit_events::BitEvents;
 use super::config::Config;
 use super::context::Context;
-use super::counters::{BUS_OFF, Counters};
+use super::counters::Counters;
 use super::outcome::Outcome;
 use super::phase::Phase;
 use super::request::Request;
 use super::stage::Stage;
-use can_bits::{Level, Shift};
+use can_bits::{Level, SentBody, Shift};
 
 /// How many bits intermission has (Bosch CAN 2.0 part A section 3.1.5).
 const INTERMISSION: u8 = 3;
@@ -24,6 +22,10 @@ pub struct Node {
     pub(crate) context: Context,
     pub(crate) stage: Stage,
     pub(crate) shift: Shift,
+    /// The packed body of the request that is held, or was held last.
+    pub(crate) body: SentBody,
+    /// The level that the node drives in the next bit.
+    pub(crate) next: Level,
 }
 
 impl Node {
@@ -47,6 +49,8 @@ impl Node {
             context: Context::new(),
             stage: Stage::InReset,
             shift: Shift::new(),
+            body: SentBody::empty(),
+            next: Level::Recessive,
         }
     }
 
@@ -60,6 +64,7 @@ impl Node {
             left: self.context.integration_count(),
             run: 0,
         };
+        self.next = Level::Recessive;
     }
 
     /// Enters reset at once. The request is dropped, and the error counters stay.
@@ -69,13 +74,15 @@ impl Node {
     {
         self.context.stop();
         self.stage = Stage::InReset;
+        self.next = Level::Recessive;
     }
 
     /// The level that the node drives in the next bit.
+    #[inline(always)]
     pub fn drive(&self) -> Level
         ensures { DrivesNext self.now result }
     {
-        self.next_level()
+        self.next
     }
 
     /// Sees the level of the bus in this bit, in which the node drove what [`drive`](Node::drive) says; in reset it looks
@@ -85,29 +92,7 @@ impl Node {
         ensures off { IsTrue result.went_off → InReset self.new }
         ensures rests { StaysReset self.old self.new result }
     {
-        let driven = self.next_level();
-        let lost = self.lost_arbitration(driven, level);
-        let held = self.context.held.is_some();
-        let off = self.context.counters.off;
-        let after = self.after_bit(driven, level, lost.is_some());
-        let received = after.received();
-        let sent = after.is_sent();
-        let fault = after.fault();
-        self.go_to(after);
-        let receiving = !self.context.is_transmitter();
-        let recovered = recovers(off, self.context.counters.off);
-        let went_off = self.context.counters.tec >= BUS_OFF;
-        let ended = self.ended(held, sent);
-        self.go_off();
-        BitEvents {
-            received,
-            ended,
-            lost,
-            fault,
-            receiving,
-            went_off,
-            recovered,
-        }
+        self.sample_fully(level)
     }
 
     /// Takes a request, to be sent as soon as the bus is idle. It is given back where one is held, or in reset.
@@ -120,7 +105,9 @@ impl Node {
         if let Stage::InReset = self.stage {
             return Err(request);
         }
+        self.body = SentBody::of(&request.frame);
         self.context.held = Some(request);
+        self.next = self.next_level();
         Ok(())
     }
 
@@ -134,11 +121,13 @@ impl Node {
             Some(_) => {
                 if !self.is_in_progress() {
                     self.context.held = None;
+                    self.next = self.next_level();
                     Aborted::Dropped
                 } else if self.context.drops() {
                     Aborted::Unchanged
                 } else {
                     self.context.aborted = true;
+                    self.next = self.next_level();
                     Aborted::Marked
                 }
             }
@@ -201,11 +190,4 @@ impl Node {
             _ => false,
         }
     }
-}
-
-/// Whether bus-off stood and stands no more.
-fn recovers(off: bool, still: bool) -> bool
-    ensures { result ≡ (off && not still) }
-{
-    off && !still
 }

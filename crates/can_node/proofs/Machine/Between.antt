@@ -24,7 +24,7 @@ use Rattle.can_node.specs.Cut.Move.{sent, aborted}
 use Rattle.can_node.specs.Machine.Standing.{context_of}
 use Rattle.can_node.specs.Machine.Stages.{At, ByRole, IsInFlag, IsInFrame, IsReading}
 use Rattle.can_node.specs.Machine.Stages.IsInFrame.{from_idle, from_pause}
-use Rattle.can_node.specs.Stands.{StandsAt}
+use Rattle.can_node.specs.Stands.{StandsAt, FollowsAt}
 use Rattle.can_node.proofs.Machine.Along.{along_both, bits_both}
 use Rattle.can_node.proofs.OneCut.GoOn.{open_end, stays_end, move_on, open_on, inner_both}
 use Rattle.can_node.proofs.Reception.Beginnings.{receives_from_pause}
@@ -145,7 +145,7 @@ between_by : (old new : Node) (entries : List Entry) (found : List FinishedPiece
     context_of old.context ≡ along c place [] slice → IsBetween entry place → place ≢ AtReset →
     along (along c place [] slice) place [] (entry ∷ []) ≡ changed (along c place [] slice) held marked →
     (old.stage ≡ StageInFrame → (along c place [] slice).role ≡ Transmitter → held ≡ (along c place [] slice).held) →
-    context_of new.context ≡ changed (context_of old.context) held marked → new.stage ≡ old.stage → new.shift ≡ old.shift → StandsAt new (entries ++ entry ∷ []) found
+    context_of new.context ≡ changed (context_of old.context) held marked → new.stage ≡ old.stage → new.shift ≡ old.shift → FollowsAt new (entries ++ entry ∷ []) found
 between_by old new entries found entry held marked c place slice cut (rests l) at was between away change stays shows stage shift = absurd (away refl)
 between_by old new entries found entry held marked c place slice cut nothing at was between away change stays shows stage shift =
     let next = changed c held marked in
@@ -186,6 +186,6 @@ pub between_stands : (old new : Node) (entries : List Entry) (found : List Finis
     let now = along h.cut.context h.cut.place [] h.cut.rest in
     IsBetween entry h.cut.place → h.cut.place ≢ AtReset → along now h.cut.place [] (entry ∷ []) ≡ changed now held marked → (old.stage ≡ StageInFrame → now.role ≡ Transmitter → held ≡ now.held) →
     context_of new.context ≡ changed (context_of old.context) held marked → new.stage ≡ old.stage → new.shift ≡ old.shift →
-    StandsAt new (entries ++ entry ∷ []) found
+    FollowsAt new (entries ++ entry ∷ []) found
 between_stands old new entries found h entry held marked between away change stays shows stage shift =
     between_by old new entries found entry held marked h.cut.context h.cut.place h.cut.rest h.cut.from (open_end h.cut.from) h.at h.shows between away change stays shows stage shift

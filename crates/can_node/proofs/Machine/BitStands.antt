@@ -19,7 +19,7 @@ use Rattle.can_node.specs.Cut.Move.{piece, off_within, off_after}
 use Rattle.can_node.specs.Driving.{Drives}
 use Rattle.can_node.specs.Machine.Standing.{context_of}
 use Rattle.can_node.specs.Machine.Stages.{At}
-use Rattle.can_node.specs.Stands.{StandsAt}
+use Rattle.can_node.specs.Stands.{StandsAt, FollowsAt}
 use Rattle.can_node.proofs.Machine.Along.{along-bit}
 use Rattle.can_node.proofs.OneCut.GoOn.{counted_both, open_end, stays_end, move_on, open_on, no_rest_piece, slice_open}
 use Rattle.can_node.proofs.Machine.Sampling.{bits_push, some_bit, open_at, pushed_open}
@@ -40,7 +40,7 @@ off_away c place bits b stays off e =
 pub goes_stands : (old new : Node) (entries : List Entry) (found : List FinishedPiece) (h : StandsAt old entries found) (b : Bit) (stage : Stage) (shift : Shift) →
     let now = along h.cut.context h.cut.place [] h.cut.rest in let d = at_bit now h.cut.place (bits_in h.cut.rest) b in
     Drives now h.cut.place (bits_in h.cut.rest) b.driven → At stage shift h.cut.context d h.cut.place (bits_in h.cut.rest ++ b ∷ []) → d.tec < 256 →
-    context_of new.context ≡ d → new.stage ≡ stage → new.shift ≡ shift → StandsAt new (entries ++ OneBit b ∷ []) found
+    context_of new.context ≡ d → new.stage ≡ stage → new.shift ≡ shift → FollowsAt new (entries ++ OneBit b ∷ []) found
 goes_stands old new entries found h b stage shift drives at few shows same_stage same_shift =
     let slice = h.cut.rest ++ OneBit b ∷ [] in
     let whole = along-bit h.cut.context h.cut.place h.cut.rest b in
@@ -63,7 +63,7 @@ pub closes_stands : (old new : Node) (entries : List Entry) (found : List Finish
     let n = closed p next (at_bit (along h.cut.context h.cut.place [] h.cut.rest) h.cut.place (bits_in h.cut.rest) b) in
     Row h.cut.context h.cut.place (bits_in h.cut.rest ++ b ∷ []) p next → At stage shift n n next [] → n.tec < 256 →
     context_of new.context ≡ n → new.stage ≡ stage → new.shift ≡ shift →
-    StandsAt new (entries ++ OneBit b ∷ []) (found ++ tagged (counted none_yet (entries ++ OneBit b ∷ [])) (p ∷ []))
+    FollowsAt new (entries ++ OneBit b ∷ []) (found ++ tagged (counted none_yet (entries ++ OneBit b ∷ [])) (p ∷ []))
 closes_stands old new entries found h b stage shift p next row at few shows same_stage same_shift =
     let slice = h.cut.rest ++ OneBit b ∷ [] in
     let n = closed p next (at_bit (along h.cut.context h.cut.place [] h.cut.rest) h.cut.place (bits_in h.cut.rest) b) in
@@ -97,7 +97,7 @@ off_counts entries b = counted_both none_yet entries (OneBit b ∷ BusOff ∷ []
 pub off_goes : (old new : Node) (entries : List Entry) (found : List FinishedPiece) (h : StandsAt old entries found) (b : Bit) (stage : Stage) (shift : Shift) →
     let now = along h.cut.context h.cut.place [] h.cut.rest in let d = at_bit now h.cut.place (bits_in h.cut.rest) b in
     At stage shift h.cut.context d h.cut.place (bits_in h.cut.rest ++ b ∷ []) → 256 ≤ d.tec →
-    context_of new.context ≡ with_off d → new.stage ≡ StageInReset → StandsAt new (entries ++ OneBit b ∷ BusOff ∷ []) found
+    context_of new.context ≡ with_off d → new.stage ≡ StageInReset → FollowsAt new (entries ++ OneBit b ∷ BusOff ∷ []) found
 off_goes old new entries found h b stage shift at off shows reset =
     let slice = h.cut.rest ++ OneBit b ∷ [] in
     let now = along h.cut.context h.cut.place [] h.cut.rest in
@@ -124,7 +124,7 @@ pub off_closes : (old new : Node) (entries : List Entry) (found : List FinishedP
     let n = closed p next (at_bit (along h.cut.context h.cut.place [] h.cut.rest) h.cut.place (bits_in h.cut.rest) b) in
     Row h.cut.context h.cut.place (bits_in h.cut.rest ++ b ∷ []) p next → 256 ≤ n.tec →
     context_of new.context ≡ with_off n → new.stage ≡ StageInReset →
-    StandsAt new (entries ++ OneBit b ∷ BusOff ∷ []) (found ++ tagged (counted none_yet (entries ++ OneBit b ∷ [])) (p ∷ []))
+    FollowsAt new (entries ++ OneBit b ∷ BusOff ∷ []) (found ++ tagged (counted none_yet (entries ++ OneBit b ∷ [])) (p ∷ []))
 off_closes old new entries found h b p next row off shows reset =
     let slice = h.cut.rest ++ OneBit b ∷ [] in
     let n = closed p next (at_bit (along h.cut.context h.cut.place [] h.cut.rest) h.cut.place (bits_in h.cut.rest) b) in

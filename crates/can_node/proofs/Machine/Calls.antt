@@ -15,9 +15,9 @@ use Rattle.can_node.specs.Effects.{along, with_start, with_stop}
 use Rattle.can_node.specs.Cut.{IsOpenAt, IsOnBus, Move, From, FinishedPiece, none_yet}
 use Rattle.can_node.specs.Cut.IsOpenAt.{nothing}
 use Rattle.can_node.specs.Cut.Move.{started, stopped}
-use Rattle.can_node.specs.Machine.Standing.{context_of}
+use Rattle.can_node.specs.Machine.Standing.{context_of, HasBody}
 use Rattle.can_node.specs.Machine.Stages.{At}
-use Rattle.can_node.specs.Stands.{StandsAt}
+use Rattle.can_node.specs.Stands.{StandsAt, FollowsAt}
 use Rattle.can_node.proofs.OneCut.GoOn.{open_end, stays_end, move_on, rest_open}
 use Rattle.can_node.proofs.Waiting.Integrations.{integrates_from}
 
@@ -34,7 +34,7 @@ along_open c slice opened =
 
 -- ---- a new node
 
-pub new_stands : (node : Node) → node.stage ≡ StageInReset → context_of node.context ≡ fresh → StandsAt node [] []
+pub new_stands : (node : Node) → node.stage ≡ StageInReset → context_of node.context ≡ fresh → FollowsAt node [] []
 new_stands node reset shows =
     let P : Stage → Type 0 = λ s. At s node.shift fresh fresh AtReset [] in
     record {
@@ -42,6 +42,10 @@ new_stands node reset shows =
       shows = shows;
       at = subst P (sym reset) (refl, refl);
     }
+
+-- it holds no request
+pub new_holds : (node : Node) → context_of node.context ≡ fresh → HasBody node.context node.body
+new_holds node shows request e = let none = sym (ap (λ (d : ContextValue). d.held) shows) ∙ e in absurd cc
 
 -- ---- a start
 
@@ -81,7 +85,7 @@ rest_now c place slice rest opened =
 
 pub started_stands : (old new : Node) (config : Config) (entries : List Entry) (found : List FinishedPiece) → old.stage ≡ StageInReset →
     context_of new.context ≡ with_start config (context_of old.context) → new.stage ≡ StageIntegrating (integration_count (context_of new.context)) 0 →
-    StandsAt old entries found → StandsAt new (entries ++ Start config ∷ []) found
+    StandsAt old entries found → FollowsAt new (entries ++ Start config ∷ []) found
 started_stands old new config entries found reset shows stage h =
     let R : Stage → Type 0 = λ s. At s old.shift h.cut.context (along h.cut.context h.cut.place [] h.cut.rest) h.cut.place (bits_in h.cut.rest) in
     let rest : h.cut.place ≡ AtReset = (subst R reset h.at).0 in
@@ -97,10 +101,19 @@ started_stands old new config entries found reset shows stage h =
       at = subst Q (sym waits) (refl, integrates_from now (join_some now.off));
     }
 
+-- it keeps the request that is held, if any
+pub start_holds : (config : Config) (c : ContextValue) → (with_start config c).held ≡ c.held
+start_holds config c = chosen (c.off && not config.listen)
+  where
+    chosen : (test : Bool) →
+        (if test then record c { listen = config.listen; self_test = config.self_test; tec = 127; rec = 0 } else record c { listen = config.listen; self_test = config.self_test }).held ≡ c.held
+    chosen true = refl
+    chosen false = refl
+
 -- ---- a stop
 
 pub stopped_stands : (old new : Node) (entries : List Entry) (found : List FinishedPiece) → new.stage ≡ StageInReset →
-    context_of new.context ≡ with_stop (context_of old.context) → StandsAt old entries found → StandsAt new (entries ++ Stop ∷ []) found
+    context_of new.context ≡ with_stop (context_of old.context) → StandsAt old entries found → FollowsAt new (entries ++ Stop ∷ []) found
 stopped_stands old new entries found reset shows h =
     let now = along h.cut.context h.cut.place [] h.cut.rest in
     let stays = stays_end h.cut.from in

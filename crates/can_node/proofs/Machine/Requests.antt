@@ -1,5 +1,5 @@
 -- What a request and an abort make of a record.
-use Rattle.std.proofs.Common.{◌≡◌, ◌≢◌, Bool, true, false, Option, Some, None, is_some, List, refl, ap, sym, subst, ◌∙◌, if◌then◌else◌}
+use Rattle.std.proofs.Common.{◌++◌, ◌∷◌, [], ◌≡◌, ◌≢◌, Bool, true, false, Option, Some, None, is_some, List, refl, ap, sym, subst, ◌∙◌, if◌then◌else◌}
 use Rattle.can_bits.specs.declared.shift.Shift.{Shift}
 use Rattle.can_node.specs.declared.role.Role.{Role}
 use Rattle.can_node.specs.declared.role.Role.TheVariants.{Transmitter}
@@ -19,7 +19,7 @@ use Rattle.can_node.specs.Machine.Standing.{context_of}
 use Rattle.can_node.specs.Machine.Stages.{At, ByRole, IsInFrame, IsReading, IsTransmitting}
 use Rattle.can_node.specs.Machine.Stages.IsInFrame.{from_idle, from_pause}
 use Rattle.can_node.specs.NextBit.{now_in}
-use Rattle.can_node.specs.Stands.{StandsAt, Enters, abort_of}
+use Rattle.can_node.specs.Stands.{FollowsAt, StandsAt, abort_of}
 use Rattle.can_node.proofs.Machine.Between.{changed, send_between, abort_between, between_stands}
 use Rattle.can_node.proofs.Machine.Shown.{at_shown}
 
@@ -65,7 +65,7 @@ transmitting_holds stage shift c now place bits in_frame role at none =
 
 pub sent_stands : (old new : Node) (request : Request) → old.stage ≢ StageInReset → old.context.held ≡ None →
     context_of new.context ≡ changed (context_of old.context) (Some request) old.context.aborted → new.stage ≡ old.stage → new.shift ≡ old.shift →
-    Enters old new (Send request)
+    (entries : List Entry) (found : List FinishedPiece) → StandsAt old entries found → FollowsAt new (entries ++ Send request ∷ []) found
 sent_stands old new request off none shows stage shift entries found h =
     let now = now_in h.cut in
     let away = awake_now old entries found h off in
@@ -107,7 +107,8 @@ holding_awake node entries found h request held =
 -- an abort of a request in progress marks it
 pub marked_stands : (old new : Node) (request : Request) → old.context.held ≡ Some request →
     ((entries : List Entry) (found : List FinishedPiece) (h : StandsAt old entries found) → is_in_progress (context_of old.context) h.cut.place ≡ true) →
-    context_of new.context ≡ changed (context_of old.context) old.context.held true → new.stage ≡ old.stage → new.shift ≡ old.shift → Enters old new Abort
+    context_of new.context ≡ changed (context_of old.context) old.context.held true → new.stage ≡ old.stage → new.shift ≡ old.shift →
+    (entries : List Entry) (found : List FinishedPiece) → StandsAt old entries found → FollowsAt new (entries ++ Abort ∷ []) found
 marked_stands old new request held going shows stage shift entries found h =
     let now = now_in h.cut in
     let away = holding_awake old entries found h request held in
@@ -120,7 +121,8 @@ marked_stands old new request held going shows stage shift entries found h =
 -- and any other is dropped
 pub dropped_stands : (old new : Node) (request : Request) → old.context.held ≡ Some request →
     ((entries : List Entry) (found : List FinishedPiece) (h : StandsAt old entries found) → is_in_progress (context_of old.context) h.cut.place ≡ false) →
-    context_of new.context ≡ changed (context_of old.context) None old.context.aborted → new.stage ≡ old.stage → new.shift ≡ old.shift → Enters old new Abort
+    context_of new.context ≡ changed (context_of old.context) None old.context.aborted → new.stage ≡ old.stage → new.shift ≡ old.shift →
+    (entries : List Entry) (found : List FinishedPiece) → StandsAt old entries found → FollowsAt new (entries ++ Abort ∷ []) found
 dropped_stands old new request held going shows stage shift entries found h =
     let now = now_in h.cut in
     let away = holding_awake old entries found h request held in

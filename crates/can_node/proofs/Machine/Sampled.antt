@@ -19,9 +19,10 @@ use Rattle.can_node.specs.Effects.{along, closed, with_off}
 use Rattle.can_node.specs.Cut.{FinishedPiece, none_yet, counted, tagged}
 use Rattle.can_node.specs.Events.{events_of}
 use Rattle.can_node.specs.Driving.{Drives}
-use Rattle.can_node.specs.Machine.Standing.{context_of}
+use Rattle.can_node.specs.Machine.Standing.{context_of, HasBody}
 use Rattle.can_node.specs.Machine.Turns.{IsMade, AtAfter, piece_of, next_of, step_of, resulted, off_if}
-use Rattle.can_node.specs.Stands.{StandsAt, Leads, closed_by}
+use Rattle.can_node.specs.Stands.{StandsAt, FollowsAt, Leads, closed_by, entries_of}
+use Rattle.can_node.proofs.Machine.Shown.{DrivesBy, stands_up}
 use Rattle.can_node.proofs.Machine.BitStands.{goes_stands, closes_stands, off_goes, off_closes}
 
 -- bus-off or not
@@ -41,11 +42,11 @@ stands_by : (old new : Node) (entries : List Entry) (found : List FinishedPiece)
     Drives now h.cut.place (bits_in h.cut.rest) b.driven → IsMade reader h.cut.context d h.cut.place (bits_in h.cut.rest ++ b ∷ []) turn →
     AtAfter turn stage shift h.cut.context n h.cut.place (bits_in h.cut.rest ++ b ∷ []) → context_of new.context ≡ off_if n →
     (n.tec < 256 → (new.stage ≡ stage) × (new.shift ≡ shift)) → (256 ≤ n.tec → new.stage ≡ StageInReset) →
-    StandsAt new (entries ++ entries_if (nat_le 256 n.tec) b) (found ++ closed_by (counted none_yet (entries ++ OneBit b ∷ [])) (step_of turn))
+    FollowsAt new (entries ++ entries_if (nat_le 256 n.tec) b) (found ++ closed_by (counted none_yet (entries ++ OneBit b ∷ [])) (step_of turn))
 stands_by old new entries found h b (InPiece going) stage reader shift drives made at shows on off =
     let d = at_bit (along h.cut.context h.cut.place [] h.cut.rest) h.cut.place (bits_in h.cut.rest) b in
-    let P : Bool → Type 0 = λ w. StandsAt new (entries ++ entries_if w b) found in
-    let Q : List FinishedPiece → Type 0 = λ f. StandsAt new (entries ++ entries_if (nat_le 256 d.tec) b) f in
+    let P : Bool → Type 0 = λ w. FollowsAt new (entries ++ entries_if w b) found in
+    let Q : List FinishedPiece → Type 0 = λ f. FollowsAt new (entries ++ entries_if (nat_le 256 d.tec) b) f in
     subst Q (sym (append-nil found)) (elim (cases_lt d.tec 256) [
       | inl few ↦
           let same = on few in
@@ -56,7 +57,7 @@ stands_by old new entries found h b (InPiece going) stage reader shift drives ma
 stands_by old new entries found h b (Ended done) stage reader shift drives made at shows on off =
     let d = at_bit (along h.cut.context h.cut.place [] h.cut.rest) h.cut.place (bits_in h.cut.rest) b in
     let n = closed (piece_of done) (next_of done) d in
-    let P : Bool → Type 0 = λ w. StandsAt new (entries ++ entries_if w b)
+    let P : Bool → Type 0 = λ w. FollowsAt new (entries ++ entries_if w b)
     (found ++ tagged (counted none_yet (entries ++ OneBit b ∷ [])) (piece_of done ∷ [])) in
     elim (cases_lt n.tec 256) [
       | inl few ↦
@@ -90,11 +91,13 @@ pub leads_by : (old new : Node) (entries : List Entry) (found : List FinishedPie
     Drives now h.cut.place (bits_in h.cut.rest) b.driven → IsMade reader h.cut.context d h.cut.place (bits_in h.cut.rest ++ b ∷ []) turn →
     AtAfter turn stage shift h.cut.context n h.cut.place (bits_in h.cut.rest ++ b ∷ []) → context_of new.context ≡ off_if n →
     (n.tec < 256 → (new.stage ≡ stage) × (new.shift ≡ shift)) → (256 ≤ n.tec → new.stage ≡ StageInReset) →
-    e ≡ events_of (step_of turn) now h.cut.place (bits_in h.cut.rest) b → e.went_off ≡ nat_le 256 n.tec → Leads old new entries found h b e
-leads_by old new entries found h b turn stage reader shift e drives made at shows on off told went =
+    e ≡ events_of (step_of turn) now h.cut.place (bits_in h.cut.rest) b → e.went_off ≡ nat_le 256 n.tec → HasBody new.context new.body → DrivesBy new new.next →
+    Leads old new entries found h b e
+leads_by old new entries found h b turn stage reader shift e drives made at shows on off told went body level =
     let d = at_bit (along h.cut.context h.cut.place [] h.cut.rest) h.cut.place (bits_in h.cut.rest) b in
-    let P : Bool → Type 0 = λ w. StandsAt new (entries ++ entries_if w b) (found ++ closed_by (counted none_yet (entries ++ OneBit b ∷ [])) (step_of turn)) in
-    let there = subst P (sym went) (stands_by old new entries found h b turn stage reader shift drives made at shows on off) in
+    let P : Bool → Type 0 = λ w. FollowsAt new (entries ++ entries_if w b) (found ++ closed_by (counted none_yet (entries ++ OneBit b ∷ [])) (step_of turn)) in
+    let follows = subst P (sym went) (stands_by old new entries found h b turn stage reader shift drives made at shows on off) in
+    let there = stands_up new (entries ++ entries_of b e) (found ++ closed_by (counted none_yet (entries ++ OneBit b ∷ [])) (step_of turn)) follows body level in
     record {
       step = step_of turn;
       told = told;

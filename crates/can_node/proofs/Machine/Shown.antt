@@ -1,7 +1,8 @@
 -- What a node that stands at a record shows of it.
-use Rattle.std.proofs.Common.{◌≡◌, ◌≢◌, Bool, true, false, not, is_some, Option, Some, None, List, refl, ap, sym, subst, ◌∙◌, if◌then◌else◌}
+use Rattle.std.proofs.Common.{◌≡◌, ◌≢◌, Bool, true, false, not, is_some, Option, Some, None, List, refl, ap, sym, subst, ◌∙◌, if◌then◌else◌, ℕ}
 use Rattle.can_bits.specs.declared.level.Level.{Level}
-use Rattle.can_node.specs.declared.stage.Stage.TheVariants.{InFrame as StageInFrame}
+use Rattle.can_bits.specs.declared.level.Level.TheVariants.{Recessive}
+use Rattle.can_node.specs.declared.stage.Stage.TheVariants.{InReset as StageInReset, Integrating as StageIntegrating, InFrame as StageInFrame}
 use Rattle.can_node.specs.declared.phase.Phase.{Phase}
 use Rattle.can_node.specs.declared.phase.Phase.TheVariants.{Reset, Waiting, Idle, Frame, Flag, Delimiter, Intermission, Suspension}
 use Rattle.can_node.specs.declared.node.Node.{Node}
@@ -12,11 +13,11 @@ use Rattle.can_node.specs.Pieces.{Place}
 use Rattle.can_node.specs.Record.{Entry, bits_in}
 use Rattle.can_node.specs.Cut.{FinishedPiece}
 use Rattle.can_node.specs.Driving.{Drives, phase_at}
-use Rattle.can_node.specs.Machine.Standing.{context_of, IsKept}
+use Rattle.can_node.specs.Machine.Standing.{context_of, HasBody, IsKept}
 use Rattle.can_node.specs.Machine.Stages.{At, IsInFrame}
 use Rattle.can_node.specs.Machine.Stages.IsInFrame.{from_idle, from_pause}
 use Rattle.can_node.specs.NextBit.{now_in, rests_in}
-use Rattle.can_node.specs.Stands.{StandsAt}
+use Rattle.can_node.specs.Stands.{FollowsAt, StandsAt}
 use Rattle.can_node.proofs.Machine.Along.{is_kept}
 use Rattle.can_node.proofs.Machine.Ats.{at_is}
 
@@ -34,14 +35,43 @@ kept_shown node entries found h =
     let P : ContextValue → Type 0 = λ d. IsKept h.cut.place h.cut.context d in
     subst P (sym h.shows) (is_kept h.cut.context h.cut.place h.cut.rest)
 
--- what it drives
-pub drive_shown : (node : Node) (entries : List Entry) (found : List FinishedPiece) (h : StandsAt node entries found) (x : Level) →
-    ((c : ContextValue) (place : Place) (bits : List Bit) → At node.stage node.shift c (context_of node.context) place bits → IsKept place c (context_of node.context) →
-    Drives (context_of node.context) place bits x) →
-    Drives (now_in h.cut) h.cut.place (bits_in h.cut.rest) x
-drive_shown node entries found h x f =
-    let P : ContextValue → Type 0 = λ d. Drives d h.cut.place (bits_in h.cut.rest) x in
-    subst P h.shows (f h.cut.context h.cut.place (bits_in h.cut.rest) (at_shown node entries found h) (kept_shown node entries found h))
+-- ---- the level that is kept
+
+-- the level is what a node drives next, by its own fields at each place where they may stand
+abbrev pub DrivesBy : Node → Level → Type 0
+DrivesBy node x = (c : ContextValue) (place : Place) (bits : List Bit) → At node.stage node.shift c (context_of node.context) place bits →
+    IsKept place c (context_of node.context) → HasBody node.context node.body → Drives (context_of node.context) place bits x
+
+-- a node that keeps it and follows a record stands at it
+pub stands_up : (node : Node) (entries : List Entry) (found : List FinishedPiece) → FollowsAt node entries found → HasBody node.context node.body → DrivesBy node node.next →
+    StandsAt node entries found
+stands_up node entries found h body level =
+    let c = h.cut.context in
+    let place = h.cut.place in
+    let bits = bits_in h.cut.rest in
+    let P : ContextValue → Type 0 = λ d. At node.stage node.shift c d place bits in
+    let Q : ContextValue → Type 0 = λ d. IsKept place c d in
+    let R : ContextValue → Type 0 = λ d. Drives d place bits node.next in
+    record {
+      cut = h.cut;
+      shows = h.shows;
+      at = h.at;
+      next = subst R h.shows (level c place bits (subst P (sym h.shows) h.at) (subst Q (sym h.shows) (is_kept c place h.cut.rest)) body);
+      body = body;
+    }
+
+-- in reset, and while the bus is waited for, a node drives recessive
+pub reset_drives : (node : Node) (x : Level) → node.stage ≡ StageInReset → x ≡ Recessive → DrivesBy node x
+reset_drives node x e recessive c place bits at kept body =
+    let h = at_is StageInReset node.stage node.shift c (context_of node.context) place bits e at in
+    let P : Place → Type 0 = λ s. Drives (context_of node.context) s bits x in
+    subst P (sym h.0) recessive
+
+pub integrating_drives : (node : Node) (x : Level) (left run : ℕ) → node.stage ≡ StageIntegrating left run → x ≡ Recessive → DrivesBy node x
+integrating_drives node x left run e recessive c place bits at kept body =
+    let h = at_is (StageIntegrating left run) node.stage node.shift c (context_of node.context) place bits e at in
+    let P : Place → Type 0 = λ s. Drives (context_of node.context) s bits x in
+    subst P (sym h.0) recessive
 
 -- its phase in a frame
 in_frame : (place : Place) (bits : List Bit) → IsInFrame place bits → Frame ≡ phase_at place bits

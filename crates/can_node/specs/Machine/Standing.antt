@@ -1,5 +1,9 @@
 -- What the fields of a node say of its context.
-use Rattle.std.specs.Prelude.{◌≡◌, Bool, true, false, List, [], ◌∷◌}
+use Rattle.std.specs.Prelude.{◌≡◌, Bool, true, false, Some, List, [], ◌∷◌}
+use Rattle.can_frame.specs.Frame.{IsFrame}
+use Rattle.can_bits.specs.declared.sent_body.SentBody.{SentBody}
+use Rattle.can_bits.specs.Packing.{IsSentBody}
+use Rattle.can_node.specs.declared.request.Request.{Request}
 use Rattle.can_node.specs.declared.context.Context.{Context}
 use Rattle.can_node.specs.Context.{ContextValue, owes_suspension}
 use Rattle.can_node.specs.Pieces.{Place}
@@ -32,3 +36,7 @@ pub record IsKept (place : Place) (c now : ContextValue) : Type 0 where
 abbrev pub is_nil : {A : Type 0} → List A → Bool
 is_nil [] = true
 is_nil (b ∷ bits) = false
+
+-- the packed body is that of the request that is held, which asks for a frame
+abbrev pub HasBody : Context → SentBody → Type 0
+HasBody s body = (request : Request) → s.held ≡ Some request → IsFrame request.frame × IsSentBody body request.frame

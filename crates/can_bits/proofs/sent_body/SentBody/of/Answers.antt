@@ -58,8 +58,8 @@ loop-byte-preserved c =
     let P : List Level → Type 0 = λ l. Packs c.followed_by-body-in-loop-byte.result.word c.followed_by-body-in-loop-byte.result.length l in
     subst P (ap (λ n. (front ++ so_far) ++ bits 8 n) byte ∙ sent_more front bytes k below) packed
 
-pub returns : goal.returns
-returns c =
+pub returns-clause-packs : goal.returns-clause-packs
+returns-clause-packs c =
     let f = c.args.frame.now in
     let bytes = c.bytes-byte-items.result.now in
     let k = c.loop-byte.byte-index in

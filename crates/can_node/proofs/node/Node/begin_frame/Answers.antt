@@ -5,5 +5,5 @@ use Rattle.can_node.proofs.node.Node.begin_frame.Goals as goal
 
 -- src/going.rt
 pub returns-clause-reads : goal.returns-clause-reads
-returns-clause-reads c = λ before same.
-    starts_frame c.advance.new.self (context_of c.args.self.now.context) before same c.frame_fits.ensures (c.advance.ensures.stands [] c.new-self.ensures)
+returns-clause-reads c = λ before body same.
+    starts_frame c.advance.new.self (context_of c.args.self.now.context) before same (λ request e. (body request e).0) (c.advance.ensures.stands [] c.new-self.ensures)

@@ -1,4 +1,10 @@
-use Rattle.std.proofs.Common.{refl, sym, ◌∙◌, None, Some}
+use Rattle.std.proofs.Common.{◌++◌, ◌∷◌, [], refl, sym, subst, ◌∙◌, ◌≡◌, None, Some}
+use Rattle.can_frame.specs.Frame.{IsFrame}
+use Rattle.can_bits.specs.Packing.{IsSentBody}
+use Rattle.can_node.specs.declared.node.Node.{Node}
+use Rattle.can_node.specs.declared.request.Request.{Request}
+use Rattle.can_node.specs.Record.Entry.{Send}
+use Rattle.can_node.proofs.Machine.Shown.{stands_up}
 use Rattle.can_node.proofs.Machine.Requests.{sent_stands, awake_now, none_held, held_now}
 use Rattle.can_node.proofs.node.Node.request.Goals as goal
 
@@ -6,7 +12,12 @@ use Rattle.can_node.proofs.node.Node.request.Goals as goal
 pub returns : goal.returns
 returns c =
     let old = c.args.self.now in
-    let free = none_held old.context.held (sym c.is_some.ensures ∙ c.if-is_some.false) in (
-      sent_stands old (record old { context = record old.context { held = Some c.args.request } }) c.args.request c.in_default.not-InReset free refl refl refl,
+    let asked : Request = c.args.request in
+    let new : Node = record old { context = record old.context { held = Some asked }; body = c.of-self.result; next = c.next_level-self.result } in
+    let free = none_held old.context.held (sym c.is_some.ensures ∙ c.if-is_some.false) in
+    let P : Request → Type 0 = λ r. IsFrame r.frame × IsSentBody c.of-self.result r.frame in (
+      λ entries found h.
+          stands_up new (entries ++ Send asked ∷ []) found (sent_stands old new asked c.in_default.not-InReset free refl refl refl entries found h)
+          (λ request e. let same : asked ≡ request = cc in subst P same (c.of-self.ensures.valid, c.of-self.ensures.packs)) c.next_level-self.ensures,
       λ entries found h. (awake_now old entries found h c.in_default.not-InReset, held_now old entries found h None free),
     )
