@@ -126,7 +126,14 @@ impl Node {
         self.shift = Shift::new();
         match &self.context.held {
             Some(request) if !self.context.listen => {
-                transmit(&mut self.shift, request, self.context.self_test, false, driven, seen)
+                transmit(
+                    &mut self.shift,
+                    request,
+                    self.context.self_test,
+                    false,
+                    driven,
+                    seen,
+                )
             }
             _ => self.after_other_idle_bit(seen),
         }

@@ -53,16 +53,20 @@ pub told_by : {c now : ContextValue} {place : Place} {bits : List Bit} {driven s
     cause ≡ cause_of_bit driven seen kind self_test →
     (slot : Bool) × (told : IsTold c now place bits driven seen self_test slot (is_early_stuff ext (seen_of (frame_bits place bits))) lost cause)
     × (told.telling.request ≡ h.request)
-told_by {place = place} {bits = bits} {driven = driven} {seen = seen} {self_test = self_test} request site same h one sends lost format own wrong = (own.0, record {
-  site = site;
-  same = same;
-  telling = h;
-  sends = sends;
-  early_is = ap (λ e. is_early_stuff e (seen_of (frame_bits place bits))) (format ∙ ap (λ (r : Request). r.frame.ext) one);
-  lost_is = lost;
-  slot_is = own.1;
-  cause_is = sym (wrong ∙ ap (λ k. cause_of_bit driven seen k self_test) own.2);
-}, refl)
+told_by {place = place} {bits = bits} {driven = driven} {seen = seen} {self_test = self_test} request site same h one sends lost format own wrong = (
+  own.0,
+  record {
+    site = site;
+    same = same;
+    telling = h;
+    sends = sends;
+    early_is = ap (λ e. is_early_stuff e (seen_of (frame_bits place bits))) (format ∙ ap (λ (r : Request). r.frame.ext) one);
+    lost_is = lost;
+    slot_is = own.1;
+    cause_is = sym (wrong ∙ ap (λ k. cause_of_bit driven seen k self_test) own.2);
+  },
+  refl,
+)
 
 -- the driven level is the next one of its line
 pub line_next : {c now : ContextValue} {place : Place} {bits : List Bit} {x : Level} (h : IsTransmitting c now place bits) (s : TransmitsNext h.request (frame_bits place bits) x) →

@@ -10,7 +10,7 @@ returns-in-Transmitter c = λ d place bits reading kept body.
     let h = transmitting_by c.args.self.now.shift d now place bits c.in-Transmitter.is reading in
     transmitting_drives c.args.self.now.shift d now place bits h.request c.next_of.result c.in-Transmitter.is reading h.held
     (λ l others check part before rest y ack stands is_part right seen driven count.
-        c.next_of.ensures h.request.frame l others check part before rest y ack (body h.request h.held).1 stands is_part right seen driven count)
+    c.next_of.ensures h.request.frame l others check part before rest y ack (body h.request h.held).1 stands is_part right seen driven count)
 
 pub returns-in-Receiver : goal.returns-in-Receiver
 returns-in-Receiver c = λ d place bits reading kept body.
