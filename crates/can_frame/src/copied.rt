@@ -1,3 +1,5 @@
+//! A bounded list of the bytes of a slice.
+
 ghost use Rattle.std.specs.Prelude.{◌≡◌, ◌≤◌, length};
 
 use arrayvec::ArrayVec;

@@ -1,3 +1,5 @@
+//! [`Filter`]: the acceptance filter, a function for each mode and format.
+
 ghost use Rattle.std.specs.Prelude.{◌≡◌, ◌<◌, ◌/◌, ◌^◌, ◌↔◌, ◌⊎◌, IsTrue, slice_index};
 ghost use Rattle.can_frame.specs.Message.{bit};
 ghost use Rattle.can_frame.specs.Filter.{Matches, MatchesStandardHead, MatchesExtendedHead, Passes};

@@ -1,3 +1,5 @@
+//! [`Frame`]: a data frame or a remote frame, what it says, and how many data bytes there are.
+
 ghost use Rattle.std.specs.Prelude.{◌≡◌, ◌≢◌, ◌<◌, ◌≤◌, ◌↔◌, IfOk, length};
 ghost use Rattle.can_frame.specs.Frame.{IsFrame, id_limit, data_count};
 
@@ -5,6 +7,9 @@ use super::copied::copied;
 use super::frame_fault::FrameFault;
 use arrayvec::ArrayVec;
 use std::marker::Model;
+
+/// How many data bytes a frame has at most.
+pub const DATA_BYTES: usize = 8;
 
 /// A data frame or a remote frame of CAN 2.0, standard or extended (Bosch CAN 2.0 part A section 3.1, part B sections
 /// 3.1 and 3.2).
@@ -16,7 +21,7 @@ pub struct Frame {
     id: u32,
     rtr: bool,
     dlc: u8,
-    bytes: ArrayVec<u8, 8>,
+    bytes: ArrayVec<u8, DATA_BYTES>,
 }
 
 impl Model for Frame {
@@ -127,5 +132,5 @@ fn id_limit(ext: bool) -> u32
 pub fn data_count(rtr: bool, dlc: u8) -> usize
     ensures { result ≡ data_count rtr dlc }
 {
-    if rtr { 0 } else { usize::from(dlc.min(8)) }
+    if rtr { 0 } else { usize::from(dlc).min(DATA_BYTES) }
 }

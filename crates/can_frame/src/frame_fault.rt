@@ -1,3 +1,5 @@
+//! [`FrameFault`]: why five values are no frame.
+
 use thiserror::Error;
 
 /// Why five values are no frame.

@@ -6,6 +6,12 @@ ghost use Rattle.can_frame.specs.Layout.{said_count, IsShort, IsLong, IsSized, U
 use super::frame::data_count;
 use super::layout_fault::LayoutFault;
 
+/// How many bytes stand before the data of a standard frame: frame information and 11 bits of identifier.
+pub const STANDARD_HEAD: usize = 3;
+
+/// The same of an extended frame: frame information and 29 bits of identifier.
+pub const EXTENDED_HEAD: usize = 5;
+
 /// Bit 7 of the first byte: the frame is extended.
 pub fn said_ext(first: u8) -> bool
     ensures { result ≡ (first / 128 % 2 == 1) }
@@ -31,7 +37,7 @@ pub fn said_dlc(first: u8) -> u8
 fn said_count(first: u8) -> usize
     ensures { result ≡ said_count (first ∷ []) }
 {
-    let head = if said_ext(first) { 5 } else { 3 };
+    let head = if said_ext(first) { EXTENDED_HEAD } else { STANDARD_HEAD };
     head + data_count(said_rtr(first), said_dlc(first))
 }
 

@@ -1,3 +1,5 @@
+//! [`LayoutFault`]: why a list of bytes is no message.
+
 use thiserror::Error;
 
 /// Why a list of bytes is no message.

@@ -3,6 +3,8 @@
 //! A [`Frame`] is what a data or remote frame says. A [`Message`] is the same in the layout of the controller's
 //! transmit and receive buffers, 3 to 13 bytes. The two are one to one. A [`Filter`] says which received frames the
 //! controller keeps. No call of this crate takes memory.
+//!
+//! Its tests stand in `crates/sja_tests/src/frames`.
 #![tactic(auto)]
 
 mod copied;
@@ -15,11 +17,9 @@ mod layout_fault;
 mod message;
 mod out_of_memory;
 mod register;
-#[cfg(test)]
-mod tests;
 
 pub use filter::Filter;
-pub use frame::Frame;
+pub use frame::{DATA_BYTES, Frame};
 pub use frame_fault::FrameFault;
 pub use laws::{every_message_has_one_frame, frames_with_one_message_are_one};
 pub use layout_fault::LayoutFault;

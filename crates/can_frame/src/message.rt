@@ -1,14 +1,19 @@
+//! [`Message`]: a frame in the byte layout of the controller's buffers.
+
 ghost use Rattle.std.specs.Prelude.{◌≡◌, ◌≤◌, ◌↔◌, ◌*◌, ◌/◌, ◌+◌, [], ◌∷◌, ◌++◌, IfOk, length, slice_get, slice_index};
 ghost use Rattle.can_frame.specs.Frame.{IsFrame};
 ghost use Rattle.can_frame.specs.Message.{message, head_of};
 ghost use Rattle.can_frame.specs.Layout.{IsShort, IsLong, IsSized, UnusedAreZero, RtrAgrees};
 
 use super::copied::copied;
-use super::frame::Frame;
-use super::layout::{judged, said_dlc, said_ext, said_rtr};
+use super::frame::{DATA_BYTES, Frame};
+use super::layout::{EXTENDED_HEAD, STANDARD_HEAD, judged, said_dlc, said_ext, said_rtr};
 use super::layout_fault::LayoutFault;
 use arrayvec::ArrayVec;
 use std::marker::Model;
+
+/// How many bytes a message has at most: the head of an extended frame, and its data.
+const MESSAGE_BYTES: usize = EXTENDED_HEAD + DATA_BYTES;
 
 /// A frame in the byte layout of the controller's buffers: 3 to 13 bytes (SJA1000 data sheet, 6.4.13 and 6.4.14).
 ///
@@ -25,7 +30,7 @@ use std::marker::Model;
 /// message of some frame.
 #[derive(Debug, PartialEq, Eq, Drop)]
 pub struct Message {
-    bytes: ArrayVec<u8, 13>,
+    bytes: ArrayVec<u8, MESSAGE_BYTES>,
 }
 
 impl Model for Message {
@@ -61,9 +66,9 @@ impl Message {
         let bytes = self.bytes.as_slice();
         let first = bytes[0];
         let (id, data) = if said_ext(first) {
-            (extended_id(bytes), &bytes[5..])
+            (extended_id(bytes), &bytes[EXTENDED_HEAD..])
         } else {
-            (standard_id(bytes), &bytes[3..])
+            (standard_id(bytes), &bytes[STANDARD_HEAD..])
         };
         match Frame::new(said_ext(first), id, said_rtr(first), said_dlc(first), data) {
             Ok(frame) => frame,
@@ -136,7 +141,7 @@ impl Default for Message {
 }
 
 /// The head of a frame's message: 3 bytes, or 5 where it is extended.
-fn head_of(frame: &Frame) -> ArrayVec<u8, 13>
+fn head_of(frame: &Frame) -> ArrayVec<u8, MESSAGE_BYTES>
     ensures { result.items ≡ head_of frame.now.ext frame.now.id frame.now.rtr frame.now.dlc }
 {
     let id = frame.id();

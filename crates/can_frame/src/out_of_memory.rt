@@ -1,3 +1,5 @@
+//! [`OutOfMemory`]: the error of each call of the crates above that takes memory.
+
 use std::alloc::{AllocError, AllocFailed};
 use thiserror::Error;
 

@@ -1,3 +1,5 @@
+//! [`Register`]: an acceptance code register with its mask register.
+
 ghost use Rattle.std.specs.Prelude.{◌≡◌, ◌+◌, ◌≤◌, ◌↔◌, IsTrue};
 ghost use Rattle.can_frame.specs.Filter.{Matches, MatchesByte, MatchesHalves};
 

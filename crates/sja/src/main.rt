@@ -21,10 +21,7 @@ fn main(rt: HostRuntime) -> ExitCode {
         Err(error) if error.kind() == ErrorKind::OutOfMemory => Some(err.refuse(
             Refusal::OutOfMemory,
         )),
-        Err(_) => {
-            err.put(NO_TEXT.as_bytes());
-            Some(2)
-        }
+        Err(_) => Some(err.turn_away(NO_TEXT.as_bytes())),
     };
     ExitCode::from(status.unwrap_or(1))
 }

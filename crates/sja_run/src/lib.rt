@@ -3,6 +3,8 @@
 //! [`sja_serial`] is the whole program: it reads the words, does what they ask for, writes the exact text to its output
 //! or one line to its error output, and answers the exit status. [`Output`] is a writer that remembers a failed write.
 //! What the words ask for is a [`Task`], from the crate `sja_words`.
+//!
+//! Its tests stand in `crates/sja_tests/src/program`.
 #![tactic(auto)]
 
 mod answer;

@@ -1,3 +1,5 @@
+//! [`Output`]: a writer that remembers a failed write.
+
 ghost use Rattle.std.specs.Prelude.{◌≡◌, false, true};
 ghost use Rattle.std.specs.Io.KnownBytes.{Appends};
 ghost use Rattle.sja_run.specs.Refusal.{refusal_line};
@@ -49,5 +51,17 @@ impl<W: Write> Output<W> {
             self.failed = writeln!(self.writer, "sja: {refusal}").is_err();
         }
         1
+    }
+    /// Writes the parser's own text for words that it turned away, and gives the exit status: 2, or 1 where a write
+    /// failed.
+    pub fn turn_away(&mut self, text: &[u8]) -> u8
+        ensures status { self.new.failed ≡ false → result ≡ 2 }
+        ensures failed { self.new.failed ≡ true → result ≡ 1 }
+        ensures written { self.new.failed ≡ false → (self.old.failed ≡ false)
+            × Appends (W.contents self.old.writer) (W.contents self.new.writer) text.now }
+        ensures stopped { self.old.failed ≡ true → self.new ≡ self.old }
+    {
+        self.put(text);
+        if self.failed { 1 } else { 2 }
     }
 }

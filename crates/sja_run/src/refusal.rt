@@ -1,3 +1,5 @@
+//! [`Refusal`]: why the program refuses, and the text that it writes of it.
+
 ghost use Rattle.std.specs.Prelude.{◌≡◌};
 
 use can_bits::LineFault;

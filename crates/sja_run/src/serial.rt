@@ -1,3 +1,5 @@
+//! [`sja_serial`]: the whole program over words, a reader and two writers.
+
 ghost use Rattle.std.specs.Prelude.{◌≡◌, ◌⊎◌, Some, IsSome, false, true, map};
 ghost use Rattle.sja_words.specs.Words.{Request, ParsesAs, request_of};
 ghost use Rattle.sja_run.specs.Answer.{Shows, IsTurnedAway};
@@ -40,10 +42,7 @@ pub fn sja_serial<S: AsStr, R: Read, O: Write, E: Write>(
     match parse(alloc, words) {
         Ok(task) => Some(reply(alloc, task, out, err)),
         Err(WordsFault::OutOfMemory) => Some(err.refuse(Refusal::OutOfMemory)),
-        Err(WordsFault::Unparsed(text)) => {
-            err.put(text.as_bytes());
-            Some(if err.failed { 1 } else { 2 })
-        }
+        Err(WordsFault::Unparsed(text)) => Some(err.turn_away(text.as_bytes())),
     }
 }
 

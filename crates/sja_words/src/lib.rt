@@ -2,6 +2,8 @@
 //!
 //! [`parse`] takes the words, the program's name first, and answers a [`Task`]. The crate `clap` does the parsing;
 //! none of its types is seen from above.
+//!
+//! Its tests stand with those of the program, in `crates/sja_tests/src/program`.
 #![tactic(auto)]
 
 mod command;

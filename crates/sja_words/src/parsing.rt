@@ -1,3 +1,5 @@
+//! [`parse`]: the words of a command line as a task.
+
 ghost use Rattle.std.specs.Prelude.{◌≡◌, map, IfOk, IfErr};
 ghost use Rattle.sja_words.specs.Words.{Request, ParsesAs, request_of};
 

@@ -1,3 +1,5 @@
+//! [`Task`]: what the program is asked to do.
+
 use arrayvec::ArrayVec;
 
 /// What the program is asked to do. The texts are those of the words that were parsed, not yet judged.

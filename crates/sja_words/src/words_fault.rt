@@ -1,3 +1,5 @@
+//! [`WordsFault`]: why words give no task.
+
 use std::alloc::AllocError;
 
 /// Why words give no task.

@@ -5,8 +5,8 @@ use Rattle.sja_run.proofs.Memory.{memory_refused}
 use Rattle.sja_run.proofs.serial.sja_serial.Goals as goal
 
 -- words that parse are never turned away
-pub returns-after-err-clause-answered : goal.returns-after-err-clause-answered
-returns-after-err-clause-answered g c = λ r parses _ _. search (rules, c.parse.ensures.refused r parses)
+pub returns-in-Err-Unparsed-clause-answered : goal.returns-in-Err-Unparsed-clause-answered
+returns-in-Err-Unparsed-clause-answered g c = λ r parses _ _. search (rules, c.parse.ensures.refused r parses)
 
 -- words that gave a task parse
 pub returns-in-Ok-clause-unparsed : goal.returns-in-Ok-clause-unparsed

@@ -1,0 +1,7 @@
+//! Tests of `can_bits`: lines made and read whole, and one level at a time.
+
+mod agreement;
+mod reading;
+mod sending;
+mod sent;
+mod streaming;

@@ -1,0 +1,90 @@
+//! Whole lists of levels and the reader of one level at a time agree, on 2,000 generated lists.
+
+use crate::generated::next;
+use can_bits::{Level, LineFault, Shift, line_of, read_line};
+use can_frame::{DATA_BYTES, Frame};
+use std::alloc::Global;
+use std::test::Fail;
+
+/// How many lists are tried.
+const LISTS: u32 = 2_000;
+
+/// Some frame: format, kind, identifier, length code and data by this number.
+fn some_frame(number: u64) -> Option<Frame> {
+    let ext = (number >> 40) & 1 == 1;
+    let rtr = (number >> 41) & 7 == 0;
+    let most = if ext { 0x1fff_ffff } else { 0x7ff };
+    let id = u32::try_from((number >> 8) & most).ok()?;
+    let code = u8::try_from((number >> 44) & 15).ok()?;
+    let data = number.to_le_bytes();
+    let count = if rtr { 0 } else { usize::from(code).min(DATA_BYTES) };
+    Frame::new(ext, id, rtr, code, data.get(..count)?).ok()
+}
+
+/// The number of these lowest bits.
+fn low_bits(number: u64, mask: u64) -> usize {
+    usize::try_from(number & mask).unwrap_or(0)
+}
+
+/// The line of a frame, acknowledged, with one level turned, and cut or with levels past it.
+fn some_levels(alloc: Global, frame: &Frame, number: u64) -> Result<Vec<Level>, Fail> {
+    let mut levels = line_of(alloc, frame)?;
+    let length = levels.len();
+    let slot = length.saturating_sub(9);
+    if let Some(level) = levels.get_mut(slot) {
+        *level = Level::Dominant;
+    }
+    if let Some(level) = levels.get_mut(low_bits(number >> 20, 0xff)) {
+        *level = level.opposite();
+    }
+    if low_bits(number >> 30, 3) == 0 {
+        levels.truncate(low_bits(number >> 32, 0x7f));
+    }
+    if low_bits(number >> 30, 7) == 1 {
+        levels.push(Level::Recessive)?;
+    }
+    Ok(levels)
+}
+
+/// The frame that a reader of one level at a time tells for these levels, and its first fault.
+fn streamed(levels: &[Level]) -> (Option<Frame>, Option<LineFault>) {
+    let mut shift = Shift::new();
+    let mut frame = None;
+    for level in levels {
+        let event = shift.step(*level);
+        if event.fault.is_some() {
+            return (frame, event.fault);
+        }
+        if event.frame.is_some() {
+            frame = event.frame;
+        }
+    }
+    (frame, None)
+}
+
+/// Whether the two answers are of one kind and the same, or differ as they may: a wrong check sequence and a missing
+/// acknowledgement are judged at other places.
+fn agree(levels: &[Level]) -> bool {
+    let (frame, fault) = streamed(levels);
+    match read_line(levels) {
+        Ok(read) => fault.is_none() && frame == Some(read),
+        Err(LineFault::Crc) => frame.is_none() && !matches!(fault, Some(LineFault::Stuff(_))),
+        Err(LineFault::NoAck) => !matches!(fault, Some(LineFault::Stuff(_) | LineFault::Crc)),
+        Err(LineFault::Truncated) => fault.is_none(),
+        Err(first) => fault == Some(first),
+    }
+}
+
+#[test]
+fn both_readers_agree(rt: HostRuntime) -> Result<(), Fail> {
+    let mut number = 1;
+    for list in 0..LISTS {
+        number = next(number);
+        if let Some(frame) = some_frame(number) {
+            number = next(number);
+            let levels = some_levels(rt.alloc(), &frame, number)?;
+            assert!(rt; agree(levels.as_slice()), "at list {list}");
+        }
+    }
+    Ok(())
+}

@@ -1,0 +1,9 @@
+//! Tests of `sja_words` and `sja_run`: words, and what the program writes and answers.
+
+mod arbitrate;
+mod decode;
+mod encode;
+mod failing_writes;
+mod filter;
+mod refused_memory;
+mod row;

@@ -1,0 +1,53 @@
+//! Worked frames: their messages as bytes, and their lines as digits, 0 dominant and 1 recessive.
+//!
+//! A line is as its transmitter sends it, with the ACK slot recessive, or as it is received, with the ACK slot dominant.
+
+use can_frame::{Frame, Message};
+use std::test::Fail;
+
+/// The message of the standard data frame with identifier 0 and no data.
+pub const ZEROS: [u8; 3] = [0, 0, 0];
+
+/// Its line as it is sent: 34 dominant levels to the end of the CRC sequence, which is 0, and a stuff bit after each
+/// five of them.
+pub const ZEROS_SENT: &str = "00000100000100000100000100000100000100001111111111";
+
+/// The same as it is received: level 41 is dominant.
+pub const ZEROS_RECEIVED: &str = "00000100000100000100000100000100000100001011111111";
+
+/// The received line without its last level.
+pub const ZEROS_CUT: &str = "0000010000010000010000010000010000010000101111111";
+
+/// The received line with a level too many.
+pub const ZEROS_LONG: &str = "000001000001000001000001000001000001000010111111111";
+
+/// The received line with a dominant CRC delimiter, level 40.
+pub const ZEROS_NO_DELIMITER: &str = "00000100000100000100000100000100000100000011111111";
+
+/// The received line with the last bit of its CRC sequence, level 39, recessive.
+pub const ZEROS_WRONG_CRC: &str = "00000100000100000100000100000100000100011011111111";
+
+/// The received line with the last bit of its EOF, level 49, dominant.
+pub const ZEROS_DOMINANT_END: &str = "00000100000100000100000100000100000100001011111110";
+
+/// The message of the standard data frame with identifier 123 (hexadecimal) and the data 11 22.
+pub const TWO_BYTES: [u8; 5] = [0x02, 0x24, 0x60, 0x11, 0x22];
+
+/// Its line as it is sent. Stuff bits stand at places 17 and 40.
+pub const TWO_BYTES_SENT: &str = "00010010001100000110000100010010001000001100101101111111111111";
+
+/// The same as it is received: level 53 is dominant.
+pub const TWO_BYTES_RECEIVED: &str =
+    "00010010001100000110000100010010001000001100101101111011111111";
+
+/// The message of the extended remote frame with identifier 1FFFFFFF (hexadecimal) and length code 3.
+pub const REMOTE_ONES: [u8; 5] = [0xc3, 0xff, 0xff, 0xff, 0xfc];
+
+/// Its line as it is sent.
+pub const REMOTE_ONES_SENT: &str =
+    "01111101111101111101111101111101111101100001111001000111110111111111111";
+
+/// The frame of a message.
+pub fn frame_of(message: &[u8]) -> Result<Frame, Fail> {
+    Ok(Message::from_bytes(message)?.frame())
+}
