@@ -17,18 +17,35 @@ pub struct Bit {
 
 /// A node that is started and asked to send the standard data frame with this identifier and no data.
 pub fn asking(identifier: u32) -> Option<Node> {
-    let filter = Filter { single: true, acr: [0; 4], amr: [255; 4] };
+    let filter = Filter {
+        single: true,
+        acr: [0; 4],
+        amr: [255; 4],
+    };
     let mut node = Node::new();
-    node.start(Config { filter, self_test: false, listen: false });
+    node.start(Config {
+        filter,
+        self_test: false,
+        listen: false,
+    });
     let frame = Frame::new(false, identifier, false, 0, &[]).ok()?;
-    node.request(Request { frame, single_shot: false, self_receive: false }).ok()?;
+    node.request(Request {
+        frame,
+        single_shot: false,
+        self_receive: false,
+    })
+    .ok()?;
     Some(node)
 }
 
 /// Each node drives a level, the bus is dominant where any of them drives dominant, and each node sees that.
-pub fn bit(nodes: &mut [Node; 2]) -> Bit {
+pub fn run_bit(nodes: &mut [Node; 2]) -> Bit {
     let driven = [nodes[0].drive(), nodes[1].drive()];
     let level = Level::of(driven[0].is_recessive() && driven[1].is_recessive());
     let events = [nodes[0].sample(level), nodes[1].sample(level)];
-    Bit { driven, level, events }
+    Bit {
+        driven,
+        level,
+        events,
+    }
 }

@@ -4,7 +4,7 @@
 mod bus;
 mod picture;
 
-use bus::{Bit, asking, bit};
+use bus::{asking, run_bit};
 use can_node::Node;
 use picture::Picture;
 use std::alloc::Global;
@@ -16,7 +16,11 @@ const MOST_BITS: u32 = 100;
 /// Answers the exit status: 0 for done, 1 where memory was refused or the write failed.
 fn main(rt: HostRuntime) -> ExitCode {
     match drawn(rt.alloc()) {
-        Some(picture) => ExitCode::from(if print!(rt; "{picture}").is_ok() { 0 } else { 1 }),
+        Some(picture) => ExitCode::from(if print!(rt; "{picture}").is_ok() {
+            0
+        } else {
+            1
+        }),
         None => ExitCode::from(1),
     }
 }
@@ -25,14 +29,14 @@ fn main(rt: HostRuntime) -> ExitCode {
 fn drawn(alloc: Global) -> Option<Picture> {
     let mut nodes = [asking(0x123)?, asking(0x122)?];
     for _ in 0..11 {
-        let _ = bit(&mut nodes);
+        let _ = run_bit(&mut nodes);
     }
     let mut picture = Picture::new(alloc);
     for number in 0..MOST_BITS {
         if picture.is_whole() {
             break;
         }
-        let bit = bit(&mut nodes);
+        let bit = run_bit(&mut nodes);
         picture.add(alloc, number, &bit).ok()?;
     }
     Some(picture)

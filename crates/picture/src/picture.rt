@@ -1,4 +1,4 @@
-//! [`Picture`]: a line of levels for each node and for the bus, with the fields above them and what happened below.
+//! [`Picture`]: a line of levels for each node and for the bus, with bits and fields above them and what happened below.
 
 use super::bus::Bit;
 use can_bits::{Level, Segment, Shift};
@@ -6,7 +6,7 @@ use can_node::BitEvents;
 use std::alloc::{AllocError, Global};
 use std::fmt::{Display, Error, Formatter, Write};
 
-/// A line of levels for each node and for the bus, a letter for the field of each level, and a line for each thing that
+/// A line of levels for each node and for the bus, a letter for the field of each level below a ruler, and a line for each thing that
 /// a node was told.
 #[derive(Drop)]
 pub struct Picture {
@@ -56,12 +56,16 @@ impl Picture {
         events: &BitEvents,
     ) -> Result<(), AllocError> {
         if let Some(code) = events.lost {
-            let text = format!(in alloc; "bit {number}: {name} loses arbitration, place code {code}\n")?;
+            let text = format!(in alloc;
+                "bit {number}: {name} loses arbitration, place code {code}\n"
+            )?;
             self.told.push_str(text.as_str())?;
         }
         if let Some(frame) = &events.received {
             let id = frame.id();
-            let text = format!(in alloc; "bit {number}: {name} receives the frame with identifier {id:x}\n")?;
+            let text = format!(in alloc;
+                "bit {number}: {name} receives the frame with identifier {id:x}\n"
+            )?;
             self.told.push_str(text.as_str())?;
         }
         if events.ended.is_some() {
@@ -74,6 +78,7 @@ impl Picture {
 
 impl Display for Picture {
     fn fmt<W: Write>(&self, f: &mut Formatter<W>) -> Result<(), Error> {
+        write!(f, "bit     0         10        20        30        40\n")?;
         write!(f, "field   {}\n", self.fields)?;
         write!(f, "node 1  {}\n", self.first)?;
         write!(f, "node 2  {}\n", self.second)?;
