@@ -15,26 +15,32 @@ pub struct Bit {
     pub events: [BitEvents; 2],
 }
 
-/// A node that is started and asked to send the standard data frame with this identifier and no data.
-pub fn asking(identifier: u32) -> Option<Node> {
-    let filter = Filter {
+/// Every frame passes the acceptance filter, and neither self test nor listen only is on.
+const PLAIN: Config = Config {
+    filter: Filter {
         single: true,
         acr: [0; 4],
         amr: [255; 4],
-    };
-    let mut node = Node::new();
-    node.start(Config {
-        filter,
-        self_test: false,
-        listen: false,
-    });
-    let frame = Frame::new(false, identifier, false, 0, &[]).ok()?;
-    node.request(Request {
+    },
+    self_test: false,
+    listen: false,
+};
+
+/// A request for this frame, to be tried until it is sent.
+fn request_for(frame: Frame) -> Request {
+    Request {
         frame,
         single_shot: false,
         self_receive: false,
-    })
-    .ok()?;
+    }
+}
+
+/// A started node that is to send the standard data frame with this identifier and no data.
+pub fn asking(identifier: u32) -> Option<Node> {
+    let frame = Frame::new(false, identifier, false, 0, &[]).ok()?;
+    let mut node = Node::new();
+    node.start(PLAIN);
+    node.request(request_for(frame)).ok()?;
     Some(node)
 }
 

@@ -6,8 +6,8 @@ use can_node::BitEvents;
 use std::alloc::{AllocError, Global};
 use std::fmt::{Display, Error, Formatter, Write};
 
-/// A line of levels for each node and for the bus, a letter for the field of each level below a ruler, and a line for each thing that
-/// a node was told.
+/// A line of levels for each node and for the bus, a ruler and a letter for each level's field above them, and a line for
+/// each thing that a node was told.
 #[derive(Drop)]
 pub struct Picture {
     shift: Shift,

@@ -20,19 +20,8 @@ fn has_message(ext: bool, id: u32, rtr: bool, dlc: u8, bytes: &[u8], message: &[
 fn frames_have_these_messages(rt: HostRuntime) {
     let eight = [1, 2, 3, 4, 5, 6, 7, 8];
     let longest = [0x0f, 0xff, 0xe0, 1, 2, 3, 4, 5, 6, 7, 8];
-    assert!(rt;
-        has_message(true, 0x1fff_ffff, true, 3, &[], &REMOTE_ONES)
-    );
-    assert!(rt;
-        has_message(
-            false,
-            0x123,
-            false,
-            2,
-            &[0x11, 0x22],
-            &TWO_BYTES
-        )
-    );
+    assert!(rt; has_message(true, 0x1fff_ffff, true, 3, &[], &REMOTE_ONES));
+    assert!(rt; has_message(false, 0x123, false, 2, &[0x11, 0x22], &TWO_BYTES));
     assert!(rt; has_message(false, 0x7ff, false, 15, &eight, &longest));
     assert!(rt; has_message(false, 0, true, 8, &[], &[0x48, 0, 0x10]));
     assert!(rt; has_message(true, 0, true, 8, &[], &[0xc8, 0, 0, 0, 0x04]));

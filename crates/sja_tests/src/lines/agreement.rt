@@ -17,7 +17,11 @@ fn some_frame(number: u64) -> Option<Frame> {
     let id = u32::try_from((number >> 8) & most).ok()?;
     let code = u8::try_from((number >> 44) & 15).ok()?;
     let data = number.to_le_bytes();
-    let count = if rtr { 0 } else { usize::from(code).min(DATA_BYTES) };
+    let count = if rtr {
+        0
+    } else {
+        usize::from(code).min(DATA_BYTES)
+    };
     Frame::new(ext, id, rtr, code, data.get(..count)?).ok()
 }
 

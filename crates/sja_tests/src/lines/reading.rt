@@ -81,27 +81,12 @@ fn a_line_reads_as_its_frame_or_its_first_fault(rt: HostRuntime) -> Result<(), F
         (ZEROS_RECEIVED, Ok(&ZEROS)),
         (TWO_BYTES_RECEIVED, Ok(&TWO_BYTES)),
         (ZEROS_SENT, Err(LineFault::NoAck)),
-        (
-            ZEROS_CUT,
-            Err(LineFault::Truncated),
-        ),
+        (ZEROS_CUT, Err(LineFault::Truncated)),
         ("", Err(LineFault::Truncated)),
-        (
-            ZEROS_LONG,
-            Err(LineFault::Trailing(50)),
-        ),
-        (
-            ZEROS_NO_DELIMITER,
-            Err(LineFault::Form(40)),
-        ),
-        (
-            ZEROS_WRONG_CRC,
-            Err(LineFault::Crc),
-        ),
-        (
-            ZEROS_DOMINANT_END,
-            Err(LineFault::Form(49)),
-        ),
+        (ZEROS_LONG, Err(LineFault::Trailing(50))),
+        (ZEROS_NO_DELIMITER, Err(LineFault::Form(40))),
+        (ZEROS_WRONG_CRC, Err(LineFault::Crc)),
+        (ZEROS_DOMINANT_END, Err(LineFault::Form(49))),
         ("000000", Err(LineFault::Stuff(5))),
         ("1", Err(LineFault::Form(0))),
     ];

@@ -41,10 +41,7 @@ fn decode_names_the_first_fault(rt: HostRuntime) {
             ZEROS_NO_DELIMITER,
             Want::Refusal("sja: line fault 2 Form at 40\n"),
         ),
-        (
-            ZEROS_WRONG_CRC,
-            Want::Refusal("sja: line fault 3 Crc\n"),
-        ),
+        (ZEROS_WRONG_CRC, Want::Refusal("sja: line fault 3 Crc\n")),
         ("000000", Want::Refusal("sja: line fault 1 Stuff at 5\n")),
         ("1", Want::Refusal("sja: line fault 2 Form at 0\n")),
         ("02", Want::Refusal("sja: not a line\n")),
@@ -61,7 +58,10 @@ fn decode_names_the_first_fault(rt: HostRuntime) {
 fn decode_takes_one_text(rt: HostRuntime) {
     let rows: [Row; 4] = [
         (&["sja", "decode"], Want::Usage),
-        (&["sja", "decode", ZEROS_RECEIVED, ZEROS_RECEIVED], Want::Usage),
+        (
+            &["sja", "decode", ZEROS_RECEIVED, ZEROS_RECEIVED],
+            Want::Usage,
+        ),
         (
             &["sja", "decode", "0 1"],
             Want::Refusal("sja: not a line\n"),

@@ -7,10 +7,19 @@ use crate::worked::{REMOTE_ONES_SENT, TWO_BYTES_SENT, ZEROS_SENT};
 fn encode_prints_the_line_of_a_frame(rt: HostRuntime) {
     let rows: [Row; 5] = [
         (&["sja", "encode", "000000"], Want::Line(ZEROS_SENT)),
-        (&["another name", "encode", "000000"], Want::Line(ZEROS_SENT)),
+        (
+            &["another name", "encode", "000000"],
+            Want::Line(ZEROS_SENT),
+        ),
         (&["sja", "encode", "0224601122"], Want::Line(TWO_BYTES_SENT)),
-        (&["sja", "encode", "c3fffffffc"], Want::Line(REMOTE_ONES_SENT)),
-        (&["sja", "encode", "C3FFfffFFC"], Want::Line(REMOTE_ONES_SENT)),
+        (
+            &["sja", "encode", "c3fffffffc"],
+            Want::Line(REMOTE_ONES_SENT),
+        ),
+        (
+            &["sja", "encode", "C3FFfffFFC"],
+            Want::Line(REMOTE_ONES_SENT),
+        ),
     ];
     for (words, want) in rows {
         assert!(rt; gives(rt.alloc(), words, want), "{words:?}");
