@@ -8,7 +8,7 @@ use can_frame::{Filter, Frame};
 use can_node::{Config, Node, Outcome, Request};
 use std::alloc::Global;
 
-/// More bits than a frame needs: eleven before the first, and a line and the pause after it.
+/// More bits than a frame needs: eleven before the first, and a line and the interframe space after it.
 const MOST_BITS: u32 = 200;
 
 /// Sends so many frames, each from the next node, and tells how many bits the nodes saw, and how many frames were sent

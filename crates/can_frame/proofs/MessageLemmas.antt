@@ -59,7 +59,7 @@ by_format true (a ∷ b ∷ []) fit format count unused spare agrees = absurd (o
 by_format true (a ∷ b ∷ c ∷ []) fit format count unused spare agrees = absurd (omega arith)
 by_format true (a ∷ b ∷ c ∷ d ∷ []) fit format count unused spare agrees = absurd (omega arith)
 
--- bytes that have their length, with no unused bit at 1 and equal remote bits, are a message
+-- bytes that have their length, with no unused bit at 1 and equal RTR bits, are a message
 pub is_message : (m : List ℕ) → ((i : ℕ) → get_or m i 0 < 256) → IsSized m → UnusedAreZero m → RtrAgrees m → IsMessage m
 is_message m fit sized unused agrees = by_format (said_ext m) m fit refl sized unused.first unused.last agrees
 

@@ -1,6 +1,7 @@
 -- The acceptance filter (SJA1000 data sheet, 6.4.15): which bits of the code registers are compared with which bits of
 -- a frame, by the filter's mode and the frame's format. A mask bit of 1 means that its code bit isn't compared.
-use Rattle.std.specs.Prelude.{◌≡◌, ◌<◌, ◌+◌, ◌/◌, ◌^◌, ◌⊎◌, ℕ, Bool, true, false, Option, Some, None, List, slice_index, slice_get}
+use Rattle.std.specs.Prelude.{◌≡◌, ◌<◌, ◌+◌, ◌/◌, ◌^◌, ◌⊎◌}
+use Rattle.std.specs.Prelude.{ℕ, Bool, true, false, Option, Some, None, List, slice_index, slice_get}
 use Rattle.std.specs.Int.{bit_at}
 use Rattle.can_frame.specs.Frame.{FrameValue}
 use Rattle.can_frame.specs.Message.{bit}
@@ -20,9 +21,10 @@ MatchesByte code mask (Some byte) = Matches code mask 0 8 byte
 -- the same for the two halves of a byte of the data, high half and low half, each in the low half of a register
 abbrev pub MatchesHalves : ℕ → ℕ → ℕ → ℕ → Option ℕ → Type 0
 MatchesHalves high high_mask low low_mask None = Unit {0}
-MatchesHalves high high_mask low low_mask (Some byte) = Matches high high_mask 0 4 (byte / 16) × Matches low low_mask 0 4 byte
+MatchesHalves high high_mask low low_mask (Some byte) =
+    Matches high high_mask 0 4 (byte / 16) × Matches low low_mask 0 4 byte
 
--- identifier and remote bit of a standard frame against two registers:
+-- identifier and RTR bit of a standard frame against two registers:
 -- ID.28 to ID.21; ID.20 to ID.18 in bits 7 to 5 and RTR in bit 4
 pub record MatchesStandardHead (first first_mask second second_mask : ℕ) (f : FrameValue) : Type 0 where
   pub high : Matches first first_mask 0 8 (f.id / 2 ^ 3)
@@ -53,18 +55,22 @@ pub record PassesSingleExtended (acr amr : List ℕ) (f : FrameValue) : Type 0 w
 -- with ACR1.3 to ACR1.0, its low half with ACR3.3 to ACR3.0
 pub record PassesFirstStandard (acr amr : List ℕ) (f : FrameValue) : Type 0 where
   pub head : MatchesStandardHead (slice_index acr 0) (slice_index amr 0) (slice_index acr 1) (slice_index amr 1) f
-  pub data_byte : MatchesHalves (slice_index acr 1) (slice_index amr 1) (slice_index acr 3) (slice_index amr 3) (slice_get f.bytes 0)
+  pub data_byte :
+      MatchesHalves (slice_index acr 1) (slice_index amr 1) (slice_index acr 3) (slice_index amr 3) (slice_get f.bytes 0)
 
 -- dual filter, standard frame, filter 2: ACR2 and ACR3.7 to ACR3.4 with identifier and RTR
 abbrev pub PassesSecondStandard : List ℕ → List ℕ → FrameValue → Type 0
-PassesSecondStandard acr amr f = MatchesStandardHead (slice_index acr 2) (slice_index amr 2) (slice_index acr 3) (slice_index amr 3) f
+PassesSecondStandard acr amr f =
+    MatchesStandardHead (slice_index acr 2) (slice_index amr 2) (slice_index acr 3) (slice_index amr 3) f
 
 -- dual filter, extended frame: filter 1 compares ACR0 and ACR1, filter 2 compares ACR2 and ACR3, with ID.28 to ID.13
 abbrev pub PassesFirstExtended : List ℕ → List ℕ → FrameValue → Type 0
-PassesFirstExtended acr amr f = MatchesExtendedHead (slice_index acr 0) (slice_index amr 0) (slice_index acr 1) (slice_index amr 1) f
+PassesFirstExtended acr amr f =
+    MatchesExtendedHead (slice_index acr 0) (slice_index amr 0) (slice_index acr 1) (slice_index amr 1) f
 
 abbrev pub PassesSecondExtended : List ℕ → List ℕ → FrameValue → Type 0
-PassesSecondExtended acr amr f = MatchesExtendedHead (slice_index acr 2) (slice_index amr 2) (slice_index acr 3) (slice_index amr 3) f
+PassesSecondExtended acr amr f =
+    MatchesExtendedHead (slice_index acr 2) (slice_index amr 2) (slice_index acr 3) (slice_index amr 3) f
 
 -- by the mode (single or dual) and the format (standard or extended); a dual filter passes where one of its two does
 abbrev pub PassesBy : Bool → Bool → List ℕ → List ℕ → FrameValue → Type 0

@@ -1,7 +1,7 @@
 -- What a CAN frame says (Bosch CAN 2.0 part A section 3.1 and part B sections 3.1 and 3.2; ISO 11898-1).
 use Rattle.std.specs.Prelude.{◌≡◌, ◌<◌, ◌^◌, ℕ, Bool, true, false, List, length, min, All}
 
--- format, identifier, kind, data length code and data bytes of a frame
+-- format, identifier, kind, data length code (DLC) and data bytes of a frame
 pub record FrameValue : Type 0 where
   pub ext : Bool
   pub id : ℕ
@@ -14,7 +14,7 @@ abbrev pub id_limit : Bool → ℕ
 id_limit false = 2 ^ 11
 id_limit true = 2 ^ 29
 
--- how many data bytes a length code stands for: 9 to 15 mean 8 as well, and a remote frame has none
+-- how many data bytes a DLC stands for: 9 to 15 mean 8 as well, and a remote frame has none
 abbrev pub data_count : Bool → ℕ → ℕ
 data_count false dlc = min dlc 8
 data_count true dlc = 0

@@ -12,7 +12,7 @@ said_ext m = slice_index m 0 / 128 % 2 == 1
 abbrev pub said_rtr : List ℕ → Bool
 said_rtr m = slice_index m 0 / 64 % 2 == 1
 
--- the length code that the first byte says: bits 3 to 0
+-- the DLC that the first byte says: bits 3 to 0
 abbrev pub said_dlc : List ℕ → ℕ
 said_dlc m = slice_index m 0 % 16
 
@@ -37,7 +37,7 @@ IsLong m = said_count m < length m
 abbrev pub IsSized : List ℕ → Type 0
 IsSized m = length m ≡ said_count m
 
--- the bits below the remote bit at the end of the head, by the format
+-- the bits below the RTR bit at the end of the head, by the format
 abbrev pub spare_of : Bool → List ℕ → ℕ
 spare_of false m = slice_index m 2 % 16
 spare_of true m = slice_index m 4 % 4
@@ -47,11 +47,11 @@ pub record UnusedAreZero (m : List ℕ) : Type 0 where
   pub first : slice_index m 0 / 16 % 4 ≡ 0
   pub last : spare_of (said_ext m) m ≡ 0
 
--- the second remote bit, at the end of the identifier, by the format
+-- the second RTR bit, at the end of the identifier, by the format
 abbrev pub second_rtr_of : Bool → List ℕ → ℕ
 second_rtr_of false m = slice_index m 2 / 16 % 2
 second_rtr_of true m = slice_index m 4 / 4 % 2
 
--- the second remote bit is the first one
+-- the second RTR bit is the first one
 abbrev pub RtrAgrees : List ℕ → Type 0
 RtrAgrees m = second_rtr_of (said_ext m) m ≡ bit (said_rtr m)

@@ -8,8 +8,8 @@ abbrev pub bit : Bool → ℕ
 bit false = 0
 bit true = 1
 
--- frame information and identifier: format in bit 7, remote bit in bit 6 and length code in bits 3 to 0 of the
--- first byte; then the identifier, most significant bit first and flush left; the remote bit once more below it
+-- frame information and identifier: format in bit 7, RTR bit in bit 6 and DLC in bits 3 to 0 of the
+-- first byte; then the identifier, most significant bit first and flush left; the RTR bit once more below it
 abbrev pub head_of : Bool → ℕ → Bool → ℕ → List ℕ
 head_of false id rtr dlc = (64 * bit rtr + dlc) ∷ id / 8 ∷ (32 * (id % 8) + 16 * bit rtr) ∷ []
 head_of true id rtr dlc =

@@ -41,7 +41,7 @@ pub struct Filter {
 }
 
 impl Filter {
-    /// Whether the frame passes.
+    /// Whether the frame passes, by the table above (SJA1000 data sheet, 6.4.15).
     pub fn passes(&self, frame: &Frame) -> bool
         ensures { IsTrue result ↔ Passes self.now frame.now }
     {
@@ -95,7 +95,8 @@ impl Filter {
     /// Whether ACR2 and ACR3 match the rest of an extended frame's identifier and RTR: ID.12-5; ID.4-0 in bits 7 to 3,
     /// RTR in bit 2.
     fn matches_extended_tail(&self, frame: &Frame) -> bool
-        ensures { IsTrue result ↔ (Matches (slice_index self.now.acr 2) (slice_index self.now.amr 2) 0 8 (frame.now.id / 2 ^ 5)
+        ensures { IsTrue result
+            ↔ (Matches (slice_index self.now.acr 2) (slice_index self.now.amr 2) 0 8 (frame.now.id / 2 ^ 5)
             × Matches (slice_index self.now.acr 3) (slice_index self.now.amr 3) 3 5 frame.now.id
             × Matches (slice_index self.now.acr 3) (slice_index self.now.amr 3) 2 1 (bit frame.now.rtr)) }
     {

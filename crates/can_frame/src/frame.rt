@@ -8,7 +8,7 @@ use super::frame_fault::FrameFault;
 use arrayvec::ArrayVec;
 use std::marker::Model;
 
-/// How many data bytes a frame has at most.
+/// How many data bytes a frame has at most (Bosch CAN 2.0 part A section 3.1.1).
 pub const DATA_BYTES: usize = 8;
 
 /// A data frame or a remote frame of CAN 2.0, standard or extended (Bosch CAN 2.0 part A section 3.1, part B sections
@@ -37,13 +37,13 @@ impl Model for Frame {
 }
 
 impl Frame {
-    /// The frame of these values: format (`ext`: extended), identifier, kind (`rtr`: remote frame), data length
-    /// code and data bytes. Codes 9 to 15 mean 8 bytes and are kept as given (ISO 11898-1); a remote frame has no
-    /// data whatever its code.
+    /// The frame of these values: format (`ext`: extended), identifier, kind (`rtr`: remote frame), data
+    /// length code (DLC) and data bytes. Codes 9 to 15 mean 8 bytes and are kept as given (ISO 11898-1); a remote
+    /// frame has no data whatever its code.
     ///
     /// Errors, the first that holds: [`FrameFault::IdRange`] for an identifier above 0x7FF, or 0x1FFF_FFFF where
     /// extended; [`FrameFault::DlcRange`] for a code above 15; [`FrameFault::DataLength`] for another number of
-    /// bytes than the code says.
+    /// bytes than the code says. Their order is this project's own rule.
     pub fn new(ext: bool, id: u32, rtr: bool, dlc: u8, bytes: &[u8]) -> Result<Frame, FrameFault>
         ensures ok { IfOk result (λ f. f ≡ record { ext = ext; id = id; rtr = rtr; dlc = dlc; bytes = bytes.now }) }
         ensures id_range { (result ≡ Err FrameFault.IdRange) ↔ (id_limit ext ≤ id) }
@@ -69,14 +69,15 @@ impl Frame {
         })
     }
 
-    /// Whether the frame is extended: a 29 bit identifier.
+    /// Whether the frame is extended: a 29 bit identifier (Bosch CAN 2.0 part B section 3.1).
     pub fn ext(&self) -> bool
         ensures { result ≡ self.now.ext }
     {
         self.ext
     }
 
-    /// The identifier, below 2^11 in a standard frame and below 2^29 in an extended one.
+    /// The identifier, below 2^11 in a standard frame and below 2^29 in an extended one (Bosch CAN 2.0 part B
+    /// section 3.2). ID.28 is its most significant bit.
     pub fn id(&self) -> u32
         ensures value { result ≡ self.now.id }
         ensures valid { IsFrame self.now }
@@ -84,14 +85,15 @@ impl Frame {
         self.id
     }
 
-    /// Whether the frame is a remote frame, which asks for data and has none.
+    /// Whether the frame is a remote frame, which asks for data and has none (Bosch CAN 2.0 part A
+    /// section 3.1.2).
     pub fn rtr(&self) -> bool
         ensures { result ≡ self.now.rtr }
     {
         self.rtr
     }
 
-    /// The data length code, 0 to 15, as it was given.
+    /// The data length code (DLC), 0 to 15, as it was given (ISO 11898-1).
     pub fn dlc(&self) -> u8
         ensures value { result ≡ self.now.dlc }
         ensures valid { IsFrame self.now }
@@ -99,7 +101,7 @@ impl Frame {
         self.dlc
     }
 
-    /// The data bytes, at most 8.
+    /// The data bytes, at most 8, the one sent first in front (Bosch CAN 2.0 part A section 3.1.1).
     pub fn bytes(&self) -> &[u8]
         ensures value { result.now ≡ self.now.bytes }
         ensures valid { IsFrame self.now }
@@ -128,9 +130,13 @@ fn id_limit(ext: bool) -> u32
     if ext { 1 << 29 } else { 1 << 11 }
 }
 
-/// How many data bytes a frame of this kind and length code has.
+/// How many data bytes a frame of this kind and DLC has.
 pub fn data_count(rtr: bool, dlc: u8) -> usize
     ensures { result ≡ data_count rtr dlc }
 {
-    if rtr { 0 } else { usize::from(dlc).min(DATA_BYTES) }
+    if rtr {
+        0
+    } else {
+        usize::from(dlc).min(DATA_BYTES)
+    }
 }

@@ -26,7 +26,7 @@ pub fn said_rtr(first: u8) -> bool
     (first >> 6) & 1 == 1
 }
 
-/// Bits 3 to 0 of the first byte: the data length code.
+/// Bits 3 to 0 of the first byte: the DLC.
 pub fn said_dlc(first: u8) -> u8
     ensures { result ≡ first % 16 }
 {
@@ -37,7 +37,11 @@ pub fn said_dlc(first: u8) -> u8
 fn said_count(first: u8) -> usize
     ensures { result ≡ said_count (first ∷ []) }
 {
-    let head = if said_ext(first) { EXTENDED_HEAD } else { STANDARD_HEAD };
+    let head = if said_ext(first) {
+        EXTENDED_HEAD
+    } else {
+        STANDARD_HEAD
+    };
     head + data_count(said_rtr(first), said_dlc(first))
 }
 
@@ -54,7 +58,7 @@ fn unused_are_zero(bytes: &[u8]) -> bool
     (bytes[0] >> 4) & 0x03 == 0 && spare == 0
 }
 
-/// Whether the remote bit at the end of the head is the one of the first byte.
+/// Whether the RTR bit at the end of the head is the one of the first byte.
 fn rtr_agrees(bytes: &[u8]) -> bool
     requires { IsSized bytes.now }
     ensures { IsTrue result ↔ RtrAgrees bytes.now }

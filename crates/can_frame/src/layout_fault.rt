@@ -4,7 +4,8 @@ use thiserror::Error;
 
 /// Why a list of bytes is no message.
 ///
-/// Where several hold the first in this order is answered.
+/// Where several hold the first in this order is answered. The layout is that of the SJA1000 data sheet, 6.4.13 and
+/// 6.4.14; the order, and that unused bits are 0, are this project's own rules.
 #[derive(Clone, Copy, Debug, PartialEq, Eq, Error)]
 pub enum LayoutFault {
     /// There are fewer bytes than the first one says, or none.
@@ -16,7 +17,7 @@ pub enum LayoutFault {
     /// A bit is 1 that the layout doesn't use.
     #[error("an unused bit is 1")]
     UnusedBit,
-    /// The remote bit at the end of the identifier isn't the one of the first byte.
+    /// The RTR bit at the end of the identifier isn't the one of the first byte.
     #[error("the two remote bits differ")]
     RtrDisagrees,
 }

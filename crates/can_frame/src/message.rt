@@ -47,7 +47,7 @@ impl Model for Message {
 }
 
 impl Message {
-    /// The message of a frame.
+    /// The message of a frame, as the table above has it (SJA1000 data sheet, 6.4.13).
     pub fn of(frame: &Frame) -> Message
         ensures { result ≡ message frame.now }
     {
@@ -102,7 +102,7 @@ impl Message {
     ///
     /// Errors, the first that holds: [`LayoutFault::Short`] for fewer bytes than the first one says, or none;
     /// [`LayoutFault::Long`] for more; [`LayoutFault::UnusedBit`] where a bit is 1 that the layout doesn't use;
-    /// [`LayoutFault::RtrDisagrees`] where the two remote bits differ.
+    /// [`LayoutFault::RtrDisagrees`] where the two RTR bits differ. Their order is this project's own rule.
     pub fn from_bytes(bytes: &[u8]) -> Result<Message, LayoutFault>
         ensures ok { IfOk result (λ m. m ≡ bytes.now) }
         ensures short { (result ≡ Err LayoutFault.Short) ↔ IsShort bytes.now }

@@ -3,7 +3,7 @@
 use std::alloc::{AllocError, AllocFailed};
 use thiserror::Error;
 
-/// Memory was refused.
+/// Memory was refused. The one error of calls that grow and judge nothing (this project's own rule).
 #[derive(Clone, Copy, Debug, PartialEq, Eq, Error)]
 #[error("out of memory")]
 pub struct OutOfMemory;

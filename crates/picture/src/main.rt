@@ -25,7 +25,7 @@ fn main(rt: HostRuntime) -> ExitCode {
     }
 }
 
-/// The picture from the start of frame to the end of the line.
+/// The picture from the SOF to the end of the line.
 fn drawn(alloc: Global) -> Option<Picture> {
     let mut nodes = [asking(0x123)?, asking(0x122)?];
     for _ in 0..11 {

@@ -1,4 +1,4 @@
-//! [`Picture`]: a line of levels for each node and for the bus, with bits and fields above them and what happened below.
+//! [`Picture`]: a line of levels for each node and for the bus, with bits and fields above and what happened below.
 
 use super::bus::Bit;
 use can_bits::{Level, Segment, Shift};
@@ -6,8 +6,8 @@ use can_node::BitEvents;
 use std::alloc::{AllocError, Global};
 use std::fmt::{Display, Error, Formatter, Write};
 
-/// A line of levels for each node and for the bus, a ruler and a letter for each level's field above them, and a line for
-/// each thing that a node was told.
+/// A line of levels for each node and for the bus, a ruler and a letter for each level's field above them, and a line
+/// for each thing that a node was told.
 #[derive(Drop)]
 pub struct Picture {
     shift: Shift,
@@ -36,7 +36,7 @@ impl Picture {
         self.shift.is_over()
     }
 
-    /// Draws a bit, counted from the start of frame.
+    /// Draws a bit, counted from the SOF.
     pub fn add(&mut self, alloc: Global, number: u32, bit: &Bit) -> Result<(), AllocError> {
         let event = self.shift.step(bit.level);
         self.fields.push_str(letter(event.segment, event.stuff))?;

@@ -24,7 +24,8 @@ IsFiltering single acr amr digits text =
 
 -- the digits spell no registers
 abbrev pub RefusesRegisters : List ℕ → Refusal → Type 0
-RefusesRegisters digits refusal = (refusal ≡ NotHexadecimal) × ((registers : List ℕ) → ¬ ReadsAsRegisters digits registers)
+RefusesRegisters digits refusal =
+    (refusal ≡ NotHexadecimal) × ((registers : List ℕ) → ¬ ReadsAsRegisters digits registers)
 
 -- memory may be refused at any time; else why the first argument is refused that is, from left to right
 abbrev pub RefusesFilter : List ℕ → List ℕ → List ℕ → Refusal → Type 0
@@ -32,4 +33,5 @@ RefusesFilter acr amr digits refusal =
     (refusal ≡ OutOfMemory)
     ⊎ RefusesRegisters acr refusal
     ⊎ ((code : List ℕ) × ReadsAsRegisters acr code × RefusesRegisters amr refusal)
-    ⊎ ((code : List ℕ) × (mask : List ℕ) × ReadsAsRegisters acr code × ReadsAsRegisters amr mask × RefusesMessage digits refusal)
+    ⊎ ((code : List ℕ) × (mask : List ℕ) × ReadsAsRegisters acr code × ReadsAsRegisters amr mask
+        × RefusesMessage digits refusal)

@@ -18,7 +18,8 @@ IsLayoutFault bytes Long = IsLong bytes
 IsLayoutFault bytes UnusedBit = IsSized bytes × ¬ UnusedAreZero bytes
 IsLayoutFault bytes RtrDisagrees = IsSized bytes × UnusedAreZero bytes × ¬ RtrAgrees bytes
 
--- why the digits spell no message: memory may be refused at any time; else they spell no bytes, or bytes with this fault
+-- why the digits spell no message: memory may be refused at any time; else they spell no bytes, or bytes with
+-- this fault
 abbrev pub RefusesMessage : List ℕ → Refusal → Type 0
 RefusesMessage digits OutOfMemory = Unit {0}
 RefusesMessage digits NotHexadecimal = (bytes : List ℕ) → ¬ ReadsAs digits bytes

@@ -9,7 +9,7 @@ use std::io::Write;
 
 /// A writer, and whether a write to it has failed.
 ///
-/// A contract can say of such a writer what it holds where no write failed.
+/// A contract can say of such a writer what it holds where no write failed (this project's own rule).
 #[derive(Drop)]
 pub struct Output<W: Write> {
     /// Where the bytes go.

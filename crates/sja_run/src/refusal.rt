@@ -7,7 +7,8 @@ use can_frame::{LayoutFault, OutOfMemory};
 use std::alloc::AllocError;
 use std::fmt;
 
-/// Why the program refuses what it was asked for. It shows as the text that the program writes of it.
+/// Why the program refuses what it was asked for. It shows as the text that the program writes of it
+/// (this project's own rule).
 #[derive(Clone, Copy, Debug, PartialEq, Eq)]
 pub enum Refusal {
     /// Memory was refused.

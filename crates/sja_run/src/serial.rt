@@ -17,6 +17,7 @@ use std::io::{Read, Write};
 ///
 /// The status is 0 where the text was written, 1 where the argument or memory was refused or a write failed, and 2
 /// where the words don't parse or ask for help; then `err` has the parser's own text. `input` isn't read.
+/// The words, texts and statuses are this project's own rule.
 pub fn sja_serial<S: AsStr, R: Read, O: Write, E: Write>(
     alloc: Global,
     words: &[S],

@@ -1,6 +1,6 @@
 //! Worked frames: their messages as bytes, and their lines as digits, 0 dominant and 1 recessive.
 //!
-//! A line is as its transmitter sends it, with the ACK slot recessive, or as it is received, with the ACK slot dominant.
+//! A line is as its transmitter sends it, with a recessive ACK slot, or as it is received, with a dominant one.
 
 use can_frame::{Frame, Message};
 use std::test::Fail;
@@ -40,7 +40,7 @@ pub const TWO_BYTES_SENT: &str = "0001001000110000011000010001001000100000110010
 pub const TWO_BYTES_RECEIVED: &str =
     "00010010001100000110000100010010001000001100101101111011111111";
 
-/// The message of the extended remote frame with identifier 1FFFFFFF (hexadecimal) and length code 3.
+/// The message of the extended remote frame with identifier 1FFFFFFF (hexadecimal) and DLC 3.
 pub const REMOTE_ONES: [u8; 5] = [0xc3, 0xff, 0xff, 0xff, 0xfc];
 
 /// Its line as it is sent.

@@ -1,5 +1,7 @@
 -- What words ask for (this project's own rule).
-use Rattle.std.specs.Prelude.{◌≡◌, ◌&&◌, ℕ, Bool, true, false, List, [], length, map, Option, Some, None, codes, if◌then◌else◌, nat_lt, nat_le, option_map}
+use Rattle.std.specs.Prelude.{◌≡◌, ◌&&◌}
+use Rattle.std.specs.Prelude.{ℕ, Bool, true, false, List, [], length, map, Option, Some, None, codes, option_map}
+use Rattle.std.specs.Prelude.{if◌then◌else◌, nat_lt, nat_le}
 use Rattle.std.specs.Str.{bytes_eq}
 use Rattle.clap.specs.Words.{Kinds, Row, Text, all_of, fault_of, first_of, subcommand_of}
 use Rattle.sja_words.specs.declared.task.Task.{Task}
@@ -29,7 +31,8 @@ single_in mode =
 
 -- what `filter` asks for, by its four arguments, where they are there and the first is a mode
 abbrev pub filter_in : Option Text → Option Text → Option Text → Option Text → Option Request
-filter_in (Some mode) (Some acr) (Some amr) (Some message) = option_map (λ single. filter single acr amr message) (single_in mode)
+filter_in (Some mode) (Some acr) (Some amr) (Some message) =
+    option_map (λ single. filter single acr amr message) (single_in mode)
 filter_in (Some mode) (Some acr) (Some amr) None = None
 filter_in (Some mode) (Some acr) None message = None
 filter_in (Some mode) None amr message = None
@@ -47,7 +50,8 @@ request_by name rows =
     if bytes_eq name (codes "encode") then option_map encode (first_of (codes "MESSAGE") rows)
     else if bytes_eq name (codes "decode") then option_map decode (first_of (codes "LINE") rows)
     else if bytes_eq name (codes "filter") then
-    filter_in (first_of (codes "MODE") rows) (first_of (codes "ACR") rows) (first_of (codes "AMR") rows) (first_of (codes "MESSAGE") rows)
+    filter_in (first_of (codes "MODE") rows) (first_of (codes "ACR") rows)
+        (first_of (codes "AMR") rows) (first_of (codes "MESSAGE") rows)
     else if bytes_eq name (codes "arbitrate") then arbitrate_in (all_of (codes "MESSAGE") rows)
     else None
 

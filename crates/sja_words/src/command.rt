@@ -5,6 +5,7 @@ ghost use Rattle.clap.specs.Words.{app_of, rule_of};
 ghost use Rattle.clap.specs.declared.builder.command.Command.TheViews.{out-Command};
 ghost use Rattle.sja_words.specs.CommandLine.{text_rule, text_app, filter_app, arbitrate_app, line_app, sja_app};
 
+use super::task::MOST_MESSAGES;
 use clap::{Arg, ArgAction, Command};
 use std::alloc::{AllocError, Global};
 
@@ -56,7 +57,7 @@ fn arbitrate_command<'a>(alloc: Global) -> Result<Command<'a>, AllocError>
 {
     Command::new(alloc, "arbitrate")
         .about("Print where each of one to eight messages' frames loses arbitration to the others")
-        .arg(text_argument(alloc, "MESSAGE").num_args(1..=8))
+        .arg(text_argument(alloc, "MESSAGE").num_args(1..=MOST_MESSAGES))
 }
 
 /// The commands over one line.

@@ -11,7 +11,7 @@ use clap::error::ErrorKind;
 use std::alloc::Global;
 use std::convert::AsStr;
 
-/// The task that these words ask for. The first word is the program's name, whatever it is.
+/// The task that these words ask for (this project's own rule). The first word is the program's name, whatever it is.
 ///
 /// Errors: [`WordsFault::Unparsed`] where the words don't parse as a task or ask for help, with the parser's text for
 /// the user; [`WordsFault::OutOfMemory`].

@@ -2,7 +2,11 @@
 
 use arrayvec::ArrayVec;
 
-/// What the program is asked to do. The texts are those of the words that were parsed, not yet judged.
+/// How many messages `arbitrate` takes at most: a bus has one to eight controllers (this project's own rule).
+pub const MOST_MESSAGES: usize = 8;
+
+/// What the program is asked to do. The texts are those of the words that were parsed, not yet judged (this
+/// project's own rule).
 #[derive(Debug, Drop)]
 pub enum Task<'a> {
     /// `encode MESSAGE`: the levels that a transmitter of this message's frame sends.
@@ -21,5 +25,5 @@ pub enum Task<'a> {
         message: &'a str,
     },
     /// `arbitrate MESSAGE..`: what becomes of these one to eight messages' frames if their transmitters start together.
-    Arbitrate(ArrayVec<&'a str, 8>),
+    Arbitrate(ArrayVec<&'a str, MOST_MESSAGES>),
 }

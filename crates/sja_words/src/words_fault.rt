@@ -2,7 +2,7 @@
 
 use std::alloc::AllocError;
 
-/// Why words give no task.
+/// Why words give no task (this project's own rule).
 #[derive(Debug, Drop)]
 pub enum WordsFault {
     /// Memory was refused.

@@ -30,7 +30,7 @@ fn the_higher_identifier_loses_and_is_sent_later(rt: HostRuntime) -> Result<(), 
     Ok(())
 }
 
-/// Bit 63 is the third of intermission. A dominant level there is the start of frame for a sender too: it goes on with
+/// Bit 63 is the third of intermission. A dominant level there is the SOF for a sender too: it goes on with
 /// its identifier.
 #[test]
 fn a_sender_takes_the_start_of_frame_of_another(rt: HostRuntime) -> Result<(), Fail> {

@@ -9,7 +9,7 @@ use std::test::Fail;
 /// How many lists are tried.
 const LISTS: u32 = 2_000;
 
-/// Some frame: format, kind, identifier, length code and data by this number.
+/// Some frame: format, kind, identifier, DLC and data by this number.
 fn some_frame(number: u64) -> Option<Frame> {
     let ext = (number >> 40) & 1 == 1;
     let rtr = (number >> 41) & 7 == 0;
@@ -66,7 +66,7 @@ fn streamed(levels: &[Level]) -> (Option<Frame>, Option<LineFault>) {
     (frame, None)
 }
 
-/// Whether the two answers are of one kind and the same, or differ as they may: a wrong check sequence and a missing
+/// Whether the two answers are of one kind and the same, or differ as they may: a wrong CRC sequence and a missing
 /// acknowledgement are judged at other places.
 fn agree(levels: &[Level]) -> bool {
     let (frame, fault) = streamed(levels);

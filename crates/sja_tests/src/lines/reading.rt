@@ -24,7 +24,7 @@ fn levels_of(alloc: Global, text: &str) -> Result<Vec<Level>, OutOfMemory> {
     Ok(levels)
 }
 
-/// The line with its acknowledgement slot, the ninth level from the end, dominant.
+/// The line with its ACK slot, the ninth level from the end, dominant.
 fn acknowledged(alloc: Global, line: &[Level]) -> Result<Vec<Level>, OutOfMemory> {
     let mut levels = Vec::new(alloc);
     for (at, level) in line.iter().enumerate() {
@@ -34,7 +34,7 @@ fn acknowledged(alloc: Global, line: &[Level]) -> Result<Vec<Level>, OutOfMemory
     Ok(levels)
 }
 
-/// The acknowledged line of a body: its check sequence and stuff bits are added.
+/// The acknowledged line of a body: its CRC sequence and stuff bits are added.
 fn received_line(alloc: Global, body: &[Level]) -> Result<Vec<Level>, OutOfMemory> {
     let mut bits = Vec::new(alloc);
     for level in body {

@@ -5,7 +5,7 @@ use can_frame::{Frame, OutOfMemory};
 use std::alloc::Global;
 use std::test::Fail;
 
-/// Whether the reader says each level of the frame's line before it comes, also past a dominant acknowledgement slot.
+/// Whether the reader says each level of the frame's line before it comes, also past a dominant ACK slot.
 fn says_each(alloc: Global, frame: &Frame) -> Result<bool, OutOfMemory> {
     let line = line_of(alloc, frame)?;
     let slot = line.len().saturating_sub(9);
@@ -38,7 +38,7 @@ fn each_level_of_a_line_is_said_before_it_comes(rt: HostRuntime) -> Result<(), F
     Ok(())
 }
 
-/// Of the frame of zeros: the start of frame, ID.28 to ID.18, RTR, and stuff bits at 5, 11, 17 and on.
+/// Of the frame of zeros: the SOF, ID.28 to ID.18, RTR, and stuff bits at 5, 11, 17 and on.
 #[test]
 fn the_place_codes_of_a_frame_of_zeros(rt: HostRuntime) -> Result<(), Fail> {
     let codes = [

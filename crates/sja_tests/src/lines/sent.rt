@@ -1,4 +1,4 @@
-//! The lines of frames and the check sequences of levels, as tables written by hand.
+//! The lines of frames and the CRC sequences of levels, as tables written by hand.
 
 use crate::worked::{TWO_BYTES_SENT, ZEROS_SENT};
 use arrayvec::{ArrayVec, CapacityError};
@@ -17,7 +17,7 @@ fn levels(text: &str) -> Result<ArrayVec<Level, 157>, CapacityError<Level>> {
     Ok(levels)
 }
 
-/// 34 dominant levels to the end of the check sequence, which is 0, and a stuff bit after each five of them.
+/// 34 dominant levels to the end of the CRC sequence, which is 0, and a stuff bit after each five of them.
 #[test]
 fn the_standard_frame_of_zeros_has_this_line(rt: HostRuntime) -> Result<(), Fail> {
     let frame = Frame::new(false, 0, false, 0, &[])?;
@@ -39,7 +39,7 @@ fn a_standard_data_frame_has_this_line(rt: HostRuntime) -> Result<(), Fail> {
     Ok(())
 }
 
-/// Start of frame, identifier 0x123, RTR, IDE, r0, length code 2, data 11 22.
+/// SOF, identifier 0x123, RTR, IDE, r0, DLC 2, data 11 22.
 #[test]
 fn the_body_of_a_standard_data_frame_has_this_check_sequence(rt: HostRuntime) -> Result<(), Fail> {
     let body = levels("0 00100100011 0 0 0 0010 00010001 00100010")?;
@@ -58,7 +58,7 @@ fn the_check_value_is_that_of_crc_15_can(rt: HostRuntime) -> Result<(), Fail> {
     Ok(())
 }
 
-/// From start of frame to RTR 32 recessive levels follow each other, a stuff bit after each five of them:
+/// From SOF to RTR 32 recessive levels follow each other, a stuff bit after each five of them:
 /// ID.28-24, ID.23-19, ID.18 SRR IDE ID.17-16, ID.15-11, ID.10-6, ID.5-1, and then ID.0 and RTR.
 #[test]
 fn an_extended_remote_frame_begins_with_these_levels(rt: HostRuntime) -> Result<(), Fail> {

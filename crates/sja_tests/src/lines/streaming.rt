@@ -4,7 +4,7 @@ use can_bits::{Level, LineFault, Segment, Shift, ShiftEvent};
 use can_frame::Frame;
 use std::test::Fail;
 
-/// A standard data frame with identifier 0 and no data, from its start to the end of its check sequence.
+/// A standard data frame with identifier 0 and no data, from its start to the end of its CRC sequence.
 const ZEROS: &str = "0000010000010000010000010000010000010000";
 
 /// The level that a letter writes: 0 and o are dominant, 1 and i recessive.
@@ -13,7 +13,7 @@ fn level(letter: u8) -> Level {
 }
 
 /// Whether each level of the rows has the row's segment, and is a stuff bit where its letter is o or i; and whether the
-/// frame comes with the sixth bit of the end of frame and at no other.
+/// frame comes with the sixth bit of the EOF and at no other.
 fn tells(rows: &[(Segment, &str)], frame: &Frame) -> bool {
     let mut shift = Shift::new();
     let mut told = true;
@@ -92,7 +92,7 @@ fn the_segments_of_a_frame_of_zeros(rt: HostRuntime) -> Result<(), Fail> {
     Ok(())
 }
 
-/// Identifier 0x123 and the data bytes 11 and 22. A reader takes a recessive acknowledgement slot as well.
+/// Identifier 0x123 and the data bytes 11 and 22. A reader takes a recessive ACK slot as well.
 #[test]
 fn the_segments_of_a_data_frame(rt: HostRuntime) -> Result<(), Fail> {
     let frame = Frame::new(false, 0x123, false, 2, &[0x11, 0x22])?;
@@ -165,7 +165,7 @@ fn a_fault_is_answered_again(rt: HostRuntime) -> Result<(), Fail> {
     Ok(())
 }
 
-/// The seventh bit of the end of frame, and a level after it.
+/// The seventh bit of the EOF, and a level after it.
 #[test]
 fn the_end_of_a_line_has_its_faults(rt: HostRuntime) -> Result<(), Fail> {
     let end = Segment::EndOfFrame;
@@ -175,7 +175,7 @@ fn the_end_of_a_line_has_its_faults(rt: HostRuntime) -> Result<(), Fail> {
     Ok(())
 }
 
-/// The last level of the check sequence is turned round. It is judged with the acknowledgement delimiter.
+/// The last level of the CRC sequence is turned round. It is judged with the ACK delimiter.
 #[test]
 fn a_wrong_check_sequence_is_answered_after_the_slot(rt: HostRuntime) -> Result<(), Fail> {
     let wrong = "0000010000010000010000010000010000010001";
@@ -186,7 +186,7 @@ fn a_wrong_check_sequence_is_answered_after_the_slot(rt: HostRuntime) -> Result<
     Ok(())
 }
 
-/// Told from the last level of the stuffed part on, and before the acknowledgement slot whether it is to be answered.
+/// Told from the last level of the stuffed part on, and before the ACK slot whether it is to be answered.
 #[test]
 fn the_check_sequence_is_told_at_its_end(rt: HostRuntime) -> Result<(), Fail> {
     let mut shift = Shift::new();

@@ -35,7 +35,7 @@ fn a_sender_that_nobody_answers_becomes_passive_and_stays(rt: HostRuntime) -> Re
     Ok(())
 }
 
-/// Whether a bit is struck, each a start of frame: every 18th from 11 on, 16 times, and every 26th from 307 on, 16
+/// Whether a bit is struck, each an SOF: every 18th from 11 on, 16 times, and every 26th from 307 on, 16
 /// times.
 fn is_struck(bit: u32) -> bool {
     let active = bit >= 11 && bit < 11 + 18 * 16 && (bit - 11) % 18 == 0;

@@ -9,7 +9,7 @@ use can_bits::{Level, Segment};
 use can_node::{Cause, Phase};
 use std::test::Fail;
 
-/// A sender and two receivers, of which one is struck in bit 50, the last one of the check sequence.
+/// A sender and two receivers, of which one is struck in bit 50, the last one of the CRC sequence.
 fn check_struck(place: usize) -> Result<[Station; 3], Fail> {
     let mut stations = [
         Station::new(asked(&ZEROS)?),
@@ -36,7 +36,7 @@ fn a_frame_that_one_receiver_refuses_is_sent_again(rt: HostRuntime) -> Result<()
     Ok(())
 }
 
-/// A sender and a receiver, of which one is struck in the last bit of the end of frame.
+/// A sender and a receiver, of which one is struck in the last bit of the EOF.
 fn end_struck(place: usize) -> Result<[Station; 2], Fail> {
     let mut stations = [Station::new(asked(&ZEROS)?), Station::new(started(plain()))];
     if !run_to_rest(&mut stations, Some((60, place))) {

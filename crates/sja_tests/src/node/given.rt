@@ -48,7 +48,7 @@ pub fn asked(message: &[u8]) -> Result<Node, Fail> {
     Ok(node)
 }
 
-/// A started node that holds a request for the frame of a message, to be tried once.
+/// A started node that holds a request for the frame of a message, a single shot.
 pub fn asked_once(message: &[u8]) -> Result<Node, Fail> {
     let mut request = request_for(message)?;
     request.single_shot = true;

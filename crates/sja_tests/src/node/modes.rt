@@ -88,7 +88,7 @@ fn a_listener_receives_and_drives_nothing(rt: HostRuntime) -> Result<(), Fail> {
     Ok(())
 }
 
-/// The listener is struck in the last bit of the check sequence, or the receiver is.
+/// The listener is struck in the last bit of the CRC sequence, or the receiver is.
 #[test]
 fn the_counters_of_a_listener_stand_still(rt: HostRuntime) -> Result<(), Fail> {
     let (alone, right) = rest_with_listener(Some((50, 2)))?;

@@ -8,7 +8,7 @@ use can_node::{Cause, Node, Phase};
 use std::ops::Range;
 use std::test::Fail;
 
-/// The line of the standard frame with identifier 0 and no data. Its acknowledgement slot is level 41.
+/// The line of the standard frame with identifier 0 and no data. Its ACK slot is level 41.
 const LINE: &str = "00000100000100000100000100000100000100001111111111";
 
 /// Whether the node is in this phase before each of these bits, in which it sees recessive levels.

@@ -1,5 +1,5 @@
-//! Requests: tried once, aborted, and given back. Bits count from 0 with the start; a frame that was requested before
-//! begins with bit 11, and its acknowledgement slot is bit 52.
+//! Requests: single shot, aborted, and given back. Bits count from 0 with the start; a frame that was requested before
+//! begins with bit 11, and its ACK slot is bit 52.
 
 use super::given::{
     asked, asked_once, counts, echoes, is_quiet, plain, request_for, sees, started,
