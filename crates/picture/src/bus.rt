@@ -15,13 +15,16 @@ pub struct Bit {
     pub events: [BitEvents; 2],
 }
 
-/// Every frame passes the acceptance filter, and neither self test nor listen only is on.
+/// The acceptance filter that passes every frame: no code bit is compared.
+const EVERY_FRAME: Filter = Filter {
+    single: true,
+    acr: [0; 4],
+    amr: [255; 4],
+};
+
+/// Neither self test nor listen only.
 const PLAIN: Config = Config {
-    filter: Filter {
-        single: true,
-        acr: [0; 4],
-        amr: [255; 4],
-    },
+    filter: EVERY_FRAME,
     self_test: false,
     listen: false,
 };
