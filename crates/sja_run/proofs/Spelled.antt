@@ -6,7 +6,7 @@ use Rattle.std.proofs.lemmas.List.{map-append, map_more}
 use Rattle.can_frame.specs.Frame.{FrameValue, IsFrame}
 use Rattle.can_frame.specs.Message.{message}
 use Rattle.can_bits.proofs.Lists.{split_at}
-use Rattle.can_node.proofs.Winning.{zip_push}
+use Rattle.can_node.proofs.Contending.Winning.{zip_push}
 use Rattle.sja_run.specs.declared.refusal.Refusal.{Refusal}
 use Rattle.sja_run.specs.Arbitrate.{SpellsFrame, RefusesFirst}
 use Rattle.sja_run.specs.Message.{ReadsAs, RefusesMessage}
