@@ -1,6 +1,8 @@
 //! The levels that a CAN frame puts on the bus: bits, check sequence, bit stuffing and the whole line, made and read.
 //!
 //! Only `line_of` takes memory.
+//!
+//! Its tests stand in `crates/can_tests/src/lines`.
 #![tactic(auto)]
 
 mod body;

@@ -7,6 +7,8 @@
 //!
 //! [`contend`] says which of several frames go on if their transmitters start together, and where the others lose
 //! arbitration. It alone takes memory.
+//!
+//! Its tests stand in `crates/can_tests/src/node` and `contention`.
 #![tactic(auto)]
 
 mod aborted;

@@ -1,20 +1,7 @@
-//! The tests, by crate and topic: [`frames`] those of `can_frame`, [`lines`] of `can_bits`, [`node`] and [`contention`]
-//! of `can_node`, [`program`] of `sja_words` and `sja_run`. The frames that several of them use stand in [`worked`].
+//! The tests of the whole program over readers and writers: [`program`] those of `sja_words` and `sja_run`.
 //!
-//! Expected values are written by hand from the sources, and where lists are generated two ways have to agree.
+//! Expected values are written by hand from the sources.
 #![tactic(auto)]
 
 #[cfg(test)]
-mod contention;
-#[cfg(test)]
-mod frames;
-#[cfg(test)]
-mod generated;
-#[cfg(test)]
-mod lines;
-#[cfg(test)]
-mod node;
-#[cfg(test)]
 mod program;
-#[cfg(test)]
-mod worked;

@@ -1,7 +1,7 @@
 //! `decode LINE`.
 
 use super::row::{Row, Said, Want, gives};
-use crate::worked::{
+use worked_frames::{
     TWO_BYTES_RECEIVED, ZEROS_CUT, ZEROS_LONG, ZEROS_NO_DELIMITER, ZEROS_RECEIVED, ZEROS_SENT,
     ZEROS_WRONG_CRC,
 };

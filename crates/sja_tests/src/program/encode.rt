@@ -1,7 +1,7 @@
 //! `encode MESSAGE`.
 
 use super::row::{Row, Said, Want, gives};
-use crate::worked::{REMOTE_ONES_SENT, TWO_BYTES_SENT, ZEROS_SENT};
+use worked_frames::{REMOTE_ONES_SENT, TWO_BYTES_SENT, ZEROS_SENT};
 
 #[test]
 fn encode_prints_the_line_of_a_frame(rt: HostRuntime) {

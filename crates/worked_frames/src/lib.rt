@@ -1,9 +1,9 @@
 //! Worked frames: their messages as bytes, and their lines as digits, 0 dominant and 1 recessive.
 //!
 //! A line is as its transmitter sends it, with a recessive ACK slot, or as it is received, with a dominant one.
-
-use can_frame::{Frame, Message};
-use std::test::Fail;
+//!
+//! The tests of several crates use them.
+#![tactic(auto)]
 
 /// The message of the standard data frame with identifier 0 and no data.
 pub const ZEROS: [u8; 3] = [0, 0, 0];
@@ -46,8 +46,3 @@ pub const REMOTE_ONES: [u8; 5] = [0xc3, 0xff, 0xff, 0xff, 0xfc];
 /// Its line as it is sent.
 pub const REMOTE_ONES_SENT: &str =
     "01111101111101111101111101111101111101100001111001000111110111111111111";
-
-/// The frame of a message.
-pub fn frame_of(message: &[u8]) -> Result<Frame, Fail> {
-    Ok(Message::from_bytes(message)?.frame())
-}
