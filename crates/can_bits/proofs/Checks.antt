@@ -1,4 +1,4 @@
--- The check sequence.
+-- The CRC sequence.
 use Rattle.std.proofs.Common.{◌≡◌, ◌+◌, ◌*◌, ◌/◌, ◌%◌, ◌^◌, ◌<◌, ◌≢◌, ◌-◌, ℕ, zero, suc, List, [], ◌∷◌, ◌++◌, refl, ap, sym, subst, ◌∙◌, arith}
 use Rattle.std.proofs.Common.{◌==◌, length, append_assoc, inl, inr}
 use Rattle.std.proofs.lemmas.Bool.{cases_eq, cases_Bool, eqb-true, eqb-false}
@@ -57,11 +57,11 @@ Divided-other b r x h top =
       divides = subst IsMultiple sum (IsMultiple-double-add (value b * 2 ^ 15 + r) h.divides);
     }
 
--- the digits of the register are the check sequence
+-- the digits of the register are the CRC sequence
 pub Crc_of : (b : List Level) (r : ℕ) → Divided b r → Crc b (bits 15 r)
 Crc_of b r h = record { count = length-bits 15 r; divides = subst IsMultiple (sym (value-append-bits 15 b r h.fits)) h.divides }
 
--- a list of levels has one check sequence
+-- a list of levels has one CRC sequence
 pub Crc-unique : (b c d : List Level) → Crc b c → Crc b d → c ≡ d
 Crc-unique b c d hc hd =
     let mc = subst IsMultiple (value-append b c ∙ ap (λ n. value b * 2 ^ n + value c) hc.count) hc.divides in
@@ -81,14 +81,14 @@ divided_after a (x ∷ b) r h =
       | inr other ↦ subst P whole (divided_after (a ++ x ∷ []) b _ (Divided-other a r x h other))
     ]
 
--- every list of levels has exactly one check sequence
+-- every list of levels has exactly one CRC sequence
 pub Crc_exists : (b : List Level) → (c : List Level) × Crc b c × ((d : List Level) → Crc b d → d ≡ c)
 Crc_exists b =
     let (r, h) = divided_after [] b 0 Divided-nothing in
     let whole = Crc_of b r h in
     (bits 15 r, whole, λ d other. Crc-unique b d (bits 15 r) other whole)
 
--- comparing a check sequence with the right one, as numbers
+-- comparing a CRC sequence with the right one, as numbers
 pub says_whether : (b c : List Level) (n m : ℕ) → Crc b (bits 15 n) → n < 2 ^ 15 → ((d : List Level) → Crc b d → d ≡ bits 15 n) →
     length c ≡ 15 → m ≡ value c → SaysWhetherRight (n == m) b c
 says_whether b c n m right fits only count number =

@@ -1,4 +1,4 @@
--- When the acknowledgement is due, and when a whole line has come.
+-- When an ACK is due, and when a whole line has come.
 use Rattle.std.proofs.Common.{◌≡◌, inl, inr, ◌↔◌, IsTrue, ℕ, Bool, Option, None, List, [], ◌∷◌, ◌++◌, length, replicate, take, refl, ap, sym, subst, ◌∙◌, arith, append_assoc}
 use Rattle.std.proofs.lemmas.List.{append-nil, length-take-le, length_push, nil_from_length, same_from_push}
 use Rattle.can_frame.specs.Frame.{FrameValue}
@@ -14,13 +14,14 @@ use Rattle.can_bits.specs.Line.{StuffedPart, tail}
 use Rattle.can_bits.specs.Reading.{SaysWhetherRight}
 use Rattle.can_bits.specs.Streaming.{IsReadable, IsLineButFor, IsOver}
 use Rattle.can_bits.specs.Acknowledging.{IsAckDue}
-use Rattle.can_bits.specs.Shifts.{IsInside, IsPast, ReadsAt, Broke, StandsBy, StandsFor}
+use Rattle.can_bits.specs.Machine.Stages.{IsInside, IsPast, ReadsAt}
+use Rattle.can_bits.specs.Shifts.{Broke, StandsBy, StandsFor}
 use Rattle.can_bits.proofs.Lists.{last_of, append-cancel}
 use Rattle.can_bits.proofs.Ending.{same_part, same_spelling}
 use Rattle.can_bits.proofs.Readables.{readable_front}
-use Rattle.can_bits.proofs.PastLemmas.{past_but_for}
-use Rattle.can_bits.proofs.InsideLemmas.{not_past}
-use Rattle.can_bits.proofs.ShiftLemmas.{broke_wrong, says_so}
+use Rattle.can_bits.proofs.Reader.Past.{past_but_for}
+use Rattle.can_bits.proofs.Reader.Inside.{not_past}
+use Rattle.can_bits.proofs.Reader.Told.{broke_wrong, says_so}
 
 -- what has broken isn't right so far
 pub broke_not_readable : (s : Shift) (l : List Level) (w : ShiftFault) → Broke w s l → IsReadable l → ⊥
@@ -54,7 +55,7 @@ pub inside_no_part : {g : Gathered} {came : ℕ} {last : Level} {n : ℕ} {f : F
 inside_no_part {f = f} {b = b} {c = c} l part after h k whole =
     not_past h.part (record { frame = f; body = b; check = c; part = part; rest = after; is_part = k; whole = whole })
 
--- what waits for its acknowledgement is right so far
+-- what waits for its ACK is right so far
 pub due_readable : (l : List Level) → IsAckDue l → IsReadable l
 due_readable l h = record {
   frame = h.frame;
@@ -71,7 +72,7 @@ due_readable l h = record {
   right = λ few. h.right;
 }
 
--- the acknowledgement is due where the check sequence is right
+-- an ACK is due where the CRC sequence is right
 pub due_by : {g : Gathered} {came : ℕ} (r : Bool) (l : List Level) (h : IsPast 1 g came l) → SaysWhetherRight r h.body h.check → IsTrue r ↔ IsAckDue l
 due_by r l h says =
     let told = says_so r h.body h.check says in (

@@ -11,7 +11,7 @@ use Rattle.can_bits.proofs.Lists.{reverse-cons, reverse-push, fronts, last_of, a
 use Rattle.can_bits.proofs.Runs.{run, IsShort}
 use Rattle.can_bits.proofs.Parts.{plain, IsPart, part_to, spelt, beyond, part_once, unstuffed-later}
 use Rattle.can_bits.proofs.Going.{IsInside}
-use Rattle.can_bits.proofs.DecodeLemmas.{Spells-unique}
+use Rattle.can_bits.proofs.Whole.Decoding.{Spells-unique}
 
 -- one list of levels has one stuffed part at its beginning
 pub same_part : {f g : FrameValue} {b c d e s t : List Level} (x y : List Level) → StuffedPart f b c s → StuffedPart g d e t → s ++ x ≡ t ++ y → s ≡ t
@@ -20,7 +20,7 @@ same_part {s = s} {t = t} x y h k e =
     ap (λ l. l ++ x) (reverse-reverse s) ∙ e ∙ ap (λ l. l ++ y) (sym (reverse-reverse t)) in
     sym (reverse-reverse s) ∙ ap reverse (part_once (reverse s) (reverse t) x y (part_to h) (part_to k) whole) ∙ reverse-reverse t
 
--- one stuffed part has one frame, body and check sequence
+-- one stuffed part has one frame, body and CRC sequence
 pub same_spelling : {f g : FrameValue} {b c d e s : List Level} → StuffedPart f b c s → StuffedPart g d e s → (f ≡ g) × (b ≡ d) × (c ≡ e)
 same_spelling {f = f} {g = g} {b = b} {c = c} {d = d} {e = e} {s = s} h k = Spells-unique f g b c d e (plain (reverse s)) (spelt h) (spelt k)
 

@@ -11,9 +11,9 @@ use Rattle.can_bits.specs.Body.{head_bits, IsBody}
 use Rattle.can_bits.specs.Fields.{level_at, is_recessive, says_ext, rtr_place, dlc_place, says_rtr, four_from, says_dlc, says_count, IsWhole}
 use Rattle.can_bits.specs.Spelling.{Spells}
 use Rattle.can_bits.proofs.Values.{length-bits, value-bits}
-use Rattle.can_bits.proofs.Bytes.{length_bytes}
+use Rattle.can_bits.proofs.Whole.Bytes.{length_bytes}
 
--- what levels say of themselves: a start of frame, the format, the remote bit and the data length code
+-- what levels say of themselves: SOF, the format, RTR and the DLC
 pub record Says (w : List Level) (format remote : Bool) (code : ℕ) : Type 0 where
   pub begins : level_at w 0 ≡ Dominant
   pub ext : says_ext w ≡ format
@@ -117,7 +117,7 @@ says_body f b t frame (srr, r1, r0, e) =
     let told = says_head f.ext f.id f.rtr srr r1 r0 code (bytes ++ t) (length-bits 4 f.dlc) in
     says_as (subst (λ l. Says l f.ext f.rtr (value code)) whole told) refl (value-bits 4 f.dlc frame.dlc)
 
--- how many levels stand before the data length code
+-- how many levels stand before the DLC
 pub length_head : (ext : Bool) (id : ℕ) (rtr : Bool) (srr r1 r0 : Level) → length (head_bits ext id rtr srr r1 r0) ≡ dlc_place ext
 length_head false id rtr srr r1 r0 =
     omega (arith, length-append (bits 11 id) (level_of rtr ∷ Dominant ∷ r0 ∷ []), length-bits 11 id)
@@ -155,7 +155,7 @@ count-says w format remote code ext rtr dlc =
 pub says_spelled : (f : FrameValue) (b c w : List Level) → Spells f b c w → Says w f.ext f.rtr f.dlc
 says_spelled f b c w h = subst (λ l. Says l f.ext f.rtr f.dlc) (sym h.whole) (says_body f b c h.frame h.body)
 
--- a body and 15 levels begin with a start of frame and are as many as they say
+-- a body and 15 levels begin with SOF and are as many as they say
 pub whole_of : (f : FrameValue) (b c w : List Level) → Spells f b c w → IsWhole w
 whole_of f b c w h =
     let told = says_spelled f b c w h in
@@ -165,7 +165,7 @@ whole_of f b c w h =
       count = omega (arith, ap length h.whole, length-append b c, length_body f b h.frame h.body, h.check, said);
     }
 
--- the places of the format and of the remote bit are before the end of the data length code
+-- the places of the format and of RTR are before the end of the DLC
 ext_before : (e : Bool) → 13 < dlc_place e + 4
 ext_before false = omega arith
 ext_before true = omega arith
@@ -174,7 +174,7 @@ rtr_before : (e : Bool) → rtr_place e < dlc_place e + 4
 rtr_before false = omega arith
 rtr_before true = omega arith
 
--- levels that are equal up to the end of the data length code say the same
+-- levels that are equal up to the end of the DLC say the same
 pub says_count-same : (v w : List Level) → ((k : ℕ) → k < dlc_place (says_ext w) + 4 → level_at v k ≡ level_at w k) → says_count v ≡ says_count w
 says_count-same v w h =
     let format : Bool = says_ext w in
@@ -207,7 +207,7 @@ level_at-padded w n k =
 pub says_count-padded : (w : List Level) (n : ℕ) → says_count (w ++ replicate n Dominant) ≡ says_count w
 says_count-padded w n = says_count-same (w ++ replicate n Dominant) w (λ k below. level_at-padded w n k)
 
--- the data length code has a place in any body
+-- the DLC has a place in any body
 pub dlc_place-least : (e : Bool) → 15 ≤ dlc_place e
 dlc_place-least false = omega arith
 dlc_place-least true = omega arith

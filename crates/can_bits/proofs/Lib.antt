@@ -1,35 +1,28 @@
+-- Lists, digits and runs of levels.
 pub mod Lists
 pub mod Values
-pub mod Bytes
-pub mod FieldLemmas
-pub mod DecodeLemmas
+pub mod Ranges
+pub mod Runs
+-- The CRC sequence.
 pub mod Products
 pub mod Checks
-pub mod Runs
+-- What a body says of itself.
+pub mod FieldLemmas
+-- Bit stuffing, and where a stuffed part ends.
 pub mod Stuffs
 pub mod Parts
 pub mod Going
 pub mod Ending
-pub mod Verdicts
-pub mod Steps
-pub mod Tails
-pub mod LineLaws
 pub mod OneStuffing
-pub mod Ranges
-pub mod Registers
-pub mod Packed
-pub mod Marks
-pub mod FrameLemmas
-pub mod PastLemmas
+-- Whole lines.
+pub mod Whole
+pub mod LineLaws
+-- Levels kept as one number.
+pub mod Packing
+-- A reader of one level at a time, and a transmitter.
 pub mod Readables
-pub mod InsideLemmas
-pub mod TakeLemmas
-pub mod ShiftLemmas
+pub mod Reader
 pub mod DueLemmas
-pub mod QuickLemmas
 pub mod PlaceLemmas
 pub mod PlaceLaws
-pub mod PlacesNow
-pub mod SentLevels
-pub mod SentNext
-pub mod PackedBody
+pub mod Sent

@@ -17,14 +17,15 @@ use Rattle.can_bits.proofs.Ending.{line_at}
 use Rattle.can_bits.proofs.Going.{inside_open}
 use Rattle.can_bits.proofs.Stuffs.{run-leads}
 use Rattle.can_bits.proofs.Parts.{part_of}
-use Rattle.can_bits.proofs.DecodeLemmas.{decoded}
-use Rattle.can_bits.proofs.Steps.{Holds, IsBefore, Holds-nothing, IsBefore-nothing, Holds-kept, Holds-dropped, run_same, before_here, inside_of}
+use Rattle.can_bits.proofs.Whole.Decoding.{decoded}
+use Rattle.can_bits.proofs.Whole.Steps.{Holds, IsBefore, Holds-nothing, IsBefore-nothing, Holds-kept, Holds-dropped, run_same, before_here, inside_of}
 
 -- the tail of a line without its last level
 most_of_tail : Level → List Level
 most_of_tail ack = Recessive ∷ ack ∷ Recessive ∷ replicate 6 Recessive
 
--- lines with the same levels up to the sixth bit of the end of frame are lines of one frame, with one body and check sequence, and as long
+-- lines with the same levels up to the sixth bit of EOF are lines of one frame, with one body and CRC sequence, and as
+-- long
 pub lines_agree : (f g : FrameValue) (b c d e : List Level) (ack other x : Level) (front rest : List Level) →
     Line f b c ack (front ++ x ∷ []) → Line g d e other (front ++ rest) → (f ≡ g) × (b ≡ d) × (c ≡ e) × (length rest ≡ 1)
 unfolding most_of_tail

@@ -81,7 +81,7 @@ plain_after-is before (x ∷ rest) =
 pub plain_count-is : (l : List Level) → plain_count l ≡ length (unstuffed (reverse l))
 plain_count-is l = ap length (plain_after-is [] l) ∙ length-reverse (unstuffed (reverse l))
 
--- the remote bit is among the first 33 levels, and a body has 19 at least
+-- RTR is among the first 33 levels, and a body has 19 at least
 rtr_most : (ext : Bool) → rtr_place ext ≤ 32
 rtr_most false = omega arith
 rtr_most true = omega arith
@@ -104,7 +104,7 @@ chosen true within n code e = cc
 chosen false true n code e = (refl, refl)
 chosen false false n code e = cc
 
--- a place with a code is no stuff bit, and not past the remote bit
+-- a place with a code is no stuff bit, and not past RTR
 pub code_early : (ext : Bool) (l : List Level) (code : ℕ) → place_code ext l ≡ Some code →
     (is_full l ≡ false) × (plain_count l ≤ rtr_place ext)
 code_early ext l code e =
@@ -113,7 +113,7 @@ code_early ext l code e =
     let within = and_parts (nat_lt 0 n) (nat_le n (rtr_place ext)) parts.1 in
     (parts.0, leb-true n (rtr_place ext) within.1)
 
--- an early stuff bit is a stuff bit, and not past the remote bit
+-- an early stuff bit is a stuff bit, and not past RTR
 pub stuff_early : (ext : Bool) (l : List Level) → IsTrue (is_early_stuff ext l) → (is_full l ≡ true) × (plain_count l ≤ rtr_place ext)
 stuff_early ext l h =
     let parts = and_parts (is_full l) (nat_le (plain_count l) (rtr_place ext)) h in
@@ -126,7 +126,7 @@ none_by false true true n e = cc
 none_by false true false n e = refl
 none_by false false within n e = refl
 
--- past the remote bit no place has a code
+-- past RTR no place has a code
 pub late_no_code : (ext : Bool) (l : List Level) → rtr_place ext < plain_count l → place_code ext l ≡ None
 late_no_code ext l late =
     let n = plain_count l in

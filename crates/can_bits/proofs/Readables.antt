@@ -12,7 +12,7 @@ use Rattle.can_bits.specs.Reading.{Begins, IsOpen}
 use Rattle.can_bits.specs.Streaming.{IsReadable, BreaksWith, ShowsFrame}
 use Rattle.can_bits.proofs.Lists.{fronts, append-cancel, cases_list}
 use Rattle.can_bits.proofs.Ending.{line_at}
-use Rattle.can_bits.proofs.PastLemmas.{missing}
+use Rattle.can_bits.proofs.Reader.Past.{missing}
 
 -- what is right so far begins a line
 pub readable_begins : (l : List Level) → IsReadable l → Begins l

@@ -6,7 +6,7 @@ use Rattle.can_bits.specs.declared.level.Level.TheVariants.{Recessive}
 use Rattle.can_bits.specs.Check.{Crc}
 use Rattle.can_bits.specs.Line.{StuffedPart}
 
--- the next level is the acknowledgement slot of a line whose check sequence is right
+-- the next level is the ACK slot of a line whose CRC sequence is right
 pub record IsAckDue (l : List Level) : Type 0 where
   pub frame : FrameValue
   pub body : List Level

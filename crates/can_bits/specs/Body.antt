@@ -7,7 +7,7 @@ use Rattle.can_bits.specs.declared.level.Level.{Level}
 use Rattle.can_bits.specs.declared.level.Level.TheVariants.{Dominant, Recessive}
 use Rattle.can_bits.specs.Digits.{level_of, bits}
 
--- start of frame, arbitration field and reserved bits, by the format.
+-- SOF, arbitration field and reserved bits, by the format.
 -- Standard: ID.28 to ID.18, RTR, IDE dominant, r0.
 -- Extended: ID.28 to ID.18, SRR, IDE recessive, ID.17 to ID.0, RTR, r1, r0
 abbrev pub head_bits : Bool → ℕ → Bool → Level → Level → Level → List Level
@@ -15,8 +15,8 @@ head_bits false id rtr srr r1 r0 = Dominant ∷ (bits 11 id ++ level_of rtr ∷ 
 head_bits true id rtr srr r1 r0 =
     Dominant ∷ (bits 11 (id / 2 ^ 18) ++ (srr ∷ Recessive ∷ (bits 18 id ++ level_of rtr ∷ r1 ∷ r0 ∷ [])))
 
--- the body: that head, the data length code, and each data byte with its most significant bit first. A standard frame
--- has no SRR and no r1
+-- the body: that head, the DLC, and each data byte with its most significant bit first. A standard frame has no SRR and
+-- no r1
 abbrev pub body_bits : FrameValue → Level → Level → Level → List Level
 body_bits f srr r1 r0 = head_bits f.ext f.id f.rtr srr r1 r0 ++ (bits 4 f.dlc ++ flat_map (bits 8) f.bytes)
 

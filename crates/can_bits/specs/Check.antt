@@ -1,4 +1,4 @@
--- The check sequence of a frame (Bosch CAN 2.0 part A section 3.1.1, "CRC field").
+-- The CRC sequence of a frame (Bosch CAN 2.0 part A section 3.1.1, "CRC field").
 --
 -- A polynomial over the two elements 0 and 1 is written as the number whose binary digit i is the coefficient of
 -- x^i. So the sum of two is their exclusive or, and a product with x is the double.
@@ -24,8 +24,8 @@ product p (coefficient ∷ coefficients) = bit_xor (scaled coefficient p) (2 * p
 abbrev pub IsMultiple : ℕ → Type 0
 IsMultiple n = (quotient : List Bool) × (n ≡ product generator quotient)
 
--- c is the check sequence of b: 15 levels such that b followed by c, read as a polynomial, is a multiple of the generator.
--- So c is the remainder of b times x^15 by the generator
+-- c is the CRC sequence of b: 15 levels such that b followed by c, read as a polynomial, is a multiple of the
+-- generator. So c is the remainder of b times x^15 by the generator
 pub record Crc (b c : List Level) : Type 0 where
   pub count : length c ≡ 15
   pub divides : IsMultiple (value (b ++ c))

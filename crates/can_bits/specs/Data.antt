@@ -14,7 +14,7 @@ id_by true w = value (slice_range w 1 12) * 2 ^ 18 + value (slice_range w 14 32)
 abbrev pub says_id : List Level → ℕ
 says_id w = id_by (says_ext w) w
 
--- the place after the data length code
+-- the place after the DLC
 abbrev pub data_place : List Level → ℕ
 data_place w = dlc_place (says_ext w) + 4
 

@@ -1,6 +1,6 @@
--- Where the fields of a body stand, told from a body and its check sequence, or a beginning of them (Bosch CAN 2.0
--- part B section 3.2). A level that hasn't come yet counts as dominant: a beginning without its length code says more
--- levels than it has all the same.
+-- Where the fields of a body stand, told from a body and its CRC sequence, or a beginning of them (Bosch CAN 2.0 part B
+-- section 3.2). A level that hasn't come yet counts as dominant: a beginning without its DLC says more levels than it
+-- has all the same.
 use Rattle.std.specs.Prelude.{◌≡◌, ◌+◌, ◌*◌, ℕ, Bool, true, false, List, length, slice_index_or}
 use Rattle.can_frame.specs.Frame.{data_count}
 use Rattle.can_bits.specs.declared.level.Level.{Level}
@@ -20,12 +20,12 @@ is_recessive Recessive = true
 abbrev pub says_ext : List Level → Bool
 says_ext w = is_recessive (level_at w 13)
 
--- the place of the remote bit
+-- the place of RTR
 abbrev pub rtr_place : Bool → ℕ
 rtr_place false = 12
 rtr_place true = 32
 
--- the place of the data length code's first bit
+-- the place of the DLC's first bit
 abbrev pub dlc_place : Bool → ℕ
 dlc_place false = 15
 dlc_place true = 35
@@ -39,16 +39,15 @@ abbrev pub four_from : List Level → ℕ → ℕ
 four_from w place =
     8 * digit (level_at w place) + 4 * digit (level_at w (place + 1)) + 2 * digit (level_at w (place + 2)) + digit (level_at w (place + 3))
 
--- the data length code
+-- the DLC
 abbrev pub says_dlc : List Level → ℕ
 says_dlc w = four_from w (dlc_place (says_ext w))
 
--- how many levels the body and its check sequence have, by what they say: up to the length code, its 4, the data, 15
+-- how many levels the body and its CRC sequence have, by what they say: up to the DLC, its 4, the data, 15
 abbrev pub says_count : List Level → ℕ
 says_count w = dlc_place (says_ext w) + 19 + 8 * data_count (says_rtr w) (says_dlc w)
 
--- w begins with a start of frame and has as many levels as it says: these are the bodies with a check sequence of any
--- frame
+-- w begins with SOF and has as many levels as it says: these are the bodies with a CRC sequence of any frame
 pub record IsWhole (w : List Level) : Type 0 where
   pub begins : level_at w 0 ≡ Dominant
   pub count : length w ≡ says_count w

@@ -34,14 +34,14 @@ plain_after before (x ∷ rest) = unless_stuff (is_full before) x ++ plain_after
 abbrev pub plain_count : List Level → ℕ
 plain_count l = length (plain_after [] l)
 
--- the place code of the next level after these, where a transmitter of that format may lose arbitration there: 0 for the
--- first bit of the identifier, and so on to the remote bit; stuff bits have none and aren't counted
+-- the place code of the next level after these, where a transmitter of that format may lose arbitration there: 0 for
+-- the first bit of the identifier, and so on to RTR; stuff bits have none and aren't counted
 abbrev pub place_code : Bool → List Level → Option ℕ
 place_code ext l =
     if is_full l then None
     else if nat_lt 0 (plain_count l) && nat_le (plain_count l) (rtr_place ext) then Some (plain_count l - 1)
     else None
 
--- the next level after these is a stuff bit before the remote bit
+-- the next level after these is a stuff bit before RTR
 abbrev pub is_early_stuff : Bool → List Level → Bool
 is_early_stuff ext l = is_full l && nat_le (plain_count l) (rtr_place ext)

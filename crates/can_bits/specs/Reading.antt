@@ -8,7 +8,7 @@ use Rattle.can_bits.specs.declared.line_fault.LineFault.TheVariants.{Stuff, Form
 use Rattle.can_bits.specs.Check.{Crc}
 use Rattle.can_bits.specs.Line.{StuffedPart, Line}
 
--- l is a line of f with its check sequence, and it was acknowledged
+-- l is a line of f with its CRC sequence, and it was acknowledged
 pub record IsReceived (f : FrameValue) (l : List Level) : Type 0 where
   pub body : List Level
   pub check : List Level
@@ -34,9 +34,9 @@ pub record IsPastPart (l : List Level) : Type 0 where
   pub is_part : StuffedPart frame body check part
   pub whole : l ≡ part ++ rest
 
--- some line begins with these levels and has at least one more. Nothing is wrong with it so far: its check sequence is
--- right, once the delimiter after it has come (nine levels are missing then), and it was acknowledged, once the
--- acknowledgement slot has come (eight are missing)
+-- some line begins with these levels and has at least one more. Nothing is wrong with it so far: its CRC sequence is
+-- right, once the delimiter after it has come (nine levels are missing then), and it was acknowledged, once the ACK
+-- slot has come (eight are missing)
 pub record IsOpen (l : List Level) : Type 0 where
   pub frame : FrameValue
   pub body : List Level
@@ -56,12 +56,12 @@ pub record BreaksAfter (front l : List Level) : Type 0 where
   pub whole : l ≡ front ++ wrong ∷ rest
   pub none : ¬ Begins (front ++ wrong ∷ [])
 
--- where the levels so far begin a line: the next one belongs to the stuffed part, after the start of frame
+-- where the levels so far begin a line: the next one belongs to the stuffed part, after SOF
 pub record IsInPart (front : List Level) : Type 0 where
   pub begun : front ≢ []
   pub before_end : ¬ IsPastPart front
 
--- the whole stuffed part has come and the delimiter after it, and the check sequence is wrong
+-- the whole stuffed part has come and the delimiter after it, and the CRC sequence is wrong
 pub record HasWrongCheck (l : List Level) : Type 0 where
   pub frame : FrameValue
   pub body : List Level
@@ -72,7 +72,7 @@ pub record HasWrongCheck (l : List Level) : Type 0 where
   pub wrong : ¬ Crc body check
   pub whole : l ≡ part ++ Recessive ∷ rest
 
--- the check sequence is right, and the level in the acknowledgement slot is recessive
+-- the CRC sequence is right, and the level in the ACK slot is recessive
 pub record IsNotAcknowledged (l : List Level) : Type 0 where
   pub frame : FrameValue
   pub body : List Level
@@ -100,7 +100,7 @@ IsFirstFault l NoAck = IsNotAcknowledged l
 IsFirstFault l Truncated = IsOpen l
 IsFirstFault l (Trailing at) = (front : List Level) × GoesOnAfter front l × (length front ≡ at)
 
--- a bool that says whether the check sequence is right
+-- a bool that says whether the CRC sequence is right
 abbrev pub SaysWhetherRight : Bool → List Level → List Level → Type 0
 SaysWhetherRight true b c = Crc b c
 SaysWhetherRight false b c = ¬ Crc b c

@@ -33,12 +33,12 @@ code_of ActiveErrorFlag = 0x11
 code_of Delimiter = 0x17
 code_of OverloadFlag = 0x1c
 
--- a table of segments, each with the first place after it; places past the table belong to the check sequence
+-- a table of segments, each with the first place after it; places past the table belong to the CRC sequence
 abbrev pub segment_in : List (ℕ × Segment) → ℕ → Segment
 segment_in [] place = CheckSequence
 segment_in (row ∷ rows) place = if nat_lt place (row.0) then row.1 else segment_in rows place
 
--- the segments of a body and its check sequence, by the format; the check sequence is the last 15 of `count` levels
+-- the segments of a body and its CRC sequence, by the format; the CRC sequence is the last 15 of `count` levels
 abbrev pub segments_of : Bool → ℕ → List (ℕ × Segment)
 segments_of false count =
     (1, StartOfFrame) ∷ (9, Id28To21) ∷ (12, Id20To18) ∷ (13, RtrStandard) ∷ (14, Ide) ∷ (15, Reserved0) ∷ (19, LengthCode) ∷ (count - 15, Data) ∷ []
@@ -46,7 +46,7 @@ segments_of true count =
     (1, StartOfFrame) ∷ (9, Id28To21) ∷ (12, Id20To18) ∷ (13, RtrStandard) ∷ (14, Ide) ∷ (19, Id17To13) ∷ (27, Id12To5) ∷ (32, Id4To0)
     ∷ (33, RtrExtended) ∷ (34, Reserved1) ∷ (35, Reserved0) ∷ (39, LengthCode) ∷ (count - 15, Data) ∷ []
 
--- the segment of the level at a place of a body and its check sequence that begins with w
+-- the segment of the level at a place of a body and its CRC sequence that begins with w
 abbrev pub segment_at : List Level → ℕ → Segment
 segment_at w place = segment_in (segments_of (says_ext w) (says_count w)) place
 

@@ -1,10 +1,10 @@
--- A body and its check sequence, before stuffing.
+-- A body and its CRC sequence, before stuffing.
 use Rattle.std.specs.Prelude.{◌≡◌, List, ◌++◌, length}
 use Rattle.can_frame.specs.Frame.{FrameValue, IsFrame}
 use Rattle.can_bits.specs.declared.level.Level.{Level}
 use Rattle.can_bits.specs.Body.{IsBody}
 
--- the frame f is spelt by w: a body b of it and then a check sequence c, right or wrong
+-- the frame f is spelt by w: a body b of it and then a CRC sequence c, right or wrong
 pub record Spells (f : FrameValue) (b c w : List Level) : Type 0 where
   pub frame : IsFrame f
   pub body : IsBody f b

@@ -1,4 +1,4 @@
--- What a reader of one level at a time says. It takes either level in the acknowledgement slot.
+-- What a reader of one level at a time says. It takes either level in the ACK slot.
 use Rattle.std.specs.Prelude.{◌≡◌, ◌≤◌, ℕ, Bool, List, [], ◌∷◌, ◌++◌, length, Option, Some, None, ◌↔◌, IfSome, IsTrue}
 use Rattle.can_frame.specs.Frame.{FrameValue}
 use Rattle.can_bits.specs.declared.level.Level.{Level}
@@ -11,8 +11,8 @@ use Rattle.can_bits.specs.Line.{StuffedPart, Line}
 use Rattle.can_bits.specs.Reading.{Begins, IsPastPart, IsInPart}
 use Rattle.can_bits.specs.Segments.{IsNext}
 
--- some line begins with these levels, and its check sequence is right once the acknowledgement delimiter has come
--- (seven levels are missing then)
+-- some line begins with these levels, and its CRC sequence is right once the ACK delimiter has come (seven levels are
+-- missing then)
 pub record IsReadable (l : List Level) : Type 0 where
   pub frame : FrameValue
   pub body : List Level
@@ -27,8 +27,8 @@ pub record IsRightInside (l : List Level) (x : Level) : Type 0 where
   pub inside : IsInPart l
   pub right : IsReadable (l ++ x ∷ [])
 
--- the levels are a line of f with a right check sequence, with either level in the acknowledgement slot, but for this
--- many levels at its end
+-- the levels are a line of f with a right CRC sequence, with either level in the ACK slot, but for this many levels at
+-- its end
 pub record IsLineButFor (missing : ℕ) (f : FrameValue) (l : List Level) : Type 0 where
   pub body : List Level
   pub check : List Level
@@ -42,7 +42,7 @@ pub record IsLineButFor (missing : ℕ) (f : FrameValue) (l : List Level) : Type
 abbrev pub IsOver : List Level → Type 0
 IsOver l = (f : FrameValue) × IsLineButFor 0 f l
 
--- up to its acknowledgement slot these levels are a line, and its check sequence is wrong
+-- up to its ACK slot these levels are a line, and its CRC sequence is wrong
 pub record EndsInWrongCheck (l : List Level) : Type 0 where
   pub frame : FrameValue
   pub body : List Level
@@ -67,7 +67,7 @@ abbrev pub Judges : List Level → Level → Option LineFault → Type 0
 Judges l x None = IsReadable (l ++ x ∷ [])
 Judges l x (Some fault) = BreaksWith l x fault
 
--- a frame comes with the sixth bit of its end of frame, and then alone
+-- a frame comes with the sixth bit of EOF, and then alone
 pub record ShowsFrame (l : List Level) (shown : Option FrameValue) : Type 0 where
   pub some : IfSome shown (λ f. IsLineButFor 1 f l)
   pub only : (f : FrameValue) → IsLineButFor 1 f l → shown ≡ Some f
@@ -83,7 +83,7 @@ pub record Tells (l : List Level) (x : Level) (event : ShiftEvent) : Type 0 wher
   pub right_so_far : IsReadable l → IsEventOf l x event
   pub wrong_before : (front later : List Level) (y : Level) → IsReadable front → ¬ IsReadable (front ++ y ∷ []) → l ≡ front ++ y ∷ later → IsEventOf front y event
 
--- whether the check sequence is right, once the stuffed part has come
+-- whether the CRC sequence is right, once the stuffed part has come
 pub record TellsCheck (l : List Level) (answer : Option Bool) : Type 0 where
   pub some : IfSome answer (λ right. IsPastPart l)
   pub known : (f : FrameValue) (b c part after : List Level) → StuffedPart f b c part → l ≡ part ++ after → (right : Bool) × (answer ≡ Some right) × (IsTrue right ↔ Crc b c)

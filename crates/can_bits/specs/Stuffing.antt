@@ -1,4 +1,4 @@
--- Bit stuffing (Bosch CAN 2.0 part A section 5, "Coding"; that a stuff bit also follows the last bit of the check
+-- Bit stuffing (Bosch CAN 2.0 part A section 5, "Coding"; that a stuff bit also follows the last bit of the CRC
 -- sequence where five equal levels end there is this project's own reading).
 use Rattle.std.specs.Prelude.{◌≡◌, ◌≢◌, ℕ, List, [], ◌∷◌, ◌++◌, replicate}
 use Rattle.can_bits.specs.declared.level.Level.{Level}

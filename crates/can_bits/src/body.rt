@@ -2,7 +2,7 @@
 //!
 //! | Standard | | Extended | |
 //! |---|---|---|---|
-//! | 0 | start of frame | 0 | start of frame |
+//! | 0 | SOF | 0 | SOF |
 //! | 1 to 11 | ID.28 to ID.18 | 1 to 11 | ID.28 to ID.18 |
 //! | 12 | RTR | 12 | SRR |
 //! | 13 | IDE, dominant | 13 | IDE, recessive |
@@ -24,7 +24,7 @@ use super::level::Level;
 use arrayvec::ArrayVec;
 use can_frame::Frame;
 
-/// The longest body and its check sequence: 39 levels to the length code of an extended frame, 8 bytes, 15 levels.
+/// The longest body and its CRC sequence: 39 levels to the DLC of an extended frame, 8 bytes, 15 levels.
 pub const LONGEST_UNSTUFFED: usize = 118;
 
 /// The body that a transmitter of this frame sends.
@@ -40,7 +40,7 @@ pub fn body_of(frame: &Frame) -> ArrayVec<Level, 118>
     body
 }
 
-/// Start of frame, arbitration field and reserved bits.
+/// SOF, arbitration field and reserved bits.
 fn push_head(body: &mut ArrayVec<Level, 118>, frame: &Frame)
     requires { length body.old.items ≡ 0 }
     ensures value { body.new.items ≡ head_bits frame.now.ext frame.now.id frame.now.rtr Level.Recessive Level.Dominant Level.Dominant }

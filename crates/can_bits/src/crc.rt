@@ -1,3 +1,5 @@
+//! The CRC sequence, and the CRC register level by level.
+
 ghost use Rattle.std.specs.Prelude.{◌≡◌, ◌<◌, ◌+◌, ◌*◌, [], ◌∷◌, ◌++◌, List};
 ghost use Rattle.can_bits.specs.declared.level.Level.{Level as Bus};
 ghost use Rattle.can_bits.specs.Digits.{bits, value};
@@ -8,8 +10,8 @@ use super::level::Level;
 /// The generator x^15 + x^14 + x^10 + x^8 + x^7 + x^4 + x^3 + 1 without its first term.
 const GENERATOR: u16 = 0x4599;
 
-/// The check sequence of these levels as a number below 2^15, its first level the most significant digit
-/// (CRC-15/CAN: Bosch CAN 2.0 part A section 3.1.1, "CRC field").
+/// The CRC sequence of these levels as a number below 2^15, its first level the most significant digit (CRC-15/CAN:
+/// Bosch CAN 2.0 part A section 3.1.1, "CRC field").
 pub fn crc_of(levels: &[Level]) -> u16
     ensures fits { result < 32768 }
     ensures crc { Crc levels.now (bits 15 result) }
@@ -22,7 +24,7 @@ pub fn crc_of(levels: &[Level]) -> u16
     crc
 }
 
-/// The check register after one level more: where the generator divides the levels followed by the register, it divides
+/// The CRC register after one level more: where the generator divides the levels followed by the register, it divides
 /// the levels with this one more, followed by the result.
 pub fn crc_step(crc: u16, level: Level) -> u16
     requires { crc < 32768 }

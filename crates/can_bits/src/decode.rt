@@ -1,4 +1,4 @@
-//! The frame that a whole body and its check sequence spell.
+//! The frame that a whole body and its CRC sequence spell.
 
 ghost use Rattle.std.specs.Prelude.{◌≡◌, ◌<◌, ◌≤◌, ◌*◌, List, length, All};
 ghost use Rattle.std.specs.List.{flat_map};
@@ -10,11 +10,12 @@ ghost use Rattle.can_bits.specs.Data.{says_id, says_bytes, data_levels};
 ghost use Rattle.can_bits.specs.Spelling.{Spells};
 
 use super::fields::{number_of, says_dlc, says_ext, says_rtr};
+use super::layout::{MOST_BYTES, data_place};
 use super::level::Level;
 use arrayvec::ArrayVec;
 use can_frame::Frame;
 
-/// The frame that these levels spell: a body and its check sequence, which may be wrong.
+/// The frame that these levels spell: a body and its CRC sequence, which may be wrong.
 pub fn frame_of(bits: &[Level]) -> Frame
     requires { IsWhole bits.now }
     ensures { (b : List Bus) × (c : List Bus) × Spells result b c bits.now }
@@ -55,11 +56,11 @@ fn data_of(bits: &[Level]) -> ArrayVec<u8, 8>
     ensures count { length result.items ≡ says_bytes bits.now }
     ensures small { All (λ byte. byte < 256) result.items }
 {
-    let place = if says_ext(bits) { 39 } else { 19 };
+    let place = usize::from(data_place(says_ext(bits)));
     let count = if says_rtr(bits) {
         0
     } else {
-        usize::from(says_dlc(bits).min(8))
+        usize::from(says_dlc(bits).min(MOST_BYTES))
     };
     bytes_of(&bits[place..place + 8 * count], count)
 }

@@ -4,6 +4,7 @@ ghost use Rattle.std.specs.Prelude.{◌≡◌, ◌≤◌, ◌<◌, ◌^◌, leng
 ghost use Rattle.can_bits.specs.Digits.{value};
 ghost use Rattle.can_bits.specs.Fields.{level_at, is_recessive, says_ext, says_rtr, says_dlc, says_count, four_from};
 
+use super::layout::{CRC_LEVELS, IDE_PLACE, MOST_BYTES, data_place, dlc_place, rtr_place};
 use super::level::Level;
 
 /// The level at a place; one that hasn't come yet counts as dominant.
@@ -21,24 +22,23 @@ fn level_at(bits: &[Level], place: usize) -> Level
 pub fn says_ext(bits: &[Level]) -> bool
     ensures { result ≡ says_ext bits.now }
 {
-    level_at(bits, 13).is_recessive()
+    level_at(bits, usize::from(IDE_PLACE)).is_recessive()
 }
 
 /// Whether the body is that of a remote frame.
 pub fn says_rtr(bits: &[Level]) -> bool
     ensures { result ≡ says_rtr bits.now }
 {
-    let place = if says_ext(bits) { 32 } else { 12 };
-    level_at(bits, place).is_recessive()
+    let place = rtr_place(says_ext(bits));
+    level_at(bits, usize::from(place)).is_recessive()
 }
 
-/// The data length code.
+/// The DLC.
 pub fn says_dlc(bits: &[Level]) -> u8
     ensures value { result ≡ says_dlc bits.now }
     ensures fits { result < 16 }
 {
-    let place = if says_ext(bits) { 35 } else { 15 };
-    four_from(bits, place)
+    four_from(bits, usize::from(dlc_place(says_ext(bits))))
 }
 
 /// The number that four levels write from a place on.
@@ -54,18 +54,17 @@ fn four_from(bits: &[Level], place: usize) -> u8
     8 * first + 4 * second + 2 * third + last
 }
 
-/// How many levels the body and its check sequence have, by what they say.
+/// How many levels the body and its CRC sequence have, by what they say.
 pub fn says_count(bits: &[Level]) -> usize
     ensures value { result ≡ says_count bits.now }
     ensures most { result ≤ 118 }
 {
-    let code_end = if says_ext(bits) { 54 } else { 34 };
     let data = if says_rtr(bits) {
         0
     } else {
-        says_dlc(bits).min(8)
+        says_dlc(bits).min(MOST_BYTES)
     };
-    code_end + 8 * usize::from(data)
+    usize::from(data_place(says_ext(bits)) + 8 * data + CRC_LEVELS)
 }
 
 /// The number that these levels write in binary, most significant first.

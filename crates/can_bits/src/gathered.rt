@@ -1,13 +1,13 @@
+//! The body and the CRC sequence that a reader is given, kept as one number.
+
 use super::crc::crc_step;
 use super::level::Level;
 
 mod fields;
 mod next;
 
-/// Where the DLC of a standard frame ends, and where that of an extended frame does.
+/// Where the DLC of a standard frame ends: the first mark.
 const STANDARD_HEAD: u8 = 19;
-
-const EXTENDED_HEAD: u8 = 39;
 
 /// The highest binary digit of a word.
 const HIGHEST: u128 = 1 << 127;
@@ -33,7 +33,7 @@ impl Gathered {
     ghost use Rattle.can_bits.specs.Fields.{says_count};
     ghost use Rattle.can_bits.specs.Reading.{SaysWhetherRight};
     ghost use Rattle.can_bits.specs.Packing.{Packs};
-    ghost use Rattle.can_bits.specs.Gathering.{Gathers, mark_of};
+    ghost use Rattle.can_bits.specs.Machine.Gathering.{Gathers, mark_of};
 
     /// Nothing has come.
     pub fn new() -> Gathered
@@ -78,11 +78,11 @@ impl Gathered {
         ensures kept { self.new ≡ record self.old { mark = self.new.mark } }
         ensures moved { (w : List Bus) → Packs self.old.word self.old.place w → 19 ≤ length w → self.new.mark ≡ mark_of w }
     {
-        let head = self.head();
+        let head = self.head_end();
         self.mark = if self.place < head {
             head
         } else {
-            self.count()
+            self.level_count()
         };
     }
 

@@ -1,4 +1,4 @@
-//! Laws of check sequences, of stuffing and of lines. Each stands as the contract of a function that does nothing.
+//! Laws of CRC sequences, of stuffing and of lines. Each stands as the contract of a function that does nothing.
 
 ghost use Rattle.std.specs.Prelude.{◌≡◌, ◌↔◌, ◌++◌, ◌∷◌, [], ℕ, Bool, IsTrue, Some, List, length};
 ghost use Rattle.can_bits.specs.declared.level.Level.{Level};
@@ -10,7 +10,7 @@ ghost use Rattle.can_bits.specs.Places.{place_code, is_early_stuff};
 ghost use Rattle.can_bits.specs.Line.{StuffedPart, Line, IsSentLine};
 ghost use Rattle.can_bits.specs.Reading.{BeginsDominant, IsPastPart, IsOpen};
 
-/// Every list of levels has exactly one check sequence.
+/// Every list of levels has exactly one CRC sequence.
 pub fn a_list_has_one_check_sequence()
     ensures { (b : List Level) → (c : List Level) × Crc b c × ((d : List Level) → Crc b d → d ≡ c) }
 {}
@@ -41,8 +41,8 @@ pub fn a_stuffed_part_says_where_it_ends()
         → s ++ x ≡ t ++ y → s ≡ t }
 {}
 
-/// Two lines with the same levels up to the sixth bit of the end of frame, all but the last, are lines of one frame with
-/// one body and one check sequence, and one is as long as the other.
+/// Two lines with the same levels up to the sixth bit of EOF, all but the last, are lines of one frame with one body
+/// and one CRC sequence, and one is as long as the other.
 pub fn lines_with_the_same_levels_are_of_one_frame()
     ensures { (f g : FrameValue) (b c d e : List Level) (ack other last : Level) (front rest : List Level)
         → Line f b c ack (front ++ last ∷ []) → Line g d e other (front ++ rest)

@@ -1,3 +1,5 @@
+//! A level of the bus.
+
 ghost use Rattle.std.specs.Prelude.{◌≡◌, ◌<◌};
 
 /// A level of the bus (Bosch CAN 2.0 part A section 2, "Bus values").

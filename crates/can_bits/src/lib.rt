@@ -1,4 +1,4 @@
-//! The levels that a CAN frame puts on the bus: bits, check sequence, bit stuffing and the whole line, made and read.
+//! The levels that a CAN frame puts on the bus: bits, CRC sequence, bit stuffing and the whole line, made and read.
 //!
 //! Only `line_of` takes memory.
 //!
@@ -11,6 +11,7 @@ mod decode;
 mod fields;
 mod gathered;
 mod laws;
+mod layout;
 mod level;
 mod line;
 mod line_fault;

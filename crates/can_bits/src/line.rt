@@ -1,3 +1,5 @@
+//! The whole line of a frame, made.
+
 ghost use Rattle.std.specs.Prelude.{◌≡◌, ◌≤◌, ◌+◌, ◌++◌, IfOk, vec_len, vec_capacity};
 ghost use Rattle.can_bits.specs.Line.{IsSentLine, tail};
 
@@ -11,9 +13,9 @@ use std::alloc::Global;
 /// The most levels a line has: 118 before stuffing, a stuff bit after each four of them, and 10 after the stuffed part.
 const LONGEST_LINE: usize = 157;
 
-/// The line that a transmitter of this frame puts on the bus: body, check sequence, stuff bits, and after them the
-/// delimiter of the check sequence, acknowledgement slot, its delimiter and end of frame, all recessive (Bosch CAN 2.0
-/// part A section 3.1.1 and part B section 3.2).
+/// The line that a transmitter of this frame puts on the bus: body, CRC sequence, stuff bits, and after them the CRC
+/// delimiter, ACK slot, ACK delimiter and EOF, all recessive (Bosch CAN 2.0 part A section 3.1.1 and part B section
+/// 3.2).
 ///
 /// Its room is reserved once. Answers [`OutOfMemory`] where that was refused.
 pub fn line_of(alloc: Global, frame: &Frame) -> Result<Vec<Level>, OutOfMemory>

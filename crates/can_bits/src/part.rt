@@ -16,7 +16,7 @@ use arrayvec::ArrayVec;
 /// The stuffed part that a list of levels begins with.
 #[derive(Drop)]
 pub struct Part {
-    /// Body and check sequence, without stuff bits.
+    /// Body and CRC sequence, without stuff bits.
     pub bits: ArrayVec<Level, 118>,
     /// How many levels the part has, stuff bits counted.
     pub count: usize,

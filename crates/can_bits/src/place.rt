@@ -5,7 +5,7 @@ ghost use Rattle.can_bits.specs.Segments.{segment_in, segments_of, segment_after
 
 use super::segment::Segment;
 
-/// The segment of the level at a place of a body and its check sequence, which have `count` levels in all.
+/// The segment of the level at a place of a body and its CRC sequence, which have `count` levels in all.
 pub fn segment_of(ext: bool, count: u8, place: u8) -> Segment
     ensures { result ≡ segment_in (segments_of ext count) place }
 {

@@ -1,3 +1,5 @@
+//! A whole line, read at once.
+
 ghost use Rattle.std.specs.Prelude.{◌≡◌, ◌≤◌, ◌-◌, ◌++◌, List, length, slice_set, IfOk, IfErr};
 ghost use Rattle.can_frame.specs.Frame.{FrameValue};
 ghost use Rattle.can_bits.specs.Line.{IsSentLine};
@@ -14,17 +16,17 @@ use super::part::read_part;
 use super::tail::judge_tail;
 use can_frame::Frame;
 
-/// How many levels a check sequence has.
+/// How many levels a CRC sequence has.
 const CHECK: usize = 15;
 
 /// The frame whose acknowledged line these levels are.
 ///
 /// Errors, the first in order of place: [`LineFault::Stuff`] and [`LineFault::Form`] at the first level with which no
-/// line begins; [`LineFault::Crc`] for a wrong check sequence, judged after its delimiter; [`LineFault::NoAck`] for a
-/// recessive acknowledgement slot; [`LineFault::Truncated`] where the levels end before the line does;
-/// [`LineFault::Trailing`] where they go on after it. Reserved bits and SRR are taken at either level, and all seven
-/// bits of the end of frame are recessive (Bosch CAN 2.0 part B section 3.2; ISO 11898-1). The order, and that the last
-/// bit of the end of frame counts too, are this project's own rule.
+/// line begins; [`LineFault::Crc`] for a wrong CRC sequence, judged after its delimiter; [`LineFault::NoAck`] for a
+/// recessive ACK slot; [`LineFault::Truncated`] where the levels end before the line does; [`LineFault::Trailing`]
+/// where they go on after it. Reserved bits and SRR are taken at either level, and all seven bits of EOF are recessive
+/// (Bosch CAN 2.0 part B section 3.2; ISO 11898-1). The order, and that the last bit of EOF counts too, are this
+/// project's own rule.
 pub fn read_line(levels: &[Level]) -> Result<Frame, LineFault>
     ensures frame { IfOk result (λ f. IsReceived f levels.now) }
     ensures fault { IfErr result (IsFirstFault levels.now) }
@@ -37,11 +39,11 @@ pub fn read_line(levels: &[Level]) -> Result<Frame, LineFault>
     ensures sent { (f : FrameValue) (l : List Bus) → IsSentLine f l → levels.now ≡ slice_set l (length l - 9) Level.Dominant
         → result ≡ Ok f }
 {
-    read(levels)
+    read_and_judge(levels)
 }
 
 /// The same, with what each answer says.
-fn read(levels: &[Level]) -> Result<Frame, LineFault>
+fn read_and_judge(levels: &[Level]) -> Result<Frame, LineFault>
     ensures frame { IfOk result (λ f. IsReceived f levels.now) }
     ensures fault { IfErr result (IsFirstFault levels.now) }
 {
@@ -51,7 +53,7 @@ fn read(levels: &[Level]) -> Result<Frame, LineFault>
     Ok(frame_of(part.bits.as_slice()))
 }
 
-/// Whether the last 15 of these levels are the check sequence of those before.
+/// Whether the last 15 of these levels are the CRC sequence of those before.
 fn check_is_right(bits: &[Level]) -> bool
     requires { 15 ≤ length bits.now }
     ensures { (b c : List Bus) → bits.now ≡ b ++ c → length c ≡ 15 → SaysWhetherRight result b c }

@@ -1,3 +1,5 @@
+//! The run of equal levels that ends a list, for the stuffing rule.
+
 ghost use Rattle.std.specs.Prelude.{◌≡◌, ◌≢◌, ◌<◌, ◌+◌};
 
 use super::level::Level;

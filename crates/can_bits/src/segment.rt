@@ -1,10 +1,12 @@
+//! The segments of a frame, as the error code capture register (ECC) names them.
+
 ghost use Rattle.std.specs.Prelude.{◌≡◌};
 
 /// A segment of a frame, of a flag or of a delimiter, as the error code capture register names them (SJA1000 data
 /// sheet, 6.4.9).
 #[derive(Clone, Copy, Debug, Default, PartialEq, Eq)]
 pub enum Segment {
-    /// Start of frame.
+    /// SOF, the start of frame.
     #[default]
     StartOfFrame,
     /// ID.28 to ID.21.
@@ -27,19 +29,19 @@ pub enum Segment {
     Reserved1,
     /// Reserved bit 0.
     Reserved0,
-    /// Data length code.
+    /// DLC, the data length code.
     LengthCode,
     /// Data field.
     Data,
-    /// Check sequence.
+    /// CRC sequence.
     CheckSequence,
-    /// Delimiter of the check sequence.
+    /// CRC delimiter.
     CheckDelimiter,
-    /// Acknowledgement slot.
+    /// ACK slot, the first bit of the acknowledgement field.
     AckSlot,
-    /// Acknowledgement delimiter.
+    /// ACK delimiter.
     AckDelimiter,
-    /// End of frame.
+    /// EOF, the end of frame.
     EndOfFrame,
     /// Active error flag.
     ActiveErrorFlag,

@@ -7,6 +7,7 @@ ghost use Rattle.can_bits.specs.Digits.{bits, level_of};
 ghost use Rattle.can_bits.specs.Body.{head_bits, sent_body};
 ghost use Rattle.can_bits.specs.Fields.{level_at, dlc_place};
 
+use super::layout::dlc_place;
 use super::level::Level;
 use can_frame::Frame;
 
@@ -14,7 +15,7 @@ use can_frame::Frame;
 pub fn sent_level(frame: &Frame, place: u8) -> Option<Level>
     ensures { result ≡ slice_get (sent_body frame.now) place }
 {
-    let code = code_place(frame.ext());
+    let code = dlc_place(frame.ext());
     if place < code {
         Some(head_level(frame, place))
     } else if place < code + 4 {
@@ -24,15 +25,7 @@ pub fn sent_level(frame: &Frame, place: u8) -> Option<Level>
     }
 }
 
-/// The place of the data length code.
-fn code_place(ext: bool) -> u8
-    ensures value { result ≡ dlc_place ext }
-    ensures most { result ≤ 35 }
-{
-    if ext { 35 } else { 15 }
-}
-
-/// The level at a place of start of frame, arbitration field and reserved bits.
+/// The level at a place of SOF, arbitration field and reserved bits.
 fn head_level(frame: &Frame, place: u8) -> Level
     ensures { result ≡ level_at (head_bits frame.now.ext frame.now.id frame.now.rtr Recessive Dominant Dominant) place }
 {

@@ -1,3 +1,5 @@
+//! The packed body of a frame, for its transmitter.
+
 use super::level::Level;
 use can_frame::Frame;
 
@@ -32,7 +34,7 @@ impl SentBody {
         ensures packs { IsSentBody result frame.now }
         ensures valid { IsFrame frame.now }
     {
-        let mut body = SentBody::head(frame).followed_by(4, u32::from(frame.dlc()));
+        let mut body = SentBody::head_of(frame).followed_by(4, u32::from(frame.dlc()));
         for byte in frame.bytes() {
             body = body.followed_by(8, u32::from(*byte));
         }
@@ -40,7 +42,7 @@ impl SentBody {
     }
 
     /// SOF, arbitration field and reserved bits.
-    fn head(frame: &Frame) -> SentBody
+    fn head_of(frame: &Frame) -> SentBody
         ensures { Packs result.word result.length (head_bits frame.now.ext frame.now.id frame.now.rtr Recessive Dominant Dominant) }
     {
         let start = SentBody { word: 0, length: 1 };

@@ -1,3 +1,5 @@
+//! A reader that is given one level at a time.
+
 use super::gathered::Gathered;
 use super::level::Level;
 use super::line_fault::LineFault;
@@ -15,13 +17,13 @@ mod quick;
 /// How many equal levels a stuff bit follows.
 const RUN: u8 = 5;
 
-/// Which level after the stuffed part is the sixth bit of the end of frame, counted from 0.
+/// Which level after the stuffed part is the sixth bit of EOF, counted from 0.
 const SIXTH_END_BIT: u8 = 8;
 
 /// A reader of a line that is given one level at a time.
 ///
-/// It keeps no list of levels: the fields of the frame as far as they have come, the check register, the last run of
-/// equal levels, and the first fault.
+/// It keeps no list of levels: the body and the CRC sequence without stuff bits as one number, the CRC register, the
+/// last run of equal levels, and the first fault (stuff, form or CRC error).
 #[derive(Clone, Copy, Debug)]
 pub struct Shift {
     /// How many levels have come, all right.
@@ -46,8 +48,9 @@ impl Shift {
     ghost use Rattle.can_bits.specs.Check.{Crc};
     ghost use Rattle.can_bits.specs.Places.{place_code, is_early_stuff};
     ghost use Rattle.can_frame.specs.Frame.{FrameValue};
-    ghost use Rattle.can_bits.specs.Shifts.{StandsFor, JudgesAt, IsPast, is_stuff_next};
-    ghost use Rattle.can_bits.specs.Gathering.{Gathers};
+    ghost use Rattle.can_bits.specs.Machine.Stages.{IsPast, is_stuff_next};
+    ghost use Rattle.can_bits.specs.Shifts.{StandsFor, JudgesAt};
+    ghost use Rattle.can_bits.specs.Machine.Gathering.{Gathers};
 
     /// A reader that has been given no level.
     pub fn new() -> Shift
@@ -120,7 +123,7 @@ impl Shift {
         }
     }
 
-    /// The frame, where the sixth bit of its end of frame came last.
+    /// The frame, where the sixth bit of EOF came last.
     pub fn frame(&self) -> Option<Frame>
         ensures { (l : List Bus) → StandsFor self.now l → IsReadable l → ShowsFrame l result }
     {
@@ -141,7 +144,7 @@ impl Shift {
         }
     }
 
-    /// Whether the check sequence is right, from the last level of the stuffed part on.
+    /// Whether the CRC sequence is right, from the last level of the stuffed part on.
     pub fn crc_matches(&self) -> Option<bool>
         ensures { (l : List Bus) → StandsFor self.now l → TellsCheck l result }
     {
@@ -151,7 +154,7 @@ impl Shift {
         }
     }
 
-    /// Whether the next level is the acknowledgement slot of a line whose check sequence is right.
+    /// Whether the next level is the ACK slot of a line whose CRC sequence is right.
     pub fn ack_is_due(&self) -> bool
         ensures { (l : List Bus) → StandsFor self.now l → IsTrue result ↔ IsAckDue l }
     {
@@ -170,7 +173,7 @@ impl Shift {
     }
 
     /// The next level of the line that a transmitter of this frame sends, where the levels so far are a front of that
-    /// line, but for the acknowledgement slot (Bosch CAN 2.0 part A sections 3.1.1 and 5).
+    /// line, but for the ACK slot (Bosch CAN 2.0 part A sections 3.1.1 and 5).
     pub fn next_sent(&self, frame: &Frame) -> Level
         ensures { (l others c part before rest : List Bus) (x ack : Bus) → StandsFor self.now l
             → StuffedPart frame.now (sent_body frame.now) c part → Crc (sent_body frame.now) c → part ++ tail ack ≡ l ++ others
@@ -183,7 +186,7 @@ impl Shift {
     }
 
     /// The place code of the next level, where a transmitter of that format may lose arbitration there: 0 for the first
-    /// bit of the identifier, and so on to the remote bit (SJA1000 data sheet, 6.4.8). A stuff bit has none.
+    /// bit of the identifier, and so on to RTR (SJA1000 data sheet, 6.4.8). A stuff bit has none.
     pub fn place_code(&self, ext: bool) -> Option<u8>
         ensures { (l : List Bus) → StandsFor self.now l → IsReadable l → result ≡ place_code ext l }
     {
@@ -199,7 +202,7 @@ impl Shift {
         }
     }
 
-    /// Whether the next level is a stuff bit before the remote bit of that format.
+    /// Whether the next level is a stuff bit before RTR of that format.
     pub fn is_early_stuff(&self, ext: bool) -> bool
         ensures { (l : List Bus) → StandsFor self.now l → IsReadable l → result ≡ is_early_stuff ext l }
     {
@@ -226,7 +229,7 @@ impl Shift {
     }
 
     /// Keeps a fault, and answers it.
-    fn breaks(&mut self, segment: Segment, stuff: bool, fault: LineFault) -> ShiftFault
+    fn keep_fault(&mut self, segment: Segment, stuff: bool, fault: LineFault) -> ShiftFault
         ensures kept { self.new ≡ record self.old { wrong = Some (record { segment = segment; stuff = stuff; fault = fault }) } }
         ensures fault { result ≡ record { segment = segment; stuff = stuff; fault = fault } }
     {

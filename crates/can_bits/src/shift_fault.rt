@@ -1,3 +1,5 @@
+//! The first wrong level of a reader, kept.
+
 use super::line_fault::LineFault;
 use super::segment::Segment;
 use super::shift_event::ShiftEvent;

@@ -1,3 +1,5 @@
+//! Stuff bits, put in.
+
 ghost use Rattle.std.specs.Prelude.{◌≡◌, ◌≤◌, ◌+◌, ◌*◌, [], length, vec_capacity};
 ghost use Rattle.can_bits.specs.Stuffing.{Stuffed};
 

@@ -10,8 +10,8 @@ ghost use Rattle.can_bits.specs.Reading.{IsFirstFault, SaysWhetherRight};
 use super::level::Level;
 use super::line_fault::LineFault;
 
-/// Judges the levels after a stuffed part of `at` levels whose check sequence is right or wrong: delimiter, check
-/// sequence, acknowledgement slot, and the rest.
+/// Judges the levels after a stuffed part of `at` levels whose CRC sequence is right or wrong: delimiter, CRC sequence,
+/// ACK slot, and the rest.
 pub fn judge_tail(after: &[Level], at: usize, right: bool) -> Result<(), LineFault>
     requires { at + length after.now < 2 ^ 64 }
     ensures ok { OnOk result ((right ≡ true) × (after.now ≡ tail Level.Dominant)) }
@@ -36,8 +36,7 @@ pub fn judge_tail(after: &[Level], at: usize, right: bool) -> Result<(), LineFau
     judge_end(rest, at)
 }
 
-/// Judges the levels after a dominant acknowledgement slot: eight recessive ones and no more. The stuffed part has `at`
-/// levels.
+/// Judges the levels after a dominant ACK slot: eight recessive ones and no more. The stuffed part has `at` levels.
 fn judge_end(rest: &[Level], at: usize) -> Result<(), LineFault>
     requires { at + length rest.now + 2 < 2 ^ 64 }
     ensures ok { OnOk result (rest.now ≡ replicate 8 Level.Recessive) }

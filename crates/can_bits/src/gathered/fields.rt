@@ -1,6 +1,7 @@
 //! The fields of a frame, read off the word of its levels.
 
-use super::{EXTENDED_HEAD, Gathered, STANDARD_HEAD};
+use super::Gathered;
+use crate::layout::{CRC_LEVELS, IDE_PLACE, MOST_BYTES, data_place, rtr_place};
 use crate::level::Level;
 use arrayvec::ArrayVec;
 use can_frame::Frame;
@@ -15,14 +16,14 @@ impl Gathered {
     ghost use Rattle.can_bits.specs.Data.{says_id, says_bytes, data_place, data_levels};
     ghost use Rattle.can_bits.specs.Spelling.{Spells};
     ghost use Rattle.can_bits.specs.Packing.{Packs};
-    ghost use Rattle.can_bits.specs.Gathering.{Gathers};
+    ghost use Rattle.can_bits.specs.Machine.Gathering.{Gathers};
 
     /// The frame, once all levels have come.
     #[inline(never)]
     pub fn frame(&self) -> Option<Frame>
         ensures { (f : FrameValue) (w b c : List Bus) → Gathers self.now w → Spells f b c w → result ≡ Some f }
     {
-        let data = self.data();
+        let data = self.data_bytes();
         match Frame::new(
             self.ext(),
             self.id(),
@@ -36,38 +37,33 @@ impl Gathered {
     }
 
     /// How many levels the body and its CRC sequence have, once the DLC has come.
-    pub(super) fn count(&self) -> u8
+    pub(super) fn level_count(&self) -> u8
         ensures { (w : List Bus) → Packs self.now.word self.now.place w → data_place w ≤ length w → result ≡ says_count w }
     {
-        self.head() + 15 + 8 * self.data_count()
+        self.head_end() + 8 * self.data_count() + CRC_LEVELS
     }
 
     /// Where the DLC ends.
-    pub(super) fn head(&self) -> u8
+    pub(super) fn head_end(&self) -> u8
         ensures value { (w : List Bus) → Packs self.now.word self.now.place w → result ≡ data_place w }
         ensures least { 19 ≤ result }
         ensures most { result ≤ 39 }
     {
-        if self.ext() {
-            EXTENDED_HEAD
-        } else {
-            STANDARD_HEAD
-        }
+        data_place(self.ext())
     }
 
     /// Whether the frame is an extended one: IDE.
     pub(super) fn ext(&self) -> bool
         ensures { (w : List Bus) → Packs self.now.word self.now.place w → result ≡ says_ext w }
     {
-        self.level(13).is_recessive()
+        self.level_at(IDE_PLACE).is_recessive()
     }
 
     /// Whether the frame is a remote frame: RTR.
     fn rtr(&self) -> bool
         ensures { (w : List Bus) → Packs self.now.word self.now.place w → result ≡ says_rtr w }
     {
-        let place = if self.ext() { 32 } else { 12 };
-        self.level(place).is_recessive()
+        self.level_at(rtr_place(self.ext())).is_recessive()
     }
 
     /// The DLC, once it has come.
@@ -75,16 +71,16 @@ impl Gathered {
         ensures value { (w : List Bus) → Packs self.now.word self.now.place w → data_place w ≤ length w → result ≡ says_dlc w }
         ensures fits { result < 16 }
     {
-        self.number(self.head() - 4, 4) as u8
+        self.number_at(self.head_end() - 4, 4) as u8
     }
 
     /// The identifier, once it has come.
     fn id(&self) -> u32
         ensures { (w : List Bus) → Packs self.now.word self.now.place w → dlc_place (says_ext w) ≤ length w → result ≡ says_id w }
     {
-        let high = self.number(1, 11);
+        let high = self.number_at(1, 11);
         if self.ext() {
-            (high << 18) + self.number(14, 18)
+            (high << 18) + self.number_at(14, 18)
         } else {
             high
         }
@@ -95,25 +91,29 @@ impl Gathered {
         ensures value { (w : List Bus) → Packs self.now.word self.now.place w → data_place w ≤ length w → result ≡ says_bytes w }
         ensures most { result ≤ 8 }
     {
-        if self.rtr() { 0 } else { self.dlc().min(8) }
+        if self.rtr() {
+            0
+        } else {
+            self.dlc().min(MOST_BYTES)
+        }
     }
 
     /// The data bytes, once all levels have come.
-    fn data(&self) -> ArrayVec<u8, 8>
+    fn data_bytes(&self) -> ArrayVec<u8, 8>
         ensures value { (w : List Bus) → Packs self.now.word self.now.place w → IsWhole w → flat_map (bits 8) result.items ≡ data_levels w }
         ensures count { (w : List Bus) → Packs self.now.word self.now.place w → IsWhole w → length result.items ≡ says_bytes w }
         ensures small { All (λ byte. byte < 256) result.items }
     {
-        let first = self.head();
+        let first = self.head_end();
         let mut bytes = ArrayVec::new();
         for k in 0..self.data_count() {
-            bytes.push(self.number(first + 8 * k, 8) as u8);
+            bytes.push(self.number_at(first + 8 * k, 8) as u8);
         }
         bytes
     }
 
     /// The level at a place; one that hasn't come yet counts as dominant.
-    fn level(&self, place: u8) -> Level
+    fn level_at(&self, place: u8) -> Level
         ensures { (w : List Bus) → Packs self.now.word self.now.place w → result ≡ level_at w place }
     {
         if place < self.place {
@@ -124,7 +124,7 @@ impl Gathered {
     }
 
     /// The number that `count` levels write from a place on, once they have come.
-    fn number(&self, from: u8, count: u8) -> u32
+    fn number_at(&self, from: u8, count: u8) -> u32
         requires few { count ≤ 18 }
         requires within { from ≤ 128 }
         ensures value { (w : List Bus) → Packs self.now.word self.now.place w → from + count ≤ length w

@@ -1,6 +1,7 @@
 //! What the next level of a body and its CRC sequence is.
 
 use super::Gathered;
+use crate::layout::rtr_place;
 use crate::level::Level;
 use crate::place::segment_of;
 use crate::segment::Segment;
@@ -17,7 +18,7 @@ impl Gathered {
     ghost use Rattle.can_bits.specs.Segments.{segment_at};
     ghost use Rattle.can_frame.specs.Frame.{FrameValue};
     ghost use Rattle.can_bits.specs.Packing.{IsSentBody};
-    ghost use Rattle.can_bits.specs.Gathering.{Gathers};
+    ghost use Rattle.can_bits.specs.Machine.Gathering.{Gathers};
 
     /// The segment of the next level.
     pub fn next_segment(&self) -> Segment
@@ -37,7 +38,7 @@ impl Gathered {
     pub fn is_early(&self, ext: bool) -> bool
         ensures { (w : List Bus) → Gathers self.now w → result ≡ nat_le (length w) (rtr_place ext) }
     {
-        self.place <= if ext { 32 } else { 12 }
+        self.place <= rtr_place(ext)
     }
 
     /// The place code of the next level.

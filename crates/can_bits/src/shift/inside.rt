@@ -14,10 +14,13 @@ impl Shift {
     ghost use Rattle.can_bits.specs.declared.level.Level.{Level as Bus};
     ghost use Rattle.can_bits.specs.Streaming.{BreaksWith};
     ghost use Rattle.can_bits.specs.Segments.{IsNext};
-    ghost use Rattle.can_bits.specs.Shifts.{StandsFor, ReadsAt, IsPartSoFar, JudgesAt};
-    ghost use Rattle.can_bits.specs.Gathering.{Gathers};
+    ghost use Rattle.can_bits.specs.Machine.PartSoFar.{IsPartSoFar};
+    ghost use Rattle.can_bits.specs.Machine.Stages.{ReadsAt};
+    ghost use Rattle.can_bits.specs.Shifts.{StandsFor, JudgesAt};
+    ghost use Rattle.can_bits.specs.Machine.Gathering.{Gathers};
     ghost use Rattle.can_bits.specs.Body.{sent_body};
     ghost use Rattle.can_bits.specs.Check.{Crc};
+    ghost use Rattle.can_bits.specs.Fields.{says_count};
     ghost use Rattle.can_bits.specs.Line.{StuffedPart};
 
     /// Takes a level of the stuffed part.
@@ -31,10 +34,10 @@ impl Shift {
             Some(fault) => {
                 let stuff = self.run == RUN;
                 let segment = self.segment_inside();
-                Some(self.breaks(segment, stuff, fault))
+                Some(self.keep_fault(segment, stuff, fault))
             }
             None => {
-                self.take(level);
+                self.take_right(level);
                 None
             }
         }
@@ -79,21 +82,26 @@ impl Shift {
     }
 
     /// Takes a level of the stuffed part that is right.
-    pub(super) fn take(&mut self, level: Level)
+    #[inline(always)]
+    pub(super) fn take_right(&mut self, level: Level)
+        requires { self.old.stage ≡ Stage.Part }
         ensures kept { self.new.wrong ≡ self.old.wrong }
         ensures early { (self.new.stage ≡ Stage.Part) ⊎ (self.new.stage ≡ Stage.After 0) }
         ensures stands { (l : List Bus) → ReadsAt Stage.Part self.old l → (self.old.count ≡ 0 → level ≡ Level.Dominant)
             → (self.old.run ≡ 5 → level ≢ self.old.last) → ReadsAt self.new.stage self.new (l ++ level ∷ []) }
     {
-        self.gather(level);
+        self.gather_unless_stuff(level);
         self.count = self.count.wrapping_add(1);
         self.run = run_after(self.run, self.last, level);
         self.last = level;
-        self.stage = self.stage_here();
+        if self.gathered.is_whole() {
+            self.end_part_unless_stuff();
+        }
     }
 
     /// Gathers a level that is no stuff bit.
-    fn gather(&mut self, level: Level)
+    #[inline(always)]
+    fn gather_unless_stuff(&mut self, level: Level)
         ensures kept { self.new ≡ record self.old { gathered = self.new.gathered } }
         ensures bit { (w : List Bus) → Gathers self.old.gathered w → length w < 118 → self.old.run ≢ 5
             → Gathers self.new.gathered (w ++ level ∷ []) }
@@ -104,17 +112,18 @@ impl Shift {
         }
     }
 
-    /// Whether the stuffed part goes on after its levels so far.
-    fn stage_here(&self) -> Stage
-        ensures early { (result ≡ Stage.Part) ⊎ (result ≡ Stage.After 0) }
-        ensures stands { (l w : List Bus) → IsPartSoFar l w self.now.last self.now.run → Gathers self.now.gathered w
-            → self.now.count ≡ length l → ReadsAt result self.now l }
+    /// Ends the stuffed part, unless a stuff bit is due.
+    #[cold]
+    #[inline(never)]
+    fn end_part_unless_stuff(&mut self)
+        requires { self.old.stage ≡ Stage.Part }
+        ensures kept { self.new ≡ record self.old { stage = self.new.stage } }
+        ensures early { (self.new.stage ≡ Stage.Part) ⊎ (self.new.stage ≡ Stage.After 0) }
+        ensures stands { (l w : List Bus) → IsPartSoFar l w self.old.last self.old.run → Gathers self.old.gathered w
+            → self.old.count ≡ length l → length w ≡ says_count w → ReadsAt self.new.stage self.old l }
     {
-        let closed = self.run != RUN;
-        if closed && self.gathered.is_whole() {
-            Stage::After(0)
-        } else {
-            Stage::Part
+        if self.run != RUN {
+            self.stage = Stage::After(0);
         }
     }
 }

@@ -11,7 +11,8 @@ impl Shift {
     ghost use Rattle.std.specs.Prelude.{◌≡◌, ◌+◌, ◌∷◌, ◌++◌, [], List, None, IfSome};
     ghost use Rattle.can_bits.specs.declared.level.Level.{Level as Bus};
     ghost use Rattle.can_bits.specs.Streaming.{BreaksWith};
-    ghost use Rattle.can_bits.specs.Shifts.{StandsFor, ReadsAt, IsPast, JudgesAt};
+    ghost use Rattle.can_bits.specs.Machine.Stages.{ReadsAt, IsPast};
+    ghost use Rattle.can_bits.specs.Shifts.{StandsFor, JudgesAt};
 
     /// Takes a level after the stuffed part, of which n have come before.
     pub(super) fn advance_past(&mut self, n: u8, level: Level) -> Option<ShiftFault>
@@ -21,7 +22,7 @@ impl Shift {
         ensures judged { (l : List Bus) → ReadsAt (Stage.After n) self.old l → JudgesAt l level result }
     {
         match self.fault_past(n, level) {
-            Some(fault) => Some(self.breaks(segment_after(n), false, fault)),
+            Some(fault) => Some(self.keep_fault(segment_after(n), false, fault)),
             None => {
                 self.count = self.count.wrapping_add(1);
                 self.stage = Stage::After(n.wrapping_add(1));

@@ -20,6 +20,7 @@ impl Shift {
     /// Takes the next level where it is right and belongs to the stuffed part, past SOF. Answers whether it did: then
     /// there is nothing to tell of it, no fault and no frame, and the line isn't over, nor is an ACK due. Else the reader
     /// is what it was (this project's own rule).
+    #[inline(always)]
     pub fn take_inside(&mut self, level: Level) -> bool
         ensures exactly { (l : List Bus) → StandsFor self.old l → IsTrue result ↔ IsRightInside l level }
         ensures takes { result ≡ true → (l : List Bus) → StandsFor self.old l → StandsFor self.new (l ++ level ∷ []) }
@@ -28,7 +29,7 @@ impl Shift {
         ensures same { result ≡ false → self.new ≡ self.old }
     {
         if self.is_right_inside(level) {
-            self.take(level);
+            self.take_right(level);
             true
         } else {
             false
@@ -36,6 +37,7 @@ impl Shift {
     }
 
     /// Whether the reader is in the stuffed part, past SOF, and this level is right there.
+    #[inline(always)]
     fn is_right_inside(&self, level: Level) -> bool
         ensures no_fault { result ≡ true → self.now.wrong ≡ None }
         ensures in_part { result ≡ true → self.now.stage ≡ Stage.Part }

@@ -1,6 +1,6 @@
 use Rattle.std.proofs.Common.{◌+◌, ◌*◌, ◌≤◌, length, take, ◌∙◌, sym, subst, arith, List, ℕ}
 use Rattle.std.proofs.lemmas.List.{take_all}
-use Rattle.can_bits.proofs.Bytes.{Writes, Writes-more}
+use Rattle.can_bits.proofs.Whole.Bytes.{Writes, Writes-more}
 use Rattle.can_bits.proofs.decode.bytes_of.Goals as goal
 
 pub loop-k-preserved : goal.loop-k-preserved

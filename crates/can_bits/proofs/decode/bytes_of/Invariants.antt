@@ -1,5 +1,5 @@
 use Rattle.std.proofs.Common.{◌≡◌, ◌*◌, length, take}
-use Rattle.can_bits.proofs.Bytes.{Writes}
+use Rattle.can_bits.proofs.Whole.Bytes.{Writes}
 use Rattle.can_bits.proofs.decode.bytes_of.Given as goal
 
 -- the bytes of the levels so far were pushed

@@ -2,7 +2,7 @@ use Rattle.std.proofs.Common.{◌≡◌, List, sym, subst}
 use Rattle.can_frame.specs.Frame.{FrameValue}
 use Rattle.can_bits.specs.declared.level.Level.{Level}
 use Rattle.can_bits.specs.Spelling.{Spells}
-use Rattle.can_bits.proofs.DecodeLemmas.{said_frame, spelled}
+use Rattle.can_bits.proofs.Whole.Decoding.{said_frame, spelled}
 use Rattle.can_bits.proofs.decode.frame_of.Goals as goal
 
 pub returns : goal.returns

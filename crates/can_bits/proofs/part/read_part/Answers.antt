@@ -7,7 +7,7 @@ use Rattle.can_bits.specs.Spelling.{Spells}
 use Rattle.can_bits.specs.Line.{StuffedPart}
 use Rattle.can_bits.specs.Fields.{IsWhole, says_count}
 use Rattle.can_bits.proofs.Values.{recessive_by, dominant_by}
-use Rattle.can_bits.proofs.Steps.{Holds, IsBefore, Holds-nothing, IsBefore-nothing, Holds-next, past_next, first_place, room_left, part_here, before_here, breaks_stuff, breaks_start_at, open_here}
+use Rattle.can_bits.proofs.Whole.Steps.{Holds, IsBefore, Holds-nothing, IsBefore-nothing, Holds-next, past_next, first_place, room_left, part_here, before_here, breaks_stuff, breaks_start_at, open_here}
 use Rattle.can_bits.proofs.part.read_part.Goals.{else-at-eq0-via-then-at-eq0+else-is_recessive, else-at-eq0-via-else-at-eq0, else-run-eq5-via-then-run-eq5+else-same, else-run-eq5-via-else-run-eq5, then-run-lt5, else-run-lt5, then-same-2, else-same-2, else-run-lt5-2-via-then-run-lt5-2+else-len-says_count, else-run-lt5-2-via-else-run-lt5-2}
 use Rattle.can_bits.proofs.part.read_part.Goals as goal
 

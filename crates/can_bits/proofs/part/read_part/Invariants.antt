@@ -1,5 +1,5 @@
 use Rattle.std.proofs.Common.{reverse, take}
-use Rattle.can_bits.proofs.Steps.{Holds, IsBefore}
+use Rattle.can_bits.proofs.Whole.Steps.{Holds, IsBefore}
 use Rattle.can_bits.proofs.part.read_part.Given as goal
 
 -- the levels so far are taken apart, and the part goes on

@@ -5,8 +5,8 @@ use Rattle.can_bits.specs.declared.level.Level.{Level}
 use Rattle.can_bits.specs.declared.level.Level.TheVariants.{Dominant}
 use Rattle.can_bits.specs.Digits.{bits}
 use Rattle.can_bits.specs.Fields.{level_at}
-use Rattle.can_bits.proofs.Bytes.{length_bytes}
-use Rattle.can_bits.proofs.SentLevels.{digit_at, data_at}
+use Rattle.can_bits.proofs.Whole.Bytes.{length_bytes}
+use Rattle.can_bits.proofs.Sent.Levels.{digit_at, data_at}
 use Rattle.can_bits.proofs.sending.data_level.Goals as goal
 
 pub returns-in_err-byte : goal.returns-in_err-byte

@@ -1,5 +1,5 @@
 use Rattle.std.proofs.Common.{◌∙◌, inr, sym, arith}
-use Rattle.can_bits.proofs.SentLevels.{extended_high, extended_marks, extended_low, extended_rtr, extended_rest}
+use Rattle.can_bits.proofs.Sent.Levels.{extended_high, extended_marks, extended_low, extended_rtr, extended_rest}
 use Rattle.can_bits.proofs.sending.extended_level.Goals as goal
 
 pub returns-in-1-to-11 : goal.returns-in-1-to-11

@@ -1,5 +1,5 @@
 use Rattle.std.proofs.Common.{◌∙◌, inr, sym, arith}
-use Rattle.can_bits.proofs.SentLevels.{standard_id, standard_rtr, standard_rest}
+use Rattle.can_bits.proofs.Sent.Levels.{standard_id, standard_rtr, standard_rest}
 use Rattle.can_bits.proofs.sending.standard_level.Goals as goal
 
 pub returns-in-1-to-11 : goal.returns-in-1-to-11

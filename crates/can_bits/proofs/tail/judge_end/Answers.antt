@@ -1,7 +1,7 @@
 use Rattle.std.proofs.Common.{◌<◌, sym, ◌∙◌, arith, get_or}
 use Rattle.can_bits.specs.declared.level.Level.TheVariants.{Dominant}
 use Rattle.can_bits.proofs.Values.{dominant_by}
-use Rattle.can_bits.proofs.Tails.{trails_in, form_in, open_in}
+use Rattle.can_bits.proofs.Whole.Tails.{trails_in, form_in, open_in}
 use Rattle.can_bits.proofs.tail.judge_end.Goals as goal
 
 pub returns-then-place-eq8-clause-fault : goal.returns-then-place-eq8-clause-fault

@@ -2,7 +2,7 @@ use Rattle.std.proofs.Common.{sym, subst, ap, ◌∙◌, ◌∷◌}
 use Rattle.can_bits.specs.declared.level.Level.{Level}
 use Rattle.can_bits.specs.Reading.{SaysWhetherRight}
 use Rattle.can_bits.proofs.Values.{recessive_by, dominant_by}
-use Rattle.can_bits.proofs.Tails.{form_first, open_none, open_one}
+use Rattle.can_bits.proofs.Whole.Tails.{form_first, open_none, open_one}
 use Rattle.can_bits.proofs.tail.judge_tail.Goals as goal
 
 pub returns-in_default-clause-fault : goal.returns-in_default-clause-fault

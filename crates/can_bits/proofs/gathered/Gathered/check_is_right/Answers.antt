@@ -1,4 +1,4 @@
-use Rattle.can_bits.proofs.Registers.{register_says}
+use Rattle.can_bits.proofs.Packing.Registers.{register_says}
 use Rattle.can_bits.proofs.gathered.Gathered.check_is_right.Goals as goal
 
 pub returns : goal.returns

@@ -1,7 +1,7 @@
 use Rattle.std.proofs.Common.{◌≡◌, ◌∙◌, Some, None, length, ap, sym}
 use Rattle.std.specs.List.{slice_get}
 use Rattle.can_bits.specs.Body.{sent_body}
-use Rattle.can_bits.proofs.SentNext.{next_body, none_past}
+use Rattle.can_bits.proofs.Sent.Next.{next_body, none_past}
 use Rattle.can_bits.proofs.gathered.Gathered.next_of.Goals as goal
 
 pub returns-in-Some : goal.returns-in-Some

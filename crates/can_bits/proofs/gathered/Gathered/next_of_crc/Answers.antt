@@ -1,5 +1,5 @@
 use Rattle.std.proofs.Common.{◌∙◌}
-use Rattle.can_bits.proofs.SentNext.{next_check}
+use Rattle.can_bits.proofs.Sent.Next.{next_check}
 use Rattle.can_bits.proofs.gathered.Gathered.next_of_crc.Goals as goal
 
 pub returns : goal.returns

@@ -4,9 +4,9 @@ use Rattle.can_bits.specs.declared.level.Level.{Level}
 use Rattle.can_bits.specs.declared.gathered.Gathered.{Gathered}
 use Rattle.can_bits.specs.Digits.{digit}
 use Rattle.can_bits.specs.Packing.{Packs}
-use Rattle.can_bits.specs.Gathering.{Gathers}
-use Rattle.can_bits.proofs.Packed.{packs_push, packs_small}
-use Rattle.can_bits.proofs.Marks.{mark_stays, mark_least}
+use Rattle.can_bits.specs.Machine.Gathering.{Gathers}
+use Rattle.can_bits.proofs.Packing.Numbers.{packs_push, packs_small}
+use Rattle.can_bits.proofs.Packing.Marks.{mark_stays, mark_least}
 use Rattle.can_bits.proofs.gathered.Gathered.push.Goals as goal
 
 -- the word and the count with a level more

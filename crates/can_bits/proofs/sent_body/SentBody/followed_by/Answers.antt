@@ -1,5 +1,5 @@
 use Rattle.std.proofs.Common.{◌+◌, ◌*◌, ◌%◌, ◌^◌, ap, refl}
-use Rattle.can_bits.proofs.PackedBody.{packs_bits}
+use Rattle.can_bits.proofs.Packing.Bodies.{packs_bits}
 use Rattle.can_bits.proofs.sent_body.SentBody.followed_by.Goals as goal
 
 pub returns : goal.returns

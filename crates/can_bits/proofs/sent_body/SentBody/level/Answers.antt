@@ -3,7 +3,7 @@ use Rattle.std.proofs.lemmas.Option.{slice_get-get_or, slice_get_past}
 use Rattle.can_bits.specs.declared.level.Level.TheVariants.{Dominant}
 use Rattle.can_bits.specs.Digits.{level_of, value}
 use Rattle.can_bits.specs.Body.{sent_body}
-use Rattle.can_bits.proofs.Packed.{level_packed}
+use Rattle.can_bits.proofs.Packing.Numbers.{level_packed}
 use Rattle.can_bits.proofs.sent_body.SentBody.level.Goals as goal
 
 pub returns-then-place-self : goal.returns-then-place-self

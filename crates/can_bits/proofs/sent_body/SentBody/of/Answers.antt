@@ -9,10 +9,10 @@ use Rattle.can_bits.specs.Body.{head_bits}
 use Rattle.can_bits.specs.Fields.{dlc_place}
 use Rattle.can_bits.specs.Packing.{Packs}
 use Rattle.can_bits.proofs.Values.{length-bits}
-use Rattle.can_bits.proofs.Bytes.{length_bytes}
+use Rattle.can_bits.proofs.Whole.Bytes.{length_bytes}
 use Rattle.can_bits.proofs.FieldLemmas.{length_head}
-use Rattle.can_bits.proofs.FrameLemmas.{count_most}
-use Rattle.can_bits.proofs.PackedBody.{sent_more}
+use Rattle.can_bits.proofs.Packing.Frames.{count_most}
+use Rattle.can_bits.proofs.Packing.Bodies.{sent_more}
 use Rattle.can_bits.proofs.sent_body.SentBody.of.Goals as goal
 
 -- a DLC begins at 35 or before
@@ -33,7 +33,7 @@ loop-byte-init c =
     let dlc = c.from.ensures ∙ c.dlc.ensures.value in
     let small = c.dlc.ensures.valid.dlc in
     let count = length_head f.ext f.id f.rtr Recessive Dominant Dominant in
-    let coded = c.followed_by-body.ensures head c.head.ensures (omega (arith, count, dlc_place-most f.ext)) (omega (arith, dlc, small)) in
+    let coded = c.followed_by-body.ensures head c.head_of.ensures (omega (arith, count, dlc_place-most f.ext)) (omega (arith, dlc, small)) in
     let P : List Level → Type 0 = λ l. Packs c.followed_by-body.result.word c.followed_by-body.result.length l in
     subst P (ap (λ n. head ++ bits 4 n) dlc ∙ sym (append-nil (head ++ bits 4 f.dlc))) coded
 

@@ -2,8 +2,8 @@ use Rattle.std.proofs.Common.{Option, subst}
 use Rattle.can_bits.specs.declared.shift_fault.ShiftFault.{ShiftFault}
 use Rattle.can_bits.specs.Shifts.{StandsBy}
 use Rattle.can_bits.proofs.DueLemmas.{broke_not_readable}
-use Rattle.can_bits.proofs.PlacesNow.{reads_inside, reads_past}
-use Rattle.can_bits.proofs.ShiftLemmas.{judged_again, never_broke}
+use Rattle.can_bits.proofs.Reader.Places.{reads_inside, reads_past}
+use Rattle.can_bits.proofs.Reader.Told.{judged_again, never_broke}
 use Rattle.can_bits.proofs.shift.Shift.advance.Goals as goal
 
 pub returns-in-Some-clause-judged : goal.returns-in-Some-clause-judged

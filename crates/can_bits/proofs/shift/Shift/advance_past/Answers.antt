@@ -6,10 +6,11 @@ use Rattle.can_bits.specs.declared.stage.Stage.TheVariants.{After}
 use Rattle.can_bits.specs.declared.shift.Shift.{Shift}
 use Rattle.can_bits.specs.declared.shift_fault.ShiftFault.{ShiftFault}
 use Rattle.can_bits.specs.Segments.{IsNext}
-use Rattle.can_bits.specs.Shifts.{IsPast, ReadsAt, StandsBy, StandsFor, JudgesAt}
-use Rattle.can_bits.proofs.PastLemmas.{past_next, past_readable}
-use Rattle.can_bits.proofs.TakeLemmas.{past_small}
-use Rattle.can_bits.proofs.ShiftLemmas.{wrong_event, broke_here}
+use Rattle.can_bits.specs.Machine.Stages.{IsPast, ReadsAt}
+use Rattle.can_bits.specs.Shifts.{StandsBy, StandsFor, JudgesAt}
+use Rattle.can_bits.proofs.Reader.Past.{past_next, past_readable}
+use Rattle.can_bits.proofs.Reader.Take.{past_small}
+use Rattle.can_bits.proofs.Reader.Told.{wrong_event, broke_here}
 use Rattle.can_bits.proofs.shift.Shift.advance_past.Goals as goal
 
 -- the segment of the level
@@ -23,12 +24,12 @@ returns-in-Some-clause-stands c l h =
     let P : Shift → Type 0 = λ t. StandsFor t (l ++ c.args.level ∷ []) in
     let R : Stage → Type 0 = λ e. ReadsAt e s l in
     let event = wrong_event l c.args.level w (place c.segment_after.ensures (past_next c.args.n l h)) (c.in-Some.ensures.broken l h) in
-    subst P (sym c.breaks.ensures.kept) (broke_here s l c.args.level w (subst R (sym c.requires.past) h) event)
+    subst P (sym c.keep_fault.ensures.kept) (broke_here s l c.args.level w (subst R (sym c.requires.past) h) event)
 
 pub returns-in-Some-clause-judged : goal.returns-in-Some-clause-judged
 returns-in-Some-clause-judged c l h =
     let P : ShiftFault → Type 0 = λ w. JudgesAt l c.args.level (Some w) in
-    subst P (sym c.breaks.ensures.fault) (place c.segment_after.ensures (past_next c.args.n l h), c.in-Some.ensures.broken l h)
+    subst P (sym c.keep_fault.ensures.fault) (place c.segment_after.ensures (past_next c.args.n l h), c.in-Some.ensures.broken l h)
 
 pub returns-in-None-clause-stands : goal.returns-in-None-clause-stands
 returns-in-None-clause-stands c l h =

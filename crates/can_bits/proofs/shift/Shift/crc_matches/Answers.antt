@@ -1,5 +1,5 @@
 use Rattle.std.proofs.Common.{◌++◌, refl}
-use Rattle.can_bits.proofs.ShiftLemmas.{check_inside, check_past}
+use Rattle.can_bits.proofs.Reader.Told.{check_inside, check_past}
 use Rattle.can_bits.proofs.shift.Shift.crc_matches.Goals as goal
 
 pub returns-in-Part : goal.returns-in-Part

@@ -1,9 +1,9 @@
 use Rattle.std.proofs.Common.{◌≡◌, ◌+◌, ◌∙◌, ◌++◌, ◌∷◌, [], ℕ, refl, sym, subst, arith}
 use Rattle.can_bits.specs.Check.{Crc}
 use Rattle.can_bits.specs.Reading.{SaysWhetherRight}
-use Rattle.can_bits.specs.Shifts.{IsPast}
+use Rattle.can_bits.specs.Machine.Stages.{IsPast}
 use Rattle.can_bits.proofs.Values.{recessive_by, dominant_by}
-use Rattle.can_bits.proofs.PastLemmas.{past_slot, past_form, past_recessive, past_wrong, past_trailing}
+use Rattle.can_bits.proofs.Reader.Past.{past_slot, past_form, past_recessive, past_wrong, past_trailing}
 use Rattle.can_bits.proofs.shift.Shift.fault_past.Goals.{else-n-eq2-via-then-n-eq2+else-not-check_is_right, else-n-eq2-via-else-n-eq2}
 use Rattle.can_bits.proofs.shift.Shift.fault_past.Goals as goal
 

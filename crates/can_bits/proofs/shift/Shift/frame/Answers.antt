@@ -2,7 +2,7 @@ use Rattle.std.proofs.Common.{◌≡◌, ◌++◌, ◌∷◌, replicate, Option,
 use Rattle.can_frame.specs.Frame.{FrameValue}
 use Rattle.can_bits.specs.declared.level.Level.TheVariants.{Recessive}
 use Rattle.can_bits.specs.Streaming.{ShowsFrame}
-use Rattle.can_bits.proofs.PastLemmas.{past_shows}
+use Rattle.can_bits.proofs.Reader.Past.{past_shows}
 use Rattle.can_bits.proofs.DueLemmas.{sixth_part}
 use Rattle.can_bits.proofs.shift.Shift.frame.Goals as goal
 

@@ -1,6 +1,6 @@
 use Rattle.std.proofs.Common.{◌≡◌, inl, inr, rules}
 use Rattle.std.proofs.lemmas.Bool.{cases_Bool}
-use Rattle.can_bits.proofs.QuickLemmas.{right_no_fault, right_differs}
+use Rattle.can_bits.proofs.Reader.Quick.{right_no_fault, right_differs}
 use Rattle.can_bits.proofs.shift.Shift.is_right_inside.Goals as goal
 
 pub returns-in-Some-clause-only : goal.returns-in-Some-clause-only

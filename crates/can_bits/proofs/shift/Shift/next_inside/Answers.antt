@@ -1,5 +1,5 @@
 use Rattle.std.proofs.Common.{◌∙◌}
-use Rattle.can_bits.proofs.SentNext.{stuff_next, plain_next}
+use Rattle.can_bits.proofs.Sent.Next.{stuff_next, plain_next}
 use Rattle.can_bits.proofs.shift.Shift.next_inside.Goals as goal
 
 pub returns-then-self-eq-RUN : goal.returns-then-self-eq-RUN

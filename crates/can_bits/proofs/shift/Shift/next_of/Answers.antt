@@ -1,7 +1,7 @@
 use Rattle.std.proofs.Common.{◌∙◌}
-use Rattle.can_bits.proofs.InsideLemmas.{not_past}
-use Rattle.can_bits.proofs.PlacesNow.{reads_inside, reads_past}
-use Rattle.can_bits.proofs.SentNext.{sent_readable, sent_inside, sent_past, stuff_next, plain_next}
+use Rattle.can_bits.proofs.Reader.Inside.{not_past}
+use Rattle.can_bits.proofs.Reader.Places.{reads_inside, reads_past}
+use Rattle.can_bits.proofs.Sent.Next.{sent_readable, sent_inside, sent_past, stuff_next, plain_next}
 use Rattle.can_bits.proofs.shift.Shift.next_of.Goals as goal
 
 pub returns-then-self-eq-RUN : goal.returns-then-self-eq-RUN

@@ -1,6 +1,6 @@
-use Rattle.can_bits.proofs.InsideLemmas.{not_past}
-use Rattle.can_bits.proofs.PlacesNow.{reads_inside, reads_past}
-use Rattle.can_bits.proofs.SentNext.{sent_readable, sent_inside, sent_past}
+use Rattle.can_bits.proofs.Reader.Inside.{not_past}
+use Rattle.can_bits.proofs.Reader.Places.{reads_inside, reads_past}
+use Rattle.can_bits.proofs.Sent.Next.{sent_readable, sent_inside, sent_past}
 use Rattle.can_bits.proofs.shift.Shift.next_sent.Goals as goal
 
 pub returns-in-Part : goal.returns-in-Part

@@ -2,9 +2,9 @@ use Rattle.std.proofs.Common.{false, sym, subst}
 use Rattle.can_bits.specs.declared.segment.Segment.{Segment}
 use Rattle.can_bits.specs.declared.stage.Stage.{Stage}
 use Rattle.can_bits.specs.Segments.{IsNext}
-use Rattle.can_bits.specs.Shifts.{stuff_at}
-use Rattle.can_bits.proofs.PastLemmas.{past_next}
-use Rattle.can_bits.proofs.PlacesNow.{reads_inside, reads_past}
+use Rattle.can_bits.specs.Machine.Stages.{stuff_at}
+use Rattle.can_bits.proofs.Reader.Past.{past_next}
+use Rattle.can_bits.proofs.Reader.Places.{reads_inside, reads_past}
 use Rattle.can_bits.proofs.shift.Shift.segment_here.Goals as goal
 
 pub returns-in-Part : goal.returns-in-Part

@@ -4,7 +4,7 @@ use Rattle.can_bits.specs.declared.shift_fault.ShiftFault.{ShiftFault}
 use Rattle.can_bits.specs.Streaming.{Tells}
 use Rattle.can_bits.specs.Segments.{IsNext}
 use Rattle.can_bits.specs.Shifts.{StandsBy, JudgesAt, fault_event}
-use Rattle.can_bits.proofs.ShiftLemmas.{reads_readable, wrong_event, tells_right, tells_again}
+use Rattle.can_bits.proofs.Reader.Told.{reads_readable, wrong_event, tells_right, tells_again}
 use Rattle.can_bits.proofs.shift.Shift.step.Goals as goal
 
 pub returns-in-Some-clause-told : goal.returns-in-Some-clause-told

@@ -1,0 +1,6 @@
+-- Levels kept as one number.
+pub mod Numbers
+pub mod Marks
+pub mod Frames
+pub mod Bodies
+pub mod Registers

@@ -1,0 +1,7 @@
+-- A reader of one level at a time.
+pub mod Inside
+pub mod Take
+pub mod Past
+pub mod Told
+pub mod Quick
+pub mod Places

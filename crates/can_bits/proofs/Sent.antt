@@ -1,0 +1,3 @@
+-- What a transmitter sends.
+pub mod Levels
+pub mod Next
