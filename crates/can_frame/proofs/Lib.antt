@@ -1,2 +1,3 @@
 pub mod MessageLemmas
 pub mod RegisterLemmas
+pub mod BufferLemmas

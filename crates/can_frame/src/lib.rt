@@ -4,9 +4,10 @@
 //! transmit and receive buffers, 3 to 13 bytes. The two are one to one. A [`Filter`] says which received frames the
 //! controller keeps. No call of this crate takes memory.
 //!
-//! Its tests stand in `crates/sja_tests/src/frames`.
+//! Its tests stand in `crates/can_tests/src/frames`.
 #![tactic(auto)]
 
+mod buffer;
 mod copied;
 mod filter;
 mod frame;
@@ -17,6 +18,7 @@ mod layout_fault;
 mod message;
 mod out_of_memory;
 mod register;
+mod seen;
 
 pub use filter::Filter;
 pub use frame::{DATA_BYTES, Frame};
@@ -25,3 +27,4 @@ pub use laws::{every_message_has_one_frame, frames_with_one_message_are_one};
 pub use layout_fault::LayoutFault;
 pub use message::Message;
 pub use out_of_memory::OutOfMemory;
+pub use seen::Seen;

@@ -30,7 +30,7 @@ const MESSAGE_BYTES: usize = EXTENDED_HEAD + DATA_BYTES;
 /// message of some frame.
 #[derive(Debug, PartialEq, Eq, Drop)]
 pub struct Message {
-    bytes: ArrayVec<u8, MESSAGE_BYTES>,
+    pub(crate) bytes: ArrayVec<u8, MESSAGE_BYTES>,
 }
 
 impl Model for Message {
@@ -164,7 +164,7 @@ fn head_of(frame: &Frame) -> ArrayVec<u8, MESSAGE_BYTES>
 }
 
 /// ID.28 to ID.18, from a standard frame's message.
-fn standard_id(bytes: &[u8]) -> u32
+pub fn standard_id(bytes: &[u8]) -> u32
     requires { 3 ≤ length bytes.now }
     ensures { result ≡ slice_index bytes.now 1 * 8 + slice_index bytes.now 2 / 32 }
 {
@@ -172,7 +172,7 @@ fn standard_id(bytes: &[u8]) -> u32
 }
 
 /// ID.28 to ID.0, from an extended frame's message.
-fn extended_id(bytes: &[u8]) -> u32
+pub fn extended_id(bytes: &[u8]) -> u32
     requires { 5 ≤ length bytes.now }
     ensures { result ≡ slice_index bytes.now 1 * 2097152 + slice_index bytes.now 2 * 8192 + slice_index bytes.now 3 * 32
         + slice_index bytes.now 4 / 8 }

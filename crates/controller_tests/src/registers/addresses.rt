@@ -1,0 +1,114 @@
+//! Each address, read and written, in reset mode and out of it.
+
+use super::given::{active, nothing_seen, two_seen};
+use sja_regs::{Port, RegFault, Register};
+use std::test::Fail;
+
+/// What a read of one address answers after power-on, and what a write.
+type Answers = (Result<u8, RegFault>, Result<(), RegFault>);
+
+/// No register stands there.
+const NOWHERE: Answers = (Err(RegFault::NoRegister), Err(RegFault::NoRegister));
+
+/// A register that is read as this value.
+const fn read_only(value: u8) -> Answers {
+    (Ok(value), Err(RegFault::ReadOnly))
+}
+
+/// A register that is read as this value, and may be written.
+const fn written(value: u8) -> Answers {
+    (Ok(value), Ok(()))
+}
+
+/// What an address answers in reset mode, and out of it. Present mode bits are written to MOD, and 0 to all others.
+fn wanted(addr: u8) -> (Answers, Answers) {
+    let command = (Err(RegFault::NoRegister), Err(RegFault::UseTyped));
+    let limit = (Ok(0x60), Err(RegFault::ResetOnly));
+    match addr {
+        0 => (written(0x01), written(0x00)),
+        1 => (command, command),
+        2 => (read_only(0x3c), read_only(0x3c)),
+        3 | 11 | 12 | 14 | 15 | 29 => (read_only(0x00), read_only(0x00)),
+        4 => (written(0x00), written(0x00)),
+        13 => (written(0x60), limit),
+        16..=19 => (written(0x00), written(0x00)),
+        20..=23 => (written(0xff), written(0x00)),
+        24..=28 => (NOWHERE, written(0x00)),
+        _ => (NOWHERE, NOWHERE),
+    }
+}
+
+/// What an address answers on this port.
+fn answers(mut port: Port, addr: u8, value: u8) -> Answers {
+    let read = port.read(addr, &nothing_seen());
+    (read, port.write(addr, value))
+}
+
+#[test]
+fn each_address_answers_in_both_versions(rt: HostRuntime) {
+    for number in 0..256u32 {
+        let addr = (number & 0xff) as u8;
+        let (in_reset, in_operation) = wanted(addr);
+        let mode = u8::from(addr == 0);
+        for version in [1, 2] {
+            assert!(rt;
+                answers(Port::new(version), addr, mode) == in_reset,
+                "at {addr}"
+            );
+            assert!(rt;
+                answers(active(version), addr, 0) == in_operation,
+                "at {addr}"
+            );
+        }
+    }
+}
+
+/// Each register with a value of its own, so that none stands in another's place.
+#[test]
+fn registers_of_reset_mode_are_read_as_they_were_written(rt: HostRuntime) -> Result<(), Fail> {
+    let mut port = Port::new(1);
+    for addr in 16..=23 {
+        port.write(addr, 0xa0 + addr)?;
+    }
+    port.write(4, 0x5a)?;
+    port.write(13, 0x80)?;
+    port.write(0, 0x09)?;
+    let seen = nothing_seen();
+    for addr in 16..=23 {
+        assert_eq!(rt; port.read(addr, &seen), Ok(0xa0 + addr));
+    }
+    assert_eq!(rt; port.read(4, &seen), Ok(0x5a));
+    assert_eq!(rt; port.read(13, &seen), Ok(0x80));
+    assert_eq!(rt; port.read(0, &seen), Ok(0x09));
+    let config = port.config();
+    assert!(rt; config.filter.single && !config.self_test && !config.listen);
+    assert_eq!(rt; config.filter.acr, [0xb0, 0xb1, 0xb2, 0xb3]);
+    assert_eq!(rt; config.filter.amr, [0xb4, 0xb5, 0xb6, 0xb7]);
+    Ok(())
+}
+
+/// The first message in the receive buffer, with 0 after it; RMC and RBS. They stand so out of reset mode alone.
+#[test]
+fn messages_are_seen_in_the_receive_buffer(rt: HostRuntime) -> Result<(), Fail> {
+    let mut port = active(1);
+    let seen = two_seen()?;
+    let bytes = [0x02, 0x24, 0x60, 0x11, 0x22, 0, 0, 0, 0, 0, 0, 0, 0];
+    let mut addr = 16;
+    for byte in bytes {
+        assert_eq!(rt; port.read(addr, &seen), Ok(byte), "at {addr}");
+        addr += 1;
+    }
+    assert_eq!(rt; port.read(29, &seen), Ok(2));
+    assert_eq!(rt; port.read(2, &seen), Ok(0x3d));
+    port.enter_reset();
+    assert_eq!(rt; port.read(17, &seen), Ok(0x00));
+    Ok(())
+}
+
+#[test]
+fn an_address_is_a_register(rt: HostRuntime) {
+    assert_eq!(rt; Register::at(0, true), Some(Register::Mode));
+    assert_eq!(rt; Register::at(23, true), Some(Register::AcceptanceMask(3)));
+    assert_eq!(rt; Register::at(23, false), Some(Register::Buffer(7)));
+    assert_eq!(rt; Register::at(24, true), None);
+}

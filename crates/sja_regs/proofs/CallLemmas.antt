@@ -1,0 +1,175 @@
+-- What each call does to the capture registers, to IR and to TBS.
+use Rattle.std.proofs.Common.{◌≡◌, ◌≢◌, ◌||◌, ◌&&◌, not, ℕ, Bool, true, false, if◌then◌else◌, Option, Some, None, [], ◌∷◌, refl, ap}
+use Rattle.sja_regs.specs.declared.interrupts.Interrupts.{Interrupts}
+use Rattle.sja_regs.specs.declared.register.Register.{Register}
+use Rattle.sja_regs.specs.declared.register.Register.TheVariants.{Mode, Command, Status, Interrupt, InterruptEnable, ArbitrationLostCapture, ErrorCodeCapture, ErrorWarningLimit, ReceiveErrorCounter, TransmitErrorCounter, AcceptanceCode, AcceptanceMask, Buffer, ReceiveMessageCounter}
+use Rattle.sja_regs.specs.declared.reg_fault.RegFault.{RegFault}
+use Rattle.sja_regs.specs.declared.reg_fault.RegFault.TheVariants.{ResetOnly}
+use Rattle.sja_regs.specs.declared.registers.Registers.{Registers}
+use Rattle.sja_regs.specs.Registers.{error_causes, after_leaving_reset}
+use Rattle.sja_regs.specs.Interrupting.{no_interrupt}
+use Rattle.sja_regs.specs.Captures.{after_capture}
+use Rattle.sja_regs.specs.Refusals.{first_fault}
+use Rattle.sja_regs.specs.Reading.{after_reading}
+use Rattle.sja_regs.specs.Writing.{write_faults, after_writing, load_faults, after_loading}
+use Rattle.sja_regs.specs.Commands.{requests, command_faults, after_command}
+use Rattle.sja_regs.specs.Calls.{Call, Turn, Read, Write, Load, Give, LeaveReset, EnterReset, Close, Finish, unless_refused, after_call}
+use Rattle.sja_regs.specs.Histories.{IsNoRequest, lost_by, fault_by, either, both, causes_by, releases}
+
+-- a refused call keeps what a call keeps that is done
+unless_keeps : {A : Type 0} (f : Registers → A) (fault : Option RegFault) (p q : Registers) → f q ≡ f p →
+    f (unless_refused fault p q) ≡ f p
+unless_keeps f None p q h = h
+unless_keeps f (Some fault) p q h = refl
+
+-- reset mode is left, or the port isn't in it
+leaving_keeps : {A : Type 0} (f : Registers → A) (rm : Bool) (p q : Registers) → f q ≡ f p →
+    f (if rm then q else p) ≡ f p
+leaving_keeps f true p q h = h
+leaving_keeps f false p q h = refl
+
+-- what no write touches
+record Unwritten (p q : Registers) : Type 0 where
+  alc : q.alc ≡ p.alc
+  ecc : q.ecc ≡ p.ecc
+  tbs : q.tbs ≡ p.tbs
+
+unwritten : (p : Registers) (register : Register) (value : ℕ) → Unwritten p (after_writing p register value)
+unwritten p Mode value = record { alc = refl; ecc = refl; tbs = refl }
+unwritten p Command value = record { alc = refl; ecc = refl; tbs = refl }
+unwritten p Status value = record { alc = refl; ecc = refl; tbs = refl }
+unwritten p Interrupt value = record { alc = refl; ecc = refl; tbs = refl }
+unwritten p InterruptEnable value = record { alc = refl; ecc = refl; tbs = refl }
+unwritten p ArbitrationLostCapture value = record { alc = refl; ecc = refl; tbs = refl }
+unwritten p ErrorCodeCapture value = record { alc = refl; ecc = refl; tbs = refl }
+unwritten p ErrorWarningLimit value = record { alc = refl; ecc = refl; tbs = refl }
+unwritten p ReceiveErrorCounter value = record { alc = refl; ecc = refl; tbs = refl }
+unwritten p TransmitErrorCounter value = record { alc = refl; ecc = refl; tbs = refl }
+unwritten p (AcceptanceCode i) value = record { alc = refl; ecc = refl; tbs = refl }
+unwritten p (AcceptanceMask i) value = record { alc = refl; ecc = refl; tbs = refl }
+unwritten p (Buffer i) value = record { alc = refl; ecc = refl; tbs = refl }
+unwritten p ReceiveMessageCounter value = record { alc = refl; ecc = refl; tbs = refl }
+
+-- what a look at another register keeps
+record Unread (p : Registers) (register : Register) (q : Registers) : Type 0 where
+  alc : register ≢ ArbitrationLostCapture → q.alc ≡ p.alc
+  ecc : register ≢ ErrorCodeCapture → q.ecc ≡ p.ecc
+  pending : register ≢ Interrupt → q.pending ≡ p.pending
+  tbs : q.tbs ≡ p.tbs
+
+-- a look that leaves all as it is
+nothing_read : (p : Registers) (register : Register) → Unread p register p
+nothing_read p register = record { alc = λ h. refl; ecc = λ h. refl; pending = λ h. refl; tbs = refl }
+
+unread : (p : Registers) (register : Register) → Unread p register (after_reading p register)
+unread p Mode = nothing_read p Mode
+unread p Command = nothing_read p Command
+unread p Status = nothing_read p Status
+unread p Interrupt =
+    record { alc = λ h. refl; ecc = λ h. refl; pending = λ h. absurd (h refl); tbs = refl }
+unread p InterruptEnable = nothing_read p InterruptEnable
+unread p ArbitrationLostCapture =
+    record { alc = λ h. absurd (h refl); ecc = λ h. refl; pending = λ h. refl; tbs = refl }
+unread p ErrorCodeCapture =
+    record { alc = λ h. refl; ecc = λ h. absurd (h refl); pending = λ h. refl; tbs = refl }
+unread p ErrorWarningLimit = nothing_read p ErrorWarningLimit
+unread p ReceiveErrorCounter = nothing_read p ReceiveErrorCounter
+unread p TransmitErrorCounter = nothing_read p TransmitErrorCounter
+unread p (AcceptanceCode i) = nothing_read p (AcceptanceCode i)
+unread p (AcceptanceMask i) = nothing_read p (AcceptanceMask i)
+unread p (Buffer i) = nothing_read p (Buffer i)
+unread p ReceiveMessageCounter = nothing_read p ReceiveMessageCounter
+
+-- ALC takes the place where arbitration was lost
+pub alc_by : (p : Registers) (call : Call) → call ≢ Read ArbitrationLostCapture →
+    (after_call p call).alc ≡ after_capture p.alc (lost_by p call)
+alc_by p (Turn turn) h = refl
+alc_by p (Read register) h = (unread p register).alc (λ e. h (ap Read e))
+alc_by p (Write register value) h =
+    unless_keeps (λ q. q.alc) (first_fault (write_faults p register value)) p (after_writing p register value)
+    (unwritten p register value).alc
+alc_by p (Load m) h = unless_keeps (λ q. q.alc) (first_fault (load_faults p)) p (after_loading p m) refl
+alc_by p (Give c) h = unless_keeps (λ q. q.alc) (first_fault (command_faults p c)) p (after_command p c) refl
+alc_by p LeaveReset h = leaving_keeps (λ q. q.alc) p.mode.rm p (after_leaving_reset p) refl
+alc_by p EnterReset h = refl
+alc_by p Close h = refl
+alc_by p Finish h = refl
+
+-- ECC takes the error code of the fault
+pub ecc_by : (p : Registers) (call : Call) → call ≢ Read ErrorCodeCapture →
+    (after_call p call).ecc ≡ after_capture p.ecc (fault_by p call)
+ecc_by p (Turn turn) h = refl
+ecc_by p (Read register) h = (unread p register).ecc (λ e. h (ap Read e))
+ecc_by p (Write register value) h =
+    unless_keeps (λ q. q.ecc) (first_fault (write_faults p register value)) p (after_writing p register value)
+    (unwritten p register value).ecc
+ecc_by p (Load m) h = unless_keeps (λ q. q.ecc) (first_fault (load_faults p)) p (after_loading p m) refl
+ecc_by p (Give c) h = unless_keeps (λ q. q.ecc) (first_fault (command_faults p c)) p (after_command p c) refl
+ecc_by p LeaveReset h = leaving_keeps (λ q. q.ecc) p.mode.rm p (after_leaving_reset p) refl
+ecc_by p EnterReset h = refl
+ecc_by p Close h = refl
+ecc_by p Finish h = refl
+
+-- EWLR is written in reset mode alone
+limited : (rm : Bool) (p q : Registers) (causes : Interrupts) → q.pending ≡ either (both causes p.enabled) p.pending →
+    (unless_refused (first_fault ((not rm, ResetOnly) ∷ [])) p q).pending
+    ≡ either (both (if rm then causes else no_interrupt) p.enabled) p.pending
+limited true p q causes h = h
+limited false p q causes h = refl
+
+-- the interrupts that a write has for a cause
+written : (p : Registers) (register : Register) (value : ℕ) →
+    (after_call p (Write register value)).pending
+    ≡ either (both (causes_by p (Write register value)) p.enabled) p.pending
+written p Mode value =
+    unless_keeps (λ q. q.pending) (first_fault (write_faults p Mode value)) p (after_writing p Mode value) refl
+written p Command value = refl
+written p Status value = refl
+written p Interrupt value = refl
+written p InterruptEnable value = refl
+written p ArbitrationLostCapture value = refl
+written p ErrorCodeCapture value = refl
+written p ErrorWarningLimit value =
+    limited p.mode.rm p (after_writing p ErrorWarningLimit value) (error_causes p (record p { ewlr = value })) refl
+written p ReceiveErrorCounter value = refl
+written p TransmitErrorCounter value = refl
+written p (AcceptanceCode i) value = refl
+written p (AcceptanceMask i) value = refl
+written p (Buffer i) value =
+    unless_keeps (λ q. q.pending) (first_fault (write_faults p (Buffer i) value)) p (after_writing p (Buffer i) value)
+    refl
+written p ReceiveMessageCounter value = refl
+
+-- IR takes the interrupts that have a cause and are enabled
+pub pending_by : (p : Registers) (call : Call) → call ≢ Read Interrupt →
+    (after_call p call).pending ≡ either (both (causes_by p call) p.enabled) p.pending
+pending_by p (Turn turn) h = refl
+pending_by p (Read register) h = (unread p register).pending (λ e. h (ap Read e))
+pending_by p (Write register value) h = written p register value
+pending_by p (Load m) h = unless_keeps (λ q. q.pending) (first_fault (load_faults p)) p (after_loading p m) refl
+pending_by p (Give c) h = unless_keeps (λ q. q.pending) (first_fault (command_faults p c)) p (after_command p c) refl
+pending_by p LeaveReset h = leaving_keeps (λ q. q.pending) p.mode.rm p (after_leaving_reset p) refl
+pending_by p EnterReset h = refl
+pending_by p Close h = refl
+pending_by p Finish h = refl
+
+-- a bit stays where no request is made
+stays : (b request : Bool) → request ≡ false → (b && not request) ≡ b
+stays true false h = refl
+stays false false h = refl
+stays b true h = absurd cc
+
+-- TBS is 1 where the call releases the transmit buffer
+pub tbs_by : (p : Registers) (call : Call) → IsNoRequest call → (after_call p call).tbs ≡ (releases p call || p.tbs)
+tbs_by p (Turn turn) h = refl
+tbs_by p (Read register) h = (unread p register).tbs
+tbs_by p (Write register value) h =
+    unless_keeps (λ q. q.tbs) (first_fault (write_faults p register value)) p (after_writing p register value)
+    (unwritten p register value).tbs
+tbs_by p (Load m) h = unless_keeps (λ q. q.tbs) (first_fault (load_faults p)) p (after_loading p m) refl
+tbs_by p (Give c) h =
+    unless_keeps (λ q. q.tbs) (first_fault (command_faults p c)) p (after_command p c) (stays p.tbs (requests c) h)
+tbs_by p LeaveReset h = leaving_keeps (λ q. q.tbs) p.mode.rm p (after_leaving_reset p) refl
+tbs_by p EnterReset h = refl
+tbs_by p Close h = refl
+tbs_by p Finish h = refl

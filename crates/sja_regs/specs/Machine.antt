@@ -1,0 +1,2 @@
+-- How the code of a bus turn is cut. Private contracts alone speak of these definitions.
+pub mod TurnParts

@@ -1,0 +1,29 @@
+//! Bytes and their bits. No other file has a mask or a shift.
+
+ghost use Rattle.std.specs.Prelude.{◌≡◌, ◌<◌, ◌≤◌, ◌*◌, ◌^◌};
+ghost use Rattle.can_frame.specs.Message.{bit};
+ghost use Rattle.sja_regs.specs.Bits.{is_set, differ};
+
+/// Whether this bit of the byte is 1.
+pub fn is_set(value: u8, number: u8) -> bool
+    requires { number < 8 }
+    ensures { result ≡ is_set value number }
+{
+    (value >> number) & 1 == 1
+}
+
+/// The byte in which this bit is as given and all others are 0.
+pub fn bit_at(number: u8, value: bool) -> u8
+    requires { number < 8 }
+    ensures value { result ≡ bit value * 2 ^ number }
+    ensures within { result ≤ 2 ^ number }
+{
+    if value { 1 << number } else { 0 }
+}
+
+/// Whether two bits differ.
+pub fn differ(a: bool, b: bool) -> bool
+    ensures { result ≡ differ a b }
+{
+    a != b
+}

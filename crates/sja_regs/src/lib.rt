@@ -1,0 +1,45 @@
+//! The register file of an SJA1000 controller in PeliCAN mode, as a port between a bus and a driver.
+//!
+//! A driver reads and writes the registers of a [`Port`] by their addresses, loads its transmit buffer and gives it
+//! commands. The bus tells it once a bit what happened ([`BusTurn`]), and asks for the driver's [`Orders`]. Contracts
+//! see a port as its `Registers` in the data sheet's letters, and the facts of `specs/Facts.antt` hold of every port.
+//! No call of this crate takes memory, and each is a constant amount of work.
+//!
+//! Its tests stand in `crates/controller_tests/src/registers`.
+#![tactic(auto)]
+
+mod bits;
+mod bus_turn;
+mod capture;
+mod command;
+mod commanding;
+mod error_code;
+mod error_state;
+mod interrupts;
+mod laws;
+mod letters;
+mod mode;
+mod orders;
+mod port;
+mod reading;
+mod reg_fault;
+mod register;
+mod registers;
+mod status;
+mod turning;
+mod writing;
+
+pub use bus_turn::BusTurn;
+pub use can_frame::Seen;
+pub use command::Command;
+pub use interrupts::Interrupts;
+pub use laws::{
+    alc_keeps_the_first_loss, ecc_keeps_the_first_fault, ir_keeps_what_was_raised,
+    tbs_waits_for_the_end, what_is_written_is_read_back,
+};
+pub use mode::Mode;
+pub use orders::Orders;
+pub use port::Port;
+pub use reg_fault::RegFault;
+pub use register::Register;
+pub use status::Status;

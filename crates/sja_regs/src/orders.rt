@@ -1,0 +1,8 @@
+/// What a driver wants of the bus.
+#[derive(Clone, Copy, Debug, PartialEq, Eq)]
+pub struct Orders {
+    /// The request is to be aborted. It stands until the transmit buffer is released.
+    pub abort: bool,
+    /// The driver has ended.
+    pub ended: bool,
+}

@@ -1,0 +1,113 @@
+ghost use Rattle.std.specs.Prelude.{◌≡◌, true, if◌then◌else◌};
+
+use super::orders::Orders;
+use super::registers::Registers;
+use can_node::Config;
+use std::marker::Model;
+
+/// The registers of an SJA1000 controller in PeliCAN mode, between its bus and its driver.
+///
+/// Contracts see a port as its `Registers`, and `RegisterFacts` hold of every port. A register is read by
+/// [`read`](Port::read) and written by [`write`](Port::write), but for what has a call of its own: CMR
+/// ([`command`](Port::command)), the bit RM of MOD ([`leave_reset`](Port::leave_reset) and
+/// [`enter_reset`](Port::enter_reset)), and a whole message for the transmit buffer ([`load`](Port::load)).
+#[derive(Debug, Drop)]
+pub struct Port {
+    pub(crate) registers: Registers,
+}
+
+impl Model for Port {
+    ghost use Rattle.sja_regs.specs.declared.registers.Registers.{Registers};
+    ghost use Rattle.sja_regs.specs.Facts.{RegisterFacts};
+
+    ghost Value = { Registers };
+
+    ghost view = { λ p. p.registers };
+
+    ghost invariant = { λ p. RegisterFacts p.registers };
+}
+
+impl Port {
+    ghost use Rattle.sja_regs.specs.Registers.{at_power_on, config_of, after_leaving_reset, after_entering_reset};
+    ghost use Rattle.sja_regs.specs.Facts.{RegisterFacts};
+
+    /// A port after power-on: in reset mode, before its first activation. Version 1 of the model has no listen only
+    /// mode, no self test mode and no self reception; every other version has them.
+    pub fn new(version: u8) -> Port
+        ensures { result ≡ at_power_on version }
+    {
+        Port {
+            registers: Registers::at_power_on(version),
+        }
+    }
+
+    /// The facts that hold of every port.
+    pub fn keeps_its_facts(&self)
+        ensures { RegisterFacts self.now }
+    {
+        let _ = &self.registers;
+    }
+
+    /// How the controller starts: acceptance filter, self test mode and listen only mode.
+    pub fn config(&self) -> Config
+        ensures { result ≡ config_of self.now }
+    {
+        self.registers.config()
+    }
+
+    /// Leaves reset mode for the next activation. They are numbered from 1, and the number stays at 255. A port that
+    /// isn't in reset mode stays as it is.
+    pub fn leave_reset(&mut self)
+        ensures { self.new ≡ (if self.old.mode.rm then after_leaving_reset self.old else self.old) }
+    {
+        if self.registers.mode.rm {
+            self.registers.mode.rm = false;
+            self.registers.activation = self.registers.activation.saturating_add(1);
+        }
+    }
+
+    /// Enters reset mode: the transmit buffer is released with no interrupt, no abort stands any more, DOS is 0, and RS
+    /// and TS are 1. TCS, ALC, ECC and pending interrupts stay.
+    pub fn enter_reset(&mut self)
+        ensures { self.new ≡ after_entering_reset self.old }
+    {
+        let registers = &mut self.registers;
+        registers.mode.rm = true;
+        registers.dos = false;
+        registers.tbs = true;
+        registers.rs = true;
+        registers.ts = true;
+        registers.abort = false;
+    }
+
+    /// What the driver wants of the bus.
+    pub fn orders(&self) -> Orders
+        ensures { result ≡ record { abort = self.now.abort; ended = self.now.ended } }
+    {
+        Orders {
+            abort: self.registers.abort,
+            ended: self.registers.ended,
+        }
+    }
+
+    /// Marks that the bus has no bits left.
+    pub fn close(&mut self)
+        ensures { self.new ≡ record self.old { closed = true } }
+    {
+        self.registers.closed = true;
+    }
+
+    /// Marks that the driver has ended.
+    pub fn finish(&mut self)
+        ensures { self.new ≡ record self.old { ended = true } }
+    {
+        self.registers.ended = true;
+    }
+
+    /// Whether the bus has no bits left.
+    pub fn closed(&self) -> bool
+        ensures { result ≡ self.now.closed }
+    {
+        self.registers.closed
+    }
+}
