@@ -1,7 +1,10 @@
-//! The tests of the crates between a controller and its driver: [`registers`] those of `sja_regs`.
+//! The tests of the crates between a controller and its driver: [`registers`] those of `sja_regs`,
+//! [`links`] of `sja_link`.
 //!
 //! Expected values are written by hand from the sources.
 #![tactic(auto)]
 
+#[cfg(test)]
+mod links;
 #[cfg(test)]
 mod registers;

@@ -1,0 +1,9 @@
+//! Links, the ledgers at their ends, journals, and the world of one link.
+
+mod given;
+mod journals;
+mod judging;
+mod refused;
+mod room;
+mod windows;
+mod worlds;

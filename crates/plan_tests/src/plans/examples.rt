@@ -1,0 +1,77 @@
+//! Whole plans, with all that they say.
+
+use can_frame::Message;
+use sja_plan::{Turn, read_plan};
+use sja_script::{Step, Strike};
+use std::test::Fail;
+
+/// A frame is sent, and its receiver is struck at the last bit of the end of frame.
+const RECEIVER_STRUCK: &str = "version = 1
+bits = 200
+turns = [\"node 0 3\", \"node 1 1\", \"rest\", \"node 1 2\"]
+faults = [\"1 60\"]
+[[node]]
+steps = [\"start\", \"load 000000\", \"command 01\"]
+[[node]]
+steps = [\"start\", \"release\", \"release\"]
+";
+
+/// The same with the transmitter struck.
+const TRANSMITTER_STRUCK: &str = "version = 1
+bits = 200
+turns = [\"node 0 3\", \"node 1 1\", \"rest\", \"node 1 2\"]
+faults = [\"0 60\"]
+[[node]]
+steps = [\"start\", \"load 000000\", \"command 01\"]
+[[node]]
+steps = [\"start\", \"release\", \"release\"]
+";
+
+/// The strike of this node at bit 60.
+fn once(node: u8) -> Strike {
+    Strike {
+        node,
+        bit: 60,
+        every: 1,
+        times: 1,
+    }
+}
+
+#[test]
+fn an_example_is_read_whole(rt: HostRuntime) -> Result<(), Fail> {
+    for (text, node) in [(RECEIVER_STRUCK, 1), (TRANSMITTER_STRUCK, 0)] {
+        let plan = read_plan(rt.alloc(), text.as_bytes())?;
+        let turns = [
+            Turn::Node(0, 3),
+            Turn::Node(1, 1),
+            Turn::Rest,
+            Turn::Node(1, 2),
+        ];
+        let sends = [
+            Step::Start,
+            Step::Load(Message::default()),
+            Step::Command(1),
+        ];
+        let releases = [Step::Start, Step::Release, Step::Release];
+        assert_eq!(rt; plan.version(), 1);
+        assert_eq!(rt; plan.bits(), 200);
+        assert_eq!(rt; plan.nodes(), 2);
+        assert!(rt; plan.turns() == turns.as_slice());
+        assert!(rt; plan.steps(0) == sends.as_slice());
+        assert!(rt; plan.steps(1) == releases.as_slice());
+        assert!(rt; plan.strikes() == [once(node)].as_slice());
+        plan.limits();
+    }
+    Ok(())
+}
+
+#[test]
+fn turns_and_strikes_may_be_left_out(rt: HostRuntime) -> Result<(), Fail> {
+    let text = "version = 2\nbits = 200_000\n[[node]]\nsteps = []\n";
+    let plan = read_plan(rt.alloc(), text.as_bytes())?;
+    assert_eq!(rt; plan.version(), 2);
+    assert_eq!(rt; plan.bits(), 200_000);
+    assert_eq!(rt; plan.nodes(), 1);
+    assert!(rt; plan.steps(0).is_empty() && plan.turns().is_empty() && plan.strikes().is_empty());
+    Ok(())
+}

@@ -1,0 +1,10 @@
+pub mod Entering
+pub mod Freeing
+pub mod Judging
+pub mod Openings
+pub mod Worlds
+pub mod Pullings
+pub mod Decoding
+pub mod Counting
+pub mod Keeping
+pub mod Holding

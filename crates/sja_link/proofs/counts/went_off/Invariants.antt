@@ -1,0 +1,7 @@
+use Rattle.std.proofs.Common.{◌≡◌, take}
+use Rattle.sja_link.specs.Gathering.{total}
+use Rattle.sja_link.specs.World.{is_off}
+use Rattle.sja_link.proofs.counts.went_off.Given as goal
+
+abbrev pub invariant-loop-item : goal.invariant-loop-item
+invariant-loop-item l = total is_off (take l.item-index l.items) ≡ 0

@@ -1,0 +1,32 @@
+use Rattle.std.proofs.Common.{arith, ◌++◌, ◌∷◌, []}
+use Rattle.std.proofs.lemmas.List.{length-append}
+use Rattle.sja_link.specs.declared.code.Code.TheVariants.{Start}
+use Rattle.sja_link.proofs.Decoding.{codes_fit, starts_fit, whole_push, decoded_push_start}
+use Rattle.sja_link.proofs.journal.Journal.push_start.Goals as goal
+
+pub push_reserved-requires-2 : goal.push_reserved-requires-2
+push_reserved-requires-2 c =
+    let less = rw (← c.self.view_is) at c.requires.room in
+    codes_fit _ _ _ _ _ c.self.invariant.0 _ less _ _ c.self.invariant.1 c.self.inside.codes.ok.0
+
+pub push_reserved-requires : goal.push_reserved-requires
+push_reserved-requires c =
+    let room = rw (← c.self.view_is) at c.requires.room in
+    starts_fit _ _ _ _ _ c.self.invariant.0 _ room _ _ c.self.invariant.2 c.self.inside.starts.ok.0
+
+pub invariant_of-self : goal.invariant_of-self
+invariant_of-self c =
+    let f = c.self.inside in
+    let whole = whole_push Start f.codes.items f.starts.items (f.starts.items ++ c.args.config ∷ []) f.credits.items f.credits.items f.requests.items f.requests.items f.messages.items f.messages.items c.self.invariant.0 (let n = length-append f.starts.items (c.args.config ∷ []) in omega (arith, n)) (omega arith) (omega arith) (omega arith) in (
+      rw (c.push_reserved-2.ensures.items, c.push_reserved.ensures.items) whole,
+      rw c.push_reserved-2.ensures.capacity c.self.invariant.1,
+      rw c.push_reserved.ensures.capacity c.self.invariant.2,
+      c.self.invariant.3,
+      c.self.invariant.4,
+      c.self.invariant.5,
+    )
+
+pub returns-clause-entries : goal.returns-clause-entries
+returns-clause-entries c =
+    rw (← c.self.view_is, c.push_reserved-2.ensures.items, c.push_reserved.ensures.items)
+    (decoded_push_start c.args.config _ _ _ _ _ c.self.invariant.0)

@@ -1,0 +1,17 @@
+use Rattle.std.proofs.Common.{refl, ◌∙◌, sym, rules}
+use Rattle.sja_link.specs.declared.up.Up.TheVariants.{Send as SendUp}
+use Rattle.sja_link.specs.declared.event.Event.TheVariants.{Send}
+use Rattle.sja_link.specs.WorldEvents.{IsOpen, Allowed}
+use Rattle.sja_link.specs.Kept.Fields.{world_of}
+use Rattle.sja_link.proofs.Worlds.{world_next}
+use Rattle.sja_link.proofs.Keeping.{give_stored, credits_same}
+use Rattle.sja_link.proofs.world.World.send.Goals as goal
+
+pub invariant_of-self-2 : goal.invariant_of-self-2
+invariant_of-self-2 c =
+    let f = c.self.inside in let h = c.self.invariant in
+    let may : Allowed (world_of f.put.items f.got f.given.items f.taken f.may_send) (Send c.args.request) =
+    (record { started = search rules; running = search rules }, search rules) in
+    rw c.in_ok-push.ensures.items (
+    give_stored _ _ _ _ _ _ _ _ _ (SendUp c.args.request) h (world_next _ (Send c.args.request) h.world tt may)
+    (h.released_is ∙ sym (credits_same f.given.items (SendUp c.args.request) refl)))

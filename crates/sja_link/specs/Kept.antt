@@ -1,0 +1,3 @@
+-- How journals and worlds are kept.
+pub mod Codes
+pub mod Fields

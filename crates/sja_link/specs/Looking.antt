@@ -1,0 +1,55 @@
+-- What the driver's ledger does at its end (this project's own rule).
+use Rattle.std.specs.Prelude.{◌≡◌, ◌⊎◌, ◌≤◌, ℕ, Bool, true, false, List, [], ◌∷◌, ◌++◌, length}
+use Rattle.sja_link.specs.declared.down.Down.{Down}
+use Rattle.sja_link.specs.declared.down.Down.TheVariants.{Message, Off}
+use Rattle.sja_link.specs.declared.up.Up.TheVariants.{Credit}
+use Rattle.sja_link.specs.Lists.{Lists, with_given, messages}
+
+-- with several items got
+abbrev pub with_gots : Lists → List Down → Lists
+with_gots l xs = record l { got = l.got ++ xs }
+
+-- bus-off was known before, or is among these
+abbrev pub off_among : Bool → List Down → Bool
+off_among off [] = off
+off_among off (Message m ∷ xs) = off_among off xs
+off_among off (Off ∷ xs) = off_among true xs
+
+-- some items were got: their messages follow those held, and bus-off is known if it is among them
+pub record Pulls {E : Type 0} (stands : E → Lists → Type 0) (old new : E) (held now_held : List (List ℕ))
+    (off now_off : Bool) : Type 0 where
+  pub got : List Down
+  pub lists : (l : Lists) → stands old l → stands new (with_gots l got)
+  pub told : now_held ≡ held ++ messages got
+  pub off_is : now_off ≡ off_among off got
+
+-- 1 where it is true
+abbrev pub one_if : Bool → ℕ
+one_if true = 1
+one_if false = 0
+
+-- all that the end shows was taken in: bus-off is known, or 22 messages are held, or the end shows nothing
+abbrev pub IsTaken : {E : Type 0} → (E → Type 0) → E → Bool → List (List ℕ) → Type 0
+IsTaken dry end off held = (off ≡ true) ⊎ ((22 ≤ length held) ⊎ dry end)
+
+-- all that the end showed was taken in, and then the first message held was released: its credit was given
+pub record Releases {E : Type 0} (stands : E → Lists → Type 0) (dry : E → Type 0) (old new : E)
+    (held now_held : List (List ℕ)) (off now_off : Bool) (m : List ℕ) : Type 0 where
+  pub at : E
+  pub pulls : Pulls stands old at held (m ∷ now_held) off now_off
+  pub all : IsTaken dry at now_off (m ∷ now_held)
+  pub given : (l : Lists) → stands at l → stands new (with_given l (Credit (length m)))
+
+-- all that the end showed was taken in, and then a credit came back from it
+pub record Refuses {E : Type 0} (stands : E → Lists → Type 0) (dry full : E → Type 0) (old : E) (now_off : Bool)
+    (now_held : List (List ℕ)) : Type 0 where
+  pub at : E
+  pub got : List Down
+  pub lists : (l : Lists) → stands old l → stands at (with_gots l got)
+  pub all : IsTaken dry at now_off now_held
+  pub some : 1 ≤ length now_held
+  pub is_full : full at
+
+-- of the messages got these were released, and these are held
+abbrev pub Holds : List Down → List (List ℕ) → List (List ℕ) → Type 0
+Holds got released held = messages got ≡ released ++ held

@@ -1,0 +1,57 @@
+//! The codes of a journal, one byte an entry.
+
+ghost use Rattle.std.specs.Prelude.{◌≡◌, [], ◌∷◌};
+ghost use Rattle.sja_link.specs.declared.entry.Entry.TheVariants.{Bit};
+
+use can_bits::Level;
+use std::mem::size_of;
+
+// A journal keeps one byte an entry.
+const _: () = prove!(size_of::<Code>() == 1);
+
+/// What an entry of a journal is, in one byte. The contents of a start, a credit, a request and a message lie in lists
+/// of their own.
+#[derive(Clone, Copy, Debug, PartialEq, Eq)]
+pub(crate) enum Code {
+    /// A bit, driven and seen dominant.
+    DominantAsDriven,
+    /// A bit, driven dominant and seen recessive.
+    DominantSeenRecessive,
+    /// A bit, driven recessive and seen dominant.
+    RecessiveSeenDominant,
+    /// A bit, driven and seen recessive.
+    RecessiveAsDriven,
+    /// A start, with its configuration.
+    Start,
+    /// A credit, with its bytes.
+    Credit,
+    /// A request, with its contents.
+    Send,
+    /// A stop.
+    Stop,
+    /// An abort.
+    Abort,
+    /// A message that was stored, with its bytes.
+    Stored,
+    /// A message that was overrun, with its bytes.
+    Overrun,
+    /// Bus-off.
+    Off,
+}
+
+impl Code {
+    ghost use Rattle.sja_link.specs.Kept.Codes.{decoded, HasContents};
+
+    /// The code of a bit: the level driven, and the level seen.
+    pub(crate) fn of_bit(driven: Level, seen: Level) -> Code
+        ensures bit { decoded (result ∷ []) [] [] [] [] ≡ Bit driven seen ∷ [] }
+        ensures alone { HasContents result 0 0 0 0 }
+    {
+        match (driven, seen) {
+            (Level::Dominant, Level::Dominant) => Code::DominantAsDriven,
+            (Level::Dominant, Level::Recessive) => Code::DominantSeenRecessive,
+            (Level::Recessive, Level::Dominant) => Code::RecessiveSeenDominant,
+            (Level::Recessive, Level::Recessive) => Code::RecessiveAsDriven,
+        }
+    }
+}

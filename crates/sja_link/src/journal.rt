@@ -1,0 +1,190 @@
+//! The journal of a node.
+
+ghost use Rattle.std.specs.Prelude.{◌≡◌, ◌<◌, ◌≤◌, ◌+◌, ◌*◌, [], ◌∷◌, ◌++◌, length, true, false, IfOk, IfErr, OnOk, OnErr};
+ghost use Rattle.sja_link.specs.declared.entry.Entry.TheVariants.{Bit, Up as Item};
+ghost use Rattle.sja_link.specs.declared.up.Up.TheVariants.{Start, Credit, Send};
+ghost use Rattle.sja_link.specs.Kept.Codes.{decoded, HasContents};
+
+use super::code::Code;
+use super::entries::Entries;
+use super::entry::Entry;
+use super::full::Full;
+use super::up::Up;
+use can_bits::Level;
+use can_frame::{Message, OutOfMemory};
+use can_node::{Config, Request};
+use std::alloc::Global;
+use std::marker::Model;
+
+/// What the bus wrote of one node in a run, oldest first (this project's own rule).
+///
+/// All its room is reserved when it is made. An entry takes one byte, and the contents of starts, credits, requests and
+/// messages lie in lists of their own. Contracts see a journal as the list of its entries, and how many it has room
+/// for.
+#[derive(Debug, Drop)]
+pub struct Journal {
+    room: usize,
+    pub(crate) codes: Vec<Code>,
+    pub(crate) starts: Vec<Config>,
+    pub(crate) credits: Vec<u8>,
+    pub(crate) requests: Vec<Request>,
+    pub(crate) messages: Vec<Message>,
+}
+
+impl Model for Journal {
+    ghost use Rattle.std.specs.Prelude.{◌≤◌, length, vec_capacity};
+    ghost use Rattle.sja_link.specs.Written.{Written};
+
+    ghost Value = { Written };
+
+    ghost use Rattle.sja_link.specs.Kept.Codes.{decoded, AreWhole};
+
+    ghost view = { λ j. record {
+      entries = decoded j.codes.items j.starts.items j.credits.items j.requests.items j.messages.items;
+      room = j.room;
+    } };
+
+    ghost invariant = { λ j. AreWhole j.codes.items j.starts.items j.credits.items j.requests.items j.messages.items
+        × (j.room ≤ vec_capacity j.codes) × (j.room ≤ vec_capacity j.starts) × (j.room ≤ vec_capacity j.credits)
+        × (j.room ≤ vec_capacity j.requests) × (j.room ≤ vec_capacity j.messages) };
+}
+
+impl Journal {
+    /// An empty journal with room for a run of so many bits: two entries a bit, and 2,100 more.
+    ///
+    /// Error: [`OutOfMemory`] where memory was refused.
+    pub fn new(alloc: Global, bits: u32) -> Result<Journal, OutOfMemory>
+        ensures empty { IfOk result (λ j. j.entries ≡ []) }
+        ensures room { IfOk result (λ j. j.room ≡ 2 * bits + 2100) }
+    {
+        let room = 2 * bits as usize + 2100;
+        Ok(Journal {
+            room,
+            codes: Vec::with_capacity(alloc, room)?,
+            starts: Vec::with_capacity(alloc, room)?,
+            credits: Vec::with_capacity(alloc, room)?,
+            requests: Vec::with_capacity(alloc, room)?,
+            messages: Vec::with_capacity(alloc, room)?,
+        })
+    }
+
+    /// The entries, oldest first.
+    pub fn entries(&self) -> Entries<'_>
+        ensures { result ≡ self.now.entries }
+    {
+        Entries::of(self)
+    }
+
+    /// Adds an entry.
+    ///
+    /// Error: the entry comes back where the reserved entries are used; nothing changed.
+    pub fn enter(&mut self, entry: Entry) -> Result<(), Entry>
+        ensures room { self.new.room ≡ self.old.room }
+        ensures ok { OnOk result ((self.new.entries ≡ self.old.entries ++ entry ∷ [])
+            × (length self.old.entries < self.old.room)) }
+        ensures back { IfErr result (λ e. (e ≡ entry) × (self.new ≡ self.old)
+            × (self.old.room ≤ length self.old.entries)) }
+    {
+        if self.is_full() {
+            return Err(entry);
+        }
+        match entry {
+            Entry::Bit(driven, seen) => self.push(Code::of_bit(driven, seen)),
+            Entry::Up(item) => self.push_item(item),
+            Entry::Abort => self.push(Code::Abort),
+            Entry::Stored(message) => self.push_message(Code::Stored, message),
+            Entry::Overrun(message) => self.push_message(Code::Overrun, message),
+            Entry::Off => self.push(Code::Off),
+        }
+        Ok(())
+    }
+
+    /// Adds a bit: the level that the node drove, and the one that it saw.
+    ///
+    /// Error: [`Full`] where the reserved entries are used; nothing changed.
+    pub fn enter_bit(&mut self, driven: Level, seen: Level) -> Result<(), Full>
+        ensures room { self.new.room ≡ self.old.room }
+        ensures ok { OnOk result ((self.new.entries ≡ self.old.entries ++ Bit driven seen ∷ [])
+            × (length self.old.entries < self.old.room)) }
+        ensures full { OnErr result ((self.new ≡ self.old) × (self.old.room ≤ length self.old.entries)) }
+    {
+        if self.is_full() {
+            return Err(Full);
+        }
+        self.push(Code::of_bit(driven, seen));
+        Ok(())
+    }
+
+    /// Whether the reserved entries are used.
+    fn is_full(&self) -> bool
+        ensures full { result ≡ true → self.now.room ≤ length self.now.entries }
+        ensures room { result ≡ false → length self.now.entries < self.now.room }
+    {
+        self.codes.len() >= self.room
+    }
+
+    /// Adds a code without contents.
+    fn push(&mut self, code: Code)
+        requires room { length self.old.entries < self.old.room }
+        requires alone { HasContents code 0 0 0 0 }
+        ensures room { self.new.room ≡ self.old.room }
+        ensures entries { self.new.entries ≡ self.old.entries ++ decoded (code ∷ []) [] [] [] [] }
+    {
+        self.codes.push_reserved(code);
+    }
+
+    /// Adds an item that the bus took.
+    fn push_item(&mut self, item: Up)
+        requires room { length self.old.entries < self.old.room }
+        ensures room { self.new.room ≡ self.old.room }
+        ensures entries { self.new.entries ≡ self.old.entries ++ Item item ∷ [] }
+    {
+        match item {
+            Up::Start(config) => self.push_start(config),
+            Up::Credit(bytes) => self.push_credit(bytes),
+            Up::Send(request) => self.push_request(request),
+            Up::Stop => self.push(Code::Stop),
+        }
+    }
+
+    /// Adds a start.
+    fn push_start(&mut self, config: Config)
+        requires room { length self.old.entries < self.old.room }
+        ensures room { self.new.room ≡ self.old.room }
+        ensures entries { self.new.entries ≡ self.old.entries ++ Item (Start config) ∷ [] }
+    {
+        self.starts.push_reserved(config);
+        self.codes.push_reserved(Code::Start);
+    }
+
+    /// Adds a credit.
+    fn push_credit(&mut self, bytes: u8)
+        requires room { length self.old.entries < self.old.room }
+        ensures room { self.new.room ≡ self.old.room }
+        ensures entries { self.new.entries ≡ self.old.entries ++ Item (Credit bytes) ∷ [] }
+    {
+        self.credits.push_reserved(bytes);
+        self.codes.push_reserved(Code::Credit);
+    }
+
+    /// Adds a request.
+    fn push_request(&mut self, request: Request)
+        requires room { length self.old.entries < self.old.room }
+        ensures room { self.new.room ≡ self.old.room }
+        ensures entries { self.new.entries ≡ self.old.entries ++ Item (Send request) ∷ [] }
+    {
+        self.requests.push_reserved(request);
+        self.codes.push_reserved(Code::Send);
+    }
+
+    /// Adds a verdict with its message.
+    fn push_message(&mut self, code: Code, message: Message)
+        requires room { length self.old.entries < self.old.room }
+        requires one { HasContents code 0 0 0 1 }
+        ensures room { self.new.room ≡ self.old.room }
+        ensures entries { self.new.entries ≡ self.old.entries ++ decoded (code ∷ []) [] [] [] (message ∷ []) }
+    {
+        self.messages.push_reserved(message);
+        self.codes.push_reserved(code);
+    }
+}

@@ -1,0 +1,59 @@
+//! The link between the bus and the driver of a node in one activation of its controller: what it carries, its two
+//! ends, the ledgers of bytes at both, the journal of a node, and the pure core of one link.
+//!
+//! Downward a link carries messages and bus-off ([`Down`]), upward starts, credits, requests and stops ([`Up`]). Its two
+//! ends are the traits [`BusEnd`] and [`DriverEnd`]; a [`DequeLink`] is both in one value. At the bus's end the
+//! [`BusLedger`] decides which message is stored and which is overrun, by the bytes that are free. At the driver's end
+//! the [`DriverLedger`] shows the messages and releases them. The [`Journal`] of a node has all that happened, and what
+//! it means is said of it alone: the part of each activation, the record of the node, the free bytes and the verdicts.
+//! The [`World`] of one link has the events that may happen on it.
+//!
+//! `DequeLink::new`, `Journal::new` and `World::step` alone take memory. Its tests stand in
+//! `crates/controller_tests/src/links`.
+#![tactic(auto)]
+
+mod bad_credit;
+mod bus_end;
+mod bus_ledger;
+mod busy;
+mod code;
+mod counts;
+mod deque_link;
+mod down;
+mod driver_end;
+mod driver_ledger;
+mod entries;
+mod entry;
+mod event;
+mod full;
+mod journal;
+mod laws;
+mod link_id;
+mod release_fault;
+mod stopped;
+mod up;
+mod verdict;
+mod world;
+
+pub use bad_credit::BadCredit;
+pub use bus_end::BusEnd;
+pub use bus_ledger::BusLedger;
+pub use busy::Busy;
+pub use deque_link::DequeLink;
+pub use down::Down;
+pub use driver_end::DriverEnd;
+pub use driver_ledger::DriverLedger;
+pub use entries::Entries;
+pub use entry::Entry;
+pub use event::Event;
+pub use full::Full;
+pub use journal::Journal;
+pub use laws::{
+    every_world_keeps_its_budget, what_was_kept_was_stored, what_was_released_and_left_was_stored,
+};
+pub use link_id::LinkId;
+pub use release_fault::ReleaseFault;
+pub use stopped::Stopped;
+pub use up::Up;
+pub use verdict::Verdict;
+pub use world::World;

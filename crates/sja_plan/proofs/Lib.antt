@@ -1,0 +1,15 @@
+mod ItemLemmas
+mod KeyLemmas
+mod WordLemmas
+mod NumberLemmas
+mod StrikeLemmas
+mod TextLemmas
+mod NodeLemmas
+mod CountLemmas
+mod LimitLemmas
+mod Passed
+mod OneMeaning
+mod OnePlan
+mod FirstBad
+mod DocumentFaults
+mod OneFault

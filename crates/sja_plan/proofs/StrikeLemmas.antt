@@ -1,0 +1,23 @@
+-- Texts that say no strike.
+use Rattle.std.proofs.Common.{◌≡◌, ◌≢◌, ℕ, List, [], ◌∷◌, length, get_or, refl, arith}
+use Rattle.sja_plan.specs.Words.{Text}
+use Rattle.sja_plan.specs.StrikeTexts.{AreStrikeWords}
+use Rattle.sja_script.specs.declared.strike.Strike.{Strike}
+
+-- a strike has two words or four
+pub no_strike : (nodes : ℕ) (ws : List Text) (s : Strike) → length ws ≢ 2 → length ws ≢ 4 → ¬ AreStrikeWords nodes ws s
+no_strike nodes [] s a b = λ h. h
+no_strike nodes (k ∷ []) s a b = λ h. h
+no_strike nodes (k ∷ x ∷ []) s a b = λ h. a refl
+no_strike nodes (k ∷ x ∷ e ∷ []) s a b = λ h. h
+no_strike nodes (k ∷ x ∷ e ∷ t ∷ []) s a b = λ h. b refl
+no_strike nodes (k ∷ x ∷ e ∷ t ∷ y ∷ ws) s a b = λ h. h
+
+-- a list of four
+pub four_words : {X : Type 0} (xs : List X) (d : X) → length xs ≡ 4 → xs ≡ get_or xs 0 d ∷ get_or xs 1 d ∷ get_or xs 2 d ∷ get_or xs 3 d ∷ []
+four_words [] d h = absurd (omega arith)
+four_words (a ∷ []) d h = absurd (omega arith)
+four_words (a ∷ b ∷ []) d h = absurd (omega arith)
+four_words (a ∷ b ∷ e ∷ []) d h = absurd (omega arith)
+four_words (a ∷ b ∷ e ∷ t ∷ []) d h = refl
+four_words (a ∷ b ∷ e ∷ t ∷ y ∷ xs) d h = absurd (omega arith)

@@ -1,0 +1,77 @@
+-- The checks of what a plan's document says, in their order, and the plan that it is (this project's own rule).
+use Rattle.std.specs.Prelude.{◌≡◌, ◌≤◌, ℕ, ℤ, pos, List, length, All}
+use Rattle.std.specs.List.{AllZip}
+use Rattle.sja_script.specs.declared.step.Step.{Step}
+use Rattle.sja_plan.specs.StepTexts.{SaysStep}
+use Rattle.sja_plan.specs.TurnTexts.{SaysTurn}
+use Rattle.sja_plan.specs.StrikeTexts.{SaysStrike, strikes_in}
+use Rattle.sja_plan.specs.Document.{DocumentValue}
+use Rattle.sja_plan.specs.Plan.{PlanValue}
+use Rattle.sja_plan.specs.declared.turn.Turn.{Turn}
+
+-- the number is one from `least` to `most`
+abbrev pub IsWithin : ℤ → ℕ → ℕ → Type 0
+IsWithin z least most = (n : ℕ) × (z ≡ pos n) × (least ≤ n) × (n ≤ most)
+
+abbrev pub HasVersion : DocumentValue → Type 0
+HasVersion d = IsWithin d.version 1 2
+
+abbrev pub HasBits : DocumentValue → Type 0
+HasBits d = IsWithin d.bits 1 200000
+
+abbrev pub HasNodes : DocumentValue → Type 0
+HasNodes d = (1 ≤ length d.nodes) × (length d.nodes ≤ 8)
+
+abbrev pub HasFewSteps : DocumentValue → Type 0
+HasFewSteps d = All (λ steps. length steps ≤ 1000) d.nodes
+
+-- each text of a step says one
+abbrev pub HasSteps : DocumentValue → Type 0
+HasSteps d = (nodes : List (List Step)) × AllZip (AllZip SaysStep) d.nodes nodes
+
+abbrev pub HasFewTurns : DocumentValue → Type 0
+HasFewTurns d = length d.turns ≤ 10000
+
+-- each text of a turn says one
+abbrev pub HasTurns : DocumentValue → Type 0
+HasTurns d = (turns : List Turn) × AllZip (SaysTurn (length d.nodes)) d.turns turns
+
+abbrev pub HasFewStrikes : DocumentValue → Type 0
+HasFewStrikes d = strikes_in d.faults ≤ 1000
+
+-- every check passes, that of the strikes' texts too, and this is the plan
+pub record SaysPlan (d : DocumentValue) (p : PlanValue) : Type 0 where
+  pub version : (d.version ≡ pos p.version) × (1 ≤ p.version) × (p.version ≤ 2)
+  pub bits : (d.bits ≡ pos p.bits) × (1 ≤ p.bits) × (p.bits ≤ 200000)
+  pub node_count : HasNodes d
+  pub step_counts : HasFewSteps d
+  pub steps : AllZip (AllZip SaysStep) d.nodes p.nodes
+  pub turn_count : HasFewTurns d
+  pub turns : AllZip (SaysTurn (length d.nodes)) d.turns p.turns
+  pub strike_count : HasFewStrikes d
+  pub strikes : AllZip (SaysStrike (length d.nodes)) d.faults p.strikes
+
+-- which checks passed before each check
+abbrev pub BeforeBits : DocumentValue → Type 0
+BeforeBits d = HasVersion d
+
+abbrev pub BeforeNodeCount : DocumentValue → Type 0
+BeforeNodeCount d = BeforeBits d × HasBits d
+
+abbrev pub BeforeStepCount : DocumentValue → Type 0
+BeforeStepCount d = BeforeNodeCount d × HasNodes d
+
+abbrev pub BeforeSteps : DocumentValue → Type 0
+BeforeSteps d = BeforeStepCount d × HasFewSteps d
+
+abbrev pub BeforeTurnCount : DocumentValue → Type 0
+BeforeTurnCount d = BeforeSteps d × HasSteps d
+
+abbrev pub BeforeTurns : DocumentValue → Type 0
+BeforeTurns d = BeforeTurnCount d × HasFewTurns d
+
+abbrev pub BeforeStrikeCount : DocumentValue → Type 0
+BeforeStrikeCount d = BeforeTurns d × HasTurns d
+
+abbrev pub BeforeStrikes : DocumentValue → Type 0
+BeforeStrikes d = BeforeStrikeCount d × HasFewStrikes d

@@ -1,0 +1,2 @@
+-- What the crate's private types stand for.
+pub mod Views

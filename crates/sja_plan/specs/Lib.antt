@@ -1,0 +1,12 @@
+pub mod Words
+pub mod StepTexts
+pub mod TurnTexts
+pub mod StrikeTexts
+pub mod Texts
+pub mod Document
+pub mod Plan
+pub mod Checks
+pub mod Faults
+pub mod Inside
+pub use Rattle.toml.specs.Data
+pub use Rattle.toml.specs.Parse

@@ -1,0 +1,49 @@
+//! Laws of plans: a text and bytes have one meaning or none. Each is the contract of a function that does nothing.
+
+ghost use Rattle.std.specs.Prelude.{◌≡◌, ◌≢◌, ℕ, List};
+ghost use Rattle.sja_plan.specs.Words.{Text};
+ghost use Rattle.sja_plan.specs.StepTexts.{SaysStep};
+ghost use Rattle.sja_plan.specs.TurnTexts.{SaysTurn};
+ghost use Rattle.sja_plan.specs.StrikeTexts.{SaysStrike};
+ghost use Rattle.sja_plan.specs.Plan.{PlanValue};
+ghost use Rattle.sja_plan.specs.Faults.{IsPlanOf, IsFirstFault};
+
+use super::plan_fault::PlanFault;
+use super::turn::Turn;
+use sja_script::{Step, Strike};
+
+/// A text says one step at most.
+#[tactic(auto, using(crate::proofs::OneMeaning::one_step))]
+pub fn a_text_says_one_step()
+    ensures { (text : Text) (s t : Step) → SaysStep text s → SaysStep text t → s ≡ t }
+{}
+
+/// A text says one turn at most.
+#[tactic(auto, using(crate::proofs::OneMeaning::one_turn))]
+pub fn a_text_says_one_turn()
+    ensures { (nodes : ℕ) (text : Text) (t u : Turn) → SaysTurn nodes text t → SaysTurn nodes text u → t ≡ u }
+{}
+
+/// A text says one strike at most.
+#[tactic(auto, using(crate::proofs::OneMeaning::one_strike))]
+pub fn a_text_says_one_strike()
+    ensures { (nodes : ℕ) (text : Text) (s t : Strike) → SaysStrike nodes text s → SaysStrike nodes text t → s ≡ t }
+{}
+
+/// Bytes are one plan at most.
+pub fn bytes_are_one_plan()
+    ensures { (bytes : List ℕ) (p q : PlanValue) → IsPlanOf bytes p → IsPlanOf bytes q → p ≡ q }
+{}
+
+/// Bytes have one first fault at most, but for refused memory.
+#[tactic(auto, using(crate::proofs::OneFault::one_fault))]
+pub fn bytes_have_one_first_fault()
+    ensures { (bytes : List ℕ) (e f : PlanFault) → e ≢ PlanFault.Memory → f ≢ PlanFault.Memory
+        → IsFirstFault bytes e → IsFirstFault bytes f → e ≡ f }
+{}
+
+/// Bytes that are a plan have no fault, but for refused memory.
+pub fn a_plan_has_no_fault()
+    ensures { (bytes : List ℕ) (p : PlanValue) (f : PlanFault) → f ≢ PlanFault.Memory
+        → IsPlanOf bytes p → ¬ IsFirstFault bytes f }
+{}

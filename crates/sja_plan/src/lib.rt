@@ -1,0 +1,34 @@
+//! Plans of runs: TOML documents that say what the drivers do, in which turns, and which bits are struck.
+//!
+//! [`read_plan`] makes a [`Plan`] of a document's bytes, or tells the first check that fails. Nothing above this crate
+//! sees a type of `toml`. The laws say that a text has one meaning or none, and that bytes are one plan or have one first
+//! fault. The tests stand in `crates/plan_tests`, and `bench_plan` measures the reader.
+#![tactic(auto)]
+
+mod counting;
+mod document;
+mod judging;
+mod laws;
+mod list_fault;
+mod members;
+mod plan;
+mod plan_fault;
+mod reading;
+mod said;
+mod settings;
+mod step_text;
+mod strike_text;
+mod text_fault;
+mod turn;
+mod turn_text;
+mod value;
+mod word;
+
+pub use laws::{
+    a_plan_has_no_fault, a_text_says_one_step, a_text_says_one_strike, a_text_says_one_turn,
+    bytes_are_one_plan, bytes_have_one_first_fault,
+};
+pub use plan::Plan;
+pub use plan_fault::PlanFault;
+pub use reading::read_plan;
+pub use turn::Turn;

@@ -1,0 +1,104 @@
+//! Plans.
+
+ghost use Rattle.std.specs.Prelude.{◌≡◌, ◌<◌, length, slice_index_or, []};
+ghost use Rattle.sja_plan.specs.Plan.{IsInLimits};
+
+use super::turn::Turn;
+use sja_script::{Step, Strike};
+use std::marker::Model;
+
+/// A plan of a run: what each driver does, in which turns, and which bits are struck.
+///
+/// | What | Limit |
+/// |---|---|
+/// | version | 1 or 2 |
+/// | bits of a run | 1 to 200,000 |
+/// | nodes | 1 to 8 |
+/// | steps of a node | at most 1,000 |
+/// | turns | at most 10,000 |
+/// | strikes, each counted as often as it strikes | at most 1,000 |
+///
+/// Each turn of a node and each strike names a node of the plan. Contracts see a plan as these five values.
+#[derive(Drop)]
+pub struct Plan {
+    pub(crate) version: u8,
+    pub(crate) bits: u32,
+    pub(crate) nodes: Vec<Vec<Step>>,
+    pub(crate) turns: Vec<Turn>,
+    pub(crate) strikes: Vec<Strike>,
+}
+
+impl Model for Plan {
+    ghost use Rattle.std.specs.Prelude.{map};
+    ghost use Rattle.sja_plan.specs.Plan.{PlanValue, IsInLimits};
+
+    ghost Value = { PlanValue };
+
+    ghost view = { λ p. record {
+      version = p.version;
+      bits = p.bits;
+      nodes = map (λ steps. steps.items) p.nodes.items;
+      turns = p.turns.items;
+      strikes = p.strikes.items;
+    } };
+
+    ghost invariant = { λ p. IsInLimits (record {
+      version = p.version;
+      bits = p.bits;
+      nodes = map (λ steps. steps.items) p.nodes.items;
+      turns = p.turns.items;
+      strikes = p.strikes.items;
+    }) };
+}
+
+impl Plan {
+    /// The version of the plan's rules: 2 has self test, self reception and listen only beside all of 1.
+    pub fn version(&self) -> u8
+        ensures { result ≡ self.now.version }
+    {
+        self.version
+    }
+
+    /// How many bits the run has at most.
+    pub fn bits(&self) -> u32
+        ensures { result ≡ self.now.bits }
+    {
+        self.bits
+    }
+
+    /// How many nodes there are.
+    pub fn nodes(&self) -> usize
+        ensures { result ≡ length self.now.nodes }
+    {
+        self.nodes.len()
+    }
+
+    /// The steps of the driver of a node, counted from 0.
+    pub fn steps(&self, node: usize) -> &[Step]
+        requires { node < length self.now.nodes }
+        ensures { result.now ≡ slice_index_or self.now.nodes node [] }
+    {
+        self.nodes[node].as_slice()
+    }
+
+    /// The turns of a serial run.
+    pub fn turns(&self) -> &[Turn]
+        ensures { result.now ≡ self.now.turns }
+    {
+        self.turns.as_slice()
+    }
+
+    /// The strikes.
+    pub fn strikes(&self) -> &[Strike]
+        ensures { result.now ≡ self.now.strikes }
+    {
+        self.strikes.as_slice()
+    }
+
+    /// Every plan is within the limits. It does nothing: a caller who needs a limit calls it for its contract.
+    pub fn limits(&self)
+        ensures { IsInLimits self.now }
+    {
+        let _ = &self.bits;
+    }
+}

@@ -1,0 +1,89 @@
+//! The words of a text, and what a word spells.
+
+ghost use Rattle.std.specs.Prelude.{◌≡◌, ◌≤◌, ◌<◌, ◌⊎◌, ℕ, List, IfOk, IfSome, IfErr, map};
+ghost use Rattle.sja_plan.specs.Words.{words, number_of, SpellsWithin, SpellsNode, SpellsByte, SpellsMessage};
+
+use super::text_fault::TextFault;
+use can_frame::Message;
+use hex::FromHexError;
+use std::alloc::{AllocError, Global};
+
+/// The greatest number that seven digits spell.
+pub(crate) const GREATEST: u32 = 9_999_999;
+
+/// The words of a text: what stands between its spaces.
+pub(crate) fn words_of<'a>(alloc: Global, text: &'a str) -> Result<Vec<&'a str>, AllocError>
+    ensures { IfOk result (λ v. map (λ w. w.now) v.items ≡ words text.entry.now) }
+{
+    let mut found = Vec::new(alloc);
+    let mut rest = text;
+    while let Some((word, behind)) = rest.split_once(' ') {
+        found.push(word)?;
+        rest = behind;
+    }
+    found.push(rest)?;
+    Ok(found)
+}
+
+/// The number that a word spells with one to seven digits.
+pub(crate) fn number(word: &str) -> Option<u32>
+    ensures value { result ≡ number_of word.now }
+    ensures small { IfSome result (λ n. n < 10000000) }
+{
+    if word.len() > 7 || word.starts_with('+') {
+        return None;
+    }
+    word.parse::<u32>().ok()
+}
+
+/// The number from `least` to `most` that a word spells.
+pub(crate) fn number_within(word: &str, least: u32, most: u32) -> Result<u32, TextFault>
+    ensures ok { IfOk result (λ n. SpellsWithin least most word.now n) }
+    ensures err { IfErr result (λ e. (e ≡ TextFault.Bad) × ((n : ℕ) → ¬ SpellsWithin least most word.now n)) }
+{
+    match number(word) {
+        Some(n) if least <= n && n <= most => Ok(n),
+        _ => Err(TextFault::Bad),
+    }
+}
+
+/// The number of a node, of so many, that a word spells.
+pub(crate) fn node_within(nodes: usize, word: &str) -> Result<u8, TextFault>
+    requires { nodes ≤ 8 }
+    ensures ok { IfOk result (λ n. SpellsNode nodes word.now n) }
+    ensures err { IfErr result (λ e. (e ≡ TextFault.Bad) × ((n : ℕ) → ¬ SpellsNode nodes word.now n)) }
+{
+    let node = number_within(word, 0, GREATEST)?;
+    if node as usize >= nodes {
+        return Err(TextFault::Bad);
+    }
+    Ok(node as u8)
+}
+
+/// The byte that a word spells with two hexadecimal digits.
+pub(crate) fn byte(word: &str) -> Result<u8, TextFault>
+    ensures ok { IfOk result (λ b. SpellsByte word.now b) }
+    ensures err { IfErr result (λ e. (e ≡ TextFault.Bad) × ((b : ℕ) → ¬ SpellsByte word.now b)) }
+{
+    match <[u8; 1] as hex::FromHex>::from_hex(word) {
+        Ok(bytes) => Ok(bytes[0]),
+        Err(_) => Err(TextFault::Bad),
+    }
+}
+
+/// The message whose bytes a word spells.
+pub(crate) fn message(alloc: Global, word: &str) -> Result<Message, TextFault>
+    ensures ok { IfOk result (λ m. SpellsMessage word.now m) }
+    ensures err { IfErr result (λ e. (e ≡ TextFault.NoMemory)
+        ⊎ ((e ≡ TextFault.Bad) × ((m : List ℕ) → ¬ SpellsMessage word.now m))) }
+{
+    let bytes = match hex::decode(alloc, word) {
+        Ok(bytes) => bytes,
+        Err(FromHexError::OutOfMemory) => return Err(TextFault::NoMemory),
+        Err(_) => return Err(TextFault::Bad),
+    };
+    match Message::from_bytes(bytes.as_slice()) {
+        Ok(message) => Ok(message),
+        Err(_) => Err(TextFault::Bad),
+    }
+}
