@@ -1,6 +1,7 @@
 //! A link with both its ledgers, and messages by their length.
 
-use can_frame::Message;
+use can_frame::{Filter, Message};
+use can_node::{Config, Request};
 use sja_link::{BusEnd, BusLedger, DequeLink, Down, DriverEnd, DriverLedger, LinkId, Up, Verdict};
 use std::alloc::Global;
 use std::test::Fail;
@@ -69,4 +70,26 @@ impl Linked {
         }
         Ok(true)
     }
+}
+
+/// The filter that passes every frame, and no special mode.
+pub fn plain() -> Config {
+    Config {
+        filter: Filter {
+            single: true,
+            acr: [0; 4],
+            amr: [255; 4],
+        },
+        self_test: false,
+        listen: false,
+    }
+}
+
+/// A request for the frame of a message, to be tried again until it is sent.
+pub fn request_for(message: &[u8]) -> Result<Request, Fail> {
+    Ok(Request {
+        frame: Message::from_bytes(message)?.frame(),
+        single_shot: false,
+        self_receive: false,
+    })
 }

@@ -1,7 +1,6 @@
 //! Journals: entries of each kind come out as they were entered, and the reserved ones are counted.
 
-use super::given::message_of;
-use crate::given::{plain, request_for};
+use super::given::{message_of, plain, request_for};
 use can_bits::Level;
 use sja_link::{Entry, Journal, Up};
 use std::alloc::Global;

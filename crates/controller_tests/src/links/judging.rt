@@ -1,7 +1,6 @@
 //! The bus's ledger: what is stored and what is overrun, and which credits are taken.
 
-use super::given::{Linked, message_of};
-use crate::given::{plain, request_for};
+use super::given::{Linked, message_of, plain, request_for};
 use sja_link::{BadCredit, BusEnd, Down, DriverEnd, Up, Verdict};
 use std::test::Fail;
 

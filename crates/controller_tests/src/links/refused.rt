@@ -2,8 +2,7 @@
 //!
 //! Each answers well with and without memory, so that each allocation can be made to fail under it.
 
-use super::given::LINK;
-use crate::given::plain;
+use super::given::{LINK, plain};
 use can_frame::OutOfMemory;
 use sja_link::{DequeLink, Event, Journal, World};
 

@@ -1,7 +1,6 @@
 //! The world of one link: where its events are allowed.
 
-use super::given::message_of;
-use crate::given::{plain, request_for};
+use super::given::{message_of, plain, request_for};
 use sja_link::{Event, World};
 use std::alloc::Global;
 use std::test::Fail;
