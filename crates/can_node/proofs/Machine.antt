@@ -16,3 +16,6 @@ pub mod Sampled
 pub mod SampleSteps
 pub mod Shown
 pub mod Along
+pub mod Quiet
+pub mod QuietFrames
+pub mod QuietPlaces

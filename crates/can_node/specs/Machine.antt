@@ -3,3 +3,4 @@ pub mod Stages
 pub mod Turns
 pub mod Causes
 pub mod TransmitterCauses
+pub mod Quiet

@@ -8,3 +8,18 @@ pub enum AfterBit {
     InPiece(Stage),
     Ended(Ending),
 }
+
+impl AfterBit {
+    ghost use Rattle.std.specs.Prelude.{◌≡◌};
+    ghost use Rattle.can_node.specs.Machine.Quiet.{stage_in};
+
+    /// The stage, where the piece goes on.
+    pub fn stage(&self) -> Option<Stage>
+        ensures { result ≡ stage_in self.now }
+    {
+        match self {
+            AfterBit::InPiece(stage) => Some(*stage),
+            AfterBit::Ended(_) => None,
+        }
+    }
+}

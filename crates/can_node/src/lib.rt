@@ -40,6 +40,7 @@ mod outcome;
 mod overload_condition;
 mod own_bit;
 mod phase;
+mod quiet;
 mod receive;
 mod request;
 mod role;

@@ -10,9 +10,6 @@ use super::request::Request;
 use super::stage::Stage;
 use can_bits::{Level, SentBody, Shift};
 
-/// How many bits intermission has (Bosch CAN 2.0 part A section 3.1.5).
-const INTERMISSION: u8 = 3;
-
 /// A CAN node, bit by bit: what it drives, and what it makes of the levels that it sees (Bosch CAN 2.0 part A).
 ///
 /// It keeps no list of levels and takes no memory. It stands at records: lists of what happened to it, each bit with
@@ -86,13 +83,18 @@ impl Node {
     }
 
     /// Sees the level of the bus in this bit, in which the node drove what [`drive`](Node::drive) says; in reset it looks
-    /// at no level.
+    /// at no level. A caller for whom a bit without events is no more than that calls
+    /// [`sample_quietly`](Node::sample_quietly) first, which is quicker.
     pub fn sample(&mut self, level: Level) -> BitEvents
         ensures samples { Samples self.old self.new level result }
         ensures off { IsTrue result.went_off → InReset self.new }
         ensures rests { StaysReset self.old self.new result }
     {
-        self.sample_fully(level)
+        if self.sample_quietly(level) {
+            BitEvents::nothing(!self.context.is_transmitter())
+        } else {
+            self.sample_fully(level)
+        }
     }
 
     /// Takes a request, to be sent as soon as the bus is idle. It is given back where one is held, or in reset.
@@ -159,25 +161,7 @@ impl Node {
         ensures phase { ShowsPhase self.now result }
         ensures reset { (result ≡ Phase.Reset) ↔ InReset self.now }
     {
-        match self.stage {
-            Stage::InReset => Phase::Reset,
-            Stage::Integrating { left: _, run: _ } => Phase::Waiting,
-            Stage::BusIdle => Phase::Idle,
-            Stage::InFrame => Phase::Frame,
-            Stage::LastEofBit => Phase::Frame,
-            Stage::InFlag { bits: _, last: _ } => Phase::Flag,
-            Stage::InDelimiter {
-                dominant: _,
-                recessive: _,
-            } => Phase::Delimiter,
-            Stage::InInterframeSpace { bits } => {
-                if bits < INTERMISSION {
-                    Phase::Intermission
-                } else {
-                    Phase::Suspension
-                }
-            }
-        }
+        self.stage.phase()
     }
 
     /// Whether nothing is to come of its own accord: the node is in reset, or the bus is idle and no request is held.

@@ -25,7 +25,7 @@ use Rattle.can_node.proofs.OneCut.GoOn.{counted_both, open_end, stays_end, move_
 use Rattle.can_node.proofs.Machine.Sampling.{bits_push, some_bit, open_at, pushed_open}
 
 -- a piece stands at no rest
-piece_away : {c : ContextValue} {bits : List Bit} {p : Piece} {next : Place} (place : Place) → Row c place bits p next → place ≢ AtReset
+pub piece_away : {c : ContextValue} {bits : List Bit} {p : Piece} {next : Place} (place : Place) → Row c place bits p next → place ≢ AtReset
 piece_away {c = c} {bits = bits} {p = p} {next = next} place row e = let P : Place → Type 0 = λ s. Row c s bits p next in no_rest_piece (subst P e row)
 
 -- nor does bus-off come in one
@@ -37,7 +37,7 @@ off_away c place bits b stays off e =
 
 -- ---- the piece under way goes on
 
-pub goes_stands : (old new : Node) (entries : List Entry) (found : List FinishedPiece) (h : StandsAt old entries found) (b : Bit) (stage : Stage) (shift : Shift) →
+unfoldable pub goes_stands : (old new : Node) (entries : List Entry) (found : List FinishedPiece) (h : StandsAt old entries found) (b : Bit) (stage : Stage) (shift : Shift) →
     let now = along h.cut.context h.cut.place [] h.cut.rest in let d = at_bit now h.cut.place (bits_in h.cut.rest) b in
     Drives now h.cut.place (bits_in h.cut.rest) b.driven → At stage shift h.cut.context d h.cut.place (bits_in h.cut.rest ++ b ∷ []) → d.tec < 256 →
     context_of new.context ≡ d → new.stage ≡ stage → new.shift ≡ shift → FollowsAt new (entries ++ OneBit b ∷ []) found
@@ -59,7 +59,7 @@ goes_stands old new entries found h b stage shift drives at few shows same_stage
 
 -- ---- the piece ends
 
-pub closes_stands : (old new : Node) (entries : List Entry) (found : List FinishedPiece) (h : StandsAt old entries found) (b : Bit) (stage : Stage) (shift : Shift) (p : Piece) (next : Place) →
+unfoldable pub closes_stands : (old new : Node) (entries : List Entry) (found : List FinishedPiece) (h : StandsAt old entries found) (b : Bit) (stage : Stage) (shift : Shift) (p : Piece) (next : Place) →
     let n = closed p next (at_bit (along h.cut.context h.cut.place [] h.cut.rest) h.cut.place (bits_in h.cut.rest) b) in
     Row h.cut.context h.cut.place (bits_in h.cut.rest ++ b ∷ []) p next → At stage shift n n next [] → n.tec < 256 →
     context_of new.context ≡ n → new.stage ≡ stage → new.shift ≡ shift →

@@ -46,7 +46,7 @@ not_both zero (suc r) h = not_none r
 not_both (suc d) r h = rw (not_none d) refl
 
 -- the first bit after a flag
-first_bit_is : (d r : ℕ) (bits : List Bit) → IsInDelimiter d r bits → (d == 0 && r == 0) ≡ is_nil bits
+pub first_bit_is : (d r : ℕ) (bits : List Bit) → IsInDelimiter d r bits → (d == 0 && r == 0) ≡ is_nil bits
 first_bit_is d r [] h = let none = first_only d r [] h refl in rw (none.0, none.1) refl
 first_bit_is d r (b ∷ bits) h = not_both d r (λ e f. let none : b ∷ bits ≡ [] = first_is d r (b ∷ bits) h e f in absurd cc)
 

@@ -1,8 +1,10 @@
 -- What a node that stands at a record shows of it.
-use Rattle.std.proofs.Common.{◌≡◌, ◌≢◌, Bool, true, false, not, is_some, Option, Some, None, List, refl, ap, sym, subst, ◌∙◌, if◌then◌else◌, ℕ}
+use Rattle.std.proofs.Common.{◌≡◌, ◌≢◌, Bool, true, false, not, is_some, Option, Some, None, List, [], nat_lt, refl, ap, sym, subst, ◌∙◌, if◌then◌else◌, ℕ}
 use Rattle.can_bits.specs.declared.level.Level.{Level}
 use Rattle.can_bits.specs.declared.level.Level.TheVariants.{Recessive}
-use Rattle.can_node.specs.declared.stage.Stage.TheVariants.{InReset as StageInReset, Integrating as StageIntegrating, InFrame as StageInFrame}
+use Rattle.can_bits.specs.declared.shift.Shift.{Shift}
+use Rattle.can_node.specs.declared.stage.Stage.{Stage}
+use Rattle.can_node.specs.declared.stage.Stage.TheVariants.{InReset as StageInReset, Integrating as StageIntegrating, BusIdle as StageBusIdle, InFrame as StageInFrame, LastEofBit as StageLastEofBit, InFlag as StageInFlag, InDelimiter as StageInDelimiter, InInterframeSpace as StageInInterframeSpace}
 use Rattle.can_node.specs.declared.phase.Phase.{Phase}
 use Rattle.can_node.specs.declared.phase.Phase.TheVariants.{Reset, Waiting, Idle, Frame, Flag, Delimiter, Intermission, Suspension}
 use Rattle.can_node.specs.declared.node.Node.{Node}
@@ -10,16 +12,18 @@ use Rattle.can_node.specs.declared.request.Request.{Request}
 use Rattle.can_node.specs.Bits.{Bit}
 use Rattle.can_node.specs.Context.{ContextValue, is_held}
 use Rattle.can_node.specs.Pieces.{Place}
+use Rattle.can_node.specs.Pieces.Place.{AtIdle, AtInterframeSpace}
 use Rattle.can_node.specs.Record.{Entry, bits_in}
 use Rattle.can_node.specs.Cut.{FinishedPiece}
 use Rattle.can_node.specs.Driving.{Drives, phase_at}
 use Rattle.can_node.specs.Machine.Standing.{context_of, HasBody, IsKept}
-use Rattle.can_node.specs.Machine.Stages.{At, IsInFrame}
+use Rattle.can_node.specs.Machine.Stages.{At, IsInFrame, IsInInterframeSpace}
 use Rattle.can_node.specs.Machine.Stages.IsInFrame.{from_idle, from_pause}
 use Rattle.can_node.specs.NextBit.{now_in, rests_in}
-use Rattle.can_node.specs.Stands.{FollowsAt, StandsAt}
+use Rattle.can_node.specs.Stands.{FollowsAt, StandsAt, phase_of_stage}
 use Rattle.can_node.proofs.Machine.Along.{is_kept}
 use Rattle.can_node.proofs.Machine.Ats.{at_is}
+use Rattle.can_node.proofs.Waiting.InterframeSpaces.{pause_length}
 
 -- where the node is, by its own fields
 pub at_shown : (node : Node) (entries : List Entry) (found : List FinishedPiece) (h : StandsAt node entries found) →
@@ -78,11 +82,29 @@ in_frame : (place : Place) (bits : List Bit) → IsInFrame place bits → Frame 
 in_frame place bits (from_idle b more) = refl
 in_frame place bits (from_pause more) = refl
 
-pub frame_shown : (node : Node) (entries : List Entry) (found : List FinishedPiece) (h : StandsAt node entries found) → node.stage ≡ StageInFrame →
-    Frame ≡ phase_at h.cut.place (bits_in h.cut.rest)
-frame_shown node entries found h e =
-    let reading = at_is StageInFrame node.stage node.shift h.cut.context (now_in h.cut) h.cut.place (bits_in h.cut.rest) e h.at in
-    in_frame h.cut.place (bits_in h.cut.rest) reading.site
+idle_phase : (place : Place) (bits : List Bit) → place ≡ AtIdle → bits ≡ [] → Idle ≡ phase_at place bits
+idle_phase place bits e none = sym (ap (λ s. phase_at s bits) e ∙ ap (λ l. phase_at AtIdle l) none)
+
+interframe_phase : (n : ℕ) (c : ContextValue) (place : Place) (bits : List Bit) → place ≡ AtInterframeSpace → IsInInterframeSpace n c bits →
+    (if nat_lt n 3 then Intermission else Suspension) ≡ phase_at place bits
+interframe_phase n c place bits e h =
+    ap (λ k. if nat_lt k 3 then Intermission else Suspension) (sym (pause_length n c bits h)) ∙ sym (ap (λ s. phase_at s bits) e)
+
+-- the stage fixes the phase
+phase_by : (stage : Stage) (shift : Shift) (c now : ContextValue) (place : Place) (bits : List Bit) → At stage shift c now place bits →
+    phase_of_stage stage ≡ phase_at place bits
+phase_by StageInReset shift c now place bits h = sym (ap (λ s. phase_at s bits) h.0)
+phase_by (StageIntegrating left run) shift c now place bits h = sym (ap (λ s. phase_at s bits) h.0)
+phase_by StageBusIdle shift c now place bits h = idle_phase place bits h.0 h.1
+phase_by StageInFrame shift c now place bits h = in_frame place bits h.site
+phase_by StageLastEofBit shift c now place bits h = sym (ap (λ s. phase_at s bits) h.0)
+phase_by (StageInFlag n last) shift c now place bits h = sym (ap (λ s. phase_at s bits) h.0)
+phase_by (StageInDelimiter d r) shift c now place bits h = sym (ap (λ s. phase_at s bits) h.0)
+phase_by (StageInInterframeSpace n) shift c now place bits h = interframe_phase n c place bits h.0 h.1
+
+pub phase_shown : (node : Node) (entries : List Entry) (found : List FinishedPiece) (h : StandsAt node entries found) →
+    phase_of_stage node.stage ≡ phase_at h.cut.place (bits_in h.cut.rest)
+phase_shown node entries found h = phase_by node.stage node.shift h.cut.context (now_in h.cut) h.cut.place (bits_in h.cut.rest) h.at
 
 -- it doesn't rest in any other phase
 awake : (p : Phase) (held : Bool) → p ≢ Reset → p ≢ Idle → false ≡ rests_in p held

@@ -1,6 +1,7 @@
-use Rattle.can_node.proofs.Machine.Shown.{frame_shown}
+use Rattle.std.proofs.Common.{◌∙◌}
+use Rattle.can_node.proofs.Machine.Shown.{phase_shown}
 use Rattle.can_node.proofs.node.Node.phase.Goals as goal
 
 -- src/node.rt
-pub returns-in-InFrame-clause-phase : goal.returns-in-InFrame-clause-phase
-returns-in-InFrame-clause-phase c = λ entries found h. frame_shown c.args.self.now entries found h c.in-InFrame.is
+pub returns-clause-phase : goal.returns-clause-phase
+returns-clause-phase c = λ entries found h. c.phase.ensures ∙ phase_shown c.args.self.now entries found h

@@ -1,0 +1,193 @@
+//! The quick way of a bit: in most bits nothing happens that a node shows.
+ghost use Rattle.std.specs.Prelude.{◌≡◌, ◌==◌, ◌&&◌, ◌||◌, not};
+ghost use Rattle.can_bits.specs.Fields.{is_recessive};
+
+use super::after_bit::AfterBit;
+use super::bus_integration::after_integration_bit;
+use super::delimiter::{after_delimiter_bit, is_eighth, is_first};
+use super::interframe_space::after_interframe_bit;
+use super::node::Node;
+use super::receive::receive;
+use super::role::Role;
+use super::stage::Stage;
+use super::transmit::transmit;
+use can_bits::Level;
+
+impl Node {
+    ghost use Rattle.std.specs.Prelude.{◌≡◌, Some, true, false};
+    ghost use Rattle.can_node.specs.declared.role.Role.TheVariants.{Transmitter, Receiver};
+    ghost use Rattle.can_node.specs.declared.stage.Stage.TheVariants.{InFrame as StageInFrame};
+    ghost use Rattle.can_node.specs.Machine.Quiet.{TurnsQuietly};
+    ghost use Rattle.can_node.specs.Stands.{Samples, ShowsSame, nothing, is_receiving};
+
+    /// Sees the level of the bus where the bit changes nothing that the node shows: no event, and the same error counters,
+    /// phase, role and held request. Answers whether that was so; else the node is what it was, and
+    /// [`sample`](Node::sample) is to be called (this project's own rule).
+    #[inline(always)]
+    pub fn sample_quietly(&mut self, level: Level) -> bool
+        ensures quiet { result ≡ true → Samples self.old self.new level (nothing (is_receiving self.old)) }
+        ensures shown { result ≡ true → ShowsSame self.old self.new }
+        ensures same { result ≡ false → self.new ≡ self.old }
+    {
+        match self.stage {
+            Stage::InFrame => self.frame_bit_quietly(level),
+            Stage::BusIdle => self.next.is_recessive() && level.is_recessive(),
+            _ => self.other_bit_quietly(level),
+        }
+    }
+
+    /// A bit of a frame.
+    #[inline(always)]
+    fn frame_bit_quietly(&mut self, level: Level) -> bool
+        ensures quiet { self.old.stage ≡ StageInFrame → result ≡ true → Samples self.old self.new level (nothing (is_receiving self.old)) }
+        ensures shown { self.old.stage ≡ StageInFrame → result ≡ true → ShowsSame self.old self.new }
+        ensures same { result ≡ false → self.new ≡ self.old }
+    {
+        match self.context.role {
+            Role::Receiver => {
+                if self.shift.take_inside(level) {
+                    self.next = Level::Recessive;
+                    true
+                } else {
+                    self.receive_quietly(level)
+                }
+            }
+            Role::Transmitter => {
+                if level != self.next {
+                    false
+                } else if self.shift.take_inside(level) {
+                    self.next = self.shift.next_of(&self.body);
+                    true
+                } else {
+                    self.transmit_quietly()
+                }
+            }
+        }
+    }
+
+    /// A receiver's bit where the reader doesn't take it at once, but for that of its own acknowledgement.
+    #[inline(never)]
+    fn receive_quietly(&mut self, level: Level) -> bool
+        ensures quiet { self.old.stage ≡ StageInFrame → self.old.context.role ≡ Receiver → result ≡ true
+            → Samples self.old self.new level (nothing (is_receiving self.old)) }
+        ensures shown { result ≡ true → ShowsSame self.old self.new }
+        ensures same { result ≡ false → self.new ≡ self.old }
+    {
+        if !self.next.is_recessive() {
+            return false;
+        }
+        let before = self.shift;
+        match receive(&mut self.shift, Level::Recessive, level) {
+            AfterBit::InPiece(_) => {
+                self.next = self.acknowledgement();
+                true
+            }
+            AfterBit::Ended(_) => {
+                self.shift = before;
+                false
+            }
+        }
+    }
+
+    /// A transmitter's bit that is seen as driven, where the reader doesn't take it at once.
+    #[inline(never)]
+    fn transmit_quietly(&mut self) -> bool
+        ensures quiet { self.old.stage ≡ StageInFrame → self.old.context.role ≡ Transmitter → result ≡ true
+            → Samples self.old self.new self.old.next (nothing (is_receiving self.old)) }
+        ensures shown { result ≡ true → ShowsSame self.old self.new }
+        ensures same { result ≡ false → self.new ≡ self.old }
+    {
+        let before = self.shift;
+        let level = self.next;
+        let after = match &self.context.held {
+            Some(request) => {
+                transmit(
+                    &mut self.shift,
+                    request,
+                    self.context.self_test,
+                    false,
+                    level,
+                    level,
+                )
+            }
+            None => return false,
+        };
+        match after {
+            AfterBit::InPiece(_) => {
+                self.next = self.shift.next_of(&self.body);
+                true
+            }
+            AfterBit::Ended(_) => {
+                self.shift = before;
+                false
+            }
+        }
+    }
+
+    /// A bit outside a frame, where the bus isn't idle.
+    #[inline(never)]
+    fn other_bit_quietly(&mut self, level: Level) -> bool
+        ensures quiet { result ≡ true → Samples self.old self.new level (nothing (is_receiving self.old)) }
+        ensures shown { result ≡ true → ShowsSame self.old self.new }
+        ensures same { result ≡ false → self.new ≡ self.old }
+    {
+        match self.quiet_stage(level) {
+            Some(stage) => {
+                let phase = stage.phase();
+                if phase != self.stage.phase() {
+                    return false;
+                }
+                self.stage = stage;
+                self.next = self.next_level();
+                true
+            }
+            None => false,
+        }
+    }
+
+    /// The stage to which a bit outside a frame leads, where its piece goes on and no counter may step.
+    fn quiet_stage(&self, level: Level) -> Option<Stage>
+        ensures { (stage : Stage) → result ≡ Some stage → TurnsQuietly self.now level stage }
+    {
+        match self.stage {
+            Stage::InReset => Some(Stage::InReset),
+            Stage::Integrating { left, run } => {
+                if run == 10 {
+                    None
+                } else {
+                    after_integration_bit(left, run, level).stage()
+                }
+            }
+            Stage::InFlag { bits, last } => {
+                if self.context.ack_step_owed {
+                    None
+                } else {
+                    self.after_flag_bit(bits, last, level).stage()
+                }
+            }
+            Stage::InDelimiter {
+                dominant,
+                recessive,
+            } => {
+                if may_count(dominant, recessive, level) {
+                    None
+                } else {
+                    after_delimiter_bit(dominant, recessive, level).stage()
+                }
+            }
+            Stage::InInterframeSpace { bits } => after_interframe_bit(
+                bits,
+                self.context.owes_suspension(),
+                level,
+            ).stage(),
+            Stage::BusIdle | Stage::InFrame | Stage::LastEofBit => None,
+        }
+    }
+}
+
+/// Whether a dominant level after a flag may be counted: the first one, or an eighth.
+fn may_count(dominant: u8, recessive: u8, level: Level) -> bool
+    ensures { result ≡ (not (is_recessive level) && ((dominant == 0 && recessive == 0) || (recessive == 0 && dominant == 7))) }
+{
+    !level.is_recessive() && (is_first(dominant, recessive) || is_eighth(dominant, recessive))
+}
