@@ -1,6 +1,6 @@
 //! [`Figure`]: what can be timed.
 
-use super::{node, shift};
+use super::{contending, faults, hearing, idle, node, sending, shift, stream};
 use std::alloc::Global;
 
 /// What can be timed.
@@ -8,12 +8,33 @@ use std::alloc::Global;
 pub enum Figure {
     /// A reader is given lines, one level at a time.
     Shift,
-    /// Three nodes on one wire send frames to each other.
+    /// Three nodes on one wire send frames to each other, by `sample` alone.
     Node,
+    /// Eight nodes on an idle bus.
+    Idle,
+    /// A node receives frames.
+    Hearing,
+    /// A node sends frames.
+    Sending,
+    /// Eight nodes find errors.
+    Faults,
+    /// Eight nodes contend.
+    Contending,
+    /// A sender and a receiver.
+    Stream,
 }
 
 /// Every figure, in the order in which `all` tells them.
-pub const FIGURES: [Figure; 2] = [Figure::Shift, Figure::Node];
+pub const FIGURES: [Figure; 8] = [
+    Figure::Shift,
+    Figure::Node,
+    Figure::Idle,
+    Figure::Hearing,
+    Figure::Sending,
+    Figure::Faults,
+    Figure::Contending,
+    Figure::Stream,
+];
 
 impl Figure {
     /// The figure of this name.
@@ -21,6 +42,12 @@ impl Figure {
         match name {
             "shift" => Some(Figure::Shift),
             "node" => Some(Figure::Node),
+            "idle" => Some(Figure::Idle),
+            "hearing" => Some(Figure::Hearing),
+            "sending" => Some(Figure::Sending),
+            "faults" => Some(Figure::Faults),
+            "contending" => Some(Figure::Contending),
+            "stream" => Some(Figure::Stream),
             _ => None,
         }
     }
@@ -31,6 +58,12 @@ impl Figure {
         match self {
             Figure::Shift => shift::told(alloc, count),
             Figure::Node => node::told(alloc, count),
+            Figure::Idle => idle::told(alloc, count),
+            Figure::Hearing => hearing::told(alloc, count),
+            Figure::Sending => sending::told(alloc, count),
+            Figure::Faults => faults::told(alloc, count),
+            Figure::Contending => contending::told(alloc, count),
+            Figure::Stream => stream::told(alloc, count),
         }
     }
 }

@@ -4,10 +4,17 @@
 //! Each figure is a file of its own, with a variant in [`Figure`].
 #![tactic(auto)]
 
+mod contending;
+mod faults;
 mod figure;
+mod hearing;
+mod idle;
 mod node;
+mod sending;
 mod shift;
+mod stream;
 mod tally;
+mod wire;
 mod worked;
 
 use figure::{FIGURES, Figure};

@@ -42,6 +42,11 @@ impl Tally {
         self.mix(u64::from(events.receiving));
     }
 
+    /// Counts a bit in which nothing happened.
+    pub fn pass(&mut self) {
+        self.samples = self.samples.wrapping_add(1);
+    }
+
     /// Goes into the checksum.
     fn mix(&mut self, number: u64) {
         self.checksum = self.checksum.wrapping_mul(31).wrapping_add(number);

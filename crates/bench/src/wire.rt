@@ -1,0 +1,107 @@
+//! [`Wire`]: nodes on one wire, each bit taken the quick way where nothing happens.
+
+use super::tally::Tally;
+use can_bits::Level;
+use can_frame::{Filter, Frame};
+use can_node::{Config, Node, Request};
+use std::alloc::Global;
+
+/// The filter that passes every frame.
+const EVERY_FRAME: Filter = Filter {
+    single: true,
+    acr: [0; 4],
+    amr: [255; 4],
+};
+
+/// Nodes on one wire, the level of its next bit, and what the nodes were told.
+#[derive(Drop)]
+pub struct Wire {
+    nodes: Vec<Node>,
+    level: Level,
+    pub tally: Tally,
+}
+
+impl Wire {
+    /// So many started nodes, in self test or not. Nothing where memory was refused.
+    pub fn new(alloc: Global, count: usize, self_test: bool) -> Option<Wire> {
+        let mut nodes = Vec::with_capacity(alloc, count).ok()?;
+        for _ in 0..count {
+            let mut node = Node::new();
+            node.start(Config {
+                filter: EVERY_FRAME,
+                self_test,
+                listen: false,
+            });
+            nodes.push(node).ok()?;
+        }
+        Some(Wire {
+            nodes,
+            level: Level::Recessive,
+            tally: Tally::new(),
+        })
+    }
+
+    /// The bits in which started nodes wait for the bus.
+    pub fn integrate(&mut self) {
+        for _ in 0..11 {
+            self.bit(Level::Recessive);
+        }
+    }
+
+    /// One bit, in which another one beside the nodes drives this level.
+    pub fn bit(&mut self, other: Level) {
+        let level = if other.is_recessive() {
+            self.level
+        } else {
+            other
+        };
+        let mut next = Level::Recessive;
+        for node in self.nodes.iter_mut() {
+            if node.sample_quietly(level) {
+                self.tally.pass();
+            } else {
+                let events = node.sample(level);
+                self.tally.add(&events);
+            }
+            if !node.drive().is_recessive() {
+                next = Level::Dominant;
+            }
+        }
+        self.level = next;
+    }
+
+    /// Gives each node that holds no request one for this frame, its identifier raised by the node's number.
+    pub fn ask(&mut self, identifier: u32, data: &[u8]) {
+        let mut next = Level::Recessive;
+        let mut number = 0u32;
+        for node in self.nodes.iter_mut() {
+            let raised = identifier.wrapping_add(number) % 0x2000_0000;
+            if let Ok(frame) = Frame::new(true, raised, false, 8, data) {
+                let _ = node.request(Request {
+                    frame,
+                    single_shot: false,
+                    self_receive: false,
+                });
+            }
+            if !node.drive().is_recessive() {
+                next = Level::Dominant;
+            }
+            number = number.wrapping_add(1);
+        }
+        self.level = next;
+    }
+
+    /// The same for the first node alone.
+    pub fn ask_first(&mut self, frame: &Frame) {
+        if let Some(node) = self.nodes.get_mut(0) {
+            let _ = node.request(Request {
+                frame: frame.copy(),
+                single_shot: false,
+                self_receive: false,
+            });
+            if !node.drive().is_recessive() {
+                self.level = Level::Dominant;
+            }
+        }
+    }
+}
