@@ -7,13 +7,12 @@ use Rattle.can_bits.specs.declared.level.Level.{Level}
 use Rattle.can_bits.specs.declared.level.Level.TheVariants.{Dominant, Recessive}
 use Rattle.can_bits.specs.Body.{sent_body}
 
--- how many levels the arbitration field has, by the format: through IDE in a standard frame, through RTR in an extended
--- one
+-- how many levels the arbitration field has, by the format: up to IDE in a standard frame, up to RTR in an extended one
 abbrev pub field_count : Bool → ℕ
 field_count false = 13
 field_count true = 32
 
--- the arbitration field of a frame: what its transmitter sends after the start of frame
+-- the arbitration field of a frame: the first levels that its transmitter sends after SOF, without stuff bits
 abbrev pub arbitration_field : FrameValue → List Level
 arbitration_field f = take (field_count f.ext) (drop 1 (sent_body f))
 

@@ -14,7 +14,7 @@ use Rattle.can_node.specs.Pieces.{Place, sent_at}
 use Rattle.can_node.specs.Pieces.Place.{AtReset, AtIntegration, AtIdle, AfterSof, AtLastEofBit, AtFlag, AtDelimiter, AtInterframeSpace}
 use Rattle.can_node.specs.Frames.{Acknowledges, SentPart}
 
--- the next level of the line that a transmitter sends, of which these bits came
+-- the next level of the line that a transmitter sends, of which these bits came (Bosch CAN 2.0 part A section 3.1.1)
 pub record TransmitsNext (request : Request) (bits : List Bit) (x : Level) : Type 0 where
   pub check : List Level
   pub part : List Level
@@ -22,17 +22,18 @@ pub record TransmitsNext (request : Request) (bits : List Bit) (x : Level) : Typ
   pub is_part : SentPart request.frame check part
   pub whole : part ++ tail Recessive ≡ driven_of bits ++ x ∷ rest
 
--- what a node drives within a frame: the next level of its line, or its answer
+-- what a node drives in a frame: the next level of its line, or its acknowledgement
 abbrev pub FrameDrives : Role → ContextValue → List Bit → Level → Type 0
 FrameDrives Transmitter c bits x = (request : Request) × (c.held ≡ Some request) × TransmitsNext request bits x
 FrameDrives Receiver c bits x = Acknowledges c.listen (seen_of bits) x
 
--- what it drives where the bus is idle: the start of a frame, where one is to be sent
+-- what it drives where the bus is idle: SOF, where a frame is to be sent
 abbrev pub IdleDrives : Option Request → Level → Type 0
 IdleDrives None x = x ≡ Recessive
 IdleDrives (Some request) x = x ≡ Dominant
 
--- what it drives in the next bit, where these bits of the piece at this place came
+-- what it drives in the next bit, where these bits of the piece at this place came; outside frames and flags recessive
+-- (part A sections 3.1.3 to 3.1.5)
 abbrev pub Drives : ContextValue → Place → List Bit → Level → Type 0
 Drives c AtReset bits x = x ≡ Recessive
 Drives c AtIntegration bits x = x ≡ Recessive
@@ -44,7 +45,7 @@ Drives c AtFlag bits x = x ≡ flag_level c
 Drives c AtDelimiter bits x = x ≡ Recessive
 Drives c AtInterframeSpace bits x = x ≡ Recessive
 
--- the phase of the next bit
+-- the phase of the next bit; the first three bits of interframe space are intermission (part A section 3.1.5)
 abbrev pub phase_at : Place → List Bit → Phase
 phase_at AtReset bits = Reset
 phase_at AtIntegration bits = Waiting

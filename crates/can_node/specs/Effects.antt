@@ -1,4 +1,5 @@
--- What a request, an abort, a start, a stop, bus-off and the end of a piece change in the context.
+-- What a request, an abort, a start, a stop, bus-off and the end of a piece change in the context. "Rule n" is the rule
+-- of that number of Bosch CAN 2.0 part A section 7, "Fault confinement".
 use Rattle.std.specs.Prelude.{◌-◌, ◌&&◌, ◌||◌, not, Bool, true, false, if◌then◌else◌, Option, Some, None, List, [], ◌∷◌, ◌++◌}
 use Rattle.can_node.specs.declared.cause.Cause.{Cause}
 use Rattle.can_node.specs.declared.cause.Cause.TheVariants.{Bit as BitError, Stuff as StuffError, Form as FormError, Crc as CheckError, Ack as AckError}
@@ -19,17 +20,18 @@ use Rattle.can_node.specs.Record.{Entry}
 use Rattle.can_node.specs.Record.Entry.{Start, Stop, OneBit, Send, Abort, BusOff}
 use Rattle.can_node.specs.Counting.{more_rec, more_tec, more_by, unless_listening, drop_failed, at_bit}
 
--- ---- entries other than bits
+-- ---- entries that are no bits
 
--- a request that comes while one is held changes nothing
+-- a request that comes while one is held changes nothing (this project's own rule)
 abbrev pub keep_first : Option Request → Request → Option Request
 keep_first None request = Some request
 keep_first (Some held) request = Some held
 
+-- a request
 abbrev pub with_send : Request → ContextValue → ContextValue
 with_send request c = record c { held = keep_first c.held request }
 
--- an own frame is going out: a request is in progress
+-- a request is in progress: its frame is going out, and SOF has come (this project's own rule)
 abbrev pub is_in_progress : ContextValue → Place → Bool
 is_in_progress c AtIdle = is_transmitter c.role
 is_in_progress c AfterSof = is_transmitter c.role
@@ -40,27 +42,27 @@ is_in_progress c AtFlag = false
 is_in_progress c AtDelimiter = false
 is_in_progress c AtInterframeSpace = false
 
--- an abort marks the request in progress, and drops any other
+-- an abort marks a request in progress, and drops any other (SJA1000 data sheet, 6.4.4, abort transmission)
 abbrev pub with_abort : Place → ContextValue → ContextValue
 with_abort place c = if is_in_progress c place then record c { aborted = true } else record c { held = None }
 
--- while bus-off stands the waiting of a node that doesn't only listen begins anew
+-- while bus-off stands its count of 128 begins anew, unless the node only listens (this project's own rule)
 abbrev pub recounted : ContextValue → ContextValue
 recounted c = if c.off && not c.listen then record c { tec = 127; rec = 0 } else c
 
--- a start takes the configuration
+-- a start takes the configuration (SJA1000 data sheet, 6.4.3)
 abbrev pub with_start : Config → ContextValue → ContextValue
 with_start config c = recounted (record c { listen = config.listen; self_test = config.self_test })
 
--- a stop drops the request and keeps counters and role
+-- a stop drops the request, and keeps counters and role (this project's own rule)
 abbrev pub with_stop : ContextValue → ContextValue
 with_stop c = record c { held = None; aborted = false; ack_step_owed = false }
 
--- bus-off drops the request and sets the counters to 127 and 0
+-- bus-off (rule 10) drops the request, and sets TEC to 127 and REC to 0 (SJA1000 data sheet, 6.4.11 and 6.4.12)
 abbrev pub with_off : ContextValue → ContextValue
 with_off c = record (with_stop c) { tec = 127; rec = 0; off = true }
 
--- the context after these entries of one piece, of which these bits were done before
+-- the context after these entries of one piece; `done` are the bits of the piece before them
 abbrev pub along : ContextValue → Place → List Bit → List Entry → ContextValue
 along c place done [] = c
 along c place done (OneBit b ∷ entries) = along (at_bit c place done b) place (done ++ b ∷ []) entries
@@ -72,8 +74,8 @@ along c place done (BusOff ∷ entries) = along c place done entries
 
 -- ---- the end of a piece
 
--- a transmitter's fault: eight, but for a stuff bit overdriven before its remote bit, and for a frame that a passive
--- transmitter gets no acknowledgement for: that step is owed
+-- rule 3: a transmitter's error adds 8 to TEC. Exception 2: a stuff error in the arbitration field before RTR adds
+-- nothing. Exception 1: for a frame that isn't acknowledged an error passive transmitter owes the step
 abbrev pub transmitter_fault : Cause → ContextValue → ContextValue
 transmitter_fault BitError c = more_tec 8 c
 transmitter_fault StuffError c = c
@@ -81,14 +83,16 @@ transmitter_fault FormError c = more_tec 8 c
 transmitter_fault CheckError c = more_tec 8 c
 transmitter_fault AckError c = if is_passive c then record c { ack_step_owed = true } else more_tec 8 c
 
--- the own step of a fault, by where it was
+-- the step of a fault, by where it was. In a frame: rule 3 for its transmitter, rule 1 for a receiver. In an active
+-- error flag or overload flag: rules 4 and 5. In a delimiter: rules 3 and 1
 abbrev pub fault_step : FaultSite → Cause → ContextValue → ContextValue
 fault_step InTransmission cause c = drop_failed c.held (transmitter_fault cause c)
 fault_step InReception cause c = unless_listening c (more_rec 1 c)
 fault_step InFlag cause c = more_by c.role 8 8 c
 fault_step InDelimiter cause c = unless_listening c (more_by c.role 8 1 c)
 
--- the own step of a piece, beside those of its bits
+-- the step of a piece's end, beside those of its bits. The end of bus integration ends bus-off, unless the node only
+-- listens (rule 12); a frame that was sent takes one from TEC (rule 7), and its request is done
 abbrev pub own_step : Piece → ContextValue → ContextValue
 own_step Integration c = if c.off && not c.listen then record c { tec = 0; rec = 0; off = false } else c
 own_step (Transmission request) c = record c { tec = c.tec - 1; held = None; aborted = false }
@@ -102,11 +106,12 @@ own_step InterframeSpace c = c
 own_step InterframeSpaceWithSof c = c
 own_step InterframeSpaceBroken c = c
 
--- an error flag is active where both counters were below 128 before the fault's own step
+-- an error flag is active where both counters were below 128 right before the fault's own step (rule 9)
 abbrev pub error_flag : ContextValue → FlagKind
 error_flag c = if is_passive c then PassiveError else ActiveError
 
--- the kind of the flag that follows a piece: after a fault an error flag, else an overload flag
+-- the flag that follows a piece: after a fault an error flag (part A section 6.2), else an overload flag (section
+-- 3.1.4)
 abbrev pub flag_after : Piece → ContextValue → FlagKind
 flag_after (Fault site cause segment) c = error_flag c
 flag_after Integration c = Overload
@@ -120,11 +125,12 @@ flag_after InterframeSpace c = Overload
 flag_after InterframeSpaceWithSof c = Overload
 flag_after InterframeSpaceBroken c = Overload
 
--- where a frame starts in a pause the holder of a request is transmitter, unless it owes suspension or only listens
+-- where SOF comes in interframe space the holder of a request is transmitter, unless it owes suspend transmission or
+-- only listens (ISO 11898-1; part A section 3.1.5)
 abbrev pub role_after_sof : ContextValue → Role
 role_after_sof c = if is_held c.held && not (c.listen || owes_suspension c) then Transmitter else Receiver
 
--- what the next place sets: the kind of its flag, or the role
+-- what the next place sets: the flag that is due, or the role, which is receiver on an idle bus (part A section 3.2)
 abbrev pub entering : Place → Piece → ContextValue → ContextValue → ContextValue
 entering AtFlag piece before c = record c { flag = flag_after piece before }
 entering AtIdle piece before c = record c { role = Receiver }
@@ -135,7 +141,7 @@ entering AtLastEofBit piece before c = c
 entering AtDelimiter piece before c = c
 entering AtInterframeSpace piece before c = c
 
--- the context after a piece, from the one after all the steps of its bits
+-- the context after a piece, from the one after the steps of its bits
 abbrev pub closed : Piece → Place → ContextValue → ContextValue
 closed piece next c = entering next piece c (own_step piece c)
 

@@ -1,4 +1,4 @@
--- What a bit brings.
+-- What a bit tells.
 use Rattle.std.specs.Prelude.{◌&&◌, not, ℕ, Bool, true, false, nat_le, if◌then◌else◌, Option, Some, None, List, ◌∷◌}
 use Rattle.can_frame.specs.Frame.{FrameValue}
 use Rattle.can_bits.specs.declared.level.Level.{Level}
@@ -28,12 +28,12 @@ abbrev pub stepped : Step → ContextValue → Place → List Bit → Bit → Co
 stepped Within c place done b = at_bit c place done b
 stepped (Finishes piece next) c place done b = closed piece next (at_bit c place done b)
 
--- the frame that is valid from this bit on
+-- the frame that is valid from this bit on (Bosch CAN 2.0 part A section 4)
 abbrev pub received_in : Step → Option FrameValue
 received_in Within = None
 received_in (Finishes piece next) = received_by piece
 
--- whether a frame was sent
+-- whether an own frame was sent with this piece, and with this bit
 abbrev pub sends_by : Piece → Bool
 sends_by (Transmission request) = true
 sends_by Integration = false
@@ -51,7 +51,7 @@ abbrev pub sends_in : Step → Bool
 sends_in Within = false
 sends_in (Finishes piece next) = sends_by piece
 
--- cause and segment of a fault
+-- the cause of a fault and its segment (SJA1000 data sheet, 6.4.9, error code capture)
 abbrev pub fault_by : Piece → Option (Cause × Segment)
 fault_by (Fault site cause segment) = Some (cause, segment)
 fault_by (Transmission request) = None
@@ -69,7 +69,8 @@ abbrev pub fault_in : Step → Option (Cause × Segment)
 fault_in Within = None
 fault_in (Finishes piece next) = fault_by piece
 
--- a request is sent, or it was held before the bit and is no more; one that bus-off takes along doesn't end
+-- how a request ended: it is sent, or it was held before the bit and is no more. For one that bus-off drops nothing is
+-- told (this project's own rule)
 abbrev pub ended_in : Step → ContextValue → ContextValue → Option Outcome
 ended_in step before now =
     if nat_le 256 now.tec then None
@@ -82,7 +83,7 @@ abbrev pub lost_as : Role → ContextValue → List Level → Bit → Option ℕ
 lost_as Transmitter c l b = lost_by c.held l b.driven b.seen
 lost_as Receiver c l b = None
 
--- the place code where arbitration is lost in this bit
+-- the place code where arbitration is lost in this bit (SJA1000 data sheet, 6.4.8, arbitration lost capture)
 abbrev pub lost_in : ContextValue → Place → List Bit → Bit → Option ℕ
 lost_in c AtIdle done b = lost_as c.role c (seen_of done) b
 lost_in c AfterSof done b = lost_as c.role c (Dominant ∷ seen_of done) b
@@ -93,7 +94,8 @@ lost_in c AtFlag done b = None
 lost_in c AtDelimiter done b = None
 lost_in c AtInterframeSpace done b = None
 
--- all that the bit tells
+-- all that a bit tells. The role is that after the bit; bus-off comes where TEC has come to 256 (Bosch CAN 2.0 part A
+-- section 7, rule 10), and is over where it stood before the bit and stands no more (rule 12)
 abbrev pub events_of : Step → ContextValue → Place → List Bit → Bit → BitEvents
 events_of step c place done b =
     let now = stepped step c place done b in

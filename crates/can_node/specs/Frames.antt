@@ -1,4 +1,5 @@
--- The bits of a frame as its receiver and its transmitter have them (Bosch CAN 2.0 part A sections 3 to 6).
+-- The bits of a frame as its receiver and its transmitter have them (Bosch CAN 2.0 part A sections 3.1.1, 3.1.2 and 6).
+-- l are the levels of the frame that a receiver saw before these bits.
 use Rattle.std.specs.Prelude.{◌≡◌, ◌≢◌, ◌+◌, ◌≤◌, ℕ, Bool, true, false, Some, None, IsTrue, IsFalse, List, [], ◌∷◌, ◌++◌, length}
 use Rattle.can_frame.specs.Frame.{FrameValue}
 use Rattle.can_bits.specs.declared.level.Level.{Level}
@@ -21,8 +22,10 @@ use Rattle.can_node.specs.Pieces.Place.{AtLastEofBit, AtFlag, AtInterframeSpace}
 use Rattle.can_node.specs.declared.fault_site.FaultSite.TheVariants.{InTransmission, InReception}
 use Rattle.can_node.specs.Pieces.Piece.{Reception, Transmission, Fault}
 
--- what a receiver drives after these levels: dominant in the acknowledgement slot of a line whose check sequence is
--- right, and there alone; a node that only listens drives recessive
+-- ---- the ACK slot
+
+-- what a receiver drives after these levels: dominant in the ACK slot of a line whose CRC sequence is right, and there
+-- alone (part A section 3.1.1, "ACK field"); a node that only listens drives recessive (SJA1000 data sheet, 6.4.3)
 abbrev pub Acknowledges : Bool → List Level → Level → Type 0
 Acknowledges true l x = x ≡ Recessive
 Acknowledges false l Dominant = IsAckDue l
@@ -30,31 +33,42 @@ Acknowledges false l Recessive = IsAckDue l → ⊥
 
 -- a receiver that has seen these levels drives so in each of these bits
 abbrev pub AllAcknowledge : Bool → List Level → List Bit → Type 0
-AllAcknowledge listen l bits = (before after : List Bit) (b : Bit) → bits ≡ before ++ b ∷ after → Acknowledges listen (l ++ seen_of before) b.driven
+AllAcknowledge listen l bits =
+    (before after : List Bit) (b : Bit) → bits ≡ before ++ b ∷ after →
+    Acknowledges listen (l ++ seen_of before) b.driven
 
--- the level in the acknowledgement slot: dominant, or where no acknowledgement is needed either one
+-- the level in the ACK slot: dominant, or where no acknowledgement is needed either one (self test: SJA1000 data sheet,
+-- 6.4.3; that a node which only listens receives such frames is this project's own rule)
 abbrev pub AckFits : Bool → Level → Type 0
 AckFits true ack = Unit {0}
 AckFits false ack = ack ≡ Dominant
 
--- some line begins with these levels and has at least two more: the next one is before the seventh of the end of frame
+-- ---- a receiver
+
+-- some line begins with these levels and has at least two more: the next one is before the seventh bit of EOF
 pub record IsWithin (l : List Level) : Type 0 where
   pub begun : Begins l
   pub long : 2 ≤ length begun.rest
 
--- what is wrong with the last of these bits for a receiver that saw the levels l before them
+-- what is wrong with the last of these bits for a receiver (part A section 6.1)
 pub data Breaks (l : List Level) : List Bit → Cause → Type 0 where
-  -- no line goes on so, within the stuffed part
-  stuff : {bits : List Bit} (before : List Bit) (last : Bit) → bits ≡ before ++ last ∷ [] → (IsPastPart (l ++ seen_of before) → ⊥) → (Begins (l ++ seen_of bits) → ⊥) → Breaks l bits StuffError
-  -- nor so, after it
-  form : {bits : List Bit} (before : List Bit) (last : Bit) → bits ≡ before ++ last ∷ [] → IsPastPart (l ++ seen_of before) → (Begins (l ++ seen_of bits) → ⊥) → Breaks l bits FormError
-  -- the acknowledgement delimiter after a wrong check sequence
-  check : {bits : List Bit} (before : List Bit) → bits ≡ before ++ recessive_bit Recessive ∷ [] → EndsInWrongCheck (l ++ seen_of before) → Breaks l bits CheckError
-  -- its own acknowledgement isn't seen
-  own_ack : {bits : List Bit} (before : List Bit) → bits ≡ before ++ dominant_bit Recessive ∷ [] → Breaks l bits BitError
+  -- stuff error: no line goes on with it, in the stuffed part
+  stuff : {bits : List Bit} (before : List Bit) (last : Bit) → bits ≡ before ++ last ∷ [] →
+      (IsPastPart (l ++ seen_of before) → ⊥) → (Begins (l ++ seen_of bits) → ⊥) → Breaks l bits StuffError
+  -- form error: the same after the stuffed part
+  form : {bits : List Bit} (before : List Bit) (last : Bit) → bits ≡ before ++ last ∷ [] →
+      IsPastPart (l ++ seen_of before) → (Begins (l ++ seen_of bits) → ⊥) → Breaks l bits FormError
+  -- CRC error: it is the ACK delimiter after a wrong CRC sequence (part A section 6.2)
+  check : {bits : List Bit} (before : List Bit) →
+      bits ≡ before ++ recessive_bit Recessive ∷ [] → EndsInWrongCheck (l ++ seen_of before) → Breaks l bits CheckError
+  -- bit error: its own acknowledgement isn't seen (this project's own rule)
+  own_ack : {bits : List Bit} (before : List Bit) →
+      bits ≡ before ++ dominant_bit Recessive ∷ [] → Breaks l bits BitError
 
--- a receiver's fault: the shortest list of a kind above, before the seventh bit of the end of frame
-pub record BreaksOff (listen : Bool) (l : List Level) (bits : List Bit) (cause : Cause) (segment : Segment) : Type 0 where
+-- a receiver's fault: the shortest list of a kind above, before the seventh bit of EOF; with the segment of its last
+-- bit
+pub record BreaksOff (listen : Bool) (l : List Level) (bits : List Bit) (cause : Cause) (segment : Segment) :
+    Type 0 where
   pub answers : AllAcknowledge listen l bits
   pub before : List Bit
   pub last : Bit
@@ -65,20 +79,33 @@ pub record BreaksOff (listen : Bool) (l : List Level) (bits : List Bit) (cause :
   pub stuff_bit : Bool
   pub site : IsNext (l ++ seen_of before) segment stuff_bit
 
--- a receiver's piece, after the levels l of the frame
+-- a received frame: its levels, with one recessive level more, are a line of it with a right CRC sequence, and are
+-- acknowledged. So the last of them is the sixth bit of EOF, with which the frame is valid (part A section 4)
+pub record IsReception (listen : Bool) (l : List Level) (bits : List Bit) (f : FrameValue) : Type 0 where
+  pub answers : AllAcknowledge listen l bits
+  -- body and CRC sequence of the line, and the level in its ACK slot
+  pub body : List Level
+  pub crc : List Level
+  pub ack : Level
+  pub line : Line f body crc ack ((l ++ seen_of bits) ++ Recessive ∷ [])
+  pub right : Crc body crc
+  pub fits : AckFits listen ack
+
+-- a receiver's piece, and the place after it
 pub data Receives (listen : Bool) (l : List Level) : List Bit → Piece → Place → Type 0 where
-  -- all of a line with a right check sequence but its last level
-  reception : {bits : List Bit} {f : FrameValue} (b c : List Level) (ack : Level) →
-      AllAcknowledge listen l bits → Line f b c ack ((l ++ seen_of bits) ++ Recessive ∷ []) → Crc b c → AckFits listen ack → Receives listen l bits (Reception f) AtLastEofBit
+  reception : {bits : List Bit} {f : FrameValue} → IsReception listen l bits f →
+      Receives listen l bits (Reception f) AtLastEofBit
   broken : {bits : List Bit} {cause : Cause} {segment : Segment} →
       BreaksOff listen l bits cause segment → Receives listen l bits (Fault InReception cause segment) AtFlag
 
--- part is the stuffed part of the line that a transmitter of f sends, whose check sequence is c
+-- ---- a transmitter
+
+-- part is the stuffed part of the line that a transmitter of f sends, and c its CRC sequence
 pub record SentPart (f : FrameValue) (c part : List Level) : Type 0 where
   pub is_part : StuffedPart f (sent_body f) c part
   pub right : Crc (sent_body f) c
 
--- the bits are a front of the sent line, all seen as driven but the acknowledgement slot, which is acknowledged
+-- the bits are a front of the sent line, all seen as driven but the ACK slot, which is acknowledged
 pub record GoesWell (self_test : Bool) (part : List Level) (bits : List Bit) : Type 0 where
   pub ack : Level
   pub fits : AckFits self_test ack
@@ -87,28 +114,70 @@ pub record GoesWell (self_test : Bool) (part : List Level) (bits : List Bit) : T
   pub driven : part ++ tail Recessive ≡ driven_of bits ++ rest
   pub seen : part ++ tail ack ≡ seen_of bits ++ others
 
--- what is wrong with this bit for a transmitter whose line went well before it
+-- what is wrong with this bit for a transmitter whose line went well before it (part A section 6.1)
 pub data Fails (self_test ext : Bool) (part : List Level) (before : List Bit) : Bit → Cause → Type 0 where
-  -- its frame isn't acknowledged
-  no_ack : self_test ≡ false → length before ≡ length part + 1 → Fails self_test ext part before (recessive_bit Recessive) AckError
-  -- a recessive stuff bit before its remote bit is seen dominant
-  stuff_bit : IsTrue (is_early_stuff ext (seen_of before)) → Fails self_test ext part before (recessive_bit Dominant) StuffError
-  -- a dominant level isn't seen
+  -- ACK error: nobody acknowledges its frame
+  no_ack : self_test ≡ false → length before ≡ length part + 1 →
+      Fails self_test ext part before (recessive_bit Recessive) AckError
+  -- stuff error: its recessive stuff bit before RTR is seen dominant (part A section 7, rule 3, exception 2)
+  stuff_bit : IsTrue (is_early_stuff ext (seen_of before)) →
+      Fails self_test ext part before (recessive_bit Dominant) StuffError
+  -- bit error: its dominant level isn't seen
   unseen : Fails self_test ext part before (dominant_bit Recessive) BitError
-  -- a recessive level is seen dominant, where that is neither an acknowledgement nor a loss of arbitration
-  overdriven : length before ≢ length part + 1 → IsFalse (is_early_stuff ext (seen_of before)) → place_code ext (seen_of before) ≡ None → Fails self_test ext part before (recessive_bit Dominant) BitError
+  -- bit error: its recessive level is seen dominant, where that is neither an acknowledgement nor lost arbitration
+  overdriven : length before ≢ length part + 1 → IsFalse (is_early_stuff ext (seen_of before)) →
+      place_code ext (seen_of before) ≡ None → Fails self_test ext part before (recessive_bit Dominant) BitError
 
--- a transmitter's piece, from the start of its frame on
+-- a frame that is sent: the whole sent line, seen as driven but in the ACK slot (part A sections 3.1.1 and 4)
+pub record IsSending (self_test : Bool) (request : Request) (bits : List Bit) : Type 0 where
+  pub crc : List Level
+  pub part : List Level
+  pub is_part : SentPart request.frame crc part
+  pub ack : Level
+  pub fits : AckFits self_test ack
+  pub driven : driven_of bits ≡ part ++ tail Recessive
+  pub seen : seen_of bits ≡ part ++ tail ack
+
+-- a transmitter's fault: a front of the sent line that goes well up to its last bit; with the segment of that bit
+pub record IsFailure (self_test : Bool) (request : Request) (bits : List Bit) (cause : Cause) (segment : Segment) :
+    Type 0 where
+  pub crc : List Level
+  pub part : List Level
+  pub is_part : SentPart request.frame crc part
+  pub before : List Bit
+  pub last : Bit
+  pub whole : bits ≡ before ++ last ∷ []
+  pub well : GoesWell self_test part before
+  -- the last bit is driven as the line has it
+  pub rest : List Level
+  pub driven : part ++ tail Recessive ≡ driven_of bits ++ rest
+  pub fails : Fails self_test request.frame.ext part before last cause
+  pub stuff_bit : Bool
+  pub site : IsNext (seen_of before) segment stuff_bit
+
+-- a front of the sent line goes well up to a bit in which arbitration is lost: there the transmitter drives recessive
+-- and sees dominant, in the arbitration field and at no stuff bit. It goes on as receiver of the same frame (part A
+-- section 3.1.1)
+pub record IsLoss (self_test : Bool) (request : Request) (bits : List Bit) (piece : Piece) (next : Place) : Type 0 where
+  pub crc : List Level
+  pub part : List Level
+  pub is_part : SentPart request.frame crc part
+  pub before : List Bit
+  pub more : List Bit
+  pub whole : bits ≡ before ++ recessive_bit Dominant ∷ more
+  pub well : GoesWell self_test part before
+  pub rest : List Level
+  pub driven : part ++ tail Recessive ≡ (driven_of before ++ Recessive ∷ []) ++ rest
+  pub code : ℕ
+  pub loses : place_code request.frame.ext (seen_of before) ≡ Some code
+  pub goes_on : Receives false (seen_of before ++ Dominant ∷ []) more piece next
+
+-- a transmitter's piece, from SOF on, and the place after it
 pub data Transmits (self_test : Bool) (request : Request) : List Bit → Piece → Place → Type 0 where
-  sending : {bits : List Bit} (c part : List Level) (ack : Level) →
-      SentPart request.frame c part → AckFits self_test ack → driven_of bits ≡ part ++ tail Recessive → seen_of bits ≡ part ++ tail ack →
+  sending : {bits : List Bit} → IsSending self_test request bits →
       Transmits self_test request bits (Transmission request) AtInterframeSpace
-  failed : {bits : List Bit} {cause : Cause} {segment : Segment} (c part rest : List Level) (before : List Bit) (last : Bit) (stuffed : Bool) →
-      SentPart request.frame c part → GoesWell self_test part before → bits ≡ before ++ last ∷ [] → part ++ tail Recessive ≡ driven_of bits ++ rest →
-      Fails self_test request.frame.ext part before last cause → IsNext (seen_of before) segment stuffed →
+  failed : {bits : List Bit} {cause : Cause} {segment : Segment} →
+      IsFailure self_test request bits cause segment →
       Transmits self_test request bits (Fault InTransmission cause segment) AtFlag
-  -- it loses arbitration where it drives recessive and sees dominant, and goes on as receiver
-  lost : {bits : List Bit} {piece : Piece} {next : Place} (c part rest : List Level) (before more : List Bit) (code : ℕ) →
-      SentPart request.frame c part → GoesWell self_test part before → bits ≡ before ++ recessive_bit Dominant ∷ more →
-      part ++ tail Recessive ≡ (driven_of before ++ Recessive ∷ []) ++ rest → place_code request.frame.ext (seen_of before) ≡ Some code →
-      Receives false (seen_of before ++ Dominant ∷ []) more piece next → Transmits self_test request bits piece next
+  lost : {bits : List Bit} {piece : Piece} {next : Place} →
+      IsLoss self_test request bits piece next → Transmits self_test request bits piece next

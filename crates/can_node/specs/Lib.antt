@@ -1,16 +1,26 @@
+-- ---- a record: what happened to a node
 pub mod Bits
-pub mod Context
+pub mod Record
+-- ---- the pieces of a record: what each is, where it may stand, what follows it
 pub mod Pieces
+pub mod Context
 pub mod Frames
 pub mod Table
-pub mod Record
+-- ---- what bits, other entries and the ends of pieces change
 pub mod Counting
 pub mod Effects
+-- ---- the cut of a record into pieces
+pub mod FinishedPieces
 pub mod Cut
-pub mod Events
+-- ---- what the cut says of the next bit, and what that bit tells
 pub mod Driving
 pub mod NextBit
-pub mod Machine
+pub mod Events
+-- ---- a node that stands at a record, and what its calls do
 pub mod Stands
+-- ---- frames that start together
 pub mod Contending
+-- ---- a record worked by hand
 pub mod WorkedReception
+-- ---- how the code keeps a cut: definitions of the private contracts alone
+pub mod Machine

@@ -1,16 +1,20 @@
--- The record of a node.
+-- The record of a node: what happened to it, in order (this project's own rule).
 use Rattle.std.specs.Prelude.{◌≡◌, List, [], ◌∷◌, ◌++◌}
 use Rattle.can_node.specs.declared.config.Config.{Config}
 use Rattle.can_node.specs.declared.request.Request.{Request}
 use Rattle.can_node.specs.Bits.{Bit}
 
--- what happened to a node: a start, a stop, a bit, a request, an abort that changed something, and bus-off
+-- what may happen to a node
 pub data Entry : Type 0 where
+  -- it leaves reset with this configuration, and enters it (SJA1000 data sheet, 6.4.3, reset mode)
   Start : Config → Entry
   Stop : Entry
+  -- one bit of the bus
   OneBit : Bit → Entry
+  -- a request to send a frame, and an abort that changed something (SJA1000 data sheet, 6.4.4)
   Send : Request → Entry
   Abort : Entry
+  -- it goes bus-off (Bosch CAN 2.0 part A section 7, rule 10)
   BusOff : Entry
 
 -- the bits among entries

@@ -80,16 +80,28 @@ unanswered = map agreed (part ++ Recessive ∷ [])
 -- seen as driven, and then no acknowledgement
 pub fails : Transmits false asked (unanswered ++ recessive_bit Recessive ∷ []) (Fault InTransmission AckError AckSlot) AtFlag
 fails =
-    failed zeros part (Recessive ∷ replicate 7 Recessive) unanswered (recessive_bit Recessive) false part_sent
+    failed
     (record {
-      ack = Dominant;
-      fits = refl;
-      rest = Recessive ∷ Recessive ∷ replicate 7 Recessive;
-      others = Dominant ∷ Recessive ∷ replicate 7 Recessive;
+      crc = zeros;
+      part = part;
+      is_part = part_sent;
+      before = unanswered;
+      last = recessive_bit Recessive;
+      whole = refl;
+      well = record {
+        ack = Dominant;
+        fits = refl;
+        rest = Recessive ∷ Recessive ∷ replicate 7 Recessive;
+        others = Dominant ∷ Recessive ∷ replicate 7 Recessive;
+        driven = refl;
+        seen = refl;
+      };
+      rest = Recessive ∷ replicate 7 Recessive;
       driven = refl;
-      seen = refl;
+      fails = no_ack refl refl;
+      stuff_bit = false;
+      site = after_part part (Recessive ∷ []) part_sent.is_part refl;
     })
-    refl refl (no_ack refl refl) (after_part part (Recessive ∷ []) part_sent.is_part refl)
 
 -- the context with the request, and so on to the end
 abbrev pub waiting : ContextValue

@@ -88,16 +88,28 @@ first_place = refl
 -- the node drives its start of frame, loses, and goes on as receiver
 loses : Transmits false asked (dominant_bit Dominant ∷ recessive_bits (replicate 5 Dominant)) (Fault InReception StuffError Id28To21) AtFlag
 loses =
-    lost check part (later ++ tail Recessive) (dominant_bit Dominant ∷ []) (recessive_bits (replicate 4 Dominant)) 0 part_sent
+    lost
     (record {
-      ack = Dominant;
-      fits = refl;
-      rest = Recessive ∷ (later ++ tail Recessive);
-      others = Recessive ∷ (later ++ tail Dominant);
+      crc = check;
+      part = part;
+      is_part = part_sent;
+      before = dominant_bit Dominant ∷ [];
+      more = recessive_bits (replicate 4 Dominant);
+      whole = refl;
+      well = record {
+        ack = Dominant;
+        fits = refl;
+        rest = Recessive ∷ (later ++ tail Recessive);
+        others = Recessive ∷ (later ++ tail Dominant);
+        driven = refl;
+        seen = refl;
+      };
+      rest = later ++ tail Recessive;
       driven = refl;
-      seen = refl;
+      code = 0;
+      loses = first_place;
+      goes_on = broken (sixth_breaks false (Dominant ∷ Dominant ∷ []) (replicate 3 Dominant) refl);
     })
-    refl refl first_place (broken (sixth_breaks false (Dominant ∷ Dominant ∷ []) (replicate 3 Dominant) refl))
 
 -- the context with the request
 abbrev waiting : ContextValue

@@ -69,16 +69,28 @@ rest_of (x ∷ l) = l
 -- a start of frame that isn't seen
 start_unseen : Transmits false asked (dominant_bit Recessive ∷ []) (Fault InTransmission BitError StartOfFrame) AtFlag
 start_unseen =
-    failed zeros part (rest_of (part ++ tail Recessive)) [] (dominant_bit Recessive) false part_sent
+    failed
     (record {
-      ack = Dominant;
-      fits = refl;
-      rest = part ++ tail Recessive;
-      others = part ++ tail Dominant;
+      crc = zeros;
+      part = part;
+      is_part = part_sent;
+      before = [];
+      last = dominant_bit Recessive;
+      whole = refl;
+      well = record {
+        ack = Dominant;
+        fits = refl;
+        rest = part ++ tail Recessive;
+        others = part ++ tail Dominant;
+        driven = refl;
+        seen = refl;
+      };
+      rest = rest_of (part ++ tail Recessive);
       driven = refl;
-      seen = refl;
+      fails = unseen;
+      stuff_bit = false;
+      site = first_next;
     })
-    refl refl unseen first_next
 
 -- with it a transmitter at 248 goes bus-off: counters 127 and 0, and its request is dropped
 goes_off : Move (record fresh { held = Some asked; tec = 248; rec = 5 }) AtIdle (OneBit (dominant_bit Recessive) ∷ BusOff ∷ [])

@@ -112,7 +112,16 @@ line_received {f = f} {b = b} {c = c} listen l u part ack h right fits e =
     ∙ ap (λ m. (m ++ ack ∷ replicate 7 Recessive) ++ Recessive ∷ []) e
     ∙ append_assoc (part ++ Recessive ∷ []) (ack ∷ replicate 7 Recessive) (Recessive ∷ [])
     ∙ append_assoc part (Recessive ∷ []) (ack ∷ replicate 8 Recessive) in
-    reception b c ack (quiet_before listen l u (slot ∷ later) due after) (record { part = part; is_part = h; whole = whole }) right fits
+    reception
+    (record {
+      answers = quiet_before listen l u (slot ∷ later) due after;
+      body = b;
+      crc = c;
+      ack = ack;
+      line = record { part = part; is_part = h; whole = whole };
+      right = right;
+      fits = fits;
+    })
 
 -- each line that is sent is received by a node that sends none
 pub sent_received : (c : ContextValue) (f : FrameValue) (l : List Level) → sent_at c AtIdle ≡ None → IsSentLine f l →

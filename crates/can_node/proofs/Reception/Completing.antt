@@ -125,6 +125,14 @@ receives_now listen l bits f inside answers right h =
           ∙ sym (append_assoc (line.part ++ Recessive ∷ []) (h.ack ∷ replicate 7 Recessive) (Recessive ∷ [])) in
           let same = same_from_push levels before some.1 Recessive whole in
           let P : List Level → Type 0 = λ m. Line f h.body h.check h.ack (levels ++ m) in
-          reception h.body h.check h.ack answers (subst P (rest ∙ ap (λ x. x ∷ []) same.1) line) h.right
-          (acknowledged listen l line.part bits h.ack (replicate 7 Recessive) line.is_part h.right inside answers right.answered same.0)
+          reception
+          (record {
+            answers = answers;
+            body = h.body;
+            crc = h.check;
+            ack = h.ack;
+            line = subst P (rest ∙ ap (λ x. x ∷ []) same.1) line;
+            right = h.right;
+            fits = acknowledged listen l line.part bits h.ack (replicate 7 Recessive) line.is_part h.right inside answers right.answered same.0;
+          })
     ]

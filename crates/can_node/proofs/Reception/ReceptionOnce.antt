@@ -5,7 +5,6 @@ use Rattle.can_frame.specs.Frame.{FrameValue}
 use Rattle.can_bits.specs.declared.level.Level.{Level}
 use Rattle.can_bits.specs.declared.level.Level.TheVariants.{Recessive}
 use Rattle.can_bits.specs.declared.segment.Segment.{Segment}
-use Rattle.can_bits.specs.Check.{Crc}
 use Rattle.can_bits.specs.Line.{Line}
 use Rattle.can_bits.specs.Segments.{IsNext}
 use Rattle.can_bits.proofs.Lists.{fronts, last_of}
@@ -15,65 +14,65 @@ use Rattle.can_node.specs.Bits.{Bit, seen_of}
 use Rattle.can_node.specs.Pieces.{Place, Piece}
 use Rattle.can_node.specs.declared.fault_site.FaultSite.TheVariants.{InReception}
 use Rattle.can_node.specs.Pieces.Piece.{Reception, Fault}
-use Rattle.can_node.specs.Frames.{AckFits, BreaksOff, Receives}
+use Rattle.can_node.specs.Frames.{BreaksOff, IsReception, Receives}
 use Rattle.can_node.specs.Frames.Receives.{reception, broken}
 use Rattle.can_node.proofs.Bits.Nexts.{IsNext-unique}
 use Rattle.can_node.proofs.Bits.Seen.{seen_split}
 use Rattle.can_node.proofs.Reception.ReceiverFaults.{breaks_at, wrong_once, line_not_wrong}
 
 -- of two receptions that begin alike neither is longer, and they are of one frame
-receptions_once : (l : List Level) (a b more : List Bit) (f g : FrameValue) (body c other d : List Level) (ack answer : Level) →
-    Line f body c ack ((l ++ seen_of a) ++ Recessive ∷ []) → Line g other d answer ((l ++ seen_of b) ++ Recessive ∷ []) → b ≡ a ++ more → (a ≡ b) × (f ≡ g)
-receptions_once l a b more f g body c other d ack answer h k e =
-    let P : List Level → Type 0 = λ m. Line g other d answer m in
+receptions_once : (listen : Bool) (l : List Level) (a b more : List Bit) (f g : FrameValue) →
+    IsReception listen l a f → IsReception listen l b g → b ≡ a ++ more → (a ≡ b) × (f ≡ g)
+receptions_once listen l a b more f g h k e =
+    let P : List Level → Type 0 = λ m. Line g k.body k.crc k.ack m in
     let split : (l ++ seen_of b) ++ Recessive ∷ [] ≡ (l ++ seen_of a) ++ (seen_of more ++ Recessive ∷ []) =
     ap (λ m. m ++ Recessive ∷ []) (seen_split l b a more e) ∙ append_assoc (l ++ seen_of a) (seen_of more) (Recessive ∷ []) in
-    let agree = lines_agree f g body c other d ack answer Recessive (l ++ seen_of a) (seen_of more ++ Recessive ∷ []) h (subst P split k) in
+    let agree = lines_agree f g h.body h.crc k.body k.crc h.ack k.ack Recessive (l ++ seen_of a) (seen_of more ++ Recessive ∷ []) h.line (subst P split k.line) in
     let count = agree.3 in
     let none : more ≡ [] = nil_from_length more
     (omega (arith, count, length-append (seen_of more) (Recessive ∷ []), length-map more (λ (x : Bit). x.seen))) in
     (sym (e ∙ ap (λ m. a ++ m) none ∙ append-nil a), agree.0)
 
 -- no front of a reception ends with a fault
-no_fault_in : (listen : Bool) (l : List Level) (a b more : List Bit) (f : FrameValue) (body c : List Level) (ack : Level) (cause : Cause) (segment : Segment) →
-    Line f body c ack ((l ++ seen_of a) ++ Recessive ∷ []) → Crc body c → AckFits listen ack → BreaksOff listen l b cause segment → a ≡ b ++ more → ⊥
-no_fault_in listen l a b more f body c ack cause segment line right fits k e =
-    let P : List Level → Type 0 = λ m. Line f body c ack m in
+no_fault_in : (listen : Bool) (l : List Level) (a b more : List Bit) (f : FrameValue) (cause : Cause) (segment : Segment) →
+    IsReception listen l a f → BreaksOff listen l b cause segment → a ≡ b ++ more → ⊥
+no_fault_in listen l a b more f cause segment h k e =
+    let P : List Level → Type 0 = λ m. Line f h.body h.crc h.ack m in
     let seen : List Level = l ++ seen_of k.before in
     let here : l ++ seen_of b ≡ seen ++ k.last.seen ∷ [] = seen_split l b k.before (k.last ∷ []) k.whole in
     let split : (l ++ seen_of a) ++ Recessive ∷ [] ≡ (seen ++ k.last.seen ∷ []) ++ (seen_of more ++ Recessive ∷ []) =
     ap (λ m. m ++ Recessive ∷ []) (seen_split l a b more e ∙ ap (λ m. m ++ seen_of more) here)
     ∙ append_assoc (seen ++ k.last.seen ∷ []) (seen_of more) (Recessive ∷ []) in
-    line_not_wrong listen seen k.last cause f body c ack (seen_of more ++ Recessive ∷ []) (subst P split line) right fits
+    line_not_wrong listen seen k.last cause f h.body h.crc h.ack (seen_of more ++ Recessive ∷ []) (subst P split h.line) h.right h.fits
     (breaks_at listen l k.before k.last b cause k.answers k.whole k.breaks)
 
 -- no fault comes after a reception
-no_fault_after : (listen : Bool) (l : List Level) (a b more : List Bit) (z : Bit) (f : FrameValue) (body c : List Level) (ack : Level) (cause : Cause) (segment : Segment) →
-    Line f body c ack ((l ++ seen_of a) ++ Recessive ∷ []) → BreaksOff listen l b cause segment → b ≡ a ++ (more ++ z ∷ []) → ⊥
-no_fault_after listen l a b more z f body c ack cause segment line k e =
+no_fault_after : (listen : Bool) (l : List Level) (a b more : List Bit) (z : Bit) (f : FrameValue) (cause : Cause) (segment : Segment) →
+    IsReception listen l a f → BreaksOff listen l b cause segment → b ≡ a ++ (more ++ z ∷ []) → ⊥
+no_fault_after listen l a b more z f cause segment h k e =
     let begun = k.early.begun in
     let long = k.early.long in
     let P : List Level → Type 0 = λ m. Line begun.frame begun.body begun.check begun.ack m in
     let same = same_from_push (a ++ more) k.before z k.last (append_assoc a more (z ∷ []) ∙ sym e ∙ k.whole) in
     let split : (l ++ seen_of k.before) ++ begun.rest ≡ (l ++ seen_of a) ++ (seen_of more ++ begun.rest) =
     ap (λ m. m ++ begun.rest) (seen_split l k.before a more (sym same.0)) ∙ append_assoc (l ++ seen_of a) (seen_of more) begun.rest in
-    let agree = lines_agree f begun.frame body c begun.body begun.check ack begun.ack Recessive (l ++ seen_of a) (seen_of more ++ begun.rest) line (subst P split begun.line) in
+    let agree = lines_agree f begun.frame h.body h.crc begun.body begun.check h.ack begun.ack Recessive (l ++ seen_of a) (seen_of more ++ begun.rest) h.line (subst P split begun.line) in
     let count = agree.3 in
     omega (arith, count, long, length-append (seen_of more) begun.rest)
 
 -- a reception and a fault don't begin alike
-received_or_broken : (listen : Bool) (l : List Level) (a b x y : List Bit) (f : FrameValue) (body c : List Level) (ack : Level) (cause : Cause) (segment : Segment) →
-    Line f body c ack ((l ++ seen_of a) ++ Recessive ∷ []) → Crc body c → AckFits listen ack → BreaksOff listen l b cause segment → a ++ x ≡ b ++ y → ⊥
-received_or_broken listen l a b x y f body c ack cause segment line right fits k e =
+received_or_broken : (listen : Bool) (l : List Level) (a b x y : List Bit) (f : FrameValue) (cause : Cause) (segment : Segment) →
+    IsReception listen l a f → BreaksOff listen l b cause segment → a ++ x ≡ b ++ y → ⊥
+received_or_broken listen l a b x y f cause segment h k e =
     elim (fronts a b x y e) [
       | inl longer ↦ elim (last_of longer.0) [
         | inl none ↦
             let same : a ≡ b ++ [] = sym (append-nil b ∙ longer.1 ∙ ap (λ m. a ++ m) none ∙ append-nil a) in
-            no_fault_in listen l a b [] f body c ack cause segment line right fits k same
+            no_fault_in listen l a b [] f cause segment h k same
         | inr some ↦
-            no_fault_after listen l a b some.0 some.1 f body c ack cause segment line k (longer.1 ∙ ap (λ m. a ++ m) some.2)
+            no_fault_after listen l a b some.0 some.1 f cause segment h k (longer.1 ∙ ap (λ m. a ++ m) some.2)
       ]
-      | inr shorter ↦ no_fault_in listen l a b shorter.0 f body c ack cause segment line right fits k shorter.1
+      | inr shorter ↦ no_fault_in listen l a b shorter.0 f cause segment h k shorter.1
     ]
 
 -- of two faults that begin alike neither is longer
@@ -100,19 +99,19 @@ faults_once listen l a c d s t h k =
 -- pieces of a receiver that begin alike are one piece
 pub receives_once : (listen : Bool) (l : List Level) (a b x y : List Bit) (p q : Piece) (n m : Place) →
     Receives listen l a p n → Receives listen l b q m → a ++ x ≡ b ++ y → (a ≡ b) × (p ≡ q) × (n ≡ m)
-receives_once listen l a b x y p q n m (reception {f = f} body c ack answers line right fits) (reception {f = g} other d answer drives line_too right_too fits_too) e =
+receives_once listen l a b x y p q n m (reception {f = f} h) (reception {f = g} k) e =
     elim (fronts a b x y e) [
       | inl longer ↦
-          let once = receptions_once l a b longer.0 f g body c other d ack answer line line_too longer.1 in
+          let once = receptions_once listen l a b longer.0 f g h k longer.1 in
           (once.0, ap Reception once.1, refl)
       | inr shorter ↦
-          let once = receptions_once l b a shorter.0 g f other d body c answer ack line_too line shorter.1 in
+          let once = receptions_once listen l b a shorter.0 g f k h shorter.1 in
           (sym once.0, ap Reception (sym once.1), refl)
     ]
-receives_once listen l a b x y p q n m (reception {f = f} body c ack answers line right fits) (broken {cause = cause} {segment = segment} k) e =
-    absurd (received_or_broken listen l a b x y f body c ack cause segment line right fits k e)
-receives_once listen l a b x y p q n m (broken {cause = cause} {segment = segment} h) (reception {f = f} body c ack answers line right fits) e =
-    absurd (received_or_broken listen l b a y x f body c ack cause segment line right fits h (sym e))
+receives_once listen l a b x y p q n m (reception {f = f} h) (broken {cause = cause} {segment = segment} k) e =
+    absurd (received_or_broken listen l a b x y f cause segment h k e)
+receives_once listen l a b x y p q n m (broken {cause = cause} {segment = segment} h) (reception {f = f} k) e =
+    absurd (received_or_broken listen l b a y x f cause segment k h (sym e))
 receives_once listen l a b x y p q n m (broken {cause = c} {segment = s} h) (broken {cause = d} {segment = t} k) e =
     let same = faults_end listen l a b x y c d s t h k e in
     let P : List Bit → Type 0 = λ bits. BreaksOff listen l bits d t in

@@ -40,9 +40,9 @@ not_lost (b ∷ before) more e = omega (arith, ap (λ (l : List Bit). length l) 
 -- a transmitter that saw one recessive level found no receiver's fault
 not_sent : (self_test : Bool) (request : Request) (bits : List Bit) (p : Piece) (next : Place) (cause : Cause) (segment : Segment) →
     Transmits self_test request bits p next → bits ≡ recessive_bit Recessive ∷ [] → p ≡ Fault InReception cause segment → ⊥
-not_sent self_test request bits p next cause segment (sending c part ack h fits drives sees) e d = cc
-not_sent self_test request bits p next cause segment (failed c part rest before x stuffed h well whole line fails site) e d = cc
-not_sent self_test request bits p next cause segment (lost c part rest before more code h well whole line site recessive_bits) e d = not_lost before more (sym e ∙ whole)
+not_sent self_test request bits p next cause segment (sending h) e d = cc
+not_sent self_test request bits p next cause segment (failed h) e d = cc
+not_sent self_test request bits p next cause segment (lost h) e d = not_lost h.before h.more (sym e ∙ h.whole)
 
 -- at no place is one recessive level a receiver's fault, unless the frame began before it
 not_row : (c : ContextValue) (place next : Place) (bits : List Bit) (p : Piece) (cause : Cause) (segment : Segment) →

@@ -43,12 +43,26 @@ receives_on c now place bits b code rest site h next drives sees some =
       levels = levels;
       whole = sym (append-nil all);
       seen = frame_seen place bits b site ∙ ap (λ x. seen_of before ++ x ∷ []) sees ∙ sym (append-nil levels);
-      row = λ more piece after recessive_bits.
+      row = λ more piece after receives.
           let split : frame_bits place (all ++ more) ≡ before ++ recessive_bit Dominant ∷ more =
           ap (λ l. frame_bits place l) (append_assoc bits (b ∷ []) more) ∙ frame_more place bits (b ∷ more) site ∙ ap (λ x. before ++ x ∷ more) (lost_bit b drives sees) in
-          let speaks = subst (λ listen. Receives listen levels more piece after) h.speaks recessive_bits in
+          let speaks = subst (λ listen. Receives listen levels more piece after) h.speaks receives in
           row_own c place h.request (all ++ more) piece after site h.sent
-          (lost h.check h.part rest before more code h.is_part h.well split driven some speaks);
+          (lost
+          (record {
+            crc = h.check;
+            part = h.part;
+            is_part = h.is_part;
+            before = before;
+            more = more;
+            whole = split;
+            well = h.well;
+            rest = rest;
+            driven = driven;
+            code = code;
+            loses = some;
+            goes_on = speaks;
+          }));
       inside = inside;
       answers = acknowledges_none c.listen levels;
       right = right_nothing levels (open_readable levels goes);

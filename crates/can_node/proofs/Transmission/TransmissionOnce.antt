@@ -24,8 +24,8 @@ use Rattle.can_node.proofs.Transmission.SentLines.{sent_part_once}
 use Rattle.can_node.proofs.Transmission.SentBits.{well_front, lost_not_well, fails_not_well}
 
 -- of two receiver's pieces that begin alike neither is a proper front of the other, and equal lists are the same piece
-abbrev pub HearsOnce : Type 0
-HearsOnce = (listen : Bool) (l : List Level) (a b x y : List Bit) (p q : Piece) (n m : Place) →
+abbrev pub ReceivesOnce : Type 0
+ReceivesOnce = (listen : Bool) (l : List Level) (a b x y : List Bit) (p q : Piece) (n m : Place) →
     Receives listen l a p n → Receives listen l b q m → a ++ x ≡ b ++ y → (a ≡ b) × (p ≡ q) × (n ≡ m)
 
 -- the next level of a line belongs to one segment
@@ -119,21 +119,21 @@ fault_no_loss code unseen e some = let wrong : Recessive ≡ Dominant = ap (λ (
 fault_no_loss code (overdriven other late none) e some = let wrong = sym none ∙ some in cc
 
 -- of two pieces with the same first bit that doesn't go well neither is a proper front of the other
-ends_once : HearsOnce → NextOnce → (self_test : Bool) (request : Request) (part : List Level) (before : List Bit) (bad : Bit)
+ends_once : ReceivesOnce → NextOnce → (self_test : Bool) (request : Request) (part : List Level) (before : List Bit) (bad : Bit)
     (a b x y : List Bit) (p q : Piece) (n m : Place) →
     Ends self_test request part before bad a p n → Ends self_test request part before bad b q m → a ++ x ≡ b ++ y →
     (a ≡ b) × (p ≡ q) × (n ≡ m)
-ends_once recessive_bits next self_test request part before bad a b x y p q n m (fault {segment = s} u h k) (fault {segment = t} v i j) e =
+ends_once receives next self_test request part before bad a b x y p q n m (fault {segment = s} u h k) (fault {segment = t} v i j) e =
     let causes = fails-cause h ∙ sym (fails-cause i) in
     let segments = next (seen_of before) s t u v k j in
     let same = segments.0 in
     (refl, cc, refl)
-ends_once recessive_bits next self_test request part before bad a b x y p q n m (fault u h k) (loss code e some i) w =
+ends_once receives next self_test request part before bad a b x y p q n m (fault u h k) (loss code e some i) w =
     absurd (fault_no_loss code h e some)
-ends_once recessive_bits next self_test request part before bad a b x y p q n m (loss code e some i) (fault u h k) w =
+ends_once receives next self_test request part before bad a b x y p q n m (loss code e some i) (fault u h k) w =
     absurd (fault_no_loss code h e some)
-ends_once recessive_bits next self_test request part before bad a b x y p q n m (loss code e some h) (loss other f more k) w =
-    recessive_bits false (seen_of before ++ Dominant ∷ []) a b x y p q n m h k w
+ends_once receives next self_test request part before bad a b x y p q n m (loss code e some h) (loss other f more k) w =
+    receives false (seen_of before ++ Dominant ∷ []) a b x y p q n m h k w
 
 -- ---- pieces
 
@@ -144,26 +144,26 @@ data Way (self_test : Bool) (request : Request) (part : List Level) : List Bit �
       bits ≡ before ++ bad ∷ more → Ends self_test request part before bad more piece next → Way self_test request part bits piece next
 
 -- the same of two ways along one part
-ways_once : HearsOnce → NextOnce → (self_test : Bool) (request : Request) (part : List Level) (a b x y : List Bit)
+ways_once : ReceivesOnce → NextOnce → (self_test : Bool) (request : Request) (part : List Level) (a b x y : List Bit)
     (p q : Piece) (n m : Place) →
     Way self_test request part a p n → Way self_test request part b q m → a ++ x ≡ b ++ y → (a ≡ b) × (p ≡ q) × (n ≡ m)
-ways_once recessive_bits next self_test request part a b x y p q n m (whole g count) (whole h other) e =
+ways_once receives next self_test request part a b x y p q n m (whole g count) (whole h other) e =
     let parts = append-split a x b y (count ∙ sym other) e in
     (parts.0, refl, refl)
-ways_once recessive_bits next self_test request part a b x y p q n m (whole g count) (broken before more bad h at ends) e =
+ways_once receives next self_test request part a b x y p q n m (whole g count) (broken before more bad h at ends) e =
     let split : before ++ bad ∷ (more ++ y) ≡ a ++ x = sym (append_assoc before (bad ∷ more) y) ∙ ap (λ l. l ++ y) (sym at) ∙ sym e in
     absurd (none_in_whole self_test part a before (more ++ y) x bad g count h split)
-ways_once recessive_bits next self_test request part a b x y p q n m (broken before more bad h at ends) (whole g count) e =
+ways_once receives next self_test request part a b x y p q n m (broken before more bad h at ends) (whole g count) e =
     let split : before ++ bad ∷ (more ++ x) ≡ b ++ y = sym (append_assoc before (bad ∷ more) x) ∙ ap (λ l. l ++ x) (sym at) ∙ e in
     absurd (none_in_whole self_test part b before (more ++ x) y bad g count h split)
-ways_once recessive_bits next self_test request part a b x y p q n m (broken before more bad h at ends) (broken other rest worse k there last) e =
+ways_once receives next self_test request part a b x y p q n m (broken before more bad h at ends) (broken other rest worse k there last) e =
     let split : before ++ bad ∷ (more ++ x) ≡ other ++ worse ∷ (rest ++ y) =
     sym (append_assoc before (bad ∷ more) x) ∙ ap (λ l. l ++ x) (sym at) ∙ e ∙ ap (λ l. l ++ y) there ∙ append_assoc other (worse ∷ rest) y in
     let same = bad_once self_test part before other (more ++ x) (rest ++ y) bad worse h k split in
     let P : List Bit → Type 0 = λ l. Ends self_test request part l worse rest q m in
     let Q : Bit → Type 0 = λ v. Ends self_test request part before v rest q m in
     let moved = subst Q (sym same.1) (subst P (sym same.0) last) in
-    let once = ends_once recessive_bits next self_test request part before bad more rest x y p q n m ends moved same.2 in
+    let once = ends_once receives next self_test request part before bad more rest x y p q n m ends moved same.2 in
     let fronts_same = same.0 in
     let bads_same = same.1 in
     let mores_same = once.0 in
@@ -186,48 +186,48 @@ count_before part rest before x e =
 way : (self_test : Bool) (request : Request) (d line : List Level) (bits : List Bit) (p : Piece) (n : Place) →
     SentPart request.frame d line →
     Transmits self_test request bits p n → Way self_test request line bits p n
-way self_test request d line bits p n h (sending c part ack k fits driven seen) =
-    let one = sent_part_once request.frame d c line part h k in
-    let same : part ≡ line = sym one.1 in
+way self_test request d line bits p n h (sending k) =
+    let one = sent_part_once request.frame d k.crc line k.part h k.is_part in
+    let driven = k.driven in
     whole
     (record {
-      ack = ack;
-      fits = fits;
+      ack = k.ack;
+      fits = k.fits;
       rest = [];
       others = [];
-      driven = ap (λ l. l ++ tail Recessive) one.1 ∙ sym driven ∙ sym (append-nil (driven_of bits));
-      seen = ap (λ l. l ++ tail ack) one.1 ∙ sym seen ∙ sym (append-nil (seen_of bits));
+      driven = ap (λ l. l ++ tail Recessive) one.1 ∙ sym k.driven ∙ sym (append-nil (driven_of bits));
+      seen = ap (λ l. l ++ tail k.ack) one.1 ∙ sym k.seen ∙ sym (append-nil (seen_of bits));
     })
-    (omega (arith, ap length driven, ap length one.1, length-append part (tail Recessive), length-map bits (λ (b : Bit). b.driven)))
-way self_test request d line bits p n h (failed {cause = cause} c part rest before last stuffed k well at driven fails next) =
-    let one = sent_part_once request.frame d c line part h k in
-    let P : List Level → Type 0 = λ l. GoesWell self_test l before in
-    let Q : List Level → Type 0 = λ l. Fails self_test request.frame.ext l before last cause in
-    let fails_here = subst Q (sym one.1) fails in
-    let all : line ++ tail Recessive ≡ (driven_of before ++ last.driven ∷ []) ++ rest =
-    ap (λ l. l ++ tail Recessive) one.1 ∙ driven ∙ ap (λ l. driven_of l ++ rest) at
-    ∙ ap (λ l. l ++ rest) (map-append (λ (b : Bit). b.driven) before (last ∷ [])) in
-    broken before [] last
+    (omega (arith, ap length driven, ap length one.1, length-append k.part (tail Recessive), length-map bits (λ (b : Bit). b.driven)))
+way self_test request d line bits p n h (failed {cause = cause} k) =
+    let one = sent_part_once request.frame d k.crc line k.part h k.is_part in
+    let P : List Level → Type 0 = λ l. GoesWell self_test l k.before in
+    let Q : List Level → Type 0 = λ l. Fails self_test request.frame.ext l k.before k.last cause in
+    let fails_here = subst Q (sym one.1) k.fails in
+    let all : line ++ tail Recessive ≡ (driven_of k.before ++ k.last.driven ∷ []) ++ k.rest =
+    ap (λ l. l ++ tail Recessive) one.1 ∙ k.driven ∙ ap (λ l. driven_of l ++ k.rest) k.whole
+    ∙ ap (λ l. l ++ k.rest) (map-append (λ (b : Bit). b.driven) k.before (k.last ∷ [])) in
+    broken k.before [] k.last
     (record {
-      well = subst P (sym one.1) well;
-      wrong = fails_not_well self_test request d line before last cause h fails_here;
-      within = count_before line rest before last.driven all;
+      well = subst P (sym one.1) k.well;
+      wrong = fails_not_well self_test request d line k.before k.last cause h fails_here;
+      within = count_before line k.rest k.before k.last.driven all;
     })
-    at
-    (fault stuffed fails_here next)
-way self_test request d line bits p n h (lost c part rest before more code k well at driven some recessive_bits) =
-    let one = sent_part_once request.frame d c line part h k in
-    let P : List Level → Type 0 = λ l. GoesWell self_test l before in
-    let site = code_early request.frame.ext (seen_of before) code some in
+    k.whole
+    (fault k.stuff_bit fails_here k.site)
+way self_test request d line bits p n h (lost k) =
+    let one = sent_part_once request.frame d k.crc line k.part h k.is_part in
+    let P : List Level → Type 0 = λ l. GoesWell self_test l k.before in
+    let site = code_early request.frame.ext (seen_of k.before) k.code k.loses in
     let most = site.1 in
-    broken before more (recessive_bit Dominant)
+    broken k.before k.more (recessive_bit Dominant)
     (record {
-      well = subst P (sym one.1) well;
-      wrong = lost_not_well self_test request d line before h (λ late. omega (arith, most, late));
-      within = count_before line rest before Recessive (ap (λ l. l ++ tail Recessive) one.1 ∙ driven);
+      well = subst P (sym one.1) k.well;
+      wrong = lost_not_well self_test request d line k.before h (λ late. omega (arith, most, late));
+      within = count_before line k.rest k.before Recessive (ap (λ l. l ++ tail Recessive) one.1 ∙ k.driven);
     })
-    at
-    (loss code refl some recessive_bits)
+    k.whole
+    (loss k.code refl k.loses k.goes_on)
 
 -- some sent line of its frame
 record HasPart (request : Request) : Type 0 where
@@ -238,16 +238,14 @@ record HasPart (request : Request) : Type 0 where
 -- a piece is along one
 part_of : (self_test : Bool) (request : Request) (bits : List Bit) (p : Piece) (n : Place) →
     Transmits self_test request bits p n → HasPart request
-part_of self_test request bits p n (sending c part ack k fits driven seen) = record { check = c; part = part; is_sent = k }
-part_of self_test request bits p n (failed c part rest before last stuffed k well at driven fails next) =
-    record { check = c; part = part; is_sent = k }
-part_of self_test request bits p n (lost c part rest before more code k well at driven some recessive_bits) =
-    record { check = c; part = part; is_sent = k }
+part_of self_test request bits p n (sending k) = record { check = k.crc; part = k.part; is_sent = k.is_part }
+part_of self_test request bits p n (failed k) = record { check = k.crc; part = k.part; is_sent = k.is_part }
+part_of self_test request bits p n (lost k) = record { check = k.crc; part = k.part; is_sent = k.is_part }
 
 -- of two transmitter's pieces that begin alike neither is a proper front of the other, and equal lists are the same piece
-pub sends_once : HearsOnce → NextOnce → (self_test : Bool) (request : Request) (a b x y : List Bit) (p q : Piece) (n m : Place) →
+pub sends_once : ReceivesOnce → NextOnce → (self_test : Bool) (request : Request) (a b x y : List Bit) (p q : Piece) (n m : Place) →
     Transmits self_test request a p n → Transmits self_test request b q m → a ++ x ≡ b ++ y → (a ≡ b) × (p ≡ q) × (n ≡ m)
-sends_once recessive_bits next self_test request a b x y p q n m h k e =
+sends_once receives next self_test request a b x y p q n m h k e =
     let line = part_of self_test request a p n h in
-    ways_once recessive_bits next self_test request line.part a b x y p q n m
+    ways_once receives next self_test request line.part a b x y p q n m
     (way self_test request line.check line.part a p n line.is_sent h) (way self_test request line.check line.part b q m line.is_sent k) e

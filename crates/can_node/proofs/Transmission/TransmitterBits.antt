@@ -98,7 +98,21 @@ transmits_fault {c = c} {place = place} {bits = bits} {driven = driven} {seen = 
     let next = site (well_readable c.self_test h.request.frame h.check h.part before h.is_part h.well) in
     let all : h.part ++ tail Recessive ≡ driven_of (before ++ b ∷ []) ++ t.sends.rest = line_next h t.sends ∙ sym (driven_push before b t.sends.rest) in
     let P : List Bit → Type 0 = λ l. Transmits c.self_test h.request l (Fault InTransmission cause segment) AtFlag in
-    let sends = failed h.check h.part t.sends.rest before b next.0 h.is_part h.well refl all fails.1 next.1 in
+    let sends = failed
+    (record {
+      crc = h.check;
+      part = h.part;
+      is_part = h.is_part;
+      before = before;
+      last = b;
+      whole = refl;
+      well = h.well;
+      rest = t.sends.rest;
+      driven = all;
+      fails = fails.1;
+      stuff_bit = next.0;
+      site = next.1;
+    }) in
     (fails.0, row_own c place h.request (bits ++ b ∷ []) (Fault InTransmission cause segment) AtFlag t.site h.sent (subst P (sym (frame_more place bits (b ∷ []) t.site)) sends))
 
 -- ---- no fault
@@ -163,9 +177,16 @@ told_sent {c = c} {place = place} {bits = bits} {driven = driven} {seen = seen} 
     let none = end_at_over c.self_test h.request.frame h.check h.part all h.is_part g (subst P (sym (frame_seen place bits b t.site)) over) in
     let unseen : g.others ≡ [] = nil_from_length g.others (as_much_left c.self_test h.part all g ∙ ap length none) in
     let sends : Transmits c.self_test h.request all (Transmission h.request) AtInterframeSpace =
-    sending h.check h.part g.ack h.is_part g.fits
-    (sym (g.driven ∙ ap (λ l. driven_of all ++ l) none ∙ append-nil (driven_of all)))
-    (sym (g.seen ∙ ap (λ l. seen_of all ++ l) unseen ∙ append-nil (seen_of all))) in
+    sending
+    (record {
+      crc = h.check;
+      part = h.part;
+      is_part = h.is_part;
+      ack = g.ack;
+      fits = g.fits;
+      driven = sym (g.driven ∙ ap (λ l. driven_of all ++ l) none ∙ append-nil (driven_of all));
+      seen = sym (g.seen ∙ ap (λ l. seen_of all ++ l) unseen ∙ append-nil (seen_of all));
+    }) in
     row_own c place h.request (bits ++ b ∷ []) (Transmission h.request) AtInterframeSpace t.site h.sent sends
 
 -- ---- arbitration lost or not

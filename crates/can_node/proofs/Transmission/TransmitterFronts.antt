@@ -177,9 +177,16 @@ open_transmitting c now place bits site h =
     let drives : driven_of more ≡ g.rest = bits_driven g.rest g.others many in
     let sees : seen_of more ≡ g.others = bits_seen g.rest g.others many in
     let sends : Transmits c.self_test h.request (before ++ more) (Transmission h.request) AtInterframeSpace =
-    sending h.check h.part g.ack h.is_part g.fits
-    (map-append (λ (b : Bit). b.driven) before more ∙ ap (λ l. driven_of before ++ l) drives ∙ sym g.driven)
-    (map-append (λ (b : Bit). b.seen) before more ∙ ap (λ l. seen_of before ++ l) sees ∙ sym g.seen) in
+    sending
+    (record {
+      crc = h.check;
+      part = h.part;
+      is_part = h.is_part;
+      ack = g.ack;
+      fits = g.fits;
+      driven = map-append (λ (b : Bit). b.driven) before more ∙ ap (λ l. driven_of before ++ l) drives ∙ sym g.driven;
+      seen = map-append (λ (b : Bit). b.seen) before more ∙ ap (λ l. seen_of before ++ l) sees ∙ sym g.seen;
+    }) in
     let P : List Bit → Type 0 = λ l. Transmits c.self_test h.request l (Transmission h.request) AtInterframeSpace in
     let row = row_own c place h.request (bits ++ more) (Transmission h.request) AtInterframeSpace site h.sent (subst P (sym (frame_more place bits more site)) sends) in
     elim (cases_list more) [
