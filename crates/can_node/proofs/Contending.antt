@@ -1,3 +1,4 @@
+-- frames that start together
 pub mod FieldLevels
 pub mod LostFields
 pub mod Winning

@@ -1,3 +1,4 @@
+-- records worked by hand, with their cuts
 pub mod WrongCrc
 pub mod StuffError
 pub mod LostArbitration

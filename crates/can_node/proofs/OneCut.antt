@@ -1,3 +1,4 @@
+-- pieces are told apart, a record has one cut, and a cut goes on from where it is open
 pub mod Apart
 pub mod RowOnce
 pub mod MoveOnce

@@ -1,3 +1,4 @@
+-- a frame for its receiver
 pub mod ReceiverBits
 pub mod Acknowledging
 pub mod ReceiverFaults

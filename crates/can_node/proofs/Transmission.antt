@@ -1,3 +1,4 @@
+-- a frame for its transmitter
 pub mod SentLines
 pub mod SentBits
 pub mod WellNext

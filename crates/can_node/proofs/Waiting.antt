@@ -1,3 +1,4 @@
+-- bus integration, flags, delimiters and interframe space
 pub mod Integrations
 pub mod Flags
 pub mod Delimiters

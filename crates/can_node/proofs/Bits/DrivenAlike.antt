@@ -31,13 +31,13 @@ pub same_forces : (l k : List Level) (x y : List Bit) → dominant_bits l ++ x �
 same_forces l k x y e = sym (seen_forces l x) ∙ ap (λ (t : List Bit). seen_of t) e ∙ seen_forces k y
 
 -- a node that drives recessive throughout drives nothing dominant
-pub no_forced : (l : List Level) (a b : List Bit) (x : Level) → recessive_bits l ≡ a ++ dominant_bit x ∷ b → ⊥
-no_forced [] [] b x e = cc
-no_forced [] (y ∷ a) b x e = cc
-no_forced (u ∷ l) [] b x e =
+pub never_dominant : (l : List Level) (a b : List Bit) (x : Level) → recessive_bits l ≡ a ++ dominant_bit x ∷ b → ⊥
+never_dominant [] [] b x e = cc
+never_dominant [] (y ∷ a) b x e = cc
+never_dominant (u ∷ l) [] b x e =
     let same : recessive_bit u ≡ dominant_bit x = cc in
     let driven : Recessive ≡ Dominant = ap (λ (t : Bit). t.driven) same in cc
-no_forced (u ∷ l) (y ∷ a) b x e = no_forced l a b x cc
+never_dominant (u ∷ l) (y ∷ a) b x e = never_dominant l a b x cc
 
 -- what is seen where it drives recessive
 pub seen_received : (l : List Level) → seen_of (recessive_bits l) ≡ l

@@ -1,4 +1,4 @@
--- The places where a frame may stand.
+-- The two places where a frame may stand: on an idle bus, and after SOF in interframe space.
 use Rattle.std.proofs.Common.{◌≡◌, Some, List, [], ◌∷◌, ◌++◌, refl, ap, ◌∙◌}
 use Rattle.can_node.specs.declared.request.Request.{Request}
 use Rattle.can_node.specs.Bits.{Bit, seen_of}

@@ -1,4 +1,4 @@
--- What comes after a whole stuffed part, and whether a check sequence is right.
+-- What comes after a whole stuffed part, and whether a CRC sequence is right.
 use Rattle.std.proofs.Common.{◌≡◌, ◌≢◌, ◌⊎◌, inl, inr, ℕ, zero, suc, List, [], ◌∷◌, ◌++◌, length, replicate, refl, ap, sym, subst, ◌∙◌, arith, append_assoc}
 use Rattle.std.proofs.lemmas.Bool.{cases_eq}
 use Rattle.std.proofs.lemmas.List.{append-nil}
@@ -17,7 +17,7 @@ use Rattle.can_bits.proofs.Ending.{line_at, same_part, same_spelling}
 use Rattle.can_node.specs.Frames.{IsWithin}
 use Rattle.can_node.proofs.Bits.Nexts.{after_once}
 
--- whether 15 levels are the check sequence of a body can be told
+-- whether 15 levels are the CRC sequence of a body can be told
 pub right_or_wrong : (b c : List Level) → length c ≡ 15 → Crc b c ⊎ (Crc b c → ⊥)
 right_or_wrong b c count =
     let (known, right, only) = Crc_exists b in
@@ -27,7 +27,7 @@ right_or_wrong b c count =
       | inr differs ↦ inr (λ h. differs (ap value (only c h)))
     ]
 
--- an acknowledgement is due after a right check sequence alone
+-- an acknowledgement is due after a right CRC sequence alone
 pub due_right : {f : FrameValue} {b c : List Level} (l part : List Level) → StuffedPart f b c part → l ≡ part ++ Recessive ∷ [] → IsAckDue l → Crc b c
 due_right {f = f} {b = b} {c = c} l part h e due =
     let same = same_part (Recessive ∷ []) (Recessive ∷ []) h due.is_part (sym e ∙ due.whole) in
@@ -85,7 +85,7 @@ delimiter_here l part (x ∷ []) h e one begun =
     let on = line_at part (x ∷ []) begun.rest h (subst P e begun.line) in
     e ∙ ap (λ y. part ++ y ∷ []) (first_after begun.ack x begun.rest on.tails)
 
--- either level in the acknowledgement slot is right so far, and has two levels after it
+-- either level in the ACK slot is right so far, and has two levels after it
 pub slot_good : {f : FrameValue} {b c : List Level} (l part : List Level) (ack : Level) → StuffedPart f b c part → l ≡ part ++ Recessive ∷ [] →
     IsReadable (l ++ ack ∷ []) × IsWithin (l ++ ack ∷ [])
 slot_good {f = f} {b = b} {c = c} l part ack h e =

@@ -61,7 +61,7 @@ length_extended id rtr =
     let count : length low ≡ 19 = omega (arith, length-append (bits 18 id) (level_of rtr ∷ []), length-bits 18 id) in
     omega (arith, length-append high (Recessive ∷ Recessive ∷ low), length-bits 11 (id / 2 ^ 18))
 
--- a body begins with a start of frame and that field
+-- a body begins with SOF and that field
 front_is : (ext : Bool) (id : ℕ) (rtr : Bool) (rest : List Level) →
     (more : List Level) × (head_bits ext id rtr Recessive Dominant Dominant ++ rest ≡ Dominant ∷ (field_by ext id rtr ++ more))
 front_is false id rtr rest = (

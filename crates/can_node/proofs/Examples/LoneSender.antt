@@ -23,13 +23,14 @@ use Rattle.can_node.specs.Frames.Transmits.{failed}
 use Rattle.can_node.specs.Record.{Entry}
 use Rattle.can_node.specs.Record.Entry.{Start, Send, OneBit}
 use Rattle.can_node.specs.Table.Row.{own, flag, delimiter, interframe_space}
-use Rattle.can_node.specs.Cut.{Move, FinishedPiece, IsCut}
+use Rattle.can_node.specs.FinishedPieces.{FinishedPiece}
+use Rattle.can_node.specs.Cut.{Move, IsCut}
 use Rattle.can_node.specs.Cut.IsOpenAt.{nothing}
 use Rattle.can_node.specs.Cut.Move.{started, sent}
 use Rattle.can_node.specs.Cut.From.{here, on}
 use Rattle.can_node.specs.WorkedReception.{zero_frame, five}
 use Rattle.can_node.proofs.Bits.Computed.{stuffed_by}
-use Rattle.can_node.proofs.OneCut.Slices.{by_bits, joins}
+use Rattle.can_node.proofs.OneCut.Slices.{by_bits, integrates}
 
 -- a request to send the standard data frame with the identifier 0 and no bytes
 abbrev pub asked : Request
@@ -39,7 +40,7 @@ asked = record {
   self_receive = false;
 }
 
--- its check sequence
+-- its CRC sequence
 abbrev pub zeros : List Level
 zeros = replicate 15 Dominant
 
@@ -73,7 +74,7 @@ part_sent = record {
 abbrev pub agreed : Level → Bit
 agreed x = record { driven = x; seen = x }
 
--- the bits up to the acknowledgement slot
+-- the bits up to the ACK slot
 abbrev pub unanswered : List Bit
 unanswered = map agreed (part ++ Recessive ∷ [])
 
@@ -165,7 +166,7 @@ cut_of_sender config = (
     from =
         on (started (record config { listen = false; self_test = false }) [])
         (on (sent asked (λ same. cc))
-        (on (joins (Some asked)) (on is_unanswered (on flags (on ends (on rests (here nothing (omega arith))))))));
+        (on (integrates (Some asked)) (on is_unanswered (on flags (on ends (on rests (here nothing (omega arith))))))));
   },
   refl,
   refl,

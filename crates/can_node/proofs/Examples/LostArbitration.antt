@@ -23,20 +23,21 @@ use Rattle.can_node.specs.Frames.Transmits.{lost}
 use Rattle.can_node.specs.Record.{Entry}
 use Rattle.can_node.specs.Record.Entry.{Start, Send, OneBit}
 use Rattle.can_node.specs.Table.Row.{own}
-use Rattle.can_node.specs.Cut.{Move, FinishedPiece, IsCut}
+use Rattle.can_node.specs.FinishedPieces.{FinishedPiece}
+use Rattle.can_node.specs.Cut.{Move, IsCut}
 use Rattle.can_node.specs.Cut.IsOpenAt.{nothing}
 use Rattle.can_node.specs.Cut.Move.{started, sent}
 use Rattle.can_node.specs.Cut.From.{here, on}
 use Rattle.can_node.proofs.Bits.Computed.{stuffed_by}
 use Rattle.can_node.proofs.Rules.Judged.{asked}
-use Rattle.can_node.proofs.OneCut.Slices.{by_bits, joins}
+use Rattle.can_node.proofs.OneCut.Slices.{by_bits, integrates}
 use Rattle.can_node.proofs.Examples.StuffError.{sixth_breaks}
 
--- its body: a start of frame, a recessive bit, and dominant ones
+-- its body: SOF, a recessive bit, and dominant ones
 abbrev body : List Level
 body = Dominant ∷ Recessive ∷ replicate 17 Dominant
 
--- its check sequence
+-- its CRC sequence
 abbrev check : List Level
 check =
     Dominant ∷ Recessive ∷ Dominant ∷ Dominant ∷ Recessive ∷ Dominant ∷ Recessive ∷ Recessive ∷ Dominant ∷ Recessive
@@ -59,7 +60,7 @@ body_is : sent_body asked.frame ≡ body
 unfolding bits
 body_is = refl
 
--- with its check sequence it is this multiple of the generator
+-- with its CRC sequence it is this multiple of the generator
 abbrev quotient : List Bool
 quotient =
     true ∷ false ∷ false ∷ true ∷ false ∷ true ∷ true ∷ true ∷ true ∷ false ∷ true ∷ true ∷ false ∷ true ∷ true ∷ true ∷ true ∷ true ∷ []
@@ -85,7 +86,7 @@ first_place : place_code false (Dominant ∷ []) ≡ Some 0
 unfolding begins_in_five
 first_place = refl
 
--- the node drives its start of frame, loses, and goes on as receiver
+-- the node drives SOF, loses, and goes on as receiver
 loses : Transmits false asked (dominant_bit Dominant ∷ recessive_bits (replicate 5 Dominant)) (Fault InReception StuffError Id28To21) AtFlag
 loses =
     lost
@@ -147,7 +148,7 @@ cut_of_loss config = (
     rest = [];
     from =
         on (started (record config { listen = false; self_test = false }) [])
-        (on (sent asked (λ same. cc)) (on (joins (Some asked)) (on breaks (here nothing (omega arith)))));
+        (on (sent asked (λ same. cc)) (on (integrates (Some asked)) (on breaks (here nothing (omega arith)))));
   },
   refl,
   refl,

@@ -18,7 +18,7 @@ use Rattle.can_node.specs.declared.phase.Phase.TheVariants.{Idle as IdlePhase}
 use Rattle.can_node.specs.NextBit.{now_in, phase_in}
 use Rattle.can_node.specs.WorkedReception.{zero_frame, after_sof, answered, record_of_reception, pieces_of_reception}
 use Rattle.can_node.proofs.Reception.Acknowledging.{line_received}
-use Rattle.can_node.proofs.OneCut.Slices.{by_bits, joins}
+use Rattle.can_node.proofs.OneCut.Slices.{by_bits, integrates}
 use Rattle.can_node.proofs.Examples.LoneSender.{part, part_sent}
 
 -- they are a reception of the frame with the identifier 0
@@ -49,7 +49,7 @@ cut_of_reception config = (
     rest = [];
     from =
         on (started (record config { listen = false; self_test = false }) [])
-        (on (joins None) (on receives (on ends (on rests (here nothing (omega arith))))));
+        (on (integrates None) (on receives (on ends (on rests (here nothing (omega arith))))));
   },
   refl,
   refl,

@@ -14,11 +14,12 @@ use Rattle.can_node.specs.Pieces.Piece.{Fault}
 use Rattle.can_node.specs.Record.{Entry}
 use Rattle.can_node.specs.Record.Entry.{Start, Send, OneBit}
 use Rattle.can_node.specs.Table.Row.{own}
-use Rattle.can_node.specs.Cut.{Move, FinishedPiece, IsCut}
+use Rattle.can_node.specs.FinishedPieces.{FinishedPiece}
+use Rattle.can_node.specs.Cut.{Move, IsCut}
 use Rattle.can_node.specs.Cut.IsOpenAt.{nothing}
 use Rattle.can_node.specs.Cut.Move.{started, sent}
 use Rattle.can_node.specs.Cut.From.{here, on}
-use Rattle.can_node.proofs.OneCut.Slices.{by_bits, joins}
+use Rattle.can_node.proofs.OneCut.Slices.{by_bits, integrates}
 use Rattle.can_node.proofs.Examples.LoneSender.{asked, waiting, unanswered, rest_of, fails, is_unanswered, flags, ends, rests, pieces_of_sender}
 
 -- the context of the second try: the transmit error counter is 8
@@ -57,7 +58,7 @@ cut_of_retry config = (
     from =
         on (started (record config { listen = false; self_test = false }) [])
         (on (sent asked (λ same. cc))
-        (on (joins (Some asked)) (on is_unanswered (on flags (on ends (on rests (on is_unanswered_again (here nothing (omega arith)))))))));
+        (on (integrates (Some asked)) (on is_unanswered (on flags (on ends (on rests (on is_unanswered_again (here nothing (omega arith)))))))));
   },
   refl,
   refl,

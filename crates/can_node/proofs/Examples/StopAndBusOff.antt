@@ -1,5 +1,5 @@
--- Single moves of a cut that the worked records don't have: a stop in the middle of a piece, and bus-off after and within
--- a piece.
+-- Single moves of a cut that the other examples don't have: a stop in the middle of a piece, and bus-off after and
+-- within a piece.
 use Rattle.std.proofs.Common.{◌≡◌, true, false, List, [], ◌∷◌, ◌++◌, map, length, replicate, refl, ap, ◌∙◌, arith, Some}
 use Rattle.std.proofs.lemmas.List.{length-append, nil_from_length}
 use Rattle.can_bits.specs.declared.level.Level.{Level}
@@ -66,7 +66,7 @@ abbrev rest_of : List Level → List Level
 rest_of [] = []
 rest_of (x ∷ l) = l
 
--- a start of frame that isn't seen
+-- SOF that isn't seen
 start_unseen : Transmits false asked (dominant_bit Recessive ∷ []) (Fault InTransmission BitError StartOfFrame) AtFlag
 start_unseen =
     failed

@@ -27,14 +27,15 @@ use Rattle.can_node.specs.Frames.Receives.{broken}
 use Rattle.can_node.specs.Record.{Entry}
 use Rattle.can_node.specs.Record.Entry.{Start, OneBit}
 use Rattle.can_node.specs.Table.Row.{other}
-use Rattle.can_node.specs.Cut.{Move, FinishedPiece, IsCut}
+use Rattle.can_node.specs.FinishedPieces.{FinishedPiece}
+use Rattle.can_node.specs.Cut.{Move, IsCut}
 use Rattle.can_node.specs.Cut.IsOpenAt.{nothing}
 use Rattle.can_node.specs.Cut.Move.{started}
 use Rattle.can_node.specs.Cut.From.{here, on}
 use Rattle.can_node.proofs.Bits.Computed.{short_by}
 use Rattle.can_node.proofs.Reception.StuffFaults.{stuff_fault}
 use Rattle.can_node.proofs.Reception.Completing.{inside_within}
-use Rattle.can_node.proofs.OneCut.Slices.{by_bits, joins}
+use Rattle.can_node.proofs.OneCut.Slices.{by_bits, integrates}
 
 -- five dominant levels are the beginning of a stuffed part
 five_inside : IsInside (replicate 5 Dominant)
@@ -103,7 +104,7 @@ cut_of_fault config = (
     rest = [];
     from =
         on (started (record config { listen = false; self_test = false }) [])
-        (on (joins None) (on breaks (here nothing (omega arith))));
+        (on (integrates None) (on breaks (here nothing (omega arith))));
   },
   refl,
   refl,

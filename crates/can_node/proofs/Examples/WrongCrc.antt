@@ -1,5 +1,5 @@
--- A record and its cut: a node starts, waits for eleven recessive levels, and hears a frame whose check sequence is
--- wrong. It drives no acknowledgement, and finds the error at the acknowledgement delimiter.
+-- A record and its cut: a node starts, waits for eleven recessive levels, and receives a frame whose CRC sequence is
+-- wrong. It drives no acknowledgement, and finds the error at the ACK delimiter.
 use Rattle.std.proofs.Common.{◌≡◌, false, List, [], ◌∷◌, ◌++◌, map, replicate, refl, ap, sym, subst, ◌∙◌, arith, append_assoc, None}
 use Rattle.can_frame.specs.Frame.{FrameValue}
 use Rattle.can_bits.specs.declared.level.Level.{Level}
@@ -27,7 +27,8 @@ use Rattle.can_node.specs.Frames.Receives.{broken}
 use Rattle.can_node.specs.Record.{Entry}
 use Rattle.can_node.specs.Record.Entry.{Start, OneBit}
 use Rattle.can_node.specs.Table.Row.{other}
-use Rattle.can_node.specs.Cut.{Move, FinishedPiece, IsCut}
+use Rattle.can_node.specs.FinishedPieces.{FinishedPiece}
+use Rattle.can_node.specs.Cut.{Move, IsCut}
 use Rattle.can_node.specs.Cut.IsOpenAt.{nothing}
 use Rattle.can_node.specs.Cut.Move.{started}
 use Rattle.can_node.specs.Cut.From.{here, on}
@@ -35,20 +36,20 @@ use Rattle.can_node.specs.WorkedReception.{five}
 use Rattle.can_node.proofs.Bits.Seen.{acknowledges_none, acknowledges_cons}
 use Rattle.can_node.proofs.Reception.Breaking.{breaks_off_now}
 use Rattle.can_node.proofs.Bits.Computed.{stuffed_by}
-use Rattle.can_node.proofs.Bits.DrivenAlike.{no_forced}
-use Rattle.can_node.proofs.OneCut.Slices.{by_bits, joins}
+use Rattle.can_node.proofs.Bits.DrivenAlike.{never_dominant}
+use Rattle.can_node.proofs.OneCut.Slices.{by_bits, integrates}
 use Rattle.can_node.proofs.Examples.LoneSender.{asked, zeros, part_sent}
 
--- a check sequence for the frame with the identifier 0 that is wrong in its last bit
+-- a CRC sequence for the frame with the identifier 0 that is wrong in its last bit
 abbrev pub wrong_check : List Level
 wrong_check = replicate 14 Dominant ++ Recessive ∷ []
 
--- the stuffed part after its start of frame: 33 dominant levels with six stuff bits, and then a recessive one
+-- the stuffed part after SOF: 33 dominant levels with six stuff bits, and then a recessive one
 abbrev pub later : List Level
 later =
     Dominant ∷ Dominant ∷ Dominant ∷ Dominant ∷ Recessive ∷ (five ++ (five ++ (five ++ (five ++ (five ++ (replicate 3 Dominant ++ Recessive ∷ []))))))
 
--- the body with this check sequence
+-- the body with this CRC sequence
 body_wrong : sent_body asked.frame ++ wrong_check ≡ replicate 33 Dominant ++ Recessive ∷ []
 unfolding bits
 body_wrong = refl
@@ -64,13 +65,13 @@ part_wrong = record {
       (stuffed_by (replicate 33 Dominant ++ Recessive ∷ []) (Dominant ∷ later) 1 refl refl (omega arith) refl);
 }
 
--- and its check sequence is wrong
+-- and its CRC sequence is wrong
 is_wrong : Crc (sent_body asked.frame) wrong_check → ⊥
 is_wrong h =
     let same : zeros ≡ wrong_check = Crc-unique (sent_body asked.frame) zeros wrong_check part_sent.right h in
     cc
 
--- ---- a receiver drives nothing in a line with a wrong check sequence
+-- ---- a receiver drives nothing in a line with a wrong CRC sequence
 
 -- no acknowledgement is due in it
 none_due : {f : FrameValue} {b c : List Level} (part l rest : List Level) (ack : Level) → StuffedPart f b c part → (Crc b c → ⊥) → l ++ rest ≡ part ++ tail ack → IsAckDue l → ⊥
@@ -92,11 +93,11 @@ all_quiet part l (x ∷ u) rest ack h wrong e =
 
 -- ---- the fault
 
--- the bits after the start of frame, up to the acknowledgement slot; nobody acknowledges
+-- the bits after SOF, up to the ACK slot; nobody acknowledges
 abbrev unanswered : List Level
 unanswered = later ++ Recessive ∷ Recessive ∷ []
 
--- the acknowledgement delimiter is the fault
+-- the ACK delimiter is the fault
 receives_fault : Receives false (Dominant ∷ []) (recessive_bits (unanswered ++ Recessive ∷ [])) (Fault InReception CheckError AckDelimiter) AtFlag
 receives_fault =
     broken (breaks_off_now false (Dominant ∷ []) (recessive_bits unanswered) (recessive_bit Recessive) CheckError AckDelimiter false
@@ -111,7 +112,7 @@ receives_fault =
         line = record { part = Dominant ∷ later; is_part = part_wrong; whole = refl };
         right = λ few. absurd (omega (arith, few));
       };
-      answered = λ before after e. no_forced unanswered before after Recessive e;
+      answered = λ before after e. never_dominant unanswered before after Recessive e;
     })
     (record {
       begun = record {
@@ -166,7 +167,7 @@ cut_of_check config = (
     rest = [];
     from =
         on (started (record config { listen = false; self_test = false }) [])
-        (on (joins None) (on faults (here nothing (omega arith))));
+        (on (integrates None) (on faults (here nothing (omega arith))));
   },
   refl,
   refl,

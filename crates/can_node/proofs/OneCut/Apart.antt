@@ -24,7 +24,7 @@ use Rattle.can_node.proofs.Waiting.Waits.IsWait.{whole, cut_off}
 abbrev pub AreOne : List Bit → Piece → Place → List Bit → Piece → Place → Type 0
 AreOne a p n b q m = (a ≡ b) × (p ≡ q) × (n ≡ m)
 
--- ---- waiting for the bus
+-- ---- bus integration
 
 pub integrating_once : (c : ContextValue) (a b x y : List Bit) (p q : Piece) (n m : Place) →
     Row c AtIntegration a p n → Row c AtIntegration b q m → a ++ x ≡ b ++ y → AreOne a p n b q m
@@ -154,26 +154,26 @@ pub after_flag_once : (c : ContextValue) (a b x y : List Bit) (p q : Piece) (n m
 after_flag_once c a b x y p q n m h k e =
     after_flag_as a b x y p q n m (in_after_flag c a p n h) (in_after_flag c b q m k) e
 
--- ---- a pause
+-- ---- interframe space
 
--- all of the recessive levels are a pause; the first or second level dominant is an overload, a later one is a
+-- all of the recessive levels are interframe space; the first or second level dominant is an overload, a later one is a
 -- start of frame
-abbrev pub pause_piece : ℕ → ℕ → Piece
-pause_piece count i = if nat_le count i then InterframeSpace else if nat_le 2 i then InterframeSpaceWithSof else InterframeSpaceBroken
+abbrev pub interframe_piece : ℕ → ℕ → Piece
+interframe_piece count i = if nat_le count i then InterframeSpace else if nat_le 2 i then InterframeSpaceWithSof else InterframeSpaceBroken
 
 abbrev pub pause_place : ℕ → ℕ → Place
 pause_place count i = if nat_le count i then AtIdle else if nat_le 2 i then AfterSof else AtFlag
 
--- a piece of a pause with so many levels
+-- a piece of interframe space with so many levels
 record InPausing (count : ℕ) (bits : List Bit) (p : Piece) (n : Place) : Type 0 where
   i : ℕ
   l : List Level
   waits : IsWait Recessive Dominant count i l
   bits_are : bits ≡ recessive_bits l
-  piece_is : p ≡ pause_piece count i
+  piece_is : p ≡ interframe_piece count i
   place_is : n ≡ pause_place count i
 
--- a dominant level after i recessive ones, fewer than the pause has
+-- a dominant level after i recessive ones, fewer than interframe space has
 broken_at : (count i : ℕ) (bits : List Bit) (p : Piece) (n : Place) → i < count →
     bits ≡ recessive_bits (replicate i Recessive ++ Dominant ∷ []) →
     p ≡ (if nat_le 2 i then InterframeSpaceWithSof else InterframeSpaceBroken) → n ≡ (if nat_le 2 i then AfterSof else AtFlag) →
@@ -202,30 +202,30 @@ all_at count =
       place_is = rw all refl;
     }
 
--- a pause has three levels at least, and eleven where suspension is owed
-pub pause_long : (c : ContextValue) → 3 ≤ interframe_count c
-pause_long c =
+-- interframe space has three levels at least, and eleven where suspend transmission is owed
+pub interframe_long : (c : ContextValue) → 3 ≤ interframe_count c
+interframe_long c =
     elim (cases_Bool (owes_suspension c)) [
       | inl t ↦ rw t (omega arith)
       | inr t ↦ rw t (omega arith)
     ]
 
-pub pause_owed : (c : ContextValue) → IsTrue (owes_suspension c) → interframe_count c ≡ 11
-pause_owed c t = rw t refl
+pub interframe_owed : (c : ContextValue) → IsTrue (owes_suspension c) → interframe_count c ≡ 11
+interframe_owed c t = rw t refl
 
-pub pause_short : (c : ContextValue) → IsFalse (owes_suspension c) → interframe_count c ≡ 3
-pause_short c t = rw t refl
+pub interframe_short : (c : ContextValue) → IsFalse (owes_suspension c) → interframe_count c ≡ 3
+interframe_short c t = rw t refl
 
 in_interframe : (c : ContextValue) (a : List Bit) (p : Piece) (n : Place) → Row c AtInterframeSpace a p n → InPausing (interframe_count c) a p n
 in_interframe c a p n interframe_space = all_at (interframe_count c)
-in_interframe c a p n interframe_space_sof = broken_at (interframe_count c) 2 a p n (let long = pause_long c in omega arith) refl refl refl
+in_interframe c a p n interframe_space_sof = broken_at (interframe_count c) 2 a p n (let long = interframe_long c in omega arith) refl refl refl
 in_interframe c a p n (suspend_transmission_sof i owed less) =
-    broken_at (interframe_count c) (3 + i) a p n (let long = pause_owed c owed in omega arith) refl
+    broken_at (interframe_count c) (3 + i) a p n (let long = interframe_owed c owed in omega arith) refl
     (rw (le-leb 2 (3 + i) (omega arith)) refl) (rw (le-leb 2 (3 + i) (omega arith)) refl)
 in_interframe c a p n intermission_overload =
-    let long = pause_long c in broken_at (interframe_count c) 0 a p n (omega arith) refl refl refl
+    let long = interframe_long c in broken_at (interframe_count c) 0 a p n (omega arith) refl refl refl
 in_interframe c a p n intermission_overload_second =
-    let long = pause_long c in broken_at (interframe_count c) 1 a p n (omega arith) refl refl refl
+    let long = interframe_long c in broken_at (interframe_count c) 1 a p n (omega arith) refl refl refl
 
 interframe_as : (count : ℕ) (a b x y : List Bit) (p q : Piece) (n m : Place) → InPausing count a p n →
     InPausing count b q m → a ++ x ≡ b ++ y → AreOne a p n b q m
@@ -234,7 +234,7 @@ interframe_as count a b x y p q n m h g e =
     let same = wait_once Recessive Dominant recessive-other count (h.i) (g.i) (h.l) (g.l) (seen_of x)
     (seen_of y) h.waits g.waits lines in (
       h.bits_are ∙ ap (λ t. recessive_bits t) same.1 ∙ sym g.bits_are,
-      h.piece_is ∙ ap (λ t. pause_piece count t) same.0 ∙ sym g.piece_is,
+      h.piece_is ∙ ap (λ t. interframe_piece count t) same.0 ∙ sym g.piece_is,
       h.place_is ∙ ap (λ t. pause_place count t) same.0 ∙ sym g.place_is,
     )
 

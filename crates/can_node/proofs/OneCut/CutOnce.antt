@@ -5,7 +5,8 @@ use Rattle.can_node.specs.Context.{ContextValue, fresh}
 use Rattle.can_node.specs.Pieces.{Place, Piece}
 use Rattle.can_node.specs.Pieces.Place.{AtReset}
 use Rattle.can_node.specs.Record.{Entry}
-use Rattle.can_node.specs.Cut.{IsOpenAt, Move, Count, counted, FinishedPiece, tagged, From, none_yet, IsCut}
+use Rattle.can_node.specs.FinishedPieces.{Count, counted, FinishedPiece, tagged, none_yet}
+use Rattle.can_node.specs.Cut.{IsOpenAt, Move, From, IsCut}
 use Rattle.can_node.specs.Cut.From.{here, on}
 use Rattle.can_node.proofs.OneCut.Entries.{open_part, outer_not_within}
 use Rattle.can_node.proofs.OneCut.Ways.{Way, way_of}

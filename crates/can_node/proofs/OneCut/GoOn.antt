@@ -11,7 +11,8 @@ use Rattle.can_node.specs.Record.Entry.{OneBit}
 use Rattle.can_node.specs.Record.Inner.{none_left, took, sends, aborts}
 use Rattle.can_node.specs.Effects.{along}
 use Rattle.can_node.specs.Table.{Row}
-use Rattle.can_node.specs.Cut.{IsOpenAt, IsOnBus, Move, From, FinishedPiece, Count, counted, counted_one, tagged}
+use Rattle.can_node.specs.FinishedPieces.{FinishedPiece, Count, counted, counted_one, tagged}
+use Rattle.can_node.specs.Cut.{IsOpenAt, IsOnBus, Move, From}
 use Rattle.can_node.specs.Cut.IsOpenAt.{rests, nothing, begun}
 use Rattle.can_node.specs.Cut.From.{here, on}
 

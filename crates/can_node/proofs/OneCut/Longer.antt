@@ -12,7 +12,8 @@ use Rattle.can_node.specs.Record.{Entry}
 use Rattle.can_node.specs.Record.Entry.{OneBit, Start, Send, Abort, Stop, BusOff}
 use Rattle.can_node.specs.Pieces.{Place, Piece, received_by}
 use Rattle.can_node.specs.Pieces.Place.{AtReset}
-use Rattle.can_node.specs.Cut.{FinishedPiece, IsCut, ReceivedFrame, received_if, received, Count, From, counted, counted_one, tagged, none_yet}
+use Rattle.can_node.specs.FinishedPieces.{FinishedPiece, ReceivedFrame, received_if, received, Count, counted, counted_one, tagged, none_yet}
+use Rattle.can_node.specs.Cut.{IsCut, From}
 use Rattle.can_node.specs.Cut.From.{here, on}
 use Rattle.can_node.specs.Events.{Step, received_in}
 use Rattle.can_node.specs.Events.Step.{Within, Finishes}

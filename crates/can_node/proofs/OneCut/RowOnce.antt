@@ -68,7 +68,7 @@ at_idle_once c a b x y p q n m (other {bits = l} none h) (other {bits = k} nothi
 at_idle_once c a b x y p q n m (own {request = r} some s) (own {request = u} one t) e =
     sends_alike c AtIdle r u a b x y p q n m some one s t e
 
--- where a frame began with the last bit of a pause
+-- where a frame began with the last bit of interframe space
 sof_seen_once : (c : ContextValue) (a b x y : List Bit) (p q : Piece) (n m : Place) →
     Row c AfterSof a p n → Row c AfterSof b q m → a ++ x ≡ b ++ y → AreOne a p n b q m
 sof_seen_once c a b x y p q n m (other_begun none h) (own_begun {request = r} some s) e =

@@ -40,9 +40,9 @@ slice_of b bits = record {
 }
 
 -- the bits among them are they
-pub bits_took : (bits : List Bit) → bits_in (map OneBit bits) ≡ bits
-bits_took [] = refl
-bits_took (b ∷ bits) = ap (λ t. b ∷ t) (bits_took bits)
+pub bits_entered : (bits : List Bit) → bits_in (map OneBit bits) ≡ bits
+bits_entered [] = refl
+bits_entered (b ∷ bits) = ap (λ t. b ∷ t) (bits_entered bits)
 
 -- a piece of bits alone
 pub by_bits : (c : ContextValue) (place next : Place) (p : Piece) (b : Bit) (bits : List Bit) → Row c place (b ∷ bits) p next →
@@ -50,7 +50,7 @@ pub by_bits : (c : ContextValue) (place next : Place) (p : Piece) (b : Bit) (bit
     Move c place (map OneBit (b ∷ bits)) (p ∷ []) (after c place (map OneBit (b ∷ bits)) p next) next
 by_bits c place next p b bits row stays =
     let P : List Bit → Type 0 = λ t. Row c place t p next in
-    Move.piece (map OneBit (b ∷ bits)) (slice_of b bits) (subst P (sym (bits_took (b ∷ bits))) row) stays
+    Move.piece (map OneBit (b ∷ bits)) (slice_of b bits) (subst P (sym (bits_entered (b ∷ bits))) row) stays
 
 -- a list that ends in eleven recessive levels has eleven
 eleven_long : (l : List Level) → EndsInEleven l → 11 ≤ length l
@@ -63,10 +63,10 @@ eleven_long l ends =
 pub first_eleven : IsFirst EndsInEleven (replicate 11 Recessive)
 first_eleven = first_by_length EndsInEleven (replicate 11 Recessive) eleven_long ([], refl)
 
--- eleven recessive bits after a start: the node joins the bus, whatever request it holds
-pub joins : (held : Option Request) →
+-- eleven recessive bits after a start: the bus is idle, whatever request the node holds
+pub integrates : (held : Option Request) →
     Move (record fresh { held = held }) AtIntegration (map OneBit (recessive_bits (replicate 11 Recessive))) (Integration ∷ [])
     (record fresh { held = held }) AtIdle
-joins held =
+integrates held =
     by_bits (record fresh { held = held }) AtIntegration AtIdle Integration (recessive_bit Recessive) (recessive_bits (replicate 10 Recessive))
     (integration (one_more first_eleven none_left refl)) (omega arith)

@@ -4,7 +4,8 @@ use Rattle.std.proofs.lemmas.List.{append_cancel_left}
 use Rattle.can_node.specs.Context.{ContextValue}
 use Rattle.can_node.specs.Pieces.{Place}
 use Rattle.can_node.specs.Record.{Entry}
-use Rattle.can_node.specs.Cut.{From, FinishedPiece, Count, counted, tagged}
+use Rattle.can_node.specs.FinishedPieces.{FinishedPiece, Count, counted, tagged}
+use Rattle.can_node.specs.Cut.{From}
 use Rattle.can_node.specs.Cut.From.{here, on}
 use Rattle.can_node.proofs.OneCut.GoOn.{counted_both}
 use Rattle.can_node.proofs.OneCut.MoveOnce.{move_once}

@@ -22,14 +22,14 @@ use Rattle.can_node.specs.Table.Row.{other}
 use Rattle.can_node.proofs.Bits.Nexts.{after_once}
 use Rattle.can_node.proofs.Bits.Seen.{seen-append, acknowledges_none, acknowledges_cons}
 
--- one line has one acknowledgement slot
+-- one line has one ACK slot
 pub ack_due_once : (l rest : List Level) → IsAckDue l → IsAckDue (l ++ rest) → rest ≡ []
 ack_due_once l rest h k =
     let longer : l ++ rest ≡ h.part ++ (Recessive ∷ rest) = ap (λ m. m ++ rest) h.whole ∙ append_assoc h.part (Recessive ∷ []) rest in
     let same : Recessive ∷ rest ≡ Recessive ∷ [] = after_once (l ++ rest) h.part k.part (Recessive ∷ rest) (Recessive ∷ []) h.is_part k.is_part longer k.whole in
     append-cancel (Recessive ∷ []) rest [] same
 
--- nothing is acknowledged after a wrong check sequence
+-- nothing is acknowledged after a wrong CRC sequence
 pub wrong_not_due : (l : List Level) (x : Level) → IsAckDue l → EndsInWrongCheck (l ++ x ∷ []) → ⊥
 wrong_not_due l x h w =
     let longer : l ++ x ∷ [] ≡ h.part ++ (Recessive ∷ x ∷ []) = ap (λ m. m ++ x ∷ []) h.whole ∙ append_assoc h.part (Recessive ∷ []) (x ∷ []) in
@@ -51,7 +51,7 @@ pub quiet : (listen : Bool) (l : List Level) → (IsAckDue l → ⊥) → Acknow
 quiet true l none = refl
 quiet false l none = none
 
--- up to the acknowledgement slot it drives recessive
+-- up to the ACK slot it drives recessive
 quiet_before : (listen : Bool) (l u : List Level) (bits : List Bit) → IsAckDue (l ++ u) → AllAcknowledge listen (l ++ u) bits → AllAcknowledge listen l (recessive_bits u ++ bits)
 quiet_before listen l [] bits due h = subst (λ m. AllAcknowledge listen m bits) (append-nil l) h
 quiet_before listen l (x ∷ u) bits due h =
@@ -74,7 +74,7 @@ seen-receives : (l : List Level) → seen_of (recessive_bits l) ≡ l
 seen-receives [] = refl
 seen-receives (x ∷ l) = ap (λ m. x ∷ m) (seen-receives l)
 
--- the bit of the acknowledgement slot where this level is seen: a node that only listens leaves it recessive
+-- the bit of the ACK slot where this level is seen: a node that only listens leaves it recessive
 abbrev pub slot_bit : Bool → Level → Bit
 slot_bit true x = recessive_bit x
 slot_bit false x = dominant_bit x
@@ -92,7 +92,7 @@ slot_acknowledges false l x due = due
 abbrev pub reception_bits : Bool → Level → List Level → List Bit
 reception_bits listen ack u = recessive_bits u ++ slot_bit listen ack ∷ recessive_bits (replicate 7 Recessive)
 
--- a line with a right check sequence is received, acknowledged unless the node only listens
+-- a line with a right CRC sequence is received, acknowledged unless the node only listens
 pub line_received : {f : FrameValue} {b c : List Level} (listen : Bool) (l u part : List Level) (ack : Level) →
     StuffedPart f b c part → Crc b c → AckFits listen ack → l ++ u ≡ part ++ Recessive ∷ [] →
     Receives listen l (reception_bits listen ack u) (Reception f) AtLastEofBit

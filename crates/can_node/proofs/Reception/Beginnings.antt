@@ -1,4 +1,4 @@
--- Where a receiver's frame begins.
+-- Where another node's frame begins for its receiver.
 use Rattle.std.proofs.Common.{◌≡◌, None, List, [], ◌∷◌, ◌++◌, refl, sym, subst, ◌∙◌, arith, append_assoc, inl, inr}
 use Rattle.std.proofs.lemmas.List.{append-nil, length-append}
 use Rattle.can_frame.specs.Frame.{FrameValue}
@@ -59,7 +59,7 @@ begins_good l begun inside =
       | inr past ↦ absurd (inside past)
     ]
 
--- the start of a frame alone
+-- SOF alone
 start_inside : IsInside (Dominant ∷ [])
 start_inside = record { short = (omega arith, tt); begins = refl; fits = omega arith; goes_on = λ whole. absurd (omega (arith, whole)) }
 
@@ -72,10 +72,10 @@ start_good =
 pub receives_from_idle : (c : ContextValue) → sent_at c AtIdle ≡ None → IsReceiving c AtIdle (recessive_bit Dominant ∷ [])
 receives_from_idle c none =
     receiving_at c AtIdle (recessive_bit Dominant ∷ []) (Dominant ∷ []) refl start_good.0 (inside_not_past (Dominant ∷ []) start_inside) start_good.1
-    (λ all p next recessive_bits. other none recessive_bits)
+    (λ all p next receives. other none receives)
 
--- and with the last bit of a pause
+-- and with the last bit of interframe space
 pub receives_from_pause : (c : ContextValue) → sent_at c AfterSof ≡ None → IsReceiving c AfterSof []
 receives_from_pause c none =
     receiving_at c AfterSof [] (Dominant ∷ []) refl start_good.0 (inside_not_past (Dominant ∷ []) start_inside) start_good.1
-    (λ all p next recessive_bits. other_begun none recessive_bits)
+    (λ all p next receives. other_begun none receives)

@@ -78,7 +78,7 @@ right_next l bits x h readable seen =
 abbrev pub readable_begins : (l : List Level) → IsReadable l → Begins l
 readable_begins l h = record { frame = h.frame; body = h.body; check = h.check; ack = h.ack; rest = h.rest; line = h.line }
 
--- a check sequence is right where the acknowledgement delimiter after it is readable
+-- a CRC sequence is right where the ACK delimiter after it is readable
 readable_right : (l : List Level) → IsReadable (l ++ Recessive ∷ []) → EndsInWrongCheck l → ⊥
 readable_right l h w =
     let P : List Level → Type 0 = λ m. Line h.frame h.body h.check h.ack (m ++ h.rest) in
@@ -157,7 +157,7 @@ form_breaks l before last at some readable (none, outside, over, count) =
 both_recessive : (x : Bit) → x.driven ≡ Recessive → x.seen ≡ Recessive → x ≡ recessive_bit Recessive
 both_recessive x d s = let P : Level → Level → Bit = λ y z. record { driven = y; seen = z } in ap₂ P d s
 
--- a wrong check sequence isn't followed by an acknowledgement
+-- a wrong CRC sequence isn't followed by an acknowledgement
 recessive_there : (listen : Bool) (l : List Level) (y : Level) → Acknowledges listen l y → EndsInWrongCheck l → y ≡ Recessive
 recessive_there true l y answers w = answers
 recessive_there false l Recessive answers w = refl
@@ -165,7 +165,7 @@ recessive_there false l Dominant due w =
     let none = after_once l due.part w.part (Recessive ∷ []) (Recessive ∷ w.ack ∷ []) due.is_part w.is_part due.whole w.whole in
     cc
 
--- and a wrong check sequence
+-- and a wrong CRC sequence
 pub check_breaks : (listen : Bool) (l : List Level) (before : List Bit) (last : Bit) → AllAcknowledge listen l (before ++ last ∷ []) →
     BreaksWith (l ++ seen_of before) last.seen CheckFault → Breaks l (before ++ last ∷ []) CheckError
 check_breaks listen l before last answers (wrong, recessive) =

@@ -70,10 +70,10 @@ bit_there (b ∷ bits) (y ∷ u) x v e =
 pub lost_there : (x : Bit) → x.driven ≡ Dominant → x.seen ≡ Recessive → x ≡ dominant_bit Recessive
 lost_there x d s = let P : Level → Level → Bit = λ y z. record { driven = y; seen = z } in ap₂ P d s
 
--- where the acknowledgement slot is next a receiver that doesn't only listen drives dominant
-forced_there : (l : List Level) (y : Level) → Acknowledges false l y → IsAckDue l → y ≡ Dominant
-forced_there l Dominant answers due = refl
-forced_there l Recessive none due = absurd (none due)
+-- where the ACK slot is next a receiver that doesn't only listen drives dominant
+dominant_there : (l : List Level) (y : Level) → Acknowledges false l y → IsAckDue l → y ≡ Dominant
+dominant_there l Dominant answers due = refl
+dominant_there l Recessive none due = absurd (none due)
 
 -- a level that isn't recessive is dominant
 not_recessive : (y : Level) → (y ≡ Recessive → ⊥) → y ≡ Dominant
@@ -102,11 +102,11 @@ acknowledged {f = f} {b = b} {c = c} false l part bits ack later h right inside 
             right = right;
             whole = ap (λ m. l ++ m) seen ∙ sym longer.1;
           } in
-          let driven = forced_there (l ++ seen_of before) slot.driven (answers before after slot whole) due in
+          let driven = dominant_there (l ++ seen_of before) slot.driven (answers before after slot whole) due in
           not_recessive ack (λ lost. answered before after (whole ∙ ap (λ x. before ++ x ∷ after) (lost_there slot driven (here ∙ lost))))
     ]
 
--- with the sixth bit of the end of frame the frame is received
+-- with the sixth bit of EOF the frame is received
 pub receives_now : (listen : Bool) (l : List Level) (bits : List Bit) (f : FrameValue) → (IsPastPart l → ⊥) → AllAcknowledge listen l bits → AllRight l bits →
     IsLineButFor 1 f (l ++ seen_of bits) → Receives listen l bits (Reception f) AtLastEofBit
 receives_now listen l bits f inside answers right h =

@@ -59,13 +59,13 @@ receiving_acknowledges c place bits x h answers =
     let P : List Level → Type 0 = λ m. Acknowledges c.listen m x.driven in
     acknowledges_push c.listen h.levels h.more x h.answers (subst P h.seen answers)
 
--- what it hears with one bit more is its piece
+-- what it receives with one bit more is its piece
 pub row_push : (c : ContextValue) (place next : Place) (bits : List Bit) (x : Bit) (p : Piece) (h : IsReceiving c place bits) →
     Receives c.listen h.levels (h.more ++ x ∷ []) p next → Row c place (bits ++ x ∷ []) p next
-row_push c place next bits x p h recessive_bits =
+row_push c place next bits x p h receives =
     let P : List Bit → Type 0 = λ m. Row c place m p next in
     let whole : bits ++ x ∷ [] ≡ h.before ++ (h.more ++ x ∷ []) = ap (λ m. m ++ x ∷ []) h.whole ∙ append_assoc h.before h.more (x ∷ []) in
-    subst P (sym whole) (h.row (h.more ++ x ∷ []) p next recessive_bits)
+    subst P (sym whole) (h.row (h.more ++ x ∷ []) p next receives)
 
 -- something wrong with the next bit ends the piece
 pub fault_row : (c : ContextValue) (place : Place) (bits : List Bit) (x : Bit) (cause : Cause) (segment : Segment) (stuffed : Bool) (h : IsReceiving c place bits) →

@@ -33,13 +33,13 @@ tail_begins {f = f} {b = b} {c = c} part front rest ack h e split = record {
 pub more_after : (l part front : List Level) (x : Level) → l ≡ part ++ front → l ++ x ∷ [] ≡ part ++ (front ++ x ∷ [])
 more_after l part front x e = ap (λ m. m ++ x ∷ []) e ∙ append_assoc part front (x ∷ [])
 
--- where the acknowledgement slot is next either level begins a line
+-- where the ACK slot is next either level begins a line
 pub slot_begins : (l : List Level) (x : Level) → IsAckDue l → Begins (l ++ x ∷ [])
 slot_begins l x due =
     tail_begins due.part (Recessive ∷ x ∷ []) (Recessive ∷ replicate 7 Recessive) x due.is_part
     (more_after l due.part (Recessive ∷ []) x due.whole) refl
 
--- a recessive acknowledgement delimiter begins a line, also after a wrong check sequence
+-- a recessive ACK delimiter begins a line, also after a wrong CRC sequence
 pub delimiter_begins : (l : List Level) → EndsInWrongCheck l → Begins (l ++ Recessive ∷ [])
 delimiter_begins l w =
     tail_begins w.part (Recessive ∷ w.ack ∷ Recessive ∷ []) (replicate 7 Recessive) w.ack w.is_part
@@ -52,13 +52,13 @@ pub data Wrong (listen : Bool) (l : List Level) (x : Bit) : Cause → Type 0 whe
   wrong_check : x ≡ recessive_bit Recessive → EndsInWrongCheck l → Wrong listen l x CheckError
   lost_ack : listen ≡ false → x ≡ dominant_bit Recessive → IsAckDue l → Wrong listen l x BitError
 
--- a receiver drives dominant in the acknowledgement slot alone, and not where it only listens
-pub forced_due : (listen : Bool) (l : List Level) (x : Bit) (y : Level) → x ≡ dominant_bit y → Acknowledges listen l x.driven → (listen ≡ false) × IsAckDue l
-forced_due true l x y e h =
+-- a receiver drives dominant in the ACK slot alone, and not where it only listens
+pub dominant_due : (listen : Bool) (l : List Level) (x : Bit) (y : Level) → x ≡ dominant_bit y → Acknowledges listen l x.driven → (listen ≡ false) × IsAckDue l
+dominant_due true l x y e h =
     let driven : x.driven ≡ Dominant = ap (λ (b : Bit). b.driven) e in
     let wrong : Dominant ≡ Recessive = sym driven ∙ h in
     cc
-forced_due false l x y e h =
+dominant_due false l x y e h =
     let P : Level → Type 0 = λ z. Acknowledges false l z in
     (refl, subst P (ap (λ (b : Bit). b.driven) e) h)
 
@@ -82,18 +82,18 @@ breaks_at listen l before last bits cause answers e (check other d ends) =
 breaks_at listen l before last bits cause answers e (own_ack other d) =
     let same = same_from_push before other last (dominant_bit Recessive) (sym e ∙ d) in
     let P : List Bit → Type 0 = λ m. AllAcknowledge listen l m in
-    let due = forced_due listen (l ++ seen_of before) last Recessive same.1 (answers before [] last e) in
+    let due = dominant_due listen (l ++ seen_of before) last Recessive same.1 (answers before [] last e) in
     lost_ack due.0 same.1 due.1
 
--- neither a stuff bit nor a fixed level is wrong where a check sequence is
+-- neither a stuff bit nor a fixed level is wrong where a CRC sequence is
 check_not_form : (l : List Level) (x : Bit) → x ≡ recessive_bit Recessive → EndsInWrongCheck l → Begins (l ++ x.seen ∷ [])
 check_not_form l x e w =
     let P : Level → Type 0 = λ y. Begins (l ++ y ∷ []) in
     subst P (sym (ap (λ (b : Bit). b.seen) e)) (delimiter_begins l w)
 
 -- a bit isn't driven both ways
-received_or_forced : (x : Bit) (y z : Level) → x ≡ recessive_bit y → x ≡ dominant_bit z → ⊥
-received_or_forced x y z e d =
+received_or_dominant : (x : Bit) (y z : Level) → x ≡ recessive_bit y → x ≡ dominant_bit z → ⊥
+received_or_dominant x y z e d =
     let wrong : Recessive ≡ Dominant = ap (λ (b : Bit). b.driven) (sym e ∙ d) in
     cc
 
@@ -110,13 +110,13 @@ wrong_once listen l x c d (wrong_form h none) (lost_ack s e due) = absurd (none 
 wrong_once listen l x c d (wrong_check e w) (wrong_stuff k never) = absurd (never (check_not_form l x e w))
 wrong_once listen l x c d (wrong_check e w) (wrong_form k never) = absurd (never (check_not_form l x e w))
 wrong_once listen l x c d (wrong_check e w) (wrong_check h v) = refl
-wrong_once listen l x c d (wrong_check e w) (lost_ack s h due) = absurd (received_or_forced x Recessive Recessive e h)
+wrong_once listen l x c d (wrong_check e w) (lost_ack s h due) = absurd (received_or_dominant x Recessive Recessive e h)
 wrong_once listen l x c d (lost_ack s e due) (wrong_stuff k never) = absurd (never (slot_begins l x.seen due))
 wrong_once listen l x c d (lost_ack s e due) (wrong_form k never) = absurd (never (slot_begins l x.seen due))
-wrong_once listen l x c d (lost_ack s e due) (wrong_check h w) = absurd (received_or_forced x Recessive Recessive h e)
+wrong_once listen l x c d (lost_ack s e due) (wrong_check h w) = absurd (received_or_dominant x Recessive Recessive h e)
 wrong_once listen l x c d (lost_ack s e due) (lost_ack t h other) = refl
 
--- nothing is wrong with a bit of a line with a right check sequence, acknowledged where that is needed
+-- nothing is wrong with a bit of a line with a right CRC sequence, acknowledged where that is needed
 pub line_not_wrong : (listen : Bool) (l : List Level) (x : Bit) (cause : Cause) (f : FrameValue) (b c : List Level) (ack : Level) (rest : List Level) →
     Line f b c ack ((l ++ x.seen ∷ []) ++ rest) → Crc b c → AckFits listen ack → Wrong listen l x cause → ⊥
 line_not_wrong listen l x cause f b c ack rest line right fits (wrong_stuff inside none) =

@@ -1,4 +1,4 @@
--- A receiver's frame has begun.
+-- A receiver in a frame has seen its SOF.
 use Rattle.std.proofs.Common.{◌≡◌, ◌≢◌, Bool, false, List, [], ◌∷◌, ◌++◌, length, replicate, refl, ap, sym, subst, ◌∙◌, arith}
 use Rattle.std.proofs.lemmas.List.{length-append, nil_from_length}
 use Rattle.can_bits.specs.declared.level.Level.{Level}
@@ -49,9 +49,9 @@ not_row : (c : ContextValue) (place next : Place) (bits : List Bit) (p : Piece) 
     Row c place bits p next → place ≢ AfterSof → bits ≡ recessive_bit Recessive ∷ [] → p ≡ Fault InReception cause segment → ⊥
 not_row c place next bits p cause segment (integration elevens) begun e d = cc
 not_row c place next bits p cause segment (idle none) begun e d = cc
-not_row c place next bits p cause segment (other {bits = more} none recessive_bits) begun e d = not_dominant more (sym e)
+not_row c place next bits p cause segment (other {bits = more} none receives) begun e d = not_dominant more (sym e)
 not_row c place next bits p cause segment (own {request = request} some sends) begun e d = not_sent c.self_test request bits p next cause segment sends e d
-not_row c place next bits p cause segment (other_begun none recessive_bits) begun e d = begun refl
+not_row c place next bits p cause segment (other_begun none receives) begun e d = begun refl
 not_row c place next bits p cause segment (own_begun some sends) begun e d = begun refl
 not_row c place next bits p cause segment last_eof_bit begun e d = cc
 not_row c place next bits p cause segment last_eof_bit_overload begun e d = cc
@@ -87,7 +87,7 @@ no_bits AtInterframeSpace bits e = (nothing_seen bits e, λ wrong. cc)
 nothing_before : {A : Type 0} (a b : List A) → a ++ b ≡ [] → a ≡ []
 nothing_before a b e = nil_from_length a (omega (arith, ap length e, length-append a b))
 
--- a recessive level at the start of a frame is a fault for whoever waits for one there
+-- a recessive level at SOF is a fault for whoever waits for one there
 wrong_start : (listen : Bool) (l : List Level) → l ≡ [] → IsWithin l → ¬ IsPastPart l →
     Receives listen l (recessive_bit Recessive ∷ []) (Fault InReception StuffError (segment_at [] 0)) AtFlag
 wrong_start listen l none within inside =

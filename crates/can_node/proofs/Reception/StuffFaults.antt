@@ -12,7 +12,7 @@ use Rattle.can_node.specs.declared.cause.Cause.{Cause}
 use Rattle.can_node.specs.declared.cause.Cause.TheVariants.{Stuff as StuffError}
 use Rattle.can_node.specs.Bits.{Bit, recessive_bit, dominant_bit, recessive_bits, seen_of}
 use Rattle.can_node.proofs.Bits.Seen.{acknowledges_none, acknowledges_cons}
-use Rattle.can_node.proofs.Bits.DrivenAlike.{no_forced, seen_received, seen_both}
+use Rattle.can_node.proofs.Bits.DrivenAlike.{never_dominant, seen_received, seen_both}
 use Rattle.can_bits.specs.Acknowledging.{IsAckDue}
 use Rattle.can_node.specs.Frames.{Acknowledges, AllAcknowledge, IsWithin, Breaks, BreaksOff}
 use Rattle.can_node.specs.Frames.Breaks.{stuff, form, check, own_ack}
@@ -102,7 +102,7 @@ nothing_wrong l before front rest cause unended begun e (check ahead whole wrong
     let more = past_more (l ++ seen_of ahead) (seen_of (recessive_bit Recessive ∷ rest)) past in
     unended (subst P (sym (joined l before ahead (recessive_bit Recessive ∷ rest) split)) more)
 nothing_wrong l before front rest cause unended begun e (own_ack ahead whole) =
-    no_forced before ahead rest Recessive (e ∙ ap (λ t. t ++ rest) whole ∙ append_assoc ahead (dominant_bit Recessive ∷ []) rest)
+    never_dominant before ahead rest Recessive (e ∙ ap (λ t. t ++ rest) whole ∙ append_assoc ahead (dominant_bit Recessive ∷ []) rest)
 
 -- so the first fault is at the last level at the earliest
 not_before : (l before : List Level) (last : Level) → (IsPastPart (l ++ before) → ⊥) → Begins (l ++ before) →
@@ -118,7 +118,8 @@ not_before l before last unended begun front rest cause e h =
           absurd (nothing_wrong l before front some.0 cause unended begun same.0 h)
     ]
 
--- the receiver's fault: within the stuffed part a line goes on with the levels before the last one, and none with that one
+-- the receiver's fault: within the stuffed part a line goes on with the levels before the last one, and none with that
+-- one
 pub stuff_fault : (listen : Bool) (l before : List Level) (last : Level) (segment : Segment) (stuffed : Bool) →
     IsWithin (l ++ before) → (IsPastPart (l ++ before) → ⊥) → (Begins (l ++ (before ++ last ∷ [])) → ⊥) →
     IsNext (l ++ before) segment stuffed →

@@ -1,4 +1,4 @@
--- A frame that its receiver hears goes on to a piece.
+-- A frame under way at its receiver can go on to a piece.
 use Rattle.std.proofs.Common.{◌≡◌, ◌≢◌, inl, inr, Bool, true, false, List, [], ◌∷◌, ◌++◌, length, refl, ap, sym, subst, ◌∙◌, arith, append_assoc}
 use Rattle.std.proofs.lemmas.Bool.{cases_eq}
 use Rattle.std.proofs.lemmas.List.{append-nil}
@@ -34,7 +34,7 @@ before_more c place bits x h =
     let P : List Bit → Type 0 = λ m. Row c place m h.piece h.next in
     record { piece = h.piece; next = h.next; more = x; rest = h.more ∷ h.rest; lawful = subst P (append_assoc bits (x ∷ []) (h.more ∷ h.rest)) h.lawful }
 
--- after the stuffed part a dominant level is a form error, but in the acknowledgement slot
+-- after the stuffed part a dominant level is a form error, but in the ACK slot
 dominant_next : {f : FrameValue} {b d : List Level} (c : ContextValue) (place : Place) (bits : List Bit) (part after : List Level) → IsReceiving c place bits →
     StuffedPart f b d part → seen_of (frame_bits place bits) ≡ part ++ after → length after ≢ 1 → IsUnfinished c place bits
 dominant_next c place bits part after h is_part e other =
@@ -69,7 +69,7 @@ part_on {f = f} {b = b} {d = d} c place bits (x ∷ more) h is_part =
     before_more c place bits (recessive_bit x)
     (part_on c place (bits ++ recessive_bit x ∷ []) more next (subst P (ap (λ m. m ++ more) (sym (frame_push place bits (recessive_bit x)))) longer))
 
--- so may a bit in the acknowledgement slot, and a dominant level after it
+-- so may a bit in the ACK slot, and a dominant level after it
 slot_on : {f : FrameValue} {b d : List Level} (c : ContextValue) (place : Place) (bits : List Bit) (part : List Level) (x : Bit) → IsReceiving c place bits →
     StuffedPart f b d part → seen_of (frame_bits place bits) ≡ part ++ Recessive ∷ [] → Acknowledges c.listen (seen_of (frame_bits place bits)) x.driven → x.seen ≡ Dominant →
     IsUnfinished c place bits
@@ -81,7 +81,7 @@ slot_on c place bits part x h is_part e answers seen =
     frame_push place bits x ∙ ap (λ m. m ++ x.seen ∷ []) e ∙ append_assoc part (Recessive ∷ []) (x.seen ∷ []) in
     before_more c place bits x (dominant_next c place (bits ++ x ∷ []) part (Recessive ∷ x.seen ∷ []) next is_part whole (λ one. omega (arith, one)))
 
--- what is driven there hangs on the check sequence
+-- what is driven there hangs on the CRC sequence
 slot_drives : {f : FrameValue} {b d : List Level} (listen : Bool) (l part : List Level) → StuffedPart f b d part → l ≡ part ++ Recessive ∷ [] →
     (y : Level) × Acknowledges listen l y
 slot_drives true l part h e = (Recessive, refl)
@@ -104,7 +104,7 @@ past_on c place bits part after h is_part e =
       | inr other ↦ dominant_next c place bits part after h is_part e other
     ]
 
--- a frame that its receiver hears goes on to some piece
+-- a frame under way at its receiver can go on to some piece
 pub open_receiving : (c : ContextValue) (place : Place) (bits : List Bit) → IsReceiving c place bits → IsUnfinished c place bits
 open_receiving c place bits h =
     elim (begins_in (seen_of (frame_bits place bits)) (receiving_within c place bits h).begun) [

@@ -1,4 +1,5 @@
--- A table of facts on counters, flags, roles and bus-off, at rules that are easily got wrong. Each is computed.
+-- Facts on counters, flags, roles and bus-off, at rules that are easily got wrong. Each is computed. "Rule n" is the
+-- rule of that number of Bosch CAN 2.0 part A section 7, "Fault confinement".
 use Rattle.std.proofs.Common.{◌≡◌, true, false, [], ◌∷◌, ◌++◌, map, replicate, refl, Some, None}
 use Rattle.can_bits.specs.declared.level.Level.TheVariants.{Dominant, Recessive}
 use Rattle.can_bits.specs.declared.segment.Segment.TheVariants.{Id28To21, AckDelimiter}
@@ -7,7 +8,7 @@ use Rattle.can_node.specs.declared.cause.Cause.TheVariants.{Bit as BitError, Stu
 use Rattle.can_node.specs.declared.config.Config.{Config}
 use Rattle.can_node.specs.declared.request.Request.{Request}
 use Rattle.can_node.specs.Bits.{recessive_bit, dominant_bit, recessive_bits}
-use Rattle.can_node.specs.Context.{ContextValue, fresh, owes_suspension, integration_count}
+use Rattle.can_node.specs.Context.{ContextValue, fresh, is_passive, owes_suspension, integration_count}
 use Rattle.can_node.specs.declared.role.Role.TheVariants.{Transmitter, Receiver}
 use Rattle.can_node.specs.declared.flag_kind.FlagKind.TheVariants.{ActiveError, PassiveError, Overload}
 use Rattle.can_node.specs.declared.fault_site.FaultSite.{FaultSite}
@@ -50,92 +51,16 @@ gone = record fresh { off = true; tec = 127 }
 abbrev pub failed : FaultSite → Cause → ContextValue → ContextValue
 failed site cause c = closed (Fault site cause Id28To21) AtFlag c
 
--- ---- the kind of an error flag
+-- ---- errors in frames: rules 1 and 3
 
--- the fault that brings the receive error counter to 128 still has an active flag, and the next one a passive flag
-flag_at_127 : ((failed InReception StuffError (record fresh { rec = 127 })).flag ≡ ActiveError)
-    × ((failed InReception StuffError (record fresh { rec = 127 })).rec ≡ 128)
-    × ((failed InReception StuffError (record fresh { rec = 128 })).flag ≡ PassiveError)
-flag_at_127 = (refl, refl, refl)
+-- rules 1 and 3: an error in a frame is 1 for a receiver, and 8 for its transmitter
+errors_in_frames : ((failed InReception StuffError fresh).rec ≡ 1) × ((failed InReception FormError fresh).rec ≡ 1)
+    × ((failed InReception CheckError fresh).rec ≡ 1) × ((failed InReception BitError fresh).rec ≡ 1)
+    × ((failed InTransmission BitError sender).tec ≡ 8)
+errors_in_frames = (refl, refl, refl, refl, refl)
 
--- the same for a transmitter
-sender_flag_at_127 : ((failed InTransmission BitError (record sender { tec = 127 })).flag ≡ ActiveError)
-    × ((failed InTransmission BitError (record sender { tec = 127 })).tec ≡ 135)
-    × ((failed InTransmission BitError (record sender { tec = 128 })).flag ≡ PassiveError)
-sender_flag_at_127 = (refl, refl, refl)
-
--- one counter at 128 is enough for a receiver's fault, and it is no matter which
-flag_by_other_counter : (failed InReception FormError (record fresh { tec = 128 })).flag ≡ PassiveError
-flag_by_other_counter = refl
-
--- an acknowledgement in the same frame comes before its form fault: from 128 to 127, so the flag is active
-flag_after_acknowledgement : (closed (Fault InReception FormError AckDelimiter) AtFlag
-    (along (record fresh { rec = 128 }) AfterSof [] (OneBit (dominant_bit Dominant) ∷ OneBit (recessive_bit Dominant) ∷ []))).flag
-    ≡ ActiveError
-flag_after_acknowledgement = refl
-
--- what is no fault has an overload flag, also for an error passive node
-flag_of_overload : ((closed LastEofBit AtFlag passive_sender).flag ≡ Overload)
-    × ((closed InterframeSpaceBroken AtFlag passive_sender).flag ≡ Overload)
-    × ((closed Delimiter AtFlag passive_sender).flag ≡ Overload)
-flag_of_overload = (refl, refl, refl)
-
--- ---- receivers
-
--- an acknowledgement that is seen takes the receive error counter from 128 or more to 127, and one from any other but 0
-acknowledged : ((at_bit (record fresh { rec = 200 }) AfterSof [] (dominant_bit Dominant)).rec ≡ 127)
-    × ((at_bit (record fresh { rec = 128 }) AfterSof [] (dominant_bit Dominant)).rec ≡ 127)
-    × ((at_bit (record fresh { rec = 127 }) AfterSof [] (dominant_bit Dominant)).rec ≡ 126)
-    × ((at_bit (record fresh { rec = 1 }) AfterSof [] (dominant_bit Dominant)).rec ≡ 0)
-    × ((at_bit fresh AfterSof [] (dominant_bit Dominant)).rec ≡ 0)
-acknowledged = (refl, refl, refl, refl, refl)
-
--- one that isn't seen changes nothing
-acknowledgement_unseen : (at_bit (record fresh { rec = 5 }) AfterSof [] (dominant_bit Recessive)).rec ≡ 5
-acknowledgement_unseen = refl
-
--- the first dominant level after a receiver's error flag, active or passive, is 8
-first_after_flag : ((at_bit (record fresh { flag = ActiveError }) AtDelimiter [] (recessive_bit Dominant)).rec ≡ 8)
-    × ((at_bit (record fresh { flag = PassiveError }) AtDelimiter [] (recessive_bit Dominant)).rec ≡ 8)
-first_after_flag = (refl, refl)
-
--- after an overload flag it is nothing, the second is nothing, and it is nothing for a transmitter
-first_after_flag_not : ((at_bit (record fresh { flag = Overload }) AtDelimiter [] (recessive_bit Dominant)).rec ≡ 0)
-    × ((at_bit fresh AtDelimiter (recessive_bit Dominant ∷ []) (recessive_bit Dominant)).rec ≡ 0)
-    × (at_bit sender AtDelimiter [] (recessive_bit Dominant) ≡ sender)
-first_after_flag_not = (refl, refl, refl)
-
--- the eighth dominant level after a flag, also an overload flag, is 8, by the role
-eighth_after_flag : ((at_bit (record fresh {
-  flag =
-      Overload;
-}) AtDelimiter (recessive_bits (replicate 7 Dominant)) (recessive_bit Dominant)).rec ≡ 8)
-    × ((at_bit sender AtDelimiter (recessive_bits (replicate 7 Dominant)) (recessive_bit Dominant)).tec ≡ 8)
-    × ((at_bit sender AtDelimiter (recessive_bits (replicate 6 Dominant)) (recessive_bit Dominant)).tec ≡ 0)
-eighth_after_flag = (refl, refl, refl)
-
--- sixteen dominant levels after a receiver's error flag: once 8 for the first, and 8 for each eighth
-sixteen_after_flag : (along fresh AtDelimiter [] (map OneBit (recessive_bits (replicate 16 Dominant)))).rec ≡ 24
-sixteen_after_flag = refl
-
--- a dominant level after recessive ones in a delimiter is none of these, but a fault of 1, or 8 for a transmitter
-delimiter_fault : (at_bit fresh AtDelimiter (recessive_bits (replicate 7 Recessive)) (recessive_bit Dominant) ≡ fresh)
-    × ((failed InDelimiter FormError fresh).rec ≡ 1)
-    × ((failed InDelimiter FormError sender).tec ≡ 8)
-delimiter_fault = (refl, refl, refl)
-
--- a bit error in an active flag is 8 for receivers too
-flag_fault_by_role : ((failed InFlag BitError fresh).rec ≡ 8)
-    × ((failed InFlag BitError sender).tec ≡ 8)
-flag_fault_by_role = (refl, refl)
-
--- the receive error counter stops at 255
-rec_stops : (failed InFlag BitError (record fresh { rec = 250 })).rec ≡ 255
-rec_stops = refl
-
--- ---- transmitters
-
--- a passive transmitter's step for a missing acknowledgement is owed, and an active one's is made at once
+-- rule 3, exception 1: an error passive transmitter's step for a missing acknowledgement is owed, and an active one's
+-- is made at once
 missing_acknowledgement : (failed InTransmission AckError passive_sender ≡ record passive_sender {
   flag =
       PassiveError;
@@ -144,7 +69,7 @@ missing_acknowledgement : (failed InTransmission AckError passive_sender ≡ rec
     × (failed InTransmission AckError sender ≡ record sender { flag = ActiveError; tec = 8 })
 missing_acknowledgement = (refl, refl)
 
--- the owed step is made once, at the first dominant level in the flag
+-- rule 3, exception 1: the owed step is made once, at the first dominant level in the flag
 owed_once : ((along (record passive_sender {
   ack_step_owed =
       true;
@@ -156,60 +81,119 @@ owed_once : ((along (record passive_sender {
     × ((along (record passive_sender { ack_step_owed = true }) AtFlag [] (map OneBit (recessive_bits (replicate 5 Dominant)))).tec ≡ 136)
 owed_once = (refl, refl, refl)
 
--- where the flag ends with no dominant level it is owed no more
+-- rule 3, exception 1: where the flag ends with no dominant level it is owed no more
 owed_no_more : closed Flag AtDelimiter (record passive_sender { ack_step_owed = true }) ≡ passive_sender
 owed_no_more = refl
 
--- a recessive stuff bit overdriven before the remote bit changes no counter
+-- rule 3, exception 2: a recessive stuff bit that is seen dominant before RTR changes no counter
 stuff_error_counts_nothing : (failed InTransmission StuffError (record sender { tec = 20 })).tec ≡ 20
 stuff_error_counts_nothing = refl
 
--- a sent frame takes one from the transmit error counter, but not below 0, and its request is held no more
+-- ---- flags, and what comes after them: rules 2, 4, 5 and 6
+
+-- rule 2: the first dominant level after a receiver's error flag, active or passive, is 8
+first_after_flag : ((at_bit (record fresh { flag = ActiveError }) AtDelimiter [] (recessive_bit Dominant)).rec ≡ 8)
+    × ((at_bit (record fresh { flag = PassiveError }) AtDelimiter [] (recessive_bit Dominant)).rec ≡ 8)
+first_after_flag = (refl, refl)
+
+-- rule 2: after an overload flag it is nothing, the second is nothing, and it is nothing for a transmitter
+first_after_flag_not : ((at_bit (record fresh { flag = Overload }) AtDelimiter [] (recessive_bit Dominant)).rec ≡ 0)
+    × ((at_bit fresh AtDelimiter (recessive_bit Dominant ∷ []) (recessive_bit Dominant)).rec ≡ 0)
+    × (at_bit sender AtDelimiter [] (recessive_bit Dominant) ≡ sender)
+first_after_flag_not = (refl, refl, refl)
+
+-- rules 4 and 5: a bit error in an active error flag is 8, for a receiver too
+flag_fault_by_role : ((failed InFlag BitError fresh).rec ≡ 8)
+    × ((failed InFlag BitError sender).tec ≡ 8)
+flag_fault_by_role = (refl, refl)
+
+-- rule 6: the eighth dominant level after a flag, also an overload flag, is 8, by the role
+eighth_after_flag : ((at_bit (record fresh {
+  flag =
+      Overload;
+}) AtDelimiter (recessive_bits (replicate 7 Dominant)) (recessive_bit Dominant)).rec ≡ 8)
+    × ((at_bit sender AtDelimiter (recessive_bits (replicate 7 Dominant)) (recessive_bit Dominant)).tec ≡ 8)
+    × ((at_bit sender AtDelimiter (recessive_bits (replicate 6 Dominant)) (recessive_bit Dominant)).tec ≡ 0)
+eighth_after_flag = (refl, refl, refl)
+
+-- rules 2 and 6: sixteen dominant levels after a receiver's error flag are 8 for the first, and 8 for each eighth
+sixteen_after_flag : (along fresh AtDelimiter [] (map OneBit (recessive_bits (replicate 16 Dominant)))).rec ≡ 24
+sixteen_after_flag = refl
+
+-- rules 1 and 3: a dominant level after recessive ones in a delimiter is none of these, but a form error of 1, or of 8
+-- for a transmitter
+delimiter_fault : (at_bit fresh AtDelimiter (recessive_bits (replicate 7 Recessive)) (recessive_bit Dominant) ≡ fresh)
+    × ((failed InDelimiter FormError fresh).rec ≡ 1)
+    × ((failed InDelimiter FormError sender).tec ≡ 8)
+delimiter_fault = (refl, refl, refl)
+
+-- ---- frames that go well: rules 7 and 8
+
+-- rule 7: a sent frame takes one from TEC, but not below 0, and its request is held no more
 sent_counts : ((closed (Transmission asked) AtInterframeSpace passive_sender).tec ≡ 127)
     × ((closed (Transmission asked) AtInterframeSpace sender).tec ≡ 0)
     × ((closed (Transmission asked) AtInterframeSpace sender).held ≡ None)
 sent_counts = (refl, refl, refl)
 
--- only a passive transmitter owes suspension
-suspension : (owes_suspension passive_sender ≡ true) × (owes_suspension (record sender { rec = 128 }) ≡ true)
-    × (owes_suspension sender ≡ false) × (owes_suspension (record fresh { tec = 128 }) ≡ false)
-suspension = (refl, refl, refl, refl)
+-- rule 8: an acknowledgement that is seen takes REC from 128 or more to 127, and takes one from any other but 0
+acknowledged : ((at_bit (record fresh { rec = 200 }) AfterSof [] (dominant_bit Dominant)).rec ≡ 127)
+    × ((at_bit (record fresh { rec = 128 }) AfterSof [] (dominant_bit Dominant)).rec ≡ 127)
+    × ((at_bit (record fresh { rec = 127 }) AfterSof [] (dominant_bit Dominant)).rec ≡ 126)
+    × ((at_bit (record fresh { rec = 1 }) AfterSof [] (dominant_bit Dominant)).rec ≡ 0)
+    × ((at_bit fresh AfterSof [] (dominant_bit Dominant)).rec ≡ 0)
+acknowledged = (refl, refl, refl, refl, refl)
 
--- the transmitter of the frame before is receiver once it is idle
-idle_role : (closed InterframeSpace AtIdle sender).role ≡ Receiver
-idle_role = refl
+-- rule 8: one that isn't seen changes nothing
+acknowledgement_unseen : (at_bit (record fresh { rec = 5 }) AfterSof [] (dominant_bit Recessive)).rec ≡ 5
+acknowledgement_unseen = refl
 
--- where a frame starts in a pause the holder of a request is transmitter, also of one that came in this pause
-pause_role : ((closed InterframeSpaceWithSof AfterSof (record fresh { held = Some asked })).role ≡ Transmitter)
-    × ((closed InterframeSpaceWithSof AfterSof (along fresh AtInterframeSpace [] (OneBit (recessive_bit Recessive) ∷ Send asked ∷
-    OneBit (recessive_bit Recessive) ∷ OneBit (recessive_bit Dominant) ∷ []))).role ≡ Transmitter)
-pause_role = (refl, refl)
+-- ---- error active and error passive: rules 9 and 11
 
--- not with none held, nor where suspension is owed, nor where it only listens
-pause_role_not : ((closed InterframeSpaceWithSof AfterSof (record sender { held = None })).role ≡ Receiver)
-    × ((closed InterframeSpaceWithSof AfterSof passive_sender).role ≡ Receiver)
-    × ((closed InterframeSpaceWithSof AfterSof (record listener { held = Some asked })).role ≡ Receiver)
-pause_role_not = (refl, refl, refl)
+-- rules 9 and 11: error passive with a counter at 128, and error active with both at 127
+passive_from_128 : (is_passive (record fresh { tec = 128 }) ≡ true) × (is_passive (record fresh { rec = 128 }) ≡ true)
+    × (is_passive (record fresh { tec = 127; rec = 127 }) ≡ false)
+passive_from_128 = (refl, refl, refl)
 
--- ---- listening only
+-- rule 9: the error that brings REC to 128 still has an active error flag, and the next one a passive error flag
+flag_at_127 : ((failed InReception StuffError (record fresh { rec = 127 })).flag ≡ ActiveError)
+    × ((failed InReception StuffError (record fresh { rec = 127 })).rec ≡ 128)
+    × ((failed InReception StuffError (record fresh { rec = 128 })).flag ≡ PassiveError)
+flag_at_127 = (refl, refl, refl)
 
--- no counter steps at a fault, at its dominant levels and at an eleven, and at a start while bus-off stands
-listening : (failed InReception CheckError listener ≡ listener) × (failed InDelimiter FormError listener ≡ listener)
-    × (at_bit listener AtDelimiter [] (recessive_bit Dominant) ≡ listener)
-    × (at_bit listener AtDelimiter (recessive_bits (replicate 7 Dominant)) (recessive_bit Dominant) ≡ listener)
-    × ((at_bit (record listener { off = true }) AtIntegration (recessive_bits (replicate 10 Recessive)) (recessive_bit Recessive)).tec ≡ 7)
-    × ((closed Integration AtIdle (record listener { off = true })).off ≡ true)
-listening = (refl, refl, refl, refl, refl, refl)
+-- rule 9: the same for a transmitter
+sender_flag_at_127 : ((failed InTransmission BitError (record sender { tec = 127 })).flag ≡ ActiveError)
+    × ((failed InTransmission BitError (record sender { tec = 127 })).tec ≡ 135)
+    × ((failed InTransmission BitError (record sender { tec = 128 })).flag ≡ PassiveError)
+sender_flag_at_127 = (refl, refl, refl)
 
--- ---- bus-off
+-- rule 9: one counter at 128 is enough, and it is no matter which
+flag_by_other_counter : (failed InReception FormError (record fresh { tec = 128 })).flag ≡ PassiveError
+flag_by_other_counter = refl
 
--- a fault takes a transmitter to 256, which is bus-off: counters 127 and 0, and the request is dropped
+-- rules 8 and 9: an acknowledgement in the same frame comes before its form error: from 128 to 127, so the flag is
+-- active
+flag_after_acknowledgement : (closed (Fault InReception FormError AckDelimiter) AtFlag
+    (along (record fresh { rec = 128 }) AfterSof [] (OneBit (dominant_bit Dominant) ∷ OneBit (recessive_bit Dominant) ∷ []))).flag
+    ≡ ActiveError
+flag_after_acknowledgement = refl
+
+-- part A section 3.1.4: an overload condition has an overload flag, also for an error passive node
+flag_of_overload : ((closed LastEofBit AtFlag passive_sender).flag ≡ Overload)
+    × ((closed InterframeSpaceBroken AtFlag passive_sender).flag ≡ Overload)
+    × ((closed Delimiter AtFlag passive_sender).flag ≡ Overload)
+flag_of_overload = (refl, refl, refl)
+
+-- ---- bus-off: rules 10 and 12
+
+-- rule 10: an error takes a transmitter to 256, which is bus-off. The counters are then 127 and 0 (SJA1000 data sheet,
+-- 6.4.11 and 6.4.12), and the request is dropped
 going_off : ((failed InTransmission BitError (record sender { tec = 248 })).tec ≡ 256)
     × (with_off (failed InTransmission BitError (record sender { tec = 248; rec = 9 }))
     ≡ record sender { tec = 127; rec = 0; off = true; held = None; flag = PassiveError })
 going_off = (refl, refl)
 
--- while it stands eleven recessive levels are waited for 128 times, and each takes one from the transmit error counter
+-- rule 12: while it stands eleven recessive levels are waited for 128 times. Each takes one from TEC (this project's
+-- own rule)
 recovering : (integration_count gone ≡ 128) × (integration_count fresh ≡ 1)
     × ((along gone AtIntegration [] (map OneBit (recessive_bits (replicate 10 Recessive)))).tec ≡ 127)
     × ((along gone AtIntegration [] (map OneBit (recessive_bits (replicate 11 Recessive)))).tec ≡ 126)
@@ -217,15 +201,52 @@ recovering : (integration_count gone ≡ 128) × (integration_count fresh ≡ 1)
     × ((along gone AtIntegration [] (map OneBit (recessive_bits (replicate 10 Recessive ++ Dominant ∷ Recessive ∷ [])))).tec ≡ 127)
 recovering = (refl, refl, refl, refl, refl, refl)
 
--- the last of them ends bus-off, with both counters 0
+-- rule 12: the last of them ends bus-off, with both counters 0
 recovered : closed Integration AtIdle gone ≡ fresh
 recovered = refl
 
--- a start while bus-off stands begins anew with 127 and 0, unless the node only listens; any other start
--- changes no counter
+-- this project's own rule: a start while bus-off stands begins anew with 127 and 0, unless the node only listens; any
+-- other start changes no counter
 starting : (config : Config) →
     ((with_start (record config { listen = false }) (record gone { tec = 100; rec = 3 })).tec ≡ 127)
     × ((with_start (record config { listen = false }) (record gone { tec = 100; rec = 3 })).rec ≡ 0)
     × ((with_start (record config { listen = true }) (record gone { tec = 100 })).tec ≡ 100)
     × ((with_start (record config { listen = false }) passive_sender).tec ≡ 128)
 starting config = (refl, refl, refl, refl)
+
+-- ---- beside the numbered rules
+
+-- this project's own rule: REC stops at 255
+rec_stops : (failed InFlag BitError (record fresh { rec = 250 })).rec ≡ 255
+rec_stops = refl
+
+-- SJA1000 data sheet, 6.4.3: at a node that only listens no counter steps at an error, at a dominant level after its
+-- flag, at an eleven, and at a start while bus-off stands
+listening : (failed InReception CheckError listener ≡ listener) × (failed InDelimiter FormError listener ≡ listener)
+    × (at_bit listener AtDelimiter [] (recessive_bit Dominant) ≡ listener)
+    × (at_bit listener AtDelimiter (recessive_bits (replicate 7 Dominant)) (recessive_bit Dominant) ≡ listener)
+    × ((at_bit (record listener { off = true }) AtIntegration (recessive_bits (replicate 10 Recessive)) (recessive_bit Recessive)).tec ≡ 7)
+    × ((closed Integration AtIdle (record listener { off = true })).off ≡ true)
+listening = (refl, refl, refl, refl, refl, refl)
+
+-- part A section 3.1.5: only an error passive transmitter owes suspend transmission
+suspension : (owes_suspension passive_sender ≡ true) × (owes_suspension (record sender { rec = 128 }) ≡ true)
+    × (owes_suspension sender ≡ false) × (owes_suspension (record fresh { tec = 128 }) ≡ false)
+suspension = (refl, refl, refl, refl)
+
+-- part A section 3.2: the transmitter of the frame before is receiver once it is idle
+idle_role : (closed InterframeSpace AtIdle sender).role ≡ Receiver
+idle_role = refl
+
+-- ISO 11898-1: where SOF comes in interframe space the holder of a request is transmitter, also of one that came in
+-- this interframe space
+sof_role : ((closed InterframeSpaceWithSof AfterSof (record fresh { held = Some asked })).role ≡ Transmitter)
+    × ((closed InterframeSpaceWithSof AfterSof (along fresh AtInterframeSpace [] (OneBit (recessive_bit Recessive) ∷ Send asked ∷
+    OneBit (recessive_bit Recessive) ∷ OneBit (recessive_bit Dominant) ∷ []))).role ≡ Transmitter)
+sof_role = (refl, refl)
+
+-- not with none held, nor where suspend transmission is owed, nor where it only listens
+sof_role_not : ((closed InterframeSpaceWithSof AfterSof (record sender { held = None })).role ≡ Receiver)
+    × ((closed InterframeSpaceWithSof AfterSof passive_sender).role ≡ Receiver)
+    × ((closed InterframeSpaceWithSof AfterSof (record listener { held = Some asked })).role ≡ Receiver)
+sof_role_not = (refl, refl, refl)

@@ -1,4 +1,5 @@
--- A table of facts on requests and on what a bit brings, at rules that are easily got wrong. Each is computed.
+-- Facts on requests and on what a bit tells, at rules that are easily got wrong. Each is computed. "Rule n" is the rule
+-- of that number of Bosch CAN 2.0 part A section 7, "Fault confinement".
 use Rattle.std.proofs.Common.{◌≡◌, true, false, [], ◌∷◌, replicate, refl, Some, None}
 use Rattle.can_bits.specs.declared.level.Level.TheVariants.{Dominant, Recessive}
 use Rattle.can_bits.specs.declared.segment.Segment.TheVariants.{Id28To21}
@@ -16,7 +17,7 @@ use Rattle.can_node.proofs.Rules.Judged.{asked, once, sender, passive_sender, go
 use Rattle.can_node.specs.declared.bit_events.BitEvents.{BitEvents}
 use Rattle.can_node.specs.Events.Step.{Within, Finishes}
 
--- ---- requests
+-- ---- requests (SJA1000 data sheet, 6.4.4, command register)
 
 -- an abort marks the request of a frame that is going out, and drops it anywhere else
 aborting : (with_abort AtIdle sender ≡ record sender { aborted = true })
@@ -25,26 +26,26 @@ aborting : (with_abort AtIdle sender ≡ record sender { aborted = true })
     × ((with_abort AtFlag sender).held ≡ None) × ((with_abort AtInterframeSpace sender).held ≡ None)
 aborting = (refl, refl, refl, refl, refl)
 
--- a request while one is held changes nothing
+-- this project's own rule: a request while one is held changes nothing
 second_request : with_send once sender ≡ sender
 second_request = refl
 
--- a request that is tried once, or was aborted, is dropped at its fault, and any other stays
+-- a single shot request, or one that was aborted, is dropped at its error, and any other stays
 dropped_at_fault : ((failed InTransmission BitError (record sender { held = Some once })).held ≡ None)
     × ((failed InTransmission BitError (record sender { aborted = true })).held ≡ None)
     × ((failed InTransmission BitError sender).held ≡ Some asked)
 dropped_at_fault = (refl, refl, refl)
 
--- no request is dropped at a fault in a flag or in a delimiter
+-- this project's own rule: no request is dropped at an error in a flag or in a delimiter
 kept_in_flags : ((failed InFlag BitError (record sender { held = Some once })).held ≡ Some once)
     × ((failed InDelimiter FormError (record sender { held = Some once })).held ≡ Some once)
 kept_in_flags = (refl, refl)
 
--- a stop drops the request, and keeps counters and role
+-- this project's own rule: a stop drops the request, and keeps counters and role
 stopping : with_stop (record passive_sender { ack_step_owed = true; aborted = true }) ≡ record passive_sender { held = None }
 stopping = refl
 
--- ---- what a bit brings
+-- ---- what a bit tells
 
 -- nothing, for a transmitter
 abbrev nothing : BitEvents
@@ -58,13 +59,13 @@ nothing = record {
   recovered = false;
 }
 
--- the last bit of a sent frame: the request has ended, and nothing is received
+-- the last bit of EOF of a sent frame: the request has ended, and nothing is received
 event_of_sent : let event = events_of (Finishes (Transmission asked) AtInterframeSpace) sender AtIdle [] (recessive_bit Recessive) in
     (event.ended ≡ Some Sent) × (event.received ≡ None) × (event.lost ≡ None) × (event.fault ≡ None)
     × (event.receiving ≡ false)
 event_of_sent = (refl, refl, refl, refl, refl)
 
--- self reception brings it
+-- by self reception it is received too
 received_by_itself : let request = record asked { self_receive = true } in
     (events_of (Finishes (Transmission request) AtInterframeSpace) (record sender {
       held =
@@ -72,13 +73,13 @@ received_by_itself : let request = record asked { self_receive = true } in
     }) AtIdle [] (recessive_bit Recessive)).received ≡ Some asked.frame
 received_by_itself = refl
 
--- arbitration is lost in the first bit of the identifier: the node is receiver, and its request is still held
+-- arbitration is lost in ID.28, place code 0 (6.4.8): the node is receiver, and its request is still held
 event_of_loss : events_of Within sender AtIdle (dominant_bit Dominant ∷ []) (recessive_bit Dominant)
     ≡ record nothing { lost = Some 0; receiving = true }
 unfolding begins_in_five
 event_of_loss = refl
 
--- a request that is tried once fails there
+-- a single shot request fails there
 event_of_only_loss : (events_of Within (record sender {
   held =
       Some once;
@@ -91,7 +92,7 @@ event_of_no_loss : events_of Within sender AtIdle (dominant_bit Dominant ∷ [])
     ≡ nothing
 event_of_no_loss = refl
 
--- the fault at which a node goes bus-off: its request doesn't end, even one that is tried once
+-- rule 10: the error at which a node goes bus-off. No end of its request is told, even of a single shot one
 event_of_going_off : events_of (Finishes (Fault InTransmission BitError Id28To21) AtFlag) (record sender {
   tec = 248;
   held =
@@ -100,7 +101,7 @@ event_of_going_off : events_of (Finishes (Fault InTransmission BitError Id28To21
     ≡ record nothing { fault = Some (BitError, Id28To21); went_off = true }
 event_of_going_off = refl
 
--- the bit that ends bus-off
+-- rule 12: the bit that ends bus-off
 event_of_recovery : events_of (Finishes Integration AtIdle) (record gone {
   tec =
       1;

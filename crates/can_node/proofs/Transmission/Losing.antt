@@ -33,7 +33,7 @@ part_long {f = f} {b = b} {c = c} part rest h =
     let check = h.check in
     omega (arith, count, length-reverse (b ++ c), length-append b c, body, check, dlc_place-least f.ext)
 
--- the remote bit comes before the 34th
+-- RTR comes before the 34th
 rtr_low : (ext : Bool) → rtr_place ext ≤ 32
 rtr_low false = omega arith
 rtr_low true = omega arith
@@ -74,7 +74,7 @@ no_six_push l x h few =
     let more : IsShort (x ∷ reverse l) = (omega (arith, few, run_one_more x (reverse l)), short) in
     subst P (reverse-cons x (reverse l) ∙ ap (λ m. m ++ x ∷ []) (reverse-reverse l)) (no_six_from (x ∷ reverse l) more)
 
--- what a transmitter saw before its remote bit lies within its stuffed part
+-- what a transmitter saw before RTR lies within its stuffed part
 seen_in_part : (self_test : Bool) (f : FrameValue) (c part : List Level) (before : List Bit) → SentPart f c part → GoesWell self_test part before →
     plain_count (seen_of before) < 34 → (more : List Level) × (part ≡ seen_of before ++ more)
 seen_in_part self_test f c part before h g few =

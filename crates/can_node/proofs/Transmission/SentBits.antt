@@ -48,7 +48,7 @@ well_front self_test part a b g = record {
   seen = g.seen ∙ ap (λ l. l ++ g.others) (map-append (λ (x : Bit). x.seen) a b) ∙ append_assoc (seen_of a) (seen_of b) g.others;
 }
 
--- a bit that goes well is seen as it is driven, but in the acknowledgement slot
+-- a bit that goes well is seen as it is driven, but in the ACK slot
 well_bit : (self_test : Bool) (part : List Level) (before : List Bit) (last : Bit) (g : GoesWell self_test part (before ++ last ∷ [])) →
     ((length before ≡ length part + 1) × (last.driven ≡ Recessive) × (last.seen ≡ g.ack)) ⊎ ((length before ≢ length part + 1) × (last.driven ≡ last.seen))
 well_bit self_test part before last g =
@@ -68,7 +68,7 @@ well_bit self_test part before last g =
       | inr h ↦ inr (λ same. h.0 (omega (arith, same, one, count)), h.1)
     ]
 
--- what was seen before the acknowledgement slot
+-- what was seen before the ACK slot
 pub seen_at_slot : (self_test : Bool) (part : List Level) (before : List Bit) → GoesWell self_test part before →
     length before ≡ length part + 1 →
     seen_of before ≡ part ++ Recessive ∷ []
@@ -80,7 +80,7 @@ seen_at_slot self_test part before g count =
     let parts = append-split (part ++ Recessive ∷ []) z (seen_of before) g.others lengths whole in
     sym parts.0
 
--- the acknowledgement slot is past the remote bit
+-- the ACK slot is past RTR
 slot_late : (self_test : Bool) (request : Request) (c part : List Level) (before : List Bit) →
     SentPart request.frame c part → GoesWell self_test part before →
     length before ≡ length part + 1 → rtr_place request.frame.ext < plain_count (seen_of before)
@@ -88,7 +88,7 @@ slot_late self_test request c part before h g count =
     let P : List Level → Type 0 = λ l. rtr_place request.frame.ext < plain_count l in
     subst P (sym (seen_at_slot self_test part before g count)) (part_late request.frame.ext (Recessive ∷ []) h.is_part)
 
--- a recessive level that is seen dominant before the remote bit doesn't go well
+-- a recessive level that is seen dominant before RTR doesn't go well
 pub lost_not_well : (self_test : Bool) (request : Request) (c part : List Level) (before : List Bit) → SentPart request.frame c part →
     (early : (rtr_place request.frame.ext < plain_count (seen_of before)) → ⊥) → GoesWell self_test part (before ++ recessive_bit Dominant ∷ []) → ⊥
 lost_not_well self_test request c part before h early g =

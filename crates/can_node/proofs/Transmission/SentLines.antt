@@ -1,4 +1,4 @@
--- A transmitter's line.
+-- The line that a transmitter sends.
 use Rattle.std.proofs.Common.{◌≡◌, List, ◌++◌, refl, sym, subst}
 use Rattle.can_frame.specs.Frame.{FrameValue, IsFrame}
 use Rattle.can_bits.specs.declared.level.Level.{Level}

@@ -1,4 +1,5 @@
--- A transmitter's piece: of two that begin alike neither is a proper front of the other, and equal lists are the same piece.
+-- Of two transmitter's pieces that begin alike neither is a proper front of the other, and equal lists are the same
+-- piece.
 use Rattle.std.proofs.Common.{◌≡◌, ◌+◌, ◌<◌, inl, inr, ℕ, Bool, true, false, Some, List, [], ◌∷◌, ◌++◌, length, refl, ap, sym, subst, ◌∙◌, arith, append_assoc}
 use Rattle.std.proofs.lemmas.List.{append-nil, length-append, length-map, map-append}
 use Rattle.can_bits.specs.declared.level.Level.{Level}
@@ -242,7 +243,8 @@ part_of self_test request bits p n (sending k) = record { check = k.crc; part = 
 part_of self_test request bits p n (failed k) = record { check = k.crc; part = k.part; is_sent = k.is_part }
 part_of self_test request bits p n (lost k) = record { check = k.crc; part = k.part; is_sent = k.is_part }
 
--- of two transmitter's pieces that begin alike neither is a proper front of the other, and equal lists are the same piece
+-- of two transmitter's pieces that begin alike neither is a proper front of the other, and equal lists are the same
+-- piece
 pub sends_once : ReceivesOnce → NextOnce → (self_test : Bool) (request : Request) (a b x y : List Bit) (p q : Piece) (n m : Place) →
     Transmits self_test request a p n → Transmits self_test request b q m → a ++ x ≡ b ++ y → (a ≡ b) × (p ≡ q) × (n ≡ m)
 sends_once receives next self_test request a b x y p q n m h k e =

@@ -50,7 +50,7 @@ transmits_from_idle c now request frame sent held speaks =
       more = some_tail part;
     }
 
--- or a pause ended with the start of its frame
+-- or interframe space ended with SOF
 pub transmits_from_pause : (c now : ContextValue) (request : Request) → IsFrame request.frame → sent_at c AfterSof ≡ Some request → now.held ≡ Some request → c.listen ≡ false →
     IsTransmitting c now AfterSof []
 transmits_from_pause c now request frame sent held speaks =

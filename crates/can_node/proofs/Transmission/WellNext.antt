@@ -39,7 +39,7 @@ as_much_left self_test part before g =
       length-map before (λ (b : Bit). b.seen),
     )
 
--- the level that is driven next is to be seen next, but in the acknowledgement slot, where it is recessive
+-- the level that is driven next is to be seen next, but in the ACK slot, where it is recessive
 pub seen_next : (self_test : Bool) (part : List Level) (before : List Bit) (x : Level) (rest : List Level) (g : GoesWell self_test part before) →
     part ++ tail Recessive ≡ driven_of before ++ x ∷ rest →
     ((length before ≡ length part + 1) × (x ≡ Recessive)) ⊎ ((length before ≢ length part + 1) × (later : List Level) × (g.others ≡ x ∷ later))
@@ -68,7 +68,7 @@ pub record IsOneMore (self_test : Bool) (part : List Level) (bits : List Bit) (r
   pub well : GoesWell self_test part bits
   pub left : well.rest ≡ rest
 
--- a bit before or after the acknowledgement slot goes well where it is seen as it is driven
+-- a bit before or after the ACK slot goes well where it is seen as it is driven
 pub well_next : (self_test : Bool) (part : List Level) (before : List Bit) (last : Bit) (rest : List Level) → GoesWell self_test part before →
     part ++ tail Recessive ≡ driven_of before ++ last.driven ∷ rest → length before ≢ length part + 1 → last.driven ≡ last.seen →
     IsOneMore self_test part (before ++ last ∷ []) rest
@@ -117,7 +117,7 @@ well_readable self_test f c part before h g = record {
   right = λ few. h.right;
 }
 
--- at its acknowledgement slot an acknowledgement is due, and there alone
+-- at its ACK slot an acknowledgement is due, and there alone
 pub due_at_slot : (self_test : Bool) (f : FrameValue) (c part : List Level) (before : List Bit) → SentPart f c part → GoesWell self_test part before →
     length before ≡ length part + 1 → IsAckDue (seen_of before)
 due_at_slot self_test f c part before h g slot = record {

@@ -53,7 +53,7 @@ cause_fails request part before Recessive Dominant self_test false false false c
     let other : length before ≢ length part + 1 = λ here. (let wrong : false ≡ true = only here in cc) in
     (refl, subst P same (overdriven other (sym at) (none_of (place_code request.frame.ext (seen_of before)) losing)))
 
--- where none is found arbitration is lost, or the level fits the acknowledgement slot, or it is seen as it is driven
+-- where none is found arbitration is lost, or the level fits the ACK slot, or it is seen as it is driven
 pub data IsFine (ext : Bool) (before : List Bit) (driven seen : Level) (self_test slot : Bool) : Bool → Type 0 where
   loses : (code : ℕ) → driven ≡ Recessive → seen ≡ Dominant → place_code ext (seen_of before) ≡ Some code → IsFine ext before driven seen self_test slot true
   fits_slot : slot ≡ true → AckFits self_test seen → IsFine ext before driven seen self_test slot false

@@ -1,4 +1,4 @@
--- After a flag: what a level makes of its delimiter, and what the stage's counts say of the bits.
+-- Error delimiters and overload delimiters: what a level makes of them, and what the stage's counts say of the bits.
 use Rattle.std.proofs.Common.{◌≡◌, ◌+◌, ◌-◌, ◌%◌, ◌<◌, ◌≤◌, ◌==◌, ◌&&◌, ℕ, zero, suc, false, List, [], ◌∷◌, ◌++◌, replicate, length, refl, ap, sym, subst, ◌∙◌, arith, append_assoc}
 use Rattle.std.proofs.lemmas.Bool.Decides.{nat_tests}
 use Rattle.std.proofs.lemmas.List.{append-nil, replicate_more, replicate-append-replicate, length-replicate, length-append, nil_from_length}

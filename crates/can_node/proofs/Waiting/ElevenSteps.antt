@@ -1,4 +1,4 @@
--- While bus-off stands the waiting takes one from the transmit error counter for each eleven recessive levels.
+-- While bus-off stands each eleven recessive levels of bus integration take one from TEC.
 use Rattle.std.proofs.Common.{◌≡◌, ◌+◌, ◌-◌, ◌<◌, ◌&&◌, ◌==◌, not, inl, inr, ℕ, zero, suc, Bool, true, false, if◌then◌else◌, fold, List, [], ◌∷◌, ◌++◌, map, replicate, length, refl, ap, sym, subst, ◌∙◌, arith, append_assoc}
 use Rattle.std.proofs.lemmas.Bool.{cases_lt}
 use Rattle.std.proofs.lemmas.Bool.Decides.{nat_tests}

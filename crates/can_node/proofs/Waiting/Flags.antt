@@ -1,4 +1,4 @@
--- A flag: what a level makes of it.
+-- Error flags and overload flags: what a level makes of them.
 use Rattle.std.proofs.Common.{◌≡◌, ◌≢◌, ◌+◌, ◌-◌, ◌<◌, ◌≤◌, ℕ, zero, suc, List, [], ◌∷◌, ◌++◌, replicate, length, refl, ap, sym, subst, ◌∙◌, arith, append_assoc}
 use Rattle.std.proofs.lemmas.List.{replicate-append-replicate, length-replicate, length-append}
 use Rattle.can_bits.specs.declared.level.Level.{Level}

@@ -1,4 +1,4 @@
--- Waiting for the bus: what a level makes of it.
+-- Bus integration: what a level makes of it.
 use Rattle.std.proofs.Common.{◌≡◌, ◌+◌, ◌-◌, ◌<◌, ◌≤◌, ℕ, zero, suc, fold, List, [], ◌∷◌, ◌++◌, replicate, refl, ap, sym, subst, ◌∙◌, arith, append_assoc}
 use Rattle.std.proofs.lemmas.Bool.Decides.{nat_tests}
 use Rattle.std.proofs.lemmas.List.{append-nil}
@@ -88,9 +88,9 @@ first_after_dominant l k some h =
     subst P (sym line) (first_run EndsInEleven l Dominant Recessive 11 none few (l ++ Dominant ∷ [], sym line))
 
 -- a dominant level
-pub join_breaks : (left run : ℕ) (seen : Level) (c : ContextValue) (bits : List Bit) → seen ≡ Dominant →
+pub integration_breaks : (left run : ℕ) (seen : Level) (c : ContextValue) (bits : List Bit) → seen ≡ Dominant →
     IsIntegrating left run c bits → IsIntegrating left 0 c (bits ++ recessive_bit seen ∷ [])
-join_breaks left run seen c bits level h =
+integration_breaks left run seen c bits level h =
     let less = h.few in
     record {
       done = h.done;
@@ -106,9 +106,9 @@ join_breaks left run seen c bits level h =
     }
 
 -- a recessive level, not the eleventh
-pub join_goes : (left run next : ℕ) (seen : Level) (c : ContextValue) (bits : List Bit) → seen ≡ Recessive → run < 10 →
+pub integration_goes : (left run next : ℕ) (seen : Level) (c : ContextValue) (bits : List Bit) → seen ≡ Recessive → run < 10 →
     next ≡ run + 1 → IsIntegrating left run c bits → IsIntegrating left next c (bits ++ recessive_bit seen ∷ [])
-join_goes left run next seen c bits level less e h =
+integration_goes left run next seen c bits level less e h =
     let now : next ≡ next_run run Recessive = grind (arith, nat_tests) in
     record {
       done = h.done;
@@ -124,17 +124,17 @@ join_goes left run next seen c bits level less e h =
     }
 
 -- the eleventh, and all that came is one eleven more
-join_more : (left run : ℕ) (c : ContextValue) (bits : List Bit) (h : IsIntegrating left run c bits) → 10 ≤ run →
+integration_more : (left run : ℕ) (c : ContextValue) (bits : List Bit) (h : IsIntegrating left run c bits) → 10 ≤ run →
     Elevens (h.done + 1) (h.front ++ (h.begun ++ Recessive ∷ []))
-join_more left run c bits h most =
+integration_more left run c bits h most =
     let less = h.few in
     elevens_push h.done h.front (h.begun ++ Recessive ∷ []) h.elevens
     (last_on EndsInEleven h.begun (11 - run) Recessive (omega arith) h.waits)
 
 -- another eleven is waited for
-pub join_again : (left run next : ℕ) (seen : Level) (c : ContextValue) (bits : List Bit) → seen ≡ Recessive → 10 ≤ run →
+pub integration_again : (left run next : ℕ) (seen : Level) (c : ContextValue) (bits : List Bit) → seen ≡ Recessive → 10 ≤ run →
     1 < left → left ≡ next + 1 → IsIntegrating left run c bits → IsIntegrating next 0 c (bits ++ recessive_bit seen ∷ [])
-join_again left run next seen c bits level most many e h =
+integration_again left run next seen c bits level most many e h =
     let less = h.few in
     let count = h.count in
     let line : List Level = h.front ++ (h.begun ++ Recessive ∷ []) in
@@ -145,7 +145,7 @@ join_again left run next seen c bits level most many e h =
       front = line;
       begun = [];
       whole = levels_on left run seen Recessive c bits h level ∙ ap (λ l. recessive_bits l) (sym (append-nil line));
-      elevens = join_more left run c bits h most;
+      elevens = integration_more left run c bits h most;
       count = omega arith;
       some = omega arith;
       few = omega arith;
@@ -154,19 +154,19 @@ join_again left run next seen c bits level most many e h =
     }
 
 -- it was the last one
-pub join_ends : (left run : ℕ) (seen : Level) (c : ContextValue) (bits : List Bit) → seen ≡ Recessive → 10 ≤ run →
+pub integration_ends : (left run : ℕ) (seen : Level) (c : ContextValue) (bits : List Bit) → seen ≡ Recessive → 10 ≤ run →
     left ≤ 1 → IsIntegrating left run c bits → Row c AtIntegration (bits ++ recessive_bit seen ∷ []) Integration AtIdle
-join_ends left run seen c bits level most last h =
+integration_ends left run seen c bits level most last h =
     let P : List Bit → Type 0 = λ t. Row c AtIntegration t Integration AtIdle in
     let line : List Level = h.front ++ (h.begun ++ Recessive ∷ []) in
     let Q : ℕ → Type 0 = λ n. Elevens n line in
     let some = h.some in
     let count = h.count in
     let all : h.done + 1 ≡ integration_count c = omega arith in
-    let elevens = subst Q all (join_more left run c bits h most) in
+    let elevens = subst Q all (integration_more left run c bits h most) in
     subst P (sym (levels_on left run seen Recessive c bits h level)) (integration elevens)
 
--- ---- a waiting that isn't finished
+-- ---- a bus integration that isn't finished
 
 -- it goes on with recessive levels
 pub open_integrating : (left run : ℕ) (c : ContextValue) (bits : List Bit) → IsIntegrating left run c bits →

@@ -1,4 +1,4 @@
--- A pause: what a level makes of it, and what the stage's count says of the bits.
+-- Interframe space: what a level makes of it, and what the stage's count says of the bits.
 use Rattle.std.proofs.Common.{◌≡◌, ◌+◌, ◌-◌, ◌<◌, ◌≤◌, ℕ, zero, suc, IsTrue, List, [], ◌∷◌, ◌++◌, replicate, length, refl, ap, sym, subst, ◌∙◌, arith, inl, inr}
 use Rattle.std.proofs.lemmas.Bool.{cases_Bool}
 use Rattle.std.proofs.lemmas.List.{replicate_more, replicate-append-replicate, length-replicate}
@@ -13,28 +13,28 @@ use Rattle.can_node.specs.Table.Row.{interframe_space, interframe_space_sof, sus
 use Rattle.can_node.specs.Cut.{IsUnfinished}
 use Rattle.can_node.specs.Machine.Stages.{IsInInterframeSpace}
 use Rattle.can_node.proofs.Bits.DrivenAlike.{receives_on, receives_length}
-use Rattle.can_node.proofs.OneCut.Apart.{pause_long, pause_owed, pause_short}
+use Rattle.can_node.proofs.OneCut.Apart.{interframe_long, interframe_owed, interframe_short}
 
 -- no bit came yet
 pub interframes_from : (c : ContextValue) → IsInInterframeSpace 0 c []
-interframes_from c = let long = pause_long c in record { few = omega arith; whole = refl }
+interframes_from c = let long = interframe_long c in record { few = omega arith; whole = refl }
 
 -- so many bits came
-pub pause_length : (n : ℕ) (c : ContextValue) (bits : List Bit) → IsInInterframeSpace n c bits → length bits ≡ n
-pause_length n c bits h = receives_length bits (replicate n Recessive) h.whole ∙ length-replicate n Recessive
+pub interframe_length : (n : ℕ) (c : ContextValue) (bits : List Bit) → IsInInterframeSpace n c bits → length bits ≡ n
+interframe_length n c bits h = receives_length bits (replicate n Recessive) h.whole ∙ length-replicate n Recessive
 
--- where it has more, suspension is owed
+-- where it has more, suspend transmission is owed
 owed_from : (c : ContextValue) → 3 < interframe_count c → IsTrue (owes_suspension c)
 owed_from c more =
     elim (cases_Bool (owes_suspension c)) [
       | inl t ↦ t
-      | inr t ↦ let short = pause_short c t in absurd (omega arith)
+      | inr t ↦ let short = interframe_short c t in absurd (omega arith)
     ]
 
 -- the last recessive level
-pub pause_ends : (c : ContextValue) (n : ℕ) (seen : Level) (bits : List Bit) → seen ≡ Recessive → interframe_count c ≤ n + 1 →
+pub interframe_ends : (c : ContextValue) (n : ℕ) (seen : Level) (bits : List Bit) → seen ≡ Recessive → interframe_count c ≤ n + 1 →
     IsInInterframeSpace n c bits → Row c AtInterframeSpace (bits ++ recessive_bit seen ∷ []) InterframeSpace AtIdle
-pause_ends c n seen bits level most h =
+interframe_ends c n seen bits level most h =
     let P : List Bit → Type 0 = λ t. Row c AtInterframeSpace t InterframeSpace AtIdle in
     let few = h.few in
     let all : n + 1 ≡ interframe_count c = omega arith in
@@ -64,26 +64,26 @@ start_row c (suc zero) most few = absurd (omega arith)
 start_row c (suc (suc zero)) most few = interframe_space_sof
 start_row c (suc (suc (suc i))) most few =
     let owed = owed_from c (omega arith) in
-    let long = pause_owed c owed in
+    let long = interframe_owed c owed in
     let P : ℕ → Type 0 = λ k. Row c AtInterframeSpace (recessive_bits (replicate k Recessive ++ Dominant ∷ [])) InterframeSpaceWithSof AfterSof in
     let same : 3 + i ≡ suc (suc (suc i)) = omega arith in
     subst P same (suspend_transmission_sof i owed (omega arith))
 
 -- a dominant first or second level breaks it off
-pub pause_breaks : (c : ContextValue) (n : ℕ) (seen : Level) (bits : List Bit) → seen ≡ Dominant → n < 2 →
+pub interframe_breaks : (c : ContextValue) (n : ℕ) (seen : Level) (bits : List Bit) → seen ≡ Dominant → n < 2 →
     IsInInterframeSpace n c bits → Row c AtInterframeSpace (bits ++ recessive_bit seen ∷ []) InterframeSpaceBroken AtFlag
-pause_breaks c n seen bits level less h =
+interframe_breaks c n seen bits level less h =
     let P : List Bit → Type 0 = λ t. Row c AtInterframeSpace t InterframeSpaceBroken AtFlag in
     subst P (sym (broken_off c n seen bits level h)) (broken_row c n less)
 
 -- a later one starts a frame
-pub pause_starts : (c : ContextValue) (n : ℕ) (seen : Level) (bits : List Bit) → seen ≡ Dominant → 2 ≤ n →
+pub interframe_sof : (c : ContextValue) (n : ℕ) (seen : Level) (bits : List Bit) → seen ≡ Dominant → 2 ≤ n →
     IsInInterframeSpace n c bits → Row c AtInterframeSpace (bits ++ recessive_bit seen ∷ []) InterframeSpaceWithSof AfterSof
-pause_starts c n seen bits level most h =
+interframe_sof c n seen bits level most h =
     let P : List Bit → Type 0 = λ t. Row c AtInterframeSpace t InterframeSpaceWithSof AfterSof in
     subst P (sym (broken_off c n seen bits level h)) (start_row c n most h.few)
 
--- the pause goes on with recessive levels
+-- interframe space goes on with recessive levels
 pub open_interframe : (n : ℕ) (c : ContextValue) (bits : List Bit) → IsInInterframeSpace n c bits → IsUnfinished c AtInterframeSpace bits
 open_interframe n c bits h =
     let P : List Bit → Type 0 = λ t. Row c AtInterframeSpace t InterframeSpace AtIdle in
