@@ -12,6 +12,7 @@ use Rattle.can_bits.specs.Segments.{IsNext}
 use Rattle.can_bits.specs.Streaming.{IsReadable, EndsInWrongCheck, BreaksWith}
 use Rattle.can_bits.proofs.Lists.{last_of, cases_list}
 use Rattle.can_bits.proofs.Ending.{line_at, begins_in}
+use Rattle.can_bits.proofs.Readables.{readable_front}
 use Rattle.can_node.specs.declared.cause.Cause.{Cause}
 use Rattle.can_node.specs.declared.cause.Cause.TheVariants.{Stuff as StuffError, Form as FormError, Crc as CheckError}
 use Rattle.can_node.specs.Bits.{Bit, recessive_bit, dominant_bit, seen_of}
@@ -21,20 +22,6 @@ use Rattle.can_node.specs.Machine.Stages.{AllRight}
 use Rattle.can_node.proofs.Bits.Nexts.{past_here, after_once}
 use Rattle.can_node.proofs.Bits.Seen.{seen_split}
 use Rattle.can_node.proofs.Reception.ReceiverFaults.{more_after}
-
--- a front of what is readable is readable
-readable_front : (p q : List Level) → IsReadable (p ++ q) → IsReadable p
-readable_front p q h =
-    let P : List Level → Type 0 = λ m. Line h.frame h.body h.check h.ack m in
-    record {
-      frame = h.frame;
-      body = h.body;
-      check = h.check;
-      ack = h.ack;
-      rest = q ++ h.rest;
-      line = subst P (append_assoc p q h.rest) h.line;
-      right = λ few. h.right (omega (arith, few, length-append q h.rest));
-    }
 
 -- what was right was right before
 pub right_front : (l : List Level) (a b : List Bit) → AllRight l (a ++ b) → AllRight l a

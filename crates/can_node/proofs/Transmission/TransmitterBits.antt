@@ -17,7 +17,7 @@ use Rattle.can_node.specs.Context.{ContextValue}
 use Rattle.can_node.specs.Counting.{lost_by}
 use Rattle.can_node.specs.Driving.{TransmitsNext}
 use Rattle.can_node.specs.Frames.{GoesWell, Transmits}
-use Rattle.can_node.specs.Frames.Transmits.{sending, failed}
+use Rattle.can_node.specs.Frames.Transmits.{failed}
 use Rattle.can_node.specs.Pieces.{Place}
 use Rattle.can_node.specs.Pieces.Place.{AtFlag, AtInterframeSpace}
 use Rattle.can_node.specs.Pieces.Piece.{Transmission, Fault}
@@ -29,6 +29,7 @@ use Rattle.can_node.specs.Machine.Turns.{GoesOnAs}
 use Rattle.can_node.proofs.Transmission.AfterLoss.{receives_on, lost_not_over}
 use Rattle.can_node.proofs.Bits.FramePlaces.{row_own, frame_more, frame_seen}
 use Rattle.can_node.proofs.Transmission.SentLines.{sent_part_once}
+use Rattle.can_node.proofs.Transmission.TransmitterFronts.{sends_all}
 use Rattle.can_node.proofs.Transmission.WellNext.{driven_push, IsOneMore, well_next, well_slot, as_much_left, well_readable, due_at_slot, slot_at_due, over_at_end, end_at_over}
 use Rattle.can_node.proofs.Transmission.WrongBits.{IsFine, cause_fails, none_fine}
 use Rattle.can_node.proofs.Transmission.WrongBits.IsFine.{loses, fits_slot, is_seen}
@@ -177,16 +178,9 @@ own_bit_sent {c = c} {place = place} {bits = bits} {driven = driven} {seen = see
     let none = end_at_over c.self_test h.request.frame h.check h.part all h.is_part g (subst P (sym (frame_seen place bits b t.site)) over) in
     let unseen : g.others ≡ [] = nil_from_length g.others (as_much_left c.self_test h.part all g ∙ ap length none) in
     let sends : Transmits c.self_test h.request all (Transmission h.request) AtInterframeSpace =
-    sending
-    (record {
-      crc = h.check;
-      part = h.part;
-      is_part = h.is_part;
-      ack = g.ack;
-      fits = g.fits;
-      driven = sym (g.driven ∙ ap (λ l. driven_of all ++ l) none ∙ append-nil (driven_of all));
-      seen = sym (g.seen ∙ ap (λ l. seen_of all ++ l) unseen ∙ append-nil (seen_of all));
-    }) in
+    sends_all h all g.ack g.fits
+    (sym (g.driven ∙ ap (λ l. driven_of all ++ l) none ∙ append-nil (driven_of all)))
+    (sym (g.seen ∙ ap (λ l. seen_of all ++ l) unseen ∙ append-nil (seen_of all))) in
     row_own c place h.request (bits ++ b ∷ []) (Transmission h.request) AtInterframeSpace t.site h.sent sends
 
 -- ---- arbitration lost or not

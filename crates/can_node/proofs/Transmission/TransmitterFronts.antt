@@ -1,5 +1,5 @@
 -- A transmitter within its frame: how it begins, what it drives next, and that it may go on to the end.
-use Rattle.std.proofs.Common.{◌≡◌, ◌≢◌, inl, inr, false, Some, List, [], ◌∷◌, ◌++◌, length, refl, ap, sym, subst, ◌∙◌, arith}
+use Rattle.std.proofs.Common.{◌≡◌, ◌≢◌, inl, inr, false, Some, List, [], ◌∷◌, ◌++◌, length, refl, ap, sym, subst, ◌∙◌, arith, append_assoc}
 use Rattle.std.proofs.lemmas.List.{length-append, length-map, map-append}
 use Rattle.can_frame.specs.Frame.{IsFrame}
 use Rattle.can_bits.specs.declared.level.Level.{Level}
@@ -15,7 +15,7 @@ use Rattle.can_node.specs.Bits.{Bit, seen_of, driven_of}
 use Rattle.can_node.specs.Context.{ContextValue}
 use Rattle.can_node.specs.Cut.{IsUnfinished}
 use Rattle.can_node.specs.Driving.{TransmitsNext, FrameDrives}
-use Rattle.can_node.specs.Frames.{Transmits}
+use Rattle.can_node.specs.Frames.{AckFits, SentPart, Transmits}
 use Rattle.can_node.specs.Frames.Transmits.{sending}
 use Rattle.can_node.specs.Pieces.{Place, sent_at}
 use Rattle.can_node.specs.Pieces.Place.{AtIdle, AfterSof, AtInterframeSpace}
@@ -33,22 +33,35 @@ use Rattle.can_node.proofs.Transmission.WrongBits.{dominant_fits}
 some_tail : (front : List Level) → front ++ tail Recessive ≢ []
 some_tail front e = omega (arith, ap length e, length-append front (tail Recessive))
 
+-- of the line of its frame these levels came: none, or SOF
+begun_transmitting : (c now : ContextValue) (place : Place) (request : Request) (check part rest : List Level) → SentPart request.frame check part →
+    sent_at c place ≡ Some request → now.held ≡ Some request → c.listen ≡ false →
+    part ≡ driven_of (frame_bits place []) ++ rest → part ≡ seen_of (frame_bits place []) ++ rest → IsTransmitting c now place []
+begun_transmitting c now place request check part rest is_part sent held speaks drives sees = record {
+  request = request;
+  sent = sent;
+  held = held;
+  speaks = speaks;
+  check = check;
+  part = part;
+  is_part = is_part;
+  well = record {
+    ack = Dominant;
+    fits = dominant_fits c.self_test;
+    rest = rest ++ tail Recessive;
+    others = rest ++ tail Dominant;
+    driven = ap (λ l. l ++ tail Recessive) drives ∙ append_assoc (driven_of (frame_bits place [])) rest (tail Recessive);
+    seen = ap (λ l. l ++ tail Dominant) sees ∙ append_assoc (seen_of (frame_bits place [])) rest (tail Dominant);
+  };
+  more = some_tail rest;
+}
+
 -- a request is to be sent where the bus is idle
 pub transmits_from_idle : (c now : ContextValue) (request : Request) → IsFrame request.frame → sent_at c AtIdle ≡ Some request → now.held ≡ Some request → c.listen ≡ false →
     IsTransmitting c now AtIdle []
 transmits_from_idle c now request frame sent held speaks =
     let (check, part, is_part) = sent_part_of request.frame frame in
-    record {
-      request = request;
-      sent = sent;
-      held = held;
-      speaks = speaks;
-      check = check;
-      part = part;
-      is_part = is_part;
-      well = record { ack = Dominant; fits = dominant_fits c.self_test; rest = part ++ tail Recessive; others = part ++ tail Dominant; driven = refl; seen = refl };
-      more = some_tail part;
-    }
+    begun_transmitting c now AtIdle request check part part is_part sent held speaks refl refl
 
 -- or interframe space ended with SOF
 pub transmits_from_pause : (c now : ContextValue) (request : Request) → IsFrame request.frame → sent_at c AfterSof ≡ Some request → now.held ≡ Some request → c.listen ≡ false →
@@ -56,24 +69,7 @@ pub transmits_from_pause : (c now : ContextValue) (request : Request) → IsFram
 transmits_from_pause c now request frame sent held speaks =
     let (check, part, is_part) = sent_part_of request.frame frame in
     let (rest, begins) = part_begins part is_part.is_part in
-    record {
-      request = request;
-      sent = sent;
-      held = held;
-      speaks = speaks;
-      check = check;
-      part = part;
-      is_part = is_part;
-      well = record {
-        ack = Dominant;
-        fits = dominant_fits c.self_test;
-        rest = rest ++ tail Recessive;
-        others = rest ++ tail Dominant;
-        driven = ap (λ l. l ++ tail Recessive) begins;
-        seen = ap (λ l. l ++ tail Dominant) begins;
-      };
-      more = some_tail rest;
-    }
+    begun_transmitting c now AfterSof request check part rest is_part sent held speaks begins begins
 
 -- the first level is dominant
 pub sends_start : (c now : ContextValue) (h : IsTransmitting c now AtIdle []) → TransmitsNext h.request [] Dominant
@@ -167,6 +163,13 @@ bits_seen [] (y ∷ seen) e = absurd (omega (arith, e))
 bits_seen (x ∷ driven) [] e = absurd (omega (arith, e))
 bits_seen (x ∷ driven) (y ∷ seen) e = ap (λ l. y ∷ l) (bits_seen driven seen (omega (arith, e)))
 
+-- its whole line is sent
+pub sends_all : {c now : ContextValue} {place : Place} {bits : List Bit} (h : IsTransmitting c now place bits) (all : List Bit) (ack : Level) →
+    AckFits c.self_test ack → driven_of all ≡ h.part ++ tail Recessive → seen_of all ≡ h.part ++ tail ack →
+    Transmits c.self_test h.request all (Transmission h.request) AtInterframeSpace
+sends_all h all ack fits driven seen =
+    sending (record { crc = h.check; part = h.part; is_part = h.is_part; ack = ack; fits = fits; driven = driven; seen = seen })
+
 -- the rest of its line, acknowledged, may follow
 pub open_transmitting : (c now : ContextValue) (place : Place) (bits : List Bit) → IsFramePlace place → IsTransmitting c now place bits → IsUnfinished c place bits
 open_transmitting c now place bits site h =
@@ -177,16 +180,9 @@ open_transmitting c now place bits site h =
     let drives : driven_of more ≡ g.rest = bits_driven g.rest g.others many in
     let sees : seen_of more ≡ g.others = bits_seen g.rest g.others many in
     let sends : Transmits c.self_test h.request (before ++ more) (Transmission h.request) AtInterframeSpace =
-    sending
-    (record {
-      crc = h.check;
-      part = h.part;
-      is_part = h.is_part;
-      ack = g.ack;
-      fits = g.fits;
-      driven = map-append (λ (b : Bit). b.driven) before more ∙ ap (λ l. driven_of before ++ l) drives ∙ sym g.driven;
-      seen = map-append (λ (b : Bit). b.seen) before more ∙ ap (λ l. seen_of before ++ l) sees ∙ sym g.seen;
-    }) in
+    sends_all h (before ++ more) g.ack g.fits
+    (map-append (λ (b : Bit). b.driven) before more ∙ ap (λ l. driven_of before ++ l) drives ∙ sym g.driven)
+    (map-append (λ (b : Bit). b.seen) before more ∙ ap (λ l. seen_of before ++ l) sees ∙ sym g.seen) in
     let P : List Bit → Type 0 = λ l. Transmits c.self_test h.request l (Transmission h.request) AtInterframeSpace in
     let row = row_own c place h.request (bits ++ more) (Transmission h.request) AtInterframeSpace site h.sent (subst P (sym (frame_more place bits more site)) sends) in
     elim (cases_list more) [
