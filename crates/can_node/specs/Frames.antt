@@ -50,14 +50,21 @@ pub record IsWithin (l : List Level) : Type 0 where
   pub begun : Begins l
   pub long : 2 ≤ length begun.rest
 
+-- no line goes on with the last of these bits
+pub record FitsNoLine (l : List Level) (bits : List Bit) : Type 0 where
+  pub before : List Bit
+  pub last : Bit
+  pub whole : bits ≡ before ++ last ∷ []
+  pub none : Begins (l ++ seen_of bits) → ⊥
+
 -- what is wrong with the last of these bits for a receiver (part A section 6.1)
 pub data Breaks (l : List Level) : List Bit → Cause → Type 0 where
   -- stuff error: no line goes on with it, in the stuffed part
-  stuff : {bits : List Bit} (before : List Bit) (last : Bit) → bits ≡ before ++ last ∷ [] →
-      (IsPastPart (l ++ seen_of before) → ⊥) → (Begins (l ++ seen_of bits) → ⊥) → Breaks l bits StuffError
+  stuff : {bits : List Bit} (wrong : FitsNoLine l bits) → ¬ IsPastPart (l ++ seen_of wrong.before) →
+      Breaks l bits StuffError
   -- form error: the same after the stuffed part
-  form : {bits : List Bit} (before : List Bit) (last : Bit) → bits ≡ before ++ last ∷ [] →
-      IsPastPart (l ++ seen_of before) → (Begins (l ++ seen_of bits) → ⊥) → Breaks l bits FormError
+  form : {bits : List Bit} (wrong : FitsNoLine l bits) → IsPastPart (l ++ seen_of wrong.before) →
+      Breaks l bits FormError
   -- CRC error: it is the ACK delimiter after a wrong CRC sequence (part A section 6.2)
   check : {bits : List Bit} (before : List Bit) →
       bits ≡ before ++ recessive_bit Recessive ∷ [] → EndsInWrongCheck (l ++ seen_of before) → Breaks l bits CheckError

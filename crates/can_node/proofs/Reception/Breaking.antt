@@ -16,7 +16,7 @@ use Rattle.can_bits.proofs.Readables.{readable_front}
 use Rattle.can_node.specs.declared.cause.Cause.{Cause}
 use Rattle.can_node.specs.declared.cause.Cause.TheVariants.{Stuff as StuffError, Form as FormError, Crc as CheckError}
 use Rattle.can_node.specs.Bits.{Bit, recessive_bit, dominant_bit, seen_of}
-use Rattle.can_node.specs.Frames.{Acknowledges, AllAcknowledge, IsWithin, Breaks, BreaksOff}
+use Rattle.can_node.specs.Frames.{Acknowledges, AllAcknowledge, IsWithin, FitsNoLine, Breaks, BreaksOff}
 use Rattle.can_node.specs.Frames.Breaks.{stuff, form, check, own_ack}
 use Rattle.can_node.specs.Machine.Stages.{AllRight}
 use Rattle.can_node.proofs.Bits.Nexts.{past_here, after_once}
@@ -77,8 +77,8 @@ readable_right l h w =
 
 -- where nothing is wrong there is no fault
 right_not_broken : (l : List Level) (bits : List Bit) (cause : Cause) → AllRight l bits → Breaks l bits cause → ⊥
-right_not_broken l bits cause h (stuff before last e inside none) = none (readable_begins (l ++ seen_of bits) h.readable)
-right_not_broken l bits cause h (form before last e past none) = none (readable_begins (l ++ seen_of bits) h.readable)
+right_not_broken l bits cause h (stuff wrong inside) = wrong.none (readable_begins (l ++ seen_of bits) h.readable)
+right_not_broken l bits cause h (form wrong past) = wrong.none (readable_begins (l ++ seen_of bits) h.readable)
 right_not_broken l bits cause h (check before e ends) =
     let P : List Level → Type 0 = λ m. IsReadable m in
     readable_right (l ++ seen_of before) (subst P (seen_split l bits before (recessive_bit Recessive ∷ []) e) h.readable) ends
@@ -123,20 +123,28 @@ past_or_not l begun =
       ]
     ]
 
+-- no line goes on with a level with which none begins
+abbrev fits_no_line : (l : List Level) (before : List Bit) (last : Bit) → (Begins ((l ++ seen_of before) ++ last.seen ∷ []) → ⊥) → FitsNoLine l (before ++ last ∷ [])
+fits_no_line l before last none =
+    let P : List Level → Type 0 = λ m. Begins m in
+    record {
+      before = before;
+      last = last;
+      whole = refl;
+      none = λ begun. none (subst P (seen_split l (before ++ last ∷ []) before (last ∷ []) refl) begun);
+    }
+
 -- a fault of the stuffed part that the reader finds is one of the receiver
 pub stuff_breaks : (l : List Level) (before : List Bit) (last : Bit) (at : ℕ) → BreaksWith (l ++ seen_of before) last.seen (StuffFault at) → Breaks l (before ++ last ∷ []) StuffError
-stuff_breaks l before last at (none, inside, count) =
-    let P : List Level → Type 0 = λ m. Begins m in
-    stuff before last refl inside.before_end (λ begun. none (subst P (seen_split l (before ++ last ∷ []) before (last ∷ []) refl) begun))
+stuff_breaks l before last at (none, inside, count) = stuff (fits_no_line l before last none) inside.before_end
 
 -- and so is one of a fixed level
 pub form_breaks : (l : List Level) (before : List Bit) (last : Bit) (at : ℕ) → l ++ seen_of before ≢ [] → IsReadable (l ++ seen_of before) →
     BreaksWith (l ++ seen_of before) last.seen (FormFault at) → Breaks l (before ++ last ∷ []) FormError
 form_breaks l before last at some readable (none, outside, over, count) =
-    let P : List Level → Type 0 = λ m. Begins m in
     let levels : List Level = l ++ seen_of before in
     elim (past_or_not levels (readable_begins levels readable)) [
-      | inl past ↦ form before last refl past (λ begun. none (subst P (seen_split l (before ++ last ∷ []) before (last ∷ []) refl) begun))
+      | inl past ↦ form (fits_no_line l before last none) past
       | inr inside ↦ absurd (outside (record { begun = some; before_end = inside }))
     ]
 

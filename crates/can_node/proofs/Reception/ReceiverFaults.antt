@@ -65,16 +65,16 @@ dominant_due false l x y e h =
 -- a fault is one of the last bit
 pub breaks_at : (listen : Bool) (l : List Level) (before : List Bit) (last : Bit) (bits : List Bit) (cause : Cause) →
     AllAcknowledge listen l bits → bits ≡ before ++ last ∷ [] → Breaks l bits cause → Wrong listen (l ++ seen_of before) last cause
-breaks_at listen l before last bits cause answers e (stuff other x d inside none) =
-    let same = same_from_push before other last x (sym e ∙ d) in
+breaks_at listen l before last bits cause answers e (stuff wrong inside) =
+    let same = same_from_push before wrong.before last wrong.last (sym e ∙ wrong.whole) in
     let P : List Bit → Type 0 = λ m. IsPastPart (l ++ seen_of m) in
     let Q : List Level → Type 0 = λ m. Begins m in
-    wrong_stuff (λ past. inside (subst P same.0 past)) (λ begun. none (subst Q (sym (seen_split l bits before (last ∷ []) e)) begun))
-breaks_at listen l before last bits cause answers e (form other x d past none) =
-    let same = same_from_push before other last x (sym e ∙ d) in
+    wrong_stuff (λ past. inside (subst P same.0 past)) (λ begun. wrong.none (subst Q (sym (seen_split l bits before (last ∷ []) e)) begun))
+breaks_at listen l before last bits cause answers e (form wrong past) =
+    let same = same_from_push before wrong.before last wrong.last (sym e ∙ wrong.whole) in
     let P : List Bit → Type 0 = λ m. IsPastPart (l ++ seen_of m) in
     let Q : List Level → Type 0 = λ m. Begins m in
-    wrong_form (subst P (sym same.0) past) (λ begun. none (subst Q (sym (seen_split l bits before (last ∷ []) e)) begun))
+    wrong_form (subst P (sym same.0) past) (λ begun. wrong.none (subst Q (sym (seen_split l bits before (last ∷ []) e)) begun))
 breaks_at listen l before last bits cause answers e (check other d ends) =
     let same = same_from_push before other last (recessive_bit Recessive) (sym e ∙ d) in
     let P : List Bit → Type 0 = λ m. EndsInWrongCheck (l ++ seen_of m) in

@@ -80,12 +80,12 @@ joined l before front rest e =
 -- nothing is wrong in levels with which a line begins, and of which none is past its stuffed part
 nothing_wrong : (l before : List Level) (front rest : List Bit) (cause : Cause) →
     (IsPastPart (l ++ before) → ⊥) → Begins (l ++ before) → recessive_bits before ≡ front ++ rest → Breaks l front cause → ⊥
-nothing_wrong l before front rest cause unended begun e (stuff ahead last whole inside dead) =
+nothing_wrong l before front rest cause unended begun e (stuff wrong inside) =
     let P : List Level → Type 0 = λ t. Begins t in
-    dead (begins_front (l ++ seen_of front) (seen_of rest) (subst P (joined l before front rest e) begun))
-nothing_wrong l before front rest cause unended begun e (form ahead last whole past dead) =
+    wrong.none (begins_front (l ++ seen_of front) (seen_of rest) (subst P (joined l before front rest e) begun))
+nothing_wrong l before front rest cause unended begun e (form wrong past) =
     let P : List Level → Type 0 = λ t. Begins t in
-    dead (begins_front (l ++ seen_of front) (seen_of rest) (subst P (joined l before front rest e) begun))
+    wrong.none (begins_front (l ++ seen_of front) (seen_of rest) (subst P (joined l before front rest e) begun))
 nothing_wrong l before front rest cause unended begun e (check ahead whole wrong) =
     let P : List Level → Type 0 = λ t. IsPastPart t in
     let split : recessive_bits before ≡ ahead ++ (recessive_bit Recessive ∷ rest) =
@@ -138,7 +138,8 @@ stuff_fault listen l before last segment stuffed early unended dead next =
       last = recessive_bit last;
       whole = whole;
       early = subst Early (sym seen) early;
-      breaks = stuff (recessive_bits before) (recessive_bit last) whole (λ p. unended (subst Past seen p)) (λ b. dead (subst Dead all b));
+      breaks = stuff (record { before = recessive_bits before; last = recessive_bit last; whole = whole; none = λ b. dead (subst Dead all b) })
+          (λ p. unended (subst Past seen p));
       first = not_before l before last unended early.begun;
       stuff_bit = stuffed;
       site = subst Next (sym seen) next;

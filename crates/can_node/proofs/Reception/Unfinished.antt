@@ -49,7 +49,14 @@ dominant_next c place bits part after h is_part e other =
       rest = [];
       lawful = fault_row c place bits (recessive_bit Dominant) FormError (segment_after (length after)) false h
           (quiet c.listen levels (not_due levels part after is_part e other))
-          (form h.more (recessive_bit Dominant) refl past (λ begun. dominant_wrong levels part after is_part e other (subst Q (sym (receiving_push c place bits (recessive_bit Dominant) h)) begun)))
+          (form
+          (record {
+            before = h.more;
+            last = recessive_bit Dominant;
+            whole = refl;
+            none = λ begun. dominant_wrong levels part after is_part e other (subst Q (sym (receiving_push c place bits (recessive_bit Dominant) h)) begun);
+          })
+          past)
           (after_part part after is_part e);
     }
 
