@@ -17,7 +17,8 @@ use Rattle.can_bits.proofs.Ending.{same_part, same_spelling}
 use Rattle.can_node.specs.declared.cause.Cause.TheVariants.{Crc as CheckError}
 use Rattle.can_node.specs.declared.config.Config.{Config}
 use Rattle.can_node.specs.declared.fault_site.FaultSite.TheVariants.{InReception}
-use Rattle.can_node.specs.Bits.{recessive_bit, recessive_bits}
+use Rattle.can_bits.specs.Streaming.{IsReadable}
+use Rattle.can_node.specs.Bits.{recessive_bit, recessive_bits, seen_of}
 use Rattle.can_node.specs.Context.{fresh}
 use Rattle.can_node.specs.Pieces.Place.{AtIdle, AtFlag}
 use Rattle.can_node.specs.Pieces.Piece.{Integration, Fault}
@@ -34,7 +35,7 @@ use Rattle.can_node.specs.Cut.Move.{started}
 use Rattle.can_node.specs.Cut.From.{here, on}
 use Rattle.can_node.specs.WorkedReception.{five}
 use Rattle.can_node.proofs.Bits.Seen.{acknowledges_none, acknowledges_cons}
-use Rattle.can_node.proofs.Reception.Breaking.{breaks_off_now}
+use Rattle.can_node.proofs.Reception.Breaking.{breaks_off_now, readable_begins}
 use Rattle.can_node.proofs.Bits.Computed.{stuffed_by}
 use Rattle.can_node.proofs.Bits.DrivenAlike.{never_dominant}
 use Rattle.can_node.proofs.OneCut.Slices.{by_bits, integrates}
@@ -97,32 +98,29 @@ all_quiet part l (x ∷ u) rest ack h wrong e =
 abbrev unanswered : List Level
 unanswered = later ++ Recessive ∷ Recessive ∷ []
 
+-- so far nothing is wrong but the CRC sequence
+abbrev readable_so_far : IsReadable ((Dominant ∷ []) ++ seen_of (recessive_bits unanswered))
+readable_so_far = record {
+  frame = asked.frame;
+  body = sent_body asked.frame;
+  check = wrong_check;
+  ack = Recessive;
+  rest = replicate 8 Recessive;
+  line = record { part = Dominant ∷ later; is_part = part_wrong; whole = refl };
+  right = λ few. absurd (omega (arith, few));
+}
+
 -- the ACK delimiter is the fault
 receives_fault : Receives false (Dominant ∷ []) (recessive_bits (unanswered ++ Recessive ∷ [])) (Fault InReception CheckError AckDelimiter) AtFlag
 receives_fault =
     broken (breaks_off_now false (Dominant ∷ []) (recessive_bits unanswered) (recessive_bit Recessive) CheckError AckDelimiter false
     (all_quiet (Dominant ∷ later) (Dominant ∷ []) (unanswered ++ Recessive ∷ []) (replicate 7 Recessive) Recessive part_wrong is_wrong refl)
     (record {
-      readable = record {
-        frame = asked.frame;
-        body = sent_body asked.frame;
-        check = wrong_check;
-        ack = Recessive;
-        rest = replicate 8 Recessive;
-        line = record { part = Dominant ∷ later; is_part = part_wrong; whole = refl };
-        right = λ few. absurd (omega (arith, few));
-      };
+      readable = readable_so_far;
       answered = λ before after e. never_dominant unanswered before after Recessive e;
     })
     (record {
-      begun = record {
-        frame = asked.frame;
-        body = sent_body asked.frame;
-        check = wrong_check;
-        ack = Recessive;
-        rest = replicate 8 Recessive;
-        line = record { part = Dominant ∷ later; is_part = part_wrong; whole = refl };
-      };
+      begun = readable_begins ((Dominant ∷ []) ++ seen_of (recessive_bits unanswered)) readable_so_far;
       long = omega arith;
     })
     (check (recessive_bits unanswered) refl (record {
