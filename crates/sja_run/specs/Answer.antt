@@ -31,9 +31,9 @@ IsRefused (arbitrate messages) r = RefusesMessages messages r
 abbrev pub Shows : Request → Option ℕ → Option (List ℕ) → Option (List ℕ) → Option (List ℕ) → Option (List ℕ) → Type 0
 Shows request status out_old out_new err_old err_new =
     ((text : List ℕ) × IsPrinted request text × (status ≡ Some 0) × Appends out_old out_new text
-        × Keeps err_old err_new)
+    × Keeps err_old err_new)
     ⊎ ((r : Refusal) × IsRefused request r × (status ≡ Some 1) × Keeps out_old out_new
-        × Appends err_old err_new (refusal_line r))
+    × Appends err_old err_new (refusal_line r))
 
 -- The words don't parse: the status is 2 and the error output has the parser's text, or memory was refused.
 abbrev pub IsTurnedAway : Option ℕ → Option (List ℕ) → Option (List ℕ) → Type 0

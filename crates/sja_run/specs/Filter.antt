@@ -34,4 +34,4 @@ RefusesFilter acr amr digits refusal =
     ⊎ RefusesRegisters acr refusal
     ⊎ ((code : List ℕ) × ReadsAsRegisters acr code × RefusesRegisters amr refusal)
     ⊎ ((code : List ℕ) × (mask : List ℕ) × ReadsAsRegisters acr code × ReadsAsRegisters amr mask
-        × RefusesMessage digits refusal)
+    × RefusesMessage digits refusal)

@@ -51,7 +51,7 @@ request_by name rows =
     else if bytes_eq name (codes "decode") then option_map decode (first_of (codes "LINE") rows)
     else if bytes_eq name (codes "filter") then
     filter_in (first_of (codes "MODE") rows) (first_of (codes "ACR") rows)
-        (first_of (codes "AMR") rows) (first_of (codes "MESSAGE") rows)
+    (first_of (codes "AMR") rows) (first_of (codes "MESSAGE") rows)
     else if bytes_eq name (codes "arbitrate") then arbitrate_in (all_of (codes "MESSAGE") rows)
     else None
 

@@ -38,7 +38,7 @@ use Rattle.can_node.proofs.Machine.FrameTurns.{frame_at, frame_drives, lost_at, 
 use Rattle.can_node.proofs.Machine.Quiet.{GoesQuietly, IsQuiet}
 use Rattle.can_node.proofs.Reception.Acknowledging.{acknowledges_once, quiet}
 use Rattle.can_node.proofs.Reception.ReceiverBits.{goes_on, not_lost_driven}
-use Rattle.can_node.proofs.Transmission.TransmitterBits.{IsTold, transmits_more}
+use Rattle.can_node.proofs.Transmission.TransmitterBits.{IsOwnBit, transmits_more}
 
 -- ---- for a receiver
 
@@ -179,10 +179,10 @@ transmits_inside old shift next seen stage transmitter sees right stands inside 
     let early = is_early_stuff h.request.frame.ext l in
     let Wrong : Level → Type 0 = λ x. cause_of_bit old.next x (kind_of false early false) old.context.self_test ≡ None in
     let Lost : Level → Type 0 = λ x. None ≡ lost_by (Some h.request) l old.next x in
-    let told : IsTold c now place bits old.next seen old.context.self_test false early false None = record {
+    let told : IsOwnBit c now place bits old.next seen old.context.self_test false early false None = record {
       site = site;
       same = same;
-      telling = h;
+      transmitting = h;
       sends = sends;
       early_is = refl;
       lost_is = ap is_some (subst Lost (sym sees) (sym (none_lost (Some h.request) l old.next)));

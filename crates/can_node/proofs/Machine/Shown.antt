@@ -23,7 +23,7 @@ use Rattle.can_node.specs.NextBit.{now_in, rests_in}
 use Rattle.can_node.specs.Stands.{FollowsAt, StandsAt, phase_of_stage}
 use Rattle.can_node.proofs.Machine.Along.{is_kept}
 use Rattle.can_node.proofs.Machine.Ats.{at_is}
-use Rattle.can_node.proofs.Waiting.InterframeSpaces.{pause_length}
+use Rattle.can_node.proofs.Waiting.InterframeSpaces.{interframe_length}
 
 -- where the node is, by its own fields
 pub at_shown : (node : Node) (entries : List Entry) (found : List FinishedPiece) (h : StandsAt node entries found) →
@@ -88,7 +88,7 @@ idle_phase place bits e none = sym (ap (λ s. phase_at s bits) e ∙ ap (λ l. p
 interframe_phase : (n : ℕ) (c : ContextValue) (place : Place) (bits : List Bit) → place ≡ AtInterframeSpace → IsInInterframeSpace n c bits →
     (if nat_lt n 3 then Intermission else Suspension) ≡ phase_at place bits
 interframe_phase n c place bits e h =
-    ap (λ k. if nat_lt k 3 then Intermission else Suspension) (sym (pause_length n c bits h)) ∙ sym (ap (λ s. phase_at s bits) e)
+    ap (λ k. if nat_lt k 3 then Intermission else Suspension) (sym (interframe_length n c bits h)) ∙ sym (ap (λ s. phase_at s bits) e)
 
 -- the stage fixes the phase
 phase_by : (stage : Stage) (shift : Shift) (c now : ContextValue) (place : Place) (bits : List Bit) → At stage shift c now place bits →

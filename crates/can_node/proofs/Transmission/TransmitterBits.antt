@@ -143,7 +143,7 @@ own_bit_well {c = c} {place = place} {bits = bits} {driven = driven} {seen = see
     (fine_well before driven seen t.sends.rest h.well (slot_here h t.slot_is) (here_slot h t.slot_is) (line_next h t.sends) fine)
 
 -- the frame goes on
-transmits_more : {c now : ContextValue} {place : Place} {bits : List Bit} {driven seen : Level} {self_test slot early : Bool} →
+pub transmits_more : {c now : ContextValue} {place : Place} {bits : List Bit} {driven seen : Level} {self_test slot early : Bool} →
     IsOwnBit c now place bits driven seen self_test slot early false None → (IsOver (seen_of (frame_bits place bits) ++ seen ∷ []) → ⊥) →
     IsTransmitting c now place (bits ++ record { driven = driven; seen = seen } ∷ [])
 transmits_more {c = c} {place = place} {bits = bits} {driven = driven} {seen = seen} t unended =

@@ -1,14 +1,14 @@
 //! `decode LINE`.
 
 use super::row::{Row, Said, Want, gives};
-use worked_frames::{
-    TWO_BYTES_RECEIVED, ZEROS_CUT, ZEROS_LONG, ZEROS_NO_DELIMITER, ZEROS_RECEIVED, ZEROS_SENT,
-    ZEROS_WRONG_CRC,
-};
 use sja_run::{Output, sja_serial};
 use std::alloc::Global;
 use std::str;
 use std::test::Fail;
+use worked_frames::{
+    TWO_BYTES_RECEIVED, ZEROS_CUT, ZEROS_LONG, ZEROS_NO_DELIMITER, ZEROS_RECEIVED, ZEROS_SENT,
+    ZEROS_WRONG_CRC,
+};
 
 /// The refusal of a text that ends too early.
 const TRUNCATED: Want = Want::Refusal("sja: line fault 5 Truncated\n");
