@@ -70,8 +70,8 @@ impl Node {
         ensures reset { InReset self.new }
     {
         self.context.stop();
-        self.stage = Stage::InReset;
         self.next = Level::Recessive;
+        self.stage = Stage::InReset;
     }
 
     /// The level that the node drives in the next bit.

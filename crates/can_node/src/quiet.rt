@@ -73,7 +73,7 @@ impl Node {
         ensures shown { result ≡ true → ShowsSame self.old self.new }
         ensures same { result ≡ false → self.new ≡ self.old }
     {
-        if !self.next.is_recessive() {
+        if self.acknowledges() {
             return false;
         }
         let before = self.shift;
@@ -87,6 +87,14 @@ impl Node {
                 false
             }
         }
+    }
+
+    /// Whether the bit is the node's own acknowledgement, which may be counted.
+    #[inline(always)]
+    fn acknowledges(&self) -> bool
+        ensures { result ≡ false → self.now.next ≡ Level.Recessive }
+    {
+        !self.next.is_recessive()
     }
 
     /// A transmitter's bit that is seen as driven, where the reader doesn't take it at once.

@@ -15,7 +15,7 @@ use Rattle.can_node.proofs.node.Node.receive_quietly.Goals as goal
 pub returns-in-InPiece-clause-quiet : goal.returns-in-InPiece-clause-quiet
 returns-in-InPiece-clause-quiet c = λ stage receiver goes.
     let old = c.args.self.now in
-    let recessive = recessive_by old.next (sym (c.if-not-is_recessive.ensures)) in
+    let recessive = c.acknowledges.ensures c.if-acknowledges.false in
     quietly old _ c.args.level refl refl
     (λ d place bits at kept body drives.
     receives_quietly old c.receive.new.shift c.acknowledgement-self.result c.args.level d place bits stage receiver recessive at kept drives c.receive.ensures.stands
