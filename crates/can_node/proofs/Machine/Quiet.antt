@@ -26,12 +26,12 @@ use Rattle.can_node.specs.Cut.{FinishedPiece, none_yet, counted, tagged}
 use Rattle.can_node.specs.Events.{Step, stepped, lost_in, lost_as, received_in, fault_in, ended_in, events_of}
 use Rattle.can_node.specs.Events.Step.{Within, Finishes}
 use Rattle.can_node.specs.Driving.{Drives, IdleDrives}
-use Rattle.can_node.specs.NextBit.{now_in}
+use Rattle.can_node.specs.NextBit.{now_in, open_bits}
 use Rattle.can_node.specs.Effects.{along, closed}
 use Rattle.can_node.specs.Machine.Standing.{context_of, HasBody, IsKept}
 use Rattle.can_node.specs.Machine.Stages.{At}
 use Rattle.can_node.specs.Machine.Quiet.{IsQuietTurn, TurnsQuietly}
-use Rattle.can_node.specs.Stands.{StandsAt, Leads, Samples, nothing, is_receiving}
+use Rattle.can_node.specs.Stands.{StandsAt, Leads, Samples, closed_by, nothing, is_receiving}
 use Rattle.can_node.proofs.OneCut.GoOn.{stays_end}
 use Rattle.can_node.proofs.Machine.Ats.{at_is}
 use Rattle.can_node.proofs.Machine.BitStands.{goes_stands, closes_stands}
@@ -65,6 +65,18 @@ nothing_told now place bits b step few same received ended lost fault =
 role_shown : (node : Node) (entries : List Entry) (found : List FinishedPiece) (h : StandsAt node entries found) →
     is_receiving node ≡ not (is_transmitter (now_in h.cut).role)
 role_shown node entries found h = ap (λ (k : ContextValue). not (is_transmitter k.role)) h.shows
+
+-- a step in which nothing is told
+leads_quietly : (old new : Node) (entries : List Entry) (found : List FinishedPiece) (h : StandsAt old entries found) (b : Bit) (step : Step) →
+    nothing (is_receiving old) ≡ events_of step (now_in h.cut) h.cut.place (open_bits h.cut) b →
+    StandsAt new (entries ++ OneBit b ∷ []) (found ++ closed_by (counted none_yet (entries ++ OneBit b ∷ [])) step) → is_receiving old ≡ is_receiving new →
+    Leads old new entries found h b (nothing (is_receiving old))
+leads_quietly old new entries found h b step told stands same = record {
+  step = step;
+  told = told;
+  stands = stands;
+  role = same ∙ role_shown new (entries ++ OneBit b ∷ []) (found ++ closed_by (counted none_yet (entries ++ OneBit b ∷ [])) step) stands;
+}
 
 -- ---- the piece goes on
 
@@ -112,12 +124,8 @@ quietly old new seen same_context same_body quiet entries found h x drives =
     ap (λ (k : ContextValue). nothing (not (is_transmitter k.role))) h.shows
     ∙ nothing_told now place bits b Within few (sym steps) refl (none_ends (nat_le 256 now.tec) (is_held now.held)) (subst (λ k. None ≡ lost_in k place bits b) h.shows goes.turn.lost) refl in
     let P : Level → Type 0 = λ y. Leads old new entries found h (record { driven = y; seen = seen }) (nothing (is_receiving old)) in
-    subst P (drives_once now place bits old.next x h.next drives) (record {
-      step = Within;
-      told = told;
-      stands = stood;
-      role = ap (λ (s : Context). not (is_transmitter s.role)) (sym same_context) ∙ role_shown new (entries ++ OneBit b ∷ []) (found ++ []) stood;
-    })
+    subst P (drives_once now place bits old.next x h.next drives)
+    (leads_quietly old new entries found h b Within told stood (ap (λ (s : Context). not (is_transmitter s.role)) (sym same_context)))
 
 -- ---- outside a frame
 
@@ -198,9 +206,4 @@ idle_quietly node seen idle recessive sees entries found h x drives =
     let told : nothing (is_receiving node) ≡ events_of step now place bits b =
     ap (λ (d : ContextValue). nothing (not (is_transmitter d.role))) h.shows ∙ nothing_told now place bits b step few bit.same refl ends bit.lost refl in
     let P : Level → Type 0 = λ y. Leads node node entries found h (record { driven = y; seen = seen }) (nothing (is_receiving node)) in
-    subst P (drives_once now place bits node.next x h.next drives) (record {
-      step = step;
-      told = told;
-      stands = there;
-      role = role_shown node (entries ++ OneBit b ∷ []) (found ++ tagged k (IdleBit ∷ [])) there;
-    })
+    subst P (drives_once now place bits node.next x h.next drives) (leads_quietly node node entries found h b step told there refl)

@@ -1,7 +1,6 @@
 use Rattle.std.proofs.Common.{refl, sym, subst, ◌++◌, ◌∷◌, []}
 use Rattle.can_bits.specs.declared.level.Level.{Level}
 use Rattle.can_bits.specs.declared.level.Level.TheVariants.{Recessive}
-use Rattle.can_bits.proofs.Values.{recessive_by}
 use Rattle.can_node.specs.Bits.{seen_of}
 use Rattle.can_node.specs.declared.after_bit.AfterBit.{AfterBit}
 use Rattle.can_node.specs.Machine.Stages.{IsReceiving, frame_bits}
