@@ -4,6 +4,7 @@ mod confining;
 mod faulting;
 pub mod given;
 mod modes;
+mod quiet;
 mod receiving;
 mod requesting;
 mod resetting;
