@@ -16,6 +16,6 @@ pub fn told(alloc: Global, count: u32) -> Option<String> {
             wire.bit(Level::Recessive);
         }
     }
-    let tally = &wire.tally;
+    let tally = wire.told();
     format!(in alloc; "{tally}").ok()
 }

@@ -1,6 +1,7 @@
 //! [`Figure`]: what can be timed.
 
-use super::{contending, faults, hearing, idle, node, sending, shift, stream};
+use super::document::Document;
+use super::{contending, faults, hearing, idle, line, node, plans, sending, shift, stream};
 use std::alloc::Global;
 
 /// What can be timed.
@@ -8,6 +9,8 @@ use std::alloc::Global;
 pub enum Figure {
     /// A reader is given lines, one level at a time.
     Shift,
+    /// Lines are read whole.
+    Line,
     /// Three nodes on one wire send frames to each other, by `sample` alone.
     Node,
     /// Eight nodes on an idle bus.
@@ -22,11 +25,22 @@ pub enum Figure {
     Contending,
     /// A sender and a receiver.
     Stream,
+    /// A plan is read that has as many steps, turns and strikes as there is room for.
+    Plan,
+    /// A short plan is read, with comment lines behind it.
+    Comments,
+    /// A document is refused that has numbers in the place of turns.
+    Numbers,
+    /// One that has a turn of many words.
+    Words,
+    /// One that has tables in the place of nodes.
+    Tables,
 }
 
 /// Every figure, in the order in which `all` tells them.
-pub const FIGURES: [Figure; 8] = [
+pub const FIGURES: [Figure; 14] = [
     Figure::Shift,
+    Figure::Line,
     Figure::Node,
     Figure::Idle,
     Figure::Hearing,
@@ -34,6 +48,11 @@ pub const FIGURES: [Figure; 8] = [
     Figure::Faults,
     Figure::Contending,
     Figure::Stream,
+    Figure::Plan,
+    Figure::Comments,
+    Figure::Numbers,
+    Figure::Words,
+    Figure::Tables,
 ];
 
 impl Figure {
@@ -41,6 +60,7 @@ impl Figure {
     pub fn named(name: &str) -> Option<Figure> {
         match name {
             "shift" => Some(Figure::Shift),
+            "line" => Some(Figure::Line),
             "node" => Some(Figure::Node),
             "idle" => Some(Figure::Idle),
             "hearing" => Some(Figure::Hearing),
@@ -48,6 +68,11 @@ impl Figure {
             "faults" => Some(Figure::Faults),
             "contending" => Some(Figure::Contending),
             "stream" => Some(Figure::Stream),
+            "plan" => Some(Figure::Plan),
+            "comments" => Some(Figure::Comments),
+            "numbers" => Some(Figure::Numbers),
+            "words" => Some(Figure::Words),
+            "tables" => Some(Figure::Tables),
             _ => None,
         }
     }
@@ -57,6 +82,7 @@ impl Figure {
     pub fn told(self, alloc: Global, count: u32) -> Option<String> {
         match self {
             Figure::Shift => shift::told(alloc, count),
+            Figure::Line => line::told(alloc, count),
             Figure::Node => node::told(alloc, count),
             Figure::Idle => idle::told(alloc, count),
             Figure::Hearing => hearing::told(alloc, count),
@@ -64,6 +90,11 @@ impl Figure {
             Figure::Faults => faults::told(alloc, count),
             Figure::Contending => contending::told(alloc, count),
             Figure::Stream => stream::told(alloc, count),
+            Figure::Plan => plans::told(alloc, count, Document::Steps),
+            Figure::Comments => plans::told(alloc, count, Document::Comments),
+            Figure::Numbers => plans::told(alloc, count, Document::Numbers),
+            Figure::Words => plans::told(alloc, count, Document::Words),
+            Figure::Tables => plans::told(alloc, count, Document::Tables),
         }
     }
 }

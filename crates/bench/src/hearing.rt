@@ -1,15 +1,13 @@
 //! The figure `hearing`: a node receives the longest kind of frame again and again.
 
 use super::wire::Wire;
-use super::worked::long_frame;
-use can_bits::{Level, line_of};
+use super::worked::long_line;
+use can_bits::Level;
 use std::alloc::Global;
 
 /// Receives the frame so many times, with intermission after each. Another one acknowledges it too.
 pub fn told(alloc: Global, count: u32) -> Option<String> {
-    let mut line = line_of(alloc, &long_frame()?).ok()?;
-    let slot = line.len().checked_sub(9)?;
-    *line.get_mut(slot)? = Level::Dominant;
+    let line = long_line(alloc)?;
     let mut wire = Wire::new(alloc, 1, false)?;
     wire.integrate();
     for _ in 0..count {
@@ -20,6 +18,6 @@ pub fn told(alloc: Global, count: u32) -> Option<String> {
             wire.bit(Level::Recessive);
         }
     }
-    let tally = &wire.tally;
+    let tally = wire.told();
     format!(in alloc; "{tally}").ok()
 }

@@ -5,11 +5,15 @@
 #![tactic(auto)]
 
 mod contending;
+mod document;
 mod faults;
 mod figure;
 mod hearing;
 mod idle;
+mod line;
+mod long;
 mod node;
+mod plans;
 mod sending;
 mod shift;
 mod stream;

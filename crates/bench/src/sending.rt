@@ -10,8 +10,13 @@ const BITS: u32 = 145;
 
 /// Lets the bits of so many frames pass; the node is asked for the frame again after each.
 pub fn told(alloc: Global, count: u32) -> Option<String> {
+    told_of(alloc, 1, true, count)
+}
+
+/// The same for the first of so many nodes, in self test or not.
+pub fn told_of(alloc: Global, nodes: usize, self_test: bool, count: u32) -> Option<String> {
     let frame = long_frame()?;
-    let mut wire = Wire::new(alloc, 1, true)?;
+    let mut wire = Wire::new(alloc, nodes, self_test)?;
     wire.integrate();
     for _ in 0..count {
         wire.ask_first(&frame);
@@ -19,6 +24,6 @@ pub fn told(alloc: Global, count: u32) -> Option<String> {
             wire.bit(Level::Recessive);
         }
     }
-    let tally = &wire.tally;
+    let tally = wire.told();
     format!(in alloc; "{tally}").ok()
 }

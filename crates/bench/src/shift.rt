@@ -1,16 +1,13 @@
 //! The figure `shift`: a reader of one level at a time is given the received line of one frame again and again.
 
-use super::worked::long_frame;
-use can_bits::{Level, Shift, ShiftEvent, line_of};
+use super::worked::long_line;
+use can_bits::{Level, Shift, ShiftEvent};
 use std::alloc::Global;
 use std::fmt::{Display, Error, Formatter, Write};
 
-/// Reads the line so many times, and tells how many levels and frames there were. The line's ACK slot is the ninth
-/// level from its end.
+/// Reads the line so many times, and tells how many levels and frames there were.
 pub fn told(alloc: Global, count: u32) -> Option<String> {
-    let mut line = line_of(alloc, &long_frame()?).ok()?;
-    let slot = line.len().checked_sub(9)?;
-    *line.get_mut(slot)? = Level::Dominant;
+    let line = long_line(alloc)?;
     let mut reading = Reading::new();
     for _ in 0..count {
         reading.read(&line);

@@ -1,24 +1,9 @@
 //! The figure `stream`: a sender and a receiver.
 
-use super::wire::Wire;
-use super::worked::long_frame;
-use can_bits::Level;
+use super::sending::told_of;
 use std::alloc::Global;
-
-/// The bits of a frame of the longest kind with intermission, and the bit in which it is asked for again.
-const BITS: u32 = 145;
 
 /// Lets the bits of so many frames pass; the first node is asked for the frame again after each.
 pub fn told(alloc: Global, count: u32) -> Option<String> {
-    let frame = long_frame()?;
-    let mut wire = Wire::new(alloc, 2, false)?;
-    wire.integrate();
-    for _ in 0..count {
-        wire.ask_first(&frame);
-        for _ in 0..BITS {
-            wire.bit(Level::Recessive);
-        }
-    }
-    let tally = &wire.tally;
-    format!(in alloc; "{tally}").ok()
+    told_of(alloc, 2, false, count)
 }

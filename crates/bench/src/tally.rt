@@ -23,9 +23,8 @@ impl Tally {
         }
     }
 
-    /// Counts what one bit brought to a node.
+    /// Takes in what one bit brought to a node.
     pub fn add(&mut self, events: &BitEvents) {
-        self.samples = self.samples.wrapping_add(1);
         if let Some(frame) = &events.received {
             self.received = self.received.wrapping_add(1);
             self.mix(u64::from(frame.id()));
@@ -42,9 +41,9 @@ impl Tally {
         self.mix(u64::from(events.receiving));
     }
 
-    /// Counts a bit in which nothing happened.
-    pub fn pass(&mut self) {
-        self.samples = self.samples.wrapping_add(1);
+    /// Counts so many bits of nodes.
+    pub fn pass(&mut self, samples: u64) {
+        self.samples = self.samples.wrapping_add(samples);
     }
 
     /// Goes into the checksum.

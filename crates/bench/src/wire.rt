@@ -13,12 +13,21 @@ const EVERY_FRAME: Filter = Filter {
     amr: [255; 4],
 };
 
+/// A bit of a node in which something happened.
+#[inline(never)]
+fn sample_fully(node: &mut Node, level: Level, tally: &mut Tally) {
+    let events = node.sample_fully(level);
+    tally.add(&events);
+}
+
 /// Nodes on one wire, the level of its next bit, and what the nodes were told.
 #[derive(Drop)]
 pub struct Wire {
     nodes: Vec<Node>,
     level: Level,
-    pub tally: Tally,
+    /// How many bits came since it was last asked what the nodes were told.
+    bits: u64,
+    tally: Tally,
 }
 
 impl Wire {
@@ -37,6 +46,7 @@ impl Wire {
         Some(Wire {
             nodes,
             level: Level::Recessive,
+            bits: 0,
             tally: Tally::new(),
         })
     }
@@ -49,25 +59,26 @@ impl Wire {
     }
 
     /// One bit, in which another one beside the nodes drives this level.
+    #[inline(always)]
     pub fn bit(&mut self, other: Level) {
-        let level = if other.is_recessive() {
-            self.level
-        } else {
-            other
-        };
-        let mut next = Level::Recessive;
+        let level = Level::of(self.level.is_recessive() & other.is_recessive());
+        let mut recessive = true;
         for node in self.nodes.iter_mut() {
-            if node.sample_quietly(level) {
-                self.tally.pass();
-            } else {
-                let events = node.sample(level);
-                self.tally.add(&events);
+            if !node.sample_quietly(level) {
+                sample_fully(node, level, &mut self.tally);
             }
-            if !node.drive().is_recessive() {
-                next = Level::Dominant;
-            }
+            recessive = recessive & node.drive().is_recessive();
         }
-        self.level = next;
+        self.level = Level::of(recessive);
+        self.bits = self.bits.wrapping_add(1);
+    }
+
+    /// What the nodes were told so far.
+    pub fn told(&mut self) -> &Tally {
+        self.tally
+            .pass(self.bits.wrapping_mul(self.nodes.len() as u64));
+        self.bits = 0;
+        &self.tally
     }
 
     /// Gives each node that holds no request one for this frame, its identifier raised by the node's number.

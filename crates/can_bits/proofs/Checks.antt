@@ -1,15 +1,14 @@
 -- The CRC sequence.
 use Rattle.std.proofs.Common.{◌≡◌, ◌+◌, ◌*◌, ◌/◌, ◌%◌, ◌^◌, ◌<◌, ◌≢◌, ◌-◌, ℕ, zero, suc, List, [], ◌∷◌, ◌++◌, refl, ap, sym, subst, ◌∙◌, arith}
-use Rattle.std.proofs.Common.{◌==◌, length, append_assoc, inl, inr}
-use Rattle.std.proofs.lemmas.Bool.{cases_eq, cases_Bool, eqb-true, eqb-false}
+use Rattle.std.proofs.Common.{append_assoc, inl, inr}
+use Rattle.std.proofs.lemmas.Bool.{cases_eq}
 use Rattle.std.proofs.lemmas.List.{append-nil}
 use Rattle.std.specs.Prelude.{bit_xor}
 use Rattle.std.specs.Int.Bits.{xor_block, xor_comm, xor_lt, xor_zero_l}
 use Rattle.can_bits.specs.declared.level.Level.{Level}
 use Rattle.can_bits.specs.Digits.{digit, bits, value}
-use Rattle.can_bits.specs.Reading.{SaysWhetherRight}
 use Rattle.can_bits.specs.Check.{generator, IsMultiple, Crc}
-use Rattle.can_bits.proofs.Values.{digit-lt, value-push, value-append, value-append-bits, value-lt, value-injective, value-bits, length-bits}
+use Rattle.can_bits.proofs.Values.{digit-lt, value-push, value-append, value-append-bits, value-lt, value-injective, length-bits}
 use Rattle.can_bits.proofs.Products.{IsMultiple-double, IsMultiple-double-add, multiples_agree}
 
 -- with these 15 digits after them the levels are a multiple of the generator
@@ -22,9 +21,11 @@ pub Divided-nothing : Divided [] 0
 Divided-nothing = record { fits = omega arith; divides = ([], refl) }
 
 -- one level more, equal to the highest digit of the register
-pub Divided-same : (b : List Level) (r : ℕ) (x : Level) → Divided b r → r / 2 ^ 14 ≡ digit x → Divided (b ++ x ∷ []) (2 * (r % 2 ^ 14))
+pub Divided-same : (b : List Level) (r : ℕ) (x : Level) → Divided b r → r / 2 ^ 14 ≡ digit x →
+    Divided (b ++ x ∷ []) (2 * (r % 2 ^ 14))
 Divided-same b r x h top =
-    let moved : 2 * (value b * 2 ^ 15 + r) ≡ value (b ++ x ∷ []) * 2 ^ 15 + 2 * (r % 2 ^ 14) = omega (arith, value-push b x) in
+    let moved : 2 * (value b * 2 ^ 15 + r) ≡ value (b ++ x ∷ []) * 2 ^ 15 + 2 * (r % 2 ^ 14) =
+    omega (arith, value-push b x) in
     record { fits = omega arith; divides = subst IsMultiple moved (IsMultiple-double (value b * 2 ^ 15 + r) h.divides) }
 
 -- a lowest digit is turned round
@@ -48,7 +49,8 @@ Divided-other b r x h top =
     let turned : 2 * value b + (1 - r / 2 ^ 14) ≡ value (b ++ x ∷ []) = omega (arith, value-push b x, digit-lt x) in
     let doubled : 2 * (value b * 2 ^ 15 + r) ≡ (2 * value b + r / 2 ^ 14) * 2 ^ 15 + 2 * (r % 2 ^ 14) = omega arith in
     let block = xor_block 15 1 (2 * value b + r / 2 ^ 14) 0x4599 (2 * (r % 2 ^ 14)) (omega arith) low in
-    let sum : bit_xor generator (2 * (value b * 2 ^ 15 + r)) ≡ value (b ++ x ∷ []) * 2 ^ 15 + bit_xor (2 * (r % 2 ^ 14)) 0x4599 =
+    let sum : bit_xor generator (2 * (value b * 2 ^ 15 + r))
+    ≡ value (b ++ x ∷ []) * 2 ^ 15 + bit_xor (2 * (r % 2 ^ 14)) 0x4599 =
     ap (λ n. bit_xor generator n) doubled ∙ block
     ∙ ap (λ n. n * 2 ^ 15 + bit_xor 0x4599 (2 * (r % 2 ^ 14))) (xor-one (value b) (r / 2 ^ 14) high ∙ turned)
     ∙ ap (λ n. value (b ++ x ∷ []) * 2 ^ 15 + n) (xor_comm 0x4599 (2 * (r % 2 ^ 14))) in
@@ -59,7 +61,8 @@ Divided-other b r x h top =
 
 -- the digits of the register are the CRC sequence
 pub Crc_of : (b : List Level) (r : ℕ) → Divided b r → Crc b (bits 15 r)
-Crc_of b r h = record { count = length-bits 15 r; divides = subst IsMultiple (sym (value-append-bits 15 b r h.fits)) h.divides }
+Crc_of b r h =
+    record { count = length-bits 15 r; divides = subst IsMultiple (sym (value-append-bits 15 b r h.fits)) h.divides }
 
 -- a list of levels has one CRC sequence
 pub Crc-unique : (b c d : List Level) → Crc b c → Crc b d → c ≡ d
@@ -87,15 +90,3 @@ Crc_exists b =
     let (r, h) = divided_after [] b 0 Divided-nothing in
     let whole = Crc_of b r h in
     (bits 15 r, whole, λ d other. Crc-unique b d (bits 15 r) other whole)
-
--- comparing a CRC sequence with the right one, as numbers
-pub says_whether : (b c : List Level) (n m : ℕ) → Crc b (bits 15 n) → n < 2 ^ 15 → ((d : List Level) → Crc b d → d ≡ bits 15 n) →
-    length c ≡ 15 → m ≡ value c → SaysWhetherRight (n == m) b c
-says_whether b c n m right fits only count number =
-    let writes = value-bits 15 n fits in
-    elim (cases_Bool (n == m)) [
-      | inl t ↦
-          let same : c ≡ bits 15 n = value-injective c (bits 15 n) (count ∙ sym (length-bits 15 n)) (sym number ∙ sym (eqb-true n m t) ∙ sym writes) in
-          rw t (subst (λ d. Crc b d) (sym same) right)
-      | inr f ↦ rw f (λ h. eqb-false n m f (sym writes ∙ ap value (sym (only c h)) ∙ sym number))
-    ]

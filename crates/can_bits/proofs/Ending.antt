@@ -14,18 +14,23 @@ use Rattle.can_bits.proofs.Going.{IsInside}
 use Rattle.can_bits.proofs.Whole.Decoding.{Spells-unique}
 
 -- one list of levels has one stuffed part at its beginning
-pub same_part : {f g : FrameValue} {b c d e s t : List Level} (x y : List Level) → StuffedPart f b c s → StuffedPart g d e t → s ++ x ≡ t ++ y → s ≡ t
+pub same_part : {f g : FrameValue} {b c d e s t : List Level} (x y : List Level) → StuffedPart f b c s →
+    StuffedPart g d e t → s ++ x ≡ t ++ y → s ≡ t
 same_part {s = s} {t = t} x y h k e =
     let whole : reverse (reverse s) ++ x ≡ reverse (reverse t) ++ y =
     ap (λ l. l ++ x) (reverse-reverse s) ∙ e ∙ ap (λ l. l ++ y) (sym (reverse-reverse t)) in
-    sym (reverse-reverse s) ∙ ap reverse (part_once (reverse s) (reverse t) x y (part_to h) (part_to k) whole) ∙ reverse-reverse t
+    sym (reverse-reverse s) ∙ ap reverse (part_once (reverse s) (reverse t) x y (part_to h) (part_to k) whole)
+    ∙ reverse-reverse t
 
 -- one stuffed part has one frame, body and CRC sequence
-pub same_spelling : {f g : FrameValue} {b c d e s : List Level} → StuffedPart f b c s → StuffedPart g d e s → (f ≡ g) × (b ≡ d) × (c ≡ e)
-same_spelling {f = f} {g = g} {b = b} {c = c} {d = d} {e = e} {s = s} h k = Spells-unique f g b c d e (plain (reverse s)) (spelt h) (spelt k)
+pub same_spelling : {f g : FrameValue} {b c d e s : List Level} → StuffedPart f b c s → StuffedPart g d e s →
+    (f ≡ g) × (b ≡ d) × (c ≡ e)
+same_spelling {f = f} {g = g} {b = b} {c = c} {d = d} {e = e} {s = s} h k =
+    Spells-unique f g b c d e (plain (reverse s)) (spelt h) (spelt k)
 
 -- a line that begins with a whole stuffed part goes on with its tail
-pub record GoesOn (f : FrameValue) (b c after : List Level) (g : FrameValue) (d e : List Level) (ack : Level) (rest : List Level) : Type 0 where
+pub record GoesOn (f : FrameValue) (b c after : List Level) (g : FrameValue) (d e : List Level) (ack : Level)
+    (rest : List Level) : Type 0 where
   pub frame : f ≡ g
   pub body : b ≡ d
   pub check : c ≡ e
@@ -70,15 +75,38 @@ inside_not_past l h = λ p.
     no_part (reverse p.rest) (reverse p.part) (part_to p.is_part)
     (subst P (ap reverse p.whole ∙ reverse-append p.part p.rest) h)
 
+-- a front of what begins a line begins one
+abbrev pub begins_front : (p q : List Level) → Begins (p ++ q) → Begins p
+begins_front p q h =
+    let P : List Level → Type 0 = λ l. Line h.frame h.body h.check h.ack l in
+    record {
+      frame = h.frame;
+      body = h.body;
+      check = h.check;
+      ack = h.ack;
+      rest = q ++ h.rest;
+      line = subst P (append_assoc p q h.rest) h.line;
+    }
+
 -- a line that begins with these levels has its stuffed part past them or within
 pub begins_in : (l : List Level) → Begins l →
-    ((f : FrameValue) × (b : List Level) × (c : List Level) × (more : List Level) × StuffedPart f b c (l ++ more)) ⊎ IsPastPart l
+    ((f : FrameValue) × (b : List Level) × (c : List Level) × (more : List Level) × StuffedPart f b c (l ++ more))
+    ⊎ IsPastPart l
 begins_in l h =
     let line = h.line in
     elim (fronts l line.part h.rest (tail h.ack) line.whole) [
       | inl longer ↦ let P : List Level → Type 0 = λ p. StuffedPart h.frame h.body h.check p in
           inl (h.frame, h.body, h.check, longer.0, subst P longer.1 line.is_part)
-      | inr shorter ↦ inr (record { frame = h.frame; body = h.body; check = h.check; part = line.part; rest = shorter.0; is_part = line.is_part; whole = shorter.1 })
+      | inr shorter ↦
+          inr (record {
+            frame = h.frame;
+            body = h.body;
+            check = h.check;
+            part = line.part;
+            rest = shorter.0;
+            is_part = line.is_part;
+            whole = shorter.1;
+          })
     ]
 
 -- what lies within a list that is short is short
@@ -99,11 +127,20 @@ past_push l x p =
           let split : l ++ x ∷ [] ≡ (p.part ++ some.0) ++ some.1 ∷ [] =
           p.whole ∙ ap (λ r. p.part ++ r) some.2 ∙ sym (append_assoc p.part some.0 (some.1 ∷ [])) in
           let same = same_from_push l (p.part ++ some.0) x some.1 split in
-          inl (record { frame = p.frame; body = p.body; check = p.check; part = p.part; rest = some.0; is_part = p.is_part; whole = same.0 })
+          inl (record {
+            frame = p.frame;
+            body = p.body;
+            check = p.check;
+            part = p.part;
+            rest = some.0;
+            is_part = p.is_part;
+            whole = same.0;
+          })
     ]
 
 -- a stuffed part has no six equal levels
-pub six_in_part : {f : FrameValue} {b c : List Level} (l : List Level) (x : Level) (more : List Level) → StuffedPart f b c ((l ++ x ∷ []) ++ more) → 6 ≤ run (x ∷ reverse l) → ⊥
+pub six_in_part : {f : FrameValue} {b c : List Level} (l : List Level) (x : Level) (more : List Level) →
+    StuffedPart f b c ((l ++ x ∷ []) ++ more) → 6 ≤ run (x ∷ reverse l) → ⊥
 six_in_part l x more part six =
     let turned : reverse ((l ++ x ∷ []) ++ more) ≡ reverse more ++ (x ∷ reverse l) =
     reverse-append (l ++ x ∷ []) more ∙ ap (λ p. reverse more ++ p) (reverse-push l x) in
@@ -132,7 +169,8 @@ plain-first x l =
     (reverse e, ap plain (reverse-cons x l) ∙ ap reverse h ∙ reverse-append e (x ∷ []))
 
 -- a stuffed part isn't empty, and begins dominant
-pub part_begins : {f : FrameValue} {b c : List Level} (s : List Level) → StuffedPart f b c s → (rest : List Level) × (s ≡ Dominant ∷ rest)
+pub part_begins : {f : FrameValue} {b c : List Level} (s : List Level) → StuffedPart f b c s →
+    (rest : List Level) × (s ≡ Dominant ∷ rest)
 part_begins [] part = let count = (part_to part).whole.count in absurd (omega arith)
 part_begins (Dominant ∷ s) part = (s, refl)
 part_begins (Recessive ∷ s) part =

@@ -21,7 +21,8 @@ pub record Says (w : List Level) (format remote : Bool) (code : ℕ) : Type 0 wh
   pub dlc : says_dlc w ≡ code
 
 -- the same, by equal values
-says_as : {w : List Level} {format remote other : Bool} {code number : ℕ} → Says w format remote code → remote ≡ other → code ≡ number → Says w format other number
+says_as : {w : List Level} {format remote other : Bool} {code number : ℕ} → Says w format remote code →
+    remote ≡ other → code ≡ number → Says w format other number
 says_as told r n = record { begins = told.begins; ext = told.ext; rtr = told.rtr ∙ r; dlc = told.dlc ∙ n }
 
 -- the level of a bit is recessive where the bit is 1
@@ -36,12 +37,20 @@ level_after a b n p q h e =
     get_or-append_right a b n p Dominant h (omega arith) ∙ ap (λ k. level_at b k) place
 
 -- equal levels write equal numbers
-pub four-same : (v w : List Level) (p q : ℕ) → ((k : ℕ) → k < 4 → level_at v (p + k) ≡ level_at w (q + k)) → four_from v p ≡ four_from w q
+pub four-same : (v w : List Level) (p q : ℕ) → ((k : ℕ) → k < 4 → level_at v (p + k) ≡ level_at w (q + k)) →
+    four_from v p ≡ four_from w q
 four-same v w p q h =
     let p0 : p + 0 ≡ p = omega arith in
     let q0 : q + 0 ≡ q = omega arith in
-    let first : level_at v p ≡ level_at w q = ap (λ k. level_at v k) (sym p0) ∙ h 0 (omega arith) ∙ ap (λ k. level_at w k) q0 in
-    omega (arith, ap digit first, ap digit (h 1 (omega arith)), ap digit (h 2 (omega arith)), ap digit (h 3 (omega arith)))
+    let first : level_at v p ≡ level_at w q =
+    ap (λ k. level_at v k) (sym p0) ∙ h 0 (omega arith) ∙ ap (λ k. level_at w k) q0 in
+    omega (
+      arith,
+      ap digit first,
+      ap digit (h 1 (omega arith)),
+      ap digit (h 2 (omega arith)),
+      ap digit (h 3 (omega arith)),
+    )
 
 -- four levels past the first part of a list
 four_after : (a b : List Level) (n p q : ℕ) → length a ≡ n → p ≡ n + q → four_from (a ++ b) p ≡ four_from b q
@@ -81,7 +90,8 @@ says_extended i j d rest srr r r1 r0 hi hj hd =
     let w : List Level = Dominant ∷ (i ++ after) in
     let ext : says_ext w ≡ true = ap is_recessive (level_after i after 11 12 1 hi refl) in
     let remote : level_at w 32 ≡ r = level_after i after 11 31 20 hi refl ∙ level_after j last 18 18 0 hj refl in
-    let code : four_from w 35 ≡ value d = four_after i after 11 34 23 hi refl ∙ four_after j last 18 21 3 hj refl ∙ four-value d rest hd in
+    let code : four_from w 35 ≡ value d =
+    four_after i after 11 34 23 hi refl ∙ four_after j last 18 21 3 hj refl ∙ four-value d rest hd in
     record {
       begins = refl;
       ext = ext;
@@ -94,15 +104,20 @@ says_head : (ext : Bool) (id : ℕ) (rtr : Bool) (srr r1 r0 : Level) (d t : List
     Says (head_bits ext id rtr srr r1 r0 ++ (d ++ t)) ext rtr (value d)
 says_head false id rtr srr r1 r0 d t h =
     let told = says_standard (bits 11 id) d t (level_of rtr) r0 (length-bits 11 id) h in
-    let whole : Dominant ∷ (bits 11 id ++ level_of rtr ∷ Dominant ∷ r0 ∷ (d ++ t)) ≡ head_bits false id rtr srr r1 r0 ++ (d ++ t) =
+    let whole : Dominant ∷ (bits 11 id ++ level_of rtr ∷ Dominant ∷ r0 ∷ (d ++ t))
+    ≡ head_bits false id rtr srr r1 r0 ++ (d ++ t) =
     ap (λ l. Dominant ∷ l) (sym (append_assoc (bits 11 id) (level_of rtr ∷ Dominant ∷ r0 ∷ []) (d ++ t))) in
     says_as (subst (λ l. Says l false (is_recessive (level_of rtr)) (value d)) whole told) (recessive-level rtr) refl
 says_head true id rtr srr r1 r0 d t h =
     let low : List Level = bits 18 id ++ level_of rtr ∷ r1 ∷ r0 ∷ [] in
-    let told = says_extended (bits 11 (id / 2 ^ 18)) (bits 18 id) d t srr (level_of rtr) r1 r0 (length-bits 11 (id / 2 ^ 18)) (length-bits 18 id) h in
-    let whole : Dominant ∷ (bits 11 (id / 2 ^ 18) ++ srr ∷ Recessive ∷ (bits 18 id ++ level_of rtr ∷ r1 ∷ r0 ∷ (d ++ t)))
+    let told =
+    says_extended (bits 11 (id / 2 ^ 18)) (bits 18 id) d t srr (level_of rtr) r1 r0 (length-bits 11 (id / 2 ^ 18))
+    (length-bits 18 id) h in
+    let whole : Dominant ∷ (bits 11 (id / 2 ^ 18) ++ srr ∷ Recessive
+    ∷ (bits 18 id ++ level_of rtr ∷ r1 ∷ r0 ∷ (d ++ t)))
     ≡ head_bits true id rtr srr r1 r0 ++ (d ++ t) =
-    ap (λ l. Dominant ∷ (bits 11 (id / 2 ^ 18) ++ srr ∷ Recessive ∷ l)) (sym (append_assoc (bits 18 id) (level_of rtr ∷ r1 ∷ r0 ∷ []) (d ++ t)))
+    ap (λ l. Dominant ∷ (bits 11 (id / 2 ^ 18) ++ srr ∷ Recessive ∷ l))
+    (sym (append_assoc (bits 18 id) (level_of rtr ∷ r1 ∷ r0 ∷ []) (d ++ t)))
     ∙ ap (λ l. Dominant ∷ l) (sym (append_assoc (bits 11 (id / 2 ^ 18)) (srr ∷ Recessive ∷ low) (d ++ t))) in
     says_as (subst (λ l. Says l true (is_recessive (level_of rtr)) (value d)) whole told) (recessive-level rtr) refl
 
@@ -118,16 +133,19 @@ says_body f b t frame (srr, r1, r0, e) =
     says_as (subst (λ l. Says l f.ext f.rtr (value code)) whole told) refl (value-bits 4 f.dlc frame.dlc)
 
 -- how many levels stand before the DLC
-pub length_head : (ext : Bool) (id : ℕ) (rtr : Bool) (srr r1 r0 : Level) → length (head_bits ext id rtr srr r1 r0) ≡ dlc_place ext
+pub length_head : (ext : Bool) (id : ℕ) (rtr : Bool) (srr r1 r0 : Level) →
+    length (head_bits ext id rtr srr r1 r0) ≡ dlc_place ext
 length_head false id rtr srr r1 r0 =
     omega (arith, length-append (bits 11 id) (level_of rtr ∷ Dominant ∷ r0 ∷ []), length-bits 11 id)
 length_head true id rtr srr r1 r0 =
     let low : List Level = bits 18 id ++ level_of rtr ∷ r1 ∷ r0 ∷ [] in
-    let count : length low ≡ 21 = omega (arith, length-append (bits 18 id) (level_of rtr ∷ r1 ∷ r0 ∷ []), length-bits 18 id) in
+    let count : length low ≡ 21 =
+    omega (arith, length-append (bits 18 id) (level_of rtr ∷ r1 ∷ r0 ∷ []), length-bits 18 id) in
     omega (arith, length-append (bits 11 (id / 2 ^ 18)) (srr ∷ Recessive ∷ low), length-bits 11 (id / 2 ^ 18))
 
 -- how many levels a body has
-pub length_body : (f : FrameValue) (b : List Level) → IsFrame f → IsBody f b → length b ≡ dlc_place f.ext + 4 + 8 * data_count f.rtr f.dlc
+pub length_body : (f : FrameValue) (b : List Level) → IsFrame f → IsBody f b →
+    length b ≡ dlc_place f.ext + 4 + 8 * data_count f.rtr f.dlc
 length_body f b frame (srr, r1, r0, e) =
     let head : List Level = head_bits f.ext f.id f.rtr srr r1 r0 in
     let code : List Level = bits 4 f.dlc in
@@ -144,7 +162,8 @@ length_body f b frame (srr, r1, r0, e) =
     )
 
 -- how many levels they say that there are
-count-says : (w : List Level) (format remote : Bool) (code : ℕ) → says_ext w ≡ format → says_rtr w ≡ remote → says_dlc w ≡ code →
+count-says : (w : List Level) (format remote : Bool) (code : ℕ) → says_ext w ≡ format → says_rtr w ≡ remote →
+    says_dlc w ≡ code →
     says_count w ≡ dlc_place format + 19 + 8 * data_count remote code
 count-says w format remote code ext rtr dlc =
     ap (λ e. dlc_place e + 19 + 8 * data_count (says_rtr w) (says_dlc w)) ext
@@ -175,12 +194,14 @@ rtr_before false = omega arith
 rtr_before true = omega arith
 
 -- levels that are equal up to the end of the DLC say the same
-pub says_count-same : (v w : List Level) → ((k : ℕ) → k < dlc_place (says_ext w) + 4 → level_at v k ≡ level_at w k) → says_count v ≡ says_count w
+pub says_count-same : (v w : List Level) → ((k : ℕ) → k < dlc_place (says_ext w) + 4 → level_at v k ≡ level_at w k) →
+    says_count v ≡ says_count w
 says_count-same v w h =
     let format : Bool = says_ext w in
     let ext : says_ext v ≡ format = ap is_recessive (h 13 (ext_before format)) in
     let rtr : says_rtr v ≡ says_rtr w =
-    ap (λ e. is_recessive (level_at v (rtr_place e))) ext ∙ ap is_recessive (h (rtr_place format) (rtr_before format)) in
+    ap (λ e. is_recessive (level_at v (rtr_place e))) ext
+    ∙ ap is_recessive (h (rtr_place format) (rtr_before format)) in
     let dlc : says_dlc v ≡ says_dlc w =
     ap (λ e. four_from v (dlc_place e)) ext
     ∙ four-same v w (dlc_place format) (dlc_place format) (λ k below. h (dlc_place format + k) (omega arith)) in
@@ -197,7 +218,8 @@ level_at-padded w n k =
       | inl below ↦ get_or_append_left w (replicate n Dominant) Dominant k below
       | inr past ↦ elim (cases_lt k (length (w ++ replicate n Dominant))) [
         | inl inside ↦ get_or-append_right w (replicate n Dominant) (length w) k Dominant refl past
-            ∙ get_or-replicate n (k - length w) Dominant Dominant (omega (arith, length-append w (replicate n Dominant), length-replicate n Dominant))
+            ∙ get_or-replicate n (k - length w) Dominant Dominant
+            (omega (arith, length-append w (replicate n Dominant), length-replicate n Dominant))
             ∙ sym (get_or_past w k Dominant past)
         | inr outside ↦ get_or_past (w ++ replicate n Dominant) k Dominant outside ∙ sym (get_or_past w k Dominant past)
       ]
@@ -213,13 +235,15 @@ dlc_place-least false = omega arith
 dlc_place-least true = omega arith
 
 -- while levels are fewer than they say, one more is at most as many
-pub says_count-next : (w : List Level) (x : Level) → length w < says_count w → length (w ++ x ∷ []) ≤ says_count (w ++ x ∷ [])
+pub says_count-next : (w : List Level) (x : Level) → length w < says_count w →
+    length (w ++ x ∷ []) ≤ says_count (w ++ x ∷ [])
 says_count-next w x h =
     let count = length_push w x in
     elim (cases_lt (length w) (dlc_place (says_ext w) + 4)) [
       | inr all ↦ omega (arith, count, says_count-more w (x ∷ []) all)
       | inl some ↦ elim (cases_lt 13 (length w)) [
-        | inl format ↦ let ext : says_ext (w ++ x ∷ []) ≡ says_ext w = ap is_recessive (get_or_append_left w (x ∷ []) Dominant 13 format) in
+        | inl format ↦ let ext : says_ext (w ++ x ∷ []) ≡ says_ext w =
+            ap is_recessive (get_or_append_left w (x ∷ []) Dominant 13 format) in
             omega (arith, count, ap dlc_place ext)
         | inr early ↦ omega (arith, count, dlc_place-least (says_ext (w ++ x ∷ [])))
       ]

@@ -7,8 +7,8 @@ use Rattle.can_bits.specs.declared.level.Level.{Level}
 use Rattle.can_bits.specs.declared.level.Level.TheVariants.{Dominant}
 use Rattle.can_bits.specs.Digits.{opposite}
 use Rattle.can_bits.specs.Fields.{level_at, says_count, IsWhole}
-use Rattle.can_bits.specs.Line.{StuffedPart, tail}
-use Rattle.can_bits.specs.Reading.{IsOpen}
+use Rattle.can_bits.specs.Line.{StuffedPart, Line, tail}
+use Rattle.can_bits.specs.Reading.{Begins, IsOpen}
 use Rattle.can_bits.specs.Stuffing.{Stuffed}
 use Rattle.can_bits.proofs.Lists.{reverse-cons}
 use Rattle.can_bits.proofs.Runs.{run, run-other, run_one_more, IsShort}
@@ -49,13 +49,15 @@ extend (x ∷ more) past short few =
     let P : List Level → Type 0 = λ p. IsShort p in
     let few_ : List Level → Type 0 = λ p. run p < 5 in
     let joined : all.later ++ (next.later ++ x ∷ past) ≡ (all.later ++ (next.later ++ x ∷ [])) ++ past =
-    ap (λ l. all.later ++ l) (sym (append_assoc next.later (x ∷ []) past)) ∙ sym (append_assoc all.later (next.later ++ x ∷ []) past) in
+    ap (λ l. all.later ++ l) (sym (append_assoc next.later (x ∷ []) past))
+    ∙ sym (append_assoc all.later (next.later ++ x ∷ []) past) in
     record {
       later = all.later ++ (next.later ++ x ∷ []);
       short = subst P joined all.short;
       closed = subst few_ joined all.closed;
       adds = ap unstuffed (sym joined) ∙ all.adds ∙ ap (λ l. reverse more ++ l) (next.adds ∙ unstuffed-kept x past few)
-          ∙ sym (append_assoc (reverse more) (x ∷ []) (unstuffed past)) ∙ ap (λ l. l ++ unstuffed past) (sym (reverse-cons x more));
+          ∙ sym (append_assoc (reverse more) (x ∷ []) (unstuffed past))
+          ∙ ap (λ l. l ++ unstuffed past) (sym (reverse-cons x more));
     }
 
 -- the same, where a stuff bit may be due first
@@ -96,8 +98,10 @@ pub record IsInside (past : List Level) : Type 0 where
   pub goes_on : length (plain past) ≡ says_count (plain past) → 5 ≤ run past
 
 -- levels with a short run that begin dominant and aren't too many are a front of a stuffed part
-pub part_begun : (past : List Level) → IsShort past → level_at (plain past) 0 ≡ Dominant → length (plain past) ≤ says_count (plain past) →
-    (f : FrameValue) × (b : List Level) × (c : List Level) × (later : List Level) × StuffedPart f b c (reverse past ++ later)
+pub part_begun : (past : List Level) → IsShort past → level_at (plain past) 0 ≡ Dominant →
+    length (plain past) ≤ says_count (plain past) →
+    (f : FrameValue) × (b : List Level) × (c : List Level) × (later : List Level)
+    × StuffedPart f b c (reverse past ++ later)
 part_begun past short begins fits =
     let w = plain past in
     let n = says_count w - length w in
@@ -107,27 +111,40 @@ part_begun past short begins fits =
     ∙ ap (λ l. w ++ l) (reverse-reverse (replicate n Dominant)) in
     let whole : IsWhole (w ++ replicate n Dominant) = record {
       begins = level_at-padded w n 0 ∙ begins;
-      count = length-append w (replicate n Dominant) ∙ omega (arith, length-replicate n Dominant, says_count-padded w n);
+      count = length-append w (replicate n Dominant)
+          ∙ omega (arith, length-replicate n Dominant, says_count-padded w n);
     } in
     let P : List Level → Type 0 = λ l. IsWhole l in
     let (f, b, c, spells) = decoded (plain (all.later ++ past)) (subst P (sym added) whole) in
-    let Q : List Level → Type 0 = λ l. StuffedPart f b c l in
-    (f, b, c, reverse all.later, subst Q (reverse-append all.later past) (part_of (all.later ++ past) all.short all.closed spells))
+    let Q : List Level → Type 0 = λ l. StuffedPart f b c l in (
+      f,
+      b,
+      c,
+      reverse all.later,
+      subst Q (reverse-append all.later past)
+          (part_of (all.later ++ past) all.short all.closed spells),
+    )
 
 -- a line goes on from there, and its tail is still to come
-pub inside_open : (l : List Level) → IsInside (reverse l) → IsOpen l
-inside_open l h =
+pub inside_begun : (l : List Level) → IsInside (reverse l) → (h : Begins l) × (10 ≤ length h.rest) × (h.ack ≡ Dominant)
+inside_begun l h =
     let (f, b, c, later, part) = part_begun (reverse l) h.short h.begins h.fits in
     let Q : List Level → Type 0 = λ p. StuffedPart f b c (p ++ later) in
-    let long = length-append later (tail Dominant) in
+    let line : Line f b c Dominant (l ++ (later ++ tail Dominant)) = record {
+      part = l ++ later;
+      is_part = subst Q (reverse-reverse l) part;
+      whole = sym (append_assoc l later (tail Dominant));
+    } in (
+      record { frame = f; body = b; check = c; ack = Dominant; rest = later ++ tail Dominant; line = line },
+      omega (arith, length-append later (tail Dominant)),
+      refl,
+    )
+
+-- and nothing is wrong with it so far
+pub inside_open : (l : List Level) → IsInside (reverse l) → IsOpen l
+inside_open l h =
+    let (begun, more, answered) = inside_begun l h in
     record {
-      frame = f;
-      body = b;
-      check = c;
-      ack = Dominant;
-      rest = later ++ tail Dominant;
-      line = record { part = l ++ later; is_part = subst Q (reverse-reverse l) part; whole = sym (append_assoc l later (tail Dominant)) };
-      more = omega (arith, long);
-      right = λ few. absurd (omega (arith, long, few));
-      acked = λ few. refl;
+      faultless = record { begun = begun; right = λ few. absurd (omega (arith, more, few)); acked = λ few. answered };
+      more = omega (arith, more);
     }

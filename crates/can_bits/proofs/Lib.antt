@@ -25,4 +25,4 @@ pub mod Reader
 pub mod DueLemmas
 pub mod PlaceLemmas
 pub mod PlaceLaws
-pub mod Sent
+pub mod NextLevels

@@ -27,7 +27,8 @@ most_of_tail ack = Recessive ∷ ack ∷ Recessive ∷ replicate 6 Recessive
 -- lines with the same levels up to the sixth bit of EOF are lines of one frame, with one body and CRC sequence, and as
 -- long
 pub lines_agree : (f g : FrameValue) (b c d e : List Level) (ack other x : Level) (front rest : List Level) →
-    Line f b c ack (front ++ x ∷ []) → Line g d e other (front ++ rest) → (f ≡ g) × (b ≡ d) × (c ≡ e) × (length rest ≡ 1)
+    Line f b c ack (front ++ x ∷ []) → Line g d e other (front ++ rest) →
+    (f ≡ g) × (b ≡ d) × (c ≡ e) × (length rest ≡ 1)
 unfolding most_of_tail
 lines_agree f g b c d e ack other x front rest h k =
     let split : front ++ x ∷ [] ≡ (h.part ++ most_of_tail ack) ++ Recessive ∷ [] =
@@ -41,15 +42,22 @@ lines_agree f g b c d e ack other x front rest h k =
 -- a sent line, acknowledged, is received
 pub sent_received : (f : FrameValue) (l : List Level) → IsSentLine f l → IsReceived f (set l (length l - 9) Dominant)
 sent_received f l (c, right, line) =
-    let place : length l - 9 ≡ length line.part + 1 = omega (arith, ap length line.whole, length-append line.part (tail Recessive)) in
+    let place : length l - 9 ≡ length line.part + 1 =
+    omega (arith, ap length line.whole, length-append line.part (tail Recessive)) in
     let split : l ≡ (line.part ++ Recessive ∷ []) ++ Recessive ∷ (Recessive ∷ replicate 7 Recessive) =
     line.whole ∙ sym (append_assoc line.part (Recessive ∷ []) (Recessive ∷ Recessive ∷ replicate 7 Recessive)) in
-    let there : length (line.part ++ Recessive ∷ []) ≡ length l - 9 = length-append line.part (Recessive ∷ []) ∙ sym place in
+    let there : length (line.part ++ Recessive ∷ []) ≡ length l - 9 =
+    length-append line.part (Recessive ∷ []) ∙ sym place in
     let answered : set l (length l - 9) Dominant ≡ line.part ++ tail Dominant =
     ap (λ (m : List Level). set m (length l - 9) Dominant) split
     ∙ set_at (line.part ++ Recessive ∷ []) Recessive (Recessive ∷ replicate 7 Recessive) Dominant (length l - 9) there
     ∙ append_assoc line.part (Recessive ∷ []) (Dominant ∷ Recessive ∷ replicate 7 Recessive) in
-    record { body = sent_body f; check = c; right = right; line = record { part = line.part; is_part = line.is_part; whole = answered } }
+    record {
+      body = sent_body f;
+      check = c;
+      right = right;
+      line = record { part = line.part; is_part = line.is_part; whole = answered };
+    }
 
 -- what was read so far of levels without six equal ones: a stuffed part that goes on
 record Going (past : List Level) : Type 0 where
@@ -72,7 +80,8 @@ past_more past x h = record {
 }
 
 -- a whole part that has just ended
-ended : (past w : List Level) (x : Level) (n : ℕ) → Holds past w x n → n < 5 → length w ≡ says_count w → IsPastPart (reverse past)
+ended : (past w : List Level) (x : Level) (n : ℕ) → Holds past w x n → n < 5 → length w ≡ says_count w →
+    IsPastPart (reverse past)
 ended past w x n h few full =
     let (f, b, c, spells) = decoded w (record { begins = h.begins; count = full }) in
     let closed : run past < 5 = rw (run-leads x n past h.leads) few in
@@ -93,10 +102,12 @@ goes_or_ends past w x n h =
     let fits = h.fits in
     elim (cases_lt n 5) [
       | inl few ↦ elim (cases_lt (length w) (says_count w)) [
-        | inl less ↦ inl (record { bits = w; last = x; count = n; holds = h; before = before_here w n (λ _ full. omega arith) })
+        | inl less ↦
+            inl (record { bits = w; last = x; count = n; holds = h; before = before_here w n (λ _ full. omega arith) })
         | inr all ↦ inr (ended past w x n h few (omega arith))
       ]
-      | inr many ↦ inl (record { bits = w; last = x; count = n; holds = h; before = before_here w n (λ less _. omega arith) })
+      | inr many ↦
+          inl (record { bits = w; last = x; count = n; holds = h; before = before_here w n (λ less _. omega arith) })
     ]
 
 -- what begins dominant with one level more did before, or that level is dominant
@@ -112,23 +123,27 @@ differs past w last x n h many few = λ like.
     let six : run (x ∷ past) ≡ n + 1 = ap (λ y. run (y ∷ past)) like ∙ run_same past w last n h in omega arith
 
 -- one level more
-one_more : (past : List Level) (x : Level) → Going past → run (x ∷ past) ≤ 5 → (past ≡ [] → x ≡ Dominant) → Going (x ∷ past) ⊎ IsPastPart (reverse (x ∷ past))
+one_more : (past : List Level) (x : Level) → Going past → run (x ∷ past) ≤ 5 → (past ≡ [] → x ≡ Dominant) →
+    Going (x ∷ past) ⊎ IsPastPart (reverse (x ∷ past))
 one_more past x g few first =
     let h = g.holds in
     let most = h.most in
     let counted = run-leads g.last g.count past h.leads in
     elim (cases_lt g.count 5) [
       | inl less ↦ goes_or_ends (x ∷ past) (g.bits ++ x ∷ []) x (run (x ∷ past))
-          (Holds-kept past g.bits g.last x g.count (run (x ∷ past)) h g.before less refl (omega (arith, run_one_more x past)) first)
+          (Holds-kept past g.bits g.last x g.count (run (x ∷ past)) h g.before less refl
+          (omega (arith, run_one_more x past)) first)
       | inr many ↦
           let P : ℕ → Type 0 = λ n. Holds past g.bits g.last n in
           let five : g.count ≡ 5 = omega arith in
-          goes_or_ends (x ∷ past) g.bits x 1 (Holds-dropped past g.bits g.last x (subst P five h) (differs past g.bits g.last x g.count h many few))
+          goes_or_ends (x ∷ past) g.bits x 1
+          (Holds-dropped past g.bits g.last x (subst P five h) (differs past g.bits g.last x g.count h many few))
     ]
 
 -- levels that begin dominant and have no six equal ones are a front of a stuffed part, or its end was reached
 going : (past : List Level) → IsShort past → BeginsDominant (reverse past) → Going past ⊎ IsPastPart (reverse past)
-going [] short begins = inl (record { bits = []; last = Dominant; count = 0; holds = Holds-nothing Dominant; before = IsBefore-nothing })
+going [] short begins =
+    inl (record { bits = []; last = Dominant; count = 0; holds = Holds-nothing Dominant; before = IsBefore-nothing })
 going (x ∷ past) short begins =
     let P : List Level → Type 0 = λ l. BeginsDominant l in
     let before = begins_before (reverse past) x (subst P (reverse-cons x past) begins) in

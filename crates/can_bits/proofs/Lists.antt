@@ -15,10 +15,12 @@ reverse-push l x = reverse-append l (x ∷ [])
 pub reverse-replicate : {A : Type 0} (n : ℕ) (x : A) → reverse (replicate n x) ≡ replicate n x
 reverse-replicate zero x = refl
 reverse-replicate (suc n) x =
-    reverse-cons x (replicate n x) ∙ ap (λ l. l ++ x ∷ []) (reverse-replicate n x) ∙ replicate_more n x ∙ ap (λ k. replicate k x) (add-one n)
+    reverse-cons x (replicate n x) ∙ ap (λ l. l ++ x ∷ []) (reverse-replicate n x) ∙ replicate_more n x
+    ∙ ap (λ k. replicate k x) (add-one n)
 
 -- of two fronts of one list one is a front of the other
-pub fronts : {A : Type 0} (a b x y : List A) → a ++ x ≡ b ++ y → ((c : List A) × (b ≡ a ++ c)) ⊎ ((c : List A) × (a ≡ b ++ c))
+pub fronts : {A : Type 0} (a b x y : List A) → a ++ x ≡ b ++ y →
+    ((c : List A) × (b ≡ a ++ c)) ⊎ ((c : List A) × (a ≡ b ++ c))
 fronts [] b x y e = inl (b, refl)
 fronts (u ∷ a) [] x y e = inr (u ∷ a, refl)
 fronts (u ∷ a) (v ∷ b) x y e =
@@ -54,7 +56,8 @@ longer_not l x rest h = let none = append_cancel_left l (x ∷ rest) [] (h ∙ s
 -- a list at one of its places
 pub split_at : {A : Type 0} (l : List A) (i : ℕ) (d : A) → i < length l → l ≡ take i l ++ get_or l i d ∷ drop (suc i) l
 split_at l i d h =
-    sym (take-append-drop i l) ∙ ap (λ r. take i l ++ r) (drop_more l i d h ∙ ap (λ n. get_or l i d ∷ drop n l) (add-one i))
+    sym (take-append-drop i l) ∙ ap (λ r. take i l ++ r)
+    (drop_more l i d h ∙ ap (λ n. get_or l i d ∷ drop n l) (add-one i))
 
 -- equal lists, each in two parts: first parts of one length are equal, and so are the second ones
 pub append-split : {A : Type 0} (a b c d : List A) → length a ≡ length c → a ++ b ≡ c ++ d → (a ≡ c) × (b ≡ d)

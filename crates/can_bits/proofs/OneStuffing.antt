@@ -56,10 +56,12 @@ stuffed_again (x ∷ []) short = refl
 stuffed_again (x ∷ y ∷ past) short =
     let before = stuffed_again (y ∷ past) short.1 in
     elim (cases_lt (run (y ∷ past)) 5) [
-      | inl few ↦ ap stuffing (unstuffed-kept x (y ∷ past) few) ∙ ap (λ l. close (x ∷ l)) (before ∙ close-few (y ∷ past) few)
+      | inl few ↦ ap stuffing (unstuffed-kept x (y ∷ past) few)
+          ∙ ap (λ l. close (x ∷ l)) (before ∙ close-few (y ∷ past) few)
       | inr many ↦
           let level = stuff_level x y past short.0 many in
-          let one : run (x ∷ y ∷ past) ≡ 1 = ap (λ z. run (z ∷ y ∷ past)) level ∙ run-other (opposite y) y past (opposite-other y) in
+          let one : run (x ∷ y ∷ past) ≡ 1 =
+          ap (λ z. run (z ∷ y ∷ past)) level ∙ run-other (opposite y) y past (opposite-other y) in
           ap stuffing (unstuffed-dropped x (y ∷ past) many) ∙ before ∙ close-many y past many
           ∙ ap (λ z. z ∷ y ∷ past) (sym level) ∙ sym (close-few (x ∷ y ∷ past) (omega (arith, one)))
     ]
@@ -70,7 +72,8 @@ stuffing-unique w s t hs ht =
     let a = stuffed_to w s hs in
     let b = stuffed_to w t ht in
     let one = sym (close-few (reverse s) a.closed) ∙ sym (stuffed_again (reverse s) a.short) ∙ ap stuffing a.unstuffs in
-    let other = sym (close-few (reverse t) b.closed) ∙ sym (stuffed_again (reverse t) b.short) ∙ ap stuffing b.unstuffs in
+    let other =
+    sym (close-few (reverse t) b.closed) ∙ sym (stuffed_again (reverse t) b.short) ∙ ap stuffing b.unstuffs in
     sym (reverse-reverse s) ∙ ap reverse (one ∙ sym other) ∙ reverse-reverse t
 
 -- a frame has one sent line
@@ -79,5 +82,6 @@ sent_line_once f l m (c, right, line) (d, good, other) =
     let same : c ≡ d = Crc-unique (sent_body f) c d right good in
     let P : List Level → Type 0 = λ e. Stuffed (sent_body f ++ e) other.part in
     let parts : line.part ≡ other.part =
-    stuffing-unique (sent_body f ++ c) line.part other.part line.is_part.stuffed (subst P (sym same) other.is_part.stuffed) in
+    stuffing-unique (sent_body f ++ c) line.part other.part line.is_part.stuffed
+    (subst P (sym same) other.is_part.stuffed) in
     line.whole ∙ ap (λ p. p ++ tail Recessive) parts ∙ sym other.whole

@@ -35,18 +35,24 @@ part_to {f = f} {b = b} {c = c} {s = s} h =
     let form = stuffed_to (b ++ c) s h.stuffed in
     record { short = form.short; closed = form.closed; whole = whole_of f b c (plain (reverse s)) (spelt h) }
 
-pub part_of : {f : FrameValue} {b c : List Level} (past : List Level) → IsShort past → run past < 5 → Spells f b c (plain past) → StuffedPart f b c (reverse past)
+pub part_of : {f : FrameValue} {b c : List Level} (past : List Level) → IsShort past → run past < 5 →
+    Spells f b c (plain past) → StuffedPart f b c (reverse past)
 part_of {f = f} {b = b} {c = c} past short closed spells =
     let P : List Level → Type 0 = λ p. IsShort p in
     let few : List Level → Type 0 = λ p. run p < 5 in
     let same : reverse (reverse past) ≡ past = reverse-reverse past in
-    let unstuffs : unstuffed past ≡ reverse (b ++ c) = sym (reverse-reverse (unstuffed past)) ∙ ap reverse spells.whole in
+    let unstuffs : unstuffed past ≡ reverse (b ++ c) =
+    sym (reverse-reverse (unstuffed past)) ∙ ap reverse spells.whole in
     record {
       frame = spells.frame;
       body = spells.body;
       check = spells.check;
       stuffed = stuffed_from (b ++ c) (reverse past)
-          (record { short = subst P (sym same) short; closed = subst few (sym same) closed; unstuffs = ap unstuffed same ∙ unstuffs });
+          (record {
+            short = subst P (sym same) short;
+            closed = subst few (sym same) closed;
+            unstuffs = ap unstuffed same ∙ unstuffs;
+          });
     }
 
 -- levels that come later leave the earlier ones as they are
@@ -73,18 +79,22 @@ beyond q x part h =
     let (e, grown) = unstuffed-next q x part h.closed in
     let w = plain part in
     let longer : plain ((q ++ x ∷ []) ++ part) ≡ w ++ (x ∷ reverse e) =
-    ap reverse grown ∙ reverse-append e (x ∷ unstuffed part) ∙ ap (λ l. l ++ reverse e) (reverse-cons x (unstuffed part))
+    ap reverse grown ∙ reverse-append e (x ∷ unstuffed part)
+    ∙ ap (λ l. l ++ reverse e) (reverse-cons x (unstuffed part))
     ∙ append_assoc w (x ∷ []) (reverse e) in
     let same = says_count-more w (x ∷ reverse e) (whole_has_fields w h.whole) in
     let count = h.whole.count in
     rw longer (omega (arith, same, count, length-append w (x ∷ reverse e)))
 
 -- nothing comes after a part within another
-extends_not : (c part longer : List Level) → IsPart part → IsPart longer → reverse longer ≡ reverse part ++ c → longer ≡ part
-extends_not [] part longer h k e = sym (reverse-reverse longer) ∙ ap reverse (e ∙ append-nil (reverse part)) ∙ reverse-reverse part
+extends_not : (c part longer : List Level) → IsPart part → IsPart longer → reverse longer ≡ reverse part ++ c →
+    longer ≡ part
+extends_not [] part longer h k e =
+    sym (reverse-reverse longer) ∙ ap reverse (e ∙ append-nil (reverse part)) ∙ reverse-reverse part
 extends_not (x ∷ c) part longer h k e =
     let turned : longer ≡ (reverse c ++ x ∷ []) ++ part =
-    sym (reverse-reverse longer) ∙ ap reverse e ∙ reverse-append (reverse part) (x ∷ c) ∙ ap (λ l. l ++ reverse (reverse part)) (reverse-cons x c)
+    sym (reverse-reverse longer) ∙ ap reverse e ∙ reverse-append (reverse part) (x ∷ c)
+    ∙ ap (λ l. l ++ reverse (reverse part)) (reverse-cons x c)
     ∙ ap (λ l. (reverse c ++ x ∷ []) ++ l) (reverse-reverse part) in
     let more = beyond (reverse c) x part h in
     let P : List Level → Type 0 = λ l. IsWhole (plain l) in

@@ -54,7 +54,8 @@ from_code ext l code e =
     let n = plain_count l in
     elim (cases_Bool (nat_lt 0 n)) [
       | inl some ↦
-          let t : (nat_lt 0 n && nat_le n (rtr_place ext)) ≡ true = and_from (nat_lt 0 n) (nat_le n (rtr_place ext)) some (le-leb n (rtr_place ext) early.1) in
+          let t : (nat_lt 0 n && nat_le n (rtr_place ext)) ≡ true =
+          and_from (nat_lt 0 n) (nat_le n (rtr_place ext)) some (le-leb n (rtr_place ext) early.1) in
           let is : place_code ext l ≡ Some (n - 1) = rw (early.0, t) refl in
           let one : n - 1 ≡ code = some_one (n - 1) code (sym is ∙ e) in
           let few = ltb-true 0 n some in
@@ -92,7 +93,13 @@ place_means ext l code = (from_code ext l code, to_code ext l code)
 pub early_means : (ext : Bool) (l : List Level) → IsTrue (is_early_stuff ext l) ↔ IsStuffBeforeRtr ext l
 early_means ext l = (
   λ h. let early = stuff_early ext l h in let there = some_plain l in let count = count_by l there.0 there.1 in
-      record { plain = there.0; unstuffed = there.1; stuff_bit = full_ends l early.0; within = omega (count, early.1, arith) },
+      record {
+        plain = there.0;
+        unstuffed = there.1;
+        stuff_bit = full_ends l early.0;
+        within = omega (count, early.1, arith);
+      },
   λ h. let count = count_by l h.plain h.unstuffed in let within = h.within in
-      and_from (is_full l) (nat_le (plain_count l) (rtr_place ext)) (ends_full l h.stuff_bit) (le-leb (plain_count l) (rtr_place ext) (omega (count, within, arith))),
+      and_from (is_full l) (nat_le (plain_count l) (rtr_place ext)) (ends_full l h.stuff_bit)
+      (le-leb (plain_count l) (rtr_place ext) (omega (count, within, arith))),
 )

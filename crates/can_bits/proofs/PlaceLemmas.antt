@@ -68,7 +68,8 @@ plain-push before x =
     ]
 
 -- levels without their stuff bits, from the oldest on
-pub plain_after-is : (before rest : List Level) → plain (reverse before) ++ plain_after before rest ≡ plain (reverse (before ++ rest))
+pub plain_after-is : (before rest : List Level) →
+    plain (reverse before) ++ plain_after before rest ≡ plain (reverse (before ++ rest))
 plain_after-is before [] = append-nil (plain (reverse before)) ∙ sym (ap (λ l. plain (reverse l)) (append-nil before))
 plain_after-is before (x ∷ rest) =
     let w = plain (reverse before) in
@@ -87,7 +88,8 @@ rtr_most false = omega arith
 rtr_most true = omega arith
 
 -- past its stuffed part a line is past the arbitration field of either format
-pub part_late : {f : FrameValue} {b c part : List Level} (ext : Bool) (after : List Level) → StuffedPart f b c part → rtr_place ext < plain_count (part ++ after)
+pub part_late : {f : FrameValue} {b c part : List Level} (ext : Bool) (after : List Level) → StuffedPart f b c part →
+    rtr_place ext < plain_count (part ++ after)
 part_late {f = f} {b = b} {c = c} {part = part} ext after h =
     let (e, later) = unstuffed-later (reverse after) (reverse part) in
     let form = stuffed_to (b ++ c) part h.stuffed in
@@ -114,13 +116,15 @@ code_early ext l code e =
     (parts.0, leb-true n (rtr_place ext) within.1)
 
 -- an early stuff bit is a stuff bit, and not past RTR
-pub stuff_early : (ext : Bool) (l : List Level) → IsTrue (is_early_stuff ext l) → (is_full l ≡ true) × (plain_count l ≤ rtr_place ext)
+pub stuff_early : (ext : Bool) (l : List Level) → IsTrue (is_early_stuff ext l) →
+    (is_full l ≡ true) × (plain_count l ≤ rtr_place ext)
 stuff_early ext l h =
     let parts = and_parts (is_full l) (nat_le (plain_count l) (rtr_place ext)) h in
     (parts.0, leb-true (plain_count l) (rtr_place ext) parts.1)
 
 -- a choice that is none either way
-none_by : (full more within : Bool) (n : ℕ) → within ≡ false → (if full then None else if more && within then Some n else None) ≡ None
+none_by : (full more within : Bool) (n : ℕ) → within ≡ false →
+    (if full then None else if more && within then Some n else None) ≡ None
 none_by true more within n e = refl
 none_by false true true n e = cc
 none_by false true false n e = refl
@@ -139,4 +143,5 @@ not_both true b e = e
 
 -- nor is a stuff bit early there
 pub late_no_stuff : (ext : Bool) (l : List Level) → rtr_place ext < plain_count l → is_early_stuff ext l ≡ false
-late_no_stuff ext l late = not_both (is_full l) (nat_le (plain_count l) (rtr_place ext)) (lt-leb (plain_count l) (rtr_place ext) late)
+late_no_stuff ext l late =
+    not_both (is_full l) (nat_le (plain_count l) (rtr_place ext)) (lt-leb (plain_count l) (rtr_place ext) late)

@@ -50,7 +50,11 @@ product-sum_of g (a ∷ p) (b ∷ q) =
 
 -- the sum of two multiples is a multiple
 pub IsMultiple-xor : (m n : ℕ) → IsMultiple m → IsMultiple n → IsMultiple (bit_xor m n)
-IsMultiple-xor m n (p, h) (q, k) = (sum_of p q, ap (λ x. bit_xor x n) h ∙ ap (λ x. bit_xor (product generator p) x) k ∙ sym (product-sum_of generator p q))
+IsMultiple-xor m n (p, h) (q, k) = (
+  sum_of p q,
+  ap (λ x. bit_xor x n) h ∙ ap (λ x. bit_xor (product generator p) x) k
+      ∙ sym (product-sum_of generator p q),
+)
 
 -- the generator alone
 with_none : (q : List Bool) → product generator q ≡ 0 → 2 ^ 15 ≤ product generator (true ∷ q)
@@ -64,7 +68,8 @@ with_more q h =
     let shifted = xor_shr generator (2 * product generator q) 16 in
     let none : generator / 2 ^ 16 ≡ 0 = refl in
     let e : product generator (true ∷ q) / 2 ^ 16 ≡ 2 * product generator q / 2 ^ 16 =
-    shifted ∙ ap (λ x. bit_xor x (2 * product generator q / 2 ^ 16)) none ∙ xor_zero_l (2 * product generator q / 2 ^ 16) in
+    shifted ∙ ap (λ x. bit_xor x (2 * product generator q / 2 ^ 16)) none
+    ∙ xor_zero_l (2 * product generator q / 2 ^ 16) in
     omega (arith, e)
 
 -- a multiple of the generator is 0 or has its degree
@@ -78,10 +83,12 @@ product-large (true ∷ q) = inr (elim (product-large q) [ inl h ↦ with_none q
 -- equal terms: their sum is 0
 xor-zero-same : (a b : ℕ) → bit_xor a b ≡ 0 → a ≡ b
 xor-zero-same a b h =
-    sym (xor_zero_r a) ∙ ap (λ x. bit_xor a x) (sym (xor_self b)) ∙ sym (xor_assoc a b b) ∙ ap (λ x. bit_xor x b) h ∙ xor_zero_l b
+    sym (xor_zero_r a) ∙ ap (λ x. bit_xor a x) (sym (xor_self b)) ∙ sym (xor_assoc a b b) ∙ ap (λ x. bit_xor x b) h
+    ∙ xor_zero_l b
 
 -- multiples that differ in their lowest 15 digits alone don't differ
-pub multiples_agree : (v c d : ℕ) → c < 2 ^ 15 → d < 2 ^ 15 → IsMultiple (v * 2 ^ 15 + c) → IsMultiple (v * 2 ^ 15 + d) → c ≡ d
+pub multiples_agree : (v c d : ℕ) → c < 2 ^ 15 → d < 2 ^ 15 → IsMultiple (v * 2 ^ 15 + c) →
+    IsMultiple (v * 2 ^ 15 + d) → c ≡ d
 multiples_agree v c d hc hd mc md =
     let e : bit_xor (v * 2 ^ 15 + c) (v * 2 ^ 15 + d) ≡ bit_xor c d =
     xor_block 15 v v c d hc hd ∙ ap (λ x. x * 2 ^ 15 + bit_xor c d) (xor_self v) ∙ omega arith in

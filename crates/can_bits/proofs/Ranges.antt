@@ -16,7 +16,8 @@ pub range_in : {A : Type 0} (w : List A) (x : A) (a b : ℕ) → a ≤ length w 
 range_in w x a b begun goes_on =
     let back = drop a w in
     let count = length-drop a w in
-    ap (λ l. take (b - a) l) (drop-append-le a w (x ∷ []) begun) ∙ take_all (b - a) (back ++ x ∷ []) (omega (arith, count, length_push back x))
+    ap (λ l. take (b - a) l) (drop-append-le a w (x ∷ []) begun)
+    ∙ take_all (b - a) (back ++ x ∷ []) (omega (arith, count, length_push back x))
     ∙ ap (λ l. l ++ x ∷ []) (sym (take_all (b - a) back (omega (arith, count))))
 
 -- it doesn't belong to a part that has ended
@@ -27,7 +28,8 @@ range_ended w x a b order ended =
     ∙ take-append-le (b - a) (drop a w) (x ∷ []) (omega (arith, length-drop a w))
 
 -- nor to one that hasn't begun
-pub range_before : {A : Type 0} (w : List A) (x : A) (a b : ℕ) → length w < a → slice_range (w ++ x ∷ []) a b ≡ slice_range w a b
+pub range_before : {A : Type 0} (w : List A) (x : A) (a b : ℕ) → length w < a →
+    slice_range (w ++ x ∷ []) a b ≡ slice_range w a b
 range_before w x a b h =
     range_past (w ++ x ∷ []) a b (omega (arith, length_push w x)) ∙ sym (range_past w a b (omega arith))
 

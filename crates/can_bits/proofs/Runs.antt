@@ -56,7 +56,8 @@ lead_splits zero x past h = refl
 lead_splits (suc n) x [] h = absurd (omega arith)
 lead_splits (suc n) x (y ∷ past) h =
     elim (cases_Bool (same x y)) [
-      | inl t ↦ let more : n ≤ lead x past = omega (arith, subst (λ b. suc n ≤ (if b then suc (lead x past) else 0)) t h) in
+      | inl t ↦ let more : n ≤ lead x past =
+          omega (arith, subst (λ b. suc n ≤ (if b then suc (lead x past) else 0)) t h) in
           let e = same-true x y t in
           let rest = lead_splits n x past more in cc
       | inr f ↦ absurd (omega (arith, subst (λ b. suc n ≤ (if b then suc (lead x past) else 0)) f h))
@@ -115,7 +116,8 @@ short_from (x ∷ past) h = (
 )
 
 -- nowhere in such a list are there six equal ones
-none_within : (front : List Level) (past back : List Level) (y : Level) → IsShort past → past ≡ front ++ (replicate 6 y ++ back) → ⊥
+none_within : (front : List Level) (past back : List Level) (y : Level) → IsShort past →
+    past ≡ front ++ (replicate 6 y ++ back) → ⊥
 none_within [] past back y h e =
     let six = lead-replicate 5 y back in
     let P : List Level → Type 0 = λ l. IsShort l in
@@ -130,5 +132,6 @@ pub no_six_from : (past : List Level) → IsShort past → HasNoSixEqual (revers
 no_six_from past h before after y e =
     none_within (reverse after) past (reverse before) y h
     (sym (reverse-reverse past) ∙ ap reverse e ∙ reverse-append before (replicate 6 y ++ after)
-    ∙ ap (λ l. l ++ reverse before) (reverse-append (replicate 6 y) after ∙ ap (λ l. reverse after ++ l) (reverse-replicate 6 y))
+    ∙ ap (λ l. l ++ reverse before)
+    (reverse-append (replicate 6 y) after ∙ ap (λ l. reverse after ++ l) (reverse-replicate 6 y))
     ∙ append_assoc (reverse after) (replicate 6 y) (reverse before))

@@ -53,12 +53,14 @@ is_unstuffed (x ∷ past) =
           (ap reverse (unstuffed-kept x past few) ∙ reverse-cons x (unstuffed past)) (reverse-cons x past)
       | inr many ↦
           let P : List Level → Type 0 = λ l. IsUnstuffed (reverse l) (reverse (x ∷ past)) in
-          subst P (sym (unstuffed-dropped x past many)) (dropped x (is_unstuffed past) (run_ends 5 past many) (reverse-cons x past))
+          subst P (sym (unstuffed-dropped x past many))
+          (dropped x (is_unstuffed past) (run_ends 5 past many) (reverse-cons x past))
     ]
 
 -- a list is without its stuff bits in one way
 pub IsUnstuffed-unique : (w v s : List Level) → IsUnstuffed w s → IsUnstuffed v s → w ≡ v
-IsUnstuffed-unique w v s hw hv = sym (reverse-reverse w) ∙ ap reverse (sym (unstuffed_by hw) ∙ unstuffed_by hv) ∙ reverse-reverse v
+IsUnstuffed-unique w v s hw hv =
+    sym (reverse-reverse w) ∙ ap reverse (sym (unstuffed_by hw) ∙ unstuffed_by hv) ∙ reverse-reverse v
 
 -- what stuffing means for the list with its newest level first
 pub record IsStuffed (w past : List Level) : Type 0 where
@@ -74,7 +76,8 @@ stuffed_from w s h =
     record {
       no_six = subst P (reverse-reverse s) (no_six_from (reverse s) h.short);
       closed = λ five. let many = full s five in let few = h.closed in omega arith;
-      unstuffed = subst Q (reverse-reverse s) (subst R (ap reverse h.unstuffs ∙ reverse-reverse w) (is_unstuffed (reverse s)));
+      unstuffed =
+          subst Q (reverse-reverse s) (subst R (ap reverse h.unstuffs ∙ reverse-reverse w) (is_unstuffed (reverse s)));
     }
 
 pub stuffed_to : (w s : List Level) → Stuffed w s → IsStuffed w (reverse s)
@@ -127,7 +130,8 @@ lead-other x y n [] h other = refl
 lead-other x y n (z ∷ past) h other = run-other y z past (λ e. other (e ∙ sym h.0))
 
 -- a level more, kept
-stands_kept : (w s : List Level) (x y : Level) (n m : ℕ) → Stands w s x n → n < 5 → run (y ∷ reverse s) ≡ m → m ≤ n + 1 → Stands (w ++ y ∷ []) (s ++ y ∷ []) y m
+stands_kept : (w s : List Level) (x y : Level) (n m : ℕ) → Stands w s x n → n < 5 → run (y ∷ reverse s) ≡ m →
+    m ≤ n + 1 → Stands (w ++ y ∷ []) (s ++ y ∷ []) y m
 stands_kept w s x y n m h small counted most =
     let turned : reverse (s ++ y ∷ []) ≡ y ∷ reverse s = reverse-push s y in
     let few = h.few in
@@ -136,18 +140,23 @@ stands_kept w s x y n m h small counted most =
     let Q : List Level → Type 0 = λ l. Leads y m l in
     record {
       short = subst P (sym turned) (omega arith, h.short);
-      unstuffs = ap unstuffed turned ∙ unstuffed-kept y (reverse s) open_run ∙ ap (λ l. y ∷ l) h.unstuffs ∙ sym (reverse-push w y);
+      unstuffs =
+          ap unstuffed turned ∙ unstuffed-kept y (reverse s) open_run ∙ ap (λ l. y ∷ l) h.unstuffs
+          ∙ sym (reverse-push w y);
       leads = subst Q (sym turned) (refl, sym counted);
       few = omega (arith, length_push s y, length_push w y);
     }
 
 -- a level like the last one
-pub Stands-same : (w s : List Level) (x : Level) (n : ℕ) → Stands w s x n → n < 5 → Stands (w ++ x ∷ []) (s ++ x ∷ []) x (n + 1)
+pub Stands-same : (w s : List Level) (x : Level) (n : ℕ) → Stands w s x n → n < 5 →
+    Stands (w ++ x ∷ []) (s ++ x ∷ []) x (n + 1)
 Stands-same w s x n h small = stands_kept w s x x n (n + 1) h small (lead-same x n (reverse s) h.leads) (omega arith)
 
 -- another level
-pub Stands-other : (w s : List Level) (x y : Level) (n : ℕ) → Stands w s x n → n < 5 → y ≢ x → Stands (w ++ y ∷ []) (s ++ y ∷ []) y 1
-Stands-other w s x y n h small other = stands_kept w s x y n 1 h small (lead-other x y n (reverse s) h.leads other) (omega arith)
+pub Stands-other : (w s : List Level) (x y : Level) (n : ℕ) → Stands w s x n → n < 5 → y ≢ x →
+    Stands (w ++ y ∷ []) (s ++ y ∷ []) y 1
+Stands-other w s x y n h small other =
+    stands_kept w s x y n 1 h small (lead-other x y n (reverse s) h.leads other) (omega arith)
 
 -- a stuff bit after five equal levels
 pub Stands-stuffed : (w s : List Level) (x : Level) → Stands w s x 5 → Stands w (s ++ opposite x ∷ []) (opposite x) 1
@@ -159,7 +168,9 @@ Stands-stuffed w s x h =
     let Q : List Level → Type 0 = λ l. Leads (opposite x) 1 l in
     record {
       short = subst P (sym turned) (omega arith, h.short);
-      unstuffs = ap unstuffed turned ∙ unstuffed-dropped (opposite x) (reverse s) (rw (run-leads x 5 (reverse s) h.leads) (omega arith)) ∙ h.unstuffs;
+      unstuffs =
+          ap unstuffed turned ∙ unstuffed-dropped (opposite x) (reverse s)
+          (rw (run-leads x 5 (reverse s) h.leads) (omega arith)) ∙ h.unstuffs;
       leads = subst Q (sym turned) (refl, sym one);
       few = omega (arith, length_push s (opposite x));
     }
@@ -167,4 +178,8 @@ Stands-stuffed w s x h =
 -- at the end
 pub Stands-closed : (w s : List Level) (x : Level) (n : ℕ) → Stands w s x n → n < 5 → Stuffed w s
 Stands-closed w s x n h small =
-    stuffed_from w s (record { short = h.short; closed = rw (run-leads x n (reverse s) h.leads) small; unstuffs = h.unstuffs })
+    stuffed_from w s (record {
+      short = h.short;
+      closed = rw (run-leads x n (reverse s) h.leads) small;
+      unstuffs = h.unstuffs;
+    })

@@ -40,7 +40,8 @@ bits-nothing x = refl
 pub length-bits : (n x : ℕ) → length (bits n x) ≡ n
 unfolding bits
 length-bits zero x = refl
-length-bits (suc n) x = omega (arith, length-append (bits n (x / 2)) (level_of (x % 2 == 1) ∷ []), length-bits n (x / 2))
+length-bits (suc n) x =
+    omega (arith, length-append (bits n (x / 2)) (level_of (x % 2 == 1) ∷ []), length-bits n (x / 2))
 
 -- the digits of a number after other levels
 pub value-append-bits : (n : ℕ) (b : List Level) (x : ℕ) → x < 2 ^ n → value (b ++ bits n x) ≡ value b * 2 ^ n + x
@@ -54,7 +55,8 @@ value-append-bits (suc n) b x h =
     ∙ value-push (b ++ bits n (x / 2)) (level_of (x % 2 == 1)) ∙ rw (pow-succ' 2 n) (omega (arith, whole, last))
 
 -- one digit more of a number, from the most significant on
-pub bits-more : (k n x : ℕ) → k < n → bits (k + 1) (x / 2 ^ (n - (k + 1))) ≡ bits k (x / 2 ^ (n - k)) ++ level_of (x / 2 ^ (n - 1 - k) % 2 == 1) ∷ []
+pub bits-more : (k n x : ℕ) → k < n →
+    bits (k + 1) (x / 2 ^ (n - (k + 1))) ≡ bits k (x / 2 ^ (n - k)) ++ level_of (x / 2 ^ (n - 1 - k) % 2 == 1) ∷ []
 unfolding bits
 bits-more k n x h =
     let here : n - (k + 1) ≡ n - 1 - k = omega arith in
@@ -83,11 +85,13 @@ value-injective [] [] n h = refl
 value-injective [] (y ∷ d) n h = absurd (omega arith)
 value-injective (x ∷ c) [] n h = absurd (omega arith)
 value-injective (Dominant ∷ c) (Dominant ∷ d) n h =
-    ap (λ l. Dominant ∷ l) (value-injective c d (omega arith) (omega (arith, value-append (Dominant ∷ []) c, value-append (Dominant ∷ []) d)))
+    ap (λ l. Dominant ∷ l) (value-injective c d (omega arith)
+    (omega (arith, value-append (Dominant ∷ []) c, value-append (Dominant ∷ []) d)))
 value-injective (Recessive ∷ c) (Recessive ∷ d) n h =
     let same : length c ≡ length d = omega arith in
     let power = ap (λ k. 2 ^ k) same in
-    ap (λ l. Recessive ∷ l) (value-injective c d same (omega (arith, power, value-append (Recessive ∷ []) c, value-append (Recessive ∷ []) d)))
+    ap (λ l. Recessive ∷ l) (value-injective c d same (omega
+    (arith, power, value-append (Recessive ∷ []) c, value-append (Recessive ∷ []) d)))
 value-injective (Dominant ∷ c) (Recessive ∷ d) n h =
     let same : length c ≡ length d = omega arith in
     let power = ap (λ k. 2 ^ k) same in
@@ -108,7 +112,8 @@ dominant_by Recessive h = cc
 
 -- the number that its digits write
 pub value-bits : (n x : ℕ) → x < 2 ^ n → value (bits n x) ≡ x
-value-bits n x h = let whole : value (bits n x) ≡ value [] * 2 ^ n + x = value-append-bits n [] x h in omega (arith, whole)
+value-bits n x h = let whole : value (bits n x) ≡ value [] * 2 ^ n + x = value-append-bits n [] x h in
+    omega (arith, whole)
 
 -- the digits of the number that levels write
 pub bits-value : (n : ℕ) (l : List Level) → length l ≡ n → bits n (value l) ≡ l

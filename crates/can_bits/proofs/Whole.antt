@@ -2,5 +2,7 @@
 pub mod Bytes
 pub mod Decoding
 pub mod Steps
-pub mod Tails
+pub mod Faultless
+pub mod FirstFault
+pub mod Stops
 pub mod Verdicts

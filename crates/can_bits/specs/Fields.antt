@@ -37,7 +37,8 @@ says_rtr w = is_recessive (level_at w (rtr_place (says_ext w)))
 -- the number that four levels write from a place on
 abbrev pub four_from : List Level → ℕ → ℕ
 four_from w place =
-    8 * digit (level_at w place) + 4 * digit (level_at w (place + 1)) + 2 * digit (level_at w (place + 2)) + digit (level_at w (place + 3))
+    8 * digit (level_at w place) + 4 * digit (level_at w (place + 1)) + 2 * digit (level_at w (place + 2))
+    + digit (level_at w (place + 3))
 
 -- the DLC
 abbrev pub says_dlc : List Level → ℕ

@@ -1,4 +1,4 @@
 -- What the private fields of a reader stand for.
 pub mod Gathering
 pub mod PartSoFar
-pub mod Stages
+pub mod FrameParts

@@ -34,19 +34,18 @@ pub record IsPastPart (l : List Level) : Type 0 where
   pub is_part : StuffedPart frame body check part
   pub whole : l ≡ part ++ rest
 
--- some line begins with these levels and has at least one more. Nothing is wrong with it so far: its CRC sequence is
--- right, once the delimiter after it has come (nine levels are missing then), and it was acknowledged, once the ACK
--- slot has come (eight are missing)
+-- some line begins with these levels, and nothing is wrong with it so far: its CRC sequence is right, once the
+-- delimiter after it has come (nine levels are missing then), and it was acknowledged, once the ACK slot has come
+-- (eight are missing)
+pub record IsFaultless (l : List Level) : Type 0 where
+  pub begun : Begins l
+  pub right : length begun.rest ≤ 9 → Crc begun.body begun.check
+  pub acked : length begun.rest ≤ 8 → begun.ack ≡ Dominant
+
+-- the same, and the line has at least one level more
 pub record IsOpen (l : List Level) : Type 0 where
-  pub frame : FrameValue
-  pub body : List Level
-  pub check : List Level
-  pub ack : Level
-  pub rest : List Level
-  pub line : Line frame body check ack (l ++ rest)
-  pub more : 1 ≤ length rest
-  pub right : length rest ≤ 9 → Crc body check
-  pub acked : length rest ≤ 8 → ack ≡ Dominant
+  pub faultless : IsFaultless l
+  pub more : 1 ≤ length faultless.begun.rest
 
 -- the levels are right up to here, and with the next one no line begins
 pub record BreaksAfter (front l : List Level) : Type 0 where
@@ -63,25 +62,17 @@ pub record IsInPart (front : List Level) : Type 0 where
 
 -- the whole stuffed part has come and the delimiter after it, and the CRC sequence is wrong
 pub record HasWrongCheck (l : List Level) : Type 0 where
-  pub frame : FrameValue
-  pub body : List Level
-  pub check : List Level
-  pub part : List Level
-  pub rest : List Level
-  pub is_part : StuffedPart frame body check part
-  pub wrong : ¬ Crc body check
-  pub whole : l ≡ part ++ Recessive ∷ rest
+  pub past : IsPastPart l
+  pub later : List Level
+  pub delimiter : past.rest ≡ Recessive ∷ later
+  pub wrong : ¬ Crc past.body past.check
 
 -- the CRC sequence is right, and the level in the ACK slot is recessive
 pub record IsNotAcknowledged (l : List Level) : Type 0 where
-  pub frame : FrameValue
-  pub body : List Level
-  pub check : List Level
-  pub part : List Level
-  pub rest : List Level
-  pub is_part : StuffedPart frame body check part
-  pub right : Crc body check
-  pub whole : l ≡ part ++ Recessive ∷ Recessive ∷ rest
+  pub past : IsPastPart l
+  pub later : List Level
+  pub slot : past.rest ≡ Recessive ∷ Recessive ∷ later
+  pub right : Crc past.body past.check
 
 -- a received line has come, and after it more levels
 pub record GoesOnAfter (front l : List Level) : Type 0 where

@@ -41,9 +41,11 @@ segment_in (row ∷ rows) place = if nat_lt place (row.0) then row.1 else segmen
 -- the segments of a body and its CRC sequence, by the format; the CRC sequence is the last 15 of `count` levels
 abbrev pub segments_of : Bool → ℕ → List (ℕ × Segment)
 segments_of false count =
-    (1, StartOfFrame) ∷ (9, Id28To21) ∷ (12, Id20To18) ∷ (13, RtrStandard) ∷ (14, Ide) ∷ (15, Reserved0) ∷ (19, LengthCode) ∷ (count - 15, Data) ∷ []
+    (1, StartOfFrame) ∷ (9, Id28To21) ∷ (12, Id20To18) ∷ (13, RtrStandard) ∷ (14, Ide) ∷ (15, Reserved0)
+    ∷ (19, LengthCode) ∷ (count - 15, Data) ∷ []
 segments_of true count =
-    (1, StartOfFrame) ∷ (9, Id28To21) ∷ (12, Id20To18) ∷ (13, RtrStandard) ∷ (14, Ide) ∷ (19, Id17To13) ∷ (27, Id12To5) ∷ (32, Id4To0)
+    (1, StartOfFrame) ∷ (9, Id28To21) ∷ (12, Id20To18) ∷ (13, RtrStandard) ∷ (14, Ide) ∷ (19, Id17To13) ∷ (27, Id12To5)
+    ∷ (32, Id4To0)
     ∷ (33, RtrExtended) ∷ (34, Reserved1) ∷ (35, Reserved0) ∷ (39, LengthCode) ∷ (count - 15, Data) ∷ []
 
 -- the segment of the level at a place of a body and its CRC sequence that begins with w
@@ -60,6 +62,9 @@ segment_after (suc (suc (suc n))) = EndOfFrame
 -- the segment of the next level after levels of a line. A stuff bit belongs to the segment of the bit before it (this
 -- project's own rule)
 pub data IsNext (l : List Level) : Segment → Bool → Type 0 where
-  bit : (w : List Level) → IsUnstuffed w l → ¬ EndsInEqual 5 l → ¬ IsPastPart l → IsNext l (segment_at w (length w)) false
-  stuff_bit : (w : List Level) → IsUnstuffed w l → EndsInEqual 5 l → ¬ IsPastPart l → IsNext l (segment_at w (length w - 1)) true
-  after_part : {f : FrameValue} {b c : List Level} (part after : List Level) → StuffedPart f b c part → l ≡ part ++ after → IsNext l (segment_after (length after)) false
+  bit : (w : List Level) → IsUnstuffed w l → ¬ EndsInEqual 5 l → ¬ IsPastPart l →
+      IsNext l (segment_at w (length w)) false
+  stuff_bit : (w : List Level) → IsUnstuffed w l → EndsInEqual 5 l → ¬ IsPastPart l →
+      IsNext l (segment_at w (length w - 1)) true
+  after_part : {f : FrameValue} {b c : List Level} (part after : List Level) → StuffedPart f b c part →
+      l ≡ part ++ after → IsNext l (segment_after (length after)) false

@@ -6,7 +6,7 @@ use Rattle.can_bits.specs.declared.shift_fault.ShiftFault.{ShiftFault}
 use Rattle.can_bits.specs.declared.shift.Shift.{Shift}
 use Rattle.can_bits.specs.Segments.{IsNext}
 use Rattle.can_bits.specs.Streaming.{IsReadable, IsEventOf, BreaksWith}
-use Rattle.can_bits.specs.Machine.Stages.{ReadsAt}
+use Rattle.can_bits.specs.Machine.FrameParts.{ReadsAt}
 
 -- the event of a wrong level
 abbrev pub fault_event : ShiftFault → ShiftEvent
@@ -18,12 +18,12 @@ pub record Broke (w : ShiftFault) (s : Shift) (l : List Level) : Type 0 where
   pub wrong : Level
   pub later : List Level
   pub whole : l ≡ front ++ wrong ∷ later
-  pub reads : ReadsAt s.stage s front
+  pub reads : ReadsAt s.frame_part s front
   pub event : IsEventOf front wrong (fault_event w)
 
 -- a reader without a fault, or with one
 abbrev pub StandsBy : Option ShiftFault → Shift → List Level → Type 0
-StandsBy None s l = ReadsAt s.stage s l
+StandsBy None s l = ReadsAt s.frame_part s l
 StandsBy (Some w) s l = Broke w s l
 
 -- the reader was given these levels

@@ -14,13 +14,8 @@ use Rattle.can_bits.specs.Segments.{IsNext}
 -- some line begins with these levels, and its CRC sequence is right once the ACK delimiter has come (seven levels are
 -- missing then)
 pub record IsReadable (l : List Level) : Type 0 where
-  pub frame : FrameValue
-  pub body : List Level
-  pub check : List Level
-  pub ack : Level
-  pub rest : List Level
-  pub line : Line frame body check ack (l ++ rest)
-  pub right : length rest ≤ 7 → Crc body check
+  pub begun : Begins l
+  pub right : length begun.rest ≤ 7 → Crc begun.body begun.check
 
 -- the level x after the levels l belongs to the stuffed part, past SOF, and is right
 pub record IsRightInside (l : List Level) (x : Level) : Type 0 where
@@ -44,14 +39,10 @@ IsOver l = (f : FrameValue) × IsLineButFor 0 f l
 
 -- up to its ACK slot these levels are a line, and its CRC sequence is wrong
 pub record EndsInWrongCheck (l : List Level) : Type 0 where
-  pub frame : FrameValue
-  pub body : List Level
-  pub check : List Level
-  pub part : List Level
+  pub past : IsPastPart l
   pub ack : Level
-  pub is_part : StuffedPart frame body check part
-  pub wrong : ¬ Crc body check
-  pub whole : l ≡ part ++ Recessive ∷ ack ∷ []
+  pub slot : past.rest ≡ Recessive ∷ ack ∷ []
+  pub wrong : ¬ Crc past.body past.check
 
 -- what is wrong with the level x after the levels l, which were right so far
 abbrev pub BreaksWith : List Level → Level → LineFault → Type 0
@@ -67,10 +58,14 @@ abbrev pub Judges : List Level → Level → Option LineFault → Type 0
 Judges l x None = IsReadable (l ++ x ∷ [])
 Judges l x (Some fault) = BreaksWith l x fault
 
--- a frame comes with the sixth bit of EOF, and then alone
-pub record ShowsFrame (l : List Level) (shown : Option FrameValue) : Type 0 where
-  pub some : IfSome shown (λ f. IsLineButFor 1 f l)
-  pub only : (f : FrameValue) → IsLineButFor 1 f l → shown ≡ Some f
+-- a frame is shown where the levels are its line but for this many at its end, and then alone
+pub record ShowsFrameBut (missing : ℕ) (l : List Level) (shown : Option FrameValue) : Type 0 where
+  pub some : IfSome shown (λ f. IsLineButFor missing f l)
+  pub only : (f : FrameValue) → IsLineButFor missing f l → shown ≡ Some f
+
+-- a frame comes with the sixth bit of EOF
+abbrev pub ShowsFrame : List Level → Option FrameValue → Type 0
+ShowsFrame l shown = ShowsFrameBut 1 l shown
 
 -- the event of the level x after the levels l, which were right so far
 pub record IsEventOf (l : List Level) (x : Level) (event : ShiftEvent) : Type 0 where
@@ -81,9 +76,11 @@ pub record IsEventOf (l : List Level) (x : Level) (event : ShiftEvent) : Type 0 
 -- the event of the level x after any levels: where one before was wrong, that one's event again
 pub record Tells (l : List Level) (x : Level) (event : ShiftEvent) : Type 0 where
   pub right_so_far : IsReadable l → IsEventOf l x event
-  pub wrong_before : (front later : List Level) (y : Level) → IsReadable front → ¬ IsReadable (front ++ y ∷ []) → l ≡ front ++ y ∷ later → IsEventOf front y event
+  pub wrong_before : (front later : List Level) (y : Level) → IsReadable front → ¬ IsReadable (front ++ y ∷ []) →
+      l ≡ front ++ y ∷ later → IsEventOf front y event
 
 -- whether the CRC sequence is right, once the stuffed part has come
 pub record TellsCheck (l : List Level) (answer : Option Bool) : Type 0 where
   pub some : IfSome answer (λ right. IsPastPart l)
-  pub known : (f : FrameValue) (b c part after : List Level) → StuffedPart f b c part → l ≡ part ++ after → (right : Bool) × (answer ≡ Some right) × (IsTrue right ↔ Crc b c)
+  pub known : (f : FrameValue) (b c part after : List Level) → StuffedPart f b c part → l ≡ part ++ after →
+      (right : Bool) × (answer ≡ Some right) × (IsTrue right ↔ Crc b c)

@@ -14,7 +14,8 @@ HasNoSixEqual s = (before after : List Level) (x : Level) → s ≢ before ++ (r
 -- w is s without each level whose five predecessors are equal
 pub data IsUnstuffed : List Level → List Level → Type 0 where
   nothing : IsUnstuffed [] []
-  kept : {w s v t : List Level} (x : Level) → IsUnstuffed w s → ¬ EndsInEqual 5 s → v ≡ w ++ x ∷ [] → t ≡ s ++ x ∷ [] → IsUnstuffed v t
+  kept : {w s v t : List Level} (x : Level) → IsUnstuffed w s → ¬ EndsInEqual 5 s → v ≡ w ++ x ∷ [] → t ≡ s ++ x ∷ [] →
+      IsUnstuffed v t
   dropped : {w s t : List Level} (x : Level) → IsUnstuffed w s → EndsInEqual 5 s → t ≡ s ++ x ∷ [] → IsUnstuffed w t
 
 -- s is w with its stuff bits: after five equal levels one that differs, stuff bits counted too

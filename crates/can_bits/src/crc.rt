@@ -29,7 +29,8 @@ pub fn crc_of(levels: &[Level]) -> u16
 pub fn crc_step(crc: u16, level: Level) -> u16
     requires { crc < 32768 }
     ensures fits { result < 32768 }
-    ensures divides { (b : List Bus) → IsMultiple (value b * 32768 + crc) → IsMultiple (value (b ++ level ∷ []) * 32768 + result) }
+    ensures divides { (b : List Bus) → IsMultiple (value b * 32768 + crc)
+        → IsMultiple (value (b ++ level ∷ []) * 32768 + result) }
 {
     let shifted = 2 * (crc % 0x4000);
     if crc >> 14 == u16::from(level.digit()) {

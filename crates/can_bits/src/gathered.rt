@@ -65,7 +65,8 @@ impl Gathered {
     fn divide(&mut self, level: Level)
         ensures kept { self.new ≡ record self.old { register = self.new.register } }
         ensures fits { self.new.register < 2 ^ 15 }
-        ensures divides { (w : List Bus) → self.old.register < 2 ^ 15 → IsMultiple (value w * 2 ^ 15 + self.old.register)
+        ensures divides { (w : List Bus) → self.old.register < 2 ^ 15
+            → IsMultiple (value w * 2 ^ 15 + self.old.register)
             → IsMultiple (value (w ++ level ∷ []) * 2 ^ 15 + self.new.register) }
     {
         self.register = crc_step(self.register % 0x8000, level);
@@ -76,7 +77,8 @@ impl Gathered {
     #[inline(never)]
     fn move_mark(&mut self)
         ensures kept { self.new ≡ record self.old { mark = self.new.mark } }
-        ensures moved { (w : List Bus) → Packs self.old.word self.old.place w → 19 ≤ length w → self.new.mark ≡ mark_of w }
+        ensures moved { (w : List Bus) → Packs self.old.word self.old.place w → 19 ≤ length w
+            → self.new.mark ≡ mark_of w }
     {
         let head = self.head_end();
         self.mark = if self.place < head {

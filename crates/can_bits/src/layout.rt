@@ -1,8 +1,23 @@
 //! Where the fields of a body stand, by the format. A place counts levels from SOF on, without stuff bits (Bosch CAN 2.0
-//! part B section 3.2; the table stands in `body.rt`).
+//! part B section 3.2):
+//!
+//! | Standard | | Extended | |
+//! |---|---|---|---|
+//! | 0 | SOF | 0 | SOF |
+//! | 1 to 11 | ID.28 to ID.18 | 1 to 11 | ID.28 to ID.18 |
+//! | 12 | RTR | 12 | SRR |
+//! | 13 | IDE, dominant | 13 | IDE, recessive |
+//! | | | 14 to 31 | ID.17 to ID.0 |
+//! | | | 32 | RTR |
+//! | | | 33 | r1 |
+//! | 14 | r0 | 34 | r0 |
+//! | 15 to 18 | DLC | 35 to 38 | DLC |
+//! | from 19 | data | from 39 | data |
 
 ghost use Rattle.std.specs.Prelude.{◌≡◌, ◌≤◌, ◌+◌};
 ghost use Rattle.can_bits.specs.Fields.{rtr_place, dlc_place};
+
+use can_frame::DATA_BYTES;
 
 /// The place of IDE, in both formats.
 pub const IDE_PLACE: u8 = 13;
@@ -11,7 +26,7 @@ pub const IDE_PLACE: u8 = 13;
 pub const CRC_LEVELS: u8 = 15;
 
 /// How many data bytes a frame has at most.
-pub const MOST_BYTES: u8 = 8;
+pub const MOST_BYTES: u8 = DATA_BYTES as u8;
 
 /// The place of RTR, the last bit of the arbitration field.
 #[inline(always)]

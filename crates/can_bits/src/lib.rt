@@ -5,29 +5,23 @@
 //! Its tests stand in `crates/can_tests/src/lines`.
 #![tactic(auto)]
 
-mod body;
 mod crc;
-mod decode;
-mod fields;
+mod frame_part;
 mod gathered;
 mod laws;
 mod layout;
 mod level;
 mod line;
 mod line_fault;
-mod part;
 mod place;
 mod reading;
 mod run;
 mod segment;
-mod sending;
 mod sent_body;
 mod shift;
 mod shift_event;
 mod shift_fault;
-mod stage;
 mod stuffing;
-mod tail;
 
 pub use crc::crc_of;
 pub use laws::{

@@ -3,9 +3,10 @@
 ghost use Rattle.std.specs.Prelude.{◌≡◌, ◌≤◌, ◌+◌, ◌++◌, IfOk, vec_len, vec_capacity};
 ghost use Rattle.can_bits.specs.Line.{IsSentLine, tail};
 
-use super::body::{body_of, push_bits};
 use super::crc::crc_of;
+use super::layout::CRC_LEVELS;
 use super::level::Level;
+use super::sent_body::{body_of, push_bits};
 use super::stuffing::push_stuffed;
 use can_frame::{Frame, OutOfMemory};
 use std::alloc::Global;
@@ -24,7 +25,7 @@ pub fn line_of(alloc: Global, frame: &Frame) -> Result<Vec<Level>, OutOfMemory>
     let mut line = Vec::with_capacity(alloc, LONGEST_LINE)?;
     let mut bits = body_of(frame);
     let check = crc_of(bits.as_slice());
-    push_bits(&mut bits, 15, u32::from(check));
+    push_bits(&mut bits, CRC_LEVELS, u128::from(check));
     push_stuffed(&mut line, bits.as_slice());
     push_tail(&mut line);
     Ok(line)

@@ -1,23 +1,16 @@
 //! A whole line, read at once.
 
-ghost use Rattle.std.specs.Prelude.{◌≡◌, ◌≤◌, ◌-◌, ◌++◌, List, length, slice_set, IfOk, IfErr};
+ghost use Rattle.std.specs.Prelude.{◌≡◌, ◌-◌, List, length, slice_set, IfOk, IfErr};
 ghost use Rattle.can_frame.specs.Frame.{FrameValue};
 ghost use Rattle.can_bits.specs.Line.{IsSentLine};
-ghost use Rattle.can_bits.specs.Reading.{IsReceived, IsFirstFault, SaysWhetherRight};
+ghost use Rattle.can_bits.specs.Reading.{IsReceived, IsFirstFault};
 ghost use Rattle.can_bits.specs.declared.level.Level.{Level as Bus};
 ghost use Rattle.can_bits.specs.declared.line_fault.LineFault.{LineFault as Fault};
 
-use super::crc::crc_of;
-use super::decode::frame_of;
-use super::fields::number_of;
 use super::level::Level;
 use super::line_fault::LineFault;
-use super::part::read_part;
-use super::tail::judge_tail;
+use super::shift::Shift;
 use can_frame::Frame;
-
-/// How many levels a CRC sequence has.
-const CHECK: usize = 15;
 
 /// The frame whose acknowledged line these levels are.
 ///
@@ -39,25 +32,20 @@ pub fn read_line(levels: &[Level]) -> Result<Frame, LineFault>
     ensures sent { (f : FrameValue) (l : List Bus) → IsSentLine f l → levels.now ≡ slice_set l (length l - 9) Level.Dominant
         → result ≡ Ok f }
 {
-    read_and_judge(levels)
+    run(levels)
 }
 
-/// The same, with what each answer says.
-fn read_and_judge(levels: &[Level]) -> Result<Frame, LineFault>
+/// The same: a reader is given one level after the other.
+fn run(levels: &[Level]) -> Result<Frame, LineFault>
     ensures frame { IfOk result (λ f. IsReceived f levels.now) }
     ensures fault { IfErr result (IsFirstFault levels.now) }
 {
-    let part = read_part(levels)?;
-    let right = check_is_right(part.bits.as_slice());
-    judge_tail(&levels[part.count..], part.count, right)?;
-    Ok(frame_of(part.bits.as_slice()))
-}
-
-/// Whether the last 15 of these levels are the CRC sequence of those before.
-fn check_is_right(bits: &[Level]) -> bool
-    requires { 15 ≤ length bits.now }
-    ensures { (b c : List Bus) → bits.now ≡ b ++ c → length c ≡ 15 → SaysWhetherRight result b c }
-{
-    let (body, check) = bits.split_at(bits.len() - CHECK);
-    u32::from(crc_of(body)) == number_of(check)
+    let mut shift = Shift::new();
+    for level in levels {
+        shift.take_answered(*level)?;
+    }
+    match shift.frame_of_line() {
+        Some(frame) => Ok(frame),
+        None => Err(LineFault::Truncated),
+    }
 }

@@ -1,6 +1,12 @@
-//! The packed body of a frame, for its transmitter.
+//! The body of a frame as its transmitter sends it, packed, and level by level.
+
+ghost use Rattle.std.specs.Prelude.{◌≡◌, ◌≤◌, ◌+◌, ◌++◌, length};
+ghost use Rattle.can_frame.specs.Frame.{IsFrame};
+ghost use Rattle.can_bits.specs.Digits.{bits};
+ghost use Rattle.can_bits.specs.Body.{sent_body};
 
 use super::level::Level;
+use arrayvec::ArrayVec;
 use can_frame::Frame;
 
 /// The body that a transmitter of a frame sends, packed into one number, so that a node finds its next level at once.
@@ -82,5 +88,29 @@ impl SentBody {
         } else {
             None
         }
+    }
+}
+
+/// The body that a transmitter of this frame sends, level by level.
+pub fn body_of(frame: &Frame) -> ArrayVec<Level, 118>
+    ensures value { result.items ≡ sent_body frame.now }
+    ensures valid { IsFrame frame.now }
+    ensures room { length result.items ≤ 103 }
+{
+    let packed = SentBody::of(frame);
+    let mut body = ArrayVec::new();
+    push_bits(&mut body, packed.length, packed.word);
+    body
+}
+
+/// The lowest `count` binary digits of a number, most significant first.
+pub fn push_bits(body: &mut ArrayVec<Level, 118>, count: u8, number: u128)
+    requires { length body.old.items + count ≤ 118 }
+    ensures value { body.new.items ≡ body.old.items ++ bits count number }
+    ensures room { length body.new.items ≡ length body.old.items + count }
+{
+    for k in 0..count {
+        let digit = (number >> (count - 1 - k)) % 2;
+        body.push(Level::of(digit == 1));
     }
 }

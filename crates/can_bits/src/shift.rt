@@ -1,5 +1,6 @@
 //! A reader that is given one level at a time.
 
+use super::frame_part::FramePart;
 use super::gathered::Gathered;
 use super::level::Level;
 use super::line_fault::LineFault;
@@ -7,15 +8,19 @@ use super::place::segment_after;
 use super::segment::Segment;
 use super::shift_event::ShiftEvent;
 use super::shift_fault::ShiftFault;
-use super::stage::Stage;
 use can_frame::Frame;
 
+mod answered;
 mod inside;
 mod past;
 mod quick;
+mod sending;
 
 /// How many equal levels a stuff bit follows.
 const RUN: u8 = 5;
+
+/// How many levels a line has after its stuffed part.
+const LINE_END: u8 = 10;
 
 /// Which level after the stuffed part is the sixth bit of EOF, counted from 0.
 const SIXTH_END_BIT: u8 = 8;
@@ -32,25 +37,21 @@ pub struct Shift {
     /// How many levels like the last one end them.
     run: u8,
     gathered: Gathered,
-    stage: Stage,
+    frame_part: FramePart,
     /// What the first wrong level brought.
     wrong: Option<ShiftFault>,
 }
 
 impl Shift {
-    ghost use Rattle.std.specs.Prelude.{◌≡◌, ◌≢◌, ◌⊎◌, ◌<◌, ◌+◌, ◌↔◌, ◌==◌, Bool, IsTrue, true, length, ◌∷◌, ◌++◌, [], List, None, Some, IfSome};
+    ghost use Rattle.std.specs.Prelude.{◌≡◌, ◌<◌, ◌+◌, ◌↔◌, ◌==◌, Bool, IsTrue, true, length, ◌∷◌, ◌++◌, [], List, None, Some};
     ghost use Rattle.can_bits.specs.declared.level.Level.{Level as Bus};
     ghost use Rattle.can_bits.specs.Streaming.{Tells, TellsCheck, ShowsFrame, IsReadable, IsOver};
     ghost use Rattle.can_bits.specs.Segments.{IsNext};
     ghost use Rattle.can_bits.specs.Acknowledging.{IsAckDue};
-    ghost use Rattle.can_bits.specs.Line.{StuffedPart, tail};
-    ghost use Rattle.can_bits.specs.Body.{sent_body};
-    ghost use Rattle.can_bits.specs.Check.{Crc};
-    ghost use Rattle.can_bits.specs.Places.{place_code, is_early_stuff};
+    ghost use Rattle.can_bits.specs.Line.{StuffedPart};
     ghost use Rattle.can_frame.specs.Frame.{FrameValue};
-    ghost use Rattle.can_bits.specs.Machine.Stages.{IsPast, is_stuff_next};
+    ghost use Rattle.can_bits.specs.Machine.FrameParts.{IsPast, is_stuff_next};
     ghost use Rattle.can_bits.specs.Shifts.{StandsFor, JudgesAt};
-    ghost use Rattle.can_bits.specs.Machine.Gathering.{Gathers};
 
     /// A reader that has been given no level.
     pub fn new() -> Shift
@@ -61,7 +62,7 @@ impl Shift {
             last: Level::Recessive,
             run: 0,
             gathered: Gathered::new(),
-            stage: Stage::Part,
+            frame_part: FramePart::Stuffed,
             wrong: None,
         }
     }
@@ -94,14 +95,15 @@ impl Shift {
     pub fn advance(&mut self, level: Level) -> Option<ShiftFault>
         ensures stands { (l : List Bus) → StandsFor self.old l → StandsFor self.new (l ++ level ∷ []) }
         ensures judged { (l : List Bus) → StandsFor self.old l → IsReadable l → JudgesAt l level result }
-        ensures again { (l front later : List Bus) (y : Bus) → StandsFor self.old l → IsReadable front → ¬ IsReadable (front ++ y ∷ [])
+        ensures again { (l front later : List Bus) (y : Bus) → StandsFor self.old l → IsReadable front
+            → ¬ IsReadable (front ++ y ∷ [])
             → l ≡ front ++ y ∷ later → JudgesAt front y result }
     {
         match self.wrong {
             Some(wrong) => Some(wrong),
-            None => match self.stage {
-                Stage::Part => self.advance_inside(level),
-                Stage::After(n) => self.advance_past(n, level),
+            None => match self.frame_part {
+                FramePart::Stuffed => self.advance_inside(level),
+                FramePart::FixedForm(n) => self.advance_past(n, level),
             },
         }
     }
@@ -117,9 +119,9 @@ impl Shift {
     fn segment_here(&self) -> Segment
         ensures { (l : List Bus) → StandsFor self.now l → IsReadable l → IsNext l result (is_stuff_next self.now) }
     {
-        match self.stage {
-            Stage::Part => self.segment_inside(),
-            Stage::After(n) => segment_after(n),
+        match self.frame_part {
+            FramePart::Stuffed => self.segment_inside(),
+            FramePart::FixedForm(n) => segment_after(n),
         }
     }
 
@@ -138,9 +140,9 @@ impl Shift {
     fn is_stuff(&self) -> bool
         ensures { result ≡ is_stuff_next self.now }
     {
-        match self.stage {
-            Stage::Part => self.run == RUN,
-            Stage::After(_) => false,
+        match self.frame_part {
+            FramePart::Stuffed => self.run == RUN,
+            FramePart::FixedForm(_) => false,
         }
     }
 
@@ -148,9 +150,9 @@ impl Shift {
     pub fn crc_matches(&self) -> Option<bool>
         ensures { (l : List Bus) → StandsFor self.now l → TellsCheck l result }
     {
-        match self.stage {
-            Stage::Part => None,
-            Stage::After(_) => Some(self.gathered.check_is_right()),
+        match self.frame_part {
+            FramePart::Stuffed => None,
+            FramePart::FixedForm(_) => Some(self.gathered.check_is_right()),
         }
     }
 
@@ -169,68 +171,30 @@ impl Shift {
     pub fn is_over(&self) -> bool
         ensures { (l : List Bus) → StandsFor self.now l → IsTrue result ↔ IsOver l }
     {
-        self.is_past(10)
-    }
-
-    /// The next level of the line that a transmitter of this frame sends, where the levels so far are a front of that
-    /// line, but for the ACK slot (Bosch CAN 2.0 part A sections 3.1.1 and 5).
-    pub fn next_sent(&self, frame: &Frame) -> Level
-        ensures { (l others c part before rest : List Bus) (x ack : Bus) → StandsFor self.now l
-            → StuffedPart frame.now (sent_body frame.now) c part → Crc (sent_body frame.now) c → part ++ tail ack ≡ l ++ others
-            → part ++ tail Bus.Recessive ≡ before ++ x ∷ rest → length before ≡ length l → result ≡ x }
-    {
-        match self.stage {
-            Stage::Part => self.next_inside(frame),
-            Stage::After(_) => Level::Recessive,
-        }
-    }
-
-    /// The place code of the next level, where a transmitter of that format may lose arbitration there: 0 for the first
-    /// bit of the identifier, and so on to RTR (SJA1000 data sheet, 6.4.8). A stuff bit has none.
-    pub fn place_code(&self, ext: bool) -> Option<u8>
-        ensures { (l : List Bus) → StandsFor self.now l → IsReadable l → result ≡ place_code ext l }
-    {
-        match self.stage {
-            Stage::Part => {
-                if self.run == RUN {
-                    None
-                } else {
-                    self.gathered.place_code(ext)
-                }
-            }
-            Stage::After(_) => None,
-        }
-    }
-
-    /// Whether the next level is a stuff bit before RTR of that format.
-    pub fn is_early_stuff(&self, ext: bool) -> bool
-        ensures { (l : List Bus) → StandsFor self.now l → IsReadable l → result ≡ is_early_stuff ext l }
-    {
-        match self.stage {
-            Stage::Part => self.run == RUN && self.gathered.is_early(ext),
-            Stage::After(_) => false,
-        }
+        self.is_past(LINE_END)
     }
 
     /// Whether all levels were right, and so many came after the stuffed part.
     fn is_past(&self, count: u8) -> bool
         ensures yes { (l : List Bus) → StandsFor self.now l → result ≡ true
             → IsPast count self.now.gathered self.now.count l }
-        ensures only { (f : FrameValue) (l b c part after : List Bus) → StandsFor self.now l → IsReadable l → StuffedPart f b c part
+        ensures only { (f : FrameValue) (l b c part after : List Bus) → StandsFor self.now l → IsReadable l
+            → StuffedPart f b c part
             → l ≡ part ++ after → length after ≡ count → result ≡ true }
     {
         match self.wrong {
             Some(_) => false,
-            None => match self.stage {
-                Stage::Part => false,
-                Stage::After(n) => n == count,
+            None => match self.frame_part {
+                FramePart::Stuffed => false,
+                FramePart::FixedForm(n) => n == count,
             },
         }
     }
 
     /// Keeps a fault, and answers it.
     fn keep_fault(&mut self, segment: Segment, stuff: bool, fault: LineFault) -> ShiftFault
-        ensures kept { self.new ≡ record self.old { wrong = Some (record { segment = segment; stuff = stuff; fault = fault }) } }
+        ensures kept { self.new
+            ≡ record self.old { wrong = Some (record { segment = segment; stuff = stuff; fault = fault }) } }
         ensures fault { result ≡ record { segment = segment; stuff = stuff; fault = fault } }
     {
         let wrong = ShiftFault {

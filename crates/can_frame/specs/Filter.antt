@@ -56,7 +56,8 @@ pub record PassesSingleExtended (acr amr : List ℕ) (f : FrameValue) : Type 0 w
 pub record PassesFirstStandard (acr amr : List ℕ) (f : FrameValue) : Type 0 where
   pub head : MatchesStandardHead (slice_index acr 0) (slice_index amr 0) (slice_index acr 1) (slice_index amr 1) f
   pub data_byte :
-      MatchesHalves (slice_index acr 1) (slice_index amr 1) (slice_index acr 3) (slice_index amr 3) (slice_get f.bytes 0)
+      MatchesHalves (slice_index acr 1) (slice_index amr 1) (slice_index acr 3) (slice_index amr 3)
+      (slice_get f.bytes 0)
 
 -- dual filter, standard frame, filter 2: ACR2 and ACR3.7 to ACR3.4 with identifier and RTR
 abbrev pub PassesSecondStandard : List ℕ → List ℕ → FrameValue → Type 0

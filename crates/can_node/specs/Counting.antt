@@ -46,7 +46,7 @@ abbrev pub drop_failed : Option Request → ContextValue → ContextValue
 drop_failed None c = c
 drop_failed (Some request) c = if request.single_shot || c.aborted then record c { held = None; aborted = false } else c
 
--- ---- one bit, within a piece and at its end alike. `done` are the bits of the piece before it, c the context before it
+-- ---- one bit, within a piece and at its end alike. `done` are the bits of the piece before it, c the context then
 
 -- -- bus integration
 

@@ -30,7 +30,7 @@ bits_in (BusOff ∷ entries) = bits_in entries
 -- bits, and requests and aborts, which may come anywhere between them
 pub data Inner : List Entry → Type 0 where
   none_left : Inner []
-  took : {entries : List Entry} (b : Bit) → Inner entries → Inner (OneBit b ∷ entries)
+  samples : {entries : List Entry} (b : Bit) → Inner entries → Inner (OneBit b ∷ entries)
   sends : {entries : List Entry} (request : Request) → Inner entries → Inner (Send request ∷ entries)
   aborts : {entries : List Entry} → Inner entries → Inner (Abort ∷ entries)
 

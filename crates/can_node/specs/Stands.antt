@@ -27,8 +27,8 @@ use Rattle.can_node.specs.NextBit.{now_in, open_bits, phase_in, DrivesIn, is_at_
 use Rattle.can_node.specs.Machine.Standing.{context_of, HasBody}
 use Rattle.can_node.specs.Machine.Stages.{At}
 
--- by its fields the node stands at this record, cut into these finished pieces, with a piece perhaps that isn't finished at
--- its end: they say the context of the next bit, and how far that piece has come
+-- by its fields the node stands at this record, cut into these finished pieces, with a piece perhaps that isn't
+-- finished at its end: they say the context of the next bit, and how far that piece has come
 pub record FollowsAt (node : Node) (entries : List Entry) (found : List FinishedPiece) : Type 0 where
   pub cut : IsCut entries found
   pub shows : context_of node.context ≡ now_in cut
@@ -52,10 +52,12 @@ closed_by k Within = []
 closed_by k (Finishes piece next) = tagged k (piece ∷ [])
 
 -- one bit leads from a record to the record with it, and tells what the cut has there
-pub record Leads (node new : Node) (entries : List Entry) (found : List FinishedPiece) (h : StandsAt node entries found) (b : Bit) (e : BitEvents) : Type 0 where
+pub record Leads (node new : Node) (entries : List Entry) (found : List FinishedPiece) (h : StandsAt node entries found)
+    (b : Bit) (e : BitEvents) : Type 0 where
   pub step : Step
   pub told : e ≡ events_of step (now_in h.cut) h.cut.place (open_bits h.cut) b
-  pub stands : StandsAt new (entries ++ entries_of b e) (found ++ closed_by (counted none_yet (entries ++ OneBit b ∷ [])) step)
+  pub stands : StandsAt new (entries ++ entries_of b e)
+      (found ++ closed_by (counted none_yet (entries ++ OneBit b ∷ [])) step)
   -- the role that it tells is the one that the node then has
   pub role : e.receiving ≡ not (is_transmitter (now_in stands.cut).role)
 
@@ -69,10 +71,12 @@ received_now None k = []
 received_now (Some f) k = (record { frame = f; activation = k.starts; bits = k.bits }) ∷ []
 
 -- after a bit the node stands at the record with it, and the frames received are those before and the one that it tells
-pub record TakesBit (new : Node) (entries : List Entry) (found : List FinishedPiece) (b : Bit) (e : BitEvents) : Type 0 where
-  pub more : List FinishedPiece
-  pub stands : StandsAt new (entries ++ entries_of b e) (found ++ more)
-  pub recessive_bit : received (found ++ more) ≡ received found ++ received_now e.received (counted none_yet (entries ++ OneBit b ∷ []))
+pub record TakesBit (new : Node) (entries : List Entry) (found : List FinishedPiece) (b : Bit) (e : BitEvents) : Type 0
+  where
+    pub more : List FinishedPiece
+    pub stands : StandsAt new (entries ++ entries_of b e) (found ++ more)
+    pub received : received (found ++ more)
+        ≡ received found ++ received_now e.received (counted none_yet (entries ++ OneBit b ∷ []))
 
 -- in reset a bit brings nothing: no frame is received, bus-off doesn't come, and the node stays in reset
 pub record Rests (new : Node) (e : BitEvents) : Type 0 where
@@ -131,7 +135,8 @@ nothing receiving = record {
 
 -- with one entry more, and the same pieces
 abbrev pub Enters : Node → Node → Entry → Type 0
-Enters old new entry = (entries : List Entry) (found : List FinishedPiece) → StandsAt old entries found → StandsAt new (entries ++ entry ∷ []) found
+Enters old new entry = (entries : List Entry) (found : List FinishedPiece) → StandsAt old entries found →
+    StandsAt new (entries ++ entry ∷ []) found
 
 -- one bit, in which the node drove what it drives there
 abbrev pub Samples : Node → Node → Level → BitEvents → Type 0
@@ -141,15 +146,18 @@ Samples old new seen result =
 
 -- a node in reset stays there, whatever it sees
 abbrev pub StaysReset : Node → Node → BitEvents → Type 0
-StaysReset old new e = InReset old → (entries : List Entry) (found : List FinishedPiece) → StandsAt old entries found → Rests new e
+StaysReset old new e = InReset old → (entries : List Entry) (found : List FinishedPiece) → StandsAt old entries found →
+    Rests new e
 
 -- the level is the one that the node drives next
 abbrev pub DrivesNext : Node → Level → Type 0
-DrivesNext node result = (entries : List Entry) (found : List FinishedPiece) (h : StandsAt node entries found) → DrivesIn h.cut result
+DrivesNext node result = (entries : List Entry) (found : List FinishedPiece) (h : StandsAt node entries found) →
+    DrivesIn h.cut result
 
 -- the phase of the next bit
 abbrev pub ShowsPhase : Node → Phase → Type 0
-ShowsPhase node result = (entries : List Entry) (found : List FinishedPiece) (h : StandsAt node entries found) → result ≡ phase_in h.cut
+ShowsPhase node result = (entries : List Entry) (found : List FinishedPiece) (h : StandsAt node entries found) →
+    result ≡ phase_in h.cut
 
 -- the counters that the cut gives
 abbrev pub ShowsCounters : Node → Counters → Type 0
@@ -169,14 +177,17 @@ abbrev pub state_of : Counters → State
 state_of k = if k.off then BusOff else if nat_le 128 k.tec || nat_le 128 k.rec then Passive else Active
 
 abbrev pub ShowsRest : Node → Bool → Type 0
-ShowsRest node result = (entries : List Entry) (found : List FinishedPiece) (h : StandsAt node entries found) → result ≡ is_at_rest h.cut
+ShowsRest node result = (entries : List Entry) (found : List FinishedPiece) (h : StandsAt node entries found) →
+    result ≡ is_at_rest h.cut
 
 -- a request is taken, or given back where the node is in reset or holds one
 abbrev pub Requests : Node → Node → Request → Result ⊤ Request → Type 0
 Requests old new request (Ok done) = Enters old new (Send request)
-    × ((entries : List Entry) (found : List FinishedPiece) (h : StandsAt old entries found) → (h.cut.place ≢ AtReset) × ((now_in h.cut).held ≡ None))
+    × ((entries : List Entry) (found : List FinishedPiece) (h : StandsAt old entries found) →
+    (h.cut.place ≢ AtReset) × ((now_in h.cut).held ≡ None))
 Requests old new request (Err back) = (back ≡ request) × (new ≡ old)
-    × ((entries : List Entry) (found : List FinishedPiece) (h : StandsAt old entries found) → (h.cut.place ≡ AtReset) ⊎ (is_held (now_in h.cut).held ≡ true))
+    × ((entries : List Entry) (found : List FinishedPiece) (h : StandsAt old entries found) →
+    (h.cut.place ≡ AtReset) ⊎ (is_held (now_in h.cut).held ≡ true))
 
 -- a request in progress is marked, unless it would be dropped where it fails or loses anyway; any other is dropped
 abbrev pub abort_of : Bool → Option Request → Bool → Aborted

@@ -16,7 +16,8 @@ impl Node {
 
     /// The place code where a transmitter loses arbitration in this bit (SJA1000 data sheet, 6.4.8).
     pub(crate) fn lost_arbitration(&self, driven: Level, seen: Level) -> Option<u8>
-        ensures { (c : ContextValue) (place : Place) (bits : List Bit) → At self.now.stage self.now.shift c (context_of self.now.context) place bits
+        ensures { (c : ContextValue) (place : Place) (bits : List Bit)
+            → At self.now.stage self.now.shift c (context_of self.now.context) place bits
             → IsKept place c (context_of self.now.context)
             → result ≡ lost_in (context_of self.now.context) place bits (record { driven = driven; seen = seen }) }
     {
@@ -28,7 +29,8 @@ impl Node {
 
     /// The same in a frame: a transmitter drives recessive and sees dominant in the arbitration field, at no stuff bit.
     fn lost_in_frame(&self, driven: Level, seen: Level) -> Option<u8>
-        ensures { (c : ContextValue) (place : Place) (bits : List Bit) → IsReading self.now.shift c (context_of self.now.context) place bits
+        ensures { (c : ContextValue) (place : Place) (bits : List Bit)
+            → IsReading self.now.shift c (context_of self.now.context) place bits
             → result ≡ lost_in (context_of self.now.context) place bits (record { driven = driven; seen = seen }) }
     {
         match self.context.role {
@@ -58,7 +60,8 @@ impl Context {
     /// acknowledged.
     pub fn frame_bit(&mut self, lost: bool, driven: Level, seen: Level)
         ensures { (l : List Bus) → (self.old.role ≡ Transmitter → lost ≡ is_some (lost_by self.old.held l driven seen))
-            → context_of self.new ≡ frame_bit self.old.role (context_of self.old) l (record { driven = driven; seen = seen }) }
+            → context_of self.new
+            ≡ frame_bit self.old.role (context_of self.old) l (record { driven = driven; seen = seen }) }
     {
         match self.role {
             Role::Transmitter => {

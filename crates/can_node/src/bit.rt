@@ -5,6 +5,7 @@ ghost use Rattle.can_node.specs.Machine.Turns.{after_last_eof};
 use super::after_bit::AfterBit;
 use super::bit_events::BitEvents;
 use super::bus_integration::after_integration_bit;
+use super::context::Context;
 use super::counters::BUS_OFF;
 use super::delimiter::{after_delimiter_bit, is_eighth, is_first};
 use super::ending::Ending;
@@ -18,25 +19,22 @@ use super::transmit::transmit;
 use can_bits::{Level, Shift};
 
 impl Node {
-    ghost use Rattle.std.specs.Prelude.{◌≡◌, ◌<◌, List, [], is_some, None, IsTrue};
-    ghost use Rattle.can_bits.specs.declared.shift.Shift.{Shift as Reader};
+    ghost use Rattle.std.specs.Prelude.{◌≡◌, [], None, IsTrue};
     ghost use Rattle.can_node.specs.declared.role.Role.TheVariants.{Receiver};
     ghost use Rattle.can_bits.specs.Shifts.{StandsFor};
-    ghost use Rattle.can_node.specs.Bits.{Bit, recessive_bit};
-    ghost use Rattle.can_node.specs.Context.{ContextValue};
-    ghost use Rattle.can_node.specs.Pieces.{Place, sent_at};
+    ghost use Rattle.can_node.specs.Bits.{recessive_bit};
+    ghost use Rattle.can_node.specs.Pieces.{sent_at};
     ghost use Rattle.can_node.specs.Pieces.Place.{AtIdle};
-    ghost use Rattle.can_node.specs.Counting.{at_bit};
     ghost use Rattle.can_node.specs.Driving.{Drives};
-    ghost use Rattle.can_node.specs.Events.{lost_in};
-    ghost use Rattle.can_node.specs.Machine.Standing.{context_of, HasBody, IsKept};
+    ghost use Rattle.can_node.specs.Machine.Standing.{context_of, HasBody};
     ghost use Rattle.can_node.specs.Stands.{InReset, Samples};
     ghost use Rattle.can_node.specs.Machine.Stages.{At, IsReading};
-    ghost use Rattle.can_node.specs.Machine.Turns.{IsTurn};
+    ghost use Rattle.can_node.specs.Machine.Turns.{IsTurn, TurnsFrom};
 
-    /// A bit, with all that it brings: the general way.
+    /// Sees the level of the bus in this bit, as [`sample`](Node::sample) does, by the general way alone: for a bit that
+    /// isn't quiet.
     #[inline(never)]
-    pub(crate) fn sample_fully(&mut self, level: Level) -> BitEvents
+    pub fn sample_fully(&mut self, level: Level) -> BitEvents
         ensures samples { Samples self.old self.new level result }
         ensures off { IsTrue result.went_off → InReset self.new }
     {
@@ -44,7 +42,9 @@ impl Node {
         let lost = self.lost_arbitration(driven, level);
         let held = self.context.held.is_some();
         let off = self.context.counters.off;
-        let after = self.after_bit(driven, level, lost.is_some());
+        let loses = lost.is_some();
+        let after = self.after_bit(driven, level, loses);
+        self.context.step_bit(self.stage, driven, level, loses);
         let received = after.received();
         let sent = after.is_sent();
         let fault = after.fault();
@@ -66,61 +66,34 @@ impl Node {
         }
     }
 
-    /// A bit, with its own steps of counters, role and request; arbitration is lost in it or not.
-    pub(crate) fn after_bit(&mut self, driven: Level, seen: Level, lost: bool) -> AfterBit
-        ensures kept { self.new ≡ record self.old { shift = self.new.shift; context = self.new.context } }
-        ensures turn { (c : ContextValue) (place : Place) (bits : List Bit) → At self.old.stage self.old.shift c (context_of self.old.context) place bits
-            → IsKept place c (context_of self.old.context) → HasBody self.old.context self.old.body → Drives (context_of self.old.context) place bits driven
-            → lost ≡ is_some (lost_in (context_of self.old.context) place bits (record { driven = driven; seen = seen }))
-            → IsTurn self.new.shift c (context_of self.old.context) place bits (record { driven = driven; seen = seen }) result }
-        ensures steps { (reader : Reader) (c : ContextValue) (place : Place) (bits : List Bit) → At self.old.stage reader c (context_of self.old.context) place bits
-            → self.old.context.counters.tec < 256
-            → lost ≡ is_some (lost_in (context_of self.old.context) place bits (record { driven = driven; seen = seen }))
-            → context_of self.new.context ≡ at_bit (context_of self.old.context) place bits (record { driven = driven; seen = seen }) }
+    /// What a bit makes of the piece under way, by the node's stage; arbitration is lost in it or not.
+    fn after_bit(&mut self, driven: Level, seen: Level, lost: bool) -> AfterBit
+        ensures kept { self.new ≡ record self.old { shift = self.new.shift } }
+        ensures turn { TurnsFrom (λ c place bits. At self.old.stage self.old.shift c (context_of self.old.context) place bits)
+            self.old self.new.shift driven seen lost result }
     {
         match self.stage {
             Stage::InReset => AfterBit::InPiece(Stage::InReset),
-            Stage::Integrating { left, run } => {
-                self.context.integration_bit(run, seen);
-                after_integration_bit(left, run, seen)
-            }
-            Stage::BusIdle => {
-                let after = self.after_idle_bit(driven, seen);
-                self.context.begin_own_frame();
-                after
-            }
-            Stage::InFrame => {
-                let after = self.after_frame_bit(driven, seen, lost);
-                self.context.frame_bit(lost, driven, seen);
-                after
-            }
+            Stage::Integrating { left, run } => after_integration_bit(left, run, seen),
+            Stage::BusIdle => self.after_idle_bit(driven, seen),
+            Stage::InFrame => self.after_frame_bit(driven, seen, lost),
             Stage::LastEofBit => after_last_eof_bit(seen),
-            Stage::InFlag { bits, last } => {
-                let after = self.after_flag_bit(bits, last, seen);
-                self.context.flag_bit(seen);
-                after
-            }
+            Stage::InFlag { bits, last } => self.after_flag_bit(bits, last, seen),
             Stage::InDelimiter {
                 dominant,
                 recessive,
-            } => {
-                let first = is_first(dominant, recessive);
-                self.context
-                    .delimiter_bit(first, is_eighth(dominant, recessive), seen);
-                after_delimiter_bit(dominant, recessive, seen)
+            } => after_delimiter_bit(dominant, recessive, seen),
+            Stage::InInterframeSpace { bits } => {
+                after_interframe_bit(bits, self.context.owes_suspension(), seen)
             }
-            Stage::InInterframeSpace { bits } => after_interframe_bit(
-                bits,
-                self.context.owes_suspension(),
-                seen,
-            ),
         }
     }
 
     /// A bit where the bus is idle: it stays idle, or a frame begins with its SOF.
     fn after_idle_bit(&mut self, driven: Level, seen: Level) -> AfterBit
         ensures kept { self.new ≡ record self.old { shift = self.new.shift } }
-        ensures turn { let now = context_of self.old.context in now.role ≡ Receiver → HasBody self.old.context self.old.body → Drives now AtIdle [] driven
+        ensures turn { let now = context_of self.old.context in now.role ≡ Receiver
+            → HasBody self.old.context self.old.body → Drives now AtIdle [] driven
             → IsTurn self.new.shift now now AtIdle [] (record { driven = driven; seen = seen }) result }
     {
         self.shift = Shift::new();
@@ -142,7 +115,8 @@ impl Node {
     /// The same where no frame of the node's own begins.
     fn after_other_idle_bit(&mut self, seen: Level) -> AfterBit
         ensures kept { self.new ≡ record self.old { shift = self.new.shift } }
-        ensures turn { let now = context_of self.old.context in sent_at now AtIdle ≡ None → now.role ≡ Receiver → StandsFor self.old.shift []
+        ensures turn { let now = context_of self.old.context in sent_at now AtIdle ≡ None → now.role ≡ Receiver
+            → StandsFor self.old.shift []
             → IsTurn self.new.shift now now AtIdle [] (recessive_bit seen) result }
     {
         if seen.is_recessive() {
@@ -156,10 +130,8 @@ impl Node {
     /// A bit of a frame, after its SOF.
     fn after_frame_bit(&mut self, driven: Level, seen: Level, lost: bool) -> AfterBit
         ensures kept { self.new ≡ record self.old { shift = self.new.shift } }
-        ensures turn { (c : ContextValue) (place : Place) (bits : List Bit) → IsReading self.old.shift c (context_of self.old.context) place bits
-            → IsKept place c (context_of self.old.context) → HasBody self.old.context self.old.body → Drives (context_of self.old.context) place bits driven
-            → lost ≡ is_some (lost_in (context_of self.old.context) place bits (record { driven = driven; seen = seen }))
-            → IsTurn self.new.shift c (context_of self.old.context) place bits (record { driven = driven; seen = seen }) result }
+        ensures turn { TurnsFrom (λ c place bits. IsReading self.old.shift c (context_of self.old.context) place bits)
+            self.old self.new.shift driven seen lost result }
     {
         match self.context.role {
             Role::Receiver => receive(&mut self.shift, driven, seen),
@@ -176,6 +148,42 @@ impl Node {
                 }
                 None => AfterBit::InPiece(Stage::InFrame),
             },
+        }
+    }
+}
+
+impl Context {
+    ghost use Rattle.std.specs.Prelude.{◌≡◌, ◌<◌, List, is_some};
+    ghost use Rattle.can_bits.specs.declared.shift.Shift.{Shift as Reader};
+    ghost use Rattle.can_node.specs.Bits.{Bit};
+    ghost use Rattle.can_node.specs.Context.{ContextValue};
+    ghost use Rattle.can_node.specs.Pieces.{Place};
+    ghost use Rattle.can_node.specs.Counting.{at_bit};
+    ghost use Rattle.can_node.specs.Events.{lost_in};
+    ghost use Rattle.can_node.specs.Machine.Standing.{context_of};
+    ghost use Rattle.can_node.specs.Machine.Stages.{At};
+
+    /// The steps of the bit itself in counters, role and request, by the node's stage; arbitration is lost in it or
+    /// not.
+    fn step_bit(&mut self, stage: Stage, driven: Level, seen: Level, lost: bool)
+        ensures { (reader : Reader) (c : ContextValue) (place : Place) (bits : List Bit)
+            → At stage reader c (context_of self.old) place bits → self.old.counters.tec < 256
+            → lost ≡ is_some (lost_in (context_of self.old) place bits (record { driven = driven; seen = seen }))
+            → context_of self.new ≡ at_bit (context_of self.old) place bits (record { driven = driven; seen = seen }) }
+    {
+        match stage {
+            Stage::Integrating { left: _, run } => self.integration_bit(run, seen),
+            Stage::BusIdle => self.begin_own_frame(),
+            Stage::InFrame => self.frame_bit(lost, driven, seen),
+            Stage::InFlag { bits: _, last: _ } => self.flag_bit(seen),
+            Stage::InDelimiter {
+                dominant,
+                recessive,
+            } => {
+                let first = is_first(dominant, recessive);
+                self.delimiter_bit(first, is_eighth(dominant, recessive), seen);
+            }
+            Stage::InReset | Stage::LastEofBit | Stage::InInterframeSpace { bits: _ } => {}
         }
     }
 }

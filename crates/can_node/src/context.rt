@@ -6,8 +6,8 @@ use super::request::Request;
 use super::role::Role;
 use can_bits::Level;
 
-/// The context of a node's next bit: configuration, request, role, error counters and flag. How far the piece under way has
-/// come is the [`Stage`](super::stage::Stage)'s.
+/// The context of a node's next bit: configuration, request, role, error counters and flag. How far the piece under way
+/// has come is the [`Stage`](super::stage::Stage)'s.
 #[derive(Debug, Drop)]
 pub struct Context {
     pub listen: bool,
@@ -25,7 +25,7 @@ pub struct Context {
 
 impl Context {
     ghost use Rattle.std.specs.Prelude.{◌≡◌, ◌||◌, is_some, Some, None, false};
-    ghost use Rattle.can_node.specs.Context.{ContextValue, fresh, is_transmitter, owes_suspension, flag_level};
+    ghost use Rattle.can_node.specs.Context.{fresh, is_transmitter, owes_suspension, flag_level};
     ghost use Rattle.can_node.specs.Pieces.{sent_at};
     ghost use Rattle.can_node.specs.Pieces.Place.{AtIdle};
     ghost use Rattle.can_node.specs.Effects.{with_start, with_stop, role_after_sof};
@@ -125,7 +125,8 @@ impl Context {
     /// Whether the request is dropped where it fails or loses: it is tried once, or was aborted in progress.
     pub fn drops(&self) -> bool
         ensures none { self.now.held ≡ None → result ≡ false }
-        ensures some { (request : Request) → self.now.held ≡ Some request → result ≡ (request.single_shot || self.now.aborted) }
+        ensures some { (request : Request) → self.now.held ≡ Some request
+            → result ≡ (request.single_shot || self.now.aborted) }
     {
         match &self.held {
             None => false,
@@ -133,8 +134,8 @@ impl Context {
         }
     }
 
-    /// The role where SOF came in interframe space: the holder of a request transmits, unless it owes suspend transmission
-    /// or only listens.
+    /// The role where SOF came in interframe space: the holder of a request transmits, unless it owes suspend
+    /// transmission or only listens.
     pub fn role_after_sof(&self) -> Role
         ensures { result ≡ role_after_sof (context_of self.now) }
     {

@@ -17,8 +17,8 @@ use can_bits::{Level, Segment, Shift};
 /// How many recessive levels of a delimiter come before its last.
 const BEFORE_LAST: u8 = 7;
 
-/// A bit after a flag: dominant levels of others' flags, and then eight recessive ones; a dominant level at the eighth is an
-/// overload condition, and one before it a form error.
+/// A bit after a flag: dominant levels of others' flags, and then eight recessive ones; a dominant level at the eighth
+/// is an overload condition, and one before it a form error.
 pub fn after_delimiter_bit(dominant: u8, recessive: u8, seen: Level) -> AfterBit
     ensures { (shift : Shift) (c now : ContextValue) (bits : List Bit) → IsInDelimiter dominant recessive bits
         → IsTurn shift c now AtDelimiter bits (recessive_bit seen) result }

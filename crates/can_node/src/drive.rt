@@ -18,7 +18,8 @@ impl Node {
 
     /// The level that the node drives in the next bit.
     pub(crate) fn next_level(&self) -> Level
-        ensures { (c : ContextValue) (place : Place) (bits : List Bit) → At self.now.stage self.now.shift c (context_of self.now.context) place bits
+        ensures { (c : ContextValue) (place : Place) (bits : List Bit)
+            → At self.now.stage self.now.shift c (context_of self.now.context) place bits
             → IsKept place c (context_of self.now.context) → HasBody self.now.context self.now.body
             → Drives (context_of self.now.context) place bits result }
     {
@@ -38,7 +39,8 @@ impl Node {
 
     /// The level that it drives in a frame: the next one of its line, or its acknowledgement.
     fn level_in_frame(&self) -> Level
-        ensures { (c : ContextValue) (place : Place) (bits : List Bit) → IsReading self.now.shift c (context_of self.now.context) place bits
+        ensures { (c : ContextValue) (place : Place) (bits : List Bit)
+            → IsReading self.now.shift c (context_of self.now.context) place bits
             → IsKept place c (context_of self.now.context) → HasBody self.now.context self.now.body
             → Drives (context_of self.now.context) place bits result }
     {
@@ -48,7 +50,8 @@ impl Node {
         }
     }
 
-    /// What a receiver drives in a frame: dominant in the ACK slot after a right CRC sequence, if it doesn't only listen.
+    /// What a receiver drives in a frame: dominant in the ACK slot after a right CRC sequence, if it doesn't only
+    /// listen.
     pub(crate) fn acknowledgement(&self) -> Level
         ensures { (l : List Bus) → StandsFor self.now.shift l → Acknowledges self.now.context.listen l result }
     {

@@ -21,7 +21,7 @@ const BUS_OFF_COUNT: u8 = 128;
 
 /// The counters' steps. TEC never comes far above 256, where the node goes bus-off.
 impl Context {
-    ghost use Rattle.std.specs.Prelude.{◌≡◌, ◌<◌, ◌≤◌, ◌+◌, ◌%◌, ◌==◌, ◌&&◌, List, [], fold, length};
+    ghost use Rattle.std.specs.Prelude.{◌≡◌, ◌<◌, ◌+◌, ◌%◌, ◌==◌, ◌&&◌, List, [], fold, length};
     ghost use Rattle.can_node.specs.declared.request.Request.{Request};
     ghost use Rattle.can_node.specs.Bits.{Bit, seen_of};
     ghost use Rattle.can_node.specs.Context.{integration_count, is_passive};
@@ -48,7 +48,8 @@ impl Context {
 
     /// So much by the role: transmitter, receiver.
     fn more_by(&mut self, transmitter: u8, receiver: u8)
-        ensures { self.old.counters.tec < 1000 → context_of self.new ≡ more_by self.old.role transmitter receiver (context_of self.old) }
+        ensures { self.old.counters.tec < 1000
+            → context_of self.new ≡ more_by self.old.role transmitter receiver (context_of self.old) }
     {
         match self.role {
             Role::Transmitter => self.more_tec(transmitter),
@@ -88,7 +89,8 @@ impl Context {
         }
     }
 
-    /// A bit of a flag: the step that a passive transmitter owes for a missing acknowledgement comes with a dominant level.
+    /// A bit of a flag: the step that a passive transmitter owes for a missing acknowledgement comes with a dominant
+    /// level.
     pub fn flag_bit(&mut self, seen: Level)
         ensures { self.old.counters.tec < 1000 → context_of self.new ≡ if_ack_step_owed seen (context_of self.old) }
     {
@@ -132,7 +134,8 @@ impl Context {
 
     /// The step of a piece's end, beside those of its bits.
     pub fn end_step(&mut self, ending: &Ending)
-        ensures { self.old.counters.tec < 900 → context_of self.new ≡ own_step (piece_of ending.now) (context_of self.old) }
+        ensures { self.old.counters.tec < 900
+            → context_of self.new ≡ own_step (piece_of ending.now) (context_of self.old) }
     {
         match ending {
             Ending::Integration => self.integrated(),
@@ -188,11 +191,12 @@ impl Context {
         }
     }
 
-    /// A transmitter's error: eight, but for a stuff bit overdriven before RTR, and for a frame that a passive transmitter
-    /// gets no acknowledgement for: that step is owed.
+    /// A transmitter's error: eight, but for a stuff bit overdriven before RTR, and for a frame that a passive
+    /// transmitter gets no acknowledgement for: that step is owed.
     fn transmitter_fault(&mut self, cause: Cause)
         ensures kept { self.new.held ≡ self.old.held }
-        ensures step { self.old.counters.tec < 900 → context_of self.new ≡ transmitter_fault cause (context_of self.old) }
+        ensures step { self.old.counters.tec < 900
+            → context_of self.new ≡ transmitter_fault cause (context_of self.old) }
     {
         match cause {
             Cause::Stuff => {}

@@ -6,7 +6,7 @@ ghost use Rattle.can_node.specs.Context.{ContextValue, flag_level};
 ghost use Rattle.can_node.specs.Pieces.Place.{AtFlag};
 ghost use Rattle.can_node.specs.Machine.Stages.{IsInDominantFlag, IsInPassiveFlag};
 ghost use Rattle.can_node.specs.Table.{flag_segment};
-ghost use Rattle.can_node.specs.Machine.Turns.{IsTurn};
+ghost use Rattle.can_node.specs.Machine.Turns.{IsTurn, one_more};
 
 use super::after_bit::AfterBit;
 use super::cause::Cause;
@@ -31,23 +31,29 @@ fn segment_of(kind: FlagKind) -> Segment
     }
 }
 
-/// A bit of an active error flag or overload flag, of which so many came: six of them are a flag, and a recessive level is a
-/// bit error.
+/// One more of so many equal levels: the flag goes on, or it was the sixth.
+fn one_more(bits: u8, seen: Level) -> AfterBit
+    ensures { result ≡ one_more bits seen }
+{
+    if bits < BEFORE_LAST {
+        AfterBit::InPiece(Stage::InFlag {
+            bits: bits + 1,
+            last: seen,
+        })
+    } else {
+        AfterBit::Ended(Ending::Flag)
+    }
+}
+
+/// A bit of an active error flag or overload flag, of which so many came: six of them are a flag, and a recessive level
+/// is a bit error.
 pub fn after_dominant_flag_bit(kind: FlagKind, bits: u8, seen: Level) -> AfterBit
-    ensures { (shift : Shift) (c now : ContextValue) (done : List Bit) → flag_level c ≡ Dominant → kind ≡ c.flag → IsInDominantFlag bits c done
+    ensures { (shift : Shift) (c now : ContextValue) (done : List Bit) → flag_level c ≡ Dominant → kind ≡ c.flag
+        → IsInDominantFlag bits c done
         → IsTurn shift c now AtFlag done (dominant_bit seen) result }
 {
     match seen {
-        Level::Dominant => {
-            if bits < BEFORE_LAST {
-                AfterBit::InPiece(Stage::InFlag {
-                    bits: bits + 1,
-                    last: seen,
-                })
-            } else {
-                AfterBit::Ended(Ending::Flag)
-            }
-        }
+        Level::Dominant => { one_more(bits, seen) }
         Level::Recessive => AfterBit::Ended(Ending::Fault {
             site: FaultSite::InFlag,
             cause: Cause::Bit,
@@ -56,24 +62,17 @@ pub fn after_dominant_flag_bit(kind: FlagKind, bits: u8, seen: Level) -> AfterBi
     }
 }
 
-/// A bit of a passive error flag, which ends with six equal levels; so many like this one came. Any flag of a node that only
-/// listens goes so.
+/// A bit of a passive error flag, which ends with six equal levels; so many like this one came. Any flag of a node that
+/// only listens goes so.
 pub fn after_passive_flag_bit(bits: u8, last: Level, seen: Level) -> AfterBit
-    ensures { (shift : Shift) (c now : ContextValue) (done : List Bit) → flag_level c ≡ Recessive → IsInPassiveFlag bits last c done
+    ensures { (shift : Shift) (c now : ContextValue) (done : List Bit) → flag_level c ≡ Recessive
+        → IsInPassiveFlag bits last c done
         → IsTurn shift c now AtFlag done (recessive_bit seen) result }
 {
-    if seen != last {
-        AfterBit::InPiece(Stage::InFlag {
-            bits: 1,
-            last: seen,
-        })
-    } else if bits < BEFORE_LAST {
-        AfterBit::InPiece(Stage::InFlag {
-            bits: bits + 1,
-            last: seen,
-        })
+    if seen == last {
+        one_more(bits, seen)
     } else {
-        AfterBit::Ended(Ending::Flag)
+        one_more(0, seen)
     }
 }
 
@@ -86,9 +85,11 @@ impl Node {
 
     /// A bit of a flag, by the level that the node drives in it.
     pub(crate) fn after_flag_bit(&self, bits: u8, last: Level, seen: Level) -> AfterBit
-        ensures { (shift : Reader) (c : ContextValue) (done : List Bit) (driven : Bus) → IsInFlag (flag_level c) bits last c done
+        ensures { (shift : Reader) (c : ContextValue) (done : List Bit) (driven : Bus)
+            → IsInFlag (flag_level c) bits last c done
             → IsKept AtFlag c (context_of self.now.context) → driven ≡ flag_level (context_of self.now.context)
-            → IsTurn shift c (context_of self.now.context) AtFlag done (record { driven = driven; seen = seen }) result }
+            → IsTurn shift c (context_of self.now.context) AtFlag done
+            (record { driven = driven; seen = seen }) result }
     {
         match self.context.flag_level() {
             Level::Dominant => after_dominant_flag_bit(self.context.flag, bits, seen),

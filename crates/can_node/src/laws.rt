@@ -26,24 +26,24 @@ pub fn pieces_are_told_apart()
         Row c place a p n → Row c place b q m → a ++ x ≡ b ++ y → (a ≡ b) × (p ≡ q) × (n ≡ m) }
 {}
 
-/// A record has one cut: any two cuts of it have the same finished pieces, each in the same activation and with the same
-/// number of bits up to its end, and lead to the same context, the same place and the same entries of a piece that isn't
-/// finished (this project's own rule).
+/// A record has one cut: any two cuts of it have the same finished pieces, each in the same activation and with the
+/// same number of bits up to its end, and lead to the same context, the same place and the same entries of a piece that
+/// isn't finished (this project's own rule).
 pub fn a_record_has_one_cut()
     ensures { (entries : List Entry) → HasOneCut entries }
 {}
 
-/// After bus-off, where the node doesn't only listen, each list of levels with its first eleven successive recessive ones
-/// at its end takes one from the transmit error counter (Bosch CAN 2.0 part A section 7; the counter's way down is the
-/// SJA1000 data sheet's, 6.4.12).
+/// After bus-off, where the node doesn't only listen, each list of levels with its first eleven successive recessive
+/// ones at its end takes one from the transmit error counter (Bosch CAN 2.0 part A section 7; the counter's way down is
+/// the SJA1000 data sheet's, 6.4.12).
 pub fn each_eleven_takes_one()
     ensures { (c : ContextValue) (n : ℕ) (l : List Level) → c.off ≡ true → c.listen ≡ false → Elevens n l
         → along c AtIntegration [] (map OneBit (recessive_bits l)) ≡ record c { tec = c.tec - n } }
 {}
 
-/// A record worked by hand has the cut that it should have: a node that starts without self test and listen only, and sees the standard data frame with the
-/// identifier 0 and no bytes, of another node, receives it with the sixth bit of EOF, and is idle after intermission with
-/// all counters at 0.
+/// A record worked by hand has the cut that it should have: a node that starts without self test and listen only, and
+/// sees the standard data frame with the identifier 0 and no bytes, of another node, receives it with the sixth bit of
+/// EOF, and is idle after intermission with all counters at 0.
 pub fn a_frame_of_another_node_is_received()
     ensures cut { (config : Config) → (cut : IsCut (record_of_reception config) pieces_of_reception)
         × (now_in cut ≡ fresh) × (phase_in cut ≡ Phase.Idle) }

@@ -2,8 +2,8 @@
 //!
 //! What happened to a node is its record: a list of starts, stops, requests, aborts and bits, each bit with the level
 //! driven and the level seen. A lawful cut of the record into pieces says what it means: which frames were received and
-//! sent, where there were faults, and how the error counters stand. A [`Node`] keeps no record, but it stands at records
-//! that have such a cut.
+//! sent, where there were faults, and how the error counters stand. A [`Node`] keeps no record, but it stands at
+//! records that have such a cut.
 //!
 //! [`contend`] says which of several frames go on if their transmitters start together, and where the others lose
 //! arbitration. It alone takes memory.

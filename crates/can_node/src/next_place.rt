@@ -37,7 +37,8 @@ impl Node {
         ensures body { self.new.body ≡ self.old.body }
         ensures context { self.old.context.counters.tec < 900
             → context_of self.new.context ≡ resulted after (context_of self.old.context) }
-        ensures at { (c now : ContextValue) (place : Place) (bits : List Bit) (b : Bit) → self.old.context.counters.tec < 900
+        ensures at { (c now : ContextValue) (place : Place) (bits : List Bit) (b : Bit)
+            → self.old.context.counters.tec < 900
             → HasBody self.old.context self.old.body
             → context_of self.old.context ≡ at_bit now place bits b → IsTurn self.old.shift c now place bits b after
             → AtAfter after self.new.stage self.new.shift c (context_of self.new.context) place (bits ++ b ∷ []) }
@@ -55,8 +56,10 @@ impl Node {
     #[tactic(auto, using(crate::proofs::Waiting::Flags::flags_from, crate::proofs::Waiting::Delimiters::delimits_from, crate::proofs::Waiting::InterframeSpaces::interframes_from))]
     fn begin_place(&mut self, ending: &Ending)
         ensures kept { self.new ≡ record self.old { stage = self.new.stage; shift = self.new.shift } }
-        ensures at { (before : ContextValue) → HasBody self.old.context self.old.body → context_of self.old.context ≡ closed (piece_of ending.now) (next_of ending.now) before
-            → At self.new.stage self.new.shift (context_of self.new.context) (context_of self.new.context) (next_of ending.now) [] }
+        ensures at { (before : ContextValue) → HasBody self.old.context self.old.body
+            → context_of self.old.context ≡ closed (piece_of ending.now) (next_of ending.now) before
+            → At self.new.stage self.new.shift (context_of self.new.context) (context_of self.new.context)
+            (next_of ending.now) [] }
     {
         match ending {
             Ending::Integration => self.stage = Stage::BusIdle,
@@ -83,7 +86,8 @@ impl Node {
     /// A frame began with the last bit of interframe space: its SOF.
     fn begin_frame(&mut self)
         ensures kept { self.new ≡ record self.old { stage = self.new.stage; shift = self.new.shift } }
-        ensures reads { (before : ContextValue) → HasBody self.old.context self.old.body → context_of self.old.context ≡ closed InterframeSpaceWithSof AfterSof before
+        ensures reads { (before : ContextValue) → HasBody self.old.context self.old.body
+            → context_of self.old.context ≡ closed InterframeSpaceWithSof AfterSof before
             → At self.new.stage self.new.shift (context_of self.new.context) (context_of self.new.context) AfterSof [] }
     {
         self.shift = Shift::new();
@@ -108,7 +112,7 @@ impl Node {
 impl Context {
     ghost use Rattle.std.specs.Prelude.{◌≡◌, ◌<◌};
     ghost use Rattle.can_node.specs.Context.{ContextValue};
-    ghost use Rattle.can_node.specs.Effects.{closed, error_flag, flag_after, entering};
+    ghost use Rattle.can_node.specs.Effects.{closed, error_flag, entering};
     ghost use Rattle.can_node.specs.Machine.Standing.{context_of};
     ghost use Rattle.can_node.specs.Machine.Turns.{piece_of, next_of};
 

@@ -84,7 +84,8 @@ impl Node {
 
     /// Sees the level of the bus in this bit, in which the node drove what [`drive`](Node::drive) says; in reset it looks
     /// at no level. A caller for whom a bit without events is no more than that calls
-    /// [`sample_quietly`](Node::sample_quietly) first, which is quicker.
+    /// [`sample_quietly`](Node::sample_quietly) first, and [`sample_fully`](Node::sample_fully) where that one answers
+    /// false.
     pub fn sample(&mut self, level: Level) -> BitEvents
         ensures samples { Samples self.old self.new level result }
         ensures off { IsTrue result.went_off → InReset self.new }
@@ -138,7 +139,8 @@ impl Node {
 
     /// Whether an own frame is going out.
     fn is_in_progress(&self) -> bool
-        ensures { (c : ContextValue) (place : Place) (bits : List Bit) → At self.now.stage self.now.shift c (context_of self.now.context) place bits
+        ensures { (c : ContextValue) (place : Place) (bits : List Bit)
+            → At self.now.stage self.now.shift c (context_of self.now.context) place bits
             → result ≡ is_in_progress (context_of self.now.context) place }
     {
         match self.stage {
@@ -147,11 +149,12 @@ impl Node {
         }
     }
 
-    /// The error counters, as the cut of the record gives them: there is one alone ([`a_record_has_one_cut`](super::laws)).
-    /// The transmit error counter is below 256.
+    /// The error counters, as the cut of the record gives them: there is one alone
+    /// ([`a_record_has_one_cut`](super::laws)). The transmit error counter is below 256.
     pub fn counters(&self) -> Counters
         ensures counts { ShowsCounters self.now result }
-        ensures below { (entries : List Entry) (found : List FinishedPiece) → StandsAt self.now entries found → result.tec < 256 }
+        ensures below { (entries : List Entry) (found : List FinishedPiece) → StandsAt self.now entries found
+            → result.tec < 256 }
     {
         self.context.counters
     }

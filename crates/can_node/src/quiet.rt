@@ -20,8 +20,8 @@ impl Node {
     ghost use Rattle.can_node.specs.Machine.Quiet.{TurnsQuietly};
     ghost use Rattle.can_node.specs.Stands.{Samples, ShowsSame, nothing, is_receiving};
 
-    /// Sees the level of the bus where the bit changes nothing that the node shows: no event, and the same error counters,
-    /// phase, role and held request. Answers whether that was so; else the node is what it was, and
+    /// Sees the level of the bus where the bit changes nothing that the node shows: no event, and the same error
+    /// counters, phase, role and held request. Answers whether that was so; else the node is what it was, and
     /// [`sample`](Node::sample) is to be called (this project's own rule).
     #[inline(always)]
     pub fn sample_quietly(&mut self, level: Level) -> bool
@@ -29,17 +29,20 @@ impl Node {
         ensures shown { result ≡ true → ShowsSame self.old self.new }
         ensures same { result ≡ false → self.new ≡ self.old }
     {
-        match self.stage {
-            Stage::InFrame => self.frame_bit_quietly(level),
-            Stage::BusIdle => self.next.is_recessive() && level.is_recessive(),
-            _ => self.other_bit_quietly(level),
+        if let Stage::InFrame = self.stage {
+            self.frame_bit_quietly(level)
+        } else if let Stage::BusIdle = self.stage {
+            self.next.is_recessive() && level.is_recessive()
+        } else {
+            self.other_bit_quietly(level)
         }
     }
 
     /// A bit of a frame.
     #[inline(always)]
     fn frame_bit_quietly(&mut self, level: Level) -> bool
-        ensures quiet { self.old.stage ≡ StageInFrame → result ≡ true → Samples self.old self.new level (nothing (is_receiving self.old)) }
+        ensures quiet { self.old.stage ≡ StageInFrame → result ≡ true
+            → Samples self.old self.new level (nothing (is_receiving self.old)) }
         ensures shown { self.old.stage ≡ StageInFrame → result ≡ true → ShowsSame self.old self.new }
         ensures same { result ≡ false → self.new ≡ self.old }
     {
@@ -195,7 +198,8 @@ impl Node {
 
 /// Whether a dominant level after a flag may be counted: the first one, or an eighth.
 fn may_count(dominant: u8, recessive: u8, level: Level) -> bool
-    ensures { result ≡ (not (is_recessive level) && ((dominant == 0 && recessive == 0) || (recessive == 0 && dominant == 7))) }
+    ensures { result
+        ≡ (not (is_recessive level) && ((dominant == 0 && recessive == 0) || (recessive == 0 && dominant == 7))) }
 {
     !level.is_recessive() && (is_first(dominant, recessive) || is_eighth(dominant, recessive))
 }

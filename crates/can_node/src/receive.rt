@@ -1,14 +1,11 @@
 //! A bit of a frame for its receiver (Bosch CAN 2.0 part A sections 3.1.1 and 6).
-ghost use Rattle.std.specs.Prelude.{◌≡◌, List, ◌++◌, ◌∷◌, []};
+ghost use Rattle.std.specs.Prelude.{◌≡◌, ◌&&◌, not, List, ◌++◌, ◌∷◌, []};
+ghost use Rattle.can_bits.specs.Fields.{is_recessive};
 ghost use Rattle.can_bits.specs.declared.level.Level.{Level as Bus};
 ghost use Rattle.can_bits.specs.Shifts.{StandsFor};
 ghost use Rattle.can_node.specs.Machine.Causes.{cause_by};
-ghost use Rattle.can_node.specs.Bits.{Bit, seen_of};
-ghost use Rattle.can_node.specs.Context.{ContextValue};
-ghost use Rattle.can_node.specs.Pieces.{Place};
-ghost use Rattle.can_node.specs.Frames.{Acknowledges};
-ghost use Rattle.can_node.specs.Machine.Stages.{IsReceiving, frame_bits};
-ghost use Rattle.can_node.specs.Machine.Turns.{ReceivesOn};
+ghost use Rattle.can_node.specs.Bits.{Bit};
+ghost use Rattle.can_node.specs.Machine.Turns.{ReceivesBit};
 
 use super::after_bit::AfterBit;
 use super::cause::Cause;
@@ -29,6 +26,13 @@ fn cause_of(fault: &LineFault) -> Cause
     }
 }
 
+/// Whether an own dominant level, the acknowledgement, isn't seen.
+fn is_lost(driven: Level, seen: Level) -> bool
+    ensures { result ≡ (not (is_recessive driven) && is_recessive seen) }
+{
+    !driven.is_recessive() && seen.is_recessive()
+}
+
 /// An error that a receiver finds.
 fn error(cause: Cause, segment: Segment) -> AfterBit
     ensures { result ≡ AfterBit.Ended (Ending.Fault FaultSite.InReception cause segment) }
@@ -40,16 +44,14 @@ fn error(cause: Cause, segment: Segment) -> AfterBit
     })
 }
 
-/// A bit of a frame for its receiver: the frame goes on, or it is received with the sixth bit of EOF, or there is an error:
-/// a level with which no line goes on (stuff error or form error), the ACK delimiter after a wrong CRC sequence (CRC error),
-/// or an acknowledgement of its own that isn't seen (bit error).
+/// A bit of a frame for its receiver: the frame goes on, or it is received with the sixth bit of EOF, or there is an
+/// error: a level with which no line goes on (stuff error or form error), the ACK delimiter after a wrong CRC sequence
+/// (CRC error), or an acknowledgement of its own that isn't seen (bit error).
 pub fn receive(shift: &mut Shift, driven: Level, seen: Level) -> AfterBit
     ensures stands { (l : List Bus) → StandsFor shift.old l → StandsFor shift.new (l ++ seen ∷ []) }
-    ensures turn { (c : ContextValue) (place : Place) (bits : List Bit) → StandsFor shift.old (seen_of (frame_bits place bits))
-        → IsReceiving c place bits → Acknowledges c.listen (seen_of (frame_bits place bits)) driven
-        → ReceivesOn c place (bits ++ record { driven = driven; seen = seen } ∷ []) result }
+    ensures turn { ReceivesBit shift.old driven seen result }
 {
-    if !driven.is_recessive() && seen.is_recessive() {
+    if is_lost(driven, seen) {
         let segment = shift.next_segment();
         shift.advance(seen);
         return error(Cause::Bit, segment);

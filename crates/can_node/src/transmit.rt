@@ -1,18 +1,13 @@
 //! A bit of a frame for its transmitter (Bosch CAN 2.0 part A sections 3.1.1 and 6).
-ghost use Rattle.std.specs.Prelude.{◌≡◌, ◌↔◌, ◌++◌, ◌∷◌, [], List, Bool, Some, IsTrue, is_some};
+ghost use Rattle.std.specs.Prelude.{◌≡◌, ◌↔◌, ◌++◌, ◌∷◌, [], List, Bool, Some, IsTrue};
 ghost use Rattle.can_bits.specs.declared.level.Level.{Level as Bus};
 ghost use Rattle.can_bits.specs.Acknowledging.{IsAckDue};
 ghost use Rattle.can_bits.specs.Places.{is_early_stuff};
 ghost use Rattle.can_bits.specs.Shifts.{StandsFor};
 ghost use Rattle.can_bits.specs.Streaming.{IsReadable};
-ghost use Rattle.can_node.specs.Bits.{Bit, seen_of};
-ghost use Rattle.can_node.specs.Context.{ContextValue};
-ghost use Rattle.can_node.specs.Counting.{lost_by};
-ghost use Rattle.can_node.specs.Pieces.{Place};
-ghost use Rattle.can_node.specs.Driving.{TransmitsNext};
-ghost use Rattle.can_node.specs.Machine.Stages.{IsTransmitting, IsFramePlace, frame_bits};
+ghost use Rattle.can_node.specs.Bits.{Bit};
 ghost use Rattle.can_node.specs.Machine.TransmitterCauses.{cause_of_bit, kind_of};
-ghost use Rattle.can_node.specs.Machine.Turns.{TransmitsOn};
+ghost use Rattle.can_node.specs.Machine.Turns.{TransmitsBit};
 
 use super::after_bit::AfterBit;
 use super::cause::Cause;
@@ -39,8 +34,8 @@ fn own_bit(shift: &Shift, ext: bool, lost: bool) -> OwnBit
     }
 }
 
-/// What is wrong with a bit for a transmitter: a bit error, a stuff error, or in the ACK slot an ACK error, which self test
-/// doesn't know.
+/// What is wrong with a bit for a transmitter: a bit error, a stuff error, or in the ACK slot an ACK error, which self
+/// test doesn't know.
 fn error_in(driven: Level, seen: Level, kind: OwnBit, self_test: bool) -> Option<Cause>
     ensures { result ≡ cause_of_bit driven seen kind self_test }
 {
@@ -59,8 +54,8 @@ fn error_in(driven: Level, seen: Level, kind: OwnBit, self_test: bool) -> Option
     }
 }
 
-/// A bit of a frame for its transmitter: the frame goes on, or it is sent with the last bit of EOF, or arbitration is lost
-/// and the node goes on as receiver, or there is an error.
+/// A bit of a frame for its transmitter: the frame goes on, or it is sent with the last bit of EOF, or arbitration is
+/// lost and the node goes on as receiver, or there is an error.
 pub fn transmit(
     shift: &mut Shift,
     request: &Request,
@@ -70,11 +65,7 @@ pub fn transmit(
     seen: Level,
 ) -> AfterBit
     ensures stands { (l : List Bus) → StandsFor shift.old l → StandsFor shift.new (l ++ seen ∷ []) }
-    ensures turn { (c now : ContextValue) (place : Place) (bits : List Bit) → StandsFor shift.old (seen_of (frame_bits place bits))
-        → IsFramePlace place → self_test ≡ c.self_test → (h : IsTransmitting c now place bits) → request.now ≡ h.request
-        → TransmitsNext h.request (frame_bits place bits) driven
-        → lost ≡ is_some (lost_by (Some h.request) (seen_of (frame_bits place bits)) driven seen)
-        → TransmitsOn lost c now place (bits ++ record { driven = driven; seen = seen } ∷ []) result }
+    ensures turn { TransmitsBit shift.old request.now self_test lost driven seen result }
 {
     let kind = own_bit(shift, request.frame.ext(), lost);
     match error_in(driven, seen, kind, self_test) {

@@ -23,7 +23,8 @@ mark_head : (w : List Level) → 19 ≤ length w → length w < data_place w →
 mark_head w h k = rw (le-ltb (length w) 19 h, lt-ltb (length w) (data_place w) k) refl
 
 mark_said : (w : List Level) → data_place w ≤ length w → mark_of w ≡ says_count w
-mark_said w h = rw (le-ltb (length w) 19 (omega (arith, head_least (says_ext w))), le-ltb (length w) (data_place w) h) refl
+mark_said w h =
+    rw (le-ltb (length w) 19 (omega (arith, head_least (says_ext w))), le-ltb (length w) (data_place w) h) refl
 
 -- the format is known from place 14 on
 ext_stays : (w : List Level) (x : Level) → 19 ≤ length w → says_ext (w ++ x ∷ []) ≡ says_ext w
@@ -42,9 +43,11 @@ mark_stays w x other =
           elim (cases_lt (length w) (data_place w)) [
             | inl before ↦
                 let mark = mark_head w late before in
-                mark_head (w ++ x ∷ []) (omega (arith, more, late)) (omega (arith, more, head, before, other, mark)) ∙ head ∙ sym mark
+                mark_head (w ++ x ∷ []) (omega (arith, more, late)) (omega (arith, more, head, before, other, mark))
+                ∙ head ∙ sym mark
             | inr past ↦
-                mark_said (w ++ x ∷ []) (omega (arith, more, head, past)) ∙ says_count-more w (x ∷ []) past ∙ sym (mark_said w past)
+                mark_said (w ++ x ∷ []) (omega (arith, more, head, past)) ∙ says_count-more w (x ∷ []) past
+                ∙ sym (mark_said w past)
           ]
     ]
 
@@ -60,7 +63,8 @@ mark_least w =
     ]
 
 -- the next one, from the end of a standard frame's DLC on
-pub mark_moved : (w : List Level) (m : ℕ) → 19 ≤ length w → (length w < data_place w → m ≡ data_place w) → (data_place w ≤ length w → m ≡ says_count w) → m ≡ mark_of w
+pub mark_moved : (w : List Level) (m : ℕ) → 19 ≤ length w → (length w < data_place w → m ≡ data_place w) →
+    (data_place w ≤ length w → m ≡ says_count w) → m ≡ mark_of w
 mark_moved w m late head said =
     elim (cases_lt (length w) (data_place w)) [
       | inl before ↦ head before ∙ sym (mark_head w late before)
@@ -72,20 +76,24 @@ pub mark_whole : (w : List Level) → (length w ≡ mark_of w) ↔ (length w ≡
 mark_whole w =
     let least = head_least (says_ext w) in
     elim (cases_lt (length w) 19) [
-      | inl early ↦ let mark = mark_early w early in (λ h. absurd (omega (arith, h, mark, early)), λ h. absurd (omega (arith, h, early, least)))
+      | inl early ↦ let mark = mark_early w early in
+          (λ h. absurd (omega (arith, h, mark, early)), λ h. absurd (omega (arith, h, early, least)))
       | inr late ↦ elim (cases_lt (length w) (data_place w)) [
-        | inl before ↦ let mark = mark_head w late before in (λ h. absurd (omega (arith, h, mark, before)), λ h. absurd (omega (arith, h, before)))
+        | inl before ↦ let mark = mark_head w late before in
+            (λ h. absurd (omega (arith, h, mark, before)), λ h. absurd (omega (arith, h, before)))
         | inr past ↦ let mark = mark_said w past in (λ h. h ∙ mark, λ h. h ∙ sym mark)
       ]
     ]
 
 -- up to the end of the DLC the segments are those of any length
-segment_early : (e : Bool) (c d p : ℕ) → p < dlc_place e + 4 → segment_in (segments_of e c) p ≡ segment_in (segments_of e d) p
+segment_early : (e : Bool) (c d p : ℕ) → p < dlc_place e + 4 →
+    segment_in (segments_of e c) p ≡ segment_in (segments_of e d) p
 segment_early false c d p h = rw (lt-ltb p 19 h) refl
 segment_early true c d p h = rw (lt-ltb p 39 h) refl
 
 -- so the mark gives the segments of all places up to the next level
-pub mark_segment : (w : List Level) (p : ℕ) → p ≤ length w → segment_in (segments_of (says_ext w) (mark_of w)) p ≡ segment_at w p
+pub mark_segment : (w : List Level) (p : ℕ) → p ≤ length w →
+    segment_in (segments_of (says_ext w) (mark_of w)) p ≡ segment_at w p
 mark_segment w p within =
     elim (cases_lt (length w) (data_place w)) [
       | inl before ↦ segment_early (says_ext w) (mark_of w) (says_count w) p (omega (arith, within, before))

@@ -44,7 +44,8 @@ shifted_up (suc k) n h =
     subst IsMultiple e (IsMultiple-double (n * 2 ^ k) (shifted_up k n h))
 
 -- the register after a body and 15 levels is 0 exactly where these are its CRC sequence
-pub register_says : (w b c : List Level) (r : ℕ) → r < 2 ^ 15 → IsMultiple (value w * 2 ^ 15 + r) → w ≡ b ++ c → length c ≡ 15 → SaysWhetherRight (r == 0) b c
+pub register_says : (w b c : List Level) (r : ℕ) → r < 2 ^ 15 → IsMultiple (value w * 2 ^ 15 + r) → w ≡ b ++ c →
+    length c ≡ 15 → SaysWhetherRight (r == 0) b c
 register_says w b c r fits divides whole count =
     elim (cases_Bool (r == 0)) [
       | inl t ↦
@@ -55,5 +56,6 @@ register_says w b c r fits divides whole count =
       | inr f ↦ rw f (λ right.
           let all : IsMultiple (value w) = subst IsMultiple (ap value (sym whole)) right.divides in
           let none : value w * 2 ^ 15 ≡ value w * 2 ^ 15 + 0 = omega arith in
-          eqb-false r 0 f (multiples_agree (value w) r 0 fits (omega arith) divides (subst IsMultiple none (shifted_up 15 (value w) all))))
+          eqb-false r 0 f (multiples_agree (value w) r 0 fits (omega arith) divides
+          (subst IsMultiple none (shifted_up 15 (value w) all))))
     ]

@@ -63,7 +63,8 @@ pub not_past : {l w : List Level} {last : Level} {n : ℕ} → BeginsPart l w la
 not_past {l = l} h = inside_not_past l (goes_by h)
 
 -- and the other way round
-pub so_far_by : {l w : List Level} {last : Level} {n : ℕ} → Holds (reverse l) w last n → EndsInRun last n l → IsPartSoFar l w last n
+pub so_far_by : {l w : List Level} {last : Level} {n : ℕ} → Holds (reverse l) w last n → EndsInRun last n l →
+    IsPartSoFar l w last n
 so_far_by {l = l} {w = w} h ends =
     let P : List Level → Type 0 = λ m. HasNoSixEqual m in
     let Q : List Level → Type 0 = λ m. IsUnstuffed m (reverse (reverse l)) in
@@ -90,15 +91,18 @@ few {l = l} {last = last} {n = n} h less = λ ends.
     less (omega (arith, counted, most, many))
 
 -- the segment of the next level
-pub next_bit : {l w : List Level} {last : Level} {n : ℕ} → BeginsPart l w last n → n ≢ 5 → IsNext l (segment_at w (length w)) false
+pub next_bit : {l w : List Level} {last : Level} {n : ℕ} → BeginsPart l w last n → n ≢ 5 →
+    IsNext l (segment_at w (length w)) false
 next_bit {w = w} h less = bit w h.so_far.unstuffed (few h less) (not_past h)
 
-pub next_stuff_bit : {l w : List Level} {last : Level} {n : ℕ} → BeginsPart l w last n → n ≡ 5 → IsNext l (segment_at w (length w - 1)) true
+pub next_stuff_bit : {l w : List Level} {last : Level} {n : ℕ} → BeginsPart l w last n → n ≡ 5 →
+    IsNext l (segment_at w (length w - 1)) true
 next_stuff_bit {w = w} h full = stuff_bit w h.so_far.unstuffed (five h full) (not_past h)
 
 -- the two in one
 pub next_here : {l w : List Level} {last : Level} {n : ℕ} (segment : Segment) → BeginsPart l w last n →
-    (nat_eq n 5 ≡ true → segment ≡ segment_at w (length w - 1)) → (nat_eq n 5 ≡ false → segment ≡ segment_at w (length w)) → IsNext l segment (nat_eq n 5)
+    (nat_eq n 5 ≡ true → segment ≡ segment_at w (length w - 1)) →
+    (nat_eq n 5 ≡ false → segment ≡ segment_at w (length w)) → IsNext l segment (nat_eq n 5)
 next_here {l = l} {n = n} segment h stuff plain =
     elim (cases_Bool (nat_eq n 5)) [
       | inl t ↦ rw (t, stuff t) (next_stuff_bit h (eqb-true n 5 t))
@@ -122,7 +126,8 @@ not_over {l = l} h = λ over.
     })
 
 -- a recessive SOF
-pub wrong_start : {l w : List Level} {last : Level} {n : ℕ} (x : Level) (at : ℕ) → BeginsPart l w last n → at ≡ length l → at ≡ 0 → x ≡ Recessive → BreaksWith l x (Form 0)
+pub wrong_start : {l w : List Level} {last : Level} {n : ℕ} (x : Level) (at : ℕ) → BeginsPart l w last n →
+    at ≡ length l → at ≡ 0 → x ≡ Recessive → BreaksWith l x (Form 0)
 wrong_start {l = l} x at h count first recessive =
     let none : l ≡ [] = nil_from_length l (omega (arith, count, first)) in
     let P : List Level → Type 0 = λ m. ¬ Begins m in (
@@ -133,11 +138,13 @@ wrong_start {l = l} x at h count first recessive =
     )
 
 -- a sixth equal level
-pub wrong_sixth : {l w : List Level} {last : Level} {n : ℕ} (x : Level) (at : ℕ) → BeginsPart l w last n → at ≡ length l → n ≡ 5 → x ≡ last → BreaksWith l x (Stuff at)
+pub wrong_sixth : {l w : List Level} {last : Level} {n : ℕ} (x : Level) (at : ℕ) → BeginsPart l w last n →
+    at ≡ length l → n ≡ 5 → x ≡ last → BreaksWith l x (Stuff at)
 wrong_sixth {l = l} {w = w} {last = last} {n = n} x at h count full like =
     let leads = leads_by h.so_far.ends in
     let counted = run-leads last n (reverse l) leads in
-    let six : run (x ∷ reverse l) ≡ 6 = ap (λ y. run (y ∷ reverse l)) like ∙ lead-same last n (reverse l) leads ∙ omega (arith, full) in (
+    let six : run (x ∷ reverse l) ≡ 6 =
+    ap (λ y. run (y ∷ reverse l)) like ∙ lead-same last n (reverse l) leads ∙ omega (arith, full) in (
       no_sixth l x (goes_by h) (omega (arith, six)),
       record {
         begun = λ none. let wrong = ap (λ m. run (reverse m)) none in omega (arith, wrong, counted, full);

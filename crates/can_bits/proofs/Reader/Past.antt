@@ -12,19 +12,21 @@ use Rattle.can_bits.specs.Line.{StuffedPart, Line, tail}
 use Rattle.can_bits.specs.Reading.{IsPastPart}
 use Rattle.can_bits.specs.Segments.{IsNext, segment_after}
 use Rattle.can_bits.specs.Segments.IsNext.{after_part}
-use Rattle.can_bits.specs.Streaming.{IsReadable, IsLineButFor, BreaksWith, ShowsFrame}
-use Rattle.can_bits.specs.Machine.Stages.{IsPast}
+use Rattle.can_bits.specs.Streaming.{IsReadable, IsLineButFor, BreaksWith, ShowsFrame, ShowsFrameBut}
+use Rattle.can_bits.specs.Machine.FrameParts.{IsPast}
 use Rattle.can_bits.proofs.Ranges.{at_push}
 use Rattle.can_bits.proofs.Ending.{line_at}
 
 -- the segment of the next level
-pub past_next : {g : Gathered} {count : ℕ} (n : ℕ) (l : List Level) → IsPast n g count l → IsNext l (segment_after n) false
+pub past_next : {g : Gathered} {count : ℕ} (n : ℕ) (l : List Level) → IsPast n g count l →
+    IsNext l (segment_after n) false
 past_next n l h =
     let many : length (take n (tail h.ack)) ≡ n = length-take-le n (tail h.ack) h.within in
     subst (λ (k : ℕ). IsNext l (segment_after k) false) many (after_part h.part (take n (tail h.ack)) h.is_part h.whole)
 
 -- what a part and some of its tail are missing
-pub missing : {f g : FrameValue} {b c d e : List Level} {ack : Level} (part after rest : List Level) → StuffedPart f b c part →
+pub missing : {f g : FrameValue} {b c d e : List Level} {ack : Level} (part after rest : List Level) →
+    StuffedPart f b c part →
     Line g d e ack ((part ++ after) ++ rest) → length after + length rest ≡ 10
 missing part after rest h line =
     let on = line_at part after rest h line in
@@ -32,7 +34,8 @@ missing part after rest h line =
     omega (arith, count, length-append after rest)
 
 -- the line goes on
-past_line : {g : Gathered} {count : ℕ} (n : ℕ) (l : List Level) (h : IsPast n g count l) → Line h.frame h.body h.check h.ack (l ++ drop n (tail h.ack))
+past_line : {g : Gathered} {count : ℕ} (n : ℕ) (l : List Level) (h : IsPast n g count l) →
+    Line h.frame h.body h.check h.ack (l ++ drop n (tail h.ack))
 past_line n l h = record {
   part = h.part;
   is_part = h.is_part;
@@ -42,12 +45,14 @@ past_line n l h = record {
 
 pub past_readable : {g : Gathered} {count : ℕ} (n : ℕ) (l : List Level) → IsPast n g count l → IsReadable l
 past_readable n l h = record {
-  frame = h.frame;
-  body = h.body;
-  check = h.check;
-  ack = h.ack;
-  rest = drop n (tail h.ack);
-  line = past_line n l h;
+  begun = record {
+    frame = h.frame;
+    body = h.body;
+    check = h.check;
+    ack = h.ack;
+    rest = drop n (tail h.ack);
+    line = past_line n l h;
+  };
   right = λ few. let within = h.within in h.right (omega (arith, few, length-drop n (tail h.ack)));
 }
 
@@ -65,69 +70,93 @@ tail_next (suc (suc (suc (suc (suc (suc (suc (suc zero)))))))) ack h other = ref
 tail_next (suc (suc (suc (suc (suc (suc (suc (suc (suc zero))))))))) ack h other = refl
 tail_next (suc (suc (suc (suc (suc (suc (suc (suc (suc (suc n)))))))))) ack h other = absurd (omega arith)
 
--- a recessive level more
-pub past_recessive : {g : Gathered} {count : ℕ} (n : ℕ) (l : List Level) (x : Level) (h : IsPast n g count l) → n < 10 → n ≢ 1 → x ≡ Recessive →
+-- a level more of the tail
+past_more : {g : Gathered} {count : ℕ} (n : ℕ) (l : List Level) (x ack : Level) (h : IsPast n g count l) → n < 10 →
+    take (n + 1) (tail ack) ≡ take n (tail h.ack) ++ x ∷ [] → (3 ≤ n + 1 → Crc h.body h.check) →
+    IsPast (n + 1) g (count + 1) (l ++ x ∷ [])
+past_more n l x ack h few next right =
+    let old = h.count in
+    record {
+      frame = h.frame;
+      body = h.body;
+      check = h.check;
+      part = h.part;
+      ack = ack;
+      is_part = h.is_part;
+      whole = ap (λ m. m ++ x ∷ []) h.whole ∙ append_assoc h.part (take n (tail h.ack)) (x ∷ [])
+          ∙ ap (λ t. h.part ++ t) (sym next);
+      within = omega (arith, few);
+      right = right;
+      gathers = h.gathers;
+      count = omega (arith, old, length_push l x);
+    }
+
+-- a recessive one
+pub past_recessive : {g : Gathered} {count : ℕ} (n : ℕ) (l : List Level) (x : Level) (h : IsPast n g count l) →
+    n < 10 → n ≢ 1 → x ≡ Recessive →
     (n ≡ 2 → Crc h.body h.check) → IsPast (n + 1) g (count + 1) (l ++ x ∷ [])
 past_recessive n l x h few other recessive right =
-    let next : take (n + 1) (tail h.ack) ≡ take n (tail h.ack) ++ x ∷ [] =
-    take_more (tail h.ack) n Dominant few ∙ ap (λ y. take n (tail h.ack) ++ y ∷ []) (tail_next n h.ack few other ∙ sym recessive) in
-    let old = h.count in
-    record {
-      frame = h.frame;
-      body = h.body;
-      check = h.check;
-      part = h.part;
-      ack = h.ack;
-      is_part = h.is_part;
-      whole = ap (λ m. m ++ x ∷ []) h.whole ∙ append_assoc h.part (take n (tail h.ack)) (x ∷ []) ∙ ap (λ t. h.part ++ t) (sym next);
-      within = omega (arith, few);
-      right = λ three. elim (cases_eq n 2) [ inl two ↦ right two | inr many ↦ h.right (omega (arith, many, three)) ];
-      gathers = h.gathers;
-      count = omega (arith, old, length_push l x);
-    }
+    past_more n l x h.ack h few
+    (take_more (tail h.ack) n Dominant few
+    ∙ ap (λ y. take n (tail h.ack) ++ y ∷ []) (tail_next n h.ack few other ∙ sym recessive))
+    (λ three. elim (cases_eq n 2) [ inl two ↦ right two | inr many ↦ h.right (omega (arith, many, three)) ])
 
 -- either level in the ACK slot
-pub past_slot : {g : Gathered} {count : ℕ} (l : List Level) (x : Level) → IsPast 1 g count l → IsPast 2 g (count + 1) (l ++ x ∷ [])
-past_slot l x h =
-    let old = h.count in
+pub past_slot : {g : Gathered} {count : ℕ} (l : List Level) (x : Level) → IsPast 1 g count l →
+    IsPast 2 g (count + 1) (l ++ x ∷ [])
+past_slot l x h = past_more 1 l x x h (omega arith) refl (λ three. absurd (omega (arith, three)))
+
+-- the part has come
+abbrev pub past_is_past : {g : Gathered} {count : ℕ} (n : ℕ) (l : List Level) → IsPast n g count l → IsPastPart l
+past_is_past n l h =
     record {
       frame = h.frame;
       body = h.body;
       check = h.check;
       part = h.part;
-      ack = x;
+      rest = take n (tail h.ack);
       is_part = h.is_part;
-      whole = ap (λ m. m ++ x ∷ []) h.whole ∙ append_assoc h.part (Recessive ∷ []) (x ∷ []);
-      within = omega arith;
-      right = λ three. absurd (omega (arith, three));
-      gathers = h.gathers;
-      count = omega (arith, old, length_push l x);
+      whole = h.whole;
     }
 
--- the part has come
-pub past_is_past : {g : Gathered} {count : ℕ} (n : ℕ) (l : List Level) → IsPast n g count l → IsPastPart l
-past_is_past n l h = record { frame = h.frame; body = h.body; check = h.check; part = h.part; rest = take n (tail h.ack); is_part = h.is_part; whole = h.whole }
+-- and with more levels
+abbrev pub past_with : {g : Gathered} {count : ℕ} (n : ℕ) (l later : List Level) → IsPast n g count l →
+    IsPastPart (l ++ later)
+past_with n l later h = record {
+  frame = h.frame;
+  body = h.body;
+  check = h.check;
+  part = h.part;
+  rest = take n (tail h.ack) ++ later;
+  is_part = h.is_part;
+  whole = ap (λ m. m ++ later) h.whole ∙ append_assoc h.part (take n (tail h.ack)) later;
+}
 
 -- how many levels are missing
-past_missing : {g : Gathered} {count : ℕ} {f : FrameValue} {b c : List Level} {ack : Level} (n : ℕ) (l more rest : List Level) → IsPast n g count l →
+past_missing : {g : Gathered} {count : ℕ} {f : FrameValue} {b c : List Level} {ack : Level} (n : ℕ)
+    (l more rest : List Level) → IsPast n g count l →
     Line f b c ack ((l ++ more) ++ rest) → n + length more + length rest ≡ 10
 past_missing {f = f} {b = b} {c = c} {ack = ack} n l more rest h line =
     let P : List Level → Type 0 = λ m. Line f b c ack (m ++ rest) in
-    let whole : l ++ more ≡ h.part ++ (take n (tail h.ack) ++ more) = ap (λ m. m ++ more) h.whole ∙ append_assoc h.part (take n (tail h.ack)) more in
+    let whole : l ++ more ≡ h.part ++ (take n (tail h.ack) ++ more) =
+    ap (λ m. m ++ more) h.whole ∙ append_assoc h.part (take n (tail h.ack)) more in
     let count = missing h.part (take n (tail h.ack) ++ more) rest h.is_part (subst P whole line) in
     omega (arith, count, length-append (take n (tail h.ack)) more, length-take-le n (tail h.ack) h.within)
 
 -- a dominant level
-pub past_form : {g : Gathered} {count : ℕ} (n : ℕ) (l : List Level) (x : Level) → IsPast n g count l → n < 10 → n ≢ 1 → x ≡ Dominant → BreaksWith l x (Form count)
+pub past_form : {g : Gathered} {count : ℕ} (n : ℕ) (l : List Level) (x : Level) → IsPast n g count l → n < 10 → n ≢ 1 →
+    x ≡ Dominant → BreaksWith l x (Form count)
 past_form n l x h few other dominant = (
   (λ begun.
       let t = take n (tail h.ack) in
       let P : List Level → Type 0 = λ m. Line begun.frame begun.body begun.check begun.ack (m ++ begun.rest) in
-      let whole : l ++ x ∷ [] ≡ h.part ++ (t ++ x ∷ []) = ap (λ m. m ++ x ∷ []) h.whole ∙ append_assoc h.part t (x ∷ []) in
+      let whole : l ++ x ∷ [] ≡ h.part ++ (t ++ x ∷ []) =
+      ap (λ m. m ++ x ∷ []) h.whole ∙ append_assoc h.part t (x ∷ []) in
       let on = line_at h.part (t ++ x ∷ []) begun.rest h.is_part (subst P whole begun.line) in
       let many : length t ≡ n = length-take-le n (tail h.ack) h.within in
       let here : get_or ((t ++ x ∷ []) ++ begun.rest) n Dominant ≡ x =
-      get_or_append_left (t ++ x ∷ []) begun.rest Dominant n (omega (arith, many, length_push t x)) ∙ at_push t x Dominant n (sym many) in
+      get_or_append_left (t ++ x ∷ []) begun.rest Dominant n (omega (arith, many, length_push t x))
+      ∙ at_push t x Dominant n (sym many) in
       let there : get_or (tail begun.ack) n Dominant ≡ Recessive = tail_next n begun.ack few other in
       let both : Recessive ≡ Dominant = sym there ∙ ap (λ m. get_or m n Dominant) on.tails ∙ here ∙ dominant in
       cc),
@@ -142,14 +171,14 @@ past_form n l x h few other dominant = (
 )
 
 -- a wrong CRC sequence
-pub past_wrong : {g : Gathered} {count : ℕ} (l : List Level) (x : Level) (h : IsPast 2 g count l) → (Crc h.body h.check → ⊥) → x ≡ Recessive → BreaksWith l x CheckFault
-past_wrong l x h wrong recessive = (
-  record { frame = h.frame; body = h.body; check = h.check; part = h.part; ack = h.ack; is_part = h.is_part; wrong = wrong; whole = h.whole },
-  recessive,
-)
+pub past_wrong : {g : Gathered} {count : ℕ} (l : List Level) (x : Level) (h : IsPast 2 g count l) →
+    (Crc h.body h.check → ⊥) → x ≡ Recessive → BreaksWith l x CheckFault
+past_wrong l x h wrong recessive =
+    (record { past = past_is_past 2 l h; ack = h.ack; slot = refl; wrong = wrong }, recessive)
 
 -- the line but for its last levels
-pub past_but_for : {g : Gathered} {count : ℕ} (n m : ℕ) (l : List Level) (h : IsPast n g count l) → 3 ≤ n → n + m ≡ 10 → IsLineButFor m h.frame l
+pub past_but_for : {g : Gathered} {count : ℕ} (n m : ℕ) (l : List Level) (h : IsPast n g count l) → 3 ≤ n →
+    n + m ≡ 10 → IsLineButFor m h.frame l
 past_but_for n m l h three total = record {
   body = h.body;
   check = h.check;
@@ -161,8 +190,10 @@ past_but_for n m l h three total = record {
 }
 
 -- a level after the whole line
-pub past_trailing : {g : Gathered} {count : ℕ} (n : ℕ) (l : List Level) (x : Level) → IsPast n g count l → 10 ≤ n → BreaksWith l x (Trailing count)
-past_trailing n l x h many = let within = h.within in ((h.frame, past_but_for n 0 l h (omega (arith, many)) (omega (arith, many, within))), h.count)
+pub past_trailing : {g : Gathered} {count : ℕ} (n : ℕ) (l : List Level) (x : Level) → IsPast n g count l → 10 ≤ n →
+    BreaksWith l x (Trailing count)
+past_trailing n l x h many = let within = h.within in
+    ((h.frame, past_but_for n 0 l h (omega (arith, many)) (omega (arith, many, within))), h.count)
 
 -- no frame comes with another level than the sixth bit of EOF
 pub past_hides : {g : Gathered} {count : ℕ} (n : ℕ) (l : List Level) → IsPast n g count l → n ≢ 9 → ShowsFrame l None
@@ -175,12 +206,13 @@ past_hides n l h other = record {
       absurd (other (omega (arith, count, one)));
 }
 
--- with that bit it comes
-pub past_shows : {g : Gathered} {count : ℕ} (l : List Level) (h : IsPast 9 g count l) → ShowsFrame l (Some h.frame)
-past_shows l h = record {
-  some = past_but_for 9 1 l h (omega arith) refl;
+-- with that bit it comes, and it can be told to the end
+pub past_shows : {g : Gathered} {count : ℕ} (n m : ℕ) (l : List Level) (h : IsPast n g count l) → 3 ≤ n → n + m ≡ 10 →
+    ShowsFrameBut m l (Some h.frame)
+past_shows n m l h three total = record {
+  some = past_but_for n m l h three total;
   only = λ f but.
-      let P : List Level → Type 0 = λ m. Line f but.body but.check but.ack (m ++ but.rest) in
-      let on = line_at h.part (take 9 (tail h.ack)) but.rest h.is_part (subst P h.whole but.line) in
+      let P : List Level → Type 0 = λ k. Line f but.body but.check but.ack (k ++ but.rest) in
+      let on = line_at h.part (take n (tail h.ack)) but.rest h.is_part (subst P h.whole but.line) in
       ap Some on.frame;
 }

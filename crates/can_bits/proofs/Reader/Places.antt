@@ -3,8 +3,8 @@ use Rattle.std.proofs.Common.{◌≡◌, ◌≢◌, ◌<◌, ℕ, Bool, true, fa
 use Rattle.std.proofs.lemmas.Bool.{le-leb, lt-leb}
 use Rattle.std.proofs.lemmas.List.{length-reverse}
 use Rattle.can_bits.specs.declared.level.Level.{Level}
-use Rattle.can_bits.specs.declared.stage.Stage.{Stage}
-use Rattle.can_bits.specs.declared.stage.Stage.TheVariants.{Part, After}
+use Rattle.can_bits.specs.declared.frame_part.FramePart.{FramePart}
+use Rattle.can_bits.specs.declared.frame_part.FramePart.TheVariants.{Stuffed, FixedForm}
 use Rattle.can_bits.specs.declared.gathered.Gathered.{Gathered}
 use Rattle.can_bits.specs.declared.shift.Shift.{Shift}
 use Rattle.can_bits.specs.declared.shift_fault.ShiftFault.{ShiftFault}
@@ -13,7 +13,7 @@ use Rattle.can_bits.specs.Line.{tail}
 use Rattle.can_bits.specs.Places.{is_full, plain_count}
 use Rattle.can_bits.specs.Streaming.{IsReadable}
 use Rattle.can_bits.specs.Machine.PartSoFar.{BeginsPart}
-use Rattle.can_bits.specs.Machine.Stages.{IsInside, IsPast, ReadsAt}
+use Rattle.can_bits.specs.Machine.FrameParts.{IsInside, IsPast, ReadsAt}
 use Rattle.can_bits.specs.Shifts.{StandsBy, StandsFor}
 use Rattle.can_bits.proofs.Runs.{run}
 use Rattle.can_bits.proofs.Stuffs.{unstuffed_by, run-leads}
@@ -22,17 +22,20 @@ use Rattle.can_bits.proofs.DueLemmas.{broke_not_readable}
 use Rattle.can_bits.proofs.PlaceLemmas.{five-is, plain_count-is, part_late}
 
 -- a reader of levels that are right so far has no fault
-reads_by : (s : Shift) (w : Option ShiftFault) (l : List Level) → StandsBy w s l → IsReadable l → ReadsAt s.stage s l
+reads_by : (s : Shift) (w : Option ShiftFault) (l : List Level) → StandsBy w s l → IsReadable l →
+    ReadsAt s.frame_part s l
 reads_by s None l h right = h
 reads_by s (Some w) l h right = absurd (broke_not_readable s l w h right)
 
 -- in the stuffed part
-pub reads_inside : (s : Shift) (l : List Level) → s.stage ≡ Part → StandsFor s l → IsReadable l → IsInside s.gathered s.count s.last s.run l
-reads_inside s l at h right = subst (λ (e : Stage). ReadsAt e s l) at (reads_by s s.wrong l h right)
+pub reads_inside : (s : Shift) (l : List Level) → s.frame_part ≡ Stuffed → StandsFor s l → IsReadable l →
+    IsInside s.gathered s.count s.last s.run l
+reads_inside s l at h right = subst (λ (e : FramePart). ReadsAt e s l) at (reads_by s s.wrong l h right)
 
 -- past it
-pub reads_past : (s : Shift) (l : List Level) (n : ℕ) → s.stage ≡ After n → StandsFor s l → IsReadable l → IsPast n s.gathered s.count l
-reads_past s l n at h right = subst (λ (e : Stage). ReadsAt e s l) at (reads_by s s.wrong l h right)
+pub reads_past : (s : Shift) (l : List Level) (n : ℕ) → s.frame_part ≡ FixedForm n → StandsFor s l → IsReadable l →
+    IsPast n s.gathered s.count l
+reads_past s l n at h right = subst (λ (e : FramePart). ReadsAt e s l) at (reads_by s s.wrong l h right)
 
 -- how many levels have come that are no stuff bits
 pub inside_count : {l w : List Level} {last : Level} {n : ℕ} → BeginsPart l w last n → plain_count l ≡ length w
@@ -53,7 +56,8 @@ inside_not_full {l = l} h less =
     five-is (reverse l) ∙ lt-leb 5 (run (reverse l)) (omega (arith, inside_run h, less, most))
 
 -- past the stuffed part the next level is past RTR
-pub past_late : {g : Gathered} {came : ℕ} (ext : Bool) (n : ℕ) (l : List Level) → IsPast n g came l → rtr_place ext < plain_count l
+pub past_late : {g : Gathered} {came : ℕ} (ext : Bool) (n : ℕ) (l : List Level) → IsPast n g came l →
+    rtr_place ext < plain_count l
 past_late ext n l h =
     let P : List Level → Type 0 = λ m. rtr_place ext < plain_count m in
     subst P (sym h.whole) (part_late ext (take n (tail h.ack)) h.is_part)

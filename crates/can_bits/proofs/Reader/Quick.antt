@@ -5,14 +5,14 @@ use Rattle.can_frame.specs.Frame.{FrameValue}
 use Rattle.can_bits.specs.declared.level.Level.{Level}
 use Rattle.can_bits.specs.declared.level.Level.TheVariants.{Recessive}
 use Rattle.can_bits.specs.declared.line_fault.LineFault.TheVariants.{Stuff}
-use Rattle.can_bits.specs.declared.stage.Stage.{Stage}
-use Rattle.can_bits.specs.declared.stage.Stage.TheVariants.{Part, After}
+use Rattle.can_bits.specs.declared.frame_part.FramePart.{FramePart}
+use Rattle.can_bits.specs.declared.frame_part.FramePart.TheVariants.{Stuffed, FixedForm}
 use Rattle.can_bits.specs.declared.shift.Shift.{Shift}
 use Rattle.can_bits.specs.declared.shift_fault.ShiftFault.{ShiftFault}
 use Rattle.can_bits.specs.Line.{StuffedPart, tail}
 use Rattle.can_bits.specs.Streaming.{IsReadable, IsRightInside, IsOver, ShowsFrame}
 use Rattle.can_bits.specs.Acknowledging.{IsAckDue}
-use Rattle.can_bits.specs.Machine.Stages.{ReadsAt}
+use Rattle.can_bits.specs.Machine.FrameParts.{ReadsAt}
 use Rattle.can_bits.specs.Shifts.{StandsBy, StandsFor}
 use Rattle.can_bits.proofs.Readables.{readable_front, breaks_not_readable}
 use Rattle.can_bits.proofs.Reader.Past.{past_is_past}
@@ -21,28 +21,34 @@ use Rattle.can_bits.proofs.Reader.Told.{reads_readable, hides_early}
 use Rattle.can_bits.proofs.DueLemmas.{broke_not_readable, inside_now, past_now, inside_no_part, past_count, over_part}
 
 -- a reader with a fault isn't there
-pub right_no_fault : (s : Shift) (l : List Level) (x : Level) (w : ShiftFault) → s.wrong ≡ Some w → StandsFor s l → IsRightInside l x → ⊥
+pub right_no_fault : (s : Shift) (l : List Level) (x : Level) (w : ShiftFault) → s.wrong ≡ Some w → StandsFor s l →
+    IsRightInside l x → ⊥
 right_no_fault s l x w is h right =
-    broke_not_readable s l w (subst (λ (o : Option ShiftFault). StandsBy o s l) is h) (readable_front l (x ∷ []) right.right)
+    broke_not_readable s l w (subst (λ (o : Option ShiftFault). StandsBy o s l) is h)
+    (readable_front l (x ∷ []) right.right)
 
 -- nor one past the stuffed part
-pub right_not_past : (s : Shift) (l : List Level) (x : Level) (n : ℕ) → s.wrong ≡ None → s.stage ≡ After n → StandsFor s l → IsRightInside l x → ⊥
+pub right_not_past : (s : Shift) (l : List Level) (x : Level) (n : ℕ) → s.wrong ≡ None → s.frame_part ≡ FixedForm n →
+    StandsFor s l → IsRightInside l x → ⊥
 right_not_past s l x n none at h right = right.inside.before_end (past_is_past n l (past_now s l n none at h))
 
 -- nor one that waits for SOF
-pub right_not_first : (s : Shift) (l : List Level) (x : Level) → s.wrong ≡ None → s.stage ≡ Part → StandsFor s l → s.count ≡ 0 → IsRightInside l x → ⊥
+pub right_not_first : (s : Shift) (l : List Level) (x : Level) → s.wrong ≡ None → s.frame_part ≡ Stuffed →
+    StandsFor s l → s.count ≡ 0 → IsRightInside l x → ⊥
 right_not_first s l x none at h zero right =
     let count = (inside_now s l none at h).count in
     right.inside.begun (nil_from_length l (sym count ∙ zero))
 
 -- and a sixth equal level isn't right
-pub right_differs : (s : Shift) (l : List Level) (x : Level) → s.wrong ≡ None → s.stage ≡ Part → StandsFor s l → s.run ≡ 5 → x ≡ s.last → IsRightInside l x → ⊥
+pub right_differs : (s : Shift) (l : List Level) (x : Level) → s.wrong ≡ None → s.frame_part ≡ Stuffed →
+    StandsFor s l → s.run ≡ 5 → x ≡ s.last → IsRightInside l x → ⊥
 right_differs s l x none at h five same right =
     let inside = inside_now s l none at h in
     breaks_not_readable l x (Stuff (length l)) (wrong_sixth x (length l) inside.part refl five same) right.right
 
 -- where the reader is past SOF in the stuffed part, a level that it took there was right
-pub right_by : (s : Shift) (l : List Level) (x : Level) → s.wrong ≡ None → s.stage ≡ Part → s.count ≢ 0 → StandsFor s l → IsReadable (l ++ x ∷ []) → IsRightInside l x
+pub right_by : (s : Shift) (l : List Level) (x : Level) → s.wrong ≡ None → s.frame_part ≡ Stuffed → s.count ≢ 0 →
+    StandsFor s l → IsReadable (l ++ x ∷ []) → IsRightInside l x
 right_by s l x none at some h right =
     let inside = inside_now s l none at h in
     record {
@@ -51,17 +57,24 @@ right_by s l x none at some h right =
     }
 
 -- up to the last level of the stuffed part nothing has come after it
-early_none : {f : FrameValue} {b c : List Level} (stage : Stage) (s : Shift) (l part after : List Level) → (stage ≡ Part) ⊎ (stage ≡ After 0) → ReadsAt stage s l →
+early_none : {f : FrameValue} {b c : List Level} (frame_part : FramePart) (s : Shift) (l part after : List Level) →
+    (frame_part ≡ Stuffed) ⊎ (frame_part ≡ FixedForm 0) → ReadsAt frame_part s l →
     StuffedPart f b c part → l ≡ part ++ after → length after ≡ 0
-early_none stage s l part after (inl inside) h k whole = absurd (inside_no_part l part after (subst (λ (e : Stage). ReadsAt e s l) inside h) k whole)
-early_none stage s l part after (inr ended) h k whole = sym (past_count 0 l part after (subst (λ (e : Stage). ReadsAt e s l) ended h) k whole)
+early_none frame_part s l part after (inl inside) h k whole =
+    absurd (inside_no_part l part after (subst (λ (e : FramePart). ReadsAt e s l) inside h) k whole)
+early_none frame_part s l part after (inr ended) h k whole =
+    sym (past_count 0 l part after (subst (λ (e : FramePart). ReadsAt e s l) ended h) k whole)
 
 -- and there is nothing to tell
-pub early_tells : (stage : Stage) (s : Shift) (l : List Level) → (stage ≡ Part) ⊎ (stage ≡ After 0) → ReadsAt stage s l →
+pub early_tells : (frame_part : FramePart) (s : Shift) (l : List Level) →
+    (frame_part ≡ Stuffed) ⊎ (frame_part ≡ FixedForm 0) → ReadsAt frame_part s l →
     IsReadable l × ShowsFrame l None × (¬ IsOver l) × ¬ IsAckDue l
-early_tells stage s l early h = (
-  reads_readable stage s l h,
-  hides_early stage s l early h,
-  λ over. let none = early_none stage s l over.1.line.part (tail over.1.ack) early h over.1.line.is_part (over_part l over) in omega (arith, none),
-  λ due. let none = early_none stage s l due.part (Recessive ∷ []) early h due.is_part due.whole in omega (arith, none),
+early_tells frame_part s l early h = (
+  reads_readable frame_part s l h,
+  hides_early frame_part s l early h,
+  λ over. let none =
+      early_none frame_part s l over.1.line.part (tail over.1.ack) early h over.1.line.is_part (over_part l over) in
+      omega (arith, none),
+  λ due. let none = early_none frame_part s l due.part (Recessive ∷ []) early h due.is_part due.whole in
+      omega (arith, none),
 )

@@ -12,7 +12,7 @@ use Rattle.can_bits.specs.Spelling.{Spells}
 use Rattle.can_bits.specs.Streaming.{IsReadable, ShowsFrame}
 use Rattle.can_bits.specs.Machine.Gathering.{Gathers}
 use Rattle.can_bits.specs.Machine.PartSoFar.{EndsInRun, IsPartSoFar, BeginsPart}
-use Rattle.can_bits.specs.Machine.Stages.{IsInside, IsPast}
+use Rattle.can_bits.specs.Machine.FrameParts.{IsInside, IsPast}
 use Rattle.can_bits.specs.Machine.PartSoFar.EndsInRun.{longer, other}
 use Rattle.can_bits.proofs.Lists.{reverse-push, fronts, append-cancel}
 use Rattle.can_bits.proofs.Runs.{run, run-same, run-other, run_one_more, IsShort}
@@ -60,7 +60,8 @@ count_small {l = l} {w = w} h =
     let holds = holds_by h in
     let few = few_levels (reverse l) holds.short in
     let fits = h.fits in
-    let same : length (unstuffed (reverse l)) ≡ length w = sym (length-reverse (unstuffed (reverse l))) ∙ ap length (sym holds.plain_is) in
+    let same : length (unstuffed (reverse l)) ≡ length w =
+    sym (length-reverse (unstuffed (reverse l))) ∙ ap length (sym holds.plain_is) in
     omega (arith, few, same, fits, says_count-most w, length-reverse l)
 
 -- and until the whole line has come
@@ -69,21 +70,42 @@ past_small n l h =
     let part = part_to h.is_part in
     let few = few_levels (reverse h.part) part.short in
     let count = part.whole.count in
-    let same : length (unstuffed (reverse h.part)) ≡ length (plain (reverse h.part)) = sym (length-reverse (unstuffed (reverse h.part))) in
+    let same : length (unstuffed (reverse h.part)) ≡ length (plain (reverse h.part)) =
+    sym (length-reverse (unstuffed (reverse h.part))) in
     let after : length (take n (tail h.ack)) ≡ n = length-take-le n (tail h.ack) h.within in
     let within = h.within in
     let came = h.count in
-    omega (arith, few, same, count, says_count-most (plain (reverse h.part)), length-reverse h.part, ap length h.whole, length-append h.part (take n (tail h.ack)), after)
+    omega (
+      arith,
+      few,
+      same,
+      count,
+      says_count-most (plain (reverse h.part)),
+      length-reverse h.part,
+      ap length h.whole,
+      length-append h.part (take n (tail h.ack)),
+      after,
+    )
 
 -- a level more
-pub so_far_next : {l w : List Level} {last : Level} {n : ℕ} (v : List Level) (x : Level) (m : ℕ) → BeginsPart l w last n → (l ≡ [] → x ≡ Dominant) → (n ≡ 5 → x ≢ last) →
-    ((n ≢ 5) × (v ≡ w ++ x ∷ [])) ⊎ ((n ≡ 5) × (v ≡ w)) → (x ≡ last → n < 5 → m ≡ n + 1) → (x ≢ last → m ≡ 1) → IsPartSoFar (l ++ x ∷ []) v x m
+pub so_far_next : {l w : List Level} {last : Level} {n : ℕ} (v : List Level) (x : Level) (m : ℕ) →
+    BeginsPart l w last n → (l ≡ [] → x ≡ Dominant) → (n ≡ 5 → x ≢ last) →
+    ((n ≢ 5) × (v ≡ w ++ x ∷ [])) ⊎ ((n ≡ 5) × (v ≡ w)) → (x ≡ last → n < 5 → m ≡ n + 1) → (x ≢ last → m ≡ 1) →
+    IsPartSoFar (l ++ x ∷ []) v x m
 so_far_next {l = l} {w = w} {last = last} {n = n} v x m h first differs kept same fresh =
     let holds = holds_by h.so_far in
     let most = holds.most in
     let counted : ((x ≡ last) × (m ≡ n + 1)) ⊎ ((x ≢ last) × (m ≡ 1)) =
     elim (levels_equal x last) [
-      | inl like ↦ inl (like, same like (elim (cases_eq n 5) [ inl full ↦ absurd (differs full like) | inr less ↦ omega (arith, less) ]))
+      | inl like ↦
+          inl (
+            like,
+            same like (elim (cases_eq n 5) [
+              | inl full ↦ absurd (differs full like)
+              | inr less ↦
+                  omega (arith, less)
+            ]),
+          )
       | inr unlike ↦ inr (unlike, fresh unlike)
     ] in
     let kept_ : ((n < 5) × (v ≡ w ++ x ∷ [])) ⊎ ((n ≡ 5) × (v ≡ w)) =
@@ -104,7 +126,8 @@ so_far_next {l = l} {w = w} {last = last} {n = n} v x m h first differs kept sam
     so_far_by (subst P (sym (reverse-push l x)) next) ends
 
 -- the part is whole
-pub whole_here : {g : Gathered} {came : ℕ} {l w : List Level} {last : Level} {n : ℕ} → IsPartSoFar l w last n → n ≢ 5 → length w ≡ says_count w → Gathers g w → came ≡ length l →
+pub whole_here : {g : Gathered} {came : ℕ} {l w : List Level} {last : Level} {n : ℕ} → IsPartSoFar l w last n → n ≢ 5 →
+    length w ≡ says_count w → Gathers g w → came ≡ length l →
     IsPast 0 g came l
 whole_here {g = g} {l = l} {w = w} {last = last} {n = n} h less full gathers count =
     let holds = holds_by h in
@@ -129,36 +152,55 @@ whole_here {g = g} {l = l} {w = w} {last = last} {n = n} h less full gathers cou
     }
 
 -- the part goes on
-pub part_here : {g : Gathered} {came : ℕ} {l w : List Level} {last : Level} {n : ℕ} → IsPartSoFar l w last n → (n ≢ 5 → length w ≡ says_count w → ⊥) → Gathers g w → came ≡ length l →
+pub part_here : {g : Gathered} {came : ℕ} {l w : List Level} {last : Level} {n : ℕ} → IsPartSoFar l w last n →
+    (n ≢ 5 → length w ≡ says_count w → ⊥) → Gathers g w → came ≡ length l →
     IsInside g came last n l
 part_here {w = w} {n = n} h on gathers count = record {
   bits = w;
-  part = record { so_far = h; goes_on = λ full. elim (cases_eq n 5) [ inl five ↦ omega (arith, five) | inr less ↦ absurd (on less full) ] };
+  part = record {
+    so_far = h;
+    goes_on = λ full. elim (cases_eq n 5)
+        [ inl five ↦ omega (arith, five) | inr less ↦ absurd (on less full) ];
+  };
   gathers = gathers;
   count = count;
 }
 
 -- what goes on is right so far
-pub inside_readable : {g : Gathered} {came : ℕ} {last : Level} {n : ℕ} (l : List Level) → IsInside g came last n l → IsReadable l
+pub inside_readable : {g : Gathered} {came : ℕ} {last : Level} {n : ℕ} (l : List Level) → IsInside g came last n l →
+    IsReadable l
 inside_readable l h = open_readable l (inside_open l (goes_by h.part))
 
 -- in a stuffed part that goes on, more than ten levels are missing
-not_but_one : {f : FrameValue} {b c l w : List Level} {last : Level} {n : ℕ} (part rest after : List Level) → BeginsPart l w last n → StuffedPart f b c part →
+not_but_one : {f : FrameValue} {b c l w : List Level} {last : Level} {n : ℕ} (part rest after : List Level) →
+    BeginsPart l w last n → StuffedPart f b c part →
     l ++ rest ≡ part ++ after → length rest < length after → ⊥
 not_but_one {f = f} {b = b} {c = c} {l = l} part rest after h is_part whole short =
     elim (fronts l part rest after whole) [
       | inl within ↦
           let left : rest ≡ within.0 ++ after =
-          append-cancel l rest (within.0 ++ after) (whole ∙ ap (λ p. p ++ after) within.1 ∙ append_assoc l within.0 after) in
+          append-cancel l rest (within.0 ++ after)
+          (whole ∙ ap (λ p. p ++ after) within.1 ∙ append_assoc l within.0 after) in
           omega (arith, short, ap length left, length-append within.0 after)
-      | inr shorter ↦ not_past h (record { frame = f; body = b; check = c; part = part; rest = shorter.0; is_part = is_part; whole = shorter.1 })
+      | inr shorter ↦
+          not_past h (record {
+            frame = f;
+            body = b;
+            check = c;
+            part = part;
+            rest = shorter.0;
+            is_part = is_part;
+            whole = shorter.1;
+          })
     ]
 
 -- and no frame has come
-pub inside_hides : {g : Gathered} {came : ℕ} {last : Level} {n : ℕ} (l : List Level) → IsInside g came last n l → ShowsFrame l None
+pub inside_hides : {g : Gathered} {came : ℕ} {last : Level} {n : ℕ} (l : List Level) → IsInside g came last n l →
+    ShowsFrame l None
 inside_hides l h = record {
   some = tt;
   only = λ f but.
       let one = but.count in
-      absurd (not_but_one but.line.part but.rest (tail but.ack) h.part but.line.is_part but.line.whole (omega (arith, one)));
+      absurd (not_but_one but.line.part but.rest (tail but.ack) h.part but.line.is_part but.line.whole
+      (omega (arith, one)));
 }

@@ -1,18 +1,18 @@
 -- The levels of bytes.
-use Rattle.std.proofs.Common.{◌≡◌, ◌+◌, ◌*◌, ◌^◌, ◌<◌, ◌≤◌, ℕ, zero, suc, List, [], ◌∷◌, ◌++◌, length, take, drop, slice_range, refl, ap, sym, subst, ◌∙◌, arith, All}
+use Rattle.std.proofs.Common.{◌≡◌, ◌*◌, ◌^◌, ◌<◌, ℕ, zero, suc, List, [], ◌∷◌, ◌++◌, length, take, drop, refl, ap, sym, subst, ◌∙◌, arith, All}
 use Rattle.std.specs.List.{flat_map}
-use Rattle.std.proofs.lemmas.List.{length-append, length-take-le, length-drop, take-append-drop, nil_from_length, append-nil}
-use Rattle.std.proofs.lemmas.Grind.{flat_map-append}
-use Rattle.std.proofs.lemmas.List.Elements.{All-nil, All-cons, All-append}
+use Rattle.std.proofs.lemmas.List.{length-append, length-take-le, length-drop, take-append-drop, nil_from_length}
+use Rattle.std.proofs.lemmas.List.Elements.{All-nil, All-cons}
 use Rattle.can_bits.specs.declared.level.Level.{Level}
 use Rattle.can_bits.specs.Digits.{bits, value}
 use Rattle.can_bits.proofs.Values.{length-bits, bits-value, bits-injective, value-lt}
-use Rattle.can_bits.proofs.Lists.{append-split, length_range, take-range}
+use Rattle.can_bits.proofs.Lists.{append-split}
 
 -- eight levels a byte
 pub length_bytes : (bytes : List ℕ) → length (flat_map (bits 8) bytes) ≡ 8 * length bytes
 length_bytes [] = refl
-length_bytes (byte ∷ bytes) = omega (arith, length-append (bits 8 byte) (flat_map (bits 8) bytes), length-bits 8 byte, length_bytes bytes)
+length_bytes (byte ∷ bytes) =
+    omega (arith, length-append (bits 8 byte) (flat_map (bits 8) bytes), length-bits 8 byte, length_bytes bytes)
 
 -- as many bytes with the same levels are the same bytes
 pub bytes-injective : (a b : List ℕ) → All (λ byte. byte < 256) a → All (λ byte. byte < 256) b → length a ≡ length b →
@@ -21,10 +21,13 @@ bytes-injective [] [] ha hb n h = refl
 bytes-injective [] (y ∷ b) ha hb n h = absurd (omega arith)
 bytes-injective (x ∷ a) [] ha hb n h = absurd (omega arith)
 bytes-injective (x ∷ a) (y ∷ b) ha hb n h =
-    let (first, rest) = append-split (bits 8 x) (flat_map (bits 8) a) (bits 8 y) (flat_map (bits 8) b) (length-bits 8 x ∙ sym (length-bits 8 y)) h in
+    let (first, rest) =
+    append-split (bits 8 x) (flat_map (bits 8) a) (bits 8 y) (flat_map (bits 8) b)
+    (length-bits 8 x ∙ sym (length-bits 8 y)) h in
     let same : x ≡ y = bits-injective 8 x y (ha 0 0 (omega arith)) (hb 0 0 (omega arith)) first in
     let others : a ≡ b =
-    bytes-injective a b (λ k d below. ha (suc k) d (omega arith)) (λ k d below. hb (suc k) d (omega arith)) (omega arith) rest in
+    bytes-injective a b (λ k d below. ha (suc k) d (omega arith)) (λ k d below. hb (suc k) d (omega arith))
+    (omega arith) rest in
     cc
 
 -- these bytes are written by these levels
@@ -34,7 +37,8 @@ pub record Writes (bytes : List ℕ) (l : List Level) : Type 0 where
 
 -- levels in groups of eight are those of bytes
 pub bytes_of : (n : ℕ) (l : List Level) → length l ≡ 8 * n → (bytes : List ℕ) × (length bytes ≡ n) × Writes bytes l
-bytes_of zero l h = ([], refl, record { levels = sym (nil_from_length l (omega arith)); small = All-nil (λ byte. byte < 256) })
+bytes_of zero l h =
+    ([], refl, record { levels = sym (nil_from_length l (omega arith)); small = All-nil (λ byte. byte < 256) })
 bytes_of (suc n) l h =
     let first = take 8 l in
     let count : length first ≡ 8 = length-take-le 8 l (omega arith) in
@@ -43,24 +47,8 @@ bytes_of (suc n) l h =
       value first ∷ bytes,
       omega (arith, many),
       record {
-        levels = ap (λ a. a ++ flat_map (bits 8) bytes) (bits-value 8 first count) ∙ ap (λ b. first ++ b) rest.levels ∙ take-append-drop 8 l;
+        levels = ap (λ a. a ++ flat_map (bits 8) bytes) (bits-value 8 first count) ∙ ap (λ b. first ++ b) rest.levels
+            ∙ take-append-drop 8 l;
         small = All-cons (λ byte. byte < 256) (value first) bytes small rest.small;
       },
     )
-
--- a group of eight levels more is a byte more
-pub Writes-more : (bytes : List ℕ) (l : List Level) (k byte : ℕ) → 8 * k + 8 ≤ length l → Writes bytes (take (8 * k) l) →
-    byte ≡ value (slice_range l (8 * k) (8 * k + 8)) → Writes (bytes ++ byte ∷ []) (take (8 * (k + 1)) l)
-Writes-more bytes l k byte h written e =
-    let group : List Level = slice_range l (8 * k) (8 * k + 8) in
-    let count : length group ≡ 8 = length_range l (8 * k) (8 * k + 8) (omega arith) h ∙ omega arith in
-    let small : value group < 256 = subst (λ n. value group < 2 ^ n) count (value-lt group) in
-    let digits : bits 8 byte ≡ group = ap (λ n. bits 8 n) e ∙ bits-value 8 group count in
-    let place : 8 * k + 8 ≡ 8 * (k + 1) = omega arith in
-    let one : All (λ b. b < 256) (byte ∷ []) = All-cons (λ b. b < 256) byte [] (omega (arith, e)) (All-nil (λ b. b < 256)) in
-    record {
-      levels = flat_map-append (bits 8) bytes (byte ∷ []) ∙ ap (λ t. t ++ (bits 8 byte ++ [])) written.levels
-          ∙ ap (λ t. take (8 * k) l ++ t) (append-nil (bits 8 byte) ∙ digits) ∙ sym (take-range l (8 * k) (8 * k + 8) (omega arith))
-          ∙ ap (λ n. take n l) place;
-      small = All-append (λ b. b < 256) bytes (byte ∷ []) written.small one;
-    }

@@ -37,7 +37,8 @@ four_is w p h =
     let split : drop p w ≡ four ++ drop (p + 4) w = drop_split w p (p + 4) (omega arith) in
     let count : length four ≡ 4 = length_range w p (p + 4) (omega arith) h ∙ omega arith in
     let here : four_from w p ≡ four_from (drop p w) 0 = four-same w (drop p w) p 0 (λ k below.
-    let place : 0 + k ≡ k = omega arith in sym (get_or-drop p w k Dominant) ∙ ap (λ q. level_at (drop p w) q) (sym place)) in
+    let place : 0 + k ≡ k = omega arith in
+    sym (get_or-drop p w k Dominant) ∙ ap (λ q. level_at (drop p w) q) (sym place)) in
     here ∙ ap (λ l. four_from l 0) split ∙ four-value four (drop (p + 4) w) count
 
 -- four levels of a list are the digits of the number that they write
@@ -45,12 +46,19 @@ four_levels : (w : List Level) (p : ℕ) → p + 4 ≤ length w → drop p w ≡
 four_levels w p h =
     let four : List Level = slice_range w p (p + 4) in
     let count : length four ≡ 4 = length_range w p (p + 4) (omega arith) h ∙ omega arith in
-    drop_split w p (p + 4) (omega arith) ∙ ap (λ l. l ++ drop (p + 4) w) (sym (ap (λ n. bits 4 n) (four_is w p h) ∙ bits-value 4 four count))
+    drop_split w p (p + 4) (omega arith)
+    ∙ ap (λ l. l ++ drop (p + 4) w) (sym (ap (λ n. bits 4 n) (four_is w p h) ∙ bits-value 4 four count))
 
 -- four digits write a number below 16
 pub four-lt : (w : List Level) (p : ℕ) → four_from w p < 16
 four-lt w p =
-    omega (arith, digit-lt (level_at w p), digit-lt (level_at w (p + 1)), digit-lt (level_at w (p + 2)), digit-lt (level_at w (p + 3)))
+    omega (
+      arith,
+      digit-lt (level_at w p),
+      digit-lt (level_at w (p + 1)),
+      digit-lt (level_at w (p + 2)),
+      digit-lt (level_at w (p + 3)),
+    )
 
 -- the two parts of an extended identifier
 id_parts : (i j : List Level) → length i ≡ 11 → length j ≡ 18 →
@@ -60,11 +68,13 @@ id_parts i j hi hj =
     let joined : value (i ++ j) ≡ id = value-append i j ∙ ap (λ k. value i * 2 ^ k + value j) hj in
     let count : length (i ++ j) ≡ 29 = omega (arith, length-append i j) in
     let all : bits 29 id ≡ i ++ j = ap (λ n. bits 29 n) (sym joined) ∙ bits-value 29 (i ++ j) count in
-    append-split (bits 11 (id / 2 ^ 18)) (bits 18 id) i j (length-bits 11 (id / 2 ^ 18) ∙ sym hi) (sym (bits-split 11 18 id) ∙ all)
+    append-split (bits 11 (id / 2 ^ 18)) (bits 18 id) i j (length-bits 11 (id / 2 ^ 18) ∙ sym hi)
+    (sym (bits-split 11 18 id) ∙ all)
 
 -- the levels before the DLC, by the format
 head_read : (e : Bool) (w : List Level) → level_at w 0 ≡ Dominant → says_ext w ≡ e → dlc_place e ≤ length w →
-    w ≡ head_bits e (id_by e w) (is_recessive (level_at w (rtr_place e))) (level_at w 12) (level_at w 33) (level_at w (dlc_place e - 1))
+    w ≡ head_bits e (id_by e w) (is_recessive (level_at w (rtr_place e))) (level_at w 12) (level_at w 33)
+    (level_at w (dlc_place e - 1))
     ++ drop (dlc_place e) w
 head_read false w begins ext h =
     let i : List Level = slice_range w 1 12 in
@@ -79,12 +89,14 @@ head_read false w begins ext h =
     let d14 : drop 14 w ≡ level_at w 14 ∷ drop 15 w = drop_more w 14 Dominant (omega arith) in
     let rest : drop 12 w ≡ after ++ drop 15 w = cc in
     let low : drop 1 w ≡ bits 11 (value i) ++ (after ++ drop 15 w) = cc in
-    d0 ∙ ap (λ x. x ∷ drop 1 w) begins ∙ ap (λ l. Dominant ∷ l) (low ∙ sym (append_assoc (bits 11 (value i)) after (drop 15 w)))
+    d0 ∙ ap (λ x. x ∷ drop 1 w) begins
+    ∙ ap (λ l. Dominant ∷ l) (low ∙ sym (append_assoc (bits 11 (value i)) after (drop 15 w)))
 head_read true w begins ext h =
     let i : List Level = slice_range w 1 12 in
     let j : List Level = slice_range w 14 32 in
     let id : ℕ = value i * 2 ^ 18 + value j in
-    let (high, low) = id_parts i j (length_range w 1 12 (omega arith) (omega arith)) (length_range w 14 32 (omega arith) (omega arith)) in
+    let (high, low) =
+    id_parts i j (length_range w 1 12 (omega arith) (omega arith)) (length_range w 14 32 (omega arith) (omega arith)) in
     let ide : level_at w 13 ≡ Recessive = recessive-is (level_at w 13) ext in
     let rtr = level-recessive (level_at w 32) in
     let last : List Level = level_of (is_recessive (level_at w 32)) ∷ level_at w 33 ∷ level_at w 34 ∷ [] in
@@ -103,7 +115,8 @@ head_read true w begins ext h =
     let more : drop 12 w ≡ (level_at w 12 ∷ Recessive ∷ middle) ++ drop 35 w = cc in
     let all : drop 1 w ≡ bits 11 (id / 2 ^ 18) ++ ((level_at w 12 ∷ Recessive ∷ middle) ++ drop 35 w) = cc in
     d0 ∙ ap (λ x. x ∷ drop 1 w) begins
-    ∙ ap (λ l. Dominant ∷ l) (all ∙ sym (append_assoc (bits 11 (id / 2 ^ 18)) (level_at w 12 ∷ Recessive ∷ middle) (drop 35 w)))
+    ∙ ap (λ l. Dominant ∷ l) (all ∙ sym (append_assoc (bits 11 (id / 2 ^ 18)) (level_at w 12 ∷ Recessive ∷ middle)
+    (drop 35 w)))
 
 -- the identifier is one of its format
 id_by-lt : (e : Bool) (w : List Level) → dlc_place e ≤ length w → id_by e w < id_limit e
@@ -113,8 +126,10 @@ id_by-lt false w h =
 id_by-lt true w h =
     let count = length_range w 1 12 (omega arith) (omega arith) in
     let more = length_range w 14 32 (omega arith) (omega arith) in
-    let high : value (slice_range w 1 12) < 2 ^ 11 = subst (λ n. value (slice_range w 1 12) < 2 ^ n) count (value-lt (slice_range w 1 12)) in
-    let low : value (slice_range w 14 32) < 2 ^ 18 = subst (λ n. value (slice_range w 14 32) < 2 ^ n) more (value-lt (slice_range w 14 32)) in
+    let high : value (slice_range w 1 12) < 2 ^ 11 =
+    subst (λ n. value (slice_range w 1 12) < 2 ^ n) count (value-lt (slice_range w 1 12)) in
+    let low : value (slice_range w 14 32) < 2 ^ 18 =
+    subst (λ n. value (slice_range w 14 32) < 2 ^ n) more (value-lt (slice_range w 14 32)) in
     omega arith
 
 -- the identifier of a whole body is one of its format
@@ -126,7 +141,8 @@ abbrev pub said_frame : List Level → List ℕ → FrameValue
 said_frame w bytes = record { ext = says_ext w; id = says_id w; rtr = says_rtr w; dlc = says_dlc w; bytes = bytes }
 
 -- a whole body spells the frame of what it says
-pub spelled : (w : List Level) (bytes : List ℕ) → IsWhole w → length bytes ≡ says_bytes w → Writes bytes (data_levels w) →
+pub spelled : (w : List Level) (bytes : List ℕ) → IsWhole w → length bytes ≡ says_bytes w →
+    Writes bytes (data_levels w) →
     (b c : List Level) × Spells (said_frame w bytes) b c w
 spelled w bytes h many written =
     let e : Bool = says_ext w in
@@ -170,22 +186,26 @@ head-id : (e : Bool) (x y : ℕ) (r s : Bool) (a b c k l m : Level) → x < id_l
     head_bits e x r a b c ≡ head_bits e y s k l m → x ≡ y
 head-id false x y r s a b c k l m hx hy h =
     let low : bits 11 x ++ level_of r ∷ Dominant ∷ c ∷ [] ≡ bits 11 y ++ level_of s ∷ Dominant ∷ m ∷ [] = cc in
-    let (same, _) = append-split (bits 11 x) (level_of r ∷ Dominant ∷ c ∷ []) (bits 11 y) (level_of s ∷ Dominant ∷ m ∷ [])
+    let (same, _) =
+    append-split (bits 11 x) (level_of r ∷ Dominant ∷ c ∷ []) (bits 11 y) (level_of s ∷ Dominant ∷ m ∷ [])
     (length-bits 11 x ∙ sym (length-bits 11 y)) low in
     bits-injective 11 x y hx hy same
 head-id true x y r s a b c k l m hx hy h =
     let u : List Level = bits 18 x ++ level_of r ∷ b ∷ c ∷ [] in
     let v : List Level = bits 18 y ++ level_of s ∷ l ∷ m ∷ [] in
     let all : bits 11 (x / 2 ^ 18) ++ a ∷ Recessive ∷ u ≡ bits 11 (y / 2 ^ 18) ++ k ∷ Recessive ∷ v = cc in
-    let (high, rest) = append-split (bits 11 (x / 2 ^ 18)) (a ∷ Recessive ∷ u) (bits 11 (y / 2 ^ 18)) (k ∷ Recessive ∷ v)
+    let (high, rest) =
+    append-split (bits 11 (x / 2 ^ 18)) (a ∷ Recessive ∷ u) (bits 11 (y / 2 ^ 18)) (k ∷ Recessive ∷ v)
     (length-bits 11 (x / 2 ^ 18) ∙ sym (length-bits 11 (y / 2 ^ 18))) all in
     let part : u ≡ v = cc in
     let (low, _) = append-split (bits 18 x) (level_of r ∷ b ∷ c ∷ []) (bits 18 y) (level_of s ∷ l ∷ m ∷ [])
     (length-bits 18 x ∙ sym (length-bits 18 y)) part in
-    bits-injective 29 x y hx hy (bits-split 11 18 x ∙ ap (λ t. t ++ bits 18 x) high ∙ ap (λ t. bits 11 (y / 2 ^ 18) ++ t) low ∙ sym (bits-split 11 18 y))
+    bits-injective 29 x y hx hy (bits-split 11 18 x ∙ ap (λ t. t ++ bits 18 x) high
+    ∙ ap (λ t. bits 11 (y / 2 ^ 18) ++ t) low ∙ sym (bits-split 11 18 y))
 
 -- a frame is what its five fields say
-frame-same : (f g : FrameValue) → f.ext ≡ g.ext → f.id ≡ g.id → f.rtr ≡ g.rtr → f.dlc ≡ g.dlc → f.bytes ≡ g.bytes → f ≡ g
+frame-same : (f g : FrameValue) → f.ext ≡ g.ext → f.id ≡ g.id → f.rtr ≡ g.rtr → f.dlc ≡ g.dlc → f.bytes ≡ g.bytes →
+    f ≡ g
 frame-same f g ext id rtr dlc bytes =
     let all : FrameValue = record { ext = f.ext; id = f.id; rtr = f.rtr; dlc = f.dlc; bytes = f.bytes } in
     let others : FrameValue = record { ext = g.ext; id = g.id; rtr = g.rtr; dlc = g.dlc; bytes = g.bytes } in
@@ -199,21 +219,26 @@ body-same f g b hf hg (a, l, m, e) (a', l', m', e') ext rtr dlc =
     let gh : List Level = head_bits g.ext g.id g.rtr a' l' m' in
     let fd : List Level = flat_map (bits 8) f.bytes in
     let gd : List Level = flat_map (bits 8) g.bytes in
-    let heads : length fh ≡ length gh = length_head f.ext f.id f.rtr a l m ∙ ap dlc_place ext ∙ sym (length_head g.ext g.id g.rtr a' l' m') in
+    let heads : length fh ≡ length gh =
+    length_head f.ext f.id f.rtr a l m ∙ ap dlc_place ext ∙ sym (length_head g.ext g.id g.rtr a' l' m') in
     let (head, rest) = append-split fh (bits 4 f.dlc ++ fd) gh (bits 4 g.dlc ++ gd) heads (sym e ∙ e') in
-    let (_, filled) = append-split (bits 4 f.dlc) fd (bits 4 g.dlc) gd (length-bits 4 f.dlc ∙ sym (length-bits 4 g.dlc)) rest in
+    let (_, filled) =
+    append-split (bits 4 f.dlc) fd (bits 4 g.dlc) gd (length-bits 4 f.dlc ∙ sym (length-bits 4 g.dlc)) rest in
     let counts : length f.bytes ≡ length g.bytes =
     hf.count ∙ ap (λ r. data_count r f.dlc) rtr ∙ ap (λ n. data_count g.rtr n) dlc ∙ sym hg.count in
     let limit : g.id < id_limit f.ext = subst (λ x. g.id < id_limit x) (sym ext) hg.id in
     let id : f.id ≡ g.id =
-    head-id f.ext f.id g.id f.rtr g.rtr a l m a' l' m' hf.id limit (head ∙ ap (λ x. head_bits x g.id g.rtr a' l' m') (sym ext)) in
+    head-id f.ext f.id g.id f.rtr g.rtr a l m a' l' m' hf.id limit
+    (head ∙ ap (λ x. head_bits x g.id g.rtr a' l' m') (sym ext)) in
     frame-same f g ext id rtr dlc (bytes-injective f.bytes g.bytes hf.bytes hg.bytes counts filled)
 
 -- levels spell one frame, with one body and one CRC sequence
-pub Spells-unique : (f g : FrameValue) (b c d e w : List Level) → Spells f b c w → Spells g d e w → (f ≡ g) × (b ≡ d) × (c ≡ e)
+pub Spells-unique : (f g : FrameValue) (b c d e w : List Level) → Spells f b c w → Spells g d e w →
+    (f ≡ g) × (b ≡ d) × (c ≡ e)
 Spells-unique f g b c d e w hf hg =
     let both : b ++ c ≡ d ++ e = sym hf.whole ∙ hg.whole in
-    let count : length b ≡ length d = omega (arith, ap length both, length-append b c, length-append d e, hf.check, hg.check) in
+    let count : length b ≡ length d =
+    omega (arith, ap length both, length-append b c, length-append d e, hf.check, hg.check) in
     let (bodies, checks) = append-split b c d e count both in
     let ft = says_spelled f b c w hf in
     let gt = says_spelled g d e w hg in

@@ -1,20 +1,17 @@
 -- The stuffed part is taken apart one level after the other.
-use Rattle.std.proofs.Common.{Bool, true, false, ◌*◌, ◌≡◌, ◌≢◌, ◌+◌, ◌<◌, ◌≤◌, ◌⊎◌, inl, inr, ℕ, List, [], ◌∷◌, ◌++◌, length, reverse, take, drop, get_or, suc, refl, ap, sym, subst, ◌∙◌, arith}
+use Rattle.std.proofs.Common.{Bool, true, false, ◌*◌, ◌≡◌, ◌≢◌, ◌+◌, ◌<◌, ◌≤◌, ◌⊎◌, inl, inr, ℕ, List, [], ◌∷◌, ◌++◌, length, reverse, refl, ap, sym, subst, ◌∙◌, arith}
 use Rattle.std.proofs.lemmas.Bool.{cases_lt}
-use Rattle.std.proofs.lemmas.List.{reverse-reverse, length-take-le, length-reverse, take_more}
-use Rattle.can_frame.specs.Frame.{FrameValue, data_count}
+use Rattle.std.proofs.lemmas.List.{reverse-reverse}
+use Rattle.can_frame.specs.Frame.{data_count}
 use Rattle.can_bits.specs.declared.level.Level.{Level}
-use Rattle.can_bits.specs.declared.level.Level.TheVariants.{Dominant, Recessive}
-use Rattle.can_bits.specs.Fields.{level_at, says_ext, says_rtr, says_dlc, dlc_place, says_count, IsWhole}
-use Rattle.can_bits.specs.Spelling.{Spells}
-use Rattle.can_bits.specs.Line.{StuffedPart}
-use Rattle.can_bits.specs.Reading.{BreaksAfter, IsInPart, IsOpen}
-use Rattle.can_bits.proofs.Lists.{reverse-cons, reverse-push, cases_list, split_at}
+use Rattle.can_bits.specs.declared.level.Level.TheVariants.{Dominant}
+use Rattle.can_bits.specs.Fields.{level_at, says_ext, says_rtr, says_dlc, dlc_place, says_count}
+use Rattle.can_bits.proofs.Lists.{reverse-cons, cases_list}
 use Rattle.can_bits.proofs.Runs.{run, IsShort}
 use Rattle.can_bits.proofs.Stuffs.{unstuffed, unstuffed-kept, unstuffed-dropped, Leads, run-leads, lead-same, lead-other}
-use Rattle.can_bits.proofs.Parts.{plain, part_of}
-use Rattle.can_bits.proofs.Going.{IsInside, inside_open}
-use Rattle.can_bits.proofs.Ending.{inside_not_past, no_sixth, no_start, plain-first}
+use Rattle.can_bits.proofs.Parts.{plain}
+use Rattle.can_bits.proofs.Going.{IsInside}
+use Rattle.can_bits.proofs.Ending.{plain-first}
 use Rattle.can_bits.proofs.FieldLemmas.{says_count-next}
 
 -- after some levels: their stuffed part so far without its stuff bits, and the last run counted
@@ -32,7 +29,8 @@ pub record IsBefore (w : List Level) (n : ℕ) : Type 0 where
 
 -- before the first level
 pub Holds-nothing : (last : Level) → Holds [] [] last 0
-Holds-nothing last = record { short = tt; begins = refl; fits = omega arith; plain_is = refl; leads = refl; most = omega arith }
+Holds-nothing last =
+    record { short = tt; begins = refl; fits = omega arith; plain_is = refl; leads = refl; most = omega arith }
 
 pub IsBefore-nothing : IsBefore [] 0
 IsBefore-nothing = record { goes_on = λ e. absurd (omega (arith, e)) }
@@ -46,7 +44,9 @@ inside_of past w last n h before =
       short = h.short;
       begins = subst P h.plain_is h.begins;
       fits = subst Q h.plain_is h.fits;
-      goes_on = λ e. subst count (sym (run-leads last n past h.leads)) (before.goes_on (ap length h.plain_is ∙ e ∙ ap says_count (sym h.plain_is)));
+      goes_on =
+          λ e. subst count (sym (run-leads last n past h.leads))
+          (before.goes_on (ap length h.plain_is ∙ e ∙ ap says_count (sym h.plain_is)));
     }
 
 -- the run after a level like the last one, or another
@@ -65,12 +65,14 @@ nothing_before past e =
     ]
 
 -- the first level that is kept is SOF
-first_level : (past w : List Level) (last x : Level) (n : ℕ) → Holds past w last n → (past ≡ [] → x ≡ Dominant) → level_at (w ++ x ∷ []) 0 ≡ Dominant
+first_level : (past w : List Level) (last x : Level) (n : ℕ) → Holds past w last n → (past ≡ [] → x ≡ Dominant) →
+    level_at (w ++ x ∷ []) 0 ≡ Dominant
 first_level past [] last x n h first = first (nothing_before past h.plain_is)
 first_level past (y ∷ w) last x n h first = h.begins
 
 -- fewer than five equal levels: the next one is kept
-pub Holds-kept : (past w : List Level) (last x : Level) (n m : ℕ) → Holds past w last n → IsBefore w n → n < 5 → run (x ∷ past) ≡ m → m ≤ n + 1 →
+pub Holds-kept : (past w : List Level) (last x : Level) (n m : ℕ) → Holds past w last n → IsBefore w n → n < 5 →
+    run (x ∷ past) ≡ m → m ≤ n + 1 →
     (past ≡ [] → x ≡ Dominant) → Holds (x ∷ past) (w ++ x ∷ []) x m
 Holds-kept past w last x n m h before few counted most first =
     let open_run : run past < 5 = rw (run-leads last n past h.leads) few in
@@ -83,7 +85,9 @@ Holds-kept past w last x n m h before few counted most first =
       short = (omega arith, h.short);
       begins = first_level past w last x n h first;
       fits = says_count-next w x room;
-      plain_is = ap (λ l. l ++ x ∷ []) h.plain_is ∙ sym (reverse-cons x (unstuffed past)) ∙ ap reverse (sym (unstuffed-kept x past open_run));
+      plain_is =
+          ap (λ l. l ++ x ∷ []) h.plain_is ∙ sym (reverse-cons x (unstuffed past))
+          ∙ ap reverse (sym (unstuffed-kept x past open_run));
       leads = (refl, sym counted);
       most = omega arith;
     }
@@ -102,63 +106,11 @@ Holds-dropped past w last x h other =
       most = omega arith;
     }
 
--- the part is whole
-pub part_here : (levels w : List Level) (at : ℕ) (last : Level) (n : ℕ) → Holds (reverse (take at levels)) w last n → n < 5 → length w ≡ says_count w →
-    IsWhole w × ((f : FrameValue) (b c : List Level) → Spells f b c w → StuffedPart f b c (take at levels))
-part_here levels w at last n h few count =
-    let past = reverse (take at levels) in
-    let closed : run past < 5 = rw (run-leads last n past h.leads) few in (
-      record { begins = h.begins; count = count },
-      λ f b c spells.
-          let P : List Level → Type 0 = λ l. Spells f b c l in
-          let Q : List Level → Type 0 = λ l. StuffedPart f b c l in
-          subst Q (reverse-reverse (take at levels)) (part_of past h.short closed (subst P h.plain_is spells)),
-    )
-
 -- the part goes on: a level more that isn't wrong
 pub before_here : (w : List Level) (n : ℕ) → (n < 5 → length w ≡ says_count w → ⊥) → IsBefore w n
 before_here w n h = record {
   goes_on = λ e. elim (cases_lt n 5) [ inl few ↦ absurd (h few e) | inr many ↦ many ];
 }
-
--- a sixth equal level
-pub breaks_stuff : (levels w : List Level) (at : ℕ) (last : Level) (n : ℕ) → n ≡ 5 → Holds (reverse (take at levels)) w last n → IsBefore w n →
-    at < length levels → get_or levels at Dominant ≡ last →
-    (front : List Level) × BreaksAfter front levels × IsInPart front × (length front ≡ at)
-breaks_stuff levels w at last n full h before within same =
-    let front = take at levels in
-    let inside = inside_of (reverse front) w last n h before in
-    let split : levels ≡ front ++ last ∷ drop (suc at) levels =
-    split_at levels at Dominant within ∙ ap (λ x. front ++ x ∷ drop (suc at) levels) same in
-    let six : 6 ≤ run (last ∷ reverse front) = omega (arith, run_same (reverse front) w last n h) in
-    let five = run-leads last n (reverse front) h.leads in (
-      front,
-      record { good = inside_open front inside; wrong = last; rest = drop (suc at) levels; whole = split; none = no_sixth front last inside six },
-      record {
-        begun = λ none. let wrong = sym (ap (λ l. run (reverse l)) none) ∙ five in absurd (omega arith);
-        before_end = inside_not_past front inside;
-      },
-      length-take-le at levels (omega arith),
-    )
-
--- a recessive SOF
-pub breaks_start : (rest : List Level) → (front : List Level) × BreaksAfter front (Recessive ∷ rest) × (¬ IsInPart front) × (length front ≡ 0)
-breaks_start rest = (
-  [],
-  record {
-    good = inside_open [] (inside_of [] [] Dominant 0 (Holds-nothing Dominant) IsBefore-nothing);
-    wrong = Recessive;
-    rest = rest;
-    whole = refl;
-    none = no_start [];
-  },
-  (λ inside. inside.begun refl),
-  refl,
-)
-
--- the levels end within the part
-pub open_here : (levels w : List Level) (last : Level) (n : ℕ) → Holds (reverse levels) w last n → IsBefore w n → IsOpen levels
-open_here levels w last n h before = inside_open levels (inside_of (reverse levels) w last n h before)
 
 -- a body and its CRC sequence have 118 levels at most
 says_most : (ext rtr : Bool) (n : ℕ) → dlc_place ext + 19 + 8 * data_count rtr n ≤ 118
@@ -171,7 +123,8 @@ pub says_count-most : (w : List Level) → says_count w ≤ 118
 says_count-most w = says_most (says_ext w) (says_rtr w) (says_dlc w)
 
 -- while the part goes on there is room for its bits
-pub room_left : (past w : List Level) (last : Level) (n : ℕ) → Holds past w last n → IsBefore w n → n < 5 → length w < 118
+pub room_left : (past w : List Level) (last : Level) (n : ℕ) → Holds past w last n → IsBefore w n → n < 5 →
+    length w < 118
 room_left past w last n h before few =
     let fits = h.fits in
     elim (cases_lt (length w) (says_count w)) [
@@ -183,19 +136,11 @@ room_left past w last n h before few =
 pub run_other : (past w : List Level) (last x : Level) (n : ℕ) → Holds past w last n → x ≢ last → run (x ∷ past) ≡ 1
 run_other past w last x n h other = lead-other last x n past h.leads other
 
--- a recessive SOF, at place 0
-pub breaks_start_at : (levels : List Level) (at : ℕ) → at < length levels → at ≡ 0 → get_or levels at Dominant ≡ Recessive →
-    (front : List Level) × BreaksAfter front levels × (¬ IsInPart front) × (length front ≡ 0)
-breaks_start_at [] at within none recessive = absurd (omega arith)
-breaks_start_at (x ∷ levels) at within none recessive =
-    let same : x ≡ Recessive = sym (ap (λ n. get_or (x ∷ levels) n Dominant) none) ∙ recessive in
-    let (front, broke, outside, count) = breaks_start levels in
-    let P : Level → Type 0 = λ y. BreaksAfter front (y ∷ levels) in
-    (front, subst P (sym same) broke, outside, count)
-
 -- one level more, kept or left out, like the last one or another
-pub Holds-next : (past w v : List Level) (last x : Level) (n m : ℕ) → Holds past w last n → IsBefore w n → (past ≡ [] → x ≡ Dominant) →
-    ((n < 5) × (v ≡ w ++ x ∷ [])) ⊎ ((n ≡ 5) × (v ≡ w)) → ((x ≡ last) × (m ≡ n + 1)) ⊎ ((x ≢ last) × (m ≡ 1)) → (n ≡ 5 → x ≢ last) →
+pub Holds-next : (past w v : List Level) (last x : Level) (n m : ℕ) → Holds past w last n → IsBefore w n →
+    (past ≡ [] → x ≡ Dominant) →
+    ((n < 5) × (v ≡ w ++ x ∷ [])) ⊎ ((n ≡ 5) × (v ≡ w)) → ((x ≡ last) × (m ≡ n + 1)) ⊎ ((x ≢ last) × (m ≡ 1)) →
+    (n ≡ 5 → x ≢ last) →
     Holds (x ∷ past) v x m
 Holds-next past w v last x n m h before first (inl kept) (inl like) differs =
     let counted : run (x ∷ past) ≡ m = ap (λ y. run (y ∷ past)) like.0 ∙ run_same past w last n h ∙ sym like.1 in
@@ -207,13 +152,3 @@ Holds-next past w v last x n m h before first (inr dropped) (inl like) differs =
 Holds-next past w v last x n m h before first (inr dropped) (inr other) differs =
     let P : ℕ → Type 0 = λ k. Holds past w last k in
     rw (dropped.1, other.1) (Holds-dropped past w last x (subst P dropped.0 h) other.0)
-
--- the levels up to the next place, newest first
-pub past_next : (levels : List Level) (at : ℕ) → at < length levels → reverse (take (at + 1) levels) ≡ get_or levels at Dominant ∷ reverse (take at levels)
-past_next levels at within = ap reverse (take_more levels at Dominant within) ∙ reverse-push (take at levels) (get_or levels at Dominant)
-
--- only before the first place nothing has come
-pub first_place : (levels : List Level) (at : ℕ) → at < length levels → reverse (take at levels) ≡ [] → at ≡ 0
-first_place levels at within none =
-    let count = ap length none in
-    omega (arith, count, length-reverse (take at levels), length-take-le at levels (omega arith))

@@ -9,7 +9,8 @@ use Rattle.can_bits.specs.Stuffing.{HasNoSixEqual, IsUnstuffed}
 pub data EndsInRun : Level → ℕ → List Level → Type 0 where
   nothing : (x : Level) → EndsInRun x 0 []
   longer : {x : Level} {n : ℕ} {l t : List Level} → EndsInRun x n l → t ≡ l ++ x ∷ [] → EndsInRun x (n + 1) t
-  other : {x : Level} {n : ℕ} {l t : List Level} (y : Level) → EndsInRun x n l → y ≢ x → t ≡ l ++ y ∷ [] → EndsInRun y 1 t
+  other : {x : Level} {n : ℕ} {l t : List Level} (y : Level) → EndsInRun x n l → y ≢ x → t ≡ l ++ y ∷ [] →
+      EndsInRun y 1 t
 
 -- w are the levels l without stuff bits. They begin a stuffed part or are a whole one
 pub record IsPartSoFar (l w : List Level) (last : Level) (run : ℕ) : Type 0 where

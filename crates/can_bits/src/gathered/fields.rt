@@ -4,7 +4,7 @@ use super::Gathered;
 use crate::layout::{CRC_LEVELS, IDE_PLACE, MOST_BYTES, data_place, rtr_place};
 use crate::level::Level;
 use arrayvec::ArrayVec;
-use can_frame::Frame;
+use can_frame::{DATA_BYTES, Frame};
 
 impl Gathered {
     ghost use Rattle.std.specs.Prelude.{◌≡◌, ◌≤◌, ◌<◌, ◌+◌, ◌*◌, ◌^◌, List, length, slice_range, Some, All};
@@ -38,7 +38,8 @@ impl Gathered {
 
     /// How many levels the body and its CRC sequence have, once the DLC has come.
     pub(super) fn level_count(&self) -> u8
-        ensures { (w : List Bus) → Packs self.now.word self.now.place w → data_place w ≤ length w → result ≡ says_count w }
+        ensures { (w : List Bus) → Packs self.now.word self.now.place w → data_place w ≤ length w
+            → result ≡ says_count w }
     {
         self.head_end() + 8 * self.data_count() + CRC_LEVELS
     }
@@ -68,7 +69,8 @@ impl Gathered {
 
     /// The DLC, once it has come.
     fn dlc(&self) -> u8
-        ensures value { (w : List Bus) → Packs self.now.word self.now.place w → data_place w ≤ length w → result ≡ says_dlc w }
+        ensures value { (w : List Bus) → Packs self.now.word self.now.place w → data_place w ≤ length w
+            → result ≡ says_dlc w }
         ensures fits { result < 16 }
     {
         self.number_at(self.head_end() - 4, 4) as u8
@@ -76,7 +78,8 @@ impl Gathered {
 
     /// The identifier, once it has come.
     fn id(&self) -> u32
-        ensures { (w : List Bus) → Packs self.now.word self.now.place w → dlc_place (says_ext w) ≤ length w → result ≡ says_id w }
+        ensures { (w : List Bus) → Packs self.now.word self.now.place w → dlc_place (says_ext w) ≤ length w
+            → result ≡ says_id w }
     {
         let high = self.number_at(1, 11);
         if self.ext() {
@@ -88,7 +91,8 @@ impl Gathered {
 
     /// How many data bytes there are, once the DLC has come.
     fn data_count(&self) -> u8
-        ensures value { (w : List Bus) → Packs self.now.word self.now.place w → data_place w ≤ length w → result ≡ says_bytes w }
+        ensures value { (w : List Bus) → Packs self.now.word self.now.place w → data_place w ≤ length w
+            → result ≡ says_bytes w }
         ensures most { result ≤ 8 }
     {
         if self.rtr() {
@@ -99,9 +103,11 @@ impl Gathered {
     }
 
     /// The data bytes, once all levels have come.
-    fn data_bytes(&self) -> ArrayVec<u8, 8>
-        ensures value { (w : List Bus) → Packs self.now.word self.now.place w → IsWhole w → flat_map (bits 8) result.items ≡ data_levels w }
-        ensures count { (w : List Bus) → Packs self.now.word self.now.place w → IsWhole w → length result.items ≡ says_bytes w }
+    fn data_bytes(&self) -> ArrayVec<u8, DATA_BYTES>
+        ensures value { (w : List Bus) → Packs self.now.word self.now.place w → IsWhole w
+            → flat_map (bits 8) result.items ≡ data_levels w }
+        ensures count { (w : List Bus) → Packs self.now.word self.now.place w → IsWhole w
+            → length result.items ≡ says_bytes w }
         ensures small { All (λ byte. byte < 256) result.items }
     {
         let first = self.head_end();

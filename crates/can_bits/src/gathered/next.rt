@@ -5,9 +5,7 @@ use crate::layout::rtr_place;
 use crate::level::Level;
 use crate::place::segment_of;
 use crate::segment::Segment;
-use crate::sending::sent_level;
 use crate::sent_body::SentBody;
-use can_frame::Frame;
 
 impl Gathered {
     ghost use Rattle.std.specs.Prelude.{◌≡◌, ◌≤◌, ◌-◌, ◌&&◌, ◌∷◌, ◌++◌, List, length, Some, None, nat_lt, nat_le, if◌then◌else◌};
@@ -53,21 +51,11 @@ impl Gathered {
         }
     }
 
-    /// The next level of the body that a transmitter of this frame sends, or of its CRC sequence.
-    pub fn next_sent(&self, frame: &Frame) -> Level
-        ensures { (w c t : List Bus) (x : Bus) → Gathers self.now w → Crc (sent_body frame.now) c
-            → sent_body frame.now ++ c ≡ w ++ x ∷ t → result ≡ x }
-    {
-        match sent_level(frame, self.place) {
-            Some(level) => level,
-            None => self.next_of_crc(),
-        }
-    }
-
-    /// The same, where the frame's body is given packed.
+    /// The next level of the body that a transmitter sends, or of its CRC sequence, where its body is given packed.
     #[inline(always)]
     pub fn next_of(&self, body: &SentBody) -> Level
-        ensures { (f : FrameValue) (w c t : List Bus) (x : Bus) → IsSentBody body.now f → Gathers self.now w → Crc (sent_body f) c
+        ensures { (f : FrameValue) (w c t : List Bus) (x : Bus) → IsSentBody body.now f → Gathers self.now w
+            → Crc (sent_body f) c
             → sent_body f ++ c ≡ w ++ x ∷ t → result ≡ x }
     {
         match body.level(self.place) {
@@ -79,7 +67,8 @@ impl Gathered {
     /// The next level of a right CRC sequence, once the body has come: the highest digit of the register.
     #[inline(always)]
     fn next_of_crc(&self) -> Level
-        ensures { (b c w t : List Bus) (x : Bus) → Gathers self.now w → Crc b c → b ++ c ≡ w ++ x ∷ t → length b ≤ length w → result ≡ x }
+        ensures { (b c w t : List Bus) (x : Bus) → Gathers self.now w → Crc b c → b ++ c ≡ w ++ x ∷ t
+            → length b ≤ length w → result ≡ x }
     {
         Level::of(self.register >> 14 == 1)
     }

@@ -1,13 +1,12 @@
 //! A reader in the stuffed part.
 
 use super::{RUN, Shift};
+use crate::frame_part::FramePart;
 use crate::level::Level;
 use crate::line_fault::LineFault;
 use crate::run::run_after;
 use crate::segment::Segment;
 use crate::shift_fault::ShiftFault;
-use crate::stage::Stage;
-use can_frame::Frame;
 
 impl Shift {
     ghost use Rattle.std.specs.Prelude.{◌≡◌, ◌≢◌, ◌⊎◌, ◌<◌, ◌==◌, length, ◌∷◌, ◌++◌, [], List, None, IfSome};
@@ -15,20 +14,17 @@ impl Shift {
     ghost use Rattle.can_bits.specs.Streaming.{BreaksWith};
     ghost use Rattle.can_bits.specs.Segments.{IsNext};
     ghost use Rattle.can_bits.specs.Machine.PartSoFar.{IsPartSoFar};
-    ghost use Rattle.can_bits.specs.Machine.Stages.{ReadsAt};
+    ghost use Rattle.can_bits.specs.Machine.FrameParts.{ReadsAt};
     ghost use Rattle.can_bits.specs.Shifts.{StandsFor, JudgesAt};
     ghost use Rattle.can_bits.specs.Machine.Gathering.{Gathers};
-    ghost use Rattle.can_bits.specs.Body.{sent_body};
-    ghost use Rattle.can_bits.specs.Check.{Crc};
     ghost use Rattle.can_bits.specs.Fields.{says_count};
-    ghost use Rattle.can_bits.specs.Line.{StuffedPart};
 
     /// Takes a level of the stuffed part.
     pub(super) fn advance_inside(&mut self, level: Level) -> Option<ShiftFault>
         requires right { self.old.wrong ≡ None }
-        requires inside { self.old.stage ≡ Stage.Part }
-        ensures stands { (l : List Bus) → ReadsAt Stage.Part self.old l → StandsFor self.new (l ++ level ∷ []) }
-        ensures judged { (l : List Bus) → ReadsAt Stage.Part self.old l → JudgesAt l level result }
+        requires inside { self.old.frame_part ≡ FramePart.Stuffed }
+        ensures stands { (l : List Bus) → ReadsAt FramePart.Stuffed self.old l → StandsFor self.new (l ++ level ∷ []) }
+        ensures judged { (l : List Bus) → ReadsAt FramePart.Stuffed self.old l → JudgesAt l level result }
     {
         match self.fault_inside(level) {
             Some(fault) => {
@@ -43,21 +39,9 @@ impl Shift {
         }
     }
 
-    /// The next level of the stuffed part that a transmitter of this frame sends.
-    pub(super) fn next_inside(&self, frame: &Frame) -> Level
-        ensures { (l t c part : List Bus) (x : Bus) → ReadsAt Stage.Part self.now l → StuffedPart frame.now (sent_body frame.now) c part
-            → Crc (sent_body frame.now) c → part ≡ l ++ x ∷ t → result ≡ x }
-    {
-        if self.run == RUN {
-            self.last.opposite()
-        } else {
-            self.gathered.next_sent(frame)
-        }
-    }
-
     /// The segment of the next level of the stuffed part; a stuff bit belongs to that of the bit before it.
     pub(super) fn segment_inside(&self) -> Segment
-        ensures { (l : List Bus) → ReadsAt Stage.Part self.now l → IsNext l result (self.now.run == 5) }
+        ensures { (l : List Bus) → ReadsAt FramePart.Stuffed self.now l → IsNext l result (self.now.run == 5) }
     {
         if self.run == RUN {
             self.gathered.last_segment()
@@ -68,7 +52,7 @@ impl Shift {
 
     /// What is wrong with a level of the stuffed part.
     fn fault_inside(&self, level: Level) -> Option<LineFault>
-        ensures broken { (l : List Bus) → ReadsAt Stage.Part self.now l → IfSome result (BreaksWith l level) }
+        ensures broken { (l : List Bus) → ReadsAt FramePart.Stuffed self.now l → IfSome result (BreaksWith l level) }
         ensures begins { result ≡ None → self.now.count ≡ 0 → level ≡ Level.Dominant }
         ensures differs { result ≡ None → self.now.run ≡ 5 → level ≢ self.now.last }
     {
@@ -84,11 +68,12 @@ impl Shift {
     /// Takes a level of the stuffed part that is right.
     #[inline(always)]
     pub(super) fn take_right(&mut self, level: Level)
-        requires { self.old.stage ≡ Stage.Part }
+        requires { self.old.frame_part ≡ FramePart.Stuffed }
         ensures kept { self.new.wrong ≡ self.old.wrong }
-        ensures early { (self.new.stage ≡ Stage.Part) ⊎ (self.new.stage ≡ Stage.After 0) }
-        ensures stands { (l : List Bus) → ReadsAt Stage.Part self.old l → (self.old.count ≡ 0 → level ≡ Level.Dominant)
-            → (self.old.run ≡ 5 → level ≢ self.old.last) → ReadsAt self.new.stage self.new (l ++ level ∷ []) }
+        ensures early { (self.new.frame_part ≡ FramePart.Stuffed) ⊎ (self.new.frame_part ≡ FramePart.FixedForm 0) }
+        ensures stands { (l : List Bus) → ReadsAt FramePart.Stuffed self.old l
+            → (self.old.count ≡ 0 → level ≡ Level.Dominant)
+            → (self.old.run ≡ 5 → level ≢ self.old.last) → ReadsAt self.new.frame_part self.new (l ++ level ∷ []) }
     {
         self.gather_unless_stuff(level);
         self.count = self.count.wrapping_add(1);
@@ -116,14 +101,14 @@ impl Shift {
     #[cold]
     #[inline(never)]
     fn end_part_unless_stuff(&mut self)
-        requires { self.old.stage ≡ Stage.Part }
-        ensures kept { self.new ≡ record self.old { stage = self.new.stage } }
-        ensures early { (self.new.stage ≡ Stage.Part) ⊎ (self.new.stage ≡ Stage.After 0) }
+        requires { self.old.frame_part ≡ FramePart.Stuffed }
+        ensures kept { self.new ≡ record self.old { frame_part = self.new.frame_part } }
+        ensures early { (self.new.frame_part ≡ FramePart.Stuffed) ⊎ (self.new.frame_part ≡ FramePart.FixedForm 0) }
         ensures stands { (l w : List Bus) → IsPartSoFar l w self.old.last self.old.run → Gathers self.old.gathered w
-            → self.old.count ≡ length l → length w ≡ says_count w → ReadsAt self.new.stage self.old l }
+            → self.old.count ≡ length l → length w ≡ says_count w → ReadsAt self.new.frame_part self.old l }
     {
         if self.run != RUN {
-            self.stage = Stage::After(0);
+            self.frame_part = FramePart::FixedForm(0);
         }
     }
 }

@@ -1,31 +1,32 @@
 //! A reader past the stuffed part.
 
-use super::Shift;
+use super::{LINE_END, Shift};
+use crate::frame_part::FramePart;
 use crate::level::Level;
 use crate::line_fault::LineFault;
 use crate::place::segment_after;
 use crate::shift_fault::ShiftFault;
-use crate::stage::Stage;
 
 impl Shift {
     ghost use Rattle.std.specs.Prelude.{◌≡◌, ◌+◌, ◌∷◌, ◌++◌, [], List, None, IfSome};
     ghost use Rattle.can_bits.specs.declared.level.Level.{Level as Bus};
     ghost use Rattle.can_bits.specs.Streaming.{BreaksWith};
-    ghost use Rattle.can_bits.specs.Machine.Stages.{ReadsAt, IsPast};
+    ghost use Rattle.can_bits.specs.Machine.FrameParts.{ReadsAt, IsPast};
     ghost use Rattle.can_bits.specs.Shifts.{StandsFor, JudgesAt};
 
     /// Takes a level after the stuffed part, of which n have come before.
     pub(super) fn advance_past(&mut self, n: u8, level: Level) -> Option<ShiftFault>
         requires right { self.old.wrong ≡ None }
-        requires past { self.old.stage ≡ Stage.After n }
-        ensures stands { (l : List Bus) → ReadsAt (Stage.After n) self.old l → StandsFor self.new (l ++ level ∷ []) }
-        ensures judged { (l : List Bus) → ReadsAt (Stage.After n) self.old l → JudgesAt l level result }
+        requires past { self.old.frame_part ≡ FramePart.FixedForm n }
+        ensures stands { (l : List Bus) → ReadsAt (FramePart.FixedForm n) self.old l
+            → StandsFor self.new (l ++ level ∷ []) }
+        ensures judged { (l : List Bus) → ReadsAt (FramePart.FixedForm n) self.old l → JudgesAt l level result }
     {
         match self.fault_past(n, level) {
             Some(fault) => Some(self.keep_fault(segment_after(n), false, fault)),
             None => {
                 self.count = self.count.wrapping_add(1);
-                self.stage = Stage::After(n.wrapping_add(1));
+                self.frame_part = FramePart::FixedForm(n.wrapping_add(1));
                 None
             }
         }
@@ -33,12 +34,13 @@ impl Shift {
 
     /// What is wrong with a level after the stuffed part, of which n have come before.
     fn fault_past(&self, n: u8, level: Level) -> Option<LineFault>
-        ensures broken { (l : List Bus) → ReadsAt (Stage.After n) self.now l → IfSome result (BreaksWith l level) }
-        ensures goes_on { (l : List Bus) → ReadsAt (Stage.After n) self.now l → result ≡ None
+        ensures broken { (l : List Bus) → ReadsAt (FramePart.FixedForm n) self.now l
+            → IfSome result (BreaksWith l level) }
+        ensures goes_on { (l : List Bus) → ReadsAt (FramePart.FixedForm n) self.now l → result ≡ None
             → IsPast (n + 1) self.now.gathered (self.now.count + 1) (l ++ level ∷ []) }
     {
         let at = usize::from(self.count);
-        if n >= 10 {
+        if n >= LINE_END {
             Some(LineFault::Trailing(at))
         } else if n == 1 {
             None

@@ -1,20 +1,14 @@
 //! The quick way of a reader: a right level of the stuffed part, past SOF.
 
 use super::{RUN, Shift};
+use crate::frame_part::FramePart;
 use crate::level::Level;
-use crate::sent_body::SentBody;
-use crate::stage::Stage;
 
 impl Shift {
-    ghost use Rattle.std.specs.Prelude.{◌≡◌, ◌≢◌, ◌↔◌, ◌∷◌, ◌++◌, [], List, length, IsTrue, None, true, false};
+    ghost use Rattle.std.specs.Prelude.{◌≡◌, ◌≢◌, ◌↔◌, ◌∷◌, ◌++◌, [], List, IsTrue, None, true, false};
     ghost use Rattle.can_bits.specs.declared.level.Level.{Level as Bus};
     ghost use Rattle.can_bits.specs.Streaming.{IsReadable, IsRightInside, ShowsFrame, IsOver};
     ghost use Rattle.can_bits.specs.Acknowledging.{IsAckDue};
-    ghost use Rattle.can_frame.specs.Frame.{FrameValue};
-    ghost use Rattle.can_bits.specs.Body.{sent_body};
-    ghost use Rattle.can_bits.specs.Check.{Crc};
-    ghost use Rattle.can_bits.specs.Line.{StuffedPart, tail};
-    ghost use Rattle.can_bits.specs.Packing.{IsSentBody};
     ghost use Rattle.can_bits.specs.Shifts.{StandsFor};
 
     /// Takes the next level where it is right and belongs to the stuffed part, past SOF. Answers whether it did: then
@@ -40,38 +34,17 @@ impl Shift {
     #[inline(always)]
     fn is_right_inside(&self, level: Level) -> bool
         ensures no_fault { result ≡ true → self.now.wrong ≡ None }
-        ensures in_part { result ≡ true → self.now.stage ≡ Stage.Part }
+        ensures in_part { result ≡ true → self.now.frame_part ≡ FramePart.Stuffed }
         ensures begun { result ≡ true → self.now.count ≢ 0 }
         ensures differs { result ≡ true → self.now.run ≡ 5 → level ≢ self.now.last }
         ensures only { (l : List Bus) → StandsFor self.now l → IsRightInside l level → result ≡ true }
     {
         match self.wrong {
             Some(_) => false,
-            None => match self.stage {
-                Stage::Part => self.count != 0 && (self.run != RUN || level != self.last),
-                Stage::After(_) => false,
+            None => match self.frame_part {
+                FramePart::Stuffed => self.count != 0 && (self.run != RUN || level != self.last),
+                FramePart::FixedForm(_) => false,
             },
-        }
-    }
-
-    /// The next level of the line that a transmitter of this packed body sends, where the levels so far are a front of
-    /// that line, but for the ACK slot (Bosch CAN 2.0 part A sections 3.1.1 and 5). It gives what
-    /// [`next_sent`](Shift::next_sent) does, and sooner.
-    #[inline(always)]
-    pub fn next_of(&self, body: &SentBody) -> Level
-        ensures { (f : FrameValue) (l others c part before rest : List Bus) (x ack : Bus) → IsSentBody body.now f → StandsFor self.now l
-            → StuffedPart f (sent_body f) c part → Crc (sent_body f) c → part ++ tail ack ≡ l ++ others
-            → part ++ tail Bus.Recessive ≡ before ++ x ∷ rest → length before ≡ length l → result ≡ x }
-    {
-        match self.stage {
-            Stage::Part => {
-                if self.run == RUN {
-                    self.last.opposite()
-                } else {
-                    self.gathered.next_of(body)
-                }
-            }
-            Stage::After(_) => Level::Recessive,
         }
     }
 }

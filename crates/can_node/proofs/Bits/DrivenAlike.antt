@@ -23,11 +23,13 @@ seen_forces [] x = refl
 seen_forces (u ∷ l) x = ap (λ t. u ∷ t) (seen_forces l x)
 
 -- two fronts of one list of bits, in all of which the node drives recessive, have levels that are fronts of one list
-pub same_receives : (l k : List Level) (x y : List Bit) → recessive_bits l ++ x ≡ recessive_bits k ++ y → l ++ seen_of x ≡ k ++ seen_of y
+pub same_receives : (l k : List Level) (x y : List Bit) → recessive_bits l ++ x ≡ recessive_bits k ++ y →
+    l ++ seen_of x ≡ k ++ seen_of y
 same_receives l k x y e = sym (seen_receives l x) ∙ ap (λ (t : List Bit). seen_of t) e ∙ seen_receives k y
 
 -- the same where it drives dominant
-pub same_forces : (l k : List Level) (x y : List Bit) → dominant_bits l ++ x ≡ dominant_bits k ++ y → l ++ seen_of x ≡ k ++ seen_of y
+pub same_forces : (l k : List Level) (x y : List Bit) → dominant_bits l ++ x ≡ dominant_bits k ++ y →
+    l ++ seen_of x ≡ k ++ seen_of y
 same_forces l k x y e = sym (seen_forces l x) ∙ ap (λ (t : List Bit). seen_of t) e ∙ seen_forces k y
 
 -- a node that drives recessive throughout drives nothing dominant
@@ -50,12 +52,16 @@ seen_both [] b = refl
 seen_both (y ∷ a) b = ap (λ t. y.seen ∷ t) (seen_both a b)
 
 -- more bits in which it drives recessive
-pub receives_on : (bits : List Bit) (l k m : List Level) → bits ≡ recessive_bits l → l ++ k ≡ m → bits ++ recessive_bits k ≡ recessive_bits m
-receives_on bits l k m e more = ap (λ t. t ++ recessive_bits k) e ∙ sym (map-append recessive_bit l k) ∙ ap (λ t. recessive_bits t) more
+pub receives_on : (bits : List Bit) (l k m : List Level) → bits ≡ recessive_bits l → l ++ k ≡ m →
+    bits ++ recessive_bits k ≡ recessive_bits m
+receives_on bits l k m e more =
+    ap (λ t. t ++ recessive_bits k) e ∙ sym (map-append recessive_bit l k) ∙ ap (λ t. recessive_bits t) more
 
 -- the same where it drives dominant
-pub forces_on : (bits : List Bit) (l k m : List Level) → bits ≡ dominant_bits l → l ++ k ≡ m → bits ++ dominant_bits k ≡ dominant_bits m
-forces_on bits l k m e more = ap (λ t. t ++ dominant_bits k) e ∙ sym (map-append dominant_bit l k) ∙ ap (λ t. dominant_bits t) more
+pub forces_on : (bits : List Bit) (l k m : List Level) → bits ≡ dominant_bits l → l ++ k ≡ m →
+    bits ++ dominant_bits k ≡ dominant_bits m
+forces_on bits l k m e more = ap (λ t. t ++ dominant_bits k) e ∙ sym (map-append dominant_bit l k)
+    ∙ ap (λ t. dominant_bits t) more
 
 -- how many bits they are where it drives recessive
 pub receives_length : (bits : List Bit) (l : List Level) → bits ≡ recessive_bits l → length bits ≡ length l

@@ -6,22 +6,26 @@ use Rattle.can_node.specs.Context.{ContextValue}
 use Rattle.can_node.specs.Frames.{Transmits}
 use Rattle.can_node.specs.Pieces.{Place, Piece, sent_at}
 use Rattle.can_node.specs.Machine.Stages.{IsFramePlace, frame_bits}
-use Rattle.can_node.specs.Machine.Stages.IsFramePlace.{idle_place, pause_place}
+use Rattle.can_node.specs.Machine.Stages.IsFramePlace.{idle_place, sof_place}
 use Rattle.can_node.specs.Table.{Row}
 use Rattle.can_node.specs.Table.Row.{own, own_begun}
 use Rattle.can_node.proofs.Bits.Seen.{seen-append}
 
 -- a transmitter's piece at such a place
-pub row_own : (c : ContextValue) (place : Place) (request : Request) (bits : List Bit) (piece : Piece) (next : Place) → IsFramePlace place → sent_at c place ≡ Some request →
+pub row_own : (c : ContextValue) (place : Place) (request : Request) (bits : List Bit) (piece : Piece) (next : Place) →
+    IsFramePlace place → sent_at c place ≡ Some request →
     Transmits c.self_test request (frame_bits place bits) piece next → Row c place bits piece next
 row_own c place request bits piece next idle_place sent h = own sent h
-row_own c place request bits piece next pause_place sent h = own_begun sent h
+row_own c place request bits piece next sof_place sent h = own_begun sent h
 
 -- more bits of a frame
-pub frame_more : (place : Place) (bits more : List Bit) → IsFramePlace place → frame_bits place (bits ++ more) ≡ frame_bits place bits ++ more
+pub frame_more : (place : Place) (bits more : List Bit) → IsFramePlace place →
+    frame_bits place (bits ++ more) ≡ frame_bits place bits ++ more
 frame_more place bits more idle_place = refl
-frame_more place bits more pause_place = refl
+frame_more place bits more sof_place = refl
 
 -- what was seen of it with one bit more
-pub frame_seen : (place : Place) (bits : List Bit) (b : Bit) → IsFramePlace place → seen_of (frame_bits place (bits ++ b ∷ [])) ≡ seen_of (frame_bits place bits) ++ b.seen ∷ []
-frame_seen place bits b site = ap (λ l. seen_of l) (frame_more place bits (b ∷ []) site) ∙ seen-append (frame_bits place bits) (b ∷ [])
+pub frame_seen : (place : Place) (bits : List Bit) (b : Bit) → IsFramePlace place →
+    seen_of (frame_bits place (bits ++ b ∷ [])) ≡ seen_of (frame_bits place bits) ++ b.seen ∷ []
+frame_seen place bits b site =
+    ap (λ l. seen_of l) (frame_more place bits (b ∷ []) site) ∙ seen-append (frame_bits place bits) (b ∷ [])

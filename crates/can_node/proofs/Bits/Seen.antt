@@ -15,7 +15,8 @@ pub seen_on : (l : List Level) (a b : List Bit) → l ++ seen_of (a ++ b) ≡ (l
 seen_on l a b = ap (λ m. l ++ m) (seen-append a b) ∙ sym (append_assoc l (seen_of a) (seen_of b))
 
 -- and of a list that is those two
-pub seen_split : (l : List Level) (bits a b : List Bit) → bits ≡ a ++ b → l ++ seen_of bits ≡ (l ++ seen_of a) ++ seen_of b
+pub seen_split : (l : List Level) (bits a b : List Bit) → bits ≡ a ++ b →
+    l ++ seen_of bits ≡ (l ++ seen_of a) ++ seen_of b
 seen_split l bits a b e = ap (λ m. l ++ seen_of m) e ∙ seen_on l a b
 
 -- there is no bit to answer in
@@ -24,7 +25,8 @@ acknowledges_none listen l [] after b e = absurd cc
 acknowledges_none listen l (x ∷ before) after b e = absurd cc
 
 -- a first bit and all later ones
-pub acknowledges_cons : (listen : Bool) (l : List Level) (x : Bit) (bits : List Bit) → Acknowledges listen l x.driven → AllAcknowledge listen (l ++ x.seen ∷ []) bits →
+pub acknowledges_cons : (listen : Bool) (l : List Level) (x : Bit) (bits : List Bit) → Acknowledges listen l x.driven →
+    AllAcknowledge listen (l ++ x.seen ∷ []) bits →
     AllAcknowledge listen l (x ∷ bits)
 acknowledges_cons listen l x bits first later [] after b e =
     let P : List Level → Type 0 = λ m. Acknowledges listen m x.driven in
@@ -40,17 +42,22 @@ acknowledges_cons listen l x bits first later (y ∷ before) after b e =
     subst P seen (later before after b rest)
 
 -- the bits before one more
-acknowledges_front : (listen : Bool) (l : List Level) (x : Bit) (bits : List Bit) → AllAcknowledge listen l (x ∷ bits) → AllAcknowledge listen (l ++ x.seen ∷ []) bits
+acknowledges_front : (listen : Bool) (l : List Level) (x : Bit) (bits : List Bit) → AllAcknowledge listen l (x ∷ bits) →
+    AllAcknowledge listen (l ++ x.seen ∷ []) bits
 acknowledges_front listen l x bits h before after b e =
     let P : List Level → Type 0 = λ m. Acknowledges listen m b.driven in
     subst P (sym (append_assoc l (x.seen ∷ []) (seen_of before))) (h (x ∷ before) after b (ap (λ m. x ∷ m) e))
 
 -- one bit more at the end
-pub acknowledges_push : (listen : Bool) (l : List Level) (bits : List Bit) (x : Bit) → AllAcknowledge listen l bits → Acknowledges listen (l ++ seen_of bits) x.driven →
+pub acknowledges_push : (listen : Bool) (l : List Level) (bits : List Bit) (x : Bit) → AllAcknowledge listen l bits →
+    Acknowledges listen (l ++ seen_of bits) x.driven →
     AllAcknowledge listen l (bits ++ x ∷ [])
 acknowledges_push listen l [] x h last =
-    acknowledges_cons listen l x [] (subst (λ m. Acknowledges listen m x.driven) (append-nil l) last) (acknowledges_none listen (l ++ x.seen ∷ []))
+    acknowledges_cons listen l x [] (subst (λ m. Acknowledges listen m x.driven) (append-nil l) last)
+    (acknowledges_none listen (l ++ x.seen ∷ []))
 acknowledges_push listen l (b ∷ bits) x h last =
     let P : List Level → Type 0 = λ m. Acknowledges listen m x.driven in
-    acknowledges_cons listen l b (bits ++ x ∷ []) (subst (λ m. Acknowledges listen m b.driven) (append-nil l) (h [] bits b refl))
-    (acknowledges_push listen (l ++ b.seen ∷ []) bits x (acknowledges_front listen l b bits h) (subst P (sym (append_assoc l (b.seen ∷ []) (seen_of bits))) last))
+    acknowledges_cons listen l b (bits ++ x ∷ [])
+    (subst (λ m. Acknowledges listen m b.driven) (append-nil l) (h [] bits b refl))
+    (acknowledges_push listen (l ++ b.seen ∷ []) bits x (acknowledges_front listen l b bits h)
+    (subst P (sym (append_assoc l (b.seen ∷ []) (seen_of bits))) last))

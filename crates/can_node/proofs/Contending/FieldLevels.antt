@@ -18,7 +18,8 @@ get-append_left (x ∷ a) b zero h = refl
 get-append_left (x ∷ a) b (suc k) h = get-append_left a b k (omega arith)
 
 -- a place in the second of them
-pub get-append_right : {A : Type 0} (a b : List A) (n k j : ℕ) → length a ≡ n → k ≡ n + j → slice_get (a ++ b) k ≡ slice_get b j
+pub get-append_right : {A : Type 0} (a b : List A) (n k j : ℕ) → length a ≡ n → k ≡ n + j →
+    slice_get (a ++ b) k ≡ slice_get b j
 get-append_right [] b n k j h e = let same : k ≡ j = omega arith in ap (λ i. slice_get b i) same
 get-append_right (x ∷ a) b n zero j h e = absurd (omega arith)
 get-append_right (x ∷ a) b n (suc k) j h e = get-append_right a b (length a) k j refl (omega arith)
@@ -63,7 +64,8 @@ length_extended id rtr =
 
 -- a body begins with SOF and that field
 front_is : (ext : Bool) (id : ℕ) (rtr : Bool) (rest : List Level) →
-    (more : List Level) × (head_bits ext id rtr Recessive Dominant Dominant ++ rest ≡ Dominant ∷ (field_by ext id rtr ++ more))
+    (more : List Level) × (head_bits ext id rtr Recessive Dominant Dominant ++ rest
+    ≡ Dominant ∷ (field_by ext id rtr ++ more))
 front_is false id rtr rest = (
   Dominant ∷ rest,
   ap (λ l. Dominant ∷ l)
@@ -78,7 +80,8 @@ front_is true id rtr rest =
       ap (λ l. Dominant ∷ l)
           (append_assoc high (Recessive ∷ Recessive ∷ (low ++ level_of rtr ∷ Dominant ∷ Dominant ∷ [])) rest
           ∙ ap (λ l. high ++ Recessive ∷ Recessive ∷ l)
-          (append_assoc low (level_of rtr ∷ Dominant ∷ Dominant ∷ []) rest ∙ sym (append_assoc low last (Dominant ∷ Dominant ∷ rest)))
+          (append_assoc low (level_of rtr ∷ Dominant ∷ Dominant ∷ []) rest
+          ∙ sym (append_assoc low last (Dominant ∷ Dominant ∷ rest)))
           ∙ sym (append_assoc high (Recessive ∷ Recessive ∷ (low ++ last)) (Dominant ∷ Dominant ∷ rest))),
     )
 
@@ -98,7 +101,8 @@ field_is f =
 pub standard_id : (id : ℕ) (rtr : Bool) (k : ℕ) → k ≤ 10 →
     slice_get (standard_field id rtr) k ≡ Some (level_of (id / 2 ^ (10 - k) % 2 == 1))
 standard_id id rtr k h =
-    get-append_left (bits 11 id) (level_of rtr ∷ Dominant ∷ []) k (omega (arith, length-bits 11 id)) ∙ bits_at 11 id k (10 - k) (omega arith)
+    get-append_left (bits 11 id) (level_of rtr ∷ Dominant ∷ []) k (omega (arith, length-bits 11 id))
+    ∙ bits_at 11 id k (10 - k) (omega arith)
 
 pub standard_last : (id : ℕ) (rtr : Bool) (k j : ℕ) → k ≡ 11 + j →
     slice_get (standard_field id rtr) k ≡ slice_get (level_of rtr ∷ Dominant ∷ []) j
@@ -109,19 +113,22 @@ pub extended_high : (id : ℕ) (rtr : Bool) (k : ℕ) → k ≤ 10 →
     slice_get (extended_field id rtr) k ≡ Some (level_of (id / 2 ^ 18 / 2 ^ (10 - k) % 2 == 1))
 extended_high id rtr k h =
     let high : List Level = bits 11 (id / 2 ^ 18) in
-    get-append_left high (Recessive ∷ Recessive ∷ (bits 18 id ++ level_of rtr ∷ [])) k (omega (arith, length-bits 11 (id / 2 ^ 18)))
+    get-append_left high (Recessive ∷ Recessive ∷ (bits 18 id ++ level_of rtr ∷ [])) k
+    (omega (arith, length-bits 11 (id / 2 ^ 18)))
     ∙ bits_at 11 (id / 2 ^ 18) k (10 - k) (omega arith)
 
 pub extended_rest : (id : ℕ) (rtr : Bool) (k j : ℕ) → k ≡ 11 + j →
     slice_get (extended_field id rtr) k ≡ slice_get (Recessive ∷ Recessive ∷ (bits 18 id ++ level_of rtr ∷ [])) j
 extended_rest id rtr k j e =
-    get-append_right (bits 11 (id / 2 ^ 18)) (Recessive ∷ Recessive ∷ (bits 18 id ++ level_of rtr ∷ [])) 11 k j (length-bits 11 (id / 2 ^ 18)) e
+    get-append_right (bits 11 (id / 2 ^ 18)) (Recessive ∷ Recessive ∷ (bits 18 id ++ level_of rtr ∷ [])) 11 k j
+    (length-bits 11 (id / 2 ^ 18)) e
 
 pub extended_low : (id : ℕ) (rtr : Bool) (k : ℕ) → 13 ≤ k → k ≤ 30 →
     slice_get (extended_field id rtr) k ≡ Some (level_of (id / 2 ^ (30 - k) % 2 == 1))
 extended_low id rtr k low high =
     extended_rest id rtr k (2 + (k - 13)) (omega arith)
-    ∙ get-append_right (Recessive ∷ Recessive ∷ []) (bits 18 id ++ level_of rtr ∷ []) 2 (2 + (k - 13)) (k - 13) refl refl
+    ∙ get-append_right (Recessive ∷ Recessive ∷ []) (bits 18 id ++ level_of rtr ∷ []) 2 (2 + (k - 13)) (k - 13) refl
+    refl
     ∙ get-append_left (bits 18 id) (level_of rtr ∷ []) (k - 13) (omega (arith, length-bits 18 id))
     ∙ bits_at 18 id (k - 13) (30 - k) (omega arith)
 

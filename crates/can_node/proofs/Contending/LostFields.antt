@@ -36,15 +36,18 @@ pub one_place : (a b : List Level) (n m : ℕ) → LosesAt a b n → LosesAt a b
 one_place a b n m x y =
     elim (cases_order n m) [
       | inl same ↦ same
-      | inr (inl before) ↦ let bad : Some Recessive ≡ Some Dominant = sym x.own ∙ same_at a b m n y.same before ∙ x.other in cc
-      | inr (inr after) ↦ let bad : Some Recessive ≡ Some Dominant = sym y.own ∙ same_at a b n m x.same after ∙ y.other in cc
+      | inr (inl before) ↦ let bad : Some Recessive ≡ Some Dominant =
+          sym x.own ∙ same_at a b m n y.same before ∙ x.other in cc
+      | inr (inr after) ↦ let bad : Some Recessive ≡ Some Dominant =
+          sym y.own ∙ same_at a b n m x.same after ∙ y.other in cc
     ]
 
 -- what loses to a loser loses to the winner
 pub loses_on : (a b c : List Level) (n m : ℕ) → LosesAt a b n → LosesAt b c m → (k : ℕ) × LosesAt a c k
 loses_on a b c n m x y =
     elim (cases_order n m) [
-      | inl same ↦ let bad : Some Dominant ≡ Some Recessive = sym x.other ∙ ap (λ k. slice_get b k) same ∙ y.own in absurd cc
+      | inl same ↦ let bad : Some Dominant ≡ Some Recessive =
+          sym x.other ∙ ap (λ k. slice_get b k) same ∙ y.own in absurd cc
       | inr (inl before) ↦ (
         n,
         record {
@@ -85,7 +88,8 @@ loses_nowhere a b m same differ stands n h =
     elim (cases_order n m) [
       | inl here ↦ let P : ℕ → Type 0 = λ k. (slice_get a k ≡ Some Recessive) × (slice_get b k ≡ Some Dominant) in
           stands (subst P here (h.own, h.other))
-      | inr (inl before) ↦ let bad : Some Recessive ≡ Some Dominant = sym h.own ∙ same_at a b m n same before ∙ h.other in cc
+      | inr (inl before) ↦ let bad : Some Recessive ≡ Some Dominant =
+          sym h.own ∙ same_at a b m n same before ∙ h.other in cc
       | inr (inr after) ↦ differ (same_at a b n m h.same after)
     ]
 
@@ -131,7 +135,8 @@ loses_before a b x y n h =
     }
 
 -- lists of one length, before a dominant level and a recessive one
-compared_before : (a b x y : List Level) → length a ≡ length b → Compared a b → Compared (a ++ Dominant ∷ x) (b ++ Recessive ∷ y)
+compared_before : (a b x y : List Level) → length a ≡ length b → Compared a b →
+    Compared (a ++ Dominant ∷ x) (b ++ Recessive ∷ y)
 compared_before a b x y h (inl same) =
     let n : ℕ = length a in
     inr (inr (
@@ -142,8 +147,10 @@ compared_before a b x y h (inl same) =
         other = get-append_right a (Dominant ∷ x) n n 0 refl (omega arith);
       },
     ))
-compared_before a b x y h (inr (inl first)) = inr (inl (first.0, loses_before a b (Dominant ∷ x) (Recessive ∷ y) first.0 first.1))
-compared_before a b x y h (inr (inr second)) = inr (inr (second.0, loses_before b a (Recessive ∷ y) (Dominant ∷ x) second.0 second.1))
+compared_before a b x y h (inr (inl first)) =
+    inr (inl (first.0, loses_before a b (Dominant ∷ x) (Recessive ∷ y) first.0 first.1))
+compared_before a b x y h (inr (inr second)) =
+    inr (inr (second.0, loses_before b a (Recessive ∷ y) (Dominant ∷ x) second.0 second.1))
 
 -- the other way round
 turned : (a b : List Level) → Compared a b → Compared b a
@@ -168,8 +175,10 @@ compared_formats i j r s =
 
 -- two fields by their formats
 compared_by : (e g : Bool) (i j : ℕ) (r s : Bool) → Compared (field_by e i r) (field_by g j s)
-compared_by false false i j r s = compared (field_by false i r) (field_by false j s) (length_standard i r ∙ sym (length_standard j s))
-compared_by true true i j r s = compared (field_by true i r) (field_by true j s) (length_extended i r ∙ sym (length_extended j s))
+compared_by false false i j r s =
+    compared (field_by false i r) (field_by false j s) (length_standard i r ∙ sym (length_standard j s))
+compared_by true true i j r s =
+    compared (field_by true i r) (field_by true j s) (length_extended i r ∙ sym (length_extended j s))
 compared_by false true i j r s = compared_formats i j r s
 compared_by true false i j r s = turned (field_by false j s) (field_by true i r) (compared_formats j i s r)
 

@@ -12,7 +12,8 @@ abbrev pub Stands : FrameValue → FrameValue → Type 0
 Stands f g = (n : ℕ) → ¬ LosesAt (arbitration_field f) (arbitration_field g) n
 
 -- a frame that doesn't lose to one that stands against a third one stands against it too
-stands_by : (f w g : FrameValue) → Compared (arbitration_field f) (arbitration_field w) → Stands f w → Stands w g → Stands f g
+stands_by : (f w g : FrameValue) → Compared (arbitration_field f) (arbitration_field w) → Stands f w → Stands w g →
+    Stands f g
 stands_by f w g (inl same) first second n h =
     let P : List Level → Type 0 = λ l. LosesAt l (arbitration_field g) n in
     second n (subst P same h)
@@ -69,14 +70,19 @@ least_fares fs f least = record {
 pub loser_fares : (fs : List FrameValue) (f : FrameValue) (n : ℕ) → LosesToLeast fs f n → Fares fs f (Some n)
 loser_fares fs f n h = record {
   goes_on = (λ e. cc, λ least. absurd (least_stays fs f n least h));
-  loses = λ m. (λ e. let same : n ≡ m = cc in subst (λ k. LosesToLeast fs f k) same h, λ other. ap Some (one_loss fs f n m h other));
+  loses = λ m. (
+    λ e. let same : n ≡ m = cc in
+        subst (λ k. LosesToLeast fs f k) same h,
+    λ other. ap Some (one_loss fs f n m h other),
+  );
 }
 
 -- what becomes of a frame, by its comparison with a least one
 pub fares_by : (fs : List FrameValue) (f w : FrameValue) (lost : Option ℕ) → Contains fs w → IsLeast fs w →
     MatchOption lost (Stands f w) (λ n. LosesAt (arbitration_field f) (arbitration_field w) n) → Fares fs f lost
 fares_by fs f w None among least stands = least_fares fs f (least_by fs f w least stands)
-fares_by fs f w (Some n) among least loses = loser_fares fs f n (record { least = w; among = among; is_least = least; at = loses })
+fares_by fs f w (Some n) among least loses =
+    loser_fares fs f n (record { least = w; among = among; is_least = least; at = loses })
 
 -- the least of some frames is the least with one frame more, to which it doesn't lose
 pub stays_least : (fs : List FrameValue) (i : ℕ) (f g : FrameValue) → i < length fs → g ≡ get_or fs i g →
@@ -86,12 +92,15 @@ stays_least fs i f g within is least stands =
     All-more (Stands f) fs i g within least (subst P is stands)
 
 -- and one to which it loses is the least then
-pub next_least : (fs : List FrameValue) (i n : ℕ) (f g : FrameValue) → i < length fs → g ≡ get_or fs i g → IsLeast (take i fs) f →
+pub next_least : (fs : List FrameValue) (i n : ℕ) (f g : FrameValue) → i < length fs → g ≡ get_or fs i g →
+    IsLeast (take i fs) f →
     LosesAt (arbitration_field f) (arbitration_field g) n → IsLeast (take (i + 1) fs) g
-next_least fs i n f g within is least loses = stays_least fs i g g within is (overtakes (take i fs) g f n least loses) (stands_itself g)
+next_least fs i n f g within is least loses =
+    stays_least fs i g g within is (overtakes (take i fs) g f n least loses) (stands_itself g)
 
 -- one frame more at the end of lists
-pub zip_push : {A B : Type 0} (R : A → B → Type 0) (xs : List A) (ys : List B) (x : A) (y : B) → AllZip R xs ys → R x y →
+pub zip_push : {A B : Type 0} (R : A → B → Type 0) (xs : List A) (ys : List B) (x : A) (y : B) → AllZip R xs ys →
+    R x y →
     AllZip R (xs ++ x ∷ []) (ys ++ y ∷ [])
 zip_push R [] [] x y h r = (r, tt)
 zip_push R [] (b ∷ ys) x y h r = absurd h
@@ -101,7 +110,11 @@ zip_push R (a ∷ xs) (b ∷ ys) x y h r = (h.0, zip_push R xs ys x y h.1 r)
 -- among some frames one is least
 pub least_exists : (fs : List FrameValue) → fs ≢ [] → (f : FrameValue) × Contains fs f × IsLeast fs f
 least_exists [] some = absurd (some refl)
-least_exists (f ∷ []) some = (f, (0, omega arith, refl), All-cons (Stands f) f [] (stands_itself f) (All-nil (Stands f)))
+least_exists (f ∷ []) some = (
+  f,
+  (0, omega arith, refl),
+  All-cons (Stands f) f [] (stands_itself f) (All-nil (Stands f)),
+)
 least_exists (f ∷ g ∷ fs) some =
     let rest = least_exists (g ∷ fs) (λ e. cc) in
     go rest.0 rest.1 rest.2 (fields_compared f rest.0)
@@ -109,7 +122,8 @@ least_exists (f ∷ g ∷ fs) some =
     behind : (w : FrameValue) → Contains (g ∷ fs) w → Contains (f ∷ g ∷ fs) w
     behind w among = (suc among.0, omega (arith, among.1), among.2)
 
-    go : (w : FrameValue) → Contains (g ∷ fs) w → IsLeast (g ∷ fs) w → Compared (arbitration_field f) (arbitration_field w) →
+    go : (w : FrameValue) → Contains (g ∷ fs) w → IsLeast (g ∷ fs) w →
+        Compared (arbitration_field f) (arbitration_field w) →
         (v : FrameValue) × Contains (f ∷ g ∷ fs) v × IsLeast (f ∷ g ∷ fs) v
     go w among least (inl same) =
         let P : List Level → Type 0 = λ l. (n : ℕ) → ¬ LosesAt (arbitration_field w) l n in
@@ -119,8 +133,12 @@ least_exists (f ∷ g ∷ fs) some =
         let on = loses_on (arbitration_field f) (arbitration_field w) (arbitration_field f) loses.0 n loses.1 h in
         not_to_itself (arbitration_field f) on.0 on.1 in
         (w, behind w among, All-cons (Stands w) f (g ∷ fs) stands least)
-    go w among least (inr (inr wins)) =
-        (f, (0, omega arith, refl), All-cons (Stands f) f (g ∷ fs) (stands_itself f) (overtakes (g ∷ fs) f w wins.0 least wins.1))
+    go w among least (inr (inr wins)) = (
+      f,
+      (0, omega arith, refl),
+      All-cons (Stands f) f (g ∷ fs) (stands_itself f)
+          (overtakes (g ∷ fs) f w wins.0 least wins.1),
+    )
 
 -- the answer at the place of a frame that goes on
 none_at : (fs rest : List FrameValue) (places : List (Option ℕ)) → AllZip (Fares fs) rest places →
@@ -135,7 +153,8 @@ none_at fs (g ∷ rest) (p ∷ places) zip f (suc k, within, is) least =
     (suc later.0, omega (arith, later.1), later.2)
 
 -- where there is a frame, some frame goes on
-pub some_goes_on : (fs : List FrameValue) (places : List (Option ℕ)) → fs ≢ [] → IsContention fs places → Contains places None
+pub some_goes_on : (fs : List FrameValue) (places : List (Option ℕ)) → fs ≢ [] → IsContention fs places →
+    Contains places None
 some_goes_on fs places some zip =
     let least = least_exists fs some in
     none_at fs fs places zip least.0 least.1 least.2
@@ -145,7 +164,8 @@ one_answer : (fs : List FrameValue) (f : FrameValue) (a b : Option ℕ) → Fare
 one_answer fs f None b x y = sym (y.goes_on.1 (x.goes_on.0 refl))
 one_answer fs f (Some n) b x y = sym ((y.loses n).1 ((x.loses n).0 refl))
 
-one_by_one : (fs rest : List FrameValue) (a b : List (Option ℕ)) → AllZip (Fares fs) rest a → AllZip (Fares fs) rest b → a ≡ b
+one_by_one : (fs rest : List FrameValue) (a b : List (Option ℕ)) → AllZip (Fares fs) rest a → AllZip (Fares fs) rest b →
+    a ≡ b
 one_by_one fs [] [] [] x y = refl
 one_by_one fs [] [] (q ∷ b) x y = absurd y
 one_by_one fs [] (p ∷ a) b x y = absurd x

@@ -31,6 +31,7 @@ use Rattle.can_node.specs.Cut.From.{here, on}
 use Rattle.can_node.specs.WorkedReception.{zero_frame, five}
 use Rattle.can_node.proofs.Bits.Computed.{stuffed_by}
 use Rattle.can_node.proofs.OneCut.Slices.{by_bits, integrates}
+use Rattle.can_node.proofs.Transmission.SentLines.{sent_part_by}
 
 -- a request to send the standard data frame with the identifier 0 and no bytes
 abbrev pub asked : Request
@@ -59,16 +60,12 @@ value_zero = refl
 
 -- it is the part that a transmitter sends
 pub part_sent : SentPart asked.frame zeros part
-part_sent = record {
-  is_part = record {
-    frame = record { id = omega arith; dlc = omega arith; count = refl; bytes = λ k d less. absurd (omega (arith, less)) };
-    body = (Recessive, Dominant, Dominant, refl);
-    check = refl;
-    stuffed =
-        subst (λ w. Stuffed w part) (sym body_zeros) (stuffed_by (replicate 34 Dominant) part 4 refl refl (omega arith) refl);
-  };
-  right = record { count = refl; divides = ([], ap value body_zeros ∙ value_zero) };
-}
+part_sent =
+    sent_part_by asked.frame zeros part
+    (record { id = omega arith; dlc = omega arith; count = refl; bytes = λ k d less. absurd (omega (arith, less)) })
+    (record { count = refl; divides = ([], ap value body_zeros ∙ value_zero) })
+    (subst (λ w. Stuffed w part) (sym body_zeros)
+    (stuffed_by (replicate 34 Dominant) part 4 refl refl (omega arith) refl))
 
 -- a level that is seen as it is driven
 abbrev pub agreed : Level → Bit
@@ -79,7 +76,8 @@ abbrev pub unanswered : List Bit
 unanswered = map agreed (part ++ Recessive ∷ [])
 
 -- seen as driven, and then no acknowledgement
-pub fails : Transmits false asked (unanswered ++ recessive_bit Recessive ∷ []) (Fault InTransmission AckError AckSlot) AtFlag
+pub fails : Transmits false asked (unanswered ++ recessive_bit Recessive ∷ []) (Fault InTransmission AckError AckSlot)
+    AtFlag
 fails =
     failed
     (record {
@@ -118,7 +116,8 @@ rest_of (b ∷ bits) = bits
 
 -- the frame that isn't acknowledged: 8 for the transmitter
 pub is_unanswered :
-    Move waiting AtIdle (map OneBit (unanswered ++ recessive_bit Recessive ∷ [])) (Fault InTransmission AckError AckSlot ∷ [])
+    Move waiting AtIdle (map OneBit (unanswered ++ recessive_bit Recessive ∷ []))
+    (Fault InTransmission AckError AckSlot ∷ [])
     sending AtFlag
 is_unanswered =
     by_bits waiting AtIdle AtFlag (Fault InTransmission AckError AckSlot) (dominant_bit Dominant)
@@ -126,23 +125,28 @@ is_unanswered =
 
 -- its active error flag
 pub flags : Move sending AtFlag (map OneBit (dominant_bits (replicate 6 Dominant))) (Flag ∷ []) sending AtDelimiter
-flags = by_bits sending AtFlag AtDelimiter Flag (dominant_bit Dominant) (dominant_bits (replicate 5 Dominant)) (flag refl) (omega arith)
+flags = by_bits sending AtFlag AtDelimiter Flag (dominant_bit Dominant) (dominant_bits (replicate 5 Dominant))
+    (flag refl) (omega arith)
 
 -- the delimiter
-pub ends : Move sending AtDelimiter (map OneBit (recessive_bits (replicate 8 Recessive))) (Delimiter ∷ []) sending AtInterframeSpace
-ends = by_bits sending AtDelimiter AtInterframeSpace Delimiter (recessive_bit Recessive) (recessive_bits (replicate 7 Recessive)) (delimiter 0) (omega arith)
+pub ends : Move sending AtDelimiter (map OneBit (recessive_bits (replicate 8 Recessive))) (Delimiter ∷ []) sending
+    AtInterframeSpace
+ends = by_bits sending AtDelimiter AtInterframeSpace Delimiter (recessive_bit Recessive)
+    (recessive_bits (replicate 7 Recessive)) (delimiter 0) (omega arith)
 
 -- intermission
 pub rests : Move sending AtInterframeSpace (map OneBit (recessive_bits (replicate 3 Recessive))) (InterframeSpace ∷ [])
     (record sending { role = Receiver }) AtIdle
-rests = by_bits sending AtInterframeSpace AtIdle InterframeSpace (recessive_bit Recessive) (recessive_bits (replicate 2 Recessive)) interframe_space (omega arith)
+rests = by_bits sending AtInterframeSpace AtIdle InterframeSpace (recessive_bit Recessive)
+    (recessive_bits (replicate 2 Recessive)) interframe_space (omega arith)
 
 -- the record
 abbrev pub record_of_sender : Config → List Entry
 record_of_sender config =
     Start (record config { listen = false; self_test = false }) ∷ Send asked ∷ map OneBit
     (recessive_bits (replicate 11 Recessive)
-    ++ ((unanswered ++ recessive_bit Recessive ∷ []) ++ (dominant_bits (replicate 6 Dominant) ++ recessive_bits (replicate 11 Recessive))))
+    ++ ((unanswered ++ recessive_bit Recessive ∷ [])
+    ++ (dominant_bits (replicate 6 Dominant) ++ recessive_bits (replicate 11 Recessive))))
 
 -- its pieces, with activation and bit count
 abbrev pub pieces_of_sender : List FinishedPiece

@@ -31,6 +31,7 @@ use Rattle.can_node.specs.Cut.From.{here, on}
 use Rattle.can_node.proofs.Bits.Computed.{stuffed_by}
 use Rattle.can_node.proofs.Rules.Judged.{asked}
 use Rattle.can_node.proofs.OneCut.Slices.{by_bits, integrates}
+use Rattle.can_node.proofs.Transmission.SentLines.{sent_part_by}
 use Rattle.can_node.proofs.Examples.StuffError.{sixth_breaks}
 
 -- its body: SOF, a recessive bit, and dominant ones
@@ -63,23 +64,20 @@ body_is = refl
 -- with its CRC sequence it is this multiple of the generator
 abbrev quotient : List Bool
 quotient =
-    true ∷ false ∷ false ∷ true ∷ false ∷ true ∷ true ∷ true ∷ true ∷ false ∷ true ∷ true ∷ false ∷ true ∷ true ∷ true ∷ true ∷ true ∷ []
+    true ∷ false ∷ false ∷ true ∷ false ∷ true ∷ true ∷ true ∷ true ∷ false ∷ true ∷ true ∷ false ∷ true ∷ true ∷ true
+    ∷ true ∷ true ∷ []
 
 divided : value (body ++ check) ≡ product generator quotient
 divided = refl
 
 -- it is the part that a transmitter sends
 part_sent : SentPart asked.frame check part
-part_sent = record {
-  is_part = record {
-    frame = record { id = omega arith; dlc = omega arith; count = refl; bytes = λ k d less. absurd (omega (arith, less)) };
-    body = (Recessive, Dominant, Dominant, refl);
-    check = refl;
-    stuffed =
-        subst (λ w. Stuffed (w ++ check) part) (sym body_is) (stuffed_by (body ++ check) part 1 refl refl (omega arith) refl);
-  };
-  right = record { count = refl; divides = (quotient, ap (λ w. value (w ++ check)) body_is ∙ divided) };
-}
+part_sent =
+    sent_part_by asked.frame check part
+    (record { id = omega arith; dlc = omega arith; count = refl; bytes = λ k d less. absurd (omega (arith, less)) })
+    (record { count = refl; divides = (quotient, ap (λ w. value (w ++ check)) body_is ∙ divided) })
+    (subst (λ w. Stuffed (w ++ check) part) (sym body_is)
+    (stuffed_by (body ++ check) part 1 refl refl (omega arith) refl))
 
 -- the first bit of the identifier may be lost
 first_place : place_code false (Dominant ∷ []) ≡ Some 0
@@ -87,7 +85,8 @@ unfolding begins_in_five
 first_place = refl
 
 -- the node drives SOF, loses, and goes on as receiver
-loses : Transmits false asked (dominant_bit Dominant ∷ recessive_bits (replicate 5 Dominant)) (Fault InReception StuffError Id28To21) AtFlag
+loses : Transmits false asked (dominant_bit Dominant ∷ recessive_bits (replicate 5 Dominant))
+    (Fault InReception StuffError Id28To21) AtFlag
 loses =
     lost
     (record {
@@ -122,14 +121,16 @@ breaks : Move waiting AtIdle (map OneBit (dominant_bit Dominant ∷ recessive_bi
     (record waiting { rec = 1 }) AtFlag
 unfolding begins_in_five
 breaks =
-    by_bits waiting AtIdle AtFlag (Fault InReception StuffError Id28To21) (dominant_bit Dominant) (recessive_bits (replicate 5 Dominant))
+    by_bits waiting AtIdle AtFlag (Fault InReception StuffError Id28To21) (dominant_bit Dominant)
+    (recessive_bits (replicate 5 Dominant))
     (own refl loses) (omega arith)
 
 -- the record
 abbrev pub record_of_loss : Config → List Entry
 record_of_loss config =
     Start (record config { listen = false; self_test = false }) ∷ Send asked
-    ∷ map OneBit (recessive_bits (replicate 11 Recessive) ++ dominant_bit Dominant ∷ recessive_bits (replicate 5 Dominant))
+    ∷ map OneBit (recessive_bits (replicate 11 Recessive) ++ dominant_bit Dominant
+    ∷ recessive_bits (replicate 5 Dominant))
 
 -- its pieces, with activation and bit count
 abbrev pub pieces_of_loss : List FinishedPiece
@@ -140,7 +141,8 @@ pieces_of_loss =
 
 -- its cut: the node is receiver with its receive error counter at 1, and the request is still held
 pub cut_of_loss : (config : Config) →
-    (cut : IsCut (record_of_loss config) pieces_of_loss) × (cut.context ≡ record waiting { rec = 1 }) × (cut.place ≡ AtFlag)
+    (cut : IsCut (record_of_loss config) pieces_of_loss) × (cut.context ≡ record waiting { rec = 1 })
+    × (cut.place ≡ AtFlag)
 cut_of_loss config = (
   record {
     context = record waiting { rec = 1 };

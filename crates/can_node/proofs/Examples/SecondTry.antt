@@ -28,7 +28,8 @@ again = record waiting { tec = 8 }
 
 -- the second try fails as the first one did: 16 for the transmitter
 is_unanswered_again :
-    Move again AtIdle (map OneBit (unanswered ++ recessive_bit Recessive ∷ [])) (Fault InTransmission AckError AckSlot ∷ [])
+    Move again AtIdle (map OneBit (unanswered ++ recessive_bit Recessive ∷ []))
+    (Fault InTransmission AckError AckSlot ∷ [])
     (record again { role = Transmitter; tec = 16 }) AtFlag
 is_unanswered_again =
     by_bits again AtIdle AtFlag (Fault InTransmission AckError AckSlot) (dominant_bit Dominant)
@@ -40,11 +41,13 @@ record_of_retry config =
     Start (record config { listen = false; self_test = false }) ∷ Send asked ∷ map OneBit
     (recessive_bits (replicate 11 Recessive)
     ++ ((unanswered ++ recessive_bit Recessive ∷ [])
-    ++ (dominant_bits (replicate 6 Dominant) ++ (recessive_bits (replicate 11 Recessive) ++ (unanswered ++ recessive_bit Recessive ∷ [])))))
+    ++ (dominant_bits (replicate 6 Dominant)
+    ++ (recessive_bits (replicate 11 Recessive) ++ (unanswered ++ recessive_bit Recessive ∷ [])))))
 
 -- its pieces, with activation and bit count
 abbrev pub pieces_of_retry : List FinishedPiece
-pieces_of_retry = pieces_of_sender ++ (record { piece = Fault InTransmission AckError AckSlot; activation = 1; bits = 112 }) ∷ []
+pieces_of_retry = pieces_of_sender
+    ++ (record { piece = Fault InTransmission AckError AckSlot; activation = 1; bits = 112 }) ∷ []
 
 -- its cut: the request is still held
 pub cut_of_retry : (config : Config) →
@@ -58,7 +61,8 @@ cut_of_retry config = (
     from =
         on (started (record config { listen = false; self_test = false }) [])
         (on (sent asked (λ same. cc))
-        (on (integrates (Some asked)) (on is_unanswered (on flags (on ends (on rests (on is_unanswered_again (here nothing (omega arith)))))))));
+        (on (integrates (Some asked)) (on is_unanswered
+        (on flags (on ends (on rests (on is_unanswered_again (here nothing (omega arith)))))))));
   },
   refl,
   refl,

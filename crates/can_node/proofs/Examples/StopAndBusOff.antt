@@ -93,10 +93,12 @@ start_unseen =
     })
 
 -- with it a transmitter at 248 goes bus-off: counters 127 and 0, and its request is dropped
-goes_off : Move (record fresh { held = Some asked; tec = 248; rec = 5 }) AtIdle (OneBit (dominant_bit Recessive) ∷ BusOff ∷ [])
+goes_off : Move (record fresh { held = Some asked; tec = 248; rec = 5 }) AtIdle
+    (OneBit (dominant_bit Recessive) ∷ BusOff ∷ [])
     (Fault InTransmission BitError StartOfFrame ∷ [])
     (record fresh { role = Transmitter; tec = 127; off = true; flag = PassiveError }) AtReset
-goes_off = off_after (OneBit (dominant_bit Recessive) ∷ []) [] (dominant_bit Recessive) refl (omega arith) (slice_of (dominant_bit Recessive) []) (own refl start_unseen) (omega arith)
+goes_off = off_after (OneBit (dominant_bit Recessive) ∷ []) [] (dominant_bit Recessive) refl (omega arith)
+    (slice_of (dominant_bit Recessive) []) (own refl start_unseen) (omega arith)
 
 -- six levels are the first six equal ones
 first_six : (x : Level) → IsFirst (EndsInEqual 6) (replicate 6 x)
@@ -118,7 +120,8 @@ owing = record fresh { held = Some asked; role = Transmitter; tec = 250; flag = 
 owed_off : Move owing AtFlag (OneBit (recessive_bit Dominant) ∷ BusOff ∷ []) []
     (record fresh { role = Transmitter; tec = 127; off = true; flag = PassiveError }) AtReset
 owed_off =
-    off_within (OneBit (recessive_bit Dominant) ∷ []) [] (recessive_bit Dominant) refl (omega arith) (slice_of (recessive_bit Dominant) [])
+    off_within (OneBit (recessive_bit Dominant) ∷ []) [] (recessive_bit Dominant) refl (omega arith)
+    (slice_of (recessive_bit Dominant) [])
     (record {
       piece = Flag;
       next = AtDelimiter;

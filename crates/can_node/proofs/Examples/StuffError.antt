@@ -30,12 +30,11 @@ use Rattle.can_node.specs.Table.Row.{other}
 use Rattle.can_node.specs.FinishedPieces.{FinishedPiece}
 use Rattle.can_node.specs.Cut.{Move, IsCut}
 use Rattle.can_node.specs.Cut.IsOpenAt.{nothing}
-use Rattle.can_node.specs.Cut.Move.{started}
 use Rattle.can_node.specs.Cut.From.{here, on}
 use Rattle.can_node.proofs.Bits.Computed.{short_by}
 use Rattle.can_node.proofs.Reception.StuffFaults.{stuff_fault}
 use Rattle.can_node.proofs.Reception.Completing.{inside_within}
-use Rattle.can_node.proofs.OneCut.Slices.{by_bits, integrates}
+use Rattle.can_node.proofs.OneCut.Slices.{by_bits, begins_idle}
 
 -- five dominant levels are the beginning of a stuffed part
 five_inside : IsInside (replicate 5 Dominant)
@@ -75,10 +74,12 @@ pub six_dominant : (c : ContextValue) → sent_at c AtIdle ≡ None →
 six_dominant c idle = other idle (broken (sixth_breaks c.listen (Dominant ∷ []) (replicate 4 Dominant) refl))
 
 -- the six dominant bits
-breaks : Move fresh AtIdle (map OneBit (recessive_bits (replicate 6 Dominant))) (Fault InReception StuffError Id28To21 ∷ [])
+breaks : Move fresh AtIdle (map OneBit (recessive_bits (replicate 6 Dominant)))
+    (Fault InReception StuffError Id28To21 ∷ [])
     (record fresh { rec = 1 }) AtFlag
 breaks =
-    by_bits fresh AtIdle AtFlag (Fault InReception StuffError Id28To21) (recessive_bit Dominant) (recessive_bits (replicate 5 Dominant))
+    by_bits fresh AtIdle AtFlag (Fault InReception StuffError Id28To21) (recessive_bit Dominant)
+    (recessive_bits (replicate 5 Dominant))
     (six_dominant fresh refl) (omega arith)
 
 -- the record
@@ -96,15 +97,14 @@ pieces_of_fault =
 
 -- its cut: the receive error counter is 1, and an active error flag follows
 pub cut_of_fault : (config : Config) →
-    (cut : IsCut (record_of_fault config) pieces_of_fault) × (cut.context ≡ record fresh { rec = 1 }) × (cut.place ≡ AtFlag)
+    (cut : IsCut (record_of_fault config) pieces_of_fault) × (cut.context ≡ record fresh { rec = 1 })
+    × (cut.place ≡ AtFlag)
 cut_of_fault config = (
   record {
     context = record fresh { rec = 1 };
     place = AtFlag;
     rest = [];
-    from =
-        on (started (record config { listen = false; self_test = false }) [])
-        (on (integrates None) (on breaks (here nothing (omega arith))));
+    from = begins_idle config (on breaks (here nothing (omega arith)));
   },
   refl,
   refl,

@@ -1,6 +1,6 @@
 -- A record and its cut: a node starts, waits for eleven recessive levels, and receives a frame whose CRC sequence is
 -- wrong. It drives no acknowledgement, and finds the error at the ACK delimiter.
-use Rattle.std.proofs.Common.{◌≡◌, false, List, [], ◌∷◌, ◌++◌, map, replicate, refl, ap, sym, subst, ◌∙◌, arith, append_assoc, None}
+use Rattle.std.proofs.Common.{◌≡◌, false, List, [], ◌∷◌, ◌++◌, map, replicate, refl, ap, sym, subst, ◌∙◌, arith, append_assoc}
 use Rattle.can_frame.specs.Frame.{FrameValue}
 use Rattle.can_bits.specs.declared.level.Level.{Level}
 use Rattle.can_bits.specs.declared.level.Level.TheVariants.{Dominant, Recessive}
@@ -31,14 +31,13 @@ use Rattle.can_node.specs.Table.Row.{other}
 use Rattle.can_node.specs.FinishedPieces.{FinishedPiece}
 use Rattle.can_node.specs.Cut.{Move, IsCut}
 use Rattle.can_node.specs.Cut.IsOpenAt.{nothing}
-use Rattle.can_node.specs.Cut.Move.{started}
 use Rattle.can_node.specs.Cut.From.{here, on}
 use Rattle.can_node.specs.WorkedReception.{five}
 use Rattle.can_node.proofs.Bits.Seen.{acknowledges_none, acknowledges_cons}
-use Rattle.can_node.proofs.Reception.Breaking.{breaks_off_now, readable_begins}
+use Rattle.can_node.proofs.Reception.Breaking.{breaks_off_now}
 use Rattle.can_node.proofs.Bits.Computed.{stuffed_by}
 use Rattle.can_node.proofs.Bits.DrivenAlike.{never_dominant}
-use Rattle.can_node.proofs.OneCut.Slices.{by_bits, integrates}
+use Rattle.can_node.proofs.OneCut.Slices.{by_bits, begins_idle}
 use Rattle.can_node.proofs.Examples.LoneSender.{asked, zeros, part_sent}
 
 -- a CRC sequence for the frame with the identifier 0 that is wrong in its last bit
@@ -48,7 +47,8 @@ wrong_check = replicate 14 Dominant ++ Recessive ∷ []
 -- the stuffed part after SOF: 33 dominant levels with six stuff bits, and then a recessive one
 abbrev pub later : List Level
 later =
-    Dominant ∷ Dominant ∷ Dominant ∷ Dominant ∷ Recessive ∷ (five ++ (five ++ (five ++ (five ++ (five ++ (replicate 3 Dominant ++ Recessive ∷ []))))))
+    Dominant ∷ Dominant ∷ Dominant ∷ Dominant ∷ Recessive
+    ∷ (five ++ (five ++ (five ++ (five ++ (five ++ (replicate 3 Dominant ++ Recessive ∷ []))))))
 
 -- the body with this CRC sequence
 body_wrong : sent_body asked.frame ++ wrong_check ≡ replicate 33 Dominant ++ Recessive ∷ []
@@ -75,7 +75,8 @@ is_wrong h =
 -- ---- a receiver drives nothing in a line with a wrong CRC sequence
 
 -- no acknowledgement is due in it
-none_due : {f : FrameValue} {b c : List Level} (part l rest : List Level) (ack : Level) → StuffedPart f b c part → (Crc b c → ⊥) → l ++ rest ≡ part ++ tail ack → IsAckDue l → ⊥
+none_due : {f : FrameValue} {b c : List Level} (part l rest : List Level) (ack : Level) → StuffedPart f b c part →
+    (Crc b c → ⊥) → l ++ rest ≡ part ++ tail ack → IsAckDue l → ⊥
 none_due {b = b} {c = c} part l rest ack h wrong e due =
     let whole : due.part ++ Recessive ∷ rest ≡ part ++ tail ack =
     sym (append_assoc due.part (Recessive ∷ []) rest) ∙ ap (λ m. m ++ rest) (sym due.whole) ∙ e in
@@ -85,11 +86,13 @@ none_due {b = b} {c = c} part l rest ack h wrong e due =
     wrong (subst (λ m. Crc m c) spells.1 (subst (λ m. Crc due.body m) spells.2 due.right))
 
 -- so a receiver drives recessive throughout
-all_quiet : {f : FrameValue} {b c : List Level} (part l u rest : List Level) (ack : Level) → StuffedPart f b c part → (Crc b c → ⊥) → l ++ (u ++ rest) ≡ part ++ tail ack →
+all_quiet : {f : FrameValue} {b c : List Level} (part l u rest : List Level) (ack : Level) → StuffedPart f b c part →
+    (Crc b c → ⊥) → l ++ (u ++ rest) ≡ part ++ tail ack →
     AllAcknowledge false l (recessive_bits u)
 all_quiet part l [] rest ack h wrong e = acknowledges_none false l
 all_quiet part l (x ∷ u) rest ack h wrong e =
-    acknowledges_cons false l (recessive_bit x) (recessive_bits u) (λ due. none_due part l (x ∷ (u ++ rest)) ack h wrong e due)
+    acknowledges_cons false l (recessive_bit x) (recessive_bits u)
+    (λ due. none_due part l (x ∷ (u ++ rest)) ack h wrong e due)
     (all_quiet part (l ++ x ∷ []) u rest ack h wrong (append_assoc l (x ∷ []) (u ++ rest) ∙ e))
 
 -- ---- the fault
@@ -101,52 +104,64 @@ unanswered = later ++ Recessive ∷ Recessive ∷ []
 -- so far nothing is wrong but the CRC sequence
 abbrev readable_so_far : IsReadable ((Dominant ∷ []) ++ seen_of (recessive_bits unanswered))
 readable_so_far = record {
-  frame = asked.frame;
-  body = sent_body asked.frame;
-  check = wrong_check;
-  ack = Recessive;
-  rest = replicate 8 Recessive;
-  line = record { part = Dominant ∷ later; is_part = part_wrong; whole = refl };
+  begun = record {
+    frame = asked.frame;
+    body = sent_body asked.frame;
+    check = wrong_check;
+    ack = Recessive;
+    rest = replicate 8 Recessive;
+    line = record { part = Dominant ∷ later; is_part = part_wrong; whole = refl };
+  };
   right = λ few. absurd (omega (arith, few));
 }
 
 -- the ACK delimiter is the fault
-receives_fault : Receives false (Dominant ∷ []) (recessive_bits (unanswered ++ Recessive ∷ [])) (Fault InReception CheckError AckDelimiter) AtFlag
+receives_fault : Receives false (Dominant ∷ []) (recessive_bits (unanswered ++ Recessive ∷ []))
+    (Fault InReception CheckError AckDelimiter) AtFlag
 receives_fault =
-    broken (breaks_off_now false (Dominant ∷ []) (recessive_bits unanswered) (recessive_bit Recessive) CheckError AckDelimiter false
-    (all_quiet (Dominant ∷ later) (Dominant ∷ []) (unanswered ++ Recessive ∷ []) (replicate 7 Recessive) Recessive part_wrong is_wrong refl)
+    broken (breaks_off_now false (Dominant ∷ []) (recessive_bits unanswered) (recessive_bit Recessive) CheckError
+    AckDelimiter false
+    (all_quiet (Dominant ∷ later) (Dominant ∷ []) (unanswered ++ Recessive ∷ []) (replicate 7 Recessive) Recessive
+    part_wrong is_wrong refl)
     (record {
       readable = readable_so_far;
       answered = λ before after e. never_dominant unanswered before after Recessive e;
     })
     (record {
-      begun = readable_begins ((Dominant ∷ []) ++ seen_of (recessive_bits unanswered)) readable_so_far;
+      begun = readable_so_far.begun;
       long = omega arith;
     })
     (check (recessive_bits unanswered) refl (record {
-      frame = asked.frame;
-      body = sent_body asked.frame;
-      check = wrong_check;
-      part = Dominant ∷ later;
+      past = record {
+        frame = asked.frame;
+        body = sent_body asked.frame;
+        check = wrong_check;
+        part = Dominant ∷ later;
+        rest = Recessive ∷ Recessive ∷ [];
+        is_part = part_wrong;
+        whole = refl;
+      };
       ack = Recessive;
-      is_part = part_wrong;
+      slot = refl;
       wrong = is_wrong;
-      whole = refl;
     }))
     (after_part (Dominant ∷ later) (Recessive ∷ Recessive ∷ []) part_wrong refl))
 
 -- its own step: 1 for the receiver
-faults : Move fresh AtIdle (map OneBit (recessive_bit Dominant ∷ recessive_bits (unanswered ++ Recessive ∷ []))) (Fault InReception CheckError AckDelimiter ∷ [])
+faults : Move fresh AtIdle (map OneBit (recessive_bit Dominant ∷ recessive_bits (unanswered ++ Recessive ∷ [])))
+    (Fault InReception CheckError AckDelimiter ∷ [])
     (record fresh { rec = 1 }) AtFlag
 faults =
-    by_bits fresh AtIdle AtFlag (Fault InReception CheckError AckDelimiter) (recessive_bit Dominant) (recessive_bits (unanswered ++ Recessive ∷ []))
+    by_bits fresh AtIdle AtFlag (Fault InReception CheckError AckDelimiter) (recessive_bit Dominant)
+    (recessive_bits (unanswered ++ Recessive ∷ []))
     (other refl receives_fault) (omega arith)
 
 -- the record
 abbrev pub record_of_check : Config → List Entry
 record_of_check config =
     Start (record config { listen = false; self_test = false })
-    ∷ map OneBit (recessive_bits (replicate 11 Recessive) ++ (recessive_bit Dominant ∷ recessive_bits (unanswered ++ Recessive ∷ [])))
+    ∷ map OneBit (recessive_bits (replicate 11 Recessive)
+    ++ (recessive_bit Dominant ∷ recessive_bits (unanswered ++ Recessive ∷ [])))
 
 -- its pieces, with activation and bit count: no frame is received
 abbrev pub pieces_of_check : List FinishedPiece
@@ -157,15 +172,14 @@ pieces_of_check =
 
 -- its cut: the receive error counter is 1, and an active error flag follows
 pub cut_of_check : (config : Config) →
-    (cut : IsCut (record_of_check config) pieces_of_check) × (cut.context ≡ record fresh { rec = 1 }) × (cut.place ≡ AtFlag)
+    (cut : IsCut (record_of_check config) pieces_of_check) × (cut.context ≡ record fresh { rec = 1 })
+    × (cut.place ≡ AtFlag)
 cut_of_check config = (
   record {
     context = record fresh { rec = 1 };
     place = AtFlag;
     rest = [];
-    from =
-        on (started (record config { listen = false; self_test = false }) [])
-        (on (integrates None) (on faults (here nothing (omega arith))));
+    from = begins_idle config (on faults (here nothing (omega arith)));
   },
   refl,
   refl,

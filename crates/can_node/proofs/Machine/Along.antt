@@ -34,7 +34,8 @@ pub along_both : (c : ContextValue) (place : Place) (done : List Bit) (a b : Lis
 along_both c place done [] b = ap (λ l. along c place l b) (sym (append-nil done))
 along_both c place done (OneBit x ∷ a) b =
     along_both (at_bit c place done x) place (done ++ x ∷ []) a b
-    ∙ ap (λ l. along (along (at_bit c place done x) place (done ++ x ∷ []) a) place l b) (append_assoc done (x ∷ []) (bits_in a))
+    ∙ ap (λ l. along (along (at_bit c place done x) place (done ++ x ∷ []) a) place l b)
+    (append_assoc done (x ∷ []) (bits_in a))
 along_both c place done (Send request ∷ a) b = along_both (with_send request c) place done a b
 along_both c place done (Abort ∷ a) b = along_both (with_abort place c) place done a b
 along_both c place done (Start config ∷ a) b = along_both c place done a b
@@ -61,7 +62,8 @@ chosen false c d e h k = k
 -- a request that is dropped or not
 dropped : (held : Option Request) (c d : ContextValue) → AreKept c d → AreKept c (drop_failed held d)
 dropped None c d h = h
-dropped (Some request) c d h = chosen (request.single_shot || d.aborted) c (record d { held = None; aborted = false }) d h h
+dropped (Some request) c d h =
+    chosen (request.single_shot || d.aborted) c (record d { held = None; aborted = false }) d h h
 
 -- steps of the counters by the role
 stepped : (role : Role) (c d : ContextValue) → AreKept c d → AreKept c (more_by role 8 8 d)
@@ -90,7 +92,8 @@ in_flag Dominant c = chosen c.ack_step_owed c (record (more_tec 8 c) { ack_step_
 in_flag Recessive c = same c
 
 -- a bit after a flag
-after_flag : (done : List Bit) (role : Role) (flag : FlagKind) (c : ContextValue) → AreKept c (after_error_flag done role flag c)
+after_flag : (done : List Bit) (role : Role) (flag : FlagKind) (c : ContextValue) →
+    AreKept c (after_error_flag done role flag c)
 after_flag [] Receiver ActiveError c = same c
 after_flag [] Receiver PassiveError c = same c
 after_flag [] Receiver Overload c = same c
@@ -100,7 +103,8 @@ after_flag (b ∷ done) role flag c = same c
 -- the eighth dominant level
 eighth : (done : List Bit) (c d : ContextValue) → AreKept c d → AreKept c (if_eighth done d)
 eighth done c d h =
-    chosen (are_dominant (seen_of done) && (length done + 1) % 8 == 0) c (more_by d.role 8 8 d) d (stepped d.role c d h) h
+    chosen (are_dominant (seen_of done) && (length done + 1) % 8 == 0) c (more_by d.role 8 8 d) d (stepped d.role c d h)
+    h
 
 -- a level after a flag
 tail_kept : (x : Level) (done : List Bit) (c : ContextValue) → AreKept c (delimiter_level x done c)
@@ -113,7 +117,8 @@ tail_kept Recessive done c = same c
 one_bit : (c : ContextValue) (place : Place) (done : List Bit) (b : Bit) → AreKept c (at_bit c place done b)
 one_bit c AtReset done b = same c
 one_bit c AtIntegration done b =
-    chosen ((c.off && not c.listen) && ends_eleven (fold next_run 0 (seen_of done)) b.seen) c (record c { tec = c.tec - 1 }) c (same c) (same c)
+    chosen ((c.off && not c.listen) && ends_eleven (fold next_run 0 (seen_of done)) b.seen) c
+    (record c { tec = c.tec - 1 }) c (same c) (same c)
 one_bit c AtIdle [] b = at_first (sent_at c AtIdle) c
 one_bit c AtIdle (x ∷ done) b = in_frame c.role c (seen_of (x ∷ done)) b
 one_bit c AfterSof done b = in_frame c.role c (Dominant ∷ seen_of done) b
@@ -128,14 +133,17 @@ kept_both c d e h k = (k.0 ∙ h.0, k.1 ∙ h.1, k.2 ∙ h.2, k.3 ∙ h.3)
 
 -- an abort
 aborted : (c : ContextValue) (place : Place) → AreKept c (with_abort place c)
-aborted c place = chosen (is_in_progress c place) c (record c { aborted = true }) (record c { held = None }) (same c) (same c)
+aborted c place = chosen (is_in_progress c place) c (record c { aborted = true }) (record c { held = None }) (same c)
+    (same c)
 
 -- all entries of a piece
-pub all_kept : (c : ContextValue) (place : Place) (done : List Bit) (slice : List Entry) → AreKept c (along c place done slice)
+pub all_kept : (c : ContextValue) (place : Place) (done : List Bit) (slice : List Entry) →
+    AreKept c (along c place done slice)
 all_kept c place done [] = same c
 all_kept c place done (OneBit b ∷ slice) =
     let now = at_bit c place done b in
-    kept_both c now (along now place (done ++ b ∷ []) slice) (one_bit c place done b) (all_kept now place (done ++ b ∷ []) slice)
+    kept_both c now (along now place (done ++ b ∷ []) slice) (one_bit c place done b)
+    (all_kept now place (done ++ b ∷ []) slice)
 all_kept c place done (Send request ∷ slice) = all_kept (with_send request c) place done slice
 all_kept c place done (Abort ∷ slice) =
     let now = with_abort place c in
@@ -144,8 +152,9 @@ all_kept c place done (Start config ∷ slice) = all_kept c place done slice
 all_kept c place done (Stop ∷ slice) = all_kept c place done slice
 all_kept c place done (BusOff ∷ slice) = all_kept c place done slice
 
--- in a pause role and counters stay
-interframe_kept : (c : ContextValue) (done : List Bit) (slice : List Entry) → owes_suspension (along c AtInterframeSpace done slice) ≡ owes_suspension c
+-- in interframe space role and counters stay
+interframe_kept : (c : ContextValue) (done : List Bit) (slice : List Entry) →
+    owes_suspension (along c AtInterframeSpace done slice) ≡ owes_suspension c
 interframe_kept c done [] = refl
 interframe_kept c done (OneBit b ∷ slice) = interframe_kept c (done ++ b ∷ []) slice
 interframe_kept c done (Send request ∷ slice) = interframe_kept (with_send request c) done slice

@@ -18,35 +18,44 @@ use Rattle.can_node.specs.Machine.Stages.{At, IsIntegrating, IsInFlag, IsInDomin
 use Rattle.can_node.specs.Machine.Turns.{IsTurn, after_last_eof}
 
 -- the stage is this one
-pub at_is : (s : Stage) (stage : Stage) (shift : Shift) (c now : ContextValue) (place : Place) (bits : List Bit) → stage ≡ s → At stage shift c now place bits →
+pub at_is : (s : Stage) (stage : Stage) (shift : Shift) (c now : ContextValue) (place : Place) (bits : List Bit) →
+    stage ≡ s → At stage shift c now place bits →
     At s shift c now place bits
 at_is s stage shift c now place bits e h = let P : Stage → Type 0 = λ x. At x shift c now place bits in subst P e h
 
 -- a turn at a place, of a bit in which this level was driven
-turn_at : (shift : Shift) (c now : ContextValue) (place s : Place) (bits : List Bit) (driven x seen : Level) (turn : AfterBit) → place ≡ s → driven ≡ x →
-    IsTurn shift c now s bits (record { driven = x; seen = seen }) turn → IsTurn shift c now place bits (record { driven = driven; seen = seen }) turn
+turn_at : (shift : Shift) (c now : ContextValue) (place s : Place) (bits : List Bit) (driven x seen : Level)
+    (turn : AfterBit) → place ≡ s → driven ≡ x →
+    IsTurn shift c now s bits (record { driven = x; seen = seen }) turn →
+    IsTurn shift c now place bits (record { driven = driven; seen = seen }) turn
 turn_at shift c now place s bits driven x seen turn e d h =
     let P : Place → Type 0 = λ z. IsTurn shift c now z bits (record { driven = driven; seen = seen }) turn in
     let Q : Level → Type 0 = λ y. IsTurn shift c now s bits (record { driven = y; seen = seen }) turn in
     subst P (sym e) (subst Q (sym d) h)
 
 -- what is driven at a place
-driven_at : (now : ContextValue) (place s : Place) (bits : List Bit) (x : Level) → place ≡ s → Drives now place bits x → Drives now s bits x
+driven_at : (now : ContextValue) (place s : Place) (bits : List Bit) (x : Level) → place ≡ s → Drives now place bits x →
+    Drives now s bits x
 driven_at now place s bits x e h = let P : Place → Type 0 = λ z. Drives now z bits x in subst P e h
 
 -- waiting for the bus
-pub at_integrating : (left run : ℕ) (stage : Stage) (shift : Shift) (c now : ContextValue) (place : Place) (bits : List Bit) (driven seen : Level) (turn : AfterBit) →
+pub at_integration : (left run : ℕ) (stage : Stage) (shift : Shift) (c now : ContextValue) (place : Place)
+    (bits : List Bit) (driven seen : Level) (turn : AfterBit) →
     stage ≡ StageIntegrating left run → At stage shift c now place bits → Drives now place bits driven →
-    ((shift : Shift) (c now : ContextValue) (bits : List Bit) → IsIntegrating left run c bits → IsTurn shift c now AtIntegration bits (recessive_bit seen) turn) →
+    ((shift : Shift) (c now : ContextValue) (bits : List Bit) → IsIntegrating left run c bits →
+    IsTurn shift c now AtIntegration bits (recessive_bit seen) turn) →
     IsTurn shift c now place bits (record { driven = driven; seen = seen }) turn
-at_integrating left run stage shift c now place bits driven seen turn e h drives f =
+at_integration left run stage shift c now place bits driven seen turn e h drives f =
     let at = at_is (StageIntegrating left run) stage shift c now place bits e h in
-    turn_at shift c now place AtIntegration bits driven Recessive seen turn at.0 (driven_at now place AtIntegration bits driven at.0 drives) (f shift c now bits at.1)
+    turn_at shift c now place AtIntegration bits driven Recessive seen turn at.0
+    (driven_at now place AtIntegration bits driven at.0 drives) (f shift c now bits at.1)
 
 -- an idle bus
-pub at_idle : (stage : Stage) (shift new : Shift) (c now : ContextValue) (place : Place) (bits : List Bit) (driven seen : Level) (turn : AfterBit) →
+pub at_idle : (stage : Stage) (shift new : Shift) (c now : ContextValue) (place : Place) (bits : List Bit)
+    (driven seen : Level) (turn : AfterBit) →
     stage ≡ StageBusIdle → At stage shift c now place bits → Drives now place bits driven →
-    (now.role ≡ Receiver → Drives now AtIdle [] driven → IsTurn new now now AtIdle [] (record { driven = driven; seen = seen }) turn) →
+    (now.role ≡ Receiver → Drives now AtIdle [] driven →
+    IsTurn new now now AtIdle [] (record { driven = driven; seen = seen }) turn) →
     IsTurn new c now place bits (record { driven = driven; seen = seen }) turn
 at_idle stage shift new c now place bits driven seen turn e h drives f =
     let at = at_is StageBusIdle stage shift c now place bits e h in
@@ -54,76 +63,100 @@ at_idle stage shift new c now place bits driven seen turn e h drives f =
     let Q : List Bit → Type 0 = λ l. IsTurn new c now AtIdle l (record { driven = driven; seen = seen }) turn in
     let R : ContextValue → Type 0 = λ d. IsTurn new d now AtIdle [] (record { driven = driven; seen = seen }) turn in
     let S : List Bit → Type 0 = λ l. Drives now AtIdle l driven in
-    subst P (sym at.0) (subst Q (sym at.1) (subst R (sym at.3) (f at.2 (subst S at.1 (driven_at now place AtIdle bits driven at.0 drives)))))
+    subst P (sym at.0) (subst Q (sym at.1)
+    (subst R (sym at.3) (f at.2 (subst S at.1 (driven_at now place AtIdle bits driven at.0 drives)))))
 
 -- the seventh bit of EOF of a received frame
-last_row : (x : Level) (shift : Shift) (c now : ContextValue) → IsTurn shift c now AtLastEofBit [] (recessive_bit x) (after_last_eof x)
+last_row : (x : Level) (shift : Shift) (c now : ContextValue) →
+    IsTurn shift c now AtLastEofBit [] (recessive_bit x) (after_last_eof x)
 last_row Dominant shift c now = last_eof_bit_overload
 last_row Recessive shift c now = last_eof_bit
 
-pub at_last : (stage : Stage) (shift : Shift) (c now : ContextValue) (place : Place) (bits : List Bit) (driven seen : Level) (turn : AfterBit) →
-    stage ≡ StageLastEofBit → At stage shift c now place bits → Drives now place bits driven → turn ≡ after_last_eof seen →
+pub at_last_eof_bit : (stage : Stage) (shift : Shift) (c now : ContextValue) (place : Place) (bits : List Bit)
+    (driven seen : Level) (turn : AfterBit) →
+    stage ≡ StageLastEofBit → At stage shift c now place bits → Drives now place bits driven →
+    turn ≡ after_last_eof seen →
     IsTurn shift c now place bits (record { driven = driven; seen = seen }) turn
-at_last stage shift c now place bits driven seen turn e h drives is =
+at_last_eof_bit stage shift c now place bits driven seen turn e h drives is =
     let at = at_is StageLastEofBit stage shift c now place bits e h in
     let P : AfterBit → Type 0 = λ t. IsTurn shift c now AtLastEofBit [] (recessive_bit seen) t in
     let Q : List Bit → Type 0 = λ l. IsTurn shift c now AtLastEofBit l (recessive_bit seen) turn in
-    turn_at shift c now place AtLastEofBit bits driven Recessive seen turn at.0 (driven_at now place AtLastEofBit bits driven at.0 drives)
+    turn_at shift c now place AtLastEofBit bits driven Recessive seen turn at.0
+    (driven_at now place AtLastEofBit bits driven at.0 drives)
     (subst Q (sym at.1) (subst P (sym is) (last_row seen shift c now)))
 
 -- what a context keeps fixes what is driven in a flag
 level_kept : (c now : ContextValue) → now.listen ≡ c.listen → now.flag ≡ c.flag → flag_level now ≡ flag_level c
-level_kept c now listen flag = ap (λ t. if t then Recessive else level_of_flag now.flag) listen ∙ ap (λ f. if c.listen then Recessive else level_of_flag f) flag
+level_kept c now listen flag =
+    ap (λ t. if t then Recessive else level_of_flag now.flag) listen
+    ∙ ap (λ f. if c.listen then Recessive else level_of_flag f) flag
 
 -- a dominant flag
-pub at_forcing : (n : ℕ) (like level driven seen : Level) (shift : Shift) (c now : ContextValue) (bits : List Bit) (turn : AfterBit) →
-    IsInFlag (flag_level c) n like c bits → IsKept AtFlag c now → driven ≡ flag_level now → level ≡ Dominant → level ≡ flag_level now →
-    ((shift : Shift) (d e : ContextValue) (bits : List Bit) → flag_level d ≡ Dominant → now.flag ≡ d.flag → IsInDominantFlag n d bits → IsTurn shift d e AtFlag bits (dominant_bit seen) turn) →
+pub at_dominant_flag : (n : ℕ) (like level driven seen : Level) (shift : Shift) (c now : ContextValue) (bits : List Bit)
+    (turn : AfterBit) →
+    IsInFlag (flag_level c) n like c bits → IsKept AtFlag c now → driven ≡ flag_level now → level ≡ Dominant →
+    level ≡ flag_level now →
+    ((shift : Shift) (d e : ContextValue) (bits : List Bit) → flag_level d ≡ Dominant → now.flag ≡ d.flag →
+    IsInDominantFlag n d bits → IsTurn shift d e AtFlag bits (dominant_bit seen) turn) →
     IsTurn shift c now AtFlag bits (record { driven = driven; seen = seen }) turn
-at_forcing n like level driven seen shift c now bits turn h kept drives dominant same f =
+at_dominant_flag n like level driven seen shift c now bits turn h kept drives dominant same f =
     let here : flag_level now ≡ Dominant = sym same ∙ dominant in
     let there : flag_level c ≡ Dominant = sym (level_kept c now kept.listen kept.flag) ∙ here in
     let P : Level → Type 0 = λ x. IsInFlag x n like c bits in
-    turn_at shift c now AtFlag AtFlag bits driven Dominant seen turn refl (drives ∙ here) (f shift c now bits there kept.flag (subst P there h))
+    turn_at shift c now AtFlag AtFlag bits driven Dominant seen turn refl (drives ∙ here)
+    (f shift c now bits there kept.flag (subst P there h))
 
 -- a passive flag
-pub at_waiting : (n : ℕ) (like level driven seen : Level) (shift : Shift) (c now : ContextValue) (bits : List Bit) (turn : AfterBit) →
-    IsInFlag (flag_level c) n like c bits → IsKept AtFlag c now → driven ≡ flag_level now → level ≡ Recessive → level ≡ flag_level now →
-    ((shift : Shift) (c now : ContextValue) (bits : List Bit) → flag_level c ≡ Recessive → IsInPassiveFlag n like c bits → IsTurn shift c now AtFlag bits (recessive_bit seen) turn) →
+pub at_passive_flag : (n : ℕ) (like level driven seen : Level) (shift : Shift) (c now : ContextValue) (bits : List Bit)
+    (turn : AfterBit) →
+    IsInFlag (flag_level c) n like c bits → IsKept AtFlag c now → driven ≡ flag_level now → level ≡ Recessive →
+    level ≡ flag_level now →
+    ((shift : Shift) (c now : ContextValue) (bits : List Bit) → flag_level c ≡ Recessive →
+    IsInPassiveFlag n like c bits → IsTurn shift c now AtFlag bits (recessive_bit seen) turn) →
     IsTurn shift c now AtFlag bits (record { driven = driven; seen = seen }) turn
-at_waiting n like level driven seen shift c now bits turn h kept drives recessive same f =
+at_passive_flag n like level driven seen shift c now bits turn h kept drives recessive same f =
     let here : flag_level now ≡ Recessive = sym same ∙ recessive in
     let there : flag_level c ≡ Recessive = sym (level_kept c now kept.listen kept.flag) ∙ here in
     let P : Level → Type 0 = λ x. IsInFlag x n like c bits in
-    turn_at shift c now AtFlag AtFlag bits driven Recessive seen turn refl (drives ∙ here) (f shift c now bits there (subst P there h))
+    turn_at shift c now AtFlag AtFlag bits driven Recessive seen turn refl (drives ∙ here)
+    (f shift c now bits there (subst P there h))
 
 -- a flag
-pub at_flagging : (n : ℕ) (like : Level) (stage : Stage) (shift : Shift) (c now : ContextValue) (place : Place) (bits : List Bit) (driven seen : Level) (turn : AfterBit) →
+pub at_flag : (n : ℕ) (like : Level) (stage : Stage) (shift : Shift) (c now : ContextValue) (place : Place)
+    (bits : List Bit) (driven seen : Level) (turn : AfterBit) →
     stage ≡ StageInFlag n like → At stage shift c now place bits → IsKept place c now → Drives now place bits driven →
-    ((shift : Shift) (c : ContextValue) (bits : List Bit) (driven : Level) → IsInFlag (flag_level c) n like c bits → IsKept AtFlag c now → driven ≡ flag_level now →
+    ((shift : Shift) (c : ContextValue) (bits : List Bit) (driven : Level) → IsInFlag (flag_level c) n like c bits →
+    IsKept AtFlag c now → driven ≡ flag_level now →
     IsTurn shift c now AtFlag bits (record { driven = driven; seen = seen }) turn) →
     IsTurn shift c now place bits (record { driven = driven; seen = seen }) turn
-at_flagging n like stage shift c now place bits driven seen turn e h kept drives f =
+at_flag n like stage shift c now place bits driven seen turn e h kept drives f =
     let at = at_is (StageInFlag n like) stage shift c now place bits e h in
     let P : Place → Type 0 = λ s. IsKept s c now in
     turn_at shift c now place AtFlag bits driven driven seen turn at.0 refl
     (f shift c bits driven at.1 (subst P at.0 kept) (driven_at now place AtFlag bits driven at.0 drives))
 
 -- the levels after a flag
-pub at_delimiting : (d r : ℕ) (stage : Stage) (shift : Shift) (c now : ContextValue) (place : Place) (bits : List Bit) (driven seen : Level) (turn : AfterBit) →
+pub at_delimiter : (d r : ℕ) (stage : Stage) (shift : Shift) (c now : ContextValue) (place : Place) (bits : List Bit)
+    (driven seen : Level) (turn : AfterBit) →
     stage ≡ StageInDelimiter d r → At stage shift c now place bits → Drives now place bits driven →
-    ((shift : Shift) (c now : ContextValue) (bits : List Bit) → IsInDelimiter d r bits → IsTurn shift c now AtDelimiter bits (recessive_bit seen) turn) →
+    ((shift : Shift) (c now : ContextValue) (bits : List Bit) → IsInDelimiter d r bits →
+    IsTurn shift c now AtDelimiter bits (recessive_bit seen) turn) →
     IsTurn shift c now place bits (record { driven = driven; seen = seen }) turn
-at_delimiting d r stage shift c now place bits driven seen turn e h drives f =
+at_delimiter d r stage shift c now place bits driven seen turn e h drives f =
     let at = at_is (StageInDelimiter d r) stage shift c now place bits e h in
-    turn_at shift c now place AtDelimiter bits driven Recessive seen turn at.0 (driven_at now place AtDelimiter bits driven at.0 drives) (f shift c now bits at.1)
+    turn_at shift c now place AtDelimiter bits driven Recessive seen turn at.0
+    (driven_at now place AtDelimiter bits driven at.0 drives) (f shift c now bits at.1)
 
--- a pause
-pub at_interframe : (n : ℕ) (owed : Bool) (stage : Stage) (shift : Shift) (c now : ContextValue) (place : Place) (bits : List Bit) (driven seen : Level) (turn : AfterBit) →
-    stage ≡ StageInInterframeSpace n → At stage shift c now place bits → IsKept place c now → Drives now place bits driven → owed ≡ owes_suspension now →
-    ((shift : Shift) (c now : ContextValue) (bits : List Bit) → owed ≡ owes_suspension c → IsInInterframeSpace n c bits → IsTurn shift c now AtInterframeSpace bits (recessive_bit seen) turn) →
+-- interframe space
+pub at_interframe_space : (n : ℕ) (owed : Bool) (stage : Stage) (shift : Shift) (c now : ContextValue) (place : Place)
+    (bits : List Bit) (driven seen : Level) (turn : AfterBit) →
+    stage ≡ StageInInterframeSpace n → At stage shift c now place bits → IsKept place c now →
+    Drives now place bits driven → owed ≡ owes_suspension now →
+    ((shift : Shift) (c now : ContextValue) (bits : List Bit) → owed ≡ owes_suspension c →
+    IsInInterframeSpace n c bits → IsTurn shift c now AtInterframeSpace bits (recessive_bit seen) turn) →
     IsTurn shift c now place bits (record { driven = driven; seen = seen }) turn
-at_interframe n owed stage shift c now place bits driven seen turn e h kept drives owes f =
+at_interframe_space n owed stage shift c now place bits driven seen turn e h kept drives owes f =
     let at = at_is (StageInInterframeSpace n) stage shift c now place bits e h in
-    turn_at shift c now place AtInterframeSpace bits driven Recessive seen turn at.0 (driven_at now place AtInterframeSpace bits driven at.0 drives)
+    turn_at shift c now place AtInterframeSpace bits driven Recessive seen turn at.0
+    (driven_at now place AtInterframeSpace bits driven at.0 drives)
     (f shift c now bits (owes ∙ kept.owes at.0) at.1)

@@ -25,11 +25,14 @@ use Rattle.can_node.proofs.OneCut.GoOn.{counted_both, open_end, stays_end, move_
 use Rattle.can_node.proofs.Machine.Sampling.{bits_push, some_bit, open_at, pushed_open}
 
 -- a piece stands at no rest
-pub piece_away : {c : ContextValue} {bits : List Bit} {p : Piece} {next : Place} (place : Place) → Row c place bits p next → place ≢ AtReset
-piece_away {c = c} {bits = bits} {p = p} {next = next} place row e = let P : Place → Type 0 = λ s. Row c s bits p next in no_rest_piece (subst P e row)
+pub piece_away : {c : ContextValue} {bits : List Bit} {p : Piece} {next : Place} (place : Place) →
+    Row c place bits p next → place ≢ AtReset
+piece_away {c = c} {bits = bits} {p = p} {next = next} place row e = let P : Place → Type 0 =
+    λ s. Row c s bits p next in no_rest_piece (subst P e row)
 
 -- nor does bus-off come in one
-off_away : (c : ContextValue) (place : Place) (bits : List Bit) (b : Bit) → IsOnBus c → 256 ≤ (at_bit c place bits b).tec → place ≢ AtReset
+off_away : (c : ContextValue) (place : Place) (bits : List Bit) (b : Bit) → IsOnBus c →
+    256 ≤ (at_bit c place bits b).tec → place ≢ AtReset
 off_away c place bits b stays off e =
     let P : Place → Type 0 = λ s. 256 ≤ (at_bit c s bits b).tec in
     let same : 256 ≤ c.tec = subst P e off in
@@ -37,9 +40,11 @@ off_away c place bits b stays off e =
 
 -- ---- the piece under way goes on
 
-unfoldable pub goes_stands : (old new : Node) (entries : List Entry) (found : List FinishedPiece) (h : StandsAt old entries found) (b : Bit) (stage : Stage) (shift : Shift) →
+unfoldable pub goes_stands : (old new : Node) (entries : List Entry) (found : List FinishedPiece)
+    (h : StandsAt old entries found) (b : Bit) (stage : Stage) (shift : Shift) →
     let now = along h.cut.context h.cut.place [] h.cut.rest in let d = at_bit now h.cut.place (bits_in h.cut.rest) b in
-    Drives now h.cut.place (bits_in h.cut.rest) b.driven → At stage shift h.cut.context d h.cut.place (bits_in h.cut.rest ++ b ∷ []) → d.tec < 256 →
+    Drives now h.cut.place (bits_in h.cut.rest) b.driven →
+    At stage shift h.cut.context d h.cut.place (bits_in h.cut.rest ++ b ∷ []) → d.tec < 256 →
     context_of new.context ≡ d → new.stage ≡ stage → new.shift ≡ shift → FollowsAt new (entries ++ OneBit b ∷ []) found
 goes_stands old new entries found h b stage shift drives at few shows same_stage same_shift =
     let slice = h.cut.rest ++ OneBit b ∷ [] in
@@ -48,18 +53,44 @@ goes_stands old new entries found h b stage shift drives at few shows same_stage
     let opened = pushed_open stage shift h.cut.context now h.cut.place h.cut.rest b (open_end h.cut.from) drives at in
     let stays : IsOnBus (along h.cut.context h.cut.place [] slice) = subst (λ c. IsOnBus c) (sym whole) few in
     let P : ContextValue → Type 0 = λ c. At stage shift h.cut.context c h.cut.place (bits_in h.cut.rest ++ b ∷ []) in
-    let Q : List Bit → Type 0 = λ l. At stage shift h.cut.context (along h.cut.context h.cut.place [] slice) h.cut.place l in
-    let R : Stage → Type 0 = λ s. At s shift h.cut.context (along h.cut.context h.cut.place [] slice) h.cut.place (bits_in slice) in
-    let S : Shift → Type 0 = λ s. At new.stage s h.cut.context (along h.cut.context h.cut.place [] slice) h.cut.place (bits_in slice) in
+    let Q : List Bit → Type 0 = λ l. At stage shift h.cut.context (along h.cut.context h.cut.place [] slice) h.cut.place
+    l in
+    let R : Stage → Type 0 = λ s. At s shift h.cut.context (along h.cut.context h.cut.place [] slice) h.cut.place
+    (bits_in slice) in
+    let S : Shift → Type 0 = λ s. At new.stage s h.cut.context (along h.cut.context h.cut.place [] slice) h.cut.place
+    (bits_in slice) in
     record {
-      cut = record { context = h.cut.context; place = h.cut.place; rest = slice; from = open_on (OneBit b ∷ []) h.cut.from opened stays };
+      cut = record {
+        context = h.cut.context;
+        place = h.cut.place;
+        rest = slice;
+        from = open_on (OneBit b ∷ []) h.cut.from opened stays;
+      };
       shows = shows ∙ sym whole;
-      at = subst S (sym same_shift) (subst R (sym same_stage) (subst Q (sym (bits_push h.cut.rest b)) (subst P (sym whole) at)));
+      at = subst S (sym same_shift) (subst R (sym same_stage)
+          (subst Q (sym (bits_push h.cut.rest b)) (subst P (sym whole) at)));
     }
 
 -- ---- the piece ends
 
-unfoldable pub closes_stands : (old new : Node) (entries : List Entry) (found : List FinishedPiece) (h : StandsAt old entries found) (b : Bit) (stage : Stage) (shift : Shift) (p : Piece) (next : Place) →
+-- with this bit the entries are the piece, and this is the context after it
+pub record EndsWith (c : ContextValue) (place : Place) (rest : List Entry) (b : Bit) (p : Piece) (next : Place) : Type 0
+  where
+    whole : after c place (rest ++ OneBit b ∷ []) p next
+        ≡ closed p next (at_bit (along c place [] rest) place (bits_in rest) b)
+    lawful : Row c place (bits_in (rest ++ OneBit b ∷ [])) p next
+
+pub ends_with : (c : ContextValue) (place : Place) (rest : List Entry) (b : Bit) (p : Piece) (next : Place) →
+    Row c place (bits_in rest ++ b ∷ []) p next → EndsWith c place rest b p next
+ends_with c place rest b p next row =
+    let P : List Bit → Type 0 = λ l. Row c place l p next in
+    record {
+      whole = ap (λ k. closed p next k) (along-bit c place rest b);
+      lawful = subst P (sym (bits_push rest b)) row;
+    }
+
+unfoldable pub closes_stands : (old new : Node) (entries : List Entry) (found : List FinishedPiece)
+    (h : StandsAt old entries found) (b : Bit) (stage : Stage) (shift : Shift) (p : Piece) (next : Place) →
     let n = closed p next (at_bit (along h.cut.context h.cut.place [] h.cut.rest) h.cut.place (bits_in h.cut.rest) b) in
     Row h.cut.context h.cut.place (bits_in h.cut.rest ++ b ∷ []) p next → At stage shift n n next [] → n.tec < 256 →
     context_of new.context ≡ n → new.stage ≡ stage → new.shift ≡ shift →
@@ -67,16 +98,21 @@ unfoldable pub closes_stands : (old new : Node) (entries : List Entry) (found : 
 closes_stands old new entries found h b stage shift p next row at few shows same_stage same_shift =
     let slice = h.cut.rest ++ OneBit b ∷ [] in
     let n = closed p next (at_bit (along h.cut.context h.cut.place [] h.cut.rest) h.cut.place (bits_in h.cut.rest) b) in
-    let whole : after h.cut.context h.cut.place slice p next ≡ n = ap (λ c. closed p next c) (along-bit h.cut.context h.cut.place h.cut.rest b) in
-    let P : List Bit → Type 0 = λ l. Row h.cut.context h.cut.place l p next in
-    let lawful : Row h.cut.context h.cut.place (bits_in slice) p next = subst P (sym (bits_push h.cut.rest b)) row in
-    let stays : IsOnBus (after h.cut.context h.cut.place slice p next) = subst (λ c. IsOnBus c) (sym whole) few in
+    let ends = ends_with h.cut.context h.cut.place h.cut.rest b p next row in
+    let stays : IsOnBus (after h.cut.context h.cut.place slice p next) = subst (λ c. IsOnBus c) (sym ends.whole) few in
     let Q : ContextValue → Type 0 = λ c. Move h.cut.context h.cut.place slice (p ∷ []) c next in
-    let move : Move h.cut.context h.cut.place slice (p ∷ []) n next = subst Q whole (piece slice (slice_open b (piece_away h.cut.place row) (open_end h.cut.from)) lawful stays) in
+    let move : Move h.cut.context h.cut.place slice (p ∷ []) n next =
+    subst Q ends.whole
+    (piece slice (slice_open b (piece_away h.cut.place row) (open_end h.cut.from)) ends.lawful stays) in
     let R : Stage → Type 0 = λ s. At s shift n n next [] in
     let S : Shift → Type 0 = λ s. At new.stage s n n next [] in
     record {
-      cut = record { context = n; place = next; rest = []; from = move_on (OneBit b ∷ []) (p ∷ []) h.cut.from move few };
+      cut = record {
+        context = n;
+        place = next;
+        rest = [];
+        from = move_on (OneBit b ∷ []) (p ∷ []) h.cut.from move few;
+      };
       shows = shows;
       at = subst S (sym same_shift) (subst R (sym same_stage) at);
     }
@@ -84,20 +120,25 @@ closes_stands old new entries found h b stage shift p next row at few shows same
 -- ---- bus-off
 
 -- after it the node rests
-off_rests : (node : Node) (c : ContextValue) → node.stage ≡ StageInReset → At node.stage node.shift (with_off c) (with_off c) AtReset []
+off_rests : (node : Node) (c : ContextValue) → node.stage ≡ StageInReset →
+    At node.stage node.shift (with_off c) (with_off c) AtReset []
 off_rests node c reset =
     let P : Stage → Type 0 = λ s. At s node.shift (with_off c) (with_off c) AtReset [] in
     subst P (sym reset) (refl, refl)
 
 -- the counts after a bit, and after bus-off too
-off_counts : (entries : List Entry) (b : Bit) → counted none_yet (entries ++ OneBit b ∷ BusOff ∷ []) ≡ counted none_yet (entries ++ OneBit b ∷ [])
-off_counts entries b = counted_both none_yet entries (OneBit b ∷ BusOff ∷ []) ∙ sym (counted_both none_yet entries (OneBit b ∷ []))
+off_counts : (entries : List Entry) (b : Bit) →
+    counted none_yet (entries ++ OneBit b ∷ BusOff ∷ []) ≡ counted none_yet (entries ++ OneBit b ∷ [])
+off_counts entries b = counted_both none_yet entries (OneBit b ∷ BusOff ∷ [])
+    ∙ sym (counted_both none_yet entries (OneBit b ∷ []))
 
 -- within a piece
-pub off_goes : (old new : Node) (entries : List Entry) (found : List FinishedPiece) (h : StandsAt old entries found) (b : Bit) (stage : Stage) (shift : Shift) →
+pub off_goes : (old new : Node) (entries : List Entry) (found : List FinishedPiece) (h : StandsAt old entries found)
+    (b : Bit) (stage : Stage) (shift : Shift) →
     let now = along h.cut.context h.cut.place [] h.cut.rest in let d = at_bit now h.cut.place (bits_in h.cut.rest) b in
     At stage shift h.cut.context d h.cut.place (bits_in h.cut.rest ++ b ∷ []) → 256 ≤ d.tec →
-    context_of new.context ≡ with_off d → new.stage ≡ StageInReset → FollowsAt new (entries ++ OneBit b ∷ BusOff ∷ []) found
+    context_of new.context ≡ with_off d → new.stage ≡ StageInReset →
+    FollowsAt new (entries ++ OneBit b ∷ BusOff ∷ []) found
 off_goes old new entries found h b stage shift at off shows reset =
     let slice = h.cut.rest ++ OneBit b ∷ [] in
     let now = along h.cut.context h.cut.place [] h.cut.rest in
@@ -105,40 +146,63 @@ off_goes old new entries found h b stage shift at off shows reset =
     let whole = along-bit h.cut.context h.cut.place h.cut.rest b in
     let stays = stays_end h.cut.from in
     let away = off_away now h.cut.place (bits_in h.cut.rest) b stays off in
-    let unfinished = open_at stage shift h.cut.context d h.cut.place (bits_in h.cut.rest ++ b ∷ []) away (some_bit (bits_in h.cut.rest) b) at in
+    let unfinished = open_at stage shift h.cut.context d h.cut.place (bits_in h.cut.rest ++ b ∷ []) away
+    (some_bit (bits_in h.cut.rest) b) at in
     let P : List Bit → Type 0 = λ l. IsUnfinished h.cut.context h.cut.place l in
-    let far : 256 ≤ (along h.cut.context h.cut.place [] slice).tec = subst (λ (c : ContextValue). 256 ≤ c.tec) (sym whole) off in
-    let Q : ContextValue → Type 0 = λ c. Move h.cut.context h.cut.place (slice ++ BusOff ∷ []) [] (with_off c) AtReset in
+    let far : 256 ≤ (along h.cut.context h.cut.place [] slice).tec =
+    subst (λ (c : ContextValue). 256 ≤ c.tec) (sym whole) off in
+    let Q : ContextValue → Type 0 =
+    λ c. Move h.cut.context h.cut.place (slice ++ BusOff ∷ []) [] (with_off c) AtReset in
     let move : Move h.cut.context h.cut.place (slice ++ BusOff ∷ []) [] (with_off d) AtReset =
-    subst Q whole (off_within slice h.cut.rest b refl stays (slice_open b away (open_end h.cut.from)) (subst P (sym (bits_push h.cut.rest b)) unfinished) far) in
+    subst Q whole (off_within slice h.cut.rest b refl stays (slice_open b away (open_end h.cut.from))
+    (subst P (sym (bits_push h.cut.rest b)) unfinished) far) in
     let R : List Entry → Type 0 = λ l. Move h.cut.context h.cut.place l [] (with_off d) AtReset in
-    let S : List FinishedPiece → Type 0 = λ l. From none_yet fresh AtReset (entries ++ OneBit b ∷ BusOff ∷ []) l (with_off d) AtReset [] in
+    let S : List FinishedPiece → Type 0 =
+    λ l. From none_yet fresh AtReset (entries ++ OneBit b ∷ BusOff ∷ []) l (with_off d) AtReset [] in
     record {
-      cut = record { context = with_off d; place = AtReset; rest = []; from = subst S (append-nil found) (move_on (OneBit b ∷ BusOff ∷ []) [] h.cut.from (subst R (append_assoc h.cut.rest (OneBit b ∷ []) (BusOff ∷ [])) move) (omega arith)) };
+      cut = record {
+        context = with_off d;
+        place = AtReset;
+        rest = [];
+        from = subst S (append-nil found)
+            (move_on (OneBit b ∷ BusOff ∷ []) [] h.cut.from
+            (subst R (append_assoc h.cut.rest (OneBit b ∷ []) (BusOff ∷ [])) move) (omega arith));
+      };
       shows = shows;
       at = off_rests new d reset;
     }
 
 -- at the end of a piece
-pub off_closes : (old new : Node) (entries : List Entry) (found : List FinishedPiece) (h : StandsAt old entries found) (b : Bit) (p : Piece) (next : Place) →
+pub off_closes : (old new : Node) (entries : List Entry) (found : List FinishedPiece) (h : StandsAt old entries found)
+    (b : Bit) (p : Piece) (next : Place) →
     let n = closed p next (at_bit (along h.cut.context h.cut.place [] h.cut.rest) h.cut.place (bits_in h.cut.rest) b) in
     Row h.cut.context h.cut.place (bits_in h.cut.rest ++ b ∷ []) p next → 256 ≤ n.tec →
     context_of new.context ≡ with_off n → new.stage ≡ StageInReset →
-    FollowsAt new (entries ++ OneBit b ∷ BusOff ∷ []) (found ++ tagged (counted none_yet (entries ++ OneBit b ∷ [])) (p ∷ []))
+    FollowsAt new (entries ++ OneBit b ∷ BusOff ∷ [])
+    (found ++ tagged (counted none_yet (entries ++ OneBit b ∷ [])) (p ∷ []))
 off_closes old new entries found h b p next row off shows reset =
     let slice = h.cut.rest ++ OneBit b ∷ [] in
     let n = closed p next (at_bit (along h.cut.context h.cut.place [] h.cut.rest) h.cut.place (bits_in h.cut.rest) b) in
-    let whole : after h.cut.context h.cut.place slice p next ≡ n = ap (λ c. closed p next c) (along-bit h.cut.context h.cut.place h.cut.rest b) in
-    let P : List Bit → Type 0 = λ l. Row h.cut.context h.cut.place l p next in
-    let lawful : Row h.cut.context h.cut.place (bits_in slice) p next = subst P (sym (bits_push h.cut.rest b)) row in
-    let far : 256 ≤ (after h.cut.context h.cut.place slice p next).tec = subst (λ (c : ContextValue). 256 ≤ c.tec) (sym whole) off in
-    let Q : ContextValue → Type 0 = λ c. Move h.cut.context h.cut.place (slice ++ BusOff ∷ []) (p ∷ []) (with_off c) AtReset in
+    let ends = ends_with h.cut.context h.cut.place h.cut.rest b p next row in
+    let far : 256 ≤ (after h.cut.context h.cut.place slice p next).tec =
+    subst (λ (c : ContextValue). 256 ≤ c.tec) (sym ends.whole) off in
+    let Q : ContextValue → Type 0 =
+    λ c. Move h.cut.context h.cut.place (slice ++ BusOff ∷ []) (p ∷ []) (with_off c) AtReset in
     let move : Move h.cut.context h.cut.place (slice ++ BusOff ∷ []) (p ∷ []) (with_off n) AtReset =
-    subst Q whole (off_after slice h.cut.rest b refl (stays_end h.cut.from) (slice_open b (piece_away h.cut.place row) (open_end h.cut.from)) lawful far) in
+    subst Q ends.whole (off_after slice h.cut.rest b refl (stays_end h.cut.from)
+    (slice_open b (piece_away h.cut.place row) (open_end h.cut.from)) ends.lawful far) in
     let R : List Entry → Type 0 = λ l. Move h.cut.context h.cut.place l (p ∷ []) (with_off n) AtReset in
-    let S : Count → Type 0 = λ k. From none_yet fresh AtReset (entries ++ OneBit b ∷ BusOff ∷ []) (found ++ tagged k (p ∷ [])) (with_off n) AtReset [] in
+    let S : Count → Type 0 = λ k. From none_yet fresh AtReset (entries ++ OneBit b ∷ BusOff ∷ [])
+    (found ++ tagged k (p ∷ [])) (with_off n) AtReset [] in
     record {
-      cut = record { context = with_off n; place = AtReset; rest = []; from = subst S (off_counts entries b) (move_on (OneBit b ∷ BusOff ∷ []) (p ∷ []) h.cut.from (subst R (append_assoc h.cut.rest (OneBit b ∷ []) (BusOff ∷ [])) move) (omega arith)) };
+      cut = record {
+        context = with_off n;
+        place = AtReset;
+        rest = [];
+        from = subst S (off_counts entries b)
+            (move_on (OneBit b ∷ BusOff ∷ []) (p ∷ []) h.cut.from
+            (subst R (append_assoc h.cut.rest (OneBit b ∷ []) (BusOff ∷ [])) move) (omega arith));
+      };
       shows = shows;
       at = off_rests new n reset;
     }

@@ -59,12 +59,14 @@ start_stays : (config : Config) (c : ContextValue) → IsOnBus c → IsOnBus (wi
 start_stays config c stays = chosen (c.off && not config.listen)
   where
     chosen : (test : Bool) →
-        IsOnBus (if test then record c { listen = config.listen; self_test = config.self_test; tec = 127; rec = 0 } else record c { listen = config.listen; self_test = config.self_test })
+        IsOnBus (if test then record c { listen = config.listen; self_test = config.self_test; tec = 127; rec = 0 } else
+        record c { listen = config.listen; self_test = config.self_test })
     chosen true = omega arith
     chosen false = stays
 
 -- the cut from a rest on
-started_on : (config : Config) {c : ContextValue} {place : Place} {entries slice : List Entry} {found : List FinishedPiece} → place ≡ AtReset →
+started_on : (config : Config) {c : ContextValue} {place : Place} {entries slice : List Entry}
+    {found : List FinishedPiece} → place ≡ AtReset →
     From none_yet fresh AtReset entries found c place slice →
     From none_yet fresh AtReset (entries ++ Start config ∷ []) (found ++ []) (with_start config c) AtIntegration []
 started_on config {c = c} {place = place} {entries = entries} {slice = slice} {found = found} rest cut =
@@ -77,26 +79,38 @@ started_on config {c = c} {place = place} {entries = entries} {slice = slice} {f
     move_on (Start config ∷ []) [] here (subst Q (sym bits.1) (started config bits.0)) (start_stays config c stays)
 
 -- the context of a rest is the one of its beginning
-rest_now : (c : ContextValue) (place : Place) (slice : List Entry) → place ≡ AtReset → IsOpenAt c place slice → along c place [] slice ≡ c
+rest_now : (c : ContextValue) (place : Place) (slice : List Entry) → place ≡ AtReset → IsOpenAt c place slice →
+    along c place [] slice ≡ c
 rest_now c place slice rest opened =
     let P : Place → Type 0 = λ s. IsOpenAt c s slice in
     let Q : Place → Type 0 = λ s. along c s [] slice ≡ c in
     subst Q (sym rest) (along_open c slice (subst P rest opened))
 
-pub started_stands : (old new : Node) (config : Config) (entries : List Entry) (found : List FinishedPiece) → old.stage ≡ StageInReset →
-    context_of new.context ≡ with_start config (context_of old.context) → new.stage ≡ StageIntegrating (integration_count (context_of new.context)) 0 →
+pub started_stands : (old new : Node) (config : Config) (entries : List Entry) (found : List FinishedPiece) →
+    old.stage ≡ StageInReset →
+    context_of new.context ≡ with_start config (context_of old.context) →
+    new.stage ≡ StageIntegrating (integration_count (context_of new.context)) 0 →
     StandsAt old entries found → FollowsAt new (entries ++ Start config ∷ []) found
 started_stands old new config entries found reset shows stage h =
-    let R : Stage → Type 0 = λ s. At s old.shift h.cut.context (along h.cut.context h.cut.place [] h.cut.rest) h.cut.place (bits_in h.cut.rest) in
+    let R : Stage → Type 0 = λ s. At s old.shift h.cut.context (along h.cut.context h.cut.place [] h.cut.rest)
+    h.cut.place (bits_in h.cut.rest) in
     let rest : h.cut.place ≡ AtReset = (subst R reset h.at).0 in
     let now = with_start config h.cut.context in
     let same : context_of new.context ≡ now =
-    shows ∙ ap (λ c. with_start config c) (h.shows ∙ rest_now h.cut.context h.cut.place h.cut.rest rest (open_end h.cut.from)) in
-    let P : List FinishedPiece → Type 0 = λ l. From none_yet fresh AtReset (entries ++ Start config ∷ []) l now AtIntegration [] in
+    shows ∙ ap (λ c. with_start config c)
+    (h.shows ∙ rest_now h.cut.context h.cut.place h.cut.rest rest (open_end h.cut.from)) in
+    let P : List FinishedPiece → Type 0 =
+    λ l. From none_yet fresh AtReset (entries ++ Start config ∷ []) l now AtIntegration [] in
     let Q : Stage → Type 0 = λ s. At s new.shift now now AtIntegration [] in
-    let waits : new.stage ≡ StageIntegrating (integration_count now) 0 = stage ∙ ap (λ c. StageIntegrating (integration_count c) 0) same in
+    let waits : new.stage ≡ StageIntegrating (integration_count now) 0 =
+    stage ∙ ap (λ c. StageIntegrating (integration_count c) 0) same in
     record {
-      cut = record { context = now; place = AtIntegration; rest = []; from = subst P (append-nil found) (started_on config rest h.cut.from) };
+      cut = record {
+        context = now;
+        place = AtIntegration;
+        rest = [];
+        from = subst P (append-nil found) (started_on config rest h.cut.from);
+      };
       shows = same;
       at = subst Q (sym waits) (refl, integrates_from now (join_some now.off));
     }
@@ -106,21 +120,30 @@ pub start_holds : (config : Config) (c : ContextValue) → (with_start config c)
 start_holds config c = chosen (c.off && not config.listen)
   where
     chosen : (test : Bool) →
-        (if test then record c { listen = config.listen; self_test = config.self_test; tec = 127; rec = 0 } else record c { listen = config.listen; self_test = config.self_test }).held ≡ c.held
+        (if test then record c { listen = config.listen; self_test = config.self_test; tec = 127; rec = 0 } else
+        record c { listen = config.listen; self_test = config.self_test }).held ≡ c.held
     chosen true = refl
     chosen false = refl
 
 -- ---- a stop
 
 pub stopped_stands : (old new : Node) (entries : List Entry) (found : List FinishedPiece) → new.stage ≡ StageInReset →
-    context_of new.context ≡ with_stop (context_of old.context) → StandsAt old entries found → FollowsAt new (entries ++ Stop ∷ []) found
+    context_of new.context ≡ with_stop (context_of old.context) → StandsAt old entries found →
+    FollowsAt new (entries ++ Stop ∷ []) found
 stopped_stands old new entries found reset shows h =
     let now = along h.cut.context h.cut.place [] h.cut.rest in
     let stays = stays_end h.cut.from in
-    let P : List FinishedPiece → Type 0 = λ l. From none_yet fresh AtReset (entries ++ Stop ∷ []) l (with_stop now) AtReset [] in
+    let P : List FinishedPiece → Type 0 =
+    λ l. From none_yet fresh AtReset (entries ++ Stop ∷ []) l (with_stop now) AtReset [] in
     let Q : Stage → Type 0 = λ s. At s new.shift (with_stop now) (with_stop now) AtReset [] in
     record {
-      cut = record { context = with_stop now; place = AtReset; rest = []; from = subst P (append-nil found) (move_on (Stop ∷ []) [] h.cut.from (stopped h.cut.rest (open_end h.cut.from) stays) stays) };
+      cut = record {
+        context = with_stop now;
+        place = AtReset;
+        rest = [];
+        from = subst P (append-nil found)
+            (move_on (Stop ∷ []) [] h.cut.from (stopped h.cut.rest (open_end h.cut.from) stays) stays);
+      };
       shows = shows ∙ ap (λ c. with_stop c) h.shows;
       at = subst Q (sym reset) (refl, refl);
     }

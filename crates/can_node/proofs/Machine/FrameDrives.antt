@@ -25,7 +25,8 @@ use Rattle.can_node.proofs.Machine.FrameTurns.{drives_frame, lost_at, transmitti
 use Rattle.can_node.proofs.Transmission.TransmitterFronts.{transmitting_next}
 
 -- an early stuff bit of the request that a node holds
-pub early_by : (shift : Shift) (c now : ContextValue) (place : Place) (bits : List Bit) (request : Request) (ext early : Bool) (h : IsTransmitting c now place bits) →
+pub early_by : (shift : Shift) (c now : ContextValue) (place : Place) (bits : List Bit) (request : Request)
+    (ext early : Bool) (h : IsTransmitting c now place bits) →
     now.held ≡ Some request → ext ≡ request.frame.ext → StandsFor shift (seen_of (frame_bits place bits)) →
     ((l : List Level) → StandsFor shift l → IsReadable l → early ≡ is_early_stuff ext l) →
     early ≡ is_early_stuff h.request.frame.ext (seen_of (frame_bits place bits))
@@ -33,11 +34,14 @@ early_by shift c now place bits request ext early h held kind stands f =
     let l = seen_of (frame_bits place bits) in
     let whole : Some request ≡ Some h.request = sym held ∙ h.held in
     let same : request ≡ h.request = cc in
-    f l stands (transmitting_readable c now place bits h) ∙ ap (λ e. is_early_stuff e l) kind ∙ ap (λ r. is_early_stuff r.frame.ext l) same
+    f l stands (transmitting_readable c now place bits h) ∙ ap (λ e. is_early_stuff e l) kind
+    ∙ ap (λ r. is_early_stuff r.frame.ext l) same
 
 -- a place code of its frame
-pub code_by : (shift : Shift) (c now : ContextValue) (place : Place) (bits : List Bit) (driven seen : Level) (request : Request) (ext : Bool) (code : Option ℕ) → ext ≡ request.frame.ext →
-    now.role ≡ Transmitter → IsReading shift c now place bits → now.held ≡ Some request → driven ≡ Recessive → seen ≡ Dominant →
+pub code_by : (shift : Shift) (c now : ContextValue) (place : Place) (bits : List Bit) (driven seen : Level)
+    (request : Request) (ext : Bool) (code : Option ℕ) → ext ≡ request.frame.ext →
+    now.role ≡ Transmitter → IsReading shift c now place bits → now.held ≡ Some request → driven ≡ Recessive →
+    seen ≡ Dominant →
     ((l : List Level) → StandsFor shift l → IsReadable l → code ≡ place_code ext l) →
     code ≡ lost_in now place bits (record { driven = driven; seen = seen })
 code_by shift c now place bits driven seen request ext code kind transmitter reading held drives sees f =
@@ -45,17 +49,21 @@ code_by shift c now place bits driven seen request ext code kind transmitter rea
     let l = seen_of (frame_bits place bits) in
     let h = transmitting_by shift c now place bits transmitter reading in
     let there : lost_in now place bits b ≡ lost_by (Some request) l Recessive Dominant =
-    lost_at now place bits b reading.site ∙ ap (λ r. lost_as r now l b) transmitter ∙ ap (λ r. lost_by r l driven seen) held
+    lost_at now place bits b reading.site ∙ ap (λ r. lost_as r now l b) transmitter
+    ∙ ap (λ r. lost_by r l driven seen) held
     ∙ ap (λ x. lost_by (Some request) l x seen) drives ∙ ap (λ x. lost_by (Some request) l Recessive x) sees in
     f l reading.stands (transmitting_readable c now place bits h) ∙ ap (λ e. place_code e l) kind ∙ sym there
 
 -- ---- what the node drives
 
 -- a transmitter
-pub transmitting_drives : (shift : Shift) (c now : ContextValue) (place : Place) (bits : List Bit) (request : Request) (x : Level) →
+pub transmitting_drives : (shift : Shift) (c now : ContextValue) (place : Place) (bits : List Bit) (request : Request)
+    (x : Level) →
     now.role ≡ Transmitter → IsReading shift c now place bits → now.held ≡ Some request →
-    ((l others check part before rest : List Level) (y ack : Level) → StandsFor shift l → StuffedPart request.frame (sent_body request.frame) check part →
-    Crc (sent_body request.frame) check → part ++ tail ack ≡ l ++ others → part ++ tail Recessive ≡ before ++ y ∷ rest → length before ≡ length l → x ≡ y) →
+    ((l others check part before rest : List Level) (y ack : Level) → StandsFor shift l →
+    StuffedPart request.frame (sent_body request.frame) check part →
+    Crc (sent_body request.frame) check → part ++ tail ack ≡ l ++ others → part ++ tail Recessive ≡ before ++ y ∷ rest →
+    length before ≡ length l → x ≡ y) →
     Drives now place bits x
 transmitting_drives shift c now place bits request x transmitter reading held f =
     let h = transmitting_by shift c now place bits transmitter reading in
@@ -63,29 +71,37 @@ transmitting_drives shift c now place bits request x transmitter reading held f 
     let same : request ≡ h.request = cc in
     let next = transmitting_next c now place bits h in
     let bits = frame_bits place bits in
-    let F : Request → Type 0 = λ r. (l others check part before rest : List Level) (y ack : Level) → StandsFor shift l → StuffedPart r.frame (sent_body r.frame) check part →
-    Crc (sent_body r.frame) check → part ++ tail ack ≡ l ++ others → part ++ tail Recessive ≡ before ++ y ∷ rest → length before ≡ length l → x ≡ y in
+    let F : Request → Type 0 = λ r. (l others check part before rest : List Level) (y ack : Level) → StandsFor shift l →
+    StuffedPart r.frame (sent_body r.frame) check part →
+    Crc (sent_body r.frame) check → part ++ tail ack ≡ l ++ others → part ++ tail Recessive ≡ before ++ y ∷ rest →
+    length before ≡ length l → x ≡ y in
     let drives : x ≡ next.level =
-    subst F same f (seen_of bits) next.others next.check next.part (driven_of bits) next.rest next.level next.ack reading.stands next.is_part next.right next.seen next.driven next.count in
+    subst F same f (seen_of bits) next.others next.check next.part (driven_of bits) next.rest next.level next.ack
+    reading.stands next.is_part next.right next.seen next.driven next.count in
     let Transmits : Level → Type 0 = λ y. TransmitsNext h.request bits y in
     let Driving : Role → Type 0 = λ r. FrameDrives r now bits x in
-    drives_frame now place _ x reading.site (subst Driving (sym transmitter) (h.request, h.held, subst Transmits (sym drives) next.sends))
+    drives_frame now place _ x reading.site
+    (subst Driving (sym transmitter) (h.request, h.held, subst Transmits (sym drives) next.sends))
 
 -- a receiver
 pub receiving_drives : (shift : Shift) (c now : ContextValue) (place : Place) (bits : List Bit) (x : Level) →
-    now.role ≡ Receiver → IsReading shift c now place bits → (StandsFor shift (seen_of (frame_bits place bits)) → Acknowledges now.listen (seen_of (frame_bits place bits)) x) →
+    now.role ≡ Receiver → IsReading shift c now place bits →
+    (StandsFor shift (seen_of (frame_bits place bits)) →
+    Acknowledges now.listen (seen_of (frame_bits place bits)) x) →
     Drives now place bits x
 receiving_drives shift c now place bits x receiver reading f =
     let Driving : Role → Type 0 = λ r. FrameDrives r now (frame_bits place bits) x in
     drives_frame now place bits x reading.site (subst Driving (sym receiver) (f reading.stands))
 
 -- its answer where it is due
-pub acknowledges_due : (listen due : Bool) (l : List Level) → listen ≡ false → due ≡ true → (IsTrue due ↔ IsAckDue l) → Acknowledges listen l Dominant
+pub acknowledges_due : (listen due : Bool) (l : List Level) → listen ≡ false → due ≡ true → (IsTrue due ↔ IsAckDue l) →
+    Acknowledges listen l Dominant
 acknowledges_due true due l e d h = absurd cc
 acknowledges_due false due l e d h = h.0 d
 
 -- where it isn't
-pub acknowledges_none : (listen due : Bool) (l : List Level) → listen ≡ false → due ≡ false → (IsTrue due ↔ IsAckDue l) → Acknowledges listen l Recessive
+pub acknowledges_none : (listen due : Bool) (l : List Level) → listen ≡ false → due ≡ false →
+    (IsTrue due ↔ IsAckDue l) → Acknowledges listen l Recessive
 acknowledges_none true due l e d h = absurd cc
 acknowledges_none false due l e d h = λ ack. let yes : due ≡ true = h.1 ack in absurd cc
 

@@ -36,7 +36,8 @@ chosen false c d e h k = k
 
 drops : (held : Option Request) (c d : ContextValue) → HoldsBack c d → HoldsBack c (drop_failed held d)
 drops None c d h = h
-drops (Some request) c d h = chosen (request.single_shot || d.aborted) c (record d { held = None; aborted = false }) d (λ r e. absurd cc) h
+drops (Some request) c d h = chosen (request.single_shot || d.aborted) c (record d { held = None; aborted = false }) d
+    (λ r e. absurd cc) h
 
 -- ---- a bit
 
@@ -46,7 +47,8 @@ steps_by Receiver c d h = h
 
 in_frame : (role : Role) (c : ContextValue) (l : List Level) (b : Bit) → HoldsBack c (frame_bit role c l b)
 in_frame Transmitter c l b =
-    chosen (is_some (lost_by c.held l b.driven b.seen)) c (record (drop_failed c.held c) { role = Receiver }) c (drops c.held c c (holds_same c)) (holds_same c)
+    chosen (is_some (lost_by c.held l b.driven b.seen)) c (record (drop_failed c.held c) { role = Receiver }) c
+    (drops c.held c c (holds_same c)) (holds_same c)
 in_frame Receiver c l b = acknowledged b.driven b.seen
   where
     acknowledged : (x y : Level) → HoldsBack c (if_acknowledged x y c)
@@ -59,10 +61,12 @@ first None c = holds_same c
 first (Some request) c = holds_same c
 
 in_flag : (x : Level) (c : ContextValue) → HoldsBack c (if_ack_step_owed x c)
-in_flag Dominant c = chosen c.ack_step_owed c (record c { tec = c.tec + 8; ack_step_owed = false }) c (holds_same c) (holds_same c)
+in_flag Dominant c = chosen c.ack_step_owed c (record c { tec = c.tec + 8; ack_step_owed = false }) c (holds_same c)
+    (holds_same c)
 in_flag Recessive c = holds_same c
 
-after_flag : (done : List Bit) (role : Role) (flag : FlagKind) (c : ContextValue) → HoldsBack c (after_error_flag done role flag c)
+after_flag : (done : List Bit) (role : Role) (flag : FlagKind) (c : ContextValue) →
+    HoldsBack c (after_error_flag done role flag c)
 after_flag [] Receiver ActiveError c = holds_same c
 after_flag [] Receiver PassiveError c = holds_same c
 after_flag [] Receiver Overload c = holds_same c
@@ -74,13 +78,15 @@ in_delimiter Dominant done c =
     let d = after_error_flag done c.role c.flag c in
     let h = after_flag done c.role c.flag c in
     chosen c.listen c c (if_eighth done d) (holds_same c)
-    (chosen (are_dominant (seen_of done) && (length done + 1) % 8 == 0) c (more_by d.role 8 8 d) d (steps_by d.role c d h) h)
+    (chosen (are_dominant (seen_of done) && (length done + 1) % 8 == 0) c (more_by d.role 8 8 d) d
+    (steps_by d.role c d h) h)
 in_delimiter Recessive done c = holds_same c
 
 pub bit_held : (c : ContextValue) (place : Place) (done : List Bit) (b : Bit) → HoldsBack c (at_bit c place done b)
 bit_held c AtReset done b = holds_same c
 bit_held c AtIntegration done b =
-    chosen ((c.off && not c.listen) && ends_eleven (fold next_run 0 (seen_of done)) b.seen) c (record c { tec = c.tec - 1 }) c (holds_same c) (holds_same c)
+    chosen ((c.off && not c.listen) && ends_eleven (fold next_run 0 (seen_of done)) b.seen) c
+    (record c { tec = c.tec - 1 }) c (holds_same c) (holds_same c)
 bit_held c AtIdle [] b = first (sent_at c AtIdle) c
 bit_held c AtIdle (x ∷ done) b = in_frame c.role c (seen_of (x ∷ done)) b
 bit_held c AfterSof done b = in_frame c.role c (Dominant ∷ seen_of done) b
@@ -96,7 +102,9 @@ transmitter_steps BitError c = holds_same c
 transmitter_steps StuffError c = holds_same c
 transmitter_steps FormError c = holds_same c
 transmitter_steps CrcError c = holds_same c
-transmitter_steps AckError c = chosen (is_passive c) c (record c { ack_step_owed = true }) (record c { tec = c.tec + 8 }) (holds_same c) (holds_same c)
+transmitter_steps AckError c =
+    chosen (is_passive c) c (record c { ack_step_owed = true }) (record c { tec = c.tec + 8 }) (holds_same c)
+    (holds_same c)
 
 by_role : (role : Role) (t r : ℕ) (c : ContextValue) → HoldsBack c (more_by role t r c)
 by_role Transmitter t r c = holds_same c
@@ -104,12 +112,14 @@ by_role Receiver t r c = holds_same c
 
 fault_steps : (site : FaultSite) (cause : Cause) (c : ContextValue) → HoldsBack c (fault_step site cause c)
 fault_steps InTransmission cause c = drops c.held c (transmitter_fault cause c) (transmitter_steps cause c)
-fault_steps InReception cause c = chosen c.listen c c (record c { rec = min 255 (c.rec + 1) }) (holds_same c) (holds_same c)
+fault_steps InReception cause c =
+    chosen c.listen c c (record c { rec = min 255 (c.rec + 1) }) (holds_same c) (holds_same c)
 fault_steps InFlag cause c = by_role c.role 8 8 c
 fault_steps InDelimiter cause c = chosen c.listen c c (more_by c.role 8 1 c) (holds_same c) (by_role c.role 8 1 c)
 
 own_steps : (piece : Piece) (c : ContextValue) → HoldsBack c (own_step piece c)
-own_steps Integration c = chosen (c.off && not c.listen) c (record c { tec = 0; rec = 0; off = false }) c (holds_same c) (holds_same c)
+own_steps Integration c = chosen (c.off && not c.listen) c (record c { tec = 0; rec = 0; off = false }) c (holds_same c)
+    (holds_same c)
 own_steps (Transmission request) c = λ r e. absurd cc
 own_steps (Fault site cause segment) c = fault_steps site cause c
 own_steps Flag c = holds_same c
@@ -134,7 +144,8 @@ enters AtInterframeSpace piece before c = refl
 -- what its end leaves
 pub ended_held : (ending : Ending) (c : ContextValue) → HoldsBack c (closed (piece_of ending) (next_of ending) c)
 ended_held ending c request e =
-    own_steps (piece_of ending) c request (sym (enters (next_of ending) (piece_of ending) c (own_step (piece_of ending) c)) ∙ e)
+    own_steps (piece_of ending) c request
+    (sym (enters (next_of ending) (piece_of ending) c (own_step (piece_of ending) c)) ∙ e)
 
 pub resulted_held : (after : AfterBit) (c : ContextValue) → HoldsBack c (resulted after c)
 resulted_held (InPiece stage) c = holds_same c

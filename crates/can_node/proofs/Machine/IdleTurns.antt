@@ -4,6 +4,7 @@ use Rattle.can_bits.specs.declared.level.Level.{Level}
 use Rattle.can_bits.specs.declared.level.Level.TheVariants.{Dominant, Recessive}
 use Rattle.can_bits.specs.declared.shift.Shift.{Shift}
 use Rattle.can_bits.specs.Fields.{is_recessive}
+use Rattle.can_bits.proofs.Values.{recessive_by, dominant_by}
 use Rattle.can_frame.specs.Frame.{IsFrame}
 use Rattle.can_bits.specs.Places.{begins_in_five, is_early_stuff}
 use Rattle.can_bits.specs.Shifts.{StandsFor}
@@ -11,20 +12,20 @@ use Rattle.can_node.specs.declared.role.Role.{Role}
 use Rattle.can_node.specs.declared.role.Role.TheVariants.{Transmitter, Receiver}
 use Rattle.can_node.specs.declared.request.Request.{Request}
 use Rattle.can_node.specs.declared.after_bit.AfterBit.{AfterBit}
-use Rattle.can_node.specs.Bits.{Bit, recessive_bit, seen_of}
+use Rattle.can_node.specs.Bits.{Bit, recessive_bit}
 use Rattle.can_node.specs.Context.{ContextValue}
-use Rattle.can_node.specs.Pieces.{Place, sent_at}
+use Rattle.can_node.specs.Pieces.{sent_at}
 use Rattle.can_node.specs.Pieces.Place.{AtIdle}
 use Rattle.can_node.specs.Pieces.Piece.{IdleBit}
 use Rattle.can_node.specs.Counting.{first_bit, lost_by}
 use Rattle.can_node.specs.Table.{Row}
 use Rattle.can_node.specs.Table.Row.{idle}
 use Rattle.can_node.specs.Driving.{IdleDrives, TransmitsNext}
-use Rattle.can_node.specs.Machine.Stages.{ByRole, IsFramePlace, IsReading, IsReceiving, IsTransmitting, frame_bits}
+use Rattle.can_node.specs.Machine.Stages.{ByRole, IsReading, IsReceiving}
 use Rattle.can_node.specs.Machine.Stages.IsFramePlace.{idle_place}
 use Rattle.can_node.specs.Machine.Stages.IsInFrame.{from_idle}
-use Rattle.can_node.specs.Machine.Turns.{IsMade, IsTurn, TransmitsOn}
-use Rattle.can_node.proofs.Machine.FrameTurns.{one_request, told_made, recessive_if, dominant_if}
+use Rattle.can_node.specs.Machine.Turns.{IsMade, IsTurn, TransmitsBit}
+use Rattle.can_node.proofs.Machine.FrameTurns.{one_request, transmitted_made}
 use Rattle.can_node.proofs.Transmission.TransmitterFronts.{transmits_from_idle, sends_start}
 use Rattle.can_node.proofs.Reception.Beginnings.{receives_from_idle}
 
@@ -41,45 +42,49 @@ dominant_keeps request Dominant = refl
 dominant_keeps request Recessive = refl
 
 -- an own one
-idle_transmits : (shift new : Shift) (now : ContextValue) (request : Request) (driven seen : Level) (self_test : Bool) (turn : AfterBit) →
-    IsFrame request.frame → now.held ≡ Some request → now.listen ≡ false → self_test ≡ now.self_test → StandsFor shift [] → driven ≡ Dominant →
+idle_transmits : (shift new : Shift) (now : ContextValue) (request : Request) (driven seen : Level) (self_test : Bool)
+    (turn : AfterBit) →
+    IsFrame request.frame → now.held ≡ Some request → now.listen ≡ false → self_test ≡ now.self_test →
+    StandsFor shift [] → driven ≡ Dominant →
     ((l : List Level) → StandsFor shift l → StandsFor new (l ++ seen ∷ [])) →
-    ((c now : ContextValue) (place : Place) (bits : List Bit) → StandsFor shift (seen_of (frame_bits place bits)) → IsFramePlace place → self_test ≡ c.self_test →
-    (h : IsTransmitting c now place bits) → request ≡ h.request → TransmitsNext h.request (frame_bits place bits) driven →
-    false ≡ is_some (lost_by (Some h.request) (seen_of (frame_bits place bits)) driven seen) →
-    TransmitsOn false c now place (bits ++ record { driven = driven; seen = seen } ∷ []) turn) →
+    TransmitsBit shift request self_test false driven seen turn →
     IsMade new now (record now { role = Transmitter }) AtIdle (record { driven = driven; seen = seen } ∷ []) turn
-idle_transmits shift new now request driven seen self_test turn fits held speaks strict stood first stands transmits_on =
+idle_transmits shift new now request driven seen self_test turn fits held speaks strict stood first stands
+    transmits_on =
     let b : Bit = record { driven = driven; seen = seen } in
     let sent : sent_at now AtIdle ≡ Some request = ap (λ t. if t then None else now.held) speaks ∙ held in
     let h = transmits_from_idle now now request fits sent held speaks in
     let Transmits : Level → Type 0 = λ x. TransmitsNext h.request [] x in
     let Lost : Level → Type 0 = λ x. false ≡ is_some (lost_by (Some h.request) [] x seen) in
-    let told = transmits_on now now AtIdle [] stood idle_place strict h (one_request (sym held ∙ h.held)) (subst Transmits (sym first) (sends_start now now h))
+    let told = transmits_on now now AtIdle [] stood idle_place strict h (one_request (sym held ∙ h.held))
+    (subst Transmits (sym first) (sends_start now now h))
     (subst Lost (sym first) (dominant_keeps h.request seen)) in
-    told_made false turn new now now (record now { role = Transmitter }) AtIdle (b ∷ []) refl (λ e. refl) (from_idle b []) (stands [] stood) told
+    transmitted_made false turn new now now (record now { role = Transmitter }) AtIdle (b ∷ []) refl (λ e. refl)
+    (from_idle b []) (stands [] stood) told
 
 -- a node that sends holds a request, and doesn't only listen
-sends_parts : (listen : Bool) (held : Option Request) (request : Request) → (if listen then None else held) ≡ Some request →
+sends_parts : (listen : Bool) (held : Option Request) (request : Request) →
+    (if listen then None else held) ≡ Some request →
     (listen ≡ false) × (held ≡ Some request)
 sends_parts true held request e = absurd cc
 sends_parts false held request e = (refl, e)
 
 -- the same for a node that sends
-pub idle_sends : (shift new : Shift) (now : ContextValue) (request : Request) (driven seen : Level) (self_test : Bool) (turn : AfterBit) →
-    sent_at now AtIdle ≡ Some request → ((request : Request) → now.held ≡ Some request → IsFrame request.frame) → self_test ≡ now.self_test → StandsFor shift [] →
+pub idle_sends : (shift new : Shift) (now : ContextValue) (request : Request) (driven seen : Level) (self_test : Bool)
+    (turn : AfterBit) →
+    sent_at now AtIdle ≡ Some request → ((request : Request) → now.held ≡ Some request → IsFrame request.frame) →
+    self_test ≡ now.self_test → StandsFor shift [] →
     IdleDrives (sent_at now AtIdle) driven → ((l : List Level) → StandsFor shift l → StandsFor new (l ++ seen ∷ [])) →
-    ((c now : ContextValue) (place : Place) (bits : List Bit) → StandsFor shift (seen_of (frame_bits place bits)) → IsFramePlace place → self_test ≡ c.self_test →
-    (h : IsTransmitting c now place bits) → request ≡ h.request → TransmitsNext h.request (frame_bits place bits) driven →
-    false ≡ is_some (lost_by (Some h.request) (seen_of (frame_bits place bits)) driven seen) →
-    TransmitsOn false c now place (bits ++ record { driven = driven; seen = seen } ∷ []) turn) →
+    TransmitsBit shift request self_test false driven seen turn →
     IsTurn new now now AtIdle [] (record { driven = driven; seen = seen }) turn
 idle_sends shift new now request driven seen self_test turn sent fits strict stood drives stands transmits_on =
     let parts = sends_parts now.listen now.held request sent in
     let Driving : Option Request → Type 0 = λ r. IdleDrives r driven in
-    let Made : Option Request → Type 0 = λ r. IsMade new now (first_bit r now) AtIdle (record { driven = driven; seen = seen } ∷ []) turn in
+    let Made : Option Request → Type 0 =
+    λ r. IsMade new now (first_bit r now) AtIdle (record { driven = driven; seen = seen } ∷ []) turn in
     subst Made (sym sent)
-    (idle_transmits shift new now request driven seen self_test turn (fits request parts.1) parts.1 parts.0 strict stood (subst Driving sent drives) stands transmits_on)
+    (idle_transmits shift new now request driven seen self_test turn (fits request parts.1) parts.1 parts.0 strict stood
+    (subst Driving sent drives) stands transmits_on)
 
 -- drives recessive
 pub none_drives : (sent : Option Request) (x : Level) → sent ≡ None → IdleDrives sent x → x ≡ Recessive
@@ -97,18 +102,21 @@ idle_begins new now seen none receiver sees stands =
     subst R (sym none) (record {
       site = from_idle (recessive_bit seen) [];
       stands = stands;
-      by_role = subst Q (sym receiver) (subst P (sym (dominant_if seen sees)) (receives_from_idle now none));
+      by_role = subst Q (sym receiver) (subst P (sym (dominant_by seen sees)) (receives_from_idle now none));
     })
 
 -- none begins
-pub idle_still : (now : ContextValue) (seen : Level) → sent_at now AtIdle ≡ None → is_recessive seen ≡ true → Row now AtIdle (recessive_bit seen ∷ []) IdleBit AtIdle
+pub idle_still : (now : ContextValue) (seen : Level) → sent_at now AtIdle ≡ None → is_recessive seen ≡ true →
+    Row now AtIdle (recessive_bit seen ∷ []) IdleBit AtIdle
 idle_still now seen none sees =
     let P : Level → Type 0 = λ x. Row now AtIdle (recessive_bit x ∷ []) IdleBit AtIdle in
-    subst P (sym (recessive_if seen sees)) (idle none)
+    subst P (sym (recessive_by seen sees)) (idle none)
 
 -- a bit in which the node drives recessive, as it does where it begins no frame
-pub idle_bit_is : (new : Shift) (now : ContextValue) (driven seen : Level) (turn : AfterBit) → sent_at now AtIdle ≡ None → IdleDrives (sent_at now AtIdle) driven →
-    IsTurn new now now AtIdle [] (recessive_bit seen) turn → IsTurn new now now AtIdle [] (record { driven = driven; seen = seen }) turn
+pub idle_bit_is : (new : Shift) (now : ContextValue) (driven seen : Level) (turn : AfterBit) →
+    sent_at now AtIdle ≡ None → IdleDrives (sent_at now AtIdle) driven →
+    IsTurn new now now AtIdle [] (recessive_bit seen) turn →
+    IsTurn new now now AtIdle [] (record { driven = driven; seen = seen }) turn
 idle_bit_is new now driven seen turn none drives made =
     let P : Level → Type 0 = λ x. IsTurn new now now AtIdle [] (record { driven = x; seen = seen }) turn in
     subst P (sym (none_drives (sent_at now AtIdle) driven none drives)) made

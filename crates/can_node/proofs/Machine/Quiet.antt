@@ -37,7 +37,7 @@ use Rattle.can_node.proofs.Machine.Ats.{at_is}
 use Rattle.can_node.proofs.Machine.BitStands.{goes_stands, closes_stands}
 use Rattle.can_node.proofs.Machine.IdleTurns.{idle_still}
 use Rattle.can_node.proofs.Machine.Sampling.{bits_push}
-use Rattle.can_node.proofs.Machine.Shown.{DrivesBy, at_shown, kept_shown}
+use Rattle.can_node.proofs.Machine.Shown.{DrivesBy, at_shown, kept_shown, next_shown}
 use Rattle.can_node.proofs.Machine.Told.{told_all, drives_once}
 
 -- ---- what it tells
@@ -54,11 +54,13 @@ none_recovers true = refl
 none_recovers false = refl
 
 -- a bit after which the context is what it was, and which tells no frame, fault or loss, tells nothing
-nothing_told : (now : ContextValue) (place : Place) (bits : List Bit) (b : Bit) (step : Step) → now.tec < 256 → stepped step now place bits b ≡ now →
+nothing_told : (now : ContextValue) (place : Place) (bits : List Bit) (b : Bit) (step : Step) → now.tec < 256 →
+    stepped step now place bits b ≡ now →
     None ≡ received_in step → None ≡ ended_in step now now → None ≡ lost_in now place bits b → None ≡ fault_in step →
     nothing (not (is_transmitter now.role)) ≡ events_of step now place bits b
 nothing_told now place bits b step few same received ended lost fault =
-    told_all now now place bits b step None None None None (not (is_transmitter now.role)) false false same received ended lost fault refl
+    told_all now now place bits b step None None None None (not (is_transmitter now.role)) false false same received
+    ended lost fault refl
     (sym (lt-leb 256 now.tec few)) (none_recovers now.off)
 
 -- the role that a node shows is that of the cut
@@ -67,15 +69,18 @@ role_shown : (node : Node) (entries : List Entry) (found : List FinishedPiece) (
 role_shown node entries found h = ap (λ (k : ContextValue). not (is_transmitter k.role)) h.shows
 
 -- a step in which nothing is told
-leads_quietly : (old new : Node) (entries : List Entry) (found : List FinishedPiece) (h : StandsAt old entries found) (b : Bit) (step : Step) →
+leads_quietly : (old new : Node) (entries : List Entry) (found : List FinishedPiece) (h : StandsAt old entries found)
+    (b : Bit) (step : Step) →
     nothing (is_receiving old) ≡ events_of step (now_in h.cut) h.cut.place (open_bits h.cut) b →
-    StandsAt new (entries ++ OneBit b ∷ []) (found ++ closed_by (counted none_yet (entries ++ OneBit b ∷ [])) step) → is_receiving old ≡ is_receiving new →
+    StandsAt new (entries ++ OneBit b ∷ []) (found ++ closed_by (counted none_yet (entries ++ OneBit b ∷ [])) step) →
+    is_receiving old ≡ is_receiving new →
     Leads old new entries found h b (nothing (is_receiving old))
 leads_quietly old new entries found h b step told stands same = record {
   step = step;
   told = told;
   stands = stands;
-  role = same ∙ role_shown new (entries ++ OneBit b ∷ []) (found ++ closed_by (counted none_yet (entries ++ OneBit b ∷ [])) step) stands;
+  role = same ∙ role_shown new (entries ++ OneBit b ∷ [])
+      (found ++ closed_by (counted none_yet (entries ++ OneBit b ∷ [])) step) stands;
 }
 
 -- ---- the piece goes on
@@ -88,7 +93,8 @@ pub record GoesQuietly (new : Node) (c now : ContextValue) (place : Place) (bits
 -- so it is wherever the node may stand
 abbrev pub IsQuiet : Node → Node → Level → Type 0
 IsQuiet old new seen =
-    (c : ContextValue) (place : Place) (bits : List Bit) → At old.stage old.shift c (context_of old.context) place bits → IsKept place c (context_of old.context) →
+    (c : ContextValue) (place : Place) (bits : List Bit) →
+    At old.stage old.shift c (context_of old.context) place bits → IsKept place c (context_of old.context) →
     HasBody old.context old.body → Drives (context_of old.context) place bits old.next →
     GoesQuietly new c (context_of old.context) place bits (record { driven = old.next; seen = seen })
 
@@ -97,14 +103,14 @@ pub quietly : (old new : Node) (seen : Level) → new.context ≡ old.context �
     Samples old new seen (nothing (is_receiving old))
 unfolding goes_stands
 quietly old new seen same_context same_body quiet entries found h x drives =
-    let c = h.cut.context in
-    let place = h.cut.place in
-    let bits = bits_in h.cut.rest in
-    let K = context_of old.context in
-    let now = along c place [] h.cut.rest in
     let b : Bit = record { driven = old.next; seen = seen } in
-    let driving : Drives K place bits old.next = subst (λ k. Drives k place bits old.next) (sym h.shows) h.next in
-    let goes = quiet c place bits (at_shown old entries found h) (kept_shown old entries found h) h.body driving in
+    let c = h.cut.context in
+    let now = now_in h.cut in
+    let place = h.cut.place in
+    let K = context_of old.context in
+    let bits = open_bits h.cut in
+    let goes = quiet c place bits (at_shown old entries found h) (kept_shown old entries found h) h.body
+    (next_shown old entries found h) in
     let steps : now ≡ at_bit now place bits b = subst (λ k. k ≡ at_bit k place bits b) h.shows goes.turn.steps in
     let whole : K ≡ at_bit now place bits b = h.shows ∙ steps in
     let few : now.tec < 256 = stays_end h.cut.from in
@@ -114,27 +120,38 @@ quietly old new seen same_context same_body quiet entries found h x drives =
     (subst (λ (k : ContextValue). k.tec < 256) steps few) shows refl refl in
     let Driving : ContextValue → Type 0 = λ k. Drives k place (bits ++ b ∷ []) new.next in
     let Driving_bits : List Bit → Type 0 = λ l. Drives (now_in follows.cut) place l new.next in
-    let next = subst Driving_bits (sym (bits_push h.cut.rest b)) (subst Driving (ap (λ s. context_of s) (sym same_context) ∙ follows.shows) goes.next) in
+    let next = subst Driving_bits (sym (bits_push h.cut.rest b))
+    (subst Driving (ap (λ s. context_of s) (sym same_context) ∙ follows.shows) goes.next) in
     let Bodied : Context → Type 0 = λ s. HasBody s new.body in
-    let body : HasBody new.context new.body = subst Bodied (sym same_context) (subst (λ p. HasBody old.context p) (sym same_body) h.body) in
-    let there : StandsAt new (entries ++ OneBit b ∷ []) found = record { cut = follows.cut; shows = follows.shows; at = follows.at; next = next; body = body } in
+    let body : HasBody new.context new.body =
+    subst Bodied (sym same_context) (subst (λ p. HasBody old.context p) (sym same_body) h.body) in
+    let there : StandsAt new (entries ++ OneBit b ∷ []) found =
+    record { cut = follows.cut; shows = follows.shows; at = follows.at; next = next; body = body } in
     let Stood : List FinishedPiece → Type 0 = λ f. StandsAt new (entries ++ OneBit b ∷ []) f in
     let stood = subst Stood (sym (append-nil found)) there in
     let told : nothing (is_receiving old) ≡ events_of Within now place bits b =
     ap (λ (k : ContextValue). nothing (not (is_transmitter k.role))) h.shows
-    ∙ nothing_told now place bits b Within few (sym steps) refl (none_ends (nat_le 256 now.tec) (is_held now.held)) (subst (λ k. None ≡ lost_in k place bits b) h.shows goes.turn.lost) refl in
-    let P : Level → Type 0 = λ y. Leads old new entries found h (record { driven = y; seen = seen }) (nothing (is_receiving old)) in
+    ∙ nothing_told now place bits b Within few (sym steps) refl (none_ends (nat_le 256 now.tec) (is_held now.held))
+    (subst (λ k. None ≡ lost_in k place bits b) h.shows goes.turn.lost) refl in
+    let P : Level → Type 0 = λ y. Leads old new entries found h (record { driven = y; seen = seen })
+    (nothing (is_receiving old)) in
     subst P (drives_once now place bits old.next x h.next drives)
-    (leads_quietly old new entries found h b Within told stood (ap (λ (s : Context). not (is_transmitter s.role)) (sym same_context)))
+    (leads_quietly old new entries found h b Within told stood
+    (ap (λ (s : Context). not (is_transmitter s.role)) (sym same_context)))
 
 -- ---- outside a frame
 
 -- the level that the node keeps is found by its fields
 pub goes_elsewhere : (old : Node) (stage : Stage) (next seen : Level) → TurnsQuietly old seen stage →
-    DrivesBy (record old { stage = stage; next = next }) next → IsQuiet old (record old { stage = stage; next = next }) seen
+    DrivesBy (record old { stage = stage; next = next }) next →
+    IsQuiet old (record old { stage = stage; next = next }) seen
 goes_elsewhere old stage next seen turns drives_by c place bits at kept body drives =
     let turn = turns c place bits at kept drives in
-    record { turn = turn; next = drives_by c place (bits ++ record { driven = old.next; seen = seen } ∷ []) turn.at kept body }
+    record {
+      turn = turn;
+      next = drives_by c place (bits ++ record { driven = old.next; seen = seen } ∷ []) turn.at kept
+          body;
+    }
 
 -- ---- an idle bit
 
@@ -153,7 +170,8 @@ record IsIdleBit (c now : ContextValue) (place : Place) (bits : List Bit) (b : B
   row : Row c place (bits ++ b ∷ []) IdleBit AtIdle
   lost : None ≡ lost_in now place bits b
 
-idle_bit_at : (now : ContextValue) (x seen : Level) → now.role ≡ Receiver → x ≡ Recessive → seen ≡ Recessive → IdleDrives (sent_at now AtIdle) x →
+idle_bit_at : (now : ContextValue) (x seen : Level) → now.role ≡ Receiver → x ≡ Recessive → seen ≡ Recessive →
+    IdleDrives (sent_at now AtIdle) x →
     IsIdleBit now now AtIdle [] (record { driven = x; seen = seen })
 idle_bit_at now x seen receiver recessive sees drives =
     let none = none_sent (sent_at now AtIdle) x recessive drives in
@@ -164,15 +182,18 @@ idle_bit_at now x seen receiver recessive sees drives =
       lost = ap (λ r. lost_as r now [] (record { driven = x; seen = seen })) (sym receiver);
     }
 
-idle_bit_by : (shift : Shift) (c now : ContextValue) (place : Place) (bits : List Bit) (x seen : Level) → At StageBusIdle shift c now place bits →
-    x ≡ Recessive → seen ≡ Recessive → Drives now place bits x → IsIdleBit c now place bits (record { driven = x; seen = seen })
+idle_bit_by : (shift : Shift) (c now : ContextValue) (place : Place) (bits : List Bit) (x seen : Level) →
+    At StageBusIdle shift c now place bits →
+    x ≡ Recessive → seen ≡ Recessive → Drives now place bits x →
+    IsIdleBit c now place bits (record { driven = x; seen = seen })
 idle_bit_by shift c now place bits x seen at recessive sees drives =
     let P : Place → Type 0 = λ s. IsIdleBit c now s bits (record { driven = x; seen = seen }) in
     let Q : List Bit → Type 0 = λ l. IsIdleBit c now AtIdle l (record { driven = x; seen = seen }) in
     let R : ContextValue → Type 0 = λ d. IsIdleBit d now AtIdle [] (record { driven = x; seen = seen }) in
     let S : Place → Type 0 = λ s. Drives now s bits x in
     let T : List Bit → Type 0 = λ l. Drives now AtIdle l x in
-    subst P (sym at.0) (subst Q (sym at.1) (subst R (sym at.3) (idle_bit_at now x seen at.2 recessive sees (subst T at.1 (subst S at.0 drives)))))
+    subst P (sym at.0) (subst Q (sym at.1)
+    (subst R (sym at.3) (idle_bit_at now x seen at.2 recessive sees (subst T at.1 (subst S at.0 drives)))))
 
 -- a recessive bit where the bus is idle leaves the node as it is
 pub idle_quietly : (node : Node) (seen : Level) → node.stage ≡ StageBusIdle → node.next ≡ Recessive → seen ≡ Recessive →
@@ -204,6 +225,9 @@ idle_quietly node seen idle recessive sees entries found h x drives =
     let step = Finishes IdleBit AtIdle in
     let ends : None ≡ ended_in step now now = none_ends (nat_le 256 now.tec) (is_held now.held) in
     let told : nothing (is_receiving node) ≡ events_of step now place bits b =
-    ap (λ (d : ContextValue). nothing (not (is_transmitter d.role))) h.shows ∙ nothing_told now place bits b step few bit.same refl ends bit.lost refl in
-    let P : Level → Type 0 = λ y. Leads node node entries found h (record { driven = y; seen = seen }) (nothing (is_receiving node)) in
-    subst P (drives_once now place bits node.next x h.next drives) (leads_quietly node node entries found h b step told there refl)
+    ap (λ (d : ContextValue). nothing (not (is_transmitter d.role))) h.shows
+    ∙ nothing_told now place bits b step few bit.same refl ends bit.lost refl in
+    let P : Level → Type 0 = λ y. Leads node node entries found h (record { driven = y; seen = seen })
+    (nothing (is_receiving node)) in
+    subst P (drives_once now place bits node.next x h.next drives)
+    (leads_quietly node node entries found h b step told there refl)

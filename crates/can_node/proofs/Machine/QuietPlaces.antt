@@ -22,7 +22,7 @@ use Rattle.can_node.specs.Machine.Stages.{At, IsInDelimiter}
 use Rattle.can_node.specs.Machine.Quiet.{IsQuietTurn, stage_in}
 use Rattle.can_node.specs.Machine.Turns.{IsTurn}
 use Rattle.can_node.proofs.Machine.Ats.{at_is}
-use Rattle.can_node.proofs.Machine.Counts.{count_integrating, first_bit_is}
+use Rattle.can_node.proofs.Machine.Counts.{count_integration, first_bit_is}
 use Rattle.can_node.proofs.Waiting.Delimiters.{eighth_is}
 
 -- ---- the turn
@@ -33,8 +33,10 @@ goes_to (InPiece s) stage e = let same : s ≡ stage = cc in ap InPiece same
 goes_to (Ended ending) stage e = cc
 
 -- so the node stands there
-quiet_turn : (stage : Stage) (turn : AfterBit) (shift : Shift) (c now : ContextValue) (place : Place) (bits : List Bit) (b : Bit) → Some stage ≡ stage_in turn →
-    IsTurn shift c now place bits b turn → None ≡ lost_in now place bits b → now ≡ at_bit now place bits b → IsQuietTurn stage shift c now place bits b
+quiet_turn : (stage : Stage) (turn : AfterBit) (shift : Shift) (c now : ContextValue) (place : Place) (bits : List Bit)
+    (b : Bit) → Some stage ≡ stage_in turn →
+    IsTurn shift c now place bits b turn → None ≡ lost_in now place bits b → now ≡ at_bit now place bits b →
+    IsQuietTurn stage shift c now place bits b
 quiet_turn stage turn shift c now place bits b goes made lost steps =
     let P : AfterBit → Type 0 = λ t. IsTurn shift c now place bits b t in
     record {
@@ -58,11 +60,14 @@ none_lost now s bits b in_flag = refl
 none_lost now s bits b in_delimiter = refl
 none_lost now s bits b in_interframe = refl
 
-lost_there : (now : ContextValue) (place s : Place) (bits : List Bit) (b : Bit) → place ≡ s → IsOutside s → None ≡ lost_in now place bits b
-lost_there now place s bits b e h = let P : Place → Type 0 = λ z. None ≡ lost_in now z bits b in subst P (sym e) (none_lost now s bits b h)
+lost_there : (now : ContextValue) (place s : Place) (bits : List Bit) (b : Bit) → place ≡ s → IsOutside s →
+    None ≡ lost_in now place bits b
+lost_there now place s bits b e h = let P : Place → Type 0 =
+    λ z. None ≡ lost_in now z bits b in subst P (sym e) (none_lost now s bits b h)
 
 -- what a bit counts at a place
-counts_there : (now : ContextValue) (place s : Place) (bits : List Bit) (b : Bit) → place ≡ s → now ≡ at_bit now s bits b → now ≡ at_bit now place bits b
+counts_there : (now : ContextValue) (place s : Place) (bits : List Bit) (b : Bit) → place ≡ s →
+    now ≡ at_bit now s bits b → now ≡ at_bit now place bits b
 counts_there now place s bits b e h = let P : Place → Type 0 = λ z. now ≡ at_bit now z bits b in subst P (sym e) h
 
 -- a test that doesn't hold
@@ -72,11 +77,13 @@ both_not false u e = refl
 
 -- ---- in reset
 
-reset_at : (stage : Stage) (shift : Shift) (c now : ContextValue) (place : Place) (bits more : List Bit) → stage ≡ StageInReset → At stage shift c now place bits →
+reset_at : (stage : Stage) (shift : Shift) (c now : ContextValue) (place : Place) (bits more : List Bit) →
+    stage ≡ StageInReset → At stage shift c now place bits →
     At StageInReset shift c now place more
 reset_at stage shift c now place bits more e h = at_is StageInReset stage shift c now place bits e h
 
-pub resets_quietly : (stage : Stage) (shift : Shift) (c now : ContextValue) (place : Place) (bits : List Bit) (b : Bit) → stage ≡ StageInReset →
+pub resets_quietly : (stage : Stage) (shift : Shift) (c now : ContextValue) (place : Place) (bits : List Bit)
+    (b : Bit) → stage ≡ StageInReset →
     At stage shift c now place bits → IsQuietTurn StageInReset shift c now place bits b
 resets_quietly stage shift c now place bits b e h =
     let at = at_is StageInReset stage shift c now place bits e h in
@@ -93,20 +100,24 @@ not_eleven : (n : ℕ) (x : Level) → (n ≡ 10 → ⊥) → ends_eleven n x �
 not_eleven n Dominant h = refl
 not_eleven n Recessive h = ne_eqb n 10 h
 
-no_step : (now : ContextValue) (run : ℕ) (seen : Level) → (run ≡ 10 → ⊥) → (done : List Bit) (b : Bit) → fold next_run 0 (seen_of done) ≡ run → b.seen ≡ seen →
+no_step : (now : ContextValue) (run : ℕ) (seen : Level) → (run ≡ 10 → ⊥) → (done : List Bit) (b : Bit) →
+    fold next_run 0 (seen_of done) ≡ run → b.seen ≡ seen →
     now ≡ integration_bit now done b
 no_step now run seen short done b count e =
     let none = not_eleven (fold next_run 0 (seen_of done)) b.seen (λ ten. short (sym count ∙ ten)) in
-    sym (ap (λ t. if t then record now { tec = now.tec - 1 } else now) (both_not (now.off && not now.listen) (ends_eleven (fold next_run 0 (seen_of done)) b.seen) none))
+    sym (ap (λ t. if t then record now { tec = now.tec - 1 } else now)
+    (both_not (now.off && not now.listen) (ends_eleven (fold next_run 0 (seen_of done)) b.seen) none))
 
-pub integrates_quietly : (left run : ℕ) (stage to : Stage) (turn : AfterBit) (shift : Shift) (c now : ContextValue) (place : Place) (bits : List Bit) (driven seen : Level) →
+pub integrates_quietly : (left run : ℕ) (stage to : Stage) (turn : AfterBit) (shift : Shift) (c now : ContextValue)
+    (place : Place) (bits : List Bit) (driven seen : Level) →
     stage ≡ StageIntegrating left run → (run ≡ 10 → ⊥) → At stage shift c now place bits → Some to ≡ stage_in turn →
-    IsTurn shift c now place bits (record { driven = driven; seen = seen }) turn → IsQuietTurn to shift c now place bits (record { driven = driven; seen = seen })
+    IsTurn shift c now place bits (record { driven = driven; seen = seen }) turn →
+    IsQuietTurn to shift c now place bits (record { driven = driven; seen = seen })
 integrates_quietly left run stage to turn shift c now place bits driven seen e short h goes made =
     let at = at_is (StageIntegrating left run) stage shift c now place bits e h in
     quiet_turn to turn shift c now place bits (record { driven = driven; seen = seen }) goes made
     (lost_there now place AtIntegration bits (record { driven = driven; seen = seen }) at.0 integrating)
-    (count_integrating left run stage shift c now now place bits driven seen e h (no_step now run seen short))
+    (count_integration left run stage shift c now now place bits driven seen e h (no_step now run seen short))
 
 -- ---- in a flag
 
@@ -114,9 +125,11 @@ none_owed : (now : ContextValue) (x : Level) → now.ack_step_owed ≡ false →
 none_owed now Dominant e = sym (ap (λ t. if t then record now { tec = now.tec + 8; ack_step_owed = false } else now) e)
 none_owed now Recessive e = refl
 
-pub flags_quietly : (n : ℕ) (like : Level) (stage to : Stage) (turn : AfterBit) (shift : Shift) (c now : ContextValue) (place : Place) (bits : List Bit) (driven seen : Level) →
+pub flags_quietly : (n : ℕ) (like : Level) (stage to : Stage) (turn : AfterBit) (shift : Shift) (c now : ContextValue)
+    (place : Place) (bits : List Bit) (driven seen : Level) →
     stage ≡ StageInFlag n like → now.ack_step_owed ≡ false → At stage shift c now place bits → Some to ≡ stage_in turn →
-    IsTurn shift c now place bits (record { driven = driven; seen = seen }) turn → IsQuietTurn to shift c now place bits (record { driven = driven; seen = seen })
+    IsTurn shift c now place bits (record { driven = driven; seen = seen }) turn →
+    IsQuietTurn to shift c now place bits (record { driven = driven; seen = seen })
 flags_quietly n like stage to turn shift c now place bits driven seen e owes h goes made =
     let at = at_is (StageInFlag n like) stage shift c now place bits e h in
     let b : Bit = record { driven = driven; seen = seen } in
@@ -135,7 +148,8 @@ or_second true u e = absurd cc
 or_second false u e = e
 
 -- a level that isn't the first
-later_level : (bits : List Bit) (role : Role) (flag : FlagKind) (now : ContextValue) → is_nil bits ≡ false → after_error_flag bits role flag now ≡ now
+later_level : (bits : List Bit) (role : Role) (flag : FlagKind) (now : ContextValue) → is_nil bits ≡ false →
+    after_error_flag bits role flag now ≡ now
 later_level [] role flag now e = absurd cc
 later_level (b ∷ bits) role flag now e = refl
 
@@ -145,16 +159,20 @@ either true now = refl
 either false now = refl
 
 uncounted : (d r : ℕ) (bits : List Bit) (seen : Level) (now : ContextValue) → IsInDelimiter d r bits →
-    (not (is_recessive seen) && ((d == 0 && r == 0) || (r == 0 && d == 7))) ≡ false → now ≡ delimiter_level seen bits now
+    (not (is_recessive seen) && ((d == 0 && r == 0) || (r == 0 && d == 7))) ≡ false →
+    now ≡ delimiter_level seen bits now
 uncounted d r bits Recessive now h e = refl
 uncounted d r bits Dominant now h e =
-    let first = later_level bits now.role now.flag now (sym (first_bit_is d r bits h) ∙ or_first (d == 0 && r == 0) (r == 0 && d == 7) e) in
+    let first = later_level bits now.role now.flag now
+    (sym (first_bit_is d r bits h) ∙ or_first (d == 0 && r == 0) (r == 0 && d == 7) e) in
     let eighth = eighth_is d r bits h ∙ or_second (d == 0 && r == 0) (r == 0 && d == 7) e in
     sym (ap (λ k. unless_listening now (if_eighth bits k)) first
     ∙ ap (λ t. unless_listening now (if t then more_by now.role 8 8 now else now)) eighth ∙ either now.listen now)
 
-pub delimits_quietly : (d r : ℕ) (stage to : Stage) (turn : AfterBit) (shift : Shift) (c now : ContextValue) (place : Place) (bits : List Bit) (driven seen : Level) →
-    stage ≡ StageInDelimiter d r → (not (is_recessive seen) && ((d == 0 && r == 0) || (r == 0 && d == 7))) ≡ false → At stage shift c now place bits →
+pub delimits_quietly : (d r : ℕ) (stage to : Stage) (turn : AfterBit) (shift : Shift) (c now : ContextValue)
+    (place : Place) (bits : List Bit) (driven seen : Level) →
+    stage ≡ StageInDelimiter d r → (not (is_recessive seen) && ((d == 0 && r == 0) || (r == 0 && d == 7))) ≡ false →
+    At stage shift c now place bits →
     Some to ≡ stage_in turn → IsTurn shift c now place bits (record { driven = driven; seen = seen }) turn →
     IsQuietTurn to shift c now place bits (record { driven = driven; seen = seen })
 delimits_quietly d r stage to turn shift c now place bits driven seen e uncounts h goes made =
@@ -165,10 +183,13 @@ delimits_quietly d r stage to turn shift c now place bits driven seen e uncounts
 
 -- ---- in interframe space
 
-pub pauses_quietly : (n : ℕ) (stage to : Stage) (turn : AfterBit) (shift : Shift) (c now : ContextValue) (place : Place) (bits : List Bit) (b : Bit) →
-    stage ≡ StageInInterframeSpace n → At stage shift c now place bits → Some to ≡ stage_in turn → IsTurn shift c now place bits b turn →
+pub interframes_quietly : (n : ℕ) (stage to : Stage) (turn : AfterBit) (shift : Shift) (c now : ContextValue)
+    (place : Place) (bits : List Bit) (b : Bit) →
+    stage ≡ StageInInterframeSpace n → At stage shift c now place bits → Some to ≡ stage_in turn →
+    IsTurn shift c now place bits b turn →
     IsQuietTurn to shift c now place bits b
-pauses_quietly n stage to turn shift c now place bits b e h goes made =
+interframes_quietly n stage to turn shift c now place bits b e h goes made =
     let at = at_is (StageInInterframeSpace n) stage shift c now place bits e h in
-    quiet_turn to turn shift c now place bits b goes made (lost_there now place AtInterframeSpace bits b at.0 in_interframe)
+    quiet_turn to turn shift c now place bits b goes made
+    (lost_there now place AtInterframeSpace bits b at.0 in_interframe)
     (counts_there now place AtInterframeSpace bits b at.0 refl)

@@ -18,7 +18,7 @@ use Rattle.can_node.specs.Cut.{FinishedPiece}
 use Rattle.can_node.specs.Driving.{Drives, phase_at}
 use Rattle.can_node.specs.Machine.Standing.{context_of, HasBody, IsKept}
 use Rattle.can_node.specs.Machine.Stages.{At, IsInFrame, IsInInterframeSpace}
-use Rattle.can_node.specs.Machine.Stages.IsInFrame.{from_idle, from_pause}
+use Rattle.can_node.specs.Machine.Stages.IsInFrame.{from_idle, from_sof}
 use Rattle.can_node.specs.NextBit.{now_in, rests_in}
 use Rattle.can_node.specs.Stands.{FollowsAt, StandsAt, phase_of_stage}
 use Rattle.can_node.proofs.Machine.Along.{is_kept}
@@ -41,13 +41,22 @@ kept_shown node entries found h =
 
 -- ---- the level that is kept
 
+-- what it drives next, by its own context
+pub next_shown : (node : Node) (entries : List Entry) (found : List FinishedPiece) (h : StandsAt node entries found) →
+    Drives (context_of node.context) h.cut.place (bits_in h.cut.rest) node.next
+next_shown node entries found h =
+    subst (λ d. Drives d h.cut.place (bits_in h.cut.rest) node.next) (sym h.shows) h.next
+
 -- the level is what a node drives next, by its own fields at each place where they may stand
 abbrev pub DrivesBy : Node → Level → Type 0
-DrivesBy node x = (c : ContextValue) (place : Place) (bits : List Bit) → At node.stage node.shift c (context_of node.context) place bits →
-    IsKept place c (context_of node.context) → HasBody node.context node.body → Drives (context_of node.context) place bits x
+DrivesBy node x = (c : ContextValue) (place : Place) (bits : List Bit) →
+    At node.stage node.shift c (context_of node.context) place bits →
+    IsKept place c (context_of node.context) → HasBody node.context node.body →
+    Drives (context_of node.context) place bits x
 
 -- a node that keeps it and follows a record stands at it
-pub stands_up : (node : Node) (entries : List Entry) (found : List FinishedPiece) → FollowsAt node entries found → HasBody node.context node.body → DrivesBy node node.next →
+pub stands_up : (node : Node) (entries : List Entry) (found : List FinishedPiece) → FollowsAt node entries found →
+    HasBody node.context node.body → DrivesBy node node.next →
     StandsAt node entries found
 stands_up node entries found h body level =
     let c = h.cut.context in
@@ -60,7 +69,8 @@ stands_up node entries found h body level =
       cut = h.cut;
       shows = h.shows;
       at = h.at;
-      next = subst R h.shows (level c place bits (subst P (sym h.shows) h.at) (subst Q (sym h.shows) (is_kept c place h.cut.rest)) body);
+      next = subst R h.shows (level c place bits (subst P (sym h.shows) h.at)
+          (subst Q (sym h.shows) (is_kept c place h.cut.rest)) body);
       body = body;
     }
 
@@ -71,7 +81,8 @@ reset_drives node x e recessive c place bits at kept body =
     let P : Place → Type 0 = λ s. Drives (context_of node.context) s bits x in
     subst P (sym h.0) recessive
 
-pub integrating_drives : (node : Node) (x : Level) (left run : ℕ) → node.stage ≡ StageIntegrating left run → x ≡ Recessive → DrivesBy node x
+pub integrating_drives : (node : Node) (x : Level) (left run : ℕ) → node.stage ≡ StageIntegrating left run →
+    x ≡ Recessive → DrivesBy node x
 integrating_drives node x left run e recessive c place bits at kept body =
     let h = at_is (StageIntegrating left run) node.stage node.shift c (context_of node.context) place bits e at in
     let P : Place → Type 0 = λ s. Drives (context_of node.context) s bits x in
@@ -80,18 +91,21 @@ integrating_drives node x left run e recessive c place bits at kept body =
 -- its phase in a frame
 in_frame : (place : Place) (bits : List Bit) → IsInFrame place bits → Frame ≡ phase_at place bits
 in_frame place bits (from_idle b more) = refl
-in_frame place bits (from_pause more) = refl
+in_frame place bits (from_sof more) = refl
 
 idle_phase : (place : Place) (bits : List Bit) → place ≡ AtIdle → bits ≡ [] → Idle ≡ phase_at place bits
 idle_phase place bits e none = sym (ap (λ s. phase_at s bits) e ∙ ap (λ l. phase_at AtIdle l) none)
 
-interframe_phase : (n : ℕ) (c : ContextValue) (place : Place) (bits : List Bit) → place ≡ AtInterframeSpace → IsInInterframeSpace n c bits →
+interframe_phase : (n : ℕ) (c : ContextValue) (place : Place) (bits : List Bit) → place ≡ AtInterframeSpace →
+    IsInInterframeSpace n c bits →
     (if nat_lt n 3 then Intermission else Suspension) ≡ phase_at place bits
 interframe_phase n c place bits e h =
-    ap (λ k. if nat_lt k 3 then Intermission else Suspension) (sym (interframe_length n c bits h)) ∙ sym (ap (λ s. phase_at s bits) e)
+    ap (λ k. if nat_lt k 3 then Intermission else Suspension) (sym (interframe_length n c bits h))
+    ∙ sym (ap (λ s. phase_at s bits) e)
 
 -- the stage fixes the phase
-phase_by : (stage : Stage) (shift : Shift) (c now : ContextValue) (place : Place) (bits : List Bit) → At stage shift c now place bits →
+phase_by : (stage : Stage) (shift : Shift) (c now : ContextValue) (place : Place) (bits : List Bit) →
+    At stage shift c now place bits →
     phase_of_stage stage ≡ phase_at place bits
 phase_by StageInReset shift c now place bits h = sym (ap (λ s. phase_at s bits) h.0)
 phase_by (StageIntegrating left run) shift c now place bits h = sym (ap (λ s. phase_at s bits) h.0)
@@ -104,7 +118,8 @@ phase_by (StageInInterframeSpace n) shift c now place bits h = interframe_phase 
 
 pub phase_shown : (node : Node) (entries : List Entry) (found : List FinishedPiece) (h : StandsAt node entries found) →
     phase_of_stage node.stage ≡ phase_at h.cut.place (bits_in h.cut.rest)
-phase_shown node entries found h = phase_by node.stage node.shift h.cut.context (now_in h.cut) h.cut.place (bits_in h.cut.rest) h.at
+phase_shown node entries found h =
+    phase_by node.stage node.shift h.cut.context (now_in h.cut) h.cut.place (bits_in h.cut.rest) h.at
 
 -- it doesn't rest in any other phase
 awake : (p : Phase) (held : Bool) → p ≢ Reset → p ≢ Idle → false ≡ rests_in p held
@@ -121,15 +136,18 @@ pub awake_shown : (p q : Phase) (held : Bool) → p ≡ q → p ≢ Reset → p 
 awake_shown p q held e off idle = awake p held off idle ∙ ap (λ r. rests_in r held) e
 
 -- in idle it rests where it holds no request
-none_is : (held : Option Request) (none : Bool) → is_some held ≡ not none → none ≡ (if is_held held then false else true)
+none_is : (held : Option Request) (none : Bool) → is_some held ≡ not none →
+    none ≡ (if is_held held then false else true)
 none_is None true e = refl
 none_is None false e = absurd cc
 none_is (Some request) true e = absurd cc
 none_is (Some request) false e = refl
 
-pub idle_shown : (node : Node) (entries : List Entry) (found : List FinishedPiece) (h : StandsAt node entries found) (p : Phase) (none : Bool) → p ≡ Idle →
+pub idle_shown : (node : Node) (entries : List Entry) (found : List FinishedPiece) (h : StandsAt node entries found)
+    (p : Phase) (none : Bool) → p ≡ Idle →
     p ≡ phase_at h.cut.place (bits_in h.cut.rest) → is_some node.context.held ≡ not none →
     none ≡ rests_in (phase_at h.cut.place (bits_in h.cut.rest)) (is_held (now_in h.cut).held)
 idle_shown node entries found h p none e f g =
     let held = (now_in h.cut).held in
-    none_is held none (sym (ap (λ (c : ContextValue). is_some c.held) h.shows) ∙ g) ∙ ap (λ q. rests_in q (is_held held)) (sym e ∙ f)
+    none_is held none (sym (ap (λ (c : ContextValue). is_some c.held) h.shows) ∙ g)
+    ∙ ap (λ q. rests_in q (is_held held)) (sym e ∙ f)

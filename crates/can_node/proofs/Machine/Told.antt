@@ -33,23 +33,27 @@ idle_once : (sent : Option Request) (x y : Level) → IdleDrives sent x → Idle
 idle_once None x y h k = h ∙ sym k
 idle_once (Some request) x y h k = h ∙ sym k
 
-sends_once : (request other : Request) (bits : List Bit) (x y : Level) → request ≡ other → TransmitsNext request bits x → TransmitsNext other bits y → x ≡ y
+sends_once : (request other : Request) (bits : List Bit) (x y : Level) → request ≡ other →
+    TransmitsNext request bits x → TransmitsNext other bits y → x ≡ y
 sends_once request other bits x y e h k =
     let P : Request → Type 0 = λ r. TransmitsNext r bits x in
     let g : TransmitsNext other bits x = subst P e h in
     let part = (sent_part_once other.frame g.check k.check g.part k.part g.is_part k.is_part).1 in
-    let whole : driven_of bits ++ x ∷ g.rest ≡ driven_of bits ++ y ∷ k.rest = sym g.whole ∙ ap (λ p. p ++ tail Recessive) part ∙ k.whole in
+    let whole : driven_of bits ++ x ∷ g.rest ≡ driven_of bits ++ y ∷ k.rest =
+    sym g.whole ∙ ap (λ p. p ++ tail Recessive) part ∙ k.whole in
     let same = append-cancel (driven_of bits) (x ∷ g.rest) (y ∷ k.rest) whole in
     cc
 
-frame_once : (role : Role) (c : ContextValue) (bits : List Bit) (x y : Level) → FrameDrives role c bits x → FrameDrives role c bits y → x ≡ y
+frame_once : (role : Role) (c : ContextValue) (bits : List Bit) (x y : Level) → FrameDrives role c bits x →
+    FrameDrives role c bits y → x ≡ y
 frame_once Transmitter c bits x y h k =
     let whole : Some h.0 ≡ Some k.0 = sym h.1 ∙ k.1 in
     let same : h.0 ≡ k.0 = cc in
     sends_once h.0 k.0 bits x y same h.2 k.2
 frame_once Receiver c bits x y h k = acknowledges_once c.listen (seen_of bits) x y h k
 
-pub drives_once : (c : ContextValue) (place : Place) (bits : List Bit) (x y : Level) → Drives c place bits x → Drives c place bits y → x ≡ y
+pub drives_once : (c : ContextValue) (place : Place) (bits : List Bit) (x y : Level) → Drives c place bits x →
+    Drives c place bits y → x ≡ y
 drives_once c AtReset bits x y h k = h ∙ sym k
 drives_once c AtIntegration bits x y h k = h ∙ sym k
 drives_once c AtIdle [] x y h k = idle_once (sent_at c AtIdle) x y h k
@@ -65,7 +69,8 @@ drives_once c AtInterframeSpace bits x y h k = h ∙ sym k
 at_all : (c d : ContextValue) → d.tec ≡ c.tec → d.tec ≤ c.tec + 8
 at_all c d e = omega (arith, e)
 
-near_if : (test : Bool) (c d e : ContextValue) → d.tec ≤ c.tec + 8 → e.tec ≤ c.tec + 8 → (if test then d else e).tec ≤ c.tec + 8
+near_if : (test : Bool) (c d e : ContextValue) → d.tec ≤ c.tec + 8 → e.tec ≤ c.tec + 8 →
+    (if test then d else e).tec ≤ c.tec + 8
 near_if true c d e h k = h
 near_if false c d e h k = k
 
@@ -79,7 +84,8 @@ drop_near (Some request) c = chosen (request.single_shot || c.aborted)
 
 frame_near : (role : Role) (c : ContextValue) (l : List Level) (b : Bit) → (frame_bit role c l b).tec ≤ c.tec + 8
 frame_near Transmitter c l b =
-    near_if (is_some (lost_by c.held l b.driven b.seen)) c (lose c) c (at_all c (lose c) (drop_near c.held c)) (at_all c c refl)
+    near_if (is_some (lost_by c.held l b.driven b.seen)) c (lose c) c (at_all c (lose c) (drop_near c.held c))
+    (at_all c c refl)
 frame_near Receiver c l b = acknowledged b.driven b.seen
   where
     acknowledged : (x y : Level) → (if_acknowledged x y c).tec ≤ c.tec + 8
@@ -92,14 +98,16 @@ first_near None c = at_all c c refl
 first_near (Some request) c = at_all c c refl
 
 late_near : (x : Level) (c : ContextValue) → (if_ack_step_owed x c).tec ≤ c.tec + 8
-late_near Dominant c = near_if c.ack_step_owed c (record c { tec = c.tec + 8; ack_step_owed = false }) c (omega arith) (at_all c c refl)
+late_near Dominant c = near_if c.ack_step_owed c (record c { tec = c.tec + 8; ack_step_owed = false }) c (omega arith)
+    (at_all c c refl)
 late_near Recessive c = at_all c c refl
 
 role_near : (role : Role) (c : ContextValue) → (more_by role 8 8 c).tec ≤ c.tec + 8
 role_near Transmitter c = omega arith
 role_near Receiver c = at_all c c refl
 
-flag_near : (done : List Bit) (role : Role) (flag : FlagKind) (c : ContextValue) → (after_error_flag done role flag c).tec ≡ c.tec
+flag_near : (done : List Bit) (role : Role) (flag : FlagKind) (c : ContextValue) →
+    (after_error_flag done role flag c).tec ≡ c.tec
 flag_near [] Receiver ActiveError c = refl
 flag_near [] Receiver PassiveError c = refl
 flag_near [] Receiver Overload c = refl
@@ -110,14 +118,16 @@ tail_near : (x : Level) (done : List Bit) (c : ContextValue) → (delimiter_leve
 tail_near Dominant done c =
     let d = after_error_flag done c.role c.flag c in
     let same : d.tec ≡ c.tec = flag_near done c.role c.flag c in
-    let more = near_if (are_dominant (seen_of done) && (length done + 1) % 8 == 0) d (more_by d.role 8 8 d) d (role_near d.role d) (at_all d d refl) in
+    let more = near_if (are_dominant (seen_of done) && (length done + 1) % 8 == 0) d (more_by d.role 8 8 d) d
+    (role_near d.role d) (at_all d d refl) in
     near_if c.listen c c (if_eighth done d) (at_all c c refl) (omega (arith, same, more))
 tail_near Recessive done c = at_all c c refl
 
 bit_near : (c : ContextValue) (place : Place) (done : List Bit) (b : Bit) → (at_bit c place done b).tec ≤ c.tec + 8
 bit_near c AtReset done b = at_all c c refl
 bit_near c AtIntegration done b =
-    near_if ((c.off && not c.listen) && ends_eleven (fold next_run 0 (seen_of done)) b.seen) c (record c { tec = c.tec - 1 }) c (omega arith) (at_all c c refl)
+    near_if ((c.off && not c.listen) && ends_eleven (fold next_run 0 (seen_of done)) b.seen) c
+    (record c { tec = c.tec - 1 }) c (omega arith) (at_all c c refl)
 bit_near c AtIdle [] b = first_near (sent_at c AtIdle) c
 bit_near c AtIdle (x ∷ done) b = frame_near c.role c (seen_of (x ∷ done)) b
 bit_near c AfterSof done b = frame_near c.role c (Dominant ∷ seen_of done) b
@@ -127,7 +137,8 @@ bit_near c AtDelimiter done b = tail_near b.seen done c
 bit_near c AtInterframeSpace done b = at_all c c refl
 
 -- so it stays far below the greatest number that is kept
-pub bit_few : (c : ContextValue) (place : Place) (done : List Bit) (b : Bit) → c.tec < 256 → (at_bit c place done b).tec < 900
+pub bit_few : (c : ContextValue) (place : Place) (done : List Bit) (b : Bit) → c.tec < 256 →
+    (at_bit c place done b).tec < 900
 bit_few c place done b few = let near = bit_near c place done b in omega (arith, near, few)
 
 -- ---- the events
@@ -144,7 +155,8 @@ held_is None = refl
 held_is (Some request) = refl
 
 -- events from their parts
-abbrev pub made_of : Option FrameValue → Option Outcome → Option ℕ → Option (Cause × Segment) → Bool → Bool → Bool → BitEvents
+abbrev pub made_of : Option FrameValue → Option Outcome → Option ℕ → Option (Cause × Segment) → Bool → Bool → Bool →
+    BitEvents
 made_of received ended lost fault receiving went recovered = record {
   received = received;
   ended = ended;
@@ -156,12 +168,14 @@ made_of received ended lost fault receiving went recovered = record {
 }
 
 -- all that the bit tells
-pub told_all : (c n : ContextValue) (place : Place) (bits : List Bit) (b : Bit) (step : Step) (received : Option FrameValue) (ended : Option Outcome) (lost : Option ℕ)
+pub told_all : (c n : ContextValue) (place : Place) (bits : List Bit) (b : Bit) (step : Step)
+    (received : Option FrameValue) (ended : Option Outcome) (lost : Option ℕ)
     (fault : Option (Cause × Segment)) (receiving went recovered : Bool) → stepped step c place bits b ≡ n →
     received ≡ received_in step → ended ≡ ended_in step c n → lost ≡ lost_in c place bits b → fault ≡ fault_in step →
     receiving ≡ not (is_transmitter n.role) → went ≡ nat_le 256 n.tec → recovered ≡ (c.off && not n.off) →
     made_of received ended lost fault receiving went recovered ≡ events_of step c place bits b
 told_all c n place bits b step received ended lost fault receiving went recovered same r e l f i w v =
     let P : ContextValue → Type 0 = λ d. made_of received ended lost fault receiving went recovered
-    ≡ made_of (received_in step) (ended_in step c d) (lost_in c place bits b) (fault_in step) (not (is_transmitter d.role)) (nat_le 256 d.tec) (c.off && not d.off) in
+    ≡ made_of (received_in step) (ended_in step c d) (lost_in c place bits b) (fault_in step)
+    (not (is_transmitter d.role)) (nat_le 256 d.tec) (c.off && not d.off) in
     subst P (sym same) (λ j. made_of (r j) (e j) (l j) (f j) (i j) (w j) (v j))

@@ -54,7 +54,8 @@ flag_place i = if nat_le 6 i then AtDelimiter else AtFlag
 
 -- a piece of a flag: by what the node drives in it
 data InFlagging (c : ContextValue) (bits : List Bit) (p : Piece) (n : Place) : Type 0 where
-  active : (i : ℕ) (l : List Level) → flag_level c ≡ Dominant → IsWait Dominant Recessive 6 i l → bits ≡ dominant_bits l →
+  active : (i : ℕ) (l : List Level) → flag_level c ≡ Dominant → IsWait Dominant Recessive 6 i l →
+      bits ≡ dominant_bits l →
       p ≡ flag_piece c i → n ≡ flag_place i → InFlagging c bits p n
   passive : (l : List Level) → flag_level c ≡ Recessive → IsFirst (EndsInEqual 6) l → bits ≡ recessive_bits l →
       p ≡ Flag → n ≡ AtDelimiter → InFlagging c bits p n
@@ -159,10 +160,11 @@ after_flag_once c a b x y p q n m h k e =
 -- all of the recessive levels are interframe space; the first or second level dominant is an overload, a later one is a
 -- start of frame
 abbrev pub interframe_piece : ℕ → ℕ → Piece
-interframe_piece count i = if nat_le count i then InterframeSpace else if nat_le 2 i then InterframeSpaceWithSof else InterframeSpaceBroken
+interframe_piece count i = if nat_le count i then InterframeSpace else if nat_le 2 i then InterframeSpaceWithSof else
+    InterframeSpaceBroken
 
-abbrev pub pause_place : ℕ → ℕ → Place
-pause_place count i = if nat_le count i then AtIdle else if nat_le 2 i then AfterSof else AtFlag
+abbrev pub interframe_place : ℕ → ℕ → Place
+interframe_place count i = if nat_le count i then AtIdle else if nat_le 2 i then AfterSof else AtFlag
 
 -- a piece of interframe space with so many levels
 record InPausing (count : ℕ) (bits : List Bit) (p : Piece) (n : Place) : Type 0 where
@@ -171,12 +173,13 @@ record InPausing (count : ℕ) (bits : List Bit) (p : Piece) (n : Place) : Type 
   waits : IsWait Recessive Dominant count i l
   bits_are : bits ≡ recessive_bits l
   piece_is : p ≡ interframe_piece count i
-  place_is : n ≡ pause_place count i
+  place_is : n ≡ interframe_place count i
 
 -- a dominant level after i recessive ones, fewer than interframe space has
 broken_at : (count i : ℕ) (bits : List Bit) (p : Piece) (n : Place) → i < count →
     bits ≡ recessive_bits (replicate i Recessive ++ Dominant ∷ []) →
-    p ≡ (if nat_le 2 i then InterframeSpaceWithSof else InterframeSpaceBroken) → n ≡ (if nat_le 2 i then AfterSof else AtFlag) →
+    p ≡ (if nat_le 2 i then InterframeSpaceWithSof else InterframeSpaceBroken) →
+    n ≡ (if nat_le 2 i then AfterSof else AtFlag) →
     InPausing count bits p n
 broken_at count i bits p n less eb ep en =
     let few = lt-leb count i less in
@@ -216,9 +219,11 @@ interframe_owed c t = rw t refl
 pub interframe_short : (c : ContextValue) → IsFalse (owes_suspension c) → interframe_count c ≡ 3
 interframe_short c t = rw t refl
 
-in_interframe : (c : ContextValue) (a : List Bit) (p : Piece) (n : Place) → Row c AtInterframeSpace a p n → InPausing (interframe_count c) a p n
+in_interframe : (c : ContextValue) (a : List Bit) (p : Piece) (n : Place) → Row c AtInterframeSpace a p n →
+    InPausing (interframe_count c) a p n
 in_interframe c a p n interframe_space = all_at (interframe_count c)
-in_interframe c a p n interframe_space_sof = broken_at (interframe_count c) 2 a p n (let long = interframe_long c in omega arith) refl refl refl
+in_interframe c a p n interframe_space_sof =
+    broken_at (interframe_count c) 2 a p n (let long = interframe_long c in omega arith) refl refl refl
 in_interframe c a p n (suspend_transmission_sof i owed less) =
     broken_at (interframe_count c) (3 + i) a p n (let long = interframe_owed c owed in omega arith) refl
     (rw (le-leb 2 (3 + i) (omega arith)) refl) (rw (le-leb 2 (3 + i) (omega arith)) refl)
@@ -235,7 +240,7 @@ interframe_as count a b x y p q n m h g e =
     (seen_of y) h.waits g.waits lines in (
       h.bits_are ∙ ap (λ t. recessive_bits t) same.1 ∙ sym g.bits_are,
       h.piece_is ∙ ap (λ t. interframe_piece count t) same.0 ∙ sym g.piece_is,
-      h.place_is ∙ ap (λ t. pause_place count t) same.0 ∙ sym g.place_is,
+      h.place_is ∙ ap (λ t. interframe_place count t) same.0 ∙ sym g.place_is,
     )
 
 pub interframe_once : (c : ContextValue) (a b x y : List Bit) (p q : Piece) (n m : Place) →

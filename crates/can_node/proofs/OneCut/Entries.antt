@@ -8,7 +8,7 @@ use Rattle.can_node.specs.Context.{ContextValue}
 use Rattle.can_node.specs.Pieces.{Place}
 use Rattle.can_node.specs.Record.{Entry, bits_in, Inner, BeginsInBit, EndsInBit, IsSlice}
 use Rattle.can_node.specs.Record.Entry.{Start, Stop, OneBit, BusOff}
-use Rattle.can_node.specs.Record.Inner.{none_left, took, sends, aborts}
+use Rattle.can_node.specs.Record.Inner.{none_left, samples, sends, aborts}
 use Rattle.can_node.specs.Cut.{IsOpenAt}
 use Rattle.can_node.specs.Cut.IsOpenAt.{rests, nothing, begun}
 use Rattle.can_node.proofs.Machine.Along.{bits_both}
@@ -28,12 +28,13 @@ outer_or_inner entry l off h = elim h [ ]
 
 -- the entries of a piece after the first
 inner_rest : {entry : Entry} {l : List Entry} → Inner (entry ∷ l) → Inner l
-inner_rest (took b h) = h
+inner_rest (samples b h) = h
 inner_rest (sends request h) = h
 inner_rest (aborts h) = h
 
 -- the first start, stop or bus-off of a record is one entry at one place
-pub outer_once : (a b x y : List Entry) (e f : Entry) → Inner a → Inner b → IsOuter e → IsOuter f → a ++ e ∷ x ≡ b ++ f ∷ y → (a ≡ b) × (e ≡ f)
+pub outer_once : (a b x y : List Entry) (e f : Entry) → Inner a → Inner b → IsOuter e → IsOuter f →
+    a ++ e ∷ x ≡ b ++ f ∷ y → (a ≡ b) × (e ≡ f)
 outer_once [] [] x y e f h k out other same = (refl, cc)
 outer_once [] (w ∷ b) x y e f h k out other same =
     let first : e ≡ w = cc in
@@ -49,7 +50,8 @@ outer_once (v ∷ a) (w ∷ b) x y e f h k out other same =
     (cc, once.1)
 
 -- the entries of a piece stand before it
-pub inner_before : (a b x y : List Entry) (f : Entry) → Inner a → IsOuter f → a ++ x ≡ b ++ f ∷ y → (m : List Entry) × (b ≡ a ++ m)
+pub inner_before : (a b x y : List Entry) (f : Entry) → Inner a → IsOuter f → a ++ x ≡ b ++ f ∷ y →
+    (m : List Entry) × (b ≡ a ++ m)
 inner_before [] b x y f h out same = (b, refl)
 inner_before (v ∷ a) [] x y f h out same =
     let first : f ≡ v = cc in
@@ -64,7 +66,8 @@ inner_before (v ∷ a) (w ∷ b) x y f h out same =
 -- no start, stop or bus-off stands within them
 pub outer_not_within : (a b x : List Entry) (entry : Entry) → IsOuter entry → Inner b → b ≡ a ++ entry ∷ x → ⊥
 outer_not_within [] b x entry out h e = outer_or_inner entry x out (subst Inner e h)
-outer_not_within (v ∷ a) b x entry out h e = outer_not_within a (a ++ entry ∷ x) x entry out (inner_rest (subst Inner e h)) refl
+outer_not_within (v ∷ a) b x entry out h e =
+    outer_not_within a (a ++ entry ∷ x) x entry out (inner_rest (subst Inner e h)) refl
 
 -- a list with something in it isn't empty
 pub some_not_none : {A : Type 0} (l : List A) (x : A) (rest : List A) → l ++ x ∷ rest ≢ []

@@ -22,21 +22,27 @@ use Rattle.can_node.proofs.OneCut.GoOn.{counted_both}
 
 -- ---- the frames received
 
-received_if-both : (f : Option FrameValue) (x : FinishedPiece) (a b : List ReceivedFrame) → received_if f x (a ++ b) ≡ received_if f x a ++ b
+received_if-both : (f : Option FrameValue) (x : FinishedPiece) (a b : List ReceivedFrame) →
+    received_if f x (a ++ b) ≡ received_if f x a ++ b
 received_if-both None x a b = refl
 received_if-both (Some f) x a b = refl
 
 pub received_both : (a b : List FinishedPiece) → received (a ++ b) ≡ received a ++ received b
 received_both [] b = refl
-received_both (x ∷ a) b = ap (received_if (received_by x.piece) x) (received_both a b) ∙ received_if-both (received_by x.piece) x (received a) (received b)
+received_both (x ∷ a) b = ap (received_if (received_by x.piece) x) (received_both a b)
+    ∙ received_if-both (received_by x.piece) x (received a) (received b)
 
-received_one : (f : Option FrameValue) (p : Piece) (k : Count) → received_if f (record { piece = p; activation = k.starts; bits = k.bits }) [] ≡ received_now f k
+received_one : (f : Option FrameValue) (p : Piece) (k : Count) →
+    received_if f (record { piece = p; activation = k.starts; bits = k.bits }) [] ≡ received_now f k
 received_one None p k = refl
 received_one (Some f) p k = refl
 
-pub received_more : (found : List FinishedPiece) (k : Count) (step : Step) → received (found ++ closed_by k step) ≡ received found ++ received_now (received_in step) k
+pub received_more : (found : List FinishedPiece) (k : Count) (step : Step) →
+    received (found ++ closed_by k step) ≡ received found ++ received_now (received_in step) k
 received_more found k Within = received_both found []
-received_more found k (Finishes piece next) = received_both found (closed_by k (Finishes piece next)) ∙ ap (λ l. received found ++ l) (received_one (received_by piece) piece k)
+received_more found k (Finishes piece next) =
+    received_both found (closed_by k (Finishes piece next))
+    ∙ ap (λ l. received found ++ l) (received_one (received_by piece) piece k)
 
 -- ---- the counts
 
@@ -51,7 +57,8 @@ one_within k BusOff = omega arith
 
 pub bits_within : (k : Count) (entries : List Entry) → k.bits ≤ (counted k entries).bits
 bits_within k [] = omega arith
-bits_within k (e ∷ entries) = let a = one_within k e in let b = bits_within (counted_one k e) entries in omega (a, b, arith)
+bits_within k (e ∷ entries) = let a = one_within k e in let b =
+    bits_within (counted_one k e) entries in omega (a, b, arith)
 
 -- no finished piece ends after the last bit of the record
 abbrev pub EndsBy : ℕ → FinishedPiece → Type 0
@@ -59,29 +66,36 @@ EndsBy n x = x.bits ≤ n
 
 tagged_by : (k : Count) (n : ℕ) (ps : List Piece) → k.bits ≤ n → All (EndsBy n) (tagged k ps)
 tagged_by k n [] h = All-nil (EndsBy n)
-tagged_by k n (p ∷ ps) h = All-cons (EndsBy n) (record { piece = p; activation = k.starts; bits = k.bits }) (tagged k ps) h (tagged_by k n ps h)
+tagged_by k n (p ∷ ps) h = All-cons (EndsBy n) (record { piece = p; activation = k.starts; bits = k.bits })
+    (tagged k ps) h (tagged_by k n ps h)
 
-pub tags_within : (k : Count) (c end : ContextValue) (place last : Place) (entries rest : List Entry) (found : List FinishedPiece) → From k c place entries found end last rest →
+pub tags_within : (k : Count) (c end : ContextValue) (place last : Place) (entries rest : List Entry)
+    (found : List FinishedPiece) → From k c place entries found end last rest →
     All (EndsBy (counted k entries).bits) found
 tags_within k c end place last entries rest found (here opened stays) = All-nil (EndsBy (counted k entries).bits)
-tags_within k c end place last entries rest found (on {next = next} {site = site} {entries = a} {more = x} {ps = ps} {qs = later} move from) =
+tags_within k c end place last entries rest found
+    (on {next = next} {site = site} {entries = a} {more = x} {ps = ps} {qs = later} move from) =
     let n = (counted k (a ++ x)).bits in
     let same = ap (λ (j : Count). j.bits) (counted_both k a x) in
     let most = bits_within (counted k a) x in
     let few : (counted k a).bits ≤ n = omega (same, most, arith) in
     let rest_by : All (EndsBy n) later =
-    let P : ℕ → Type 0 = λ m. All (EndsBy m) later in subst P (sym same) (tags_within (counted k a) next end site last x rest later from) in
+    let P : ℕ → Type 0 = λ m. All (EndsBy m) later in
+    subst P (sym same) (tags_within (counted k a) next end site last x rest later from) in
     All-append (EndsBy n) (tagged (counted k a) ps) later (tagged_by (counted k a) n ps few) rest_by
 
 -- of a record's cut: so a frame whose number is that of the last bit is newly received
-pub ends_within : (entries : List Entry) (found : List FinishedPiece) → IsCut entries found → All (EndsBy (counted none_yet entries).bits) found
+pub ends_within : (entries : List Entry) (found : List FinishedPiece) → IsCut entries found →
+    All (EndsBy (counted none_yet entries).bits) found
 ends_within entries found cut = tags_within none_yet fresh cut.context AtReset cut.place entries cut.rest found cut.from
 
 -- ---- one bit
 
 -- what a node drives and then makes of a level, together
-pub one_bit : (old new : Node) (driven seen : Level) (e : BitEvents) (entries : List Entry) (found : List FinishedPiece) →
-    DrivesNext old driven → Samples old new seen e → StandsAt old entries found → TakesBit new entries found (record { driven = driven; seen = seen }) e
+pub one_bit : (old new : Node) (driven seen : Level) (e : BitEvents) (entries : List Entry)
+    (found : List FinishedPiece) →
+    DrivesNext old driven → Samples old new seen e → StandsAt old entries found →
+    TakesBit new entries found (record { driven = driven; seen = seen }) e
 one_bit old new driven seen e entries found drives samples h =
     let b : Bit = record { driven = driven; seen = seen } in
     let k = samples entries found h driven (drives entries found h) in
@@ -89,5 +103,6 @@ one_bit old new driven seen e entries found drives samples h =
     record {
       more = closed_by count k.step;
       stands = k.stands;
-      recessive_bit = received_more found count k.step ∙ ap (λ f. received found ++ received_now f count) (sym (ap (λ (x : BitEvents). x.received) k.told));
+      received = received_more found count k.step
+          ∙ ap (λ f. received found ++ received_now f count) (sym (ap (λ (x : BitEvents). x.received) k.told));
     }

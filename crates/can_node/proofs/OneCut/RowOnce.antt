@@ -26,7 +26,8 @@ rests s t x y e = cc
 
 -- an idle bit isn't the first one of another node's frame
 idle_no_frame : (x y : List Bit) → recessive_bit Recessive ∷ x ≡ recessive_bit Dominant ∷ y → ⊥
-idle_no_frame x y e = recessive-other (ap (λ (b : Bit). b.seen) (heads (recessive_bit Recessive) (recessive_bit Dominant) x y e))
+idle_no_frame x y e = recessive-other
+    (ap (λ (b : Bit). b.seen) (heads (recessive_bit Recessive) (recessive_bit Dominant) x y e))
 
 -- no request is sent where one is
 none_or_some : (sent : Option Request) (request : Request) → sent ≡ None → sent ≡ Some request → ⊥
@@ -38,7 +39,8 @@ one_request : (sent : Option Request) (request another : Request) → sent ≡ S
 one_request sent request another h k = let same : Some another ≡ Some request = sym k ∙ h in cc
 
 -- two pieces of one transmitter, with its request told twice
-sends_alike : (c : ContextValue) (place : Place) (request another : Request) (a b x y : List Bit) (p q : Piece) (n m : Place) →
+sends_alike : (c : ContextValue) (place : Place) (request another : Request) (a b x y : List Bit) (p q : Piece)
+    (n m : Place) →
     sent_at c place ≡ Some request → sent_at c place ≡ Some another → Transmits c.self_test request a p n →
     Transmits c.self_test another b q m →
     a ++ x ≡ b ++ y → AreOne a p n b q m
@@ -79,7 +81,8 @@ sof_seen_once c a b x y p q n m (other_begun none h) (other_begun nothing g) e =
     receives_once c.listen (Dominant ∷ []) a b x y p q n m h g e
 sof_seen_once c a b x y p q n m (own_begun {request = r} some s) (own_begun {request = u} one t) e =
     let whole = ap (λ l. dominant_bit Dominant ∷ l) e in
-    let same = sends_alike c AfterSof r u (dominant_bit Dominant ∷ a) (dominant_bit Dominant ∷ b) x y p q n m some one s t whole in
+    let same = sends_alike c AfterSof r u (dominant_bit Dominant ∷ a) (dominant_bit Dominant ∷ b) x y p q n m some one s
+    t whole in
     (rests (dominant_bit Dominant) (dominant_bit Dominant) a b same.0, same.1, same.2)
 
 -- of two pieces that are lawful at one place in one context neither is a proper front of the other, and equal lists are

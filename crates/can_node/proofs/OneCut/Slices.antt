@@ -1,28 +1,32 @@
 -- Moves by bits alone, with no other entry between them.
-use Rattle.std.proofs.Common.{◌≡◌, ◌≤◌, List, [], ◌∷◌, map, length, replicate, refl, ap, sym, subst, ◌∙◌, arith, Option}
+use Rattle.std.proofs.Common.{◌≡◌, ◌≤◌, List, [], ◌∷◌, map, length, replicate, refl, ap, sym, subst, ◌∙◌, arith, Option, None, ◌++◌, false}
 use Rattle.std.proofs.lemmas.List.{length-append}
 use Rattle.can_bits.specs.declared.level.Level.{Level}
 use Rattle.can_bits.specs.declared.level.Level.TheVariants.{Recessive}
 use Rattle.can_node.specs.Bits.{Bit, recessive_bit, recessive_bits, IsFirst}
+use Rattle.can_node.specs.declared.config.Config.{Config}
 use Rattle.can_node.specs.declared.request.Request.{Request}
 use Rattle.can_node.specs.Context.{ContextValue, fresh}
 use Rattle.can_node.specs.Pieces.{Place, Piece}
-use Rattle.can_node.specs.Pieces.Place.{AtIntegration, AtIdle}
+use Rattle.can_node.specs.Pieces.Place.{AtReset, AtIntegration, AtIdle}
 use Rattle.can_node.specs.Pieces.Piece.{Integration}
-use Rattle.can_node.specs.Record.{bits_in, Inner, EndsInBit, IsSlice}
-use Rattle.can_node.specs.Record.Entry.{OneBit}
-use Rattle.can_node.specs.Record.Inner.{none_left as inner_end, took}
+use Rattle.can_node.specs.Record.{Entry, bits_in, Inner, EndsInBit, IsSlice}
+use Rattle.can_node.specs.Record.Entry.{OneBit, Start}
+use Rattle.can_node.specs.Record.Inner.{none_left as inner_end, samples}
 use Rattle.can_node.specs.Table.{Row, EndsInEleven}
 use Rattle.can_node.specs.Table.Elevens.{none_left, one_more}
 use Rattle.can_node.specs.Table.Row.{integration}
 use Rattle.can_node.specs.Effects.{after}
-use Rattle.can_node.specs.Cut.{IsOnBus, Move}
+use Rattle.can_node.specs.FinishedPieces.{FinishedPiece, none_yet}
+use Rattle.can_node.specs.Cut.{IsOnBus, Move, From}
+use Rattle.can_node.specs.Cut.Move.{started}
+use Rattle.can_node.specs.Cut.From.{on}
 use Rattle.can_node.proofs.Waiting.Firsts.{first_by_length}
 
 -- bits alone have nothing else between them
 inner_bits : (bits : List Bit) → Inner (map OneBit bits)
 inner_bits [] = inner_end
-inner_bits (b ∷ bits) = took b (inner_bits bits)
+inner_bits (b ∷ bits) = samples b (inner_bits bits)
 
 -- they end in a bit
 ends_in_bit : (b : Bit) (bits : List Bit) → EndsInBit (map OneBit (b ∷ bits))
@@ -45,7 +49,8 @@ bits_entered [] = refl
 bits_entered (b ∷ bits) = ap (λ t. b ∷ t) (bits_entered bits)
 
 -- a piece of bits alone
-pub by_bits : (c : ContextValue) (place next : Place) (p : Piece) (b : Bit) (bits : List Bit) → Row c place (b ∷ bits) p next →
+pub by_bits : (c : ContextValue) (place next : Place) (p : Piece) (b : Bit) (bits : List Bit) →
+    Row c place (b ∷ bits) p next →
     IsOnBus (after c place (map OneBit (b ∷ bits)) p next) →
     Move c place (map OneBit (b ∷ bits)) (p ∷ []) (after c place (map OneBit (b ∷ bits)) p next) next
 by_bits c place next p b bits row stays =
@@ -65,8 +70,21 @@ first_eleven = first_by_length EndsInEleven (replicate 11 Recessive) eleven_long
 
 -- eleven recessive bits after a start: the bus is idle, whatever request the node holds
 pub integrates : (held : Option Request) →
-    Move (record fresh { held = held }) AtIntegration (map OneBit (recessive_bits (replicate 11 Recessive))) (Integration ∷ [])
+    Move (record fresh { held = held }) AtIntegration (map OneBit (recessive_bits (replicate 11 Recessive)))
+    (Integration ∷ [])
     (record fresh { held = held }) AtIdle
 integrates held =
-    by_bits (record fresh { held = held }) AtIntegration AtIdle Integration (recessive_bit Recessive) (recessive_bits (replicate 10 Recessive))
+    by_bits (record fresh { held = held }) AtIntegration AtIdle Integration (recessive_bit Recessive)
+    (recessive_bits (replicate 10 Recessive))
     (integration (one_more first_eleven none_left refl)) (omega arith)
+
+-- a record that begins with a start and eleven recessive bits goes on as one from an idle bus on
+pub begins_idle : (config : Config) {entries rest : List Entry} {found : List FinishedPiece} {end : ContextValue}
+    {last : Place} →
+    From (record { starts = 1; bits = 11 }) fresh AtIdle entries found end last rest →
+    From none_yet fresh AtReset
+    (Start (record config { listen = false; self_test = false }) ∷ map OneBit (recessive_bits (replicate 11 Recessive))
+    ++ entries)
+    ((record { piece = Integration; activation = 1; bits = 11 }) ∷ found) end last rest
+begins_idle config from =
+    on (started (record config { listen = false; self_test = false }) []) (on (integrates None) from)

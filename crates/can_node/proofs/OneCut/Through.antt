@@ -12,14 +12,17 @@ use Rattle.can_node.proofs.OneCut.MoveOnce.{move_once}
 use Rattle.can_node.proofs.OneCut.CutOnce.{move_or_open}
 
 -- from the place where the front is open the longer cut goes on, with the pieces after those of the front
-pub record Through (k : Count) (entries : List Entry) (found : List FinishedPiece) (end : ContextValue) (last : Place) (rest x : List Entry) (others : List FinishedPiece) (other : ContextValue) (another : Place) (more : List Entry) : Type 0 where
+pub record Through (k : Count) (entries : List Entry) (found : List FinishedPiece) (end : ContextValue) (last : Place)
+    (rest x : List Entry) (others : List FinishedPiece) (other : ContextValue) (another : Place) (more : List Entry) :
+    Type 0 where
   pub count : Count
   pub later : List FinishedPiece
   pub counts : counted count rest ≡ counted k entries
   pub whole : others ≡ found ++ later
   pub from : From count end last (rest ++ x) later other another more
 
-pub goes_through : (k : Count) (c end other : ContextValue) (place last another : Place) (entries again rest x more : List Entry) (found others : List FinishedPiece) →
+pub goes_through : (k : Count) (c end other : ContextValue) (place last another : Place)
+    (entries again rest x more : List Entry) (found others : List FinishedPiece) →
     From k c place entries found end last rest → From k c place again others other another more → again ≡ entries ++ x →
     Through k entries found end last rest x others other another more
 goes_through k c end other place last another entries again rest x more found others (here opened stays) from e =
@@ -38,13 +41,17 @@ goes_through k c end other place last another entries again rest x more found ot
     let P : Count → Type 0 = λ i. From i after_it there y others_later other another more in
     let Q : ContextValue → Type 0 = λ d. From (counted k a) d there y others_later other another more in
     let R : Place → Type 0 = λ s. From (counted k a) next s y others_later other another more in
-    let moved : From (counted k a) next site y others_later other another more = subst R (sym same.3) (subst Q (sym same.2) (subst P (sym count) on_from)) in
-    let t = goes_through (counted k a) next end other site last another m y rest x more found_later others_later from moved (sym rests) in
-    let tags : tagged (counted k b) qs ≡ tagged (counted k a) ps = ap (λ i. tagged i qs) (sym count) ∙ ap (λ l. tagged (counted k a) l) (sym same.1) in
+    let moved : From (counted k a) next site y others_later other another more =
+    subst R (sym same.3) (subst Q (sym same.2) (subst P (sym count) on_from)) in
+    let t = goes_through (counted k a) next end other site last another m y rest x more found_later others_later from
+    moved (sym rests) in
+    let tags : tagged (counted k b) qs ≡ tagged (counted k a) ps =
+    ap (λ i. tagged i qs) (sym count) ∙ ap (λ l. tagged (counted k a) l) (sym same.1) in
     record {
       count = t.count;
       later = t.later;
       counts = t.counts ∙ sym (counted_both k a m);
-      whole = ap (λ l. l ++ others_later) tags ∙ ap (λ l. tagged (counted k a) ps ++ l) t.whole ∙ sym (append_assoc (tagged (counted k a) ps) found_later t.later);
+      whole = ap (λ l. l ++ others_later) tags ∙ ap (λ l. tagged (counted k a) ps ++ l) t.whole
+          ∙ sym (append_assoc (tagged (counted k a) ps) found_later t.later);
       from = t.from;
     }

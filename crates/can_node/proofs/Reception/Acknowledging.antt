@@ -1,4 +1,5 @@
 -- A receiver drives dominant in one place alone, and what is sent is received.
+use Rattle.can_node.proofs.Bits.Slots.{due_here}
 use Rattle.std.proofs.Common.{◌≡◌, Bool, true, false, None, List, [], ◌∷◌, ◌++◌, replicate, refl, ap, sym, subst, ◌∙◌, append_assoc}
 use Rattle.std.proofs.lemmas.List.{append-nil}
 use Rattle.can_frame.specs.Frame.{FrameValue}
@@ -25,21 +26,26 @@ use Rattle.can_node.proofs.Bits.Seen.{seen-append, acknowledges_none, acknowledg
 -- one line has one ACK slot
 pub ack_due_once : (l rest : List Level) → IsAckDue l → IsAckDue (l ++ rest) → rest ≡ []
 ack_due_once l rest h k =
-    let longer : l ++ rest ≡ h.part ++ (Recessive ∷ rest) = ap (λ m. m ++ rest) h.whole ∙ append_assoc h.part (Recessive ∷ []) rest in
-    let same : Recessive ∷ rest ≡ Recessive ∷ [] = after_once (l ++ rest) h.part k.part (Recessive ∷ rest) (Recessive ∷ []) h.is_part k.is_part longer k.whole in
+    let longer : l ++ rest ≡ h.part ++ (Recessive ∷ rest) =
+    ap (λ m. m ++ rest) h.whole ∙ append_assoc h.part (Recessive ∷ []) rest in
+    let same : Recessive ∷ rest ≡ Recessive ∷ [] =
+    after_once (l ++ rest) h.part k.part (Recessive ∷ rest) (Recessive ∷ []) h.is_part k.is_part longer k.whole in
     append-cancel (Recessive ∷ []) rest [] same
 
 -- nothing is acknowledged after a wrong CRC sequence
 pub wrong_not_due : (l : List Level) (x : Level) → IsAckDue l → EndsInWrongCheck (l ++ x ∷ []) → ⊥
 wrong_not_due l x h w =
-    let longer : l ++ x ∷ [] ≡ h.part ++ (Recessive ∷ x ∷ []) = ap (λ m. m ++ x ∷ []) h.whole ∙ append_assoc h.part (Recessive ∷ []) (x ∷ []) in
-    let same = same_part (Recessive ∷ x ∷ []) (Recessive ∷ w.ack ∷ []) h.is_part w.is_part (sym longer ∙ w.whole) in
-    let P : List Level → Type 0 = λ s. StuffedPart w.frame w.body w.check s in
-    let spells = same_spelling h.is_part (subst P (sym same) w.is_part) in
-    w.wrong (subst (λ b. Crc b w.check) spells.1 (subst (λ c. Crc h.body c) spells.2 h.right))
+    let longer : l ++ x ∷ [] ≡ h.part ++ (Recessive ∷ x ∷ []) =
+    ap (λ m. m ++ x ∷ []) h.whole ∙ append_assoc h.part (Recessive ∷ []) (x ∷ []) in
+    let p = w.past in
+    let same = same_part (Recessive ∷ x ∷ []) p.rest h.is_part p.is_part (sym longer ∙ p.whole) in
+    let P : List Level → Type 0 = λ s. StuffedPart p.frame p.body p.check s in
+    let spells = same_spelling h.is_part (subst P (sym same) p.is_part) in
+    w.wrong (subst (λ b. Crc b p.check) spells.1 (subst (λ c. Crc h.body c) spells.2 h.right))
 
 -- after the same levels a receiver drives one level
-pub acknowledges_once : (listen : Bool) (l : List Level) (x y : Level) → Acknowledges listen l x → Acknowledges listen l y → x ≡ y
+pub acknowledges_once : (listen : Bool) (l : List Level) (x y : Level) → Acknowledges listen l x →
+    Acknowledges listen l y → x ≡ y
 acknowledges_once true l x y h k = h ∙ sym k
 acknowledges_once false l Dominant Dominant h k = refl
 acknowledges_once false l Dominant Recessive h k = absurd (k h)
@@ -52,21 +58,25 @@ quiet true l none = refl
 quiet false l none = none
 
 -- up to the ACK slot it drives recessive
-quiet_before : (listen : Bool) (l u : List Level) (bits : List Bit) → IsAckDue (l ++ u) → AllAcknowledge listen (l ++ u) bits → AllAcknowledge listen l (recessive_bits u ++ bits)
+quiet_before : (listen : Bool) (l u : List Level) (bits : List Bit) → IsAckDue (l ++ u) →
+    AllAcknowledge listen (l ++ u) bits → AllAcknowledge listen l (recessive_bits u ++ bits)
 quiet_before listen l [] bits due h = subst (λ m. AllAcknowledge listen m bits) (append-nil l) h
 quiet_before listen l (x ∷ u) bits due h =
     let P : List Level → Type 0 = λ m. AllAcknowledge listen m bits in
     let Q : List Level → Type 0 = λ m. IsAckDue m in
     let joined = sym (append_assoc l (x ∷ []) u) in
-    acknowledges_cons listen l (recessive_bit x) (recessive_bits u ++ bits) (quiet listen l (λ early. let none = ack_due_once l (x ∷ u) early due in cc))
+    acknowledges_cons listen l (recessive_bit x) (recessive_bits u ++ bits)
+    (quiet listen l (λ early. let none = ack_due_once l (x ∷ u) early due in cc))
     (quiet_before listen (l ++ x ∷ []) u bits (subst Q joined due) (subst P joined h))
 
 -- and after it
-quiet_after : (listen : Bool) (l : List Level) (x : Level) (u v : List Level) → IsAckDue l → AllAcknowledge listen (l ++ x ∷ u) (recessive_bits v)
+quiet_after : (listen : Bool) (l : List Level) (x : Level) (u v : List Level) → IsAckDue l →
+    AllAcknowledge listen (l ++ x ∷ u) (recessive_bits v)
 quiet_after listen l x u [] due = acknowledges_none listen (l ++ x ∷ u)
 quiet_after listen l x u (y ∷ v) due =
     let P : List Level → Type 0 = λ m. AllAcknowledge listen m (recessive_bits v) in
-    acknowledges_cons listen (l ++ x ∷ u) (recessive_bit y) (recessive_bits v) (quiet listen (l ++ x ∷ u) (λ late. let none = ack_due_once l (x ∷ u) due late in cc))
+    acknowledges_cons listen (l ++ x ∷ u) (recessive_bit y) (recessive_bits v)
+    (quiet listen (l ++ x ∷ u) (λ late. let none = ack_due_once l (x ∷ u) due late in cc))
     (subst P (sym (append_assoc l (x ∷ u) (y ∷ []))) (quiet_after listen l x (u ++ y ∷ []) v due))
 
 -- what was seen where recessive was driven
@@ -84,7 +94,8 @@ slot_seen : (listen : Bool) (x : Level) → (slot_bit listen x).seen ≡ x
 slot_seen true x = refl
 slot_seen false x = refl
 
-slot_acknowledges : (listen : Bool) (l : List Level) (x : Level) → IsAckDue l → Acknowledges listen l (slot_bit listen x).driven
+slot_acknowledges : (listen : Bool) (l : List Level) (x : Level) → IsAckDue l →
+    Acknowledges listen l (slot_bit listen x).driven
 slot_acknowledges true l x due = refl
 slot_acknowledges false l x due = due
 
@@ -97,7 +108,7 @@ pub line_received : {f : FrameValue} {b c : List Level} (listen : Bool) (l u par
     StuffedPart f b c part → Crc b c → AckFits listen ack → l ++ u ≡ part ++ Recessive ∷ [] →
     Receives listen l (reception_bits listen ack u) (Reception f) AtLastEofBit
 line_received {f = f} {b = b} {c = c} listen l u part ack h right fits e =
-    let due : IsAckDue (l ++ u) = record { frame = f; body = b; check = c; part = part; is_part = h; right = right; whole = e } in
+    let due = due_here (l ++ u) part h right e in
     let slot = slot_bit listen ack in
     let later = recessive_bits (replicate 7 Recessive) in
     let P : Level → Type 0 = λ x. AllAcknowledge listen ((l ++ u) ++ x ∷ []) later in
@@ -108,7 +119,8 @@ line_received {f = f} {b = b} {c = c} listen l u part ack h right fits e =
     seen-append (recessive_bits u) (slot ∷ later) ∙ ap (λ m. m ++ seen_of (slot ∷ later)) (seen-receives u)
     ∙ ap (λ x. u ++ x ∷ replicate 7 Recessive) (slot_seen listen ack) in
     let whole : (l ++ seen_of (reception_bits listen ack u)) ++ Recessive ∷ [] ≡ part ++ tail ack =
-    ap (λ m. (l ++ m) ++ Recessive ∷ []) seen ∙ ap (λ m. m ++ Recessive ∷ []) (sym (append_assoc l u (ack ∷ replicate 7 Recessive)))
+    ap (λ m. (l ++ m) ++ Recessive ∷ []) seen
+    ∙ ap (λ m. m ++ Recessive ∷ []) (sym (append_assoc l u (ack ∷ replicate 7 Recessive)))
     ∙ ap (λ m. (m ++ ack ∷ replicate 7 Recessive) ++ Recessive ∷ []) e
     ∙ append_assoc (part ++ Recessive ∷ []) (ack ∷ replicate 7 Recessive) (Recessive ∷ [])
     ∙ append_assoc part (Recessive ∷ []) (ack ∷ replicate 8 Recessive) in
@@ -128,9 +140,11 @@ pub sent_received : (c : ContextValue) (f : FrameValue) (l : List Level) → sen
     (bits : List Bit) × Row c AtIdle bits (Reception f) AtLastEofBit
 sent_received c f l idle (check, right, line) =
     let (rest, first) = part_begins line.part line.is_part in
-    let whole : (Dominant ∷ []) ++ (rest ++ Recessive ∷ []) ≡ line.part ++ Recessive ∷ [] = ap (λ m. m ++ Recessive ∷ []) (sym first) in (
+    let whole : (Dominant ∷ []) ++ (rest ++ Recessive ∷ []) ≡ line.part ++ Recessive ∷ [] =
+    ap (λ m. m ++ Recessive ∷ []) (sym first) in (
       recessive_bit Dominant ∷ reception_bits c.listen Dominant (rest ++ Recessive ∷ []),
-      other idle (line_received c.listen (Dominant ∷ []) (rest ++ Recessive ∷ []) line.part Dominant line.is_part right (fits c.listen) whole),
+      other idle (line_received c.listen (Dominant ∷ []) (rest ++ Recessive ∷ []) line.part Dominant line.is_part right
+          (fits c.listen) whole),
     )
   where
     fits : (listen : Bool) → AckFits listen Dominant

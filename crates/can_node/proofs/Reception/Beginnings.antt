@@ -1,10 +1,10 @@
 -- Where another node's frame begins for its receiver.
-use Rattle.std.proofs.Common.{◌≡◌, None, List, [], ◌∷◌, ◌++◌, refl, sym, subst, ◌∙◌, arith, append_assoc, inl, inr}
-use Rattle.std.proofs.lemmas.List.{append-nil, length-append}
+use Rattle.std.proofs.Common.{◌≡◌, None, List, [], ◌∷◌, ◌++◌, refl, sym, subst, ◌∙◌, arith, inl, inr}
+use Rattle.std.proofs.lemmas.List.{append-nil}
 use Rattle.can_frame.specs.Frame.{FrameValue}
 use Rattle.can_bits.specs.declared.level.Level.{Level}
 use Rattle.can_bits.specs.declared.level.Level.TheVariants.{Dominant}
-use Rattle.can_bits.specs.Line.{StuffedPart, tail}
+use Rattle.can_bits.specs.Line.{StuffedPart}
 use Rattle.can_bits.specs.Reading.{Begins, IsPastPart}
 use Rattle.can_bits.specs.Streaming.{IsReadable}
 use Rattle.can_bits.proofs.Going.{IsInside, part_begun}
@@ -19,12 +19,15 @@ use Rattle.can_node.specs.Table.{Row}
 use Rattle.can_node.specs.Table.Row.{other, other_begun}
 use Rattle.can_node.specs.Machine.Stages.{IsReceiving, frame_bits}
 use Rattle.can_node.proofs.Bits.Seen.{acknowledges_none}
+use Rattle.can_node.proofs.Reception.Completing.{part_within}
 use Rattle.can_node.proofs.Reception.Breaking.{right_nothing}
 
 -- a node that saw these levels of a frame, and is its receiver from there on
-pub receiving_at : (c : ContextValue) (place : Place) (bits : List Bit) (levels : List Level) → seen_of (frame_bits place bits) ≡ levels →
+pub receiving_at : (c : ContextValue) (place : Place) (bits : List Bit) (levels : List Level) →
+    seen_of (frame_bits place bits) ≡ levels →
     IsReadable levels → (IsPastPart levels → ⊥) → IsWithin levels →
-    ((all : List Bit) (p : Piece) (next : Place) → Receives c.listen levels all p next → Row c place (bits ++ all) p next) → IsReceiving c place bits
+    ((all : List Bit) (p : Piece) (next : Place) → Receives c.listen levels all p next →
+    Row c place (bits ++ all) p next) → IsReceiving c place bits
 receiving_at c place bits levels seen readable inside within row =
     let P : List Level → Type 0 = λ m. IsWithin m in
     record {
@@ -41,15 +44,9 @@ receiving_at c place bits levels seen readable inside within row =
     }
 
 -- a front of a stuffed part is readable, and has a whole tail to come
-pub front_good : {f : FrameValue} {b c : List Level} (l more : List Level) → StuffedPart f b c (l ++ more) → IsReadable l × IsWithin l
-front_good {f = f} {b = b} {c = c} l more part =
-    let readable = part_readable l more part in (
-      readable,
-      record {
-        begun = record { frame = f; body = b; check = c; ack = Dominant; rest = more ++ tail Dominant; line = record { part = l ++ more; is_part = part; whole = sym (append_assoc l more (tail Dominant)) } };
-        long = omega (arith, length-append more (tail Dominant));
-      },
-    )
+pub front_good : {f : FrameValue} {b c : List Level} (l more : List Level) → StuffedPart f b c (l ++ more) →
+    IsReadable l × IsWithin l
+front_good l more part = (part_readable l more part, part_within l more part)
 
 -- what begins a line and isn't past its stuffed part is readable, and has two levels to come
 pub begins_good : (l : List Level) → Begins l → (IsPastPart l → ⊥) → IsReadable l × IsWithin l
@@ -61,7 +58,12 @@ begins_good l begun inside =
 
 -- SOF alone
 start_inside : IsInside (Dominant ∷ [])
-start_inside = record { short = (omega arith, tt); begins = refl; fits = omega arith; goes_on = λ whole. absurd (omega (arith, whole)) }
+start_inside = record {
+  short = (omega arith, tt);
+  begins = refl;
+  fits = omega arith;
+  goes_on = λ whole. absurd (omega (arith, whole));
+}
 
 start_good : IsReadable (Dominant ∷ []) × IsWithin (Dominant ∷ [])
 start_good =
@@ -69,13 +71,16 @@ start_good =
     front_good (Dominant ∷ []) later part
 
 -- another node starts a frame where the bus is idle
-pub receives_from_idle : (c : ContextValue) → sent_at c AtIdle ≡ None → IsReceiving c AtIdle (recessive_bit Dominant ∷ [])
+pub receives_from_idle : (c : ContextValue) → sent_at c AtIdle ≡ None →
+    IsReceiving c AtIdle (recessive_bit Dominant ∷ [])
 receives_from_idle c none =
-    receiving_at c AtIdle (recessive_bit Dominant ∷ []) (Dominant ∷ []) refl start_good.0 (inside_not_past (Dominant ∷ []) start_inside) start_good.1
+    receiving_at c AtIdle (recessive_bit Dominant ∷ []) (Dominant ∷ []) refl start_good.0
+    (inside_not_past (Dominant ∷ []) start_inside) start_good.1
     (λ all p next receives. other none receives)
 
 -- and with the last bit of interframe space
-pub receives_from_pause : (c : ContextValue) → sent_at c AfterSof ≡ None → IsReceiving c AfterSof []
-receives_from_pause c none =
-    receiving_at c AfterSof [] (Dominant ∷ []) refl start_good.0 (inside_not_past (Dominant ∷ []) start_inside) start_good.1
+pub receives_after_sof : (c : ContextValue) → sent_at c AfterSof ≡ None → IsReceiving c AfterSof []
+receives_after_sof c none =
+    receiving_at c AfterSof [] (Dominant ∷ []) refl start_good.0 (inside_not_past (Dominant ∷ []) start_inside)
+    start_good.1
     (λ all p next receives. other_begun none receives)

@@ -1,15 +1,18 @@
 -- A frame is received, from what the reader of one level at a time says.
-use Rattle.std.proofs.Common.{◌≡◌, ◌≢◌, Bool, true, false, inl, inr, List, [], ◌∷◌, ◌++◌, length, reverse, replicate, refl, ap, ap₂, sym, subst, ◌∙◌, arith, append_assoc}
-use Rattle.std.proofs.lemmas.List.{length-append, length_push, nil_from_length, reverse-reverse, same_from_push}
+use Rattle.std.proofs.Common.{◌≡◌, ◌≢◌, ◌&&◌, not, Bool, true, false, inl, inr, List, [], ◌∷◌, ◌++◌, length, reverse, replicate, refl, ap, ap₂, sym, subst, ◌∙◌, arith, append_assoc}
+use Rattle.std.proofs.lemmas.List.{length-append, length_push, nil_from_length, same_from_push}
+use Rattle.can_node.proofs.Bits.Slots.{due_here}
 use Rattle.can_frame.specs.Frame.{FrameValue}
 use Rattle.can_bits.specs.declared.level.Level.{Level}
 use Rattle.can_bits.specs.declared.level.Level.TheVariants.{Dominant, Recessive}
+use Rattle.can_bits.specs.Fields.{is_recessive}
 use Rattle.can_bits.specs.Check.{Crc}
 use Rattle.can_bits.specs.Line.{StuffedPart, Line, tail}
 use Rattle.can_bits.specs.Reading.{IsPastPart}
 use Rattle.can_bits.specs.Streaming.{IsReadable, IsLineButFor, IsOver}
+use Rattle.can_bits.proofs.Readables.{readable_but}
 use Rattle.can_bits.proofs.Lists.{fronts, last_of, cases_list, append-cancel}
-use Rattle.can_bits.proofs.Going.{IsInside, part_begun}
+use Rattle.can_bits.proofs.Going.{IsInside, inside_begun}
 use Rattle.can_node.specs.Bits.{Bit, dominant_bit, seen_of}
 use Rattle.can_node.specs.Pieces.Place.{AtLastEofBit}
 use Rattle.can_node.specs.Pieces.Piece.{Reception}
@@ -18,57 +21,71 @@ use Rattle.can_node.specs.Frames.{Acknowledges, AllAcknowledge, AckFits, IsWithi
 use Rattle.can_node.specs.Frames.Receives.{reception}
 use Rattle.can_node.proofs.Bits.Nexts.{past_here}
 use Rattle.can_node.specs.Machine.Stages.{AllRight}
-use Rattle.can_node.proofs.Reception.Breaking.{readable_begins}
 
 -- what is readable and isn't a line but for its last level, nor a whole one, has two levels more at least
-pub within_here : (l : List Level) → IsReadable l → ((f : FrameValue) → IsLineButFor 1 f l → ⊥) → (IsOver l → ⊥) → IsWithin l
+pub within_here : (l : List Level) → IsReadable l → ((f : FrameValue) → IsLineButFor 1 f l → ⊥) → (IsOver l → ⊥) →
+    IsWithin l
 within_here l h not_one not_over =
-    elim (cases_list h.rest) [
-      | inl none ↦
-          let count = ap length none in
-          absurd (not_over (h.frame, record { body = h.body; check = h.check; ack = h.ack; rest = h.rest; line = h.line; right = h.right (omega (arith, count)); count = count }))
+    let b = h.begun in
+    elim (cases_list b.rest) [
+      | inl none ↦ absurd (not_over (b.frame, readable_but 0 l h (ap length none) (omega arith)))
       | inr some ↦ elim (cases_list some.1) [
         | inl none ↦
-            let count : length h.rest ≡ 1 = ap length some.2 ∙ ap (λ r. length (some.0 ∷ r)) none in
-            absurd (not_one h.frame (record { body = h.body; check = h.check; ack = h.ack; rest = h.rest; line = h.line; right = h.right (omega (arith, count)); count = count }))
+            let count : length b.rest ≡ 1 = ap length some.2 ∙ ap (λ r. length (some.0 ∷ r)) none in
+            absurd (not_one b.frame (readable_but 1 l h count (omega arith)))
         | inr more ↦
-            let count : length h.rest ≡ length (some.0 ∷ more.0 ∷ more.1) = ap length some.2 ∙ ap (λ r. length (some.0 ∷ r)) more.2 in
-            record { begun = readable_begins l h; long = omega (arith, count) }
+            let count : length b.rest ≡ length (some.0 ∷ more.0 ∷ more.1) =
+            ap length some.2 ∙ ap (λ r. length (some.0 ∷ r)) more.2 in
+            record { begun = b; long = omega (arith, count) }
       ]
     ]
 
--- a stuffed part that goes on has its whole tail before it
+-- a front of a stuffed part has the whole tail to come
+pub part_within : {f : FrameValue} {b c : List Level} (l more : List Level) → StuffedPart f b c (l ++ more) → IsWithin l
+part_within {f = f} {b = b} {c = c} l more part =
+    let line : Line f b c Dominant (l ++ (more ++ tail Dominant)) =
+    record { part = l ++ more; is_part = part; whole = sym (append_assoc l more (tail Dominant)) } in
+    record {
+      begun = record { frame = f; body = b; check = c; ack = Dominant; rest = more ++ tail Dominant; line = line };
+      long = omega (arith, length-append more (tail Dominant));
+    }
+
+-- so has one that goes on
 pub inside_within : (l : List Level) → IsInside (reverse l) → IsWithin l
 inside_within l h =
-    let (f, b, c, later, part) = part_begun (reverse l) h.short h.begins h.fits in
-    let P : List Level → Type 0 = λ p. StuffedPart f b c (p ++ later) in
-    record {
-      begun = record {
-        frame = f;
-        body = b;
-        check = c;
-        ack = Dominant;
-        rest = later ++ tail Dominant;
-        line = record { part = l ++ later; is_part = subst P (reverse-reverse l) part; whole = sym (append_assoc l later (tail Dominant)) };
-      };
-      long = omega (arith, length-append later (tail Dominant));
-    }
+    let (begun, more, answered) = inside_begun l h in
+    record { begun = begun; long = omega (arith, more) }
 
 -- the bit at a place, from the levels seen
 bit_there : (bits : List Bit) (u : List Level) (x : Level) (v : List Level) → seen_of bits ≡ u ++ x ∷ v →
-    (before : List Bit) × (b : Bit) × (after : List Bit) × (bits ≡ before ++ b ∷ after) × (seen_of before ≡ u) × (b.seen ≡ x)
+    (before : List Bit) × (b : Bit) × (after : List Bit) × (bits ≡ before ++ b ∷ after) × (seen_of before ≡ u)
+    × (b.seen ≡ x)
 bit_there [] [] x v e = absurd (omega (arith, ap length e))
 bit_there [] (y ∷ u) x v e = absurd (omega (arith, ap length e))
 bit_there (b ∷ bits) [] x v e = let same : b.seen ≡ x = cc in ([], b, bits, refl, refl, same)
 bit_there (b ∷ bits) (y ∷ u) x v e =
     let same : b.seen ≡ y = cc in
     let later : seen_of bits ≡ u ++ x ∷ v = cc in
-    let (before, found, after, whole, seen, here) = bit_there bits u x v later in
-    (b ∷ before, found, after, ap (λ m. b ∷ m) {y = before ++ found ∷ after} whole, ap (λ m. b.seen ∷ m) seen ∙ ap (λ z. z ∷ u) same, here)
+    let (before, found, after, whole, seen, here) = bit_there bits u x v later in (
+      b ∷ before,
+      found,
+      after,
+      ap (λ m. b ∷ m) {y = before ++ found ∷ after} whole,
+      ap (λ m. b.seen ∷ m) seen
+          ∙ ap (λ z. z ∷ u) same,
+      here,
+    )
 
 -- a bit from its two levels
 pub lost_there : (x : Bit) → x.driven ≡ Dominant → x.seen ≡ Recessive → x ≡ dominant_bit Recessive
 lost_there x d s = let P : Level → Level → Bit = λ y z. record { driven = y; seen = z } in ap₂ P d s
+
+-- a dominant level that isn't seen
+pub lost_if : (driven seen : Level) → (not (is_recessive driven) && is_recessive seen) ≡ true →
+    record { driven = driven; seen = seen } ≡ dominant_bit Recessive
+lost_if Dominant Recessive e = refl
+lost_if Dominant Dominant e = absurd cc
+lost_if Recessive seen e = absurd cc
 
 -- where the ACK slot is next a receiver that doesn't only listen drives dominant
 dominant_there : (l : List Level) (y : Level) → Acknowledges false l y → IsAckDue l → y ≡ Dominant
@@ -81,33 +98,31 @@ not_recessive Dominant h = refl
 not_recessive Recessive h = absurd (h refl)
 
 -- a receiver that saw each dominant level that it drove has seen its acknowledgement
-acknowledged : {f : FrameValue} {b c : List Level} (listen : Bool) (l part : List Level) (bits : List Bit) (ack : Level) (later : List Level) →
-    StuffedPart f b c part → Crc b c → (IsPastPart l → ⊥) → AllAcknowledge listen l bits → ((before after : List Bit) → bits ≢ before ++ dominant_bit Recessive ∷ after) →
+acknowledged : {f : FrameValue} {b c : List Level} (listen : Bool) (l part : List Level) (bits : List Bit) (ack : Level)
+    (later : List Level) →
+    StuffedPart f b c part → Crc b c → (IsPastPart l → ⊥) → AllAcknowledge listen l bits →
+    ((before after : List Bit) → bits ≢ before ++ dominant_bit Recessive ∷ after) →
     l ++ seen_of bits ≡ (part ++ Recessive ∷ []) ++ ack ∷ later → AckFits listen ack
 acknowledged true l part bits ack later h right inside answers answered e = tt
 acknowledged {f = f} {b = b} {c = c} false l part bits ack later h right inside answers answered e =
     elim (fronts l (part ++ Recessive ∷ []) (seen_of bits) (ack ∷ later) e) [
-      | inr shorter ↦ absurd (inside (past_here part (Recessive ∷ shorter.0) h (shorter.1 ∙ append_assoc part (Recessive ∷ []) shorter.0)))
+      | inr shorter ↦ absurd (inside
+          (past_here part (Recessive ∷ shorter.0) h (shorter.1 ∙ append_assoc part (Recessive ∷ []) shorter.0)))
       | inl longer ↦
           let rest : seen_of bits ≡ longer.0 ++ ack ∷ later =
-          append-cancel l (seen_of bits) (longer.0 ++ ack ∷ later) (e ∙ ap (λ m. m ++ ack ∷ later) longer.1 ∙ append_assoc l longer.0 (ack ∷ later)) in
+          append-cancel l (seen_of bits) (longer.0 ++ ack ∷ later)
+          (e ∙ ap (λ m. m ++ ack ∷ later) longer.1 ∙ append_assoc l longer.0 (ack ∷ later)) in
           let (before, slot, after, whole, seen, here) = bit_there bits longer.0 ack later rest in
           let P : List Bit → Type 0 = λ m. AllAcknowledge false l m in
-          let due : IsAckDue (l ++ seen_of before) = record {
-            frame = f;
-            body = b;
-            check = c;
-            part = part;
-            is_part = h;
-            right = right;
-            whole = ap (λ m. l ++ m) seen ∙ sym longer.1;
-          } in
+          let due = due_here (l ++ seen_of before) part h right (ap (λ m. l ++ m) seen ∙ sym longer.1) in
           let driven = dominant_there (l ++ seen_of before) slot.driven (answers before after slot whole) due in
-          not_recessive ack (λ lost. answered before after (whole ∙ ap (λ x. before ++ x ∷ after) (lost_there slot driven (here ∙ lost))))
+          not_recessive ack (λ lost. answered before after
+          (whole ∙ ap (λ x. before ++ x ∷ after) (lost_there slot driven (here ∙ lost))))
     ]
 
 -- with the sixth bit of EOF the frame is received
-pub receives_now : (listen : Bool) (l : List Level) (bits : List Bit) (f : FrameValue) → (IsPastPart l → ⊥) → AllAcknowledge listen l bits → AllRight l bits →
+pub receives_now : (listen : Bool) (l : List Level) (bits : List Bit) (f : FrameValue) → (IsPastPart l → ⊥) →
+    AllAcknowledge listen l bits → AllRight l bits →
     IsLineButFor 1 f (l ++ seen_of bits) → Receives listen l bits (Reception f) AtLastEofBit
 receives_now listen l bits f inside answers right h =
     elim (last_of h.rest) [
@@ -117,7 +132,8 @@ receives_now listen l bits f inside answers right h =
           let line = h.line in
           let levels : List Level = l ++ seen_of bits in
           let before : List Level = (line.part ++ Recessive ∷ []) ++ h.ack ∷ replicate 7 Recessive in
-          let one : some.0 ≡ [] = nil_from_length some.0 (omega (arith, count, ap length some.2, length_push some.0 some.1)) in
+          let one : some.0 ≡ [] = nil_from_length some.0
+          (omega (arith, count, ap length some.2, length_push some.0 some.1)) in
           let rest : h.rest ≡ some.1 ∷ [] = some.2 ∙ ap (λ m. m ++ some.1 ∷ []) one in
           let whole : levels ++ some.1 ∷ [] ≡ before ++ Recessive ∷ [] =
           ap (λ m. levels ++ m) (sym rest) ∙ line.whole
@@ -133,6 +149,7 @@ receives_now listen l bits f inside answers right h =
             ack = h.ack;
             line = subst P (rest ∙ ap (λ x. x ∷ []) same.1) line;
             right = h.right;
-            fits = acknowledged listen l line.part bits h.ack (replicate 7 Recessive) line.is_part h.right inside answers right.answered same.0;
+            fits = acknowledged listen l line.part bits h.ack (replicate 7 Recessive) line.is_part h.right inside
+                answers right.answered same.0;
           })
     ]

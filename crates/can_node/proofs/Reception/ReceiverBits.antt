@@ -1,5 +1,5 @@
 -- One bit of a frame for its receiver.
-use Rattle.std.proofs.Common.{◌≡◌, ◌≢◌, Bool, None, Some, List, [], ◌∷◌, ◌++◌, length, ap, sym, subst, ◌∙◌, arith, append_assoc}
+use Rattle.std.proofs.Common.{◌≡◌, ◌≢◌, ◌&&◌, not, Bool, true, false, Option, None, Some, List, [], ◌∷◌, ◌++◌, length, ap, sym, subst, ◌∙◌, arith, append_assoc}
 use Rattle.std.proofs.lemmas.List.{append-nil, nil_from_length}
 use Rattle.can_frame.specs.Frame.{FrameValue}
 use Rattle.can_bits.specs.declared.level.Level.{Level}
@@ -8,6 +8,7 @@ use Rattle.can_bits.specs.declared.segment.Segment.{Segment}
 use Rattle.can_bits.specs.declared.line_fault.LineFault.{LineFault}
 use Rattle.can_bits.specs.declared.line_fault.LineFault.TheVariants.{Stuff as StuffFault, Form as FormFault, Crc as CheckFault, NoAck, Truncated, Trailing}
 use Rattle.can_bits.specs.declared.shift_fault.ShiftFault.{ShiftFault}
+use Rattle.can_bits.specs.Fields.{is_recessive}
 use Rattle.can_bits.specs.Line.{Line, tail}
 use Rattle.can_bits.specs.Segments.{IsNext}
 use Rattle.can_bits.specs.Streaming.{IsReadable, IsLineButFor, IsOver, BreaksWith, ShowsFrame}
@@ -34,7 +35,8 @@ use Rattle.can_node.proofs.Reception.Completing.{within_here, receives_now}
 use Rattle.can_node.proofs.Reception.Starts.{receiving_begun}
 
 -- what was seen of a frame with one bit more
-pub frame_push : (place : Place) (bits : List Bit) (x : Bit) → seen_of (frame_bits place (bits ++ x ∷ [])) ≡ seen_of (frame_bits place bits) ++ x.seen ∷ []
+pub frame_push : (place : Place) (bits : List Bit) (x : Bit) →
+    seen_of (frame_bits place (bits ++ x ∷ [])) ≡ seen_of (frame_bits place bits) ++ x.seen ∷ []
 frame_push AfterSof bits x = ap (λ m. Dominant ∷ m) (seen-append bits (x ∷ []))
 frame_push AtIdle bits x = seen-append bits (x ∷ [])
 frame_push AtReset bits x = seen-append bits (x ∷ [])
@@ -45,36 +47,46 @@ frame_push AtDelimiter bits x = seen-append bits (x ∷ [])
 frame_push AtInterframeSpace bits x = seen-append bits (x ∷ [])
 
 -- what the receiver saw so far is readable
-pub receiving_readable : (c : ContextValue) (place : Place) (bits : List Bit) → IsReceiving c place bits → IsReadable (seen_of (frame_bits place bits))
-receiving_readable c place bits h = let P : List Level → Type 0 = λ m. IsReadable m in subst P (sym h.seen) h.right.readable
+pub receiving_readable : (c : ContextValue) (place : Place) (bits : List Bit) → IsReceiving c place bits →
+    IsReadable (seen_of (frame_bits place bits))
+receiving_readable c place bits h = let P : List Level → Type 0 =
+    λ m. IsReadable m in subst P (sym h.seen) h.right.readable
 
 -- and has two levels to come
-pub receiving_within : (c : ContextValue) (place : Place) (bits : List Bit) → IsReceiving c place bits → IsWithin (seen_of (frame_bits place bits))
+pub receiving_within : (c : ContextValue) (place : Place) (bits : List Bit) → IsReceiving c place bits →
+    IsWithin (seen_of (frame_bits place bits))
 receiving_within c place bits h = let P : List Level → Type 0 = λ m. IsWithin m in subst P (sym h.seen) h.within
 
 -- what it drives, with one bit more
-pub receiving_acknowledges : (c : ContextValue) (place : Place) (bits : List Bit) (x : Bit) (h : IsReceiving c place bits) →
-    Acknowledges c.listen (seen_of (frame_bits place bits)) x.driven → AllAcknowledge c.listen h.levels (h.more ++ x ∷ [])
+pub receiving_acknowledges : (c : ContextValue) (place : Place) (bits : List Bit) (x : Bit)
+    (h : IsReceiving c place bits) →
+    Acknowledges c.listen (seen_of (frame_bits place bits)) x.driven →
+    AllAcknowledge c.listen h.levels (h.more ++ x ∷ [])
 receiving_acknowledges c place bits x h answers =
     let P : List Level → Type 0 = λ m. Acknowledges c.listen m x.driven in
     acknowledges_push c.listen h.levels h.more x h.answers (subst P h.seen answers)
 
 -- what it receives with one bit more is its piece
-pub row_push : (c : ContextValue) (place next : Place) (bits : List Bit) (x : Bit) (p : Piece) (h : IsReceiving c place bits) →
+pub row_push : (c : ContextValue) (place next : Place) (bits : List Bit) (x : Bit) (p : Piece)
+    (h : IsReceiving c place bits) →
     Receives c.listen h.levels (h.more ++ x ∷ []) p next → Row c place (bits ++ x ∷ []) p next
 row_push c place next bits x p h receives =
     let P : List Bit → Type 0 = λ m. Row c place m p next in
-    let whole : bits ++ x ∷ [] ≡ h.before ++ (h.more ++ x ∷ []) = ap (λ m. m ++ x ∷ []) h.whole ∙ append_assoc h.before h.more (x ∷ []) in
+    let whole : bits ++ x ∷ [] ≡ h.before ++ (h.more ++ x ∷ []) =
+    ap (λ m. m ++ x ∷ []) h.whole ∙ append_assoc h.before h.more (x ∷ []) in
     subst P (sym whole) (h.row (h.more ++ x ∷ []) p next receives)
 
 -- something wrong with the next bit ends the piece
-pub fault_row : (c : ContextValue) (place : Place) (bits : List Bit) (x : Bit) (cause : Cause) (segment : Segment) (stuffed : Bool) (h : IsReceiving c place bits) →
+pub fault_row : (c : ContextValue) (place : Place) (bits : List Bit) (x : Bit) (cause : Cause) (segment : Segment)
+    (stuffed : Bool) (h : IsReceiving c place bits) →
     Acknowledges c.listen (seen_of (frame_bits place bits)) x.driven → Breaks h.levels (h.more ++ x ∷ []) cause →
-    IsNext (seen_of (frame_bits place bits)) segment stuffed → Row c place (bits ++ x ∷ []) (Fault InReception cause segment) AtFlag
+    IsNext (seen_of (frame_bits place bits)) segment stuffed →
+    Row c place (bits ++ x ∷ []) (Fault InReception cause segment) AtFlag
 fault_row c place bits x cause segment stuffed h answers breaks site =
     let P : List Level → Type 0 = λ m. IsNext m segment stuffed in
     row_push c place AtFlag bits x (Fault InReception cause segment) h
-    (broken (breaks_off_now c.listen h.levels h.more x cause segment stuffed (receiving_acknowledges c place bits x h answers) h.right h.within breaks (subst P h.seen site)))
+    (broken (breaks_off_now c.listen h.levels h.more x cause segment stuffed
+    (receiving_acknowledges c place bits x h answers) h.right h.within breaks (subst P h.seen site)))
 
 -- a whole line hasn't come
 within_not_over : (l : List Level) → IsWithin l → IsOver l → ⊥
@@ -97,19 +109,23 @@ within_then_not_over l x h (f, but) =
     let P : List Level → Type 0 = λ r. Line f but.body but.check but.ack ((l ++ x ∷ []) ++ r) in
     let Q : List Level → Type 0 = λ m. Line f but.body but.check but.ack m in
     let line = subst Q (append-nil (l ++ x ∷ [])) (subst P none but.line) in
-    let agree = lines_agree f begun.frame but.body but.check begun.body begun.check but.ack begun.ack x l begun.rest line begun.line in
+    let agree = lines_agree f begun.frame but.body but.check begun.body begun.check but.ack begun.ack x l begun.rest
+    line begun.line in
     let count = agree.3 in
     omega (arith, count, long)
 
 -- what the reader finds wrong is wrong for the receiver
-breaks_by : (c : ContextValue) (place : Place) (bits : List Bit) (x : Bit) (fault : LineFault) (h : IsReceiving c place bits) →
-    Acknowledges c.listen (seen_of (frame_bits place bits)) x.driven → BreaksWith (seen_of (frame_bits place bits)) x.seen fault → Breaks h.levels (h.more ++ x ∷ []) (cause_by fault)
+breaks_by : (c : ContextValue) (place : Place) (bits : List Bit) (x : Bit) (fault : LineFault)
+    (h : IsReceiving c place bits) →
+    Acknowledges c.listen (seen_of (frame_bits place bits)) x.driven →
+    BreaksWith (seen_of (frame_bits place bits)) x.seen fault → Breaks h.levels (h.more ++ x ∷ []) (cause_by fault)
 breaks_by c place bits x (StuffFault at) h answers broke =
     let P : List Level → Type 0 = λ m. BreaksWith m x.seen (StuffFault at) in
     stuff_breaks h.levels h.more x at (subst P h.seen broke)
 breaks_by c place bits x (FormFault at) h answers broke =
     let P : List Level → Type 0 = λ m. BreaksWith m x.seen (FormFault at) in
-    form_breaks h.levels h.more x at (λ none. receiving_begun c place bits h (h.seen ∙ none)) h.right.readable (subst P h.seen broke)
+    form_breaks h.levels h.more x at (λ none. receiving_begun c place bits h (h.seen ∙ none)) h.right.readable
+    (subst P h.seen broke)
 breaks_by c place bits x CheckFault h answers broke =
     let P : List Level → Type 0 = λ m. BreaksWith m x.seen CheckFault in
     check_breaks c.listen h.levels h.more x (receiving_acknowledges c place bits x h answers) (subst P h.seen broke)
@@ -125,23 +141,41 @@ not_lost_driven x e d = let wrong : Recessive ≡ Dominant = sym e ∙ ap (λ (b
 pub not_lost_seen : (x : Bit) → x.seen ≡ Dominant → x ≢ dominant_bit Recessive
 not_lost_seen x e d = let wrong : Dominant ≡ Recessive = sym e ∙ ap (λ (b : Bit). b.seen) d in cc
 
+pub kept_if : (driven seen : Level) → (not (is_recessive driven) && is_recessive seen) ≡ false →
+    record { driven = driven; seen = seen } ≢ dominant_bit Recessive
+kept_if driven seen kept e =
+    let lost : (not (is_recessive driven) && is_recessive seen) ≡ true =
+    ap (λ (b : Bit). not (is_recessive b.driven) && is_recessive b.seen) e in
+    absurd cc
+
+-- where the reader finds no fault a line goes on
+pub readable_if : (l : List Level) (x : Level) (fault : Option ShiftFault) → fault ≡ None → JudgesAt l x fault →
+    IsReadable (l ++ x ∷ [])
+readable_if l x fault none h = let J : Option ShiftFault → Type 0 = λ o. JudgesAt l x o in subst J none h
+
 -- its own acknowledgement isn't seen
-pub lost_row : (c : ContextValue) (place : Place) (bits : List Bit) (x : Bit) (segment : Segment) (stuffed : Bool) → IsReceiving c place bits →
-    Acknowledges c.listen (seen_of (frame_bits place bits)) x.driven → IsNext (seen_of (frame_bits place bits)) segment stuffed → x ≡ dominant_bit Recessive →
+pub lost_row : (c : ContextValue) (place : Place) (bits : List Bit) (x : Bit) (segment : Segment) (stuffed : Bool) →
+    IsReceiving c place bits →
+    Acknowledges c.listen (seen_of (frame_bits place bits)) x.driven →
+    IsNext (seen_of (frame_bits place bits)) segment stuffed → x ≡ dominant_bit Recessive →
     Row c place (bits ++ x ∷ []) (Fault InReception BitError segment) AtFlag
 lost_row c place bits x segment stuffed h answers site lost =
     fault_row c place bits x BitError segment stuffed h answers (own_ack h.more (ap (λ y. h.more ++ y ∷ []) lost)) site
 
 -- the reader finds a fault
-pub wrong_row : (c : ContextValue) (place : Place) (bits : List Bit) (x : Bit) (w : ShiftFault) → IsReceiving c place bits →
-    Acknowledges c.listen (seen_of (frame_bits place bits)) x.driven → JudgesAt (seen_of (frame_bits place bits)) x.seen (Some w) →
+pub wrong_row : (c : ContextValue) (place : Place) (bits : List Bit) (x : Bit) (w : ShiftFault) →
+    IsReceiving c place bits →
+    Acknowledges c.listen (seen_of (frame_bits place bits)) x.driven →
+    JudgesAt (seen_of (frame_bits place bits)) x.seen (Some w) →
     Row c place (bits ++ x ∷ []) (Fault InReception (cause_by w.fault) w.segment) AtFlag
 wrong_row c place bits x w h answers broke =
-    fault_row c place bits x (cause_by w.fault) w.segment w.stuff h answers (breaks_by c place bits x w.fault h answers broke.1) broke.0
+    fault_row c place bits x (cause_by w.fault) w.segment w.stuff h answers
+    (breaks_by c place bits x w.fault h answers broke.1) broke.0
 
 -- nothing is wrong with one bit more
 right_push : (c : ContextValue) (place : Place) (bits : List Bit) (x : Bit) (h : IsReceiving c place bits) →
-    IsReadable (seen_of (frame_bits place bits) ++ x.seen ∷ []) → x ≢ dominant_bit Recessive → AllRight h.levels (h.more ++ x ∷ [])
+    IsReadable (seen_of (frame_bits place bits) ++ x.seen ∷ []) → x ≢ dominant_bit Recessive →
+    AllRight h.levels (h.more ++ x ∷ [])
 right_push c place bits x h readable seen =
     let P : List Level → Type 0 = λ m. IsReadable (m ++ x.seen ∷ []) in
     right_next h.levels h.more x h.right (subst P h.seen readable) seen
@@ -154,7 +188,8 @@ receiving_push c place bits x h = ap (λ m. m ++ x.seen ∷ []) h.seen ∙ sym (
 -- the frame goes on
 pub receiving_next : (c : ContextValue) (place : Place) (bits : List Bit) (x : Bit) → IsReceiving c place bits →
     Acknowledges c.listen (seen_of (frame_bits place bits)) x.driven → x ≢ dominant_bit Recessive →
-    IsReadable (seen_of (frame_bits place bits) ++ x.seen ∷ []) → IsWithin (seen_of (frame_bits place bits) ++ x.seen ∷ []) → IsReceiving c place (bits ++ x ∷ [])
+    IsReadable (seen_of (frame_bits place bits) ++ x.seen ∷ []) →
+    IsWithin (seen_of (frame_bits place bits) ++ x.seen ∷ []) → IsReceiving c place (bits ++ x ∷ [])
 receiving_next c place bits x h answers seen readable within =
     let P : List Level → Type 0 = λ m. IsWithin m in
     record {
@@ -172,7 +207,8 @@ receiving_next c place bits x h answers seen readable within =
 
 -- the reader finds no fault and shows no frame
 pub goes_on : (c : ContextValue) (place : Place) (bits : List Bit) (x : Bit) → IsReceiving c place bits →
-    Acknowledges c.listen (seen_of (frame_bits place bits)) x.driven → x ≢ dominant_bit Recessive → IsReadable (seen_of (frame_bits place bits) ++ x.seen ∷ []) →
+    Acknowledges c.listen (seen_of (frame_bits place bits)) x.driven → x ≢ dominant_bit Recessive →
+    IsReadable (seen_of (frame_bits place bits) ++ x.seen ∷ []) →
     ShowsFrame (seen_of (frame_bits place bits) ++ x.seen ∷ []) None → IsReceiving c place (bits ++ x ∷ [])
 goes_on c place bits x h answers seen readable none =
     let levels : List Level = seen_of (frame_bits place bits) in
@@ -182,9 +218,12 @@ goes_on c place bits x h answers seen readable none =
     receiving_next c place bits x h answers seen readable within
 
 -- the reader shows a frame
-pub received_row : (c : ContextValue) (place : Place) (bits : List Bit) (x : Bit) (f : FrameValue) → IsReceiving c place bits →
-    Acknowledges c.listen (seen_of (frame_bits place bits)) x.driven → x ≢ dominant_bit Recessive → IsReadable (seen_of (frame_bits place bits) ++ x.seen ∷ []) →
-    ShowsFrame (seen_of (frame_bits place bits) ++ x.seen ∷ []) (Some f) → Row c place (bits ++ x ∷ []) (Reception f) AtLastEofBit
+pub received_row : (c : ContextValue) (place : Place) (bits : List Bit) (x : Bit) (f : FrameValue) →
+    IsReceiving c place bits →
+    Acknowledges c.listen (seen_of (frame_bits place bits)) x.driven → x ≢ dominant_bit Recessive →
+    IsReadable (seen_of (frame_bits place bits) ++ x.seen ∷ []) →
+    ShowsFrame (seen_of (frame_bits place bits) ++ x.seen ∷ []) (Some f) →
+    Row c place (bits ++ x ∷ []) (Reception f) AtLastEofBit
 received_row c place bits x f h answers seen readable shown =
     let R : List Level → Type 0 = λ m. IsLineButFor 1 f m in
     row_push c place AtLastEofBit bits x (Reception f) h

@@ -9,6 +9,7 @@ use Rattle.can_bits.specs.Line.{StuffedPart, Line, tail}
 use Rattle.can_bits.specs.Reading.{Begins, IsPastPart}
 use Rattle.can_bits.specs.Streaming.{EndsInWrongCheck}
 use Rattle.can_bits.proofs.Ending.{line_at}
+use Rattle.can_bits.proofs.Readables.{wrong_whole}
 use Rattle.can_node.specs.declared.cause.Cause.{Cause}
 use Rattle.can_node.specs.declared.cause.Cause.TheVariants.{Bit as BitError, Stuff as StuffError, Form as FormError, Crc as CheckError}
 use Rattle.can_node.specs.Bits.{Bit, recessive_bit, dominant_bit, seen_of}
@@ -26,7 +27,12 @@ tail_begins {f = f} {b = b} {c = c} part front rest ack h e split = record {
   check = c;
   ack = ack;
   rest = rest;
-  line = record { part = part; is_part = h; whole = ap (λ m. m ++ rest) e ∙ append_assoc part front rest ∙ ap (λ m. part ++ m) (sym split) };
+  line = record {
+    part = part;
+    is_part = h;
+    whole = ap (λ m. m ++ rest) e ∙ append_assoc part front rest
+        ∙ ap (λ m. part ++ m) (sym split);
+  };
 }
 
 -- one level more after a front of some levels
@@ -42,8 +48,8 @@ slot_begins l x due =
 -- a recessive ACK delimiter begins a line, also after a wrong CRC sequence
 pub delimiter_begins : (l : List Level) → EndsInWrongCheck l → Begins (l ++ Recessive ∷ [])
 delimiter_begins l w =
-    tail_begins w.part (Recessive ∷ w.ack ∷ Recessive ∷ []) (replicate 7 Recessive) w.ack w.is_part
-    (more_after l w.part (Recessive ∷ w.ack ∷ []) Recessive w.whole) refl
+    tail_begins w.past.part (Recessive ∷ w.ack ∷ Recessive ∷ []) (replicate 7 Recessive) w.ack w.past.is_part
+    (more_after l w.past.part (Recessive ∷ w.ack ∷ []) Recessive (wrong_whole l w)) refl
 
 -- what is wrong with a bit for a receiver that saw these levels
 pub data Wrong (listen : Bool) (l : List Level) (x : Bit) : Cause → Type 0 where
@@ -53,7 +59,8 @@ pub data Wrong (listen : Bool) (l : List Level) (x : Bit) : Cause → Type 0 whe
   lost_ack : listen ≡ false → x ≡ dominant_bit Recessive → IsAckDue l → Wrong listen l x BitError
 
 -- a receiver drives dominant in the ACK slot alone, and not where it only listens
-pub dominant_due : (listen : Bool) (l : List Level) (x : Bit) (y : Level) → x ≡ dominant_bit y → Acknowledges listen l x.driven → (listen ≡ false) × IsAckDue l
+pub dominant_due : (listen : Bool) (l : List Level) (x : Bit) (y : Level) → x ≡ dominant_bit y →
+    Acknowledges listen l x.driven → (listen ≡ false) × IsAckDue l
 dominant_due true l x y e h =
     let driven : x.driven ≡ Dominant = ap (λ (b : Bit). b.driven) e in
     let wrong : Dominant ≡ Recessive = sym driven ∙ h in
@@ -64,17 +71,20 @@ dominant_due false l x y e h =
 
 -- a fault is one of the last bit
 pub breaks_at : (listen : Bool) (l : List Level) (before : List Bit) (last : Bit) (bits : List Bit) (cause : Cause) →
-    AllAcknowledge listen l bits → bits ≡ before ++ last ∷ [] → Breaks l bits cause → Wrong listen (l ++ seen_of before) last cause
+    AllAcknowledge listen l bits → bits ≡ before ++ last ∷ [] → Breaks l bits cause →
+    Wrong listen (l ++ seen_of before) last cause
 breaks_at listen l before last bits cause answers e (stuff wrong inside) =
     let same = same_from_push before wrong.before last wrong.last (sym e ∙ wrong.whole) in
     let P : List Bit → Type 0 = λ m. IsPastPart (l ++ seen_of m) in
     let Q : List Level → Type 0 = λ m. Begins m in
-    wrong_stuff (λ past. inside (subst P same.0 past)) (λ begun. wrong.none (subst Q (sym (seen_split l bits before (last ∷ []) e)) begun))
+    wrong_stuff (λ past. inside (subst P same.0 past))
+    (λ begun. wrong.none (subst Q (sym (seen_split l bits before (last ∷ []) e)) begun))
 breaks_at listen l before last bits cause answers e (form wrong past) =
     let same = same_from_push before wrong.before last wrong.last (sym e ∙ wrong.whole) in
     let P : List Bit → Type 0 = λ m. IsPastPart (l ++ seen_of m) in
     let Q : List Level → Type 0 = λ m. Begins m in
-    wrong_form (subst P (sym same.0) past) (λ begun. wrong.none (subst Q (sym (seen_split l bits before (last ∷ []) e)) begun))
+    wrong_form (subst P (sym same.0) past)
+    (λ begun. wrong.none (subst Q (sym (seen_split l bits before (last ∷ []) e)) begun))
 breaks_at listen l before last bits cause answers e (check other d ends) =
     let same = same_from_push before other last (recessive_bit Recessive) (sym e ∙ d) in
     let P : List Bit → Type 0 = λ m. EndsInWrongCheck (l ++ seen_of m) in
@@ -86,7 +96,8 @@ breaks_at listen l before last bits cause answers e (own_ack other d) =
     lost_ack due.0 same.1 due.1
 
 -- neither a stuff bit nor a fixed level is wrong where a CRC sequence is
-check_not_form : (l : List Level) (x : Bit) → x ≡ recessive_bit Recessive → EndsInWrongCheck l → Begins (l ++ x.seen ∷ [])
+check_not_form : (l : List Level) (x : Bit) → x ≡ recessive_bit Recessive → EndsInWrongCheck l →
+    Begins (l ++ x.seen ∷ [])
 check_not_form l x e w =
     let P : Level → Type 0 = λ y. Begins (l ++ y ∷ []) in
     subst P (sym (ap (λ (b : Bit). b.seen) e)) (delimiter_begins l w)
@@ -98,7 +109,8 @@ received_or_dominant x y z e d =
     cc
 
 -- one cause is wrong with a bit
-pub wrong_once : (listen : Bool) (l : List Level) (x : Bit) (c d : Cause) → Wrong listen l x c → Wrong listen l x d → c ≡ d
+pub wrong_once : (listen : Bool) (l : List Level) (x : Bit) (c d : Cause) → Wrong listen l x c → Wrong listen l x d →
+    c ≡ d
 wrong_once listen l x c d (wrong_stuff h none) (wrong_stuff k never) = refl
 wrong_once listen l x c d (wrong_stuff h none) (wrong_form k never) = absurd (h k)
 wrong_once listen l x c d (wrong_stuff h none) (wrong_check e w) = absurd (none (check_not_form l x e w))
@@ -117,7 +129,8 @@ wrong_once listen l x c d (lost_ack s e due) (wrong_check h w) = absurd (receive
 wrong_once listen l x c d (lost_ack s e due) (lost_ack t h other) = refl
 
 -- nothing is wrong with a bit of a line with a right CRC sequence, acknowledged where that is needed
-pub line_not_wrong : (listen : Bool) (l : List Level) (x : Bit) (cause : Cause) (f : FrameValue) (b c : List Level) (ack : Level) (rest : List Level) →
+pub line_not_wrong : (listen : Bool) (l : List Level) (x : Bit) (cause : Cause) (f : FrameValue) (b c : List Level)
+    (ack : Level) (rest : List Level) →
     Line f b c ack ((l ++ x.seen ∷ []) ++ rest) → Crc b c → AckFits listen ack → Wrong listen l x cause → ⊥
 line_not_wrong listen l x cause f b c ack rest line right fits (wrong_stuff inside none) =
     none (record { frame = f; body = b; check = c; ack = ack; rest = rest; line = line })
@@ -125,9 +138,10 @@ line_not_wrong listen l x cause f b c ack rest line right fits (wrong_form past 
     none (record { frame = f; body = b; check = c; ack = ack; rest = rest; line = line })
 line_not_wrong listen l x cause f b c ack rest line right fits (wrong_check e w) =
     let P : List Level → Type 0 = λ m. Line f b c ack (m ++ rest) in
-    let whole = more_after l w.part (Recessive ∷ w.ack ∷ []) x.seen w.whole in
-    let on = line_at w.part (Recessive ∷ w.ack ∷ x.seen ∷ []) rest w.is_part (subst P whole line) in
-    w.wrong (subst (λ m. Crc m w.check) (sym on.body) (subst (λ m. Crc b m) (sym on.check) right))
+    let p = w.past in
+    let whole = more_after l p.part (Recessive ∷ w.ack ∷ []) x.seen (wrong_whole l w) in
+    let on = line_at p.part (Recessive ∷ w.ack ∷ x.seen ∷ []) rest p.is_part (subst P whole line) in
+    w.wrong (subst (λ m. Crc m p.check) (sym on.body) (subst (λ m. Crc b m) (sym on.check) right))
 line_not_wrong listen l x cause f b c ack rest line right fits (lost_ack s e due) =
     let P : List Level → Type 0 = λ m. Line f b c ack (m ++ rest) in
     let whole = more_after l due.part (Recessive ∷ []) x.seen due.whole in

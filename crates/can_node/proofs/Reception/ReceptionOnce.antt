@@ -26,15 +26,18 @@ receptions_once : (listen : Bool) (l : List Level) (a b more : List Bit) (f g : 
 receptions_once listen l a b more f g h k e =
     let P : List Level → Type 0 = λ m. Line g k.body k.crc k.ack m in
     let split : (l ++ seen_of b) ++ Recessive ∷ [] ≡ (l ++ seen_of a) ++ (seen_of more ++ Recessive ∷ []) =
-    ap (λ m. m ++ Recessive ∷ []) (seen_split l b a more e) ∙ append_assoc (l ++ seen_of a) (seen_of more) (Recessive ∷ []) in
-    let agree = lines_agree f g h.body h.crc k.body k.crc h.ack k.ack Recessive (l ++ seen_of a) (seen_of more ++ Recessive ∷ []) h.line (subst P split k.line) in
+    ap (λ m. m ++ Recessive ∷ []) (seen_split l b a more e)
+    ∙ append_assoc (l ++ seen_of a) (seen_of more) (Recessive ∷ []) in
+    let agree = lines_agree f g h.body h.crc k.body k.crc h.ack k.ack Recessive (l ++ seen_of a)
+    (seen_of more ++ Recessive ∷ []) h.line (subst P split k.line) in
     let count = agree.3 in
     let none : more ≡ [] = nil_from_length more
     (omega (arith, count, length-append (seen_of more) (Recessive ∷ []), length-map more (λ (x : Bit). x.seen))) in
     (sym (e ∙ ap (λ m. a ++ m) none ∙ append-nil a), agree.0)
 
 -- no front of a reception ends with a fault
-no_fault_in : (listen : Bool) (l : List Level) (a b more : List Bit) (f : FrameValue) (cause : Cause) (segment : Segment) →
+no_fault_in : (listen : Bool) (l : List Level) (a b more : List Bit) (f : FrameValue) (cause : Cause)
+    (segment : Segment) →
     IsReception listen l a f → BreaksOff listen l b cause segment → a ≡ b ++ more → ⊥
 no_fault_in listen l a b more f cause segment h k e =
     let P : List Level → Type 0 = λ m. Line f h.body h.crc h.ack m in
@@ -43,11 +46,13 @@ no_fault_in listen l a b more f cause segment h k e =
     let split : (l ++ seen_of a) ++ Recessive ∷ [] ≡ (seen ++ k.last.seen ∷ []) ++ (seen_of more ++ Recessive ∷ []) =
     ap (λ m. m ++ Recessive ∷ []) (seen_split l a b more e ∙ ap (λ m. m ++ seen_of more) here)
     ∙ append_assoc (seen ++ k.last.seen ∷ []) (seen_of more) (Recessive ∷ []) in
-    line_not_wrong listen seen k.last cause f h.body h.crc h.ack (seen_of more ++ Recessive ∷ []) (subst P split h.line) h.right h.fits
+    line_not_wrong listen seen k.last cause f h.body h.crc h.ack (seen_of more ++ Recessive ∷ []) (subst P split h.line)
+    h.right h.fits
     (breaks_at listen l k.before k.last b cause k.answers k.whole k.breaks)
 
 -- no fault comes after a reception
-no_fault_after : (listen : Bool) (l : List Level) (a b more : List Bit) (z : Bit) (f : FrameValue) (cause : Cause) (segment : Segment) →
+no_fault_after : (listen : Bool) (l : List Level) (a b more : List Bit) (z : Bit) (f : FrameValue) (cause : Cause)
+    (segment : Segment) →
     IsReception listen l a f → BreaksOff listen l b cause segment → b ≡ a ++ (more ++ z ∷ []) → ⊥
 no_fault_after listen l a b more z f cause segment h k e =
     let begun = k.early.begun in
@@ -55,13 +60,16 @@ no_fault_after listen l a b more z f cause segment h k e =
     let P : List Level → Type 0 = λ m. Line begun.frame begun.body begun.check begun.ack m in
     let same = same_from_push (a ++ more) k.before z k.last (append_assoc a more (z ∷ []) ∙ sym e ∙ k.whole) in
     let split : (l ++ seen_of k.before) ++ begun.rest ≡ (l ++ seen_of a) ++ (seen_of more ++ begun.rest) =
-    ap (λ m. m ++ begun.rest) (seen_split l k.before a more (sym same.0)) ∙ append_assoc (l ++ seen_of a) (seen_of more) begun.rest in
-    let agree = lines_agree f begun.frame h.body h.crc begun.body begun.check h.ack begun.ack Recessive (l ++ seen_of a) (seen_of more ++ begun.rest) h.line (subst P split begun.line) in
+    ap (λ m. m ++ begun.rest) (seen_split l k.before a more (sym same.0))
+    ∙ append_assoc (l ++ seen_of a) (seen_of more) begun.rest in
+    let agree = lines_agree f begun.frame h.body h.crc begun.body begun.check h.ack begun.ack Recessive (l ++ seen_of a)
+    (seen_of more ++ begun.rest) h.line (subst P split begun.line) in
     let count = agree.3 in
     omega (arith, count, long, length-append (seen_of more) begun.rest)
 
 -- a reception and a fault don't begin alike
-received_or_broken : (listen : Bool) (l : List Level) (a b x y : List Bit) (f : FrameValue) (cause : Cause) (segment : Segment) →
+received_or_broken : (listen : Bool) (l : List Level) (a b x y : List Bit) (f : FrameValue) (cause : Cause)
+    (segment : Segment) →
     IsReception listen l a f → BreaksOff listen l b cause segment → a ++ x ≡ b ++ y → ⊥
 received_or_broken listen l a b x y f cause segment h k e =
     elim (fronts a b x y e) [

@@ -35,22 +35,27 @@ not_dominant more e =
 -- nor is it a lost arbitration
 not_lost : (before more : List Bit) → recessive_bit Recessive ∷ [] ≡ before ++ recessive_bit Dominant ∷ more → ⊥
 not_lost [] more e = not_dominant more e
-not_lost (b ∷ before) more e = omega (arith, ap (λ (l : List Bit). length l) e, length-append before (recessive_bit Dominant ∷ more))
+not_lost (b ∷ before) more e =
+    omega (arith, ap (λ (l : List Bit). length l) e, length-append before (recessive_bit Dominant ∷ more))
 
 -- a transmitter that saw one recessive level found no receiver's fault
-not_sent : (self_test : Bool) (request : Request) (bits : List Bit) (p : Piece) (next : Place) (cause : Cause) (segment : Segment) →
-    Transmits self_test request bits p next → bits ≡ recessive_bit Recessive ∷ [] → p ≡ Fault InReception cause segment → ⊥
+not_sent : (self_test : Bool) (request : Request) (bits : List Bit) (p : Piece) (next : Place) (cause : Cause)
+    (segment : Segment) →
+    Transmits self_test request bits p next → bits ≡ recessive_bit Recessive ∷ [] →
+    p ≡ Fault InReception cause segment → ⊥
 not_sent self_test request bits p next cause segment (sending h) e d = cc
 not_sent self_test request bits p next cause segment (failed h) e d = cc
 not_sent self_test request bits p next cause segment (lost h) e d = not_lost h.before h.more (sym e ∙ h.whole)
 
 -- at no place is one recessive level a receiver's fault, unless the frame began before it
 not_row : (c : ContextValue) (place next : Place) (bits : List Bit) (p : Piece) (cause : Cause) (segment : Segment) →
-    Row c place bits p next → place ≢ AfterSof → bits ≡ recessive_bit Recessive ∷ [] → p ≡ Fault InReception cause segment → ⊥
+    Row c place bits p next → place ≢ AfterSof → bits ≡ recessive_bit Recessive ∷ [] →
+    p ≡ Fault InReception cause segment → ⊥
 not_row c place next bits p cause segment (integration elevens) begun e d = cc
 not_row c place next bits p cause segment (idle none) begun e d = cc
 not_row c place next bits p cause segment (other {bits = more} none receives) begun e d = not_dominant more (sym e)
-not_row c place next bits p cause segment (own {request = request} some sends) begun e d = not_sent c.self_test request bits p next cause segment sends e d
+not_row c place next bits p cause segment (own {request = request} some sends) begun e d =
+    not_sent c.self_test request bits p next cause segment sends e d
 not_row c place next bits p cause segment (other_begun none receives) begun e d = begun refl
 not_row c place next bits p cause segment (own_begun some sends) begun e d = begun refl
 not_row c place next bits p cause segment last_eof_bit begun e d = cc
@@ -91,7 +96,8 @@ nothing_before a b e = nil_from_length a (omega (arith, ap length e, length-appe
 wrong_start : (listen : Bool) (l : List Level) → l ≡ [] → IsWithin l → ¬ IsPastPart l →
     Receives listen l (recessive_bit Recessive ∷ []) (Fault InReception StuffError (segment_at [] 0)) AtFlag
 wrong_start listen l none within inside =
-    let P : List Level → Type 0 = λ m. Receives listen m (recessive_bit Recessive ∷ []) (Fault InReception StuffError (segment_at [] 0)) AtFlag in
+    let P : List Level → Type 0 = λ m. Receives listen m (recessive_bit Recessive ∷ [])
+    (Fault InReception StuffError (segment_at [] 0)) AtFlag in
     let Q : List Level → Type 0 = λ m. IsWithin m in
     let R : List Level → Type 0 = λ m. ¬ IsPastPart m in
     let early = subst R none inside in
@@ -100,13 +106,16 @@ wrong_start listen l none within inside =
     (bit [] nothing (λ five. omega (arith, ap length five.2, length-append five.0 (replicate 5 five.1))) early)))
 
 -- a receiver in a frame has seen its start
-pub receiving_begun : (c : ContextValue) (place : Place) (bits : List Bit) → IsReceiving c place bits → seen_of (frame_bits place bits) ≢ []
+pub receiving_begun : (c : ContextValue) (place : Place) (bits : List Bit) → IsReceiving c place bits →
+    seen_of (frame_bits place bits) ≢ []
 receiving_begun c place bits h none =
     let there = no_bits place bits none in
     let levels : h.levels ≡ [] = nothing_before h.levels (seen_of h.more) (sym h.seen ∙ none) in
     let before : h.before ≡ [] = nothing_before h.before h.more (sym h.whole ∙ there.0) in
     let P : List Level → Type 0 = λ l. IsWithin l in
     let within : IsWithin h.levels = subst P (sym h.seen ∙ none ∙ sym levels) h.within in
-    not_row c place AtFlag (h.before ++ recessive_bit Recessive ∷ []) (Fault InReception StuffError (segment_at [] 0)) StuffError (segment_at [] 0)
-    (h.row (recessive_bit Recessive ∷ []) (Fault InReception StuffError (segment_at [] 0)) AtFlag (wrong_start c.listen h.levels levels within h.inside))
+    not_row c place AtFlag (h.before ++ recessive_bit Recessive ∷ []) (Fault InReception StuffError (segment_at [] 0))
+    StuffError (segment_at [] 0)
+    (h.row (recessive_bit Recessive ∷ []) (Fault InReception StuffError (segment_at [] 0)) AtFlag
+    (wrong_start c.listen h.levels levels within h.inside))
     there.1 (ap (λ l. l ++ recessive_bit Recessive ∷ []) before) refl

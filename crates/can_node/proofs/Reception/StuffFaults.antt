@@ -4,10 +4,10 @@ use Rattle.std.proofs.lemmas.List.{map-append, same_from_push}
 use Rattle.can_bits.specs.declared.level.Level.{Level}
 use Rattle.can_bits.specs.declared.level.Level.TheVariants.{Recessive}
 use Rattle.can_bits.specs.declared.segment.Segment.{Segment}
-use Rattle.can_bits.specs.Line.{Line}
 use Rattle.can_bits.specs.Reading.{Begins, IsPastPart}
 use Rattle.can_bits.specs.Segments.{IsNext}
 use Rattle.can_bits.proofs.Lists.{last_of}
+use Rattle.can_bits.proofs.Ending.{begins_front}
 use Rattle.can_node.specs.declared.cause.Cause.{Cause}
 use Rattle.can_node.specs.declared.cause.Cause.TheVariants.{Stuff as StuffError}
 use Rattle.can_node.specs.Bits.{Bit, recessive_bit, dominant_bit, recessive_bits, seen_of}
@@ -16,19 +16,6 @@ use Rattle.can_node.proofs.Bits.DrivenAlike.{never_dominant, seen_received, seen
 use Rattle.can_bits.specs.Acknowledging.{IsAckDue}
 use Rattle.can_node.specs.Frames.{Acknowledges, AllAcknowledge, IsWithin, Breaks, BreaksOff}
 use Rattle.can_node.specs.Frames.Breaks.{stuff, form, check, own_ack}
-
--- a line that begins with levels begins with a front of them
-pub begins_front : (p q : List Level) → Begins (p ++ q) → Begins p
-begins_front p q h =
-    let P : List Level → Type 0 = λ l. Line h.frame h.body h.check h.ack l in
-    record {
-      frame = h.frame;
-      body = h.body;
-      check = h.check;
-      ack = h.ack;
-      rest = q ++ h.rest;
-      line = subst P (append_assoc p q h.rest) h.line;
-    }
 
 -- the stuffed part that came whole came whole with more levels too
 pub past_more : (l more : List Level) → IsPastPart l → IsPastPart (l ++ more)
@@ -63,10 +50,12 @@ acknowledges_recessive false l unended = λ due. unended (due_past l due)
 pub all_recessive : (listen : Bool) (l before : List Level) (last : Level) → (IsPastPart (l ++ before) → ⊥) →
     AllAcknowledge listen l (recessive_bits (before ++ last ∷ []))
 all_recessive listen l [] last unended =
-    acknowledges_cons listen l (recessive_bit last) [] (acknowledges_recessive listen l (λ p. unended (past_more l [] p))) (acknowledges_none listen (l ++ last ∷ []))
+    acknowledges_cons listen l (recessive_bit last) []
+    (acknowledges_recessive listen l (λ p. unended (past_more l [] p))) (acknowledges_none listen (l ++ last ∷ []))
 all_recessive listen l (u ∷ before) last unended =
     let P : List Level → Type 0 = λ t. IsPastPart t in
-    acknowledges_cons listen l (recessive_bit u) (recessive_bits (before ++ last ∷ [])) (acknowledges_recessive listen l (λ p. unended (past_more l (u ∷ before) p)))
+    acknowledges_cons listen l (recessive_bit u) (recessive_bits (before ++ last ∷ []))
+    (acknowledges_recessive listen l (λ p. unended (past_more l (u ∷ before) p)))
     (all_recessive listen (l ++ u ∷ []) before last (λ p. unended (subst P (append_assoc l (u ∷ []) before) p)))
 
 -- the levels of some bits, after the levels l, with those of more bits
@@ -79,7 +68,8 @@ joined l before front rest e =
 
 -- nothing is wrong in levels with which a line begins, and of which none is past its stuffed part
 nothing_wrong : (l before : List Level) (front rest : List Bit) (cause : Cause) →
-    (IsPastPart (l ++ before) → ⊥) → Begins (l ++ before) → recessive_bits before ≡ front ++ rest → Breaks l front cause → ⊥
+    (IsPastPart (l ++ before) → ⊥) → Begins (l ++ before) → recessive_bits before ≡ front ++ rest →
+    Breaks l front cause → ⊥
 nothing_wrong l before front rest cause unended begun e (stuff wrong inside) =
     let P : List Level → Type 0 = λ t. Begins t in
     wrong.none (begins_front (l ++ seen_of front) (seen_of rest) (subst P (joined l before front rest e) begun))
@@ -90,23 +80,16 @@ nothing_wrong l before front rest cause unended begun e (check ahead whole wrong
     let P : List Level → Type 0 = λ t. IsPastPart t in
     let split : recessive_bits before ≡ ahead ++ (recessive_bit Recessive ∷ rest) =
     e ∙ ap (λ t. t ++ rest) whole ∙ append_assoc ahead (recessive_bit Recessive ∷ []) rest in
-    let past : IsPastPart (l ++ seen_of ahead) = record {
-      frame = wrong.frame;
-      body = wrong.body;
-      check = wrong.check;
-      part = wrong.part;
-      rest = Recessive ∷ wrong.ack ∷ [];
-      is_part = wrong.is_part;
-      whole = wrong.whole;
-    } in
-    let more = past_more (l ++ seen_of ahead) (seen_of (recessive_bit Recessive ∷ rest)) past in
+    let more = past_more (l ++ seen_of ahead) (seen_of (recessive_bit Recessive ∷ rest)) wrong.past in
     unended (subst P (sym (joined l before ahead (recessive_bit Recessive ∷ rest) split)) more)
 nothing_wrong l before front rest cause unended begun e (own_ack ahead whole) =
-    never_dominant before ahead rest Recessive (e ∙ ap (λ t. t ++ rest) whole ∙ append_assoc ahead (dominant_bit Recessive ∷ []) rest)
+    never_dominant before ahead rest Recessive
+    (e ∙ ap (λ t. t ++ rest) whole ∙ append_assoc ahead (dominant_bit Recessive ∷ []) rest)
 
 -- so the first fault is at the last level at the earliest
 not_before : (l before : List Level) (last : Level) → (IsPastPart (l ++ before) → ⊥) → Begins (l ++ before) →
-    (front rest : List Bit) (cause : Cause) → recessive_bits (before ++ last ∷ []) ≡ front ++ rest → Breaks l front cause → rest ≡ []
+    (front rest : List Bit) (cause : Cause) → recessive_bits (before ++ last ∷ []) ≡ front ++ rest →
+    Breaks l front cause → rest ≡ []
 not_before l before last unended begun front rest cause e h =
     elim (last_of rest) [
       | inl none ↦ none
@@ -129,16 +112,23 @@ stuff_fault listen l before last segment stuffed early unended dead next =
     let Past : List Level → Type 0 = λ t. IsPastPart (l ++ t) in
     let Dead : List Level → Type 0 = λ t. Begins (l ++ t) in
     let Next : List Level → Type 0 = λ t. IsNext (l ++ t) segment stuffed in
-    let whole : recessive_bits (before ++ last ∷ []) ≡ recessive_bits before ++ recessive_bit last ∷ [] = map-append recessive_bit before (last ∷ []) in
+    let whole : recessive_bits (before ++ last ∷ []) ≡ recessive_bits before ++ recessive_bit last ∷ [] =
+    map-append recessive_bit before (last ∷ []) in
     let seen : seen_of (recessive_bits before) ≡ before = seen_received before in
-    let all : seen_of (recessive_bits (before ++ last ∷ [])) ≡ before ++ last ∷ [] = seen_received (before ++ last ∷ []) in
+    let all : seen_of (recessive_bits (before ++ last ∷ [])) ≡ before ++ last ∷ [] =
+    seen_received (before ++ last ∷ []) in
     record {
       answers = all_recessive listen l before last unended;
       before = recessive_bits before;
       last = recessive_bit last;
       whole = whole;
       early = subst Early (sym seen) early;
-      breaks = stuff (record { before = recessive_bits before; last = recessive_bit last; whole = whole; none = λ b. dead (subst Dead all b) })
+      breaks = stuff (record {
+        before = recessive_bits before;
+        last = recessive_bit last;
+        whole = whole;
+        none = λ b. dead (subst Dead all b);
+      })
           (λ p. unended (subst Past seen p));
       first = not_before l before last unended early.begun;
       stuff_bit = stuffed;

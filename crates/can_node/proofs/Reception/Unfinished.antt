@@ -29,14 +29,23 @@ use Rattle.can_node.proofs.Reception.Beginnings.{front_good}
 use Rattle.can_node.proofs.Bits.Slots.{right_or_wrong, due_right, not_due, within_not_due, dominant_wrong, delimiter_here, slot_good}
 
 -- what isn't finished with one bit more isn't finished before it
-before_more : (c : ContextValue) (place : Place) (bits : List Bit) (x : Bit) → IsUnfinished c place (bits ++ x ∷ []) → IsUnfinished c place bits
+before_more : (c : ContextValue) (place : Place) (bits : List Bit) (x : Bit) → IsUnfinished c place (bits ++ x ∷ []) →
+    IsUnfinished c place bits
 before_more c place bits x h =
     let P : List Bit → Type 0 = λ m. Row c place m h.piece h.next in
-    record { piece = h.piece; next = h.next; more = x; rest = h.more ∷ h.rest; lawful = subst P (append_assoc bits (x ∷ []) (h.more ∷ h.rest)) h.lawful }
+    record {
+      piece = h.piece;
+      next = h.next;
+      more = x;
+      rest = h.more ∷ h.rest;
+      lawful = subst P (append_assoc bits (x ∷ []) (h.more ∷ h.rest)) h.lawful;
+    }
 
 -- after the stuffed part a dominant level is a form error, but in the ACK slot
-dominant_next : {f : FrameValue} {b d : List Level} (c : ContextValue) (place : Place) (bits : List Bit) (part after : List Level) → IsReceiving c place bits →
-    StuffedPart f b d part → seen_of (frame_bits place bits) ≡ part ++ after → length after ≢ 1 → IsUnfinished c place bits
+dominant_next : {f : FrameValue} {b d : List Level} (c : ContextValue) (place : Place) (bits : List Bit)
+    (part after : List Level) → IsReceiving c place bits →
+    StuffedPart f b d part → seen_of (frame_bits place bits) ≡ part ++ after → length after ≢ 1 →
+    IsUnfinished c place bits
 dominant_next c place bits part after h is_part e other =
     let levels : List Level = seen_of (frame_bits place bits) in
     let P : List Level → Type 0 = λ m. IsPastPart m in
@@ -54,31 +63,40 @@ dominant_next c place bits part after h is_part e other =
             before = h.more;
             last = recessive_bit Dominant;
             whole = refl;
-            none = λ begun. dominant_wrong levels part after is_part e other (subst Q (sym (receiving_push c place bits (recessive_bit Dominant) h)) begun);
+            none = λ begun. dominant_wrong levels part after is_part e other
+                (subst Q (sym (receiving_push c place bits (recessive_bit Dominant) h)) begun);
           })
           past)
           (after_part part after is_part e);
     }
 
 -- within the stuffed part the levels of some line may follow, and a dominant one after them
-part_on : {f : FrameValue} {b d : List Level} (c : ContextValue) (place : Place) (bits : List Bit) (more : List Level) → IsReceiving c place bits →
+part_on : {f : FrameValue} {b d : List Level} (c : ContextValue) (place : Place) (bits : List Bit) (more : List Level) →
+    IsReceiving c place bits →
     StuffedPart f b d (seen_of (frame_bits place bits) ++ more) → IsUnfinished c place bits
 part_on {f = f} {b = b} {d = d} c place bits [] h is_part =
     let levels : List Level = seen_of (frame_bits place bits) in
     let P : List Level → Type 0 = λ m. StuffedPart f b d m in
-    dominant_next c place bits levels [] h (subst P (append-nil levels) is_part) (sym (append-nil levels)) (λ one. omega (arith, one))
+    dominant_next c place bits levels [] h (subst P (append-nil levels) is_part) (sym (append-nil levels))
+    (λ one. omega (arith, one))
 part_on {f = f} {b = b} {d = d} c place bits (x ∷ more) h is_part =
     let levels : List Level = seen_of (frame_bits place bits) in
     let P : List Level → Type 0 = λ m. StuffedPart f b d m in
-    let longer : StuffedPart f b d ((levels ++ x ∷ []) ++ more) = subst P (sym (append_assoc levels (x ∷ []) more)) is_part in
+    let longer : StuffedPart f b d ((levels ++ x ∷ []) ++ more) =
+    subst P (sym (append_assoc levels (x ∷ []) more)) is_part in
     let good = front_good (levels ++ x ∷ []) more longer in
-    let next = receiving_next c place bits (recessive_bit x) h (quiet c.listen levels (within_not_due levels more x is_part)) (not_lost_driven (recessive_bit x) refl) good.0 good.1 in
+    let next = receiving_next c place bits (recessive_bit x) h
+    (quiet c.listen levels (within_not_due levels more x is_part)) (not_lost_driven (recessive_bit x) refl) good.0
+    good.1 in
     before_more c place bits (recessive_bit x)
-    (part_on c place (bits ++ recessive_bit x ∷ []) more next (subst P (ap (λ m. m ++ more) (sym (frame_push place bits (recessive_bit x)))) longer))
+    (part_on c place (bits ++ recessive_bit x ∷ []) more next
+    (subst P (ap (λ m. m ++ more) (sym (frame_push place bits (recessive_bit x)))) longer))
 
 -- so may a bit in the ACK slot, and a dominant level after it
-slot_on : {f : FrameValue} {b d : List Level} (c : ContextValue) (place : Place) (bits : List Bit) (part : List Level) (x : Bit) → IsReceiving c place bits →
-    StuffedPart f b d part → seen_of (frame_bits place bits) ≡ part ++ Recessive ∷ [] → Acknowledges c.listen (seen_of (frame_bits place bits)) x.driven → x.seen ≡ Dominant →
+slot_on : {f : FrameValue} {b d : List Level} (c : ContextValue) (place : Place) (bits : List Bit) (part : List Level)
+    (x : Bit) → IsReceiving c place bits →
+    StuffedPart f b d part → seen_of (frame_bits place bits) ≡ part ++ Recessive ∷ [] →
+    Acknowledges c.listen (seen_of (frame_bits place bits)) x.driven → x.seen ≡ Dominant →
     IsUnfinished c place bits
 slot_on c place bits part x h is_part e answers seen =
     let levels : List Level = seen_of (frame_bits place bits) in
@@ -86,20 +104,34 @@ slot_on c place bits part x h is_part e answers seen =
     let next = receiving_next c place bits x h answers (not_lost_seen x seen) good.0 good.1 in
     let whole : seen_of (frame_bits place (bits ++ x ∷ [])) ≡ part ++ (Recessive ∷ x.seen ∷ []) =
     frame_push place bits x ∙ ap (λ m. m ++ x.seen ∷ []) e ∙ append_assoc part (Recessive ∷ []) (x.seen ∷ []) in
-    before_more c place bits x (dominant_next c place (bits ++ x ∷ []) part (Recessive ∷ x.seen ∷ []) next is_part whole (λ one. omega (arith, one)))
+    before_more c place bits x (dominant_next c place (bits ++ x ∷ []) part (Recessive ∷ x.seen ∷ []) next is_part whole
+    (λ one. omega (arith, one)))
 
 -- what is driven there hangs on the CRC sequence
-slot_drives : {f : FrameValue} {b d : List Level} (listen : Bool) (l part : List Level) → StuffedPart f b d part → l ≡ part ++ Recessive ∷ [] →
+slot_drives : {f : FrameValue} {b d : List Level} (listen : Bool) (l part : List Level) → StuffedPart f b d part →
+    l ≡ part ++ Recessive ∷ [] →
     (y : Level) × Acknowledges listen l y
 slot_drives true l part h e = (Recessive, refl)
 slot_drives {f = f} {b = b} {d = d} false l part h e =
     elim (right_or_wrong b d h.check) [
-      | inl right ↦ (Dominant, record { frame = f; body = b; check = d; part = part; is_part = h; right = right; whole = e })
+      | inl right ↦ (
+        Dominant,
+        record {
+          frame = f;
+          body = b;
+          check = d;
+          part = part;
+          is_part = h;
+          right = right;
+          whole = e;
+        },
+      )
       | inr wrong ↦ (Recessive, λ due. wrong (due_right l part h e due))
     ]
 
 -- past the stuffed part
-past_on : {f : FrameValue} {b d : List Level} (c : ContextValue) (place : Place) (bits : List Bit) (part after : List Level) → IsReceiving c place bits →
+past_on : {f : FrameValue} {b d : List Level} (c : ContextValue) (place : Place) (bits : List Bit)
+    (part after : List Level) → IsReceiving c place bits →
     StuffedPart f b d part → seen_of (frame_bits place bits) ≡ part ++ after → IsUnfinished c place bits
 past_on c place bits part after h is_part e =
     elim (cases_eq (length after) 1) [
@@ -112,7 +144,8 @@ past_on c place bits part after h is_part e =
     ]
 
 -- a frame under way at its receiver can go on to some piece
-pub open_receiving : (c : ContextValue) (place : Place) (bits : List Bit) → IsReceiving c place bits → IsUnfinished c place bits
+pub open_receiving : (c : ContextValue) (place : Place) (bits : List Bit) → IsReceiving c place bits →
+    IsUnfinished c place bits
 open_receiving c place bits h =
     elim (begins_in (seen_of (frame_bits place bits)) (receiving_within c place bits h).begun) [
       | inl part ↦ part_on c place bits part.3 h part.4

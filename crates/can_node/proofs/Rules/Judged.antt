@@ -78,7 +78,8 @@ owed_once : ((along (record passive_sender {
       ack_step_owed =
           true;
     }) AtFlag [] (map OneBit (recessive_bits (Recessive ∷ Dominant ∷ [])))).tec ≡ 136)
-    × ((along (record passive_sender { ack_step_owed = true }) AtFlag [] (map OneBit (recessive_bits (replicate 5 Dominant)))).tec ≡ 136)
+    × ((along (record passive_sender { ack_step_owed = true }) AtFlag []
+    (map OneBit (recessive_bits (replicate 5 Dominant)))).tec ≡ 136)
 owed_once = (refl, refl, refl)
 
 -- rule 3, exception 1: where the flag ends with no dominant level it is owed no more
@@ -173,7 +174,8 @@ flag_by_other_counter = refl
 -- rules 8 and 9: an acknowledgement in the same frame comes before its form error: from 128 to 127, so the flag is
 -- active
 flag_after_acknowledgement : (closed (Fault InReception FormError AckDelimiter) AtFlag
-    (along (record fresh { rec = 128 }) AfterSof [] (OneBit (dominant_bit Dominant) ∷ OneBit (recessive_bit Dominant) ∷ []))).flag
+    (along (record fresh { rec = 128 }) AfterSof []
+    (OneBit (dominant_bit Dominant) ∷ OneBit (recessive_bit Dominant) ∷ []))).flag
     ≡ ActiveError
 flag_after_acknowledgement = refl
 
@@ -198,7 +200,8 @@ recovering : (integration_count gone ≡ 128) × (integration_count fresh ≡ 1)
     × ((along gone AtIntegration [] (map OneBit (recessive_bits (replicate 10 Recessive)))).tec ≡ 127)
     × ((along gone AtIntegration [] (map OneBit (recessive_bits (replicate 11 Recessive)))).tec ≡ 126)
     × ((along gone AtIntegration [] (map OneBit (recessive_bits (replicate 21 Recessive)))).tec ≡ 126)
-    × ((along gone AtIntegration [] (map OneBit (recessive_bits (replicate 10 Recessive ++ Dominant ∷ Recessive ∷ [])))).tec ≡ 127)
+    × ((along gone AtIntegration []
+    (map OneBit (recessive_bits (replicate 10 Recessive ++ Dominant ∷ Recessive ∷ [])))).tec ≡ 127)
 recovering = (refl, refl, refl, refl, refl, refl)
 
 -- rule 12: the last of them ends bus-off, with both counters 0
@@ -225,7 +228,8 @@ rec_stops = refl
 listening : (failed InReception CheckError listener ≡ listener) × (failed InDelimiter FormError listener ≡ listener)
     × (at_bit listener AtDelimiter [] (recessive_bit Dominant) ≡ listener)
     × (at_bit listener AtDelimiter (recessive_bits (replicate 7 Dominant)) (recessive_bit Dominant) ≡ listener)
-    × ((at_bit (record listener { off = true }) AtIntegration (recessive_bits (replicate 10 Recessive)) (recessive_bit Recessive)).tec ≡ 7)
+    × ((at_bit (record listener { off = true }) AtIntegration (recessive_bits (replicate 10 Recessive))
+    (recessive_bit Recessive)).tec ≡ 7)
     × ((closed Integration AtIdle (record listener { off = true })).off ≡ true)
 listening = (refl, refl, refl, refl, refl, refl)
 
@@ -241,7 +245,8 @@ idle_role = refl
 -- ISO 11898-1: where SOF comes in interframe space the holder of a request is transmitter, also of one that came in
 -- this interframe space
 sof_role : ((closed InterframeSpaceWithSof AfterSof (record fresh { held = Some asked })).role ≡ Transmitter)
-    × ((closed InterframeSpaceWithSof AfterSof (along fresh AtInterframeSpace [] (OneBit (recessive_bit Recessive) ∷ Send asked ∷
+    × ((closed InterframeSpaceWithSof AfterSof
+    (along fresh AtInterframeSpace [] (OneBit (recessive_bit Recessive) ∷ Send asked ∷
     OneBit (recessive_bit Recessive) ∷ OneBit (recessive_bit Dominant) ∷ []))).role ≡ Transmitter)
 sof_role = (refl, refl)
 

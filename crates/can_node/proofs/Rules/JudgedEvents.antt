@@ -42,7 +42,8 @@ kept_in_flags : ((failed InFlag BitError (record sender { held = Some once })).h
 kept_in_flags = (refl, refl)
 
 -- this project's own rule: a stop drops the request, and keeps counters and role
-stopping : with_stop (record passive_sender { ack_step_owed = true; aborted = true }) ≡ record passive_sender { held = None }
+stopping : with_stop (record passive_sender { ack_step_owed = true; aborted = true })
+    ≡ record passive_sender { held = None }
 stopping = refl
 
 -- ---- what a bit tells
@@ -60,7 +61,8 @@ nothing = record {
 }
 
 -- the last bit of EOF of a sent frame: the request has ended, and nothing is received
-event_of_sent : let event = events_of (Finishes (Transmission asked) AtInterframeSpace) sender AtIdle [] (recessive_bit Recessive) in
+event_of_sent : let event = events_of (Finishes (Transmission asked) AtInterframeSpace) sender AtIdle []
+    (recessive_bit Recessive) in
     (event.ended ≡ Some Sent) × (event.received ≡ None) × (event.lost ≡ None) × (event.fault ≡ None)
     × (event.receiving ≡ false)
 event_of_sent = (refl, refl, refl, refl, refl)

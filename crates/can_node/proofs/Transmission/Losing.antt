@@ -22,7 +22,8 @@ use Rattle.can_node.specs.Frames.{SentPart, GoesWell, IsWithin}
 use Rattle.can_bits.proofs.PlaceLemmas.{five-is, plain_count-is, code_early}
 
 -- a whole stuffed part has 34 levels at least that are no stuff bits
-part_long : {f : FrameValue} {b c : List Level} (part rest : List Level) → StuffedPart f b c part → 34 ≤ plain_count (part ++ rest)
+part_long : {f : FrameValue} {b c : List Level} (part rest : List Level) → StuffedPart f b c part →
+    34 ≤ plain_count (part ++ rest)
 part_long {f = f} {b = b} {c = c} part rest h =
     let (e, later) = unstuffed-later (reverse rest) (reverse part) in
     let form = stuffed_to (b ++ c) part h.stuffed in
@@ -64,7 +65,8 @@ not_full l h =
 no_six_front : (l more whole : List Level) → whole ≡ l ++ more → HasNoSixEqual whole → HasNoSixEqual l
 no_six_front l more whole e h before after x d =
     h before (after ++ more) x
-    (e ∙ ap (λ m. m ++ more) d ∙ append_assoc before (replicate 6 x ++ after) more ∙ ap (λ m. before ++ m) (append_assoc (replicate 6 x) after more))
+    (e ∙ ap (λ m. m ++ more) d ∙ append_assoc before (replicate 6 x ++ after) more
+    ∙ ap (λ m. before ++ m) (append_assoc (replicate 6 x) after more))
 
 -- nor has it with any level more where no stuff bit is due
 no_six_push : (l : List Level) (x : Level) → HasNoSixEqual l → run (reverse l) < 5 → HasNoSixEqual (l ++ x ∷ [])
@@ -75,7 +77,8 @@ no_six_push l x h few =
     subst P (reverse-cons x (reverse l) ∙ ap (λ m. m ++ x ∷ []) (reverse-reverse l)) (no_six_from (x ∷ reverse l) more)
 
 -- what a transmitter saw before RTR lies within its stuffed part
-seen_in_part : (self_test : Bool) (f : FrameValue) (c part : List Level) (before : List Bit) → SentPart f c part → GoesWell self_test part before →
+seen_in_part : (self_test : Bool) (f : FrameValue) (c part : List Level) (before : List Bit) → SentPart f c part →
+    GoesWell self_test part before →
     plain_count (seen_of before) < 34 → (more : List Level) × (part ≡ seen_of before ++ more)
 seen_in_part self_test f c part before h g few =
     elim (fronts (seen_of before) part g.others (tail g.ack) (sym g.seen)) [
@@ -90,14 +93,17 @@ begins_front (Dominant ∷ l) more rest e = tt
 begins_front (Recessive ∷ l) more rest e = let wrong : Dominant ≡ Recessive = cc in cc
 
 -- where a transmitter may lose arbitration no stuffed part is whole with the level seen there
-pub lost_inside : (ext : Bool) (l : List Level) (code : ℕ) → place_code ext l ≡ Some code → IsPastPart (l ++ Dominant ∷ []) → ⊥
+pub lost_inside : (ext : Bool) (l : List Level) (code : ℕ) → place_code ext l ≡ Some code →
+    IsPastPart (l ++ Dominant ∷ []) → ⊥
 lost_inside ext l code some =
     let early = code_early ext l code some in
     let most = early.1 in
-    few_not_past (l ++ Dominant ∷ []) (omega (arith, plain_count_push l Dominant (not_full l early.0), most, rtr_low ext))
+    few_not_past (l ++ Dominant ∷ [])
+    (omega (arith, plain_count_push l Dominant (not_full l early.0), most, rtr_low ext))
 
 -- and a line may go on with it
-pub lost_open : (self_test : Bool) (f : FrameValue) (c part : List Level) (before : List Bit) (code : ℕ) → SentPart f c part → GoesWell self_test part before →
+pub lost_open : (self_test : Bool) (f : FrameValue) (c part : List Level) (before : List Bit) (code : ℕ) →
+    SentPart f c part → GoesWell self_test part before →
     place_code f.ext (seen_of before) ≡ Some code → IsOpen (seen_of before ++ Dominant ∷ [])
 lost_open self_test f c part before code h g some =
     let l : List Level = seen_of before in
@@ -113,16 +119,18 @@ lost_open self_test f c part before code h g some =
 -- what is open and not past its stuffed part has the tail of its line before it
 pub open_within : (l : List Level) → IsOpen l → (IsPastPart l → ⊥) → IsWithin l
 open_within l h inside =
-    let line = h.line in
-    let count : 2 ≤ length h.rest = elim (fronts l line.part h.rest (tail h.ack) line.whole) [
+    let b = h.faultless.begun in
+    let line = b.line in
+    let count : 2 ≤ length b.rest = elim (fronts l line.part b.rest (tail b.ack) line.whole) [
       | inl longer ↦
-          let left : h.rest ≡ longer.0 ++ tail h.ack =
-          append-cancel l h.rest (longer.0 ++ tail h.ack) (line.whole ∙ ap (λ p. p ++ tail h.ack) longer.1 ∙ append_assoc l longer.0 (tail h.ack)) in
-          omega (arith, ap length left, length-append longer.0 (tail h.ack))
+          let left : b.rest ≡ longer.0 ++ tail b.ack =
+          append-cancel l b.rest (longer.0 ++ tail b.ack)
+          (line.whole ∙ ap (λ p. p ++ tail b.ack) longer.1 ∙ append_assoc l longer.0 (tail b.ack)) in
+          omega (arith, ap length left, length-append longer.0 (tail b.ack))
       | inr shorter ↦ absurd (inside (record {
-        frame = h.frame;
-        body = h.body;
-        check = h.check;
+        frame = b.frame;
+        body = b.body;
+        check = b.check;
         part = line.part;
         rest = shorter.0;
         is_part = line.is_part;
@@ -130,6 +138,6 @@ open_within l h inside =
       }))
     ] in
     record {
-      begun = record { frame = h.frame; body = h.body; check = h.check; ack = h.ack; rest = h.rest; line = h.line };
+      begun = b;
       long = count;
     }

@@ -14,7 +14,8 @@ use Rattle.can_node.specs.Frames.{AckFits, SentPart, GoesWell, Fails}
 use Rattle.can_node.specs.Frames.Fails.{no_ack, stuff_bit, unseen, overdriven}
 
 -- two lists that differ at one place at most: their levels at one place are equal, but at that one
-pub same_place : (q a b x y z : List Level) (u v ack : Level) → q ++ Recessive ∷ z ≡ a ++ u ∷ x → q ++ ack ∷ z ≡ b ++ v ∷ y →
+pub same_place : (q a b x y z : List Level) (u v ack : Level) → q ++ Recessive ∷ z ≡ a ++ u ∷ x →
+    q ++ ack ∷ z ≡ b ++ v ∷ y →
     length a ≡ length b →
     ((length a ≡ length q) × (u ≡ Recessive) × (v ≡ ack)) ⊎ ((length a ≢ length q) × (u ≡ v))
 same_place [] [] [] x y z u v ack e f n = inl (refl, cc, cc)
@@ -38,32 +39,40 @@ same_place (k ∷ q) (p ∷ a) (r ∷ b) x y z u v ack e f n =
     ]
 
 -- a front of what goes well goes well
-pub well_front : (self_test : Bool) (part : List Level) (a b : List Bit) → GoesWell self_test part (a ++ b) → GoesWell self_test part a
+pub well_front : (self_test : Bool) (part : List Level) (a b : List Bit) → GoesWell self_test part (a ++ b) →
+    GoesWell self_test part a
 well_front self_test part a b g = record {
   ack = g.ack;
   fits = g.fits;
   rest = driven_of b ++ g.rest;
   others = seen_of b ++ g.others;
-  driven = g.driven ∙ ap (λ l. l ++ g.rest) (map-append (λ (x : Bit). x.driven) a b) ∙ append_assoc (driven_of a) (driven_of b) g.rest;
-  seen = g.seen ∙ ap (λ l. l ++ g.others) (map-append (λ (x : Bit). x.seen) a b) ∙ append_assoc (seen_of a) (seen_of b) g.others;
+  driven = g.driven ∙ ap (λ l. l ++ g.rest) (map-append (λ (x : Bit). x.driven) a b)
+      ∙ append_assoc (driven_of a) (driven_of b) g.rest;
+  seen = g.seen ∙ ap (λ l. l ++ g.others) (map-append (λ (x : Bit). x.seen) a b)
+      ∙ append_assoc (seen_of a) (seen_of b) g.others;
 }
 
 -- a bit that goes well is seen as it is driven, but in the ACK slot
-well_bit : (self_test : Bool) (part : List Level) (before : List Bit) (last : Bit) (g : GoesWell self_test part (before ++ last ∷ [])) →
-    ((length before ≡ length part + 1) × (last.driven ≡ Recessive) × (last.seen ≡ g.ack)) ⊎ ((length before ≢ length part + 1) × (last.driven ≡ last.seen))
+well_bit : (self_test : Bool) (part : List Level) (before : List Bit) (last : Bit)
+    (g : GoesWell self_test part (before ++ last ∷ [])) →
+    ((length before ≡ length part + 1) × (last.driven ≡ Recessive) × (last.seen ≡ g.ack))
+    ⊎ ((length before ≢ length part + 1) × (last.driven ≡ last.seen))
 well_bit self_test part before last g =
     let z : List Level = Recessive ∷ replicate 7 Recessive in
     let q : List Level = part ++ Recessive ∷ [] in
     let driven : q ++ Recessive ∷ z ≡ driven_of before ++ last.driven ∷ g.rest =
-    append_assoc part (Recessive ∷ []) (Recessive ∷ z) ∙ g.driven ∙ ap (λ l. l ++ g.rest) (map-append (λ (x : Bit). x.driven) before (last ∷ []))
+    append_assoc part (Recessive ∷ []) (Recessive ∷ z) ∙ g.driven
+    ∙ ap (λ l. l ++ g.rest) (map-append (λ (x : Bit). x.driven) before (last ∷ []))
     ∙ append_assoc (driven_of before) (last.driven ∷ []) g.rest in
     let seen : q ++ g.ack ∷ z ≡ seen_of before ++ last.seen ∷ g.others =
-    append_assoc part (Recessive ∷ []) (g.ack ∷ z) ∙ g.seen ∙ ap (λ l. l ++ g.others) (map-append (λ (x : Bit). x.seen) before (last ∷ []))
+    append_assoc part (Recessive ∷ []) (g.ack ∷ z) ∙ g.seen
+    ∙ ap (λ l. l ++ g.others) (map-append (λ (x : Bit). x.seen) before (last ∷ []))
     ∙ append_assoc (seen_of before) (last.seen ∷ []) g.others in
     let one = length-map before (λ (x : Bit). x.driven) in
     let other = length-map before (λ (x : Bit). x.seen) in
     let count = length-append part (Recessive ∷ []) in
-    elim (same_place q (driven_of before) (seen_of before) g.rest g.others z last.driven last.seen g.ack driven seen (omega (arith, one, other))) [
+    elim (same_place q (driven_of before) (seen_of before) g.rest g.others z last.driven last.seen g.ack driven seen
+    (omega (arith, one, other))) [
       | inl h ↦ inl (omega (arith, h.0, one, count), h.1, h.2)
       | inr h ↦ inr (λ same. h.0 (omega (arith, same, one, count)), h.1)
     ]
@@ -74,7 +83,8 @@ pub seen_at_slot : (self_test : Bool) (part : List Level) (before : List Bit) �
     seen_of before ≡ part ++ Recessive ∷ []
 seen_at_slot self_test part before g count =
     let z : List Level = g.ack ∷ Recessive ∷ replicate 7 Recessive in
-    let whole : (part ++ Recessive ∷ []) ++ z ≡ seen_of before ++ g.others = append_assoc part (Recessive ∷ []) z ∙ g.seen in
+    let whole : (part ++ Recessive ∷ []) ++ z ≡ seen_of before ++ g.others =
+    append_assoc part (Recessive ∷ []) z ∙ g.seen in
     let lengths : length (part ++ Recessive ∷ []) ≡ length (seen_of before) =
     omega (arith, count, length-append part (Recessive ∷ []), length-map before (λ (x : Bit). x.seen)) in
     let parts = append-split (part ++ Recessive ∷ []) z (seen_of before) g.others lengths whole in
@@ -89,17 +99,22 @@ slot_late self_test request c part before h g count =
     subst P (sym (seen_at_slot self_test part before g count)) (part_late request.frame.ext (Recessive ∷ []) h.is_part)
 
 -- a recessive level that is seen dominant before RTR doesn't go well
-pub lost_not_well : (self_test : Bool) (request : Request) (c part : List Level) (before : List Bit) → SentPart request.frame c part →
-    (early : (rtr_place request.frame.ext < plain_count (seen_of before)) → ⊥) → GoesWell self_test part (before ++ recessive_bit Dominant ∷ []) → ⊥
+pub lost_not_well : (self_test : Bool) (request : Request) (c part : List Level) (before : List Bit) →
+    SentPart request.frame c part →
+    (early : (rtr_place request.frame.ext < plain_count (seen_of before)) → ⊥) →
+    GoesWell self_test part (before ++ recessive_bit Dominant ∷ []) → ⊥
 lost_not_well self_test request c part before h early g =
     elim (well_bit self_test part before (recessive_bit Dominant) g) [
-      | inl slot ↦ early (slot_late self_test request c part before h (well_front self_test part before (recessive_bit Dominant ∷ []) g) slot.0)
+      | inl slot ↦ early (slot_late self_test request c part before h
+          (well_front self_test part before (recessive_bit Dominant ∷ []) g) slot.0)
       | inr same ↦ let wrong : Recessive ≡ Dominant = same.1 in cc
     ]
 
 -- nor does what a transmitter's fault is
-pub fails_not_well : (self_test : Bool) (request : Request) (c part : List Level) (before : List Bit) (last : Bit) (cause : Cause) →
-    SentPart request.frame c part → Fails self_test request.frame.ext part before last cause → GoesWell self_test part (before ++ last ∷ []) → ⊥
+pub fails_not_well : (self_test : Bool) (request : Request) (c part : List Level) (before : List Bit) (last : Bit)
+    (cause : Cause) →
+    SentPart request.frame c part → Fails self_test request.frame.ext part before last cause →
+    GoesWell self_test part (before ++ last ∷ []) → ⊥
 fails_not_well self_test request c part before last cause h (no_ack strict site) g =
     elim (well_bit self_test part before (recessive_bit Recessive) g) [
       | inl slot ↦

@@ -42,11 +42,13 @@ record IsBad (self_test : Bool) (part : List Level) (before : List Bit) (bad : B
   within : length before < length part + 10
 
 -- what goes well and begins as what doesn't is no longer than what goes well of it
-no_further : (self_test : Bool) (part : List Level) (before c other more rest : List Bit) (bad : Bit) → IsBad self_test part before bad →
+no_further : (self_test : Bool) (part : List Level) (before c other more rest : List Bit) (bad : Bit) →
+    IsBad self_test part before bad →
     GoesWell self_test part other → other ≡ before ++ c → before ++ bad ∷ more ≡ other ++ rest → c ≡ []
 no_further self_test part before [] other more rest bad h well longer e = refl
 no_further self_test part before (u ∷ c) other more rest bad h well longer e =
-    let all : before ++ bad ∷ more ≡ before ++ (u ∷ (c ++ rest)) = e ∙ ap (λ l. l ++ rest) longer ∙ append_assoc before (u ∷ c) rest in
+    let all : before ++ bad ∷ more ≡ before ++ (u ∷ (c ++ rest)) =
+    e ∙ ap (λ l. l ++ rest) longer ∙ append_assoc before (u ∷ c) rest in
     let after : bad ∷ more ≡ u ∷ (c ++ rest) = append-cancel before (bad ∷ more) (u ∷ (c ++ rest)) all in
     let same : u ≡ bad = cc in
     let joined : other ≡ (before ++ bad ∷ []) ++ c =
@@ -55,15 +57,18 @@ no_further self_test part before (u ∷ c) other more rest bad h well longer e =
     absurd (h.wrong (well_front self_test part (before ++ bad ∷ []) c (subst P joined well)))
 
 -- a list has one such bit
-bad_once : (self_test : Bool) (part : List Level) (before other more rest : List Bit) (bad worse : Bit) → IsBad self_test part before bad →
-    IsBad self_test part other worse → before ++ bad ∷ more ≡ other ++ worse ∷ rest → (before ≡ other) × (bad ≡ worse) × (more ≡ rest)
+bad_once : (self_test : Bool) (part : List Level) (before other more rest : List Bit) (bad worse : Bit) →
+    IsBad self_test part before bad →
+    IsBad self_test part other worse → before ++ bad ∷ more ≡ other ++ worse ∷ rest →
+    (before ≡ other) × (bad ≡ worse) × (more ≡ rest)
 bad_once self_test part before other more rest bad worse h k e =
     let same : before ≡ other = elim (fronts before other (bad ∷ more) (worse ∷ rest) e) [
       | inl longer ↦
           let none = no_further self_test part before longer.0 other more (worse ∷ rest) bad h k.well longer.1 e in
           sym (longer.1 ∙ ap (λ c. before ++ c) none ∙ append-nil before)
       | inr longer ↦
-          let none = no_further self_test part other longer.0 before rest (bad ∷ more) worse k h.well longer.1 (sym e) in
+          let none = no_further self_test part other longer.0 before rest (bad ∷ more) worse k h.well longer.1
+          (sym e) in
           longer.1 ∙ ap (λ c. other ++ c) none ∙ append-nil other
     ] in
     let after : bad ∷ more ≡ worse ∷ rest =
@@ -71,7 +76,8 @@ bad_once self_test part before other more rest bad worse h k e =
     (same, cc, cc)
 
 -- a whole line that goes well has none
-none_in_whole : (self_test : Bool) (part : List Level) (bits before more x : List Bit) (bad : Bit) → GoesWell self_test part bits →
+none_in_whole : (self_test : Bool) (part : List Level) (bits before more x : List Bit) (bad : Bit) →
+    GoesWell self_test part bits →
     length bits ≡ length part + 10 → IsBad self_test part before bad → before ++ bad ∷ more ≡ bits ++ x → ⊥
 none_in_whole self_test part bits before more x bad well count h e =
     let within = h.within in
@@ -86,11 +92,16 @@ none_in_whole self_test part bits before more x bad well count h e =
 -- ---- what there is at that bit
 
 -- the piece that has this bit and these after it: a fault, or the piece of a node that lost arbitration
-data Ends (self_test : Bool) (request : Request) (part : List Level) (before : List Bit) (bad : Bit) : List Bit → Piece → Place → Type 0 where
-  fault : {cause : Cause} {segment : Segment} (stuffed : Bool) → Fails self_test request.frame.ext part before bad cause →
-      IsNext (seen_of before) segment stuffed → Ends self_test request part before bad [] (Fault InTransmission cause segment) AtFlag
-  loss : {more : List Bit} {piece : Piece} {next : Place} (code : ℕ) → bad ≡ recessive_bit Dominant → place_code request.frame.ext (seen_of before) ≡ Some code →
-      Receives false (seen_of before ++ Dominant ∷ []) more piece next → Ends self_test request part before bad more piece next
+data Ends (self_test : Bool) (request : Request) (part : List Level) (before : List Bit) (bad : Bit) : List Bit →
+    Piece → Place → Type 0 where
+  fault : {cause : Cause} {segment : Segment} (stuffed : Bool) →
+      Fails self_test request.frame.ext part before bad cause →
+      IsNext (seen_of before) segment stuffed →
+      Ends self_test request part before bad [] (Fault InTransmission cause segment) AtFlag
+  loss : {more : List Bit} {piece : Piece} {next : Place} (code : ℕ) → bad ≡ recessive_bit Dominant →
+      place_code request.frame.ext (seen_of before) ≡ Some code →
+      Receives false (seen_of before ++ Dominant ∷ []) more piece next →
+      Ends self_test request part before bad more piece next
 
 -- the cause of a fault, by what is driven and what is seen
 abbrev cause_of : Bool → Level → Level → Cause
@@ -101,7 +112,8 @@ cause_of false Recessive Dominant = BitError
 
 -- a fault has that cause
 fails-cause : {self_test ext : Bool} {part : List Level} {before : List Bit} {bad : Bit} {cause : Cause} →
-    Fails self_test ext part before bad cause → cause ≡ cause_of (is_early_stuff ext (seen_of before)) bad.driven bad.seen
+    Fails self_test ext part before bad cause →
+    cause ≡ cause_of (is_early_stuff ext (seen_of before)) bad.driven bad.seen
 fails-cause (no_ack strict site) = refl
 fails-cause (stuff_bit early) = rw early refl
 fails-cause unseen = refl
@@ -109,7 +121,8 @@ fails-cause (overdriven other late none) = rw late refl
 
 -- a fault is no loss of arbitration
 fault_no_loss : {self_test ext : Bool} {part : List Level} {before : List Bit} {bad : Bit} {cause : Cause} (code : ℕ) →
-    Fails self_test ext part before bad cause → bad ≡ recessive_bit Dominant → place_code ext (seen_of before) ≡ Some code → ⊥
+    Fails self_test ext part before bad cause → bad ≡ recessive_bit Dominant →
+    place_code ext (seen_of before) ≡ Some code → ⊥
 fault_no_loss code (no_ack strict site) e some = let wrong : Recessive ≡ Dominant = ap (λ (b : Bit). b.seen) e in cc
 fault_no_loss {ext = ext} {before = before} code (stuff_bit early) e some =
     let one = stuff_early ext (seen_of before) early in
@@ -120,11 +133,13 @@ fault_no_loss code unseen e some = let wrong : Recessive ≡ Dominant = ap (λ (
 fault_no_loss code (overdriven other late none) e some = let wrong = sym none ∙ some in cc
 
 -- of two pieces with the same first bit that doesn't go well neither is a proper front of the other
-ends_once : ReceivesOnce → NextOnce → (self_test : Bool) (request : Request) (part : List Level) (before : List Bit) (bad : Bit)
+ends_once : ReceivesOnce → NextOnce →
+    (self_test : Bool) (request : Request) (part : List Level) (before : List Bit) (bad : Bit)
     (a b x y : List Bit) (p q : Piece) (n m : Place) →
     Ends self_test request part before bad a p n → Ends self_test request part before bad b q m → a ++ x ≡ b ++ y →
     (a ≡ b) × (p ≡ q) × (n ≡ m)
-ends_once receives next self_test request part before bad a b x y p q n m (fault {segment = s} u h k) (fault {segment = t} v i j) e =
+ends_once receives next self_test request part before bad a b x y p q n m (fault {segment = s} u h k)
+    (fault {segment = t} v i j) e =
     let causes = fails-cause h ∙ sym (fails-cause i) in
     let segments = next (seen_of before) s t u v k j in
     let same = segments.0 in
@@ -140,9 +155,12 @@ ends_once receives next self_test request part before bad a b x y p q n m (loss 
 
 -- a transmitter's piece, by the first bit that doesn't go well
 data Way (self_test : Bool) (request : Request) (part : List Level) : List Bit → Piece → Place → Type 0 where
-  whole : {bits : List Bit} → GoesWell self_test part bits → length bits ≡ length part + 10 → Way self_test request part bits (Transmission request) AtInterframeSpace
-  broken : {bits : List Bit} {piece : Piece} {next : Place} (before more : List Bit) (bad : Bit) → IsBad self_test part before bad →
-      bits ≡ before ++ bad ∷ more → Ends self_test request part before bad more piece next → Way self_test request part bits piece next
+  whole : {bits : List Bit} → GoesWell self_test part bits → length bits ≡ length part + 10 →
+      Way self_test request part bits (Transmission request) AtInterframeSpace
+  broken : {bits : List Bit} {piece : Piece} {next : Place} (before more : List Bit) (bad : Bit) →
+      IsBad self_test part before bad →
+      bits ≡ before ++ bad ∷ more → Ends self_test request part before bad more piece next →
+      Way self_test request part bits piece next
 
 -- the same of two ways along one part
 ways_once : ReceivesOnce → NextOnce → (self_test : Bool) (request : Request) (part : List Level) (a b x y : List Bit)
@@ -152,14 +170,18 @@ ways_once receives next self_test request part a b x y p q n m (whole g count) (
     let parts = append-split a x b y (count ∙ sym other) e in
     (parts.0, refl, refl)
 ways_once receives next self_test request part a b x y p q n m (whole g count) (broken before more bad h at ends) e =
-    let split : before ++ bad ∷ (more ++ y) ≡ a ++ x = sym (append_assoc before (bad ∷ more) y) ∙ ap (λ l. l ++ y) (sym at) ∙ sym e in
+    let split : before ++ bad ∷ (more ++ y) ≡ a ++ x =
+    sym (append_assoc before (bad ∷ more) y) ∙ ap (λ l. l ++ y) (sym at) ∙ sym e in
     absurd (none_in_whole self_test part a before (more ++ y) x bad g count h split)
 ways_once receives next self_test request part a b x y p q n m (broken before more bad h at ends) (whole g count) e =
-    let split : before ++ bad ∷ (more ++ x) ≡ b ++ y = sym (append_assoc before (bad ∷ more) x) ∙ ap (λ l. l ++ x) (sym at) ∙ e in
+    let split : before ++ bad ∷ (more ++ x) ≡ b ++ y =
+    sym (append_assoc before (bad ∷ more) x) ∙ ap (λ l. l ++ x) (sym at) ∙ e in
     absurd (none_in_whole self_test part b before (more ++ x) y bad g count h split)
-ways_once receives next self_test request part a b x y p q n m (broken before more bad h at ends) (broken other rest worse k there last) e =
+ways_once receives next self_test request part a b x y p q n m (broken before more bad h at ends)
+    (broken other rest worse k there last) e =
     let split : before ++ bad ∷ (more ++ x) ≡ other ++ worse ∷ (rest ++ y) =
-    sym (append_assoc before (bad ∷ more) x) ∙ ap (λ l. l ++ x) (sym at) ∙ e ∙ ap (λ l. l ++ y) there ∙ append_assoc other (worse ∷ rest) y in
+    sym (append_assoc before (bad ∷ more) x) ∙ ap (λ l. l ++ x) (sym at) ∙ e ∙ ap (λ l. l ++ y) there
+    ∙ append_assoc other (worse ∷ rest) y in
     let same = bad_once self_test part before other (more ++ x) (rest ++ y) bad worse h k split in
     let P : List Bit → Type 0 = λ l. Ends self_test request part l worse rest q m in
     let Q : Bit → Type 0 = λ v. Ends self_test request part before v rest q m in
@@ -199,7 +221,13 @@ way self_test request d line bits p n h (sending k) =
       driven = ap (λ l. l ++ tail Recessive) one.1 ∙ sym k.driven ∙ sym (append-nil (driven_of bits));
       seen = ap (λ l. l ++ tail k.ack) one.1 ∙ sym k.seen ∙ sym (append-nil (seen_of bits));
     })
-    (omega (arith, ap length driven, ap length one.1, length-append k.part (tail Recessive), length-map bits (λ (b : Bit). b.driven)))
+    (omega (
+      arith,
+      ap length driven,
+      ap length one.1,
+      length-append k.part (tail Recessive),
+      length-map bits (λ (b : Bit). b.driven),
+    ))
 way self_test request d line bits p n h (failed {cause = cause} k) =
     let one = sent_part_once request.frame d k.crc line k.part h k.is_part in
     let P : List Level → Type 0 = λ l. GoesWell self_test l k.before in
@@ -245,9 +273,12 @@ part_of self_test request bits p n (lost k) = record { check = k.crc; part = k.p
 
 -- of two transmitter's pieces that begin alike neither is a proper front of the other, and equal lists are the same
 -- piece
-pub sends_once : ReceivesOnce → NextOnce → (self_test : Bool) (request : Request) (a b x y : List Bit) (p q : Piece) (n m : Place) →
-    Transmits self_test request a p n → Transmits self_test request b q m → a ++ x ≡ b ++ y → (a ≡ b) × (p ≡ q) × (n ≡ m)
+pub sends_once : ReceivesOnce → NextOnce →
+    (self_test : Bool) (request : Request) (a b x y : List Bit) (p q : Piece) (n m : Place) →
+    Transmits self_test request a p n → Transmits self_test request b q m → a ++ x ≡ b ++ y →
+    (a ≡ b) × (p ≡ q) × (n ≡ m)
 sends_once receives next self_test request a b x y p q n m h k e =
     let line = part_of self_test request a p n h in
     ways_once receives next self_test request line.part a b x y p q n m
-    (way self_test request line.check line.part a p n line.is_sent h) (way self_test request line.check line.part b q m line.is_sent k) e
+    (way self_test request line.check line.part a p n line.is_sent h)
+    (way self_test request line.check line.part b q m line.is_sent k) e

@@ -35,7 +35,8 @@ use Rattle.can_node.proofs.Transmission.WrongBits.{IsFine, cause_fails, none_fin
 use Rattle.can_node.proofs.Transmission.WrongBits.IsFine.{loses, fits_slot, is_seen}
 
 -- a transmitter drives the next level of its line, and this is what is found of the level that it sees
-pub record IsOwnBit (c now : ContextValue) (place : Place) (bits : List Bit) (driven seen : Level) (self_test slot early lost : Bool) (cause : Option Cause) : Type 0 where
+pub record IsOwnBit (c now : ContextValue) (place : Place) (bits : List Bit) (driven seen : Level)
+    (self_test slot early lost : Bool) (cause : Option Cause) : Type 0 where
   pub site : IsFramePlace place
   pub same : self_test ≡ c.self_test
   pub transmitting : IsTransmitting c now place bits
@@ -46,58 +47,75 @@ pub record IsOwnBit (c now : ContextValue) (place : Place) (bits : List Bit) (dr
   pub cause_is : cause_of_bit driven seen (kind_of slot early lost) self_test ≡ cause
 
 -- the same from what the code finds
-pub own_bit_by : {c now : ContextValue} {place : Place} {bits : List Bit} {driven seen : Level} {self_test lost ext : Bool} {kind : OwnBit} {cause : Option Cause}
-    (request : Request) → IsFramePlace place → self_test ≡ c.self_test → (h : IsTransmitting c now place bits) → request ≡ h.request →
-    TransmitsNext h.request (frame_bits place bits) driven → lost ≡ is_some (lost_by (Some h.request) (seen_of (frame_bits place bits)) driven seen) →
+pub own_bit_by : {c now : ContextValue} {place : Place} {bits : List Bit} {driven seen : Level}
+    {self_test lost ext : Bool} {kind : OwnBit} {cause : Option Cause}
+    (request : Request) → IsFramePlace place → self_test ≡ c.self_test → (h : IsTransmitting c now place bits) →
+    request ≡ h.request →
+    TransmitsNext h.request (frame_bits place bits) driven →
+    lost ≡ is_some (lost_by (Some h.request) (seen_of (frame_bits place bits)) driven seen) →
     ext ≡ request.frame.ext →
-    (slot : Bool) × (IsTrue slot ↔ IsAckDue (seen_of (frame_bits place bits))) × (kind ≡ kind_of slot (is_early_stuff ext (seen_of (frame_bits place bits))) lost) →
+    (slot : Bool) × (IsTrue slot ↔ IsAckDue (seen_of (frame_bits place bits)))
+    × (kind ≡ kind_of slot (is_early_stuff ext (seen_of (frame_bits place bits))) lost) →
     cause ≡ cause_of_bit driven seen kind self_test →
-    (slot : Bool) × (told : IsOwnBit c now place bits driven seen self_test slot (is_early_stuff ext (seen_of (frame_bits place bits))) lost cause)
+    (slot : Bool) × (told : IsOwnBit c now place bits driven seen self_test slot
+    (is_early_stuff ext (seen_of (frame_bits place bits))) lost cause)
     × (told.transmitting.request ≡ h.request)
-own_bit_by {place = place} {bits = bits} {driven = driven} {seen = seen} {self_test = self_test} request site same h one sends lost format own wrong = (
-  own.0,
-  record {
-    site = site;
-    same = same;
-    transmitting = h;
-    sends = sends;
-    early_is = ap (λ e. is_early_stuff e (seen_of (frame_bits place bits))) (format ∙ ap (λ (r : Request). r.frame.ext) one);
-    lost_is = lost;
-    slot_is = own.1;
-    cause_is = sym (wrong ∙ ap (λ k. cause_of_bit driven seen k self_test) own.2);
-  },
-  refl,
-)
+own_bit_by {place = place} {bits = bits} {driven = driven} {seen = seen} {self_test = self_test} request site same h one
+    sends lost format own wrong = (
+      own.0,
+      record {
+        site = site;
+        same = same;
+        transmitting = h;
+        sends = sends;
+        early_is = ap (λ e. is_early_stuff e (seen_of (frame_bits place bits)))
+            (format ∙ ap (λ (r : Request). r.frame.ext) one);
+        lost_is = lost;
+        slot_is = own.1;
+        cause_is = sym (wrong ∙ ap (λ k. cause_of_bit driven seen k self_test) own.2);
+      },
+      refl,
+    )
 
 -- the driven level is the next one of its line
-pub line_next : {c now : ContextValue} {place : Place} {bits : List Bit} {x : Level} (h : IsTransmitting c now place bits) (s : TransmitsNext h.request (frame_bits place bits) x) →
+pub line_next : {c now : ContextValue} {place : Place} {bits : List Bit} {x : Level}
+    (h : IsTransmitting c now place bits) (s : TransmitsNext h.request (frame_bits place bits) x) →
     h.part ++ tail Recessive ≡ driven_of (frame_bits place bits) ++ x ∷ s.rest
-line_next h s = ap (λ l. l ++ tail Recessive) (sent_part_once h.request.frame h.check s.check h.part s.part h.is_part s.is_part).1 ∙ s.whole
+line_next h s = ap (λ l. l ++ tail Recessive)
+    (sent_part_once h.request.frame h.check s.check h.part s.part h.is_part s.is_part).1 ∙ s.whole
 
 -- the ACK slot is where one is due
-slot_here : {c now : ContextValue} {place : Place} {bits : List Bit} {slot : Bool} (h : IsTransmitting c now place bits) → IsTrue slot ↔ IsAckDue (seen_of (frame_bits place bits)) →
+slot_here : {c now : ContextValue} {place : Place} {bits : List Bit} {slot : Bool}
+    (h : IsTransmitting c now place bits) → IsTrue slot ↔ IsAckDue (seen_of (frame_bits place bits)) →
     slot ≡ true → length (frame_bits place bits) ≡ length h.part + 1
 slot_here {c = c} {place = place} {bits = bits} h due e =
     slot_at_due c.self_test h.request.frame h.check h.part (frame_bits place bits) h.is_part h.well (due.0 e)
 
-here_slot : {c now : ContextValue} {place : Place} {bits : List Bit} {slot : Bool} (h : IsTransmitting c now place bits) → IsTrue slot ↔ IsAckDue (seen_of (frame_bits place bits)) →
+here_slot : {c now : ContextValue} {place : Place} {bits : List Bit} {slot : Bool}
+    (h : IsTransmitting c now place bits) → IsTrue slot ↔ IsAckDue (seen_of (frame_bits place bits)) →
     length (frame_bits place bits) ≡ length h.part + 1 → slot ≡ true
 here_slot {c = c} {place = place} {bits = bits} h due count =
     due.1 (due_at_slot c.self_test h.request.frame h.check h.part (frame_bits place bits) h.is_part h.well count)
 
 -- ---- a fault
-pub transmits_fault : {c now : ContextValue} {place : Place} {bits : List Bit} {driven seen : Level} {self_test slot early lost : Bool} {cause : Cause} (segment : Segment) →
+pub transmits_fault : {c now : ContextValue} {place : Place} {bits : List Bit} {driven seen : Level}
+    {self_test slot early lost : Bool} {cause : Cause} (segment : Segment) →
     IsOwnBit c now place bits driven seen self_test slot early lost (Some cause) →
-    (IsReadable (seen_of (frame_bits place bits)) → (stuff : Bool) × IsNext (seen_of (frame_bits place bits)) segment stuff) →
-    (lost ≡ false) × Row c place (bits ++ record { driven = driven; seen = seen } ∷ []) (Fault InTransmission cause segment) AtFlag
-transmits_fault {c = c} {place = place} {bits = bits} {driven = driven} {seen = seen} {slot = slot} {early = early} {lost = lost} {cause = cause} segment t site =
+    (IsReadable (seen_of (frame_bits place bits)) →
+    (stuff : Bool) × IsNext (seen_of (frame_bits place bits)) segment stuff) →
+    (lost ≡ false) × Row c place (bits ++ record { driven = driven; seen = seen } ∷ [])
+    (Fault InTransmission cause segment) AtFlag
+transmits_fault {c = c} {place = place} {bits = bits} {driven = driven} {seen = seen} {slot = slot} {early = early}
+    {lost = lost} {cause = cause} segment t site =
     let h = t.transmitting in
     let b : Bit = record { driven = driven; seen = seen } in
     let before : List Bit = frame_bits place bits in
     let wrong = ap (λ s. cause_of_bit driven seen (kind_of slot early lost) s) (sym t.same) ∙ t.cause_is in
-    let fails = cause_fails h.request h.part before driven seen c.self_test slot early lost cause (slot_here h t.slot_is) (here_slot h t.slot_is) t.early_is t.lost_is wrong in
+    let fails = cause_fails h.request h.part before driven seen c.self_test slot early lost cause
+    (slot_here h t.slot_is) (here_slot h t.slot_is) t.early_is t.lost_is wrong in
     let next = site (well_readable c.self_test h.request.frame h.check h.part before h.is_part h.well) in
-    let all : h.part ++ tail Recessive ≡ driven_of (before ++ b ∷ []) ++ t.sends.rest = line_next h t.sends ∙ sym (driven_push before b t.sends.rest) in
+    let all : h.part ++ tail Recessive ≡ driven_of (before ++ b ∷ []) ++ t.sends.rest =
+    line_next h t.sends ∙ sym (driven_push before b t.sends.rest) in
     let P : List Bit → Type 0 = λ l. Transmits c.self_test h.request l (Fault InTransmission cause segment) AtFlag in
     let sends = failed
     (record {
@@ -113,25 +131,32 @@ transmits_fault {c = c} {place = place} {bits = bits} {driven = driven} {seen = 
       fails = fails.1;
       stuff_bit = next.0;
       site = next.1;
-    }) in
-    (fails.0, row_own c place h.request (bits ++ b ∷ []) (Fault InTransmission cause segment) AtFlag t.site h.sent (subst P (sym (frame_more place bits (b ∷ []) t.site)) sends))
+    }) in (
+      fails.0,
+      row_own c place h.request (bits ++ b ∷ []) (Fault InTransmission cause segment) AtFlag t.site h.sent
+          (subst P (sym (frame_more place bits (b ∷ []) t.site)) sends),
+    )
 
 -- ---- no fault
 
 -- what is fine and no loss goes well
-fine_well : {ext self_test slot : Bool} {part : List Level} (before : List Bit) (driven seen : Level) (rest : List Level) (g : GoesWell self_test part before) →
+fine_well : {ext self_test slot : Bool} {part : List Level} (before : List Bit) (driven seen : Level)
+    (rest : List Level) (g : GoesWell self_test part before) →
     (slot ≡ true → length before ≡ length part + 1) → (length before ≡ length part + 1 → slot ≡ true) →
     part ++ tail Recessive ≡ driven_of before ++ driven ∷ rest → IsFine ext before driven seen self_test slot false →
     IsOneMore self_test part (before ++ record { driven = driven; seen = seen } ∷ []) rest
 fine_well {self_test = self_test} {part = part} before driven seen rest g due only e (fits_slot here fits) =
     well_slot self_test part before (record { driven = driven; seen = seen }) rest g e (due here) fits
 fine_well {self_test = self_test} {part = part} before driven seen rest g due only e (is_seen other same) =
-    well_next self_test part before (record { driven = driven; seen = seen }) rest g e (λ here. (let wrong : false ≡ true = sym other ∙ only here in cc)) same
+    well_next self_test part before (record { driven = driven; seen = seen }) rest g e
+    (λ here. (let wrong : false ≡ true = sym other ∙ only here in cc)) same
 
 -- so it does, where nothing is wrong and arbitration isn't lost
-own_bit_well : {c now : ContextValue} {place : Place} {bits : List Bit} {driven seen : Level} {self_test slot early : Bool}
+own_bit_well : {c now : ContextValue} {place : Place} {bits : List Bit} {driven seen : Level}
+    {self_test slot early : Bool}
     (t : IsOwnBit c now place bits driven seen self_test slot early false None) →
-    IsOneMore c.self_test t.transmitting.part (frame_bits place (bits ++ record { driven = driven; seen = seen } ∷ [])) t.sends.rest
+    IsOneMore c.self_test t.transmitting.part (frame_bits place (bits ++ record { driven = driven; seen = seen } ∷ []))
+    t.sends.rest
 own_bit_well {c = c} {place = place} {bits = bits} {driven = driven} {seen = seen} {slot = slot} {early = early} t =
     let h = t.transmitting in
     let b : Bit = record { driven = driven; seen = seen } in
@@ -140,11 +165,14 @@ own_bit_well {c = c} {place = place} {bits = bits} {driven = driven} {seen = see
     let fine = none_fine h.request before driven seen c.self_test slot early false t.lost_is right in
     let P : List Bit → Type 0 = λ l. IsOneMore c.self_test h.part l t.sends.rest in
     subst P (sym (frame_more place bits (b ∷ []) t.site))
-    (fine_well before driven seen t.sends.rest h.well (slot_here h t.slot_is) (here_slot h t.slot_is) (line_next h t.sends) fine)
+    (fine_well before driven seen t.sends.rest h.well (slot_here h t.slot_is) (here_slot h t.slot_is)
+    (line_next h t.sends) fine)
 
 -- the frame goes on
-pub transmits_more : {c now : ContextValue} {place : Place} {bits : List Bit} {driven seen : Level} {self_test slot early : Bool} →
-    IsOwnBit c now place bits driven seen self_test slot early false None → (IsOver (seen_of (frame_bits place bits) ++ seen ∷ []) → ⊥) →
+pub transmits_more : {c now : ContextValue} {place : Place} {bits : List Bit} {driven seen : Level}
+    {self_test slot early : Bool} →
+    IsOwnBit c now place bits driven seen self_test slot early false None →
+    (IsOver (seen_of (frame_bits place bits) ++ seen ∷ []) → ⊥) →
     IsTransmitting c now place (bits ++ record { driven = driven; seen = seen } ∷ [])
 transmits_more {c = c} {place = place} {bits = bits} {driven = driven} {seen = seen} t unended =
     let h = t.transmitting in
@@ -161,21 +189,26 @@ transmits_more {c = c} {place = place} {bits = bits} {driven = driven} {seen = s
       is_part = h.is_part;
       well = one.well;
       more = λ none.
-          let over = over_at_end c.self_test h.request.frame h.check h.part (frame_bits place (bits ++ b ∷ [])) h.is_part one.well none in
+          let over = over_at_end c.self_test h.request.frame h.check h.part (frame_bits place (bits ++ b ∷ []))
+          h.is_part one.well none in
           unended (subst P (frame_seen place bits b t.site) over);
     }
 
 -- with the last level of its line it is sent
-own_bit_sent : {c now : ContextValue} {place : Place} {bits : List Bit} {driven seen : Level} {self_test slot early : Bool} →
-    (t : IsOwnBit c now place bits driven seen self_test slot early false None) → IsOver (seen_of (frame_bits place bits) ++ seen ∷ []) →
-    Row c place (bits ++ record { driven = driven; seen = seen } ∷ []) (Transmission t.transmitting.request) AtInterframeSpace
+own_bit_sent : {c now : ContextValue} {place : Place} {bits : List Bit} {driven seen : Level}
+    {self_test slot early : Bool} →
+    (t : IsOwnBit c now place bits driven seen self_test slot early false None) →
+    IsOver (seen_of (frame_bits place bits) ++ seen ∷ []) →
+    Row c place (bits ++ record { driven = driven; seen = seen } ∷ []) (Transmission t.transmitting.request)
+    AtInterframeSpace
 own_bit_sent {c = c} {place = place} {bits = bits} {driven = driven} {seen = seen} t over =
     let h = t.transmitting in
     let b : Bit = record { driven = driven; seen = seen } in
     let all : List Bit = frame_bits place (bits ++ b ∷ []) in
     let g = (own_bit_well t).well in
     let P : List Level → Type 0 = λ l. IsOver l in
-    let none = end_at_over c.self_test h.request.frame h.check h.part all h.is_part g (subst P (sym (frame_seen place bits b t.site)) over) in
+    let none = end_at_over c.self_test h.request.frame h.check h.part all h.is_part g
+    (subst P (sym (frame_seen place bits b t.site)) over) in
     let unseen : g.others ≡ [] = nil_from_length g.others (as_much_left c.self_test h.part all g ∙ ap length none) in
     let sends : Transmits c.self_test h.request all (Transmission h.request) AtInterframeSpace =
     sends_all h all g.ack g.fits
@@ -192,30 +225,45 @@ record IsLost (ext : Bool) (l : List Level) (driven seen : Level) : Type 0 where
   sees : seen ≡ Dominant
   some : place_code ext l ≡ Some code
 
-fine_lost : {ext self_test slot : Bool} (before : List Bit) (driven seen : Level) → IsFine ext before driven seen self_test slot true → IsLost ext (seen_of before) driven seen
+fine_lost : {ext self_test slot : Bool} (before : List Bit) (driven seen : Level) →
+    IsFine ext before driven seen self_test slot true → IsLost ext (seen_of before) driven seen
 fine_lost before driven seen (loses code d s e) = record { code = code; drives = d; sees = s; some = e }
 
-own_bit_lost : {c now : ContextValue} {place : Place} {bits : List Bit} {driven seen : Level} {self_test slot early : Bool} (t : IsOwnBit c now place bits driven seen self_test slot early true None) →
+own_bit_lost : {c now : ContextValue} {place : Place} {bits : List Bit} {driven seen : Level}
+    {self_test slot early : Bool} (t : IsOwnBit c now place bits driven seen self_test slot early true None) →
     IsLost t.transmitting.request.frame.ext (seen_of (frame_bits place bits)) driven seen
-own_bit_lost {place = place} {bits = bits} {driven = driven} {seen = seen} {self_test = self_test} {slot = slot} {early = early} t =
-    fine_lost (frame_bits place bits) driven seen (none_fine t.transmitting.request (frame_bits place bits) driven seen self_test slot early true t.lost_is t.cause_is)
+own_bit_lost {place = place} {bits = bits} {driven = driven} {seen = seen} {self_test = self_test} {slot = slot}
+    {early = early} t =
+    fine_lost (frame_bits place bits) driven seen
+    (none_fine t.transmitting.request (frame_bits place bits) driven seen self_test slot early true t.lost_is
+    t.cause_is)
 
 -- a whole line has come
-pub transmits_sent : {c now : ContextValue} {place : Place} {bits : List Bit} {driven seen : Level} {self_test slot early : Bool} (lost whole : Bool) →
-    (t : IsOwnBit c now place bits driven seen self_test slot early lost None) → (request : Request) → request ≡ t.transmitting.request →
+pub transmits_sent : {c now : ContextValue} {place : Place} {bits : List Bit} {driven seen : Level}
+    {self_test slot early : Bool} (lost whole : Bool) →
+    (t : IsOwnBit c now place bits driven seen self_test slot early lost None) → (request : Request) →
+    request ≡ t.transmitting.request →
     IsTrue whole ↔ IsOver (seen_of (frame_bits place bits) ++ seen ∷ []) → whole ≡ true →
-    (lost ≡ false) × Row c place (bits ++ record { driven = driven; seen = seen } ∷ []) (Transmission request) AtInterframeSpace
-transmits_sent {c = c} {place = place} {bits = bits} {driven = driven} {seen = seen} false whole t request same over here =
-    let P : Request → Type 0 = λ r. Row c place (bits ++ record { driven = driven; seen = seen } ∷ []) (Transmission r) AtInterframeSpace in
+    (lost ≡ false) × Row c place (bits ++ record { driven = driven; seen = seen } ∷ []) (Transmission request)
+    AtInterframeSpace
+transmits_sent {c = c} {place = place} {bits = bits} {driven = driven} {seen = seen} false whole t request same over
+    here =
+    let P : Request → Type 0 = λ r. Row c place (bits ++ record { driven = driven; seen = seen } ∷ []) (Transmission r)
+    AtInterframeSpace in
     (refl, subst P (sym same) (own_bit_sent t (over.0 here)))
 transmits_sent {c = c} {now = now} {place = place} {bits = bits} {seen = seen} true whole t request same over here =
-    let h = own_bit_lost t in absurd (lost_not_over c now place bits h.code seen t.transmitting h.sees h.some (over.0 here))
+    let h = own_bit_lost t in absurd
+    (lost_not_over c now place bits h.code seen t.transmitting h.sees h.some (over.0 here))
 
 -- more of it is to come
-pub transmits_on : {c now : ContextValue} {place : Place} {bits : List Bit} {driven seen : Level} {self_test slot early : Bool} (lost whole : Bool) →
-    IsOwnBit c now place bits driven seen self_test slot early lost None → IsTrue whole ↔ IsOver (seen_of (frame_bits place bits) ++ seen ∷ []) → whole ≡ false →
+pub transmits_on : {c now : ContextValue} {place : Place} {bits : List Bit} {driven seen : Level}
+    {self_test slot early : Bool} (lost whole : Bool) →
+    IsOwnBit c now place bits driven seen self_test slot early lost None →
+    IsTrue whole ↔ IsOver (seen_of (frame_bits place bits) ++ seen ∷ []) → whole ≡ false →
     GoesOnAs lost c now place (bits ++ record { driven = driven; seen = seen } ∷ [])
-transmits_on false whole t over here = transmits_more t (λ all. (let wrong : true ≡ false = sym (over.1 all) ∙ here in cc))
+transmits_on false whole t over here =
+    transmits_more t (λ all. (let wrong : true ≡ false = sym (over.1 all) ∙ here in cc))
 transmits_on {c = c} {now = now} {place = place} {bits = bits} {driven = driven} {seen = seen} true whole t over here =
     let h = own_bit_lost t in
-    receives_on c now place bits (record { driven = driven; seen = seen }) h.code t.sends.rest t.site t.transmitting (line_next t.transmitting t.sends) h.drives h.sees h.some
+    receives_on c now place bits (record { driven = driven; seen = seen }) h.code t.sends.rest t.site t.transmitting
+    (line_next t.transmitting t.sends) h.drives h.sees h.some

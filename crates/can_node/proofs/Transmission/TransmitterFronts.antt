@@ -1,5 +1,5 @@
 -- A transmitter within its frame: how it begins, what it drives next, and that it may go on to the end.
-use Rattle.std.proofs.Common.{◌≡◌, ◌≢◌, inl, inr, false, Some, List, [], ◌∷◌, ◌++◌, length, refl, ap, sym, subst, ◌∙◌, arith, append_assoc}
+use Rattle.std.proofs.Common.{◌≡◌, ◌≢◌, inl, inr, Bool, false, Option, Some, List, [], ◌∷◌, ◌++◌, length, refl, ap, sym, subst, ◌∙◌, arith, append_assoc}
 use Rattle.std.proofs.lemmas.List.{length-append, length-map, map-append}
 use Rattle.can_frame.specs.Frame.{IsFrame}
 use Rattle.can_bits.specs.declared.level.Level.{Level}
@@ -34,9 +34,11 @@ some_tail : (front : List Level) → front ++ tail Recessive ≢ []
 some_tail front e = omega (arith, ap length e, length-append front (tail Recessive))
 
 -- of the line of its frame these levels came: none, or SOF
-begun_transmitting : (c now : ContextValue) (place : Place) (request : Request) (check part rest : List Level) → SentPart request.frame check part →
+begun_transmitting : (c now : ContextValue) (place : Place) (request : Request) (check part rest : List Level) →
+    SentPart request.frame check part →
     sent_at c place ≡ Some request → now.held ≡ Some request → c.listen ≡ false →
-    part ≡ driven_of (frame_bits place []) ++ rest → part ≡ seen_of (frame_bits place []) ++ rest → IsTransmitting c now place []
+    part ≡ driven_of (frame_bits place []) ++ rest → part ≡ seen_of (frame_bits place []) ++ rest →
+    IsTransmitting c now place []
 begun_transmitting c now place request check part rest is_part sent held speaks drives sees = record {
   request = request;
   sent = sent;
@@ -50,23 +52,26 @@ begun_transmitting c now place request check part rest is_part sent held speaks 
     fits = dominant_fits c.self_test;
     rest = rest ++ tail Recessive;
     others = rest ++ tail Dominant;
-    driven = ap (λ l. l ++ tail Recessive) drives ∙ append_assoc (driven_of (frame_bits place [])) rest (tail Recessive);
+    driven = ap (λ l. l ++ tail Recessive) drives
+        ∙ append_assoc (driven_of (frame_bits place [])) rest (tail Recessive);
     seen = ap (λ l. l ++ tail Dominant) sees ∙ append_assoc (seen_of (frame_bits place [])) rest (tail Dominant);
   };
   more = some_tail rest;
 }
 
 -- a request is to be sent where the bus is idle
-pub transmits_from_idle : (c now : ContextValue) (request : Request) → IsFrame request.frame → sent_at c AtIdle ≡ Some request → now.held ≡ Some request → c.listen ≡ false →
+pub transmits_from_idle : (c now : ContextValue) (request : Request) → IsFrame request.frame →
+    sent_at c AtIdle ≡ Some request → now.held ≡ Some request → c.listen ≡ false →
     IsTransmitting c now AtIdle []
 transmits_from_idle c now request frame sent held speaks =
     let (check, part, is_part) = sent_part_of request.frame frame in
     begun_transmitting c now AtIdle request check part part is_part sent held speaks refl refl
 
 -- or interframe space ended with SOF
-pub transmits_from_pause : (c now : ContextValue) (request : Request) → IsFrame request.frame → sent_at c AfterSof ≡ Some request → now.held ≡ Some request → c.listen ≡ false →
+pub transmits_after_sof : (c now : ContextValue) (request : Request) → IsFrame request.frame →
+    sent_at c AfterSof ≡ Some request → now.held ≡ Some request → c.listen ≡ false →
     IsTransmitting c now AfterSof []
-transmits_from_pause c now request frame sent held speaks =
+transmits_after_sof c now request frame sent held speaks =
     let (check, part, is_part) = sent_part_of request.frame frame in
     let (rest, begins) = part_begins part is_part.is_part in
     begun_transmitting c now AfterSof request check part rest is_part sent held speaks begins begins
@@ -75,7 +80,13 @@ transmits_from_pause c now request frame sent held speaks =
 pub sends_start : (c now : ContextValue) (h : IsTransmitting c now AtIdle []) → TransmitsNext h.request [] Dominant
 sends_start c now h =
     let (rest, begins) = part_begins h.part h.is_part.is_part in
-    record { check = h.check; part = h.part; rest = rest ++ tail Recessive; is_part = h.is_part; whole = ap (λ l. l ++ tail Recessive) begins }
+    record {
+      check = h.check;
+      part = h.part;
+      rest = rest ++ tail Recessive;
+      is_part = h.is_part;
+      whole = ap (λ l. l ++ tail Recessive) begins;
+    }
 
 -- ---- the next level
 
@@ -94,14 +105,16 @@ pub record HasNext (request : Request) (bits : List Bit) : Type 0 where
   pub count : length (driven_of bits) ≡ length (seen_of bits)
   pub sends : TransmitsNext request bits level
 
-pub transmitting_next : (c now : ContextValue) (place : Place) (bits : List Bit) (h : IsTransmitting c now place bits) → HasNext h.request (frame_bits place bits)
+pub transmitting_next : (c now : ContextValue) (place : Place) (bits : List Bit) (h : IsTransmitting c now place bits) →
+    HasNext h.request (frame_bits place bits)
 transmitting_next c now place bits h =
     let g = h.well in
     let before : List Bit = frame_bits place bits in
     elim (cases_list g.rest) [
       | inl none ↦ absurd (h.more none)
       | inr some ↦
-          let driven : h.part ++ tail Recessive ≡ driven_of before ++ some.0 ∷ some.1 = g.driven ∙ ap (λ l. driven_of before ++ l) some.2 in
+          let driven : h.part ++ tail Recessive ≡ driven_of before ++ some.0 ∷ some.1 =
+          g.driven ∙ ap (λ l. driven_of before ++ l) some.2 in
           record {
             level = some.0;
             ack = g.ack;
@@ -118,11 +131,13 @@ transmitting_next c now place bits h =
           }
     ]
 
-pub drives_next : (c now : ContextValue) (place : Place) (bits : List Bit) (h : IsTransmitting c now place bits) → (x : Level) × TransmitsNext h.request (frame_bits place bits) x
+pub drives_next : (c now : ContextValue) (place : Place) (bits : List Bit) (h : IsTransmitting c now place bits) →
+    (x : Level) × TransmitsNext h.request (frame_bits place bits) x
 drives_next c now place bits h = let next = transmitting_next c now place bits h in (next.level, next.sends)
 
 -- what a transmitter drives within its frame is that level
-pub drives_sends : (c now : ContextValue) (place : Place) (bits : List Bit) (x : Level) (h : IsTransmitting c now place bits) → FrameDrives Transmitter now (frame_bits place bits) x →
+pub drives_sends : (c now : ContextValue) (place : Place) (bits : List Bit) (x : Level)
+    (h : IsTransmitting c now place bits) → FrameDrives Transmitter now (frame_bits place bits) x →
     TransmitsNext h.request (frame_bits place bits) x
 drives_sends c now place bits x h (request, held, sends) =
     let whole : Some request ≡ Some h.request = sym held ∙ h.held in
@@ -130,12 +145,15 @@ drives_sends c now place bits x h (request, held, sends) =
     let P : Request → Type 0 = λ r. TransmitsNext r (frame_bits place bits) x in
     subst P same sends
 
--- nothing else of the context counts than the request that is held
-pub transmitting_kept : (c now other : ContextValue) (place : Place) (bits : List Bit) → other.held ≡ now.held → IsTransmitting c now place bits → IsTransmitting c other place bits
-transmitting_kept c now other place bits same h = record {
+-- nothing else of the context counts than the request that is held, and the one that the piece began with
+pub transmitting_changed : (c now other : ContextValue) (held : Option Request) (marked : Bool) (place : Place)
+    (bits : List Bit) (h : IsTransmitting c now place bits) →
+    sent_at (record c { held = held; aborted = marked }) place ≡ Some h.request → other.held ≡ Some h.request →
+    IsTransmitting (record c { held = held; aborted = marked }) other place bits
+transmitting_changed c now other held marked place bits h sent holds = record {
   request = h.request;
-  sent = h.sent;
-  held = same ∙ h.held;
+  sent = sent;
+  held = holds;
   speaks = h.speaks;
   check = h.check;
   part = h.part;
@@ -143,6 +161,11 @@ transmitting_kept c now other place bits same h = record {
   well = h.well;
   more = h.more;
 }
+
+pub transmitting_kept : (c now other : ContextValue) (place : Place) (bits : List Bit) → other.held ≡ now.held →
+    IsTransmitting c now place bits → IsTransmitting c other place bits
+transmitting_kept c now other place bits same h =
+    transmitting_changed c now other c.held c.aborted place bits h h.sent (same ∙ h.held)
 
 -- ---- the rest
 
@@ -164,14 +187,24 @@ bits_seen (x ∷ driven) [] e = absurd (omega (arith, e))
 bits_seen (x ∷ driven) (y ∷ seen) e = ap (λ l. y ∷ l) (bits_seen driven seen (omega (arith, e)))
 
 -- its whole line is sent
-pub sends_all : {c now : ContextValue} {place : Place} {bits : List Bit} (h : IsTransmitting c now place bits) (all : List Bit) (ack : Level) →
+pub sends_all : {c now : ContextValue} {place : Place} {bits : List Bit} (h : IsTransmitting c now place bits)
+    (all : List Bit) (ack : Level) →
     AckFits c.self_test ack → driven_of all ≡ h.part ++ tail Recessive → seen_of all ≡ h.part ++ tail ack →
     Transmits c.self_test h.request all (Transmission h.request) AtInterframeSpace
 sends_all h all ack fits driven seen =
-    sending (record { crc = h.check; part = h.part; is_part = h.is_part; ack = ack; fits = fits; driven = driven; seen = seen })
+    sending (record {
+      crc = h.check;
+      part = h.part;
+      is_part = h.is_part;
+      ack = ack;
+      fits = fits;
+      driven = driven;
+      seen = seen;
+    })
 
 -- the rest of its line, acknowledged, may follow
-pub open_transmitting : (c now : ContextValue) (place : Place) (bits : List Bit) → IsFramePlace place → IsTransmitting c now place bits → IsUnfinished c place bits
+pub open_transmitting : (c now : ContextValue) (place : Place) (bits : List Bit) → IsFramePlace place →
+    IsTransmitting c now place bits → IsUnfinished c place bits
 open_transmitting c now place bits site h =
     let g = h.well in
     let before : List Bit = frame_bits place bits in
@@ -184,10 +217,17 @@ open_transmitting c now place bits site h =
     (map-append (λ (b : Bit). b.driven) before more ∙ ap (λ l. driven_of before ++ l) drives ∙ sym g.driven)
     (map-append (λ (b : Bit). b.seen) before more ∙ ap (λ l. seen_of before ++ l) sees ∙ sym g.seen) in
     let P : List Bit → Type 0 = λ l. Transmits c.self_test h.request l (Transmission h.request) AtInterframeSpace in
-    let row = row_own c place h.request (bits ++ more) (Transmission h.request) AtInterframeSpace site h.sent (subst P (sym (frame_more place bits more site)) sends) in
+    let row = row_own c place h.request (bits ++ more) (Transmission h.request) AtInterframeSpace site h.sent
+    (subst P (sym (frame_more place bits more site)) sends) in
     elim (cases_list more) [
       | inl none ↦ absurd (h.more (sym drives ∙ ap (λ l. driven_of l) none))
       | inr some ↦
           let Q : List Bit → Type 0 = λ l. Row c place (bits ++ l) (Transmission h.request) AtInterframeSpace in
-          record { piece = Transmission h.request; next = AtInterframeSpace; more = some.0; rest = some.1; lawful = subst Q some.2 row }
+          record {
+            piece = Transmission h.request;
+            next = AtInterframeSpace;
+            more = some.0;
+            rest = some.1;
+            lawful = subst Q some.2 row;
+          }
     ]

@@ -16,16 +16,21 @@ use Rattle.can_node.specs.Frames.{AckFits, SentPart, GoesWell}
 use Rattle.can_node.proofs.Transmission.SentBits.{same_place, seen_at_slot}
 
 -- what is driven with one bit more, and what is seen
-pub driven_push : (before : List Bit) (last : Bit) (rest : List Level) → driven_of (before ++ last ∷ []) ++ rest ≡ driven_of before ++ last.driven ∷ rest
+pub driven_push : (before : List Bit) (last : Bit) (rest : List Level) →
+    driven_of (before ++ last ∷ []) ++ rest ≡ driven_of before ++ last.driven ∷ rest
 driven_push before last rest =
-    ap (λ l. l ++ rest) (map-append (λ (b : Bit). b.driven) before (last ∷ [])) ∙ append_assoc (driven_of before) (last.driven ∷ []) rest
+    ap (λ l. l ++ rest) (map-append (λ (b : Bit). b.driven) before (last ∷ []))
+    ∙ append_assoc (driven_of before) (last.driven ∷ []) rest
 
-pub seen_push : (before : List Bit) (last : Bit) (rest : List Level) → seen_of (before ++ last ∷ []) ++ rest ≡ seen_of before ++ last.seen ∷ rest
+pub seen_push : (before : List Bit) (last : Bit) (rest : List Level) →
+    seen_of (before ++ last ∷ []) ++ rest ≡ seen_of before ++ last.seen ∷ rest
 seen_push before last rest =
-    ap (λ l. l ++ rest) (map-append (λ (b : Bit). b.seen) before (last ∷ [])) ∙ append_assoc (seen_of before) (last.seen ∷ []) rest
+    ap (λ l. l ++ rest) (map-append (λ (b : Bit). b.seen) before (last ∷ []))
+    ∙ append_assoc (seen_of before) (last.seen ∷ []) rest
 
 -- as much is still to be seen as to be driven
-pub as_much_left : (self_test : Bool) (part : List Level) (before : List Bit) (g : GoesWell self_test part before) → length g.others ≡ length g.rest
+pub as_much_left : (self_test : Bool) (part : List Level) (before : List Bit) (g : GoesWell self_test part before) →
+    length g.others ≡ length g.rest
 as_much_left self_test part before g =
     omega (
       arith,
@@ -40,9 +45,11 @@ as_much_left self_test part before g =
     )
 
 -- the level that is driven next is to be seen next, but in the ACK slot, where it is recessive
-pub seen_next : (self_test : Bool) (part : List Level) (before : List Bit) (x : Level) (rest : List Level) (g : GoesWell self_test part before) →
+pub seen_next : (self_test : Bool) (part : List Level) (before : List Bit) (x : Level) (rest : List Level)
+    (g : GoesWell self_test part before) →
     part ++ tail Recessive ≡ driven_of before ++ x ∷ rest →
-    ((length before ≡ length part + 1) × (x ≡ Recessive)) ⊎ ((length before ≢ length part + 1) × (later : List Level) × (g.others ≡ x ∷ later))
+    ((length before ≡ length part + 1) × (x ≡ Recessive))
+    ⊎ ((length before ≢ length part + 1) × (later : List Level) × (g.others ≡ x ∷ later))
 seen_next self_test part before x rest g e =
     let z : List Level = Recessive ∷ replicate 7 Recessive in
     let q : List Level = part ++ Recessive ∷ [] in
@@ -54,12 +61,19 @@ seen_next self_test part before x rest g e =
     elim (cases_list g.others) [
       | inl none ↦ absurd (omega (arith, many, ap length left, ap length none))
       | inr some ↦
-          let driven : q ++ Recessive ∷ z ≡ driven_of before ++ x ∷ rest = append_assoc part (Recessive ∷ []) (Recessive ∷ z) ∙ e in
+          let driven : q ++ Recessive ∷ z ≡ driven_of before ++ x ∷ rest =
+          append_assoc part (Recessive ∷ []) (Recessive ∷ z) ∙ e in
           let seen : q ++ g.ack ∷ z ≡ seen_of before ++ some.0 ∷ some.1 =
           append_assoc part (Recessive ∷ []) (g.ack ∷ z) ∙ g.seen ∙ ap (λ l. seen_of before ++ l) some.2 in
-          elim (same_place q (driven_of before) (seen_of before) rest some.1 z x some.0 g.ack driven seen (omega (arith, one, other))) [
+          elim (same_place q (driven_of before) (seen_of before) rest some.1 z x some.0 g.ack driven seen
+          (omega (arith, one, other))) [
             | inl h ↦ inl (omega (arith, h.0, one, count), h.1)
-            | inr h ↦ inr (λ same. h.0 (omega (arith, same, one, count)), some.1, some.2 ∙ ap (λ y. y ∷ some.1) (sym h.1))
+            | inr h ↦ inr (
+              λ same. h.0 (omega (arith, same, one, count)),
+              some.1,
+              some.2
+                  ∙ ap (λ y. y ∷ some.1) (sym h.1),
+            )
           ]
     ]
 
@@ -69,8 +83,10 @@ pub record IsOneMore (self_test : Bool) (part : List Level) (bits : List Bit) (r
   pub left : well.rest ≡ rest
 
 -- a bit before or after the ACK slot goes well where it is seen as it is driven
-pub well_next : (self_test : Bool) (part : List Level) (before : List Bit) (last : Bit) (rest : List Level) → GoesWell self_test part before →
-    part ++ tail Recessive ≡ driven_of before ++ last.driven ∷ rest → length before ≢ length part + 1 → last.driven ≡ last.seen →
+pub well_next : (self_test : Bool) (part : List Level) (before : List Bit) (last : Bit) (rest : List Level) →
+    GoesWell self_test part before →
+    part ++ tail Recessive ≡ driven_of before ++ last.driven ∷ rest → length before ≢ length part + 1 →
+    last.driven ≡ last.seen →
     IsOneMore self_test part (before ++ last ∷ []) rest
 well_next self_test part before last rest g e other same =
     elim (seen_next self_test part before last.driven rest g e) [
@@ -89,8 +105,10 @@ well_next self_test part before last rest g e other same =
     ]
 
 -- and in the slot it does where the level that is seen may stand there
-pub well_slot : (self_test : Bool) (part : List Level) (before : List Bit) (last : Bit) (rest : List Level) → GoesWell self_test part before →
-    part ++ tail Recessive ≡ driven_of before ++ last.driven ∷ rest → length before ≡ length part + 1 → AckFits self_test last.seen →
+pub well_slot : (self_test : Bool) (part : List Level) (before : List Bit) (last : Bit) (rest : List Level) →
+    GoesWell self_test part before →
+    part ++ tail Recessive ≡ driven_of before ++ last.driven ∷ rest → length before ≡ length part + 1 →
+    AckFits self_test last.seen →
     IsOneMore self_test part (before ++ last ∷ []) rest
 well_slot self_test part before last rest g e slot fits =
     let z : List Level = Recessive ∷ replicate 7 Recessive in
@@ -100,25 +118,30 @@ well_slot self_test part before last rest g e slot fits =
       rest = rest;
       others = z;
       driven = e ∙ sym (driven_push before last rest);
-      seen = sym (append_assoc part (Recessive ∷ []) (last.seen ∷ z)) ∙ ap (λ l. l ++ last.seen ∷ z) (sym (seen_at_slot self_test part before g slot))
+      seen = sym (append_assoc part (Recessive ∷ []) (last.seen ∷ z))
+          ∙ ap (λ l. l ++ last.seen ∷ z) (sym (seen_at_slot self_test part before g slot))
           ∙ sym (seen_push before last z);
     } in
     record { well = well; left = refl }
 
 -- what went well is readable
-pub well_readable : (self_test : Bool) (f : FrameValue) (c part : List Level) (before : List Bit) → SentPart f c part → GoesWell self_test part before → IsReadable (seen_of before)
+pub well_readable : (self_test : Bool) (f : FrameValue) (c part : List Level) (before : List Bit) → SentPart f c part →
+    GoesWell self_test part before → IsReadable (seen_of before)
 well_readable self_test f c part before h g = record {
-  frame = f;
-  body = sent_body f;
-  check = c;
-  ack = g.ack;
-  rest = g.others;
-  line = record { part = part; is_part = h.is_part; whole = sym g.seen };
+  begun = record {
+    frame = f;
+    body = sent_body f;
+    check = c;
+    ack = g.ack;
+    rest = g.others;
+    line = record { part = part; is_part = h.is_part; whole = sym g.seen };
+  };
   right = λ few. h.right;
 }
 
 -- at its ACK slot an acknowledgement is due, and there alone
-pub due_at_slot : (self_test : Bool) (f : FrameValue) (c part : List Level) (before : List Bit) → SentPart f c part → GoesWell self_test part before →
+pub due_at_slot : (self_test : Bool) (f : FrameValue) (c part : List Level) (before : List Bit) → SentPart f c part →
+    GoesWell self_test part before →
     length before ≡ length part + 1 → IsAckDue (seen_of before)
 due_at_slot self_test f c part before h g slot = record {
   frame = f;
@@ -130,16 +153,24 @@ due_at_slot self_test f c part before h g slot = record {
   whole = seen_at_slot self_test part before g slot;
 }
 
-pub slot_at_due : (self_test : Bool) (f : FrameValue) (c part : List Level) (before : List Bit) → SentPart f c part → GoesWell self_test part before →
+pub slot_at_due : (self_test : Bool) (f : FrameValue) (c part : List Level) (before : List Bit) → SentPart f c part →
+    GoesWell self_test part before →
     IsAckDue (seen_of before) → length before ≡ length part + 1
 slot_at_due self_test f c part before h g due =
     let whole : due.part ++ Recessive ∷ g.others ≡ part ++ tail g.ack =
     sym (append_assoc due.part (Recessive ∷ []) g.others) ∙ ap (λ l. l ++ g.others) (sym due.whole) ∙ sym g.seen in
     let same = same_part (Recessive ∷ g.others) (tail g.ack) due.is_part h.is_part whole in
-    omega (arith, ap length same, ap length due.whole, length-append due.part (Recessive ∷ []), length-map before (λ (b : Bit). b.seen))
+    omega (
+      arith,
+      ap length same,
+      ap length due.whole,
+      length-append due.part (Recessive ∷ []),
+      length-map before (λ (b : Bit). b.seen),
+    )
 
 -- a whole line was seen where nothing is left of it, and there alone
-pub over_at_end : (self_test : Bool) (f : FrameValue) (c part : List Level) (before : List Bit) → SentPart f c part → (g : GoesWell self_test part before) →
+pub over_at_end : (self_test : Bool) (f : FrameValue) (c part : List Level) (before : List Bit) → SentPart f c part →
+    (g : GoesWell self_test part before) →
     g.rest ≡ [] → IsOver (seen_of before)
 over_at_end self_test f c part before h g none = (
   f,
@@ -154,7 +185,8 @@ over_at_end self_test f c part before h g none = (
   },
 )
 
-pub end_at_over : (self_test : Bool) (f : FrameValue) (c part : List Level) (before : List Bit) → SentPart f c part → (g : GoesWell self_test part before) →
+pub end_at_over : (self_test : Bool) (f : FrameValue) (c part : List Level) (before : List Bit) → SentPart f c part →
+    (g : GoesWell self_test part before) →
     IsOver (seen_of before) → g.rest ≡ []
 end_at_over self_test f c part before h g over =
     let line = over.1.line in
@@ -165,4 +197,9 @@ end_at_over self_test f c part before h g over =
     let same = same_part (tail ack ++ g.others) (tail g.ack) line.is_part h.is_part whole in
     let left : tail ack ++ g.others ≡ tail g.ack =
     append-cancel part (tail ack ++ g.others) (tail g.ack) (ap (λ l. l ++ (tail ack ++ g.others)) (sym same) ∙ whole) in
-    nil_from_length g.rest (omega (arith, as_much_left self_test part before g, ap length left, length-append (tail ack) g.others))
+    nil_from_length g.rest (omega (
+      arith,
+      as_much_left self_test part before g,
+      ap length left,
+      length-append (tail ack) g.others,
+    ))

@@ -55,7 +55,8 @@ recessive_after_flag d r next seen bits level less e h =
       count = h.count;
       cycle = h.cycle;
       few = omega arith;
-      whole = receives_on bits (front ++ replicate r Recessive) (seen ∷ []) (front ++ replicate next Recessive) h.whole more;
+      whole = receives_on bits (front ++ replicate r Recessive) (seen ∷ []) (front ++ replicate next Recessive) h.whole
+          more;
     }
 
 -- the levels after the dominant ones
@@ -73,7 +74,8 @@ delimiter_ends c d r seen bits level most h =
     let P : List Bit → Type 0 = λ t. Row c AtDelimiter t Delimiter AtInterframeSpace in
     let few = h.few in
     let seven : r ≡ 7 = omega arith in
-    subst P (sym (delimited d r bits (seen ∷ []) (replicate 8 Recessive) h (rw (seven, level) refl))) (delimiter h.count)
+    subst P (sym (delimited d r bits (seen ∷ []) (replicate 8 Recessive) h (rw (seven, level) refl)))
+    (delimiter h.count)
 
 -- a dominant eighth level is an overload
 pub delimiter_overloads : (c : ContextValue) (d r : ℕ) (seen : Level) (bits : List Bit) → seen ≡ Dominant → 7 ≤ r →
@@ -88,7 +90,8 @@ delimiter_overloads c d r seen bits level most h =
 
 -- a dominant level before it, and after a recessive one, is a fault
 pub delimiter_breaks : (c : ContextValue) (d r : ℕ) (seen : Level) (bits : List Bit) → seen ≡ Dominant → 1 ≤ r → r < 7 →
-    IsInDelimiter d r bits → Row c AtDelimiter (bits ++ recessive_bit seen ∷ []) (Fault InDelimiter FormError Delimiter) AtFlag
+    IsInDelimiter d r bits → Row c AtDelimiter (bits ++ recessive_bit seen ∷ []) (Fault InDelimiter FormError Delimiter)
+    AtFlag
 delimiter_breaks c d zero seen bits level one less h = absurd (omega arith)
 delimiter_breaks c d (suc i) seen bits level one less h =
     let P : List Bit → Type 0 = λ t. Row c AtDelimiter t (Fault InDelimiter FormError Delimiter) AtFlag in
@@ -97,7 +100,8 @@ delimiter_breaks c d (suc i) seen bits level one less h =
     (delimiter_fault h.count i (omega arith))
 
 -- the delimiter goes on with recessive levels
-pub open_delimiting : (d r : ℕ) (c : ContextValue) (bits : List Bit) → IsInDelimiter d r bits → IsUnfinished c AtDelimiter bits
+pub open_delimiting : (d r : ℕ) (c : ContextValue) (bits : List Bit) → IsInDelimiter d r bits →
+    IsUnfinished c AtDelimiter bits
 open_delimiting d r c bits h =
     let P : List Bit → Type 0 = λ t. Row c AtDelimiter t Delimiter AtInterframeSpace in
     let few = h.few in

@@ -34,28 +34,34 @@ less_none : (c : ContextValue) → c ≡ record c { tec = c.tec - 0 }
 less_none c = let e : c.tec ≡ c.tec - 0 = omega arith in ap (λ (n : ℕ). record c { tec = n }) e
 
 -- one bit
-bit_step : (c : ContextValue) (done : List Bit) (x : Level) (r : ℕ) → c.off ≡ true → c.listen ≡ false → fold next_run 0 (seen_of done) ≡ r →
+bit_step : (c : ContextValue) (done : List Bit) (x : Level) (r : ℕ) → c.off ≡ true → c.listen ≡ false →
+    fold next_run 0 (seen_of done) ≡ r →
     integration_bit c done (recessive_bit x) ≡ record c { tec = c.tec - one_if (ends_eleven r x) }
 bit_step c done x r off speaks run =
-    let test : ((c.off && not c.listen) && ends_eleven (fold next_run 0 (seen_of done)) x) ≡ ends_eleven r x = rw (off, speaks, run) refl in
+    let test : ((c.off && not c.listen) && ends_eleven (fold next_run 0 (seen_of done)) x) ≡ ends_eleven r x =
+    rw (off, speaks, run) refl in
     ap (λ t. if t then record c { tec = c.tec - 1 } else c) test ∙ by_test (ends_eleven r x)
   where
     by_test : (t : Bool) → (if t then record c { tec = c.tec - 1 } else c) ≡ record c { tec = c.tec - one_if t }
     by_test true = refl
     by_test false = less_none c
 
-run_after : (done : List Bit) (x : Level) (r : ℕ) → fold next_run 0 (seen_of done) ≡ r → fold next_run 0 (seen_of (done ++ recessive_bit x ∷ [])) ≡ next_run r x
-run_after done x r run = ap (λ l. fold next_run 0 l) (seen_both done (recessive_bit x ∷ [])) ∙ fold_push next_run 0 (seen_of done) x ∙ ap (λ n. next_run n x) run
+run_after : (done : List Bit) (x : Level) (r : ℕ) → fold next_run 0 (seen_of done) ≡ r →
+    fold next_run 0 (seen_of (done ++ recessive_bit x ∷ [])) ≡ next_run r x
+run_after done x r run = ap (λ l. fold next_run 0 l) (seen_both done (recessive_bit x ∷ []))
+    ∙ fold_push next_run 0 (seen_of done) x ∙ ap (λ n. next_run n x) run
 
 taken : (c : ContextValue) (a b : ℕ) → record c { tec = (c.tec - a) - b } ≡ record c { tec = c.tec - (a + b) }
 taken c a b = let e : (c.tec - a) - b ≡ c.tec - (a + b) = omega arith in ap (λ (n : ℕ). record c { tec = n }) e
 
-pub steps_in : (c : ContextValue) (done : List Bit) (r : ℕ) (l : List Level) → c.off ≡ true → c.listen ≡ false → fold next_run 0 (seen_of done) ≡ r →
+pub steps_in : (c : ContextValue) (done : List Bit) (r : ℕ) (l : List Level) → c.off ≡ true → c.listen ≡ false →
+    fold next_run 0 (seen_of done) ≡ r →
     along c AtIntegration done (map OneBit (recessive_bits l)) ≡ record c { tec = c.tec - elevens_in r l }
 steps_in c done r [] off speaks run = less_none c
 steps_in c done r (x ∷ l) off speaks run =
     let d : ContextValue = record c { tec = c.tec - one_if (ends_eleven r x) } in
-    ap (λ (k : ContextValue). along k AtIntegration (done ++ recessive_bit x ∷ []) (map OneBit (recessive_bits l))) (bit_step c done x r off speaks run)
+    ap (λ (k : ContextValue). along k AtIntegration (done ++ recessive_bit x ∷ []) (map OneBit (recessive_bits l)))
+    (bit_step c done x r off speaks run)
     ∙ steps_in d (done ++ recessive_bit x ∷ []) (next_run r x) l off speaks (run_after done x r run)
     ∙ taken c (one_if (ends_eleven r x)) (elevens_in (next_run r x) l)
 
@@ -84,11 +90,13 @@ after_dominant r m h =
           (sym (append_assoc h.0 shorter.0 m) ∙ ap (λ t. t ++ m) (sym shorter.1) ∙ e))
     ]
   where
-    by_part : (part : List Level) → replicate r Recessive ++ Dominant ∷ [] ≡ h.0 ++ part → part ++ m ≡ replicate 11 Recessive → EndsInEleven m
+    by_part : (part : List Level) → replicate r Recessive ++ Dominant ∷ [] ≡ h.0 ++ part →
+        part ++ m ≡ replicate 11 Recessive → EndsInEleven m
     by_part [] e run = ([], run)
     by_part (y ∷ part) e run =
         let all = front_of_run 11 Recessive (y ∷ part) m run in
-        absurd (dominant-other (ends_as (suc (length part)) 0 (replicate r Recessive) h.0 Dominant Recessive Recessive (omega arith) (e ∙ ap (λ t. h.0 ++ t) all)))
+        absurd (dominant-other (ends_as (suc (length part)) 0 (replicate r Recessive) h.0 Dominant Recessive Recessive
+        (omega arith) (e ∙ ap (λ t. h.0 ++ t) all)))
 
 -- one recessive level more in the run
 run_more : (r : ℕ) (m : List Level) → replicate r Recessive ++ Recessive ∷ m ≡ replicate (suc r) Recessive ++ m
@@ -96,9 +104,11 @@ run_more zero m = refl
 run_more (suc r) m = ap (λ t. Recessive ∷ t) (run_more r m)
 
 -- a list that is the first to end in eleven has one at its end, and what follows begins anew
-pub one_in : (r : ℕ) (m b : List Level) → r < 11 → IsFirst EndsInEleven (replicate r Recessive ++ m) → elevens_in r (m ++ b) ≡ suc (elevens_in 0 b)
+pub one_in : (r : ℕ) (m b : List Level) → r < 11 → IsFirst EndsInEleven (replicate r Recessive ++ m) →
+    elevens_in r (m ++ b) ≡ suc (elevens_in 0 b)
 one_in r [] b few h =
-    let e = ap (λ (t : List Level). length t) (sym (append-nil (replicate r Recessive)) ∙ h.holds.1) ∙ length-append h.holds.0 (replicate 11 Recessive) in
+    let e = ap (λ (t : List Level). length t) (sym (append-nil (replicate r Recessive)) ∙ h.holds.1)
+    ∙ length-append h.holds.0 (replicate 11 Recessive) in
     let long = length-replicate r Recessive in
     absurd (omega (e, long, few, arith))
 one_in r (Dominant ∷ m) b few h =
@@ -107,9 +117,11 @@ one_in r (Dominant ∷ m) b few h =
       holds = after_dominant r m h.holds;
       first = λ front rest e has.
           h.first (replicate r Recessive ++ Dominant ∷ front) rest
-          (ap (λ t. replicate r Recessive ++ Dominant ∷ t) e ∙ sym (append_assoc (replicate r Recessive) (Dominant ∷ front) rest)) (
+          (ap (λ t. replicate r Recessive ++ Dominant ∷ t) e
+          ∙ sym (append_assoc (replicate r Recessive) (Dominant ∷ front) rest)) (
             replicate r Recessive ++ Dominant ∷ has.0,
-            ap (λ t. replicate r Recessive ++ Dominant ∷ t) has.1 ∙ sym (append_assoc (replicate r Recessive) (Dominant ∷ has.0) (replicate 11 Recessive)),
+            ap (λ t. replicate r Recessive ++ Dominant ∷ t) has.1
+                ∙ sym (append_assoc (replicate r Recessive) (Dominant ∷ has.0) (replicate 11 Recessive)),
           );
     })
 one_in r (Recessive ∷ m) b few h =
@@ -123,7 +135,8 @@ one_in r (Recessive ∷ m) b few h =
           rw no (zero_more ∙ ap (λ n. elevens_in n (m ++ b)) (sym next) ∙ more)
       | inr most ↦
           let ten : r ≡ 10 = omega (few, most, arith) in
-          let all : replicate r Recessive ++ Recessive ∷ m ≡ replicate 11 Recessive ++ m = run_more r m ∙ ap (λ n. replicate (suc n) Recessive ++ m) ten in
+          let all : replicate r Recessive ++ Recessive ∷ m ≡ replicate 11 Recessive ++ m =
+          run_more r m ∙ ap (λ n. replicate (suc n) Recessive ++ m) ten in
           let none : m ≡ [] = h.first (replicate 11 Recessive) m all ([], refl) in
           let one_more : 1 + elevens_in 0 b ≡ suc (elevens_in 0 b) = omega arith in
           rw (ten, none) one_more
@@ -136,4 +149,5 @@ counts_elevens n l (one_more {n = m} {a = a} {b = b} h more parts) =
 
 pub takes : (c : ContextValue) (n : ℕ) (l : List Level) → c.off ≡ true → c.listen ≡ false → Elevens n l →
     along c AtIntegration [] (map OneBit (recessive_bits l)) ≡ record c { tec = c.tec - n }
-takes c n l off speaks h = steps_in c [] 0 l off speaks refl ∙ ap (λ (k : ℕ). record c { tec = c.tec - k }) (counts_elevens n l h)
+takes c n l off speaks h = steps_in c [] 0 l off speaks refl
+    ∙ ap (λ (k : ℕ). record c { tec = c.tec - k }) (counts_elevens n l h)

@@ -1,11 +1,16 @@
 -- Error flags and overload flags: what a level makes of them.
-use Rattle.std.proofs.Common.{◌≡◌, ◌≢◌, ◌+◌, ◌-◌, ◌<◌, ◌≤◌, ℕ, zero, suc, List, [], ◌∷◌, ◌++◌, replicate, length, refl, ap, sym, subst, ◌∙◌, arith, append_assoc}
+use Rattle.std.proofs.Common.{◌≡◌, ◌≢◌, ◌+◌, ◌-◌, ◌<◌, ◌≤◌, ℕ, zero, suc, Bool, true, false, nat_lt, if◌then◌else◌, List, [], ◌∷◌, ◌++◌, replicate, length, refl, ap, sym, subst, ◌∙◌, arith, append_assoc}
+use Rattle.std.proofs.lemmas.Bool.Decides.{nat_tests}
 use Rattle.std.proofs.lemmas.List.{replicate-append-replicate, length-replicate, length-append}
 use Rattle.can_bits.specs.declared.level.Level.{Level}
 use Rattle.can_bits.specs.declared.level.Level.TheVariants.{Dominant, Recessive}
 use Rattle.can_bits.specs.declared.segment.Segment.{Segment}
+use Rattle.can_bits.specs.declared.shift.Shift.{Shift}
 use Rattle.can_bits.specs.Stuffing.{EndsInEqual}
+use Rattle.can_node.specs.declared.after_bit.AfterBit.TheVariants.{InPiece, Ended}
 use Rattle.can_node.specs.declared.cause.Cause.TheVariants.{Bit as BitError}
+use Rattle.can_node.specs.declared.ending.Ending.TheVariants.{Flag as EndingFlag}
+use Rattle.can_node.specs.declared.stage.Stage.TheVariants.{InFlag as StageInFlag}
 use Rattle.can_node.specs.declared.fault_site.FaultSite.TheVariants.{InFlag}
 use Rattle.can_node.specs.declared.flag_kind.FlagKind.{FlagKind}
 use Rattle.can_node.specs.Bits.{Bit, recessive_bit, dominant_bit, recessive_bits, dominant_bits, IsFirst}
@@ -16,24 +21,27 @@ use Rattle.can_node.specs.Table.{Row, flag_segment}
 use Rattle.can_node.specs.Table.Row.{flag, flag_fault, flag_passive}
 use Rattle.can_node.specs.Cut.{IsUnfinished}
 use Rattle.can_node.specs.Machine.Stages.{IsInDominantFlag, IsInPassiveFlag, IsInFlag}
+use Rattle.can_node.specs.Machine.Turns.{IsTurn, one_more}
 use Rattle.can_node.proofs.Bits.DrivenAlike.{receives_on, forces_on}
 use Rattle.can_node.proofs.Waiting.Firsts.{no_front_yet, one_on, last_on, first_run, first_by_length, same_end, ends_as, before_end, end_as, push_run}
 
 -- ---- a dominant flag
 
 -- six dominant levels are a flag
-pub flag_ends : (c : ContextValue) (n : ℕ) (seen : Level) (bits : List Bit) → flag_level c ≡ Dominant → seen ≡ Dominant →
+flag_ends : (c : ContextValue) (n : ℕ) (seen : Level) (bits : List Bit) → flag_level c ≡ Dominant → seen ≡ Dominant →
     5 ≤ n → IsInDominantFlag n c bits → Row c AtFlag (bits ++ dominant_bit seen ∷ []) Flag AtDelimiter
 flag_ends c n seen bits drives level most h =
     let P : List Bit → Type 0 = λ t. Row c AtFlag t Flag AtDelimiter in
     let few = h.few in
     let five : n ≡ 5 = omega arith in
     let levels : replicate n Dominant ++ seen ∷ [] ≡ replicate 6 Dominant = rw (five, level) refl in
-    subst P (sym (forces_on bits (replicate n Dominant) (seen ∷ []) (replicate 6 Dominant) h.whole levels)) (flag drives)
+    subst P (sym (forces_on bits (replicate n Dominant) (seen ∷ []) (replicate 6 Dominant) h.whole levels))
+    (flag drives)
 
 -- a recessive level before is a fault
 pub flag_breaks : (c : ContextValue) (n : ℕ) (seen : Level) (kind : FlagKind) (segment : Segment) (bits : List Bit) →
-    flag_level c ≡ Dominant → seen ≡ Recessive → kind ≡ c.flag → segment ≡ flag_segment kind → IsInDominantFlag n c bits →
+    flag_level c ≡ Dominant → seen ≡ Recessive → kind ≡ c.flag → segment ≡ flag_segment kind →
+    IsInDominantFlag n c bits →
     Row c AtFlag (bits ++ dominant_bit seen ∷ []) (Fault InFlag BitError segment) AtFlag
 flag_breaks c n seen kind segment bits drives level same is h =
     let P : List Bit → Type 0 = λ t. Row c AtFlag t (Fault InFlag BitError segment) AtFlag in
@@ -68,13 +76,13 @@ pub flags_from : (c : ContextValue) (last : Level) → IsInFlag (flag_level c) 0
 flags_from c last = flags_at c (flag_level c) last
 
 -- a node that drives recessive waits in its flag
-pub waits_in_flag : (c : ContextValue) (n : ℕ) (last : Level) (bits : List Bit) → flag_level c ≡ Recessive →
+waits_in_flag : (c : ContextValue) (n : ℕ) (last : Level) (bits : List Bit) → flag_level c ≡ Recessive →
     IsInPassiveFlag n last c bits → IsInFlag (flag_level c) n last c bits
 waits_in_flag c n last bits drives h =
     let P : Level → Type 0 = λ v. IsInFlag v n last c bits in subst P (sym drives) h
 
 -- one more level like the last one, not the sixth
-pub wait_goes : (c : ContextValue) (n next : ℕ) (last seen : Level) (bits : List Bit) → seen ≡ last → n < 5 → next ≡ n + 1 →
+wait_goes : (c : ContextValue) (n next : ℕ) (last seen : Level) (bits : List Bit) → seen ≡ last → n < 5 → next ≡ n + 1 →
     IsInPassiveFlag n last c bits → IsInPassiveFlag next seen c (bits ++ recessive_bit seen ∷ [])
 wait_goes c n next last seen bits same less e h =
     let Q : Level → Type 0 = λ v. IsInPassiveFlag next v c (bits ++ recessive_bit v ∷ []) in
@@ -88,8 +96,9 @@ wait_goes c n next last seen bits same less e h =
     subst Q (sym same) go
 
 -- the sixth
-pub wait_ends : (c : ContextValue) (n : ℕ) (last seen : Level) (bits : List Bit) → flag_level c ≡ Recessive →
-    seen ≡ last → 5 ≤ n → IsInPassiveFlag n last c bits → Row c AtFlag (bits ++ recessive_bit seen ∷ []) Flag AtDelimiter
+wait_ends : (c : ContextValue) (n : ℕ) (last seen : Level) (bits : List Bit) → flag_level c ≡ Recessive →
+    seen ≡ last → 5 ≤ n → IsInPassiveFlag n last c bits →
+    Row c AtFlag (bits ++ recessive_bit seen ∷ []) Flag AtDelimiter
 wait_ends c n last seen bits drives same most h =
     let P : List Bit → Type 0 = λ t. Row c AtFlag t Flag AtDelimiter in
     let few = h.few in
@@ -133,7 +142,7 @@ too_short (suc m) last seen levels other few none has i less ends =
     no_mix is.0 last seen i other less (subst P is.1 ends)
 
 -- another level: it is the first of its kind
-pub wait_turns : (c : ContextValue) (n : ℕ) (last seen : Level) (bits : List Bit) → seen ≢ last →
+wait_turns : (c : ContextValue) (n : ℕ) (last seen : Level) (bits : List Bit) → seen ≢ last →
     IsInPassiveFlag n last c bits → IsInPassiveFlag 1 seen c (bits ++ recessive_bit seen ∷ [])
 wait_turns c n last seen bits other h =
     let few = h.few in
@@ -149,12 +158,70 @@ wait_turns c n last seen bits other h =
       waits = subst P (sym (append_assoc h.levels (seen ∷ []) (replicate 5 seen))) first;
     }
 
+-- ---- one level more
+
+-- of a dominant flag
+dominant_stays : (c : ContextValue) (n : ℕ) (seen : Level) (bits : List Bit) → flag_level c ≡ Dominant →
+    seen ≡ Dominant → n < 5 → IsInDominantFlag n c bits →
+    IsInFlag (flag_level c) (n + 1) seen c (bits ++ dominant_bit seen ∷ [])
+dominant_stays c n seen bits drives level less h =
+    let P : Level → Type 0 = λ v. IsInFlag v (n + 1) seen c (bits ++ dominant_bit seen ∷ []) in
+    let levels = ap (λ x. replicate n Dominant ++ x ∷ []) level ∙ replicate-append-replicate n 1 Dominant in
+    subst P (sym drives) (record {
+      few = omega arith;
+      whole = forces_on bits (replicate n Dominant) (seen ∷ []) (replicate (n + 1) Dominant) h.whole levels;
+    })
+
+dominant_by : (t : Bool) (shift : Shift) (c now : ContextValue) (n : ℕ) (seen : Level) (bits : List Bit) →
+    nat_lt n 5 ≡ t →
+    flag_level c ≡ Dominant → seen ≡ Dominant → IsInDominantFlag n c bits →
+    IsTurn shift c now AtFlag bits (dominant_bit seen)
+    (if t then InPiece (StageInFlag (n + 1) seen) else Ended EndingFlag)
+dominant_by true shift c now n seen bits few drives level h =
+    (refl, dominant_stays c n seen bits drives level (grind (arith, nat_tests)) h)
+dominant_by false shift c now n seen bits most drives level h =
+    flag_ends c n seen bits drives level (grind (arith, nat_tests)) h
+
+pub dominant_more : (shift : Shift) (c now : ContextValue) (n : ℕ) (seen : Level) (bits : List Bit) →
+    flag_level c ≡ Dominant → seen ≡ Dominant → IsInDominantFlag n c bits →
+    IsTurn shift c now AtFlag bits (dominant_bit seen) (one_more n seen)
+dominant_more shift c now n seen bits drives level h =
+    dominant_by (nat_lt n 5) shift c now n seen bits refl drives level h
+
+-- of a passive one, like the last
+passive_by : (t : Bool) (shift : Shift) (c now : ContextValue) (n : ℕ) (last seen : Level) (bits : List Bit) →
+    nat_lt n 5 ≡ t →
+    flag_level c ≡ Recessive → seen ≡ last → IsInPassiveFlag n last c bits →
+    IsTurn shift c now AtFlag bits (recessive_bit seen)
+    (if t then InPiece (StageInFlag (n + 1) seen) else Ended EndingFlag)
+passive_by true shift c now n last seen bits few drives same h = (
+  refl,
+  waits_in_flag c (n + 1) seen (bits ++ recessive_bit seen ∷ []) drives
+      (wait_goes c n (n + 1) last seen bits same (grind (arith, nat_tests)) refl h),
+)
+passive_by false shift c now n last seen bits most drives same h =
+    wait_ends c n last seen bits drives same (grind (arith, nat_tests)) h
+
+pub passive_more : (shift : Shift) (c now : ContextValue) (n : ℕ) (last seen : Level) (bits : List Bit) →
+    flag_level c ≡ Recessive → seen ≡ last → IsInPassiveFlag n last c bits →
+    IsTurn shift c now AtFlag bits (recessive_bit seen) (one_more n seen)
+passive_more shift c now n last seen bits drives same h =
+    passive_by (nat_lt n 5) shift c now n last seen bits refl drives same h
+
+-- and another one
+pub passive_other : (shift : Shift) (c now : ContextValue) (n : ℕ) (last seen : Level) (bits : List Bit) →
+    flag_level c ≡ Recessive → seen ≢ last → IsInPassiveFlag n last c bits →
+    IsTurn shift c now AtFlag bits (recessive_bit seen) (one_more 0 seen)
+passive_other shift c now n last seen bits drives other h =
+    (refl, waits_in_flag c 1 seen (bits ++ recessive_bit seen ∷ []) drives (wait_turns c n last seen bits other h))
+
 -- ---- a flag that isn't finished: it goes on with the levels that are waited for
 
 -- with dominant levels
-open_forcing : (n : ℕ) (c : ContextValue) (bits : List Bit) → flag_level c ≡ Dominant → IsInDominantFlag n c bits →
+open_dominant_flag : (n : ℕ) (c : ContextValue) (bits : List Bit) → flag_level c ≡ Dominant →
+    IsInDominantFlag n c bits →
     IsUnfinished c AtFlag bits
-open_forcing n c bits drives h =
+open_dominant_flag n c bits drives h =
     let P : List Bit → Type 0 = λ t. Row c AtFlag t Flag AtDelimiter in
     let few = h.few in
     let more : List Level = replicate (suc (5 - n)) Dominant in
@@ -170,9 +237,9 @@ open_forcing n c bits drives h =
     }
 
 -- with levels like the last one
-open_waiting : (n : ℕ) (last : Level) (c : ContextValue) (bits : List Bit) → flag_level c ≡ Recessive →
+open_passive_flag : (n : ℕ) (last : Level) (c : ContextValue) (bits : List Bit) → flag_level c ≡ Recessive →
     IsInPassiveFlag n last c bits → IsUnfinished c AtFlag bits
-open_waiting n last c bits drives h =
+open_passive_flag n last c bits drives h =
     let P : List Bit → Type 0 = λ t. Row c AtFlag t Flag AtDelimiter in
     let few = h.few in
     let left : 6 - n ≡ suc (5 - n) = omega arith in
@@ -190,10 +257,11 @@ open_waiting n last c bits drives h =
 -- by the flag's level
 open_flag : (level : Level) (n : ℕ) (last : Level) (c : ContextValue) (bits : List Bit) → flag_level c ≡ level →
     IsInFlag level n last c bits → IsUnfinished c AtFlag bits
-open_flag Dominant n last c bits drives h = open_forcing n c bits drives h
-open_flag Recessive n last c bits drives h = open_waiting n last c bits drives h
+open_flag Dominant n last c bits drives h = open_dominant_flag n c bits drives h
+open_flag Recessive n last c bits drives h = open_passive_flag n last c bits drives h
 
 -- by what the node drives
-pub open_flagging : (n : ℕ) (last : Level) (c : ContextValue) (bits : List Bit) → IsInFlag (flag_level c) n last c bits →
+pub open_flagging : (n : ℕ) (last : Level) (c : ContextValue) (bits : List Bit) →
+    IsInFlag (flag_level c) n last c bits →
     IsUnfinished c AtFlag bits
 open_flagging n last c bits h = open_flag (flag_level c) n last c bits refl h

@@ -69,7 +69,8 @@ run_on bits run next seen x same e counted =
     ∙ ap (λ n. next_run n seen) counted ∙ ap (λ v. next_run run v) same ∙ sym e
 
 -- the bits with it
-levels_on : (left run : ℕ) (seen x : Level) (c : ContextValue) (bits : List Bit) (h : IsIntegrating left run c bits) → seen ≡ x →
+levels_on : (left run : ℕ) (seen x : Level) (c : ContextValue) (bits : List Bit) (h : IsIntegrating left run c bits) →
+    seen ≡ x →
     bits ++ recessive_bit seen ∷ [] ≡ recessive_bits (h.front ++ (h.begun ++ x ∷ []))
 levels_on left run seen x c bits h same =
     let line : (h.front ++ h.begun) ++ seen ∷ [] ≡ h.front ++ (h.begun ++ x ∷ []) =
@@ -106,7 +107,8 @@ integration_breaks left run seen c bits level h =
     }
 
 -- a recessive level, not the eleventh
-pub integration_goes : (left run next : ℕ) (seen : Level) (c : ContextValue) (bits : List Bit) → seen ≡ Recessive → run < 10 →
+pub integration_goes : (left run next : ℕ) (seen : Level) (c : ContextValue) (bits : List Bit) → seen ≡ Recessive →
+    run < 10 →
     next ≡ run + 1 → IsIntegrating left run c bits → IsIntegrating left next c (bits ++ recessive_bit seen ∷ [])
 integration_goes left run next seen c bits level less e h =
     let now : next ≡ next_run run Recessive = grind (arith, nat_tests) in
@@ -132,8 +134,10 @@ integration_more left run c bits h most =
     (last_on EndsInEleven h.begun (11 - run) Recessive (omega arith) h.waits)
 
 -- another eleven is waited for
-pub integration_again : (left run next : ℕ) (seen : Level) (c : ContextValue) (bits : List Bit) → seen ≡ Recessive → 10 ≤ run →
-    1 < left → left ≡ next + 1 → IsIntegrating left run c bits → IsIntegrating next 0 c (bits ++ recessive_bit seen ∷ [])
+pub integration_again : (left run next : ℕ) (seen : Level) (c : ContextValue) (bits : List Bit) → seen ≡ Recessive →
+    10 ≤ run →
+    1 < left → left ≡ next + 1 → IsIntegrating left run c bits →
+    IsIntegrating next 0 c (bits ++ recessive_bit seen ∷ [])
 integration_again left run next seen c bits level most many e h =
     let less = h.few in
     let count = h.count in
@@ -154,7 +158,8 @@ integration_again left run next seen c bits level most many e h =
     }
 
 -- it was the last one
-pub integration_ends : (left run : ℕ) (seen : Level) (c : ContextValue) (bits : List Bit) → seen ≡ Recessive → 10 ≤ run →
+pub integration_ends : (left run : ℕ) (seen : Level) (c : ContextValue) (bits : List Bit) → seen ≡ Recessive →
+    10 ≤ run →
     left ≤ 1 → IsIntegrating left run c bits → Row c AtIntegration (bits ++ recessive_bit seen ∷ []) Integration AtIdle
 integration_ends left run seen c bits level most last h =
     let P : List Bit → Type 0 = λ t. Row c AtIntegration t Integration AtIdle in
@@ -186,7 +191,8 @@ open_integrating left run c bits h =
     let one : suc (10 - run) ≡ 11 - run = omega arith in
     let same : (h.front ++ h.begun) ++ (replicate (suc (10 - run)) Recessive ++ others.0) ≡ line =
     ap (λ k. (h.front ++ h.begun) ++ (replicate k Recessive ++ others.0)) one ∙ simp append_assoc in
-    let whole = receives_on bits (h.front ++ h.begun) (replicate (suc (10 - run)) Recessive ++ others.0) line h.whole same in
+    let whole = receives_on bits (h.front ++ h.begun) (replicate (suc (10 - run)) Recessive ++ others.0) line h.whole
+    same in
     record {
       piece = Integration;
       next = AtIdle;

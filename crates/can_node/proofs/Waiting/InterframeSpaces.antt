@@ -32,7 +32,8 @@ owed_from c more =
     ]
 
 -- the last recessive level
-pub interframe_ends : (c : ContextValue) (n : ℕ) (seen : Level) (bits : List Bit) → seen ≡ Recessive → interframe_count c ≤ n + 1 →
+pub interframe_ends : (c : ContextValue) (n : ℕ) (seen : Level) (bits : List Bit) → seen ≡ Recessive →
+    interframe_count c ≤ n + 1 →
     IsInInterframeSpace n c bits → Row c AtInterframeSpace (bits ++ recessive_bit seen ∷ []) InterframeSpace AtIdle
 interframe_ends c n seen bits level most h =
     let P : List Bit → Type 0 = λ t. Row c AtInterframeSpace t InterframeSpace AtIdle in
@@ -40,14 +41,17 @@ interframe_ends c n seen bits level most h =
     let all : n + 1 ≡ interframe_count c = omega arith in
     let levels : replicate n Recessive ++ seen ∷ [] ≡ replicate (interframe_count c) Recessive =
     rw level (replicate_more n Recessive ∙ ap (λ k. replicate k Recessive) all) in
-    let whole = receives_on bits (replicate n Recessive) (seen ∷ []) (replicate (interframe_count c) Recessive) h.whole levels in
+    let whole = receives_on bits (replicate n Recessive) (seen ∷ []) (replicate (interframe_count c) Recessive) h.whole
+    levels in
     subst P (sym whole) interframe_space
 
 -- the levels with a dominant one after them
-broken_off : (c : ContextValue) (n : ℕ) (seen : Level) (bits : List Bit) → seen ≡ Dominant → IsInInterframeSpace n c bits →
+broken_off : (c : ContextValue) (n : ℕ) (seen : Level) (bits : List Bit) → seen ≡ Dominant →
+    IsInInterframeSpace n c bits →
     bits ++ recessive_bit seen ∷ [] ≡ recessive_bits (replicate n Recessive ++ Dominant ∷ [])
 broken_off c n seen bits level h =
-    receives_on bits (replicate n Recessive) (seen ∷ []) (replicate n Recessive ++ Dominant ∷ []) h.whole (rw level refl)
+    receives_on bits (replicate n Recessive) (seen ∷ []) (replicate n Recessive ++ Dominant ∷ []) h.whole
+    (rw level refl)
 
 -- a dominant level after none or one
 broken_row : (c : ContextValue) (n : ℕ) → n < 2 →
@@ -65,26 +69,30 @@ start_row c (suc (suc zero)) most few = interframe_space_sof
 start_row c (suc (suc (suc i))) most few =
     let owed = owed_from c (omega arith) in
     let long = interframe_owed c owed in
-    let P : ℕ → Type 0 = λ k. Row c AtInterframeSpace (recessive_bits (replicate k Recessive ++ Dominant ∷ [])) InterframeSpaceWithSof AfterSof in
+    let P : ℕ → Type 0 = λ k. Row c AtInterframeSpace (recessive_bits (replicate k Recessive ++ Dominant ∷ []))
+    InterframeSpaceWithSof AfterSof in
     let same : 3 + i ≡ suc (suc (suc i)) = omega arith in
     subst P same (suspend_transmission_sof i owed (omega arith))
 
 -- a dominant first or second level breaks it off
 pub interframe_breaks : (c : ContextValue) (n : ℕ) (seen : Level) (bits : List Bit) → seen ≡ Dominant → n < 2 →
-    IsInInterframeSpace n c bits → Row c AtInterframeSpace (bits ++ recessive_bit seen ∷ []) InterframeSpaceBroken AtFlag
+    IsInInterframeSpace n c bits →
+    Row c AtInterframeSpace (bits ++ recessive_bit seen ∷ []) InterframeSpaceBroken AtFlag
 interframe_breaks c n seen bits level less h =
     let P : List Bit → Type 0 = λ t. Row c AtInterframeSpace t InterframeSpaceBroken AtFlag in
     subst P (sym (broken_off c n seen bits level h)) (broken_row c n less)
 
 -- a later one starts a frame
 pub interframe_sof : (c : ContextValue) (n : ℕ) (seen : Level) (bits : List Bit) → seen ≡ Dominant → 2 ≤ n →
-    IsInInterframeSpace n c bits → Row c AtInterframeSpace (bits ++ recessive_bit seen ∷ []) InterframeSpaceWithSof AfterSof
+    IsInInterframeSpace n c bits →
+    Row c AtInterframeSpace (bits ++ recessive_bit seen ∷ []) InterframeSpaceWithSof AfterSof
 interframe_sof c n seen bits level most h =
     let P : List Bit → Type 0 = λ t. Row c AtInterframeSpace t InterframeSpaceWithSof AfterSof in
     subst P (sym (broken_off c n seen bits level h)) (start_row c n most h.few)
 
 -- interframe space goes on with recessive levels
-pub open_interframe : (n : ℕ) (c : ContextValue) (bits : List Bit) → IsInInterframeSpace n c bits → IsUnfinished c AtInterframeSpace bits
+pub open_interframe : (n : ℕ) (c : ContextValue) (bits : List Bit) → IsInInterframeSpace n c bits →
+    IsUnfinished c AtInterframeSpace bits
 open_interframe n c bits h =
     let P : List Bit → Type 0 = λ t. Row c AtInterframeSpace t InterframeSpace AtIdle in
     let few = h.few in
@@ -92,7 +100,8 @@ open_interframe n c bits h =
     let all : n + suc left ≡ interframe_count c = omega arith in
     let more : List Level = replicate (suc left) Recessive in
     let levels = replicate-append-replicate n (suc left) Recessive ∙ ap (λ k. replicate k Recessive) all in
-    let whole = receives_on bits (replicate n Recessive) more (replicate (interframe_count c) Recessive) h.whole levels in
+    let whole = receives_on bits (replicate n Recessive) more (replicate (interframe_count c) Recessive) h.whole
+    levels in
     record {
       piece = InterframeSpace;
       next = AtIdle;

@@ -15,9 +15,10 @@ use Rattle.can_node.specs.Events.{lost_in}
 use Rattle.can_node.specs.Machine.Standing.{context_of, IsKept}
 use Rattle.can_node.specs.Machine.Stages.{At}
 
--- the piece under way goes on with the bit, to this stage and reader; arbitration isn't lost, and no counter, role or request
--- changes
-pub record IsQuietTurn (stage : Stage) (shift : Shift) (c now : ContextValue) (place : Place) (bits : List Bit) (b : Bit) : Type 0 where
+-- the piece under way goes on with the bit, to this stage and reader; arbitration isn't lost, and no counter, role or
+-- request changes
+pub record IsQuietTurn (stage : Stage) (shift : Shift) (c now : ContextValue) (place : Place) (bits : List Bit)
+    (b : Bit) : Type 0 where
   pub lost : None ≡ lost_in now place bits b
   pub steps : now ≡ at_bit now place bits b
   pub at : At stage shift c now place (bits ++ b ∷ [])
@@ -25,7 +26,8 @@ pub record IsQuietTurn (stage : Stage) (shift : Shift) (c now : ContextValue) (p
 -- the same wherever the node may stand: with this level it comes to this stage
 abbrev pub TurnsQuietly : Node → Level → Stage → Type 0
 TurnsQuietly node seen stage =
-    (c : ContextValue) (place : Place) (bits : List Bit) → At node.stage node.shift c (context_of node.context) place bits →
+    (c : ContextValue) (place : Place) (bits : List Bit) →
+    At node.stage node.shift c (context_of node.context) place bits →
     IsKept place c (context_of node.context) → Drives (context_of node.context) place bits node.next →
     IsQuietTurn stage node.shift c (context_of node.context) place bits (record { driven = node.next; seen = seen })
 

@@ -38,7 +38,7 @@ pub record IsIntegrating (left run : ℕ) (c : ContextValue) (bits : List Bit) :
 
 -- ---- in a frame
 
--- the bits of a frame, from its start on: after a pause that ended with one it stands before the piece
+-- the bits of a frame, from its SOF on: where interframe space ended with SOF, that bit stands before the piece
 abbrev pub frame_bits : Place → List Bit → List Bit
 frame_bits AfterSof bits = dominant_bit Dominant ∷ bits
 frame_bits AtIdle bits = bits
@@ -49,29 +49,30 @@ frame_bits AtFlag bits = bits
 frame_bits AtDelimiter bits = bits
 frame_bits AtInterframeSpace bits = bits
 
--- a frame began at an idle place, or with the last bit of a pause
+-- a frame began on an idle bus, or with the last bit of interframe space, its SOF
 pub data IsInFrame : Place → List Bit → Type 0 where
   from_idle : (b : Bit) (bits : List Bit) → IsInFrame AtIdle (b ∷ bits)
-  from_pause : (bits : List Bit) → IsInFrame AfterSof bits
+  from_sof : (bits : List Bit) → IsInFrame AfterSof bits
 
 -- the places where a frame may stand
 pub data IsFramePlace : Place → Type 0 where
   idle_place : IsFramePlace AtIdle
-  pause_place : IsFramePlace AfterSof
+  sof_place : IsFramePlace AfterSof
 
 -- so far nothing is wrong for a receiver: a line goes on, and each dominant level that it drove was seen
 pub record AllRight (l : List Level) (bits : List Bit) : Type 0 where
   pub readable : IsReadable (l ++ seen_of bits)
   pub answered : (before after : List Bit) → bits ≢ before ++ dominant_bit Recessive ∷ after
 
--- a receiver has seen some levels of a frame, and more bits after them: what it hears from there on is the piece
+-- a receiver has seen some levels of a frame, and more bits after them: what it receives from there on is the piece
 pub record IsReceiving (c : ContextValue) (place : Place) (bits : List Bit) : Type 0 where
   pub before : List Bit
   pub more : List Bit
   pub levels : List Level
   pub whole : bits ≡ before ++ more
   pub seen : seen_of (frame_bits place bits) ≡ levels ++ seen_of more
-  pub row : (all : List Bit) (p : Piece) (next : Place) → Receives c.listen levels all p next → Row c place (before ++ all) p next
+  pub row : (all : List Bit) (p : Piece) (next : Place) → Receives c.listen levels all p next →
+      Row c place (before ++ all) p next
   pub inside : ¬ IsPastPart levels
   pub answers : AllAcknowledge c.listen levels more
   pub right : AllRight levels more
@@ -99,7 +100,7 @@ pub record IsReading (shift : Shift) (c now : ContextValue) (place : Place) (bit
   pub stands : StandsFor shift (seen_of (frame_bits place bits))
   pub by_role : ByRole now.role c now place bits
 
--- ---- flags, delimiters, pauses
+-- ---- flags, delimiters, interframe space
 
 -- so many bits of a dominant flag came
 pub record IsInDominantFlag (n : ℕ) (c : ContextValue) (bits : List Bit) : Type 0 where
@@ -130,7 +131,7 @@ pub record IsInDelimiter (dominant recessive : ℕ) (bits : List Bit) : Type 0 w
   pub few : recessive < 8
   pub whole : bits ≡ recessive_bits (replicate count Dominant ++ replicate recessive Recessive)
 
--- so many recessive levels of a pause came
+-- so many recessive levels of interframe space came
 pub record IsInInterframeSpace (n : ℕ) (c : ContextValue) (bits : List Bit) : Type 0 where
   pub few : n < interframe_count c
   pub whole : bits ≡ recessive_bits (replicate n Recessive)
@@ -143,5 +144,6 @@ At StageBusIdle shift c now place bits = (place ≡ AtIdle) × (bits ≡ []) × 
 At StageInFrame shift c now place bits = IsReading shift c now place bits
 At StageLastEofBit shift c now place bits = (place ≡ AtLastEofBit) × (bits ≡ [])
 At (StageInFlag n last) shift c now place bits = (place ≡ AtFlag) × IsInFlag (flag_level c) n last c bits
-At (StageInDelimiter dominant recessive) shift c now place bits = (place ≡ AtDelimiter) × IsInDelimiter dominant recessive bits
+At (StageInDelimiter dominant recessive) shift c now place bits =
+    (place ≡ AtDelimiter) × IsInDelimiter dominant recessive bits
 At (StageInInterframeSpace n) shift c now place bits = (place ≡ AtInterframeSpace) × IsInInterframeSpace n c bits

@@ -9,7 +9,8 @@ use Rattle.can_node.specs.declared.own_bit.OwnBit.TheVariants.{AckSlot, LostArbi
 
 -- what a bit is: in the ACK slot or not, a stuff bit before RTR or not, and where arbitration is lost or not
 abbrev pub kind_of : Bool → Bool → Bool → OwnBit
-kind_of slot early lost = if slot then AckSlot else if lost then LostArbitration else if early then StuffBeforeRtr else Other
+kind_of slot early lost = if slot then AckSlot else if lost then LostArbitration else if early then StuffBeforeRtr else
+    Other
 
 -- a recessive level that is seen: only in the ACK slot that is wrong, where it isn't self test
 abbrev pub unacknowledged : OwnBit → Bool → Option Cause

@@ -1,5 +1,11 @@
 -- What a bit makes of the piece under way.
-use Rattle.std.specs.Prelude.{◌≡◌, Bool, nat_le, true, false, if◌then◌else◌, List, [], ◌∷◌, ◌++◌}
+use Rattle.can_node.specs.declared.request.Request.{Request}
+use Rattle.can_node.specs.declared.node.Node.{Node}
+use Rattle.can_bits.specs.Shifts.{StandsFor}
+use Rattle.can_node.specs.Machine.Standing.{context_of, HasBody, IsKept}
+use Rattle.can_node.specs.Driving.{Drives, TransmitsNext}
+use Rattle.can_node.specs.Frames.{Acknowledges}
+use Rattle.std.specs.Prelude.{◌≡◌, ◌+◌, ℕ, Bool, nat_le, nat_lt, true, false, if◌then◌else◌, List, [], ◌∷◌, ◌++◌, is_some, Some}
 use Rattle.can_bits.specs.declared.shift.Shift.{Shift}
 use Rattle.can_node.specs.declared.ending.Ending.{Ending}
 use Rattle.can_node.specs.declared.ending.Ending.TheVariants.{Integration as EndingIntegration, IdleBit as EndingIdleBit, Received, Sent, Fault as EndingFault, LastEofBit as EndingLastEofBit, Flag as EndingFlag, Delimiter as EndingDelimiter, InterframeSpace as EndingInterframeSpace, Sof, Overload}
@@ -9,19 +15,19 @@ use Rattle.can_bits.specs.declared.level.Level.{Level}
 use Rattle.can_bits.specs.declared.level.Level.TheVariants.{Dominant, Recessive}
 use Rattle.can_node.specs.declared.after_bit.AfterBit.{AfterBit}
 use Rattle.can_node.specs.declared.after_bit.AfterBit.TheVariants.{InPiece, Ended}
-use Rattle.can_node.specs.declared.stage.Stage.TheVariants.{InFrame as StageInFrame}
-use Rattle.can_node.specs.Bits.{Bit}
+use Rattle.can_node.specs.declared.stage.Stage.TheVariants.{InFrame as StageInFrame, InFlag as StageInFlag}
+use Rattle.can_node.specs.Bits.{Bit, seen_of}
 use Rattle.can_node.specs.Context.{ContextValue}
 use Rattle.can_node.specs.Pieces.{Place, Piece}
 use Rattle.can_node.specs.Pieces.Place.{AtIdle, AfterSof, AtLastEofBit, AtFlag, AtDelimiter, AtInterframeSpace}
 use Rattle.can_node.specs.Pieces.Piece.{Integration, IdleBit, Reception, Transmission, Fault, LastEofBit, Flag, Delimiter, InterframeSpace, InterframeSpaceWithSof, InterframeSpaceBroken}
 use Rattle.can_node.specs.Table.{Row}
-use Rattle.can_node.specs.Counting.{at_bit}
+use Rattle.can_node.specs.Counting.{at_bit, lost_by}
 use Rattle.can_node.specs.Effects.{closed, with_off}
 use Rattle.can_node.specs.declared.stage.Stage.{Stage}
-use Rattle.can_node.specs.Events.{Step}
+use Rattle.can_node.specs.Events.{Step, lost_in}
 use Rattle.can_node.specs.Events.Step.{Within, Finishes}
-use Rattle.can_node.specs.Machine.Stages.{At, IsReceiving, IsTransmitting}
+use Rattle.can_node.specs.Machine.Stages.{At, IsReceiving, IsTransmitting, IsFramePlace, frame_bits}
 
 -- the piece that ended with an overload condition
 abbrev pub overloaded : OverloadCondition → Piece
@@ -61,6 +67,10 @@ next_of (Overload condition) = AtFlag
 abbrev pub after_last_eof : Level → AfterBit
 after_last_eof Dominant = Ended (Overload LastEof)
 after_last_eof Recessive = Ended EndingLastEofBit
+
+-- what one more of so many equal levels makes of a flag: with six it ends
+abbrev pub one_more : ℕ → Level → AfterBit
+one_more n x = if nat_lt n 5 then InPiece (StageInFlag (n + 1) x) else Ended EndingFlag
 
 -- the step of the cut
 abbrev pub step_of : AfterBit → Step
@@ -103,3 +113,29 @@ GoesOnAs false c now place bits = IsTransmitting c now place bits
 abbrev pub TransmitsOn : Bool → ContextValue → ContextValue → Place → List Bit → AfterBit → Type 0
 TransmitsOn lost c now place bits (InPiece stage) = (stage ≡ StageInFrame) × GoesOnAs lost c now place bits
 TransmitsOn lost c now place bits (Ended ending) = (lost ≡ false) × Row c place bits (piece_of ending) (next_of ending)
+
+-- what a receiver's bit makes of a frame for which this reader stands, wherever it is
+abbrev pub ReceivesBit : Shift → Level → Level → AfterBit → Type 0
+ReceivesBit shift driven seen turn =
+    (c : ContextValue) (place : Place) (bits : List Bit) → StandsFor shift (seen_of (frame_bits place bits)) →
+    IsReceiving c place bits → Acknowledges c.listen (seen_of (frame_bits place bits)) driven →
+    ReceivesOn c place (bits ++ record { driven = driven; seen = seen } ∷ []) turn
+
+-- the same of a bit of this request's transmitter, in self test or not, who loses arbitration in it or not
+abbrev pub TransmitsBit : Shift → Request → Bool → Bool → Level → Level → AfterBit → Type 0
+TransmitsBit shift request self_test lost driven seen turn =
+    (c now : ContextValue) (place : Place) (bits : List Bit) → StandsFor shift (seen_of (frame_bits place bits)) →
+    IsFramePlace place → self_test ≡ c.self_test → (h : IsTransmitting c now place bits) → request ≡ h.request →
+    TransmitsNext h.request (frame_bits place bits) driven →
+    lost ≡ is_some (lost_by (Some h.request) (seen_of (frame_bits place bits)) driven seen) →
+    TransmitsOn lost c now place (bits ++ record { driven = driven; seen = seen } ∷ []) turn
+
+-- what a bit makes of a piece, wherever in it the node stands by this fact
+abbrev pub TurnsFrom : (ContextValue → Place → List Bit → Type 0) → Node → Shift → Level → Level → Bool → AfterBit →
+    Type 0
+TurnsFrom Stood node shift driven seen lost turn =
+    (c : ContextValue) (place : Place) (bits : List Bit) → Stood c place bits →
+    IsKept place c (context_of node.context) →
+    HasBody node.context node.body → Drives (context_of node.context) place bits driven →
+    lost ≡ is_some (lost_in (context_of node.context) place bits (record { driven = driven; seen = seen })) →
+    IsTurn shift c (context_of node.context) place bits (record { driven = driven; seen = seen }) turn

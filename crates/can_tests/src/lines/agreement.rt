@@ -1,5 +1,7 @@
-//! Whole lists of levels and the reader of one level at a time agree, on 2,000 generated lists.
+//! Whole lists of levels read by `read_line`, plainly, and by the reader of one level at a time: the three agree, on 2,000
+//! generated lists.
 
+use super::plain::read_plainly;
 use crate::generated::next;
 use can_bits::{Level, LineFault, Shift, line_of, read_line};
 use can_frame::{DATA_BYTES, Frame};
@@ -80,13 +82,15 @@ fn agree(levels: &[Level]) -> bool {
 }
 
 #[test]
-fn both_readers_agree(rt: HostRuntime) -> Result<(), Fail> {
+fn the_readers_agree(rt: HostRuntime) -> Result<(), Fail> {
     let mut number = 1;
     for list in 0..LISTS {
         number = next(number);
         if let Some(frame) = some_frame(number) {
             number = next(number);
             let levels = some_levels(rt.alloc(), &frame, number)?;
+            let read = read_line(levels.as_slice());
+            assert!(rt; read == read_plainly(levels.as_slice()), "at list {list}");
             assert!(rt; agree(levels.as_slice()), "at list {list}");
         }
     }

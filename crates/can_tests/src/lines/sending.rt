@@ -1,6 +1,6 @@
 //! What a reader of one level at a time says of the next level to its transmitter, over whole lines.
 
-use can_bits::{Level, Shift, line_of};
+use can_bits::{Level, SentBody, Shift, line_of};
 use can_frame::{Frame, OutOfMemory};
 use std::alloc::Global;
 use std::test::Fail;
@@ -9,10 +9,11 @@ use std::test::Fail;
 fn says_each(alloc: Global, frame: &Frame) -> Result<bool, OutOfMemory> {
     let line = line_of(alloc, frame)?;
     let slot = line.len().saturating_sub(9);
+    let body = SentBody::of(frame);
     let mut shift = Shift::new();
     let mut said = true;
     for (at, level) in line.iter().enumerate() {
-        said = said && shift.next_sent(frame) == *level;
+        said = said && shift.next_of(&body) == *level;
         let seen = if at == slot { Level::Dominant } else { *level };
         said = said && shift.step(seen).fault.is_none();
     }

@@ -86,7 +86,7 @@ impl Pair {
     fn sees(&mut self, level: Level) -> bool {
         let counters = self.quick.counters();
         let phase = self.quick.phase();
-        let events = self.plain.sample(level);
+        let events = self.plain.sample_fully(level);
         let told = if self.quick.sample_quietly(level) {
             self.quiet = self.quiet.wrapping_add(1);
             is_quiet(&events) && self.quick.counters() == counters && self.quick.phase() == phase

@@ -9,7 +9,9 @@ loop-level-preserved c =
     let more = take_more c.args.levels.now c.loop-level.level-index Dominant c.loop-level-test.true in
     rw more (record {
       fits = c.crc_step-crc.ensures.fits;
-      divides = c.crc_step-crc.ensures.divides (take c.loop-level.level-index c.args.levels.now) c.loop-level.invariant.divides;
+      divides =
+          c.crc_step-crc.ensures.divides (take c.loop-level.level-index c.args.levels.now)
+          c.loop-level.invariant.divides;
     })
 
 pub returns-clause-crc : goal.returns-clause-crc

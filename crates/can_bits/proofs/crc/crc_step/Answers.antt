@@ -7,7 +7,8 @@ use Rattle.can_bits.proofs.crc.crc_step.Goals as goal
 pub returns-then-crc-from-clause-divides : goal.returns-then-crc-from-clause-divides
 returns-then-crc-from-clause-divides c b h =
     let before : Divided b c.args.crc = record { fits = c.requires; divides = h } in
-    (Divided-same b c.args.crc c.args.level before (c.if-crc-from.true ∙ c.from.ensures ∙ c.digit.ensures.value)).divides
+    (Divided-same b c.args.crc c.args.level before
+    (c.if-crc-from.true ∙ c.from.ensures ∙ c.digit.ensures.value)).divides
 
 pub returns-else-crc-from-clause-fits : goal.returns-else-crc-from-clause-fits
 returns-else-crc-from-clause-fits c = xor_lt 15 (2 * (c.args.crc % 2 ^ 14)) GENERATOR (omega arith) (omega arith)
@@ -15,4 +16,5 @@ returns-else-crc-from-clause-fits c = xor_lt 15 (2 * (c.args.crc % 2 ^ 14)) GENE
 pub returns-else-crc-from-clause-divides : goal.returns-else-crc-from-clause-divides
 returns-else-crc-from-clause-divides c b h =
     let before : Divided b c.args.crc = record { fits = c.requires; divides = h } in
-    (Divided-other b c.args.crc c.args.level before (λ e. c.if-crc-from.false (e ∙ sym (c.from.ensures ∙ c.digit.ensures.value)))).divides
+    (Divided-other b c.args.crc c.args.level before
+    (λ e. c.if-crc-from.false (e ∙ sym (c.from.ensures ∙ c.digit.ensures.value)))).divides

@@ -6,10 +6,14 @@ use Rattle.can_bits.proofs.Whole.Verdicts.{judged_by, frame_only, fault_only}
 use Rattle.can_bits.proofs.reading.read_line.Goals as goal
 
 pub returns-clause-frame_only : goal.returns-clause-frame_only
-returns-clause-frame_only c = frame_only c.args.levels.now c.read_and_judge.result (judged_by _ _ c.read_and_judge.ensures.frame c.read_and_judge.ensures.fault)
+returns-clause-frame_only c =
+    frame_only c.args.levels.now c.run.result
+    (judged_by _ _ c.run.ensures.frame c.run.ensures.fault)
 
 pub returns-clause-fault_only : goal.returns-clause-fault_only
-returns-clause-fault_only c = fault_only c.args.levels.now c.read_and_judge.result (judged_by _ _ c.read_and_judge.ensures.frame c.read_and_judge.ensures.fault)
+returns-clause-fault_only c =
+    fault_only c.args.levels.now c.run.result
+    (judged_by _ _ c.run.ensures.frame c.run.ensures.fault)
 
 pub returns-clause-sent : goal.returns-clause-sent
 returns-clause-sent c f l h e =

@@ -24,7 +24,15 @@ loop-level-preserved c =
     let few : c.if-eq.run ≤ 5 = elim c.if-eq.branch [ then-eq b ↦ omega arith | else-eq b ↦ omega arith ] in
     elim c.if-run-eq-RUN.branch [
       | then-run-eq-RUN b ↦ record {
-        stands = rw (more, b.line-is, b.last-is, b.run-is, b.push_reserved-then-run-eq-RUN.ensures.items, c.push_reserved.ensures.items, b.opposite-last.ensures)
+        stands = rw (
+          more,
+          b.line-is,
+          b.last-is,
+          b.run-is,
+          b.push_reserved-then-run-eq-RUN.ensures.items,
+          c.push_reserved.ensures.items,
+          b.opposite-last.ensures,
+        )
             (Stands-stuffed (w ++ x ∷ []) (s ++ x ∷ []) x (rw (← b.if-run-eq-RUN.true) kept));
         small = omega arith;
         room = search rules;

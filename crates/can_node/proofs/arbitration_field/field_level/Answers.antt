@@ -7,10 +7,12 @@ pub returns-then-ext : goal.returns-then-ext
 returns-then-ext c =
     let f = c.args.frame.now in
     let is = sym c.ext.ensures ∙ c.if-ext.true in
-    c.extended_level.ensures ∙ sym (ap (λ l. slice_get l c.args.place) (field_is f ∙ ap (λ e. field_by e f.id f.rtr) is))
+    c.extended_level.ensures ∙ sym
+    (ap (λ l. slice_get l c.args.place) (field_is f ∙ ap (λ e. field_by e f.id f.rtr) is))
 
 pub returns-else-ext : goal.returns-else-ext
 returns-else-ext c =
     let f = c.args.frame.now in
     let is = sym c.ext.ensures ∙ c.if-ext.false in
-    c.standard_level.ensures ∙ sym (ap (λ l. slice_get l c.args.place) (field_is f ∙ ap (λ e. field_by e f.id f.rtr) is))
+    c.standard_level.ensures ∙ sym
+    (ap (λ l. slice_get l c.args.place) (field_is f ∙ ap (λ e. field_by e f.id f.rtr) is))

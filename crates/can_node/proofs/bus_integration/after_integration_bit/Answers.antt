@@ -9,7 +9,8 @@ returns-in-Dominant c shift before now bits h =
 pub returns-then-run-lt-LAST_OF_ELEVEN : goal.returns-then-run-lt-LAST_OF_ELEVEN
 returns-then-run-lt-LAST_OF_ELEVEN c shift before now bits h = (
   refl,
-  integration_goes c.args.left c.args.run _ c.args.seen before bits c.in-Recessive.is c.if-run-lt-LAST_OF_ELEVEN.true (omega arith) h,
+  integration_goes c.args.left c.args.run _ c.args.seen before bits c.in-Recessive.is c.if-run-lt-LAST_OF_ELEVEN.true
+      (omega arith) h,
 )
 
 pub returns-then-left-gt1 : goal.returns-then-left-gt1

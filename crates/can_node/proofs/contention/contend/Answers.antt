@@ -14,11 +14,13 @@ loop-frame-preserved c =
     let least = c.index-frames-least_of in
     let inside = c.least_of.ensures.within in
     let within : i < length fs = omega arith in
-    let is_least = c.least_of.ensures.is_least least.result (slice_get_read fs _ c.least_of.result least.result refl inside least.is) in
+    let is_least = c.least_of.ensures.is_least least.result
+    (slice_get_read fs _ c.least_of.result least.result refl inside least.is) in
     let frame = c.frame-item.result in
     let lost = c.place_lost.result in
     let told = c.loop-frame.places.items in
-    let fares = fares_by fs frame least.result lost (c.least_of.result, inside, sym least.is) is_least c.place_lost.ensures in
+    let fares = fares_by fs frame least.result lost (c.least_of.result, inside, sym least.is) is_least
+    c.place_lost.ensures in
     let longer = zip_push (Fares fs) (take i fs) told frame lost c.loop-frame.invariant.answered fares in
     let front = take_more fs i frame within ∙ ap (λ f. take i fs ++ f ∷ []) (sym c.frame-item.is) in
     let P : List FrameValue → Type 0 = λ l. AllZip (Fares fs) l (told ++ lost ∷ []) in

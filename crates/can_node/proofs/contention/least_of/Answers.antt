@@ -22,14 +22,16 @@ loop-i-preserved c =
     let fs = c.args.frames.now in
     let least = c.index-frames-least in
     let next = c.index-frames-i in
-    let was = c.loop-i.invariant.is_least least.result (slice_get_read fs _ c.loop-i.least least.result refl c.loop-i.invariant.within least.is) in
+    let was = c.loop-i.invariant.is_least least.result
+    (slice_get_read fs _ c.loop-i.least least.result refl c.loop-i.invariant.within least.is) in
     let inside : c.loop-i.i < length fs = omega arith in
     elim c.if-is_some.branch [
       | then-is_some w ↦ record {
         within = omega (arith, w.least-is);
         is_least = λ f at.
             let lost = lost_at _ _ _ c.place_lost.ensures (sym c.is_some.ensures ∙ w.if-is_some.true) in
-            let own : next.result ≡ f = next.is ∙ get_or_from_slice_get fs c.loop-i.i f next.result (rw w.least-is at at) in
+            let own : next.result ≡ f = next.is
+            ∙ get_or_from_slice_get fs c.loop-i.i f next.result (rw w.least-is at at) in
             let P : FrameValue → Type 0 = λ g. IsLeast (take (c.loop-i.i + 1) fs) g in
             subst P own (next_least fs c.loop-i.i lost.0 least.result next.result inside next.is was lost.1);
       }
@@ -37,7 +39,8 @@ loop-i-preserved c =
         within = omega (arith, w.least-is, c.loop-i.invariant.within);
         is_least = λ f at.
             let stands = stands_at _ _ _ c.place_lost.ensures (sym c.is_some.ensures ∙ w.if-is_some.false) in
-            let own : least.result ≡ f = least.is ∙ get_or_from_slice_get fs c.loop-i.least f least.result (rw w.least-is at at) in
+            let own : least.result ≡ f = least.is
+            ∙ get_or_from_slice_get fs c.loop-i.least f least.result (rw w.least-is at at) in
             let P : FrameValue → Type 0 = λ g. IsLeast (take (c.loop-i.i + 1) fs) g in
             subst P own (stays_least fs c.loop-i.i least.result next.result inside next.is was stands);
       }

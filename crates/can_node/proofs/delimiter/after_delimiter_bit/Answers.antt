@@ -10,7 +10,8 @@ returns-then-recessive-eq0 c shift before now bits h = (
 
 pub returns-then-recessive-lt-BEFORE_LAST : goal.returns-then-recessive-lt-BEFORE_LAST
 returns-then-recessive-lt-BEFORE_LAST c shift before now bits h =
-    delimiter_breaks before c.args.dominant c.args.recessive c.args.seen bits c.in-Dominant.is (omega arith) (omega arith) h
+    delimiter_breaks before c.args.dominant c.args.recessive c.args.seen bits c.in-Dominant.is (omega arith)
+    (omega arith) h
 
 pub returns-else-recessive-lt-BEFORE_LAST : goal.returns-else-recessive-lt-BEFORE_LAST
 returns-else-recessive-lt-BEFORE_LAST c shift before now bits h =

@@ -11,7 +11,9 @@ pub loop-k-init : goal.loop-k-init
 loop-k-init c =
     let P : List ℕ → Type 0 = λ l. All (λ byte. byte < 256) l in
     record {
-      written = λ w packs whole. (let Q : List ℕ → Type 0 = λ l. Writes l (first_levels w 0) in subst Q (sym c.new-bytes.ensures) (no_bytes w));
+      written =
+          λ w packs whole. (let Q : List ℕ → Type 0 = λ l. Writes l (first_levels w 0) in subst Q
+          (sym c.new-bytes.ensures) (no_bytes w));
       count = ap length c.new-bytes.ensures;
       small = subst P (sym c.new-bytes.ensures) (All-nil (λ byte. byte < 256));
     }
@@ -35,10 +37,13 @@ loop-k-preserved c =
           let room : data_place w + 8 * k + 8 ≤ length w = omega (arith, total, many, below) in
           let start : c.head_end-first.result + 8 * k ≡ data_place w + 8 * k = ap (λ n. n + 8 * k) first in
           let held : byte ≡ value (slice_range w (data_place w + 8 * k) (data_place w + 8 * k + 8)) =
-          c.number_at.ensures.value w packs (omega (arith, start, room)) ∙ ap (λ n. value (slice_range w n (n + 8))) start in
+          c.number_at.ensures.value w packs (omega (arith, start, room))
+          ∙ ap (λ n. value (slice_range w n (n + 8))) start in
           let Q : List ℕ → Type 0 = λ l. Writes l (first_levels w (k + 1)) in
           subst Q (sym pushed.items) (byte_more w before k byte room (come.written w packs whole) held)
           );
       count = omega (arith, pushed.len, come.count);
-      small = subst P (sym pushed.items) (All-append (λ b. b < 256) before (byte ∷ []) come.small (All-cons (λ b. b < 256) byte [] (omega (arith, fits)) (All-nil (λ b. b < 256))));
+      small = subst P (sym pushed.items)
+          (All-append (λ b. b < 256) before (byte ∷ []) come.small
+          (All-cons (λ b. b < 256) byte [] (omega (arith, fits)) (All-nil (λ b. b < 256))));
     }

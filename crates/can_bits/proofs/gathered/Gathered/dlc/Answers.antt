@@ -9,4 +9,5 @@ returns-clause-value c w h come =
     let p = dlc_place (says_ext w) in
     let head = c.head_end.ensures.value w h in
     let place : c.head_end.result - 4 ≡ p = omega (arith, head) in
-    c.number_at.ensures.value w h (omega (arith, place, come)) ∙ ap (λ n. value (slice_range w n (n + 4))) place ∙ sym (four_is w p come)
+    c.number_at.ensures.value w h (omega (arith, place, come)) ∙ ap (λ n. value (slice_range w n (n + 4))) place
+    ∙ sym (four_is w p come)

@@ -41,7 +41,8 @@ returns-in-Err c f w b check g spells =
     let small = says_id-lt w whole in
     let code = c.dlc.ensures.fits in
     let count = ap length c.as_slice.ensures.value ∙ c.data_bytes-data.ensures.count w g.packs whole
-    ∙ sym (ap (λ r. data_count r c.dlc.result) (c.rtr.ensures w g.packs) ∙ ap (λ n. data_count (says_rtr w) n) (c.dlc.ensures.value w g.packs fields)) in
+    ∙ sym (ap (λ r. data_count r c.dlc.result) (c.rtr.ensures w g.packs)
+    ∙ ap (λ n. data_count (says_rtr w) n) (c.dlc.ensures.value w g.packs fields)) in
     absurd (no_fault c.in-Err.field-0
     (λ e. let over = h.id_range.0 (ap Err e) in omega (arith, over, small, limit, id))
     (λ e. let over = h.dlc_range.0 (ap Err e) in omega (arith, over.1, code))

@@ -1,6 +1,7 @@
 use Rattle.std.proofs.Common.{◌∙◌}
-use Rattle.can_bits.proofs.Sent.Next.{next_check}
+use Rattle.can_bits.proofs.NextLevels.{next_check}
 use Rattle.can_bits.proofs.gathered.Gathered.next_of_crc.Goals as goal
 
 pub returns : goal.returns
-returns c b check w t x g right whole past = c.of.ensures ∙ next_check b check w t x c.args.self.now.register right whole past g.fits g.divides
+returns c b check w t x g right whole past =
+    c.of.ensures ∙ next_check b check w t x c.args.self.now.register right whole past g.fits g.divides

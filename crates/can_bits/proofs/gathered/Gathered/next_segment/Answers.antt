@@ -10,4 +10,5 @@ returns c w g =
     let s = c.args.self.now in
     c.segment_of.ensures ∙ ap (λ e. segment_in (segments_of e s.mark) s.place) (c.ext.ensures w g.packs)
     ∙ ap (λ m. segment_in (segments_of (says_ext w) m) s.place) g.mark
-    ∙ ap (λ p. segment_in (segments_of (says_ext w) (mark_of w)) p) g.packs.place_is ∙ mark_segment w (length w) (omega arith)
+    ∙ ap (λ p. segment_in (segments_of (says_ext w) (mark_of w)) p) g.packs.place_is
+    ∙ mark_segment w (length w) (omega arith)

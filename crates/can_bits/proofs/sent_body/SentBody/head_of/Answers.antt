@@ -19,7 +19,8 @@ returns-then-ext c =
     let f = c.args.frame.now in
     let rtr : Level = level_of f.rtr in
     let r = c.from-rtr.result in
-    let bit : r ≡ digit rtr = c.from-rtr.ensures ∙ c.digit.ensures.value ∙ ap digit (c.of.ensures ∙ ap level_of c.rtr.ensures) in
+    let bit : r ≡ digit rtr =
+    c.from-rtr.ensures ∙ c.digit.ensures.value ∙ ap digit (c.of.ensures ∙ ap level_of c.rtr.ensures) in
     let extended : f.ext ≡ true = sym c.ext.ensures ∙ c.if-ext.true in
     let small : f.id < 2 ^ 29 = subst (λ e. f.id < id_limit e) extended c.id.ensures.valid.id in
     let value = c.id.ensures.value in
@@ -38,10 +39,14 @@ returns-then-ext c =
     let p3 = c.followed_by-then-ext.ensures w2 p2 (omega (arith, n2)) (omega arith) in
     let p4 = c.followed_by-then-ext-2.ensures w3 p3 (omega (arith, n3)) (omega (arith, bit, digit-lt rtr)) in
     let p5 = c.followed_by-then-ext-3.ensures w4 p4 (omega (arith, n4)) (omega arith) in
-    let P : List Level → Type 0 = λ l. Packs c.followed_by-then-ext-3.result.word c.followed_by-then-ext-3.result.length l in
-    let ids : w4 ++ bits 2 0 ≡ ((((w0 ++ bits 11 (f.id / 2 ^ 18)) ++ bits 2 3) ++ bits 18 (f.id % 2 ^ 18)) ++ bits 1 r) ++ bits 2 0 =
-    ap (λ i. ((((w0 ++ bits 11 (i / 2 ^ 18)) ++ bits 2 3) ++ bits 18 (c.id-then-ext.result % 2 ^ 18)) ++ bits 1 r) ++ bits 2 0) value
-    ∙ ap (λ i. ((((w0 ++ bits 11 (f.id / 2 ^ 18)) ++ bits 2 3) ++ bits 18 (i % 2 ^ 18)) ++ bits 1 r) ++ bits 2 0) again in
+    let P : List Level → Type 0 =
+    λ l. Packs c.followed_by-then-ext-3.result.word c.followed_by-then-ext-3.result.length l in
+    let ids : w4 ++ bits 2 0 ≡ ((((w0 ++ bits 11 (f.id / 2 ^ 18)) ++ bits 2 3) ++ bits 18 (f.id % 2 ^ 18)) ++ bits 1 r)
+    ++ bits 2 0 =
+    ap (λ i. ((((w0 ++ bits 11 (i / 2 ^ 18)) ++ bits 2 3) ++ bits 18 (c.id-then-ext.result % 2 ^ 18)) ++ bits 1 r)
+    ++ bits 2 0) value
+    ∙ ap (λ i. ((((w0 ++ bits 11 (f.id / 2 ^ 18)) ++ bits 2 3) ++ bits 18 (i % 2 ^ 18)) ++ bits 1 r) ++ bits 2 0)
+    again in
     let whole = ids ∙ head_extended f.id f.rtr r small (ap (λ n. bits 1 n) bit ∙ bits_digit rtr)
     ∙ ap (λ e. head_bits e f.id f.rtr Recessive Dominant Dominant) (sym extended) in
     subst P whole p5
@@ -51,7 +56,8 @@ returns-else-ext c =
     let f = c.args.frame.now in
     let rtr : Level = level_of f.rtr in
     let r = c.from-rtr.result in
-    let bit : r ≡ digit rtr = c.from-rtr.ensures ∙ c.digit.ensures.value ∙ ap digit (c.of.ensures ∙ ap level_of c.rtr.ensures) in
+    let bit : r ≡ digit rtr =
+    c.from-rtr.ensures ∙ c.digit.ensures.value ∙ ap digit (c.of.ensures ∙ ap level_of c.rtr.ensures) in
     let standard : f.ext ≡ false = sym c.ext.ensures ∙ c.if-ext.false in
     let small : f.id < 2 ^ 11 = subst (λ e. f.id < id_limit e) standard c.id-else-ext.ensures.valid.id in
     let value = c.id-else-ext.ensures.value in
@@ -63,7 +69,10 @@ returns-else-ext c =
     let p1 = c.followed_by-else-ext.ensures w0 packs_start (omega arith) (omega (arith, small, value)) in
     let p2 = c.followed_by-else-ext-2.ensures w1 p1 (omega (arith, n1)) (omega (arith, bit, digit-lt rtr)) in
     let p3 = c.followed_by-else-ext-3.ensures w2 p2 (omega (arith, n2)) (omega arith) in
-    let P : List Level → Type 0 = λ l. Packs c.followed_by-else-ext-3.result.word c.followed_by-else-ext-3.result.length l in
-    let whole = ap (λ i. ((w0 ++ bits 11 i) ++ bits 1 r) ++ bits 2 0) value ∙ head_standard f.id f.rtr r (ap (λ n. bits 1 n) bit ∙ bits_digit rtr)
+    let P : List Level → Type 0 =
+    λ l. Packs c.followed_by-else-ext-3.result.word c.followed_by-else-ext-3.result.length l in
+    let whole =
+    ap (λ i. ((w0 ++ bits 11 i) ++ bits 1 r) ++ bits 2 0) value
+    ∙ head_standard f.id f.rtr r (ap (λ n. bits 1 n) bit ∙ bits_digit rtr)
     ∙ ap (λ e. head_bits e f.id f.rtr Recessive Dominant Dominant) (sym standard) in
     subst P whole p3

@@ -1,4 +1,4 @@
-use Rattle.std.proofs.Common.{◌≡◌, ◌+◌, ◌<◌, ◌≤◌, ◌∙◌, ◌++◌, ◌^◌, Bool, true, false, List, length, take, ap, sym, subst, arith, append_assoc}
+use Rattle.std.proofs.Common.{◌≡◌, ◌+◌, ◌<◌, ◌≤◌, ◌∙◌, ◌++◌, ◌^◌, List, length, take, ap, sym, subst, arith, append_assoc}
 use Rattle.std.specs.List.{flat_map}
 use Rattle.std.proofs.lemmas.List.{append-nil, length-append, length-take-le, take_all}
 use Rattle.can_frame.specs.Frame.{FrameValue}
@@ -6,25 +6,25 @@ use Rattle.can_bits.specs.declared.level.Level.{Level}
 use Rattle.can_bits.specs.declared.level.Level.TheVariants.{Dominant, Recessive}
 use Rattle.can_bits.specs.Digits.{bits}
 use Rattle.can_bits.specs.Body.{head_bits}
-use Rattle.can_bits.specs.Fields.{dlc_place}
 use Rattle.can_bits.specs.Packing.{Packs}
 use Rattle.can_bits.proofs.Values.{length-bits}
 use Rattle.can_bits.proofs.Whole.Bytes.{length_bytes}
 use Rattle.can_bits.proofs.FieldLemmas.{length_head}
 use Rattle.can_bits.proofs.Packing.Frames.{count_most}
-use Rattle.can_bits.proofs.Packing.Bodies.{sent_more}
+use Rattle.can_bits.proofs.Packing.Bodies.{sent_more, dlc_place-most}
 use Rattle.can_bits.proofs.sent_body.SentBody.of.Goals as goal
-
--- a DLC begins at 35 or before
-dlc_place-most : (e : Bool) → dlc_place e ≤ 35
-dlc_place-most false = omega arith
-dlc_place-most true = omega arith
 
 -- the levels before the data
 front_most : (f : FrameValue) → length (head_bits f.ext f.id f.rtr Recessive Dominant Dominant ++ bits 4 f.dlc) ≤ 39
 front_most f =
     let head : List Level = head_bits f.ext f.id f.rtr Recessive Dominant Dominant in
-    omega (arith, length-append head (bits 4 f.dlc), length-bits 4 f.dlc, length_head f.ext f.id f.rtr Recessive Dominant Dominant, dlc_place-most f.ext)
+    omega (
+      arith,
+      length-append head (bits 4 f.dlc),
+      length-bits 4 f.dlc,
+      length_head f.ext f.id f.rtr Recessive Dominant Dominant,
+      dlc_place-most f.ext,
+    )
 
 pub loop-byte-init : goal.loop-byte-init
 loop-byte-init c =
@@ -33,7 +33,9 @@ loop-byte-init c =
     let dlc = c.from.ensures ∙ c.dlc.ensures.value in
     let small = c.dlc.ensures.valid.dlc in
     let count = length_head f.ext f.id f.rtr Recessive Dominant Dominant in
-    let coded = c.followed_by-body.ensures head c.head_of.ensures (omega (arith, count, dlc_place-most f.ext)) (omega (arith, dlc, small)) in
+    let coded =
+    c.followed_by-body.ensures head c.head_of.ensures (omega (arith, count, dlc_place-most f.ext))
+    (omega (arith, dlc, small)) in
     let P : List Level → Type 0 = λ l. Packs c.followed_by-body.result.word c.followed_by-body.result.length l in
     subst P (ap (λ n. head ++ bits 4 n) dlc ∙ sym (append-nil (head ++ bits 4 f.dlc))) coded
 
@@ -50,12 +52,22 @@ loop-byte-preserved c =
     let most = count_most f.rtr f.dlc in
     let so_far : List Level = flat_map (bits 8) (take k bytes) in
     let room : length (front ++ so_far) + 8 ≤ 118 =
-    omega (arith, front_count, length-append front so_far, length_bytes (take k bytes), length-take-le k bytes (omega (arith, below)), below, many, most) in
+    omega (
+      arith,
+      front_count,
+      length-append front so_far,
+      length_bytes (take k bytes),
+      length-take-le k bytes (omega (arith, below)),
+      below,
+      many,
+      most,
+    ) in
     let byte = c.from-in-loop-byte.ensures in
     let fits = c.type_inv.byte-items k in
     let small : c.from-in-loop-byte.result < 2 ^ 8 = omega (arith, byte, fits) in
     let packed = c.followed_by-body-in-loop-byte.ensures (front ++ so_far) c.loop-byte.invariant room small in
-    let P : List Level → Type 0 = λ l. Packs c.followed_by-body-in-loop-byte.result.word c.followed_by-body-in-loop-byte.result.length l in
+    let P : List Level → Type 0 =
+    λ l. Packs c.followed_by-body-in-loop-byte.result.word c.followed_by-body-in-loop-byte.result.length l in
     subst P (ap (λ n. (front ++ so_far) ++ bits 8 n) byte ∙ sent_more front bytes k below) packed
 
 pub returns-clause-packs : goal.returns-clause-packs
@@ -66,4 +78,5 @@ returns-clause-packs c =
     let head : List Level = head_bits f.ext f.id f.rtr Recessive Dominant Dominant in
     let P : List Level → Type 0 = λ l. Packs c.loop-byte.body.word c.loop-byte.body.length l in
     let all : take k bytes ≡ f.bytes = take_all k bytes c.loop-byte-test.false ∙ c.bytes-byte-items.ensures.value in
-    subst P (ap (λ l. (head ++ bits 4 f.dlc) ++ flat_map (bits 8) l) all ∙ append_assoc head (bits 4 f.dlc) (flat_map (bits 8) f.bytes)) c.loop-byte.invariant
+    subst P (ap (λ l. (head ++ bits 4 f.dlc) ++ flat_map (bits 8) l) all
+    ∙ append_assoc head (bits 4 f.dlc) (flat_map (bits 8) f.bytes)) c.loop-byte.invariant

@@ -10,4 +10,5 @@ use Rattle.can_bits.proofs.sent_body.SentBody.of.Given as goal
 abbrev pub invariant-loop-byte : goal.invariant-loop-byte
 invariant-loop-byte l =
     Packs l.body.word l.body.length
-    ((head_bits l.frame.ext l.frame.id l.frame.rtr Recessive Dominant Dominant ++ bits 4 l.frame.dlc) ++ flat_map (bits 8) (take l.byte-index l.byte-items))
+    ((head_bits l.frame.ext l.frame.id l.frame.rtr Recessive Dominant Dominant ++ bits 4 l.frame.dlc)
+    ++ flat_map (bits 8) (take l.byte-index l.byte-items))

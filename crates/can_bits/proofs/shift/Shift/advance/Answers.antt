@@ -9,25 +9,31 @@ use Rattle.can_bits.proofs.shift.Shift.advance.Goals as goal
 pub returns-in-Some-clause-judged : goal.returns-in-Some-clause-judged
 returns-in-Some-clause-judged c l h right =
     let s = c.args.self.now in
-    absurd (broke_not_readable s l c.in-Some.wrong (subst (λ (o : Option ShiftFault). StandsBy o s l) c.in-Some.is h) right)
+    absurd (broke_not_readable s l c.in-Some.wrong (subst (λ (o : Option ShiftFault). StandsBy o s l) c.in-Some.is h)
+    right)
 
-pub returns-in-Part-clause-judged : goal.returns-in-Part-clause-judged
-returns-in-Part-clause-judged c l h right = c.advance_inside.ensures.judged l (reads_inside c.args.self.now l c.in-Part.is h right)
+pub returns-in-Stuffed-clause-judged : goal.returns-in-Stuffed-clause-judged
+returns-in-Stuffed-clause-judged c l h right =
+    c.advance_inside.ensures.judged l (reads_inside c.args.self.now l c.in-Stuffed.is h right)
 
-pub returns-in-After-clause-judged : goal.returns-in-After-clause-judged
-returns-in-After-clause-judged c l h right = c.advance_past.ensures.judged l (reads_past c.args.self.now l c.in-After.n c.in-After.is h right)
+pub returns-in-FixedForm-clause-judged : goal.returns-in-FixedForm-clause-judged
+returns-in-FixedForm-clause-judged c l h right =
+    c.advance_past.ensures.judged l (reads_past c.args.self.now l c.in-FixedForm.n c.in-FixedForm.is h right)
 
 pub returns-in-Some-clause-again : goal.returns-in-Some-clause-again
 returns-in-Some-clause-again c l front later y h right wrong whole =
     let s = c.args.self.now in
-    judged_again s l front later y c.in-Some.wrong (subst (λ (o : Option ShiftFault). StandsBy o s l) c.in-Some.is h) right wrong whole
+    judged_again s l front later y c.in-Some.wrong (subst (λ (o : Option ShiftFault). StandsBy o s l) c.in-Some.is h)
+    right wrong whole
 
-pub returns-in-Part-clause-again : goal.returns-in-Part-clause-again
-returns-in-Part-clause-again c l front later y h right wrong whole =
+pub returns-in-Stuffed-clause-again : goal.returns-in-Stuffed-clause-again
+returns-in-Stuffed-clause-again c l front later y h right wrong whole =
     let s = c.args.self.now in
-    absurd (never_broke s l front later y (subst (λ (o : Option ShiftFault). StandsBy o s l) c.in-None.is h) wrong whole)
+    absurd (never_broke s l front later y (subst (λ (o : Option ShiftFault). StandsBy o s l) c.in-None.is h) wrong
+    whole)
 
-pub returns-in-After-clause-again : goal.returns-in-After-clause-again
-returns-in-After-clause-again c l front later y h right wrong whole =
+pub returns-in-FixedForm-clause-again : goal.returns-in-FixedForm-clause-again
+returns-in-FixedForm-clause-again c l front later y h right wrong whole =
     let s = c.args.self.now in
-    absurd (never_broke s l front later y (subst (λ (o : Option ShiftFault). StandsBy o s l) c.in-None.is h) wrong whole)
+    absurd (never_broke s l front later y (subst (λ (o : Option ShiftFault). StandsBy o s l) c.in-None.is h) wrong
+    whole)

@@ -1,12 +1,12 @@
 use Rattle.std.proofs.Common.{◌≡◌, ◌+◌, ◌%◌, ◌++◌, ◌∷◌, [], ℕ, List, false, Option, Some, refl, sym, subst, arith}
 use Rattle.can_bits.specs.declared.level.Level.{Level}
 use Rattle.can_bits.specs.declared.segment.Segment.{Segment}
-use Rattle.can_bits.specs.declared.stage.Stage.{Stage}
-use Rattle.can_bits.specs.declared.stage.Stage.TheVariants.{After}
+use Rattle.can_bits.specs.declared.frame_part.FramePart.{FramePart}
+use Rattle.can_bits.specs.declared.frame_part.FramePart.TheVariants.{FixedForm}
 use Rattle.can_bits.specs.declared.shift.Shift.{Shift}
 use Rattle.can_bits.specs.declared.shift_fault.ShiftFault.{ShiftFault}
 use Rattle.can_bits.specs.Segments.{IsNext}
-use Rattle.can_bits.specs.Machine.Stages.{IsPast, ReadsAt}
+use Rattle.can_bits.specs.Machine.FrameParts.{IsPast, ReadsAt}
 use Rattle.can_bits.specs.Shifts.{StandsBy, StandsFor, JudgesAt}
 use Rattle.can_bits.proofs.Reader.Past.{past_next, past_readable}
 use Rattle.can_bits.proofs.Reader.Take.{past_small}
@@ -22,14 +22,17 @@ returns-in-Some-clause-stands c l h =
     let w : ShiftFault = record { segment = c.segment_after.result; stuff = false; fault = c.in-Some.fault } in
     let s : Shift = record c.args.self.now { wrong = Some w } in
     let P : Shift → Type 0 = λ t. StandsFor t (l ++ c.args.level ∷ []) in
-    let R : Stage → Type 0 = λ e. ReadsAt e s l in
-    let event = wrong_event l c.args.level w (place c.segment_after.ensures (past_next c.args.n l h)) (c.in-Some.ensures.broken l h) in
+    let R : FramePart → Type 0 = λ e. ReadsAt e s l in
+    let event =
+    wrong_event l c.args.level w (place c.segment_after.ensures (past_next c.args.n l h))
+    (c.in-Some.ensures.broken l h) in
     subst P (sym c.keep_fault.ensures.kept) (broke_here s l c.args.level w (subst R (sym c.requires.past) h) event)
 
 pub returns-in-Some-clause-judged : goal.returns-in-Some-clause-judged
 returns-in-Some-clause-judged c l h =
     let P : ShiftFault → Type 0 = λ w. JudgesAt l c.args.level (Some w) in
-    subst P (sym c.keep_fault.ensures.fault) (place c.segment_after.ensures (past_next c.args.n l h), c.in-Some.ensures.broken l h)
+    subst P (sym c.keep_fault.ensures.fault)
+    (place c.segment_after.ensures (past_next c.args.n l h), c.in-Some.ensures.broken l h)
 
 pub returns-in-None-clause-stands : goal.returns-in-None-clause-stands
 returns-in-None-clause-stands c l h =
@@ -45,7 +48,7 @@ returns-in-None-clause-stands c l h =
       last = old.last;
       run = old.run;
       gathered = old.gathered;
-      stage = After ((c.args.n + 1) % 256);
+      frame_part = FixedForm ((c.args.n + 1) % 256);
       wrong = old.wrong;
     } in
     let P : ℕ → Type 0 = λ k. IsPast k old.gathered ((old.count + 1) % 256) m in
@@ -54,4 +57,5 @@ returns-in-None-clause-stands c l h =
     subst R (sym c.requires.right) (subst P (sym place_) (subst Q (sym count) next))
 
 pub returns-in-None-clause-judged : goal.returns-in-None-clause-judged
-returns-in-None-clause-judged c l h = past_readable (c.args.n + 1) (l ++ c.args.level ∷ []) (c.in-None.ensures.goes_on l h refl)
+returns-in-None-clause-judged c l h =
+    past_readable (c.args.n + 1) (l ++ c.args.level ∷ []) (c.in-None.ensures.goes_on l h refl)

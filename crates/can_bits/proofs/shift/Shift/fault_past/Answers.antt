@@ -1,7 +1,7 @@
 use Rattle.std.proofs.Common.{◌≡◌, ◌+◌, ◌∙◌, ◌++◌, ◌∷◌, [], ℕ, refl, sym, subst, arith}
 use Rattle.can_bits.specs.Check.{Crc}
 use Rattle.can_bits.specs.Reading.{SaysWhetherRight}
-use Rattle.can_bits.specs.Machine.Stages.{IsPast}
+use Rattle.can_bits.specs.Machine.FrameParts.{IsPast}
 use Rattle.can_bits.proofs.Values.{recessive_by, dominant_by}
 use Rattle.can_bits.proofs.Reader.Past.{past_slot, past_form, past_recessive, past_wrong, past_trailing}
 use Rattle.can_bits.proofs.shift.Shift.fault_past.Goals.{else-n-eq2-via-then-n-eq2+else-not-check_is_right, else-n-eq2-via-else-n-eq2}
@@ -17,7 +17,8 @@ returns-then-n-eq1-clause-goes_on c l h none =
 pub returns-then-not-is_recessive-clause-broken : goal.returns-then-not-is_recessive-clause-broken
 returns-then-not-is_recessive-clause-broken c l h =
     let dominant = dominant_by c.args.level (sym c.is_recessive.ensures ∙ c.if-not-is_recessive.true) in
-    let (none, outside, open_, count) = past_form c.args.n l c.args.level h (omega (arith, c.if-n-ge10.false)) c.if-n-eq1.false dominant in
+    let (none, outside, open_, count) =
+    past_form c.args.n l c.args.level h (omega (arith, c.if-n-ge-LINE_END.false)) c.if-n-eq1.false dominant in
     (none, outside, open_, c.from-at.ensures ∙ count)
 
 pub returns-else-n-eq2-clause-goes_on : goal.returns-else-n-eq2-clause-goes_on
@@ -29,11 +30,11 @@ returns-else-n-eq2-clause-goes_on c l h none =
           (b.check_is_right.ensures (h.body ++ h.check) h.body h.check h.gathers refl h.is_part.check)
       | else-n-eq2-via-else-n-eq2 b ↦ absurd (b.if-n-eq2.false two)
     ] in
-    past_recessive c.args.n l c.args.level h (omega (arith, c.if-n-ge10.false)) c.if-n-eq1.false recessive right
+    past_recessive c.args.n l c.args.level h (omega (arith, c.if-n-ge-LINE_END.false)) c.if-n-eq1.false recessive right
 
-pub returns-then-n-ge10-clause-broken : goal.returns-then-n-ge10-clause-broken
-returns-then-n-ge10-clause-broken c l h =
-    let (over, count) = past_trailing c.args.n l c.args.level h c.if-n-ge10.true in
+pub returns-then-n-ge-LINE_END-clause-broken : goal.returns-then-n-ge-LINE_END-clause-broken
+returns-then-n-ge-LINE_END-clause-broken c l h =
+    let (over, count) = past_trailing c.args.n l c.args.level h c.if-n-ge-LINE_END.true in
     (over, c.from-at.ensures ∙ count)
 
 pub returns-then-not-check_is_right-clause-broken : goal.returns-then-not-check_is_right-clause-broken
@@ -43,4 +44,5 @@ returns-then-not-check_is_right-clause-broken c l h =
     let two = subst P c.if-n-eq2.true h in
     let wrong = subst (λ r. SaysWhetherRight r two.body two.check) c.if-not-check_is_right.true
     (c.check_is_right.ensures (two.body ++ two.check) two.body two.check two.gathers refl two.is_part.check) in
-    past_wrong l c.args.level two wrong (recessive_by c.args.level (sym c.is_recessive.ensures ∙ c.if-not-is_recessive.false))
+    past_wrong l c.args.level two wrong
+    (recessive_by c.args.level (sym c.is_recessive.ensures ∙ c.if-not-is_recessive.false))

@@ -7,5 +7,6 @@ pub returns : goal.returns
 returns c l h = (
   λ t. over_by l (c.is_past.ensures.yes l h t),
   λ over. let but = over.1 in
-      c.is_past.ensures.only over.0 l but.body but.check but.line.part (tail but.ack) h (over_readable l over) but.line.is_part (over_part l over) refl,
+      c.is_past.ensures.only over.0 l but.body but.check but.line.part (tail but.ack) h (over_readable l over)
+      but.line.is_part (over_part l over) refl,
 )

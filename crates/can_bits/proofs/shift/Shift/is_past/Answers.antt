@@ -8,13 +8,14 @@ use Rattle.can_bits.proofs.shift.Shift.is_past.Goals as goal
 pub returns-in-Some-clause-only : goal.returns-in-Some-clause-only
 returns-in-Some-clause-only c f l b check part after h right is_part whole count =
     let s = c.args.self.now in
-    absurd (broke_not_readable s l c.in-Some.field-0 (subst (λ (o : Option ShiftFault). StandsBy o s l) c.in-Some.is h) right)
+    absurd (broke_not_readable s l c.in-Some.field-0 (subst (λ (o : Option ShiftFault). StandsBy o s l) c.in-Some.is h)
+    right)
 
-pub returns-in-Part-clause-only : goal.returns-in-Part-clause-only
-returns-in-Part-clause-only c f l b check part after h right is_part whole count =
-    absurd (inside_no_part l part after (inside_now c.args.self.now l c.in-None.is c.in-Part.is h) is_part whole)
+pub returns-in-Stuffed-clause-only : goal.returns-in-Stuffed-clause-only
+returns-in-Stuffed-clause-only c f l b check part after h right is_part whole count =
+    absurd (inside_no_part l part after (inside_now c.args.self.now l c.in-None.is c.in-Stuffed.is h) is_part whole)
 
-pub returns-in-After-clause-only : goal.returns-in-After-clause-only
-returns-in-After-clause-only c f l b check part after h right is_part whole count =
-    let past = past_now c.args.self.now l c.in-After.n c.in-None.is c.in-After.is h in
-    eq-eqb c.in-After.n c.args.count (past_count c.in-After.n l part after past is_part whole ∙ count)
+pub returns-in-FixedForm-clause-only : goal.returns-in-FixedForm-clause-only
+returns-in-FixedForm-clause-only c f l b check part after h right is_part whole count =
+    let past = past_now c.args.self.now l c.in-FixedForm.n c.in-None.is c.in-FixedForm.is h in
+    eq-eqb c.in-FixedForm.n c.args.count (past_count c.in-FixedForm.n l part after past is_part whole ∙ count)

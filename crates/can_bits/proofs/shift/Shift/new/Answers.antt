@@ -8,7 +8,10 @@ use Rattle.can_bits.proofs.shift.Shift.new.Goals as goal
 pub returns : goal.returns
 returns c = record {
   bits = [];
-  part = record { so_far = so_far_by {l = []} (Holds-nothing Recessive) (nothing Recessive); goes_on = IsBefore-nothing.goes_on };
+  part = record {
+    so_far = so_far_by {l = []} (Holds-nothing Recessive) (nothing Recessive);
+    goes_on = IsBefore-nothing.goes_on;
+  };
   gathers = c.new.ensures;
   count = refl;
 }

@@ -18,18 +18,19 @@ pub returns-in-Some-advance-clause-told : goal.returns-in-Some-advance-clause-to
 returns-in-Some-advance-clause-told c l h =
     let s = c.args.self.now in
     let P : Option ShiftFault → Type 0 = λ o. StandsBy o s l in
-    let right = reads_readable s.stage s l (subst P c.in-None.is h) in
+    let right = reads_readable s.frame_part s l (subst P c.in-None.is h) in
     let J : Option ShiftFault → Type 0 = λ o. JudgesAt l c.args.level o in
     let broke = subst J c.in-Some-advance.is (c.advance.ensures.judged l h right) in
     let Q : ShiftEvent → Type 0 = λ e. Tells l c.args.level e in
     subst Q (sym c.event-in-Some-advance.ensures)
-    (tells_right l c.args.level (fault_event c.in-Some-advance.wrong) right (wrong_event l c.args.level c.in-Some-advance.wrong broke.0 broke.1))
+    (tells_right l c.args.level (fault_event c.in-Some-advance.wrong) right
+    (wrong_event l c.args.level c.in-Some-advance.wrong broke.0 broke.1))
 
 pub returns-in-None-advance-clause-told : goal.returns-in-None-advance-clause-told
 returns-in-None-advance-clause-told c l h =
     let s = c.args.self.now in
     let P : Option ShiftFault → Type 0 = λ o. StandsBy o s l in
-    let right = reads_readable s.stage s l (subst P c.in-None.is h) in
+    let right = reads_readable s.frame_part s l (subst P c.in-None.is h) in
     let J : Option ShiftFault → Type 0 = λ o. JudgesAt l c.args.level o in
     let on = subst J c.in-None-advance.is (c.advance.ensures.judged l h right) in
     let N : Bool → Type 0 = λ b. IsNext l c.segment_here-segment.result b in

@@ -12,7 +12,8 @@ returns-then-is_right_inside-clause-exactly c l h =
     let inside = inside_now s l (is.no_fault t) (is.in_part t) h in
     let new = c.take_right.new.self in
     let reads = c.take_right.ensures.stands l inside (λ zero. absurd (is.begun t zero)) (is.differs t) in (
-      λ _. right_by s l c.args.level (is.no_fault t) (is.in_part t) (is.begun t) h (reads_readable new.stage new (l ++ c.args.level ∷ []) reads),
+      λ _. right_by s l c.args.level (is.no_fault t) (is.in_part t) (is.begun t) h
+          (reads_readable new.frame_part new (l ++ c.args.level ∷ []) reads),
       λ _. refl,
     )
 
@@ -24,4 +25,4 @@ returns-then-is_right_inside-clause-inside c _ l h =
     let inside = inside_now s l (is.no_fault t) (is.in_part t) h in
     let new = c.take_right.new.self in
     let reads = c.take_right.ensures.stands l inside (λ zero. absurd (is.begun t zero)) (is.differs t) in
-    early_tells new.stage new (l ++ c.args.level ∷ []) c.take_right.ensures.early reads
+    early_tells new.frame_part new (l ++ c.args.level ∷ []) c.take_right.ensures.early reads

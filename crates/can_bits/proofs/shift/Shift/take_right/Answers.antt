@@ -4,11 +4,11 @@ use Rattle.std.proofs.lemmas.List.{length_push}
 use Rattle.can_bits.specs.declared.level.Level.{Level}
 use Rattle.can_bits.specs.declared.level.Level.TheVariants.{Dominant}
 use Rattle.can_bits.specs.declared.gathered.Gathered.{Gathered}
-use Rattle.can_bits.specs.declared.stage.Stage.{Stage}
+use Rattle.can_bits.specs.declared.frame_part.FramePart.{FramePart}
 use Rattle.can_bits.specs.declared.shift.Shift.{Shift}
 use Rattle.can_bits.specs.Machine.Gathering.{Gathers}
 use Rattle.can_bits.specs.Machine.PartSoFar.{IsPartSoFar}
-use Rattle.can_bits.specs.Machine.Stages.{IsInside, ReadsAt}
+use Rattle.can_bits.specs.Machine.FrameParts.{IsInside, ReadsAt}
 use Rattle.can_bits.proofs.Whole.Steps.{room_left}
 use Rattle.can_bits.proofs.Reader.Inside.{holds_by, before_by}
 use Rattle.can_bits.proofs.Reader.Take.{count_small, so_far_next, part_here}
@@ -22,9 +22,11 @@ record Taken (l : List Level) (x : Level) (run : ℕ) (g : Gathered) : Type 0 wh
   gathers : Gathers g plain
 
 -- a right level is taken
-taken : (old : Shift) (l : List Level) (x : Level) (run : ℕ) (g : Gathered) → IsInside old.gathered old.count old.last old.run l →
+taken : (old : Shift) (l : List Level) (x : Level) (run : ℕ) (g : Gathered) →
+    IsInside old.gathered old.count old.last old.run l →
     (old.count ≡ 0 → x ≡ Dominant) → (old.run ≡ 5 → x ≢ old.last) →
-    ((w : List Level) → Gathers old.gathered w → length w < 118 → old.run ≢ 5 → Gathers g (w ++ x ∷ [])) → (old.run ≡ 5 → g ≡ old.gathered) →
+    ((w : List Level) → Gathers old.gathered w → length w < 118 → old.run ≢ 5 → Gathers g (w ++ x ∷ [])) →
+    (old.run ≡ 5 → g ≡ old.gathered) →
     (x ≡ old.last → old.run < 5 → run ≡ old.run + 1) → (x ≢ old.last → run ≡ 1) → Taken l x run g
 taken old l x run g h start differs bit stuff_bit same fresh =
     let w : List Level = h.bits in
@@ -48,60 +50,60 @@ taken old l x run g h start differs bit stuff_bit same fresh =
           }
     ]
 
--- one level more has come
-counted : (old : Shift) (l : List Level) (x : Level) (came : ℕ) → IsInside old.gathered old.count old.last old.run l → came ≡ old.count →
-    (came + 1) % 256 ≡ length (l ++ x ∷ [])
-counted old l x came h same =
+-- the reader with a level more, but for the part of the frame
+abbrev with_level : Shift → Level → ℕ → Shift
+with_level n x run =
+    record {
+      count = (n.count + 1) % 256;
+      last = x;
+      run = run;
+      gathered = n.gathered;
+      frame_part = n.frame_part;
+      wrong = n.wrong;
+    }
+
+-- a right level is taken where only what is gathered has changed, and is counted
+taken_next : (old n : Shift) (l : List Level) (x : Level) (run : ℕ) →
+    IsInside old.gathered old.count old.last old.run l →
+    (old.count ≡ 0 → x ≡ Dominant) → (old.run ≡ 5 → x ≢ old.last) → n ≡ record old { gathered = n.gathered } →
+    ((w : List Level) → Gathers old.gathered w → length w < 118 → old.run ≢ 5 → Gathers n.gathered (w ++ x ∷ [])) →
+    (old.run ≡ 5 → n.gathered ≡ old.gathered) → (x ≡ n.last → n.run < 5 → run ≡ n.run + 1) → (x ≢ n.last → run ≡ 1) →
+    Taken l x run n.gathered × ((n.count + 1) % 256 ≡ length (l ++ x ∷ []))
+taken_next old n l x run h start differs kept bit stuff_bit same fresh =
+    let last : n.last ≡ old.last = ap (λ (s : Shift). s.last) kept in
+    let ran : n.run ≡ old.run = ap (λ (s : Shift). s.run) kept in
+    let came : n.count ≡ old.count = ap (λ (s : Shift). s.count) kept in
     let small = count_small h.part.so_far in
-    let count = h.count in
-    omega (arith, same, small, count, length_push l x)
+    let count = h.count in (
+      taken old l x run n.gathered h start differs bit stuff_bit
+          (λ like less. same (like ∙ sym last) (omega (arith, ran, less)) ∙ omega (arith, ran))
+          (λ other. fresh (λ e. other (e ∙ last))),
+      omega (arith, came, small, count, length_push l x),
+    )
 
 pub returns-then-is_whole-clause-stands : goal.returns-then-is_whole-clause-stands
 returns-then-is_whole-clause-stands c l h start differs =
-    let old = c.args.self.now in
-    let x = c.args.level in
     let n = c.gather_unless_stuff.new.self in
-    let kept = c.gather_unless_stuff.ensures.kept in
-    let last : n.last ≡ old.last = ap (λ (s : Shift). s.last) kept in
-    let ran : n.run ≡ old.run = ap (λ (s : Shift). s.run) kept in
-    let t = taken old l x c.run_after-self.result n.gathered h start differs c.gather_unless_stuff.ensures.bit c.gather_unless_stuff.ensures.stuff_bit
-    (λ like less. c.run_after-self.ensures.same (like ∙ sym last) (omega (arith, ran, less)) ∙ omega (arith, ran))
-    (λ other. c.run_after-self.ensures.other (λ e. other (e ∙ last))) in
-    let whole = (c.is_whole.ensures t.plain t.gathers).0 c.if-is_whole.true in
+    let (t, counted) = taken_next c.args.self.now n l c.args.level c.run_after-self.result h start differs
+    c.gather_unless_stuff.ensures.kept c.gather_unless_stuff.ensures.bit c.gather_unless_stuff.ensures.stuff_bit
+    c.run_after-self.ensures.same c.run_after-self.ensures.other in
     let e = c.end_part_unless_stuff in
-    let before : Shift = record {
-      count = (n.count + 1) % 256;
-      last = x;
-      run = c.run_after-self.result;
-      gathered = n.gathered;
-      stage = n.stage;
-      wrong = n.wrong;
-    } in
-    let reads = e.ensures.stands (l ++ x ∷ []) t.plain t.so_far t.gathers (counted old l x n.count h (ap (λ (s : Shift). s.count) kept)) whole in
-    let P : Shift → Type 0 = λ (s : Shift). ReadsAt e.new.self.stage s (l ++ x ∷ []) in
-    subst P (sym e.ensures.kept) (reads_moved e.new.self.stage e.new.self.stage before (l ++ x ∷ []) reads)
+    let whole = (c.is_whole.ensures t.plain t.gathers).0 c.if-is_whole.true in
+    let reads = e.ensures.stands (l ++ c.args.level ∷ []) t.plain t.so_far t.gathers counted whole in
+    let P : Shift → Type 0 = λ (s : Shift). ReadsAt e.new.self.frame_part s (l ++ c.args.level ∷ []) in
+    let before = with_level n c.args.level c.run_after-self.result in
+    subst P (sym e.ensures.kept) (reads_moved e.new.self.frame_part e.new.self.frame_part before
+    (l ++ c.args.level ∷ []) reads)
 
 pub returns-else-is_whole-clause-stands : goal.returns-else-is_whole-clause-stands
 returns-else-is_whole-clause-stands c l h start differs =
-    let old = c.args.self.now in
-    let x = c.args.level in
     let n = c.gather_unless_stuff.new.self in
-    let kept = c.gather_unless_stuff.ensures.kept in
-    let last : n.last ≡ old.last = ap (λ (s : Shift). s.last) kept in
-    let ran : n.run ≡ old.run = ap (λ (s : Shift). s.run) kept in
-    let t = taken old l x c.run_after-self.result n.gathered h start differs c.gather_unless_stuff.ensures.bit c.gather_unless_stuff.ensures.stuff_bit
-    (λ like less. c.run_after-self.ensures.same (like ∙ sym last) (omega (arith, ran, less)) ∙ omega (arith, ran))
-    (λ other. c.run_after-self.ensures.other (λ e. other (e ∙ last))) in
+    let (t, counted) = taken_next c.args.self.now n l c.args.level c.run_after-self.result h start differs
+    c.gather_unless_stuff.ensures.kept c.gather_unless_stuff.ensures.bit c.gather_unless_stuff.ensures.stuff_bit
+    c.run_after-self.ensures.same c.run_after-self.ensures.other in
     let on = part_here t.so_far
-    (λ closed full. (let yes = (c.is_whole.ensures t.plain t.gathers).1 full in let no = c.if-is_whole.false in cc)) t.gathers
-    (counted old l x n.count h (ap (λ (s : Shift). s.count) kept)) in
-    let before : Shift = record {
-      count = (n.count + 1) % 256;
-      last = x;
-      run = c.run_after-self.result;
-      gathered = n.gathered;
-      stage = n.stage;
-      wrong = n.wrong;
-    } in
-    let P : Stage → Type 0 = λ (e : Stage). ReadsAt e before (l ++ x ∷ []) in
-    subst P (sym (ap (λ (s : Shift). s.stage) kept ∙ c.requires)) on
+    (λ closed full. (let yes = (c.is_whole.ensures t.plain t.gathers).1 full in let no = c.if-is_whole.false in cc))
+    t.gathers counted in
+    let P : FramePart → Type 0 =
+    λ (e : FramePart). ReadsAt e (with_level n c.args.level c.run_after-self.result) (l ++ c.args.level ∷ []) in
+    subst P (sym (ap (λ (s : Shift). s.frame_part) c.gather_unless_stuff.ensures.kept ∙ c.requires)) on

@@ -13,9 +13,11 @@ returns-then-not-is_in_progress c =
     let new : Node = record old { context = record old.context { held = None }; next = c.next_level-self.result } in
     let going = going_is old c.is_in_progress.result false c.if-not-is_in_progress.true c.is_in_progress.ensures in (
       λ entries found h.
-          stands_up new (entries ++ Abort ∷ []) found (dropped_stands old new c.in-Some.field-0 c.in-Some.is going refl refl refl entries found h)
+          stands_up new (entries ++ Abort ∷ []) found
+          (dropped_stands old new c.in-Some.field-0 c.in-Some.is going refl refl refl entries found h)
           (λ request e. absurd cc) c.next_level-self.ensures,
-      λ entries found h. abort_is old entries found h c.in-Some.field-0 false old.context.aborted c.in-Some.is (sym (going entries found h)) refl,
+      λ entries found h. abort_is old entries found h c.in-Some.field-0 false old.context.aborted c.in-Some.is
+          (sym (going entries found h)) refl,
     )
 
 pub returns-then-drops : goal.returns-then-drops
@@ -26,19 +28,25 @@ returns-then-drops c =
       refl,
       λ entries found h.
           ap (λ t. if t then Unchanged else Marked) (sym drops)
-          ∙ abort_is old entries found h c.in-Some.field-0 true old.context.aborted c.in-Some.is (sym (going entries found h)) refl,
+          ∙ abort_is old entries found h c.in-Some.field-0 true old.context.aborted c.in-Some.is
+          (sym (going entries found h)) refl,
     )
 
 pub returns-else-drops : goal.returns-else-drops
 returns-else-drops c =
     let old = c.args.self.now in
-    let new : Node = record old { context = record old.context { aborted = true }; next = c.next_level-self-else-drops.result } in
+    let new : Node = record old {
+      context = record old.context { aborted = true };
+      next = c.next_level-self-else-drops.result;
+    } in
     let going = going_is old c.is_in_progress.result true c.if-not-is_in_progress.false c.is_in_progress.ensures in
     let drops = sym (c.drops.ensures.some c.in-Some.field-0 c.in-Some.is) ∙ c.if-drops.false in (
       λ entries found h.
-          stands_up new (entries ++ Abort ∷ []) found (marked_stands old new c.in-Some.field-0 c.in-Some.is going refl refl refl entries found h)
+          stands_up new (entries ++ Abort ∷ []) found
+          (marked_stands old new c.in-Some.field-0 c.in-Some.is going refl refl refl entries found h)
           h.body c.next_level-self-else-drops.ensures,
       λ entries found h.
           ap (λ t. if t then Unchanged else Marked) (sym drops)
-          ∙ abort_is old entries found h c.in-Some.field-0 true old.context.aborted c.in-Some.is (sym (going entries found h)) refl,
+          ∙ abort_is old entries found h c.in-Some.field-0 true old.context.aborted c.in-Some.is
+          (sym (going entries found h)) refl,
     )

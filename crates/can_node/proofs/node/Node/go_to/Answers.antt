@@ -14,4 +14,5 @@ returns-in-Ended-clause-at c = λ d now place bits b few body same made.
     let Back : ContextValue → Type 0 = λ k. HoldsBack K k in
     let back = subst Back (sym (c.end_piece.ensures few)) (ended_held c.in-Ended.ending K) in
     let P : AfterBit → Type 0 = λ a. AtAfter a new.stage new.shift d (context_of new.context) place (bits ++ b ∷ []) in
-    subst P (sym c.in-Ended.is) (c.begin_place.ensures.at K (λ request e. body request (back request e)) (c.end_piece.ensures few))
+    subst P (sym c.in-Ended.is) (c.begin_place.ensures.at K (λ request e. body request (back request e))
+    (c.end_piece.ensures few))

@@ -1,12 +1,15 @@
 use Rattle.std.proofs.Common.{sym, ◌∙◌}
 use Rattle.can_node.specs.Machine.Standing.{context_of}
-use Rattle.can_node.proofs.Machine.FrameTurns.{recessive_if, dominant_if}
+use Rattle.can_bits.proofs.Values.{recessive_by, dominant_by}
 use Rattle.can_node.proofs.Machine.FrameDrives.{code_by}
 use Rattle.can_node.proofs.node.Node.lost_in_frame.Goals as goal
 
--- src/moving.rt
+-- src/arbitration.rt
 pub returns-then-not-is_recessive : goal.returns-then-not-is_recessive
 returns-then-not-is_recessive c = λ d place bits reading.
-    code_by c.args.self.now.shift d (context_of c.args.self.now.context) place bits c.args.driven c.args.seen c.in-Some.request c.ext.result c.place_code.result c.ext.ensures
-    c.in-Transmitter.is reading c.in-Some.is (recessive_if c.args.driven (sym c.is_recessive.ensures ∙ c.if-is_recessive.true))
-    (dominant_if c.args.seen (sym c.is_recessive-then-is_recessive.ensures ∙ c.if-not-is_recessive.true)) c.place_code.ensures
+    code_by c.args.self.now.shift d (context_of c.args.self.now.context) place bits c.args.driven c.args.seen
+    c.in-Some.request c.ext.result c.place_code.result c.ext.ensures
+    c.in-Transmitter.is reading c.in-Some.is
+    (recessive_by c.args.driven (sym c.is_recessive.ensures ∙ c.if-is_recessive.true))
+    (dominant_by c.args.seen (sym c.is_recessive-then-is_recessive.ensures ∙ c.if-not-is_recessive.true))
+    c.place_code.ensures

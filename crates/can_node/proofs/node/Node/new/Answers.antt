@@ -7,5 +7,12 @@ use Rattle.can_node.proofs.node.Node.new.Goals as goal
 -- src/node.rt
 pub returns-clause-stands : goal.returns-clause-stands
 returns-clause-stands c =
-    let node : Node = record { context = c.new.result; stage = _; shift = c.new-2.result; body = c.empty.result; next = _ } in
-    stands_up node [] [] (new_stands node refl c.new.ensures) (new_holds node c.new.ensures) (reset_drives node node.next refl refl)
+    let node : Node = record {
+      context = c.new.result;
+      stage = _;
+      shift = c.new-2.result;
+      body = c.empty.result;
+      next = _;
+    } in
+    stands_up node [] [] (new_stands node refl c.new.ensures) (new_holds node c.new.ensures)
+    (reset_drives node node.next refl refl)

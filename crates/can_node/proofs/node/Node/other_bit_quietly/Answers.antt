@@ -6,4 +6,5 @@ use Rattle.can_node.proofs.node.Node.other_bit_quietly.Goals as goal
 pub returns-else-ne-clause-quiet : goal.returns-else-ne-clause-quiet
 returns-else-ne-clause-quiet c = λ goes.
     quietly c.args.self.now _ c.args.level refl refl
-    (goes_elsewhere c.args.self.now c.in-Some.stage c.next_level-self.result c.args.level (c.quiet_stage.ensures c.in-Some.stage c.in-Some.is) c.next_level-self.ensures)
+    (goes_elsewhere c.args.self.now c.in-Some.stage c.next_level-self.result c.args.level
+    (c.quiet_stage.ensures c.in-Some.stage c.in-Some.is) c.next_level-self.ensures)

@@ -1,7 +1,7 @@
 use Rattle.std.proofs.Common.{sym, ◌∙◌}
 use Rattle.can_node.specs.Machine.Standing.{context_of}
-use Rattle.can_node.proofs.Machine.Ats.{at_integrating, at_flagging, at_delimiting, at_interframe}
-use Rattle.can_node.proofs.Machine.QuietPlaces.{integrates_quietly, flags_quietly, delimits_quietly, pauses_quietly}
+use Rattle.can_node.proofs.Machine.Ats.{at_integration, at_flag, at_delimiter, at_interframe_space}
+use Rattle.can_node.proofs.Machine.QuietPlaces.{integrates_quietly, flags_quietly, delimits_quietly, interframes_quietly}
 use Rattle.can_node.proofs.node.Node.quiet_stage.Goals as goal
 
 -- src/quiet.rt
@@ -9,34 +9,43 @@ pub returns-else-run-eq10 : goal.returns-else-run-eq10
 returns-else-run-eq10 c = λ to goes d place bits at kept drives.
     let old = c.args.self.now in
     let now = context_of old.context in
-    integrates_quietly c.in-Integrating.left c.in-Integrating.run' old.stage to c.after_integration_bit.result old.shift d now place bits old.next c.args.level
+    integrates_quietly c.in-Integrating.left c.in-Integrating.run' old.stage to c.after_integration_bit.result old.shift
+    d now place bits old.next c.args.level
     c.in-Integrating.is c.if-run-eq10.false at (sym goes ∙ c.stage.ensures)
-    (at_integrating c.in-Integrating.left c.in-Integrating.run' old.stage old.shift d now place bits old.next c.args.level c.after_integration_bit.result
+    (at_integration c.in-Integrating.left c.in-Integrating.run' old.stage old.shift d now place bits old.next
+    c.args.level c.after_integration_bit.result
     c.in-Integrating.is at drives c.after_integration_bit.ensures)
 
 pub returns-else-self : goal.returns-else-self
 returns-else-self c = λ to goes d place bits at kept drives.
     let old = c.args.self.now in
     let now = context_of old.context in
-    flags_quietly c.in-InFlag.bits c.in-InFlag.last old.stage to c.after_flag_bit.result old.shift d now place bits old.next c.args.level
+    flags_quietly c.in-InFlag.bits c.in-InFlag.last old.stage to c.after_flag_bit.result old.shift d now place bits
+    old.next c.args.level
     c.in-InFlag.is c.if-self.false at (sym goes ∙ c.stage-else-self.ensures)
-    (at_flagging c.in-InFlag.bits c.in-InFlag.last old.stage old.shift d now place bits old.next c.args.level c.after_flag_bit.result
+    (at_flag c.in-InFlag.bits c.in-InFlag.last old.stage old.shift d now place bits old.next c.args.level
+    c.after_flag_bit.result
     c.in-InFlag.is at kept drives c.after_flag_bit.ensures)
 
 pub returns-else-may_count : goal.returns-else-may_count
 returns-else-may_count c = λ to goes d place bits at kept drives.
     let old = c.args.self.now in
     let now = context_of old.context in
-    delimits_quietly c.in-InDelimiter.dominant c.in-InDelimiter.recessive old.stage to c.after_delimiter_bit.result old.shift d now place bits old.next c.args.level
+    delimits_quietly c.in-InDelimiter.dominant c.in-InDelimiter.recessive old.stage to c.after_delimiter_bit.result
+    old.shift d now place bits old.next c.args.level
     c.in-InDelimiter.is (sym c.may_count.ensures ∙ c.if-may_count.false) at (sym goes ∙ c.stage-else-may_count.ensures)
-    (at_delimiting c.in-InDelimiter.dominant c.in-InDelimiter.recessive old.stage old.shift d now place bits old.next c.args.level c.after_delimiter_bit.result
+    (at_delimiter c.in-InDelimiter.dominant c.in-InDelimiter.recessive old.stage old.shift d now place bits old.next
+    c.args.level c.after_delimiter_bit.result
     c.in-InDelimiter.is at drives c.after_delimiter_bit.ensures)
 
 pub returns-in-InInterframeSpace : goal.returns-in-InInterframeSpace
 returns-in-InInterframeSpace c = λ to goes d place bits at kept drives.
     let old = c.args.self.now in
     let now = context_of old.context in
-    pauses_quietly c.in-InInterframeSpace.bits old.stage to c.after_interframe_bit.result old.shift d now place bits
-    (record { driven = old.next; seen = c.args.level }) c.in-InInterframeSpace.is at (sym goes ∙ c.stage-in-InInterframeSpace.ensures)
-    (at_interframe c.in-InInterframeSpace.bits c.owes_suspension.result old.stage old.shift d now place bits old.next c.args.level c.after_interframe_bit.result
+    interframes_quietly c.in-InInterframeSpace.bits old.stage to c.after_interframe_bit.result old.shift d now place
+    bits
+    (record { driven = old.next; seen = c.args.level }) c.in-InInterframeSpace.is at
+    (sym goes ∙ c.stage-in-InInterframeSpace.ensures)
+    (at_interframe_space c.in-InInterframeSpace.bits c.owes_suspension.result old.stage old.shift d now place bits
+    old.next c.args.level c.after_interframe_bit.result
     c.in-InInterframeSpace.is at kept drives c.owes_suspension.ensures c.after_interframe_bit.ensures)

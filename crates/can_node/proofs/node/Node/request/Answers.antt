@@ -13,11 +13,20 @@ pub returns : goal.returns
 returns c =
     let old = c.args.self.now in
     let asked : Request = c.args.request in
-    let new : Node = record old { context = record old.context { held = Some asked }; body = c.of-self.result; next = c.next_level-self.result } in
+    let new : Node = record old {
+      context = record old.context { held = Some asked };
+      body = c.of-self.result;
+      next = c.next_level-self.result;
+    } in
     let free = none_held old.context.held (sym c.is_some.ensures ∙ c.if-is_some.false) in
     let P : Request → Type 0 = λ r. IsFrame r.frame × IsSentBody c.of-self.result r.frame in (
       λ entries found h.
-          stands_up new (entries ++ Send asked ∷ []) found (sent_stands old new asked c.in_default.not-InReset free refl refl refl entries found h)
-          (λ request e. let same : asked ≡ request = cc in subst P same (c.of-self.ensures.valid, c.of-self.ensures.packs)) c.next_level-self.ensures,
-      λ entries found h. (awake_now old entries found h c.in_default.not-InReset, held_now old entries found h None free),
+          stands_up new (entries ++ Send asked ∷ []) found
+          (sent_stands old new asked c.in_default.not-InReset free refl refl refl entries found h)
+          (λ request e. let same : asked ≡ request = cc in
+          subst P same (c.of-self.ensures.valid, c.of-self.ensures.packs)) c.next_level-self.ensures,
+      λ entries found h. (
+        awake_now old entries found h c.in_default.not-InReset,
+        held_now old entries found h None free,
+      ),
     )

@@ -13,7 +13,10 @@ pub returns : goal.returns
 returns c = λ entries found h.
     let old = c.args.self.now in
     let node : Node = record { context = c.start.new.self; stage = _; shift = old.shift; body = old.body; next = _ } in
-    let holds = ap (λ (d : ContextValue). d.held) c.start.ensures ∙ start_holds c.args.config (context_of old.context) in
+    let holds = ap (λ (d : ContextValue). d.held) c.start.ensures
+    ∙ start_holds c.args.config (context_of old.context) in
     stands_up node (entries ++ Start c.args.config ∷ []) found
-    (started_stands old node c.args.config entries found c.requires.reset c.start.ensures (ap (λ n. Integrating n 0) c.integration_count.ensures) h)
-    (λ request e. h.body request (sym holds ∙ e)) (integrating_drives node node.next c.integration_count.result 0 refl refl)
+    (started_stands old node c.args.config entries found c.requires.reset c.start.ensures
+    (ap (λ n. Integrating n 0) c.integration_count.ensures) h)
+    (λ request e. h.body request (sym holds ∙ e))
+    (integrating_drives node node.next c.integration_count.result 0 refl refl)

@@ -12,4 +12,5 @@ returns-clause-enters c = λ entries found h.
     let old = c.args.self.now in
     let node : Node = record { context = c.stop.new.self; stage = _; shift = old.shift; body = old.body; next = _ } in
     stands_up node (entries ++ Stop ∷ []) found (stopped_stands old node entries found refl c.stop.ensures h)
-    (λ request e. let none = sym (ap (λ (d : ContextValue). d.held) c.stop.ensures) ∙ e in absurd cc) (reset_drives node node.next refl refl)
+    (λ request e. let none = sym (ap (λ (d : ContextValue). d.held) c.stop.ensures) ∙ e in absurd cc)
+    (reset_drives node node.next refl refl)

@@ -1,3 +1,0 @@
--- What a transmitter sends.
-pub mod Levels
-pub mod Next
