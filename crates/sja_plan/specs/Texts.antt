@@ -15,7 +15,8 @@ pub record IsFirstBad {A : Type 0} (Says : Text → A → Type 0) (texts : List 
   pub bad : (x : A) → ¬ Says text x
 
 -- the first such text of several lists: the list's number, counted from 0, and the text's number in it, counted from 1
-pub record IsFirstBadIn {A : Type 0} (Says : Text → A → Type 0) (lists : List (List Text)) (list number : ℕ) : Type 0 where
+pub record IsFirstBadIn {A : Type 0} (Says : Text → A → Type 0) (lists : List (List Text))
+    (list number : ℕ) : Type 0 where
   pub before : List (List Text)
   pub texts : List Text
   pub after : List (List Text)

@@ -1,11 +1,20 @@
-//! What is scripted for a run: the steps of its drivers, and the strikes at its nodes.
+//! What is scripted for a run: the steps of its drivers with what they answer, and the strikes at its nodes.
 //!
-//! The two types stand in a crate of their own, so that the reader of plans stands apart from the drivers that take the
-//! steps and from the bus that strikes the levels. The tests of those who use the types are in `crates/plan_tests`.
+//! The types stand in a crate of their own, so that the reader of plans and the writer of reports stand apart from the
+//! drivers that take the steps and from the bus that strikes the levels. A [`Strike`] and a [`FaultScript`] say which
+//! nodes they strike in which bits. The tests are in `crates/plan_tests` and `crates/controller_tests`.
 #![tactic(auto)]
 
+mod done;
+mod fault_script;
+mod refusal;
 mod step;
+mod step_answer;
 mod strike;
 
+pub use done::Done;
+pub use fault_script::FaultScript;
+pub use refusal::Refusal;
 pub use step::Step;
+pub use step_answer::StepAnswer;
 pub use strike::Strike;

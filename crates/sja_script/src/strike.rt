@@ -13,3 +13,25 @@ pub struct Strike {
     /// How many bits are struck.
     pub times: u32,
 }
+
+impl Strike {
+    ghost use Rattle.std.specs.Prelude.{◌↔◌, IsTrue};
+    ghost use Rattle.sja_script.specs.Striking.{IsRepeated, Hits};
+
+    /// Whether it hits this node in this bit.
+    pub fn hits(&self, bit: u32, node: u8) -> bool
+        ensures { IsTrue result ↔ Hits self.now bit node }
+    {
+        self.node == node && bit >= self.bit && self.is_repeated(bit - self.bit)
+    }
+
+    /// Whether it comes again so many bits after its first one.
+    fn is_repeated(&self, later: u32) -> bool
+        ensures { IsTrue result ↔ IsRepeated self.now later }
+    {
+        if self.every == 0 {
+            return later == 0 && self.times > 0;
+        }
+        later % self.every == 0 && later / self.every < self.times
+    }
+}
