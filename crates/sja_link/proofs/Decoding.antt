@@ -26,10 +26,10 @@ rest_whole code codes s t c d r q m n h a b e f =
       messages_are = omega (arith, w, f);
     }
 
-abbrev IsPlain : Code → Type 0
+abbrev pub IsPlain : Code → Type 0
 IsPlain code = HasContents code 0 0 0 0
 
-plain_rest : (code : Code) (codes : List Code) (s : List Config) (c : List ℕ) (r : List Request) (m : List (List ℕ)) →
+pub plain_rest : (code : Code) (codes : List Code) (s : List Config) (c : List ℕ) (r : List Request) (m : List (List ℕ)) →
     IsPlain code → AreWhole (code ∷ codes) s c r m → AreWhole codes s c r m
 plain_rest code codes s c r m p h =
     let a = p.starts_are in let b = p.credits_are in let e = p.requests_are in let f = p.messages_are in
@@ -55,7 +55,7 @@ overrun_rest : (codes : List Code) (s : List Config) (c : List ℕ) (r : List Re
     AreWhole (Overrun ∷ codes) s c r (x ∷ m) → AreWhole codes s c r m
 overrun_rest codes s c r x m h = rest_whole Overrun codes s s c c r r (x ∷ m) m h (omega arith) (omega arith) (omega arith) (omega arith)
 
-plain : (code : Code) → has_start code ≡ 0 → has_credit code ≡ 0 → has_request code ≡ 0 → has_message code ≡ 0 → IsPlain code
+pub plain : (code : Code) → has_start code ≡ 0 → has_credit code ≡ 0 → has_request code ≡ 0 → has_message code ≡ 0 → IsPlain code
 plain code a b e f = record { starts_are = a; credits_are = b; requests_are = e; messages_are = f }
 
 -- ---- as many entries as codes

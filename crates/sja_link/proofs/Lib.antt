@@ -8,3 +8,4 @@ pub mod Decoding
 pub mod Counting
 pub mod Keeping
 pub mod Holding
+pub mod Skipping

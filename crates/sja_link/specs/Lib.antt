@@ -16,6 +16,7 @@ pub mod DriverLedgers
 pub mod Looking
 pub mod Showing
 pub mod Written
+pub mod Between
 pub mod World
 pub mod WorldEvents
 pub mod Budget

@@ -1,7 +1,8 @@
 //! The codes of a journal, one byte an entry.
 
-ghost use Rattle.std.specs.Prelude.{◌≡◌, [], ◌∷◌};
+ghost use Rattle.std.specs.Prelude.{◌≡◌, ◌≤◌, [], ◌∷◌, length};
 ghost use Rattle.sja_link.specs.declared.entry.Entry.TheVariants.{Bit};
+ghost use Rattle.sja_link.specs.Kept.Codes.{bits_before};
 
 use can_bits::Level;
 use std::mem::size_of;
@@ -40,7 +41,7 @@ pub(crate) enum Code {
 }
 
 impl Code {
-    ghost use Rattle.sja_link.specs.Kept.Codes.{decoded, HasContents};
+    ghost use Rattle.sja_link.specs.Kept.Codes.{decoded, is_bit, HasContents};
 
     /// The code of a bit: the level driven, and the level seen.
     pub(crate) fn of_bit(driven: Level, seen: Level) -> Code
@@ -54,4 +55,32 @@ impl Code {
             (Level::Recessive, Level::Recessive) => Code::RecessiveAsDriven,
         }
     }
+
+    /// Whether it is a bit.
+    pub(crate) fn is_bit(self) -> bool
+        ensures { result ≡ is_bit self }
+    {
+        matches!(
+            self,
+            Code::DominantAsDriven
+                | Code::DominantSeenRecessive
+                | Code::RecessiveSeenDominant
+                | Code::RecessiveAsDriven
+        )
+    }
+}
+
+/// How many of these codes stand before the first one that is no bit.
+pub(crate) fn leading_bits(codes: &[Code]) -> usize
+    ensures count { result ≡ bits_before codes.now }
+    ensures few { result ≤ length codes.now }
+{
+    let mut bits = 0;
+    for code in codes {
+        if !code.is_bit() {
+            return bits;
+        }
+        bits += 1;
+    }
+    bits
 }

@@ -2,7 +2,7 @@
 
 ghost use Rattle.std.specs.Prelude.{◌≡◌};
 
-use super::code::Code;
+use super::code::{Code, leading_bits};
 use super::entry::Entry;
 use super::journal::Journal;
 use super::up::Up;
@@ -35,6 +35,8 @@ impl<'a> Model for Entries<'a> {
 }
 
 impl<'a> Entries<'a> {
+    ghost use Rattle.sja_link.specs.Between.{past_bits};
+
     /// The entries of a journal.
     pub(crate) fn of(journal: &'a Journal) -> Entries<'a>
         ensures { result ≡ journal.now.entries }
@@ -46,6 +48,13 @@ impl<'a> Entries<'a> {
             requests: journal.requests.as_slice(),
             messages: journal.messages.as_slice(),
         }
+    }
+
+    /// Passes over the bits before the next entry that is none.
+    pub(crate) fn skip_bits(&mut self)
+        ensures { self.new ≡ past_bits self.old }
+    {
+        self.codes = &self.codes[leading_bits(self.codes)..];
     }
 }
 

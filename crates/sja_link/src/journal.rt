@@ -1,10 +1,12 @@
 //! The journal of a node.
 
-ghost use Rattle.std.specs.Prelude.{◌≡◌, ◌<◌, ◌≤◌, ◌+◌, ◌*◌, [], ◌∷◌, ◌++◌, length, true, false, IfOk, IfErr, OnOk, OnErr};
+ghost use Rattle.std.specs.Prelude.{◌≡◌, ◌<◌, ◌≤◌, ◌+◌, ◌*◌, ◌^◌, [], ◌∷◌, ◌++◌, length, true, false, IfOk, IfErr, OnOk, OnErr};
 ghost use Rattle.sja_link.specs.declared.entry.Entry.TheVariants.{Bit, Up as Item};
 ghost use Rattle.sja_link.specs.declared.up.Up.TheVariants.{Start, Credit, Send};
+ghost use Rattle.sja_link.specs.Between.{between_bits};
 ghost use Rattle.sja_link.specs.Kept.Codes.{decoded, HasContents};
 
+use super::between_bits::BetweenBits;
 use super::code::Code;
 use super::entries::Entries;
 use super::entry::Entry;
@@ -73,6 +75,16 @@ impl Journal {
         ensures { result ≡ self.now.entries }
     {
         Entries::of(self)
+    }
+
+    /// The entries that are no bits, oldest first.
+    pub fn between_bits(&self) -> BetweenBits<'_>
+        ensures value { result ≡ between_bits self.now.entries }
+        ensures few { length result < 2 ^ 64 }
+    {
+        // There are no more entries than codes, and the number of these is a `usize`.
+        let _codes = self.codes.len();
+        BetweenBits::of(self)
     }
 
     /// Adds an entry.

@@ -13,6 +13,7 @@
 #![tactic(auto)]
 
 mod bad_credit;
+mod between_bits;
 mod bus_end;
 mod bus_ledger;
 mod busy;
@@ -36,6 +37,7 @@ mod verdict;
 mod world;
 
 pub use bad_credit::BadCredit;
+pub use between_bits::BetweenBits;
 pub use bus_end::BusEnd;
 pub use bus_ledger::BusLedger;
 pub use busy::Busy;

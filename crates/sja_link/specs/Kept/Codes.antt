@@ -1,5 +1,5 @@
 -- How the entries of a journal are kept: one code each, and the contents of some in lists of their own.
-use Rattle.std.specs.Prelude.{◌≡◌, ◌≤◌, ℕ, List, [], ◌∷◌, length}
+use Rattle.std.specs.Prelude.{◌≡◌, ◌≤◌, ℕ, suc, Bool, true, false, if◌then◌else◌, List, [], ◌∷◌, length}
 use Rattle.can_node.specs.declared.config.Config.{Config}
 use Rattle.can_node.specs.declared.request.Request.{Request}
 use Rattle.can_bits.specs.declared.level.Level.TheVariants.{Dominant, Recessive}
@@ -42,6 +42,19 @@ decoded (Overrun ∷ codes) starts credits requests (m ∷ messages) =
     OverrunEntry m ∷ decoded codes starts credits requests messages
 decoded (Off ∷ codes) starts credits requests messages =
     OffEntry ∷ decoded codes starts credits requests messages
+
+-- whether a code is that of a bit
+abbrev pub is_bit : Code → Bool
+is_bit DominantAsDriven = true
+is_bit DominantSeenRecessive = true
+is_bit RecessiveSeenDominant = true
+is_bit RecessiveAsDriven = true
+is_bit _ = false
+
+-- how many codes stand before the first one that is no bit
+abbrev pub bits_before : List Code → ℕ
+bits_before [] = 0
+bits_before (code ∷ codes) = if is_bit code then suc (bits_before codes) else 0
 
 -- 1 for a code with contents of each kind
 abbrev pub has_start : Code → ℕ

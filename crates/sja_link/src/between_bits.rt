@@ -1,0 +1,56 @@
+//! The entries of a journal that stand between its bits.
+
+use super::entries::Entries;
+use super::entry::Entry;
+use super::journal::Journal;
+use std::marker::Model;
+
+/// The entries of a journal that are no bits, one after another, oldest first. Contracts see it as the list of those
+/// that are left.
+///
+/// A run has hundreds of thousands of bits and some thousands of other entries at most: bits are passed over without
+/// making an entry of them.
+#[derive(Debug, Drop)]
+pub struct BetweenBits<'a> {
+    entries: Entries<'a>,
+}
+
+impl<'a> Model for BetweenBits<'a> {
+    ghost use Rattle.std.specs.Prelude.{List};
+    ghost use Rattle.sja_link.specs.declared.entry.Entry.{Entry};
+    ghost use Rattle.sja_link.specs.Between.{between_bits};
+
+    ghost Value = { List Entry };
+
+    ghost view = { λ s. between_bits s.entries };
+}
+
+impl<'a> BetweenBits<'a> {
+    ghost use Rattle.std.specs.Prelude.{◌≡◌};
+    ghost use Rattle.sja_link.specs.Between.{between_bits};
+
+    /// The entries of a journal that are no bits.
+    pub(crate) fn of(journal: &'a Journal) -> BetweenBits<'a>
+        ensures { result ≡ between_bits journal.now.entries }
+    {
+        BetweenBits {
+            entries: Entries::of(journal),
+        }
+    }
+}
+
+impl<'a> Iterator for BetweenBits<'a> {
+    ghost use Rattle.std.specs.Iterator.{YieldsFirst, item_count};
+
+    type Item = Entry;
+
+    ghost next_gives = { YieldsFirst (λ s. s) };
+
+    ghost remaining = { item_count (λ s. s) };
+
+    /// An equal of the next entry that is no bit.
+    fn next(&mut self) -> Option<Entry> {
+        self.entries.skip_bits();
+        self.entries.next()
+    }
+}
