@@ -1,5 +1,6 @@
 //! The tests of the crates between a controller and its driver: [`registers`] those of `sja_regs`,
-//! [`links`] of `sja_link`.
+//! [`links`] of `sja_link`,
+//! [`rings`] of `sja_rings`.
 //!
 //! Expected values are written by hand from the sources.
 #![tactic(auto)]
@@ -8,3 +9,5 @@
 mod links;
 #[cfg(test)]
 mod registers;
+#[cfg(test)]
+mod rings;

@@ -1,6 +1,6 @@
 //! Links, the ledgers at their ends, journals, and the world of one link.
 
-mod given;
+pub(crate) mod given;
 mod journals;
 mod judging;
 mod refused;

@@ -12,6 +12,13 @@ pub const LINK: LinkId = LinkId {
     activation: 1,
 };
 
+/// The filter that passes every frame.
+const EVERY_FRAME: Filter = Filter {
+    single: true,
+    acr: [0; 4],
+    amr: [255; 4],
+};
+
 /// A message of so many bytes, 3 to 13, with identifier 0 and zeros for data.
 pub fn message_of(length: u8) -> Result<Message, Fail> {
     let zeros = [0u8; 13];
@@ -72,14 +79,10 @@ impl Linked {
     }
 }
 
-/// The filter that passes every frame, and no special mode.
+/// No special mode, and every frame passes.
 pub fn plain() -> Config {
     Config {
-        filter: Filter {
-            single: true,
-            acr: [0; 4],
-            amr: [255; 4],
-        },
+        filter: EVERY_FRAME,
         self_test: false,
         listen: false,
     }

@@ -1,0 +1,27 @@
+-- What the traits of ends ask of "the same end", for each end of a ring: it is the same as itself, and it carries over from
+-- one call to the next.
+use Rattle.std.proofs.Common.{refl, ◌∙◌}
+use Rattle.rtrb.specs.Ends.{SameRing}
+use Rattle.rtrb.specs.Ring.{SameProducer, SameConsumer}
+use Rattle.rtrb.specs.declared.end.End.{End}
+use Rattle.rtrb.specs.declared.producer.Producer.{Producer}
+use Rattle.rtrb.specs.declared.consumer.Consumer.{Consumer}
+
+module _ {T A P : Type 0} where
+  pub same_ring : (e : End T A P) → SameRing e e
+  same_ring e = (refl, refl, refl, refl)
+
+  pub same_ring_trans : (a b c : End T A P) → SameRing a b → SameRing b c → SameRing a c
+  same_ring_trans a b c p q = (q.0 ∙ p.0, q.1 ∙ p.1, q.2 ∙ p.2, q.3 ∙ p.3)
+
+  pub same_producer : (p : Producer T A P) → SameProducer p p
+  same_producer p = (same_ring p.end, refl)
+
+  pub same_producer_trans : (a b c : Producer T A P) → SameProducer a b → SameProducer b c → SameProducer a c
+  same_producer_trans a b c p q = (same_ring_trans a.end b.end c.end p.0 q.0, q.1 ∙ p.1)
+
+  pub same_consumer : (c : Consumer T A P) → SameConsumer c c
+  same_consumer c = (same_ring c.end, refl)
+
+  pub same_consumer_trans : (a b c : Consumer T A P) → SameConsumer a b → SameConsumer b c → SameConsumer a c
+  same_consumer_trans a b c p q = (same_ring_trans a.end b.end c.end p.0 q.0, q.1 ∙ p.1)

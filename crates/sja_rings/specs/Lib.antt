@@ -1,0 +1,4 @@
+pub mod Ends
+pub mod Carrying
+pub mod Ended
+pub mod Left

@@ -1,0 +1,29 @@
+//! The driver's end of a link after its last act.
+
+ghost use Rattle.std.specs.Prelude.{◌≡◌};
+ghost use Rattle.rtrb.specs.Ring.{consumer_capacity};
+
+use rtrb::{Consumer, Finished};
+use sja_link::{Down, Up};
+
+/// The driver's end of a link of two rings after its last act (this project's own rule): nothing is given any more.
+///
+/// It keeps its end of the ring down, and the closing note of its ring up, if the ring gave one.
+#[derive(Drop)]
+pub struct EndedDriver {
+    pub(crate) down: Consumer<Down>,
+    pub(crate) note: Option<Finished<Up>>,
+    ghost size: { consumer_capacity down ≡ 22 },
+}
+
+impl EndedDriver {
+    ghost use Rattle.std.specs.Prelude.{◌↔◌, IsTrue};
+    ghost use Rattle.sja_rings.specs.Ended.{HasDriverNote};
+
+    /// Whether the ring up gave its closing note. It gives none where the bus's end is gone already.
+    pub fn has_note(&self) -> bool
+        ensures { IsTrue result ↔ HasDriverNote self.now }
+    {
+        self.note.is_some()
+    }
+}

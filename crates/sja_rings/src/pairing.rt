@@ -1,0 +1,44 @@
+//! Making a link of two rings.
+
+ghost use Rattle.std.specs.Prelude.{◌≡◌, IfOk};
+ghost use Rattle.sja_link.specs.Lists.{nothing_yet};
+ghost use Rattle.sja_rings.specs.Ends.{link_of_bus, BusLists, DriverLists, OneLink, places_down, places_up};
+
+use super::ring_bus::RingBus;
+use super::ring_driver::RingDriver;
+use can_frame::OutOfMemory;
+use rtrb::RingBuffer;
+use sja_link::LinkId;
+use std::alloc::Global;
+
+/// The places of the ring down: 21 messages and bus-off.
+const DOWN: usize = 22;
+
+/// The places of the ring up: a start, 21 credits, a request and a stop.
+const UP: usize = 24;
+
+/// The two ends of one link, with nothing on it. All its room is made here.
+///
+/// Error: [`OutOfMemory`] where memory was refused.
+pub fn ring_pair(alloc: Global, id: LinkId) -> Result<(RingBus, RingDriver), OutOfMemory>
+    ensures link { IfOk result (λ r. link_of_bus r.0 ≡ id) }
+    ensures one { IfOk result (λ r. OneLink r.0 r.1) }
+    ensures bus { IfOk result (λ r. BusLists r.0 nothing_yet) }
+    ensures driver { IfOk result (λ r. DriverLists r.1 nothing_yet) }
+    ensures down { IfOk result (λ r. places_down r.0 ≡ 22) }
+    ensures up { IfOk result (λ r. places_up r.1 ≡ 24) }
+{
+    let (bus_down, driver_down) = RingBuffer::new(alloc, DOWN)?;
+    let (driver_up, bus_up) = RingBuffer::new(alloc, UP)?;
+    let bus = RingBus {
+        id,
+        down: bus_down,
+        up: bus_up,
+    };
+    let driver = RingDriver {
+        id,
+        down: driver_down,
+        up: driver_up,
+    };
+    Ok((bus, driver))
+}
