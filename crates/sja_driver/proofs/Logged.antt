@@ -1,0 +1,64 @@
+-- The logged step: from a try at the present link, and what the log then has.
+use Rattle.std.proofs.Common.{◌≡◌, ◌+◌, ◌<◌, ◌≤◌, ℕ, Bool, List, ◌++◌, length, sym, ap, ◌∙◌, subst, arith}
+use Rattle.std.specs.Prelude.{min, slice_index_or, slice_set}
+use Rattle.sja_link.specs.Lists.{Lists}
+use Rattle.sja_regs.specs.declared.registers.Registers.{Registers}
+use Rattle.sja_script.specs.declared.step.Step.{Step}
+use Rattle.sja_driver.specs.declared.any_driver.AnyDriver.{AnyDriver}
+use Rattle.sja_driver.specs.declared.logged_driver.LoggedDriver.{LoggedDriver}
+use Rattle.sja_driver.specs.declared.tried.Tried.{Tried}
+use Rattle.sja_driver.specs.declared.work_log.WorkLog.{WorkLog}
+use Rattle.sja_driver.specs.Acting.{Acts}
+use Rattle.sja_driver.specs.AnyDrivers.{IsDriverOf}
+use Rattle.sja_driver.specs.Holding.{place_after}
+use Rattle.sja_driver.specs.LoggedDrivers.{node_of, driver_of, log_of, ended_of, IsLawful, Steps}
+use Rattle.sja_driver.specs.Logs.{done_in, releases_in, left_in, done_by, releases_by, left_by}
+use Rattle.sja_driver.specs.Tries.{is_met, ended_by}
+use Rattle.sja_driver.proofs.Each.{set_here, index_any}
+use Rattle.sja_driver.proofs.Goes.{goes_step}
+use Rattle.sja_driver.proofs.Stepping.{left_count}
+
+min_few : (n : ℕ) → n < 8 → min n 7 ≡ n
+min_few n few = grind arith
+
+min_less : (n : ℕ) → min n 7 < 8
+min_less n = grind arith
+
+-- the present link is one of the node's eight
+pub inside : (base ended k n : ℕ) → k ≡ min ended 7 → base + 8 ≤ n → base + k < n
+inside base ended k n is room = let l = min_less ended in omega (arith, is, l, room)
+
+-- a try at the present link is a logged step
+pub steps_of : {E : Type 0} (stands : E → Lists → Type 0) (dry full : E → Type 0) (was now : LoggedDriver) (links : List E)
+    (base bits k : ℕ) (p q : Registers) (step : Step) (d0 new : E) (o : Tried) (done : Bool) →
+    IsLawful was → base + 8 ≤ length links → k ≡ min (ended_of was) 7 →
+    Acts stands dry full (slice_index_or links (base + k) d0) new p q step (driver_of was) (driver_of now) o →
+    done ≡ is_met o → done_in (log_of now) ≡ done_in (log_of was) ++ done_by o bits →
+    releases_in (log_of now) ≡ releases_in (log_of was) ++ releases_by (ended_of was) o →
+    left_in (log_of now) ≡ left_in (log_of was) ++ left_by o →
+    Steps stands dry full was now links (slice_set links (base + k) new) base p q step bits done
+steps_of {E} stands dry full was now links base bits k p q step d0 new o done lawful room is acts met logged releases leaves =
+    let few : k < 8 = let l = min_less (ended_of was) in omega (arith, is, l) in
+    let inside : base + k < length links = omega (arith, few, room) in
+    let at : base + k ≡ place_after base (ended_of was) = ap (λ i. base + i) is in
+    record {
+      tried = o;
+      met = met;
+      acts = λ d e. subst (λ (i : ℕ). Acts stands dry full (slice_index_or links i d) (slice_index_or (slice_set links (base + k) new) i e)
+          p q step (driver_of was) (driver_of now) o) at
+          (rw (index_any links (base + k) d d0 inside, set_here links (base + k) new e inside) acts);
+      logged = logged;
+      releases = releases;
+      leaves = leaves;
+      goes = goes_step stands dry full (driver_of was) (driver_of now) (log_of was) (log_of now) links base (node_of was) bits p q step k d0 new o
+          (λ l. is ∙ min_few (ended_of was) l) few room lawful acts logged releases leaves;
+    }
+
+-- the driver after a try is that of its node, after the activations that the log then says have ended
+pub lawful_after : (was : LoggedDriver) (driver : AnyDriver) (log : WorkLog) (o : Tried) →
+    left_in log ≡ left_in (log_of was) ++ left_by o →
+    ((node n : ℕ) → IsDriverOf node n (driver_of was) → IsDriverOf node (n + ended_by o) driver) → IsLawful was →
+    IsDriverOf (node_of was) (length (left_in log)) driver
+lawful_after was driver log o left place lawful =
+    subst (λ (n : ℕ). IsDriverOf (node_of was) n driver) (sym (ap (λ l. length l) left ∙ left_count (left_in (log_of was)) o))
+    (place (node_of was) (ended_of was) lawful)

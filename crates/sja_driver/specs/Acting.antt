@@ -1,0 +1,87 @@
+-- A try of a step at an end and a port (this project's own rule).
+use Rattle.std.specs.Prelude.{◌≡◌, ◌+◌, ◌<◌, ◌++◌, ℕ, Bool, true, false, List, length}
+use Rattle.sja_link.specs.declared.down.Down.{Down}
+use Rattle.sja_link.specs.declared.up.Up.{Up}
+use Rattle.sja_link.specs.Lists.{Lists, messages}
+use Rattle.sja_link.specs.Looking.{Pulls, IsTaken, Refuses, off_among}
+use Rattle.sja_regs.specs.declared.registers.Registers.{Registers}
+use Rattle.sja_script.specs.declared.step.Step.{Step}
+use Rattle.sja_script.specs.declared.step.Step.TheVariants.{Start, Stop, Window, Release, Read, Command, Await, Sent}
+use Rattle.sja_driver.specs.declared.any_driver.AnyDriver.{AnyDriver}
+use Rattle.sja_driver.specs.declared.any_driver.AnyDriver.TheVariants.{InReset, InActive}
+use Rattle.sja_driver.specs.declared.tried.Tried.{Tried}
+use Rattle.sja_driver.specs.AnyDrivers.{is_out, opened_of, held_of, off_of, seen_by, IsDriverOf}
+use Rattle.sja_driver.specs.Carried.{Sees, Tells}
+use Rattle.sja_driver.specs.Deeds.{FitsState}
+use Rattle.sja_driver.specs.Tries.{IfAnswered, IfUnmet, IsOf, ended_by, released_by, gave_by, port_after, held_after, off_after, window_after, opened_after, is_out_after, IsQuiet}
+
+-- with items got, and items given
+abbrev pub with_both : Lists → List Down → List Up → Lists
+with_both l got gave = record l { got = l.got ++ got; given = l.given ++ gave }
+
+-- some items were got, and then just these were given; what was released and is held then is what was held and the
+-- messages got; bus-off is known if it was, or is among them
+pub record Does {E : Type 0} (stands : E → Lists → Type 0) (old new : E) (held now_held : List (List ℕ))
+    (off now_off : Bool) (released : List (List ℕ)) (gave : List Up) : Type 0 where
+  pub got : List Down
+  pub lists : (l : Lists) → stands old l → stands new (with_both l got gave)
+  pub told : released ++ now_held ≡ held ++ messages got
+  pub off_is : now_off ≡ off_among off got
+
+-- all that the end showed was taken in, and by then these were the messages got and not released
+pub record Looks {E : Type 0} (stands : E → Lists → Type 0) (dry : E → Type 0) (old : E)
+    (held window : List (List ℕ)) (off now_off : Bool) : Type 0 where
+  pub at : E
+  pub pulls : Pulls stands old at held window off now_off
+  pub all : IsTaken dry at now_off window
+
+-- P, where the driver is out of reset
+abbrev pub IfOut : AnyDriver → Type 0 → Type 0
+IfOut (InReset d) P = Unit {0}
+IfOut (InActive d) P = P
+
+-- P, where the step takes in what the link shows before it does anything else
+abbrev pub IfLooking : Step → Type 0 → Type 0
+IfLooking Window P = P
+IfLooking Release P = P
+IfLooking (Read address) P = P
+IfLooking (Await count) P = P
+IfLooking Sent P = P
+IfLooking other P = Unit {0}
+
+-- why a step is to be tried again: the end gave its item back; or fewer messages are at the driver's end than it waits
+-- for, or TBS is 0, and the bits aren't spent. No other step is ever tried again
+abbrev pub Waits : {E : Type 0} → (E → Lists → Type 0) → (E → Type 0) → (E → Type 0) → E → Registers → Step →
+    AnyDriver → AnyDriver → Type 0
+Waits stands dry full old p Start was now = full old
+Waits stands dry full old p Stop was now = full old
+Waits stands dry full old p Release was now = Refuses stands dry full old (off_of now) (held_of now)
+Waits stands dry full old p (Command value) was now = full old
+Waits stands dry full old p (Await count) was now = (p.closed ≡ false) × (off_of now ≡ false)
+    × (length (held_of now) < count) × Looks stands dry old (held_of was) (held_of now) (off_of was) (off_of now)
+Waits stands dry full old p Sent was now = (p.closed ≡ false) × (p.tbs ≡ false)
+Waits stands dry full old p other was now = ⊥
+
+-- a driver tried a step at its end, and at a port whose registers it found as p and left as q
+pub record Acts {E : Type 0} (stands : E → Lists → Type 0) (dry full : E → Type 0) (old new : E) (p q : Registers)
+    (step : Step) (was now : AnyDriver) (o : Tried) : Type 0 where
+  -- what was got, given, released and held
+  pub does : Does stands old new (held_of was) (held_after now o) (off_of was) (off_after now o) (released_by o)
+      (gave_by p step o)
+  -- the registers
+  pub port : q ≡ port_after p step o
+  -- the answer, by the state, by the window and by the registers
+  pub fits : IfAnswered o (FitsState (is_out was) (opened_of was) step)
+  pub sees : IfOut was (IfAnswered o (Sees step (off_after now o) (window_after now o)))
+  pub tells : IfAnswered o (Tells step (is_out was) p (seen_by now))
+  -- that window is all that the link showed
+  pub looks : IfOut was (IfLooking step (IfAnswered o (λ answer.
+      Looks stands dry old (held_of was) (window_after now o) (off_of was) (off_after now o))))
+  -- why there is no answer
+  pub waits : IfUnmet o (Waits stands dry full old p step was now)
+  -- the driver after it
+  pub kind : IsOf step o
+  pub out : is_out now ≡ is_out_after (is_out was) step o
+  pub opens : opened_of now ≡ opened_after (opened_of was) step o
+  pub place : (node n : ℕ) → IsDriverOf node n was → IsDriverOf node (n + ended_by o) now
+  pub quiet : IsQuiet p step now o

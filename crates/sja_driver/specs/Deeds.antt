@@ -1,0 +1,120 @@
+-- What the steps of a driver did (this project's own rule).
+use Rattle.std.specs.Prelude.{◌≡◌, ◌==◌, ◌+◌, ℕ, Bool, true, false, nat_lt, if◌then◌else◌, List, [], ◌∷◌, ◌++◌, length, map, take}
+use Rattle.can_node.specs.declared.config.Config.{Config}
+use Rattle.can_node.specs.declared.request.Request.{Request}
+use Rattle.sja_link.specs.declared.up.Up.{Up}
+use Rattle.sja_link.specs.declared.up.Up.TheVariants.{Start as StartItem, Credit, Send, Stop as StopItem}
+use Rattle.sja_link.specs.Gathering.{gathered, total}
+use Rattle.sja_link.specs.Picking.{EachAfter}
+use Rattle.sja_regs.specs.Commands.{command_of, requests}
+use Rattle.sja_script.specs.declared.step.Step.{Step}
+use Rattle.sja_script.specs.declared.step.Step.TheVariants.{Start, Stop, Window, Release, Read, Write, Load, Command, Await, Sent}
+use Rattle.sja_script.specs.declared.refusal.Refusal.TheVariants.{NoActivationLeft, WrongState}
+use Rattle.sja_script.specs.declared.step_answer.StepAnswer.{StepAnswer}
+use Rattle.sja_script.specs.declared.step_answer.StepAnswer.TheVariants.{Done as DoneAnswer, Released, Refused}
+use Rattle.sja_script.specs.declared.done.Done.{Done}
+
+-- a step that was done: its answer, the number of bits run before it, and what it gave to the bus
+pub record Deed : Type 0 where
+  pub step : Step
+  pub answer : StepAnswer
+  pub bits : ℕ
+  pub gave : List Up
+
+-- ---- states
+
+-- a start that is accepted opens an activation
+abbrev pub opened : Step → StepAnswer → ℕ
+opened Start DoneAnswer = 1
+opened other answer = 0
+
+abbrev pub opens_by : Deed → ℕ
+opens_by d = opened d.step d.answer
+
+-- how many activations were opened
+abbrev pub opened_by : List Deed → ℕ
+opened_by = total opens_by
+
+-- a start that is accepted makes a driver active, a stop that is accepted ends that
+abbrev pub active_after : Bool → Step → StepAnswer → Bool
+active_after active Start DoneAnswer = true
+active_after active Stop DoneAnswer = false
+active_after active other answer = active
+
+-- whether a driver is active after these deeds, from one that is or isn't
+abbrev pub active_from : Bool → List Deed → Bool
+active_from active [] = active
+active_from active (d ∷ deeds) = active_from (active_after active d.step d.answer) deeds
+
+abbrev pub is_active : List Deed → Bool
+is_active = active_from false
+
+-- in reset the first eight starts are accepted, out of it every stop; a step that needs the other state is refused
+abbrev pub FitsState : Bool → ℕ → Step → StepAnswer → Type 0
+FitsState true opened Start answer = answer ≡ Refused WrongState
+FitsState false opened Start answer = answer ≡ (if nat_lt opened 8 then DoneAnswer else Refused NoActivationLeft)
+FitsState true opened Stop answer = answer ≡ DoneAnswer
+FitsState false opened Stop answer = answer ≡ Refused WrongState
+FitsState false opened Window answer = answer ≡ Refused WrongState
+FitsState false opened Release answer = answer ≡ Refused WrongState
+FitsState false opened (Load m) answer = answer ≡ Refused WrongState
+FitsState false opened (Command value) answer = answer ≡ Refused WrongState
+FitsState false opened (Await count) answer = answer ≡ Refused WrongState
+FitsState false opened Sent answer = answer ≡ Refused WrongState
+FitsState active opened other answer = Unit {0}
+
+-- ---- what a step gives
+
+abbrev pub GivesSend : Bool → List Up → Type 0
+GivesSend true gave = (request : Request) × (gave ≡ Send request ∷ [])
+GivesSend false gave = gave ≡ []
+
+-- an accepted start gives a start, a release the credit of its length, an accepted command that requests a transmission
+-- a request, an accepted stop a stop; no other step gives anything
+abbrev pub Gives : Step → StepAnswer → List Up → Type 0
+Gives Start DoneAnswer gave = (config : Config) × (gave ≡ StartItem config ∷ [])
+Gives Release (Released n) gave = gave ≡ Credit n ∷ []
+Gives (Command value) DoneAnswer gave = GivesSend (requests (command_of value)) gave
+Gives Stop DoneAnswer gave = gave ≡ StopItem ∷ []
+Gives other answer gave = gave ≡ []
+
+-- what was given in these deeds, in order
+abbrev pub given_in : List Deed → List Up
+given_in deeds = gathered (λ (d : Deed). d.gave) deeds
+
+-- the length that a release answers
+abbrev pub length_in : Step → StepAnswer → List ℕ
+length_in Release (Released n) = n ∷ []
+length_in other answer = []
+
+-- the lengths of the messages that were released
+abbrev pub released_lengths : List Deed → List ℕ
+released_lengths deeds = gathered (λ (d : Deed). length_in d.step d.answer) deeds
+
+-- ---- the trace of a driver
+
+-- what stands after just so many openings, the opening itself counted
+abbrev pub section_from : {X : Type 0} → (X → ℕ) → ℕ → List X → ℕ → List X
+section_from opens n [] a = []
+section_from opens n (x ∷ xs) a =
+    (if (n + opens x) == a then x ∷ [] else []) ++ section_from opens (n + opens x) xs a
+
+-- the deeds of an activation: from the start that opened it to the next one
+abbrev pub deeds_of : List Deed → ℕ → List Deed
+deeds_of deeds a = section_from opens_by 0 deeds a
+
+-- a deed as a log has it
+abbrev pub done_of : Deed → Done
+done_of d = record { answer = d.answer; bits = d.bits }
+
+-- each deed answers as the state has it that those before it led to, and gives what its step and answer say
+pub record AreAnswered (deeds : List Deed) : Type 0 where
+  pub states : EachAfter (λ before (d : Deed). FitsState (is_active before) (opened_by before) d.step d.answer) [] deeds
+  pub gives : EachAfter (λ before (d : Deed). Gives d.step d.answer d.gave) [] deeds
+
+-- the deeds are those of a driver with these steps: a front of them, each answered as its state has it and giving what
+-- it gives
+pub record AreDeeds (steps : List Step) (deeds : List Deed) : Type 0 where
+  pub first : map (λ (d : Deed). d.step) deeds ≡ take (length deeds) steps
+  pub states : EachAfter (λ before (d : Deed). FitsState (is_active before) (opened_by before) d.step d.answer) [] deeds
+  pub gives : EachAfter (λ before (d : Deed). Gives d.step d.answer d.gave) [] deeds

@@ -1,0 +1,12 @@
+pub mod Drivers
+pub mod Giving
+pub mod Ports
+pub mod Answers
+pub mod Deeds
+pub mod Carried
+pub mod AnyDrivers
+pub mod Tries
+pub mod Acting
+pub mod Logs
+pub mod Holding
+pub mod LoggedDrivers

@@ -1,0 +1,50 @@
+-- The logged step: one step of a script at the right link of a node's eight (this project's own rule).
+use Rattle.std.specs.Prelude.{◌≡◌, ◌++◌, ℕ, Bool, List, [], length, slice_index_or}
+use Rattle.sja_link.specs.Lists.{Lists}
+use Rattle.sja_regs.specs.declared.registers.Registers.{Registers}
+use Rattle.sja_script.specs.declared.step.Step.{Step}
+use Rattle.sja_driver.specs.declared.any_driver.AnyDriver.{AnyDriver}
+use Rattle.sja_driver.specs.declared.logged_driver.LoggedDriver.{LoggedDriver}
+use Rattle.sja_driver.specs.declared.tried.Tried.{Tried}
+use Rattle.sja_driver.specs.declared.work_log.WorkLog.{WorkLog}
+use Rattle.sja_driver.specs.Acting.{Acts}
+use Rattle.sja_driver.specs.AnyDrivers.{IsDriverOf}
+use Rattle.sja_driver.specs.Holding.{Goes, place_after}
+use Rattle.sja_driver.specs.Logs.{done_in, releases_in, left_in, done_by, releases_by, left_by, deeds_by}
+use Rattle.sja_driver.specs.Tries.{is_met}
+
+-- whose driver it is, the driver in its state, and the log
+abbrev pub node_of : LoggedDriver → ℕ
+node_of d = d.node
+
+abbrev pub driver_of : LoggedDriver → AnyDriver
+driver_of d = d.driver
+
+abbrev pub log_of : LoggedDriver → WorkLog
+log_of d = d.log
+
+-- how many of its activations have ended
+abbrev pub ended_of : LoggedDriver → ℕ
+ended_of d = length (left_in (log_of d))
+
+-- the driver is that of the node, and its state that of an activation after those that the log says have ended
+abbrev pub IsLawful : LoggedDriver → Type 0
+IsLawful d = IsDriverOf (node_of d) (ended_of d) (driver_of d)
+
+-- a step was tried at the link of the present activation, and at a port whose registers were p and are q then; it is
+-- done or isn't
+pub record Steps {E : Type 0} (stands : E → Lists → Type 0) (dry full : E → Type 0) (was now : LoggedDriver)
+    (links links_now : List E) (base : ℕ) (p q : Registers) (step : Step) (bits : ℕ) (done : Bool) : Type 0 where
+  -- what came of it
+  pub tried : Tried
+  pub met : done ≡ is_met tried
+  -- at that link and at the port
+  pub acts : (d e : E) → Acts stands dry full (slice_index_or links (place_after base (ended_of was)) d)
+      (slice_index_or links_now (place_after base (ended_of was)) e) p q step (driver_of was) (driver_of now) tried
+  -- what the log has more
+  pub logged : done_in (log_of now) ≡ done_in (log_of was) ++ done_by tried bits
+  pub releases : releases_in (log_of now) ≡ releases_in (log_of was) ++ releases_by (ended_of was) tried
+  pub leaves : left_in (log_of now) ≡ left_in (log_of was) ++ left_by tried
+  -- and how that goes on with all deeds before it, for every journal
+  pub goes : Goes stands (driver_of was) (driver_of now) (log_of was) (log_of now) links links_now base
+      (deeds_by p step tried bits)

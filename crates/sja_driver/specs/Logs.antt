@@ -1,0 +1,95 @@
+-- What a driver's log says (this project's own rule).
+use Rattle.std.specs.Prelude.{◌≡◌, ◌==◌, ◌+◌, ◌≤◌, ◌++◌, ℕ, Bool, if◌then◌else◌, List, [], ◌∷◌, length, map}
+use Rattle.std.specs.Vec.{vec_capacity}
+use Rattle.sja_link.specs.declared.driver_ledger.DriverLedger.{DriverLedger}
+use Rattle.sja_link.specs.DriverLedgers.{held_by}
+use Rattle.sja_link.specs.Gathering.{gathered}
+use Rattle.sja_regs.specs.declared.registers.Registers.{Registers}
+use Rattle.sja_script.specs.declared.done.Done.{Done}
+use Rattle.sja_script.specs.declared.step.Step.{Step}
+use Rattle.sja_driver.specs.declared.any_driver.AnyDriver.{AnyDriver}
+use Rattle.sja_driver.specs.declared.release.Release.{Release}
+use Rattle.sja_driver.specs.declared.tried.Tried.{Tried}
+use Rattle.sja_driver.specs.declared.tried.Tried.TheVariants.{Unmet, Answered, Released, Ended}
+use Rattle.sja_driver.specs.declared.work_log.WorkLog.{WorkLog}
+use Rattle.sja_driver.specs.AnyDrivers.{is_out, opened_of}
+use Rattle.sja_driver.specs.Deeds.{Deed, AreAnswered, opened_by, is_active, deeds_of, released_lengths, done_of}
+use Rattle.sja_driver.specs.Tries.{answers_of, gave_by}
+
+-- the steps done, the messages released, and the ledgers of the activations that ended, each oldest first
+abbrev pub done_in : WorkLog → List Done
+done_in l = l.done.items
+
+abbrev pub releases_in : WorkLog → List Release
+releases_in l = l.released.items
+
+abbrev pub left_in : WorkLog → List DriverLedger
+left_in l = l.left.items
+
+-- how many of each it has room for
+abbrev pub done_room : WorkLog → ℕ
+done_room l = vec_capacity l.done
+
+abbrev pub release_room : WorkLog → ℕ
+release_room l = vec_capacity l.released
+
+abbrev pub left_room : WorkLog → ℕ
+left_room l = vec_capacity l.left
+
+-- nothing was done
+pub record IsEmpty (l : WorkLog) : Type 0 where
+  pub done : done_in l ≡ []
+  pub releases : releases_in l ≡ []
+  pub left : left_in l ≡ []
+
+-- there is room for so many steps more, whatever they come to
+pub record HasRoom (steps : ℕ) (l : WorkLog) : Type 0 where
+  pub done : length (done_in l) + steps ≤ done_room l
+  pub releases : length (releases_in l) + steps ≤ release_room l
+  pub left : 8 ≤ left_room l
+
+-- ---- what a try adds, after so many bits, where so many activations have ended
+
+abbrev pub done_by : Tried → ℕ → List Done
+done_by o bits = map (λ answer. record { answer = answer; bits = bits }) (answers_of o)
+
+abbrev pub releases_by : ℕ → Tried → List Release
+releases_by n Unmet = []
+releases_by n (Answered answer) = []
+releases_by n (Released m) = (record { activation = n + 1; message = m }) ∷ []
+releases_by n (Ended ledger) = []
+
+abbrev pub left_by : Tried → List DriverLedger
+left_by Unmet = []
+left_by (Answered answer) = []
+left_by (Released m) = []
+left_by (Ended ledger) = ledger ∷ []
+
+-- the deed that it was, if it was one
+abbrev pub deeds_by : Registers → Step → Tried → ℕ → List Deed
+deeds_by p step o bits =
+    map (λ answer. record { step = step; answer = answer; bits = bits; gave = gave_by p step o }) (answers_of o)
+
+-- ---- what it says of each activation
+
+-- the message of a release, if it was in this activation
+abbrev pub of_activation : ℕ → Release → List (List ℕ)
+of_activation a r = if r.activation == a then r.message ∷ [] else []
+
+-- the messages released in an activation
+abbrev pub released_of : List Release → ℕ → List (List ℕ)
+released_of rs a = gathered (of_activation a) rs
+
+-- what each activation that ended left, and last what the present one holds
+abbrev pub leaves : List DriverLedger → List (List ℕ) → List (List (List ℕ))
+leaves left held = map (λ (l : DriverLedger). held_by l) left ++ held ∷ []
+
+-- log and state of a driver are those of these deeds, each answered as its state has it: the steps done are theirs, and
+-- of each activation the messages released are as long as its releases answered
+pub record Traces (driver : AnyDriver) (log : WorkLog) (deeds : List Deed) : Type 0 where
+  pub done : map done_of deeds ≡ done_in log
+  pub released : (a : ℕ) → map (λ (m : List ℕ). length m) (released_of (releases_in log) a)
+      ≡ released_lengths (deeds_of deeds a)
+  pub opened : opened_by deeds ≡ opened_of driver
+  pub out : is_active deeds ≡ is_out driver
+  pub answered : AreAnswered deeds

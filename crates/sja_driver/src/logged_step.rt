@@ -1,0 +1,159 @@
+//! One step of a script at the right link of a node's eight, with its answer and its place in the log.
+
+ghost use Rattle.std.specs.Prelude.{◌≡◌, ◌≢◌, ◌+◌, ◌≤◌, ℕ, length, min, false, slice_index_or};
+ghost use Rattle.sja_regs.specs.declared.registers.Registers.{Registers};
+ghost use Rattle.sja_script.specs.declared.step.Step.TheVariants.{Window, Release};
+ghost use Rattle.sja_driver.specs.Acting.{Acts};
+ghost use Rattle.sja_driver.specs.AnyDrivers.{FitsEnd};
+ghost use Rattle.sja_driver.specs.Holding.{EachRelated, Numbered, place_after};
+ghost use Rattle.sja_driver.specs.LoggedDrivers.{node_of, log_of, ended_of, IsLawful, Steps};
+ghost use Rattle.sja_driver.specs.Logs.{HasRoom};
+
+use super::active_steps::{active_step, release_step, window_step};
+use super::any_driver::AnyDriver;
+use super::driver::Driver;
+use super::logged_driver::LoggedDriver;
+use super::reset_steps::{reset_step, wrong_state};
+use super::tried::Tried;
+use sja_link::DriverEnd;
+use sja_regs::Port;
+use sja_script::Step;
+use std::mem;
+
+/// The place of the last of a node's links among its eight.
+const LAST: usize = 7;
+
+impl LoggedDriver {
+    /// Tries a step at the link of the present activation, after so many bits, and logs it where it is done. The node's
+    /// eight links stand from `base` on. It says whether the step is done; else it is to be tried again.
+    pub fn step<E: DriverEnd>(
+        &mut self,
+        links: &mut [E],
+        base: usize,
+        port: &mut Port,
+        step: &Step,
+        bits: u32,
+    ) -> bool
+        requires lawful { IsLawful self.old }
+        requires room { HasRoom 1 (log_of self.old) }
+        requires links { base + 8 ≤ length links.old }
+        requires ids { Numbered E.link links.old base (node_of self.old) }
+        ensures same { EachRelated E.same links.old links.new }
+        ensures others { (i : ℕ) (d : E) → i ≢ place_after base (ended_of self.old)
+            → slice_index_or links.new i d ≡ slice_index_or links.old i d }
+        ensures ids { Numbered E.link links.new base (node_of self.new) }
+        ensures node { node_of self.new ≡ node_of self.old }
+        ensures lawful { IsLawful self.new }
+        ensures room { (k : ℕ) → HasRoom (k + 1) (log_of self.old) → HasRoom k (log_of self.new) }
+        ensures waits { result ≡ false → (k : ℕ) → HasRoom k (log_of self.old) → HasRoom k (log_of self.new) }
+        ensures steps { Steps E.stands E.dry E.full self.old self.new links.old links.new base port.old port.new
+            step.now bits result }
+    {
+        let here = base + self.turn();
+        let driver = mem::replace(&mut self.driver, AnyDriver::InReset(Driver::new(0)));
+        let (driver, tried) = try_step(driver, &mut links[here], port, step);
+        self.driver = driver;
+        self.log.enter(tried, bits)
+    }
+
+    /// The step `Window`, as [`step`](LoggedDriver::step) does it, for a caller that holds no port: it sees none and waits
+    /// for nobody.
+    pub fn step_window<E: DriverEnd>(&mut self, links: &mut [E], base: usize, bits: u32) -> bool
+        requires lawful { IsLawful self.old }
+        requires room { HasRoom 1 (log_of self.old) }
+        requires links { base + 8 ≤ length links.old }
+        requires ids { Numbered E.link links.old base (node_of self.old) }
+        ensures same { EachRelated E.same links.old links.new }
+        ensures others { (i : ℕ) (d : E) → i ≢ place_after base (ended_of self.old)
+            → slice_index_or links.new i d ≡ slice_index_or links.old i d }
+        ensures ids { Numbered E.link links.new base (node_of self.new) }
+        ensures node { node_of self.new ≡ node_of self.old }
+        ensures lawful { IsLawful self.new }
+        ensures room { (k : ℕ) → HasRoom (k + 1) (log_of self.old) → HasRoom k (log_of self.new) }
+        ensures waits { result ≡ false → (k : ℕ) → HasRoom k (log_of self.old) → HasRoom k (log_of self.new) }
+        ensures steps { (p : Registers) → Steps E.stands E.dry E.full self.old self.new links.old links.new base p p
+            Window bits result }
+    {
+        let here = base + self.turn();
+        let driver = mem::replace(&mut self.driver, AnyDriver::InReset(Driver::new(0)));
+        let (driver, tried) = try_window(driver, &mut links[here]);
+        self.driver = driver;
+        self.log.enter(tried, bits)
+    }
+
+    /// The step `Release`, as [`step`](LoggedDriver::step) does it, for a caller that holds no port: it sees none and waits
+    /// for nobody.
+    pub fn step_release<E: DriverEnd>(&mut self, links: &mut [E], base: usize, bits: u32) -> bool
+        requires lawful { IsLawful self.old }
+        requires room { HasRoom 1 (log_of self.old) }
+        requires links { base + 8 ≤ length links.old }
+        requires ids { Numbered E.link links.old base (node_of self.old) }
+        ensures same { EachRelated E.same links.old links.new }
+        ensures others { (i : ℕ) (d : E) → i ≢ place_after base (ended_of self.old)
+            → slice_index_or links.new i d ≡ slice_index_or links.old i d }
+        ensures ids { Numbered E.link links.new base (node_of self.new) }
+        ensures node { node_of self.new ≡ node_of self.old }
+        ensures lawful { IsLawful self.new }
+        ensures room { (k : ℕ) → HasRoom (k + 1) (log_of self.old) → HasRoom k (log_of self.new) }
+        ensures waits { result ≡ false → (k : ℕ) → HasRoom k (log_of self.old) → HasRoom k (log_of self.new) }
+        ensures steps { (p : Registers) → Steps E.stands E.dry E.full self.old self.new links.old links.new base p p
+            Release bits result }
+    {
+        let here = base + self.turn();
+        let driver = mem::replace(&mut self.driver, AnyDriver::InReset(Driver::new(0)));
+        let (driver, tried) = try_release(driver, &mut links[here]);
+        self.driver = driver;
+        self.log.enter(tried, bits)
+    }
+}
+
+impl LoggedDriver {
+    /// The place of the present activation's link among the node's eight, from 0: of the next one's in reset, and the
+    /// last once eight were used.
+    fn turn(&self) -> usize
+        ensures { result ≡ min (ended_of self.now) 7 }
+    {
+        self.log.left.len().min(LAST)
+    }
+}
+
+/// Tries a step in either state.
+fn try_step<E: DriverEnd>(
+    driver: AnyDriver,
+    end: &mut E,
+    port: &mut Port,
+    step: &Step,
+) -> (AnyDriver, Tried)
+    requires { FitsEnd E.link end.old driver }
+    ensures same { E.same end.old end.new }
+    ensures acts { Acts E.stands E.dry E.full end.old end.new port.old port.new step.now driver (result.0) (result.1) }
+{
+    match driver {
+        AnyDriver::InReset(driver) => reset_step(driver, end, port, step),
+        AnyDriver::InActive(driver) => active_step(driver, end, port, step),
+    }
+}
+
+/// Tries the step `Window` in either state.
+fn try_window<E: DriverEnd>(driver: AnyDriver, end: &mut E) -> (AnyDriver, Tried)
+    requires { FitsEnd E.link end.old driver }
+    ensures same { E.same end.old end.new }
+    ensures acts { (p : Registers) → Acts E.stands E.dry E.full end.old end.new p p Window driver (result.0) (result.1) }
+{
+    match driver {
+        AnyDriver::InReset(driver) => wrong_state(driver),
+        AnyDriver::InActive(driver) => window_step(driver, end),
+    }
+}
+
+/// Tries the step `Release` in either state.
+fn try_release<E: DriverEnd>(driver: AnyDriver, end: &mut E) -> (AnyDriver, Tried)
+    requires { FitsEnd E.link end.old driver }
+    ensures same { E.same end.old end.new }
+    ensures acts { (p : Registers) → Acts E.stands E.dry E.full end.old end.new p p Release driver (result.0) (result.1) }
+{
+    match driver {
+        AnyDriver::InReset(driver) => wrong_state(driver),
+        AnyDriver::InActive(driver) => release_step(driver, end),
+    }
+}

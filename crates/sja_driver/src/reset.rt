@@ -1,0 +1,134 @@
+//! A driver in reset.
+
+ghost use Rattle.std.specs.Prelude.{◌≡◌, ◌⊎◌, ◌<◌, ◌≤◌, [], ◌∷◌, false, Some, None, OnOk, OnErr, IfOk, IfErr};
+ghost use Rattle.sja_link.specs.declared.up.Up.TheVariants.{Start};
+ghost use Rattle.sja_regs.specs.Addresses.{register_at};
+ghost use Rattle.sja_regs.specs.Reading.{value_at, after_reading_at, or_no_register};
+ghost use Rattle.sja_regs.specs.Refusals.{first_fault, fault_of};
+ghost use Rattle.sja_regs.specs.Registers.{config_of};
+ghost use Rattle.sja_regs.specs.Writing.{write_faults_at, after_writing_at};
+ghost use Rattle.sja_driver.specs.declared.start_fault.StartFault.TheVariants.{NoActivationLeft, Busy};
+ghost use Rattle.sja_driver.specs.Drivers.{node_in, started_in, next_link, link_in, held_in, off_in, nothing_seen};
+ghost use Rattle.sja_driver.specs.Giving.{IsGiven};
+ghost use Rattle.sja_driver.specs.Ports.{after_start};
+
+use super::active::Active;
+use super::driver::Driver;
+use super::start_fault::StartFault;
+use can_frame::Seen;
+use sja_link::{DriverEnd, DriverLedger, LinkId, Up};
+use sja_regs::{Port, RegFault};
+
+/// How many activations a node has.
+const ACTIVATIONS: u8 = 8;
+
+/// The state of a driver whose controller it keeps in reset mode: how many activations it has started.
+#[derive(Debug, Drop)]
+pub struct Reset {
+    pub(crate) node: u8,
+    pub(crate) activation: u8,
+}
+
+impl Driver<Reset> {
+    /// The driver of a node, before its first activation.
+    pub fn new(node: u8) -> Driver<Reset>
+        ensures node { node_in result ≡ node }
+        ensures none { started_in result ≡ 0 }
+    {
+        Driver {
+            state: Reset {
+                node,
+                activation: 0,
+            },
+        }
+    }
+
+    /// The activation that was started last, 1 to 8; 0 where there was none.
+    pub fn activation(&self) -> u8
+        ensures { result ≡ started_in self.now }
+    {
+        self.state.activation
+    }
+
+    /// The link of the activation that would be started next, which a start asks of its end; none once eight were used.
+    pub fn next_link(&self) -> Option<LinkId>
+        ensures some { started_in self.now < 8 → result ≡ Some (next_link self.now) }
+        ensures none { 8 ≤ started_in self.now → result ≡ None }
+    {
+        if self.state.activation < ACTIVATIONS {
+            Some(LinkId {
+                node: self.state.node,
+                activation: self.state.activation + 1,
+            })
+        } else {
+            None
+        }
+    }
+
+    /// Starts the next activation over its link: the start is given with the port's configuration, and the port leaves
+    /// reset mode. The end has to be that of the next activation, or any once eight were used.
+    ///
+    /// Errors, the first that holds: [`StartFault::NoActivationLeft`] where eight were used; [`StartFault::Busy`] where
+    /// the end gave the start back. This state comes back then, and nothing changed.
+    pub fn start<E: DriverEnd>(
+        self,
+        end: &mut E,
+        port: &mut Port,
+    ) -> Result<Driver<Active>, (Driver<Reset>, StartFault)>
+        requires { started_in self < 8 → E.link end.old ≡ next_link self }
+        ensures same { E.same end.old end.new }
+        ensures left { OnOk result (started_in self < 8) }
+        ensures link { IfOk result (λ d. link_in d ≡ next_link self) }
+        ensures fresh { IfOk result (λ d. (held_in d ≡ []) × (off_in d ≡ false)) }
+        ensures given { OnOk result (IsGiven E.stands end.old end.new (Start (config_of port.old) ∷ [])) }
+        ensures port { OnOk result (port.new ≡ after_start port.old) }
+        ensures back { IfErr result (λ e. e.0 ≡ self) }
+        ensures kept { OnErr result (IsGiven E.stands end.old end.new []) }
+        ensures unchanged { OnErr result (port.new ≡ port.old) }
+        ensures none_left { 8 ≤ started_in self → IfErr result (λ e. e.1 ≡ NoActivationLeft) × (end.new ≡ end.old) }
+        ensures busy { IfErr result (λ e. (8 ≤ started_in self) ⊎ (e.1 ≡ Busy) × E.full end.old) }
+    {
+        if self.state.activation >= ACTIVATIONS {
+            return Err((self, StartFault::NoActivationLeft));
+        }
+        if end.give(Up::Start(port.config())).is_err() {
+            return Err((self, StartFault::Busy));
+        }
+        port.leave_reset();
+        let id = LinkId {
+            node: self.state.node,
+            activation: self.state.activation + 1,
+        };
+        Ok(Driver {
+            state: Active {
+                ledger: DriverLedger::new(id),
+            },
+        })
+    }
+
+    /// Reads the register at an address. In reset no message is seen.
+    ///
+    /// Error: [`RegFault::NoRegister`] where no register stands that can be read; nothing changes then.
+    pub fn read(&self, port: &mut Port, addr: u8) -> Result<u8, RegFault>
+        ensures value { result ≡ or_no_register (value_at port.old nothing_seen (register_at port.old.mode.rm addr)) }
+        ensures after { port.new ≡ after_reading_at port.old (register_at port.old.mode.rm addr) }
+    {
+        let nothing = Seen {
+            first: None,
+            count: 0,
+        };
+        port.read(addr, &nothing)
+    }
+
+    /// Writes the register at an address.
+    ///
+    /// Errors: those of [`Port::write`]. A refusal changes nothing.
+    pub fn write(&self, port: &mut Port, addr: u8, value: u8) -> Result<(), RegFault>
+        ensures refused { fault_of result
+            ≡ first_fault (write_faults_at port.old (register_at port.old.mode.rm addr) value) }
+        ensures written { OnOk result (port.new ≡ after_writing_at port.old (register_at port.old.mode.rm addr) value) }
+        ensures unchanged { OnErr result (port.new ≡ port.old) }
+    {
+        port.write(addr, value)
+    }
+}

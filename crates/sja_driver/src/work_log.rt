@@ -1,0 +1,111 @@
+//! The log of a driver that follows a script.
+
+ghost use Rattle.std.specs.Prelude.{◌≡◌, ◌+◌, ◌<◌, ◌≤◌, ◌++◌, ℕ, suc, [], ◌∷◌, length, true, IfOk};
+ghost use Rattle.sja_driver.specs.Logs.{done_in, releases_in, left_in, done_room, release_room, left_room, IsEmpty, HasRoom};
+ghost use Rattle.sja_driver.specs.Logs.{done_by, releases_by, left_by};
+ghost use Rattle.sja_driver.specs.Tries.{ended_by, is_met};
+
+use super::release::Release;
+use super::tried::Tried;
+use can_frame::OutOfMemory;
+use sja_link::DriverLedger;
+use sja_script::{Done, StepAnswer};
+use std::alloc::Global;
+
+/// How many activations a node has.
+const ACTIVATIONS: usize = 8;
+
+/// What a driver did: its steps done, the messages that it released, and the ledger of each activation that ended
+/// (this project's own rule).
+///
+/// All its room is made beforehand, so no step takes memory.
+#[derive(Debug, Drop)]
+pub struct WorkLog {
+    pub(crate) done: Vec<Done>,
+    pub(crate) released: Vec<Release>,
+    pub(crate) left: Vec<DriverLedger>,
+}
+
+impl WorkLog {
+    /// An empty log with room for so many steps.
+    ///
+    /// Error: [`OutOfMemory`] where memory was refused.
+    pub fn new(alloc: Global, steps: u16) -> Result<WorkLog, OutOfMemory>
+        ensures empty { IfOk result IsEmpty }
+        ensures room { IfOk result (HasRoom steps) }
+    {
+        let done = Vec::with_capacity(alloc, usize::from(steps))?;
+        let released = Vec::with_capacity(alloc, usize::from(steps))?;
+        let left = Vec::with_capacity(alloc, ACTIVATIONS)?;
+        Ok(WorkLog {
+            done,
+            released,
+            left,
+        })
+    }
+
+    /// The steps that were done, in order.
+    pub fn done(&self) -> &[Done]
+        ensures { result.now ≡ done_in self.now }
+    {
+        self.done.as_slice()
+    }
+
+    /// The messages that were released, in order.
+    pub fn released(&self) -> &[Release]
+        ensures { result.now ≡ releases_in self.now }
+    {
+        self.released.as_slice()
+    }
+
+    /// The ledger of each activation that ended, in order: what it held then is unread.
+    pub fn left(&self) -> &[DriverLedger]
+        ensures { result.now ≡ left_in self.now }
+    {
+        self.left.as_slice()
+    }
+
+    /// Enters what came of a try of a step, after so many bits, and says whether the step is done.
+    pub(crate) fn enter(&mut self, tried: Tried, bits: u32) -> bool
+        requires room { HasRoom 1 self.old }
+        requires fits { length (left_in self.old) + ended_by tried ≤ 8 }
+        ensures met { result ≡ is_met tried }
+        ensures done { done_in self.new ≡ done_in self.old ++ done_by tried bits }
+        ensures released { releases_in self.new
+            ≡ releases_in self.old ++ releases_by (length (left_in self.old)) tried }
+        ensures left { left_in self.new ≡ left_in self.old ++ left_by tried }
+        ensures done_room { done_room self.new ≡ done_room self.old }
+        ensures release_room { release_room self.new ≡ release_room self.old }
+        ensures left_room { left_room self.new ≡ left_room self.old }
+    {
+        match tried {
+            Tried::Unmet => false,
+            Tried::Answered(answer) => self.push(answer, bits),
+            Tried::Released(message) => {
+                let bytes = message.len() as u8;
+                let activation = self.left.len() as u8 + 1;
+                self.released.push_reserved(Release {
+                    activation,
+                    message,
+                });
+                self.push(StepAnswer::Released(bytes), bits)
+            }
+            Tried::Ended(ledger) => {
+                self.left.push_reserved(ledger);
+                self.push(StepAnswer::Done, bits)
+            }
+        }
+    }
+
+    /// Enters a step that is done.
+    fn push(&mut self, answer: StepAnswer, bits: u32) -> bool
+        requires { length (done_in self.old) < done_room self.old }
+        ensures done { result ≡ true }
+        ensures entered { done_in self.new ≡ done_in self.old ++ record { answer = answer; bits = bits } ∷ [] }
+        ensures room { done_room self.new ≡ done_room self.old }
+        ensures rest { self.new ≡ record self.old { done = self.new.done } }
+    {
+        self.done.push_reserved(Done { answer, bits });
+        true
+    }
+}
