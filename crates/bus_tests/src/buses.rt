@@ -1,0 +1,17 @@
+//! Buses: what comes of frames, strikes, stops and bus-off, and of drivers that give what they may not give.
+
+mod arbitration;
+mod bits;
+mod bus_off;
+mod faults;
+mod given;
+mod hand;
+mod last_eof_bit;
+mod listening;
+mod ready;
+mod refused_memory;
+mod rig;
+mod self_reception;
+mod stops;
+mod strikes;
+mod stuck;

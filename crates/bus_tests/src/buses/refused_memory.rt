@@ -1,0 +1,32 @@
+//! Refused memory: each call that makes room answers it.
+//!
+//! Each answers well with and without memory, so that each allocation can be made to fail under it.
+
+use can_frame::OutOfMemory;
+use sja_bus::{Bus, SerialBoard, serial_links};
+use sja_script::FaultScript;
+
+#[test]
+fn refused_memory_gives_no_bus(rt: HostRuntime) {
+    let script = FaultScript::of(Vec::new(rt.alloc()));
+    match Bus::new(rt.alloc(), 3, 100, script) {
+        Ok(bus) => assert!(rt; bus.at_rest() && bus.finish().len() == 3),
+        Err(refused) => assert!(rt; refused == OutOfMemory),
+    }
+}
+
+#[test]
+fn refused_memory_gives_no_links(rt: HostRuntime) {
+    match serial_links(rt.alloc(), 3) {
+        Ok(links) => assert!(rt; links.len() == 24),
+        Err(refused) => assert!(rt; refused == OutOfMemory),
+    }
+}
+
+#[test]
+fn refused_memory_gives_no_board(rt: HostRuntime) {
+    match SerialBoard::new(rt.alloc(), 3, 1) {
+        Ok(board) => assert!(rt; board.ports.len() == 3),
+        Err(refused) => assert!(rt; refused == OutOfMemory),
+    }
+}

@@ -1,0 +1,70 @@
+//! Stops in a frame, and with a message on the way.
+
+use super::given::{MESSAGE, TRANSMIT};
+use super::rig::Rig;
+use sja_link::{Down, Entry, Journal, Up};
+use std::alloc::Global;
+use std::test::Fail;
+
+/// How many messages a journal stored in the first activation and in the second.
+fn stored_in(journal: &Journal) -> (u32, u32) {
+    let mut stored = [0u32; 2];
+    let mut starts = 0usize;
+    for entry in journal.entries() {
+        match entry {
+            Entry::Up(Up::Start(_)) => starts = starts.saturating_add(1),
+            Entry::Stored(_) if starts == 1 => stored[0] = stored[0].wrapping_add(1),
+            Entry::Stored(_) if starts == 2 => stored[1] = stored[1].wrapping_add(1),
+            _ => {}
+        }
+    }
+    (stored[0], stored[1])
+}
+
+/// Node 0 sends a frame; node 1 is stopped after so many bits, and started again at once.
+fn stopped_after(alloc: Global, bits: u32) -> Result<Rig, Fail> {
+    let mut rig = Rig::new(alloc, 1, 2, 200, &[])?;
+    rig.start(0)?;
+    if rig.send(0, &MESSAGE, TRANSMIT)?.is_err() {
+        return Err("no request")?;
+    }
+    rig.start(1)?;
+    if rig.bits(bits)?.is_err() {
+        return Err("no bit")?;
+    }
+    rig.stop(1)?;
+    rig.start(1)?;
+    match rig.rest()? {
+        Ok(_) => Ok(rig),
+        Err(_) => Err("no rest")?,
+    }
+}
+
+#[test]
+fn a_stop_after_each_bit_of_a_frame_leaves_it_to_one_activation_or_none(
+    rt: HostRuntime,
+) -> Result<(), Fail> {
+    for bits in 1..65u32 {
+        let want = match bits {
+            // nobody acknowledged it: it is sent again
+            1..=52 => (0, 1),
+            // it was acknowledged, and nobody holds it
+            53..=59 => (0, 0),
+            _ => (1, 0),
+        };
+        let rig = stopped_after(rt.alloc(), bits)?;
+        let logs = rig.finish();
+        assert!(rt; logs.len() == 2);
+        assert_eq!(rt; stored_in(&logs[1].journal), want, "after {bits} bits");
+    }
+    Ok(())
+}
+
+#[test]
+fn a_message_on_the_way_stays_on_the_link_of_its_activation(rt: HostRuntime) -> Result<(), Fail> {
+    let mut rig = stopped_after(rt.alloc(), 60)?;
+    assert!(rt; matches!(&rig.get(1, 1)?, Some(Down::Message(_))));
+    assert!(rt; rig.get(1, 1)?.is_none());
+    assert!(rt; rig.get(1, 2)?.is_none());
+    Ok(())
+}

@@ -1,0 +1,7 @@
+//! The tests of `sja_bus`, by direct calls of drivers, of `gather` and of `bit`.
+//!
+//! Expected values are written by hand from the rules of the bus and the data sheet.
+#![tactic(auto)]
+
+#[cfg(test)]
+mod buses;

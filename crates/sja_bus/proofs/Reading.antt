@@ -1,0 +1,185 @@
+-- What the bus knows of the activation that it reads, with each thing that it does.
+use Rattle.std.proofs.Common.{◌≡◌, ℕ, suc, ◌+◌, ◌-◌, ◌<◌, ◌≤◌, Bool, true, false, Option, Some, None, List, [], ◌∷◌, ◌++◌, length, refl, sym, ap, ◌∙◌, subst, append-nil, arith, inl, inr}
+use Rattle.std.proofs.lemmas.Bool.{cases_eq}
+use Rattle.can_frame.specs.declared.filter.Filter.{Filter}
+use Rattle.can_bits.specs.declared.level.Level.{Level}
+use Rattle.can_node.specs.declared.config.Config.{Config}
+use Rattle.can_node.specs.declared.request.Request.{Request}
+use Rattle.can_node.specs.declared.node.Node.{Node}
+use Rattle.can_node.specs.Stands.{InReset}
+use Rattle.sja_link.specs.declared.up.Up.TheVariants.{Start, Credit, Send, Stop}
+use Rattle.sja_link.specs.declared.verdict.Verdict.{Verdict}
+use Rattle.sja_link.specs.declared.verdict.Verdict.TheVariants.{Stored as ToStore, Overrun as ToLose}
+use Rattle.sja_link.specs.declared.entry.Entry.{Entry}
+use Rattle.sja_link.specs.declared.entry.Entry.TheVariants.{Bit, Up as Item, Abort, Stored, Overrun, Off}
+use Rattle.sja_link.specs.Places.{Place, past, place_of}
+use Rattle.sja_link.specs.Parts.{part}
+use Rattle.sja_link.specs.Free.{IsFree, free_of, credit_in, bytes_in}
+use Rattle.sja_link.specs.Verdicts.{filter_of, EndsInBit, IsPrompt, IsFair, IsDue, entry_of}
+use Rattle.sja_link.proofs.Entering.{place_push, part_here, part_else, of_part_later}
+use Rattle.sja_link.proofs.Freeing.{free_is, free_push, free_same, total_push}
+use Rattle.sja_link.proofs.Judging.{StaysIn, filter_push}
+use Rattle.sja_link.specs.Parts.{entry_at}
+use Rattle.sja_bus.specs.declared.activity.Activity.{Activity}
+use Rattle.sja_bus.specs.declared.activity.Activity.TheVariants.{Between, Running, Off as IsOff, OffAndAsked}
+use Rattle.sja_bus.specs.Links.{stops_in, stops_of}
+use Rattle.sja_bus.specs.Inside.Seats.{Pays}
+use Rattle.sja_bus.specs.Inside.Following.{open_in, IsActive, Reads}
+
+-- nothing was taken
+pub reads_new : (node : Node) → InReset node → Reads node [] 0 Between 64
+reads_new node reset = record { begun = refl; stopped = refl; free_is = refl; active = reset }
+
+-- an entry that is no stop
+stopped_same : (j : List Entry) (e : Entry) (n : ℕ) → stops_in e ≡ 0 → stops_of j ≡ n → stops_of (j ++ e ∷ []) ≡ n
+stopped_same j e n none h = let t = total_push stops_in j e in omega (arith, t, none, h)
+
+-- the part of the activation that is read
+part_now : (j : List Entry) (e : Entry) (a : ℕ) → (past (place_of j) e).activation ≡ a → part (j ++ e ∷ []) a ≡ part j a ++ e ∷ []
+part_now j e a h = part_here j e a h
+
+-- what is free, with an entry more that stands in the activation that is read, or in the one before
+free_on : (j : List Entry) (e : Entry) (a n m : ℕ) → m + bytes_in e ≡ n + credit_in e → (bytes_in e ≡ 0) × (credit_in e ≡ 0) → IsFree (part j a) n → IsFree (part (j ++ e ∷ []) a) m
+free_on j e a n m step quiet h = elim (cases_eq (past (place_of j) e).activation a) [
+  | inl q ↦ subst (λ (p : List Entry). IsFree p m) (sym (part_here j e a q)) (free_push (part j a) e n m h step)
+  | inr ne ↦ let same : n ≡ m = omega (arith, step, quiet.0, quiet.1) in
+      subst (λ (p : List Entry). IsFree p m) (sym (part_else j e a ne)) (subst (λ (k : ℕ). IsFree (part j a) k) same h)
+]
+
+-- an entry that begins and ends no activation, stores nothing and gives nothing back, and isn't bus-off
+abbrev pub IsQuiet : Entry → Type 0
+IsQuiet e = ((p : Place) → past p e ≡ record p { bits = (past p e).bits }) × (bytes_in e ≡ 0) × (credit_in e ≡ 0) × (stops_in e ≡ 0)
+
+pub stays_of : (e : Entry) → ((p : Place) → past p e ≡ record p { bits = (past p e).bits }) → StaysIn e
+stays_of e h p = ap (λ (q : Place). q.activation) (h p)
+
+off_same : (j : List Entry) (e : Entry) → ((p : Place) → past p e ≡ record p { bits = (past p e).bits }) → (place_of (j ++ e ∷ [])).off ≡ (place_of j).off
+off_same j e h = ap (λ (p : Place). p.off) (place_push j e ∙ h (place_of j))
+
+begun_same : (j : List Entry) (e : Entry) → StaysIn e → (place_of (j ++ e ∷ [])).activation ≡ (place_of j).activation
+begun_same j e h = ap (λ (p : Place). p.activation) (place_push j e) ∙ h (place_of j)
+
+active_same : (activity : Activity) (old new : Node) (j : List Entry) (e : Entry) (a : ℕ) → ((p : Place) → past p e ≡ record p { bits = (past p e).bits }) →
+    (InReset old → InReset new) → IsActive activity old j a → IsActive activity new (j ++ e ∷ []) a
+active_same Between old new j e a stays reset h = reset h
+active_same (Running filter) old new j e a stays reset h = (off_same j e stays ∙ h.0, filter_push j e a (stays_of e stays) ∙ h.1)
+active_same IsOff old new j e a stays reset h = (off_same j e stays ∙ h.0, reset h.1)
+active_same OffAndAsked old new j e a stays reset h = (off_same j e stays ∙ h.0, reset h.1)
+
+-- an entry with which nothing changes but the node: an abort, and a bit
+pub reads_quiet : (old new : Node) (j : List Entry) (e : Entry) (ended : ℕ) (activity : Activity) (free : ℕ) → IsQuiet e → (InReset old → InReset new) →
+    Reads old j ended activity free → Reads new (j ++ e ∷ []) ended activity free
+reads_quiet old new j e ended activity free quiet reset h = record {
+  begun = begun_same j e (stays_of e quiet.0) ∙ h.begun;
+  stopped = stopped_same j e ended quiet.3 h.stopped;
+  free_is = free_on j e (suc ended) free free (omega (arith, quiet.1, quiet.2)) (quiet.1, quiet.2) h.free_is;
+  active = active_same activity old new j e (suc ended) quiet.0 reset h.active;
+}
+
+-- ---- what the bus takes
+
+pub reads_start : (old new : Node) (j : List Entry) (config : Config) (ended free left : ℕ) → Pays free left (Item (Start config)) → Reads old j ended Between free →
+    Reads new (j ++ Item (Start config) ∷ []) ended (Running config.filter) left
+reads_start old new j config ended free left pays h =
+    let e : Entry = Item (Start config) in
+    let few : (place_of j).activation < suc ended = let b = h.begun in omega (arith, b) in
+    let at : (past (place_of j) e).activation ≡ suc ended = let b = h.begun in omega (arith, b) in
+    let none : part j (suc ended) ≡ [] = of_part_later entry_at j (suc ended) few in
+    let one : part (j ++ e ∷ []) (suc ended) ≡ part j (suc ended) ++ e ∷ [] = part_here j e (suc ended) at in
+    let place = place_push j e in record {
+      begun = ap (λ (p : Place). p.activation) place ∙ at ∙ omega arith;
+      stopped = stopped_same j e ended refl h.stopped;
+      free_is = subst (λ (p : List Entry). IsFree p left) (sym one) (pays (part j (suc ended)) h.free_is);
+      active = (ap (λ (p : Place). p.off) place, ap filter_of one ∙ ap (λ l. filter_of (l ++ e ∷ [])) none);
+    }
+
+-- the entry stands in the activation that is read
+pub here_in : (activity : Activity) (node : Node) (j : List Entry) (ended free : ℕ) (e : Entry) → StaysIn e → open_in activity ≡ 1 → Reads node j ended activity free →
+    (past (place_of j) e).activation ≡ suc ended
+here_in activity node j ended free e stays runs h = let b = h.begun in let s = stays (place_of j) in omega (arith, b, s, runs)
+
+-- an entry of the activation that is read: a credit, a request that the node took, a verdict
+pub reads_here : (old new : Node) (j : List Entry) (e : Entry) (ended : ℕ) (activity : Activity) (free left : ℕ) → ((p : Place) → past p e ≡ record p { bits = (past p e).bits }) →
+    stops_in e ≡ 0 → open_in activity ≡ 1 → (InReset old → InReset new) → Pays free left e → Reads old j ended activity free → Reads new (j ++ e ∷ []) ended activity left
+reads_here old new j e ended activity free left stays none runs reset pays h =
+    let at = here_in activity old j ended free e (stays_of e stays) runs h in record {
+      begun = begun_same j e (stays_of e stays) ∙ h.begun;
+      stopped = stopped_same j e ended none h.stopped;
+      free_is = subst (λ (p : List Entry). IsFree p left) (sym (part_here j e (suc ended) at)) (pays (part j (suc ended)) h.free_is);
+      active = active_same activity old new j e (suc ended) stays reset h.active;
+    }
+
+-- a request that the node took
+pub reads_ask : (old new : Node) (j : List Entry) (request : Request) (ended : ℕ) (filter : Filter) (free left : ℕ) → Pays free left (Item (Send request)) →
+    Reads old j ended (Running filter) free → Reads new (j ++ Item (Send request) ∷ []) ended (Running filter) left
+reads_ask old new j request ended filter free left pays h =
+    let s = reads_here old old j (Item (Send request)) ended (Running filter) free left (λ p. refl) refl refl (λ r. r) pays h in
+    record { begun = s.begun; stopped = s.stopped; free_is = s.free_is; active = s.active }
+
+-- a request that is dropped is counted
+pub reads_drop : (node : Node) (j : List Entry) (request : Request) (ended free left : ℕ) → Pays free left (Item (Send request)) → Reads node j ended IsOff free →
+    Reads node (j ++ Item (Send request) ∷ []) ended OffAndAsked left
+reads_drop node j request ended free left pays h =
+    let s = reads_here node node j (Item (Send request)) ended IsOff free left (λ p. refl) refl refl (λ r. r) pays h in
+    record { begun = s.begun; stopped = s.stopped; free_is = s.free_is; active = s.active }
+
+pub reads_stop : (old new : Node) (j : List Entry) (ended : ℕ) (activity : Activity) (free : ℕ) → open_in activity ≡ 1 → InReset new → Reads old j ended activity free →
+    Reads new (j ++ Item Stop ∷ []) (suc ended) Between 64
+reads_stop old new j ended activity free runs reset h =
+    let e : Entry = Item Stop in
+    let same = begun_same j e (λ p. refl) in
+    let begun : (place_of (j ++ e ∷ [])).activation ≡ suc ended = let b = h.begun in omega (arith, b, same, runs) in
+    let none : part (j ++ e ∷ []) (suc (suc ended)) ≡ [] = of_part_later entry_at (j ++ e ∷ []) (suc (suc ended)) (omega (arith, begun)) in record {
+      begun = begun ∙ omega arith;
+      stopped = let t = total_push stops_in j e in let was = h.stopped in omega (arith, t, was);
+      free_is = subst (λ (p : List Entry). IsFree p 64) (sym none) refl;
+      active = reset;
+    }
+
+-- ---- verdicts
+
+-- after a bit a verdict is due that is fair by what is free
+pub due_now : (j : List Entry) (x seen : Level) (a : ℕ) (v : Verdict) (m : List ℕ) (free : ℕ) → (place_of j).activation ≡ a → IsFree (part j a) free →
+    ((p : List Entry) → IsFree p free → IsFair p (entry_of v m)) → IsDue (part (j ++ Bit x seen ∷ []) a) (entry_of v m)
+due_now j x seen a v m free at h fair =
+    let one : part (j ++ Bit x seen ∷ []) a ≡ part j a ++ Bit x seen ∷ [] = part_here j (Bit x seen) a at in
+    let now : IsFree (part (j ++ Bit x seen ∷ []) a) free = subst (λ (p : List Entry). IsFree p free) (sym one) (free_same (part j a) (Bit x seen) free refl refl h) in
+    (prompt v (record { before = part j a; driven = x; seen = seen; whole = one }), fair (part (j ++ Bit x seen ∷ []) a) now)
+  where
+    prompt : {p : List Entry} (w : Verdict) → EndsInBit p → IsPrompt p (entry_of w m)
+    prompt ToStore h = h
+    prompt ToLose h = h
+
+pub verdict_stays : (v : Verdict) (m : List ℕ) (p : Place) → past p (entry_of v m) ≡ record p { bits = (past p (entry_of v m)).bits }
+verdict_stays ToStore m p = refl
+verdict_stays ToLose m p = refl
+
+pub verdict_no_stop : (v : Verdict) (m : List ℕ) → stops_in (entry_of v m) ≡ 0
+verdict_no_stop ToStore m = refl
+verdict_no_stop ToLose m = refl
+
+-- ---- bus-off
+
+pub reads_off : (node : Node) (j : List Entry) (ended : ℕ) (filter : Filter) (free : ℕ) → InReset node → Reads node j ended (Running filter) free →
+    Reads node (j ++ Off ∷ []) ended IsOff free
+reads_off node j ended filter free reset h = record {
+  begun = begun_same j Off (λ p. refl) ∙ h.begun;
+  stopped = stopped_same j Off ended refl h.stopped;
+  free_is = free_on j Off (suc ended) free free (omega arith) (refl, refl) h.free_is;
+  active = (ap (λ (p : Place). p.off) (place_push j Off), reset);
+}
+
+-- while one runs what the bus knows of it doesn't hang on the node
+pub reads_swap : (old new : Node) (j : List Entry) (ended : ℕ) (filter : Filter) (free : ℕ) → Reads old j ended (Running filter) free → Reads new j ended (Running filter) free
+reads_swap old new j ended filter free h = record { begun = h.begun; stopped = h.stopped; free_is = h.free_is; active = h.active }
+
+-- the activation that runs is the one that is read
+pub runs_at : (activity : Activity) (node : Node) (j : List Entry) (ended free : ℕ) → open_in activity ≡ 1 → Reads node j ended activity free → (place_of j).activation ≡ suc ended
+runs_at activity node j ended free runs h = let b = h.begun in omega (arith, b, runs)
+
+-- an entry that begins no activation stands in it
+pub stands_at : (j : List Entry) (e : Entry) (a : ℕ) → StaysIn e → (place_of j).activation ≡ a → (past (place_of j) e).activation ≡ a
+stands_at j e a stays at = stays (place_of j) ∙ at
+
+pub place_same : (j : List Entry) (e : Entry) (a : ℕ) → StaysIn e → (place_of j).activation ≡ a → (place_of (j ++ e ∷ [])).activation ≡ a
+place_same j e a stays at = begun_same j e stays ∙ at

@@ -1,0 +1,62 @@
+-- A seat by its parts.
+use Rattle.std.proofs.Common.{◌≡◌, ◌≢◌, ℕ, suc, ◌+◌, Bool, true, false, List, [], ◌∷◌, ◌++◌, refl, sym, ap, ◌∙◌, subst}
+use Rattle.can_node.specs.declared.node.Node.{Node}
+use Rattle.can_node.specs.Stands.{InReset}
+use Rattle.sja_link.specs.declared.entry.Entry.{Entry}
+use Rattle.sja_link.specs.BusLedgers.{free_in}
+use Rattle.sja_bus.specs.declared.activity.Activity.{Activity}
+use Rattle.sja_bus.specs.declared.activity.Activity.TheVariants.{Between, Running, Off, OffAndAsked}
+use Rattle.sja_bus.specs.declared.seat.Seat.{Seat}
+use Rattle.sja_bus.specs.Inside.Following.{Follows, FollowsBit, Reads, IsActive, open_in}
+use Rattle.sja_bus.specs.Inside.Seats.{IsSound}
+
+-- its node, its journal and what the bus knows of them
+pub sound_by : (s : Seat) (node : Node) (j : List Entry) (ended : ℕ) (activity : Activity) (free : ℕ) → s.node ≡ node → s.journal.entries ≡ j → s.ended ≡ ended →
+    s.activity ≡ activity → free_in s.ledger ≡ free → Follows node j → Reads node j ended activity free → IsSound s
+sound_by s node j ended activity free n e d a f follows reads =
+    let P : Node → Type 0 = λ x. Follows x j in
+    let Q : List Entry → Type 0 = λ x. Follows s.node x in
+    let R : Node → Type 0 = λ x. Reads x j ended activity free in
+    let S : List Entry → Type 0 = λ x. Reads s.node x ended activity free in
+    let T : ℕ → Type 0 = λ x. Reads s.node s.journal.entries x activity free in
+    let U : Activity → Type 0 = λ x. Reads s.node s.journal.entries s.ended x free in
+    let V : ℕ → Type 0 = λ x. Reads s.node s.journal.entries s.ended s.activity x in record {
+      follows = subst Q (sym e) (subst P (sym n) follows);
+      reads = subst V (sym f) (subst U (sym a) (subst T (sym d) (subst S (sym e) (subst R (sym n) reads))));
+    }
+
+-- an entry more
+pub sound_entered : (s new : Seat) (e : Entry) → new ≡ record s { journal = new.journal } → new.journal.entries ≡ s.journal.entries ++ e ∷ [] →
+    Follows s.node (s.journal.entries ++ e ∷ []) → Reads s.node (s.journal.entries ++ e ∷ []) s.ended s.activity (free_in s.ledger) → IsSound new
+sound_entered s new e same entries follows reads =
+    sound_by new s.node (s.journal.entries ++ e ∷ []) s.ended s.activity (free_in s.ledger) (ap (λ (x : Seat). x.node) same) entries (ap (λ (x : Seat). x.ended) same)
+    (ap (λ (x : Seat). x.activity) same) (ap (λ (x : Seat). free_in x.ledger) same) follows reads
+
+-- one runs that isn't between two
+pub open_else : (activity : Activity) → activity ≢ Between → open_in activity ≡ 1
+open_else Between h = absurd (h refl)
+open_else (Running filter) h = refl
+open_else Off h = refl
+open_else OffAndAsked h = refl
+
+pub reads_by : (s : Seat) (node : Node) (j : List Entry) (ended : ℕ) (activity : Activity) (free : ℕ) → s.node ≡ node → s.journal.entries ≡ j → s.ended ≡ ended →
+    s.activity ≡ activity → free_in s.ledger ≡ free → Reads node j ended activity free → Reads s.node s.journal.entries s.ended s.activity (free_in s.ledger)
+reads_by s node j ended activity free n e d a f reads =
+    let R : Node → Type 0 = λ x. Reads x j ended activity free in
+    let S : List Entry → Type 0 = λ x. Reads s.node x ended activity free in
+    let T : ℕ → Type 0 = λ x. Reads s.node s.journal.entries x activity free in
+    let U : Activity → Type 0 = λ x. Reads s.node s.journal.entries s.ended x free in
+    let V : ℕ → Type 0 = λ x. Reads s.node s.journal.entries s.ended s.activity x in
+    subst V (sym f) (subst U (sym a) (subst T (sym d) (subst S (sym e) (subst R (sym n) reads))))
+
+pub follows_by : (s : Seat) (node : Node) (j : List Entry) (went : Bool) → s.node ≡ node → s.journal.entries ≡ j → FollowsBit node j went → FollowsBit s.node s.journal.entries went
+follows_by s node j went n e follows =
+    let P : Node → Type 0 = λ x. FollowsBit x j went in
+    let Q : List Entry → Type 0 = λ x. FollowsBit s.node x went in subst Q (sym e) (subst P (sym n) follows)
+
+-- a node of which none runs is in reset
+pub reset_else : (activity : Activity) (node : Node) (j : List Entry) (a : ℕ) → ((f : _) → activity ≢ Running f) → IsActive activity node j a → InReset node
+reset_else Between node j a not h = h
+reset_else (Running filter) node j a not h = absurd (not filter refl)
+reset_else Off node j a not h = h.1
+reset_else OffAndAsked node j a not h = h.1

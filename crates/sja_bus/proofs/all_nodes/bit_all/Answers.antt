@@ -1,0 +1,31 @@
+use Rattle.std.proofs.Common.{◌≡◌, ℕ, ◌<◌, List, length, rules, arith, sym, ap, ◌∙◌, subst}
+use Rattle.sja_bus.specs.Wire.{wired}
+use Rattle.sja_bus.specs.Inside.Rows.{driven_by}
+use Rattle.sja_bus.proofs.Lists.{each_trans, ok_map}
+use Rattle.sja_bus.proofs.Many.{goes_all_trans, numbered_kept}
+use Rattle.sja_bus.proofs.all_nodes.bit_all.Goals as goal
+
+pub tick_all-requires-clause-ids : goal.tick_all-requires-clause-ids
+tick_all-requires-clause-ids g c = numbered_kept g.E.BusEnd.link g.E.BusEnd.same g.met.E.BusEnd.same_link c.args.links.now c.open_all.new.links c.open_all.ensures.sames c.requires.ids
+
+pub returns-clause-sames : goal.returns-clause-sames
+returns-clause-sames g c = each_trans g.E.BusEnd.same g.met.E.BusEnd.same_trans c.args.links.now c.open_all.new.links c.tick_all.new.links c.open_all.ensures.sames c.tick_all.ensures.sames
+
+pub returns-clause-goes : goal.returns-clause-goes
+returns-clause-goes g c =
+    ok_map c.tick_all.result
+    (λ q. goes_all_trans g.E.BusEnd.same g.E.BusEnd.stands g.met.E.BusEnd.same_trans c.args.seats.now c.open_all.new.seats c.tick_all.new.seats c.args.links.now c.open_all.new.links c.tick_all.new.links c.open_all.auto.seats c.in_ok-open_all.ensures.goes q)
+    c.tick_all.ensures.goes
+
+pub returns-clause-bit : goal.returns-clause-bit
+returns-clause-bit g c =
+    ok_map c.tick_all.result
+    (λ q. record {
+      opened = c.open_all.new.seats;
+      level = c.level_of-level.result;
+      count = c.open_all.auto.seats;
+      opens = c.in_ok-open_all.ensures.opens;
+      is_level = c.level_of-level.ensures;
+      ticks = q;
+    })
+    c.tick_all.ensures.ticks

@@ -1,0 +1,20 @@
+use Rattle.std.proofs.Common.{◌≡◌, ℕ, suc, ◌+◌, ◌<◌, ◌≤◌, length, drop, rules, arith, refl, sym, ap, ◌∙◌}
+use Rattle.std.specs.Prelude.{slice_index_or}
+use Rattle.can_bits.specs.declared.level.Level.{Level}
+use Rattle.can_bits.specs.declared.level.Level.TheVariants.{Dominant, Recessive}
+use Rattle.sja_bus.specs.Wire.{wired}
+use Rattle.sja_bus.specs.Inside.Rows.{driven_by}
+use Rattle.sja_bus.proofs.Levels.{dominant_here, recessive_here, none_left, not_dominant}
+use Rattle.sja_bus.proofs.all_nodes.level_of.Goals as goal
+
+pub loop-k-preserved : goal.loop-k-preserved
+loop-k-preserved c =
+    let seats = c.args.seats.now in let k = c.loop-k.k in
+    let e : suc k ≡ k + 1 = omega arith in
+    c.loop-k.invariant ∙ recessive_here seats k _ c.loop-k-test.true (not_dominant _ c.in_default.not-Dominant) ∙ ap (λ n. wired (driven_by (drop n seats))) e
+
+pub returns-in-Dominant : goal.returns-in-Dominant
+returns-in-Dominant c = sym (c.loop-k.invariant ∙ dominant_here c.args.seats.now c.loop-k.k _ c.loop-k-test.true c.in-Dominant.is)
+
+pub returns : goal.returns
+returns c = sym (c.loop-k.invariant ∙ none_left c.args.seats.now c.loop-k.k c.loop-k-test.false)

@@ -1,0 +1,13 @@
+use Rattle.std.proofs.Common.{◌≡◌, ℕ, suc, ◌+◌, ◌<◌, ◌≤◌, None, List, [], ◌∷◌, ◌++◌, length, map, replicate, rules, arith, refl, sym, ap, ◌∙◌, subst, vec_len, vec_capacity}
+use Rattle.std.specs.Vec.Iter.{into_iter_items, into_iter_len}
+use Rattle.sja_bus.specs.declared.seat.Seat.{Seat}
+use Rattle.sja_bus.specs.declared.node_log.NodeLog.{NodeLog}
+use Rattle.sja_bus.proofs.Logs.{LogsSoFar, logs_none, logs_push, logs_all}
+use Rattle.sja_bus.proofs.beginning.logs_of.Goals as goal
+
+pub loop-seat-preserved : goal.loop-seat-preserved
+loop-seat-preserved c = record {
+  room = search rules;
+  done = rw c.push_reserved.ensures.items
+      (logs_push c.args.seats.items (into_iter_items c.loop-seat.seat-iterator) (into_iter_items c.next.new.self) c.loop-seat.logs.items c.in-Some.seat _ c.in-Some.ensures.steps.0 c.into_log.ensures c.loop-seat.invariant.done);
+}

@@ -1,0 +1,68 @@
+use Rattle.std.proofs.Common.{◌≡◌, ◌≤◌, ◌+◌, ◌-◌, ℕ, Option, None, Some, List, [], ◌++◌, length, take, drop, refl, sym, ap, ◌∙◌, subst, arith, rules}
+use Rattle.std.proofs.lemmas.Grind.{common_steps}
+use Rattle.std.specs.Prelude.{vec_capacity}
+use Rattle.sja_bus.specs.declared.seat.Seat.{Seat}
+use Rattle.sja_bus.specs.Buses.{BusValue, KeepsAll, IsBit}
+use Rattle.sja_bus.specs.Inside.Rows.{journals_of, GoesAll}
+use Rattle.sja_bus.specs.Inside.Whole.{IsWhole, IsRowBit}
+use Rattle.sja_bus.proofs.Lists.{each_refl}
+use Rattle.sja_bus.proofs.Journals.{wired_row, is_bit}
+use Rattle.sja_bus.proofs.Journals.{keeps_all}
+use Rattle.sja_bus.proofs.bus.Bus.bit.Goals as goal
+
+pub returns-in-Some-clause-sames : goal.returns-in-Some-clause-sames
+returns-in-Some-clause-sames g c = each_refl g.E.BusEnd.same g.met.E.BusEnd.same_refl c.args.links.now
+
+pub returns-then-self-eq0-clause-sames : goal.returns-then-self-eq0-clause-sames
+returns-then-self-eq0-clause-sames g c = each_refl g.E.BusEnd.same g.met.E.BusEnd.same_refl c.args.links.now
+
+pub invariant_of-self : goal.invariant_of-self
+invariant_of-self g c =
+    let b = c.self.inside in
+    let now = c.bit_all.new.seats in let was = b.seats.items in let inv = c.self.invariant.0 in
+    let v : c.as_mut_slice.result.now ≡ was = c.as_mut_slice.ensures.value in
+    let len : length now ≡ length was = c.bit_all.auto.seats ∙ ap (λ (l : List Seat). length l) v in
+    let e : take b.seats.len (now ++ drop (length now) was) ≡ now = grind (arith, common_steps) in
+    let T : List Seat → Type 0 = λ l. IsRowBit (g.B.Board.orders_are c.args.board.now) c.at-struck.result l now in
+    let row : IsRowBit (g.B.Board.orders_are c.args.board.now) c.at-struck.result was now = subst T v c.in-Ok.ensures.bit in
+    let some = c.if-self-eq0.false in let bits = inv.bits in
+    let few = inv.few in let logs = inv.logs in
+    let l : IsWhole b.struck (b.run + 1) (b.left - 1) b.fault now (vec_capacity b.logs) = record {
+      few = omega (arith, len, few);
+      bits = omega (arith, bits, some);
+      most = inv.most;
+      bus = λ f. record {
+        ready = c.in-Ok.ensures.ready;
+        wired = wired_row (g.B.Board.orders_are c.args.board.now) b.struck.script b.run c.at-struck.result was now len few c.at-struck.ensures row (inv.bus f).wired;
+      };
+      logs = omega (arith, len, logs);
+    } in
+    let P : List Seat → Type 0 = λ xs. IsWhole b.struck (b.run + 1) (b.left - 1) b.fault xs (vec_capacity b.logs) in
+    (subst P (sym e) l, c.self.invariant.1)
+
+pub returns-in-Ok-clause-kept : goal.returns-in-Ok-clause-kept
+returns-in-Ok-clause-kept g c =
+    let E = g.E.BusEnd in let b = c.self.inside in
+    let now = c.bit_all.new.seats in let was = b.seats.items in
+    let before = c.args.links.now in let after = c.bit_all.new.links in
+    let v : c.as_mut_slice.result.now ≡ was = c.as_mut_slice.ensures.value in
+    let len : length now ≡ length was = c.bit_all.auto.seats ∙ ap (λ (l : List Seat). length l) v in
+    let e : take b.seats.len (now ++ drop (length now) was) ≡ now = grind (arith, common_steps) in
+    let G : List Seat → Type 0 = λ l. GoesAll E.same E.stands l now before after in
+    let goes = keeps_all E.same E.stands was now before after len (subst G v c.in-Ok.ensures.goes) in
+    let P : BusValue → Type 0 = λ w. KeepsAll E.stands w.journals (journals_of now) before after in
+    let Q : List Seat → Type 0 = λ xs. KeepsAll E.stands c.args.self.now.journals (journals_of xs) before after in
+    subst Q (sym e) (subst P c.self.view_is goes)
+
+pub returns-in-Ok-clause-bit : goal.returns-in-Ok-clause-bit
+returns-in-Ok-clause-bit g c =
+    let b = c.self.inside in let inv = c.self.invariant.0 in let few = inv.few in
+    let now = c.bit_all.new.seats in let was = b.seats.items in
+    let v : c.as_mut_slice.result.now ≡ was = c.as_mut_slice.ensures.value in
+    let len : length now ≡ length was = c.bit_all.auto.seats ∙ ap (λ (l : List Seat). length l) v in
+    let e : take b.seats.len (now ++ drop (length now) was) ≡ now = grind (arith, common_steps) in
+    let T : List Seat → Type 0 = λ l. IsRowBit (g.B.Board.orders_are c.args.board.now) c.at-struck.result l now in
+    let row : IsRowBit (g.B.Board.orders_are c.args.board.now) c.at-struck.result was now = subst T v c.in-Ok.ensures.bit in
+    let P : BusValue → Type 0 = λ w. IsBit (g.B.Board.orders_are c.args.board.now) w.script w.run w.journals (journals_of now) in
+    let Q : List Seat → Type 0 = λ xs. IsBit (g.B.Board.orders_are c.args.board.now) c.args.self.now.script c.args.self.now.run c.args.self.now.journals (journals_of xs) in
+    subst Q (sym e) (subst P c.self.view_is (is_bit (g.B.Board.orders_are c.args.board.now) b.struck.script b.run c.at-struck.result was now len few c.at-struck.ensures row))

@@ -1,0 +1,74 @@
+use Rattle.std.proofs.Common.{◌≡◌, ◌≤◌, ◌+◌, ℕ, Option, None, Some, List, [], ◌++◌, length, take, drop, refl, sym, ap, ◌∙◌, subst, arith, rules}
+use Rattle.std.proofs.lemmas.Grind.{common_steps}
+use Rattle.std.specs.Prelude.{vec_capacity}
+use Rattle.sja_bus.specs.declared.seat.Seat.{Seat}
+use Rattle.sja_bus.specs.OneBit.{HasItems}
+use Rattle.sja_bus.specs.Buses.{BusValue, EachJournal, KeepsAll, AllDry}
+use Rattle.sja_bus.specs.Inside.Rows.{journals_of, GoesAll, EachSeat, SeatTakes}
+use Rattle.sja_bus.specs.Inside.Whole.{IsWhole}
+use Rattle.sja_bus.proofs.Lists.{each_refl}
+use Rattle.sja_bus.proofs.Running.{wired_taken}
+use Rattle.sja_bus.proofs.Journals.{keeps_all, all_items, all_dry}
+use Rattle.sja_bus.proofs.bus.Bus.gather.Goals as goal
+
+pub returns-in-Some-clause-sames : goal.returns-in-Some-clause-sames
+returns-in-Some-clause-sames g c = each_refl g.E.BusEnd.same g.met.E.BusEnd.same_refl c.args.links.now
+
+pub invariant_of-self : goal.invariant_of-self
+invariant_of-self g c =
+    let b = c.self.inside in
+    let now = c.gather_all.new.seats in let was = b.seats.items in let inv = c.self.invariant.0 in
+    let v : c.as_mut_slice.result.now ≡ was = c.as_mut_slice.ensures.value in
+    let len : length now ≡ length was = c.gather_all.auto.seats ∙ ap (λ (l : List Seat). length l) v in
+    let e : take b.seats.len (now ++ drop (length now) was) ≡ now = grind (arith, common_steps) in
+    let T : List Seat → Type 0 = λ l. EachSeat SeatTakes l now in
+    let takes : EachSeat SeatTakes was now = subst T v c.in-Ok.ensures.items in
+    let few = inv.few in let logs = inv.logs in
+    let l : IsWhole b.struck b.run b.left b.fault now (vec_capacity b.logs) = record {
+      few = omega (arith, len, few);
+      bits = inv.bits;
+      most = inv.most;
+      bus = λ f. record {
+        ready = c.in-Ok.ensures.ready;
+        wired = wired_taken b.struck.script b.run was now len takes (inv.bus f).wired;
+      };
+      logs = omega (arith, len, logs);
+    } in
+    let P : List Seat → Type 0 = λ xs. IsWhole b.struck b.run b.left b.fault xs (vec_capacity b.logs) in
+    (subst P (sym e) l, c.self.invariant.1)
+
+pub returns-in-Ok-clause-kept : goal.returns-in-Ok-clause-kept
+returns-in-Ok-clause-kept g c =
+    let E = g.E.BusEnd in let b = c.self.inside in
+    let now = c.gather_all.new.seats in let was = b.seats.items in
+    let before = c.args.links.now in let after = c.gather_all.new.links in
+    let v : c.as_mut_slice.result.now ≡ was = c.as_mut_slice.ensures.value in
+    let len : length now ≡ length was = c.gather_all.auto.seats ∙ ap (λ (l : List Seat). length l) v in
+    let e : take b.seats.len (now ++ drop (length now) was) ≡ now = grind (arith, common_steps) in
+    let G : List Seat → Type 0 = λ l. GoesAll E.same E.stands l now before after in
+    let goes = keeps_all E.same E.stands was now before after len (subst G v c.in-Ok.ensures.goes) in
+    let P : BusValue → Type 0 = λ w. KeepsAll E.stands w.journals (journals_of now) before after in
+    let Q : List Seat → Type 0 = λ xs. KeepsAll E.stands c.args.self.now.journals (journals_of xs) before after in
+    subst Q (sym e) (subst P c.self.view_is goes)
+
+pub returns-in-Ok-clause-items : goal.returns-in-Ok-clause-items
+returns-in-Ok-clause-items g c =
+    let b = c.self.inside in
+    let now = c.gather_all.new.seats in let was = b.seats.items in
+    let v : c.as_mut_slice.result.now ≡ was = c.as_mut_slice.ensures.value in
+    let len : length now ≡ length was = c.gather_all.auto.seats ∙ ap (λ (l : List Seat). length l) v in
+    let e : take b.seats.len (now ++ drop (length now) was) ≡ now = grind (arith, common_steps) in
+    let T : List Seat → Type 0 = λ l. EachSeat SeatTakes l now in
+    let P : BusValue → Type 0 = λ w. EachJournal HasItems w.journals (journals_of now) in
+    let Q : List Seat → Type 0 = λ xs. EachJournal HasItems c.args.self.now.journals (journals_of xs) in
+    subst Q (sym e) (subst P c.self.view_is (all_items was now len (subst T v c.in-Ok.ensures.items)))
+
+pub returns-in-Ok-clause-dry : goal.returns-in-Ok-clause-dry
+returns-in-Ok-clause-dry g c =
+    let E = g.E.BusEnd in let b = c.self.inside in
+    let now = c.gather_all.new.seats in let was = b.seats.items in
+    let v : c.as_mut_slice.result.now ≡ was = c.as_mut_slice.ensures.value in
+    let len : length now ≡ length was = c.gather_all.auto.seats ∙ ap (λ (l : List Seat). length l) v in
+    let e : take b.seats.len (now ++ drop (length now) was) ≡ now = grind (arith, common_steps) in
+    let Q : List Seat → Type 0 = λ xs. AllDry E.dry (journals_of xs) c.gather_all.new.links in
+    subst Q (sym e) (all_dry E.dry now c.gather_all.new.links c.in-Ok.ensures.ready c.in-Ok.ensures.dry)

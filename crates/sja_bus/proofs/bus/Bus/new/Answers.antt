@@ -1,0 +1,51 @@
+use Rattle.std.proofs.Common.{◌≡◌, ◌≢◌, ℕ, suc, ◌+◌, ◌*◌, ◌<◌, ◌≤◌, Bool, true, false, Option, None, Some, List, [], ◌∷◌, ◌++◌, length, map, min, replicate, rules, arith, refl, sym, ap, ◌∙◌, subst, inl, inr, vec_len, vec_capacity}
+use Rattle.sja_script.specs.declared.strike.Strike.{Strike}
+use Rattle.sja_link.specs.declared.entry.Entry.{Entry}
+use Rattle.sja_bus.specs.declared.seat.Seat.{Seat}
+use Rattle.sja_bus.specs.Buses.{BusValue}
+use Rattle.sja_bus.specs.StrikesByBit.{Scripted}
+use Rattle.sja_bus.specs.Inside.Rows.{journals_of, IsBus}
+use Rattle.sja_bus.specs.Inside.Whole.{IsWhole}
+use Rattle.sja_bus.proofs.Logs.{AreNew, new_push, new_journals, new_bus}
+use Rattle.sja_bus.proofs.bus.Bus.new.Goals as goal
+
+pub loop-node-preserved : goal.loop-node-preserved
+loop-node-preserved c =
+    let n = c.loop-node.node in
+    let made = c.in_ok-new.ensures in
+    let P : List Seat → Type 0 = λ l. AreNew (n + 1) l in
+    record {
+      count = search rules;
+      room = search rules;
+      made = rw c.push_reserved.ensures.items (new_push n c.loop-node.seats.items _ (search rules) (record { is_of = record { ready = made.ready; own = made.own }; empty = made.empty }) c.loop-node.invariant.made);
+    }
+
+pub invariant_of-result : goal.invariant_of-result
+invariant_of-result c =
+    let seats = c.loop-node.seats.items in let logs = c.in_ok-logs.logs in
+    let n : length seats ≡ c.args.nodes = search rules in
+    let e : c.loop-node.node ≡ length seats = search rules in
+    let new : AreNew (length seats) seats = subst (λ (m : ℕ). AreNew m seats) e c.loop-node.invariant.made in
+    let room : c.args.nodes ≤ vec_capacity logs = search rules in
+    let most = c.requires.bits.1 in let few = c.requires.nodes.1 in
+    let P : Scripted → Type 0 = λ x. IsWhole x 0 c.args.bits None seats (vec_capacity logs) in (
+      subst P (sym c.in_ok-struck.ensures) (record {
+        few = omega (arith, n, few);
+        bits = omega arith;
+        most = most;
+        bus = λ f. new_bus c.args.script seats new;
+        logs = omega (arith, n, room);
+      }),
+      (search rules),
+    )
+
+pub returns : goal.returns
+returns c =
+    let seats = c.loop-node.seats.items in
+    let n : length seats ≡ c.args.nodes = search rules in
+    let e : c.loop-node.node ≡ length seats = search rules in
+    let new : AreNew (length seats) seats = subst (λ (m : ℕ). AreNew m seats) e c.loop-node.invariant.made in
+    let empty : journals_of seats ≡ replicate c.args.nodes [] = new_journals seats (λ k s few. (new k s few).empty) ∙ ap (λ m. replicate m []) n in
+    let f : Scripted → BusValue = λ x. record { script = x.script; run = 0; left = c.args.bits; fault = None; journals = journals_of seats } in
+    let h : List (List Entry) → BusValue = λ l. record { script = c.args.script; run = 0; left = c.args.bits; fault = None; journals = l } in
+    ap f c.in_ok-struck.ensures ∙ ap h empty

@@ -1,0 +1,11 @@
+use Rattle.std.proofs.Common.{◌≡◌, vec_len, vec_capacity}
+use Rattle.sja_bus.proofs.Logs.{AreNew}
+use Rattle.sja_bus.proofs.bus.Bus.new.Given as goal
+
+-- so many seats were made, and there is room for all
+abbrev pub invariant-loop-node : goal.invariant-loop-node
+invariant-loop-node l = record {
+  count : vec_len l.seats ≡ l.node;
+  room : vec_capacity l.seats ≡ l.nodes;
+  made : AreNew l.node l.seats.items;
+}

@@ -1,0 +1,46 @@
+use Rattle.std.proofs.Common.{◌≡◌, ℕ, suc, ◌+◌, ◌<◌, ◌≤◌, Bool, true, false, List, [], ◌∷◌, ◌++◌, length, rules, arith, refl, sym, ap, ◌∙◌, subst}
+use Rattle.can_node.specs.declared.aborted.Aborted.TheVariants.{Marked, Dropped}
+use Rattle.sja_link.specs.declared.entry.Entry.TheVariants.{Abort}
+use Rattle.sja_link.specs.BusLedgers.{free_in}
+use Rattle.sja_bus.specs.declared.activity.Activity.{Activity}
+use Rattle.sja_bus.specs.declared.activity.Activity.TheVariants.{Running}
+use Rattle.sja_bus.specs.Inside.Following.{Reads}
+use Rattle.sja_bus.proofs.Lists.{ok_map}
+use Rattle.sja_bus.proofs.Bits.{abort_none, abort_one}
+use Rattle.sja_bus.proofs.Steps.{follows_abort, abort_unchanged}
+use Rattle.sja_bus.proofs.Reading.{reads_swap, reads_quiet}
+use Rattle.sja_bus.proofs.seat.Seat.abort.Goals as goal
+
+pub enter_abort-requires-clause-follows : goal.enter_abort-requires-clause-follows
+enter_abort-requires-clause-follows c =
+    let was = c.args.self.now in
+    follows_abort was.node c.abort.new.self was.journal.entries Marked (λ e. cc) c.in-Marked.ensures c.requires.ready.sound.follows
+
+pub enter_abort-requires-clause-reads : goal.enter_abort-requires-clause-reads
+enter_abort-requires-clause-reads c =
+    let was = c.args.self.now in let j = was.journal.entries in let new = c.abort.new.self in
+    let P : Activity → Type 0 = λ a. Reads was.node j was.ended a (free_in was.ledger) in
+    let Q : Activity → Type 0 = λ a. Reads new (j ++ Abort ∷ []) was.ended a (free_in was.ledger) in
+    let swapped = reads_swap was.node new j was.ended c.in-Running.field-0 (free_in was.ledger) (subst P c.in-Running.is c.requires.ready.sound.reads) in
+    subst Q (sym c.in-Running.is) (reads_quiet new new j Abort was.ended (Running c.in-Running.field-0) (free_in was.ledger) (λ p. refl, refl, refl, refl) (λ r. r) swapped)
+
+pub enter_abort-requires-in-Dropped-clause-follows : goal.enter_abort-requires-in-Dropped-clause-follows
+enter_abort-requires-in-Dropped-clause-follows c =
+    let was = c.args.self.now in
+    follows_abort was.node c.abort.new.self was.journal.entries Dropped (λ e. cc) c.in-Dropped.ensures c.requires.ready.sound.follows
+
+pub enter_abort-requires-in-Dropped-clause-reads : goal.enter_abort-requires-in-Dropped-clause-reads
+enter_abort-requires-in-Dropped-clause-reads c =
+    let was = c.args.self.now in let j = was.journal.entries in let new = c.abort.new.self in
+    let P : Activity → Type 0 = λ a. Reads was.node j was.ended a (free_in was.ledger) in
+    let Q : Activity → Type 0 = λ a. Reads new (j ++ Abort ∷ []) was.ended a (free_in was.ledger) in
+    let swapped = reads_swap was.node new j was.ended c.in-Running.field-0 (free_in was.ledger) (subst P c.in-Running.is c.requires.ready.sound.reads) in
+    subst Q (sym c.in-Running.is) (reads_quiet new new j Abort was.ended (Running c.in-Running.field-0) (free_in was.ledger) (λ p. refl, refl, refl, refl) (λ r. r) swapped)
+
+pub returns-in-Marked-clause-aborts : goal.returns-in-Marked-clause-aborts
+returns-in-Marked-clause-aborts c =
+    ok_map c.enter_abort.result (λ e. abort_one c.args.self.now.journal.entries c.enter_abort.new.self.journal.entries e) c.enter_abort.ensures.entered
+
+pub returns-in-Dropped-clause-aborts : goal.returns-in-Dropped-clause-aborts
+returns-in-Dropped-clause-aborts c =
+    ok_map c.enter_abort-in-Dropped.result (λ e. abort_one c.args.self.now.journal.entries c.enter_abort-in-Dropped.new.self.journal.entries e) c.enter_abort-in-Dropped.ensures.entered

@@ -1,0 +1,20 @@
+use Rattle.std.proofs.Common.{◌≡◌, ℕ, suc, ◌+◌, ◌<◌, ◌≤◌, Bool, true, false, List, [], ◌∷◌, ◌++◌, length, rules, arith, refl, sym, ap, ◌∙◌, subst}
+use Rattle.can_node.specs.declared.node.Node.{Node}
+use Rattle.can_node.specs.Stands.{DrivesNext}
+use Rattle.can_bits.specs.declared.level.Level.{Level}
+use Rattle.sja_bus.specs.declared.seat.Seat.{Seat}
+use Rattle.sja_bus.specs.Inside.Seats.{IsSeat}
+use Rattle.sja_bus.proofs.Lists.{ok_map}
+use Rattle.sja_bus.proofs.seat.Seat.enter_abort.Goals as goal
+
+pub returns-clause-ready : goal.returns-clause-ready
+returns-clause-ready c =
+    let o = c.enter.ensures.others in
+    let was : Seat = record c.args.self.now { news = c.args.news; drives = c.drive-self.result } in
+    let P : Seat → Type 0 = λ s. IsSeat s in
+    let Q : Seat → Type 0 = λ s. DrivesNext s.node s.drives in
+    let R : Seat → Type 0 = λ s. IsSeat (record s { journal = c.enter.new.self.journal }) in
+    let seat : IsSeat (record was { journal = c.enter.new.self.journal }) = record { own = c.requires.seat.own; few = c.requires.seat.few; runs = c.requires.seat.runs } in
+    ok_map c.enter.result
+    (λ f. record { sound = f c.requires.follows c.requires.reads; seat = subst P (sym o) seat; drives = subst Q (sym o) c.drive-self.ensures })
+    c.enter.ensures.sound

@@ -1,0 +1,25 @@
+use Rattle.std.proofs.Common.{◌≡◌, ℕ, suc, ◌+◌, ◌<◌, ◌≤◌, Bool, true, false, List, [], ◌∷◌, ◌++◌, length, rules, arith, refl, sym, ap, ◌∙◌, subst}
+use Rattle.sja_link.specs.declared.entry.Entry.TheVariants.{Off}
+use Rattle.sja_link.specs.BusLedgers.{free_in}
+use Rattle.sja_bus.specs.declared.activity.Activity.{Activity}
+use Rattle.sja_bus.specs.Inside.Following.{Reads, open_in}
+use Rattle.sja_bus.proofs.Lists.{ok_map}
+use Rattle.sja_bus.proofs.Steps.{follows_off}
+use Rattle.sja_bus.proofs.Reading.{reads_off, runs_at, stands_at}
+use Rattle.sja_bus.proofs.Moving.{moves_push}
+use Rattle.sja_bus.proofs.seat.Seat.go_off.Goals as goal
+
+pub returns-in-Ok-clause-sound : goal.returns-in-Ok-clause-sound
+returns-in-Ok-clause-sound g c =
+    let was = c.args.self.now in let j = was.journal.entries in let mid = c.requires.mid in
+    let P : Activity → Type 0 = λ a. Reads was.node j was.ended a (free_in was.ledger) in
+    let reads = subst P c.requires.runs.1 mid.reads in
+    ok_map c.enter.result
+    (λ f. f (follows_off was.node j mid.follows) (rw c.put_off.ensures.ledger (reads_off was.node j was.ended c.requires.runs.0 (free_in was.ledger) c.requires.reset reads)))
+    c.enter.ensures.sound
+
+pub returns-in-Ok-clause-moves : goal.returns-in-Ok-clause-moves
+returns-in-Ok-clause-moves g c =
+    let was = c.args.self.now in let j = was.journal.entries in let mid = c.requires.mid in
+    let at = stands_at j Off (suc was.ended) (λ p. refl) (runs_at was.activity was.node j was.ended (free_in was.ledger) (ap open_in c.requires.runs.1) mid.reads) in
+    ok_map c.enter.result (λ e. rw e.0 (moves_push g.E.BusEnd.stands c.args.end.now c.put_off.new.end j Off (suc was.ended) at c.in-Ok.ensures.puts)) c.enter.ensures.ok

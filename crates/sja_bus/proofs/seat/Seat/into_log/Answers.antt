@@ -1,0 +1,19 @@
+use Rattle.std.proofs.Common.{◌≡◌, ◌≢◌, ℕ, suc, ◌+◌, ◌*◌, ◌<◌, ◌≤◌, Bool, true, false, Option, None, Some, List, [], ◌∷◌, ◌++◌, length, map, min, replicate, rules, arith, refl, sym, ap, ◌∙◌, subst, inl, inr, vec_len, vec_capacity}
+use Rattle.can_node.specs.declared.node.Node.{Node}
+use Rattle.sja_link.specs.declared.entry.Entry.{Entry}
+use Rattle.sja_link.specs.Records.{record_of}
+use Rattle.sja_bus.specs.Lawful.{CountersAre}
+use Rattle.sja_bus.proofs.Lawfuls.{counters_of}
+use Rattle.sja_bus.proofs.seat.Seat.into_log.Goals as goal
+
+pub returns : goal.returns
+returns c = record {
+  journal = refl;
+  counters = λ h.
+      let j = c.args.self.journal.entries in
+      let k = c.counters-counters.result in
+      let below = c.counters-counters.ensures.below (record_of j) h.found h.stands in
+      let same : c.min.result ≡ k.tec = search (rules, below) in
+      let P : ℕ → Type 0 = λ n. CountersAre j n k.rec in
+      subst P (sym same) (counters_of c.args.self.node j k c.counters-counters.ensures.counts h);
+}

@@ -1,0 +1,49 @@
+use Rattle.std.proofs.Common.{◌≡◌, ℕ, suc, ◌+◌, ◌<◌, ◌≤◌, Bool, true, false, List, [], ◌∷◌, ◌++◌, length, rules, arith, refl, sym, ap, ◌∙◌, subst}
+use Rattle.sja_link.specs.declared.entry.Entry.{Entry}
+use Rattle.sja_link.specs.declared.entry.Entry.TheVariants.{Bit}
+use Rattle.sja_link.specs.BusLedgers.{free_in}
+use Rattle.sja_link.specs.Verdicts.{entry_of}
+use Rattle.sja_bus.specs.declared.seat.Seat.{Seat}
+use Rattle.sja_bus.proofs.Seating.{reads_by}
+use Rattle.sja_bus.proofs.Reading.{due_now, reads_quiet, reads_here, verdict_stays, verdict_no_stop, stays_of, runs_at, stands_at, place_same}
+use Rattle.sja_bus.proofs.Moving.{moves_push, moves_quiet, moves_trans}
+use Rattle.sja_bus.proofs.seat.Seat.judge.Goals as goal
+
+pub returns-in_ok-enter-in-Ok-2-clause-judged : goal.returns-in_ok-enter-in-Ok-2-clause-judged
+returns-in_ok-enter-in-Ok-2-clause-judged g c =
+    let was = c.args.self.now in let j = was.journal.entries in let k = j ++ Bit c.args.driven c.args.seen ∷ [] in
+    let v = c.in-Ok.verdict in let m = c.args.message in
+    let at = runs_at was.activity was.node j was.ended (free_in was.ledger) c.requires.runs c.requires.reads in
+    let first = c.in_ok-enter-in-Ok.ensures.ok.0 in
+    record {
+      verdict = v;
+      whole = c.in_ok-enter-in-Ok-2.ensures.ok.0 ∙ ap (λ (l : List Entry). l ++ c.verdict_entry.result ∷ []) first ∙ ap (λ x. k ++ x ∷ []) c.verdict_entry.ensures;
+      due = due_now j c.args.driven c.args.seen (suc was.ended) v m (free_in was.ledger) at c.requires.reads.free_is (λ p f. (c.in-Ok.ensures.judged p f).0);
+    }
+
+pub returns-in_ok-enter-in-Ok-2-clause-reads : goal.returns-in_ok-enter-in-Ok-2-clause-reads
+returns-in_ok-enter-in-Ok-2-clause-reads g c =
+    let was = c.args.self.now in let j = was.journal.entries in let k = j ++ Bit c.args.driven c.args.seen ∷ [] in
+    let v = c.in-Ok.verdict in let m = c.args.message in
+    let first = c.in_ok-enter-in-Ok.ensures.ok.0 in
+    let one = reads_quiet was.node was.node j (Bit c.args.driven c.args.seen) was.ended was.activity (free_in was.ledger) (λ p. refl, refl, refl, refl) (λ r. r) c.requires.reads in
+    let two = reads_here was.node was.node k (entry_of v m) was.ended was.activity (free_in was.ledger) (free_in c.accept.new.ledger) (verdict_stays v m) (verdict_no_stop v m) c.requires.runs (λ r. r) (λ p f. (c.in-Ok.ensures.judged p f).1) one in
+    let o1 = c.in_ok-enter-in-Ok.ensures.others in let o2 = c.in_ok-enter-in-Ok-2.ensures.others in
+    reads_by c.enter-in-Ok.new.self was.node (k ++ entry_of v m ∷ []) was.ended was.activity (free_in c.accept.new.ledger)
+    (ap (λ (s : Seat). s.node) o2 ∙ ap (λ (s : Seat). s.node) o1)
+    (c.in_ok-enter-in-Ok-2.ensures.ok.0 ∙ ap (λ (l : List Entry). l ++ c.verdict_entry.result ∷ []) first ∙ ap (λ x. k ++ x ∷ []) c.verdict_entry.ensures)
+    (ap (λ (s : Seat). s.ended) o2 ∙ ap (λ (s : Seat). s.ended) o1)
+    (ap (λ (s : Seat). s.activity) o2 ∙ ap (λ (s : Seat). s.activity) o1)
+    (ap (λ (s : Seat). free_in s.ledger) o2 ∙ ap (λ (s : Seat). free_in s.ledger) o1) two
+
+pub returns-in_ok-enter-in-Ok-2-clause-moves : goal.returns-in_ok-enter-in-Ok-2-clause-moves
+returns-in_ok-enter-in-Ok-2-clause-moves g c =
+    let was = c.args.self.now in let j = was.journal.entries in let b = Bit c.args.driven c.args.seen in let k = j ++ b ∷ [] in
+    let v = c.in-Ok.verdict in let m = c.args.message in
+    let first = c.in_ok-enter-in-Ok.ensures.ok.0 in
+    let at = runs_at was.activity was.node j was.ended (free_in was.ledger) c.requires.runs c.requires.reads in
+    let then = place_same j b (suc was.ended) (λ p. refl) at in
+    let one = moves_quiet g.E.BusEnd.stands c.args.end.now j b (suc was.ended) (stands_at j b (suc was.ended) (λ p. refl) at) (λ l. refl) in
+    let two = moves_push g.E.BusEnd.stands c.args.end.now c.accept.new.end k (entry_of v m) (suc was.ended) (stands_at k (entry_of v m) (suc was.ended) (stays_of (entry_of v m) (verdict_stays v m)) then) c.in-Ok.ensures.puts in
+    let whole : c.enter-in-Ok.new.self.journal.entries ≡ k ++ entry_of v m ∷ [] = c.in_ok-enter-in-Ok-2.ensures.ok.0 ∙ ap (λ (l : List Entry). l ++ c.verdict_entry.result ∷ []) first ∙ ap (λ x. k ++ x ∷ []) c.verdict_entry.ensures in
+    rw whole (moves_trans g.E.BusEnd.stands c.args.end.now c.args.end.now c.accept.new.end j k (k ++ entry_of v m ∷ []) (suc was.ended) one two)

@@ -1,0 +1,20 @@
+use Rattle.std.proofs.Common.{◌≡◌, ◌≢◌, ℕ, suc, ◌+◌, ◌*◌, ◌<◌, ◌≤◌, Bool, true, false, Option, None, Some, List, [], ◌∷◌, ◌++◌, length, map, min, replicate, rules, arith, refl, sym, ap, ◌∙◌, subst, inl, inr, vec_len, vec_capacity}
+use Rattle.sja_link.specs.BusLedgers.{free_in}
+use Rattle.sja_bus.specs.declared.seat.Seat.{Seat}
+use Rattle.sja_bus.specs.declared.activity.Activity.TheVariants.{Between}
+use Rattle.sja_bus.specs.declared.news.News.TheVariants.{Nothing}
+use Rattle.sja_bus.proofs.Steps.{follows_new}
+use Rattle.sja_bus.proofs.Reading.{reads_new}
+use Rattle.sja_bus.proofs.Seating.{sound_by}
+use Rattle.sja_bus.proofs.seat.Seat.new.Goals as goal
+
+pub returns-clause-ready : goal.returns-clause-ready
+returns-clause-ready c =
+    let node = c.new-node.result in
+    let s : Seat = record { node = node; drives = c.drive-drives.result; ledger = c.new-ledger.result; journal = c.in_ok-journal.journal; ended = 0; activity = Between; news = Nothing } in
+    record {
+      sound = sound_by s node [] 0 Between 64 refl c.in_ok-journal.ensures.empty refl refl c.new-ledger.ensures.free
+          (follows_new node c.new-node.ensures.stands) (reads_new node c.new-node.ensures.reset);
+      seat = record { own = ap (λ i. i.activation) c.new-ledger.ensures.id; few = omega arith; runs = λ e. omega (arith, e) };
+      drives = c.drive-drives.ensures;
+    }

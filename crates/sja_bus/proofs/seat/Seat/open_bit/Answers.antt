@@ -1,0 +1,29 @@
+use Rattle.std.proofs.Common.{append-nil, ◌≡◌, ℕ, suc, ◌+◌, ◌<◌, ◌≤◌, Bool, true, false, List, [], ◌∷◌, ◌++◌, length, rules, arith, refl, sym, ap, ◌∙◌, subst}
+use Rattle.sja_link.specs.BusLedgers.{link_of}
+use Rattle.sja_bus.specs.declared.seat.Seat.{Seat}
+use Rattle.sja_bus.proofs.Lists.{ok_map}
+use Rattle.sja_bus.proofs.Moving.{goes_trans, goes_aborted}
+use Rattle.sja_bus.proofs.seat.Seat.open_bit.Goals as goal
+
+pub returns-then-ordered-clause-goes : goal.returns-then-ordered-clause-goes
+returns-then-ordered-clause-goes g c =
+    let E = g.E.BusEnd in let met = g.met.E.BusEnd in
+    let j = c.args.self.now.journal.entries in let k = c.gather.new.self.journal.entries in let l = c.abort.new.self.journal.entries in
+    ok_map c.abort.result
+    (λ a. goes_trans E.same E.stands met.same_trans j k l c.args.links.now c.gather.new.links c.gather.new.links c.args.base c.in_ok-gather.ensures.goes
+    (goes_aborted E.same E.stands met.same_refl k l c.gather.new.links c.args.base a))
+    c.abort.ensures.aborts
+
+pub returns-then-ordered-clause-opens : goal.returns-then-ordered-clause-opens
+returns-then-ordered-clause-opens g c =
+    let P : ℕ → Type 0 = λ n. g.B.Board.orders_are c.args.board.now n c.orders-ordered.result in
+    let are = subst P (c.number.ensures ∙ c.gather.ensures.node) c.orders-ordered.ensures in
+    let yes : c.orders-ordered.result.abort ≡ true = search rules in
+    ok_map c.abort.result (λ a. record { taken = c.gather.new.self.journal.entries; items = c.in_ok-gather.ensures.items; aborts = a; orders = c.orders-ordered.result; are_orders = are; unasked = λ no. let e : true ≡ false = sym yes ∙ no in absurd cc }) c.abort.ensures.aborts
+
+pub returns-else-ordered-clause-opens : goal.returns-else-ordered-clause-opens
+returns-else-ordered-clause-opens g c =
+    let k = c.gather.new.self.journal.entries in
+    let P : ℕ → Type 0 = λ n. g.B.Board.orders_are c.args.board.now n c.orders-ordered.result in
+    let are = subst P (c.number.ensures ∙ c.gather.ensures.node) c.orders-ordered.ensures in
+    record { taken = k; items = c.in_ok-gather.ensures.items; aborts = record { changed = false; whole = sym (append-nil k) }; orders = c.orders-ordered.result; are_orders = are; unasked = λ no. refl }

@@ -1,0 +1,56 @@
+use Rattle.std.proofs.Common.{◌≡◌, ℕ, suc, ◌+◌, ◌<◌, ◌≤◌, Bool, true, false, List, [], ◌∷◌, ◌++◌, length, rules, arith, refl, sym, ap, ◌∙◌, subst}
+use Rattle.std.specs.Prelude.{slice_index_or, slice_set}
+use Rattle.sja_link.specs.declared.link_id.LinkId.{LinkId}
+use Rattle.sja_link.specs.BusLedgers.{link_of}
+use Rattle.sja_bus.proofs.Lists.{each_at, each_trans, each_one}
+use Rattle.sja_bus.proofs.Moving.{goes_refl, goes_trans, goes_one}
+use Rattle.sja_bus.proofs.Bits.{items_none, items_push}
+use Rattle.sja_bus.proofs.seat.Seat.take_all.Goals as goal
+
+pub loop-self-init : goal.loop-self-init
+loop-self-init g c = record {
+  sound = c.requires.sound;
+  seat = c.requires.seat;
+  node = refl;
+  goes = goes_refl g.E.BusEnd.same g.E.BusEnd.stands g.met.E.BusEnd.same_refl c.args.self.now.journal.entries c.args.links.now c.args.base;
+  items = items_none c.args.self.now.journal.entries;
+}
+
+pub take-requires-clause-id : goal.take-requires-clause-id
+take-requires-clause-id g c =
+    let E = g.E.BusEnd in let inv = c.loop-self.invariant in let s = c.loop-self.self in
+    let d = c.index-links-here.result in
+    let a = each_at E.same E.link g.met.E.BusEnd.same_link c.args.links.now c.loop-self.links (c.args.base + s.ended) d inv.goes.sames in
+    let b = c.requires.ids s.ended d c.if-self-ge8.false in
+    let n : link_of s.ledger ≡ record { node = (link_of c.args.self.now.ledger).node; activation = suc s.ended } = λ i. record { node = inv.node i; activation = inv.seat.own i } in
+    a ∙ b ∙ sym n
+
+pub returns-in_err-take-clause-sames : goal.returns-in_err-take-clause-sames
+returns-in_err-take-clause-sames g c =
+    let E = g.E.BusEnd in let s = c.loop-self.self in
+    let here : c.args.base + s.ended < length c.loop-self.links = omega (arith, c.if-self-ge8.false, c.requires.room, c.loop-self.auto.links) in
+    each_trans E.same g.met.E.BusEnd.same_trans c.args.links.now c.loop-self.links (slice_set c.loop-self.links (c.args.base + s.ended) c.take.new.end) c.loop-self.invariant.goes.sames
+    (each_one E.same g.met.E.BusEnd.same_refl c.loop-self.links (c.args.base + s.ended) c.index-links-here.result c.take.new.end here c.take.ensures.same)
+
+pub returns-then-not-branch-clause-goes : goal.returns-then-not-branch-clause-goes
+returns-then-not-branch-clause-goes g c =
+    let E = g.E.BusEnd in let s = c.loop-self.self in let met = g.met.E.BusEnd in
+    let room : c.args.base + 8 ≤ length c.loop-self.links = omega (arith, c.requires.room, c.loop-self.auto.links) in
+    goes_trans E.same E.stands met.same_trans c.args.self.now.journal.entries s.journal.entries c.take.new.self.journal.entries c.args.links.now c.loop-self.links (slice_set c.loop-self.links (c.args.base + s.ended) c.take.new.end) c.args.base c.loop-self.invariant.goes
+    (goes_one E.same E.stands met.same_refl s.journal.entries c.take.new.self.journal.entries c.loop-self.links c.args.base s.ended c.index-links-here.result c.take.new.end c.if-self-ge8.false room c.take.ensures.same c.in_ok-take.ensures.moves)
+
+pub returns-then-not-branch-clause-sames : goal.returns-then-not-branch-clause-sames
+returns-then-not-branch-clause-sames g c = (returns-then-not-branch-clause-goes g c).sames
+
+pub loop-self-preserved : goal.loop-self-preserved
+loop-self-preserved g c =
+    let E = g.E.BusEnd in let s = c.loop-self.self in let met = g.met.E.BusEnd in
+    let room : c.args.base + 8 ≤ length c.loop-self.links = omega (arith, c.requires.room, c.loop-self.auto.links) in
+    let took = c.in_ok-take.ensures.some (search rules) in record {
+      sound = c.in_ok-take.ensures.sound;
+      seat = c.in_ok-take.ensures.seat;
+      node = c.take.ensures.node ∙ c.loop-self.invariant.node;
+      goes = goes_trans E.same E.stands met.same_trans c.args.self.now.journal.entries s.journal.entries c.take.new.self.journal.entries c.args.links.now c.loop-self.links (slice_set c.loop-self.links (c.args.base + s.ended) c.take.new.end) c.args.base c.loop-self.invariant.goes
+          (goes_one E.same E.stands met.same_refl s.journal.entries c.take.new.self.journal.entries c.loop-self.links c.args.base s.ended c.index-links-here.result c.take.new.end c.if-self-ge8.false room c.take.ensures.same c.in_ok-take.ensures.moves);
+      items = items_push c.args.self.now.journal.entries s.journal.entries c.take.new.self.journal.entries took.0 took.1 c.loop-self.invariant.items;
+    }

@@ -1,0 +1,18 @@
+use Rattle.std.proofs.Common.{◌≡◌, ℕ, ◌-◌, length}
+use Rattle.sja_link.specs.BusLedgers.{link_of}
+use Rattle.sja_bus.specs.Links.{Goes}
+use Rattle.sja_bus.specs.OneBit.{HasItems}
+use Rattle.sja_bus.specs.Inside.Seats.{IsSound, IsSeat}
+use Rattle.sja_bus.proofs.seat.Seat.take_all.Given as goal
+
+abbrev pub invariant-loop-self : goal.invariant-loop-self
+invariant-loop-self g l = record {
+  sound : IsSound l.self;
+  seat : IsSeat l.self;
+  node : (link_of l.self.ledger).node ≡ (link_of l.initial.self.ledger).node;
+  goes : Goes g.E.BusEnd.same g.E.BusEnd.stands l.initial.self.journal.entries l.self.journal.entries l.initial.links l.links l.base;
+  items : HasItems l.initial.self.journal.entries l.self.journal.entries;
+}
+
+abbrev pub decreases-loop-self : goal.decreases-loop-self
+decreases-loop-self g l = l.self.journal.room - length l.self.journal.entries

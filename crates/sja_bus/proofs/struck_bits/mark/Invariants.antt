@@ -1,0 +1,6 @@
+use Rattle.sja_bus.specs.StrikesByBit.{IsMarked}
+use Rattle.sja_bus.proofs.struck_bits.mark.Given as goal
+
+-- so many times of the strike are marked
+abbrev pub invariant-loop-time : goal.invariant-loop-time
+invariant-loop-time l = IsMarked (record l.strike { times = l.time }) l.fn.bits l.bits

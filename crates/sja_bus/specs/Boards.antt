@@ -1,0 +1,31 @@
+-- The ports of a board in one thread, by node (this project's own rule).
+use Rattle.std.specs.Prelude.{◌≡◌, ℕ, true, List, slice_index_or}
+use Rattle.sja_regs.specs.declared.bus_turn.BusTurn.{BusTurn}
+use Rattle.sja_regs.specs.declared.orders.Orders.{Orders}
+use Rattle.sja_regs.specs.declared.registers.Registers.{Registers}
+use Rattle.sja_regs.specs.Turns.{after_turn}
+
+-- the port of this node, as it was and as it is, is so related
+abbrev pub AtPort : (Registers → Registers → Type 0) → List Registers → List Registers → ℕ → Type 0
+AtPort R old new node = (d : Registers) → R (slice_index_or old node d) (slice_index_or new node d)
+
+-- it has these orders
+abbrev pub HasOrders : List Registers → ℕ → Orders → Type 0
+HasOrders ports node orders =
+    (d : Registers) → let p = slice_index_or ports node d in orders ≡ record { abort = p.abort; ended = p.ended }
+
+-- it shows already what the turn says: the turn would leave it as it is
+abbrev pub ShowsTurn : List Registers → ℕ → BusTurn → Type 0
+ShowsTurn ports node turn = (d : Registers) → let p = slice_index_or ports node d in after_turn p turn ≡ p
+
+-- it was told the turn
+abbrev pub WasTold : List Registers → List Registers → ℕ → BusTurn → Type 0
+WasTold old new node turn = AtPort (λ p q. q ≡ after_turn p turn) old new node
+
+-- it was closed
+abbrev pub WasClosed : List Registers → List Registers → ℕ → Type 0
+WasClosed old new node = AtPort (λ p q. q ≡ record p { closed = true }) old new node
+
+-- it is as it was
+abbrev pub WasKept : List Registers → List Registers → ℕ → Type 0
+WasKept old new node = AtPort (λ p q. q ≡ p) old new node

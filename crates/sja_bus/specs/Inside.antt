@@ -1,0 +1,6 @@
+-- How the code keeps a bus.
+pub mod Following
+pub mod Seats
+pub mod Rows
+pub mod Whole
+pub mod Ending

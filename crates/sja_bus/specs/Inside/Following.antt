@@ -1,0 +1,52 @@
+-- What the bus knows of a node and its journal.
+use Rattle.std.specs.Prelude.{◌≡◌, ◌+◌, ℕ, suc, Bool, true, false, if◌then◌else◌, Some, List, [], ◌∷◌, ◌++◌}
+use Rattle.can_node.specs.declared.node.Node.{Node}
+use Rattle.can_node.specs.Stands.{StandsAt, InReset}
+use Rattle.sja_link.specs.NodeWords.{NodeEntry, NodeWentOff, FinishedPiece, received}
+use Rattle.sja_link.specs.declared.up.Up.TheVariants.{Start, Credit, Send, Stop}
+use Rattle.sja_link.specs.declared.entry.Entry.{Entry}
+use Rattle.sja_link.specs.Places.{place_of}
+use Rattle.sja_link.specs.Parts.{part}
+use Rattle.sja_link.specs.Records.{record_of}
+use Rattle.sja_link.specs.Free.{IsFree}
+use Rattle.sja_link.specs.Verdicts.{filter_of, HasVerdicts}
+use Rattle.sja_bus.specs.Links.{stops_of}
+use Rattle.sja_bus.specs.declared.activity.Activity.{Activity}
+use Rattle.sja_bus.specs.declared.activity.Activity.TheVariants.{Between, Running, Off, OffAndAsked}
+
+-- the node stands at the record in its journal, and the verdicts are right by its cut
+pub record Follows (node : Node) (j : List Entry) : Type 0 where
+  pub found : List FinishedPiece
+  pub stands : StandsAt node (record_of j) found
+  pub verdicts : HasVerdicts j (received found)
+
+-- the entry of bus-off, which is yet to be written
+abbrev pub off_left : Bool → List NodeEntry
+off_left went = if went then NodeWentOff ∷ [] else []
+
+-- the same after a bit, before bus-off is entered
+pub record FollowsBit (node : Node) (j : List Entry) (went : Bool) : Type 0 where
+  pub found : List FinishedPiece
+  pub stands : StandsAt node (record_of j ++ off_left went) found
+  pub verdicts : HasVerdicts j (received found)
+
+-- how many of the activations begun haven't ended
+abbrev pub open_in : Activity → ℕ
+open_in Between = 0
+open_in (Running filter) = 1
+open_in Off = 1
+open_in OffAndAsked = 1
+
+-- what the bus knows of the activation that it reads
+abbrev pub IsActive : Activity → Node → List Entry → ℕ → Type 0
+IsActive Between node j a = InReset node
+IsActive (Running filter) node j a = ((place_of j).off ≡ false) × (filter_of (part j a) ≡ Some filter)
+IsActive Off node j a = ((place_of j).off ≡ true) × InReset node
+IsActive OffAndAsked node j a = ((place_of j).off ≡ true) × InReset node
+
+-- so many activations have ended; the next one is read, and of it so many bytes are free
+pub record Reads (node : Node) (j : List Entry) (ended : ℕ) (activity : Activity) (free : ℕ) : Type 0 where
+  pub begun : (place_of j).activation ≡ ended + open_in activity
+  pub stopped : stops_of j ≡ ended
+  pub free_is : IsFree (part j (suc ended)) free
+  pub active : IsActive activity node j (suc ended)

@@ -1,0 +1,79 @@
+-- All controllers of a bus, one at each place of a list.
+use Rattle.std.specs.Prelude.{◌≡◌, ◌+◌, ◌*◌, ◌<◌, ◌≤◌, ◌==◌, ℕ, suc, Bool, if◌then◌else◌, List, length, map, slice_index_or}
+use Rattle.std.specs.Int.{bit_at}
+use Rattle.can_bits.specs.declared.level.Level.{Level}
+use Rattle.can_bits.specs.Digits.{opposite}
+use Rattle.sja_link.specs.declared.entry.Entry.{Entry}
+use Rattle.sja_link.specs.Lists.{Lists}
+use Rattle.sja_link.specs.Accounts.{Account}
+use Rattle.sja_link.specs.BusLedgers.{link_of}
+use Rattle.sja_regs.specs.declared.orders.Orders.{Orders}
+use Rattle.sja_script.specs.declared.strike.Strike.{Strike}
+use Rattle.sja_bus.specs.declared.struck_nodes.StruckNodes.{StruckNodes}
+use Rattle.sja_bus.specs.declared.seat.Seat.{Seat}
+use Rattle.sja_bus.specs.Wire.{IsWired}
+use Rattle.sja_bus.specs.Links.{per_node, EachRelated, Kept, Grows}
+use Rattle.sja_bus.specs.OneBit.{HasItems, Opens, HasBit}
+use Rattle.sja_bus.specs.Inside.Seats.{IsReady}
+
+-- a seat is ready, and is of its node
+pub record IsOf (s : Seat) (node : ℕ) : Type 0 where
+  pub ready : IsReady s
+  pub own : (link_of s.ledger).node ≡ node
+
+abbrev pub AreReady : List Seat → Type 0
+AreReady seats = (k : ℕ) (s : Seat) → k < length seats → IsOf (slice_index_or seats k s) k
+
+-- the journals of all nodes, and the levels that they drive next
+abbrev pub journals_of : List Seat → List (List Entry)
+journals_of seats = map (λ s. s.journal.entries) seats
+
+abbrev pub driven_by : List Seat → List Level
+driven_by seats = map (λ s. s.drives) seats
+
+-- each seat is so related to what it was
+abbrev pub EachSeat : (ℕ → Seat → Seat → Type 0) → List Seat → List Seat → Type 0
+EachSeat R before after =
+    (m : ℕ) (s : Seat) → m < length before → R m (slice_index_or before m s) (slice_index_or after m s)
+
+-- each before this place is so related to what it was, and the others are as they were
+abbrev pub Done : (ℕ → Seat → Seat → Type 0) → ℕ → List Seat → List Seat → Type 0
+Done R k before after =
+    (m : ℕ) (s : Seat) → m < length before →
+    ((m < k) → R m (slice_index_or before m s) (slice_index_or after m s))
+    × ((k ≤ m) → slice_index_or after m s ≡ slice_index_or before m s)
+
+abbrev pub SeatTakes : ℕ → Seat → Seat → Type 0
+SeatTakes m old new = HasItems old.journal.entries new.journal.entries
+
+abbrev pub SeatOpens : (ℕ → Orders → Type 0) → ℕ → Seat → Seat → Type 0
+SeatOpens orders_are m old new = Opens (orders_are m) old.journal.entries new.journal.entries
+
+-- what a node sees of this level, where these nodes are struck
+abbrev pub seen_by : StruckNodes → Level → ℕ → Level
+seen_by struck level node = if bit_at struck.mask node == 1 then opposite level else level
+
+abbrev pub SeatTicks : StruckNodes → Level → ℕ → Seat → Seat → Type 0
+SeatTicks struck level m old new =
+    HasBit old.journal.entries old.drives (seen_by struck level m) new.journal.entries
+
+-- the links of each node moved with its journal, whatever its driver got and gave
+pub record GoesAll {E : Type 0} (same : E → E → Type 0) (stands : E → Lists → Type 0) (seats after : List Seat)
+    (links links_after : List E) : Type 0 where
+  pub sames : EachRelated same links links_after
+  pub kept : (k : ℕ) (s : Seat) (h : ℕ → Account) → k < length seats →
+      Kept stands (slice_index_or seats k s).journal.entries links (per_node * k) h →
+      Kept stands (slice_index_or after k s).journal.entries links_after (per_node * k) h
+  pub grows : (k : ℕ) (s : Seat) → k < length seats →
+      Grows (slice_index_or seats k s).journal.entries (slice_index_or after k s).journal.entries
+
+-- the link that each seat reads shows nothing
+abbrev pub AllRead : {E : Type 0} → (E → Type 0) → List Seat → List E → Type 0
+AllRead {E} dry seats links =
+    (k : ℕ) (s : Seat) (d : E) → k < length seats → (slice_index_or seats k s).ended < per_node →
+    dry (slice_index_or links (per_node * k + (slice_index_or seats k s).ended) d)
+
+-- the seats are ready, and their journals are of one wire
+pub record IsBus (script : List Strike) (bits : ℕ) (seats : List Seat) : Type 0 where
+  pub ready : AreReady seats
+  pub wired : IsWired script bits (journals_of seats)

@@ -1,0 +1,16 @@
+-- ---- the wire, and what strikes it
+pub mod StrikesByBit
+pub mod Wire
+-- ---- what holds of every bus
+pub mod Lawful
+pub mod Resting
+-- ---- what a bit adds to a journal
+pub mod OneBit
+-- ---- the links and ports of the nodes
+pub mod Links
+pub mod NewLinks
+pub mod Boards
+-- ---- all nodes of a bus
+pub mod Buses
+-- ---- how the code keeps a bus: definitions of the private contracts alone
+pub mod Inside

@@ -1,0 +1,58 @@
+-- What one bit adds to the journal of a node (this project's own rule).
+use Rattle.std.specs.Prelude.{◌≡◌, ℕ, Bool, true, false, Option, Some, None, List, [], ◌∷◌, ◌++◌, map}
+use Rattle.can_bits.specs.declared.level.Level.{Level}
+use Rattle.sja_regs.specs.declared.orders.Orders.{Orders}
+use Rattle.sja_link.specs.declared.up.Up.{Up}
+use Rattle.sja_link.specs.declared.verdict.Verdict.{Verdict}
+use Rattle.sja_link.specs.declared.entry.Entry.{Entry}
+use Rattle.sja_link.specs.declared.entry.Entry.TheVariants.{Bit, Up as Item, Abort, Off}
+use Rattle.sja_link.specs.Verdicts.{entry_of}
+
+-- the entries of items that were taken
+abbrev pub entries_of_items : List Up → List Entry
+entries_of_items items = map (λ u. Item u) items
+
+-- the journal has these items more
+pub record HasItems (j k : List Entry) : Type 0 where
+  pub items : List Up
+  pub whole : k ≡ j ++ entries_of_items items
+
+-- the entry of an abort that changed the node, or none
+abbrev pub abort_as : Bool → List Entry
+abort_as true = Abort ∷ []
+abort_as false = []
+
+-- the journal has such an abort more, or is what it was
+pub record HasAbort (j k : List Entry) : Type 0 where
+  pub changed : Bool
+  pub whole : k ≡ j ++ abort_as changed
+
+-- the items that were taken, and then an abort or none; none where the port doesn't order one
+pub record Opens (has_orders : Orders → Type 0) (j k : List Entry) : Type 0 where
+  pub taken : List Entry
+  pub items : HasItems j taken
+  pub aborts : HasAbort taken k
+  pub orders : Orders
+  pub are_orders : has_orders orders
+  pub unasked : orders.abort ≡ false → aborts.changed ≡ false
+
+-- the entry of what came of a message, or none
+abbrev pub judged_as : Option (Verdict × List ℕ) → List Entry
+judged_as None = []
+judged_as (Some v) = entry_of (v.0) (v.1) ∷ []
+
+-- the entry of bus-off, or none
+abbrev pub off_as : Bool → List Entry
+off_as true = Off ∷ []
+off_as false = []
+
+-- the journal has a bit more, and then what came of a frame that was received with it
+pub record HasVerdict (j : List Entry) (driven seen : Level) (k : List Entry) : Type 0 where
+  pub verdict : Option (Verdict × List ℕ)
+  pub whole : k ≡ (j ++ Bit driven seen ∷ []) ++ judged_as verdict
+
+-- and then bus-off, where the node went bus-off in the bit
+pub record HasBit (j : List Entry) (driven seen : Level) (k : List Entry) : Type 0 where
+  pub verdict : Option (Verdict × List ℕ)
+  pub off : Bool
+  pub whole : k ≡ ((j ++ Bit driven seen ∷ []) ++ judged_as verdict) ++ off_as off

@@ -1,0 +1,25 @@
+-- Which nodes are struck in each bit of a run (this project's own rule).
+use Rattle.std.specs.Prelude.{◌≡◌, ◌⊎◌, ◌↔◌, ◌<◌, ℕ, List, length, slice_index_or}
+use Rattle.std.specs.Int.{bit_at}
+use Rattle.sja_script.specs.declared.strike.Strike.{Strike}
+use Rattle.sja_script.specs.Striking.{Hits, Strikes}
+use Rattle.sja_bus.specs.declared.struck_nodes.StruckNodes.{StruckNodes}
+
+-- the node is among these
+abbrev pub IsAmong : ℕ → StruckNodes → Type 0
+IsAmong node nodes = bit_at nodes.mask node ≡ 1
+
+-- the nodes that are struck in each bit, after one strike more
+abbrev pub IsMarked : Strike → List StruckNodes → List StruckNodes → Type 0
+IsMarked strike old new = (bit node : ℕ) (d : StruckNodes) → bit < length old → node < 8 →
+    IsAmong node (slice_index_or new bit d) ↔ (IsAmong node (slice_index_or old bit d) ⊎ Hits strike bit node)
+
+-- in each of these bits the nodes are those that the script strikes
+abbrev pub AreStruck : List Strike → List StruckNodes → Type 0
+AreStruck script bits = (bit node : ℕ) (d : StruckNodes) → bit < length bits → node < 8 →
+    IsAmong node (slice_index_or bits bit d) ↔ Strikes script bit node
+
+-- a script, and of how many bits it is known whom it strikes
+pub record Scripted : Type 0 where
+  pub script : List Strike
+  pub bits : ℕ

@@ -1,0 +1,126 @@
+//! What all nodes of a bus do in one bit, node after node.
+
+ghost use Rattle.std.specs.Prelude.{◌≡◌, ◌*◌, ◌<◌, ◌≤◌, ◌+◌, if◌then◌else◌, ℕ, length, OnOk};
+ghost use Rattle.can_bits.specs.Digits.{opposite};
+ghost use Rattle.sja_bus.specs.Wire.{wired};
+ghost use Rattle.sja_bus.specs.Links.{EachRelated, Numbered};
+ghost use Rattle.sja_bus.specs.Inside.Rows.{AreReady, EachSeat, SeatTakes, SeatOpens, SeatTicks, GoesAll, AllRead, driven_by};
+ghost use Rattle.sja_bus.specs.Inside.Whole.{IsRowBit};
+
+use super::board::Board;
+use super::bus_fault::BusFault;
+use super::seat::{LINKS, Seat};
+use super::struck_nodes::StruckNodes;
+use can_bits::Level;
+use sja_link::BusEnd;
+
+/// Takes all that the links show.
+pub(crate) fn gather_all<E: BusEnd>(seats: &mut [Seat], links: &mut [E]) -> Result<(), BusFault>
+    requires count { length links.old ≡ 8 * length seats.old }
+    requires ids { Numbered E.link links.old }
+    requires ready { AreReady seats.old }
+    ensures sames { EachRelated E.same links.old links.new }
+    ensures ready { OnOk result (AreReady seats.new) }
+    ensures goes { OnOk result (GoesAll E.same E.stands seats.old seats.new links.old links.new) }
+    ensures items { OnOk result (EachSeat SeatTakes seats.old seats.new) }
+    ensures dry { OnOk result (AllRead E.dry seats.new links.new) }
+{
+    for k in 0..seats.len() {
+        seats[k].gather(links, LINKS * k)?;
+    }
+    Ok(())
+}
+
+/// Takes all that the links show, and applies the aborts that stand.
+pub(crate) fn open_all<E: BusEnd, B: Board>(
+    seats: &mut [Seat],
+    links: &mut [E],
+    board: &B,
+) -> Result<(), BusFault>
+    requires count { length links.old ≡ 8 * length seats.old }
+    requires ids { Numbered E.link links.old }
+    requires ready { AreReady seats.old }
+    requires ports { length seats.old ≤ B.ports board.now }
+    ensures sames { EachRelated E.same links.old links.new }
+    ensures ready { OnOk result (AreReady seats.new) }
+    ensures goes { OnOk result (GoesAll E.same E.stands seats.old seats.new links.old links.new) }
+    ensures opens { OnOk result (EachSeat (SeatOpens (B.orders_are board.now)) seats.old seats.new) }
+    ensures dry { OnOk result (AllRead E.dry seats.new links.new) }
+{
+    for k in 0..seats.len() {
+        seats[k].open_bit(links, LINKS * k, board)?;
+    }
+    Ok(())
+}
+
+/// The level on the bus: dominant where any node drives dominant.
+pub(crate) fn level_of(seats: &[Seat]) -> Level
+    ensures { result ≡ wired (driven_by seats.now) }
+{
+    for k in 0..seats.len() {
+        if let Level::Dominant = seats[k].drives {
+            return Level::Dominant;
+        }
+    }
+    Level::Recessive
+}
+
+/// What a node sees: the other level where it is struck.
+#[inline(always)]
+fn seen(level: Level, struck: bool) -> Level
+    ensures { result ≡ (if struck then opposite level else level) }
+{
+    if !struck {
+        return level;
+    }
+    match level {
+        Level::Dominant => Level::Recessive,
+        Level::Recessive => Level::Dominant,
+    }
+}
+
+/// Each node has its bit, and sees this level, or the other one where it is struck.
+pub(crate) fn tick_all<E: BusEnd>(
+    seats: &mut [Seat],
+    links: &mut [E],
+    level: Level,
+    struck: StruckNodes,
+) -> Result<(), BusFault>
+    requires few { length seats.old ≤ 8 }
+    requires count { length links.old ≡ 8 * length seats.old }
+    requires ids { Numbered E.link links.old }
+    requires ready { AreReady seats.old }
+    ensures sames { EachRelated E.same links.old links.new }
+    ensures ready { OnOk result (AreReady seats.new) }
+    ensures goes { OnOk result (GoesAll E.same E.stands seats.old seats.new links.old links.new) }
+    ensures ticks { OnOk result (EachSeat (SeatTicks struck level) seats.old seats.new) }
+{
+    for k in 0..seats.len() {
+        let sees = seen(level, struck.has(k));
+        seats[k].tick(links, LINKS * k, sees)?;
+    }
+    Ok(())
+}
+
+/// One bit of all nodes, in which these are struck: what the links show is taken and what stands is aborted, all drive,
+/// and each sees the level.
+pub(crate) fn bit_all<E: BusEnd, B: Board>(
+    seats: &mut [Seat],
+    links: &mut [E],
+    board: &B,
+    struck: StruckNodes,
+) -> Result<(), BusFault>
+    requires few { length seats.old ≤ 8 }
+    requires count { length links.old ≡ 8 * length seats.old }
+    requires ids { Numbered E.link links.old }
+    requires ready { AreReady seats.old }
+    requires ports { length seats.old ≤ B.ports board.now }
+    ensures sames { EachRelated E.same links.old links.new }
+    ensures ready { OnOk result (AreReady seats.new) }
+    ensures goes { OnOk result (GoesAll E.same E.stands seats.old seats.new links.old links.new) }
+    ensures bit { OnOk result (IsRowBit (B.orders_are board.now) struck seats.old seats.new) }
+{
+    open_all(seats, links, board)?;
+    let level = level_of(seats);
+    tick_all(seats, links, level, struck)
+}

@@ -1,0 +1,218 @@
+//! The shared bus.
+
+ghost use Rattle.std.specs.Prelude.{◌≡◌, None};
+
+use super::all_nodes::{bit_all, gather_all};
+use super::beginning::logs_of;
+use super::board::Board;
+use super::bus_fault::BusFault;
+use super::node_log::NodeLog;
+use super::resting::all_rest;
+use super::seat::Seat;
+use super::struck_bits::StruckBits;
+use can_frame::OutOfMemory;
+use sja_link::BusEnd;
+use sja_script::FaultScript;
+use std::alloc::Global;
+use std::marker::Model;
+
+/// The shared bus of one to eight nodes (Bosch CAN 2.0 part A section 2; its links, journals and ports are this project's
+/// own rule).
+///
+/// Contracts see it as its script, the bits that were run and those that are left, the fault that it answers always, and
+/// the journals of its nodes. All its room is reserved when it is made: no bit takes memory.
+#[derive(Debug, Drop)]
+pub struct Bus {
+    struck: StruckBits,
+    run: u32,
+    left: u32,
+    fault: Option<BusFault>,
+    seats: Vec<Seat>,
+    logs: Vec<NodeLog>,
+}
+
+impl Model for Bus {
+    ghost use Rattle.std.specs.Prelude.{◌≡◌, [], vec_capacity};
+    ghost use Rattle.sja_bus.specs.Buses.{BusValue};
+
+    ghost Value = { BusValue };
+
+    ghost use Rattle.sja_bus.specs.Inside.Rows.{journals_of};
+    ghost use Rattle.sja_bus.specs.Inside.Whole.{IsWhole};
+
+    ghost view = { λ b. record {
+      script = b.struck.script;
+      run = b.run;
+      left = b.left;
+      fault = b.fault;
+      journals = journals_of b.seats.items;
+    } };
+
+    ghost invariant = { λ b. IsWhole b.struck b.run b.left b.fault b.seats.items (vec_capacity b.logs)
+        × (b.logs.items ≡ []) };
+}
+
+impl Bus {
+    ghost use Rattle.std.specs.Prelude.{◌≡◌, ◌+◌, ◌*◌, ◌<◌, ◌≤◌, ◌⊎◌, ◌≢◌, ℕ, None, Some, Err, true, false, length, map, slice_index_or, OnOk, IfOk, IfErr};
+    ghost use Rattle.sja_bus.specs.declared.bus_fault.BusFault.{BusFault as Fault};
+    ghost use Rattle.sja_bus.specs.declared.bus_fault.BusFault.TheVariants.{BitsSpent};
+    ghost use Rattle.sja_bus.specs.Links.{EachRelated, Numbered};
+    ghost use Rattle.sja_bus.specs.OneBit.{HasItems};
+    ghost use Rattle.sja_link.specs.Places.{place_of};
+    ghost use Rattle.sja_link.specs.Records.{record_of};
+    ghost use Rattle.sja_bus.specs.declared.node_log.NodeLog.{NodeLog as Log};
+    ghost use Rattle.sja_bus.specs.Wire.{journal_at};
+    ghost use Rattle.sja_bus.specs.Resting.{RestsAs};
+    ghost use Rattle.sja_bus.specs.Lawful.{IsBusRun, CountersAre};
+    ghost use Rattle.sja_bus.specs.Buses.{EachJournal, KeepsAll, AllDry, IsBit, new_bus};
+
+    /// A bus of so many nodes, 1 to 8, for a run of so many bits, 1 to 200,000. All its room is reserved here.
+    ///
+    /// Error: [`OutOfMemory`] where memory was refused.
+    pub fn new(alloc: Global, nodes: u8, bits: u32, script: FaultScript) -> Result<Bus, OutOfMemory>
+        requires nodes { (1 ≤ nodes) × (nodes ≤ 8) }
+        requires bits { (1 ≤ bits) × (bits ≤ 200000) }
+        ensures { IfOk result (λ b. b ≡ new_bus script bits nodes) }
+    {
+        let count = usize::from(nodes);
+        let struck = StruckBits::new(alloc, script, bits)?;
+        let mut seats = Vec::with_capacity(alloc, count)?;
+        for node in 0..nodes {
+            seats.push_reserved(Seat::new(alloc, node, bits)?);
+        }
+        let logs = Vec::with_capacity(alloc, count)?;
+        Ok(Bus {
+            struck,
+            run: 0,
+            left: bits,
+            fault: None,
+            seats,
+            logs,
+        })
+    }
+
+    /// Takes what the drivers gave: of each node in order all that its links show, one link after the other. `links` are
+    /// eight a node, by node and activation.
+    ///
+    /// Error: [`BusFault`] 2, 4 or 5, and then the same always.
+    pub fn gather<E: BusEnd>(&mut self, links: &mut [E]) -> Result<(), BusFault>
+        requires count { length links.old ≡ 8 * length self.old.journals }
+        requires ids { Numbered E.link links.old }
+        ensures sames { EachRelated E.same links.old links.new }
+        ensures script { self.new.script ≡ self.old.script }
+        ensures bits { (self.new.run ≡ self.old.run) × (self.new.left ≡ self.old.left) }
+        ensures nodes { length self.new.journals ≡ length self.old.journals }
+        ensures kept { OnOk result (KeepsAll E.stands self.old.journals self.new.journals links.old links.new) }
+        ensures items { OnOk result (EachJournal HasItems self.old.journals self.new.journals) }
+        ensures dry { OnOk result (AllDry E.dry self.new.journals links.new) }
+        ensures right { OnOk result (self.new.fault ≡ None) }
+        ensures fault { IfErr result (λ f. self.new.fault ≡ Some f) }
+        ensures stays { (f : Fault) → self.old.fault ≡ Some f →
+            (result ≡ Err f) × (self.new ≡ self.old) × (links.new ≡ links.old) }
+    {
+        if let Some(fault) = self.fault {
+            return Err(fault);
+        }
+        match gather_all(self.seats.as_mut_slice(), links) {
+            Ok(()) => Ok(()),
+            Err(fault) => {
+                self.fault = Some(fault);
+                Err(fault)
+            }
+        }
+    }
+
+    /// One bit. Of each node in order all that its links show is taken, and then an abort that stands is applied; all
+    /// nodes drive; all see the level, or the other one where the script strikes them; each received frame that passes is
+    /// judged and put.
+    ///
+    /// Error: [`BusFault::BitsSpent`] where no bit is left; nothing changed. After any other fault the same always.
+    pub fn bit<E: BusEnd, B: Board>(
+        &mut self,
+        links: &mut [E],
+        board: &mut B,
+    ) -> Result<(), BusFault>
+        requires count { length links.old ≡ 8 * length self.old.journals }
+        requires ids { Numbered E.link links.old }
+        requires ports { length self.old.journals ≤ B.ports board.old }
+        ensures sames { EachRelated E.same links.old links.new }
+        ensures ports { B.ports board.new ≡ B.ports board.old }
+        ensures script { self.new.script ≡ self.old.script }
+        ensures nodes { length self.new.journals ≡ length self.old.journals }
+        ensures bits { OnOk result ((self.new.run ≡ self.old.run + 1) × (self.new.left + 1 ≡ self.old.left)) }
+        ensures kept { OnOk result (KeepsAll E.stands self.old.journals self.new.journals links.old links.new) }
+        ensures bit { OnOk result (IsBit (B.orders_are board.old) self.old.script self.old.run self.old.journals self.new.journals) }
+        ensures right { OnOk result (self.new.fault ≡ None) }
+        ensures fault { IfErr result (λ f. (f ≡ BitsSpent) ⊎ (self.new.fault ≡ Some f)) }
+        ensures spent { self.old.left ≡ 0 → self.old.fault ≡ None →
+            (result ≡ Err BitsSpent) × (self.new ≡ self.old) × (links.new ≡ links.old) }
+        ensures stays { (f : Fault) → self.old.fault ≡ Some f →
+            (result ≡ Err f) × (self.new ≡ self.old) × (links.new ≡ links.old) }
+    {
+        if let Some(fault) = self.fault {
+            return Err(fault);
+        }
+        if self.left == 0 {
+            return Err(BusFault::BitsSpent);
+        }
+        let struck = self.struck.at(self.run);
+        match bit_all(self.seats.as_mut_slice(), links, board, struck) {
+            Ok(()) => {
+                self.run += 1;
+                self.left -= 1;
+                Ok(())
+            }
+            Err(fault) => {
+                self.fault = Some(fault);
+                Err(fault)
+            }
+        }
+    }
+
+    /// What holds of every bus without such a fault: by every cut of each node's record the verdicts are right, and what
+    /// each node saw in each bit is what the wire had.
+    pub fn keeps_its_laws(&self)
+        ensures { self.now.fault ≡ None → IsBusRun self.now.script self.now.run self.now.journals }
+    {
+        let _ = &self.fault;
+    }
+
+    /// Whether every node is at rest: in reset, or idle with no request.
+    pub fn at_rest(&self) -> bool
+        ensures rest { self.now.fault ≡ None → result ≡ true → (node : ℕ) → node < length self.now.journals →
+            RestsAs (record_of (journal_at self.now.journals node)) true }
+        ensures busy { self.now.fault ≡ None → result ≡ false → (node : ℕ) × (node < length self.now.journals)
+            × RestsAs (record_of (journal_at self.now.journals node)) false }
+    {
+        all_rest(self.seats.as_slice())
+    }
+
+    /// Whether a start of this node was taken; not where there is no such node.
+    pub fn started(&self, node: u8) -> bool
+        ensures yes { self.now.fault ≡ None → result ≡ true → (node < length self.now.journals)
+            × ((place_of (journal_at self.now.journals node)).activation ≢ 0) }
+        ensures no { self.now.fault ≡ None → result ≡ false → node < length self.now.journals →
+            (place_of (journal_at self.now.journals node)).activation ≡ 0 }
+    {
+        let place = usize::from(node);
+        if place >= self.seats.len() {
+            return false;
+        }
+        self.seats[place].has_begun()
+    }
+
+    /// What is left of the nodes, in order: each journal, and the error counters at its end. By every cut of a journal's
+    /// record, and there is one alone, the verdicts and the counters are right; what each node saw in each bit is what the
+    /// wire had.
+    pub fn finish(self) -> Vec<NodeLog>
+        ensures journals { map (λ g. g.journal.entries) result.items ≡ self.journals }
+        ensures lawful { self.fault ≡ None →
+            IsBusRun self.script self.run (map (λ g. g.journal.entries) result.items) }
+        ensures counters { self.fault ≡ None → (node : ℕ) (d : Log) → node < length result.items →
+            let log = slice_index_or result.items node d in
+            CountersAre log.journal.entries log.txerr log.rxerr }
+    {
+        let Bus { seats, logs, .. } = self;
+        logs_of(seats, logs)
+    }
+}

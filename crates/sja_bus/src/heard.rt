@@ -1,0 +1,11 @@
+//! What a bit brought to a node that runs.
+
+use can_node::BitEvents;
+
+/// What a bit brought to a node, and what came of the frame that was received with it.
+#[derive(Debug, Drop)]
+pub(crate) struct Heard {
+    pub(crate) events: BitEvents,
+    /// The frame found no room.
+    pub(crate) overrun: bool,
+}

@@ -1,0 +1,198 @@
+//! One bit of a node in which something may happen.
+
+ghost use Rattle.std.specs.Prelude.{◌≡◌};
+ghost use Rattle.sja_link.specs.Verdicts.{entry_of};
+ghost use Rattle.sja_bus.specs.Inside.Seats.{Keeps};
+
+use super::activity::Activity;
+use super::bus_fault::BusFault;
+use super::heard::Heard;
+use super::putting::{accept, put_off};
+use super::seat::Seat;
+use can_bits::Level;
+use can_frame::{Filter, Frame, Message};
+use sja_link::{BusEnd, Busy, Entry, Verdict};
+
+impl Seat {
+    ghost use Rattle.std.specs.Prelude.{◌≡◌, ◌<◌, ℕ, suc, Ok, [], ◌∷◌, ◌++◌, OnOk, IfOk, true, false};
+    ghost use Rattle.can_frame.specs.declared.filter.Filter.{Filter as Filtering};
+    ghost use Rattle.can_node.specs.Stands.{InReset, DrivesNext, Samples};
+    ghost use Rattle.sja_link.specs.declared.entry.Entry.TheVariants.{Bit, Off as OffEntry};
+    ghost use Rattle.sja_link.specs.BusLedgers.{link_of, free_in};
+    ghost use Rattle.sja_bus.specs.declared.activity.Activity.TheVariants.{Running};
+    ghost use Rattle.sja_bus.specs.Links.{Moves};
+    ghost use Rattle.sja_bus.specs.OneBit.{HasVerdict, HasBit};
+    ghost use Rattle.sja_bus.specs.Inside.Following.{Reads, open_in};
+    ghost use Rattle.sja_bus.specs.Inside.Seats.{IsSound, IsSeat, IsJudged, IsMid};
+
+    /// Judges a message, and writes the bit and the verdict. Whether the message found no room.
+    fn judge<E: BusEnd>(
+        &mut self,
+        end: &mut E,
+        driven: Level,
+        seen: Level,
+        message: Message,
+    ) -> Result<bool, BusFault>
+        requires id { E.link end.old ≡ link_of self.old.ledger }
+        requires runs { open_in self.old.activity ≡ 1 }
+        requires reads { Reads self.old.node self.old.journal.entries self.old.ended self.old.activity (free_in self.old.ledger) }
+        requires seat { IsSeat self.old }
+        ensures same { E.same end.old end.new }
+        ensures room { self.new.journal.room ≡ self.old.journal.room }
+        ensures kept { (self.new.node ≡ self.old.node) × (self.new.ended ≡ self.old.ended) × (self.new.activity ≡ self.old.activity) × (link_of self.new.ledger ≡ link_of self.old.ledger) }
+        ensures judged { OnOk result (IsJudged self.old.journal.entries driven seen (suc self.old.ended) message self.new.journal.entries) }
+        ensures reads { OnOk result (Reads self.new.node self.new.journal.entries self.new.ended self.new.activity (free_in self.new.ledger)) }
+        ensures moves { OnOk result (Moves E.stands end.old end.new self.old.journal.entries self.new.journal.entries (suc self.old.ended)) }
+    {
+        match accept(&mut self.ledger, end, &message) {
+            Ok(verdict) => {
+                self.enter(Entry::Bit(driven, seen))?;
+                self.enter(verdict_entry(verdict, message))?;
+                Ok(verdict == Verdict::Overrun)
+            }
+            Err(Busy) => Err(BusFault::Stuck(self.number())),
+        }
+    }
+
+    /// Tells the driver of bus-off, and writes it.
+    fn go_off<E: BusEnd>(&mut self, end: &mut E) -> Result<(), BusFault>
+        requires id { E.link end.old ≡ link_of self.old.ledger }
+        requires runs { (f : Filtering) × (self.old.activity ≡ Running f) }
+        requires mid { IsMid self.old true }
+        requires reset { InReset self.old.node }
+        requires seat { IsSeat self.old }
+        ensures same { E.same end.old end.new }
+        ensures room { self.new.journal.room ≡ self.old.journal.room }
+        ensures ledger { self.new.ledger ≡ self.old.ledger }
+        ensures ended { self.new.ended ≡ self.old.ended }
+        ensures node { self.new.node ≡ self.old.node }
+        ensures sound { OnOk result (IsSound self.new) }
+        ensures seat { OnOk result (IsSeat self.new) }
+        ensures moves { OnOk result (Moves E.stands end.old end.new self.old.journal.entries self.new.journal.entries (suc self.old.ended)) }
+        ensures entered { OnOk result (self.new.journal.entries ≡ self.old.journal.entries ++ OffEntry ∷ []) }
+    {
+        match put_off(&mut self.ledger, end) {
+            Ok(()) => {
+                self.activity = Activity::Off;
+                self.enter(Entry::Off)
+            }
+            Err(Busy) => Err(BusFault::Stuck(self.number())),
+        }
+    }
+
+    /// The bit of a node that runs, and the verdict on what was received with it.
+    fn hear<E: BusEnd>(
+        &mut self,
+        end: &mut E,
+        filter: Filter,
+        driven: Level,
+        seen: Level,
+    ) -> Result<Heard, BusFault>
+        requires id { E.link end.old ≡ link_of self.old.ledger }
+        requires runs { self.old.activity ≡ Running filter }
+        requires drives { DrivesNext self.old.node driven }
+        requires sound { IsSound self.old }
+        requires seat { IsSeat self.old }
+        ensures same { E.same end.old end.new }
+        ensures room { self.new.journal.room ≡ self.old.journal.room }
+        ensures kept { (self.new.ended ≡ self.old.ended) × (self.new.activity ≡ self.old.activity) × (link_of self.new.ledger ≡ link_of self.old.ledger) }
+        ensures mid { IfOk result (λ heard. IsMid self.new heard.events.went_off) }
+        ensures off { IfOk result (λ heard. heard.events.went_off ≡ true → InReset self.new.node) }
+        ensures samples { IfOk result (λ heard. Samples self.old.node self.new.node seen heard.events) }
+        ensures moves { OnOk result (Moves E.stands end.old end.new self.old.journal.entries self.new.journal.entries (suc self.old.ended)) }
+        ensures adds { OnOk result (HasVerdict self.old.journal.entries driven seen self.new.journal.entries) }
+    {
+        let events = self.node.sample(seen);
+        match passing(&filter, &events.received) {
+            None => {
+                self.enter(Entry::Bit(driven, seen))?;
+                Ok(Heard {
+                    events,
+                    overrun: false,
+                })
+            }
+            Some(message) => {
+                let overrun = self.judge(end, driven, seen, message)?;
+                Ok(Heard { events, overrun })
+            }
+        }
+    }
+
+    /// One bit of a node that runs.
+    pub(crate) fn run_bit<E: BusEnd>(
+        &mut self,
+        end: &mut E,
+        filter: Filter,
+        driven: Level,
+        seen: Level,
+    ) -> Result<Heard, BusFault>
+        requires id { E.link end.old ≡ link_of self.old.ledger }
+        requires runs { self.old.activity ≡ Running filter }
+        requires drives { DrivesNext self.old.node driven }
+        requires sound { IsSound self.old }
+        requires seat { IsSeat self.old }
+        ensures same { E.same end.old end.new }
+        ensures room { self.new.journal.room ≡ self.old.journal.room }
+        ensures id { link_of self.new.ledger ≡ link_of self.old.ledger }
+        ensures ended { self.new.ended ≡ self.old.ended }
+        ensures sound { OnOk result (IsSound self.new) }
+        ensures seat { OnOk result (IsSeat self.new) }
+        ensures samples { IfOk result (λ heard. Samples self.old.node self.new.node seen heard.events) }
+        ensures moves { OnOk result (Moves E.stands end.old end.new self.old.journal.entries self.new.journal.entries (suc self.old.ended)) }
+        ensures adds { OnOk result (HasBit self.old.journal.entries driven seen self.new.journal.entries) }
+    {
+        let heard = self.hear(end, filter, driven, seen)?;
+        if !heard.events.went_off {
+            return Ok(heard);
+        }
+        self.go_off(end)?;
+        Ok(heard)
+    }
+
+    /// One bit of a node in reset: it looks at no level.
+    pub(crate) fn rest_bit(&mut self, driven: Level, seen: Level) -> Result<Heard, BusFault>
+        requires rests { InReset self.old.node }
+        requires drives { DrivesNext self.old.node driven }
+        requires sound { IsSound self.old }
+        requires seat { IsSeat self.old }
+        ensures room { self.new.journal.room ≡ self.old.journal.room }
+        ensures kept { (self.new.ended ≡ self.old.ended) × (self.new.ledger ≡ self.old.ledger) }
+        ensures sound { OnOk result (IsSound self.new) }
+        ensures seat { OnOk result (IsSeat self.new) }
+        ensures samples { IfOk result (λ heard. Samples self.old.node self.new.node seen heard.events) }
+        ensures entered { OnOk result (self.new.journal.entries ≡ self.old.journal.entries ++ Bit driven seen ∷ []) }
+    {
+        let events = self.node.sample(seen);
+        self.enter(Entry::Bit(driven, seen))?;
+        Ok(Heard {
+            events,
+            overrun: false,
+        })
+    }
+}
+
+/// The entry of a verdict.
+fn verdict_entry(verdict: Verdict, message: Message) -> Entry
+    ensures { result ≡ entry_of verdict message }
+{
+    match verdict {
+        Verdict::Stored => Entry::Stored(message),
+        Verdict::Overrun => Entry::Overrun(message),
+    }
+}
+
+/// The message of a received frame that passes.
+fn passing(filter: &Filter, received: &Option<Frame>) -> Option<Message>
+    ensures { Keeps filter.now received.now result }
+{
+    match received {
+        None => None,
+        Some(frame) => {
+            if filter.passes(frame) {
+                Some(Message::of(frame))
+            } else {
+                None
+            }
+        }
+    }
+}

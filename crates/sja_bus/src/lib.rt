@@ -1,0 +1,36 @@
+//! The shared bus: what each controller takes from its driver, drives, sees and receives, bit by bit.
+//!
+//! A [`Bus`] has one to eight nodes, each with the journal of all that happened to it. In each bit it takes what the
+//! drivers gave on the links, applies the aborts that stand, has all nodes drive and see one level, judges the frames
+//! that were received, and tells the ports ([`Board`]). A [`FaultScript`] says where a node sees the other level.
+//! Contracts see a bus as its journals: each journal's record has one cut, by which its verdicts are right, and each
+//! level that was seen is the one that all nodes drove together, or the other one where the script strikes.
+//!
+//! `Bus::new`, `serial_links` and `SerialBoard::new` alone take memory. The tests stand in `crates/bus_tests`.
+#![tactic(auto)]
+
+mod activity;
+mod all_nodes;
+mod beginning;
+mod board;
+mod bus;
+mod bus_fault;
+mod heard;
+mod hearing;
+mod new_links;
+mod news;
+mod node_log;
+mod putting;
+mod resting;
+mod seat;
+mod serial_board;
+mod struck_bits;
+mod struck_nodes;
+mod taking;
+
+pub use board::Board;
+pub use bus::Bus;
+pub use bus_fault::BusFault;
+pub use new_links::serial_links;
+pub use node_log::NodeLog;
+pub use serial_board::SerialBoard;

@@ -1,0 +1,158 @@
+//! What the bus does with an item that it took.
+
+use super::activity::Activity;
+use super::bus_fault::BusFault;
+use super::news::News;
+use super::seat::Seat;
+use can_node::{Config, Request};
+use sja_link::{BadCredit, BusEnd, BusLedger, Entry, LinkId, Up};
+
+impl Seat {
+    ghost use Rattle.std.specs.Prelude.{◌≡◌, ◌<◌, ◌≤◌, ◌+◌, ℕ, suc, Ok, [], ◌∷◌, ◌++◌, OnOk, IfOk, true, false, length};
+    ghost use Rattle.sja_link.specs.declared.up.Up.TheVariants.{Start, Credit, Send, Stop};
+    ghost use Rattle.sja_link.specs.declared.entry.Entry.TheVariants.{Up as Item};
+    ghost use Rattle.sja_link.specs.declared.up.Up.{Up as Given};
+    ghost use Rattle.sja_link.specs.Places.{past, place_of};
+    ghost use Rattle.sja_link.specs.BusLedgers.{link_of, free_in};
+    ghost use Rattle.sja_bus.specs.Links.{Moves};
+    ghost use Rattle.sja_bus.specs.Inside.Seats.{IsSound, IsOwed, IsSeat};
+
+    /// A start was taken.
+    fn begin(&mut self, config: Config) -> Result<(), BusFault>
+        requires owed { IsOwed self.old (Item (Start config)) }
+        requires seat { IsSeat self.old }
+        requires more { self.old.ended < 8 }
+        ensures sound { OnOk result (IsSound self.new) }
+        ensures seat { OnOk result (IsSeat self.new) }
+        ensures node { (link_of self.new.ledger).node ≡ (link_of self.old.ledger).node }
+        ensures room { self.new.journal.room ≡ self.old.journal.room }
+        ensures fits { OnOk result (length self.old.journal.entries < self.old.journal.room) }
+        ensures stands { OnOk result ((past (place_of self.old.journal.entries) (Item (Start config))).activation ≡ suc self.old.ended) }
+        ensures entered { OnOk result (self.new.journal.entries ≡ self.old.journal.entries ++ Item (Start config) ∷ []) }
+    {
+        let Activity::Between = self.activity else {
+            return Err(BusFault::BadOrder(self.number()));
+        };
+        self.node.start(config.copy());
+        self.activity = Activity::Running(config.filter);
+        self.enter(Entry::Up(Up::Start(config)))
+    }
+
+    /// A credit was taken.
+    fn credited(&mut self, bytes: u8) -> Result<(), BusFault>
+        requires owed { IsOwed self.old (Item (Credit bytes)) }
+        requires seat { IsSeat self.old }
+        requires more { self.old.ended < 8 }
+        ensures sound { OnOk result (IsSound self.new) }
+        ensures seat { OnOk result (IsSeat self.new) }
+        ensures node { (link_of self.new.ledger).node ≡ (link_of self.old.ledger).node }
+        ensures room { self.new.journal.room ≡ self.old.journal.room }
+        ensures fits { OnOk result (length self.old.journal.entries < self.old.journal.room) }
+        ensures stands { OnOk result ((past (place_of self.old.journal.entries) (Item (Credit bytes))).activation ≡ suc self.old.ended) }
+        ensures entered { OnOk result (self.new.journal.entries ≡ self.old.journal.entries ++ Item (Credit bytes) ∷ []) }
+    {
+        if let Activity::Between = self.activity {
+            return Err(BusFault::BadOrder(self.number()));
+        }
+        self.enter(Entry::Up(Up::Credit(bytes)))
+    }
+
+    /// A request was taken.
+    fn ask(&mut self, request: Request) -> Result<(), BusFault>
+        requires owed { IsOwed self.old (Item (Send request)) }
+        requires seat { IsSeat self.old }
+        requires more { self.old.ended < 8 }
+        ensures sound { OnOk result (IsSound self.new) }
+        ensures seat { OnOk result (IsSeat self.new) }
+        ensures node { (link_of self.new.ledger).node ≡ (link_of self.old.ledger).node }
+        ensures room { self.new.journal.room ≡ self.old.journal.room }
+        ensures fits { OnOk result (length self.old.journal.entries < self.old.journal.room) }
+        ensures stands { OnOk result ((past (place_of self.old.journal.entries) (Item (Send request))).activation ≡ suc self.old.ended) }
+        ensures entered { OnOk result (self.new.journal.entries ≡ self.old.journal.entries ++ Item (Send request) ∷ []) }
+    {
+        match self.activity {
+            Activity::Running(_) => match self.node.request(request.copy()) {
+                Ok(()) => self.enter(Entry::Up(Up::Send(request))),
+                Err(_) => Err(BusFault::BadOrder(self.number())),
+            },
+            Activity::Off => {
+                self.activity = Activity::OffAndAsked;
+                self.enter(Entry::Up(Up::Send(request)))
+            }
+            _ => Err(BusFault::BadOrder(self.number())),
+        }
+    }
+
+    /// A stop was taken: the next link is read from now on.
+    fn end(&mut self) -> Result<(), BusFault>
+        requires owed { IsOwed self.old (Item Stop) }
+        requires seat { IsSeat self.old }
+        requires more { self.old.ended < 8 }
+        ensures sound { OnOk result (IsSound self.new) }
+        ensures seat { OnOk result (IsSeat self.new) }
+        ensures node { (link_of self.new.ledger).node ≡ (link_of self.old.ledger).node }
+        ensures room { self.new.journal.room ≡ self.old.journal.room }
+        ensures fits { OnOk result (length self.old.journal.entries < self.old.journal.room) }
+        ensures stands { OnOk result ((past (place_of self.old.journal.entries) (Item Stop)).activation ≡ suc self.old.ended) }
+        ensures entered { OnOk result (self.new.journal.entries ≡ self.old.journal.entries ++ Item Stop ∷ []) }
+    {
+        if let Activity::Between = self.activity {
+            return Err(BusFault::BadOrder(self.number()));
+        }
+        self.node.stop();
+        self.activity = Activity::Between;
+        self.ended += 1;
+        self.ledger = BusLedger::new(LinkId {
+            node: self.ledger.id().node,
+            activation: self.ended + 1,
+        });
+        self.enter(Entry::Up(Up::Stop))
+    }
+
+    /// An item was taken.
+    fn note(&mut self, item: Up) -> Result<(), BusFault>
+        requires owed { IsOwed self.old (Item item) }
+        requires seat { IsSeat self.old }
+        requires more { self.old.ended < 8 }
+        ensures sound { OnOk result (IsSound self.new) }
+        ensures seat { OnOk result (IsSeat self.new) }
+        ensures node { (link_of self.new.ledger).node ≡ (link_of self.old.ledger).node }
+        ensures room { self.new.journal.room ≡ self.old.journal.room }
+        ensures fits { OnOk result (length self.old.journal.entries < self.old.journal.room) }
+        ensures stands { OnOk result ((past (place_of self.old.journal.entries) (Item item)).activation ≡ suc self.old.ended) }
+        ensures entered { OnOk result (self.new.journal.entries ≡ self.old.journal.entries ++ Item item ∷ []) }
+    {
+        match item {
+            Up::Start(config) => self.begin(config),
+            Up::Credit(bytes) => self.credited(bytes),
+            Up::Send(request) => self.ask(request),
+            Up::Stop => self.end(),
+        }
+    }
+
+    /// Takes one item from the link that is read. False where it shows none.
+    pub(crate) fn take<E: BusEnd>(&mut self, end: &mut E) -> Result<bool, BusFault>
+        requires id { E.link end.old ≡ link_of self.old.ledger }
+        requires sound { IsSound self.old }
+        requires seat { IsSeat self.old }
+        requires more { self.old.ended < 8 }
+        ensures same { E.same end.old end.new }
+        ensures node { (link_of self.new.ledger).node ≡ (link_of self.old.ledger).node }
+        ensures room { self.new.journal.room ≡ self.old.journal.room }
+        ensures sound { OnOk result (IsSound self.new) }
+        ensures seat { OnOk result (IsSeat self.new) }
+        ensures moves { OnOk result (Moves E.stands end.old end.new self.old.journal.entries self.new.journal.entries (suc self.old.ended)) }
+        ensures some { result ≡ Ok true → (item : Given) × (self.new.journal.entries ≡ self.old.journal.entries ++ Item item ∷ []) × (length self.old.journal.entries < self.old.journal.room) }
+        ensures none { result ≡ Ok false → E.dry end.new × (self.new ≡ self.old) }
+    {
+        match self.ledger.collect(end) {
+            Ok(None) => Ok(false),
+            Ok(Some(item)) => {
+                self.news = News::Changed;
+                self.note(item)?;
+                Ok(true)
+            }
+            Err(BadCredit(bytes)) => Err(BusFault::BadCredit(self.number(), bytes)),
+        }
+    }
+}
