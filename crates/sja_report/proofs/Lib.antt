@@ -1,0 +1,10 @@
+pub mod Texts
+pub mod Sums
+pub mod Accounts
+pub mod Timings
+pub mod Stepping
+pub mod Ordering
+pub mod Windows
+pub mod Moments
+pub mod Turning
+pub mod Logs

@@ -1,0 +1,3 @@
+-- How the writer of a report counts and writes.
+pub mod Tallies
+pub mod Spacing
