@@ -1,5 +1,6 @@
 //! [`Figure`]: what can be timed.
 
+use super::buses::{self, Traffic};
 use super::document::Document;
 use super::{contending, faults, hearing, idle, line, node, plans, sending, shift, stream};
 use std::alloc::Global;
@@ -25,6 +26,12 @@ pub enum Figure {
     Contending,
     /// A sender and a receiver.
     Stream,
+    /// A bus of a sender and a receiver.
+    BusStream,
+    /// A bus of eight nodes that contend.
+    BusContending,
+    /// A bus of eight idle nodes.
+    BusIdle,
     /// A plan is read that has as many steps, turns and strikes as there is room for.
     Plan,
     /// A short plan is read, with comment lines behind it.
@@ -38,7 +45,7 @@ pub enum Figure {
 }
 
 /// Every figure, in the order in which `all` tells them.
-pub const FIGURES: [Figure; 14] = [
+pub const FIGURES: [Figure; 17] = [
     Figure::Shift,
     Figure::Line,
     Figure::Node,
@@ -48,12 +55,33 @@ pub const FIGURES: [Figure; 14] = [
     Figure::Faults,
     Figure::Contending,
     Figure::Stream,
+    Figure::BusStream,
+    Figure::BusContending,
+    Figure::BusIdle,
     Figure::Plan,
     Figure::Comments,
     Figure::Numbers,
     Figure::Words,
     Figure::Tables,
 ];
+
+/// A sender and a receiver.
+const STREAM: Traffic = Traffic {
+    nodes: 2,
+    senders: 1,
+};
+
+/// Eight nodes, each of which always has a frame to send.
+const CONTENDING: Traffic = Traffic {
+    nodes: 8,
+    senders: 8,
+};
+
+/// Eight nodes of which none sends.
+const IDLE: Traffic = Traffic {
+    nodes: 8,
+    senders: 0,
+};
 
 impl Figure {
     /// The figure of this name.
@@ -68,6 +96,9 @@ impl Figure {
             "faults" => Some(Figure::Faults),
             "contending" => Some(Figure::Contending),
             "stream" => Some(Figure::Stream),
+            "bus-stream" => Some(Figure::BusStream),
+            "bus-contending" => Some(Figure::BusContending),
+            "bus-idle" => Some(Figure::BusIdle),
             "plan" => Some(Figure::Plan),
             "comments" => Some(Figure::Comments),
             "numbers" => Some(Figure::Numbers),
@@ -90,6 +121,9 @@ impl Figure {
             Figure::Faults => faults::told(alloc, count),
             Figure::Contending => contending::told(alloc, count),
             Figure::Stream => stream::told(alloc, count),
+            Figure::BusStream => buses::told(alloc, count, STREAM),
+            Figure::BusContending => buses::told(alloc, count, CONTENDING),
+            Figure::BusIdle => buses::told(alloc, count, IDLE),
             Figure::Plan => plans::told(alloc, count, Document::Steps),
             Figure::Comments => plans::told(alloc, count, Document::Comments),
             Figure::Numbers => plans::told(alloc, count, Document::Numbers),

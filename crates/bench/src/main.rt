@@ -4,6 +4,7 @@
 //! Each figure is a file of its own, with a variant in [`Figure`].
 #![tactic(auto)]
 
+mod buses;
 mod contending;
 mod document;
 mod faults;
@@ -14,8 +15,10 @@ mod line;
 mod long;
 mod node;
 mod plans;
+mod running;
 mod sending;
 mod shift;
+mod station;
 mod stream;
 mod tally;
 mod wire;

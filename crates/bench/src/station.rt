@@ -1,0 +1,136 @@
+//! [`Station`]: a bus in one thread with a driver out of reset for each node.
+
+ghost use Rattle.std.specs.Prelude.{◌≡◌, ◌≤◌, length, IfOk};
+
+use super::running::run_bits;
+use can_frame::{Message, OutOfMemory};
+use sja_bus::{Bus, NodeLog, SerialBoard, are_links_of, serial_links};
+use sja_driver::{Active, Driver};
+use sja_link::{DequeLink, DriverEnd, Entry};
+use sja_script::FaultScript;
+use std::alloc::Global;
+
+/// The command that requests a transmission (SJA1000 data sheet, 6.4.4).
+const TRANSMIT: u8 = 0x01;
+
+/// A bus in one thread with a driver out of reset for each node.
+#[derive(Drop)]
+pub struct Station {
+    bus: Bus,
+    links: Vec<DequeLink>,
+    board: SerialBoard,
+    drivers: Vec<Driver<Active>>,
+    nodes: u8,
+    ghost size: { length bus.journals ≡ nodes },
+}
+
+impl Station {
+    /// So many started nodes, each of which receives every frame, for so many bits. Nothing where memory was refused,
+    /// and where there are no such buses.
+    pub fn new(alloc: Global, nodes: u8, bits: u32) -> Option<Station> {
+        if nodes == 0 || nodes > 8 || bits == 0 || bits > 200_000 {
+            return None;
+        }
+        let bus = plain_bus(alloc, nodes, bits).ok()?;
+        let mut links = serial_links(alloc, nodes).ok()?;
+        let mut board = SerialBoard::new(alloc, nodes, 1).ok()?;
+        let mut drivers = Vec::with_capacity(alloc, usize::from(nodes)).ok()?;
+        for node in 0..nodes {
+            let driver = started(node, links.as_mut_slice(), &mut board)?;
+            drivers.push(driver).ok()?;
+        }
+        Some(Station {
+            bus,
+            links,
+            board,
+            drivers,
+            nodes,
+        })
+    }
+
+    /// Has the driver of this node load this message and request its transmission, where its transmit buffer is
+    /// released.
+    pub fn send(&mut self, node: usize, message: &Message) {
+        let Some(driver) = self.drivers.get_mut(node) else {
+            return;
+        };
+        let Some(link) = self.links.get_mut(8 * (node % 8)) else {
+            return;
+        };
+        let Some(port) = self.board.ports.get_mut(node) else {
+            return;
+        };
+        if DriverEnd::id(link) == driver.link() && driver.load(port, message).is_ok() {
+            let _ = driver.command(link, port, TRANSMIT);
+        }
+    }
+
+    /// Has the driver of this node release the first message that it was shown.
+    pub fn release(&mut self, node: usize) {
+        let Some(driver) = self.drivers.get_mut(node) else {
+            return;
+        };
+        let Some(link) = self.links.get_mut(8 * (node % 8)) else {
+            return;
+        };
+        if DriverEnd::id(link) == driver.link() {
+            let _ = driver.release(link);
+        }
+    }
+
+    /// So many bits. Whether all were run.
+    pub fn bits(&mut self, count: u32) -> bool {
+        if !are_links_of(self.links.as_slice(), self.nodes)
+            || self.board.ports.len() < usize::from(self.nodes)
+        {
+            return false;
+        }
+        run_bits(
+            &mut self.bus,
+            self.links.as_mut_slice(),
+            &mut self.board,
+            count,
+        )
+    }
+
+    /// How many messages the nodes stored.
+    pub fn stored(self) -> u64 {
+        let Station { bus, .. } = self;
+        let mut stored = 0u64;
+        for log in bus.finish() {
+            stored = stored.wrapping_add(stored_in(&log));
+        }
+        stored
+    }
+}
+
+/// A bus of so many nodes for so many bits, in none of which a node is struck.
+fn plain_bus(alloc: Global, nodes: u8, bits: u32) -> Result<Bus, OutOfMemory>
+    requires nodes { (1 ≤ nodes) × (nodes ≤ 8) }
+    requires bits { (1 ≤ bits) × (bits ≤ 200000) }
+    ensures { IfOk result (λ b. length b.journals ≡ nodes) }
+{
+    Bus::new(alloc, nodes, bits, FaultScript::of(Vec::new(alloc)))
+}
+
+/// The driver of this node, started on its first link.
+fn started(node: u8, links: &mut [DequeLink], board: &mut SerialBoard) -> Option<Driver<Active>> {
+    let driver = Driver::new(node);
+    let link = links.get_mut(8 * usize::from(node))?;
+    let port = board.ports.get_mut(usize::from(node))?;
+    if Some(DriverEnd::id(link)) != driver.next_link() {
+        return None;
+    }
+    driver.start(link, port).ok()
+}
+
+/// How many messages a node stored.
+fn stored_in(log: &NodeLog) -> u64 {
+    let mut stored = 0u64;
+    for entry in log.journal.entries() {
+        if let Entry::Stored(_) = entry {
+            stored = stored.wrapping_add(1);
+        }
+    }
+    stored
+}
