@@ -4,4 +4,5 @@ pub mod Take
 pub mod Past
 pub mod Told
 pub mod Quick
+pub mod QuickPast
 pub mod Places

@@ -37,6 +37,12 @@ pub record IsLineButFor (missing : ℕ) (f : FrameValue) (l : List Level) : Type
 abbrev pub IsOver : List Level → Type 0
 IsOver l = (f : FrameValue) × IsLineButFor 0 f l
 
+-- the level x after the levels l stands past the stuffed part and is right, and the line isn't over with it
+pub record IsRightPast (l : List Level) (x : Level) : Type 0 where
+  pub past : IsPastPart l
+  pub right : IsReadable (l ++ x ∷ [])
+  pub goes_on : ¬ IsOver (l ++ x ∷ [])
+
 -- up to its ACK slot these levels are a line, and its CRC sequence is wrong
 pub record EndsInWrongCheck (l : List Level) : Type 0 where
   pub past : IsPastPart l

@@ -14,6 +14,7 @@ mod answered;
 mod inside;
 mod past;
 mod quick;
+mod quick_past;
 mod sending;
 
 /// How many equal levels a stuff bit follows.

@@ -22,10 +22,10 @@ use Rattle.can_bits.proofs.DueLemmas.{broke_not_readable, inside_now, past_now, 
 
 -- a reader with a fault isn't there
 pub right_no_fault : (s : Shift) (l : List Level) (x : Level) (w : ShiftFault) → s.wrong ≡ Some w → StandsFor s l →
-    IsRightInside l x → ⊥
+    IsReadable (l ++ x ∷ []) → ⊥
 right_no_fault s l x w is h right =
     broke_not_readable s l w (subst (λ (o : Option ShiftFault). StandsBy o s l) is h)
-    (readable_front l (x ∷ []) right.right)
+    (readable_front l (x ∷ []) right)
 
 -- nor one past the stuffed part
 pub right_not_past : (s : Shift) (l : List Level) (x : Level) (n : ℕ) → s.wrong ≡ None → s.frame_part ≡ FixedForm n →

@@ -25,15 +25,26 @@ impl Shift {
         match self.fault_past(n, level) {
             Some(fault) => Some(self.keep_fault(segment_after(n), false, fault)),
             None => {
-                self.count = self.count.wrapping_add(1);
-                self.frame_part = FramePart::FixedForm(n.wrapping_add(1));
+                self.count_past(n);
                 None
             }
         }
     }
 
+    /// Counts a right level after the stuffed part, of which n have come before.
+    #[inline(always)]
+    pub(super) fn count_past(&mut self, n: u8)
+        requires { self.old.wrong ≡ None }
+        ensures { (l : List Bus) → IsPast (n + 1) self.old.gathered (self.old.count + 1) l
+            → StandsFor self.new l }
+    {
+        self.count = self.count.wrapping_add(1);
+        self.frame_part = FramePart::FixedForm(n.wrapping_add(1));
+    }
+
     /// What is wrong with a level after the stuffed part, of which n have come before.
-    fn fault_past(&self, n: u8, level: Level) -> Option<LineFault>
+    #[inline(always)]
+    pub(super) fn fault_past(&self, n: u8, level: Level) -> Option<LineFault>
         ensures broken { (l : List Bus) → ReadsAt (FramePart.FixedForm n) self.now l
             → IfSome result (BreaksWith l level) }
         ensures goes_on { (l : List Bus) → ReadsAt (FramePart.FixedForm n) self.now l → result ≡ None

@@ -36,25 +36,7 @@ returns-in-Some-clause-judged c l h =
 
 pub returns-in-None-clause-stands : goal.returns-in-None-clause-stands
 returns-in-None-clause-stands c l h =
-    let old = c.args.self.now in
-    let next = c.in-None.ensures.goes_on l h refl in
-    let m = l ++ c.args.level ∷ [] in
-    let within = next.within in
-    let small = past_small (c.args.n + 1) m next in
-    let place_ : (c.args.n + 1) % 256 ≡ c.args.n + 1 = omega (arith, within) in
-    let count : (old.count + 1) % 256 ≡ old.count + 1 = omega (arith, small) in
-    let s : Shift = record {
-      count = (old.count + 1) % 256;
-      last = old.last;
-      run = old.run;
-      gathered = old.gathered;
-      frame_part = FixedForm ((c.args.n + 1) % 256);
-      wrong = old.wrong;
-    } in
-    let P : ℕ → Type 0 = λ k. IsPast k old.gathered ((old.count + 1) % 256) m in
-    let Q : ℕ → Type 0 = λ k. IsPast (c.args.n + 1) old.gathered k m in
-    let R : Option ShiftFault → Type 0 = λ o. StandsBy o s m in
-    subst R (sym c.requires.right) (subst P (sym place_) (subst Q (sym count) next))
+    c.count_past.ensures (l ++ c.args.level ∷ []) (c.in-None.ensures.goes_on l h refl)
 
 pub returns-in-None-clause-judged : goal.returns-in-None-clause-judged
 returns-in-None-clause-judged c l h =

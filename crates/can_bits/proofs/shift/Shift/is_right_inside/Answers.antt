@@ -5,7 +5,7 @@ use Rattle.can_bits.proofs.shift.Shift.is_right_inside.Goals as goal
 
 pub returns-in-Some-clause-only : goal.returns-in-Some-clause-only
 returns-in-Some-clause-only c l h right =
-    absurd (right_no_fault c.args.self.now l c.args.level c.in-Some.field-0 c.in-Some.is h right)
+    absurd (right_no_fault c.args.self.now l c.args.level c.in-Some.field-0 c.in-Some.is h right.right)
 
 pub returns-else-self-ne-RUN-clause-only : goal.returns-else-self-ne-RUN-clause-only
 returns-else-self-ne-RUN-clause-only c l h right =
