@@ -17,5 +17,6 @@ pub mod SampleSteps
 pub mod Shown
 pub mod Along
 pub mod Quiet
-pub mod QuietFrames
+pub mod QuietReceiver
+pub mod QuietTransmitter
 pub mod QuietPlaces

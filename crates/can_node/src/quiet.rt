@@ -2,15 +2,12 @@
 ghost use Rattle.std.specs.Prelude.{◌≡◌, ◌==◌, ◌&&◌, ◌||◌, not};
 ghost use Rattle.can_bits.specs.Fields.{is_recessive};
 
-use super::after_bit::AfterBit;
 use super::bus_integration::after_integration_bit;
 use super::delimiter::{after_delimiter_bit, is_eighth, is_first};
 use super::interframe_space::after_interframe_bit;
 use super::node::Node;
-use super::receive::receive;
 use super::role::Role;
 use super::stage::Stage;
-use super::transmit::transmit;
 use can_bits::Level;
 
 impl Node {
@@ -68,7 +65,7 @@ impl Node {
         }
     }
 
-    /// A receiver's bit where the reader doesn't take it at once, but for that of its own acknowledgement.
+    /// A receiver's bit past the stuffed part, but for that of its own acknowledgement, and the sixth bit of EOF.
     #[inline(never)]
     fn receive_quietly(&mut self, level: Level) -> bool
         ensures quiet { self.old.stage ≡ StageInFrame → self.old.context.role ≡ Receiver → result ≡ true
@@ -76,19 +73,14 @@ impl Node {
         ensures shown { result ≡ true → ShowsSame self.old self.new }
         ensures same { result ≡ false → self.new ≡ self.old }
     {
-        if self.acknowledges() {
+        if self.acknowledges() || self.shift.frame_is_next() {
             return false;
         }
-        let before = self.shift;
-        match receive(&mut self.shift, Level::Recessive, level) {
-            AfterBit::InPiece(_) => {
-                self.next = self.acknowledgement();
-                true
-            }
-            AfterBit::Ended(_) => {
-                self.shift = before;
-                false
-            }
+        if self.shift.take_past(level) {
+            self.next = self.acknowledgement();
+            true
+        } else {
+            false
         }
     }
 
@@ -100,7 +92,8 @@ impl Node {
         !self.next.is_recessive()
     }
 
-    /// A transmitter's bit that is seen as driven, where the reader doesn't take it at once.
+    /// A transmitter's bit past the stuffed part that is seen as driven, but for the last one, and the ACK slot where that
+    /// is an ACK error.
     #[inline(never)]
     fn transmit_quietly(&mut self) -> bool
         ensures quiet { self.old.stage ≡ StageInFrame → self.old.context.role ≡ Transmitter → result ≡ true
@@ -108,30 +101,14 @@ impl Node {
         ensures shown { result ≡ true → ShowsSame self.old self.new }
         ensures same { result ≡ false → self.new ≡ self.old }
     {
-        let before = self.shift;
-        let level = self.next;
-        let after = match &self.context.held {
-            Some(request) => {
-                transmit(
-                    &mut self.shift,
-                    request,
-                    self.context.self_test,
-                    false,
-                    level,
-                    level,
-                )
-            }
-            None => return false,
-        };
-        match after {
-            AfterBit::InPiece(_) => {
-                self.next = self.shift.next_of(&self.body);
-                true
-            }
-            AfterBit::Ended(_) => {
-                self.shift = before;
-                false
-            }
+        if self.shift.ack_is_due() && !self.context.self_test {
+            return false;
+        }
+        if self.shift.take_past(self.next) {
+            self.next = self.shift.next_of(&self.body);
+            true
+        } else {
+            false
         }
     }
 

@@ -4,7 +4,8 @@ use Rattle.can_bits.specs.declared.shift.Shift.{Shift}
 use Rattle.can_node.specs.declared.node.Node.{Node}
 use Rattle.can_node.specs.Stands.{Samples, nothing, is_receiving}
 use Rattle.can_node.proofs.Machine.Quiet.{quietly}
-use Rattle.can_node.proofs.Machine.QuietFrames.{receives_inside, transmits_inside}
+use Rattle.can_node.proofs.Machine.QuietReceiver.{receives_inside}
+use Rattle.can_node.proofs.Machine.QuietTransmitter.{transmits_inside}
 use Rattle.can_node.proofs.node.Node.frame_bit_quietly.Goals as goal
 
 -- src/quiet.rt
