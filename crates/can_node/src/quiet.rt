@@ -46,7 +46,6 @@ impl Node {
         match self.context.role {
             Role::Receiver => {
                 if self.shift.take_inside(level) {
-                    self.next = Level::Recessive;
                     true
                 } else {
                     self.receive_quietly(level)

@@ -93,7 +93,7 @@ receives_quietly old shift next seen c place bits stage receiver recessive at ke
           (answers reading.stands));
     }
 
--- a right level of the stuffed part
+-- a right level of the stuffed part: the node drives recessive there, and goes on so
 pub receives_inside : (old : Node) (shift : Shift) (seen : Level) → old.stage ≡ StageInFrame →
     old.context.role ≡ Receiver →
     ((l : List Level) → StandsFor old.shift l → IsRightInside l seen) →
@@ -101,7 +101,7 @@ pub receives_inside : (old : Node) (shift : Shift) (seen : Level) → old.stage 
     ((l : List Level) → StandsFor old.shift l →
     IsReadable (l ++ seen ∷ []) × ShowsFrame (l ++ seen ∷ []) None × (¬ IsOver (l ++ seen ∷ [])) × ¬ IsAckDue
     (l ++ seen ∷ [])) →
-    IsQuiet old (record old { shift = shift; next = Recessive }) seen
+    IsQuiet old (record old { shift = shift }) seen
 receives_inside old shift seen stage receiver right stands inside c place bits at kept body drives =
     let now = context_of old.context in
     let l = seen_of (frame_bits place bits) in
@@ -110,13 +110,14 @@ receives_inside old shift seen stage receiver right stands inside c place bits a
     acknowledges_once now.listen l old.next Recessive
     (answers_at old.shift c now place bits old.next receiver reading drives)
     (quiet now.listen l (inside_not_due l seen (right l reading.stands))) in
-    receives_quietly old shift Recessive seen c place bits stage receiver recessive at kept drives stands
+    let Answers : Level → Type 0 = λ x. Acknowledges now.listen (l ++ seen ∷ []) x in
+    receives_quietly old shift old.next seen c place bits stage receiver recessive at kept drives stands
     (λ c place bits stood h answers.
     (let m = seen_of (frame_bits place bits) in
     let on = inside m stood in
     goes_on c place bits (record { driven = old.next; seen = seen }) h answers
     (not_lost_driven (record { driven = old.next; seen = seen }) recessive) on.0 on.1))
-    (λ stood. quiet now.listen (l ++ seen ∷ []) (inside l stood).3)
+    (λ stood. subst Answers (sym recessive) (quiet now.listen (l ++ seen ∷ []) (inside l stood).3))
 
 -- no frame is shown where none has come
 shows_none : (l : List Level) → ((f : FrameValue) × IsLineButFor 1 f l → ⊥) → ShowsFrame l None
