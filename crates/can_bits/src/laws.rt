@@ -30,7 +30,8 @@ pub fn a_frame_has_one_sent_line()
     ensures { (f : FrameValue) (l m : List Level) → IsSentLine f l → IsSentLine f m → l ≡ m }
 {}
 
-/// Levels that begin dominant, have no six equal ones in a row and aren't past a whole stuffed part can go on to a line.
+/// Levels that begin dominant, have no six equal ones in a row and aren't past a whole stuffed part can go on to a
+/// line.
 pub fn a_good_beginning_can_go_on()
     ensures { (l : List Level) → BeginsDominant l → HasNoSixEqual l → ¬ IsPastPart l → IsOpen l }
 {}
@@ -49,7 +50,8 @@ pub fn lines_with_the_same_levels_are_of_one_frame()
         → (f ≡ g) × (b ≡ d) × (c ≡ e) × (length rest ≡ 1) }
 {}
 
-/// A place code is the place of the next level in the arbitration field, counted without stuff bits; a stuff bit has none.
+/// A place code is the place of the next level in the arbitration field, counted without stuff bits; a stuff bit has
+/// none.
 pub fn a_place_code_counts_no_stuff_bits()
     ensures { (ext : Bool) (l : List Level) (code : ℕ) → (place_code ext l ≡ Some code) ↔ IsAtPlace ext l code }
 {}

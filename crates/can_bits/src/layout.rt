@@ -1,5 +1,5 @@
-//! Where the fields of a body stand, by the format. A place counts levels from SOF on, without stuff bits (Bosch CAN 2.0
-//! part B section 3.2):
+//! Where the fields of a body stand, by the format. A place counts levels from SOF on, without stuff bits (Bosch
+//! CAN 2.0 part B section 3.2):
 //!
 //! | Standard | | Extended | |
 //! |---|---|---|---|

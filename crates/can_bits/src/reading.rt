@@ -29,7 +29,8 @@ pub fn read_line(levels: &[Level]) -> Result<Frame, LineFault>
     ensures fault_only { (e : Fault) → IsFirstFault levels.now e → result ≡ Err e }
 
     // the line of a frame, acknowledged, gives the frame again
-    ensures sent { (f : FrameValue) (l : List Bus) → IsSentLine f l → levels.now ≡ slice_set l (length l - 9) Level.Dominant
+    ensures sent { (f : FrameValue) (l : List Bus) → IsSentLine f l
+        → levels.now ≡ slice_set l (length l - 9) Level.Dominant
         → result ≡ Ok f }
 {
     run(levels)

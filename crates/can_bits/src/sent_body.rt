@@ -35,7 +35,8 @@ impl SentBody {
         SentBody { word: 0, length: 0 }
     }
 
-    /// The packed body of a frame: SOF, arbitration field, control field and data field (Bosch CAN 2.0 part B section 3.2).
+    /// The packed body of a frame: SOF, arbitration field, control field and data field (Bosch CAN 2.0 part B
+    /// section 3.2).
     pub fn of(frame: &Frame) -> SentBody
         ensures packs { IsSentBody result frame.now }
         ensures valid { IsFrame frame.now }
@@ -49,7 +50,8 @@ impl SentBody {
 
     /// SOF, arbitration field and reserved bits.
     fn head_of(frame: &Frame) -> SentBody
-        ensures { Packs result.word result.length (head_bits frame.now.ext frame.now.id frame.now.rtr Recessive Dominant Dominant) }
+        ensures { Packs result.word result.length
+            (head_bits frame.now.ext frame.now.id frame.now.rtr Recessive Dominant Dominant) }
     {
         let start = SentBody { word: 0, length: 1 };
         let rtr = u32::from(Level::of(frame.rtr()).digit());

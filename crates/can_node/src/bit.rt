@@ -31,8 +31,8 @@ impl Node {
     ghost use Rattle.can_node.specs.Machine.Stages.{At, IsReading};
     ghost use Rattle.can_node.specs.Machine.Turns.{IsTurn, TurnsFrom};
 
-    /// Sees the level of the bus in this bit, as [`sample`](Node::sample) does, by the general way alone: for a bit that
-    /// isn't quiet.
+    /// Sees the level of the bus in this bit, as [`sample`](Node::sample) does, by the general way alone: for a bit
+    /// that isn't quiet.
     #[inline(never)]
     pub fn sample_fully(&mut self, level: Level) -> BitEvents
         ensures samples { Samples self.old self.new level result }
@@ -69,7 +69,8 @@ impl Node {
     /// What a bit makes of the piece under way, by the node's stage; arbitration is lost in it or not.
     fn after_bit(&mut self, driven: Level, seen: Level, lost: bool) -> AfterBit
         ensures kept { self.new ≡ record self.old { shift = self.new.shift } }
-        ensures turn { TurnsFrom (λ c place bits. At self.old.stage self.old.shift c (context_of self.old.context) place bits)
+        ensures turn { TurnsFrom
+            (λ c place bits. At self.old.stage self.old.shift c (context_of self.old.context) place bits)
             self.old self.new.shift driven seen lost result }
     {
         match self.stage {

@@ -82,8 +82,8 @@ impl Node {
         self.next
     }
 
-    /// Sees the level of the bus in this bit, in which the node drove what [`drive`](Node::drive) says; in reset it looks
-    /// at no level. A caller for whom a bit without events is no more than that calls
+    /// Sees the level of the bus in this bit, in which the node drove what [`drive`](Node::drive) says; in reset it
+    /// looks at no level. A caller for whom a bit without events is no more than that calls
     /// [`sample_quietly`](Node::sample_quietly) first, and [`sample_fully`](Node::sample_fully) where that one answers
     /// false.
     pub fn sample(&mut self, level: Level) -> BitEvents

@@ -91,8 +91,8 @@ impl Node {
         !self.next.is_recessive()
     }
 
-    /// A transmitter's bit past the stuffed part that is seen as driven, but for the last one, and the ACK slot where that
-    /// is an ACK error.
+    /// A transmitter's bit past the stuffed part that is seen as driven, but for the last one, and the ACK slot where
+    /// that is an ACK error.
     #[inline(never)]
     fn transmit_quietly(&mut self) -> bool
         ensures quiet { self.old.stage ≡ StageInFrame → self.old.context.role ≡ Transmitter → result ≡ true

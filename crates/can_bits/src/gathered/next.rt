@@ -42,7 +42,8 @@ impl Gathered {
     /// The place code of the next level.
     pub fn place_code(&self, ext: bool) -> Option<u8>
         ensures { (w : List Bus) → Gathers self.now w
-            → result ≡ (if nat_lt 0 (length w) && nat_le (length w) (rtr_place ext) then Some (length w - 1) else None) }
+            → result ≡ (if nat_lt 0 (length w) && nat_le (length w) (rtr_place ext) then Some (length w - 1)
+            else None) }
     {
         if self.is_early(ext) {
             self.place.checked_sub(1)

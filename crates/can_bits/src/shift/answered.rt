@@ -17,7 +17,8 @@ impl Shift {
     #[inline(always)]
     pub fn take_answered(&mut self, level: Level) -> Result<(), LineFault>
         ensures stands { (l : List Bus) → StandsFor self.old l → StandsFor self.new (l ++ level ∷ []) }
-        ensures good { OnOk result ((l : List Bus) → StandsFor self.old l → IsFaultless l → IsFaultless (l ++ level ∷ [])) }
+        ensures good { OnOk result ((l : List Bus) → StandsFor self.old l → IsFaultless l
+            → IsFaultless (l ++ level ∷ [])) }
         ensures fault { IfErr result (λ e. (l later : List Bus) → StandsFor self.old l → IsFaultless l
             → IsFirstFault (l ++ level ∷ later) e) }
     {
@@ -31,7 +32,8 @@ impl Shift {
     /// The same, for any level.
     fn advance_answered(&mut self, level: Level) -> Result<(), LineFault>
         ensures stands { (l : List Bus) → StandsFor self.old l → StandsFor self.new (l ++ level ∷ []) }
-        ensures good { OnOk result ((l : List Bus) → StandsFor self.old l → IsFaultless l → IsFaultless (l ++ level ∷ [])) }
+        ensures good { OnOk result ((l : List Bus) → StandsFor self.old l → IsFaultless l
+            → IsFaultless (l ++ level ∷ [])) }
         ensures fault { IfErr result (λ e. (l later : List Bus) → StandsFor self.old l → IsFaultless l
             → IsFirstFault (l ++ level ∷ later) e) }
     {

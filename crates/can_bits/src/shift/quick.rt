@@ -12,8 +12,8 @@ impl Shift {
     ghost use Rattle.can_bits.specs.Shifts.{StandsFor};
 
     /// Takes the next level where it is right and belongs to the stuffed part, past SOF. Answers whether it did: then
-    /// there is nothing to tell of it, no fault and no frame, and the line isn't over, nor is an ACK due. Else the reader
-    /// is what it was (this project's own rule).
+    /// there is nothing to tell of it, no fault and no frame, and the line isn't over, nor is an ACK due. Else the
+    /// reader is what it was (this project's own rule).
     #[inline(always)]
     pub fn take_inside(&mut self, level: Level) -> bool
         ensures exactly { (l : List Bus) → StandsFor self.old l → IsTrue result ↔ IsRightInside l level }

@@ -12,8 +12,8 @@ impl Shift {
     ghost use Rattle.can_bits.specs.Machine.FrameParts.{ReadsAt};
     ghost use Rattle.can_bits.specs.Shifts.{StandsFor};
 
-    /// Takes the next level where it is right and stands after the stuffed part, before the last one of the line. Answers
-    /// whether it did; else the reader is what it was (this project's own rule).
+    /// Takes the next level where it is right and stands after the stuffed part, before the last one of the line.
+    /// Answers whether it did; else the reader is what it was (this project's own rule).
     #[inline(always)]
     pub fn take_past(&mut self, level: Level) -> bool
         ensures exactly { (l : List Bus) → StandsFor self.old l → IsTrue result ↔ IsRightPast l level }

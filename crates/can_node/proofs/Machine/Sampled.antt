@@ -42,7 +42,8 @@ abbrev context_in : {entries : List Entry} {found : List FinishedPiece} → IsCu
     ContextValue
 context_in cut turn b = resulted turn (at_bit (now_in cut) cut.place (open_bits cut) b)
 
--- what the steps of a bit say together: the level driven, what came of the piece, where the node then stands, and bus-off
+-- what the steps of a bit say together: the level driven, what came of the piece, where the node then stands, and
+-- bus-off
 pub record IsDone (old new : Node) (entries : List Entry) (found : List FinishedPiece) (h : StandsAt old entries found)
     (b : Bit) (turn : AfterBit)
     (stage : Stage) (reader shift : Shift) : Type 0 where

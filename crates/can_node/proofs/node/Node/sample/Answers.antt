@@ -12,7 +12,8 @@ quick c =
     let old = c.args.self.now in
     let shown = c.sample_quietly.ensures.shown c.if-sample_quietly.true in
     let told : nothing (is_receiving old) ≡ c.nothing.result =
-    sym (c.nothing.ensures ∙ ap (λ t. nothing (not t)) c.is_transmitter.ensures ∙ ap (λ t. nothing t) shown.receiving) in
+    sym (c.nothing.ensures ∙ ap (λ t. nothing (not t)) c.is_transmitter.ensures
+    ∙ ap (λ t. nothing t) shown.receiving) in
     let P : BitEvents → Type 0 = λ e. Samples old c.sample_quietly.new.self c.args.level e in
     subst P told (c.sample_quietly.ensures.quiet c.if-sample_quietly.true)
 
@@ -32,9 +33,11 @@ returns-else-sample_quietly-clause-samples c = general c
 pub returns-then-sample_quietly-clause-rests : goal.returns-then-sample_quietly-clause-rests
 returns-then-sample_quietly-clause-rests c = λ reset entries found h.
     let old = c.args.self.now in
-    rests_at old c.sample_quietly.new.self entries found h c.args.level c.nothing.result reset old.next h.next (quick c entries found h old.next h.next)
+    rests_at old c.sample_quietly.new.self entries found h c.args.level c.nothing.result reset old.next h.next
+    (quick c entries found h old.next h.next)
 
 pub returns-else-sample_quietly-clause-rests : goal.returns-else-sample_quietly-clause-rests
 returns-else-sample_quietly-clause-rests c = λ reset entries found h.
     let old = c.args.self.now in
-    rests_at old c.sample_fully.new.self entries found h c.args.level c.sample_fully.result reset old.next h.next (general c entries found h old.next h.next)
+    rests_at old c.sample_fully.new.self entries found h c.args.level c.sample_fully.result reset old.next h.next
+    (general c entries found h old.next h.next)
