@@ -84,6 +84,7 @@ module _ {E : Type 0} (stands : E → Lists → Type 0) (dry full : E → Type 0
           told = r.pulls.told;
           off_is = r.pulls.off_is;
         };
+        still = tt;
         port = refl;
         fits = tt;
         sees = subst (λ (x : Bool). Sees Release x (m ∷ held_in e) (ReleasedAnswer (length m))) (sym on) refl;
@@ -99,17 +100,21 @@ module _ {E : Type 0} (stands : E → Lists → Type 0) (dry full : E → Type 0
 
   pub unmet_acts : link_in e ≡ link_in d → Pulls stands old mid (held_in d) (held_in b) (off_in d) (off_in b) →
       Pulls stands mid new (held_in b) (held_in e) (off_in b) (off_in e) →
-      Refuses stands dry full mid (off_in e) (held_in e) →
+      (off_in e ≡ false) × Refuses stands dry full mid (off_in e) (held_in e) →
       (p : Registers) → Acts stands dry full old new p p Release (InActive d) (InActive e) Unmet
   unmet_acts same look more refuses p = record {
     does = does_pull stands old new (held_in d) (held_in e) (off_in d) (off_in e)
         (pulls_trans stands old mid new (held_in d) (held_in b) (held_in e) (off_in d) (off_in b) (off_in e) look more);
+    still = tt;
     port = refl;
     fits = tt;
     sees = tt;
     tells = tt;
     looks = tt;
-    waits = refuse_after stands dry full old mid (held_in d) (held_in b) (held_in e) (off_in d) (off_in b) (off_in e) look refuses;
+    waits = (
+      refuses.0,
+      refuse_after stands dry full old mid (held_in d) (held_in b) (held_in e) (off_in d) (off_in b) (off_in e) look (refuses.1),
+    );
     kind = tt;
     out = refl;
     opens = ap (λ i. i.activation) same;
@@ -125,6 +130,7 @@ module _ {E : Type 0} (stands : E → Lists → Type 0) (dry full : E → Type 0
       let pulls = pulls_trans stands old mid new (held_in d) (held_in b) (held_in e) (off_in d) (off_in b) (off_in e) look more in
       record {
         does = does_pull stands old new (held_in d) (held_in e) (off_in d) (off_in e) pulls;
+        still = tt;
         port = refl;
         fits = tt;
         sees = subst (λ (x : Bool). Sees Release x (held_in e) (Refused Stopped)) (sym off) refl;

@@ -1,18 +1,22 @@
 -- A try of a step at an end and a port (this project's own rule).
-use Rattle.std.specs.Prelude.{◌≡◌, ◌+◌, ◌<◌, ◌++◌, ℕ, Bool, true, false, List, length}
+use Rattle.std.specs.Prelude.{◌≡◌, ◌+◌, ◌<◌, ◌++◌, ℕ, Bool, true, false, None, List, length}
 use Rattle.sja_link.specs.declared.down.Down.{Down}
 use Rattle.sja_link.specs.declared.up.Up.{Up}
 use Rattle.sja_link.specs.Lists.{Lists, messages}
 use Rattle.sja_link.specs.Looking.{Pulls, IsTaken, Refuses, off_among}
 use Rattle.sja_regs.specs.declared.registers.Registers.{Registers}
+use Rattle.sja_regs.specs.Commands.{command_of, requests, command_faults}
+use Rattle.sja_regs.specs.Refusals.{first_fault}
 use Rattle.sja_script.specs.declared.step.Step.{Step}
-use Rattle.sja_script.specs.declared.step.Step.TheVariants.{Start, Stop, Window, Release, Read, Command, Await, Sent}
+use Rattle.sja_script.specs.declared.step.Step.TheVariants.{Start, Stop, Window, Release, Read, Write, Load, Command, Await, Sent}
 use Rattle.sja_driver.specs.declared.any_driver.AnyDriver.{AnyDriver}
 use Rattle.sja_driver.specs.declared.any_driver.AnyDriver.TheVariants.{InReset, InActive}
 use Rattle.sja_driver.specs.declared.tried.Tried.{Tried}
 use Rattle.sja_driver.specs.AnyDrivers.{is_out, opened_of, held_of, off_of, seen_by, IsDriverOf}
 use Rattle.sja_driver.specs.Carried.{Sees, Tells}
 use Rattle.sja_driver.specs.Deeds.{FitsState}
+use Rattle.sja_driver.specs.Drivers.{started_in, held_in, off_in}
+use Rattle.sja_driver.specs.Giving.{IsGiven}
 use Rattle.sja_driver.specs.Tries.{IfAnswered, IfUnmet, IsOf, ended_by, released_by, gave_by, port_after, held_after, off_after, window_after, opened_after, is_out_after, IsQuiet}
 
 -- with items got, and items given
@@ -49,17 +53,31 @@ IfLooking (Await count) P = P
 IfLooking Sent P = P
 IfLooking other P = Unit {0}
 
--- why a step is to be tried again: the end gave its item back; or fewer messages are at the driver's end than it waits
--- for, or TBS is 0, and the bits aren't spent. No other step is ever tried again
+-- P, where the step takes in nothing: just its item is given then, and what is held stays
+abbrev pub IfTakingNothing : Step → Type 0 → Type 0
+IfTakingNothing Start P = P
+IfTakingNothing Stop P = P
+IfTakingNothing (Write address value) P = P
+IfTakingNothing (Load m) P = P
+IfTakingNothing (Command value) P = P
+IfTakingNothing other P = Unit {0}
+
+-- why a step is to be tried again. A start in reset with an activation left, a stop, and a release where bus-off isn't
+-- known and a message is held: the end gave its item back. A command that the port doesn't refuse: the end gave its
+-- request back. A wait: all that the end showed was taken in, the bits aren't spent, and fewer messages are at the
+-- driver's end than it waits for, or TBS is 0. No other step is ever tried again, and in reset none but the start
 abbrev pub Waits : {E : Type 0} → (E → Lists → Type 0) → (E → Type 0) → (E → Type 0) → E → Registers → Step →
     AnyDriver → AnyDriver → Type 0
-Waits stands dry full old p Start was now = full old
-Waits stands dry full old p Stop was now = full old
-Waits stands dry full old p Release was now = Refuses stands dry full old (off_of now) (held_of now)
-Waits stands dry full old p (Command value) was now = full old
-Waits stands dry full old p (Await count) was now = (p.closed ≡ false) × (off_of now ≡ false)
-    × (length (held_of now) < count) × Looks stands dry old (held_of was) (held_of now) (off_of was) (off_of now)
-Waits stands dry full old p Sent was now = (p.closed ≡ false) × (p.tbs ≡ false)
+Waits stands dry full old p Start (InReset was) now = (started_in was < 8) × full old
+Waits stands dry full old p Stop (InActive was) now = full old
+Waits stands dry full old p Release (InActive was) now = (off_of now ≡ false)
+    × Refuses stands dry full old (off_of now) (held_of now)
+Waits stands dry full old p (Command value) (InActive was) now = full old × (requests (command_of value) ≡ true)
+    × (first_fault (command_faults p (command_of value)) ≡ None)
+Waits stands dry full old p (Await count) (InActive was) now = (p.closed ≡ false) × (off_of now ≡ false)
+    × (length (held_of now) < count) × Looks stands dry old (held_in was) (held_of now) (off_in was) (off_of now)
+Waits stands dry full old p Sent (InActive was) now = (p.closed ≡ false) × (p.tbs ≡ false)
+    × Looks stands dry old (held_in was) (held_of now) (off_in was) (off_of now)
 Waits stands dry full old p other was now = ⊥
 
 -- a driver tried a step at its end, and at a port whose registers it found as p and left as q
@@ -68,6 +86,8 @@ pub record Acts {E : Type 0} (stands : E → Lists → Type 0) (dry full : E →
   -- what was got, given, released and held
   pub does : Does stands old new (held_of was) (held_after now o) (off_of was) (off_after now o) (released_by o)
       (gave_by p step o)
+  pub still : IfTakingNothing step (IsGiven stands old new (gave_by p step o) × (held_after now o ≡ held_of was)
+      × (off_after now o ≡ off_of was))
   -- the registers
   pub port : q ≡ port_after p step o
   -- the answer, by the state, by the window and by the registers

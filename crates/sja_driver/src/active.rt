@@ -7,7 +7,7 @@ ghost use Rattle.sja_link.specs.DriverLedgers.{link_of, held_by, knows_off};
 ghost use Rattle.sja_link.specs.Looking.{Pulls, IsTaken, Releases, Refuses};
 ghost use Rattle.sja_link.specs.Showing.{seen_of};
 ghost use Rattle.sja_regs.specs.Addresses.{register_at};
-ghost use Rattle.sja_regs.specs.Commands.{command_of, command_faults, after_command};
+ghost use Rattle.sja_regs.specs.Commands.{command_of, requests, command_faults, after_command};
 ghost use Rattle.sja_regs.specs.Reading.{value_at, after_reading_at, or_no_register};
 ghost use Rattle.sja_regs.specs.Refusals.{first_fault, fault_of};
 ghost use Rattle.sja_regs.specs.Registers.{after_entering_reset};
@@ -244,7 +244,7 @@ impl Driver<Active> {
         ensures kept { OnErr result (IsGiven E.stands end.old end.new []) }
         ensures done { OnOk result (port.new ≡ after_command port.old (command_of value)) }
         ensures unchanged { OnErr result (port.new ≡ port.old) }
-        ensures busy { result ≡ Err Busy → E.full end.old }
+        ensures busy { result ≡ Err Busy → E.full end.old × (requests (command_of value) ≡ true) }
     {
         let request = match port.plan_command(value) {
             Ok(request) => request,

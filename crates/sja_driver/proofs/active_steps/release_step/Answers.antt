@@ -19,7 +19,7 @@ returns-in-Err-Busy-clause-acts g c =
     let e = g.E.DriverEnd in
     unmet_acts e.stands e.dry e.full _ _ _ c.args.driver c.look.new.self c.release.new.self
     (c.release.ensures.link ∙ c.look.ensures.link) c.look.ensures.got c.in-Err-Busy.ensures.err
-    ((c.in-Err-Busy.ensures.busy (ap (λ x. Err x) c.in-Err-Busy.field-0-is)).1)
+    (c.in-Err-Busy.ensures.busy (ap (λ x. Err x) c.in-Err-Busy.field-0-is))
 
 pub returns-in-Err-Stopped-clause-acts : goal.returns-in-Err-Stopped-clause-acts
 returns-in-Err-Stopped-clause-acts g c = λ p.
