@@ -5,6 +5,7 @@ pub mod Reading
 pub mod Lawfuls
 pub mod Moving
 pub mod Seating
+pub mod Takings
 pub mod Bits
 pub mod Quiet
 pub mod Linking

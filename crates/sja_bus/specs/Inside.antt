@@ -1,6 +1,7 @@
 -- How the code keeps a bus.
 pub mod Following
 pub mod Seats
+pub mod Taking
 pub mod Rows
 pub mod Whole
 pub mod Ending

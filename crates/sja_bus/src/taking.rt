@@ -12,23 +12,19 @@ impl Seat {
     ghost use Rattle.sja_link.specs.declared.up.Up.TheVariants.{Start, Credit, Send, Stop};
     ghost use Rattle.sja_link.specs.declared.entry.Entry.TheVariants.{Up as Item};
     ghost use Rattle.sja_link.specs.declared.up.Up.{Up as Given};
-    ghost use Rattle.sja_link.specs.Places.{past, place_of};
     ghost use Rattle.sja_link.specs.BusLedgers.{link_of, free_in};
     ghost use Rattle.sja_bus.specs.Links.{Moves};
     ghost use Rattle.sja_bus.specs.Inside.Seats.{IsSound, IsOwed, IsSeat};
+    ghost use Rattle.sja_bus.specs.Inside.Taking.{Takes};
 
     /// A start was taken.
     fn begin(&mut self, config: Config) -> Result<(), BusFault>
         requires owed { IsOwed self.old (Item (Start config)) }
         requires seat { IsSeat self.old }
         requires more { self.old.ended < 8 }
-        ensures sound { OnOk result (IsSound self.new) }
-        ensures seat { OnOk result (IsSeat self.new) }
         ensures node { (link_of self.new.ledger).node ≡ (link_of self.old.ledger).node }
         ensures room { self.new.journal.room ≡ self.old.journal.room }
-        ensures fits { OnOk result (length self.old.journal.entries < self.old.journal.room) }
-        ensures stands { OnOk result ((past (place_of self.old.journal.entries) (Item (Start config))).activation ≡ suc self.old.ended) }
-        ensures entered { OnOk result (self.new.journal.entries ≡ self.old.journal.entries ++ Item (Start config) ∷ []) }
+        ensures takes { OnOk result (Takes self.old self.new (Start config)) }
     {
         let Activity::Between = self.activity else {
             return Err(BusFault::BadOrder(self.number()));
@@ -43,13 +39,9 @@ impl Seat {
         requires owed { IsOwed self.old (Item (Credit bytes)) }
         requires seat { IsSeat self.old }
         requires more { self.old.ended < 8 }
-        ensures sound { OnOk result (IsSound self.new) }
-        ensures seat { OnOk result (IsSeat self.new) }
         ensures node { (link_of self.new.ledger).node ≡ (link_of self.old.ledger).node }
         ensures room { self.new.journal.room ≡ self.old.journal.room }
-        ensures fits { OnOk result (length self.old.journal.entries < self.old.journal.room) }
-        ensures stands { OnOk result ((past (place_of self.old.journal.entries) (Item (Credit bytes))).activation ≡ suc self.old.ended) }
-        ensures entered { OnOk result (self.new.journal.entries ≡ self.old.journal.entries ++ Item (Credit bytes) ∷ []) }
+        ensures takes { OnOk result (Takes self.old self.new (Credit bytes)) }
     {
         if let Activity::Between = self.activity {
             return Err(BusFault::BadOrder(self.number()));
@@ -62,13 +54,9 @@ impl Seat {
         requires owed { IsOwed self.old (Item (Send request)) }
         requires seat { IsSeat self.old }
         requires more { self.old.ended < 8 }
-        ensures sound { OnOk result (IsSound self.new) }
-        ensures seat { OnOk result (IsSeat self.new) }
         ensures node { (link_of self.new.ledger).node ≡ (link_of self.old.ledger).node }
         ensures room { self.new.journal.room ≡ self.old.journal.room }
-        ensures fits { OnOk result (length self.old.journal.entries < self.old.journal.room) }
-        ensures stands { OnOk result ((past (place_of self.old.journal.entries) (Item (Send request))).activation ≡ suc self.old.ended) }
-        ensures entered { OnOk result (self.new.journal.entries ≡ self.old.journal.entries ++ Item (Send request) ∷ []) }
+        ensures takes { OnOk result (Takes self.old self.new (Send request)) }
     {
         match self.activity {
             Activity::Running(_) => match self.node.request(request.copy()) {
@@ -88,13 +76,9 @@ impl Seat {
         requires owed { IsOwed self.old (Item Stop) }
         requires seat { IsSeat self.old }
         requires more { self.old.ended < 8 }
-        ensures sound { OnOk result (IsSound self.new) }
-        ensures seat { OnOk result (IsSeat self.new) }
         ensures node { (link_of self.new.ledger).node ≡ (link_of self.old.ledger).node }
         ensures room { self.new.journal.room ≡ self.old.journal.room }
-        ensures fits { OnOk result (length self.old.journal.entries < self.old.journal.room) }
-        ensures stands { OnOk result ((past (place_of self.old.journal.entries) (Item Stop)).activation ≡ suc self.old.ended) }
-        ensures entered { OnOk result (self.new.journal.entries ≡ self.old.journal.entries ++ Item Stop ∷ []) }
+        ensures takes { OnOk result (Takes self.old self.new Stop) }
     {
         if let Activity::Between = self.activity {
             return Err(BusFault::BadOrder(self.number()));
@@ -114,13 +98,9 @@ impl Seat {
         requires owed { IsOwed self.old (Item item) }
         requires seat { IsSeat self.old }
         requires more { self.old.ended < 8 }
-        ensures sound { OnOk result (IsSound self.new) }
-        ensures seat { OnOk result (IsSeat self.new) }
         ensures node { (link_of self.new.ledger).node ≡ (link_of self.old.ledger).node }
         ensures room { self.new.journal.room ≡ self.old.journal.room }
-        ensures fits { OnOk result (length self.old.journal.entries < self.old.journal.room) }
-        ensures stands { OnOk result ((past (place_of self.old.journal.entries) (Item item)).activation ≡ suc self.old.ended) }
-        ensures entered { OnOk result (self.new.journal.entries ≡ self.old.journal.entries ++ Item item ∷ []) }
+        ensures takes { OnOk result (Takes self.old self.new item) }
     {
         match item {
             Up::Start(config) => self.begin(config),

@@ -1,31 +1,38 @@
-use Rattle.std.proofs.Common.{◌≡◌, ℕ, suc, ◌+◌, ◌<◌, ◌≤◌, Bool, true, false, List, [], ◌∷◌, ◌++◌, length, rules, arith, refl, sym, ap, ◌∙◌, subst}
+use Rattle.std.proofs.Common.{[], ◌∷◌, ◌++◌, refl, sym, subst}
 use Rattle.sja_link.specs.BusLedgers.{free_in}
 use Rattle.sja_link.specs.declared.up.Up.TheVariants.{Send}
 use Rattle.sja_link.specs.declared.entry.Entry.TheVariants.{Up as Item}
 use Rattle.sja_bus.specs.declared.activity.Activity.{Activity}
+use Rattle.sja_bus.specs.declared.activity.Activity.TheVariants.{Running, Off, OffAndAsked}
 use Rattle.sja_bus.specs.Inside.Following.{Reads}
-use Rattle.sja_bus.proofs.Lists.{ok_map}
 use Rattle.sja_bus.proofs.Steps.{follows_send, follows_drop}
-use Rattle.sja_bus.proofs.Reading.{reads_ask, reads_drop}
+use Rattle.sja_bus.proofs.Reading.{reads_ask, reads_drop, here_in}
+use Rattle.sja_bus.proofs.Takings.{seat_entered, takes_entered}
 use Rattle.sja_bus.proofs.seat.Seat.ask.Goals as goal
 
-pub returns-in-Ok-clause-sound : goal.returns-in-Ok-clause-sound
-returns-in-Ok-clause-sound c =
-    let was = c.args.self.now in let j = was.journal.entries in let owed = c.requires.owed in
+pub returns-in-Ok-clause-takes : goal.returns-in-Ok-clause-takes
+returns-in-Ok-clause-takes c =
+    let was = c.args.self.now in let j = was.journal.entries in let owed = c.requires.owed in let seat = c.requires.seat in
+    let new = c.enter.new.self in let filter = c.in-Running.field-0 in
     let P : Activity → Type 0 = λ a. Reads was.node j was.ended a owed.free in
     let reads = subst P c.in-Running.is owed.reads in
     let Q : Activity → Type 0 = λ a. Reads c.request.new.self (j ++ Item (Send c.args.request) ∷ []) was.ended a (free_in was.ledger) in
     let took = rw c.copy.ensures at c.in-Ok.ensures in
-    ok_map c.enter.result
+    takes_entered c.enter.result was new (Send c.args.request) c.enter.ensures.sound
     (λ f. f (follows_send was.node c.request.new.self j c.args.request reads.active.0 took owed.follows)
-    (subst Q (sym c.in-Running.is) (reads_ask was.node c.request.new.self j c.args.request was.ended c.in-Running.field-0 owed.free (free_in was.ledger) owed.pays reads)))
-    c.enter.ensures.sound
+    (subst Q (sym c.in-Running.is) (reads_ask was.node c.request.new.self j c.args.request was.ended filter owed.free (free_in was.ledger) owed.pays reads)))
+    (seat_entered (record was { node = c.request.new.self }) new c.enter.ensures.others (record { own = seat.own; few = seat.few; runs = seat.runs }))
+    (here_in (Running filter) was.node j was.ended owed.free (Item (Send c.args.request)) (λ p. refl) refl reads)
+    c.enter.ensures.ok
 
-pub returns-in-Off-clause-sound : goal.returns-in-Off-clause-sound
-returns-in-Off-clause-sound c =
-    let was = c.args.self.now in let j = was.journal.entries in let owed = c.requires.owed in
+pub returns-in-Off-clause-takes : goal.returns-in-Off-clause-takes
+returns-in-Off-clause-takes c =
+    let was = c.args.self.now in let j = was.journal.entries in let owed = c.requires.owed in let seat = c.requires.seat in
+    let new = c.enter-in-Off.new.self in
     let P : Activity → Type 0 = λ a. Reads was.node j was.ended a owed.free in
     let reads = subst P c.in-Off.is owed.reads in
-    ok_map c.enter-in-Off.result
+    takes_entered c.enter-in-Off.result was new (Send c.args.request) c.enter-in-Off.ensures.sound
     (λ f. f (follows_drop was.node j c.args.request reads.active.0 owed.follows) (reads_drop was.node j c.args.request was.ended owed.free (free_in was.ledger) owed.pays reads))
-    c.enter-in-Off.ensures.sound
+    (seat_entered (record was { activity = OffAndAsked }) new c.enter-in-Off.ensures.others (record { own = seat.own; few = seat.few; runs = λ o. c.requires.more }))
+    (here_in Off was.node j was.ended owed.free (Item (Send c.args.request)) (λ p. refl) refl reads)
+    c.enter-in-Off.ensures.ok

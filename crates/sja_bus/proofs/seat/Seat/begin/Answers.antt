@@ -1,18 +1,26 @@
-use Rattle.std.proofs.Common.{◌≡◌, ℕ, suc, ◌+◌, ◌<◌, ◌≤◌, Bool, true, false, List, [], ◌∷◌, ◌++◌, length, rules, arith, refl, sym, ap, ◌∙◌, subst}
+use Rattle.std.proofs.Common.{arith, subst}
+use Rattle.sja_link.specs.declared.up.Up.TheVariants.{Start}
 use Rattle.sja_link.specs.BusLedgers.{free_in}
 use Rattle.sja_bus.specs.declared.activity.Activity.{Activity}
+use Rattle.sja_bus.specs.declared.activity.Activity.TheVariants.{Running}
 use Rattle.sja_bus.specs.Inside.Following.{Reads}
-use Rattle.sja_bus.proofs.Lists.{ok_map}
 use Rattle.sja_bus.proofs.Steps.{follows_start}
 use Rattle.sja_bus.proofs.Reading.{reads_start}
+use Rattle.sja_bus.proofs.Takings.{seat_entered, takes_entered}
 use Rattle.sja_bus.proofs.seat.Seat.begin.Goals as goal
 
-pub returns-clause-sound : goal.returns-clause-sound
-returns-clause-sound c =
-    let was = c.args.self.now in let j = was.journal.entries in let owed = c.requires.owed in
+pub returns-clause-takes : goal.returns-clause-takes
+returns-clause-takes c =
+    let was = c.args.self.now in let j = was.journal.entries in let owed = c.requires.owed in let seat = c.requires.seat in
     let P : Activity → Type 0 = λ a. Reads was.node j was.ended a owed.free in
+    let reads = subst P c.in-Between.is owed.reads in
     let enters = rw c.copy.ensures at c.start.ensures in
-    ok_map c.enter.result
+    let new = c.enter.new.self in
+    let begun = reads.begun in
+    takes_entered c.enter.result was new (Start c.args.config) c.enter.ensures.sound
     (λ f. f (follows_start was.node c.start.new.self j c.args.config enters owed.follows)
-    (reads_start was.node c.start.new.self j c.args.config was.ended owed.free (free_in was.ledger) owed.pays (subst P c.in-Between.is owed.reads)))
-    c.enter.ensures.sound
+    (reads_start was.node c.start.new.self j c.args.config was.ended owed.free (free_in was.ledger) owed.pays reads))
+    (seat_entered (record was { node = c.start.new.self; activity = Running c.args.config.filter }) new c.enter.ensures.others
+    (record { own = seat.own; few = seat.few; runs = λ o. c.requires.more }))
+    (omega (arith, begun))
+    c.enter.ensures.ok

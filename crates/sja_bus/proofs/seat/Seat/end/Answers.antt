@@ -1,28 +1,31 @@
-use Rattle.std.proofs.Common.{◌≡◌, ℕ, suc, ◌+◌, ◌<◌, ◌≤◌, Bool, true, false, List, [], ◌∷◌, ◌++◌, length, rules, arith, refl, sym, ap, ◌∙◌, subst}
-use Rattle.sja_link.specs.BusLedgers.{free_in}
+use Rattle.std.proofs.Common.{◌≡◌, ℕ, suc, ◌+◌, [], ◌∷◌, ◌++◌, refl, arith, ap, ◌∙◌, subst}
 use Rattle.sja_link.specs.declared.up.Up.TheVariants.{Stop}
 use Rattle.sja_link.specs.declared.entry.Entry.TheVariants.{Up as Item}
+use Rattle.sja_link.specs.declared.link_id.LinkId.{LinkId}
 use Rattle.sja_bus.specs.declared.activity.Activity.TheVariants.{Between}
 use Rattle.sja_bus.specs.Inside.Following.{Reads}
-use Rattle.sja_bus.proofs.Lists.{ok_map}
 use Rattle.sja_bus.proofs.Seating.{open_else}
 use Rattle.sja_bus.proofs.Steps.{follows_stop}
 use Rattle.sja_bus.proofs.Reading.{reads_stop, here_in}
+use Rattle.sja_bus.proofs.Takings.{seat_entered, takes_entered}
 use Rattle.sja_bus.proofs.seat.Seat.end.Goals as goal
 
-pub returns-clause-sound : goal.returns-clause-sound
-returns-clause-sound c =
+pub returns-clause-takes : goal.returns-clause-takes
+returns-clause-takes c =
     let was = c.args.self.now in let j = was.journal.entries in let owed = c.requires.owed in
-    let s = reads_stop was.node c.stop.new.self j was.ended was.activity owed.free (open_else was.activity c.in_default.not-Between) c.stop.ensures.reset owed.reads in
+    let new = c.enter.new.self in let ledger = c.new-self.result in
+    let runs = open_else was.activity c.in_default.not-Between in
+    let s = reads_stop was.node c.stop.new.self j was.ended was.activity owed.free runs c.stop.ensures.reset owed.reads in
     let e : suc was.ended ≡ was.ended + 1 = omega arith in
     let P : ℕ → Type 0 = λ n. Reads c.stop.new.self (j ++ Item Stop ∷ []) n Between 64 in
-    ok_map c.enter.result
+    let more = c.requires.more in
+    takes_entered c.enter.result was new Stop c.enter.ensures.sound
     (λ f. f (follows_stop was.node c.stop.new.self j c.stop.ensures.enters owed.follows) (rw (c.new-self.ensures.free) (subst P e s)))
-    c.enter.ensures.sound
-
-pub returns-clause-stands : goal.returns-clause-stands
-returns-clause-stands c =
-    let was = c.args.self.now in let j = was.journal.entries in let owed = c.requires.owed in
-    ok_map c.enter.result
-    (λ e. here_in was.activity was.node j was.ended owed.free (Item Stop) (λ p. refl) (open_else was.activity c.in_default.not-Between) owed.reads)
+    (seat_entered (record was { node = c.stop.new.self; activity = Between; ended = was.ended + 1; ledger = ledger }) new c.enter.ensures.others
+    (record {
+      own = ap (λ (l : LinkId). l.activation) c.new-self.ensures.id ∙ omega arith;
+      few = omega (arith, more);
+      runs = λ o. absurd (omega (arith, o));
+    }))
+    (here_in was.activity was.node j was.ended owed.free (Item Stop) (λ p. refl) runs owed.reads)
     c.enter.ensures.ok
