@@ -104,13 +104,6 @@ items_push j k after u e h = record {
   whole = e ∙ ap (λ l. l ++ Item u ∷ []) h.whole ∙ append_assoc j (entries_of_items h.items) (Item u ∷ []) ∙ ap (λ l. j ++ l) (sym (items_end h.items u));
 }
 
--- an abort that changed nothing, and one that did
-pub abort_none : (j k : List Entry) → k ≡ j → HasAbort j k
-abort_none j k e = record { changed = false; whole = e ∙ sym (append-nil j) }
-
-pub abort_one : (j k : List Entry) → k ≡ j ++ Abort ∷ [] → HasAbort j k
-abort_one j k e = record { changed = true; whole = e }
-
 abort_no_bit : (changed : Bool) → bits_of (abort_as changed) ≡ []
 abort_no_bit true = refl
 abort_no_bit false = refl

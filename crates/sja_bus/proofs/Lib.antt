@@ -7,6 +7,7 @@ pub mod Moving
 pub mod Seating
 pub mod Takings
 pub mod Bits
+pub mod Applying
 pub mod Quiet
 pub mod Linking
 pub mod Marking

@@ -101,11 +101,6 @@ follows_abort old new j Unchanged changed aborts h = absurd (changed refl)
 follows_abort old new j Marked changed aborts h = entered old new j Abort AbortedNow refl (λ p. refl) (λ n. refl) (λ b. (tt, tt)) aborts.0 h
 follows_abort old new j Dropped changed aborts h = entered old new j Abort AbortedNow refl (λ p. refl) (λ n. refl) (λ b. (tt, tt)) aborts.0 h
 
-pub abort_unchanged : (old new : Node) (result : Aborted) → result ≡ Unchanged → Aborts old new result → new ≡ old
-abort_unchanged old new Unchanged e aborts = aborts.0
-abort_unchanged old new Marked e aborts = absurd cc
-abort_unchanged old new Dropped e aborts = absurd cc
-
 -- ---- a bit
 
 -- a frame that a bit at the end of this journal finished

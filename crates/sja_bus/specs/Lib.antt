@@ -5,6 +5,8 @@ pub mod Wire
 pub mod Lawful
 pub mod Resting
 -- ---- what a bit adds to a journal
+pub mod Opening
+pub mod Aborting
 pub mod OneBit
 -- ---- the links and ports of the nodes
 pub mod Links

@@ -7,6 +7,7 @@ use Rattle.sja_link.specs.declared.verdict.Verdict.{Verdict}
 use Rattle.sja_link.specs.declared.entry.Entry.{Entry}
 use Rattle.sja_link.specs.declared.entry.Entry.TheVariants.{Bit, Up as Item, Abort, Off}
 use Rattle.sja_link.specs.Verdicts.{entry_of}
+use Rattle.sja_bus.specs.Aborting.{IsApplied}
 
 -- the entries of items that were taken
 abbrev pub entries_of_items : List Up → List Entry
@@ -27,7 +28,8 @@ pub record HasAbort (j k : List Entry) : Type 0 where
   pub changed : Bool
   pub whole : k ≡ j ++ abort_as changed
 
--- the items that were taken, and then an abort or none; none where the port doesn't order one
+-- the items that were taken, and then an abort or none: none where the port doesn't order one, and where it does what an
+-- abort changes then
 pub record Opens (has_orders : Orders → Type 0) (j k : List Entry) : Type 0 where
   pub taken : List Entry
   pub items : HasItems j taken
@@ -35,6 +37,7 @@ pub record Opens (has_orders : Orders → Type 0) (j k : List Entry) : Type 0 wh
   pub orders : Orders
   pub are_orders : has_orders orders
   pub unasked : orders.abort ≡ false → aborts.changed ≡ false
+  pub applied : orders.abort ≡ true → IsApplied taken aborts.changed
 
 -- the entry of what came of a message, or none
 abbrev pub judged_as : Option (Verdict × List ℕ) → List Entry

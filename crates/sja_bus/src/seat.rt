@@ -36,9 +36,10 @@ impl Seat {
     ghost use Rattle.sja_bus.specs.Links.{Goes, EachRelated, AreOf};
     ghost use Rattle.sja_link.specs.declared.entry.Entry.TheVariants.{Bit as BitEntry, Abort as AbortEntry};
     ghost use Rattle.can_node.specs.Stands.{DrivesNext, Samples};
-    ghost use Rattle.sja_bus.specs.OneBit.{HasItems, HasAbort, HasBit};
+    ghost use Rattle.sja_bus.specs.OneBit.{HasItems, HasBit};
     ghost use Rattle.sja_bus.specs.Inside.Following.{Follows, Reads};
     ghost use Rattle.sja_bus.specs.Inside.Seats.{IsSound, IsSeat, IsReady};
+    ghost use Rattle.sja_bus.specs.Inside.Taking.{Applies};
     ghost use Rattle.sja_bus.specs.OneBit.{Opens};
 
     /// The number of the node.
@@ -140,7 +141,7 @@ impl Seat {
         ensures ledger { self.new.ledger ≡ self.old.ledger }
         ensures ready { OnOk result (IsReady self.new) }
         ensures ended { self.new.ended ≡ self.old.ended }
-        ensures aborts { OnOk result (HasAbort self.old.journal.entries self.new.journal.entries) }
+        ensures aborts { OnOk result (Applies self.old.journal.entries self.new.journal.entries) }
     {
         let Activity::Running(_) = self.activity else {
             return Ok(());

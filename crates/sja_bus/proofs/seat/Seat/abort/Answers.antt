@@ -1,13 +1,13 @@
 use Rattle.std.proofs.Common.{◌≡◌, ℕ, suc, ◌+◌, ◌<◌, ◌≤◌, Bool, true, false, List, [], ◌∷◌, ◌++◌, length, rules, arith, refl, sym, ap, ◌∙◌, subst}
-use Rattle.can_node.specs.declared.aborted.Aborted.TheVariants.{Marked, Dropped}
+use Rattle.can_node.specs.declared.aborted.Aborted.TheVariants.{Unchanged, Marked, Dropped}
 use Rattle.sja_link.specs.declared.entry.Entry.TheVariants.{Abort}
 use Rattle.sja_link.specs.BusLedgers.{free_in}
 use Rattle.sja_bus.specs.declared.activity.Activity.{Activity}
 use Rattle.sja_bus.specs.declared.activity.Activity.TheVariants.{Running}
 use Rattle.sja_bus.specs.Inside.Following.{Reads}
 use Rattle.sja_bus.proofs.Lists.{ok_map}
-use Rattle.sja_bus.proofs.Bits.{abort_none, abort_one}
-use Rattle.sja_bus.proofs.Steps.{follows_abort, abort_unchanged}
+use Rattle.sja_bus.proofs.Applying.{applied_running, applied_resting, applies_none, applies_one}
+use Rattle.sja_bus.proofs.Steps.{follows_abort}
 use Rattle.sja_bus.proofs.Reading.{reads_swap, reads_quiet}
 use Rattle.sja_bus.proofs.seat.Seat.abort.Goals as goal
 
@@ -39,8 +39,22 @@ enter_abort-requires-in-Dropped-clause-reads c =
 
 pub returns-in-Marked-clause-aborts : goal.returns-in-Marked-clause-aborts
 returns-in-Marked-clause-aborts c =
-    ok_map c.enter_abort.result (λ e. abort_one c.args.self.now.journal.entries c.enter_abort.new.self.journal.entries e) c.enter_abort.ensures.entered
+    let was = c.args.self.now in let j = was.journal.entries in
+    let is = applied_running was.node c.abort.new.self j was.ended (free_in was.ledger) was.activity c.in-Running.field-0 Marked c.in-Marked.ensures c.requires.ready.sound.follows c.in-Running.is c.requires.ready.sound.reads in
+    ok_map c.enter_abort.result (λ e. applies_one j c.enter_abort.new.self.journal.entries e is) c.enter_abort.ensures.entered
 
 pub returns-in-Dropped-clause-aborts : goal.returns-in-Dropped-clause-aborts
 returns-in-Dropped-clause-aborts c =
-    ok_map c.enter_abort-in-Dropped.result (λ e. abort_one c.args.self.now.journal.entries c.enter_abort-in-Dropped.new.self.journal.entries e) c.enter_abort-in-Dropped.ensures.entered
+    let was = c.args.self.now in let j = was.journal.entries in
+    let is = applied_running was.node c.abort.new.self j was.ended (free_in was.ledger) was.activity c.in-Running.field-0 Dropped c.in-Dropped.ensures c.requires.ready.sound.follows c.in-Running.is c.requires.ready.sound.reads in
+    ok_map c.enter_abort-in-Dropped.result (λ e. applies_one j c.enter_abort-in-Dropped.new.self.journal.entries e is) c.enter_abort-in-Dropped.ensures.entered
+
+pub returns-in-Unchanged-clause-aborts : goal.returns-in-Unchanged-clause-aborts
+returns-in-Unchanged-clause-aborts c =
+    let was = c.args.self.now in let j = was.journal.entries in
+    applies_none j (applied_running was.node c.abort.new.self j was.ended (free_in was.ledger) was.activity c.in-Running.field-0 Unchanged c.in-Unchanged.ensures c.requires.ready.sound.follows c.in-Running.is c.requires.ready.sound.reads)
+
+pub returns-in_default-clause-aborts : goal.returns-in_default-clause-aborts
+returns-in_default-clause-aborts c =
+    let was = c.args.self.now in let j = was.journal.entries in
+    applies_none j (applied_resting was.node j was.ended (free_in was.ledger) was.activity c.in_default.not-Running c.requires.ready.sound.reads)

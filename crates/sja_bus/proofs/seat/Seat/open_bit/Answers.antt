@@ -11,7 +11,7 @@ returns-then-ordered-clause-goes g c =
     let j = c.args.self.now.journal.entries in let k = c.gather.new.self.journal.entries in let l = c.abort.new.self.journal.entries in
     ok_map c.abort.result
     (λ a. goes_trans E.same E.stands met.same_trans j k l c.args.links.now c.gather.new.links c.gather.new.links c.args.base c.in_ok-gather.ensures.goes
-    (goes_aborted E.same E.stands met.same_refl k l c.gather.new.links c.args.base a))
+    (goes_aborted E.same E.stands met.same_refl k l c.gather.new.links c.args.base a.aborts))
     c.abort.ensures.aborts
 
 pub returns-then-ordered-clause-opens : goal.returns-then-ordered-clause-opens
@@ -19,11 +19,12 @@ returns-then-ordered-clause-opens g c =
     let P : ℕ → Type 0 = λ n. g.B.Board.orders_are c.args.board.now n c.orders-ordered.result in
     let are = subst P (c.number.ensures ∙ c.gather.ensures.node) c.orders-ordered.ensures in
     let yes : c.orders-ordered.result.abort ≡ true = search rules in
-    ok_map c.abort.result (λ a. record { taken = c.gather.new.self.journal.entries; items = c.in_ok-gather.ensures.items; aborts = a; orders = c.orders-ordered.result; are_orders = are; unasked = λ no. let e : true ≡ false = sym yes ∙ no in absurd cc }) c.abort.ensures.aborts
+    ok_map c.abort.result (λ a. record { taken = c.gather.new.self.journal.entries; items = c.in_ok-gather.ensures.items; aborts = a.aborts; orders = c.orders-ordered.result; are_orders = are; unasked = λ no. let e : true ≡ false = sym yes ∙ no in absurd cc; applied = λ ordered. a.is }) c.abort.ensures.aborts
 
 pub returns-else-ordered-clause-opens : goal.returns-else-ordered-clause-opens
 returns-else-ordered-clause-opens g c =
     let k = c.gather.new.self.journal.entries in
     let P : ℕ → Type 0 = λ n. g.B.Board.orders_are c.args.board.now n c.orders-ordered.result in
     let are = subst P (c.number.ensures ∙ c.gather.ensures.node) c.orders-ordered.ensures in
-    record { taken = k; items = c.in_ok-gather.ensures.items; aborts = record { changed = false; whole = sym (append-nil k) }; orders = c.orders-ordered.result; are_orders = are; unasked = λ no. refl }
+    let no : c.orders-ordered.result.abort ≡ false = search rules in
+    record { taken = k; items = c.in_ok-gather.ensures.items; aborts = record { changed = false; whole = sym (append-nil k) }; orders = c.orders-ordered.result; are_orders = are; unasked = λ no. refl; applied = λ ordered. let e : true ≡ false = sym ordered ∙ no in absurd cc }
