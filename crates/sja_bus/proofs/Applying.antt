@@ -19,15 +19,11 @@ use Rattle.sja_link.specs.Places.{place_of}
 use Rattle.sja_link.specs.Records.{record_of}
 use Rattle.sja_bus.specs.declared.activity.Activity.{Activity}
 use Rattle.sja_bus.specs.declared.activity.Activity.TheVariants.{Between, Running, Off, OffAndAsked}
-use Rattle.sja_bus.specs.Opening.{IsOpen}
 use Rattle.sja_bus.specs.Aborting.{abort_in, changes, IsApplied}
-use Rattle.sja_bus.specs.Inside.Following.{Follows, Reads, open_in}
+use Rattle.sja_bus.specs.Inside.Following.{Follows, Reads}
 use Rattle.sja_bus.specs.Inside.Taking.{Applies}
 use Rattle.sja_bus.proofs.Lawfuls.{now_once}
-
--- the activation that is read is open where one runs
-pub open_by : (activity : Activity) (node : Node) (j : List Entry) (ended free : ℕ) → open_in activity ≡ 1 → Reads node j ended activity free → IsOpen j
-open_by activity node j ended free runs h = let b = h.begun in let s = h.stopped in omega (arith, b, s, runs)
+use Rattle.sja_bus.proofs.Seating.{open_by}
 
 -- two cuts of a record say the same of an abort
 abort_once : (entries : List Event) (found others : List FinishedPiece) (h : IsCut entries found) (k : IsCut entries others) → abort_in h ≡ abort_in k

@@ -1,13 +1,14 @@
 pub mod Lists
 pub mod Begun
 pub mod Steps
+pub mod OnBus
 pub mod Reading
 pub mod Lawfuls
 pub mod Moving
 pub mod Seating
-pub mod Takings
 pub mod Bits
 pub mod Applying
+pub mod Takings
 pub mod Quiet
 pub mod Linking
 pub mod Marking

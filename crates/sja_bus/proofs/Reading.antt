@@ -1,5 +1,5 @@
 -- What the bus knows of the activation that it reads, with each thing that it does.
-use Rattle.std.proofs.Common.{◌≡◌, ℕ, suc, ◌+◌, ◌-◌, ◌<◌, ◌≤◌, Bool, true, false, Option, Some, None, List, [], ◌∷◌, ◌++◌, length, refl, sym, ap, ◌∙◌, subst, append-nil, arith, inl, inr}
+use Rattle.std.proofs.Common.{◌≡◌, ℕ, suc, ◌+◌, ◌-◌, ◌<◌, ◌≤◌, Bool, true, false, Option, Some, None, List, [], ◌∷◌, ◌++◌, length, refl, sym, ap, ◌∙◌, subst, append-nil, append_assoc, arith, inl, inr}
 use Rattle.std.proofs.lemmas.Bool.{cases_eq}
 use Rattle.can_frame.specs.declared.filter.Filter.{Filter}
 use Rattle.can_bits.specs.declared.level.Level.{Level}
@@ -12,11 +12,12 @@ use Rattle.sja_link.specs.declared.verdict.Verdict.{Verdict}
 use Rattle.sja_link.specs.declared.verdict.Verdict.TheVariants.{Stored as ToStore, Overrun as ToLose}
 use Rattle.sja_link.specs.declared.entry.Entry.{Entry}
 use Rattle.sja_link.specs.declared.entry.Entry.TheVariants.{Bit, Up as Item, Abort, Stored, Overrun, Off}
-use Rattle.sja_link.specs.Places.{Place, past, place_of}
+use Rattle.sja_link.specs.Places.{Place, first_place, past, place_of}
+use Rattle.sja_link.specs.Records.{told, record_of}
 use Rattle.sja_link.specs.Parts.{part}
 use Rattle.sja_link.specs.Free.{IsFree, free_of, credit_in, bytes_in}
 use Rattle.sja_link.specs.Verdicts.{filter_of, EndsInBit, IsPrompt, IsFair, IsDue, entry_of}
-use Rattle.sja_link.proofs.Entering.{place_push, part_here, part_else, of_part_later}
+use Rattle.sja_link.proofs.Entering.{place_push, record_push, part_here, part_else, of_part_later}
 use Rattle.sja_link.proofs.Freeing.{free_is, free_push, free_same, total_push}
 use Rattle.sja_link.proofs.Judging.{StaysIn, filter_push}
 use Rattle.sja_link.specs.Parts.{entry_at}
@@ -24,7 +25,9 @@ use Rattle.sja_bus.specs.declared.activity.Activity.{Activity}
 use Rattle.sja_bus.specs.declared.activity.Activity.TheVariants.{Between, Running, Off as IsOff, OffAndAsked}
 use Rattle.sja_bus.specs.Links.{stops_in, stops_of}
 use Rattle.sja_bus.specs.Inside.Seats.{Pays}
-use Rattle.sja_bus.specs.Inside.Following.{open_in, IsActive, Reads}
+use Rattle.sja_bus.specs.Reasons.{HasOff, HasAskedOff}
+use Rattle.sja_bus.specs.Inside.Following.{open_in, is_on, IsActive, Reads}
+use Rattle.sja_bus.proofs.OnBus.{on_both}
 
 -- nothing was taken
 pub reads_new : (node : Node) → InReset node → Reads node [] 0 Between 64
@@ -59,12 +62,49 @@ off_same j e h = ap (λ (p : Place). p.off) (place_push j e ∙ h (place_of j))
 begun_same : (j : List Entry) (e : Entry) → StaysIn e → (place_of (j ++ e ∷ [])).activation ≡ (place_of j).activation
 begun_same j e h = ap (λ (p : Place). p.activation) (place_push j e) ∙ h (place_of j)
 
-active_same : (activity : Activity) (old new : Node) (j : List Entry) (e : Entry) (a : ℕ) → ((p : Place) → past p e ≡ record p { bits = (past p e).bits }) →
+-- the node is on the bus as it was
+told_on : (off on : Bool) (e : Entry) → ((p : Place) → past p e ≡ record p { bits = (past p e).bits }) → stops_in e ≡ 0 → is_on on (told off e) ≡ on
+told_on off on (Bit driven seen) stays none = refl
+told_on off on (Item (Start config)) stays none = let s = stays_of (Item (Start config)) stays first_place in absurd (omega (arith, s))
+told_on off on (Item (Credit n)) stays none = refl
+told_on true on (Item (Send request)) stays none = refl
+told_on false on (Item (Send request)) stays none = refl
+told_on off on (Item Stop) stays none = absurd (omega (arith, none))
+told_on off on Abort stays none = refl
+told_on off on (Stored m) stays none = refl
+told_on off on (Overrun m) stays none = refl
+told_on off on Off stays none = let s : true ≡ false = ap (λ (p : Place). p.off) (stays first_place) in absurd cc
+
+on_same : (j : List Entry) (e : Entry) → ((p : Place) → past p e ≡ record p { bits = (past p e).bits }) → stops_in e ≡ 0 → is_on false (record_of (j ++ e ∷ [])) ≡ is_on false (record_of j)
+on_same j e stays none =
+    ap (is_on false) (record_push j e) ∙ on_both false (record_of j) (told (place_of j).off e) ∙ told_on (place_of j).off (is_on false (record_of j)) e stays none
+
+-- bus-off in a part that an entry more stands in, or doesn't
+off_more : (j : List Entry) (e : Entry) (a : ℕ) → HasOff (part j a) → HasOff (part (j ++ e ∷ []) a)
+off_more j e a h = elim (cases_eq (past (place_of j) e).activation a) [
+  | inl q ↦ record { before = h.before; after = h.after ++ e ∷ []; whole = part_here j e a q ∙ ap (λ l. l ++ e ∷ []) h.whole ∙ append_assoc h.before (Off ∷ h.after) (e ∷ []) }
+  | inr ne ↦ record { before = h.before; after = h.after; whole = part_else j e a ne ∙ h.whole }
+]
+
+asked_more : (j : List Entry) (e : Entry) (a : ℕ) → HasAskedOff (part j a) → HasAskedOff (part (j ++ e ∷ []) a)
+asked_more j e a h = elim (cases_eq (past (place_of j) e).activation a) [
+  | inl q ↦ record {
+    before = h.before;
+    between = h.between;
+    request = h.request;
+    after = h.after ++ e ∷ [];
+    whole = part_here j e a q ∙ ap (λ l. l ++ e ∷ []) h.whole ∙ append_assoc h.before (Off ∷ (h.between ++ Item (Send h.request) ∷ h.after)) (e ∷ [])
+        ∙ ap (λ l. h.before ++ Off ∷ l) (append_assoc h.between (Item (Send h.request) ∷ h.after) (e ∷ []));
+  }
+  | inr ne ↦ record { before = h.before; between = h.between; request = h.request; after = h.after; whole = part_else j e a ne ∙ h.whole }
+]
+
+active_same : (activity : Activity) (old new : Node) (j : List Entry) (e : Entry) (a : ℕ) → ((p : Place) → past p e ≡ record p { bits = (past p e).bits }) → stops_in e ≡ 0 →
     (InReset old → InReset new) → IsActive activity old j a → IsActive activity new (j ++ e ∷ []) a
-active_same Between old new j e a stays reset h = reset h
-active_same (Running filter) old new j e a stays reset h = (off_same j e stays ∙ h.0, filter_push j e a (stays_of e stays) ∙ h.1)
-active_same IsOff old new j e a stays reset h = (off_same j e stays ∙ h.0, reset h.1)
-active_same OffAndAsked old new j e a stays reset h = (off_same j e stays ∙ h.0, reset h.1)
+active_same Between old new j e a stays none reset h = reset h
+active_same (Running filter) old new j e a stays none reset h = (off_same j e stays ∙ h.0, filter_push j e a (stays_of e stays) ∙ h.1, on_same j e stays none ∙ h.2)
+active_same IsOff old new j e a stays none reset h = (off_same j e stays ∙ h.0, reset h.1, off_more j e a h.2)
+active_same OffAndAsked old new j e a stays none reset h = (off_same j e stays ∙ h.0, reset h.1, asked_more j e a h.2)
 
 -- an entry with which nothing changes but the node: an abort, and a bit
 pub reads_quiet : (old new : Node) (j : List Entry) (e : Entry) (ended : ℕ) (activity : Activity) (free : ℕ) → IsQuiet e → (InReset old → InReset new) →
@@ -73,7 +113,7 @@ reads_quiet old new j e ended activity free quiet reset h = record {
   begun = begun_same j e (stays_of e quiet.0) ∙ h.begun;
   stopped = stopped_same j e ended quiet.3 h.stopped;
   free_is = free_on j e (suc ended) free free (omega (arith, quiet.1, quiet.2)) (quiet.1, quiet.2) h.free_is;
-  active = active_same activity old new j e (suc ended) quiet.0 reset h.active;
+  active = active_same activity old new j e (suc ended) quiet.0 quiet.3 reset h.active;
 }
 
 -- ---- what the bus takes
@@ -90,7 +130,11 @@ reads_start old new j config ended free left pays h =
       begun = ap (λ (p : Place). p.activation) place ∙ at ∙ omega arith;
       stopped = stopped_same j e ended refl h.stopped;
       free_is = subst (λ (p : List Entry). IsFree p left) (sym one) (pays (part j (suc ended)) h.free_is);
-      active = (ap (λ (p : Place). p.off) place, ap filter_of one ∙ ap (λ l. filter_of (l ++ e ∷ [])) none);
+      active = (
+        ap (λ (p : Place). p.off) place,
+        ap filter_of one ∙ ap (λ l. filter_of (l ++ e ∷ [])) none,
+        ap (is_on false) (record_push j e) ∙ on_both false (record_of j) (told (place_of j).off e),
+      );
     }
 
 -- the entry stands in the activation that is read
@@ -106,7 +150,7 @@ reads_here old new j e ended activity free left stays none runs reset pays h =
       begun = begun_same j e (stays_of e stays) ∙ h.begun;
       stopped = stopped_same j e ended none h.stopped;
       free_is = subst (λ (p : List Entry). IsFree p left) (sym (part_here j e (suc ended) at)) (pays (part j (suc ended)) h.free_is);
-      active = active_same activity old new j e (suc ended) stays reset h.active;
+      active = active_same activity old new j e (suc ended) stays none reset h.active;
     }
 
 -- a request that the node took
@@ -120,8 +164,17 @@ reads_ask old new j request ended filter free left pays h =
 pub reads_drop : (node : Node) (j : List Entry) (request : Request) (ended free left : ℕ) → Pays free left (Item (Send request)) → Reads node j ended IsOff free →
     Reads node (j ++ Item (Send request) ∷ []) ended OffAndAsked left
 reads_drop node j request ended free left pays h =
-    let s = reads_here node node j (Item (Send request)) ended IsOff free left (λ p. refl) refl refl (λ r. r) pays h in
-    record { begun = s.begun; stopped = s.stopped; free_is = s.free_is; active = s.active }
+    let e : Entry = Item (Send request) in
+    let s = reads_here node node j e ended IsOff free left (λ p. refl) refl refl (λ r. r) pays h in
+    let was = h.active.2 in
+    let at = here_in IsOff node j ended free e (λ p. refl) refl h in
+    let asked : HasAskedOff (part (j ++ e ∷ []) (suc ended)) = record {
+      before = was.before;
+      between = was.after;
+      request = request;
+      after = [];
+      whole = part_here j e (suc ended) at ∙ ap (λ l. l ++ e ∷ []) was.whole ∙ append_assoc was.before (Off ∷ was.after) (e ∷ []);
+    } in record { begun = s.begun; stopped = s.stopped; free_is = s.free_is; active = (s.active.0, s.active.1, asked) }
 
 pub reads_stop : (old new : Node) (j : List Entry) (ended : ℕ) (activity : Activity) (free : ℕ) → open_in activity ≡ 1 → InReset new → Reads old j ended activity free →
     Reads new (j ++ Item Stop ∷ []) (suc ended) Between 64
@@ -162,12 +215,13 @@ verdict_no_stop ToLose m = refl
 
 pub reads_off : (node : Node) (j : List Entry) (ended : ℕ) (filter : Filter) (free : ℕ) → InReset node → Reads node j ended (Running filter) free →
     Reads node (j ++ Off ∷ []) ended IsOff free
-reads_off node j ended filter free reset h = record {
-  begun = begun_same j Off (λ p. refl) ∙ h.begun;
-  stopped = stopped_same j Off ended refl h.stopped;
-  free_is = free_on j Off (suc ended) free free (omega arith) (refl, refl) h.free_is;
-  active = (ap (λ (p : Place). p.off) (place_push j Off), reset);
-}
+reads_off node j ended filter free reset h =
+    let b = h.begun in let at : (past (place_of j) Off).activation ≡ suc ended = omega (arith, b) in record {
+      begun = begun_same j Off (λ p. refl) ∙ h.begun;
+      stopped = stopped_same j Off ended refl h.stopped;
+      free_is = free_on j Off (suc ended) free free (omega arith) (refl, refl) h.free_is;
+      active = (ap (λ (p : Place). p.off) (place_push j Off), reset, record { before = part j (suc ended); after = []; whole = part_here j Off (suc ended) at });
+    }
 
 -- while one runs what the bus knows of it doesn't hang on the node
 pub reads_swap : (old new : Node) (j : List Entry) (ended : ℕ) (filter : Filter) (free : ℕ) → Reads old j ended (Running filter) free → Reads new j ended (Running filter) free

@@ -1,5 +1,5 @@
 -- A seat by its parts.
-use Rattle.std.proofs.Common.{◌≡◌, ◌≢◌, ℕ, suc, ◌+◌, Bool, true, false, List, [], ◌∷◌, ◌++◌, refl, sym, ap, ◌∙◌, subst}
+use Rattle.std.proofs.Common.{◌≡◌, ◌≢◌, ℕ, suc, ◌+◌, Bool, true, false, List, [], ◌∷◌, ◌++◌, refl, sym, ap, ◌∙◌, subst, arith}
 use Rattle.can_node.specs.declared.node.Node.{Node}
 use Rattle.can_node.specs.Stands.{InReset}
 use Rattle.sja_link.specs.declared.entry.Entry.{Entry}
@@ -7,6 +7,7 @@ use Rattle.sja_link.specs.BusLedgers.{free_in}
 use Rattle.sja_bus.specs.declared.activity.Activity.{Activity}
 use Rattle.sja_bus.specs.declared.activity.Activity.TheVariants.{Between, Running, Off, OffAndAsked}
 use Rattle.sja_bus.specs.declared.seat.Seat.{Seat}
+use Rattle.sja_bus.specs.Opening.{IsOpen}
 use Rattle.sja_bus.specs.Inside.Following.{Follows, FollowsBit, Reads, IsActive, open_in}
 use Rattle.sja_bus.specs.Inside.Seats.{IsSound}
 
@@ -60,3 +61,7 @@ reset_else Between node j a not h = h
 reset_else (Running filter) node j a not h = absurd (not filter refl)
 reset_else Off node j a not h = h.1
 reset_else OffAndAsked node j a not h = h.1
+
+-- the activation that is read is open where one runs
+pub open_by : (activity : Activity) (node : Node) (j : List Entry) (ended free : ℕ) → open_in activity ≡ 1 → Reads node j ended activity free → IsOpen j
+open_by activity node j ended free runs h = let b = h.begun in let s = h.stopped in omega (arith, b, s, runs)

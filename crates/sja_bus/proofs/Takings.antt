@@ -1,12 +1,33 @@
 -- An item that the bus takes, or doesn't.
-use Rattle.std.proofs.Common.{◌≡◌, suc, ◌<◌, [], ◌∷◌, ◌++◌, length, sym, subst}
+use Rattle.std.proofs.Common.{◌≡◌, ℕ, suc, ◌+◌, ◌<◌, ◌≤◌, true, false, List, [], ◌∷◌, ◌++◌, length, inl, inr, refl, sym, ap, ◌∙◌, subst, arith}
 use Rattle.std.specs.Prelude.{Result, Ok, Err, OnOk}
+use Rattle.can_node.specs.declared.node.Node.{Node}
+use Rattle.can_node.specs.declared.request.Request.{Request}
+use Rattle.can_node.specs.Context.{ContextValue, is_held}
+use Rattle.can_node.specs.FinishedPieces.{FinishedPiece}
+use Rattle.can_node.specs.Cut.{IsCut}
+use Rattle.can_node.specs.NextBit.{now_in}
+use Rattle.can_node.specs.Stands.{Requests}
 use Rattle.sja_link.specs.declared.up.Up.{Up}
+use Rattle.sja_link.specs.declared.up.Up.TheVariants.{Credit}
+use Rattle.sja_link.specs.declared.entry.Entry.{Entry}
+use Rattle.sja_link.specs.Free.{IsFree}
+use Rattle.sja_link.specs.Parts.{part, entry_at}
+use Rattle.sja_link.specs.Records.{record_of}
+use Rattle.sja_link.proofs.Entering.{of_part_later}
+use Rattle.sja_bus.specs.declared.activity.Activity.{Activity}
+use Rattle.sja_bus.specs.declared.activity.Activity.TheVariants.{Between, Running, Off, OffAndAsked}
 use Rattle.sja_link.specs.declared.entry.Entry.TheVariants.{Up as Item}
 use Rattle.sja_link.specs.Places.{past, place_of}
 use Rattle.sja_bus.specs.declared.seat.Seat.{Seat}
-use Rattle.sja_bus.specs.Inside.Seats.{IsSound, IsSeat}
+use Rattle.sja_bus.specs.Reasons.{IsAskedWrongly}
+use Rattle.sja_bus.specs.Reasons.IsAskedWrongly.{while_held}
+use Rattle.sja_bus.specs.Inside.Following.{Follows, Reads, open_in, is_on}
+use Rattle.sja_bus.specs.Inside.Seats.{IsSound, IsSeat, Pays}
 use Rattle.sja_bus.specs.Inside.Taking.{Takes}
+use Rattle.sja_bus.proofs.Lawfuls.{now_once}
+use Rattle.sja_bus.proofs.OnBus.{cut_away}
+use Rattle.sja_bus.proofs.Seating.{open_by}
 
 -- a seat with another journal
 pub seat_entered : (s new : Seat) → new ≡ record s { journal = new.journal } → IsSeat s → IsSeat new
@@ -21,3 +42,31 @@ pub takes_entered : {A X P : Type 0} (r : Result A X) (old new : Seat) (item : U
     OnOk r (Takes old new item)
 takes_entered (Ok a) old new item p f seat at ok = record { sound = f p; seat = seat; fits = ok.1; stands = at; entered = ok.0 }
 takes_entered (Err x) old new item p f seat at ok = tt
+
+-- no credit is taken between two activations, where all 64 bytes are free
+pub credit_open : (activity : Activity) (node : Node) (j : List Entry) (ended free left n : ℕ) → left ≤ 64 → 3 ≤ n → Pays free left (Item (Credit n)) → Reads node j ended activity free → open_in activity ≡ 1
+credit_open Between node j ended free left n few some pays h =
+    let b = h.begun in
+    let later : (place_of j).activation < suc ended = omega (arith, b) in
+    let none : part j (suc ended) ≡ [] = of_part_later entry_at j (suc ended) later in
+    let all : IsFree [] free = subst (λ (p : List Entry). IsFree p free) none h.free_is in
+    let paid = pays [] all in absurd (omega (arith, paid, few, some))
+credit_open (Running filter) node j ended free left n few some pays h = refl
+credit_open Off node j ended free left n few some pays h = refl
+credit_open OffAndAsked node j ended free left n few some pays h = refl
+
+-- ---- one that isn't
+
+-- a node that is on the bus gave a request back: by every cut it holds one
+pub held_by : (old new : Node) (j : List Entry) (request back : Request) → is_on false (record_of j) ≡ true → Follows old j → Requests old new request (Err back) →
+    (found : List FinishedPiece) (cut : IsCut (record_of j) found) → is_held (now_in cut).held ≡ true
+held_by old new j request back on follows refused found cut = elim (refused.2 (record_of j) follows.found follows.stands) [
+  | inl reset ↦ absurd (cut_away (record_of j) follows.found follows.stands.cut on reset)
+  | inr held ↦ ap (λ (c : ContextValue). is_held c.held) (now_once (record_of j) found follows.found cut follows.stands.cut) ∙ held
+]
+
+-- the seat runs in an open activation
+pub held_wrongly : (old new : Node) (j : List Entry) (ended free : ℕ) (filter : _) (request back : Request) → Follows old j → Requests old new request (Err back) →
+    Reads old j ended (Running filter) free → IsAskedWrongly j
+held_wrongly old new j ended free filter request back follows refused h =
+    while_held (open_by (Running filter) old j ended free refl h) h.active.0 (held_by old new j request back h.active.2 follows refused)

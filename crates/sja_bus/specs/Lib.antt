@@ -14,5 +14,6 @@ pub mod NewLinks
 pub mod Boards
 -- ---- all nodes of a bus
 pub mod Buses
+pub mod Reasons
 -- ---- how the code keeps a bus: definitions of the private contracts alone
 pub mod Inside

@@ -39,7 +39,7 @@ impl Seat {
     ghost use Rattle.sja_bus.specs.OneBit.{HasItems, HasBit};
     ghost use Rattle.sja_bus.specs.Inside.Following.{Follows, Reads};
     ghost use Rattle.sja_bus.specs.Inside.Seats.{IsSound, IsSeat, IsReady};
-    ghost use Rattle.sja_bus.specs.Inside.Taking.{Applies};
+    ghost use Rattle.sja_bus.specs.Inside.Taking.{Applies, IsFull};
     ghost use Rattle.sja_bus.specs.OneBit.{Opens};
 
     /// The number of the node.
@@ -58,6 +58,7 @@ impl Seat {
             IsSound self.new) }
         ensures ok { OnOk result ((self.new.journal.entries ≡ self.old.journal.entries ++ entry ∷ [])
             × (length self.old.journal.entries < self.old.journal.room)) }
+        ensures full { IfErr result (λ f. IsFull self.old self.new f) }
     {
         match self.journal.enter(entry) {
             Ok(()) => Ok(()),

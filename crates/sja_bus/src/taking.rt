@@ -8,14 +8,14 @@ use can_node::{Config, Request};
 use sja_link::{BadCredit, BusEnd, BusLedger, Entry, LinkId, Up};
 
 impl Seat {
-    ghost use Rattle.std.specs.Prelude.{◌≡◌, ◌<◌, ◌≤◌, ◌+◌, ℕ, suc, Ok, [], ◌∷◌, ◌++◌, OnOk, IfOk, true, false, length};
+    ghost use Rattle.std.specs.Prelude.{◌≡◌, ◌<◌, ◌≤◌, ◌+◌, ℕ, suc, Ok, [], ◌∷◌, ◌++◌, OnOk, IfOk, IfErr, true, false, length};
     ghost use Rattle.sja_link.specs.declared.up.Up.TheVariants.{Start, Credit, Send, Stop};
     ghost use Rattle.sja_link.specs.declared.entry.Entry.TheVariants.{Up as Item};
     ghost use Rattle.sja_link.specs.declared.up.Up.{Up as Given};
     ghost use Rattle.sja_link.specs.BusLedgers.{link_of, free_in};
     ghost use Rattle.sja_bus.specs.Links.{Moves};
     ghost use Rattle.sja_bus.specs.Inside.Seats.{IsSound, IsOwed, IsSeat};
-    ghost use Rattle.sja_bus.specs.Inside.Taking.{Takes};
+    ghost use Rattle.sja_bus.specs.Inside.Taking.{Takes, Refuses, RefusesHere};
 
     /// A start was taken.
     fn begin(&mut self, config: Config) -> Result<(), BusFault>
@@ -25,6 +25,7 @@ impl Seat {
         ensures node { (link_of self.new.ledger).node ≡ (link_of self.old.ledger).node }
         ensures room { self.new.journal.room ≡ self.old.journal.room }
         ensures takes { OnOk result (Takes self.old self.new (Start config)) }
+        ensures refused { IfErr result (λ f. Refuses self.old self.new (Start config) f) }
     {
         let Activity::Between = self.activity else {
             return Err(BusFault::BadOrder(self.number()));
@@ -34,18 +35,17 @@ impl Seat {
         self.enter(Entry::Up(Up::Start(config)))
     }
 
-    /// A credit was taken.
+    /// A credit was taken. Between two activations none can be: all 64 bytes are free there.
     fn credited(&mut self, bytes: u8) -> Result<(), BusFault>
         requires owed { IsOwed self.old (Item (Credit bytes)) }
         requires seat { IsSeat self.old }
         requires more { self.old.ended < 8 }
+        requires some { 3 ≤ bytes }
         ensures node { (link_of self.new.ledger).node ≡ (link_of self.old.ledger).node }
         ensures room { self.new.journal.room ≡ self.old.journal.room }
         ensures takes { OnOk result (Takes self.old self.new (Credit bytes)) }
+        ensures refused { IfErr result (λ f. Refuses self.old self.new (Credit bytes) f) }
     {
-        if let Activity::Between = self.activity {
-            return Err(BusFault::BadOrder(self.number()));
-        }
         self.enter(Entry::Up(Up::Credit(bytes)))
     }
 
@@ -57,6 +57,7 @@ impl Seat {
         ensures node { (link_of self.new.ledger).node ≡ (link_of self.old.ledger).node }
         ensures room { self.new.journal.room ≡ self.old.journal.room }
         ensures takes { OnOk result (Takes self.old self.new (Send request)) }
+        ensures refused { IfErr result (λ f. Refuses self.old self.new (Send request) f) }
     {
         match self.activity {
             Activity::Running(_) => match self.node.request(request.copy()) {
@@ -79,6 +80,7 @@ impl Seat {
         ensures node { (link_of self.new.ledger).node ≡ (link_of self.old.ledger).node }
         ensures room { self.new.journal.room ≡ self.old.journal.room }
         ensures takes { OnOk result (Takes self.old self.new Stop) }
+        ensures refused { IfErr result (λ f. Refuses self.old self.new Stop f) }
     {
         if let Activity::Between = self.activity {
             return Err(BusFault::BadOrder(self.number()));
@@ -98,9 +100,11 @@ impl Seat {
         requires owed { IsOwed self.old (Item item) }
         requires seat { IsSeat self.old }
         requires more { self.old.ended < 8 }
+        requires some { (bytes : ℕ) → item ≡ Credit bytes → 3 ≤ bytes }
         ensures node { (link_of self.new.ledger).node ≡ (link_of self.old.ledger).node }
         ensures room { self.new.journal.room ≡ self.old.journal.room }
         ensures takes { OnOk result (Takes self.old self.new item) }
+        ensures refused { IfErr result (λ f. Refuses self.old self.new item f) }
     {
         match item {
             Up::Start(config) => self.begin(config),
@@ -124,6 +128,7 @@ impl Seat {
         ensures moves { OnOk result (Moves E.stands end.old end.new self.old.journal.entries self.new.journal.entries (suc self.old.ended)) }
         ensures some { result ≡ Ok true → (item : Given) × (self.new.journal.entries ≡ self.old.journal.entries ++ Item item ∷ []) × (length self.old.journal.entries < self.old.journal.room) }
         ensures none { result ≡ Ok false → E.dry end.new × (self.new ≡ self.old) }
+        ensures refused { IfErr result (λ f. RefusesHere E.stands end.old end.new self.old self.new f) }
     {
         match self.ledger.collect(end) {
             Ok(None) => Ok(false),

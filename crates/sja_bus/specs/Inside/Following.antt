@@ -2,7 +2,7 @@
 use Rattle.std.specs.Prelude.{◌≡◌, ◌+◌, ℕ, suc, Bool, true, false, if◌then◌else◌, Some, List, [], ◌∷◌, ◌++◌}
 use Rattle.can_node.specs.declared.node.Node.{Node}
 use Rattle.can_node.specs.Stands.{StandsAt, InReset}
-use Rattle.sja_link.specs.NodeWords.{NodeEntry, NodeWentOff, FinishedPiece, received}
+use Rattle.sja_link.specs.NodeWords.{NodeEntry, NodeStarted, NodeStopped, NodeTook, NodeAsked, NodeAborted, NodeWentOff, FinishedPiece, received}
 use Rattle.sja_link.specs.declared.up.Up.TheVariants.{Start, Credit, Send, Stop}
 use Rattle.sja_link.specs.declared.entry.Entry.{Entry}
 use Rattle.sja_link.specs.Places.{place_of}
@@ -11,6 +11,7 @@ use Rattle.sja_link.specs.Records.{record_of}
 use Rattle.sja_link.specs.Free.{IsFree}
 use Rattle.sja_link.specs.Verdicts.{filter_of, HasVerdicts}
 use Rattle.sja_bus.specs.Links.{stops_of}
+use Rattle.sja_bus.specs.Reasons.{HasOff, HasAskedOff}
 use Rattle.sja_bus.specs.declared.activity.Activity.{Activity}
 use Rattle.sja_bus.specs.declared.activity.Activity.TheVariants.{Between, Running, Off, OffAndAsked}
 
@@ -37,12 +38,26 @@ open_in (Running filter) = 1
 open_in Off = 1
 open_in OffAndAsked = 1
 
+-- whether a node is on the bus after such an entry, and after several: the last start, stop or bus-off is a start
+abbrev pub on_after : Bool → NodeEntry → Bool
+on_after on (NodeStarted config) = true
+on_after on NodeStopped = false
+on_after on NodeWentOff = false
+on_after on (NodeTook b) = on
+on_after on (NodeAsked request) = on
+on_after on NodeAborted = on
+
+abbrev pub is_on : Bool → List NodeEntry → Bool
+is_on on [] = on
+is_on on (e ∷ entries) = is_on (on_after on e) entries
+
 -- what the bus knows of the activation that it reads
 abbrev pub IsActive : Activity → Node → List Entry → ℕ → Type 0
 IsActive Between node j a = InReset node
-IsActive (Running filter) node j a = ((place_of j).off ≡ false) × (filter_of (part j a) ≡ Some filter)
-IsActive Off node j a = ((place_of j).off ≡ true) × InReset node
-IsActive OffAndAsked node j a = ((place_of j).off ≡ true) × InReset node
+IsActive (Running filter) node j a =
+    ((place_of j).off ≡ false) × (filter_of (part j a) ≡ Some filter) × (is_on false (record_of j) ≡ true)
+IsActive Off node j a = ((place_of j).off ≡ true) × InReset node × HasOff (part j a)
+IsActive OffAndAsked node j a = ((place_of j).off ≡ true) × InReset node × HasAskedOff (part j a)
 
 -- so many activations have ended; the next one is read, and of it so many bytes are free
 pub record Reads (node : Node) (j : List Entry) (ended : ℕ) (activity : Activity) (free : ℕ) : Type 0 where

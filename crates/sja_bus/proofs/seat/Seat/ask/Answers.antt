@@ -7,7 +7,7 @@ use Rattle.sja_bus.specs.declared.activity.Activity.TheVariants.{Running, Off, O
 use Rattle.sja_bus.specs.Inside.Following.{Reads}
 use Rattle.sja_bus.proofs.Steps.{follows_send, follows_drop}
 use Rattle.sja_bus.proofs.Reading.{reads_ask, reads_drop, here_in}
-use Rattle.sja_bus.proofs.Takings.{seat_entered, takes_entered}
+use Rattle.sja_bus.proofs.Takings.{seat_entered, takes_entered, held_wrongly}
 use Rattle.sja_bus.proofs.seat.Seat.ask.Goals as goal
 
 pub returns-in-Ok-clause-takes : goal.returns-in-Ok-clause-takes
@@ -36,3 +36,10 @@ returns-in-Off-clause-takes c =
     (seat_entered (record was { activity = OffAndAsked }) new c.enter-in-Off.ensures.others (record { own = seat.own; few = seat.few; runs = λ o. c.requires.more }))
     (here_in Off was.node j was.ended owed.free (Item (Send c.args.request)) (λ p. refl) refl reads)
     c.enter-in-Off.ensures.ok
+
+pub returns-in-Err-clause-refused : goal.returns-in-Err-clause-refused
+returns-in-Err-clause-refused c =
+    let was = c.args.self.now in let j = was.journal.entries in let owed = c.requires.owed in
+    let P : Activity → Type 0 = λ a. Reads was.node j was.ended a owed.free in
+    let reads = subst P c.in-Running.is owed.reads in
+    (refl, (c.number.ensures, held_wrongly was.node c.request.new.self j was.ended owed.free c.in-Running.field-0 c.copy.result c.in-Err.field-0 owed.follows c.in-Err.ensures reads))

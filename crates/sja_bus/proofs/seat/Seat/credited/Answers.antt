@@ -2,17 +2,16 @@ use Rattle.std.proofs.Common.{refl}
 use Rattle.sja_link.specs.BusLedgers.{free_in}
 use Rattle.sja_link.specs.declared.up.Up.TheVariants.{Credit}
 use Rattle.sja_link.specs.declared.entry.Entry.TheVariants.{Up as Item}
-use Rattle.sja_bus.proofs.Seating.{open_else}
 use Rattle.sja_bus.proofs.Steps.{follows_credit}
 use Rattle.sja_bus.proofs.Reading.{reads_here, here_in}
-use Rattle.sja_bus.proofs.Takings.{seat_entered, takes_entered}
+use Rattle.sja_bus.proofs.Takings.{seat_entered, takes_entered, credit_open}
 use Rattle.sja_bus.proofs.seat.Seat.credited.Goals as goal
 
 pub returns-clause-takes : goal.returns-clause-takes
 returns-clause-takes c =
     let was = c.args.self.now in let j = was.journal.entries in let owed = c.requires.owed in
     let new = c.enter.new.self in
-    let runs = open_else was.activity c.in_default.not-Between in
+    let runs = credit_open was.activity was.node j was.ended owed.free (free_in was.ledger) c.args.bytes was.ledger.fits c.requires.some owed.pays owed.reads in
     takes_entered c.enter.result was new (Credit c.args.bytes) c.enter.ensures.sound
     (λ f. f (follows_credit was.node j c.args.bytes owed.follows)
     (reads_here was.node was.node j (Item (Credit c.args.bytes)) was.ended was.activity owed.free (free_in was.ledger) (λ p. refl) refl runs (λ r. r) owed.pays owed.reads))
