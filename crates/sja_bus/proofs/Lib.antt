@@ -14,6 +14,7 @@ pub mod Linking
 pub mod Marking
 pub mod Wires
 pub mod Many
+pub mod Refusing
 pub mod Running
 pub mod Levels
 pub mod Journals

@@ -1,11 +1,12 @@
 //! What all nodes of a bus do in one bit, node after node.
 
-ghost use Rattle.std.specs.Prelude.{◌≡◌, ◌*◌, ◌<◌, ◌≤◌, ◌+◌, if◌then◌else◌, ℕ, length, OnOk};
+ghost use Rattle.std.specs.Prelude.{◌≡◌, ◌*◌, ◌<◌, ◌≤◌, ◌+◌, if◌then◌else◌, ℕ, length, OnOk, IfErr};
 ghost use Rattle.can_bits.specs.Digits.{opposite};
 ghost use Rattle.sja_bus.specs.Wire.{wired};
 ghost use Rattle.sja_bus.specs.Links.{EachRelated, Numbered};
 ghost use Rattle.sja_bus.specs.Inside.Rows.{AreReady, EachSeat, SeatTakes, SeatOpens, SeatTicks, GoesAll, AllRead, driven_by};
 ghost use Rattle.sja_bus.specs.Inside.Whole.{IsRowBit};
+ghost use Rattle.sja_bus.specs.Inside.Refusing.{HaveRoom, SeatRefuses};
 
 use super::board::Board;
 use super::bus_fault::BusFault;
@@ -24,6 +25,8 @@ pub(crate) fn gather_all<E: BusEnd>(seats: &mut [Seat], links: &mut [E]) -> Resu
     ensures goes { OnOk result (GoesAll E.same E.stands seats.old seats.new links.old links.new) }
     ensures items { OnOk result (EachSeat SeatTakes seats.old seats.new) }
     ensures dry { OnOk result (AllRead E.dry seats.new links.new) }
+    ensures rooms { OnOk result ((n : ℕ) → HaveRoom n seats.old → HaveRoom n seats.new) }
+    ensures refused { IfErr result (λ f. SeatRefuses E.stands seats.old seats.new links.old links.new f) }
 {
     for k in 0..seats.len() {
         seats[k].gather(links, LINKS * k)?;
@@ -46,6 +49,7 @@ pub(crate) fn open_all<E: BusEnd, B: Board>(
     ensures goes { OnOk result (GoesAll E.same E.stands seats.old seats.new links.old links.new) }
     ensures opens { OnOk result (EachSeat (SeatOpens (B.orders_are board.now)) seats.old seats.new) }
     ensures dry { OnOk result (AllRead E.dry seats.new links.new) }
+    ensures rooms { OnOk result ((n : ℕ) → HaveRoom n seats.old → HaveRoom n seats.new) }
 {
     for k in 0..seats.len() {
         seats[k].open_bit(links, LINKS * k, board)?;
@@ -94,6 +98,7 @@ pub(crate) fn tick_all<E: BusEnd>(
     ensures ready { OnOk result (AreReady seats.new) }
     ensures goes { OnOk result (GoesAll E.same E.stands seats.old seats.new links.old links.new) }
     ensures ticks { OnOk result (EachSeat (SeatTicks struck level) seats.old seats.new) }
+    ensures rooms { OnOk result ((n : ℕ) → HaveRoom n seats.old → HaveRoom n seats.new) }
 {
     for k in 0..seats.len() {
         let sees = seen(level, struck.has(k));
@@ -119,6 +124,7 @@ pub(crate) fn bit_all<E: BusEnd, B: Board>(
     ensures ready { OnOk result (AreReady seats.new) }
     ensures goes { OnOk result (GoesAll E.same E.stands seats.old seats.new links.old links.new) }
     ensures bit { OnOk result (IsRowBit (B.orders_are board.now) struck seats.old seats.new) }
+    ensures rooms { OnOk result ((n : ℕ) → HaveRoom n seats.old → HaveRoom n seats.new) }
 {
     open_all(seats, links, board)?;
     let level = level_of(seats);

@@ -17,6 +17,7 @@ impl Seat {
     ghost use Rattle.std.specs.Prelude.{◌≡◌, ◌≢◌, ◌+◌, [], true, false, IfOk};
     ghost use Rattle.sja_link.specs.BusLedgers.{link_of};
     ghost use Rattle.sja_bus.specs.Inside.Following.{open_in};
+    ghost use Rattle.sja_bus.specs.Reasons.{room_for};
     ghost use Rattle.sja_bus.specs.Inside.Ending.{IsLog};
     ghost use Rattle.sja_bus.specs.Inside.Seats.{IsReady};
 
@@ -27,6 +28,7 @@ impl Seat {
         ensures ready { IfOk result (λ s. IsReady s) }
         ensures own { IfOk result (λ s. (link_of s.ledger).node ≡ number) }
         ensures empty { IfOk result (λ s. s.journal.entries ≡ []) }
+        ensures room { IfOk result (λ s. s.journal.room ≡ room_for bits) }
     {
         let journal = Journal::new(alloc, bits)?;
         let node = Node::new();

@@ -65,6 +65,7 @@ impl Bus {
     ghost use Rattle.sja_bus.specs.Resting.{RestsAs};
     ghost use Rattle.sja_bus.specs.Lawful.{IsBusRun, CountersAre};
     ghost use Rattle.sja_bus.specs.Buses.{EachJournal, KeepsAll, AllDry, IsBit, new_bus};
+    ghost use Rattle.sja_bus.specs.Reasons.{IsNotTaken};
 
     /// A bus of so many nodes, 1 to 8, for a run of so many bits, 1 to 200,000. All its room is reserved here.
     ///
@@ -107,6 +108,8 @@ impl Bus {
         ensures dry { OnOk result (AllDry E.dry self.new.journals links.new) }
         ensures right { OnOk result (self.new.fault ≡ None) }
         ensures fault { IfErr result (λ f. self.new.fault ≡ Some f) }
+        ensures reason { IfErr result (λ f. self.old.fault ≡ None → IsNotTaken E.stands (self.old.run + self.old.left)
+            self.old.journals self.new.journals links.old links.new f) }
         ensures stays { (f : Fault) → self.old.fault ≡ Some f →
             (result ≡ Err f) × (self.new ≡ self.old) × (links.new ≡ links.old) }
     {

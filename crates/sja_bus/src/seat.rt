@@ -41,6 +41,7 @@ impl Seat {
     ghost use Rattle.sja_bus.specs.Inside.Seats.{IsSound, IsSeat, IsReady};
     ghost use Rattle.sja_bus.specs.Inside.Taking.{Applies, IsFull};
     ghost use Rattle.sja_bus.specs.OneBit.{Opens};
+    ghost use Rattle.sja_bus.specs.Reasons.{RefusesItem};
 
     /// The number of the node.
     pub(crate) fn number(&self) -> u8
@@ -70,6 +71,7 @@ impl Seat {
     #[inline(always)]
     fn enter_bit(&mut self, driven: Level, seen: Level) -> Result<(), BusFault>
         ensures others { self.new ≡ record self.old { journal = self.new.journal } }
+        ensures room { self.new.journal.room ≡ self.old.journal.room }
         ensures ok { OnOk result ((self.new.journal.entries ≡ self.old.journal.entries ++ BitEntry driven seen ∷ [])
             × (length self.old.journal.entries < self.old.journal.room)) }
     {
@@ -87,11 +89,14 @@ impl Seat {
         requires seat { IsSeat self.old }
         ensures sames { EachRelated E.same links.old links.new }
         ensures node { (link_of self.new.ledger).node ≡ (link_of self.old.ledger).node }
+        ensures room { self.new.journal.room ≡ self.old.journal.room }
         ensures sound { OnOk result (IsSound self.new) }
         ensures seat { OnOk result (IsSeat self.new) }
         ensures goes { OnOk result (Goes E.same E.stands self.old.journal.entries self.new.journal.entries links.old links.new base) }
         ensures items { OnOk result (HasItems self.old.journal.entries self.new.journal.entries) }
         ensures dry { OnOk result ((d : E) → self.new.ended < 8 → E.dry (slice_index_or links.new (base + self.new.ended) d)) }
+        ensures refused { IfErr result (λ f. RefusesItem E.stands self.old.journal.room self.old.journal.entries
+            self.new.journal.entries links.old links.new base (link_of self.old.ledger).node f) }
     {
         loop {
             if self.ended >= 8 {
@@ -111,10 +116,13 @@ impl Seat {
         requires ready { IsReady self.old }
         ensures sames { EachRelated E.same links.old links.new }
         ensures node { (link_of self.new.ledger).node ≡ (link_of self.old.ledger).node }
+        ensures room { self.new.journal.room ≡ self.old.journal.room }
         ensures ready { OnOk result (IsReady self.new) }
         ensures goes { OnOk result (Goes E.same E.stands self.old.journal.entries self.new.journal.entries links.old links.new base) }
         ensures items { OnOk result (HasItems self.old.journal.entries self.new.journal.entries) }
         ensures dry { OnOk result ((d : E) → self.new.ended < 8 → E.dry (slice_index_or links.new (base + self.new.ended) d)) }
+        ensures refused { IfErr result (λ f. RefusesItem E.stands self.old.journal.room self.old.journal.entries
+            self.new.journal.entries links.old links.new base (link_of self.old.ledger).node f) }
     {
         self.take_all(links, base)?;
         self.drives = self.node.drive();
@@ -127,6 +135,7 @@ impl Seat {
         requires reads { Reads self.old.node (self.old.journal.entries ++ AbortEntry ∷ []) self.old.ended self.old.activity (free_in self.old.ledger) }
         requires seat { IsSeat self.old }
         ensures ledger { self.new.ledger ≡ self.old.ledger }
+        ensures room { self.new.journal.room ≡ self.old.journal.room }
         ensures ready { OnOk result (IsReady self.new) }
         ensures ended { self.new.ended ≡ self.old.ended }
         ensures entered { OnOk result (self.new.journal.entries ≡ self.old.journal.entries ++ AbortEntry ∷ []) }
@@ -140,6 +149,7 @@ impl Seat {
     pub(crate) fn abort(&mut self) -> Result<(), BusFault>
         requires ready { IsReady self.old }
         ensures ledger { self.new.ledger ≡ self.old.ledger }
+        ensures room { self.new.journal.room ≡ self.old.journal.room }
         ensures ready { OnOk result (IsReady self.new) }
         ensures ended { self.new.ended ≡ self.old.ended }
         ensures aborts { OnOk result (Applies self.old.journal.entries self.new.journal.entries) }
@@ -167,6 +177,7 @@ impl Seat {
         requires port { (link_of self.old.ledger).node < B.ports board.now }
         ensures sames { EachRelated E.same links.old links.new }
         ensures node { (link_of self.new.ledger).node ≡ (link_of self.old.ledger).node }
+        ensures room { self.new.journal.room ≡ self.old.journal.room }
         ensures ready { OnOk result (IsReady self.new) }
         ensures goes { OnOk result (Goes E.same E.stands self.old.journal.entries self.new.journal.entries links.old links.new base) }
         ensures opens { OnOk result (Opens (B.orders_are board.now (link_of self.old.ledger).node) self.old.journal.entries self.new.journal.entries) }
@@ -193,6 +204,7 @@ impl Seat {
         requires seat { IsSeat self.old }
         ensures sames { EachRelated E.same links.old links.new }
         ensures node { (link_of self.new.ledger).node ≡ (link_of self.old.ledger).node }
+        ensures room { self.new.journal.room ≡ self.old.journal.room }
         ensures sound { OnOk result (IsSound self.new) }
         ensures seat { OnOk result (IsSeat self.new) }
         ensures samples { IfOk result (λ heard. Samples self.old.node self.new.node seen heard.events) }
@@ -219,6 +231,7 @@ impl Seat {
         requires ready { IsReady self.old }
         ensures sames { EachRelated E.same links.old links.new }
         ensures node { (link_of self.new.ledger).node ≡ (link_of self.old.ledger).node }
+        ensures room { self.new.journal.room ≡ self.old.journal.room }
         ensures ready { OnOk result (IsReady self.new) }
         ensures goes { OnOk result (Goes E.same E.stands self.old.journal.entries self.new.journal.entries links.old links.new base) }
         ensures adds { OnOk result (HasBit self.old.journal.entries self.old.drives seen self.new.journal.entries) }

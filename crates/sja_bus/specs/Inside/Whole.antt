@@ -7,15 +7,19 @@ use Rattle.sja_bus.specs.declared.struck_nodes.StruckNodes.{StruckNodes}
 use Rattle.sja_bus.specs.declared.seat.Seat.{Seat}
 use Rattle.sja_bus.specs.StrikesByBit.{Scripted}
 use Rattle.sja_bus.specs.Wire.{wired}
+use Rattle.sja_bus.specs.Reasons.{room_for}
+use Rattle.sja_bus.specs.Inside.Refusing.{HaveRoom}
 use Rattle.sja_bus.specs.Inside.Rows.{IsBus, EachSeat, SeatOpens, SeatTicks, driven_by}
 
--- one to eight nodes, as many bits as it is known whom the script strikes, and while there is no fault a bus
+-- one to eight nodes, as many bits as it is known whom the script strikes, and while there is no fault a bus, with room
+-- for all its bits
 pub record IsWhole (struck : Scripted) (run left : ℕ) (fault : Option BusFault) (seats : List Seat) (room : ℕ) : Type 0 where
   pub few : length seats ≤ 8
   pub bits : run + left ≡ struck.bits
   pub most : struck.bits ≤ 200000
   pub bus : fault ≡ None → IsBus struck.script run seats
   pub logs : length seats ≤ room
+  pub rooms : fault ≡ None → HaveRoom (room_for struck.bits) seats
 
 -- one bit of all seats: what was taken and aborted, and then each had its bit at the level that all drove
 pub record IsRowBit (orders_are : ℕ → Orders → Type 0) (struck : StruckNodes) (old new : List Seat) : Type 0 where

@@ -29,3 +29,6 @@ returns-clause-bit g c =
       ticks = q;
     })
     c.tick_all.ensures.ticks
+
+pub returns-clause-rooms : goal.returns-clause-rooms
+returns-clause-rooms g c = ok_map c.tick_all.result (λ q. λ n h. q n (c.in_ok-open_all.ensures.rooms n h)) c.tick_all.ensures.rooms

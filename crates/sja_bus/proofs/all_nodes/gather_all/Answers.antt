@@ -1,11 +1,13 @@
 use Rattle.std.proofs.Common.{◌≡◌, ℕ, suc, ◌+◌, ◌*◌, ◌<◌, ◌≤◌, Bool, true, false, List, [], ◌∷◌, ◌++◌, length, drop, rules, arith, refl, sym, ap, ◌∙◌, subst}
 use Rattle.sja_link.specs.declared.link_id.LinkId.{LinkId}
-use Rattle.std.specs.Prelude.{slice_index_or}
+use Rattle.std.specs.Prelude.{Err, slice_index_or, slice_set}
 use Rattle.sja_bus.specs.declared.seat.Seat.{Seat}
 use Rattle.sja_bus.specs.Inside.Rows.{SeatTakes, SeatOpens, SeatTicks, seen_by}
-use Rattle.sja_bus.proofs.Lists.{each_trans}
+use Rattle.sja_bus.specs.Inside.Refusing.{SeatRefuses}
+use Rattle.sja_bus.proofs.Lists.{each_trans, err_is}
 use Rattle.sja_bus.proofs.Running.{seen_is}
 use Rattle.sja_bus.proofs.Many.{or_same, goes_all_refl, goes_all_one, ready_one, numbered_at, dry_one, done_none, done_one, done_all}
+use Rattle.sja_bus.proofs.Refusing.{refuses_seat, rooms_one}
 use Rattle.sja_bus.proofs.all_nodes.gather_all.Goals as goal
 
 pub loop-k-init : goal.loop-k-init
@@ -13,6 +15,7 @@ loop-k-init g c = record {
   ready = c.requires.ready;
   dry = λ m s d l. absurd (omega arith);
   goes = goes_all_refl g.E.BusEnd.same g.E.BusEnd.stands g.met.E.BusEnd.same_refl c.args.seats.now c.args.links.now;
+  rooms = λ n h. h;
   done = done_none SeatTakes c.args.seats.now;
 }
 
@@ -38,8 +41,23 @@ loop-k-preserved g c =
       ready = ready_one c.loop-k.seats k c.gather.new.self here c.loop-k.invariant.ready (record { ready = did.ready; own = did.node ∙ n });
       dry = dry_one E.dry c.loop-k.seats c.loop-k.links c.gather.new.links k c.gather.new.self here did.goes.others did.dry c.loop-k.invariant.dry;
       goes = goes_all_one E.same E.stands g.met.E.BusEnd.same_trans c.args.seats.now c.loop-k.seats c.args.links.now c.loop-k.links c.gather.new.links k c.index-seats-k.result c.gather.new.self here c.loop-k.auto.seats c.loop-k.invariant.goes did.goes;
+      rooms = λ n h. rooms_one n c.loop-k.seats k c.index-seats-k.result c.gather.new.self here c.gather.ensures.room (c.loop-k.invariant.rooms n h);
       done = done_one SeatTakes k c.args.seats.now c.loop-k.seats c.index-seats-k.result c.gather.new.self was c.loop-k.auto.seats did.items c.loop-k.invariant.done;
     }
 
 pub returns-clause-items : goal.returns-clause-items
 returns-clause-items g c = done_all SeatTakes c.loop-k.k c.args.seats.now c.loop-k.seats (search rules) c.loop-k.invariant.done
+
+pub returns-in_err-gather-clause-refused : goal.returns-in_err-gather-clause-refused
+returns-in_err-gather-clause-refused g c =
+    let E = g.E.BusEnd in let k = c.loop-k.k in let s = c.index-seats-k.result in
+    let before = c.args.seats.now in let inv = c.loop-k.invariant in
+    let was : k < length before = search rules in
+    let is : c.from_residual.result ≡ Err c.in_err-gather.field-0.0 = search rules in
+    let P : _ → Type 0 = λ f. SeatRefuses E.stands before (slice_set c.loop-k.seats k c.gather.new.self) c.args.links.now c.gather.new.links f in
+    err_is P c.from_residual.result c.in_err-gather.field-0.0 is
+    (refuses_seat E.same E.stands SeatTakes before c.loop-k.seats c.args.links.now c.loop-k.links c.gather.new.links k s c.gather.new.self c.in_err-gather.field-0.0
+    was c.loop-k.auto.seats inv.ready inv.goes inv.done c.in_err-gather.ensures.refused)
+
+pub returns-clause-rooms : goal.returns-clause-rooms
+returns-clause-rooms g c = c.loop-k.invariant.rooms

@@ -6,6 +6,7 @@ use Rattle.sja_bus.specs.Inside.Rows.{SeatTakes, SeatOpens, SeatTicks, seen_by}
 use Rattle.sja_bus.proofs.Lists.{each_trans}
 use Rattle.sja_bus.proofs.Running.{seen_is}
 use Rattle.sja_bus.proofs.Many.{or_same, goes_all_refl, goes_all_one, ready_one, numbered_at, dry_one, done_none, done_one, done_all}
+use Rattle.sja_bus.proofs.Refusing.{rooms_one}
 use Rattle.sja_bus.proofs.all_nodes.open_all.Goals as goal
 
 pub loop-k-init : goal.loop-k-init
@@ -13,6 +14,7 @@ loop-k-init g c = record {
   ready = c.requires.ready;
   dry = λ m s d l. absurd (omega arith);
   goes = goes_all_refl g.E.BusEnd.same g.E.BusEnd.stands g.met.E.BusEnd.same_refl c.args.seats.now c.args.links.now;
+  rooms = λ n h. h;
   done = done_none (SeatOpens (g.B.Board.orders_are c.args.board.now)) c.args.seats.now;
 }
 
@@ -40,8 +42,12 @@ loop-k-preserved g c =
       ready = ready_one c.loop-k.seats k c.open_bit.new.self here c.loop-k.invariant.ready (record { ready = did.ready; own = did.node ∙ n });
       dry = dry_one E.dry c.loop-k.seats c.loop-k.links c.open_bit.new.links k c.open_bit.new.self here did.goes.others did.dry c.loop-k.invariant.dry;
       goes = goes_all_one E.same E.stands g.met.E.BusEnd.same_trans c.args.seats.now c.loop-k.seats c.args.links.now c.loop-k.links c.open_bit.new.links k c.index-seats-k.result c.open_bit.new.self here c.loop-k.auto.seats c.loop-k.invariant.goes did.goes;
+      rooms = λ n h. rooms_one n c.loop-k.seats k c.index-seats-k.result c.open_bit.new.self here c.open_bit.ensures.room (c.loop-k.invariant.rooms n h);
       done = done_one (SeatOpens (g.B.Board.orders_are c.args.board.now)) k c.args.seats.now c.loop-k.seats c.index-seats-k.result c.open_bit.new.self was c.loop-k.auto.seats opened c.loop-k.invariant.done;
     }
 
 pub returns-clause-opens : goal.returns-clause-opens
 returns-clause-opens g c = done_all (SeatOpens (g.B.Board.orders_are c.args.board.now)) c.loop-k.k c.args.seats.now c.loop-k.seats (search rules) c.loop-k.invariant.done
+
+pub returns-clause-rooms : goal.returns-clause-rooms
+returns-clause-rooms g c = c.loop-k.invariant.rooms

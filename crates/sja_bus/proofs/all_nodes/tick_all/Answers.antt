@@ -8,12 +8,14 @@ use Rattle.sja_bus.specs.Inside.Rows.{SeatTakes, SeatOpens, SeatTicks, seen_by}
 use Rattle.sja_bus.proofs.Lists.{each_trans}
 use Rattle.sja_bus.proofs.Running.{seen_is}
 use Rattle.sja_bus.proofs.Many.{or_same, goes_all_refl, goes_all_one, ready_one, numbered_at, dry_one, done_none, done_one, done_all}
+use Rattle.sja_bus.proofs.Refusing.{rooms_one}
 use Rattle.sja_bus.proofs.all_nodes.tick_all.Goals as goal
 
 pub loop-k-init : goal.loop-k-init
 loop-k-init g c = record {
   ready = c.requires.ready;
   goes = goes_all_refl g.E.BusEnd.same g.E.BusEnd.stands g.met.E.BusEnd.same_refl c.args.seats.now c.args.links.now;
+  rooms = λ n h. h;
   done = done_none (SeatTicks c.args.struck c.args.level) c.args.seats.now;
 }
 
@@ -42,8 +44,12 @@ loop-k-preserved g c =
     record {
       ready = ready_one c.loop-k.seats k c.tick.new.self here c.loop-k.invariant.ready (record { ready = did.ready; own = did.node ∙ n });
       goes = goes_all_one E.same E.stands g.met.E.BusEnd.same_trans c.args.seats.now c.loop-k.seats c.args.links.now c.loop-k.links c.tick.new.links k c.index-seats-k.result c.tick.new.self here c.loop-k.auto.seats c.loop-k.invariant.goes did.goes;
+      rooms = λ n h. rooms_one n c.loop-k.seats k c.index-seats-k.result c.tick.new.self here c.tick.ensures.room (c.loop-k.invariant.rooms n h);
       done = done_one (SeatTicks c.args.struck c.args.level) k c.args.seats.now c.loop-k.seats c.index-seats-k.result c.tick.new.self was c.loop-k.auto.seats (did_now) c.loop-k.invariant.done;
     }
 
 pub returns-clause-ticks : goal.returns-clause-ticks
 returns-clause-ticks g c = done_all (SeatTicks c.args.struck c.args.level) c.loop-k.k c.args.seats.now c.loop-k.seats (search rules) c.loop-k.invariant.done
+
+pub returns-clause-rooms : goal.returns-clause-rooms
+returns-clause-rooms g c = c.loop-k.invariant.rooms

@@ -1,11 +1,13 @@
 use Rattle.std.proofs.Common.{◌≡◌, ℕ, ◌*◌, ◌+◌, ◌<◌, length}
 use Rattle.std.specs.Prelude.{slice_index_or}
 use Rattle.sja_bus.specs.Inside.Rows.{AreReady, GoesAll, Done, SeatTakes, SeatOpens, SeatTicks}
+use Rattle.sja_bus.specs.Inside.Refusing.{HaveRoom}
 use Rattle.sja_bus.proofs.all_nodes.tick_all.Given as goal
 
 abbrev pub invariant-loop-k : goal.invariant-loop-k
 invariant-loop-k g l = record {
   ready : AreReady l.seats;
   goes : GoesAll g.E.BusEnd.same g.E.BusEnd.stands l.initial.seats l.seats l.initial.links l.links;
+  rooms : (n : ℕ) → HaveRoom n l.initial.seats → HaveRoom n l.seats;
   done : Done (SeatTicks l.struck l.level) l.k l.initial.seats l.seats;
 }

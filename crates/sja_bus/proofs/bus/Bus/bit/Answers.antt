@@ -5,6 +5,8 @@ use Rattle.sja_bus.specs.declared.seat.Seat.{Seat}
 use Rattle.sja_bus.specs.Buses.{BusValue, KeepsAll, IsBit}
 use Rattle.sja_bus.specs.Inside.Rows.{journals_of, GoesAll}
 use Rattle.sja_bus.specs.Inside.Whole.{IsWhole, IsRowBit}
+use Rattle.sja_bus.specs.Reasons.{room_for}
+use Rattle.sja_bus.specs.Inside.Refusing.{HaveRoom}
 use Rattle.sja_bus.proofs.Lists.{each_refl}
 use Rattle.sja_bus.proofs.Journals.{wired_row, is_bit}
 use Rattle.sja_bus.proofs.Journals.{keeps_all}
@@ -27,6 +29,7 @@ invariant_of-self g c =
     let row : IsRowBit (g.B.Board.orders_are c.args.board.now) c.at-struck.result was now = subst T v c.in-Ok.ensures.bit in
     let some = c.if-self-eq0.false in let bits = inv.bits in
     let few = inv.few in let logs = inv.logs in
+    let H : List Seat → Type 0 = λ l. (n : ℕ) → HaveRoom n l → HaveRoom n now in
     let l : IsWhole b.struck (b.run + 1) (b.left - 1) b.fault now (vec_capacity b.logs) = record {
       few = omega (arith, len, few);
       bits = omega (arith, bits, some);
@@ -36,6 +39,7 @@ invariant_of-self g c =
         wired = wired_row (g.B.Board.orders_are c.args.board.now) b.struck.script b.run c.at-struck.result was now len few c.at-struck.ensures row (inv.bus f).wired;
       };
       logs = omega (arith, len, logs);
+      rooms = λ f. subst H v c.in-Ok.ensures.rooms (room_for b.struck.bits) (inv.rooms f);
     } in
     let P : List Seat → Type 0 = λ xs. IsWhole b.struck (b.run + 1) (b.left - 1) b.fault xs (vec_capacity b.logs) in
     (subst P (sym e) l, c.self.invariant.1)

@@ -6,9 +6,12 @@ use Rattle.sja_bus.specs.OneBit.{HasItems}
 use Rattle.sja_bus.specs.Buses.{BusValue, EachJournal, KeepsAll, AllDry}
 use Rattle.sja_bus.specs.Inside.Rows.{journals_of, GoesAll, EachSeat, SeatTakes}
 use Rattle.sja_bus.specs.Inside.Whole.{IsWhole}
+use Rattle.sja_bus.specs.Reasons.{room_for, IsNotTaken}
+use Rattle.sja_bus.specs.Inside.Refusing.{HaveRoom, SeatRefuses}
 use Rattle.sja_bus.proofs.Lists.{each_refl}
 use Rattle.sja_bus.proofs.Running.{wired_taken}
 use Rattle.sja_bus.proofs.Journals.{keeps_all, all_items, all_dry}
+use Rattle.sja_bus.proofs.Refusing.{not_taken}
 use Rattle.sja_bus.proofs.bus.Bus.gather.Goals as goal
 
 pub returns-in-Some-clause-sames : goal.returns-in-Some-clause-sames
@@ -24,6 +27,7 @@ invariant_of-self g c =
     let T : List Seat → Type 0 = λ l. EachSeat SeatTakes l now in
     let takes : EachSeat SeatTakes was now = subst T v c.in-Ok.ensures.items in
     let few = inv.few in let logs = inv.logs in
+    let H : List Seat → Type 0 = λ l. (n : ℕ) → HaveRoom n l → HaveRoom n now in
     let l : IsWhole b.struck b.run b.left b.fault now (vec_capacity b.logs) = record {
       few = omega (arith, len, few);
       bits = inv.bits;
@@ -33,6 +37,7 @@ invariant_of-self g c =
         wired = wired_taken b.struck.script b.run was now len takes (inv.bus f).wired;
       };
       logs = omega (arith, len, logs);
+      rooms = λ f. subst H v c.in-Ok.ensures.rooms (room_for b.struck.bits) (inv.rooms f);
     } in
     let P : List Seat → Type 0 = λ xs. IsWhole b.struck b.run b.left b.fault xs (vec_capacity b.logs) in
     (subst P (sym e) l, c.self.invariant.1)
@@ -72,3 +77,19 @@ returns-in-Ok-clause-dry g c =
     let e : take b.seats.len (now ++ drop (length now) was) ≡ now = grind (arith, common_steps) in
     let Q : List Seat → Type 0 = λ xs. AllDry E.dry (journals_of xs) c.gather_all.new.links in
     subst Q (sym e) (all_dry E.dry now c.gather_all.new.links c.in-Ok.ensures.ready c.in-Ok.ensures.dry)
+
+pub returns-in-Err-clause-reason : goal.returns-in-Err-clause-reason
+returns-in-Err-clause-reason g c = λ none.
+    let E = g.E.BusEnd in let b = c.self.inside in let inv = c.self.invariant.0 in
+    let now = c.gather_all.new.seats in let was = b.seats.items in let f = c.in-Err.fault in
+    let before = c.args.links.now in let after = c.gather_all.new.links in
+    let v : c.as_mut_slice.result.now ≡ was = c.as_mut_slice.ensures.value in
+    let len : length now ≡ length was = c.gather_all.auto.seats ∙ ap (λ (l : List Seat). length l) v in
+    let e : take b.seats.len (now ++ drop (length now) was) ≡ now = grind (arith, common_steps) in
+    let S : List Seat → Type 0 = λ l. SeatRefuses E.stands l now before after f in
+    let right : b.fault ≡ None = ap (λ (w : BusValue). w.fault) c.self.view_is ∙ none in
+    let N : ℕ → Type 0 = λ n. IsNotTaken E.stands n (journals_of was) (journals_of now) before after f in
+    let reason = subst N (sym inv.bits) (not_taken E.stands b.struck.bits was now before after f len (inv.rooms right) (subst S v c.in-Err.ensures.refused)) in
+    let P : BusValue → Type 0 = λ w. IsNotTaken E.stands (w.run + w.left) w.journals (journals_of now) before after f in
+    let Q : List Seat → Type 0 = λ xs. IsNotTaken E.stands (c.args.self.now.run + c.args.self.now.left) c.args.self.now.journals (journals_of xs) before after f in
+    subst Q (sym e) (subst P c.self.view_is reason)

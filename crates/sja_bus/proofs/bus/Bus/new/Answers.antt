@@ -6,6 +6,9 @@ use Rattle.sja_bus.specs.Buses.{BusValue}
 use Rattle.sja_bus.specs.StrikesByBit.{Scripted}
 use Rattle.sja_bus.specs.Inside.Rows.{journals_of, IsBus}
 use Rattle.sja_bus.specs.Inside.Whole.{IsWhole}
+use Rattle.sja_bus.specs.Reasons.{room_for}
+use Rattle.sja_bus.specs.Inside.Refusing.{HaveRoom}
+use Rattle.sja_bus.proofs.Refusing.{rooms_push}
 use Rattle.sja_bus.proofs.Logs.{AreNew, new_push, new_journals, new_bus}
 use Rattle.sja_bus.proofs.bus.Bus.new.Goals as goal
 
@@ -14,10 +17,12 @@ loop-node-preserved c =
     let n = c.loop-node.node in
     let made = c.in_ok-new.ensures in
     let P : List Seat → Type 0 = λ l. AreNew (n + 1) l in
+    let Q : List Seat → Type 0 = λ l. HaveRoom (room_for c.args.bits) l in
     record {
       count = search rules;
       room = search rules;
       made = rw c.push_reserved.ensures.items (new_push n c.loop-node.seats.items _ (search rules) (record { is_of = record { ready = made.ready; own = made.own }; empty = made.empty }) c.loop-node.invariant.made);
+      rooms = subst Q (sym c.push_reserved.ensures.items) (rooms_push (room_for c.args.bits) c.loop-node.seats.items _ made.room c.loop-node.invariant.rooms);
     }
 
 pub invariant_of-result : goal.invariant_of-result
@@ -35,6 +40,7 @@ invariant_of-result c =
         most = most;
         bus = λ f. new_bus c.args.script seats new;
         logs = omega (arith, n, room);
+        rooms = λ f. c.loop-node.invariant.rooms;
       }),
       (search rules),
     )

@@ -1,4 +1,6 @@
 use Rattle.std.proofs.Common.{◌≡◌, vec_len, vec_capacity}
+use Rattle.sja_bus.specs.Reasons.{room_for}
+use Rattle.sja_bus.specs.Inside.Refusing.{HaveRoom}
 use Rattle.sja_bus.proofs.Logs.{AreNew}
 use Rattle.sja_bus.proofs.bus.Bus.new.Given as goal
 
@@ -8,4 +10,5 @@ invariant-loop-node l = record {
   count : vec_len l.seats ≡ l.node;
   room : vec_capacity l.seats ≡ l.nodes;
   made : AreNew l.node l.seats.items;
+  rooms : HaveRoom (room_for l.bits) l.seats.items;
 }

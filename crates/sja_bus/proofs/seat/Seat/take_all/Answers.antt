@@ -1,9 +1,11 @@
 use Rattle.std.proofs.Common.{◌≡◌, ℕ, suc, ◌+◌, ◌<◌, ◌≤◌, Bool, true, false, List, [], ◌∷◌, ◌++◌, length, rules, arith, refl, sym, ap, ◌∙◌, subst}
-use Rattle.std.specs.Prelude.{slice_index_or, slice_set}
+use Rattle.std.specs.Prelude.{Err, slice_index_or, slice_set}
 use Rattle.sja_link.specs.declared.link_id.LinkId.{LinkId}
 use Rattle.sja_link.specs.BusLedgers.{link_of}
-use Rattle.sja_bus.proofs.Lists.{each_at, each_trans, each_one}
+use Rattle.sja_bus.specs.Reasons.{RefusesItem}
+use Rattle.sja_bus.proofs.Lists.{each_at, each_trans, each_one, err_is}
 use Rattle.sja_bus.proofs.Moving.{goes_refl, goes_trans, goes_one}
+use Rattle.sja_bus.proofs.Refusing.{refuses_link}
 use Rattle.sja_bus.proofs.Bits.{items_none, items_push}
 use Rattle.sja_bus.proofs.seat.Seat.take_all.Goals as goal
 
@@ -12,6 +14,7 @@ loop-self-init g c = record {
   sound = c.requires.sound;
   seat = c.requires.seat;
   node = refl;
+  room = refl;
   goes = goes_refl g.E.BusEnd.same g.E.BusEnd.stands g.met.E.BusEnd.same_refl c.args.self.now.journal.entries c.args.links.now c.args.base;
   items = items_none c.args.self.now.journal.entries;
 }
@@ -50,7 +53,18 @@ loop-self-preserved g c =
       sound = c.in_ok-take.ensures.sound;
       seat = c.in_ok-take.ensures.seat;
       node = c.take.ensures.node ∙ c.loop-self.invariant.node;
+      room = c.take.ensures.room ∙ c.loop-self.invariant.room;
       goes = goes_trans E.same E.stands met.same_trans c.args.self.now.journal.entries s.journal.entries c.take.new.self.journal.entries c.args.links.now c.loop-self.links (slice_set c.loop-self.links (c.args.base + s.ended) c.take.new.end) c.args.base c.loop-self.invariant.goes
           (goes_one E.same E.stands met.same_refl s.journal.entries c.take.new.self.journal.entries c.loop-self.links c.args.base s.ended c.index-links-here.result c.take.new.end c.if-self-ge8.false room c.take.ensures.same c.in_ok-take.ensures.moves);
       items = items_push c.args.self.now.journal.entries s.journal.entries c.take.new.self.journal.entries took.0 took.1 c.loop-self.invariant.items;
     }
+
+pub returns-in_err-take-clause-refused : goal.returns-in_err-take-clause-refused
+returns-in_err-take-clause-refused g c =
+    let E = g.E.BusEnd in let s = c.loop-self.self in let inv = c.loop-self.invariant in
+    let room : c.args.base + 8 ≤ length c.loop-self.links = omega (arith, c.requires.room, c.loop-self.auto.links) in
+    let is : c.from_residual.result ≡ Err c.in_err-take.field-0.0 = search rules in
+    let P : _ → Type 0 = λ f. RefusesItem E.stands c.args.self.now.journal.room c.args.self.now.journal.entries c.take.new.self.journal.entries c.args.links.now (slice_set c.loop-self.links (c.args.base + s.ended) c.take.new.end) c.args.base (link_of c.args.self.now.ledger).node f in
+    err_is P c.from_residual.result c.in_err-take.field-0.0 is
+    (refuses_link E.same E.stands c.args.self.now.journal.entries s c.take.new.self c.args.links.now c.loop-self.links c.args.base c.args.self.now.journal.room (link_of c.args.self.now.ledger).node
+    c.index-links-here.result c.take.new.end c.in_err-take.field-0.0 c.if-self-ge8.false room inv.sound inv.node inv.room inv.items inv.goes c.in_err-take.ensures.refused)

@@ -10,6 +10,7 @@ invariant-loop-self g l = record {
   sound : IsSound l.self;
   seat : IsSeat l.self;
   node : (link_of l.self.ledger).node ≡ (link_of l.initial.self.ledger).node;
+  room : l.self.journal.room ≡ l.initial.self.journal.room;
   goes : Goes g.E.BusEnd.same g.E.BusEnd.stands l.initial.self.journal.entries l.self.journal.entries l.initial.links l.links l.base;
   items : HasItems l.initial.self.journal.entries l.self.journal.entries;
 }
