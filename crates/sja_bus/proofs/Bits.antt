@@ -18,7 +18,7 @@ use Rattle.sja_link.specs.Parts.{part}
 use Rattle.sja_link.specs.Carried.{bits_of, bit_in}
 use Rattle.sja_link.specs.Verdicts.{filter_of, PassesAny, IsDue, entry_of}
 use Rattle.sja_link.proofs.Entering.{gathered_push, gathered_append}
-use Rattle.sja_bus.specs.OneBit.{HasItems, HasAbort, abort_as, entries_of_items, judged_as, off_as, HasVerdict, HasBit}
+use Rattle.sja_bus.specs.OneBit.{IsRead, AreRead, HasItems, HasAbort, abort_as, entries_of_items, judged_as, off_as, HasVerdict, HasBit}
 use Rattle.sja_bus.specs.Inside.Following.{Follows, FollowsBit}
 use Rattle.sja_bus.specs.Inside.Seats.{Keeps, IsJudged}
 use Rattle.sja_bus.proofs.Steps.{follows_bit, follows_stopped, follows_judged}
@@ -92,16 +92,22 @@ has_off j k after x seen e h = record { verdict = h.verdict; off = true; whole =
 
 -- items one after another
 pub items_none : (j : List Entry) → HasItems j j
-items_none j = record { items = []; whole = sym (append-nil j) }
+items_none j = record { items = []; whole = sym (append-nil j); read = tt }
 
 items_end : (items : List Up) (u : Up) → entries_of_items (items ++ u ∷ []) ≡ entries_of_items items ++ Item u ∷ []
 items_end [] u = refl
 items_end (v ∷ items) u = ap (λ l. Item v ∷ l) (items_end items u)
 
-pub items_push : (j k after : List Entry) (u : Up) → after ≡ k ++ Item u ∷ [] → HasItems j k → HasItems j after
-items_push j k after u e h = record {
+read_push : (j : List Entry) (items : List Up) (u : Up) → AreRead j items → IsRead (j ++ entries_of_items items) u → AreRead j (items ++ u ∷ [])
+read_push j [] u h r = (subst (λ (l : List Entry). IsRead l u) (append-nil j) r, tt)
+read_push j (v ∷ items) u h r =
+    (h.0, read_push (j ++ Item v ∷ []) items u h.1 (subst (λ (l : List Entry). IsRead l u) (sym (append_assoc j (Item v ∷ []) (entries_of_items items))) r))
+
+pub items_push : (j k after : List Entry) (u : Up) → after ≡ k ++ Item u ∷ [] → IsRead k u → HasItems j k → HasItems j after
+items_push j k after u e r h = record {
   items = h.items ++ u ∷ [];
   whole = e ∙ ap (λ l. l ++ Item u ∷ []) h.whole ∙ append_assoc j (entries_of_items h.items) (Item u ∷ []) ∙ ap (λ l. j ++ l) (sym (items_end h.items u));
+  read = read_push j h.items u h.read (subst (λ (l : List Entry). IsRead l u) h.whole r);
 }
 
 abort_no_bit : (changed : Bool) → bits_of (abort_as changed) ≡ []

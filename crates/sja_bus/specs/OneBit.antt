@@ -1,22 +1,35 @@
 -- What one bit adds to the journal of a node (this project's own rule).
-use Rattle.std.specs.Prelude.{◌≡◌, ℕ, Bool, true, false, Option, Some, None, List, [], ◌∷◌, ◌++◌, map}
+use Rattle.std.specs.Prelude.{◌≡◌, ◌<◌, ℕ, suc, Bool, true, false, Option, Some, None, List, [], ◌∷◌, ◌++◌, map}
 use Rattle.can_bits.specs.declared.level.Level.{Level}
 use Rattle.sja_regs.specs.declared.orders.Orders.{Orders}
 use Rattle.sja_link.specs.declared.up.Up.{Up}
 use Rattle.sja_link.specs.declared.verdict.Verdict.{Verdict}
 use Rattle.sja_link.specs.declared.entry.Entry.{Entry}
 use Rattle.sja_link.specs.declared.entry.Entry.TheVariants.{Bit, Up as Item, Abort, Off}
+use Rattle.sja_link.specs.Places.{past, place_of}
 use Rattle.sja_link.specs.Verdicts.{entry_of}
+use Rattle.sja_bus.specs.Links.{per_node, stops_of}
 use Rattle.sja_bus.specs.Aborting.{IsApplied}
 
 -- the entries of items that were taken
 abbrev pub entries_of_items : List Up → List Entry
 entries_of_items items = map (λ u. Item u) items
 
--- the journal has these items more
+-- an item is of the activation whose link is read: the one after those that have ended, and there is one
+pub record IsRead (j : List Entry) (u : Up) : Type 0 where
+  pub activation : (past (place_of j) (Item u)).activation ≡ suc (stops_of j)
+  pub left : stops_of j < per_node
+
+-- items one after another, each of the activation whose link is read then
+abbrev pub AreRead : List Entry → List Up → Type 0
+AreRead j [] = Unit {0}
+AreRead j (u ∷ items) = IsRead j u × AreRead (j ++ Item u ∷ []) items
+
+-- the journal has these items more, each of the activation whose link is read
 pub record HasItems (j k : List Entry) : Type 0 where
   pub items : List Up
   pub whole : k ≡ j ++ entries_of_items items
+  pub read : AreRead j items
 
 -- the entry of an abort that changed the node, or none
 abbrev pub abort_as : Bool → List Entry

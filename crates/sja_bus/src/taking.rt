@@ -126,7 +126,8 @@ impl Seat {
         ensures sound { OnOk result (IsSound self.new) }
         ensures seat { OnOk result (IsSeat self.new) }
         ensures moves { OnOk result (Moves E.stands end.old end.new self.old.journal.entries self.new.journal.entries (suc self.old.ended)) }
-        ensures some { result ≡ Ok true → (item : Given) × (self.new.journal.entries ≡ self.old.journal.entries ++ Item item ∷ []) × (length self.old.journal.entries < self.old.journal.room) }
+        ensures some { result ≡ Ok true → (item : Given) × (self.new.journal.entries ≡ self.old.journal.entries ++ Item item ∷ []) × (length self.old.journal.entries < self.old.journal.room)
+            × ((past (place_of self.old.journal.entries) (Item item)).activation ≡ suc self.old.ended) }
         ensures none { result ≡ Ok false → E.dry end.new × (self.new ≡ self.old) }
         ensures refused { IfErr result (λ f. RefusesHere E.stands end.old end.new self.old self.new f) }
     {

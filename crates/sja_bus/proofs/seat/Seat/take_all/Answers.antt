@@ -56,7 +56,8 @@ loop-self-preserved g c =
       room = c.take.ensures.room ∙ c.loop-self.invariant.room;
       goes = goes_trans E.same E.stands met.same_trans c.args.self.now.journal.entries s.journal.entries c.take.new.self.journal.entries c.args.links.now c.loop-self.links (slice_set c.loop-self.links (c.args.base + s.ended) c.take.new.end) c.args.base c.loop-self.invariant.goes
           (goes_one E.same E.stands met.same_refl s.journal.entries c.take.new.self.journal.entries c.loop-self.links c.args.base s.ended c.index-links-here.result c.take.new.end c.if-self-ge8.false room c.take.ensures.same c.in_ok-take.ensures.moves);
-      items = items_push c.args.self.now.journal.entries s.journal.entries c.take.new.self.journal.entries took.0 took.1 c.loop-self.invariant.items;
+      items = items_push c.args.self.now.journal.entries s.journal.entries c.take.new.self.journal.entries took.0 took.1
+          (record { activation = took.3 ∙ ap suc (sym c.loop-self.invariant.sound.reads.stopped); left = rw c.loop-self.invariant.sound.reads.stopped (omega arith) }) c.loop-self.invariant.items;
     }
 
 pub returns-in_err-take-clause-refused : goal.returns-in_err-take-clause-refused
