@@ -1,11 +1,8 @@
 -- What an abort changed, by every cut.
-use Rattle.std.proofs.Common.{◌≡◌, ◌≢◌, ℕ, suc, ◌+◌, true, false, List, [], ◌∷◌, ◌++◌, inl, inr, refl, sym, ap, ◌∙◌, subst, append-nil, arith}
+use Rattle.std.proofs.Common.{◌≡◌, ◌≢◌, ℕ, true, false, List, [], ◌∷◌, ◌++◌, inl, inr, refl, sym, ap, ◌∙◌, subst, append-nil, arith}
 use Rattle.can_node.specs.declared.aborted.Aborted.{Aborted}
-use Rattle.can_node.specs.declared.aborted.Aborted.TheVariants.{Unchanged, Marked, Dropped}
-use Rattle.can_node.specs.declared.request.Request.{Request}
 use Rattle.can_node.specs.declared.node.Node.{Node}
 use Rattle.can_node.specs.Context.{ContextValue}
-use Rattle.can_node.specs.Pieces.{Place}
 use Rattle.can_node.specs.Record.{Entry as Event}
 use Rattle.can_node.specs.FinishedPieces.{FinishedPiece}
 use Rattle.can_node.specs.Cut.{IsCut}
@@ -15,7 +12,6 @@ use Rattle.can_node.specs.Stands.{Aborts, abort_of}
 use Rattle.can_node.proofs.OneCut.CutOnce.{whole_once}
 use Rattle.sja_link.specs.declared.entry.Entry.{Entry}
 use Rattle.sja_link.specs.declared.entry.Entry.TheVariants.{Abort}
-use Rattle.sja_link.specs.Places.{place_of}
 use Rattle.sja_link.specs.Records.{record_of}
 use Rattle.sja_bus.specs.declared.activity.Activity.{Activity}
 use Rattle.sja_bus.specs.declared.activity.Activity.TheVariants.{Between, Running, Off, OffAndAsked}

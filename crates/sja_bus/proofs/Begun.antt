@@ -1,5 +1,5 @@
 -- Each frame of a node was received in an activation that had begun.
-use Rattle.std.proofs.Common.{◌≡◌, ℕ, ◌+◌, ◌≤◌, Option, Some, None, List, [], ◌∷◌, ◌++◌, refl, sym, ap, ◌∙◌, subst, arith}
+use Rattle.std.proofs.Common.{◌≡◌, ℕ, ◌≤◌, Option, Some, None, List, [], ◌∷◌, ◌++◌, sym, subst, arith}
 use Rattle.can_frame.specs.Frame.{FrameValue}
 use Rattle.can_node.specs.declared.node.Node.{Node}
 use Rattle.can_node.specs.Context.{ContextValue}

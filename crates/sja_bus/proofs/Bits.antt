@@ -1,25 +1,29 @@
 -- One bit of a node that runs.
-use Rattle.std.proofs.Common.{append_assoc, ◌≡◌, ℕ, suc, Bool, true, false, Option, Some, None, List, [], ◌∷◌, ◌++◌, refl, sym, ap, ◌∙◌, subst, append-nil}
+use Rattle.std.proofs.Common.{append_assoc, ◌≡◌, ℕ, ◌+◌, arith, Bool, true, false, Option, Some, None, List, [], ◌∷◌, ◌++◌, refl, sym, ap, ◌∙◌, subst, append-nil}
+use Rattle.std.specs.Prelude.{Result, Ok, Err, OnOk, IfOk}
 use Rattle.can_frame.specs.declared.filter.Filter.{Filter}
 use Rattle.can_frame.specs.Frame.{FrameValue}
 use Rattle.can_frame.specs.Message.{message}
 use Rattle.can_bits.specs.declared.level.Level.{Level}
 use Rattle.can_node.specs.declared.bit_events.BitEvents.{BitEvents}
 use Rattle.can_node.specs.declared.node.Node.{Node}
-use Rattle.can_node.specs.Bits.{Bit as Levels}
 use Rattle.can_node.specs.Stands.{Samples, DrivesNext}
 use Rattle.sja_link.specs.declared.verdict.Verdict.{Verdict}
 use Rattle.sja_link.specs.declared.verdict.Verdict.TheVariants.{Stored as ToStore, Overrun as ToLose}
 use Rattle.sja_link.specs.declared.entry.Entry.{Entry}
 use Rattle.sja_link.specs.declared.up.Up.{Up}
-use Rattle.sja_link.specs.declared.entry.Entry.TheVariants.{Bit, Up as Item, Abort, Off}
+use Rattle.sja_link.specs.declared.entry.Entry.TheVariants.{Bit, Up as Item, Abort, Stored, Overrun, Off}
 use Rattle.sja_link.specs.Places.{place_of}
 use Rattle.sja_link.specs.Parts.{part}
 use Rattle.sja_link.specs.Carried.{bits_of, bit_in}
 use Rattle.sja_link.specs.Verdicts.{filter_of, PassesAny, IsDue, entry_of}
+use Rattle.sja_link.specs.Gathering.{total}
+use Rattle.sja_link.proofs.Freeing.{total_append}
 use Rattle.sja_link.proofs.Entering.{gathered_push, gathered_append}
-use Rattle.sja_bus.specs.OneBit.{IsRead, AreRead, HasItems, HasAbort, abort_as, entries_of_items, judged_as, off_as, HasVerdict, HasBit}
+use Rattle.sja_bus.specs.OneBit.{IsRead, AreRead, HasItems, HasAbort, abort_as, entries_of_items, judged_as, off_as, HasBit}
 use Rattle.sja_bus.specs.Inside.Following.{Follows, FollowsBit}
+use Rattle.sja_bus.specs.declared.heard.Heard.{Heard}
+use Rattle.sja_bus.specs.Inside.Turning.{Hears, Brings}
 use Rattle.sja_bus.specs.Inside.Seats.{Keeps, IsJudged}
 use Rattle.sja_bus.proofs.Steps.{follows_bit, follows_stopped, follows_judged}
 
@@ -35,9 +39,9 @@ heard_quiet old new j x seen e filter a drives samples at is keeps h = go e.rece
         follows_stopped old new j x seen e f drives samples same (λ passes. k (subst P (ap (λ n. filter_of (part j n)) at ∙ is) passes)) h
 
 -- a message was judged
-pub heard_judged : (old new : Node) (j after : List Entry) (x seen : Level) (e : BitEvents) (filter : Filter) (a : ℕ) (m : List ℕ) → DrivesNext old x → Samples old new seen e → (place_of j).activation ≡ a →
-    filter_of (part j a) ≡ Some filter → Keeps filter e.received (Some m) → IsJudged j x seen a m after → Follows old j → FollowsBit new after e.went_off
-heard_judged old new j after x seen e filter a m drives samples at is keeps judged h = go e.received refl keeps
+pub heard_judged : (old new : Node) (j after : List Entry) (x seen : Level) (e : BitEvents) (filter : Filter) (a : ℕ) (m : List ℕ) (overrun : Bool) → DrivesNext old x → Samples old new seen e → (place_of j).activation ≡ a →
+    filter_of (part j a) ≡ Some filter → Keeps filter e.received (Some m) → IsJudged j x seen a m overrun after → Follows old j → FollowsBit new after e.went_off
+heard_judged old new j after x seen e filter a m overrun drives samples at is keeps judged h = go e.received refl keeps
   where
     go : (o : Option FrameValue) → e.received ≡ o → Keeps filter o (Some m) → FollowsBit new after e.went_off
     go None same k = absurd cc
@@ -78,17 +82,32 @@ pub bits_items : (j k : List Entry) → HasItems j k → bits_of k ≡ bits_of j
 bits_items j k h = ap bits_of h.whole ∙ bits_none j (entries_of_items h.items) (items_no_bit h.items)
 
 -- a bit alone, with a verdict, and with bus-off after that
-pub has_alone : (j after : List Entry) (x seen : Level) → after ≡ j ++ Bit x seen ∷ [] → HasVerdict j x seen after
-has_alone j after x seen e = record { verdict = None; whole = e ∙ sym (append-nil (j ++ Bit x seen ∷ [])) }
+pub has_alone : (j after : List Entry) (x seen : Level) → after ≡ j ++ Bit x seen ∷ [] → Hears j x seen false after
+has_alone j after x seen e = record { verdict = record { verdict = None; whole = e ∙ sym (append-nil (j ++ Bit x seen ∷ [])) }; overrun_is = refl }
 
-pub has_judged : (j after : List Entry) (x seen : Level) (a : ℕ) (m : List ℕ) → IsJudged j x seen a m after → HasVerdict j x seen after
-has_judged j after x seen a m judged = record { verdict = Some (judged.verdict, m); whole = judged.whole }
+pub has_judged : (j after : List Entry) (x seen : Level) (a : ℕ) (m : List ℕ) (overrun : Bool) → IsJudged j x seen a m overrun after → Hears j x seen overrun after
+has_judged j after x seen a m overrun judged = record { verdict = record { verdict = Some (judged.verdict, m); whole = judged.whole }; overrun_is = judged.overrun_is }
 
-pub has_on : (j after : List Entry) (x seen : Level) → HasVerdict j x seen after → HasBit j x seen after
-has_on j after x seen h = record { verdict = h.verdict; off = false; whole = h.whole ∙ sym (append-nil ((j ++ Bit x seen ∷ []) ++ judged_as h.verdict)) }
+pub has_on : (j after : List Entry) (x seen : Level) (heard : Heard) → heard.events.went_off ≡ false → Hears j x seen heard.overrun after → Brings j x seen heard after
+has_on j after x seen heard on h = record {
+  bit = record { verdict = h.verdict.verdict; off = false; whole = h.verdict.whole ∙ sym (append-nil ((j ++ Bit x seen ∷ []) ++ judged_as h.verdict.verdict)) };
+  off = on;
+  overrun = h.overrun_is;
+}
 
-pub has_off : (j k after : List Entry) (x seen : Level) → after ≡ k ++ Off ∷ [] → HasVerdict j x seen k → HasBit j x seen after
-has_off j k after x seen e h = record { verdict = h.verdict; off = true; whole = e ∙ ap (λ l. l ++ Off ∷ []) h.whole }
+pub has_off : (j k after : List Entry) (x seen : Level) (heard : Heard) → heard.events.went_off ≡ true → after ≡ k ++ Off ∷ [] → Hears j x seen heard.overrun k → Brings j x seen heard after
+has_off j k after x seen heard off e h = record {
+  bit = record { verdict = h.verdict.verdict; off = true; whole = e ∙ ap (λ l. l ++ Off ∷ []) h.verdict.whole };
+  off = off;
+  overrun = h.overrun_is;
+}
+
+-- one of a node in reset
+pub rest_brings : {X : Type 0} (r : Result Heard X) (j after : List Entry) (x seen : Level) → OnOk r (after ≡ j ++ Bit x seen ∷ []) →
+    IfOk r (λ heard. (heard.events.went_off ≡ false) × (heard.overrun ≡ false)) → IfOk r (λ heard. Brings j x seen heard after)
+rest_brings (Ok heard) j after x seen e h =
+    let P : Bool → Type 0 = λ o. Hears j x seen o after in has_on j after x seen heard h.0 (subst P (sym h.1) (has_alone j after x seen e))
+rest_brings (Err fault) j after x seen e h = tt
 
 -- items one after another
 pub items_none : (j : List Entry) → HasItems j j
@@ -116,3 +135,41 @@ abort_no_bit false = refl
 
 pub bits_abort : (j k : List Entry) → HasAbort j k → bits_of k ≡ bits_of j
 bits_abort j k h = ap bits_of h.whole ∙ bits_none j (abort_as h.changed) (abort_no_bit h.changed)
+
+-- ---- of two ways to say what was taken and aborted both say whether an abort changed the node
+
+abbrev aborts_in : Entry → ℕ
+aborts_in Abort = 1
+aborts_in (Bit driven seen) = 0
+aborts_in (Item u) = 0
+aborts_in (Stored m) = 0
+aborts_in (Overrun m) = 0
+aborts_in Off = 0
+
+items_abort_none : (items : List Up) → total aborts_in (entries_of_items items) ≡ 0
+items_abort_none [] = refl
+items_abort_none (u ∷ items) = let rest = items_abort_none items in omega (arith, rest)
+
+abbrev as_number : Bool → ℕ
+as_number true = 1
+as_number false = 0
+
+abort_number : (changed : Bool) → total aborts_in (abort_as changed) ≡ as_number changed
+abort_number true = refl
+abort_number false = refl
+
+number_once : (a b : Bool) → as_number a ≡ as_number b → a ≡ b
+number_once true true e = refl
+number_once true false e = absurd (omega (arith, e))
+number_once false true e = absurd (omega (arith, e))
+number_once false false e = refl
+
+aborts_added : (j t k : List Entry) → HasItems j t → (h : HasAbort t k) → total aborts_in k ≡ total aborts_in j + as_number h.changed
+aborts_added j t k items h =
+    let a = ap (total aborts_in) h.whole ∙ total_append aborts_in t (abort_as h.changed) in
+    let b = ap (total aborts_in) items.whole ∙ total_append aborts_in j (entries_of_items items.items) in
+    let c = items_abort_none items.items in let d = abort_number h.changed in omega (arith, a, b, c, d)
+
+pub changed_once : (j t u k : List Entry) → HasItems j t → (h : HasAbort t k) → HasItems j u → (g : HasAbort u k) → h.changed ≡ g.changed
+changed_once j t u k items h others g =
+    let a = aborts_added j t k items h in let b = aborts_added j u k others g in number_once h.changed g.changed (omega (arith, a, b))

@@ -1,5 +1,5 @@
 -- Every cut of a journal's record.
-use Rattle.std.proofs.Common.{◌≡◌, ℕ, List, [], refl, sym, ap, ◌∙◌, subst}
+use Rattle.std.proofs.Common.{◌≡◌, List, [], ap, ◌∙◌, subst}
 use Rattle.can_node.specs.declared.node.Node.{Node}
 use Rattle.can_node.specs.declared.counters.Counters.{Counters}
 use Rattle.can_node.specs.Context.{ContextValue}
@@ -8,7 +8,7 @@ use Rattle.can_node.specs.FinishedPieces.{FinishedPiece, received}
 use Rattle.can_node.specs.Cut.{IsCut}
 use Rattle.can_node.specs.NextBit.{now_in}
 use Rattle.can_node.specs.Effects.{along}
-use Rattle.can_node.specs.Stands.{StandsAt, ShowsCounters}
+use Rattle.can_node.specs.Stands.{ShowsCounters}
 use Rattle.can_node.proofs.OneCut.CutOnce.{cut_once, whole_once}
 use Rattle.sja_link.specs.declared.entry.Entry.{Entry}
 use Rattle.sja_link.specs.Records.{record_of}

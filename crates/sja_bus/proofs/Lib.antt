@@ -9,6 +9,8 @@ pub mod Seating
 pub mod Bits
 pub mod Applying
 pub mod Takings
+pub mod Aborting
+pub mod Turning
 pub mod Quiet
 pub mod Linking
 pub mod Marking
@@ -20,3 +22,4 @@ pub mod Levels
 pub mod Journals
 pub mod Rests
 pub mod Logs
+pub mod Boards

@@ -1,17 +1,18 @@
 -- The nodes of a bus at the beginning and at the end of a run.
-use Rattle.std.proofs.Common.{◌≡◌, ℕ, zero, suc, ◌+◌, ◌<◌, ◌≤◌, None, List, [], ◌∷◌, ◌++◌, length, map, refl, sym, ap, ◌∙◌, subst, append_assoc, append-nil, arith, inl, inr}
+use Rattle.std.proofs.Common.{◌≡◌, ℕ, zero, suc, ◌+◌, ◌<◌, false, List, [], ◌∷◌, ◌++◌, length, map, refl, sym, ap, ◌∙◌, subst, append_assoc, append-nil, arith, inl, inr}
 use Rattle.std.specs.Prelude.{slice_index_or, replicate}
 use Rattle.std.proofs.lemmas.Bool.{cases_eq}
 use Rattle.sja_link.specs.declared.entry.Entry.{Entry}
 use Rattle.sja_script.specs.declared.strike.Strike.{Strike}
 use Rattle.sja_bus.specs.declared.seat.Seat.{Seat}
 use Rattle.sja_bus.specs.declared.node_log.NodeLog.{NodeLog}
-use Rattle.sja_bus.specs.Wire.{journal_at, IsWired}
 use Rattle.sja_bus.specs.Lawful.{CountersAre}
 use Rattle.sja_bus.specs.Links.{EachRelated}
 use Rattle.sja_bus.specs.Inside.Following.{Follows}
 use Rattle.sja_bus.specs.Inside.Ending.{IsLog}
-use Rattle.sja_bus.specs.Inside.Rows.{IsOf, AreReady, journals_of, IsBus}
+use Rattle.sja_bus.specs.declared.news.News.TheVariants.{Nothing, Dropped}
+use Rattle.sja_bus.specs.Inside.Turning.{is_untold}
+use Rattle.sja_bus.specs.Inside.Rows.{IsOf, AreReady, AreCalm, journals_of, untold_of, IsBus}
 use Rattle.sja_bus.proofs.Wires.{index_before, index_last, wired_none}
 use Rattle.sja_bus.proofs.Running.{journal_is, count_is}
 
@@ -21,6 +22,7 @@ use Rattle.sja_bus.proofs.Running.{journal_is, count_is}
 pub record IsNew (s : Seat) (node : ℕ) : Type 0 where
   pub is_of : IsOf s node
   pub empty : s.journal.entries ≡ []
+  pub nothing : s.news ≡ Nothing
 
 abbrev pub AreNew : ℕ → List Seat → Type 0
 AreNew n seats = (k : ℕ) (s : Seat) → k < n → IsNew (slice_index_or seats k s) k
@@ -44,11 +46,22 @@ new_journals [] none = refl
 new_journals (s ∷ seats) none =
     ap (λ (j : List Entry). j ∷ journals_of seats) (none 0 s (omega arith)) ∙ ap (λ l. [] ∷ l) (new_journals seats (λ k d few. none (suc k) d (omega (arith, few))))
 
+-- nothing is to be told of seats of which that is so
+pub none_untold : (seats : List Seat) → ((k : ℕ) (s : Seat) → k < length seats → (slice_index_or seats k s).news ≡ Nothing) → untold_of seats ≡ replicate (length seats) false
+none_untold [] none = refl
+none_untold (s ∷ seats) none =
+    ap (λ n. is_untold n ∷ untold_of seats) (none 0 s (omega arith)) ∙ ap (λ l. false ∷ l) (none_untold seats (λ k d few. none (suc k) d (omega (arith, few))))
+
+-- nor was a request dropped
+pub calm_by : (seats : List Seat) → ((k : ℕ) (s : Seat) → k < length seats → (slice_index_or seats k s).news ≡ Nothing) → AreCalm seats
+calm_by seats none k s few e = let wrong : Nothing ≡ Dropped = sym (none k s few) ∙ e in cc
+
 pub new_bus : (script : List Strike) (seats : List Seat) → AreNew (length seats) seats → IsBus script 0 seats
-new_bus script [] new = record { ready = λ k s few. absurd (omega arith); wired = wired_none script [] (λ node few. absurd (omega arith)) }
+new_bus script [] new = record { ready = λ k s few. absurd (omega arith); calm = λ k s few. absurd (omega arith); wired = wired_none script [] (λ node few. absurd (omega arith)) }
 new_bus script (s ∷ seats) new =
     let all = s ∷ seats in let c = count_is all in record {
       ready = new_ready all new;
+      calm = calm_by all (λ k d few. (new k d few).nothing);
       wired = wired_none script (journals_of all) (λ node few. let near : node < length all = omega (arith, few, c) in journal_is all node s near ∙ (new node s near).empty);
     }
 

@@ -1,5 +1,5 @@
 -- One node of many.
-use Rattle.std.proofs.Common.{◌≡◌, ℕ, zero, suc, ◌+◌, ◌*◌, ◌<◌, ◌≤◌, List, [], ◌∷◌, ◌++◌, length, refl, sym, ap, ◌∙◌, subst, arith, inl, inr}
+use Rattle.std.proofs.Common.{◌≡◌, ℕ, zero, suc, ◌+◌, ◌*◌, ◌<◌, ◌≤◌, List, [], ◌∷◌, length, refl, sym, ap, ◌∙◌, subst, arith, inl, inr}
 use Rattle.std.specs.Prelude.{slice_index_or, slice_set, ◌⊎◌}
 use Rattle.std.proofs.Math.ListN.{length-set}
 use Rattle.std.proofs.lemmas.Bool.{cases_eq}
@@ -110,6 +110,10 @@ done_one R k before after s new few len does h m e l = elim (cases_eq k m) [
 
 pub done_all : (R : ℕ → Seat → Seat → Type 0) (k : ℕ) (before after : List Seat) → length before ≤ k → Done R k before after → EachSeat R before after
 done_all R k before after all h m s few = (h m s few).0 (omega (arith, all, few))
+
+-- the same by another relation that follows at each place so far
+pub done_before : {R S : ℕ → Seat → Seat → Type 0} (k : ℕ) (before after : List Seat) → ((m : ℕ) → m < k → (s t : Seat) → R m s t → S m s t) → Done R k before after → Done S k before after
+done_before k before after f h m s few = ((λ near. f m near (slice_index_or before m s) (slice_index_or after m s) ((h m s few).0 near)), (h m s few).1)
 
 -- ---- the links read so far show nothing
 

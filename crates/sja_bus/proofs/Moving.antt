@@ -1,6 +1,6 @@
 -- Journals and links that move together.
 use Rattle.std.proofs.Common.{◌≡◌, ℕ, suc, ◌+◌, ◌<◌, ◌≤◌, Bool, true, false, List, [], ◌∷◌, ◌++◌, length, refl, sym, ap, ◌∙◌, subst, append_assoc, append-nil, arith, inl, inr}
-use Rattle.std.specs.Prelude.{slice_index_or, slice_set, ◌⊎◌}
+use Rattle.std.specs.Prelude.{slice_index_or, slice_set}
 use Rattle.std.proofs.lemmas.Bool.{cases_eq}
 use Rattle.sja_link.specs.declared.entry.Entry.{Entry}
 use Rattle.sja_link.specs.declared.entry.Entry.TheVariants.{Abort}
@@ -9,7 +9,7 @@ use Rattle.sja_link.specs.Places.{past, place_of}
 use Rattle.sja_link.specs.Parts.{part}
 use Rattle.sja_link.specs.Accounts.{Account, account, with_entry}
 use Rattle.sja_link.proofs.Entering.{account_here, account_else, part_else}
-use Rattle.sja_bus.specs.Links.{Moves, Kept, EachRelated, Goes, Grows, per_node}
+use Rattle.sja_bus.specs.Links.{Moves, Goes, Grows}
 use Rattle.sja_bus.specs.OneBit.{HasAbort, abort_as}
 use Rattle.sja_bus.proofs.Lists.{each_refl, each_trans, each_one, set_here, set_else}
 

@@ -1,5 +1,5 @@
 -- A node that was started, and neither stopped nor put off the bus, isn't in reset.
-use Rattle.std.proofs.Common.{◌≡◌, ◌≢◌, Bool, true, false, List, [], ◌∷◌, ◌++◌, map, refl, sym, ap, ◌∙◌, subst}
+use Rattle.std.proofs.Common.{◌≡◌, ◌≢◌, Bool, true, false, List, [], ◌∷◌, ◌++◌, map, refl, sym, ◌∙◌}
 use Rattle.can_bits.specs.declared.level.Level.{Level}
 use Rattle.can_node.specs.Bits.{Bit, recessive_bits}
 use Rattle.can_node.specs.Context.{ContextValue}
@@ -11,7 +11,7 @@ use Rattle.can_node.specs.Frames.Transmits.{sending, failed, lost}
 use Rattle.can_node.specs.Table.{Row}
 use Rattle.can_node.specs.Table.Row.{integration, idle, other, own, other_begun, own_begun, last_eof_bit, last_eof_bit_overload, flag, flag_fault, flag_passive, delimiter, delimiter_overload, delimiter_fault, interframe_space, interframe_space_sof, suspend_transmission_sof, intermission_overload, intermission_overload_second}
 use Rattle.can_node.specs.Record.{Entry as Event, Inner}
-use Rattle.can_node.specs.Record.Entry.{Start, Stop, OneBit, Send, Abort, BusOff}
+use Rattle.can_node.specs.Record.Entry.{Stop, OneBit, BusOff}
 use Rattle.can_node.specs.Record.Inner.{none_left, samples, sends, aborts}
 use Rattle.can_node.specs.FinishedPieces.{Count, FinishedPiece}
 use Rattle.can_node.specs.Cut.{From, Move, IsOpenAt, IsCut}

@@ -1,19 +1,15 @@
 -- A bit in which nothing happens that a node shows.
-use Rattle.std.proofs.Common.{◌≡◌, ℕ, Bool, true, false, List, [], ◌∷◌, ◌++◌, refl, sym, ap, ◌∙◌, subst}
+use Rattle.std.proofs.Common.{◌≡◌, Bool, true, false, [], ◌∷◌, ◌++◌, refl, ap, ◌∙◌}
 use Rattle.std.specs.Prelude.{if◌then◌else◌, nat_lt}
 use Rattle.can_bits.specs.declared.level.Level.{Level}
 use Rattle.can_node.specs.declared.node.Node.{Node}
-use Rattle.can_node.specs.declared.phase.Phase.{Phase}
 use Rattle.can_node.specs.declared.phase.Phase.TheVariants.{Reset, Intermission, Suspension}
 use Rattle.can_node.specs.declared.stage.Stage.{Stage}
 use Rattle.can_node.specs.declared.stage.Stage.TheVariants.{InReset as StageInReset, Integrating as StageIntegrating, BusIdle as StageBusIdle, InFrame as StageInFrame, LastEofBit as StageLastEofBit, InFlag as StageInFlag, InDelimiter as StageInDelimiter, InInterframeSpace as StageInInterframeSpace}
 use Rattle.can_node.specs.Stands.{InReset, DrivesNext, Samples, ShowsSame, phase_of_stage, nothing}
-use Rattle.sja_link.specs.declared.entry.Entry.{Entry}
 use Rattle.sja_link.specs.declared.entry.Entry.TheVariants.{Bit}
 use Rattle.sja_link.specs.BusLedgers.{free_in}
-use Rattle.sja_bus.specs.declared.activity.Activity.{Activity}
 use Rattle.sja_bus.specs.declared.seat.Seat.{Seat}
-use Rattle.sja_bus.specs.Inside.Following.{Follows, Reads}
 use Rattle.sja_bus.specs.Inside.Seats.{IsSound}
 use Rattle.sja_bus.proofs.Steps.{follows_bit, follows_on}
 use Rattle.sja_bus.proofs.Reading.{reads_quiet}

@@ -1,5 +1,5 @@
 -- What the bus knows of the activation that it reads, with each thing that it does.
-use Rattle.std.proofs.Common.{◌≡◌, ℕ, suc, ◌+◌, ◌-◌, ◌<◌, ◌≤◌, Bool, true, false, Option, Some, None, List, [], ◌∷◌, ◌++◌, length, refl, sym, ap, ◌∙◌, subst, append-nil, append_assoc, arith, inl, inr}
+use Rattle.std.proofs.Common.{◌≡◌, ℕ, suc, ◌+◌, ◌<◌, Bool, true, false, List, [], ◌∷◌, ◌++◌, refl, sym, ap, ◌∙◌, subst, append_assoc, arith, inl, inr}
 use Rattle.std.proofs.lemmas.Bool.{cases_eq}
 use Rattle.can_frame.specs.declared.filter.Filter.{Filter}
 use Rattle.can_bits.specs.declared.level.Level.{Level}
@@ -7,7 +7,7 @@ use Rattle.can_node.specs.declared.config.Config.{Config}
 use Rattle.can_node.specs.declared.request.Request.{Request}
 use Rattle.can_node.specs.declared.node.Node.{Node}
 use Rattle.can_node.specs.Stands.{InReset}
-use Rattle.sja_link.specs.declared.up.Up.TheVariants.{Start, Credit, Send, Stop}
+use Rattle.sja_link.specs.declared.up.Up.TheVariants.{Start, Send, Stop, Credit}
 use Rattle.sja_link.specs.declared.verdict.Verdict.{Verdict}
 use Rattle.sja_link.specs.declared.verdict.Verdict.TheVariants.{Stored as ToStore, Overrun as ToLose}
 use Rattle.sja_link.specs.declared.entry.Entry.{Entry}
@@ -15,10 +15,10 @@ use Rattle.sja_link.specs.declared.entry.Entry.TheVariants.{Bit, Up as Item, Abo
 use Rattle.sja_link.specs.Places.{Place, first_place, past, place_of}
 use Rattle.sja_link.specs.Records.{told, record_of}
 use Rattle.sja_link.specs.Parts.{part}
-use Rattle.sja_link.specs.Free.{IsFree, free_of, credit_in, bytes_in}
+use Rattle.sja_link.specs.Free.{IsFree, credit_in, bytes_in}
 use Rattle.sja_link.specs.Verdicts.{filter_of, EndsInBit, IsPrompt, IsFair, IsDue, entry_of}
 use Rattle.sja_link.proofs.Entering.{place_push, record_push, part_here, part_else, of_part_later}
-use Rattle.sja_link.proofs.Freeing.{free_is, free_push, free_same, total_push}
+use Rattle.sja_link.proofs.Freeing.{free_push, free_same, total_push}
 use Rattle.sja_link.proofs.Judging.{StaysIn, filter_push}
 use Rattle.sja_link.specs.Parts.{entry_at}
 use Rattle.sja_bus.specs.declared.activity.Activity.{Activity}

@@ -1,5 +1,5 @@
 -- An item that was refused, by the links of its node and by those of all.
-use Rattle.std.proofs.Common.{◌≡◌, ℕ, suc, ◌+◌, ◌*◌, ◌<◌, ◌≤◌, List, [], ◌∷◌, ◌++◌, length, inl, inr, refl, sym, ap, ◌∙◌, subst, arith}
+use Rattle.std.proofs.Common.{◌≡◌, ℕ, suc, ◌+◌, ◌*◌, ◌<◌, ◌≤◌, List, [], ◌∷◌, ◌++◌, length, inl, inr, sym, ap, ◌∙◌, subst, arith}
 use Rattle.std.specs.Prelude.{slice_index_or, slice_set}
 use Rattle.std.proofs.Math.ListN.{length-set}
 use Rattle.std.proofs.lemmas.Bool.{cases_eq}
@@ -11,7 +11,7 @@ use Rattle.sja_link.specs.BusLedgers.{link_of}
 use Rattle.sja_bus.specs.declared.bus_fault.BusFault.{BusFault}
 use Rattle.sja_bus.specs.declared.seat.Seat.{Seat}
 use Rattle.sja_bus.specs.Wire.{journal_at}
-use Rattle.sja_bus.specs.Links.{Kept, Goes, stops_of}
+use Rattle.sja_bus.specs.Links.{Kept, Goes}
 use Rattle.sja_bus.specs.OneBit.{HasItems}
 use Rattle.sja_bus.specs.Reasons.{IsRefusedFor, RefusesItem, IsNotTaken, room_for}
 use Rattle.sja_bus.specs.Inside.Seats.{IsSound}

@@ -1,6 +1,6 @@
 -- A bus with a bit more, and with items taken.
 use Rattle.std.proofs.Common.{◌≡◌, ℕ, zero, suc, ◌+◌, ◌<◌, ◌≤◌, Bool, true, false, cond, inl, inr, List, [], ◌∷◌, ◌++◌, length, map, refl, sym, ap, ◌∙◌, subst, arith}
-use Rattle.std.specs.Prelude.{slice_index_or, if◌then◌else◌, ◌==◌, ◌↔◌, IsTrue}
+use Rattle.std.specs.Prelude.{slice_index_or, if◌then◌else◌, ◌↔◌, IsTrue}
 use Rattle.std.specs.Int.{bit_at}
 use Rattle.std.proofs.lemmas.Bool.{cases_eq, eq-eqb, ne_eqb}
 use Rattle.std.proofs.lemmas.List.{length-map}
@@ -19,8 +19,10 @@ use Rattle.sja_bus.specs.StrikesByBit.{IsAmong}
 use Rattle.sja_bus.specs.declared.seat.Seat.{Seat}
 use Rattle.sja_bus.specs.Wire.{wired, IsSeen, journal_at, IsWired}
 use Rattle.sja_bus.specs.Lawful.{IsBusRun}
-use Rattle.sja_bus.specs.Inside.Rows.{AreReady, EachSeat, SeatTakes, SeatOpens, SeatTicks, seen_by, journals_of, driven_by, IsBus}
-use Rattle.sja_bus.proofs.Wires.{AddsBits, wired_bit, wired_same}
+use Rattle.sja_regs.specs.declared.bus_turn.BusTurn.{BusTurn}
+use Rattle.sja_bus.specs.Inside.Turning.{is_untold}
+use Rattle.sja_bus.specs.Inside.Rows.{EachSeat, SeatTakes, SeatOpens, SeatTurns, seen_by, journals_of, untold_of, driven_by, IsBus}
+use Rattle.sja_bus.proofs.Wires.{wired_bit, wired_same}
 use Rattle.sja_bus.proofs.Lawfuls.{lawful_of}
 use Rattle.sja_bus.proofs.Bits.{bits_has, bits_items, bits_abort}
 
@@ -29,6 +31,12 @@ pub journal_is : (seats : List Seat) (k : ℕ) (s : Seat) → k < length seats �
 journal_is [] k s few = absurd (omega arith)
 journal_is (x ∷ seats) zero s few = refl
 journal_is (x ∷ seats) (suc k) s few = journal_is seats k s (omega arith)
+
+-- whether something is untold of it
+pub untold_is : (seats : List Seat) (k : ℕ) (s : Seat) → k < length seats → slice_index_or (untold_of seats) k false ≡ is_untold (slice_index_or seats k s).news
+untold_is [] k s few = absurd (omega arith)
+untold_is (x ∷ seats) zero s few = refl
+untold_is (x ∷ seats) (suc k) s few = untold_is seats k s (omega arith)
 
 pub count_is : (seats : List Seat) → length (journals_of seats) ≡ length seats
 count_is seats = length-map seats (λ (s : Seat). s.journal.entries)
@@ -75,12 +83,12 @@ driven_at_place (x ∷ seats) zero s few = refl
 driven_at_place (x ∷ seats) (suc k) s few = driven_at_place seats k s (omega arith)
 
 -- one bit of all nodes
-pub wired_ticked : (script : List Strike) (n : ℕ) (seats after : List Seat) (struck : StruckNodes) (level : Level) → length after ≡ length seats → length seats ≤ 8 →
+pub wired_ticked : (was_told : ℕ → BusTurn → Type 0) (was_kept : ℕ → Type 0) (script : List Strike) (n : ℕ) (seats after : List Seat) (struck : StruckNodes) (level : Level) → length after ≡ length seats → length seats ≤ 8 →
     level ≡ wired (driven_by seats) → ((node : ℕ) → node < 8 → IsAmong node struck ↔ Strikes script n node) →
-    EachSeat (SeatTicks struck level) seats after → IsWired script n (journals_of seats) → IsWired script (n + 1) (journals_of after)
-wired_ticked script n [] [] struck level len few is at ticks h = wired_bit script n [] [] [] refl refl (λ node near. absurd (omega arith)) (λ node near. absurd (omega arith)) h
-wired_ticked script n [] (x ∷ after) struck level len few is at ticks h = absurd (omega arith)
-wired_ticked script n (s ∷ seats) after struck level len few is at ticks h =
+    EachSeat (SeatTurns was_told was_kept struck level) seats after → IsWired script n (journals_of seats) → IsWired script (n + 1) (journals_of after)
+wired_ticked was_told was_kept script n [] [] struck level len few is at turns h = wired_bit script n [] [] [] refl refl (λ node near. absurd (omega arith)) (λ node near. absurd (omega arith)) h
+wired_ticked was_told was_kept script n [] (x ∷ after) struck level len few is at turns h = absurd (omega arith)
+wired_ticked was_told was_kept script n (s ∷ seats) after struck level len few is at turns h =
     let all = s ∷ seats in
     let driven = driven_by all in
     let seen = seen_by struck level in
@@ -90,7 +98,7 @@ wired_ticked script n (s ∷ seats) after struck level len few is at ticks h =
     (λ node near.
     let here : node < length all = omega (arith, near, cb) in
     ap bits_of (journal_is after node s (omega (arith, here, len)))
-    ∙ bits_has (slice_index_or all node s).journal.entries (slice_index_or after node s).journal.entries (slice_index_or all node s).drives (seen node) (ticks node s here)
+    ∙ bits_has (slice_index_or all node s).journal.entries (slice_index_or after node s).journal.entries (slice_index_or all node s).drives (seen node) ((turns node s here).bit)
     ∙ ap (λ j. bits_of j ++ (record { driven = (slice_index_or all node s).drives; seen = seen node }) ∷ []) (sym (journal_is all node s here))
     ∙ ap (λ x. bits_of (journal_at (journals_of all) node) ++ (record { driven = x; seen = seen node }) ∷ []) (sym (driven_at_place all node s here))
     ∙ ap (λ (b : Bit). bits_of (journal_at (journals_of all) node) ++ b ∷ []) (sym (now_at driven seen node (omega (arith, here, cd)))))

@@ -1,5 +1,5 @@
 -- A seat by its parts.
-use Rattle.std.proofs.Common.{◌≡◌, ◌≢◌, ℕ, suc, ◌+◌, Bool, true, false, List, [], ◌∷◌, ◌++◌, refl, sym, ap, ◌∙◌, subst, arith}
+use Rattle.std.proofs.Common.{◌≡◌, ◌≢◌, ℕ, Bool, List, [], ◌∷◌, ◌++◌, refl, sym, ap, subst, arith}
 use Rattle.can_node.specs.declared.node.Node.{Node}
 use Rattle.can_node.specs.Stands.{InReset}
 use Rattle.sja_link.specs.declared.entry.Entry.{Entry}

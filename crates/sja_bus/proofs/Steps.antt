@@ -1,6 +1,6 @@
 -- A node follows its journal, with each thing that the bus does.
-use Rattle.std.proofs.Common.{◌≡◌, ◌≢◌, ℕ, suc, ◌+◌, ◌<◌, ◌≤◌, Bool, true, false, Option, Some, None, List, [], ◌∷◌, ◌++◌, length, refl, sym, ap, ◌∙◌, subst, append_assoc, append-nil, arith}
-use Rattle.std.specs.Prelude.{⊤, if◌then◌else◌, Result, Ok, Err}
+use Rattle.std.proofs.Common.{◌≡◌, ◌≢◌, ℕ, Bool, true, false, Option, Some, None, List, [], ◌∷◌, ◌++◌, refl, sym, ap, ◌∙◌, subst, append_assoc, append-nil}
+use Rattle.std.specs.Prelude.{if◌then◌else◌, Ok}
 use Rattle.can_frame.specs.Frame.{FrameValue}
 use Rattle.can_frame.specs.Message.{message}
 use Rattle.can_bits.specs.declared.level.Level.{Level}
@@ -14,16 +14,14 @@ use Rattle.can_node.specs.Bits.{Bit as Levels}
 use Rattle.can_node.specs.Record.{Entry as Event}
 use Rattle.can_node.specs.Record.Entry.{Start as Started, Stop as Stopped, OneBit as Took, Send as Asked, Abort as AbortedNow, BusOff as WentOff}
 use Rattle.can_node.specs.FinishedPieces.{Count, FinishedPiece, ReceivedFrame, counted, none_yet, received}
-use Rattle.can_node.specs.Events.{Step, received_in}
-use Rattle.can_node.specs.Stands.{StandsAt, Leads, Enters, Samples, DrivesNext, Requests, Aborts, entries_of, closed_by, received_now}
-use Rattle.can_node.proofs.OneCut.GoOn.{counted_both}
-use Rattle.sja_link.specs.declared.up.Up.{Up}
+use Rattle.can_node.specs.Events.{received_in}
+use Rattle.can_node.specs.Stands.{StandsAt, Enters, Samples, DrivesNext, Requests, Aborts, closed_by, received_now}
 use Rattle.sja_link.specs.declared.up.Up.TheVariants.{Start, Credit, Send, Stop}
 use Rattle.sja_link.specs.declared.verdict.Verdict.{Verdict}
 use Rattle.sja_link.specs.declared.verdict.Verdict.TheVariants.{Stored as ToStore, Overrun as ToLose}
 use Rattle.sja_link.specs.declared.entry.Entry.{Entry}
-use Rattle.sja_link.specs.declared.entry.Entry.TheVariants.{Bit, Up as Item, Abort, Stored, Overrun, Off}
-use Rattle.sja_link.specs.Places.{place_of, past}
+use Rattle.sja_link.specs.declared.entry.Entry.TheVariants.{Bit, Up as Item, Abort, Off}
+use Rattle.sja_link.specs.Places.{place_of}
 use Rattle.sja_link.specs.Parts.{part}
 use Rattle.sja_link.specs.Records.{told, record_of}
 use Rattle.sja_link.specs.Judged.{judged_after}
@@ -113,7 +111,7 @@ pub record Sees (new : Node) (j : List Entry) (x seen : Level) (e : BitEvents) (
   pub stands : StandsAt new (record_of (j ++ Bit x seen ∷ []) ++ off_left e.went_off) found
   pub tells : received found ≡ heard ++ received_now e.received (record { starts = (place_of (j ++ Bit x seen ∷ [])).activation; bits = (place_of (j ++ Bit x seen ∷ [])).bits })
 
-entries_split : (r : List Event) (b : Levels) (went : Bool) → r ++ (if went then Took b ∷ WentOff ∷ [] else Took b ∷ []) ≡ (r ++ Took b ∷ []) ++ off_left went
+pub entries_split : (r : List Event) (b : Levels) (went : Bool) → r ++ (if went then Took b ∷ WentOff ∷ [] else Took b ∷ []) ≡ (r ++ Took b ∷ []) ++ off_left went
 entries_split r b true = sym (append_assoc r (Took b ∷ []) (WentOff ∷ []))
 entries_split r b false = sym (append-nil (r ++ Took b ∷ []))
 

@@ -3,6 +3,7 @@ pub mod Following
 pub mod Seats
 pub mod Taking
 pub mod Refusing
+pub mod Turning
 pub mod Rows
 pub mod Whole
 pub mod Ending

@@ -4,10 +4,11 @@ pub mod Wire
 -- ---- what holds of every bus
 pub mod Lawful
 pub mod Resting
--- ---- what a bit adds to a journal
+-- ---- what a bit adds to a journal, and what a port is told of it
 pub mod Opening
 pub mod Aborting
 pub mod OneBit
+pub mod Telling
 -- ---- the links and ports of the nodes
 pub mod Links
 pub mod NewLinks

@@ -1,5 +1,5 @@
 -- Why a bus doesn't go on: what each fault says of its node (this project's own rule).
-use Rattle.std.specs.Prelude.{◌≡◌, ◌⊎◌, ◌+◌, ◌*◌, ◌<◌, ◌≤◌, ℕ, suc, true, false, List, [], ◌∷◌, ◌++◌, length, slice_index_or}
+use Rattle.std.specs.Prelude.{◌≡◌, ◌⊎◌, ◌+◌, ◌*◌, ◌<◌, ◌≤◌, ℕ, suc, true, false, List, ◌∷◌, ◌++◌, length, slice_index_or}
 use Rattle.can_node.specs.declared.request.Request.{Request}
 use Rattle.can_node.specs.Context.{is_held}
 use Rattle.can_node.specs.NextBit.{now_in}

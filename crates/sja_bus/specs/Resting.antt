@@ -1,5 +1,5 @@
 -- Whether a node is at rest at the end of its record (this project's own rule).
-use Rattle.std.specs.Prelude.{◌≡◌, Bool, true, false, List}
+use Rattle.std.specs.Prelude.{◌≡◌, Bool, List}
 use Rattle.can_node.specs.NextBit.{is_at_rest}
 use Rattle.sja_link.specs.NodeWords.{NodeEntry, FinishedPiece, IsCut}
 

@@ -1,10 +1,11 @@
 //! What all nodes of a bus do in one bit, node after node.
 
 ghost use Rattle.std.specs.Prelude.{◌≡◌, ◌*◌, ◌<◌, ◌≤◌, ◌+◌, if◌then◌else◌, ℕ, length, OnOk, IfErr};
+ghost use Rattle.sja_regs.specs.declared.bus_turn.BusTurn.{BusTurn as Turn};
 ghost use Rattle.can_bits.specs.Digits.{opposite};
 ghost use Rattle.sja_bus.specs.Wire.{wired};
 ghost use Rattle.sja_bus.specs.Links.{EachRelated, Numbered};
-ghost use Rattle.sja_bus.specs.Inside.Rows.{AreReady, EachSeat, SeatTakes, SeatOpens, SeatTicks, GoesAll, AllRead, driven_by};
+ghost use Rattle.sja_bus.specs.Inside.Rows.{AreReady, EachSeat, SeatTakes, SeatNews, SeatOpens, SeatOpensNews, SeatTurns, GoesAll, AllRead, driven_by};
 ghost use Rattle.sja_bus.specs.Inside.Whole.{IsRowBit};
 ghost use Rattle.sja_bus.specs.Inside.Refusing.{HaveRoom, SeatRefuses};
 
@@ -24,6 +25,7 @@ pub(crate) fn gather_all<E: BusEnd>(seats: &mut [Seat], links: &mut [E]) -> Resu
     ensures ready { OnOk result (AreReady seats.new) }
     ensures goes { OnOk result (GoesAll E.same E.stands seats.old seats.new links.old links.new) }
     ensures items { OnOk result (EachSeat SeatTakes seats.old seats.new) }
+    ensures news { OnOk result (EachSeat SeatNews seats.old seats.new) }
     ensures dry { OnOk result (AllRead E.dry seats.new links.new) }
     ensures rooms { OnOk result ((n : ℕ) → HaveRoom n seats.old → HaveRoom n seats.new) }
     ensures refused { IfErr result (λ f. SeatRefuses E.stands seats.old seats.new links.old links.new f) }
@@ -48,6 +50,7 @@ pub(crate) fn open_all<E: BusEnd, B: Board>(
     ensures ready { OnOk result (AreReady seats.new) }
     ensures goes { OnOk result (GoesAll E.same E.stands seats.old seats.new links.old links.new) }
     ensures opens { OnOk result (EachSeat (SeatOpens (B.orders_are board.now)) seats.old seats.new) }
+    ensures news { OnOk result (EachSeat SeatOpensNews seats.old seats.new) }
     ensures dry { OnOk result (AllRead E.dry seats.new links.new) }
     ensures rooms { OnOk result ((n : ℕ) → HaveRoom n seats.old → HaveRoom n seats.new) }
 {
@@ -74,59 +77,73 @@ pub(crate) fn level_of(seats: &[Seat]) -> Level
 fn seen(level: Level, struck: bool) -> Level
     ensures { result ≡ (if struck then opposite level else level) }
 {
-    if !struck {
-        return level;
-    }
+    if struck { struck_level(level) } else { level }
+}
+
+/// What a struck node sees.
+#[inline(never)]
+fn struck_level(level: Level) -> Level
+    ensures { result ≡ opposite level }
+{
     match level {
         Level::Dominant => Level::Recessive,
         Level::Recessive => Level::Dominant,
     }
 }
 
-/// Each node has its bit, and sees this level, or the other one where it is struck.
-pub(crate) fn tick_all<E: BusEnd>(
+/// Each node has its bit, and sees this level, or the other one where it is struck. Its port is told of it where there is
+/// something to tell.
+pub(crate) fn tick_all<E: BusEnd, B: Board>(
     seats: &mut [Seat],
     links: &mut [E],
     level: Level,
     struck: StruckNodes,
+    board: &mut B,
 ) -> Result<(), BusFault>
     requires few { length seats.old ≤ 8 }
     requires count { length links.old ≡ 8 * length seats.old }
     requires ids { Numbered E.link links.old }
     requires ready { AreReady seats.old }
+    requires ports { length seats.old ≤ B.ports board.old }
     ensures sames { EachRelated E.same links.old links.new }
     ensures ready { OnOk result (AreReady seats.new) }
     ensures goes { OnOk result (GoesAll E.same E.stands seats.old seats.new links.old links.new) }
-    ensures ticks { OnOk result (EachSeat (SeatTicks struck level) seats.old seats.new) }
+    ensures ports { B.ports board.new ≡ B.ports board.old }
+    ensures others { (k : ℕ) → length seats.old ≤ k → B.kept board.old board.new k }
+    ensures turns { OnOk result (EachSeat (SeatTurns (B.told board.old board.new) (B.kept board.old board.new) struck level)
+        seats.old seats.new) }
     ensures rooms { OnOk result ((n : ℕ) → HaveRoom n seats.old → HaveRoom n seats.new) }
 {
     for k in 0..seats.len() {
         let sees = seen(level, struck.has(k));
-        seats[k].tick(links, LINKS * k, sees)?;
+        seats[k].tick(links, LINKS * k, sees, board)?;
     }
     Ok(())
 }
 
 /// One bit of all nodes, in which these are struck: what the links show is taken and what stands is aborted, all drive,
-/// and each sees the level.
+/// each sees the level, and the ports are told.
 pub(crate) fn bit_all<E: BusEnd, B: Board>(
     seats: &mut [Seat],
     links: &mut [E],
-    board: &B,
+    board: &mut B,
     struck: StruckNodes,
 ) -> Result<(), BusFault>
     requires few { length seats.old ≤ 8 }
     requires count { length links.old ≡ 8 * length seats.old }
     requires ids { Numbered E.link links.old }
     requires ready { AreReady seats.old }
-    requires ports { length seats.old ≤ B.ports board.now }
+    requires ports { length seats.old ≤ B.ports board.old }
     ensures sames { EachRelated E.same links.old links.new }
     ensures ready { OnOk result (AreReady seats.new) }
     ensures goes { OnOk result (GoesAll E.same E.stands seats.old seats.new links.old links.new) }
-    ensures bit { OnOk result (IsRowBit (B.orders_are board.now) struck seats.old seats.new) }
+    ensures ports { B.ports board.new ≡ B.ports board.old }
+    ensures others { (k : ℕ) → length seats.old ≤ k → B.kept board.old board.new k }
+    ensures bit { OnOk result (IsRowBit (B.orders_are board.old) (B.told board.old board.new) (B.kept board.old board.new)
+        struck seats.old seats.new) }
     ensures rooms { OnOk result ((n : ℕ) → HaveRoom n seats.old → HaveRoom n seats.new) }
 {
     open_all(seats, links, board)?;
     let level = level_of(seats);
-    tick_all(seats, links, level, struck)
+    tick_all(seats, links, level, struck, board)
 }

@@ -16,6 +16,7 @@ use std::alloc::Global;
 impl Seat {
     ghost use Rattle.std.specs.Prelude.{◌≡◌, ◌≢◌, ◌+◌, [], true, false, IfOk};
     ghost use Rattle.sja_link.specs.BusLedgers.{link_of};
+    ghost use Rattle.sja_bus.specs.declared.news.News.TheVariants.{Nothing};
     ghost use Rattle.sja_bus.specs.Inside.Following.{open_in};
     ghost use Rattle.sja_bus.specs.Reasons.{room_for};
     ghost use Rattle.sja_bus.specs.Inside.Ending.{IsLog};
@@ -29,6 +30,7 @@ impl Seat {
         ensures own { IfOk result (λ s. (link_of s.ledger).node ≡ number) }
         ensures empty { IfOk result (λ s. s.journal.entries ≡ []) }
         ensures room { IfOk result (λ s. s.journal.room ≡ room_for bits) }
+        ensures news { IfOk result (λ s. s.news ≡ Nothing) }
     {
         let journal = Journal::new(alloc, bits)?;
         let node = Node::new();

@@ -19,8 +19,9 @@ use std::marker::Model;
 /// The shared bus of one to eight nodes (Bosch CAN 2.0 part A section 2; its links, journals and ports are this project's
 /// own rule).
 ///
-/// Contracts see it as its script, the bits that were run and those that are left, the fault that it answers always, and
-/// the journals of its nodes. All its room is reserved when it is made: no bit takes memory.
+/// Contracts see it as its script, the bits that were run and those that are left, the fault that it answers always, the
+/// journals of its nodes, and of which node something is untold to its port. All its room is reserved when it is made: no
+/// bit takes memory.
 #[derive(Debug, Drop)]
 pub struct Bus {
     struck: StruckBits,
@@ -37,7 +38,7 @@ impl Model for Bus {
 
     ghost Value = { BusValue };
 
-    ghost use Rattle.sja_bus.specs.Inside.Rows.{journals_of};
+    ghost use Rattle.sja_bus.specs.Inside.Rows.{journals_of, untold_of};
     ghost use Rattle.sja_bus.specs.Inside.Whole.{IsWhole};
 
     ghost view = { λ b. record {
@@ -46,6 +47,7 @@ impl Model for Bus {
       left = b.left;
       fault = b.fault;
       journals = journals_of b.seats.items;
+      untold = untold_of b.seats.items;
     } };
 
     ghost invariant = { λ b. IsWhole b.struck b.run b.left b.fault b.seats.items (vec_capacity b.logs)
@@ -53,7 +55,7 @@ impl Model for Bus {
 }
 
 impl Bus {
-    ghost use Rattle.std.specs.Prelude.{◌≡◌, ◌+◌, ◌*◌, ◌<◌, ◌≤◌, ◌⊎◌, ◌≢◌, ℕ, None, Some, Err, true, false, length, map, slice_index_or, OnOk, IfOk, IfErr};
+    ghost use Rattle.std.specs.Prelude.{◌≡◌, ◌+◌, ◌*◌, ◌<◌, ◌≤◌, ◌⊎◌, ◌≢◌, ℕ, None, Some, Err, true, false, length, map, slice_index_or, OnOk, IfOk, IfErr, IfSome};
     ghost use Rattle.sja_bus.specs.declared.bus_fault.BusFault.{BusFault as Fault};
     ghost use Rattle.sja_bus.specs.declared.bus_fault.BusFault.TheVariants.{BitsSpent};
     ghost use Rattle.sja_bus.specs.Links.{EachRelated, Numbered};
@@ -64,7 +66,7 @@ impl Bus {
     ghost use Rattle.sja_bus.specs.Wire.{journal_at};
     ghost use Rattle.sja_bus.specs.Resting.{RestsAs};
     ghost use Rattle.sja_bus.specs.Lawful.{IsBusRun, CountersAre};
-    ghost use Rattle.sja_bus.specs.Buses.{EachJournal, KeepsAll, AllDry, IsBit, new_bus};
+    ghost use Rattle.sja_bus.specs.Buses.{EachJournal, KeepsAll, AllDry, IsBit, new_bus, EachUntold, AllTold, IsStill};
     ghost use Rattle.sja_bus.specs.Reasons.{IsNotTaken};
 
     /// A bus of so many nodes, 1 to 8, for a run of so many bits, 1 to 200,000. All its room is reserved here.
@@ -105,6 +107,7 @@ impl Bus {
         ensures nodes { length self.new.journals ≡ length self.old.journals }
         ensures kept { OnOk result (KeepsAll E.stands self.old.journals self.new.journals links.old links.new) }
         ensures items { OnOk result (EachJournal HasItems self.old.journals self.new.journals) }
+        ensures untold { OnOk result (EachUntold self.old.untold self.new.untold self.old.journals self.new.journals) }
         ensures dry { OnOk result (AllDry E.dry self.new.journals links.new) }
         ensures right { OnOk result (self.new.fault ≡ None) }
         ensures fault { IfErr result (λ f. self.new.fault ≡ Some f) }
@@ -125,9 +128,23 @@ impl Bus {
         }
     }
 
+    /// Why there is no further bit: the fault that is answered always, or that no bit is left.
+    fn refusal(&self) -> Option<BusFault>
+        ensures fault { (f : Fault) → self.now.fault ≡ Some f → result ≡ Some f }
+        ensures spent { self.now.fault ≡ None → self.now.left ≡ 0 → result ≡ Some BitsSpent }
+        ensures none { result ≡ None → (self.now.fault ≡ None) × (self.now.left ≢ 0) }
+        ensures some { IfSome result (λ f. (f ≡ BitsSpent) ⊎ (self.now.fault ≡ Some f)) }
+    {
+        match self.fault {
+            Some(fault) => Some(fault),
+            None if self.left == 0 => Some(BusFault::BitsSpent),
+            None => None,
+        }
+    }
+
     /// One bit. Of each node in order all that its links show is taken, and then an abort that stands is applied; all
     /// nodes drive; all see the level, or the other one where the script strikes them; each received frame that passes is
-    /// judged and put.
+    /// judged and put; each port is told the turn of the bit, unless there is nothing to tell.
     ///
     /// Error: [`BusFault::BitsSpent`] where no bit is left; nothing changed. After any other fault the same always.
     pub fn bit<E: BusEnd, B: Board>(
@@ -140,23 +157,22 @@ impl Bus {
         requires ports { length self.old.journals ≤ B.ports board.old }
         ensures sames { EachRelated E.same links.old links.new }
         ensures ports { B.ports board.new ≡ B.ports board.old }
-        ensures script { self.new.script ≡ self.old.script }
-        ensures nodes { length self.new.journals ≡ length self.old.journals }
+        ensures others { (k : ℕ) → length self.old.journals ≤ k → B.kept board.old board.new k }
+        ensures shape { (self.new.script ≡ self.old.script) × (length self.new.journals ≡ length self.old.journals) }
         ensures bits { OnOk result ((self.new.run ≡ self.old.run + 1) × (self.new.left + 1 ≡ self.old.left)) }
         ensures kept { OnOk result (KeepsAll E.stands self.old.journals self.new.journals links.old links.new) }
-        ensures bit { OnOk result (IsBit (B.orders_are board.old) self.old.script self.old.run self.old.journals self.new.journals) }
+        ensures bit { OnOk result (IsBit (B.orders_are board.old) (B.told board.old board.new) (B.kept board.old board.new)
+            self.old.script self.old.run self.old.untold self.old.journals self.new.journals) }
+        ensures told { OnOk result (AllTold (length self.old.journals) self.new.untold) }
         ensures right { OnOk result (self.new.fault ≡ None) }
         ensures fault { IfErr result (λ f. (f ≡ BitsSpent) ⊎ (self.new.fault ≡ Some f)) }
         ensures spent { self.old.left ≡ 0 → self.old.fault ≡ None →
-            (result ≡ Err BitsSpent) × (self.new ≡ self.old) × (links.new ≡ links.old) }
+            (result ≡ Err BitsSpent) × IsStill self.old self.new links.old links.new board.old board.new }
         ensures stays { (f : Fault) → self.old.fault ≡ Some f →
-            (result ≡ Err f) × (self.new ≡ self.old) × (links.new ≡ links.old) }
+            (result ≡ Err f) × IsStill self.old self.new links.old links.new board.old board.new }
     {
-        if let Some(fault) = self.fault {
+        if let Some(fault) = self.refusal() {
             return Err(fault);
-        }
-        if self.left == 0 {
-            return Err(BusFault::BitsSpent);
         }
         let struck = self.struck.at(self.run);
         match bit_all(self.seats.as_mut_slice(), links, board, struck) {

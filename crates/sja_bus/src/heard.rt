@@ -1,4 +1,4 @@
-//! What a bit brought to a node that runs.
+//! What a bit brought to a node.
 
 use can_node::BitEvents;
 

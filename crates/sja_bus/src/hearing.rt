@@ -1,7 +1,8 @@
 //! One bit of a node in which something may happen.
 
-ghost use Rattle.std.specs.Prelude.{◌≡◌};
+ghost use Rattle.std.specs.Prelude.{◌≡◌, ℕ, List, Some};
 ghost use Rattle.sja_link.specs.Verdicts.{entry_of};
+ghost use Rattle.sja_bus.specs.Telling.{is_overrun as overruns};
 ghost use Rattle.sja_bus.specs.Inside.Seats.{Keeps};
 
 use super::activity::Activity;
@@ -16,14 +17,14 @@ use sja_link::{BusEnd, Busy, Entry, Verdict};
 impl Seat {
     ghost use Rattle.std.specs.Prelude.{◌≡◌, ◌<◌, ℕ, suc, Ok, [], ◌∷◌, ◌++◌, OnOk, IfOk, true, false};
     ghost use Rattle.can_frame.specs.declared.filter.Filter.{Filter as Filtering};
-    ghost use Rattle.can_node.specs.Stands.{InReset, DrivesNext, Samples};
+    ghost use Rattle.can_node.specs.Stands.{InReset, Samples};
     ghost use Rattle.sja_link.specs.declared.entry.Entry.TheVariants.{Bit, Off as OffEntry};
     ghost use Rattle.sja_link.specs.BusLedgers.{link_of, free_in};
     ghost use Rattle.sja_bus.specs.declared.activity.Activity.TheVariants.{Running};
     ghost use Rattle.sja_bus.specs.Links.{Moves};
-    ghost use Rattle.sja_bus.specs.OneBit.{HasVerdict, HasBit};
     ghost use Rattle.sja_bus.specs.Inside.Following.{Reads, open_in};
-    ghost use Rattle.sja_bus.specs.Inside.Seats.{IsSound, IsSeat, IsJudged, IsMid};
+    ghost use Rattle.sja_bus.specs.Inside.Turning.{Hears, Brings};
+    ghost use Rattle.sja_bus.specs.Inside.Seats.{IsSound, IsSeat, IsReady, IsJudged, IsMid};
 
     /// Judges a message, and writes the bit and the verdict. Whether the message found no room.
     fn judge<E: BusEnd>(
@@ -40,15 +41,17 @@ impl Seat {
         ensures same { E.same end.old end.new }
         ensures room { self.new.journal.room ≡ self.old.journal.room }
         ensures kept { (self.new.node ≡ self.old.node) × (self.new.ended ≡ self.old.ended) × (self.new.activity ≡ self.old.activity) × (link_of self.new.ledger ≡ link_of self.old.ledger) }
-        ensures judged { OnOk result (IsJudged self.old.journal.entries driven seen (suc self.old.ended) message self.new.journal.entries) }
+        ensures news { self.new.news ≡ self.old.news }
+        ensures judged { IfOk result (λ overrun. IsJudged self.old.journal.entries driven seen (suc self.old.ended) message overrun self.new.journal.entries) }
         ensures reads { OnOk result (Reads self.new.node self.new.journal.entries self.new.ended self.new.activity (free_in self.new.ledger)) }
         ensures moves { OnOk result (Moves E.stands end.old end.new self.old.journal.entries self.new.journal.entries (suc self.old.ended)) }
     {
         match accept(&mut self.ledger, end, &message) {
             Ok(verdict) => {
                 self.enter(Entry::Bit(driven, seen))?;
+                let overrun = is_overrun(verdict);
                 self.enter(verdict_entry(verdict, message))?;
-                Ok(verdict == Verdict::Overrun)
+                Ok(overrun)
             }
             Err(Busy) => Err(BusFault::Stuck(self.number())),
         }
@@ -65,6 +68,7 @@ impl Seat {
         ensures room { self.new.journal.room ≡ self.old.journal.room }
         ensures ledger { self.new.ledger ≡ self.old.ledger }
         ensures ended { self.new.ended ≡ self.old.ended }
+        ensures news { self.new.news ≡ self.old.news }
         ensures node { self.new.node ≡ self.old.node }
         ensures sound { OnOk result (IsSound self.new) }
         ensures seat { OnOk result (IsSeat self.new) }
@@ -85,24 +89,23 @@ impl Seat {
         &mut self,
         end: &mut E,
         filter: Filter,
-        driven: Level,
         seen: Level,
     ) -> Result<Heard, BusFault>
         requires id { E.link end.old ≡ link_of self.old.ledger }
         requires runs { self.old.activity ≡ Running filter }
-        requires drives { DrivesNext self.old.node driven }
-        requires sound { IsSound self.old }
-        requires seat { IsSeat self.old }
+        requires ready { IsReady self.old }
         ensures same { E.same end.old end.new }
-        ensures room { self.new.journal.room ≡ self.old.journal.room }
         ensures kept { (self.new.ended ≡ self.old.ended) × (self.new.activity ≡ self.old.activity) × (link_of self.new.ledger ≡ link_of self.old.ledger) }
+        ensures room { self.new.journal.room ≡ self.old.journal.room }
+        ensures news { self.new.news ≡ self.old.news }
         ensures mid { IfOk result (λ heard. IsMid self.new heard.events.went_off) }
         ensures off { IfOk result (λ heard. heard.events.went_off ≡ true → InReset self.new.node) }
         ensures samples { IfOk result (λ heard. Samples self.old.node self.new.node seen heard.events) }
         ensures moves { OnOk result (Moves E.stands end.old end.new self.old.journal.entries self.new.journal.entries (suc self.old.ended)) }
-        ensures adds { OnOk result (HasVerdict self.old.journal.entries driven seen self.new.journal.entries) }
+        ensures hears { IfOk result (λ heard. Hears self.old.journal.entries self.old.drives seen heard.overrun self.new.journal.entries) }
     {
-        let events = self.node.sample(seen);
+        let driven = self.drives;
+        let events = self.node.sample_fully(seen);
         match passing(&filter, &events.received) {
             None => {
                 self.enter(Entry::Bit(driven, seen))?;
@@ -123,25 +126,23 @@ impl Seat {
         &mut self,
         end: &mut E,
         filter: Filter,
-        driven: Level,
         seen: Level,
     ) -> Result<Heard, BusFault>
-        requires id { E.link end.old ≡ link_of self.old.ledger }
-        requires runs { self.old.activity ≡ Running filter }
-        requires drives { DrivesNext self.old.node driven }
-        requires sound { IsSound self.old }
-        requires seat { IsSeat self.old }
-        ensures same { E.same end.old end.new }
+        requires running { self.old.activity ≡ Running filter }
+        requires link { E.link end.old ≡ link_of self.old.ledger }
+        requires ready { IsReady self.old }
         ensures room { self.new.journal.room ≡ self.old.journal.room }
         ensures id { link_of self.new.ledger ≡ link_of self.old.ledger }
         ensures ended { self.new.ended ≡ self.old.ended }
+        ensures news { self.new.news ≡ self.old.news }
+        ensures same { E.same end.old end.new }
         ensures sound { OnOk result (IsSound self.new) }
         ensures seat { OnOk result (IsSeat self.new) }
         ensures samples { IfOk result (λ heard. Samples self.old.node self.new.node seen heard.events) }
         ensures moves { OnOk result (Moves E.stands end.old end.new self.old.journal.entries self.new.journal.entries (suc self.old.ended)) }
-        ensures adds { OnOk result (HasBit self.old.journal.entries driven seen self.new.journal.entries) }
+        ensures brings { IfOk result (λ heard. Brings self.old.journal.entries self.old.drives seen heard self.new.journal.entries) }
     {
-        let heard = self.hear(end, filter, driven, seen)?;
+        let heard = self.hear(end, filter, seen)?;
         if !heard.events.went_off {
             return Ok(heard);
         }
@@ -150,18 +151,19 @@ impl Seat {
     }
 
     /// One bit of a node in reset: it looks at no level.
-    pub(crate) fn rest_bit(&mut self, driven: Level, seen: Level) -> Result<Heard, BusFault>
+    pub(crate) fn rest_bit(&mut self, seen: Level) -> Result<Heard, BusFault>
         requires rests { InReset self.old.node }
-        requires drives { DrivesNext self.old.node driven }
-        requires sound { IsSound self.old }
-        requires seat { IsSeat self.old }
+        requires ready { IsReady self.old }
         ensures room { self.new.journal.room ≡ self.old.journal.room }
         ensures kept { (self.new.ended ≡ self.old.ended) × (self.new.ledger ≡ self.old.ledger) }
+        ensures news { self.new.news ≡ self.old.news }
         ensures sound { OnOk result (IsSound self.new) }
         ensures seat { OnOk result (IsSeat self.new) }
         ensures samples { IfOk result (λ heard. Samples self.old.node self.new.node seen heard.events) }
-        ensures entered { OnOk result (self.new.journal.entries ≡ self.old.journal.entries ++ Bit driven seen ∷ []) }
+        ensures entered { OnOk result (self.new.journal.entries ≡ self.old.journal.entries ++ Bit self.old.drives seen ∷ []) }
+        ensures quiet { IfOk result (λ heard. (heard.events.went_off ≡ false) × (heard.overrun ≡ false)) }
     {
+        let driven = self.drives;
         let events = self.node.sample(seen);
         self.enter(Entry::Bit(driven, seen))?;
         Ok(Heard {
@@ -178,6 +180,16 @@ fn verdict_entry(verdict: Verdict, message: Message) -> Entry
     match verdict {
         Verdict::Stored => Entry::Stored(message),
         Verdict::Overrun => Entry::Overrun(message),
+    }
+}
+
+/// Whether it says that the message found no room.
+fn is_overrun(verdict: Verdict) -> bool
+    ensures { (m : List ℕ) → result ≡ overruns (Some (verdict, m)) }
+{
+    match verdict {
+        Verdict::Stored => false,
+        Verdict::Overrun => true,
     }
 }
 

@@ -13,6 +13,7 @@ mod activity;
 mod all_nodes;
 mod beginning;
 mod board;
+mod board_laws;
 mod bus;
 mod bus_fault;
 mod heard;
@@ -28,8 +29,12 @@ mod serial_board;
 mod struck_bits;
 mod struck_nodes;
 mod taking;
+mod telling;
 
 pub use board::Board;
+pub use board_laws::{
+    a_port_kept_that_shows_the_turn_was_told_it, a_port_shows_a_turn_that_says_the_same,
+};
 pub use bus::Bus;
 pub use bus_fault::BusFault;
 pub use link_numbers::are_links_of;

@@ -31,7 +31,7 @@ pub(crate) struct Seat {
 }
 
 impl Seat {
-    ghost use Rattle.std.specs.Prelude.{◌≡◌, ◌<◌, ◌≤◌, ◌+◌, ℕ, suc, Ok, Err, [], ◌∷◌, ◌++◌, slice_index_or, List, OnOk, IfOk, IfErr, true, false, length};
+    ghost use Rattle.std.specs.Prelude.{◌≡◌, ◌≢◌, ◌<◌, ◌≤◌, ◌+◌, ℕ, suc, Ok, Err, [], ◌∷◌, ◌++◌, slice_index_or, List, OnOk, IfOk, IfErr, true, false, length};
     ghost use Rattle.sja_link.specs.BusLedgers.{link_of, free_in};
     ghost use Rattle.sja_bus.specs.Links.{Goes, EachRelated, AreOf};
     ghost use Rattle.sja_link.specs.declared.entry.Entry.TheVariants.{Bit as BitEntry, Abort as AbortEntry};
@@ -40,6 +40,7 @@ impl Seat {
     ghost use Rattle.sja_bus.specs.Inside.Following.{Follows, Reads};
     ghost use Rattle.sja_bus.specs.Inside.Seats.{IsSound, IsSeat, IsReady};
     ghost use Rattle.sja_bus.specs.Inside.Taking.{Applies, IsFull};
+    ghost use Rattle.sja_bus.specs.Inside.Turning.{TakesNews, AbortsNews, OpensNews, Brings, Turns};
     ghost use Rattle.sja_bus.specs.OneBit.{Opens};
     ghost use Rattle.sja_bus.specs.Reasons.{RefusesItem};
 
@@ -94,6 +95,7 @@ impl Seat {
         ensures seat { OnOk result (IsSeat self.new) }
         ensures goes { OnOk result (Goes E.same E.stands self.old.journal.entries self.new.journal.entries links.old links.new base) }
         ensures items { OnOk result (HasItems self.old.journal.entries self.new.journal.entries) }
+        ensures news { OnOk result (TakesNews self.old self.new) }
         ensures dry { OnOk result ((d : E) → self.new.ended < 8 → E.dry (slice_index_or links.new (base + self.new.ended) d)) }
         ensures refused { IfErr result (λ f. RefusesItem E.stands self.old.journal.room self.old.journal.entries
             self.new.journal.entries links.old links.new base (link_of self.old.ledger).node f) }
@@ -120,6 +122,7 @@ impl Seat {
         ensures ready { OnOk result (IsReady self.new) }
         ensures goes { OnOk result (Goes E.same E.stands self.old.journal.entries self.new.journal.entries links.old links.new base) }
         ensures items { OnOk result (HasItems self.old.journal.entries self.new.journal.entries) }
+        ensures news { OnOk result (TakesNews self.old self.new) }
         ensures dry { OnOk result ((d : E) → self.new.ended < 8 → E.dry (slice_index_or links.new (base + self.new.ended) d)) }
         ensures refused { IfErr result (λ f. RefusesItem E.stands self.old.journal.room self.old.journal.entries
             self.new.journal.entries links.old links.new base (link_of self.old.ledger).node f) }
@@ -138,6 +141,7 @@ impl Seat {
         ensures room { self.new.journal.room ≡ self.old.journal.room }
         ensures ready { OnOk result (IsReady self.new) }
         ensures ended { self.new.ended ≡ self.old.ended }
+        ensures news { self.new.news ≡ news }
         ensures entered { OnOk result (self.new.journal.entries ≡ self.old.journal.entries ++ AbortEntry ∷ []) }
     {
         self.news = news;
@@ -153,6 +157,7 @@ impl Seat {
         ensures ready { OnOk result (IsReady self.new) }
         ensures ended { self.new.ended ≡ self.old.ended }
         ensures aborts { OnOk result (Applies self.old.journal.entries self.new.journal.entries) }
+        ensures news { OnOk result (AbortsNews self.old self.new) }
     {
         let Activity::Running(_) = self.activity else {
             return Ok(());
@@ -181,6 +186,7 @@ impl Seat {
         ensures ready { OnOk result (IsReady self.new) }
         ensures goes { OnOk result (Goes E.same E.stands self.old.journal.entries self.new.journal.entries links.old links.new base) }
         ensures opens { OnOk result (Opens (B.orders_are board.now (link_of self.old.ledger).node) self.old.journal.entries self.new.journal.entries) }
+        ensures news { OnOk result (OpensNews self.old self.new) }
         ensures dry { OnOk result ((d : E) → self.new.ended < 8 → E.dry (slice_index_or links.new (base + self.new.ended) d)) }
     {
         self.gather(links, base)?;
@@ -194,56 +200,62 @@ impl Seat {
         &mut self,
         links: &mut [E],
         base: usize,
-        driven: Level,
         seen: Level,
     ) -> Result<Heard, BusFault>
-        requires room { base + 8 ≤ length links.old }
-        requires ids { AreOf E.link (link_of self.old.ledger).node links.old base }
-        requires drives { DrivesNext self.old.node driven }
-        requires sound { IsSound self.old }
-        requires seat { IsSeat self.old }
-        ensures sames { EachRelated E.same links.old links.new }
-        ensures node { (link_of self.new.ledger).node ≡ (link_of self.old.ledger).node }
-        ensures room { self.new.journal.room ≡ self.old.journal.room }
-        ensures sound { OnOk result (IsSound self.new) }
-        ensures seat { OnOk result (IsSeat self.new) }
-        ensures samples { IfOk result (λ heard. Samples self.old.node self.new.node seen heard.events) }
-        ensures goes { OnOk result (Goes E.same E.stands self.old.journal.entries self.new.journal.entries links.old links.new base) }
-        ensures adds { OnOk result (HasBit self.old.journal.entries driven seen self.new.journal.entries) }
-    {
-        let Activity::Running(filter) = self.activity else {
-            return self.rest_bit(driven, seen);
-        };
-        let here = base + self.ended as usize;
-        self.run_bit(&mut links[here], filter, driven, seen)
-    }
-
-    /// One bit of the node, which sees this level.
-    #[inline(always)]
-    pub(crate) fn tick<E: BusEnd>(
-        &mut self,
-        links: &mut [E],
-        base: usize,
-        seen: Level,
-    ) -> Result<(), BusFault>
         requires room { base + 8 ≤ length links.old }
         requires ids { AreOf E.link (link_of self.old.ledger).node links.old base }
         requires ready { IsReady self.old }
         ensures sames { EachRelated E.same links.old links.new }
         ensures node { (link_of self.new.ledger).node ≡ (link_of self.old.ledger).node }
         ensures room { self.new.journal.room ≡ self.old.journal.room }
+        ensures sound { OnOk result (IsSound self.new) }
+        ensures seat { OnOk result (IsSeat self.new) }
+        ensures news { self.new.news ≡ self.old.news }
+        ensures samples { IfOk result (λ heard. Samples self.old.node self.new.node seen heard.events) }
+        ensures goes { OnOk result (Goes E.same E.stands self.old.journal.entries self.new.journal.entries links.old links.new base) }
+        ensures brings { IfOk result (λ heard. Brings self.old.journal.entries self.old.drives seen heard self.new.journal.entries) }
+    {
+        let Activity::Running(filter) = self.activity else {
+            return self.rest_bit(seen);
+        };
+        let here = base + self.ended as usize;
+        self.run_bit(&mut links[here], filter, seen)
+    }
+
+    /// One bit of the node, which sees this level. Its port is told of it, unless nothing happened and nothing is left to
+    /// be told.
+    #[inline(always)]
+    pub(crate) fn tick<E: BusEnd, B: Board>(
+        &mut self,
+        links: &mut [E],
+        base: usize,
+        seen: Level,
+        board: &mut B,
+    ) -> Result<(), BusFault>
+        requires room { base + 8 ≤ length links.old }
+        requires ids { AreOf E.link (link_of self.old.ledger).node links.old base }
+        requires ready { IsReady self.old }
+        requires port { (link_of self.old.ledger).node < B.ports board.old }
+        ensures sames { EachRelated E.same links.old links.new }
+        ensures node { (link_of self.new.ledger).node ≡ (link_of self.old.ledger).node }
+        ensures room { self.new.journal.room ≡ self.old.journal.room }
         ensures ready { OnOk result (IsReady self.new) }
         ensures goes { OnOk result (Goes E.same E.stands self.old.journal.entries self.new.journal.entries links.old links.new base) }
-        ensures adds { OnOk result (HasBit self.old.journal.entries self.old.drives seen self.new.journal.entries) }
+        ensures ports { B.ports board.new ≡ B.ports board.old }
+        ensures others { (k : ℕ) → k ≢ (link_of self.old.ledger).node → B.kept board.old board.new k }
+        ensures turns { OnOk result (Turns (B.told board.old board.new (link_of self.old.ledger).node)
+            (B.kept board.old board.new (link_of self.old.ledger).node) seen self.old self.new) }
     {
-        let driven = self.drives;
-        if self.node.sample_quietly(seen) {
-            self.enter_bit(driven, seen)?;
-            self.drives = self.node.drive();
-            return Ok(());
+        if let News::Nothing = self.news {
+            if self.node.sample_quietly(seen) {
+                self.enter_bit(self.drives, seen)?;
+                self.drives = self.node.drive();
+                return Ok(());
+            }
         }
-        self.full_bit(links, base, driven, seen)?;
+        let heard = self.full_bit(links, base, seen)?;
         self.drives = self.node.drive();
+        self.tell(board, heard);
         Ok(())
     }
 }

@@ -12,8 +12,10 @@ impl Seat {
     ghost use Rattle.sja_link.specs.declared.up.Up.TheVariants.{Start, Credit, Send, Stop};
     ghost use Rattle.sja_link.specs.declared.entry.Entry.TheVariants.{Up as Item};
     ghost use Rattle.sja_link.specs.declared.up.Up.{Up as Given};
+    ghost use Rattle.sja_link.specs.Places.{past, place_of};
     ghost use Rattle.sja_link.specs.BusLedgers.{link_of, free_in};
     ghost use Rattle.sja_bus.specs.Links.{Moves};
+    ghost use Rattle.sja_bus.specs.declared.news.News.TheVariants.{Changed};
     ghost use Rattle.sja_bus.specs.Inside.Seats.{IsSound, IsOwed, IsSeat};
     ghost use Rattle.sja_bus.specs.Inside.Taking.{Takes, Refuses, RefusesHere};
 
@@ -128,14 +130,15 @@ impl Seat {
         ensures moves { OnOk result (Moves E.stands end.old end.new self.old.journal.entries self.new.journal.entries (suc self.old.ended)) }
         ensures some { result ≡ Ok true → (item : Given) × (self.new.journal.entries ≡ self.old.journal.entries ++ Item item ∷ []) × (length self.old.journal.entries < self.old.journal.room)
             × ((past (place_of self.old.journal.entries) (Item item)).activation ≡ suc self.old.ended) }
+        ensures news { result ≡ Ok true → self.new.news ≡ Changed }
         ensures none { result ≡ Ok false → E.dry end.new × (self.new ≡ self.old) }
         ensures refused { IfErr result (λ f. RefusesHere E.stands end.old end.new self.old self.new f) }
     {
         match self.ledger.collect(end) {
             Ok(None) => Ok(false),
             Ok(Some(item)) => {
-                self.news = News::Changed;
                 self.note(item)?;
+                self.news = News::Changed;
                 Ok(true)
             }
             Err(BadCredit(bytes)) => Err(BusFault::BadCredit(self.number(), bytes)),

@@ -1,5 +1,5 @@
 -- All controllers of a bus, one at each place of a list.
-use Rattle.std.specs.Prelude.{◌≡◌, ◌+◌, ◌*◌, ◌<◌, ◌≤◌, ◌==◌, ℕ, suc, Bool, if◌then◌else◌, List, length, map, slice_index_or}
+use Rattle.std.specs.Prelude.{◌≡◌, ◌≢◌, ◌+◌, ◌*◌, ◌<◌, ◌≤◌, ◌==◌, ℕ, Bool, if◌then◌else◌, List, length, map, slice_index_or}
 use Rattle.std.specs.Int.{bit_at}
 use Rattle.can_bits.specs.declared.level.Level.{Level}
 use Rattle.can_bits.specs.Digits.{opposite}
@@ -8,13 +8,16 @@ use Rattle.sja_link.specs.Lists.{Lists}
 use Rattle.sja_link.specs.Accounts.{Account}
 use Rattle.sja_link.specs.BusLedgers.{link_of}
 use Rattle.sja_regs.specs.declared.orders.Orders.{Orders}
+use Rattle.sja_regs.specs.declared.bus_turn.BusTurn.{BusTurn}
 use Rattle.sja_script.specs.declared.strike.Strike.{Strike}
 use Rattle.sja_bus.specs.declared.struck_nodes.StruckNodes.{StruckNodes}
+use Rattle.sja_bus.specs.declared.news.News.TheVariants.{Dropped}
 use Rattle.sja_bus.specs.declared.seat.Seat.{Seat}
 use Rattle.sja_bus.specs.Wire.{IsWired}
 use Rattle.sja_bus.specs.Links.{per_node, EachRelated, Kept, Grows}
-use Rattle.sja_bus.specs.OneBit.{HasItems, Opens, HasBit}
+use Rattle.sja_bus.specs.OneBit.{HasItems, Opens}
 use Rattle.sja_bus.specs.Inside.Seats.{IsReady}
+use Rattle.sja_bus.specs.Inside.Turning.{is_untold, TakesNews, OpensNews, Turns}
 
 -- a seat is ready, and is of its node
 pub record IsOf (s : Seat) (node : ℕ) : Type 0 where
@@ -24,9 +27,12 @@ pub record IsOf (s : Seat) (node : ℕ) : Type 0 where
 abbrev pub AreReady : List Seat → Type 0
 AreReady seats = (k : ℕ) (s : Seat) → k < length seats → IsOf (slice_index_or seats k s) k
 
--- the journals of all nodes, and the levels that they drive next
+-- the journals of all nodes, whose ports are still to be told something, and the levels that they drive next
 abbrev pub journals_of : List Seat → List (List Entry)
 journals_of seats = map (λ s. s.journal.entries) seats
+
+abbrev pub untold_of : List Seat → List Bool
+untold_of seats = map (λ s. is_untold s.news) seats
 
 abbrev pub driven_by : List Seat → List Level
 driven_by seats = map (λ s. s.drives) seats
@@ -49,13 +55,19 @@ SeatTakes m old new = HasItems old.journal.entries new.journal.entries
 abbrev pub SeatOpens : (ℕ → Orders → Type 0) → ℕ → Seat → Seat → Type 0
 SeatOpens orders_are m old new = Opens (orders_are m) old.journal.entries new.journal.entries
 
+-- what is to be told of each
+abbrev pub SeatNews : ℕ → Seat → Seat → Type 0
+SeatNews m old new = TakesNews old new
+
+abbrev pub SeatOpensNews : ℕ → Seat → Seat → Type 0
+SeatOpensNews m old new = OpensNews old new
+
 -- what a node sees of this level, where these nodes are struck
 abbrev pub seen_by : StruckNodes → Level → ℕ → Level
 seen_by struck level node = if bit_at struck.mask node == 1 then opposite level else level
 
-abbrev pub SeatTicks : StruckNodes → Level → ℕ → Seat → Seat → Type 0
-SeatTicks struck level m old new =
-    HasBit old.journal.entries old.drives (seen_by struck level m) new.journal.entries
+abbrev pub SeatTurns : (ℕ → BusTurn → Type 0) → (ℕ → Type 0) → StruckNodes → Level → ℕ → Seat → Seat → Type 0
+SeatTurns was_told was_kept struck level m old new = Turns (was_told m) (was_kept m) (seen_by struck level m) old new
 
 -- the links of each node moved with its journal, whatever its driver got and gave
 pub record GoesAll {E : Type 0} (same : E → E → Type 0) (stands : E → Lists → Type 0) (seats after : List Seat)
@@ -73,7 +85,12 @@ AllRead {E} dry seats links =
     (k : ℕ) (s : Seat) (d : E) → k < length seats → (slice_index_or seats k s).ended < per_node →
     dry (slice_index_or links (per_node * k + (slice_index_or seats k s).ended) d)
 
+-- no request was dropped since the last bit
+abbrev pub AreCalm : List Seat → Type 0
+AreCalm seats = (k : ℕ) (s : Seat) → k < length seats → (slice_index_or seats k s).news ≢ Dropped
+
 -- the seats are ready, and their journals are of one wire
 pub record IsBus (script : List Strike) (bits : ℕ) (seats : List Seat) : Type 0 where
   pub ready : AreReady seats
+  pub calm : AreCalm seats
   pub wired : IsWired script bits (journals_of seats)

@@ -13,6 +13,7 @@ use Rattle.sja_link.specs.Parts.{part}
 use Rattle.sja_link.specs.Free.{IsFree}
 use Rattle.sja_link.specs.Verdicts.{IsDue, entry_of}
 use Rattle.sja_link.specs.BusLedgers.{link_of, free_in}
+use Rattle.sja_bus.specs.Telling.{is_overrun}
 use Rattle.sja_bus.specs.declared.seat.Seat.{Seat}
 use Rattle.sja_bus.specs.Inside.Following.{Follows, FollowsBit, Reads, open_in}
 
@@ -50,11 +51,13 @@ Keeps filter None out = out ≡ None
 Keeps filter (Some f) None = Passes filter f → ⊥
 Keeps filter (Some f) (Some m) = Passes filter f × (m ≡ message f)
 
--- a journal with a bit more, and a verdict on this message that is due
-pub record IsJudged (j : List Entry) (driven seen : Level) (a : ℕ) (m : List ℕ) (after : List Entry) : Type 0 where
-  pub verdict : Verdict
-  pub whole : after ≡ (j ++ Bit driven seen ∷ []) ++ entry_of verdict m ∷ []
-  pub due : IsDue (part (j ++ Bit driven seen ∷ []) a) (entry_of verdict m)
+-- a journal with a bit more, and a verdict on this message that is due: whether the message found no room
+pub record IsJudged (j : List Entry) (driven seen : Level) (a : ℕ) (m : List ℕ) (overrun : Bool) (after : List Entry) : Type 0
+  where
+    pub verdict : Verdict
+    pub overrun_is : overrun ≡ is_overrun (Some (verdict, m))
+    pub whole : after ≡ (j ++ Bit driven seen ∷ []) ++ entry_of verdict m ∷ []
+    pub due : IsDue (part (j ++ Bit driven seen ∷ []) a) (entry_of verdict m)
 
 -- the same node after a bit, before bus-off is written
 pub record IsMid (s : Seat) (went : Bool) : Type 0 where

@@ -1,7 +1,8 @@
 -- How a bus keeps its nodes.
-use Rattle.std.specs.Prelude.{◌≡◌, ◌+◌, ◌≤◌, ℕ, Option, None, List, [], length}
+use Rattle.std.specs.Prelude.{◌≡◌, ◌+◌, ◌≤◌, ℕ, Option, None, List, length}
 use Rattle.can_bits.specs.declared.level.Level.{Level}
 use Rattle.sja_regs.specs.declared.orders.Orders.{Orders}
+use Rattle.sja_regs.specs.declared.bus_turn.BusTurn.{BusTurn}
 use Rattle.sja_bus.specs.declared.bus_fault.BusFault.{BusFault}
 use Rattle.sja_bus.specs.declared.struck_nodes.StruckNodes.{StruckNodes}
 use Rattle.sja_bus.specs.declared.seat.Seat.{Seat}
@@ -9,7 +10,7 @@ use Rattle.sja_bus.specs.StrikesByBit.{Scripted}
 use Rattle.sja_bus.specs.Wire.{wired}
 use Rattle.sja_bus.specs.Reasons.{room_for}
 use Rattle.sja_bus.specs.Inside.Refusing.{HaveRoom}
-use Rattle.sja_bus.specs.Inside.Rows.{IsBus, EachSeat, SeatOpens, SeatTicks, driven_by}
+use Rattle.sja_bus.specs.Inside.Rows.{IsBus, EachSeat, SeatOpens, driven_by, SeatOpensNews, SeatTurns}
 
 -- one to eight nodes, as many bits as it is known whom the script strikes, and while there is no fault a bus, with room
 -- for all its bits
@@ -21,11 +22,14 @@ pub record IsWhole (struck : Scripted) (run left : ℕ) (fault : Option BusFault
   pub logs : length seats ≤ room
   pub rooms : fault ≡ None → HaveRoom (room_for struck.bits) seats
 
--- one bit of all seats: what was taken and aborted, and then each had its bit at the level that all drove
-pub record IsRowBit (orders_are : ℕ → Orders → Type 0) (struck : StruckNodes) (old new : List Seat) : Type 0 where
+-- one bit of all seats: what was taken and aborted, and then each had its bit at the level that all drove, and its port
+-- was told or passed over
+pub record IsRowBit (orders_are : ℕ → Orders → Type 0) (was_told : ℕ → BusTurn → Type 0) (was_kept : ℕ → Type 0)
+    (struck : StruckNodes) (old new : List Seat) : Type 0 where
   pub opened : List Seat
   pub level : Level
   pub count : length opened ≡ length old
   pub opens : EachSeat (SeatOpens orders_are) old opened
+  pub news : EachSeat SeatOpensNews old opened
   pub is_level : level ≡ wired (driven_by opened)
-  pub ticks : EachSeat (SeatTicks struck level) opened new
+  pub turns : EachSeat (SeatTurns was_told was_kept struck level) opened new

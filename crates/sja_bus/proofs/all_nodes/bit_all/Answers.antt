@@ -1,6 +1,4 @@
-use Rattle.std.proofs.Common.{◌≡◌, ℕ, ◌<◌, List, length, rules, arith, sym, ap, ◌∙◌, subst}
-use Rattle.sja_bus.specs.Wire.{wired}
-use Rattle.sja_bus.specs.Inside.Rows.{driven_by}
+use Rattle.std.proofs.Common.{rules}
 use Rattle.sja_bus.proofs.Lists.{each_trans, ok_map}
 use Rattle.sja_bus.proofs.Many.{goes_all_trans, numbered_kept}
 use Rattle.sja_bus.proofs.all_nodes.bit_all.Goals as goal
@@ -25,10 +23,17 @@ returns-clause-bit g c =
       level = c.level_of-level.result;
       count = c.open_all.auto.seats;
       opens = c.in_ok-open_all.ensures.opens;
+      news = c.in_ok-open_all.ensures.news;
       is_level = c.level_of-level.ensures;
-      ticks = q;
+      turns = q;
     })
-    c.tick_all.ensures.ticks
+    c.tick_all.ensures.turns
 
 pub returns-clause-rooms : goal.returns-clause-rooms
 returns-clause-rooms g c = ok_map c.tick_all.result (λ q. λ n h. q n (c.in_ok-open_all.ensures.rooms n h)) c.tick_all.ensures.rooms
+
+pub returns-in_err-open_all-clause-others : goal.returns-in_err-open_all-clause-others
+returns-in_err-open_all-clause-others g c = λ k far. g.met.B.Board.kept_refl c.args.board.now k
+
+pub returns-clause-others : goal.returns-clause-others
+returns-clause-others g c = λ k far. c.tick_all.ensures.others k (search (rules, far, c.open_all.auto.seats))

@@ -1,11 +1,10 @@
-use Rattle.std.proofs.Common.{◌≡◌, ℕ, suc, ◌+◌, ◌*◌, ◌<◌, ◌≤◌, Bool, true, false, List, [], ◌∷◌, ◌++◌, length, drop, rules, arith, refl, sym, ap, ◌∙◌, subst}
+use Rattle.std.proofs.Common.{◌≡◌, ℕ, suc, ◌<◌, length, rules, arith, sym, ap, ◌∙◌}
 use Rattle.sja_link.specs.declared.link_id.LinkId.{LinkId}
 use Rattle.std.specs.Prelude.{Err, slice_index_or, slice_set}
 use Rattle.sja_bus.specs.declared.seat.Seat.{Seat}
-use Rattle.sja_bus.specs.Inside.Rows.{SeatTakes, SeatOpens, SeatTicks, seen_by}
+use Rattle.sja_bus.specs.Inside.Rows.{SeatTakes, SeatNews}
 use Rattle.sja_bus.specs.Inside.Refusing.{SeatRefuses}
 use Rattle.sja_bus.proofs.Lists.{each_trans, err_is}
-use Rattle.sja_bus.proofs.Running.{seen_is}
 use Rattle.sja_bus.proofs.Many.{or_same, goes_all_refl, goes_all_one, ready_one, numbered_at, dry_one, done_none, done_one, done_all}
 use Rattle.sja_bus.proofs.Refusing.{refuses_seat, rooms_one}
 use Rattle.sja_bus.proofs.all_nodes.gather_all.Goals as goal
@@ -17,6 +16,7 @@ loop-k-init g c = record {
   goes = goes_all_refl g.E.BusEnd.same g.E.BusEnd.stands g.met.E.BusEnd.same_refl c.args.seats.now c.args.links.now;
   rooms = λ n h. h;
   done = done_none SeatTakes c.args.seats.now;
+  news = done_none SeatNews c.args.seats.now;
 }
 
 pub gather-requires-clause-ids : goal.gather-requires-clause-ids
@@ -43,6 +43,7 @@ loop-k-preserved g c =
       goes = goes_all_one E.same E.stands g.met.E.BusEnd.same_trans c.args.seats.now c.loop-k.seats c.args.links.now c.loop-k.links c.gather.new.links k c.index-seats-k.result c.gather.new.self here c.loop-k.auto.seats c.loop-k.invariant.goes did.goes;
       rooms = λ n h. rooms_one n c.loop-k.seats k c.index-seats-k.result c.gather.new.self here c.gather.ensures.room (c.loop-k.invariant.rooms n h);
       done = done_one SeatTakes k c.args.seats.now c.loop-k.seats c.index-seats-k.result c.gather.new.self was c.loop-k.auto.seats did.items c.loop-k.invariant.done;
+      news = done_one SeatNews k c.args.seats.now c.loop-k.seats c.index-seats-k.result c.gather.new.self was c.loop-k.auto.seats did.news c.loop-k.invariant.news;
     }
 
 pub returns-clause-items : goal.returns-clause-items
@@ -61,3 +62,6 @@ returns-in_err-gather-clause-refused g c =
 
 pub returns-clause-rooms : goal.returns-clause-rooms
 returns-clause-rooms g c = c.loop-k.invariant.rooms
+
+pub returns-clause-news : goal.returns-clause-news
+returns-clause-news g c = done_all SeatNews c.loop-k.k c.args.seats.now c.loop-k.seats (search rules) c.loop-k.invariant.news

@@ -1,6 +1,6 @@
-use Rattle.std.proofs.Common.{◌≡◌, ℕ, ◌*◌, ◌+◌, ◌<◌, length}
+use Rattle.std.proofs.Common.{ℕ, ◌*◌, ◌+◌, ◌<◌}
 use Rattle.std.specs.Prelude.{slice_index_or}
-use Rattle.sja_bus.specs.Inside.Rows.{AreReady, GoesAll, Done, SeatTakes, SeatOpens, SeatTicks}
+use Rattle.sja_bus.specs.Inside.Rows.{AreReady, GoesAll, Done, SeatTakes, SeatNews}
 use Rattle.sja_bus.specs.Inside.Refusing.{HaveRoom}
 use Rattle.sja_bus.proofs.all_nodes.gather_all.Given as goal
 
@@ -11,4 +11,5 @@ invariant-loop-k g l = record {
   goes : GoesAll g.E.BusEnd.same g.E.BusEnd.stands l.initial.seats l.seats l.initial.links l.links;
   rooms : (n : ℕ) → HaveRoom n l.initial.seats → HaveRoom n l.seats;
   done : Done SeatTakes l.k l.initial.seats l.seats;
+  news : Done SeatNews l.k l.initial.seats l.seats;
 }

@@ -1,7 +1,4 @@
-use Rattle.std.proofs.Common.{◌≡◌, ℕ, suc, ◌+◌, ◌<◌, ◌≤◌, length, drop, rules, arith, refl, sym, ap, ◌∙◌}
-use Rattle.std.specs.Prelude.{slice_index_or}
-use Rattle.can_bits.specs.declared.level.Level.{Level}
-use Rattle.can_bits.specs.declared.level.Level.TheVariants.{Dominant, Recessive}
+use Rattle.std.proofs.Common.{◌≡◌, suc, ◌+◌, drop, arith, sym, ap, ◌∙◌}
 use Rattle.sja_bus.specs.Wire.{wired}
 use Rattle.sja_bus.specs.Inside.Rows.{driven_by}
 use Rattle.sja_bus.proofs.Levels.{dominant_here, recessive_here, none_left, not_dominant}

@@ -1,10 +1,9 @@
-use Rattle.std.proofs.Common.{◌≡◌, ℕ, suc, ◌+◌, ◌*◌, ◌<◌, ◌≤◌, Bool, true, false, List, [], ◌∷◌, ◌++◌, length, drop, rules, arith, refl, sym, ap, ◌∙◌, subst}
+use Rattle.std.proofs.Common.{◌≡◌, ℕ, suc, ◌<◌, length, rules, arith, sym, ap, ◌∙◌, subst}
 use Rattle.sja_link.specs.declared.link_id.LinkId.{LinkId}
 use Rattle.std.specs.Prelude.{slice_index_or}
 use Rattle.sja_bus.specs.declared.seat.Seat.{Seat}
-use Rattle.sja_bus.specs.Inside.Rows.{SeatTakes, SeatOpens, SeatTicks, seen_by}
+use Rattle.sja_bus.specs.Inside.Rows.{SeatOpens, SeatOpensNews}
 use Rattle.sja_bus.proofs.Lists.{each_trans}
-use Rattle.sja_bus.proofs.Running.{seen_is}
 use Rattle.sja_bus.proofs.Many.{or_same, goes_all_refl, goes_all_one, ready_one, numbered_at, dry_one, done_none, done_one, done_all}
 use Rattle.sja_bus.proofs.Refusing.{rooms_one}
 use Rattle.sja_bus.proofs.all_nodes.open_all.Goals as goal
@@ -16,6 +15,7 @@ loop-k-init g c = record {
   goes = goes_all_refl g.E.BusEnd.same g.E.BusEnd.stands g.met.E.BusEnd.same_refl c.args.seats.now c.args.links.now;
   rooms = λ n h. h;
   done = done_none (SeatOpens (g.B.Board.orders_are c.args.board.now)) c.args.seats.now;
+  news = done_none SeatOpensNews c.args.seats.now;
 }
 
 pub open_bit-requires-clause-ids : goal.open_bit-requires-clause-ids
@@ -44,6 +44,7 @@ loop-k-preserved g c =
       goes = goes_all_one E.same E.stands g.met.E.BusEnd.same_trans c.args.seats.now c.loop-k.seats c.args.links.now c.loop-k.links c.open_bit.new.links k c.index-seats-k.result c.open_bit.new.self here c.loop-k.auto.seats c.loop-k.invariant.goes did.goes;
       rooms = λ n h. rooms_one n c.loop-k.seats k c.index-seats-k.result c.open_bit.new.self here c.open_bit.ensures.room (c.loop-k.invariant.rooms n h);
       done = done_one (SeatOpens (g.B.Board.orders_are c.args.board.now)) k c.args.seats.now c.loop-k.seats c.index-seats-k.result c.open_bit.new.self was c.loop-k.auto.seats opened c.loop-k.invariant.done;
+      news = done_one SeatOpensNews k c.args.seats.now c.loop-k.seats c.index-seats-k.result c.open_bit.new.self was c.loop-k.auto.seats did.news c.loop-k.invariant.news;
     }
 
 pub returns-clause-opens : goal.returns-clause-opens
@@ -51,3 +52,6 @@ returns-clause-opens g c = done_all (SeatOpens (g.B.Board.orders_are c.args.boar
 
 pub returns-clause-rooms : goal.returns-clause-rooms
 returns-clause-rooms g c = c.loop-k.invariant.rooms
+
+pub returns-clause-news : goal.returns-clause-news
+returns-clause-news g c = done_all SeatOpensNews c.loop-k.k c.args.seats.now c.loop-k.seats (search rules) c.loop-k.invariant.news

@@ -1,13 +1,14 @@
-use Rattle.std.proofs.Common.{◌≡◌, ℕ, suc, ◌+◌, ◌*◌, ◌<◌, ◌≤◌, Bool, true, false, List, [], ◌∷◌, ◌++◌, length, drop, rules, arith, refl, sym, ap, ◌∙◌, subst}
+use Rattle.std.proofs.Common.{◌≡◌, ◌≢◌, ℕ, suc, ◌<◌, length, rules, arith, refl, sym, ap, ◌∙◌, subst}
 use Rattle.can_bits.specs.declared.level.Level.{Level}
-use Rattle.sja_bus.specs.OneBit.{HasBit}
 use Rattle.sja_link.specs.declared.link_id.LinkId.{LinkId}
 use Rattle.std.specs.Prelude.{slice_index_or}
 use Rattle.sja_bus.specs.declared.seat.Seat.{Seat}
-use Rattle.sja_bus.specs.Inside.Rows.{SeatTakes, SeatOpens, SeatTicks, seen_by}
+use Rattle.sja_bus.specs.Inside.Rows.{SeatTurns, seen_by}
+use Rattle.sja_bus.specs.Inside.Turning.{Turns}
+use Rattle.sja_bus.proofs.Turning.{turns_by}
 use Rattle.sja_bus.proofs.Lists.{each_trans}
 use Rattle.sja_bus.proofs.Running.{seen_is}
-use Rattle.sja_bus.proofs.Many.{or_same, goes_all_refl, goes_all_one, ready_one, numbered_at, dry_one, done_none, done_one, done_all}
+use Rattle.sja_bus.proofs.Many.{or_same, goes_all_refl, goes_all_one, ready_one, numbered_at, done_none, done_one, done_all, done_before}
 use Rattle.sja_bus.proofs.Refusing.{rooms_one}
 use Rattle.sja_bus.proofs.all_nodes.tick_all.Goals as goal
 
@@ -16,7 +17,9 @@ loop-k-init g c = record {
   ready = c.requires.ready;
   goes = goes_all_refl g.E.BusEnd.same g.E.BusEnd.stands g.met.E.BusEnd.same_refl c.args.seats.now c.args.links.now;
   rooms = λ n h. h;
-  done = done_none (SeatTicks c.args.struck c.args.level) c.args.seats.now;
+  done = done_none (SeatTurns (g.B.Board.told c.args.board.now c.args.board.now) (g.B.Board.kept c.args.board.now c.args.board.now) c.args.struck c.args.level) c.args.seats.now;
+  ports = refl;
+  others = λ m far. g.met.B.Board.kept_refl c.args.board.now m;
 }
 
 pub tick-requires-clause-ids : goal.tick-requires-clause-ids
@@ -39,17 +42,37 @@ loop-k-preserved g c =
     let at : (s : Seat) → slice_index_or c.loop-k.seats k s ≡ slice_index_or c.loop-k.seats k c.index-seats-k.result = λ s. or_same c.loop-k.seats k s c.index-seats-k.result here in
     let sees : c.seen-sees.result ≡ seen_by c.args.struck c.args.level k = c.seen-sees.ensures ∙ seen_is c.has.result c.args.struck c.args.level k c.has.ensures in
     let was_here = slice_index_or c.loop-k.seats k c.index-seats-k.result in
-    let P : Level → Type 0 = λ x. HasBit was_here.journal.entries was_here.drives x c.tick.new.self.journal.entries in
-    let did_now = subst P sees did.adds in
+    let B = g.B.Board in let met = g.met.B.Board in
+    let a = c.args.board.now in let b = c.loop-k.board in let z = c.tick.new.board in
+    let P : ℕ → Type 0 = λ m. Turns (B.told b z m) (B.kept b z m) c.seen-sees.result was_here c.tick.new.self in
+    let Q : Level → Type 0 = λ x. Turns (B.told b z k) (B.kept b z k) x was_here c.tick.new.self in
+    let did_now = turns_by (λ t told. met.told_last a b z k t (c.loop-k.invariant.others k (omega arith)) told) (λ kept. met.kept_trans a b z k (c.loop-k.invariant.others k (omega arith)) kept)
+    (subst Q sees (subst P n did.turns)) in
+    let far : (m : ℕ) → m ≢ k → B.kept b z m = λ m ne. did.others m (λ e. ne (e ∙ n)) in
     record {
       ready = ready_one c.loop-k.seats k c.tick.new.self here c.loop-k.invariant.ready (record { ready = did.ready; own = did.node ∙ n });
       goes = goes_all_one E.same E.stands g.met.E.BusEnd.same_trans c.args.seats.now c.loop-k.seats c.args.links.now c.loop-k.links c.tick.new.links k c.index-seats-k.result c.tick.new.self here c.loop-k.auto.seats c.loop-k.invariant.goes did.goes;
       rooms = λ n h. rooms_one n c.loop-k.seats k c.index-seats-k.result c.tick.new.self here c.tick.ensures.room (c.loop-k.invariant.rooms n h);
-      done = done_one (SeatTicks c.args.struck c.args.level) k c.args.seats.now c.loop-k.seats c.index-seats-k.result c.tick.new.self was c.loop-k.auto.seats (did_now) c.loop-k.invariant.done;
+      done = done_one (SeatTurns (B.told a z) (B.kept a z) c.args.struck c.args.level) k c.args.seats.now c.loop-k.seats c.index-seats-k.result c.tick.new.self was c.loop-k.auto.seats did_now
+          (done_before k c.args.seats.now c.loop-k.seats (λ m near s t.
+          turns_by {seen = seen_by c.args.struck c.args.level m} {old = s} {new = t} (λ u told. met.told_first a b z m u told (far m (omega (arith, near)))) (λ kept. met.kept_trans a b z m kept (far m (omega (arith, near))))) c.loop-k.invariant.done);
+      ports = did.ports ∙ c.loop-k.invariant.ports;
+      others = λ m l. met.kept_trans a b z m (c.loop-k.invariant.others m (omega (arith, l))) (far m (omega (arith, l)));
     }
 
-pub returns-clause-ticks : goal.returns-clause-ticks
-returns-clause-ticks g c = done_all (SeatTicks c.args.struck c.args.level) c.loop-k.k c.args.seats.now c.loop-k.seats (search rules) c.loop-k.invariant.done
+pub returns-clause-turns : goal.returns-clause-turns
+returns-clause-turns g c =
+    done_all (SeatTurns (g.B.Board.told c.args.board.now c.loop-k.board) (g.B.Board.kept c.args.board.now c.loop-k.board) c.args.struck c.args.level) c.loop-k.k c.args.seats.now c.loop-k.seats (search rules)
+    c.loop-k.invariant.done
+
+pub returns-clause-others : goal.returns-clause-others
+returns-clause-others g c = λ m far. c.loop-k.invariant.others m (search (rules, far))
+
+pub returns-in_err-tick-clause-others : goal.returns-in_err-tick-clause-others
+returns-in_err-tick-clause-others g c = λ m far.
+    let here : c.loop-k.k < length c.args.seats.now = search rules in
+    let n = (c.loop-k.invariant.ready c.loop-k.k c.index-seats-k.result (search rules)).own in
+    g.met.B.Board.kept_trans c.args.board.now c.loop-k.board c.tick.new.board m (c.loop-k.invariant.others m (omega (arith, far, here))) (c.tick.ensures.others m (λ e. omega (arith, e, n, far, here)))
 
 pub returns-clause-rooms : goal.returns-clause-rooms
 returns-clause-rooms g c = c.loop-k.invariant.rooms

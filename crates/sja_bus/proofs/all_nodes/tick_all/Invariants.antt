@@ -1,6 +1,5 @@
-use Rattle.std.proofs.Common.{◌≡◌, ℕ, ◌*◌, ◌+◌, ◌<◌, length}
-use Rattle.std.specs.Prelude.{slice_index_or}
-use Rattle.sja_bus.specs.Inside.Rows.{AreReady, GoesAll, Done, SeatTakes, SeatOpens, SeatTicks}
+use Rattle.std.proofs.Common.{◌≡◌, ℕ, ◌≤◌}
+use Rattle.sja_bus.specs.Inside.Rows.{AreReady, GoesAll, Done, SeatTurns}
 use Rattle.sja_bus.specs.Inside.Refusing.{HaveRoom}
 use Rattle.sja_bus.proofs.all_nodes.tick_all.Given as goal
 
@@ -9,5 +8,7 @@ invariant-loop-k g l = record {
   ready : AreReady l.seats;
   goes : GoesAll g.E.BusEnd.same g.E.BusEnd.stands l.initial.seats l.seats l.initial.links l.links;
   rooms : (n : ℕ) → HaveRoom n l.initial.seats → HaveRoom n l.seats;
-  done : Done (SeatTicks l.struck l.level) l.k l.initial.seats l.seats;
+  done : Done (SeatTurns (g.B.Board.told l.initial.board l.board) (g.B.Board.kept l.initial.board l.board) l.struck l.level) l.k l.initial.seats l.seats;
+  ports : g.B.Board.ports l.board ≡ g.B.Board.ports l.initial.board;
+  others : (m : ℕ) → l.k ≤ m → g.B.Board.kept l.initial.board l.board m;
 }

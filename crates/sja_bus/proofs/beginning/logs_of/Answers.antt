@@ -1,8 +1,6 @@
-use Rattle.std.proofs.Common.{◌≡◌, ℕ, suc, ◌+◌, ◌<◌, ◌≤◌, None, List, [], ◌∷◌, ◌++◌, length, map, replicate, rules, arith, refl, sym, ap, ◌∙◌, subst, vec_len, vec_capacity}
-use Rattle.std.specs.Vec.Iter.{into_iter_items, into_iter_len}
-use Rattle.sja_bus.specs.declared.seat.Seat.{Seat}
-use Rattle.sja_bus.specs.declared.node_log.NodeLog.{NodeLog}
-use Rattle.sja_bus.proofs.Logs.{LogsSoFar, logs_none, logs_push, logs_all}
+use Rattle.std.proofs.Common.{rules}
+use Rattle.std.specs.Vec.Iter.{into_iter_items}
+use Rattle.sja_bus.proofs.Logs.{logs_push}
 use Rattle.sja_bus.proofs.beginning.logs_of.Goals as goal
 
 pub loop-seat-preserved : goal.loop-seat-preserved

@@ -1,4 +1,4 @@
-use Rattle.std.proofs.Common.{◌≡◌, ℕ, ◌<◌, true, length}
+use Rattle.std.proofs.Common.{ℕ, ◌<◌, true}
 use Rattle.std.specs.Prelude.{slice_index_or}
 use Rattle.can_node.specs.Stands.{ShowsRest}
 use Rattle.sja_bus.specs.declared.seat.Seat.{Seat}

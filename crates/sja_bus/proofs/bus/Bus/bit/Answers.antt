@@ -1,22 +1,24 @@
-use Rattle.std.proofs.Common.{◌≡◌, ◌≤◌, ◌+◌, ◌-◌, ℕ, Option, None, Some, List, [], ◌++◌, length, take, drop, refl, sym, ap, ◌∙◌, subst, arith, rules}
+use Rattle.std.proofs.Common.{◌≡◌, ◌≢◌, ◌+◌, ◌-◌, false, replicate, None, List, ◌++◌, length, take, drop, sym, ap, ◌∙◌, subst, arith, rules, ℕ}
 use Rattle.std.proofs.lemmas.Grind.{common_steps}
 use Rattle.std.specs.Prelude.{vec_capacity}
 use Rattle.sja_bus.specs.declared.seat.Seat.{Seat}
 use Rattle.sja_bus.specs.Buses.{BusValue, KeepsAll, IsBit}
-use Rattle.sja_bus.specs.Inside.Rows.{journals_of, GoesAll}
+use Rattle.sja_bus.specs.Inside.Rows.{journals_of, untold_of, GoesAll}
 use Rattle.sja_bus.specs.Inside.Whole.{IsWhole, IsRowBit}
 use Rattle.sja_bus.specs.Reasons.{room_for}
 use Rattle.sja_bus.specs.Inside.Refusing.{HaveRoom}
 use Rattle.sja_bus.proofs.Lists.{each_refl}
-use Rattle.sja_bus.proofs.Journals.{wired_row, is_bit}
+use Rattle.sja_bus.proofs.Journals.{wired_row, is_bit, all_told}
+use Rattle.sja_bus.proofs.Logs.{calm_by, none_untold}
+use Rattle.sja_bus.proofs.Running.{count_is}
 use Rattle.sja_bus.proofs.Journals.{keeps_all}
 use Rattle.sja_bus.proofs.bus.Bus.bit.Goals as goal
 
 pub returns-in-Some-clause-sames : goal.returns-in-Some-clause-sames
 returns-in-Some-clause-sames g c = each_refl g.E.BusEnd.same g.met.E.BusEnd.same_refl c.args.links.now
 
-pub returns-then-self-eq0-clause-sames : goal.returns-then-self-eq0-clause-sames
-returns-then-self-eq0-clause-sames g c = each_refl g.E.BusEnd.same g.met.E.BusEnd.same_refl c.args.links.now
+pub returns-in-Some-clause-others : goal.returns-in-Some-clause-others
+returns-in-Some-clause-others g c = λ k far. g.met.B.Board.kept_refl c.args.board.now k
 
 pub invariant_of-self : goal.invariant_of-self
 invariant_of-self g c =
@@ -25,9 +27,10 @@ invariant_of-self g c =
     let v : c.as_mut_slice.result.now ≡ was = c.as_mut_slice.ensures.value in
     let len : length now ≡ length was = c.bit_all.auto.seats ∙ ap (λ (l : List Seat). length l) v in
     let e : take b.seats.len (now ++ drop (length now) was) ≡ now = grind (arith, common_steps) in
-    let T : List Seat → Type 0 = λ l. IsRowBit (g.B.Board.orders_are c.args.board.now) c.at-struck.result l now in
-    let row : IsRowBit (g.B.Board.orders_are c.args.board.now) c.at-struck.result was now = subst T v c.in-Ok.ensures.bit in
-    let some = c.if-self-eq0.false in let bits = inv.bits in
+    let T : List Seat → Type 0 = λ l. IsRowBit (g.B.Board.orders_are c.args.board.now) (g.B.Board.told c.args.board.now c.bit_all.new.board) (g.B.Board.kept c.args.board.now c.bit_all.new.board) c.at-struck.result l now in
+    let row : IsRowBit (g.B.Board.orders_are c.args.board.now) (g.B.Board.told c.args.board.now c.bit_all.new.board) (g.B.Board.kept c.args.board.now c.bit_all.new.board) c.at-struck.result was now = subst T v c.in-Ok.ensures.bit in
+    let F : BusValue → Type 0 = λ w. (w.fault ≡ None) × (w.left ≢ 0) in
+    let some = (subst F (sym c.self.view_is) (c.refusal.ensures.none (search rules))).1 in let bits = inv.bits in
     let few = inv.few in let logs = inv.logs in
     let H : List Seat → Type 0 = λ l. (n : ℕ) → HaveRoom n l → HaveRoom n now in
     let l : IsWhole b.struck (b.run + 1) (b.left - 1) b.fault now (vec_capacity b.logs) = record {
@@ -36,7 +39,8 @@ invariant_of-self g c =
       most = inv.most;
       bus = λ f. record {
         ready = c.in-Ok.ensures.ready;
-        wired = wired_row (g.B.Board.orders_are c.args.board.now) b.struck.script b.run c.at-struck.result was now len few c.at-struck.ensures row (inv.bus f).wired;
+        calm = calm_by now (all_told (g.B.Board.told c.args.board.now c.bit_all.new.board) (g.B.Board.kept c.args.board.now c.bit_all.new.board) c.at-struck.result was now len row);
+        wired = wired_row (g.B.Board.orders_are c.args.board.now) (g.B.Board.told c.args.board.now c.bit_all.new.board) (g.B.Board.kept c.args.board.now c.bit_all.new.board) b.struck.script b.run c.at-struck.result was now len few c.at-struck.ensures row (inv.bus f).wired;
       };
       logs = omega (arith, len, logs);
       rooms = λ f. subst H v c.in-Ok.ensures.rooms (room_for b.struck.bits) (inv.rooms f);
@@ -65,8 +69,27 @@ returns-in-Ok-clause-bit g c =
     let v : c.as_mut_slice.result.now ≡ was = c.as_mut_slice.ensures.value in
     let len : length now ≡ length was = c.bit_all.auto.seats ∙ ap (λ (l : List Seat). length l) v in
     let e : take b.seats.len (now ++ drop (length now) was) ≡ now = grind (arith, common_steps) in
-    let T : List Seat → Type 0 = λ l. IsRowBit (g.B.Board.orders_are c.args.board.now) c.at-struck.result l now in
-    let row : IsRowBit (g.B.Board.orders_are c.args.board.now) c.at-struck.result was now = subst T v c.in-Ok.ensures.bit in
-    let P : BusValue → Type 0 = λ w. IsBit (g.B.Board.orders_are c.args.board.now) w.script w.run w.journals (journals_of now) in
-    let Q : List Seat → Type 0 = λ xs. IsBit (g.B.Board.orders_are c.args.board.now) c.args.self.now.script c.args.self.now.run c.args.self.now.journals (journals_of xs) in
-    subst Q (sym e) (subst P c.self.view_is (is_bit (g.B.Board.orders_are c.args.board.now) b.struck.script b.run c.at-struck.result was now len few c.at-struck.ensures row))
+    let T : List Seat → Type 0 = λ l. IsRowBit (g.B.Board.orders_are c.args.board.now) (g.B.Board.told c.args.board.now c.bit_all.new.board) (g.B.Board.kept c.args.board.now c.bit_all.new.board) c.at-struck.result l now in
+    let row : IsRowBit (g.B.Board.orders_are c.args.board.now) (g.B.Board.told c.args.board.now c.bit_all.new.board) (g.B.Board.kept c.args.board.now c.bit_all.new.board) c.at-struck.result was now = subst T v c.in-Ok.ensures.bit in
+    let orders = g.B.Board.orders_are c.args.board.now in
+    let told = g.B.Board.told c.args.board.now c.bit_all.new.board in let kept = g.B.Board.kept c.args.board.now c.bit_all.new.board in
+    let P : BusValue → Type 0 = λ w. IsBit orders told kept w.script w.run w.untold w.journals (journals_of now) in
+    let Q : List Seat → Type 0 = λ xs. IsBit orders told kept c.args.self.now.script c.args.self.now.run c.args.self.now.untold c.args.self.now.journals (journals_of xs) in
+    let F : BusValue → Type 0 = λ w. (w.fault ≡ None) × (w.left ≢ 0) in
+    let right : b.fault ≡ None = (subst F (sym c.self.view_is) (c.refusal.ensures.none (search rules))).0 in
+    subst Q (sym e) (subst P c.self.view_is (is_bit orders told kept b.struck.script b.run c.at-struck.result was now len few c.at-struck.ensures (inv.bus right).calm row))
+
+pub returns-in-Ok-clause-told : goal.returns-in-Ok-clause-told
+returns-in-Ok-clause-told g c =
+    let b = c.self.inside in
+    let now = c.bit_all.new.seats in let was = b.seats.items in
+    let v : c.as_mut_slice.result.now ≡ was = c.as_mut_slice.ensures.value in
+    let len : length now ≡ length was = c.bit_all.auto.seats ∙ ap (λ (l : List Seat). length l) v in
+    let e : take b.seats.len (now ++ drop (length now) was) ≡ now = grind (arith, common_steps) in
+    let told = g.B.Board.told c.args.board.now c.bit_all.new.board in let kept = g.B.Board.kept c.args.board.now c.bit_all.new.board in
+    let T : List Seat → Type 0 = λ l. IsRowBit (g.B.Board.orders_are c.args.board.now) told kept c.at-struck.result l now in
+    let row = subst T v c.in-Ok.ensures.bit in
+    let none : untold_of now ≡ replicate (length was) false = none_untold now (all_told told kept c.at-struck.result was now len row) ∙ ap (λ n. replicate n false) len in
+    let P : BusValue → Type 0 = λ w. untold_of now ≡ replicate (length w.journals) false in
+    let Q : List Seat → Type 0 = λ xs. untold_of xs ≡ replicate (length c.args.self.now.journals) false in
+    subst Q (sym e) (subst P c.self.view_is (none ∙ ap (λ n. replicate n false) (sym (count_is was))))

@@ -1,16 +1,16 @@
-use Rattle.std.proofs.Common.{◌≡◌, ◌≤◌, ◌+◌, ℕ, Option, None, Some, List, [], ◌++◌, length, take, drop, refl, sym, ap, ◌∙◌, subst, arith, rules}
+use Rattle.std.proofs.Common.{◌≡◌, List, ◌++◌, length, take, drop, sym, ap, ◌∙◌, subst, arith, ◌+◌, ℕ, None}
 use Rattle.std.proofs.lemmas.Grind.{common_steps}
 use Rattle.std.specs.Prelude.{vec_capacity}
 use Rattle.sja_bus.specs.declared.seat.Seat.{Seat}
 use Rattle.sja_bus.specs.OneBit.{HasItems}
-use Rattle.sja_bus.specs.Buses.{BusValue, EachJournal, KeepsAll, AllDry}
-use Rattle.sja_bus.specs.Inside.Rows.{journals_of, GoesAll, EachSeat, SeatTakes}
+use Rattle.sja_bus.specs.Buses.{BusValue, EachJournal, EachUntold, KeepsAll, AllDry}
+use Rattle.sja_bus.specs.Inside.Rows.{journals_of, untold_of, GoesAll, EachSeat, SeatTakes, SeatNews}
 use Rattle.sja_bus.specs.Inside.Whole.{IsWhole}
 use Rattle.sja_bus.specs.Reasons.{room_for, IsNotTaken}
 use Rattle.sja_bus.specs.Inside.Refusing.{HaveRoom, SeatRefuses}
 use Rattle.sja_bus.proofs.Lists.{each_refl}
 use Rattle.sja_bus.proofs.Running.{wired_taken}
-use Rattle.sja_bus.proofs.Journals.{keeps_all, all_items, all_dry}
+use Rattle.sja_bus.proofs.Journals.{keeps_all, all_items, all_dry, all_untold, calm_taken}
 use Rattle.sja_bus.proofs.Refusing.{not_taken}
 use Rattle.sja_bus.proofs.bus.Bus.gather.Goals as goal
 
@@ -26,6 +26,8 @@ invariant_of-self g c =
     let e : take b.seats.len (now ++ drop (length now) was) ≡ now = grind (arith, common_steps) in
     let T : List Seat → Type 0 = λ l. EachSeat SeatTakes l now in
     let takes : EachSeat SeatTakes was now = subst T v c.in-Ok.ensures.items in
+    let N : List Seat → Type 0 = λ l. EachSeat SeatNews l now in
+    let news : EachSeat SeatNews was now = subst N v c.in-Ok.ensures.news in
     let few = inv.few in let logs = inv.logs in
     let H : List Seat → Type 0 = λ l. (n : ℕ) → HaveRoom n l → HaveRoom n now in
     let l : IsWhole b.struck b.run b.left b.fault now (vec_capacity b.logs) = record {
@@ -34,6 +36,7 @@ invariant_of-self g c =
       most = inv.most;
       bus = λ f. record {
         ready = c.in-Ok.ensures.ready;
+        calm = calm_taken was now len news (inv.bus f).calm;
         wired = wired_taken b.struck.script b.run was now len takes (inv.bus f).wired;
       };
       logs = omega (arith, len, logs);
@@ -93,3 +96,15 @@ returns-in-Err-clause-reason g c = λ none.
     let P : BusValue → Type 0 = λ w. IsNotTaken E.stands (w.run + w.left) w.journals (journals_of now) before after f in
     let Q : List Seat → Type 0 = λ xs. IsNotTaken E.stands (c.args.self.now.run + c.args.self.now.left) c.args.self.now.journals (journals_of xs) before after f in
     subst Q (sym e) (subst P c.self.view_is reason)
+
+pub returns-in-Ok-clause-untold : goal.returns-in-Ok-clause-untold
+returns-in-Ok-clause-untold g c =
+    let b = c.self.inside in
+    let now = c.gather_all.new.seats in let was = b.seats.items in
+    let v : c.as_mut_slice.result.now ≡ was = c.as_mut_slice.ensures.value in
+    let len : length now ≡ length was = c.gather_all.auto.seats ∙ ap (λ (l : List Seat). length l) v in
+    let e : take b.seats.len (now ++ drop (length now) was) ≡ now = grind (arith, common_steps) in
+    let T : List Seat → Type 0 = λ l. EachSeat SeatNews l now in
+    let P : BusValue → Type 0 = λ w. EachUntold w.untold (untold_of now) w.journals (journals_of now) in
+    let Q : List Seat → Type 0 = λ xs. EachUntold c.args.self.now.untold (untold_of xs) c.args.self.now.journals (journals_of xs) in
+    subst Q (sym e) (subst P c.self.view_is (all_untold was now len (subst T v c.in-Ok.ensures.news)))

@@ -1,15 +1,14 @@
-use Rattle.std.proofs.Common.{◌≡◌, ◌≢◌, ℕ, suc, ◌+◌, ◌*◌, ◌<◌, ◌≤◌, Bool, true, false, Option, None, Some, List, [], ◌∷◌, ◌++◌, length, map, min, replicate, rules, arith, refl, sym, ap, ◌∙◌, subst, inl, inr, vec_len, vec_capacity}
-use Rattle.sja_script.specs.declared.strike.Strike.{Strike}
+use Rattle.std.proofs.Common.{◌≡◌, ℕ, ◌+◌, ◌≤◌, Bool, false, None, List, [], length, replicate, rules, arith, sym, ap, ◌∙◌, subst, vec_capacity}
 use Rattle.sja_link.specs.declared.entry.Entry.{Entry}
 use Rattle.sja_bus.specs.declared.seat.Seat.{Seat}
 use Rattle.sja_bus.specs.Buses.{BusValue}
 use Rattle.sja_bus.specs.StrikesByBit.{Scripted}
-use Rattle.sja_bus.specs.Inside.Rows.{journals_of, IsBus}
+use Rattle.sja_bus.specs.Inside.Rows.{journals_of, untold_of}
 use Rattle.sja_bus.specs.Inside.Whole.{IsWhole}
 use Rattle.sja_bus.specs.Reasons.{room_for}
 use Rattle.sja_bus.specs.Inside.Refusing.{HaveRoom}
 use Rattle.sja_bus.proofs.Refusing.{rooms_push}
-use Rattle.sja_bus.proofs.Logs.{AreNew, new_push, new_journals, new_bus}
+use Rattle.sja_bus.proofs.Logs.{AreNew, new_push, new_journals, new_bus, none_untold}
 use Rattle.sja_bus.proofs.bus.Bus.new.Goals as goal
 
 pub loop-node-preserved : goal.loop-node-preserved
@@ -21,7 +20,7 @@ loop-node-preserved c =
     record {
       count = search rules;
       room = search rules;
-      made = rw c.push_reserved.ensures.items (new_push n c.loop-node.seats.items _ (search rules) (record { is_of = record { ready = made.ready; own = made.own }; empty = made.empty }) c.loop-node.invariant.made);
+      made = rw c.push_reserved.ensures.items (new_push n c.loop-node.seats.items _ (search rules) (record { is_of = record { ready = made.ready; own = made.own }; empty = made.empty; nothing = made.news }) c.loop-node.invariant.made);
       rooms = subst Q (sym c.push_reserved.ensures.items) (rooms_push (room_for c.args.bits) c.loop-node.seats.items _ made.room c.loop-node.invariant.rooms);
     }
 
@@ -52,6 +51,8 @@ returns c =
     let e : c.loop-node.node ≡ length seats = search rules in
     let new : AreNew (length seats) seats = subst (λ (m : ℕ). AreNew m seats) e c.loop-node.invariant.made in
     let empty : journals_of seats ≡ replicate c.args.nodes [] = new_journals seats (λ k s few. (new k s few).empty) ∙ ap (λ m. replicate m []) n in
-    let f : Scripted → BusValue = λ x. record { script = x.script; run = 0; left = c.args.bits; fault = None; journals = journals_of seats } in
-    let h : List (List Entry) → BusValue = λ l. record { script = c.args.script; run = 0; left = c.args.bits; fault = None; journals = l } in
-    ap f c.in_ok-struck.ensures ∙ ap h empty
+    let told : untold_of seats ≡ replicate c.args.nodes false = none_untold seats (λ k s few. (new k s few).nothing) ∙ ap (λ m. replicate m false) n in
+    let f : Scripted → BusValue = λ x. record { script = x.script; run = 0; left = c.args.bits; fault = None; journals = journals_of seats; untold = untold_of seats } in
+    let h : List (List Entry) → BusValue = λ l. record { script = c.args.script; run = 0; left = c.args.bits; fault = None; journals = l; untold = untold_of seats } in
+    let t : List Bool → BusValue = λ l. record { script = c.args.script; run = 0; left = c.args.bits; fault = None; journals = replicate c.args.nodes []; untold = l } in
+    ap f c.in_ok-struck.ensures ∙ ap h empty ∙ ap t told

@@ -1,4 +1,4 @@
-use Rattle.std.proofs.Common.{◌≡◌, ℕ, suc, ◌+◌, ◌<◌, ◌≤◌, Bool, true, false, List, [], ◌∷◌, ◌++◌, length, rules, arith, refl, sym, ap, ◌∙◌, subst}
+use Rattle.std.proofs.Common.{[], ◌∷◌, ◌++◌, refl, sym, subst}
 use Rattle.can_node.specs.declared.aborted.Aborted.TheVariants.{Unchanged, Marked, Dropped}
 use Rattle.sja_link.specs.declared.entry.Entry.TheVariants.{Abort}
 use Rattle.sja_link.specs.BusLedgers.{free_in}
@@ -8,6 +8,9 @@ use Rattle.sja_bus.specs.Inside.Following.{Reads}
 use Rattle.sja_bus.proofs.Lists.{ok_map}
 use Rattle.sja_bus.proofs.Applying.{applied_running, applied_resting, applies_none, applies_one}
 use Rattle.sja_bus.proofs.Steps.{follows_abort}
+use Rattle.sja_bus.specs.declared.news.News.TheVariants.{Changed, Dropped as DroppedNews}
+use Rattle.sja_bus.proofs.Aborting.{marked_leaves, dropped_leaves}
+use Rattle.sja_bus.proofs.Turning.{aborts_none, aborts_one}
 use Rattle.sja_bus.proofs.Reading.{reads_swap, reads_quiet}
 use Rattle.sja_bus.proofs.seat.Seat.abort.Goals as goal
 
@@ -58,3 +61,19 @@ pub returns-in_default-clause-aborts : goal.returns-in_default-clause-aborts
 returns-in_default-clause-aborts c =
     let was = c.args.self.now in let j = was.journal.entries in
     applies_none j (applied_resting was.node j was.ended (free_in was.ledger) was.activity c.in_default.not-Running c.requires.ready.sound.reads)
+
+pub returns-in_default-clause-news : goal.returns-in_default-clause-news
+returns-in_default-clause-news c = aborts_none c.args.self.now c.args.self.now refl refl
+
+pub returns-in-Unchanged-clause-news : goal.returns-in-Unchanged-clause-news
+returns-in-Unchanged-clause-news c = aborts_none c.args.self.now (record c.args.self.now { node = c.abort.new.self }) refl refl
+
+pub returns-in-Marked-clause-news : goal.returns-in-Marked-clause-news
+returns-in-Marked-clause-news c =
+    let was = c.args.self.now in let drops = marked_leaves was.node c.abort.new.self was.journal.entries c.in-Marked.ensures c.requires.ready.sound.follows in
+    ok_map c.enter_abort.result (λ e. aborts_one was c.enter_abort.new.self Changed c.enter_abort.ensures.news (λ n. cc) e drops) c.enter_abort.ensures.entered
+
+pub returns-in-Dropped-clause-news : goal.returns-in-Dropped-clause-news
+returns-in-Dropped-clause-news c =
+    let was = c.args.self.now in let drops = dropped_leaves was.node c.abort.new.self was.journal.entries c.in-Dropped.ensures c.requires.ready.sound.follows in
+    ok_map c.enter_abort-in-Dropped.result (λ e. aborts_one was c.enter_abort-in-Dropped.new.self DroppedNews c.enter_abort-in-Dropped.ensures.news (λ n. cc) e drops) c.enter_abort-in-Dropped.ensures.entered

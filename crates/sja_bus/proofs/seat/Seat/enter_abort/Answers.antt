@@ -1,7 +1,5 @@
-use Rattle.std.proofs.Common.{◌≡◌, ℕ, suc, ◌+◌, ◌<◌, ◌≤◌, Bool, true, false, List, [], ◌∷◌, ◌++◌, length, rules, arith, refl, sym, ap, ◌∙◌, subst}
-use Rattle.can_node.specs.declared.node.Node.{Node}
+use Rattle.std.proofs.Common.{sym, subst}
 use Rattle.can_node.specs.Stands.{DrivesNext}
-use Rattle.can_bits.specs.declared.level.Level.{Level}
 use Rattle.sja_bus.specs.declared.seat.Seat.{Seat}
 use Rattle.sja_bus.specs.Inside.Seats.{IsSeat}
 use Rattle.sja_bus.proofs.Lists.{ok_map}

@@ -1,9 +1,9 @@
-use Rattle.std.proofs.Common.{◌≡◌, ℕ, suc, ◌+◌, ◌<◌, ◌≤◌, Bool, true, false, List, [], ◌∷◌, ◌++◌, length, rules, arith, refl, sym, ap, ◌∙◌, subst}
+use Rattle.std.proofs.Common.{◌+◌, arith, refl, ap}
 use Rattle.sja_link.specs.declared.entry.Entry.TheVariants.{Bit}
 use Rattle.sja_bus.specs.Inside.Following.{open_in}
 use Rattle.sja_bus.proofs.Lists.{each_refl, each_one, ok_map}
 use Rattle.sja_bus.proofs.Moving.{goes_one, goes_quiet}
-use Rattle.sja_bus.proofs.Bits.{has_alone, has_on}
+use Rattle.sja_bus.proofs.Bits.{rest_brings}
 use Rattle.sja_bus.proofs.seat.Seat.full_bit.Goals as goal
 
 pub returns-in_default-clause-sames : goal.returns-in_default-clause-sames
@@ -12,23 +12,21 @@ returns-in_default-clause-sames g c = each_refl g.E.BusEnd.same g.met.E.BusEnd.s
 pub returns-in_default-clause-goes : goal.returns-in_default-clause-goes
 returns-in_default-clause-goes g c =
     ok_map c.rest_bit.result
-    (λ e. rw e (goes_quiet g.E.BusEnd.same g.E.BusEnd.stands g.met.E.BusEnd.same_refl c.args.self.now.journal.entries (Bit c.args.driven c.args.seen) c.args.links.now c.args.base (λ l. refl)))
+    (λ e. rw e (goes_quiet g.E.BusEnd.same g.E.BusEnd.stands g.met.E.BusEnd.same_refl c.args.self.now.journal.entries (Bit c.args.self.now.drives c.args.seen) c.args.links.now c.args.base (λ l. refl)))
     c.rest_bit.ensures.entered
 
-pub returns-in_default-clause-adds : goal.returns-in_default-clause-adds
-returns-in_default-clause-adds g c =
-    ok_map c.rest_bit.result
-    (λ e. has_on c.args.self.now.journal.entries c.rest_bit.new.self.journal.entries c.args.driven c.args.seen (has_alone c.args.self.now.journal.entries c.rest_bit.new.self.journal.entries c.args.driven c.args.seen e))
-    c.rest_bit.ensures.entered
+pub returns-in_default-clause-brings : goal.returns-in_default-clause-brings
+returns-in_default-clause-brings g c =
+    rest_brings c.rest_bit.result c.args.self.now.journal.entries c.rest_bit.new.self.journal.entries c.args.self.now.drives c.args.seen c.rest_bit.ensures.entered c.rest_bit.ensures.quiet
 
 pub returns-clause-sames : goal.returns-clause-sames
 returns-clause-sames g c =
-    let few = c.requires.seat.runs (ap open_in c.in-Running.is) in
+    let few = c.requires.ready.seat.runs (ap open_in c.in-Running.is) in
     each_one g.E.BusEnd.same g.met.E.BusEnd.same_refl c.args.links.now (c.args.base + c.args.self.now.ended) c.index-links-here.result c.run_bit.new.end (omega (arith, few, c.requires.room)) c.run_bit.ensures.same
 
 pub returns-clause-goes : goal.returns-clause-goes
 returns-clause-goes g c =
-    let few = c.requires.seat.runs (ap open_in c.in-Running.is) in
+    let few = c.requires.ready.seat.runs (ap open_in c.in-Running.is) in
     ok_map c.run_bit.result
     (λ m. goes_one g.E.BusEnd.same g.E.BusEnd.stands g.met.E.BusEnd.same_refl c.args.self.now.journal.entries c.run_bit.new.self.journal.entries c.args.links.now c.args.base c.args.self.now.ended c.index-links-here.result c.run_bit.new.end
     few c.requires.room c.run_bit.ensures.same m)

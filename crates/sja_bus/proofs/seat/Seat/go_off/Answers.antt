@@ -1,4 +1,4 @@
-use Rattle.std.proofs.Common.{◌≡◌, ℕ, suc, ◌+◌, ◌<◌, ◌≤◌, Bool, true, false, List, [], ◌∷◌, ◌++◌, length, rules, arith, refl, sym, ap, ◌∙◌, subst}
+use Rattle.std.proofs.Common.{suc, refl, ap, subst}
 use Rattle.sja_link.specs.declared.entry.Entry.TheVariants.{Off}
 use Rattle.sja_link.specs.BusLedgers.{free_in}
 use Rattle.sja_bus.specs.declared.activity.Activity.{Activity}

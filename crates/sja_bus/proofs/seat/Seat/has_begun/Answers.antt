@@ -1,5 +1,4 @@
-use Rattle.std.proofs.Common.{◌≡◌, ◌≢◌, ℕ, suc, ◌+◌, ◌*◌, ◌<◌, ◌≤◌, Bool, true, false, Option, None, Some, List, [], ◌∷◌, ◌++◌, length, map, min, replicate, rules, arith, refl, sym, ap, ◌∙◌, subst, inl, inr, vec_len, vec_capacity}
-use Rattle.sja_bus.specs.Inside.Following.{open_in}
+use Rattle.std.proofs.Common.{arith}
 use Rattle.sja_bus.proofs.Seating.{open_else}
 use Rattle.sja_bus.proofs.seat.Seat.has_begun.Goals as goal
 

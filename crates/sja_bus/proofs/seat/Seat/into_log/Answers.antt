@@ -1,6 +1,4 @@
-use Rattle.std.proofs.Common.{◌≡◌, ◌≢◌, ℕ, suc, ◌+◌, ◌*◌, ◌<◌, ◌≤◌, Bool, true, false, Option, None, Some, List, [], ◌∷◌, ◌++◌, length, map, min, replicate, rules, arith, refl, sym, ap, ◌∙◌, subst, inl, inr, vec_len, vec_capacity}
-use Rattle.can_node.specs.declared.node.Node.{Node}
-use Rattle.sja_link.specs.declared.entry.Entry.{Entry}
+use Rattle.std.proofs.Common.{◌≡◌, ℕ, rules, refl, sym, subst}
 use Rattle.sja_link.specs.Records.{record_of}
 use Rattle.sja_bus.specs.Lawful.{CountersAre}
 use Rattle.sja_bus.proofs.Lawfuls.{counters_of}

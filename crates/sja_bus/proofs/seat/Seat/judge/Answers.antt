@@ -1,4 +1,4 @@
-use Rattle.std.proofs.Common.{◌≡◌, ℕ, suc, ◌+◌, ◌<◌, ◌≤◌, Bool, true, false, List, [], ◌∷◌, ◌++◌, length, rules, arith, refl, sym, ap, ◌∙◌, subst}
+use Rattle.std.proofs.Common.{◌≡◌, suc, List, [], ◌∷◌, ◌++◌, refl, ap, ◌∙◌}
 use Rattle.sja_link.specs.declared.entry.Entry.{Entry}
 use Rattle.sja_link.specs.declared.entry.Entry.TheVariants.{Bit}
 use Rattle.sja_link.specs.BusLedgers.{free_in}
@@ -17,6 +17,7 @@ returns-in_ok-enter-in-Ok-2-clause-judged g c =
     let first = c.in_ok-enter-in-Ok.ensures.ok.0 in
     record {
       verdict = v;
+      overrun_is = c.is_overrun-overrun.ensures m;
       whole = c.in_ok-enter-in-Ok-2.ensures.ok.0 ∙ ap (λ (l : List Entry). l ++ c.verdict_entry.result ∷ []) first ∙ ap (λ x. k ++ x ∷ []) c.verdict_entry.ensures;
       due = due_now j c.args.driven c.args.seen (suc was.ended) v m (free_in was.ledger) at c.requires.reads.free_is (λ p f. (c.in-Ok.ensures.judged p f).0);
     }

@@ -1,5 +1,4 @@
-use Rattle.std.proofs.Common.{◌≡◌, ◌≢◌, ℕ, suc, ◌+◌, ◌*◌, ◌<◌, ◌≤◌, Bool, true, false, Option, None, Some, List, [], ◌∷◌, ◌++◌, length, map, min, replicate, rules, arith, refl, sym, ap, ◌∙◌, subst, inl, inr, vec_len, vec_capacity}
-use Rattle.sja_link.specs.BusLedgers.{free_in}
+use Rattle.std.proofs.Common.{[], arith, refl, ap}
 use Rattle.sja_bus.specs.declared.seat.Seat.{Seat}
 use Rattle.sja_bus.specs.declared.activity.Activity.TheVariants.{Between}
 use Rattle.sja_bus.specs.declared.news.News.TheVariants.{Nothing}

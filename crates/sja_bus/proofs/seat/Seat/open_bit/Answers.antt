@@ -1,8 +1,7 @@
-use Rattle.std.proofs.Common.{append-nil, ◌≡◌, ℕ, suc, ◌+◌, ◌<◌, ◌≤◌, Bool, true, false, List, [], ◌∷◌, ◌++◌, length, rules, arith, refl, sym, ap, ◌∙◌, subst}
-use Rattle.sja_link.specs.BusLedgers.{link_of}
-use Rattle.sja_bus.specs.declared.seat.Seat.{Seat}
+use Rattle.std.proofs.Common.{append-nil, ◌≡◌, ℕ, true, false, rules, refl, sym, ◌∙◌, subst}
 use Rattle.sja_bus.proofs.Lists.{ok_map}
 use Rattle.sja_bus.proofs.Moving.{goes_trans, goes_aborted}
+use Rattle.sja_bus.proofs.Turning.{aborts_none, takes_then}
 use Rattle.sja_bus.proofs.seat.Seat.open_bit.Goals as goal
 
 pub returns-then-ordered-clause-goes : goal.returns-then-ordered-clause-goes
@@ -28,3 +27,11 @@ returns-else-ordered-clause-opens g c =
     let are = subst P (c.number.ensures ∙ c.gather.ensures.node) c.orders-ordered.ensures in
     let no : c.orders-ordered.result.abort ≡ false = search rules in
     record { taken = k; items = c.in_ok-gather.ensures.items; aborts = record { changed = false; whole = sym (append-nil k) }; orders = c.orders-ordered.result; are_orders = are; unasked = λ no. refl; applied = λ ordered. let e : true ≡ false = sym ordered ∙ no in absurd cc }
+
+pub returns-then-ordered-clause-news : goal.returns-then-ordered-clause-news
+returns-then-ordered-clause-news g c =
+    ok_map c.abort.result (λ a. takes_then c.args.self.now c.gather.new.self c.abort.new.self c.in_ok-gather.ensures.news c.in_ok-gather.ensures.items a) c.abort.ensures.news
+
+pub returns-else-ordered-clause-news : goal.returns-else-ordered-clause-news
+returns-else-ordered-clause-news g c =
+    takes_then c.args.self.now c.gather.new.self c.gather.new.self c.in_ok-gather.ensures.news c.in_ok-gather.ensures.items (aborts_none c.gather.new.self c.gather.new.self refl refl)

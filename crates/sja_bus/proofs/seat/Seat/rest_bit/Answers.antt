@@ -1,4 +1,4 @@
-use Rattle.std.proofs.Common.{◌≡◌, ℕ, suc, ◌+◌, ◌<◌, ◌≤◌, Bool, true, false, List, [], ◌∷◌, ◌++◌, length, rules, arith, refl, sym, ap, ◌∙◌, subst}
+use Rattle.std.proofs.Common.{Bool, [], ◌∷◌, ◌++◌, refl, sym, ap, subst}
 use Rattle.sja_link.specs.declared.entry.Entry.TheVariants.{Bit}
 use Rattle.sja_link.specs.Records.{record_of}
 use Rattle.sja_link.specs.BusLedgers.{free_in}
@@ -12,15 +12,20 @@ use Rattle.sja_bus.proofs.seat.Seat.rest_bit.Goals as goal
 
 pub returns-clause-sound : goal.returns-clause-sound
 returns-clause-sound c =
-    let was = c.args.self.now in let j = was.journal.entries in let x = c.args.driven in let seen = c.args.seen in
-    let new = c.sample-events.new.self in let follows = c.requires.sound.follows in
+    let was = c.args.self.now in let j = was.journal.entries in let x = c.args.self.now.drives in let seen = c.args.seen in
+    let new = c.sample-events.new.self in let follows = c.requires.ready.sound.follows in
     let rest = c.sample-events.ensures.rests c.requires.rests (record_of j) follows.found follows.stands in
-    let bit = follows_bit was.node new j x seen c.sample-events.result c.requires.drives c.sample-events.ensures.samples rest.nothing follows in
+    let bit = follows_bit was.node new j x seen c.sample-events.result c.requires.ready.drives c.sample-events.ensures.samples rest.nothing follows in
     let P : Bool → Type 0 = λ w. FollowsBit new (j ++ Bit x seen ∷ []) w in
     c.in_ok-enter.ensures.sound (follows_on new (j ++ Bit x seen ∷ []) (subst P rest.stays bit))
-    (reads_quiet was.node new j (Bit x seen) was.ended was.activity (free_in was.ledger) (λ p. refl, refl, refl, refl) (λ r. rest.reset) c.requires.sound.reads)
+    (reads_quiet was.node new j (Bit x seen) was.ended was.activity (free_in was.ledger) (λ p. refl, refl, refl, refl) (λ r. rest.reset) c.requires.ready.sound.reads)
 
 pub returns-clause-samples : goal.returns-clause-samples
 returns-clause-samples c =
     let P : Node → Type 0 = λ n. Samples c.args.self.now.node n c.args.seen c.sample-events.result in
     subst P (sym (ap (λ (s : Seat). s.node) c.enter.ensures.others)) c.sample-events.ensures.samples
+
+pub returns-clause-quiet : goal.returns-clause-quiet
+returns-clause-quiet c =
+    let follows = c.requires.ready.sound.follows in
+    ((c.sample-events.ensures.rests c.requires.rests (record_of c.args.self.now.journal.entries) follows.found follows.stands).stays, refl)

@@ -1,12 +1,12 @@
-use Rattle.std.proofs.Common.{◌≡◌, ℕ, suc, ◌+◌, ◌<◌, ◌≤◌, Bool, true, false, List, [], ◌∷◌, ◌++◌, length, rules, arith, refl, sym, ap, ◌∙◌, subst}
-use Rattle.std.specs.Prelude.{Err, slice_index_or, slice_set}
-use Rattle.sja_link.specs.declared.link_id.LinkId.{LinkId}
+use Rattle.std.proofs.Common.{◌≡◌, suc, ◌+◌, ◌<◌, ◌≤◌, length, rules, arith, refl, sym, ap, ◌∙◌, inl}
+use Rattle.std.specs.Prelude.{Err, slice_set}
 use Rattle.sja_link.specs.BusLedgers.{link_of}
 use Rattle.sja_bus.specs.Reasons.{RefusesItem}
 use Rattle.sja_bus.proofs.Lists.{each_at, each_trans, each_one, err_is}
 use Rattle.sja_bus.proofs.Moving.{goes_refl, goes_trans, goes_one}
 use Rattle.sja_bus.proofs.Refusing.{refuses_link}
 use Rattle.sja_bus.proofs.Bits.{items_none, items_push}
+use Rattle.sja_bus.proofs.Turning.{takes_one}
 use Rattle.sja_bus.proofs.seat.Seat.take_all.Goals as goal
 
 pub loop-self-init : goal.loop-self-init
@@ -17,6 +17,7 @@ loop-self-init g c = record {
   room = refl;
   goes = goes_refl g.E.BusEnd.same g.E.BusEnd.stands g.met.E.BusEnd.same_refl c.args.self.now.journal.entries c.args.links.now c.args.base;
   items = items_none c.args.self.now.journal.entries;
+  news = inl (refl, refl);
 }
 
 pub take-requires-clause-id : goal.take-requires-clause-id
@@ -58,6 +59,7 @@ loop-self-preserved g c =
           (goes_one E.same E.stands met.same_refl s.journal.entries c.take.new.self.journal.entries c.loop-self.links c.args.base s.ended c.index-links-here.result c.take.new.end c.if-self-ge8.false room c.take.ensures.same c.in_ok-take.ensures.moves);
       items = items_push c.args.self.now.journal.entries s.journal.entries c.take.new.self.journal.entries took.0 took.1
           (record { activation = took.3 ∙ ap suc (sym c.loop-self.invariant.sound.reads.stopped); left = rw c.loop-self.invariant.sound.reads.stopped (omega arith) }) c.loop-self.invariant.items;
+      news = takes_one c.args.self.now s c.take.new.self (c.in_ok-take.ensures.news (search rules)) took.0 took.1 c.loop-self.invariant.news;
     }
 
 pub returns-in_err-take-clause-refused : goal.returns-in_err-take-clause-refused

@@ -1,8 +1,9 @@
-use Rattle.std.proofs.Common.{◌≡◌, ℕ, ◌-◌, length}
+use Rattle.std.proofs.Common.{◌≡◌, ◌-◌, length}
 use Rattle.sja_link.specs.BusLedgers.{link_of}
 use Rattle.sja_bus.specs.Links.{Goes}
 use Rattle.sja_bus.specs.OneBit.{HasItems}
 use Rattle.sja_bus.specs.Inside.Seats.{IsSound, IsSeat}
+use Rattle.sja_bus.specs.Inside.Turning.{TakesNews}
 use Rattle.sja_bus.proofs.seat.Seat.take_all.Given as goal
 
 abbrev pub invariant-loop-self : goal.invariant-loop-self
@@ -13,6 +14,7 @@ invariant-loop-self g l = record {
   room : l.self.journal.room ≡ l.initial.self.journal.room;
   goes : Goes g.E.BusEnd.same g.E.BusEnd.stands l.initial.self.journal.entries l.self.journal.entries l.initial.links l.links l.base;
   items : HasItems l.initial.self.journal.entries l.self.journal.entries;
+  news : TakesNews l.initial.self l.self;
 }
 
 abbrev pub decreases-loop-self : goal.decreases-loop-self

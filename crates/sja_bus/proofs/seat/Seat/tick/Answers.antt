@@ -1,12 +1,15 @@
-use Rattle.std.proofs.Common.{◌≡◌, ℕ, suc, ◌+◌, ◌<◌, ◌≤◌, Bool, true, false, List, [], ◌∷◌, ◌++◌, length, rules, arith, refl, sym, ap, ◌∙◌, subst}
+use Rattle.std.proofs.Common.{◌≡◌, ℕ, rules, refl, sym, ap, ◌∙◌, subst}
 use Rattle.can_node.specs.declared.node.Node.{Node}
 use Rattle.can_node.specs.Stands.{DrivesNext, is_receiving}
 use Rattle.sja_link.specs.declared.entry.Entry.TheVariants.{Bit}
 use Rattle.sja_bus.specs.declared.seat.Seat.{Seat}
-use Rattle.sja_bus.specs.Inside.Seats.{IsSound}
+use Rattle.sja_bus.specs.Inside.Seats.{IsReady}
+use Rattle.sja_bus.specs.Inside.Turning.{Turns}
+use Rattle.sja_bus.proofs.seat.Seat.tick.Goals.{in-Nothing+else-sample_quietly, in_default}
 use Rattle.sja_bus.proofs.Lists.{each_refl}
 use Rattle.sja_bus.proofs.Moving.{goes_quiet}
-use Rattle.sja_bus.proofs.Bits.{has_alone, has_on}
+use Rattle.sja_link.specs.BusLedgers.{link_of}
+use Rattle.sja_bus.proofs.Turning.{quiet_turns, full_turns}
 use Rattle.sja_bus.proofs.Quiet.{quiet_sound}
 use Rattle.sja_bus.proofs.seat.Seat.tick.Goals as goal
 
@@ -21,10 +24,12 @@ returns-then-sample_quietly-clause-goes g c =
     let s = c.args.self.now in
     rw c.in_ok-enter_bit.ensures.ok.0 (goes_quiet g.E.BusEnd.same g.E.BusEnd.stands g.met.E.BusEnd.same_refl s.journal.entries (Bit s.drives c.args.seen) c.args.links.now c.args.base (λ l. refl))
 
-pub returns-then-sample_quietly-clause-adds : goal.returns-then-sample_quietly-clause-adds
-returns-then-sample_quietly-clause-adds g c =
-    let s = c.args.self.now in let k = c.enter_bit.new.self.journal.entries in
-    has_on s.journal.entries k s.drives c.args.seen (has_alone s.journal.entries k s.drives c.args.seen c.in_ok-enter_bit.ensures.ok.0)
+pub returns-then-sample_quietly-clause-turns : goal.returns-then-sample_quietly-clause-turns
+returns-then-sample_quietly-clause-turns g c =
+    let s = c.args.self.now in let B = g.B.Board in let node = (link_of s.ledger).node in let now = c.args.board.now in
+    let new : Seat = record c.enter_bit.new.self { drives = c.drive-self.result } in
+    quiet_turns (B.told now now node) (B.kept now now node) c.args.seen s new c.sample_quietly.new.self (g.met.B.Board.kept_refl now node) c.requires.ready (search rules) (search rules)
+    (c.sample_quietly.ensures.quiet c.if-sample_quietly.true) (c.sample_quietly.ensures.shown c.if-sample_quietly.true) c.in_ok-enter_bit.ensures.ok.0
 
 pub returns-then-sample_quietly-clause-ready : goal.returns-then-sample_quietly-clause-ready
 returns-then-sample_quietly-clause-ready g c =
@@ -42,7 +47,31 @@ returns-then-sample_quietly-clause-ready g c =
       drives = c.drive-self.ensures;
     }
 
-pub full_bit-requires-clause-drives : goal.full_bit-requires-clause-drives
-full_bit-requires-clause-drives g c =
-    let P : Node → Type 0 = λ x. DrivesNext x c.args.self.now.drives in
-    subst P (sym (c.sample_quietly.ensures.same c.if-sample_quietly.false)) c.requires.ready.drives
+pub returns-clause-turns : goal.returns-clause-turns
+returns-clause-turns g c =
+    let s = c.args.self.now in let then = c.match-self.self in let B = g.B.Board in
+    let same : then ≡ s = elim c.match-self.branch [
+      | in-Nothing+else-sample_quietly w ↦ w.self-is ∙ ap (λ (n : Node). let x : Seat = record s { node = n } in x) (w.sample_quietly.ensures.same w.if-sample_quietly.false)
+      | in_default w ↦ w.self-is
+    ] in
+    let mid : Seat = record c.full_bit.new.self { drives = c.drive-self-2.result } in
+    let node = (link_of s.ledger).node in
+    let did = c.in_ok-heard.ensures in
+    let number : (link_of mid.ledger).node ≡ node = c.full_bit.ensures.node ∙ ap (λ (x : Seat). (link_of x.ledger).node) same in
+    let T : ℕ → Type 0 = λ n. B.told c.args.board.now c.tell.new.board n c.tell.ensures.told.0 in
+    let R : Seat → Type 0 = λ x. IsReady x in
+    let was : Seat → Type 0 = λ x. Turns (B.told c.args.board.now c.tell.new.board node) (B.kept c.args.board.now c.tell.new.board node) c.args.seen x c.tell.new.self in
+    let now : Seat → Type 0 = λ x. Turns (B.told c.args.board.now c.tell.new.board node) (B.kept c.args.board.now c.tell.new.board node) c.args.seen then x in
+    subst was same (subst now (sym c.tell.ensures.seat)
+    (full_turns (B.told c.args.board.now c.tell.new.board node) (B.kept c.args.board.now c.tell.new.board node) c.args.seen then mid c.in_ok-heard.heard c.tell.ensures.told.0
+    (subst T number c.tell.ensures.told.1) (subst R (sym same) c.requires.ready) did.news did.samples did.brings did.sound.reads.begun c.tell.ensures.told.2))
+
+pub returns-clause-ready : goal.returns-clause-ready
+returns-clause-ready g c =
+    let did = c.in_ok-heard.ensures in
+    let R : Seat → Type 0 = λ x. IsReady x in
+    subst R (sym c.tell.ensures.seat) (record {
+      sound = record { follows = did.sound.follows; reads = did.sound.reads };
+      seat = record { own = did.seat.own; few = did.seat.few; runs = did.seat.runs };
+      drives = c.drive-self-2.ensures;
+    })

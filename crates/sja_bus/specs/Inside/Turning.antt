@@ -1,0 +1,85 @@
+-- What the port of a controller is still to be told, and what it is told.
+use Rattle.std.specs.Prelude.{◌≡◌, ◌≢◌, ◌⊎◌, ◌+◌, ◌<◌, ◌&&◌, not, Bool, true, false, List, length}
+use Rattle.can_bits.specs.declared.level.Level.{Level}
+use Rattle.can_node.specs.declared.bit_events.BitEvents.{BitEvents}
+use Rattle.can_node.specs.Context.{is_held}
+use Rattle.can_node.specs.NextBit.{now_in}
+use Rattle.can_node.specs.Stands.{StandsAt, ShowsPhase}
+use Rattle.sja_link.specs.NodeWords.{NodeEntry, FinishedPiece, IsCut}
+use Rattle.sja_link.specs.declared.entry.Entry.{Entry}
+use Rattle.sja_link.specs.Records.{record_of}
+use Rattle.sja_regs.specs.declared.bus_turn.BusTurn.{BusTurn}
+use Rattle.sja_bus.specs.declared.heard.Heard.{Heard}
+use Rattle.sja_bus.specs.declared.news.News.{News}
+use Rattle.sja_bus.specs.declared.news.News.TheVariants.{Nothing, Changed, Dropped}
+use Rattle.sja_bus.specs.declared.seat.Seat.{Seat}
+use Rattle.sja_bus.specs.OneBit.{HasItems, HasAbort, HasVerdict, HasBit}
+use Rattle.sja_bus.specs.Telling.{IsTurn, SaysAlone, is_overrun}
+use Rattle.sja_bus.specs.Inside.Following.{open_in}
+
+-- whether something is to be told, and whether it is that a request was dropped
+abbrev pub is_untold : News → Bool
+is_untold Nothing = false
+is_untold Changed = true
+is_untold Dropped = true
+
+abbrev pub is_dropped : News → Bool
+is_dropped Nothing = false
+is_dropped Changed = false
+is_dropped Dropped = true
+
+-- nothing was taken, or something that is to be told
+abbrev pub TakesNews : Seat → Seat → Type 0
+TakesNews old new =
+    ((new.news ≡ old.news) × (new.journal.entries ≡ old.journal.entries))
+    ⊎ ((new.news ≡ Changed) × (length old.journal.entries < length new.journal.entries))
+
+-- by every cut of the journal's record: an abort that changed the node left no request
+abbrev pub Drops : Bool → List Entry → Bool → Type 0
+Drops changed j dropped = (found : List FinishedPiece) (cut : IsCut (record_of j) found) →
+    dropped ≡ (changed && not (is_held (now_in cut).held))
+
+-- an abort is to be told where it changed the node, and that the request was dropped where none is left
+pub record AbortsNews (old new : Seat) : Type 0 where
+  pub aborts : HasAbort old.journal.entries new.journal.entries
+  pub still : new.news ≡ Nothing → (old.news ≡ Nothing) × (new.journal.entries ≡ old.journal.entries)
+  pub drops : old.news ≢ Dropped → Drops aborts.changed new.journal.entries (is_dropped new.news)
+
+-- the same after items were taken
+pub record OpensNews (old new : Seat) : Type 0 where
+  pub taken : List Entry
+  pub items : HasItems old.journal.entries taken
+  pub aborts : HasAbort taken new.journal.entries
+  pub still : new.news ≡ Nothing → (old.news ≡ Nothing) × (new.journal.entries ≡ old.journal.entries)
+  pub drops : old.news ≢ Dropped → Drops aborts.changed new.journal.entries (is_dropped new.news)
+
+-- the journal has a bit more with what the bit brought: whether the message found no room, and whether the node went
+-- bus-off
+pub record Hears (j : List Entry) (driven seen : Level) (overrun : Bool) (k : List Entry) : Type 0 where
+  pub verdict : HasVerdict j driven seen k
+  pub overrun_is : overrun ≡ is_overrun verdict.verdict
+
+pub record Brings (j : List Entry) (driven seen : Level) (heard : Heard) (k : List Entry) : Type 0 where
+  pub bit : HasBit j driven seen k
+  pub off : heard.events.went_off ≡ bit.off
+  pub overrun : heard.overrun ≡ is_overrun bit.verdict
+
+-- the turn says this of the bit that is over, and what the seat shows after it
+pub record TurnOf (s : Seat) (events : BitEvents) (overrun : Bool) (turn : BusTurn) : Type 0 where
+  pub activation : turn.activation ≡ s.ended + open_in s.activity
+  pub events_are : turn.events ≡ events
+  pub counters : (entries : List NodeEntry) (found : List FinishedPiece) (h : StandsAt s.node entries found) →
+      (turn.txerr ≡ (now_in h.cut).tec) × (turn.rxerr ≡ (now_in h.cut).rec)
+  pub phase : ShowsPhase s.node turn.phase
+  pub aborted : turn.aborted ≡ is_dropped s.news
+  pub overrun_is : turn.overrun ≡ overrun
+
+-- one bit of a seat: its journal has the bit, and its port was told the turn of that bit or passed over; now nothing is
+-- to be told
+pub record Turns (was_told : BusTurn → Type 0) (was_kept : Type 0) (seen : Level) (old new : Seat) : Type 0 where
+  pub bit : HasBit old.journal.entries old.drives seen new.journal.entries
+  pub turn : BusTurn
+  pub is_turn : (changed : Bool) → Drops changed old.journal.entries (is_dropped old.news) →
+      IsTurn changed old.journal.entries old.drives seen new.journal.entries bit turn
+  pub port : was_told turn ⊎ (was_kept × (old.news ≡ Nothing) × SaysAlone old.journal.entries turn)
+  pub told : new.news ≡ Nothing
