@@ -10,8 +10,6 @@ const ONE: [u8; 3] = [0x00, 0x24, 0x60];
 const OTHER: [u8; 3] = [0x00, 0x24, 0x40];
 
 #[test]
-// Until the bus tells the ports.
-#[ignore]
 fn the_lower_identifier_goes_first_and_each_node_gets_the_other_frame(
     rt: HostRuntime,
 ) -> Result<(), Fail> {

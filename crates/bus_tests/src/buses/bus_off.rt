@@ -49,8 +49,6 @@ fn bus_off_is_told_after_the_messages(rt: HostRuntime) -> Result<(), Fail> {
 }
 
 #[test]
-// Until the bus tells the ports.
-#[ignore]
 fn after_bus_off_nothing_is_released_and_a_request_is_dropped(rt: HostRuntime) -> Result<(), Fail> {
     let mut rig = Rig::new(rt.alloc(), 1, 2, 3_000, &STARTS)?;
     begun(&mut rig)?;

@@ -52,8 +52,6 @@ fn a_credit_that_cant_be_right_is_answered_always_again(rt: HostRuntime) -> Resu
 }
 
 #[test]
-// Until the bus tells the ports.
-#[ignore]
 fn a_journal_has_room_for_2100_entries_beside_two_a_bit(rt: HostRuntime) -> Result<(), Fail> {
     let mut rig = Rig::new(rt.alloc(), 1, 1, 10_000, &[])?;
     rig.start(0)?;

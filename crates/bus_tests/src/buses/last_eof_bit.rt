@@ -45,8 +45,6 @@ fn a_receiver_that_is_struck_keeps_the_frame(rt: HostRuntime) -> Result<(), Fail
 }
 
 #[test]
-// Until the bus tells the ports.
-#[ignore]
 fn a_transmitter_that_is_struck_sends_the_frame_again(rt: HostRuntime) -> Result<(), Fail> {
     let (mut rig, bits) = sent(rt.alloc(), &[(0, 60, 1, 1)])?;
     assert_eq!(rt; bits, 132);

@@ -13,8 +13,6 @@ const LISTEN: u8 = 0x03;
 const SINGLE_SHOT: u8 = 0x03;
 
 #[test]
-// Until the bus tells the ports.
-#[ignore]
 fn a_listener_alone_acknowledges_nothing_and_stores_nothing(rt: HostRuntime) -> Result<(), Fail> {
     let mut rig = Rig::new(rt.alloc(), 2, 2, 200, &[])?;
     rig.start(0)?;

@@ -12,8 +12,6 @@ const SELF_TEST: u8 = 0x05;
 const RECEIVE_OWN: u8 = 0x10;
 
 #[test]
-// Until the bus tells the ports.
-#[ignore]
 fn in_self_test_mode_a_node_alone_receives_its_own_frame(rt: HostRuntime) -> Result<(), Fail> {
     let mut rig = Rig::new(rt.alloc(), 2, 1, 200, &[])?;
     assert!(rt; rig.write(0, 0, SELF_TEST)?.is_ok());
@@ -29,8 +27,6 @@ fn in_self_test_mode_a_node_alone_receives_its_own_frame(rt: HostRuntime) -> Res
 }
 
 #[test]
-// Until the bus tells the ports.
-#[ignore]
 fn in_self_test_mode_a_plain_request_is_sent_and_not_received(rt: HostRuntime) -> Result<(), Fail> {
     let mut rig = Rig::new(rt.alloc(), 2, 1, 200, &[])?;
     assert!(rt; rig.write(0, 0, SELF_TEST)?.is_ok());
