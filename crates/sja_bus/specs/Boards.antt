@@ -1,5 +1,5 @@
--- The ports of a board in one thread, by node (this project's own rule).
-use Rattle.std.specs.Prelude.{◌≡◌, ℕ, true, List, slice_index_or}
+-- The ports of a board, and those of one in one thread, by node (this project's own rule).
+use Rattle.std.specs.Prelude.{◌≡◌, ◌≤◌, ℕ, true, List, slice_index_or}
 use Rattle.sja_regs.specs.declared.bus_turn.BusTurn.{BusTurn}
 use Rattle.sja_regs.specs.declared.orders.Orders.{Orders}
 use Rattle.sja_regs.specs.declared.registers.Registers.{Registers}
@@ -29,3 +29,7 @@ WasClosed old new node = AtPort (λ p q. q ≡ record p { closed = true }) old n
 -- it is as it was
 abbrev pub WasKept : List Registers → List Registers → ℕ → Type 0
 WasKept old new node = AtPort (λ p q. q ≡ p) old new node
+
+-- a board has as many ports as before, and those from this number on are as they were
+abbrev pub KeepsOthers : {B : Type 0} → (B → ℕ) → (B → B → ℕ → Type 0) → ℕ → B → B → Type 0
+KeepsOthers {B} ports kept nodes old new = (ports new ≡ ports old) × ((k : ℕ) → nodes ≤ k → kept old new k)

@@ -16,8 +16,8 @@ use Rattle.sja_bus.specs.OneBit.{Opens, HasBit}
 use Rattle.sja_bus.specs.Telling.{IsTurn, IsPassedOver, IsUntold}
 
 -- what a contract sees of a bus: its script, the bits that were run and those that are left, the fault that it answers
--- always, the journals of its nodes, and by node whether something was taken or an abort changed the node since its port
--- was told last
+-- always, the journals of its nodes, and by node whether something was taken or an abort changed the node since its
+-- port was told last
 pub record BusValue : Type 0 where
   pub script : List Strike
   pub run : ℕ
@@ -73,8 +73,8 @@ AllTold nodes untold = untold ≡ replicate nodes false
 abbrev pub IsStill : {E B : Type 0} → BusValue → BusValue → List E → List E → B → B → Type 0
 IsStill bus now links links_now board board_now = (now ≡ bus) × (links_now ≡ links) × (board_now ≡ board)
 
--- one bit of a node: its items were taken, then an abort changed it or none did, then it drove and saw these levels, and
--- its port was told the turn of the bit, or passed over where there was nothing to tell
+-- one bit of a node: its items were taken, then an abort changed it or none did, then it drove and saw these levels,
+-- and its port was told the turn of the bit, or passed over where there was nothing to tell
 pub record IsNodeBit (has_orders : Orders → Type 0) (was_told : BusTurn → Type 0) (was_kept : Type 0) (untold : Bool)
     (j k : List Entry) (driven seen : Level) : Type 0 where
   pub opened : List Entry

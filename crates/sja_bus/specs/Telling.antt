@@ -39,9 +39,10 @@ pub record IsTurn (changed : Bool) (opened : List Entry) (driven seen : Level) (
   pub found : List FinishedPiece
   pub cut : IsCut (record_of opened) found
   pub step : Step
-  pub events : turn.events ≡ events_of step (now_in cut) cut.place (open_bits cut) (record { driven = driven; seen = seen })
-  pub after : IsCut (record_of k) (found
-      ++ closed_by (counted none_yet (record_of opened ++ NodeTook (record { driven = driven; seen = seen }) ∷ [])) step)
+  pub events : turn.events
+      ≡ events_of step (now_in cut) cut.place (open_bits cut) (record { driven = driven; seen = seen })
+  pub after : IsCut (record_of k) (found ++ closed_by
+      (counted none_yet (record_of opened ++ NodeTook (record { driven = driven; seen = seen }) ∷ [])) step)
   pub says : Says k turn
   pub off : turn.events.went_off ≡ b.off
   pub overrun : turn.overrun ≡ is_overrun b.verdict
@@ -54,8 +55,8 @@ pub record SaysAlone (j : List Entry) (turn : BusTurn) : Type 0 where
   pub aborted : turn.aborted ≡ false
   pub overrun : turn.overrun ≡ false
 
--- the port wasn't told: nothing was left untold before the bit, nothing was taken and no abort changed the node, and the
--- node says after the bit what it said before it
+-- the port wasn't told: nothing was left untold before the bit, nothing was taken and no abort changed the node, and
+-- the node says after the bit what it said before it
 pub record IsPassedOver (was_kept : Type 0) (untold : Bool) (j opened : List Entry) (turn : BusTurn) : Type 0 where
   pub kept : was_kept
   pub told : untold ≡ false

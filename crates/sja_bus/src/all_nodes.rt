@@ -5,7 +5,8 @@ ghost use Rattle.sja_regs.specs.declared.bus_turn.BusTurn.{BusTurn as Turn};
 ghost use Rattle.can_bits.specs.Digits.{opposite};
 ghost use Rattle.sja_bus.specs.Wire.{wired};
 ghost use Rattle.sja_bus.specs.Links.{EachRelated, Numbered};
-ghost use Rattle.sja_bus.specs.Inside.Rows.{AreReady, EachSeat, SeatTakes, SeatNews, SeatOpens, SeatOpensNews, SeatTurns, GoesAll, AllRead, driven_by};
+ghost use Rattle.sja_bus.specs.Inside.Rows.{AreReady, AreSeated, EachSeat, SeatTakes, SeatNews, SeatOpens, SeatOpensNews, SeatTurns, GoesAll, AllRead, driven_by};
+ghost use Rattle.sja_bus.specs.Boards.{KeepsOthers};
 ghost use Rattle.sja_bus.specs.Inside.Whole.{IsRowBit};
 ghost use Rattle.sja_bus.specs.Inside.Refusing.{HaveRoom, SeatRefuses};
 
@@ -91,8 +92,8 @@ fn struck_level(level: Level) -> Level
     }
 }
 
-/// Each node has its bit, and sees this level, or the other one where it is struck. Its port is told of it where there is
-/// something to tell.
+/// Each node has its bit, and sees this level, or the other one where it is struck. Its port is told of it where there
+/// is something to tell.
 pub(crate) fn tick_all<E: BusEnd, B: Board>(
     seats: &mut [Seat],
     links: &mut [E],
@@ -100,18 +101,13 @@ pub(crate) fn tick_all<E: BusEnd, B: Board>(
     struck: StruckNodes,
     board: &mut B,
 ) -> Result<(), BusFault>
-    requires few { length seats.old ≤ 8 }
-    requires count { length links.old ≡ 8 * length seats.old }
-    requires ids { Numbered E.link links.old }
-    requires ready { AreReady seats.old }
-    requires ports { length seats.old ≤ B.ports board.old }
+    requires seated { AreSeated E.link seats.old links.old (B.ports board.old) }
     ensures sames { EachRelated E.same links.old links.new }
     ensures ready { OnOk result (AreReady seats.new) }
     ensures goes { OnOk result (GoesAll E.same E.stands seats.old seats.new links.old links.new) }
-    ensures ports { B.ports board.new ≡ B.ports board.old }
-    ensures others { (k : ℕ) → length seats.old ≤ k → B.kept board.old board.new k }
-    ensures turns { OnOk result (EachSeat (SeatTurns (B.told board.old board.new) (B.kept board.old board.new) struck level)
-        seats.old seats.new) }
+    ensures board { KeepsOthers B.ports B.kept (length seats.old) board.old board.new }
+    ensures turns { OnOk result (EachSeat
+        (SeatTurns (B.told board.old board.new) (B.kept board.old board.new) struck level) seats.old seats.new) }
     ensures rooms { OnOk result ((n : ℕ) → HaveRoom n seats.old → HaveRoom n seats.new) }
 {
     for k in 0..seats.len() {
@@ -129,18 +125,13 @@ pub(crate) fn bit_all<E: BusEnd, B: Board>(
     board: &mut B,
     struck: StruckNodes,
 ) -> Result<(), BusFault>
-    requires few { length seats.old ≤ 8 }
-    requires count { length links.old ≡ 8 * length seats.old }
-    requires ids { Numbered E.link links.old }
-    requires ready { AreReady seats.old }
-    requires ports { length seats.old ≤ B.ports board.old }
+    requires seated { AreSeated E.link seats.old links.old (B.ports board.old) }
+    ensures board { KeepsOthers B.ports B.kept (length seats.old) board.old board.new }
     ensures sames { EachRelated E.same links.old links.new }
-    ensures ready { OnOk result (AreReady seats.new) }
     ensures goes { OnOk result (GoesAll E.same E.stands seats.old seats.new links.old links.new) }
-    ensures ports { B.ports board.new ≡ B.ports board.old }
-    ensures others { (k : ℕ) → length seats.old ≤ k → B.kept board.old board.new k }
-    ensures bit { OnOk result (IsRowBit (B.orders_are board.old) (B.told board.old board.new) (B.kept board.old board.new)
-        struck seats.old seats.new) }
+    ensures ready { OnOk result (AreReady seats.new) }
+    ensures bit { OnOk result (IsRowBit (B.orders_are board.old)
+        (B.told board.old board.new) (B.kept board.old board.new) struck seats.old seats.new) }
     ensures rooms { OnOk result ((n : ℕ) → HaveRoom n seats.old → HaveRoom n seats.new) }
 {
     open_all(seats, links, board)?;

@@ -14,7 +14,8 @@ pub fn a_port_kept_that_shows_the_turn_was_told_it<B: Board>()
         B.shows old node turn → B.told old new node turn }
 {}
 
-/// A law: a port of a [`SerialBoard`](super::SerialBoard) shows a turn that has no event and says what its registers say.
+/// A law: a port of a [`SerialBoard`](super::SerialBoard) shows a turn that has no event and says what its registers
+/// say.
 pub fn a_port_shows_a_turn_that_says_the_same()
     ensures { (ports : List Registers) (node : ℕ) (turn : Turn) →
         ((d : Registers) → SaysTheSame (slice_index_or ports node d) turn) → ShowsTurn ports node turn }

@@ -20,8 +20,8 @@ use std::marker::Model;
 /// own rule).
 ///
 /// Contracts see it as its script, the bits that were run and those that are left, the fault that it answers always, the
-/// journals of its nodes, and of which node something is untold to its port. All its room is reserved when it is made: no
-/// bit takes memory.
+/// journals of its nodes, and of which node something is untold to its port. All its room is reserved when it is made:
+/// no bit takes memory.
 #[derive(Debug, Drop)]
 pub struct Bus {
     struck: StruckBits,
@@ -68,6 +68,7 @@ impl Bus {
     ghost use Rattle.sja_bus.specs.Lawful.{IsBusRun, CountersAre};
     ghost use Rattle.sja_bus.specs.Buses.{EachJournal, KeepsAll, AllDry, IsBit, new_bus, EachUntold, AllTold, IsStill};
     ghost use Rattle.sja_bus.specs.Reasons.{IsNotTaken};
+    ghost use Rattle.sja_bus.specs.Boards.{KeepsOthers};
 
     /// A bus of so many nodes, 1 to 8, for a run of so many bits, 1 to 200,000. All its room is reserved here.
     ///
@@ -156,13 +157,13 @@ impl Bus {
         requires ids { Numbered E.link links.old }
         requires ports { length self.old.journals ≤ B.ports board.old }
         ensures sames { EachRelated E.same links.old links.new }
-        ensures ports { B.ports board.new ≡ B.ports board.old }
-        ensures others { (k : ℕ) → length self.old.journals ≤ k → B.kept board.old board.new k }
-        ensures shape { (self.new.script ≡ self.old.script) × (length self.new.journals ≡ length self.old.journals) }
+        ensures others { KeepsOthers B.ports B.kept (length self.old.journals) board.old board.new }
+        ensures script { self.new.script ≡ self.old.script }
+        ensures nodes { length self.new.journals ≡ length self.old.journals }
         ensures bits { OnOk result ((self.new.run ≡ self.old.run + 1) × (self.new.left + 1 ≡ self.old.left)) }
         ensures kept { OnOk result (KeepsAll E.stands self.old.journals self.new.journals links.old links.new) }
-        ensures bit { OnOk result (IsBit (B.orders_are board.old) (B.told board.old board.new) (B.kept board.old board.new)
-            self.old.script self.old.run self.old.untold self.old.journals self.new.journals) }
+        ensures bit { OnOk result (IsBit (B.orders_are board.old) (B.told board.old board.new)
+            (B.kept board.old board.new) self.old.script self.old.run self.old.untold self.old.journals self.new.journals) }
         ensures told { OnOk result (AllTold (length self.old.journals) self.new.untold) }
         ensures right { OnOk result (self.new.fault ≡ None) }
         ensures fault { IfErr result (λ f. (f ≡ BitsSpent) ⊎ (self.new.fault ≡ Some f)) }

@@ -42,7 +42,8 @@ impl Seat {
         ensures room { self.new.journal.room ≡ self.old.journal.room }
         ensures kept { (self.new.node ≡ self.old.node) × (self.new.ended ≡ self.old.ended) × (self.new.activity ≡ self.old.activity) × (link_of self.new.ledger ≡ link_of self.old.ledger) }
         ensures news { self.new.news ≡ self.old.news }
-        ensures judged { IfOk result (λ overrun. IsJudged self.old.journal.entries driven seen (suc self.old.ended) message overrun self.new.journal.entries) }
+        ensures judged { IfOk result (λ overrun.
+            IsJudged self.old.journal.entries driven seen (suc self.old.ended) message overrun self.new.journal.entries) }
         ensures reads { OnOk result (Reads self.new.node self.new.journal.entries self.new.ended self.new.activity (free_in self.new.ledger)) }
         ensures moves { OnOk result (Moves E.stands end.old end.new self.old.journal.entries self.new.journal.entries (suc self.old.ended)) }
     {
@@ -102,7 +103,8 @@ impl Seat {
         ensures off { IfOk result (λ heard. heard.events.went_off ≡ true → InReset self.new.node) }
         ensures samples { IfOk result (λ heard. Samples self.old.node self.new.node seen heard.events) }
         ensures moves { OnOk result (Moves E.stands end.old end.new self.old.journal.entries self.new.journal.entries (suc self.old.ended)) }
-        ensures hears { IfOk result (λ heard. Hears self.old.journal.entries self.old.drives seen heard.overrun self.new.journal.entries) }
+        ensures hears { IfOk result (λ heard.
+            Hears self.old.journal.entries self.old.drives seen heard.overrun self.new.journal.entries) }
     {
         let driven = self.drives;
         let events = self.node.sample_fully(seen);
@@ -140,7 +142,8 @@ impl Seat {
         ensures seat { OnOk result (IsSeat self.new) }
         ensures samples { IfOk result (λ heard. Samples self.old.node self.new.node seen heard.events) }
         ensures moves { OnOk result (Moves E.stands end.old end.new self.old.journal.entries self.new.journal.entries (suc self.old.ended)) }
-        ensures brings { IfOk result (λ heard. Brings self.old.journal.entries self.old.drives seen heard self.new.journal.entries) }
+        ensures brings { IfOk result (λ heard.
+            Brings self.old.journal.entries self.old.drives seen heard self.new.journal.entries) }
     {
         let heard = self.hear(end, filter, seen)?;
         if !heard.events.went_off {
@@ -160,7 +163,8 @@ impl Seat {
         ensures sound { OnOk result (IsSound self.new) }
         ensures seat { OnOk result (IsSeat self.new) }
         ensures samples { IfOk result (λ heard. Samples self.old.node self.new.node seen heard.events) }
-        ensures entered { OnOk result (self.new.journal.entries ≡ self.old.journal.entries ++ Bit self.old.drives seen ∷ []) }
+        ensures entered { OnOk result
+            (self.new.journal.entries ≡ self.old.journal.entries ++ Bit self.old.drives seen ∷ []) }
         ensures quiet { IfOk result (λ heard. (heard.events.went_off ≡ false) × (heard.overrun ≡ false)) }
     {
         let driven = self.drives;

@@ -213,7 +213,8 @@ impl Seat {
         ensures news { self.new.news ≡ self.old.news }
         ensures samples { IfOk result (λ heard. Samples self.old.node self.new.node seen heard.events) }
         ensures goes { OnOk result (Goes E.same E.stands self.old.journal.entries self.new.journal.entries links.old links.new base) }
-        ensures brings { IfOk result (λ heard. Brings self.old.journal.entries self.old.drives seen heard self.new.journal.entries) }
+        ensures brings { IfOk result (λ heard.
+            Brings self.old.journal.entries self.old.drives seen heard self.new.journal.entries) }
     {
         let Activity::Running(filter) = self.activity else {
             return self.rest_bit(seen);
@@ -222,8 +223,8 @@ impl Seat {
         self.run_bit(&mut links[here], filter, seen)
     }
 
-    /// One bit of the node, which sees this level. Its port is told of it, unless nothing happened and nothing is left to
-    /// be told.
+    /// One bit of the node, which sees this level. Its port is told of it, unless nothing happened and nothing is left
+    /// to be told.
     #[inline(always)]
     pub(crate) fn tick<E: BusEnd, B: Board>(
         &mut self,

@@ -4,6 +4,7 @@ use Rattle.std.specs.Int.{bit_at}
 use Rattle.can_bits.specs.declared.level.Level.{Level}
 use Rattle.can_bits.specs.Digits.{opposite}
 use Rattle.sja_link.specs.declared.entry.Entry.{Entry}
+use Rattle.sja_link.specs.declared.link_id.LinkId.{LinkId}
 use Rattle.sja_link.specs.Lists.{Lists}
 use Rattle.sja_link.specs.Accounts.{Account}
 use Rattle.sja_link.specs.BusLedgers.{link_of}
@@ -14,7 +15,7 @@ use Rattle.sja_bus.specs.declared.struck_nodes.StruckNodes.{StruckNodes}
 use Rattle.sja_bus.specs.declared.news.News.TheVariants.{Dropped}
 use Rattle.sja_bus.specs.declared.seat.Seat.{Seat}
 use Rattle.sja_bus.specs.Wire.{IsWired}
-use Rattle.sja_bus.specs.Links.{per_node, EachRelated, Kept, Grows}
+use Rattle.sja_bus.specs.Links.{per_node, EachRelated, Kept, Grows, Numbered}
 use Rattle.sja_bus.specs.OneBit.{HasItems, Opens}
 use Rattle.sja_bus.specs.Inside.Seats.{IsReady}
 use Rattle.sja_bus.specs.Inside.Turning.{is_untold, TakesNews, OpensNews, Turns}
@@ -26,6 +27,14 @@ pub record IsOf (s : Seat) (node : ℕ) : Type 0 where
 
 abbrev pub AreReady : List Seat → Type 0
 AreReady seats = (k : ℕ) (s : Seat) → k < length seats → IsOf (slice_index_or seats k s) k
+
+-- at most eight seats are ready, with eight links each, and of n ports there is one for each
+pub record AreSeated {E : Type 0} (link : E → LinkId) (seats : List Seat) (links : List E) (n : ℕ) : Type 0 where
+  pub few : length seats ≤ 8
+  pub count : length links ≡ 8 * length seats
+  pub ids : Numbered link links
+  pub ready : AreReady seats
+  pub ports : length seats ≤ n
 
 -- the journals of all nodes, whose ports are still to be told something, and the levels that they drive next
 abbrev pub journals_of : List Seat → List (List Entry)

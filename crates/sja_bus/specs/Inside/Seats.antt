@@ -52,12 +52,12 @@ Keeps filter (Some f) None = Passes filter f → ⊥
 Keeps filter (Some f) (Some m) = Passes filter f × (m ≡ message f)
 
 -- a journal with a bit more, and a verdict on this message that is due: whether the message found no room
-pub record IsJudged (j : List Entry) (driven seen : Level) (a : ℕ) (m : List ℕ) (overrun : Bool) (after : List Entry) : Type 0
-  where
-    pub verdict : Verdict
-    pub overrun_is : overrun ≡ is_overrun (Some (verdict, m))
-    pub whole : after ≡ (j ++ Bit driven seen ∷ []) ++ entry_of verdict m ∷ []
-    pub due : IsDue (part (j ++ Bit driven seen ∷ []) a) (entry_of verdict m)
+pub record IsJudged (j : List Entry) (driven seen : Level) (a : ℕ) (m : List ℕ) (overrun : Bool) (after : List Entry) :
+    Type 0 where
+  pub verdict : Verdict
+  pub overrun_is : overrun ≡ is_overrun (Some (verdict, m))
+  pub whole : after ≡ (j ++ Bit driven seen ∷ []) ++ entry_of verdict m ∷ []
+  pub due : IsDue (part (j ++ Bit driven seen ∷ []) a) (entry_of verdict m)
 
 -- the same node after a bit, before bus-off is written
 pub record IsMid (s : Seat) (went : Bool) : Type 0 where

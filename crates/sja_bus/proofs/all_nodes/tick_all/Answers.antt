@@ -14,7 +14,7 @@ use Rattle.sja_bus.proofs.all_nodes.tick_all.Goals as goal
 
 pub loop-k-init : goal.loop-k-init
 loop-k-init g c = record {
-  ready = c.requires.ready;
+  ready = c.requires.seated.ready;
   goes = goes_all_refl g.E.BusEnd.same g.E.BusEnd.stands g.met.E.BusEnd.same_refl c.args.seats.now c.args.links.now;
   rooms = λ n h. h;
   done = done_none (SeatTurns (g.B.Board.told c.args.board.now c.args.board.now) (g.B.Board.kept c.args.board.now c.args.board.now) c.args.struck c.args.level) c.args.seats.now;
@@ -26,7 +26,7 @@ pub tick-requires-clause-ids : goal.tick-requires-clause-ids
 tick-requires-clause-ids g c = λ a d few.
     let E = g.E.BusEnd in let k = c.loop-k.k in
     let here : k < length c.args.seats.now = search rules in
-    let i = numbered_at E.link E.same g.met.E.BusEnd.same_link c.args.links.now c.loop-k.links (length c.args.seats.now) k c.requires.count here c.loop-k.invariant.goes.sames c.requires.ids a d few in
+    let i = numbered_at E.link E.same g.met.E.BusEnd.same_link c.args.links.now c.loop-k.links (length c.args.seats.now) k c.requires.seated.count here c.loop-k.invariant.goes.sames c.requires.seated.ids a d few in
     let n = (c.loop-k.invariant.ready k c.index-seats-k.result (search rules)).own in
     i ∙ sym (ap (λ (m : ℕ). let x : LinkId = record { node = m; activation = suc a } in x) n)
 
@@ -65,14 +65,17 @@ returns-clause-turns g c =
     done_all (SeatTurns (g.B.Board.told c.args.board.now c.loop-k.board) (g.B.Board.kept c.args.board.now c.loop-k.board) c.args.struck c.args.level) c.loop-k.k c.args.seats.now c.loop-k.seats (search rules)
     c.loop-k.invariant.done
 
-pub returns-clause-others : goal.returns-clause-others
-returns-clause-others g c = λ m far. c.loop-k.invariant.others m (search (rules, far))
+pub returns-clause-board : goal.returns-clause-board
+returns-clause-board g c = (c.loop-k.invariant.ports, λ m far. c.loop-k.invariant.others m (search (rules, far)))
 
-pub returns-in_err-tick-clause-others : goal.returns-in_err-tick-clause-others
-returns-in_err-tick-clause-others g c = λ m far.
+pub returns-in_err-tick-clause-board : goal.returns-in_err-tick-clause-board
+returns-in_err-tick-clause-board g c =
     let here : c.loop-k.k < length c.args.seats.now = search rules in
-    let n = (c.loop-k.invariant.ready c.loop-k.k c.index-seats-k.result (search rules)).own in
-    g.met.B.Board.kept_trans c.args.board.now c.loop-k.board c.tick.new.board m (c.loop-k.invariant.others m (omega (arith, far, here))) (c.tick.ensures.others m (λ e. omega (arith, e, n, far, here)))
+    let n = (c.loop-k.invariant.ready c.loop-k.k c.index-seats-k.result (search rules)).own in (
+      c.tick.ensures.ports ∙ c.loop-k.invariant.ports,
+      λ m far. g.met.B.Board.kept_trans c.args.board.now c.loop-k.board c.tick.new.board m (c.loop-k.invariant.others m (omega (arith, far, here)))
+          (c.tick.ensures.others m (λ e. omega (arith, e, n, far, here))),
+    )
 
 pub returns-clause-rooms : goal.returns-clause-rooms
 returns-clause-rooms g c = c.loop-k.invariant.rooms

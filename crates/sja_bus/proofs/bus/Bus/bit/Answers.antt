@@ -1,4 +1,4 @@
-use Rattle.std.proofs.Common.{◌≡◌, ◌≢◌, ◌+◌, ◌-◌, false, replicate, None, List, ◌++◌, length, take, drop, sym, ap, ◌∙◌, subst, arith, rules, ℕ}
+use Rattle.std.proofs.Common.{◌≡◌, ◌≢◌, ◌+◌, ◌-◌, false, replicate, None, List, ◌++◌, length, take, drop, sym, ap, ◌∙◌, subst, arith, rules, ℕ, refl}
 use Rattle.std.proofs.lemmas.Grind.{common_steps}
 use Rattle.std.specs.Prelude.{vec_capacity}
 use Rattle.sja_bus.specs.declared.seat.Seat.{Seat}
@@ -18,7 +18,7 @@ pub returns-in-Some-clause-sames : goal.returns-in-Some-clause-sames
 returns-in-Some-clause-sames g c = each_refl g.E.BusEnd.same g.met.E.BusEnd.same_refl c.args.links.now
 
 pub returns-in-Some-clause-others : goal.returns-in-Some-clause-others
-returns-in-Some-clause-others g c = λ k far. g.met.B.Board.kept_refl c.args.board.now k
+returns-in-Some-clause-others g c = (refl, λ k far. g.met.B.Board.kept_refl c.args.board.now k)
 
 pub invariant_of-self : goal.invariant_of-self
 invariant_of-self g c =
