@@ -17,6 +17,7 @@ pub mod Marking
 pub mod Wires
 pub mod Many
 pub mod Refusing
+pub mod Breaking
 pub mod Running
 pub mod Levels
 pub mod Journals

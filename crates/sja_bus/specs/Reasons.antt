@@ -14,11 +14,13 @@ use Rattle.sja_link.specs.Places.{place_of}
 use Rattle.sja_link.specs.Parts.{part}
 use Rattle.sja_link.specs.Records.{record_of}
 use Rattle.sja_link.specs.Free.{IsFree}
+use Rattle.sja_regs.specs.declared.orders.Orders.{Orders}
 use Rattle.sja_bus.specs.declared.bus_fault.BusFault.{BusFault}
 use Rattle.sja_bus.specs.declared.bus_fault.BusFault.TheVariants.{BitsSpent, BadCredit, Stuck, BadOrder, JournalFull}
 use Rattle.sja_bus.specs.Wire.{journal_at}
 use Rattle.sja_bus.specs.Links.{per_node, Kept, stops_of}
-use Rattle.sja_bus.specs.OneBit.{HasItems}
+use Rattle.sja_bus.specs.OneBit.{HasItems, Opens}
+use Rattle.sja_bus.specs.Buses.{BusValue}
 use Rattle.sja_bus.specs.Opening.{IsOpen, IsBetween}
 
 -- the activation whose link is read: the next one after those that have ended
@@ -86,6 +88,28 @@ pub record RefusesItem {E : Type 0} (stands : E → Lists → Type 0) (room : �
   pub others : (h : ℕ → Account) (a : ℕ) (d : E) → Kept stands before links base h → a < per_node →
       (stops_of j ≡ a → ⊥) → stands (slice_index_or after (base + a) d) (account j (suc a) (h a))
 
+-- ---- a node whose bit broke off
+
+-- the end of one of its links had no room: whatever its driver got and gave, where its links stood for its journal
+-- before, that end stood for it then
+pub record GivesBack {E : Type 0} (stands : E → Lists → Type 0) (full : E → Type 0) (before j : List Entry)
+    (links : List E) (base : ℕ) : Type 0 where
+  pub place : ℕ
+  pub few : place < per_node
+  pub end : E
+  pub is_full : full end
+  pub stood : (h : ℕ → Account) → Kept stands before links base h → stands end (account j (suc place) (h place))
+
+-- with this fault the bit of a node broke off, which had so many reserved entries and this journal before: the reserved
+-- entries are used, and at most the bit and a verdict were entered; or a put was given back
+abbrev pub IsBrokenFor : {E : Type 0} → (E → Lists → Type 0) → (E → Type 0) → ℕ → ℕ → List Entry → List Entry → List E → ℕ → BusFault → Type 0
+IsBrokenFor stands full node room before j links base (JournalFull k) =
+    (k ≡ node) × (room ≤ length j) × (length j ≤ length before + 2)
+IsBrokenFor stands full node room before j links base (Stuck k) = (k ≡ node) × GivesBack stands full before j links base
+IsBrokenFor stands full node room before j links base (BadCredit k bytes) = ⊥
+IsBrokenFor stands full node room before j links base (BadOrder k) = ⊥
+IsBrokenFor stands full node room before j links base BitsSpent = ⊥
+
 -- ---- a bus
 
 -- how many entries of a journal are reserved for a run of so many bits
@@ -99,3 +123,37 @@ pub record IsNotTaken {E : Type 0} (stands : E → Lists → Type 0) (bits : ℕ
   pub few : node < length before
   pub refuses : RefusesItem stands (room_for bits) (journal_at before node) (journal_at now node) links after
       (per_node * node) node f
+
+-- items of one of its nodes were taken, and then the entry of an abort found no room
+pub record IsNotAborted {E : Type 0} (stands : E → Lists → Type 0) (bits : ℕ) (before now : List (List Entry))
+    (links after : List E) (f : BusFault) : Type 0 where
+  pub node : ℕ
+  pub few : node < length before
+  pub is : f ≡ JournalFull node
+  pub items : HasItems (journal_at before node) (journal_at now node)
+  pub full : room_for bits ≤ length (journal_at now node)
+  pub kept : (h : ℕ → Account) → Kept stands (journal_at before node) links (per_node * node) h →
+      Kept stands (journal_at now node) after (per_node * node) h
+
+-- of one of its nodes items were taken and an abort was applied or none, and then its bit broke off
+pub record IsBrokenOff {E : Type 0} (stands : E → Lists → Type 0) (full : E → Type 0) (orders_are : ℕ → Orders → Type 0)
+    (bits : ℕ) (before now : List (List Entry)) (links : List E) (f : BusFault) : Type 0 where
+  pub node : ℕ
+  pub few : node < length before
+  pub opened : List Entry
+  pub between : List E
+  pub opens : Opens (orders_are node) (journal_at before node) opened
+  pub kept : (h : ℕ → Account) → Kept stands (journal_at before node) links (per_node * node) h →
+      Kept stands opened between (per_node * node) h
+  pub broken : IsBrokenFor stands full node (room_for bits) opened (journal_at now node) between (per_node * node) f
+
+-- why a bit doesn't come to its end
+pub data StopsBit {E : Type 0} (stands : E → Lists → Type 0) (full : E → Type 0) (orders_are : ℕ → Orders → Type 0)
+    (before now : BusValue) (links after : List E) (f : BusFault) : Type 0 where
+  spent : f ≡ BitsSpent → before.left ≡ 0 → StopsBit stands full orders_are before now links after f
+  not_taken : IsNotTaken stands (before.run + before.left) before.journals now.journals links after f →
+      StopsBit stands full orders_are before now links after f
+  not_aborted : IsNotAborted stands (before.run + before.left) before.journals now.journals links after f →
+      StopsBit stands full orders_are before now links after f
+  broken_off : IsBrokenOff stands full orders_are (before.run + before.left) before.journals now.journals links f →
+      StopsBit stands full orders_are before now links after f

@@ -1,6 +1,6 @@
 //! What all nodes of a bus do in one bit, node after node.
 
-ghost use Rattle.std.specs.Prelude.{◌≡◌, ◌*◌, ◌<◌, ◌≤◌, ◌+◌, if◌then◌else◌, ℕ, length, OnOk, IfErr};
+ghost use Rattle.std.specs.Prelude.{◌≡◌, ◌*◌, ◌<◌, ◌≤◌, ◌+◌, if◌then◌else◌, ℕ, length, OnOk, IfErr, ◌⊎◌};
 ghost use Rattle.sja_regs.specs.declared.bus_turn.BusTurn.{BusTurn as Turn};
 ghost use Rattle.can_bits.specs.Digits.{opposite};
 ghost use Rattle.sja_bus.specs.Wire.{wired};
@@ -8,7 +8,7 @@ ghost use Rattle.sja_bus.specs.Links.{EachRelated, Numbered};
 ghost use Rattle.sja_bus.specs.Inside.Rows.{AreReady, AreSeated, EachSeat, SeatTakes, SeatNews, SeatOpens, SeatOpensNews, SeatTurns, GoesAll, AllRead, driven_by};
 ghost use Rattle.sja_bus.specs.Boards.{KeepsOthers};
 ghost use Rattle.sja_bus.specs.Inside.Whole.{IsRowBit};
-ghost use Rattle.sja_bus.specs.Inside.Refusing.{HaveRoom, SeatRefuses};
+ghost use Rattle.sja_bus.specs.Inside.Refusing.{HaveRoom, SeatRefuses, SeatFull, SeatBreaks, SeatStops};
 
 use super::board::Board;
 use super::bus_fault::BusFault;
@@ -54,6 +54,8 @@ pub(crate) fn open_all<E: BusEnd, B: Board>(
     ensures news { OnOk result (EachSeat SeatOpensNews seats.old seats.new) }
     ensures dry { OnOk result (AllRead E.dry seats.new links.new) }
     ensures rooms { OnOk result ((n : ℕ) → HaveRoom n seats.old → HaveRoom n seats.new) }
+    ensures stops { IfErr result (λ f. SeatRefuses E.stands seats.old seats.new links.old links.new f
+        ⊎ SeatFull E.stands seats.old seats.new links.old links.new f) }
 {
     for k in 0..seats.len() {
         seats[k].open_bit(links, LINKS * k, board)?;
@@ -109,6 +111,7 @@ pub(crate) fn tick_all<E: BusEnd, B: Board>(
     ensures turns { OnOk result (EachSeat
         (SeatTurns (B.told board.old board.new) (B.kept board.old board.new) struck level) seats.old seats.new) }
     ensures rooms { OnOk result ((n : ℕ) → HaveRoom n seats.old → HaveRoom n seats.new) }
+    ensures broken { IfErr result (λ f. SeatBreaks E.stands E.full seats.old seats.new links.old f) }
 {
     for k in 0..seats.len() {
         let sees = seen(level, struck.has(k));
@@ -133,6 +136,9 @@ pub(crate) fn bit_all<E: BusEnd, B: Board>(
     ensures bit { OnOk result (IsRowBit (B.orders_are board.old)
         (B.told board.old board.new) (B.kept board.old board.new) struck seats.old seats.new) }
     ensures rooms { OnOk result ((n : ℕ) → HaveRoom n seats.old → HaveRoom n seats.new) }
+    ensures stops { IfErr result (λ f. (SeatRefuses E.stands seats.old seats.new links.old links.new f
+        ⊎ SeatFull E.stands seats.old seats.new links.old links.new f)
+        ⊎ SeatStops E.stands E.full (B.orders_are board.old) E.same seats.old seats.new links.old f) }
 {
     open_all(seats, links, board)?;
     let level = level_of(seats);

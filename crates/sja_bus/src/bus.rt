@@ -67,7 +67,7 @@ impl Bus {
     ghost use Rattle.sja_bus.specs.Resting.{RestsAs};
     ghost use Rattle.sja_bus.specs.Lawful.{IsBusRun, CountersAre};
     ghost use Rattle.sja_bus.specs.Buses.{EachJournal, KeepsAll, AllDry, IsBit, new_bus, EachUntold, AllTold, IsStill};
-    ghost use Rattle.sja_bus.specs.Reasons.{IsNotTaken};
+    ghost use Rattle.sja_bus.specs.Reasons.{IsNotTaken, StopsBit};
     ghost use Rattle.sja_bus.specs.Boards.{KeepsOthers};
 
     /// A bus of so many nodes, 1 to 8, for a run of so many bits, 1 to 200,000. All its room is reserved here.
@@ -135,6 +135,7 @@ impl Bus {
         ensures spent { self.now.fault ≡ None → self.now.left ≡ 0 → result ≡ Some BitsSpent }
         ensures none { result ≡ None → (self.now.fault ≡ None) × (self.now.left ≢ 0) }
         ensures some { IfSome result (λ f. (f ≡ BitsSpent) ⊎ (self.now.fault ≡ Some f)) }
+        ensures why { IfSome result (λ f. self.now.fault ≡ None → (f ≡ BitsSpent) × (self.now.left ≡ 0)) }
     {
         match self.fault {
             Some(fault) => Some(fault),
@@ -167,6 +168,8 @@ impl Bus {
         ensures told { OnOk result (AllTold (length self.old.journals) self.new.untold) }
         ensures right { OnOk result (self.new.fault ≡ None) }
         ensures fault { IfErr result (λ f. (f ≡ BitsSpent) ⊎ (self.new.fault ≡ Some f)) }
+        ensures reason { IfErr result (λ f. self.old.fault ≡ None →
+            StopsBit E.stands E.full (B.orders_are board.old) self.old self.new links.old links.new f) }
         ensures spent { self.old.left ≡ 0 → self.old.fault ≡ None →
             (result ≡ Err BitsSpent) × IsStill self.old self.new links.old links.new board.old board.new }
         ensures stays { (f : Fault) → self.old.fault ≡ Some f →

@@ -15,7 +15,7 @@ use can_frame::{Filter, Frame, Message};
 use sja_link::{BusEnd, Busy, Entry, Verdict};
 
 impl Seat {
-    ghost use Rattle.std.specs.Prelude.{◌≡◌, ◌<◌, ℕ, suc, Ok, [], ◌∷◌, ◌++◌, OnOk, IfOk, true, false};
+    ghost use Rattle.std.specs.Prelude.{◌≡◌, ◌<◌, ℕ, suc, Ok, [], ◌∷◌, ◌++◌, OnOk, IfOk, IfErr, true, false};
     ghost use Rattle.can_frame.specs.declared.filter.Filter.{Filter as Filtering};
     ghost use Rattle.can_node.specs.Stands.{InReset, Samples};
     ghost use Rattle.sja_link.specs.declared.entry.Entry.TheVariants.{Bit, Off as OffEntry};
@@ -25,6 +25,7 @@ impl Seat {
     ghost use Rattle.sja_bus.specs.Inside.Following.{Reads, open_in};
     ghost use Rattle.sja_bus.specs.Inside.Turning.{Hears, Brings};
     ghost use Rattle.sja_bus.specs.Inside.Seats.{IsSound, IsSeat, IsReady, IsJudged, IsMid};
+    ghost use Rattle.sja_bus.specs.Inside.Taking.{BreaksHere, IsFull};
 
     /// Judges a message, and writes the bit and the verdict. Whether the message found no room.
     fn judge<E: BusEnd>(
@@ -46,6 +47,7 @@ impl Seat {
             IsJudged self.old.journal.entries driven seen (suc self.old.ended) message overrun self.new.journal.entries) }
         ensures reads { OnOk result (Reads self.new.node self.new.journal.entries self.new.ended self.new.activity (free_in self.new.ledger)) }
         ensures moves { OnOk result (Moves E.stands end.old end.new self.old.journal.entries self.new.journal.entries (suc self.old.ended)) }
+        ensures broken { IfErr result (λ f. BreaksHere E.stands E.full end.old self.old self.new f) }
     {
         match accept(&mut self.ledger, end, &message) {
             Ok(verdict) => {
@@ -75,6 +77,8 @@ impl Seat {
         ensures seat { OnOk result (IsSeat self.new) }
         ensures moves { OnOk result (Moves E.stands end.old end.new self.old.journal.entries self.new.journal.entries (suc self.old.ended)) }
         ensures entered { OnOk result (self.new.journal.entries ≡ self.old.journal.entries ++ OffEntry ∷ []) }
+        ensures broken { IfErr result (λ f. BreaksHere E.stands E.full end.old self.old self.new f) }
+        ensures unentered { IfErr result (λ f. self.new.journal.entries ≡ self.old.journal.entries) }
     {
         match put_off(&mut self.ledger, end) {
             Ok(()) => {
@@ -105,6 +109,7 @@ impl Seat {
         ensures moves { OnOk result (Moves E.stands end.old end.new self.old.journal.entries self.new.journal.entries (suc self.old.ended)) }
         ensures hears { IfOk result (λ heard.
             Hears self.old.journal.entries self.old.drives seen heard.overrun self.new.journal.entries) }
+        ensures broken { IfErr result (λ f. BreaksHere E.stands E.full end.old self.old self.new f) }
     {
         let driven = self.drives;
         let events = self.node.sample_fully(seen);
@@ -144,6 +149,7 @@ impl Seat {
         ensures moves { OnOk result (Moves E.stands end.old end.new self.old.journal.entries self.new.journal.entries (suc self.old.ended)) }
         ensures brings { IfOk result (λ heard.
             Brings self.old.journal.entries self.old.drives seen heard self.new.journal.entries) }
+        ensures broken { IfErr result (λ f. BreaksHere E.stands E.full end.old self.old self.new f) }
     {
         let heard = self.hear(end, filter, seen)?;
         if !heard.events.went_off {
@@ -166,6 +172,7 @@ impl Seat {
         ensures entered { OnOk result
             (self.new.journal.entries ≡ self.old.journal.entries ++ Bit self.old.drives seen ∷ []) }
         ensures quiet { IfOk result (λ heard. (heard.events.went_off ≡ false) × (heard.overrun ≡ false)) }
+        ensures full { IfErr result (λ f. IsFull self.old self.new f) }
     {
         let driven = self.drives;
         let events = self.node.sample(seen);

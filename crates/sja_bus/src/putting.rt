@@ -8,6 +8,7 @@ ghost use Rattle.sja_link.specs.Accounts.{with_entry};
 ghost use Rattle.sja_link.specs.Free.{IsFree};
 ghost use Rattle.sja_link.specs.Verdicts.{IsFair, entry_of};
 ghost use Rattle.sja_link.specs.BusLedgers.{link_of, free_in};
+ghost use Rattle.sja_bus.specs.Inside.Taking.{IsGivenBack};
 
 use can_frame::Message;
 use sja_link::{BusEnd, BusLedger, Busy, Verdict};
@@ -31,6 +32,7 @@ pub(crate) fn accept<E: BusEnd>(
     ensures judged { IfOk result (λ v. (p : List Entry) → IsFree p (free_in ledger.old) →
         IsFair p (entry_of v message.now) × IsFree (p ++ entry_of v message.now ∷ []) (free_in ledger.new)) }
     ensures busy { OnErr result (ledger.new ≡ ledger.old) }
+    ensures back { OnErr result (IsGivenBack E.stands E.full end.old) }
 {
     for _ in 0..TRIES {
         if let Ok(verdict) = ledger.accept(end, message.copy()) {
@@ -48,6 +50,7 @@ pub(crate) fn put_off<E: BusEnd>(ledger: &mut BusLedger, end: &mut E) -> Result<
     ensures ledger { ledger.new ≡ ledger.old }
     ensures same { E.same end.old end.new }
     ensures puts { OnOk result ((l : Lists) → E.stands end.old l → E.stands end.new (with_put l OffDown)) }
+    ensures back { OnErr result (IsGivenBack E.stands E.full end.old) }
 {
     for _ in 0..TRIES {
         if let Ok(()) = ledger.off(end) {

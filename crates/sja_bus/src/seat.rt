@@ -31,7 +31,7 @@ pub(crate) struct Seat {
 }
 
 impl Seat {
-    ghost use Rattle.std.specs.Prelude.{◌≡◌, ◌≢◌, ◌<◌, ◌≤◌, ◌+◌, ℕ, suc, Ok, Err, [], ◌∷◌, ◌++◌, slice_index_or, List, OnOk, IfOk, IfErr, true, false, length};
+    ghost use Rattle.std.specs.Prelude.{◌≡◌, ◌≢◌, ◌<◌, ◌≤◌, ◌+◌, ℕ, suc, Ok, Err, [], ◌∷◌, ◌++◌, slice_index_or, List, OnOk, IfOk, IfErr, true, false, length, ◌⊎◌};
     ghost use Rattle.sja_link.specs.BusLedgers.{link_of, free_in};
     ghost use Rattle.sja_bus.specs.Links.{Goes, EachRelated, AreOf};
     ghost use Rattle.sja_link.specs.declared.entry.Entry.TheVariants.{Bit as BitEntry, Abort as AbortEntry};
@@ -39,10 +39,10 @@ impl Seat {
     ghost use Rattle.sja_bus.specs.OneBit.{HasItems, HasBit};
     ghost use Rattle.sja_bus.specs.Inside.Following.{Follows, Reads};
     ghost use Rattle.sja_bus.specs.Inside.Seats.{IsSound, IsSeat, IsReady};
-    ghost use Rattle.sja_bus.specs.Inside.Taking.{Applies, IsFull};
+    ghost use Rattle.sja_bus.specs.Inside.Taking.{Applies, IsFull, FullForAbort};
     ghost use Rattle.sja_bus.specs.Inside.Turning.{TakesNews, AbortsNews, OpensNews, Brings, Turns};
     ghost use Rattle.sja_bus.specs.OneBit.{Opens};
-    ghost use Rattle.sja_bus.specs.Reasons.{RefusesItem};
+    ghost use Rattle.sja_bus.specs.Reasons.{RefusesItem, IsBrokenFor};
 
     /// The number of the node.
     pub(crate) fn number(&self) -> u8
@@ -75,6 +75,7 @@ impl Seat {
         ensures room { self.new.journal.room ≡ self.old.journal.room }
         ensures ok { OnOk result ((self.new.journal.entries ≡ self.old.journal.entries ++ BitEntry driven seen ∷ [])
             × (length self.old.journal.entries < self.old.journal.room)) }
+        ensures full { IfErr result (λ f. IsFull self.old self.new f) }
     {
         match self.journal.enter_bit(driven, seen) {
             Ok(()) => Ok(()),
@@ -143,6 +144,7 @@ impl Seat {
         ensures ended { self.new.ended ≡ self.old.ended }
         ensures news { self.new.news ≡ news }
         ensures entered { OnOk result (self.new.journal.entries ≡ self.old.journal.entries ++ AbortEntry ∷ []) }
+        ensures full { IfErr result (λ f. IsFull self.old self.new f) }
     {
         self.news = news;
         self.drives = self.node.drive();
@@ -158,6 +160,7 @@ impl Seat {
         ensures ended { self.new.ended ≡ self.old.ended }
         ensures aborts { OnOk result (Applies self.old.journal.entries self.new.journal.entries) }
         ensures news { OnOk result (AbortsNews self.old self.new) }
+        ensures full { IfErr result (λ f. IsFull self.old self.new f) }
     {
         let Activity::Running(_) = self.activity else {
             return Ok(());
@@ -188,6 +191,9 @@ impl Seat {
         ensures opens { OnOk result (Opens (B.orders_are board.now (link_of self.old.ledger).node) self.old.journal.entries self.new.journal.entries) }
         ensures news { OnOk result (OpensNews self.old self.new) }
         ensures dry { OnOk result ((d : E) → self.new.ended < 8 → E.dry (slice_index_or links.new (base + self.new.ended) d)) }
+        ensures stops { IfErr result (λ f. RefusesItem E.stands self.old.journal.room self.old.journal.entries
+            self.new.journal.entries links.old links.new base (link_of self.old.ledger).node f
+            ⊎ FullForAbort E.stands self.old self.new links.old links.new base f) }
     {
         self.gather(links, base)?;
         let ordered = board.orders(self.number()).abort;
@@ -215,6 +221,8 @@ impl Seat {
         ensures goes { OnOk result (Goes E.same E.stands self.old.journal.entries self.new.journal.entries links.old links.new base) }
         ensures brings { IfOk result (λ heard.
             Brings self.old.journal.entries self.old.drives seen heard self.new.journal.entries) }
+        ensures broken { IfErr result (λ f. IsBrokenFor E.stands E.full (link_of self.old.ledger).node self.old.journal.room
+            self.old.journal.entries self.new.journal.entries links.old base f) }
     {
         let Activity::Running(filter) = self.activity else {
             return self.rest_bit(seen);
@@ -246,6 +254,8 @@ impl Seat {
         ensures others { (k : ℕ) → k ≢ (link_of self.old.ledger).node → B.kept board.old board.new k }
         ensures turns { OnOk result (Turns (B.told board.old board.new (link_of self.old.ledger).node)
             (B.kept board.old board.new (link_of self.old.ledger).node) seen self.old self.new) }
+        ensures broken { IfErr result (λ f. IsBrokenFor E.stands E.full (link_of self.old.ledger).node self.old.journal.room
+            self.old.journal.entries self.new.journal.entries links.old base f) }
     {
         if let News::Nothing = self.news {
             if self.node.sample_quietly(seen) {

@@ -1,10 +1,14 @@
 -- A controller of many whose item was refused.
 use Rattle.std.specs.Prelude.{◌≡◌, ◌*◌, ◌<◌, ℕ, List, length, slice_index_or}
 use Rattle.sja_link.specs.Lists.{Lists}
+use Rattle.sja_regs.specs.declared.orders.Orders.{Orders}
 use Rattle.sja_bus.specs.declared.bus_fault.BusFault.{BusFault}
+use Rattle.sja_bus.specs.declared.bus_fault.BusFault.TheVariants.{JournalFull}
 use Rattle.sja_bus.specs.declared.seat.Seat.{Seat}
 use Rattle.sja_bus.specs.Links.{per_node}
-use Rattle.sja_bus.specs.Reasons.{RefusesItem}
+use Rattle.sja_bus.specs.Reasons.{RefusesItem, IsBrokenFor}
+use Rattle.sja_bus.specs.Inside.Taking.{FullForAbort}
+use Rattle.sja_bus.specs.Inside.Rows.{EachSeat, SeatOpens, GoesAll}
 
 -- each journal has so many reserved entries
 abbrev pub HaveRoom : ℕ → List Seat → Type 0
@@ -18,3 +22,31 @@ pub record SeatRefuses {E : Type 0} (stands : E → Lists → Type 0) (seats now
   pub refuses : (s : Seat) → RefusesItem stands (slice_index_or seats node s).journal.room
       (slice_index_or seats node s).journal.entries (slice_index_or now node s).journal.entries links after
       (per_node * node) node f
+
+-- the entry of an abort found no room in the journal of one
+pub record SeatFull {E : Type 0} (stands : E → Lists → Type 0) (seats now : List Seat) (links after : List E)
+    (f : BusFault) : Type 0 where
+  pub node : ℕ
+  pub few : node < length seats
+  pub is : f ≡ JournalFull node
+  pub full : (s : Seat) → FullForAbort stands (slice_index_or seats node s) (slice_index_or now node s) links after
+      (per_node * node) f
+
+-- the bit of one of them broke off
+pub record SeatBreaks {E : Type 0} (stands : E → Lists → Type 0) (full : E → Type 0) (seats now : List Seat)
+    (links : List E) (f : BusFault) : Type 0 where
+  pub node : ℕ
+  pub few : node < length seats
+  pub broken : (s : Seat) → IsBrokenFor stands full node (slice_index_or seats node s).journal.room
+      (slice_index_or seats node s).journal.entries (slice_index_or now node s).journal.entries links (per_node * node) f
+
+-- the bit of one broke off, after what came on its links was taken of all, and aborts were applied
+pub record SeatStops {E : Type 0} (stands : E → Lists → Type 0) (full : E → Type 0) (orders_are : ℕ → Orders → Type 0)
+    (same : E → E → Type 0) (seats now : List Seat) (links : List E) (f : BusFault) : Type 0 where
+  pub opened : List Seat
+  pub between : List E
+  pub count : length opened ≡ length seats
+  pub opens : EachSeat (SeatOpens orders_are) seats opened
+  pub goes : GoesAll same stands seats opened links between
+  pub rooms : (n : ℕ) → HaveRoom n seats → HaveRoom n opened
+  pub breaks : SeatBreaks stands full opened now between f

@@ -1,17 +1,19 @@
 -- An item that the bus takes, and an abort that it applies.
-use Rattle.std.specs.Prelude.{◌≡◌, ◌<◌, ◌≤◌, suc, List, [], ◌∷◌, ◌++◌, length}
+use Rattle.std.specs.Prelude.{◌≡◌, ◌<◌, ◌≤◌, ◌+◌, ℕ, suc, List, [], ◌∷◌, ◌++◌, length}
 use Rattle.sja_link.specs.declared.up.Up.{Up}
 use Rattle.sja_link.specs.declared.entry.Entry.{Entry}
 use Rattle.sja_link.specs.declared.entry.Entry.TheVariants.{Up as Item}
 use Rattle.sja_link.specs.Places.{past, place_of}
 use Rattle.sja_link.specs.Lists.{Lists, with_taken}
+use Rattle.sja_link.specs.Accounts.{Account, account}
 use Rattle.sja_link.specs.BusLedgers.{link_of}
 use Rattle.sja_bus.specs.declared.bus_fault.BusFault.{BusFault}
-use Rattle.sja_bus.specs.declared.bus_fault.BusFault.TheVariants.{JournalFull}
+use Rattle.sja_bus.specs.declared.bus_fault.BusFault.TheVariants.{BitsSpent, BadCredit, Stuck, BadOrder, JournalFull}
 use Rattle.sja_bus.specs.declared.seat.Seat.{Seat}
+use Rattle.sja_bus.specs.Links.{Kept}
 use Rattle.sja_bus.specs.Reasons.{IsRefusedFor}
 use Rattle.sja_bus.specs.Aborting.{IsApplied}
-use Rattle.sja_bus.specs.OneBit.{HasAbort}
+use Rattle.sja_bus.specs.OneBit.{HasItems, HasAbort}
 use Rattle.sja_bus.specs.Inside.Seats.{IsSound, IsSeat}
 
 -- it was entered, and belongs to the activation that was read
@@ -40,7 +42,38 @@ pub record IsFull (old new : Seat) (f : BusFault) : Type 0 where
   pub same : new.journal.entries ≡ old.journal.entries
   pub full : old.journal.room ≤ length old.journal.entries
 
+-- an end gave an item back: as it was then it was full, and it stood for what it stood for before
+pub record IsGivenBack {E : Type 0} (stands : E → Lists → Type 0) (full : E → Type 0) (end : E) : Type 0 where
+  pub last : E
+  pub is_full : full last
+  pub stood : (l : Lists) → stands end l → stands last l
+
+-- an end that gave an item back, as it was then: full, and it stood for the journal
+pub record GaveBack {E : Type 0} (stands : E → Lists → Type 0) (full : E → Type 0) (end : E) (before j : List Entry)
+    (a : ℕ) : Type 0 where
+  pub last : E
+  pub is_full : full last
+  pub stood : (h : Account) → stands end (account before a h) → stands last (account j a h)
+
+-- with this fault the bit of a node broke off
+abbrev pub BreaksHere : {E : Type 0} → (E → Lists → Type 0) → (E → Type 0) → E → Seat → Seat → BusFault → Type 0
+BreaksHere stands full end old new (JournalFull k) = (k ≡ (link_of old.ledger).node)
+    × (old.journal.room ≤ length new.journal.entries) × (length new.journal.entries ≤ length old.journal.entries + 2)
+BreaksHere stands full end old new (Stuck k) = (k ≡ (link_of old.ledger).node)
+    × GaveBack stands full end old.journal.entries new.journal.entries (suc old.ended)
+BreaksHere stands full end old new (BadCredit k bytes) = ⊥
+BreaksHere stands full end old new (BadOrder k) = ⊥
+BreaksHere stands full end old new BitsSpent = ⊥
+
 -- an abort was applied, and entered where it changed the node
 pub record Applies (j k : List Entry) : Type 0 where
   pub aborts : HasAbort j k
   pub is : IsApplied j aborts.changed
+
+-- items were taken, and then the entry of an abort found no room
+pub record FullForAbort {E : Type 0} (stands : E → Lists → Type 0) (old new : Seat) (links after : List E) (base : ℕ)
+    (f : BusFault) : Type 0 where
+  pub is : f ≡ JournalFull (link_of old.ledger).node
+  pub items : HasItems old.journal.entries new.journal.entries
+  pub full : old.journal.room ≤ length new.journal.entries
+  pub kept : (h : ℕ → Account) → Kept stands old.journal.entries links base h → Kept stands new.journal.entries after base h

@@ -1,5 +1,5 @@
-use Rattle.std.proofs.Common.{refl, arith}
-use Rattle.sja_bus.proofs.Lists.{each_trans, ok_map}
+use Rattle.std.proofs.Common.{refl, arith, inr}
+use Rattle.sja_bus.proofs.Lists.{each_trans, ok_map, err_map}
 use Rattle.sja_bus.proofs.Many.{goes_all_trans, numbered_kept}
 use Rattle.sja_bus.proofs.all_nodes.bit_all.Goals as goal
 
@@ -49,3 +49,18 @@ returns-in_err-open_all-clause-board g c = (refl, λ k far. g.met.B.Board.kept_r
 pub returns-clause-board : goal.returns-clause-board
 returns-clause-board g c =
     let seats = c.open_all.auto.seats in (c.tick_all.ensures.board.0, λ k far. c.tick_all.ensures.board.1 k (omega (arith, far, seats)))
+
+pub returns-clause-stops : goal.returns-clause-stops
+returns-clause-stops g c =
+    let did = c.in_ok-open_all.ensures in
+    err_map c.tick_all.result
+    (λ f b. inr (record {
+      opened = c.open_all.new.seats;
+      between = c.open_all.new.links;
+      count = c.open_all.auto.seats;
+      opens = did.opens;
+      goes = did.goes;
+      rooms = did.rooms;
+      breaks = b;
+    }))
+    c.tick_all.ensures.broken

@@ -1,11 +1,13 @@
-use Rattle.std.proofs.Common.{◌≡◌, ℕ, suc, ◌<◌, length, rules, arith, sym, ap, ◌∙◌, subst}
+use Rattle.std.proofs.Common.{◌≡◌, ℕ, suc, ◌<◌, length, rules, arith, sym, ap, ◌∙◌, subst, inl, inr}
 use Rattle.sja_link.specs.declared.link_id.LinkId.{LinkId}
-use Rattle.std.specs.Prelude.{slice_index_or}
+use Rattle.std.specs.Prelude.{◌⊎◌, Err, slice_index_or, slice_set}
 use Rattle.sja_bus.specs.declared.seat.Seat.{Seat}
 use Rattle.sja_bus.specs.Inside.Rows.{SeatOpens, SeatOpensNews}
-use Rattle.sja_bus.proofs.Lists.{each_trans}
+use Rattle.sja_bus.proofs.Lists.{each_trans, err_is}
+use Rattle.sja_bus.specs.Inside.Refusing.{SeatRefuses, SeatFull}
 use Rattle.sja_bus.proofs.Many.{or_same, goes_all_refl, goes_all_one, ready_one, numbered_at, dry_one, done_none, done_one, done_all}
-use Rattle.sja_bus.proofs.Refusing.{rooms_one}
+use Rattle.sja_bus.proofs.Refusing.{refuses_seat, rooms_one}
+use Rattle.sja_bus.proofs.Breaking.{full_seat}
 use Rattle.sja_bus.proofs.all_nodes.open_all.Goals as goal
 
 pub loop-k-init : goal.loop-k-init
@@ -55,3 +57,17 @@ returns-clause-rooms g c = c.loop-k.invariant.rooms
 
 pub returns-clause-news : goal.returns-clause-news
 returns-clause-news g c = done_all SeatOpensNews c.loop-k.k c.args.seats.now c.loop-k.seats (search rules) c.loop-k.invariant.news
+
+pub returns-in_err-open_bit-clause-stops : goal.returns-in_err-open_bit-clause-stops
+returns-in_err-open_bit-clause-stops g c =
+    let E = g.E.BusEnd in let k = c.loop-k.k in let s = c.index-seats-k.result in let f = c.in_err-open_bit.field-0.0 in
+    let before = c.args.seats.now in let inv = c.loop-k.invariant in let new = c.open_bit.new.self in
+    let was : k < length before = search rules in
+    let O = SeatOpens (g.B.Board.orders_are c.args.board.now) in
+    let is : c.from_residual.result ≡ Err f = search rules in
+    let P : _ → Type 0 = λ x. SeatRefuses E.stands before (slice_set c.loop-k.seats k new) c.args.links.now c.open_bit.new.links x
+    ⊎ SeatFull E.stands before (slice_set c.loop-k.seats k new) c.args.links.now c.open_bit.new.links x in
+    err_is P c.from_residual.result f is (elim c.in_err-open_bit.ensures.stops [
+      | inl refused ↦ inl (refuses_seat E.same E.stands O before c.loop-k.seats c.args.links.now c.loop-k.links c.open_bit.new.links k s new f was c.loop-k.auto.seats inv.ready inv.goes inv.done refused)
+      | inr full ↦ inr (full_seat E.same E.stands O before c.loop-k.seats c.args.links.now c.loop-k.links c.open_bit.new.links k s new f was c.loop-k.auto.seats inv.ready inv.goes inv.done full)
+    ])

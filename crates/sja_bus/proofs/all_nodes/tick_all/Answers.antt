@@ -1,15 +1,17 @@
 use Rattle.std.proofs.Common.{◌≡◌, ◌≢◌, ℕ, suc, ◌<◌, length, rules, arith, refl, sym, ap, ◌∙◌, subst}
 use Rattle.can_bits.specs.declared.level.Level.{Level}
 use Rattle.sja_link.specs.declared.link_id.LinkId.{LinkId}
-use Rattle.std.specs.Prelude.{slice_index_or}
+use Rattle.std.specs.Prelude.{Err, slice_index_or, slice_set}
 use Rattle.sja_bus.specs.declared.seat.Seat.{Seat}
 use Rattle.sja_bus.specs.Inside.Rows.{SeatTurns, seen_by}
 use Rattle.sja_bus.specs.Inside.Turning.{Turns}
 use Rattle.sja_bus.proofs.Turning.{turns_by}
-use Rattle.sja_bus.proofs.Lists.{each_trans}
+use Rattle.sja_bus.proofs.Lists.{each_trans, err_is}
+use Rattle.sja_bus.specs.Inside.Refusing.{SeatBreaks}
 use Rattle.sja_bus.proofs.Running.{seen_is}
 use Rattle.sja_bus.proofs.Many.{or_same, goes_all_refl, goes_all_one, ready_one, numbered_at, done_none, done_one, done_all, done_before}
 use Rattle.sja_bus.proofs.Refusing.{rooms_one}
+use Rattle.sja_bus.proofs.Breaking.{breaks_seat}
 use Rattle.sja_bus.proofs.all_nodes.tick_all.Goals as goal
 
 pub loop-k-init : goal.loop-k-init
@@ -79,3 +81,14 @@ returns-in_err-tick-clause-board g c =
 
 pub returns-clause-rooms : goal.returns-clause-rooms
 returns-clause-rooms g c = c.loop-k.invariant.rooms
+
+pub returns-in_err-tick-clause-broken : goal.returns-in_err-tick-clause-broken
+returns-in_err-tick-clause-broken g c =
+    let E = g.E.BusEnd in let k = c.loop-k.k in let s = c.index-seats-k.result in let f = c.in_err-tick.field-0.0 in
+    let before = c.args.seats.now in let inv = c.loop-k.invariant in let new = c.tick.new.self in
+    let was : k < length before = search rules in
+    let is : c.from_residual.result ≡ Err f = search rules in
+    let P : _ → Type 0 = λ x. SeatBreaks E.stands E.full before (slice_set c.loop-k.seats k new) c.args.links.now x in
+    err_is P c.from_residual.result f is
+    (breaks_seat E.same E.stands E.full
+    (SeatTurns (g.B.Board.told c.args.board.now c.loop-k.board) (g.B.Board.kept c.args.board.now c.loop-k.board) c.args.struck c.args.level) before c.loop-k.seats c.args.links.now c.loop-k.links k s new f was c.loop-k.auto.seats inv.ready inv.goes inv.done c.in_err-tick.ensures.broken)

@@ -1,17 +1,19 @@
-use Rattle.std.proofs.Common.{◌≡◌, ◌≢◌, ◌+◌, ◌-◌, false, replicate, None, List, ◌++◌, length, take, drop, sym, ap, ◌∙◌, subst, arith, rules, ℕ, refl}
+use Rattle.std.proofs.Common.{◌≡◌, ◌≢◌, ◌+◌, ◌-◌, false, replicate, None, List, ◌++◌, length, take, drop, sym, ap, ◌∙◌, subst, arith, rules, ℕ, refl, Some}
 use Rattle.std.proofs.lemmas.Grind.{common_steps}
-use Rattle.std.specs.Prelude.{vec_capacity}
+use Rattle.std.specs.Prelude.{◌⊎◌, vec_capacity}
 use Rattle.sja_bus.specs.declared.seat.Seat.{Seat}
 use Rattle.sja_bus.specs.Buses.{BusValue, KeepsAll, IsBit}
 use Rattle.sja_bus.specs.Inside.Rows.{journals_of, untold_of, GoesAll}
 use Rattle.sja_bus.specs.Inside.Whole.{IsWhole, IsRowBit}
-use Rattle.sja_bus.specs.Reasons.{room_for}
-use Rattle.sja_bus.specs.Inside.Refusing.{HaveRoom}
+use Rattle.sja_bus.specs.Reasons.{room_for, StopsBit}
+use Rattle.sja_bus.specs.Reasons.StopsBit.{spent}
+use Rattle.sja_bus.specs.Inside.Refusing.{HaveRoom, SeatRefuses, SeatFull, SeatStops}
 use Rattle.sja_bus.proofs.Lists.{each_refl}
 use Rattle.sja_bus.proofs.Journals.{wired_row, is_bit, all_told}
 use Rattle.sja_bus.proofs.Logs.{calm_by, none_untold}
 use Rattle.sja_bus.proofs.Running.{count_is}
 use Rattle.sja_bus.proofs.Journals.{keeps_all}
+use Rattle.sja_bus.proofs.Breaking.{stops_bit}
 use Rattle.sja_bus.proofs.bus.Bus.bit.Goals as goal
 
 pub returns-in-Some-clause-sames : goal.returns-in-Some-clause-sames
@@ -93,3 +95,24 @@ returns-in-Ok-clause-told g c =
     let P : BusValue → Type 0 = λ w. untold_of now ≡ replicate (length w.journals) false in
     let Q : List Seat → Type 0 = λ xs. untold_of xs ≡ replicate (length c.args.self.now.journals) false in
     subst Q (sym e) (subst P c.self.view_is (none ∙ ap (λ n. replicate n false) (sym (count_is was))))
+
+pub returns-in-Some-clause-reason : goal.returns-in-Some-clause-reason
+returns-in-Some-clause-reason g c = λ none. let why = c.in-Some.ensures.why none in spent why.0 why.1
+
+pub returns-in-Err-clause-reason : goal.returns-in-Err-clause-reason
+returns-in-Err-clause-reason g c = λ none.
+    let E = g.E.BusEnd in let b = c.self.inside in let inv = c.self.invariant.0 in let O = g.B.Board.orders_are c.args.board.now in
+    let now = c.bit_all.new.seats in let was = b.seats.items in let f = c.in-Err.fault in
+    let before = c.args.links.now in let after = c.bit_all.new.links in
+    let v : c.as_mut_slice.result.now ≡ was = c.as_mut_slice.ensures.value in
+    let len : length now ≡ length was = c.bit_all.auto.seats ∙ ap (λ (l : List Seat). length l) v in
+    let e : take b.seats.len (now ++ drop (length now) was) ≡ now = grind (arith, common_steps) in
+    let right : b.fault ≡ None = ap (λ (w : BusValue). w.fault) c.self.view_is ∙ none in
+    let rooms = inv.rooms right in
+    let old = c.args.self.now in
+    let new : List Seat → BusValue = λ xs. record { script = b.struck.script; run = b.run; left = b.left; fault = Some f; journals = journals_of xs; untold = untold_of xs } in
+    let P : BusValue → Type 0 = λ w. StopsBit E.stands E.full O w (new now) before after f in
+    let Q : List Seat → Type 0 = λ xs. StopsBit E.stands E.full O old (new xs) before after f in
+    let S : List Seat → Type 0 = λ l. (SeatRefuses E.stands l now before after f ⊎ SeatFull E.stands l now before after f) ⊎ SeatStops E.stands E.full O E.same l now before f in
+    let reason = stops_bit E.same E.stands E.full O b.struck.script b.run b.left b.struck.bits b.fault was now before after f (new now) refl inv.bits len rooms (subst S v c.in-Err.ensures.stops) in
+    subst Q (sym e) (subst P c.self.view_is reason)

@@ -1,7 +1,8 @@
 use Rattle.std.proofs.Common.{◌+◌, arith, refl, ap}
 use Rattle.sja_link.specs.declared.entry.Entry.TheVariants.{Bit}
 use Rattle.sja_bus.specs.Inside.Following.{open_in}
-use Rattle.sja_bus.proofs.Lists.{each_refl, each_one, ok_map}
+use Rattle.sja_bus.proofs.Lists.{each_refl, each_one, ok_map, err_map}
+use Rattle.sja_bus.proofs.Breaking.{broken_link}
 use Rattle.sja_bus.proofs.Moving.{goes_one, goes_quiet}
 use Rattle.sja_bus.proofs.Bits.{rest_brings}
 use Rattle.sja_bus.proofs.seat.Seat.full_bit.Goals as goal
@@ -31,3 +32,10 @@ returns-clause-goes g c =
     (λ m. goes_one g.E.BusEnd.same g.E.BusEnd.stands g.met.E.BusEnd.same_refl c.args.self.now.journal.entries c.run_bit.new.self.journal.entries c.args.links.now c.args.base c.args.self.now.ended c.index-links-here.result c.run_bit.new.end
     few c.requires.room c.run_bit.ensures.same m)
     c.run_bit.ensures.moves
+
+pub returns-clause-broken : goal.returns-clause-broken
+returns-clause-broken g c =
+    let E = g.E.BusEnd in let few = c.requires.ready.seat.runs (ap open_in c.in-Running.is) in
+    err_map c.run_bit.result
+    (λ f b. broken_link E.stands E.full c.args.self.now c.run_bit.new.self c.args.links.now c.args.base c.index-links-here.result f few b)
+    c.run_bit.ensures.broken

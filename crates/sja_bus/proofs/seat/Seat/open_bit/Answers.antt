@@ -1,5 +1,6 @@
-use Rattle.std.proofs.Common.{append-nil, ◌≡◌, ℕ, true, false, rules, refl, sym, ◌∙◌, subst}
-use Rattle.sja_bus.proofs.Lists.{ok_map}
+use Rattle.std.proofs.Common.{append-nil, ◌≡◌, ℕ, true, false, rules, refl, sym, ◌∙◌, subst, inr}
+use Rattle.sja_bus.proofs.Lists.{ok_map, err_map}
+use Rattle.sja_bus.proofs.Breaking.{full_for_abort}
 use Rattle.sja_bus.proofs.Moving.{goes_trans, goes_aborted}
 use Rattle.sja_bus.proofs.Turning.{aborts_none, takes_then}
 use Rattle.sja_bus.proofs.seat.Seat.open_bit.Goals as goal
@@ -35,3 +36,11 @@ returns-then-ordered-clause-news g c =
 pub returns-else-ordered-clause-news : goal.returns-else-ordered-clause-news
 returns-else-ordered-clause-news g c =
     takes_then c.args.self.now c.gather.new.self c.gather.new.self c.in_ok-gather.ensures.news c.in_ok-gather.ensures.items (aborts_none c.gather.new.self c.gather.new.self refl refl)
+
+pub returns-then-ordered-clause-stops : goal.returns-then-ordered-clause-stops
+returns-then-ordered-clause-stops g c =
+    let E = g.E.BusEnd in let mid = c.gather.new.self in
+    err_map c.abort.result
+    (λ f full. inr (full_for_abort E.same E.stands c.args.self.now mid c.abort.new.self c.args.links.now c.gather.new.links c.args.base f c.gather.ensures.node c.gather.ensures.room
+    c.in_ok-gather.ensures.items c.in_ok-gather.ensures.goes full))
+    c.abort.ensures.full

@@ -1,5 +1,9 @@
-use Rattle.std.proofs.Common.{◌≡◌, Bool, true, false, rules, subst}
+use Rattle.std.proofs.Common.{◌≡◌, Bool, true, false, rules, subst, ap}
+use Rattle.std.specs.Prelude.{Err}
 use Rattle.sja_bus.specs.Inside.Following.{FollowsBit}
+use Rattle.sja_bus.specs.Inside.Taking.{BreaksHere}
+use Rattle.sja_bus.proofs.Lists.{err_is}
+use Rattle.sja_bus.proofs.Breaking.{verdict_few, breaks_after}
 use Rattle.sja_bus.proofs.Steps.{follows_on}
 use Rattle.sja_bus.proofs.Bits.{has_on, has_off}
 use Rattle.sja_bus.proofs.seat.Seat.run_bit.Goals as goal
@@ -21,3 +25,13 @@ pub returns-clause-brings : goal.returns-clause-brings
 returns-clause-brings g c =
     let off : c.in_ok-heard.heard.events.went_off ≡ true = search rules in
     has_off c.args.self.now.journal.entries c.hear.new.self.journal.entries c.go_off.new.self.journal.entries c.args.self.now.drives c.args.seen c.in_ok-heard.heard off c.in_ok-go_off.ensures.entered c.in_ok-heard.ensures.hears
+
+pub returns-in_err-go_off-clause-broken : goal.returns-in_err-go_off-clause-broken
+returns-in_err-go_off-clause-broken g c =
+    let E = g.E.BusEnd in let was = c.args.self.now in let mid = c.hear.new.self in let new = c.go_off.new.self in let f = c.in_err-go_off.field-0.0 in
+    let heard = c.in_ok-heard.ensures in let kept = heard.kept in
+    let is : c.from_residual-in_err-go_off.result ≡ Err f = search rules in
+    let P : _ → Type 0 = λ x. BreaksHere E.stands E.full c.args.end.now was new x in
+    err_is P c.from_residual-in_err-go_off.result f is
+    (breaks_after E.stands E.full c.args.end.now c.hear.new.end was mid new f (ap (λ l. l.node) kept.2) heard.room kept.0
+    (verdict_few was.journal.entries mid.journal.entries c.args.self.now.drives c.args.seen heard.hears.verdict) c.in_err-go_off.ensures.unentered heard.moves c.in_err-go_off.ensures.broken)
