@@ -41,11 +41,13 @@ reach_up d = length (sent d.up) + places_up d
 -- least as far
 abbrev pub SameBus : RingBus → RingBus → Type 0
 SameBus a b =
-    (link_of_bus b ≡ link_of_bus a) × SameProducer a.down b.down × SameConsumer a.up b.up × (reach_down a ≤ reach_down b)
+    (link_of_bus b ≡ link_of_bus a) × SameProducer a.down b.down × SameConsumer a.up b.up
+    × (reach_down a ≤ reach_down b)
 
 abbrev pub SameDriver : RingDriver → RingDriver → Type 0
 SameDriver a b =
-    (link_of_driver b ≡ link_of_driver a) × SameConsumer a.down b.down × SameProducer a.up b.up × (reach_up a ≤ reach_up b)
+    (link_of_driver b ≡ link_of_driver a) × SameConsumer a.down b.down × SameProducer a.up b.up
+    × (reach_up a ≤ reach_up b)
 
 -- both ends come from one pair: they have one number, one ring down and one ring up
 abbrev pub OneLink : RingBus → RingDriver → Type 0

@@ -29,8 +29,8 @@ abbrev pub sends_left : Bool → ℕ
 sends_left true = 0
 sends_left false = 1
 
--- what every event keeps: the messages got are those released and the rest, each released one gave its credit, and there
--- is at most one start, one stop, one bus-off, and one request on the way
+-- what every event keeps: the messages got are those released and the rest, each released one gave its credit, and
+-- there is at most one start, one stop, one bus-off, and one request on the way
 pub record IsWorld (w : WorldValue) : Type 0 where
   pub down : List Down
   pub up : List Up
