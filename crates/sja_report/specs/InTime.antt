@@ -19,7 +19,8 @@ pub record IsInTime (version : ℕ) (j : List Entry) (deeds : List Deed) : Type 
   -- each step saw all that had been put by then in its activation
   pub sees : EachAfter (λ before (d : Deed). SeesIf (is_active before) j before d) [] deeds
   -- a start and a request carry what writes and loads before them have set, a request its command's marks too
-  pub carries : EachAfter (λ before (d : Deed). d.gave ≡ carried (settings_of version j before) d.step d.answer) [] deeds
+  pub carries : EachAfter (λ before (d : Deed). d.gave ≡ carried (settings_of version j before) d.step d.answer) []
+      deeds
   -- each abort was commanded
   pub aborts : EachAfter (AbortIsDue deeds) [] j
   -- no step that waits was given up

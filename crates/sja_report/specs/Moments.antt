@@ -6,8 +6,8 @@ use Rattle.sja_link.specs.declared.entry.Entry.TheVariants.{Bit, Up as Item, Abo
 use Rattle.sja_link.specs.Records.{record_of}
 use Rattle.sja_driver.specs.Deeds.{Deed, given_in}
 
--- the entries up to the moment when so many bits were run and so many items taken. An abort belongs to the bit after it,
--- a verdict and bus-off to the bit before
+-- the entries up to the moment when so many bits were run and so many items taken. An abort belongs to the bit after
+-- it, a verdict and bus-off to the bit before
 abbrev pub at_moment : ℕ → ℕ → List Entry → List Entry
 at_moment bits items [] = []
 at_moment zero items (Bit driven seen ∷ j) = []

@@ -20,7 +20,8 @@ pub record IsTrace (steps : List Step) (node : NodeValue) (deeds : List Deed) : 
   pub opened : length node.activations ≡ opened_by deeds
   pub given : (a : ℕ) → given_in (deeds_of deeds a) ≡ taken_of (part node.journal a)
   pub released : (a : ℕ) (d : ActivationValue) → a < length node.activations →
-      released_lengths (deeds_of deeds (a + 1)) ≡ map (λ (m : List ℕ). length m) (slice_index_or node.activations a d).released
+      released_lengths (deeds_of deeds (a + 1))
+      ≡ map (λ (m : List ℕ). length m) (slice_index_or node.activations a d).released
 
 -- of a node of a run: the headline, its error counters by every cut of its record, and its driver's trace
 pub record IsNodeRun (steps : List Step) (node : NodeValue) (deeds : List Deed) : Type 0 where

@@ -64,7 +64,8 @@ IsUnmet j before bits other = ⊥
 -- the driver has no step left, or its next one has to wait
 pub record IsStuck (r : Acts) (p : Progress) (k : ℕ) : Type 0 where
   pub why : (length (steps_of r k) ≤ steps_done p k)
-      ⊎ ((d : Step) → IsUnmet (journal_of r k) (deeds_by r p k) p.bits (slice_index_or (steps_of r k) (steps_done p k) d))
+      ⊎ ((d : Step) →
+      IsUnmet (journal_of r k) (deeds_by r p k) p.bits (slice_index_or (steps_of r k) (steps_done p k) d))
 
 -- m steps of node k are done now, of the n that are asked for: all of them, or up to where the driver is stuck
 pub record DoesSteps (r : Acts) (p : Progress) (k n m : ℕ) : Type 0 where
