@@ -25,7 +25,7 @@ use Rattle.sja_bus.specs.declared.activity.Activity.{Activity}
 use Rattle.sja_bus.specs.declared.activity.Activity.TheVariants.{Between, Running, Off as IsOff, OffAndAsked}
 use Rattle.sja_bus.specs.Links.{stops_in, stops_of}
 use Rattle.sja_bus.specs.Inside.Seats.{Pays}
-use Rattle.sja_bus.specs.Reasons.{HasOff, HasAskedOff}
+use Rattle.sja_bus.specs.OutOfOrder.{HasOff, HasAskedOff}
 use Rattle.sja_bus.specs.Inside.Following.{open_in, is_on, IsActive, Reads}
 use Rattle.sja_bus.proofs.OnBus.{on_both}
 

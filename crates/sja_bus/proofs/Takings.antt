@@ -20,8 +20,8 @@ use Rattle.sja_bus.specs.declared.activity.Activity.TheVariants.{Between, Runnin
 use Rattle.sja_link.specs.declared.entry.Entry.TheVariants.{Up as Item}
 use Rattle.sja_link.specs.Places.{past, place_of}
 use Rattle.sja_bus.specs.declared.seat.Seat.{Seat}
-use Rattle.sja_bus.specs.Reasons.{IsAskedWrongly}
-use Rattle.sja_bus.specs.Reasons.IsAskedWrongly.{while_held}
+use Rattle.sja_bus.specs.OutOfOrder.{IsAskedWrongly}
+use Rattle.sja_bus.specs.OutOfOrder.IsAskedWrongly.{while_held}
 use Rattle.sja_bus.specs.Inside.Following.{Follows, Reads, open_in, is_on}
 use Rattle.sja_bus.specs.Inside.Seats.{IsSound, IsSeat, Pays}
 use Rattle.sja_bus.specs.Inside.Taking.{Takes}

@@ -15,6 +15,8 @@ pub mod NewLinks
 pub mod Boards
 -- ---- all nodes of a bus
 pub mod Buses
+-- ---- why a bus stops
+pub mod OutOfOrder
 pub mod Reasons
 -- ---- how the code keeps a bus: definitions of the private contracts alone
 pub mod Inside

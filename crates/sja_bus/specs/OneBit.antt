@@ -41,8 +41,8 @@ pub record HasAbort (j k : List Entry) : Type 0 where
   pub changed : Bool
   pub whole : k ≡ j ++ abort_as changed
 
--- the items that were taken, and then an abort or none: none where the port doesn't order one, and where it does what an
--- abort changes then
+-- the items that were taken, and then an abort or none: none where the port doesn't order one, and where it does as an
+-- abort changes the node there
 pub record Opens (has_orders : Orders → Type 0) (j k : List Entry) : Type 0 where
   pub taken : List Entry
   pub items : HasItems j taken

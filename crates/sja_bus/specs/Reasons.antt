@@ -1,68 +1,20 @@
 -- Why a bus doesn't go on: what each fault says of its node (this project's own rule).
-use Rattle.std.specs.Prelude.{◌≡◌, ◌⊎◌, ◌+◌, ◌*◌, ◌<◌, ◌≤◌, ℕ, suc, true, false, List, ◌∷◌, ◌++◌, length, slice_index_or}
-use Rattle.can_node.specs.declared.request.Request.{Request}
-use Rattle.can_node.specs.Context.{is_held}
-use Rattle.can_node.specs.NextBit.{now_in}
-use Rattle.sja_link.specs.NodeWords.{FinishedPiece, IsCut}
+use Rattle.std.specs.Prelude.{◌≡◌, ◌+◌, ◌*◌, ◌<◌, ◌≤◌, ℕ, suc, List, length, slice_index_or}
 use Rattle.sja_link.specs.declared.up.Up.{Up}
-use Rattle.sja_link.specs.declared.up.Up.TheVariants.{Start, Credit, Send, Stop}
+use Rattle.sja_link.specs.declared.up.Up.TheVariants.{Credit}
 use Rattle.sja_link.specs.declared.entry.Entry.{Entry}
-use Rattle.sja_link.specs.declared.entry.Entry.TheVariants.{Up as Item, Off}
 use Rattle.sja_link.specs.Lists.{Lists, with_taken}
 use Rattle.sja_link.specs.Accounts.{Account, account}
-use Rattle.sja_link.specs.Places.{place_of}
-use Rattle.sja_link.specs.Parts.{part}
-use Rattle.sja_link.specs.Records.{record_of}
-use Rattle.sja_link.specs.Free.{IsFree}
 use Rattle.sja_regs.specs.declared.orders.Orders.{Orders}
 use Rattle.sja_bus.specs.declared.bus_fault.BusFault.{BusFault}
 use Rattle.sja_bus.specs.declared.bus_fault.BusFault.TheVariants.{BitsSpent, BadCredit, Stuck, BadOrder, JournalFull}
 use Rattle.sja_bus.specs.Wire.{journal_at}
 use Rattle.sja_bus.specs.Links.{per_node, Kept, stops_of}
 use Rattle.sja_bus.specs.OneBit.{HasItems, Opens}
+use Rattle.sja_bus.specs.OutOfOrder.{read_in, IsBadCredit, IsOutOfOrder}
 use Rattle.sja_bus.specs.Buses.{BusValue}
-use Rattle.sja_bus.specs.Opening.{IsOpen, IsBetween}
 
--- the activation whose link is read: the next one after those that have ended
-abbrev pub read_in : List Entry → ℕ
-read_in j = suc (stops_of j)
-
--- ---- an item that may not come
-
--- this credit can't be right: it is of no message, or would make more than 64 bytes free
-pub record IsBadCredit (j : List Entry) (bytes : ℕ) : Type 0 where
-  pub free : ℕ
-  pub is_free : IsFree (part j (read_in j)) free
-  pub bad : (bytes < 3) ⊎ (13 < bytes) ⊎ (64 < free + bytes)
-
--- bus-off stands among these entries
-pub record HasOff (entries : List Entry) : Type 0 where
-  pub before : List Entry
-  pub after : List Entry
-  pub whole : entries ≡ before ++ Off ∷ after
-
--- and a request after it
-pub record HasAskedOff (entries : List Entry) : Type 0 where
-  pub before : List Entry
-  pub between : List Entry
-  pub request : Request
-  pub after : List Entry
-  pub whole : entries ≡ before ++ Off ∷ (between ++ Item (Send request) ∷ after)
-
--- no request may come here: no activation is open, or the node holds a request by every cut of its record, or one was
--- dropped already since bus-off
-pub data IsAskedWrongly (j : List Entry) : Type 0 where
-  outside : IsBetween j → IsAskedWrongly j
-  while_held : IsOpen j → (place_of j).off ≡ false →
-      ((found : List FinishedPiece) (cut : IsCut (record_of j) found) → is_held (now_in cut).held ≡ true) → IsAskedWrongly j
-  again_off : IsOpen j → (place_of j).off ≡ true → HasAskedOff (part j (read_in j)) → IsAskedWrongly j
-
--- the item may not come here. A credit may where it isn't bad
-abbrev pub IsOutOfOrder : List Entry → Up → Type 0
-IsOutOfOrder j (Start config) = IsOpen j
-IsOutOfOrder j (Send request) = IsAskedWrongly j
-IsOutOfOrder j Stop = IsBetween j
-IsOutOfOrder j (Credit bytes) = ⊥
+-- ---- a node whose item was refused
 
 -- with this fault a node with so many reserved entries didn't enter this item after its journal
 abbrev pub IsRefusedFor : ℕ → ℕ → List Entry → Up → BusFault → Type 0
@@ -71,8 +23,6 @@ IsRefusedFor node room j item (BadOrder k) = (k ≡ node) × IsOutOfOrder j item
 IsRefusedFor node room j item (JournalFull k) = (k ≡ node) × (room ≤ length j)
 IsRefusedFor node room j item (Stuck k) = ⊥
 IsRefusedFor node room j item BitsSpent = ⊥
-
--- ---- a node whose item was refused
 
 -- its journal went on from `before` to `j` with the items that were taken, and then an item was taken that wasn't
 -- entered. Whatever its driver got and gave, where its links stood for its journal before, the item came next on the
@@ -102,7 +52,8 @@ pub record GivesBack {E : Type 0} (stands : E → Lists → Type 0) (full : E �
 
 -- with this fault the bit of a node broke off, which had so many reserved entries and this journal before: the reserved
 -- entries are used, and at most the bit and a verdict were entered; or a put was given back
-abbrev pub IsBrokenFor : {E : Type 0} → (E → Lists → Type 0) → (E → Type 0) → ℕ → ℕ → List Entry → List Entry → List E → ℕ → BusFault → Type 0
+abbrev pub IsBrokenFor : {E : Type 0} → (E → Lists → Type 0) → (E → Type 0) → ℕ → ℕ → List Entry → List Entry →
+    List E → ℕ → BusFault → Type 0
 IsBrokenFor stands full node room before j links base (JournalFull k) =
     (k ≡ node) × (room ≤ length j) × (length j ≤ length before + 2)
 IsBrokenFor stands full node room before j links base (Stuck k) = (k ≡ node) × GivesBack stands full before j links base

@@ -10,7 +10,7 @@ use Rattle.sja_link.specs.Records.{record_of}
 use Rattle.sja_link.specs.Free.{IsFree}
 use Rattle.sja_link.specs.Verdicts.{filter_of, HasVerdicts}
 use Rattle.sja_bus.specs.Links.{stops_of}
-use Rattle.sja_bus.specs.Reasons.{HasOff, HasAskedOff}
+use Rattle.sja_bus.specs.OutOfOrder.{HasOff, HasAskedOff}
 use Rattle.sja_bus.specs.declared.activity.Activity.{Activity}
 use Rattle.sja_bus.specs.declared.activity.Activity.TheVariants.{Between, Running, Off, OffAndAsked}
 

@@ -30,11 +30,11 @@ Refuses old new item f = (new.journal.entries ≡ old.journal.entries)
     × IsRefusedFor (link_of old.ledger).node old.journal.room old.journal.entries item f
 
 -- with this fault the item that this end showed wasn't entered
-pub record RefusesHere {E : Type 0} (stands : E → Lists → Type 0) (end after : E) (old new : Seat) (f : BusFault) : Type 0
-  where
-    pub item : Up
-    pub refuses : Refuses old new item f
-    pub shown : (l : Lists) → stands end l → stands after (with_taken l item)
+pub record RefusesHere {E : Type 0} (stands : E → Lists → Type 0) (end after : E) (old new : Seat) (f : BusFault) :
+    Type 0 where
+  pub item : Up
+  pub refuses : Refuses old new item f
+  pub shown : (l : Lists) → stands end l → stands after (with_taken l item)
 
 -- no entry was free for the next one
 pub record IsFull (old new : Seat) (f : BusFault) : Type 0 where
