@@ -1,9 +1,9 @@
 -- What a step gives by the registers is what it gives by its answer.
-use Rattle.std.proofs.Common.{◌≡◌, ℕ, Bool, true, false, refl, List, []}
+use Rattle.std.proofs.Common.{Bool, true, false, refl}
 use Rattle.std.specs.Prelude.{if◌then◌else◌, Some, None}
 use Rattle.can_node.specs.declared.request.Request.{Request}
 use Rattle.sja_regs.specs.declared.registers.Registers.{Registers}
-use Rattle.sja_regs.specs.Commands.{command_of, requests, request_of}
+use Rattle.sja_regs.specs.Commands.{command_of, requests}
 use Rattle.sja_regs.specs.Registers.{config_of}
 use Rattle.sja_script.specs.declared.step.Step.{Step}
 use Rattle.sja_script.specs.declared.step.Step.TheVariants.{Start, Stop, Window, Release, Read, Write, Load, Command, Await, Sent}

@@ -1,6 +1,6 @@
 -- A try of a step goes on with deeds, log and links.
 use Rattle.std.proofs.Common.{◌≡◌, ◌+◌, ◌<◌, ◌≤◌, ℕ, zero, suc, Bool, true, false, cond, List, [], ◌∷◌, ◌++◌, length, map, refl, sym, ap, ◌∙◌, subst, append-nil, arith, inl, inr}
-use Rattle.std.specs.Prelude.{slice_index_or, slice_set, ◌⊎◌, ◌==◌, if◌then◌else◌}
+use Rattle.std.specs.Prelude.{slice_index_or, slice_set, ◌⊎◌, ◌==◌}
 use Rattle.std.proofs.lemmas.Bool.{cases_eq, eq-eqb, ne_eqb, true≢false}
 use Rattle.sja_link.specs.declared.driver_ledger.DriverLedger.{DriverLedger}
 use Rattle.sja_link.specs.declared.down.Down.{Down}
@@ -9,7 +9,6 @@ use Rattle.sja_link.specs.declared.entry.Entry.{Entry}
 use Rattle.sja_link.specs.declared.up.Up.{Up}
 use Rattle.sja_link.specs.Accounts.{account}
 use Rattle.sja_link.specs.DriverLedgers.{held_by, knows_off}
-use Rattle.sja_link.specs.Gathering.{gathered}
 use Rattle.sja_link.specs.Lists.{Lists, messages}
 use Rattle.sja_link.specs.Looking.{off_among}
 use Rattle.sja_link.proofs.Entering.{gathered_append}
@@ -30,9 +29,9 @@ use Rattle.sja_driver.specs.AnyDrivers.{IsDriverOf, held_of, off_of, opened_of, 
 use Rattle.sja_driver.specs.Carried.{carried}
 use Rattle.sja_driver.specs.Deeds.{Deed, opened, opens_by, opened_by, active_after, is_active, given_in, deeds_of, length_in, released_lengths, done_of, FitsState, Gives}
 use Rattle.sja_driver.specs.Drivers.{started_in, link_in}
-use Rattle.sja_driver.specs.Holding.{Holds, HoldsBy, Goes}
+use Rattle.sja_driver.specs.Holding.{Holds, Goes}
 use Rattle.sja_driver.specs.Logs.{Traces, leaves, done_in, releases_in, left_in, done_by, releases_by, left_by, deeds_by, of_activation, released_of}
-use Rattle.sja_driver.specs.Tries.{IsOf, IsQuiet, ended_by, gave_by}
+use Rattle.sja_driver.specs.Tries.{IsOf, IsQuiet}
 use Rattle.sja_driver.proofs.Each.{set_here, set_else, lengths_both}
 use Rattle.sja_driver.proofs.Giving.{gives_carried}
 use Rattle.sja_driver.proofs.Going.{holds_deed, gave_of}

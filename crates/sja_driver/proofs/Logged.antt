@@ -1,20 +1,23 @@
 -- The logged step: from a try at the present link, and what the log then has.
-use Rattle.std.proofs.Common.{◌≡◌, ◌+◌, ◌<◌, ◌≤◌, ℕ, Bool, List, ◌++◌, length, sym, ap, ◌∙◌, subst, arith}
+use Rattle.std.proofs.Common.{rules, ◌≡◌, ◌+◌, ◌<◌, ◌≤◌, ℕ, Bool, false, List, ◌++◌, length, refl, sym, ap, ◌∙◌, subst, arith}
+use Rattle.std.proofs.lemmas.List.{length-append}
 use Rattle.std.specs.Prelude.{min, slice_index_or, slice_set}
+use Rattle.sja_link.specs.declared.link_id.LinkId.{LinkId}
 use Rattle.sja_link.specs.Lists.{Lists}
 use Rattle.sja_regs.specs.declared.registers.Registers.{Registers}
 use Rattle.sja_script.specs.declared.step.Step.{Step}
 use Rattle.sja_driver.specs.declared.any_driver.AnyDriver.{AnyDriver}
 use Rattle.sja_driver.specs.declared.logged_driver.LoggedDriver.{LoggedDriver}
 use Rattle.sja_driver.specs.declared.tried.Tried.{Tried}
+use Rattle.sja_driver.specs.declared.tried.Tried.TheVariants.{Unmet, Answered, Released, Ended}
 use Rattle.sja_driver.specs.declared.work_log.WorkLog.{WorkLog}
 use Rattle.sja_driver.specs.Acting.{Acts}
 use Rattle.sja_driver.specs.AnyDrivers.{IsDriverOf}
 use Rattle.sja_driver.specs.Holding.{place_after}
-use Rattle.sja_driver.specs.LoggedDrivers.{node_of, driver_of, log_of, ended_of, IsLawful, Steps}
-use Rattle.sja_driver.specs.Logs.{done_in, releases_in, left_in, done_by, releases_by, left_by}
+use Rattle.sja_driver.specs.LoggedDrivers.{node_of, driver_of, log_of, ended_of, IsLawful, MayStep, StaysLawful, Steps}
+use Rattle.sja_driver.specs.Logs.{HasRoom, done_in, releases_in, left_in, done_room, release_room, left_room, done_by, releases_by, left_by}
 use Rattle.sja_driver.specs.Tries.{is_met, ended_by}
-use Rattle.sja_driver.proofs.Each.{set_here, index_any}
+use Rattle.sja_driver.proofs.Each.{each_one, set_here, index_any}
 use Rattle.sja_driver.proofs.Goes.{goes_step}
 use Rattle.sja_driver.proofs.Stepping.{left_count}
 
@@ -23,6 +26,50 @@ min_few n few = grind arith
 
 min_less : (n : ℕ) → min n 7 < 8
 min_less n = grind arith
+
+-- a try adds one step and one release at most
+few_done : (o : Tried) (bits : ℕ) → length (done_by o bits) ≤ 1
+few_done Unmet bits = omega arith
+few_done (Answered answer) bits = omega arith
+few_done (Released m) bits = omega arith
+few_done (Ended ledger) bits = omega arith
+
+few_releases : (n : ℕ) (o : Tried) → length (releases_by n o) ≤ 1
+few_releases n Unmet = omega arith
+few_releases n (Answered answer) = omega arith
+few_releases n (Released m) = omega arith
+few_releases n (Ended ledger) = omega arith
+
+-- and none where the step isn't done
+none_unmet : (n : ℕ) (o : Tried) (bits : ℕ) → is_met o ≡ false →
+    (length (done_by o bits) ≡ 0) × (length (releases_by n o) ≡ 0)
+none_unmet n Unmet bits e = (refl, refl)
+none_unmet n (Answered answer) bits e = absurd cc
+none_unmet n (Released m) bits e = absurd cc
+none_unmet n (Ended ledger) bits e = absurd cc
+
+-- so the log has room after a try
+room_by : (was now : WorkLog) (k extra bits n : ℕ) (o : Tried) →
+    length (done_by o bits) ≤ extra → length (releases_by n o) ≤ extra →
+    done_in now ≡ done_in was ++ done_by o bits → releases_in now ≡ releases_in was ++ releases_by n o →
+    done_room now ≡ done_room was → release_room now ≡ release_room was → left_room now ≡ left_room was →
+    HasRoom (k + extra) was → HasRoom k now
+room_by was now k extra bits n o few few_released done released same same_releases same_left room =
+    let has = room.done in
+    let has_releases = room.releases in
+    let has_left = room.left in
+    record {
+      done = omega (arith, has, few, same, ap length done, length-append (done_in was) (done_by o bits));
+      releases = omega (
+        arith,
+        has_releases,
+        few_released,
+        same_releases,
+        ap length released,
+        length-append (releases_in was) (releases_by n o),
+      );
+      left = omega (arith, has_left, same_left);
+    }
 
 -- the present link is one of the node's eight
 pub inside : (base ended k n : ℕ) → k ≡ min ended 7 → base + 8 ≤ n → base + k < n
@@ -62,3 +109,31 @@ pub lawful_after : (was : LoggedDriver) (driver : AnyDriver) (log : WorkLog) (o 
 lawful_after was driver log o left place lawful =
     subst (λ (n : ℕ). IsDriverOf (node_of was) n driver) (sym (ap (λ l. length l) left ∙ left_count (left_in (log_of was)) o))
     (place (node_of was) (ended_of was) lawful)
+
+-- and all stays in order
+pub stays_lawful : {E : Type 0} (link : E → LinkId) (same : E → E → Type 0) (was now : LoggedDriver) (links : List E)
+    (base bits k : ℕ) (d0 new : E) (o : Tried) (done : Bool) →
+    ((e : E) → same e e) → ((a b : E) → same a b → link b ≡ link a) → MayStep link was links base →
+    k ≡ min (ended_of was) 7 → same (slice_index_or links (base + k) d0) new → node_of now ≡ node_of was →
+    done ≡ is_met o → done_in (log_of now) ≡ done_in (log_of was) ++ done_by o bits →
+    releases_in (log_of now) ≡ releases_in (log_of was) ++ releases_by (ended_of was) o →
+    left_in (log_of now) ≡ left_in (log_of was) ++ left_by o → done_room (log_of now) ≡ done_room (log_of was) →
+    release_room (log_of now) ≡ release_room (log_of was) → left_room (log_of now) ≡ left_room (log_of was) →
+    ((node n : ℕ) → IsDriverOf node n (driver_of was) → IsDriverOf node (n + ended_by o) (driver_of now)) →
+    StaysLawful link same was now links (slice_set links (base + k) new) base done
+stays_lawful link same was now links base bits k d0 new o done refl_same same_link may is tried owner met logged released
+    leaves same_done same_releases same_left place =
+    record {
+      same = each_one same refl_same links (base + k) d0 new (inside base (ended_of was) k (length links) is may.eight) tried;
+      others = search rules;
+      ids = search rules;
+      node = owner;
+      lawful = subst (λ (n : ℕ). IsDriverOf n (ended_of now) (driver_of now)) (sym owner)
+          (lawful_after was (driver_of now) (log_of now) o leaves place may.lawful);
+      room = λ n room. room_by (log_of was) (log_of now) n 1 bits (ended_of was) o (few_done o bits)
+          (few_releases (ended_of was) o) logged released same_done same_releases same_left room;
+      waits = λ waited n room.
+          let none = none_unmet (ended_of was) o bits (sym met ∙ waited) in
+          room_by (log_of was) (log_of now) n 0 bits (ended_of was) o (omega (arith, none.0)) (omega (arith, none.1)) logged
+          released same_done same_releases same_left (subst (λ m. HasRoom m (log_of was)) (omega arith) room);
+    }

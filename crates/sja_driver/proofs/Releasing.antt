@@ -1,12 +1,11 @@
 -- A try of a release: a look, and then the ledger's release.
-use Rattle.std.proofs.Common.{◌≡◌, ◌+◌, ◌<◌, ℕ, Bool, true, false, List, [], ◌∷◌, ◌++◌, length, refl, sym, ap, ◌∙◌, subst, add-zero, append-nil, append_assoc, inl}
+use Rattle.std.proofs.Common.{◌≡◌, ◌+◌, ℕ, Bool, true, false, List, [], ◌∷◌, ◌++◌, length, refl, sym, ap, ◌∙◌, subst, add-zero, append-nil, append_assoc, inl}
 use Rattle.std.specs.Prelude.{Some, None, is_some, slice_get, unwrap_or}
 use Rattle.std.proofs.lemmas.Bool.{true≢false}
 use Rattle.sja_link.specs.declared.down.Down.{Down}
 use Rattle.sja_link.specs.declared.up.Up.{Up}
-use Rattle.sja_link.specs.declared.up.Up.TheVariants.{Credit}
-use Rattle.sja_link.specs.Lists.{Lists, messages}
-use Rattle.sja_link.specs.Looking.{Pulls, Releases, Refuses, IsTaken, with_gots}
+use Rattle.sja_link.specs.Lists.{Lists}
+use Rattle.sja_link.specs.Looking.{Pulls, Releases, Refuses, with_gots}
 use Rattle.sja_link.proofs.Pullings.{pulls_trans}
 use Rattle.sja_regs.specs.declared.registers.Registers.{Registers}
 use Rattle.sja_script.specs.declared.refusal.Refusal.TheVariants.{Stopped}
@@ -16,7 +15,7 @@ use Rattle.sja_driver.specs.declared.active.Active.{Active}
 use Rattle.sja_driver.specs.declared.any_driver.AnyDriver.TheVariants.{InActive}
 use Rattle.sja_driver.specs.declared.driver.Driver.{Driver}
 use Rattle.sja_driver.specs.declared.tried.Tried.TheVariants.{Unmet, Answered, Released}
-use Rattle.sja_driver.specs.Acting.{Acts, Does, Looks}
+use Rattle.sja_driver.specs.Acting.{Acts, Does}
 use Rattle.sja_driver.specs.AnyDrivers.{IsDriverOf}
 use Rattle.sja_driver.specs.Carried.{Sees}
 use Rattle.sja_driver.specs.Drivers.{link_in, held_in, off_in}

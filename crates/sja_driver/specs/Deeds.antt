@@ -8,7 +8,7 @@ use Rattle.sja_link.specs.Gathering.{gathered, total}
 use Rattle.sja_link.specs.Picking.{EachAfter}
 use Rattle.sja_regs.specs.Commands.{command_of, requests}
 use Rattle.sja_script.specs.declared.step.Step.{Step}
-use Rattle.sja_script.specs.declared.step.Step.TheVariants.{Start, Stop, Window, Release, Read, Write, Load, Command, Await, Sent}
+use Rattle.sja_script.specs.declared.step.Step.TheVariants.{Start, Stop, Window, Release, Load, Command, Await, Sent}
 use Rattle.sja_script.specs.declared.refusal.Refusal.TheVariants.{NoActivationLeft, WrongState}
 use Rattle.sja_script.specs.declared.step_answer.StepAnswer.{StepAnswer}
 use Rattle.sja_script.specs.declared.step_answer.StepAnswer.TheVariants.{Done as DoneAnswer, Released, Refused}

@@ -41,7 +41,8 @@ pub record Holds {E : Type 0} (stands : E → Lists → Type 0) (deeds : List De
   pub later : (a : ℕ) → ended < a → got a ≡ []
 
 -- the same by a driver and its log
-abbrev pub HoldsBy : {E : Type 0} → (E → Lists → Type 0) → List Deed → AnyDriver → WorkLog → List Entry → List E → ℕ → Type 0
+abbrev pub HoldsBy : {E : Type 0} → (E → Lists → Type 0) → List Deed → AnyDriver → WorkLog → List Entry → List E → ℕ →
+    Type 0
 HoldsBy stands deeds driver log j links base =
     Holds stands deeds (releases_in log) (leaves (left_in log) (held_of driver)) (length (left_in log)) (off_of driver)
     j links base

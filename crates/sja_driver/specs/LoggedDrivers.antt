@@ -1,5 +1,6 @@
 -- The logged step: one step of a script at the right link of a node's eight (this project's own rule).
-use Rattle.std.specs.Prelude.{◌≡◌, ◌++◌, ℕ, Bool, List, [], length, slice_index_or}
+use Rattle.std.specs.Prelude.{◌≡◌, ◌≢◌, ◌≤◌, ◌+◌, ◌++◌, ℕ, Bool, false, List, length, slice_index_or}
+use Rattle.sja_link.specs.declared.link_id.LinkId.{LinkId}
 use Rattle.sja_link.specs.Lists.{Lists}
 use Rattle.sja_regs.specs.declared.registers.Registers.{Registers}
 use Rattle.sja_script.specs.declared.step.Step.{Step}
@@ -9,8 +10,8 @@ use Rattle.sja_driver.specs.declared.tried.Tried.{Tried}
 use Rattle.sja_driver.specs.declared.work_log.WorkLog.{WorkLog}
 use Rattle.sja_driver.specs.Acting.{Acts}
 use Rattle.sja_driver.specs.AnyDrivers.{IsDriverOf}
-use Rattle.sja_driver.specs.Holding.{Goes, place_after}
-use Rattle.sja_driver.specs.Logs.{done_in, releases_in, left_in, done_by, releases_by, left_by, deeds_by}
+use Rattle.sja_driver.specs.Holding.{EachRelated, Goes, Numbered, place_after}
+use Rattle.sja_driver.specs.Logs.{HasRoom, done_in, releases_in, left_in, done_by, releases_by, left_by, deeds_by}
 use Rattle.sja_driver.specs.Tries.{is_met}
 
 -- whose driver it is, the driver in its state, and the log
@@ -30,6 +31,26 @@ ended_of d = length (left_in (log_of d))
 -- the driver is that of the node, and its state that of an activation after those that the log says have ended
 abbrev pub IsLawful : LoggedDriver → Type 0
 IsLawful d = IsDriverOf (node_of d) (ended_of d) (driver_of d)
+
+-- a step may be tried: the log has room for one more, and the node's eight links stand from that place on
+pub record MayStep {E : Type 0} (link : E → LinkId) (was : LoggedDriver) (links : List E) (base : ℕ) : Type 0 where
+  pub lawful : IsLawful was
+  pub room : HasRoom 1 (log_of was)
+  pub eight : base + 8 ≤ length links
+  pub ids : Numbered link links base (node_of was)
+
+-- what is in order after a try, whatever the step: the driver is still the node's, each link is the same one, all but
+-- the present activation's are untouched, and the log took the room of one step, or none where it isn't done
+pub record StaysLawful {E : Type 0} (link : E → LinkId) (alike : E → E → Type 0) (was now : LoggedDriver)
+    (links links_now : List E) (base : ℕ) (done : Bool) : Type 0 where
+  pub same : EachRelated alike links links_now
+  pub others : (i : ℕ) (d : E) → i ≢ place_after base (ended_of was) →
+      slice_index_or links_now i d ≡ slice_index_or links i d
+  pub ids : Numbered link links_now base (node_of now)
+  pub node : node_of now ≡ node_of was
+  pub lawful : IsLawful now
+  pub room : (k : ℕ) → HasRoom (k + 1) (log_of was) → HasRoom k (log_of now)
+  pub waits : done ≡ false → (k : ℕ) → HasRoom k (log_of was) → HasRoom k (log_of now)
 
 -- a step was tried at the link of the present activation, and at a port whose registers were p and are q then; it is
 -- done or isn't

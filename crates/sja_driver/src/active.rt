@@ -228,8 +228,8 @@ impl Driver<Active> {
 
     /// Does a command. The request that it makes of the transmit buffer, if it makes one, is given first.
     ///
-    /// Errors, the first that holds: [`CommandFault::Reg`] with those of [`Port::command`]; [`CommandFault::Busy`] where
-    /// the end gave the request back. The port is then what it was.
+    /// Errors, the first that holds: [`CommandFault::Reg`] with those of [`Port::command`]; [`CommandFault::Busy`]
+    /// where the end gave the request back. The port is then what it was.
     pub fn command<E: DriverEnd>(
         &mut self,
         end: &mut E,

@@ -4,7 +4,7 @@ ghost use Rattle.std.specs.Prelude.{◌≡◌};
 ghost use Rattle.sja_link.specs.Looking.{Pulls, IsTaken};
 ghost use Rattle.sja_regs.specs.declared.registers.Registers.{Registers};
 ghost use Rattle.sja_script.specs.declared.step.Step.TheVariants.{Stop, Window, Release, Command, Await, Sent};
-ghost use Rattle.sja_script.specs.declared.step_answer.StepAnswer.TheVariants.{Refused};
+ghost use Rattle.sja_script.specs.declared.step_answer.StepAnswer.TheVariants.{Done, Refused};
 ghost use Rattle.sja_driver.specs.declared.any_driver.AnyDriver.TheVariants.{InActive};
 ghost use Rattle.sja_driver.specs.declared.tried.Tried.TheVariants.{Answered};
 ghost use Rattle.sja_driver.specs.Acting.{Acts};
@@ -67,6 +67,17 @@ fn refuse(driver: Driver<Active>, refusal: Refusal) -> (AnyDriver, Tried)
     (
         AnyDriver::InActive(driver),
         Tried::Answered(StepAnswer::Refused(refusal)),
+    )
+}
+
+/// Answers a step that is done and tells nothing more.
+fn pass(driver: Driver<Active>) -> (AnyDriver, Tried)
+    ensures driver { result.0 ≡ InActive driver }
+    ensures done { result.1 ≡ Answered Done }
+{
+    (
+        AnyDriver::InActive(driver),
+        Tried::Answered(StepAnswer::Done),
     )
 }
 
@@ -141,10 +152,7 @@ fn command_step<E: DriverEnd>(
 {
     let mut driver = driver;
     match driver.command(end, port, value) {
-        Ok(()) => (
-            AnyDriver::InActive(driver),
-            Tried::Answered(StepAnswer::Done),
-        ),
+        Ok(()) => pass(driver),
         Err(CommandFault::Reg(fault)) => refuse(driver, refusal_of(fault)),
         Err(CommandFault::Busy) => (AnyDriver::InActive(driver), Tried::Unmet),
     }
@@ -170,10 +178,7 @@ fn await_step<E: DriverEnd>(
         return refuse(driver, Refusal::Stopped);
     }
     if driver.unread().len() >= usize::from(count) {
-        return (
-            AnyDriver::InActive(driver),
-            Tried::Answered(StepAnswer::Done),
-        );
+        return pass(driver);
     }
     if closed {
         return refuse(driver, Refusal::Closed);
@@ -195,10 +200,7 @@ fn sent_step<E: DriverEnd>(
     let mut driver = driver;
     let closed = port.closed();
     if is_released(&mut driver, end, port) {
-        return (
-            AnyDriver::InActive(driver),
-            Tried::Answered(StepAnswer::Done),
-        );
+        return pass(driver);
     }
     if closed {
         return refuse(driver, Refusal::Closed);

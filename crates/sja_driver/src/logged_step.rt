@@ -1,13 +1,11 @@
 //! One step of a script at the right link of a node's eight, with its answer and its place in the log.
 
-ghost use Rattle.std.specs.Prelude.{◌≡◌, ◌≢◌, ◌+◌, ◌≤◌, ℕ, length, min, false, slice_index_or};
+ghost use Rattle.std.specs.Prelude.{◌≡◌, min};
 ghost use Rattle.sja_regs.specs.declared.registers.Registers.{Registers};
 ghost use Rattle.sja_script.specs.declared.step.Step.TheVariants.{Window, Release};
 ghost use Rattle.sja_driver.specs.Acting.{Acts};
 ghost use Rattle.sja_driver.specs.AnyDrivers.{FitsEnd};
-ghost use Rattle.sja_driver.specs.Holding.{EachRelated, Numbered, place_after};
-ghost use Rattle.sja_driver.specs.LoggedDrivers.{node_of, log_of, ended_of, IsLawful, Steps};
-ghost use Rattle.sja_driver.specs.Logs.{HasRoom};
+ghost use Rattle.sja_driver.specs.LoggedDrivers.{ended_of, MayStep, StaysLawful, Steps};
 
 use super::active_steps::{active_step, release_step, window_step};
 use super::any_driver::AnyDriver;
@@ -34,18 +32,8 @@ impl LoggedDriver {
         step: &Step,
         bits: u32,
     ) -> bool
-        requires lawful { IsLawful self.old }
-        requires room { HasRoom 1 (log_of self.old) }
-        requires links { base + 8 ≤ length links.old }
-        requires ids { Numbered E.link links.old base (node_of self.old) }
-        ensures same { EachRelated E.same links.old links.new }
-        ensures others { (i : ℕ) (d : E) → i ≢ place_after base (ended_of self.old)
-            → slice_index_or links.new i d ≡ slice_index_or links.old i d }
-        ensures ids { Numbered E.link links.new base (node_of self.new) }
-        ensures node { node_of self.new ≡ node_of self.old }
-        ensures lawful { IsLawful self.new }
-        ensures room { (k : ℕ) → HasRoom (k + 1) (log_of self.old) → HasRoom k (log_of self.new) }
-        ensures waits { result ≡ false → (k : ℕ) → HasRoom k (log_of self.old) → HasRoom k (log_of self.new) }
+        requires { MayStep E.link self.old links.old base }
+        ensures stays { StaysLawful E.link E.same self.old self.new links.old links.new base result }
         ensures steps { Steps E.stands E.dry E.full self.old self.new links.old links.new base port.old port.new
             step.now bits result }
     {
@@ -56,21 +44,11 @@ impl LoggedDriver {
         self.log.enter(tried, bits)
     }
 
-    /// The step `Window`, as [`step`](LoggedDriver::step) does it, for a caller that holds no port: it sees none and waits
-    /// for nobody.
+    /// The step `Window`, as [`step`](LoggedDriver::step) does it, for a caller that holds no port: it sees none and
+    /// waits for nobody.
     pub fn step_window<E: DriverEnd>(&mut self, links: &mut [E], base: usize, bits: u32) -> bool
-        requires lawful { IsLawful self.old }
-        requires room { HasRoom 1 (log_of self.old) }
-        requires links { base + 8 ≤ length links.old }
-        requires ids { Numbered E.link links.old base (node_of self.old) }
-        ensures same { EachRelated E.same links.old links.new }
-        ensures others { (i : ℕ) (d : E) → i ≢ place_after base (ended_of self.old)
-            → slice_index_or links.new i d ≡ slice_index_or links.old i d }
-        ensures ids { Numbered E.link links.new base (node_of self.new) }
-        ensures node { node_of self.new ≡ node_of self.old }
-        ensures lawful { IsLawful self.new }
-        ensures room { (k : ℕ) → HasRoom (k + 1) (log_of self.old) → HasRoom k (log_of self.new) }
-        ensures waits { result ≡ false → (k : ℕ) → HasRoom k (log_of self.old) → HasRoom k (log_of self.new) }
+        requires { MayStep E.link self.old links.old base }
+        ensures stays { StaysLawful E.link E.same self.old self.new links.old links.new base result }
         ensures steps { (p : Registers) → Steps E.stands E.dry E.full self.old self.new links.old links.new base p p
             Window bits result }
     {
@@ -81,21 +59,11 @@ impl LoggedDriver {
         self.log.enter(tried, bits)
     }
 
-    /// The step `Release`, as [`step`](LoggedDriver::step) does it, for a caller that holds no port: it sees none and waits
-    /// for nobody.
+    /// The step `Release`, as [`step`](LoggedDriver::step) does it, for a caller that holds no port: it sees none and
+    /// waits for nobody.
     pub fn step_release<E: DriverEnd>(&mut self, links: &mut [E], base: usize, bits: u32) -> bool
-        requires lawful { IsLawful self.old }
-        requires room { HasRoom 1 (log_of self.old) }
-        requires links { base + 8 ≤ length links.old }
-        requires ids { Numbered E.link links.old base (node_of self.old) }
-        ensures same { EachRelated E.same links.old links.new }
-        ensures others { (i : ℕ) (d : E) → i ≢ place_after base (ended_of self.old)
-            → slice_index_or links.new i d ≡ slice_index_or links.old i d }
-        ensures ids { Numbered E.link links.new base (node_of self.new) }
-        ensures node { node_of self.new ≡ node_of self.old }
-        ensures lawful { IsLawful self.new }
-        ensures room { (k : ℕ) → HasRoom (k + 1) (log_of self.old) → HasRoom k (log_of self.new) }
-        ensures waits { result ≡ false → (k : ℕ) → HasRoom k (log_of self.old) → HasRoom k (log_of self.new) }
+        requires { MayStep E.link self.old links.old base }
+        ensures stays { StaysLawful E.link E.same self.old self.new links.old links.new base result }
         ensures steps { (p : Registers) → Steps E.stands E.dry E.full self.old self.new links.old links.new base p p
             Release bits result }
     {
@@ -138,7 +106,8 @@ fn try_step<E: DriverEnd>(
 fn try_window<E: DriverEnd>(driver: AnyDriver, end: &mut E) -> (AnyDriver, Tried)
     requires { FitsEnd E.link end.old driver }
     ensures same { E.same end.old end.new }
-    ensures acts { (p : Registers) → Acts E.stands E.dry E.full end.old end.new p p Window driver (result.0) (result.1) }
+    ensures acts { (p : Registers) → Acts E.stands E.dry E.full end.old end.new p p Window driver
+        (result.0) (result.1) }
 {
     match driver {
         AnyDriver::InReset(driver) => wrong_state(driver),
@@ -150,7 +119,8 @@ fn try_window<E: DriverEnd>(driver: AnyDriver, end: &mut E) -> (AnyDriver, Tried
 fn try_release<E: DriverEnd>(driver: AnyDriver, end: &mut E) -> (AnyDriver, Tried)
     requires { FitsEnd E.link end.old driver }
     ensures same { E.same end.old end.new }
-    ensures acts { (p : Registers) → Acts E.stands E.dry E.full end.old end.new p p Release driver (result.0) (result.1) }
+    ensures acts { (p : Registers) → Acts E.stands E.dry E.full end.old end.new p p Release driver
+        (result.0) (result.1) }
 {
     match driver {
         AnyDriver::InReset(driver) => wrong_state(driver),

@@ -1,4 +1,3 @@
-use Rattle.std.proofs.Common.{◌≡◌}
 use Rattle.sja_link.specs.Showing.{seen_of}
 use Rattle.sja_regs.specs.Registers.{status_of}
 use Rattle.sja_driver.specs.Drivers.{held_in, off_in}

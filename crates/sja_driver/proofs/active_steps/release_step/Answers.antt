@@ -1,4 +1,4 @@
-use Rattle.std.proofs.Common.{◌≡◌, ◌∙◌, ap, sym, rules}
+use Rattle.std.proofs.Common.{◌≡◌, ◌∙◌, ap, rules}
 use Rattle.std.specs.Prelude.{slice_get, Some, Err}
 use Rattle.sja_driver.specs.Drivers.{held_in}
 use Rattle.sja_driver.proofs.Releasing.{first_is, released_acts, unmet_acts, stopped_acts}

@@ -1,4 +1,3 @@
-use Rattle.std.proofs.Common.{◌≡◌}
 use Rattle.sja_driver.proofs.logged_step.try_release.Goals as goal
 
 pub returns-in-InActive-clause-acts : goal.returns-in-InActive-clause-acts
