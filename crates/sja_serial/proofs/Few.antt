@@ -1,0 +1,165 @@
+-- A driver never holds more messages than 64 bytes have room for.
+use Rattle.std.proofs.Common.{◌≡◌, ℕ, ◌+◌, ◌-◌, ◌*◌, ◌<◌, ◌≤◌, Bool, true, false, List, [], ◌∷◌, ◌++◌, length, map, refl, sym, ap, ap₂, ◌∙◌, subst, append_assoc, append-nil, arith}
+use Rattle.std.specs.Prelude.{◌==◌, if◌then◌else◌}
+use Rattle.can_frame.specs.Message.{message, head_of}
+use Rattle.sja_link.specs.NodeWords.{ReceivedFrame}
+use Rattle.sja_link.specs.declared.down.Down.{Down}
+use Rattle.sja_link.specs.declared.up.Up.{Up}
+use Rattle.sja_link.specs.declared.up.Up.TheVariants.{Start as StartItem, Credit, Send, Stop as StopItem}
+use Rattle.sja_link.specs.declared.entry.Entry.{Entry}
+use Rattle.sja_link.specs.declared.entry.Entry.TheVariants.{Bit, Up as Item, Abort, Stored, Overrun, Off}
+use Rattle.sja_link.specs.Gathering.{total, gathered}
+use Rattle.sja_link.specs.Lists.{messages}
+use Rattle.sja_link.specs.Looking.{Holds}
+use Rattle.sja_link.specs.Accounts.{Account}
+use Rattle.sja_link.specs.Parts.{part}
+use Rattle.sja_link.specs.Carried.{put_of, taken_in, taken_of, stored_of}
+use Rattle.sja_link.specs.Free.{credit_of, credit_in, bytes_in, free_of}
+use Rattle.sja_link.specs.Judged.{Judged, judged_in, kept_in, kept}
+use Rattle.sja_link.specs.Picking.{Picks, EachAfter}
+use Rattle.sja_link.specs.Picking.Picks.{nothing, picked, left}
+use Rattle.sja_link.specs.Verdicts.{IsOn, IsKept, IsFair, IsDue, IsLawful}
+use Rattle.sja_link.proofs.Freeing.{total_push, total_append}
+use Rattle.sja_link.proofs.Holding.{told_stored}
+use Rattle.sja_link.proofs.Judging.{kept_stored}
+use Rattle.sja_script.specs.declared.step.Step.{Step}
+use Rattle.sja_script.specs.declared.step.Step.TheVariants.{Start, Stop, Window, Release, Read, Write, Load, Command, Await, Sent}
+use Rattle.sja_script.specs.declared.step_answer.StepAnswer.{StepAnswer}
+use Rattle.sja_script.specs.declared.step_answer.StepAnswer.TheVariants.{Done, NoMessage, Shown, Released, Value, Refused}
+use Rattle.sja_driver.specs.Deeds.{Deed, opens_by, Gives, GivesSend, length_in, given_in, released_lengths, section_from, deeds_of}
+use Rattle.sja_regs.specs.Commands.{command_of, requests}
+
+abbrev bytes : List (List ℕ) → ℕ
+bytes = total (λ (m : List ℕ). length m)
+
+-- ---- a message has three bytes at least
+
+head_long : (ext : Bool) (id : ℕ) (rtr : Bool) (dlc : ℕ) (rest : List ℕ) → 3 ≤ length (head_of ext id rtr dlc ++ rest)
+head_long true id rtr dlc rest = omega arith
+head_long false id rtr dlc rest = omega arith
+
+-- each of them is at least so long
+abbrev AllLong : List (List ℕ) → Type 0
+AllLong [] = Unit {0}
+AllLong (m ∷ ms) = (3 ≤ length m) × AllLong ms
+
+long_bytes : (ms : List (List ℕ)) → AllLong ms → 3 * length ms ≤ bytes ms
+long_bytes [] h = omega arith
+long_bytes (m ∷ ms) h = let a = h.0 in let b = long_bytes ms h.1 in omega (arith, a, b)
+
+long_back : (xs ys : List (List ℕ)) → AllLong (xs ++ ys) → AllLong ys
+long_back [] ys h = h
+long_back (x ∷ xs) ys h = long_back xs ys h.1
+
+long_front : (xs ys : List (List ℕ)) → AllLong (xs ++ ys) → AllLong xs
+long_front [] ys h = tt
+long_front (x ∷ xs) ys h = (h.0, long_front xs ys h.1)
+
+long_kept : (b : Bool) (m : List ℕ) (ms : List (List ℕ)) → 3 ≤ length m → AllLong ms → AllLong ((if b then [] else m ∷ []) ++ ms)
+long_kept true m ms l h = h
+long_kept false m ms l h = (l, h)
+
+judged_long : {P : ReceivedFrame → Type 0} (heard : List ReceivedFrame) (vs : List Judged) → Picks P IsOn heard vs → AllLong (kept vs)
+judged_long heard vs nothing = tt
+judged_long heard vs (picked {ys = ys} x y p on more) =
+    long_kept y.overrun y.bytes (kept ys) (subst (λ (l : List ℕ). 3 ≤ length l) (sym on.bytes) (head_long x.frame.ext x.frame.id x.frame.rtr x.frame.dlc x.frame.bytes)) (judged_long _ ys more)
+judged_long heard vs (left x p more) = judged_long _ vs more
+
+stored_long : (j : List Entry) (a : ℕ) → IsLawful j → AllLong (stored_of (part j a))
+stored_long j a lawful = subst (λ (l : List (List ℕ)). AllLong l) (kept_stored j a) (judged_long _ (judged_in j a) ((lawful.verdicts lawful.found lawful.cut).are a))
+
+-- ---- what was stored has room in 64 bytes and the credits taken
+
+bytes_stored : (p : List Entry) → total bytes_in p ≡ bytes (stored_of p)
+bytes_stored [] = refl
+bytes_stored (Stored m ∷ p) = ap (λ n. length m + n) (bytes_stored p)
+bytes_stored (Off ∷ p) = let e = bytes_stored p in omega (arith, e)
+bytes_stored (Overrun m ∷ p) = let e = bytes_stored p in omega (arith, e)
+bytes_stored (Bit driven seen ∷ p) = let e = bytes_stored p in omega (arith, e)
+bytes_stored (Item u ∷ p) = let e = bytes_stored p in omega (arith, e)
+bytes_stored (Abort ∷ p) = let e = bytes_stored p in omega (arith, e)
+
+credits_taken : (p : List Entry) → total credit_in p ≡ total credit_of (taken_of p)
+credits_taken [] = refl
+credits_taken (Item u ∷ p) = ap (λ n. credit_of u + n) (credits_taken p)
+credits_taken (Off ∷ p) = let e = credits_taken p in omega (arith, e)
+credits_taken (Overrun m ∷ p) = let e = credits_taken p in omega (arith, e)
+credits_taken (Bit driven seen ∷ p) = let e = credits_taken p in omega (arith, e)
+credits_taken (Stored m ∷ p) = let e = credits_taken p in omega (arith, e)
+credits_taken (Abort ∷ p) = let e = credits_taken p in omega (arith, e)
+
+room_one : (p : List Entry) (e : Entry) → IsDue p e → total bytes_in p ≤ 64 + total credit_in p → total bytes_in (p ++ e ∷ []) ≤ 64 + total credit_in (p ++ e ∷ [])
+room_one p e due h = let b = total_push bytes_in p e in let c = total_push credit_in p e in let m = more e due.1 in omega (arith, h, b, c, m)
+  where
+    more : (x : Entry) → IsFair p x → total bytes_in p + bytes_in x ≤ 64 + total credit_in p + credit_in x
+    more (Stored m) fair = omega (arith, fair, h)
+    more (Overrun m) fair = omega (arith, h)
+    more (Bit driven seen) fair = omega (arith, h)
+    more (Item u) fair = omega (arith, h)
+    more Abort fair = omega (arith, h)
+    more Off fair = omega (arith, h)
+
+room_all : (p es : List Entry) → EachAfter IsDue p es → total bytes_in p ≤ 64 + total credit_in p → total bytes_in (p ++ es) ≤ 64 + total credit_in (p ++ es)
+room_all p [] due h = subst (λ (l : List Entry). total bytes_in l ≤ 64 + total credit_in l) (sym (append-nil p)) h
+room_all p (e ∷ es) due h =
+    subst (λ (l : List Entry). total bytes_in l ≤ 64 + total credit_in l) (append_assoc p (e ∷ []) es) (room_all (p ++ e ∷ []) es due.1 (room_one p e due.0 h))
+
+-- ---- the credits given are the lengths released
+
+abbrev all_of : List ℕ → ℕ
+all_of = total (λ n. n)
+
+credits_one : (s : Step) (r : StepAnswer) (gave : List Up) → Gives s r gave → total credit_of gave ≡ all_of (length_in s r)
+credits_one Start Done gave g = ap (total credit_of) g.1
+credits_one Release (Released k) gave g = ap (total credit_of) g
+credits_one Stop Done gave g = ap (total credit_of) g
+credits_one (Command v) Done gave g = asked (requests (command_of v)) g
+  where
+    asked : (b : Bool) → GivesSend b gave → total credit_of gave ≡ 0
+    asked true h = ap (total credit_of) h.1
+    asked false h = ap (total credit_of) h
+credits_one Start other gave g = ap (total credit_of) g
+credits_one Release other gave g = ap (total credit_of) g
+credits_one Stop other gave g = ap (total credit_of) g
+credits_one (Command v) other gave g = ap (total credit_of) g
+credits_one Window r gave g = ap (total credit_of) g
+credits_one (Read x) r gave g = ap (total credit_of) g
+credits_one (Write x y) r gave g = ap (total credit_of) g
+credits_one (Load m) r gave g = ap (total credit_of) g
+credits_one (Await k) r gave g = ap (total credit_of) g
+credits_one Sent r gave g = ap (total credit_of) g
+
+credits_section : (n : ℕ) (before ds : List Deed) (a : ℕ) → EachAfter (λ b (d : Deed). Gives d.step d.answer d.gave) before ds →
+    total credit_of (given_in (section_from opens_by n ds a)) ≡ all_of (released_lengths (section_from opens_by n ds a))
+credits_section n before [] a g = refl
+credits_section n before (d ∷ ds) a g = over ((n + opens_by d) == a) (credits_section (n + opens_by d) (before ++ d ∷ []) ds a g.1)
+  where
+    over : (b : Bool) → total credit_of (given_in (section_from opens_by (n + opens_by d) ds a)) ≡ all_of (released_lengths (section_from opens_by (n + opens_by d) ds a)) →
+        total credit_of (given_in ((if b then d ∷ [] else []) ++ section_from opens_by (n + opens_by d) ds a)) ≡ all_of (released_lengths ((if b then d ∷ [] else []) ++ section_from opens_by (n + opens_by d) ds a))
+    over true h =
+        total_append credit_of d.gave (given_in (section_from opens_by (n + opens_by d) ds a))
+        ∙ ap₂ (λ x y. x + y) (credits_one d.step d.answer d.gave g.0) h
+        ∙ sym (total_append (λ (k : ℕ). k) (length_in d.step d.answer) (released_lengths (section_from opens_by (n + opens_by d) ds a)))
+    over false h = h
+
+bytes_lengths : (ms : List (List ℕ)) → bytes ms ≡ all_of (map (λ (m : List ℕ). length m) ms)
+bytes_lengths [] = refl
+bytes_lengths (m ∷ ms) = ap (λ n. length m + n) (bytes_lengths ms)
+
+-- ---- all together
+
+pub few_held : (j : List Entry) (a : ℕ) (deeds : List Deed) (got down : List Down) (released window : List (List ℕ)) → IsLawful j →
+    put_of (part j a) ≡ got ++ down → Holds got released window → given_in (deeds_of deeds a) ≡ taken_of (part j a) →
+    EachAfter (λ b (d : Deed). Gives d.step d.answer d.gave) [] deeds →
+    released_lengths (deeds_of deeds a) ≡ map (λ (m : List ℕ). length m) released → length window ≤ 21
+few_held j a deeds got down released window lawful put holds given gives lengths =
+    let driver : Account = record { got = got; given = [] } in
+    let all : released ++ (window ++ messages down) ≡ stored_of (part j a) = told_stored j a driver down released window put holds in
+    let long : AllLong window = long_front window (messages down) (long_back released (window ++ messages down) (subst (λ (l : List (List ℕ)). AllLong l) (sym all) (stored_long j a lawful))) in
+    let due = (lawful.verdicts lawful.found lawful.cut).due a in
+    let room = room_all [] (part j a) due (omega arith) in
+    let stored = bytes_stored (part j a) ∙ ap bytes (sym all) ∙ total_append (λ (m : List ℕ). length m) released (window ++ messages down) in
+    let rest = total_append (λ (m : List ℕ). length m) window (messages down) in
+    let credits = credits_taken (part j a) ∙ ap (total credit_of) (sym given) ∙ credits_section 0 [] deeds a gives ∙ ap all_of lengths ∙ sym (bytes_lengths released) in
+    let enough = long_bytes window long in
+    omega (arith, room, stored, rest, credits, enough)

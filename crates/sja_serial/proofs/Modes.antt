@@ -1,0 +1,161 @@
+-- Reset mode, spent bits and a standing abort after a step.
+use Rattle.std.proofs.Common.{◌≡◌, ℕ, ◌+◌, Bool, true, false, List, [], ◌∷◌, refl, sym, ap, ◌∙◌, subst, inl, inr, arith}
+use Rattle.std.specs.Prelude.{◌⊎◌, ◌||◌, ◌&&◌, not, if◌then◌else◌, Option, Some, None}
+use Rattle.sja_link.specs.declared.up.Up.{Up}
+use Rattle.sja_link.specs.Gathering.{total}
+use Rattle.sja_link.specs.World.{is_send}
+use Rattle.can_frame.specs.declared.seen.Seen.{Seen}
+use Rattle.sja_regs.specs.declared.reg_fault.RegFault.{RegFault}
+use Rattle.sja_regs.specs.declared.register.Register.{Register}
+use Rattle.sja_regs.specs.declared.register.Register.TheVariants.{Mode, Command as CommandRegister, Status, Interrupt, InterruptEnable, ArbitrationLostCapture, ErrorCodeCapture, ErrorWarningLimit, ReceiveErrorCounter, TransmitErrorCounter, AcceptanceCode, AcceptanceMask, Buffer, ReceiveMessageCounter}
+use Rattle.sja_regs.specs.declared.registers.Registers.{Registers}
+use Rattle.sja_regs.specs.Addresses.{register_at}
+use Rattle.sja_regs.specs.Bits.{differ}
+use Rattle.sja_regs.specs.Commands.{command_of, requests, command_faults}
+use Rattle.sja_regs.specs.Facts.{RegisterFacts}
+use Rattle.sja_regs.specs.Modes.{mode_of}
+use Rattle.sja_regs.specs.Reading.{after_reading_at}
+use Rattle.sja_regs.specs.Refusals.{first_fault}
+use Rattle.sja_regs.specs.Registers.{after_leaving_reset}
+use Rattle.sja_regs.specs.Writing.{write_faults_at, after_writing_at, mode_faults}
+use Rattle.sja_script.specs.declared.step.Step.{Step}
+use Rattle.sja_script.specs.declared.step.Step.TheVariants.{Start, Stop, Window, Release, Read, Write, Load, Command, Await, Sent}
+use Rattle.sja_script.specs.declared.step_answer.StepAnswer.{StepAnswer}
+use Rattle.sja_script.specs.declared.step_answer.StepAnswer.TheVariants.{Done, NoMessage, Shown, Released, Value, Refused}
+use Rattle.sja_driver.specs.Answers.{done_unless}
+use Rattle.sja_driver.specs.Carried.{Tells, carried, ported, aborts, asks_abort}
+use Rattle.sja_driver.specs.Deeds.{opened, active_after}
+use Rattle.sja_driver.specs.Ports.{send_of}
+
+-- ---- reset mode
+
+start_rm : (b : Bool) (p : Registers) → p.mode.rm ≡ b → (if b then after_leaving_reset p else p).mode.rm ≡ false
+start_rm true p e = refl
+start_rm false p e = e
+
+read_rm : (x : Option Register) (p : Registers) → (after_reading_at p x).mode.rm ≡ p.mode.rm
+read_rm None p = refl
+read_rm (Some Interrupt) p = refl
+read_rm (Some ArbitrationLostCapture) p = refl
+read_rm (Some ErrorCodeCapture) p = refl
+read_rm (Some other) p = refl
+
+same_bit : (a b d : Bool) (f : RegFault) (rest : Option RegFault) → differ a b ≡ d → Done ≡ done_unless (if d then Some f else rest) → b ≡ a
+same_bit a b true f rest e h = absurd cc
+same_bit true true false f rest e h = refl
+same_bit true false false f rest e h = absurd cc
+same_bit false true false f rest e h = absurd cc
+same_bit false false false f rest e h = refl
+
+write_rm : (x : Option Register) (v : ℕ) (p : Registers) → Done ≡ done_unless (first_fault (write_faults_at p x v)) → (after_writing_at p x v).mode.rm ≡ p.mode.rm
+write_rm None v p h = refl
+write_rm (Some Mode) v p h = same_bit p.mode.rm (mode_of v).rm (differ p.mode.rm (mode_of v).rm) _ _ refl h
+write_rm (Some other) v p h = refl
+
+-- a start leaves reset mode, a stop enters it, and no other step does either
+pub rm_step : (p : Registers) (step : Step) (answer : StepAnswer) (active out : Bool) (seen : Seen) (rest : Bool) → Tells step out p seen answer → p.mode.rm ≡ (not active || rest) →
+    (opened step answer ≡ 0 → (ported p step answer).mode.rm ≡ (not (active_after active step answer) || rest)) × (opened step answer ≡ 1 → (ported p step answer).mode.rm ≡ false)
+rm_step p Start Done active out seen rest t e = (λ o. absurd (omega (arith, o)), λ o. start_rm p.mode.rm p refl)
+rm_step p Stop Done active out seen rest t e = (λ o. refl, λ o. absurd (omega (arith, o)))
+rm_step p (Read address) answer active out seen rest t e = (λ o. read_rm (register_at p.mode.rm address) p ∙ e, λ o. absurd (omega (arith, o)))
+rm_step p (Write address value) Done active out seen rest t e = (λ o. write_rm (register_at p.mode.rm address) value p t ∙ e, λ o. absurd (omega (arith, o)))
+rm_step p (Load m) Done active out seen rest t e = (λ o. e, λ o. absurd (omega (arith, o)))
+rm_step p (Command value) Done active out seen rest t e = (λ o. e, λ o. absurd (omega (arith, o)))
+rm_step p Start other active out seen rest t e = (λ o. e, λ o. absurd (omega (arith, o)))
+rm_step p Stop other active out seen rest t e = (λ o. e, λ o. absurd (omega (arith, o)))
+rm_step p (Write address value) other active out seen rest t e = (λ o. e, λ o. absurd (omega (arith, o)))
+rm_step p (Load m) other active out seen rest t e = (λ o. e, λ o. absurd (omega (arith, o)))
+rm_step p (Command value) other active out seen rest t e = (λ o. e, λ o. absurd (omega (arith, o)))
+rm_step p Window answer active out seen rest t e = (λ o. e, λ o. absurd (omega (arith, o)))
+rm_step p Release answer active out seen rest t e = (λ o. e, λ o. absurd (omega (arith, o)))
+rm_step p (Await count) answer active out seen rest t e = (λ o. e, λ o. absurd (omega (arith, o)))
+rm_step p Sent answer active out seen rest t e = (λ o. e, λ o. absurd (omega (arith, o)))
+
+-- ---- the bits aren't spent
+
+start_closed : (b : Bool) (p : Registers) → (if b then after_leaving_reset p else p).closed ≡ p.closed
+start_closed true p = refl
+start_closed false p = refl
+
+read_closed : (x : Option Register) (p : Registers) → (after_reading_at p x).closed ≡ p.closed
+read_closed None p = refl
+read_closed (Some Interrupt) p = refl
+read_closed (Some ArbitrationLostCapture) p = refl
+read_closed (Some ErrorCodeCapture) p = refl
+read_closed (Some other) p = refl
+
+write_closed : (x : Option Register) (v : ℕ) (p : Registers) → (after_writing_at p x v).closed ≡ p.closed
+write_closed None v p = refl
+write_closed (Some Mode) v p = refl
+write_closed (Some InterruptEnable) v p = refl
+write_closed (Some ErrorWarningLimit) v p = refl
+write_closed (Some (AcceptanceCode i)) v p = refl
+write_closed (Some (AcceptanceMask i)) v p = refl
+write_closed (Some (Buffer i)) v p = refl
+write_closed (Some other) v p = refl
+
+-- no step of a driver closes its port
+pub closed_step : (p : Registers) (step : Step) (answer : StepAnswer) → (ported p step answer).closed ≡ p.closed
+closed_step p Start Done = start_closed p.mode.rm p
+closed_step p Stop Done = refl
+closed_step p (Read address) answer = read_closed (register_at p.mode.rm address) p
+closed_step p (Write address value) Done = write_closed (register_at p.mode.rm address) value p
+closed_step p (Load m) Done = refl
+closed_step p (Command value) Done = refl
+closed_step p Start other = refl
+closed_step p Stop other = refl
+closed_step p (Write address value) other = refl
+closed_step p (Load m) other = refl
+closed_step p (Command value) other = refl
+closed_step p Window answer = refl
+closed_step p Release answer = refl
+closed_step p (Await count) answer = refl
+closed_step p Sent answer = refl
+
+-- ---- a standing abort
+
+start_abort : (b : Bool) (p : Registers) → (if b then after_leaving_reset p else p).abort ≡ true → p.abort ≡ true
+start_abort true p h = h
+start_abort false p h = h
+
+read_abort : (x : Option Register) (p : Registers) → (after_reading_at p x).abort ≡ true → p.abort ≡ true
+read_abort None p h = h
+read_abort (Some Interrupt) p h = h
+read_abort (Some ArbitrationLostCapture) p h = h
+read_abort (Some ErrorCodeCapture) p h = h
+read_abort (Some other) p h = h
+
+write_abort : (x : Option Register) (v : ℕ) (p : Registers) → (after_writing_at p x v).abort ≡ true → p.abort ≡ true
+write_abort None v p h = h
+write_abort (Some Mode) v p h = h
+write_abort (Some InterruptEnable) v p h = h
+write_abort (Some ErrorWarningLimit) v p h = h
+write_abort (Some (AcceptanceCode i)) v p h = h
+write_abort (Some (AcceptanceMask i)) v p h = h
+write_abort (Some (Buffer i)) v p h = h
+write_abort (Some other) v p h = h
+
+either : (was at asks busy : Bool) → (was || at && not asks && not busy) ≡ true → (was ≡ true) ⊎ ((at && not asks) ≡ true)
+either true at asks busy h = inl refl
+either false true false false h = inr refl
+either false true false true h = absurd cc
+either false true true busy h = absurd cc
+either false false asks busy h = absurd cc
+
+-- it stood before, or this step commanded it
+pub abort_step : (p : Registers) (step : Step) (answer : StepAnswer) → (ported p step answer).abort ≡ true → (p.abort ≡ true) ⊎ (asks_abort step answer ≡ true)
+abort_step p (Command value) Done h = either p.abort (command_of value).at (requests (command_of value)) p.tbs h
+abort_step p Start Done h = inl (start_abort p.mode.rm p h)
+abort_step p Stop Done h = absurd cc
+abort_step p (Read address) answer h = inl (read_abort (register_at p.mode.rm address) p h)
+abort_step p (Write address value) Done h = inl (write_abort (register_at p.mode.rm address) value p h)
+abort_step p (Load m) Done h = inl h
+abort_step p Start other h = inl h
+abort_step p Stop other h = inl h
+abort_step p (Write address value) other h = inl h
+abort_step p (Load m) other h = inl h
+abort_step p (Command value) other h = inl h
+abort_step p Window answer h = inl h
+abort_step p Release answer h = inl h
+abort_step p (Await count) answer h = inl h
+abort_step p Sent answer h = inl h
