@@ -6,3 +6,5 @@ pub mod Modes
 pub mod Patience
 pub mod Few
 pub mod Trying
+pub mod Items
+pub mod After

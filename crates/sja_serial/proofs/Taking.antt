@@ -13,7 +13,7 @@ use Rattle.sja_bus.specs.Links.{stops_of}
 use Rattle.sja_bus.specs.OneBit.{entries_of_items, IsRead, AreRead}
 
 -- the items that are of an activation
-abbrev adds : List Entry → List Up → ℕ → List Up
+abbrev pub adds : List Entry → List Up → ℕ → List Up
 adds j [] a = []
 adds j (u ∷ us) a = (if (past (place_of j) (Item u)).activation == a then u ∷ [] else []) ++ adds (j ++ Item u ∷ []) us a
 
@@ -25,7 +25,7 @@ taken_one j u a = elim (cases_eq (past (place_of j) (Item u)).activation a) [
       ∙ ap (λ b. taken_of (part j a) ++ cond b (u ∷ []) []) (sym (ne_eqb _ _ n))
 ]
 
-taken_adds : (j : List Entry) (us : List Up) (a : ℕ) → taken_of (part (j ++ entries_of_items us) a) ≡ taken_of (part j a) ++ adds j us a
+pub taken_adds : (j : List Entry) (us : List Up) (a : ℕ) → taken_of (part (j ++ entries_of_items us) a) ≡ taken_of (part j a) ++ adds j us a
 taken_adds j [] a = ap (λ k. taken_of (part k a)) (append-nil j) ∙ sym (append-nil (taken_of (part j a)))
 taken_adds j (u ∷ us) a =
     ap (λ k. taken_of (part k a)) (sym (append_assoc j (Item u ∷ []) (entries_of_items us)))

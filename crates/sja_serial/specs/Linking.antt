@@ -9,11 +9,13 @@ use Rattle.sja_driver.specs.declared.logged_driver.LoggedDriver.{LoggedDriver}
 use Rattle.sja_driver.specs.Deeds.{Deed, opened_by, is_active}
 use Rattle.sja_driver.specs.Holding.{HoldsBy}
 use Rattle.sja_driver.specs.LoggedDrivers.{driver_of, log_of}
+use Rattle.sja_report.specs.Aborting.{sends_given, sends_taken}
 
--- the journal has begun as many activations as the driver, and ended as many
+-- the journal has begun as many activations as the driver, and ended as many; and as many requests were taken as given
 pub record IsLevel (j : List Entry) (deeds : List Deed) : Type 0 where
   pub begun : (place_of j).activation ≡ opened_by deeds
   pub ended : stops_of j + one_if (is_active deeds) ≡ opened_by deeds
+  pub asked : sends_taken j ≡ sends_given deeds
 
 -- the links, from this place on, stand for the parts of the journal and for the driver's deeds and releases; all that
 -- was given was taken
