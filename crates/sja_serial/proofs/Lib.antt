@@ -8,3 +8,5 @@ pub mod Few
 pub mod Trying
 pub mod Items
 pub mod After
+pub mod Gathered
+pub mod Turned
