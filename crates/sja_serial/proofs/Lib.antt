@@ -10,3 +10,4 @@ pub mod Items
 pub mod After
 pub mod Gathered
 pub mod Turned
+pub mod Standing

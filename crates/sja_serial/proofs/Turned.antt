@@ -1,6 +1,6 @@
 -- A node after a step of its driver and a taking of the bus, and a node whose driver did nothing.
 use Rattle.std.proofs.Common.{◌≡◌, ◌≢◌, ℕ, zero, suc, ◌+◌, ◌*◌, ◌<◌, ◌≤◌, Bool, true, false, List, [], ◌∷◌, ◌++◌, length, map, refl, sym, ap, ◌∙◌, subst, append_assoc, append-nil, arith, inl, inr}
-use Rattle.std.specs.Prelude.{slice_index_or, take}
+use Rattle.std.specs.Prelude.{◌==◌, if◌then◌else◌, slice_index_or, take}
 use Rattle.std.proofs.lemmas.List.{length-append, map-append}
 use Rattle.sja_link.specs.declared.up.Up.{Up}
 use Rattle.sja_link.specs.declared.entry.Entry.{Entry}
@@ -131,3 +131,72 @@ module _ (version : ℕ) (steps : List Step) (j k : List Entry) (deeds : List De
           in_time = in_time;
         };
       }
+
+none_either : (b : Bool) (l : List Up) → (if b then l else l) ≡ l
+none_either true l = refl
+none_either false l = refl
+
+no_wait : (a : ℕ) → waiting 0 [] a ≡ []
+no_wait a = none_either (0 == a) []
+
+-- ---- a taking where no deed was done
+
+module _ (version : ℕ) (steps : List Step) (j k : List Entry) (deeds : List Deed) (was now : LoggedDriver) (p q : Registers) (links given after : List Deques) (base : ℕ) (none : Deques)
+    (h : IsNode version steps j deeds was p links base) (now_lawful : IsLawful now) (trace : Traces (driver_of now) (log_of now) deeds) (holds : HoldsBy Lies deeds (driver_of now) (log_of now) j given base)
+    (room : (m : ℕ) → HasRoom m (log_of was) → HasRoom m (log_of now)) (port : q ≡ p) (items : HasItems j k) (kept : (acc : ℕ → Account) → Kept Lies j given base acc → Kept Lies k after base acc)
+    (dry : stops_of k < 8 → (slice_index_or after (base + stops_of k) none).up ≡ []) where
+  pub same_journal : k ≡ j
+  same_journal =
+      items_are j k deeds (driver_of now) (log_of now) given after base none holds kept [] 0 items (omega arith) (λ e. absurd (e refl))
+      (λ a. given_taken deeds j a (h.in_time.when a) ∙ sym (ap (λ (l : List Up). taken_of (part j a) ++ l) (no_wait a) ∙ append-nil (taken_of (part j a)))) dry
+      ∙ append-nil j
+
+  pub idle : IsNode version steps k deeds now q after base
+  idle =
+      let level : IsLevel k deeds = subst (λ (l : List Entry). IsLevel l deeds) (sym same_journal) h.linked.level in
+      let in_time : IsInTime version k deeds = subst (λ (l : List Entry). IsInTime version l deeds) (sym same_journal) h.in_time in record {
+        traced = record { lawful = now_lawful; traces = trace; within = h.traced.within; first = h.traced.first; room = λ m l. room m (h.traced.room m l) };
+        linked = linked_after j k deeds (driver_of now) (log_of now) given after base none holds kept now refl refl (λ a. given_taken deeds k a (in_time.when a)) level;
+        ported = subst (λ (r : Registers). IsPorted version k deeds r) (sym port) (subst (λ (l : List Entry). IsPorted version l deeds p) (sym same_journal) h.ported);
+        in_time = in_time;
+      }
+
+-- ---- a step that waits
+
+is_unmet : (o : Tried) → false ≡ is_met o → o ≡ Unmet
+is_unmet Unmet e = refl
+is_unmet (Answered a) e = absurd cc
+is_unmet (Released m) e = absurd cc
+is_unmet (Ended l) e = absurd cc
+
+module _ (version : ℕ) (steps : List Step) (j k : List Entry) (deeds : List Deed) (was now : LoggedDriver) (p q : Registers) (links given after : List Deques) (base : ℕ) (one : Step) (none : Deques)
+    (h : IsNode version steps j deeds was p links base) (lawful : IsLawfulJournal j) (now_lawful : IsLawful now) (items : HasItems j k)
+    (kept : (acc : ℕ → Account) → Kept Lies j given base acc → Kept Lies k after base acc)
+    (dry : stops_of k < 8 → (slice_index_or after (base + stops_of k) none).up ≡ []) (st : Steps Lies shows_none takes_none was now links given base p q one (place_of j).bits false)
+    (room : (m : ℕ) → HasRoom m (log_of was) → HasRoom m (log_of now)) where
+  unmet : st.tried ≡ Unmet
+  unmet = is_unmet st.tried st.met
+
+  acts : Acts Lies shows_none takes_none (slice_index_or links (place_after base (ended_of was)) none) (slice_index_or given (place_after base (ended_of was)) none) p q one (driver_of was) (driver_of now) Unmet
+  acts = subst (λ (o : Tried). Acts Lies shows_none takes_none (slice_index_or links (place_after base (ended_of was)) none) (slice_index_or given (place_after base (ended_of was)) none) p q one (driver_of was) (driver_of now) o) unmet (st.acts none none)
+
+  nothing_done : deeds ++ deeds_by p one st.tried (place_of j).bits ≡ deeds
+  nothing_done = ap (λ (o : Tried). deeds ++ deeds_by p one o (place_of j).bits) unmet ∙ append-nil deeds
+
+  pub waited : HasToWait j deeds p one
+  waited = waits j deeds (log_of was) links base (node_of was) none lawful (λ a. given_taken deeds j a (h.in_time.when a)) p one (driver_of was) (driver_of now) h.traced.traces h.traced.lawful h.linked.holds h.linked.taken acts.waits
+
+  trace_still : Traces (driver_of now) (log_of now) deeds
+  trace_still = subst (λ (l : List Deed). Traces (driver_of now) (log_of now) l) nothing_done (st.goes.traces deeds h.traced.traces)
+
+  holds_still : HoldsBy Lies deeds (driver_of now) (log_of now) j given base
+  holds_still = subst (λ (l : List Deed). HoldsBy Lies l (driver_of now) (log_of now) j given base) nothing_done (st.goes.holds deeds j h.traced.traces h.linked.holds)
+
+  pub still_journal : k ≡ j
+  still_journal = same_journal version steps j k deeds was now p q links given after base none h now_lawful trace_still holds_still room acts.port items kept dry
+
+  pub still : IsNode version steps k deeds now q after base
+  still = idle version steps j k deeds was now p q links given after base none h now_lawful trace_still holds_still room acts.port items kept dry
+
+  pub same_port : q ≡ p
+  same_port = acts.port

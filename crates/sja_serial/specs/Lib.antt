@@ -6,3 +6,5 @@ pub mod Porting
 pub mod Nodes
 -- ---- what a turn of a node does
 pub mod Waiting
+-- ---- the whole run
+pub mod Serial

@@ -2,5 +2,8 @@
 #![tactic(auto)]
 
 mod run_fault;
+mod serial_run;
+mod stepping;
 
 pub use run_fault::RunFault;
+pub use serial_run::SerialRun;

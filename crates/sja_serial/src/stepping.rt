@@ -1,0 +1,51 @@
+//! Steps of one node's driver, each with the taking of what it gave.
+
+ghost use Rattle.std.specs.Prelude.{◌≡◌, ◌<◌, ◌≤◌, ◌⊎◌, ℕ, List, [], ◌∷◌, length, true, false, IfOk, slice_index_or};
+ghost use Rattle.sja_driver.specs.Deeds.{Deed};
+ghost use Rattle.sja_serial.specs.Serial.{SerialValue, StandsAt, IsRunOf, IsStuck, Does, run_now, steps_at, deeds_at};
+
+use super::run_fault::RunFault;
+use sja_bus::Bus;
+use sja_driver::LoggedDriver;
+use sja_link::DequeLink;
+use sja_plan::Plan;
+use sja_regs::Port;
+
+/// How many links, and so activations, a node has.
+const LINKS: usize = 8;
+
+/// Tries the next step of a node's driver, and takes what it gave. It says whether the step is done; else it has to wait.
+///
+/// Error: [`RunFault::Bus`].
+pub(crate) fn try_next(
+    plan: &Plan,
+    node: usize,
+    bits: u32,
+    bus: &mut Bus,
+    drivers: &mut [LoggedDriver],
+    ports: &mut [Port],
+    links: &mut [DequeLink],
+) -> Result<bool, RunFault>
+    requires run { IsRunOf plan.now (run_now bus.old drivers.old ports.old links.old bits) }
+    requires node { node < length plan.now.nodes }
+    requires left { (deeds : List (List Deed)) → StandsAt plan.now (run_now bus.old drivers.old ports.old links.old bits) deeds →
+        length (deeds_at deeds node) < length (steps_at plan.now node) }
+    ensures done { IfOk result (λ done. done ≡ true → (deeds : List (List Deed)) →
+        StandsAt plan.now (run_now bus.old drivers.old ports.old links.old bits) deeds →
+        (d : Deed) × Does plan.now (run_now bus.old drivers.old ports.old links.old bits)
+          (run_now bus.new drivers.new ports.new links.new bits) node deeds (d ∷ [])) }
+    ensures waits { IfOk result (λ done. done ≡ false → (deeds : List (List Deed)) →
+        StandsAt plan.now (run_now bus.old drivers.old ports.old links.old bits) deeds →
+        Does plan.now (run_now bus.old drivers.old ports.old links.old bits)
+          (run_now bus.new drivers.new ports.new links.new bits) node deeds []
+        × IsStuck plan.now (run_now bus.new drivers.new ports.new links.new bits) deeds node) }
+{
+    let at = drivers[node].log().done().len();
+    bus.keeps_its_laws();
+    ports[node].keeps_its_facts();
+    let done = drivers[node].step(links, LINKS * node, &mut ports[node], &plan.steps(node)[at], bits);
+    match bus.gather(links) {
+        Ok(()) => Ok(done),
+        Err(fault) => Err(RunFault::Bus(fault)),
+    }
+}
