@@ -11,3 +11,4 @@ pub mod After
 pub mod Gathered
 pub mod Turned
 pub mod Standing
+pub mod Several

@@ -1,8 +1,8 @@
 //! Steps of one node's driver, each with the taking of what it gave.
 
-ghost use Rattle.std.specs.Prelude.{◌≡◌, ◌<◌, ◌≤◌, ◌⊎◌, ℕ, List, [], ◌∷◌, length, true, false, IfOk, slice_index_or};
+ghost use Rattle.std.specs.Prelude.{◌≡◌, ◌<◌, ◌≤◌, ◌⊎◌, ℕ, List, [], ◌∷◌, length, true, false, IfOk, OnOk, slice_index_or};
 ghost use Rattle.sja_driver.specs.Deeds.{Deed};
-ghost use Rattle.sja_serial.specs.Serial.{SerialValue, StandsAt, IsRunOf, IsStuck, Does, run_now, steps_at, deeds_at};
+ghost use Rattle.sja_serial.specs.Serial.{SerialValue, StandsAt, IsRunOf, IsStuck, Does, TakesTurn, run_now, steps_at, deeds_at};
 
 use super::run_fault::RunFault;
 use sja_bus::Bus;
@@ -48,4 +48,37 @@ pub(crate) fn try_next(
         Ok(()) => Ok(done),
         Err(fault) => Err(RunFault::Bus(fault)),
     }
+}
+
+/// One turn of a node: so many steps of its driver, one after the other, or as many as it has left, or up to one that has
+/// to wait.
+///
+/// Error: [`RunFault::Bus`].
+pub(crate) fn take_turn(
+    plan: &Plan,
+    node: usize,
+    count: u32,
+    bits: u32,
+    bus: &mut Bus,
+    drivers: &mut [LoggedDriver],
+    ports: &mut [Port],
+    links: &mut [DequeLink],
+) -> Result<(), RunFault>
+    requires run { IsRunOf plan.now (run_now bus.old drivers.old ports.old links.old bits) }
+    requires node { node < length plan.now.nodes }
+    ensures turn { OnOk result ((deeds : List (List Deed)) →
+        StandsAt plan.now (run_now bus.old drivers.old ports.old links.old bits) deeds →
+        TakesTurn plan.now (run_now bus.old drivers.old ports.old links.old bits)
+          (run_now bus.new drivers.new ports.new links.new bits) node count deeds) }
+{
+    for _ in 0..count {
+        let done = drivers[node].log().done().len();
+        if done >= plan.steps(node).len() {
+            return Ok(());
+        }
+        if !try_next(plan, node, bits, bus, drivers, ports, links)? {
+            return Ok(());
+        }
+    }
+    Ok(())
 }
