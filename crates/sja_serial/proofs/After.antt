@@ -1,7 +1,6 @@
 -- A deed more, of which all that it gave was taken.
-use Rattle.std.proofs.Common.{◌≡◌, ◌≢◌, ℕ, suc, ◌+◌, ◌<◌, ◌≤◌, Bool, true, false, List, [], ◌∷◌, ◌++◌, length, map, refl, sym, ap, ◌∙◌, subst, append_assoc, append-nil, arith, inl, inr}
-use Rattle.std.specs.Prelude.{◌⊎◌, ◌||◌, ◌&&◌, not, if◌then◌else◌, Option, Some, None}
-use Rattle.sja_link.specs.declared.down.Down.{Down}
+use Rattle.std.proofs.Common.{◌≡◌, ◌≢◌, ℕ, ◌+◌, ◌<◌, Bool, true, false, List, [], ◌∷◌, ◌++◌, refl, sym, ap, ◌∙◌, subst, append_assoc, append-nil, arith, inl, inr}
+use Rattle.std.specs.Prelude.{◌||◌, ◌&&◌, not, if◌then◌else◌, Some, None}
 use Rattle.sja_link.specs.declared.up.Up.{Up}
 use Rattle.sja_link.specs.declared.up.Up.TheVariants.{Start as StartItem, Credit, Send as SendItem, Stop as StopItem}
 use Rattle.sja_link.specs.declared.entry.Entry.{Entry}
@@ -10,12 +9,11 @@ use Rattle.sja_link.specs.Gathering.{total}
 use Rattle.sja_link.specs.Looking.{one_if, off_among}
 use Rattle.sja_link.specs.Picking.{EachAfter}
 use Rattle.sja_link.specs.Places.{Place, past, place_of}
-use Rattle.sja_link.specs.Carried.{put_in}
 use Rattle.sja_link.specs.World.{is_send}
 use Rattle.sja_link.proofs.Entering.{place_push, of_part_later}
 use Rattle.sja_link.proofs.Freeing.{total_push}
 use Rattle.sja_link.proofs.Judging.{each_push}
-use Rattle.sja_bus.specs.Links.{stops_in, stops_of}
+use Rattle.sja_bus.specs.Links.{stops_in}
 use Rattle.sja_bus.specs.OneBit.{entries_of_items}
 use Rattle.can_node.specs.declared.request.Request.{Request}
 use Rattle.sja_regs.specs.declared.reg_fault.RegFault.{RegFault}
@@ -29,19 +27,19 @@ use Rattle.sja_script.specs.declared.refusal.Refusal.TheVariants.{Closed}
 use Rattle.sja_script.specs.declared.step.Step.{Step}
 use Rattle.sja_script.specs.declared.step.Step.TheVariants.{Start, Stop, Window, Release, Read, Write, Load, Command, Await, Sent}
 use Rattle.sja_script.specs.declared.step_answer.StepAnswer.{StepAnswer}
-use Rattle.sja_script.specs.declared.step_answer.StepAnswer.TheVariants.{Done, NoMessage, Shown, Released, Value, Refused}
+use Rattle.sja_script.specs.declared.step_answer.StepAnswer.TheVariants.{Done, Released, Refused}
 use Rattle.sja_driver.specs.Answers.{done_unless}
-use Rattle.sja_driver.specs.Carried.{Tells, carried, ported, aborts, asks_abort}
+use Rattle.sja_driver.specs.Carried.{Tells, carried, ported, asks_abort}
 use Rattle.sja_driver.specs.Ports.{send_of}
-use Rattle.sja_driver.specs.Deeds.{Deed, opened, opens_by, opened_by, active_after, is_active, FitsState}
+use Rattle.sja_driver.specs.Deeds.{Deed, opens_by, opened_by, active_after, is_active, FitsState}
 use Rattle.can_frame.specs.declared.seen.Seen.{Seen}
 use Rattle.sja_driver.proofs.Sections.{active_push, opened_push}
-use Rattle.sja_report.specs.Aborting.{AbortIsDue, IsCommanded, sends_given, sends_taken}
+use Rattle.sja_report.specs.Aborting.{AbortIsDue, IsCommanded, sends_given}
 use Rattle.sja_report.specs.InTime.{IsInTime}
 use Rattle.sja_report.specs.Settings.{settings_of, after_setting}
 use Rattle.sja_report.specs.Timing.{given_when, taken_when}
 use Rattle.sja_report.specs.Windows.{put_by, off_by, SeesIf}
-use Rattle.sja_report.proofs.Timings.{aborts_on, aborts_push, commanded_on}
+use Rattle.sja_report.proofs.Timings.{aborts_on, aborts_push}
 use Rattle.sja_serial.specs.Alike.{AreAlike}
 use Rattle.sja_serial.specs.Linking.{IsLevel}
 use Rattle.sja_serial.specs.Porting.{is_reset, IsPorted}
@@ -213,7 +211,7 @@ module _ (version : ℕ) (j k : List Entry) (deeds : List Deed) (d : Deed) (p q 
       let same = same_put j k deeds d e in
       let rm : p.mode.rm ≡ (not (is_active deeds) || off_by d.bits j (opened_by deeds)) = h.reset ∙ ap (λ (n : ℕ). not (is_active deeds) || off_by n j (opened_by deeds)) (sym next.now) in
       let is : settings_of version k (deeds ++ d ∷ []) ≡ after_setting p.mode.rm (settings_of version j deeds) d.step d.answer =
-          settings_same version j k same (deeds ++ d ∷ []) ∙ settings_push version j deeds d ∙ ap (λ (b : Bool). after_setting b (settings_of version j deeds) d.step d.answer) (sym rm) in
+      settings_same version j k same (deeds ++ d ∷ []) ∙ settings_push version j deeds d ∙ ap (λ (b : Bool). after_setting b (settings_of version j deeds) d.step d.answer) (sym rm) in
       subst (λ (r : Registers). AreAlike (ported p d.step d.answer) r) (sym is) (alike_step p (settings_of version j deeds) d.step d.answer h.set)
 
   -- nothing opened, and so what is known of bus-off is the same
@@ -221,8 +219,8 @@ module _ (version : ℕ) (j k : List Entry) (deeds : List Deed) (d : Deed) (p q 
   reset_same o =
       let n : opened_by (deeds ++ d ∷ []) ≡ opened_by deeds = let more = opened_push deeds d in omega (arith, more, o) in
       let off : off_by (place_of k).bits k (opened_by (deeds ++ d ∷ [])) ≡ off_by (place_of j).bits j (opened_by deeds) =
-          off_same j k (same_put j k deeds d e) (place_of k).bits (opened_by (deeds ++ d ∷ [])) ∙ ap (λ (b : ℕ). off_by b j (opened_by (deeds ++ d ∷ []))) (same_bits j k deeds d e)
-          ∙ ap (λ (a : ℕ). off_by (place_of j).bits j a) n in
+      off_same j k (same_put j k deeds d e) (place_of k).bits (opened_by (deeds ++ d ∷ [])) ∙ ap (λ (b : ℕ). off_by b j (opened_by (deeds ++ d ∷ []))) (same_bits j k deeds d e)
+      ∙ ap (λ (a : ℕ). off_by (place_of j).bits j a) n in
       (rm_step p d.step d.answer (is_active deeds) (is_active deeds) next.seen (off_by (place_of j).bits j (opened_by deeds)) next.tells h.reset).0 o
       ∙ ap (λ (b : Bool). not b || off_by (place_of j).bits j (opened_by deeds)) (sym (active_push false deeds d))
       ∙ ap (λ (b : Bool). not (is_active (deeds ++ d ∷ [])) || b) (sym off)
@@ -232,7 +230,7 @@ module _ (version : ℕ) (j k : List Entry) (deeds : List Deed) (d : Deed) (p q 
   reset_new o act =
       let later : (place_of j).activation < opened_by (deeds ++ d ∷ []) = let more = opened_push deeds d in let b = before.begun in omega (arith, more, o, b) in
       let off : off_by (place_of k).bits k (opened_by (deeds ++ d ∷ [])) ≡ false =
-          off_same j k (same_put j k deeds d e) (place_of k).bits (opened_by (deeds ++ d ∷ [])) ∙ ap (off_among false) (of_part_later _ j (opened_by (deeds ++ d ∷ [])) later) in
+      off_same j k (same_put j k deeds d e) (place_of k).bits (opened_by (deeds ++ d ∷ [])) ∙ ap (off_among false) (of_part_later _ j (opened_by (deeds ++ d ∷ [])) later) in
       (rm_step p d.step d.answer (is_active deeds) (is_active deeds) next.seen (off_by (place_of j).bits j (opened_by deeds)) next.tells h.reset).1 o
       ∙ sym (ap (λ (b : Bool). not b || off_by (place_of k).bits k (opened_by (deeds ++ d ∷ []))) (active_push false deeds d ∙ act) ∙ off)
 

@@ -1,31 +1,30 @@
 -- A driver never holds more messages than 64 bytes have room for.
-use Rattle.std.proofs.Common.{◌≡◌, ℕ, ◌+◌, ◌-◌, ◌*◌, ◌<◌, ◌≤◌, Bool, true, false, List, [], ◌∷◌, ◌++◌, length, map, refl, sym, ap, ap₂, ◌∙◌, subst, append_assoc, append-nil, arith}
+use Rattle.std.proofs.Common.{◌≡◌, ℕ, ◌+◌, ◌*◌, ◌≤◌, Bool, true, false, List, [], ◌∷◌, ◌++◌, length, map, refl, sym, ap, ap₂, ◌∙◌, subst, append_assoc, append-nil, arith}
 use Rattle.std.specs.Prelude.{◌==◌, if◌then◌else◌}
-use Rattle.can_frame.specs.Message.{message, head_of}
+use Rattle.can_frame.specs.Message.{head_of}
 use Rattle.sja_link.specs.NodeWords.{ReceivedFrame}
 use Rattle.sja_link.specs.declared.down.Down.{Down}
 use Rattle.sja_link.specs.declared.up.Up.{Up}
-use Rattle.sja_link.specs.declared.up.Up.TheVariants.{Start as StartItem, Credit, Send, Stop as StopItem}
 use Rattle.sja_link.specs.declared.entry.Entry.{Entry}
 use Rattle.sja_link.specs.declared.entry.Entry.TheVariants.{Bit, Up as Item, Abort, Stored, Overrun, Off}
-use Rattle.sja_link.specs.Gathering.{total, gathered}
+use Rattle.sja_link.specs.Gathering.{total}
 use Rattle.sja_link.specs.Lists.{messages}
 use Rattle.sja_link.specs.Looking.{Holds}
 use Rattle.sja_link.specs.Accounts.{Account}
 use Rattle.sja_link.specs.Parts.{part}
-use Rattle.sja_link.specs.Carried.{put_of, taken_in, taken_of, stored_of}
-use Rattle.sja_link.specs.Free.{credit_of, credit_in, bytes_in, free_of}
-use Rattle.sja_link.specs.Judged.{Judged, judged_in, kept_in, kept}
+use Rattle.sja_link.specs.Carried.{put_of, taken_of, stored_of}
+use Rattle.sja_link.specs.Free.{credit_of, credit_in, bytes_in}
+use Rattle.sja_link.specs.Judged.{Judged, judged_in, kept}
 use Rattle.sja_link.specs.Picking.{Picks, EachAfter}
 use Rattle.sja_link.specs.Picking.Picks.{nothing, picked, left}
-use Rattle.sja_link.specs.Verdicts.{IsOn, IsKept, IsFair, IsDue, IsLawful}
+use Rattle.sja_link.specs.Verdicts.{IsOn, IsFair, IsDue, IsLawful}
 use Rattle.sja_link.proofs.Freeing.{total_push, total_append}
 use Rattle.sja_link.proofs.Holding.{told_stored}
 use Rattle.sja_link.proofs.Judging.{kept_stored}
 use Rattle.sja_script.specs.declared.step.Step.{Step}
 use Rattle.sja_script.specs.declared.step.Step.TheVariants.{Start, Stop, Window, Release, Read, Write, Load, Command, Await, Sent}
 use Rattle.sja_script.specs.declared.step_answer.StepAnswer.{StepAnswer}
-use Rattle.sja_script.specs.declared.step_answer.StepAnswer.TheVariants.{Done, NoMessage, Shown, Released, Value, Refused}
+use Rattle.sja_script.specs.declared.step_answer.StepAnswer.TheVariants.{Done, Released}
 use Rattle.sja_driver.specs.Deeds.{Deed, opens_by, Gives, GivesSend, length_in, given_in, released_lengths, section_from, deeds_of}
 use Rattle.sja_regs.specs.Commands.{command_of, requests}
 

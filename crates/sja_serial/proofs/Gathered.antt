@@ -1,13 +1,13 @@
 -- The links of a node after a step and a taking.
-use Rattle.std.proofs.Common.{◌≡◌, ◌≢◌, ℕ, suc, ◌+◌, ◌*◌, ◌<◌, ◌≤◌, Bool, true, false, List, [], ◌∷◌, ◌++◌, length, map, refl, sym, ap, ◌∙◌, subst, append_assoc, append-nil, arith, inl, inr}
-use Rattle.std.specs.Prelude.{slice_index_or, take}
+use Rattle.std.proofs.Common.{◌≡◌, ◌≢◌, ℕ, suc, ◌+◌, ◌<◌, List, [], ◌++◌, sym, ap, ◌∙◌, subst, append_assoc, append-nil}
+use Rattle.std.specs.Prelude.{slice_index_or}
 use Rattle.sja_link.specs.declared.up.Up.{Up}
 use Rattle.sja_link.specs.declared.entry.Entry.{Entry}
 use Rattle.sja_link.specs.Accounts.{Account, account}
 use Rattle.sja_link.specs.Deques.{Deques, Lies}
 use Rattle.sja_link.specs.Parts.{part}
 use Rattle.sja_link.specs.Carried.{taken_of}
-use Rattle.sja_bus.specs.Links.{per_node, stops_of, Kept}
+use Rattle.sja_bus.specs.Links.{stops_of, Kept}
 use Rattle.sja_bus.specs.OneBit.{entries_of_items, HasItems}
 use Rattle.sja_driver.specs.declared.any_driver.AnyDriver.{AnyDriver}
 use Rattle.sja_driver.specs.declared.logged_driver.LoggedDriver.{LoggedDriver}
@@ -33,13 +33,13 @@ module _ (j k : List Entry) (deeds : List Deed) (driver : AnyDriver) (log : Work
   items_are gave b items few here given dry =
       let up : ℕ → List Up = λ a. (slice_index_or after (base + a) none).up in
       let whole : (a : ℕ) → a < 8 → waiting b gave (suc a) ≡ adds j items.items (suc a) ++ up a = λ a less.
-          same_front (taken_of (part j (suc a))) (waiting b gave (suc a)) (adds j items.items (suc a) ++ up a)
-          (sym (given (suc a)) ∙ (lies_after a none less).1
-          ∙ ap (λ (l : List Entry). taken_of (part l (suc a)) ++ up a) items.whole
-          ∙ ap (λ (l : List Up). l ++ up a) (taken_adds j items.items (suc a))
-          ∙ append_assoc (taken_of (part j (suc a))) (adds j items.items (suc a)) (up a)) in
+      same_front (taken_of (part j (suc a))) (waiting b gave (suc a)) (adds j items.items (suc a) ++ up a)
+      (sym (given (suc a)) ∙ (lies_after a none less).1
+      ∙ ap (λ (l : List Entry). taken_of (part l (suc a)) ++ up a) items.whole
+      ∙ ap (λ (l : List Up). l ++ up a) (taken_adds j items.items (suc a))
+      ∙ append_assoc (taken_of (part j (suc a))) (adds j items.items (suc a)) (up a)) in
       let last : stops_of (j ++ entries_of_items items.items) < 8 → up (stops_of (j ++ entries_of_items items.items)) ≡ [] =
-          subst (λ (l : List Entry). stops_of l < 8 → up (stops_of l) ≡ []) items.whole dry in
+      subst (λ (l : List Entry). stops_of l < 8 → up (stops_of l) ≡ []) items.whole dry in
       items.whole ∙ ap (λ (us : List Up). j ++ entries_of_items us) (just_taken j items.items gave b up items.read few here whole last)
 
   -- and nothing waits any more

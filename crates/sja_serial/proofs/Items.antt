@@ -1,6 +1,6 @@
 -- A journal with at most one item more.
-use Rattle.std.proofs.Common.{◌≡◌, ◌≢◌, ℕ, suc, ◌+◌, ◌<◌, ◌≤◌, Bool, true, false, List, [], ◌∷◌, ◌++◌, length, map, refl, sym, ap, ◌∙◌, subst, append_assoc, append-nil, arith, inl, inr}
-use Rattle.std.specs.Prelude.{◌==◌, ◌⊎◌, ◌||◌, not, drop, if◌then◌else◌}
+use Rattle.std.proofs.Common.{◌≡◌, ℕ, ◌+◌, Bool, true, false, List, [], ◌∷◌, ◌++◌, length, refl, sym, ap, ◌∙◌, subst, append-nil, arith, inl, inr}
+use Rattle.std.specs.Prelude.{◌||◌, not, drop, if◌then◌else◌}
 use Rattle.std.specs.List.{fold}
 use Rattle.std.proofs.lemmas.Bool.{cases_eq, eq-eqb, ne_eqb}
 use Rattle.std.proofs.lemmas.List.Sums.{fold_push}
@@ -11,26 +11,22 @@ use Rattle.sja_link.specs.declared.entry.Entry.{Entry}
 use Rattle.sja_link.specs.declared.entry.Entry.TheVariants.{Up as Item}
 use Rattle.sja_link.specs.Gathering.{total}
 use Rattle.sja_link.specs.Lists.{messages}
-use Rattle.sja_link.specs.Looking.{one_if, off_among}
+use Rattle.sja_link.specs.Looking.{off_among}
 use Rattle.sja_link.specs.Picking.{EachAfter}
 use Rattle.sja_link.specs.Places.{Place, past, place_of}
-use Rattle.sja_link.specs.Parts.{part}
-use Rattle.sja_link.specs.Carried.{taken_in, put_in}
+use Rattle.sja_link.specs.Carried.{taken_in}
 use Rattle.sja_link.specs.World.{is_send}
-use Rattle.sja_link.proofs.Entering.{place_push, of_part_later}
+use Rattle.sja_link.proofs.Entering.{place_push}
 use Rattle.sja_link.proofs.Freeing.{total_push}
-use Rattle.sja_link.proofs.Judging.{each_push}
 use Rattle.sja_bus.specs.Links.{stops_in, stops_of}
-use Rattle.sja_bus.specs.OneBit.{entries_of_items}
 use Rattle.sja_driver.specs.Carried.{Sees}
 use Rattle.sja_driver.specs.Deeds.{Deed, opens_by, opened_by, active_after, active_from, is_active, deeds_of, released_lengths}
-use Rattle.sja_driver.proofs.Sections.{active_push, opened_push}
-use Rattle.sja_report.specs.Aborting.{AbortIsDue, sends_taken}
+use Rattle.sja_report.specs.Aborting.{sends_taken}
 use Rattle.sja_report.specs.Settings.{Standing, after_setting, after_deed, settings_of}
-use Rattle.sja_report.specs.Timing.{timed, given_when, taken_when, WaitsInTime}
+use Rattle.sja_report.specs.Timing.{given_when, taken_when, WaitsInTime}
 use Rattle.sja_report.specs.Windows.{put_by, off_by, window_of, SeesIf}
 use Rattle.sja_report.proofs.Stepping.{stands_in, timely_deed}
-use Rattle.sja_report.proofs.Timings.{timely_take, timely_quiet, all_timely, aborts_on, aborts_push}
+use Rattle.sja_report.proofs.Timings.{timely_take, timely_quiet, all_timely}
 use Rattle.sja_report.proofs.Windows.{put_quiet}
 use Rattle.sja_regs.specs.Registers.{at_power_on}
 

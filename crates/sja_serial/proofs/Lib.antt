@@ -12,3 +12,4 @@ pub mod Gathered
 pub mod Turned
 pub mod Standing
 pub mod Several
+pub mod Newly

@@ -1,12 +1,11 @@
 -- What a step has seen, beside all that was put.
-use Rattle.std.proofs.Common.{◌≡◌, ℕ, suc, ◌+◌, ◌-◌, ◌<◌, ◌≤◌, Bool, true, false, List, [], ◌∷◌, ◌++◌, length, map, refl, sym, ap, ◌∙◌, subst, append_assoc, append-nil, arith, inl, inr}
-use Rattle.std.specs.Prelude.{slice_index_or, ◌⊎◌}
+use Rattle.std.proofs.Common.{◌≡◌, ℕ, ◌≤◌, Bool, true, false, List, [], ◌∷◌, ◌++◌, length, map, refl, sym, ap, ◌∙◌, append_assoc, append-nil, arith, inl, inr}
 use Rattle.sja_link.specs.declared.down.Down.{Down}
 use Rattle.sja_link.specs.declared.down.Down.TheVariants.{Message, Off as OffDown}
 use Rattle.sja_link.specs.declared.entry.Entry.{Entry}
-use Rattle.sja_link.specs.Lists.{Lists, messages}
+use Rattle.sja_link.specs.Lists.{messages}
 use Rattle.sja_link.specs.Deques.{Deques, Lies}
-use Rattle.sja_link.specs.Looking.{Pulls, IsTaken, Holds, off_among}
+use Rattle.sja_link.specs.Looking.{IsTaken, Holds, off_among}
 use Rattle.sja_link.specs.Accounts.{account}
 use Rattle.sja_link.specs.Places.{place_of}
 use Rattle.sja_link.specs.Parts.{part}
@@ -39,10 +38,10 @@ pub is_shown : (j : List Entry) (deeds : List Deed) (old : Deques) (got : List D
 is_shown j deeds old got given released held window off now_off lies holds known lengths few look =
     let p = look.pulls in
     let put : put_of (part j (opened_by deeds)) ≡ (got ++ p.got) ++ look.at.down =
-        (p.lists (account j (opened_by deeds) (record { got = got; given = given })) lies).0 in
+    (p.lists (account j (opened_by deeds) (record { got = got; given = given })) lies).0 in
     let now : now_off ≡ off_among false (got ++ p.got) = p.off_is ∙ ap (λ b. off_among b p.got) known ∙ sym (off_both false got p.got) in
     let told : Holds (got ++ p.got) released window =
-        messages_both got p.got ∙ ap (λ l. l ++ messages p.got) holds ∙ append_assoc released held (messages p.got) ∙ ap (λ l. released ++ l) (sym p.told) in
+    messages_both got p.got ∙ ap (λ l. l ++ messages p.got) holds ∙ append_assoc released held (messages p.got) ∙ ap (λ l. released ++ l) (sym p.told) in
     over now_off refl look.all put now told
   where
     -- all that was put was got

@@ -1,16 +1,15 @@
 -- No step that waits is given up while the bits aren't spent.
-use Rattle.std.proofs.Common.{◌≡◌, ◌≢◌, ℕ, ◌+◌, ◌<◌, Bool, true, false, List, [], ◌∷◌, length, refl, sym, ap, ◌∙◌, inl, inr}
-use Rattle.std.specs.Prelude.{◌⊎◌, nat_lt, if◌then◌else◌, Option, Some, None, Result, Ok, Err}
+use Rattle.std.proofs.Common.{◌≡◌, ◌≢◌, ℕ, Bool, true, false, List, [], ◌∷◌, refl, sym, ◌∙◌, inl, inr}
+use Rattle.std.specs.Prelude.{nat_lt, if◌then◌else◌, Option, Some, None, Result, Ok, Err}
 use Rattle.can_frame.specs.declared.seen.Seen.{Seen}
 use Rattle.sja_regs.specs.declared.reg_fault.RegFault.{RegFault}
 use Rattle.sja_regs.specs.declared.reg_fault.RegFault.TheVariants as fault
 use Rattle.sja_regs.specs.declared.registers.Registers.{Registers}
 use Rattle.sja_script.specs.declared.step.Step.{Step}
 use Rattle.sja_script.specs.declared.step.Step.TheVariants.{Start, Stop, Window, Release, Read, Write, Load, Command, Await, Sent}
-use Rattle.sja_script.specs.declared.refusal.Refusal.{Refusal}
-use Rattle.sja_script.specs.declared.refusal.Refusal.TheVariants.{Closed, Stopped, Empty, WrongState, NoActivationLeft}
+use Rattle.sja_script.specs.declared.refusal.Refusal.TheVariants.{Closed, NoActivationLeft}
 use Rattle.sja_script.specs.declared.step_answer.StepAnswer.{StepAnswer}
-use Rattle.sja_script.specs.declared.step_answer.StepAnswer.TheVariants.{Done, NoMessage, Shown, Released, Value, Refused}
+use Rattle.sja_script.specs.declared.step_answer.StepAnswer.TheVariants.{Done, Refused}
 use Rattle.sja_driver.specs.Answers.{refusal_of, done_unless, value_answer}
 use Rattle.sja_driver.specs.Carried.{Sees, Tells}
 use Rattle.sja_driver.specs.Deeds.{FitsState}

@@ -1,35 +1,22 @@
 -- What a step leaves in the registers, beside what the deeds have set.
-use Rattle.std.proofs.Common.{◌≡◌, ℕ, ◌+◌, Bool, true, false, List, [], ◌∷◌, refl, sym, ap, ◌∙◌, subst, inl, inr}
-use Rattle.std.specs.Prelude.{◌⊎◌, ◌||◌, ◌&&◌, not, if◌then◌else◌, Option, Some, None, slice_set}
-use Rattle.std.proofs.lemmas.Bool.{true≢false}
-use Rattle.sja_link.specs.declared.up.Up.{Up}
+use Rattle.std.proofs.Common.{◌≡◌, ℕ, Bool, true, false, [], ◌∷◌, refl, ap, ◌∙◌}
+use Rattle.std.specs.Prelude.{not, if◌then◌else◌, Option, Some, None, slice_set}
 use Rattle.sja_link.specs.declared.up.Up.TheVariants.{Start as StartItem}
-use Rattle.sja_link.specs.Gathering.{total}
-use Rattle.sja_link.specs.World.{is_send}
 use Rattle.can_frame.specs.Buffer.{frame_in}
-use Rattle.can_frame.specs.declared.seen.Seen.{Seen}
-use Rattle.sja_regs.specs.declared.command.Command.{Command as CommandBits}
-use Rattle.sja_regs.specs.declared.reg_fault.RegFault.{RegFault}
 use Rattle.sja_regs.specs.declared.register.Register.{Register}
-use Rattle.sja_regs.specs.declared.register.Register.TheVariants.{Mode, Command as CommandRegister, Status, Interrupt, InterruptEnable, ArbitrationLostCapture, ErrorCodeCapture, ErrorWarningLimit, ReceiveErrorCounter, TransmitErrorCounter, AcceptanceCode, AcceptanceMask, Buffer, ReceiveMessageCounter}
+use Rattle.sja_regs.specs.declared.register.Register.TheVariants.{Mode, Interrupt, InterruptEnable, ArbitrationLostCapture, ErrorCodeCapture, ErrorWarningLimit, AcceptanceCode, AcceptanceMask, Buffer}
 use Rattle.sja_regs.specs.declared.registers.Registers.{Registers}
 use Rattle.sja_regs.specs.Addresses.{register_at}
-use Rattle.sja_regs.specs.Bits.{differ}
-use Rattle.sja_regs.specs.Commands.{command_of, requests, command_faults, after_command}
-use Rattle.sja_regs.specs.Facts.{RegisterFacts}
-use Rattle.sja_regs.specs.Modes.{mode_of}
-use Rattle.sja_regs.specs.Reading.{after_reading, after_reading_at}
-use Rattle.sja_regs.specs.Refusals.{first_fault}
-use Rattle.sja_regs.specs.Registers.{after_leaving_reset, after_entering_reset}
-use Rattle.sja_regs.specs.Writing.{write_faults, write_faults_at, after_writing, after_writing_at, after_loading}
+use Rattle.sja_regs.specs.Commands.{command_of, requests}
+use Rattle.sja_regs.specs.Reading.{after_reading_at}
+use Rattle.sja_regs.specs.Registers.{after_leaving_reset}
+use Rattle.sja_regs.specs.Writing.{after_writing_at}
 use Rattle.sja_script.specs.declared.step.Step.{Step}
 use Rattle.sja_script.specs.declared.step.Step.TheVariants.{Start, Stop, Window, Release, Read, Write, Load, Command, Await, Sent}
 use Rattle.sja_script.specs.declared.step_answer.StepAnswer.{StepAnswer}
 use Rattle.sja_script.specs.declared.step_answer.StepAnswer.TheVariants.{Done, NoMessage, Shown, Released, Value, Refused}
-use Rattle.sja_driver.specs.Answers.{done_unless}
-use Rattle.sja_driver.specs.Carried.{Tells, carried, ported, aborts, asks_abort}
-use Rattle.sja_driver.specs.Deeds.{active_after}
-use Rattle.sja_driver.specs.Ports.{after_start, send_of}
+use Rattle.sja_driver.specs.Carried.{carried, ported}
+use Rattle.sja_driver.specs.Ports.{send_of}
 use Rattle.sja_report.specs.Settings.{after_setting}
 use Rattle.sja_serial.specs.Alike.{AreAlike}
 

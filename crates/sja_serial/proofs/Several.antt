@@ -1,6 +1,6 @@
 -- Deeds of one node, one after another.
 use Rattle.std.proofs.Common.{◌≡◌, ℕ, zero, suc, ◌+◌, ◌-◌, ◌<◌, ◌≤◌, List, [], ◌∷◌, ◌++◌, length, refl, sym, ap, ◌∙◌, subst, append_assoc, append-nil, arith, inl, inr}
-use Rattle.std.specs.Prelude.{slice_index_or, slice_set, ◌⊎◌}
+use Rattle.std.specs.Prelude.{slice_index_or, slice_set}
 use Rattle.std.proofs.lemmas.Bool.{cases_lt}
 use Rattle.std.proofs.lemmas.List.{length-append, length-map}
 use Rattle.sja_plan.specs.Plan.{PlanValue}
@@ -10,7 +10,7 @@ use Rattle.sja_driver.specs.Deeds.{Deed, done_of}
 use Rattle.sja_driver.specs.LoggedDrivers.{log_of}
 use Rattle.sja_driver.specs.Logs.{done_in}
 use Rattle.sja_driver.proofs.Each.{set_here}
-use Rattle.sja_serial.specs.Serial.{SerialValue, StandsAt, Does, IsStuck, TakesTurn, with_deeds, deeds_at, steps_at}
+use Rattle.sja_serial.specs.Serial.{SerialValue, StandsAt, Does, IsStuck, TakesTurn, with_deeds, deeds_at}
 use Rattle.sja_serial.proofs.Standing.{no_deeds}
 
 set_twice : {A : Type 0} (xs : List A) (i : ℕ) (y z : A) → slice_set (slice_set xs i y) i z ≡ slice_set xs i z

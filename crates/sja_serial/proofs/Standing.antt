@@ -1,12 +1,12 @@
 -- A run after a step of one node's driver and a taking.
-use Rattle.std.proofs.Common.{◌≡◌, ◌≢◌, ℕ, zero, suc, ◌+◌, ◌*◌, ◌<◌, ◌≤◌, Bool, true, false, List, [], ◌∷◌, ◌++◌, length, refl, sym, ap, ◌∙◌, subst, append-nil, arith, inl, inr}
-use Rattle.std.specs.Prelude.{None, All, min, slice_index_or, slice_set, ◌⊎◌}
+use Rattle.std.proofs.Common.{◌≡◌, ◌≢◌, ℕ, zero, suc, ◌+◌, ◌*◌, ◌<◌, true, false, List, [], ◌∷◌, ◌++◌, length, refl, sym, ap, ◌∙◌, subst, append-nil, arith, inl, inr}
+use Rattle.std.specs.Prelude.{None, min, slice_index_or, slice_set}
 use Rattle.std.proofs.lemmas.Bool.{cases_eq}
 use Rattle.sja_link.specs.declared.entry.Entry.{Entry}
 use Rattle.sja_link.specs.Accounts.{Account, account}
 use Rattle.sja_link.specs.Deques.{Deques, Lies}
 use Rattle.sja_bus.specs.Buses.{KeepsAll, EachJournal, AllDry}
-use Rattle.sja_bus.specs.Links.{per_node, stops_of, Kept, EachRelated, Numbered}
+use Rattle.sja_bus.specs.Links.{per_node, stops_of, EachRelated}
 use Rattle.sja_bus.specs.OneBit.{HasItems}
 use Rattle.sja_bus.specs.Wire.{journal_at}
 use Rattle.sja_link.specs.Places.{place_of}
@@ -22,7 +22,7 @@ use Rattle.sja_driver.specs.LoggedDrivers.{node_of, driver_of, log_of, ended_of,
 use Rattle.sja_driver.specs.Logs.{HasRoom}
 use Rattle.sja_driver.proofs.Each.{set_here, set_else, index_any}
 use Rattle.sja_serial.specs.Nodes.{IsNode}
-use Rattle.sja_serial.specs.Serial.{SerialValue, HasNodes, steps_at, deeds_at, StandsAt, with_deeds, Does, IsStuck}
+use Rattle.sja_serial.specs.Serial.{SerialValue, steps_at, deeds_at, StandsAt, with_deeds, Does, IsStuck}
 use Rattle.sja_serial.specs.Waiting.{HasToWait}
 use Rattle.sja_serial.proofs.Trying.{shows_none, takes_none}
 use Rattle.sja_serial.proofs.Turned.{idle, stepped, still_journal, same_port, still, waited}
@@ -157,9 +157,9 @@ module _ (plan : PlanValue) (r n : SerialValue) (deeds : List (List Deed)) (node
       (d : Deed) × Does plan r n node deeds (d ∷ [])
   next_done p one w lawful facts left is now_lawful place st room =
       let at : Steps Lies shows_none takes_none was now r.links given (8 * node) p q one (place_of (journal_at r.bus.journals node)).bits true =
-          subst (λ (b : ℕ). Steps Lies shows_none takes_none was now r.links given (8 * node) p q one b true) (sym place) st in
+      subst (λ (b : ℕ). Steps Lies shows_none takes_none was now r.links given (8 * node) p q one b true) (sym place) st in
       let s = stepped plan.version (steps_at plan node) (journal_at r.bus.journals node) (journal_at n.bus.journals node) (deeds_at deeds node) was now p q r.links given n.links (8 * node) one none w lawful facts left is now_lawful
-          (items node inside) (λ acc. kept node acc inside) (λ few. dry node none now_inside few) at room in
+      (items node inside) (λ acc. kept node acc inside) (λ few. dry node none now_inside few) at room in
       (s.deed, record { stands = stands_after (s.deed ∷ []) s.node; at_once = λ i d less. only s.deed i d (s.bits ∙ place) less; bits = bits_are })
     where
       only : (x : Deed) (i : ℕ) (d : Deed) → x.bits ≡ r.bits → i < 1 → (slice_index_or (x ∷ []) i d).bits ≡ r.bits
@@ -173,7 +173,7 @@ module _ (plan : PlanValue) (r n : SerialValue) (deeds : List (List Deed)) (node
       Does plan r n node deeds [] × IsStuck plan n deeds node
   next_waits p one w lawful left is now_lawful place st room =
       let at : Steps Lies shows_none takes_none was now r.links given (8 * node) p q one (place_of (journal_at r.bus.journals node)).bits false =
-          subst (λ (b : ℕ). Steps Lies shows_none takes_none was now r.links given (8 * node) p q one b false) (sym place) st in
+      subst (λ (b : ℕ). Steps Lies shows_none takes_none was now r.links given (8 * node) p q one b false) (sym place) st in
       let j = journal_at r.bus.journals node in let k = journal_at n.bus.journals node in let ds = deeds_at deeds node in
       let its = items node inside in let keeps = λ (acc : ℕ → Account). kept node acc inside in
       let shows : stops_of k < 8 → (slice_index_or n.links (8 * node + stops_of k) none).up ≡ [] = λ few. dry node none now_inside few in
@@ -181,11 +181,12 @@ module _ (plan : PlanValue) (r n : SerialValue) (deeds : List (List Deed)) (node
       let port = same_port plan.version (steps_at plan node) j k ds was now p q r.links given n.links (8 * node) one none w lawful now_lawful its keeps shows at room in
       let after = still plan.version (steps_at plan node) j k ds was now p q r.links given n.links (8 * node) one none w lawful now_lawful its keeps shows at room in
       let why = waited plan.version (steps_at plan node) j k ds was now p q r.links given n.links (8 * node) one none w lawful now_lawful its keeps shows at room in
-      let more : IsNode plan.version (steps_at plan node) k (ds ++ []) now q n.links (8 * node) = subst (λ (l : List Deed). IsNode plan.version (steps_at plan node) k l now q n.links (8 * node)) (sym (append-nil ds)) after in
-      (record { stands = stands_after [] more; at_once = λ i d less. absurd (omega (arith, less)); bits = bits_are },
-       inr (λ s x.
-        let c = h.count.ports in
-        let port_is : p ≡ slice_index_or n.ports node x = sym port ∙ sym (set_here r.ports node q x (omega (arith, c, there))) ∙ ap (λ l. slice_index_or l node x) (sym ports_are) in
-        let step_is : one ≡ slice_index_or (steps_at plan node) (length ds) s = is ∙ index_any (steps_at plan node) (length ds) one s left in
-        subst (λ (l : List Entry). HasToWait l ds (slice_index_or n.ports node x) (slice_index_or (steps_at plan node) (length ds) s)) (sym same)
-        (subst (λ (g : Registers). HasToWait j ds g (slice_index_or (steps_at plan node) (length ds) s)) port_is (subst (λ (t : Step). HasToWait j ds p t) step_is why))))
+      let more : IsNode plan.version (steps_at plan node) k (ds ++ []) now q n.links (8 * node) = subst (λ (l : List Deed). IsNode plan.version (steps_at plan node) k l now q n.links (8 * node)) (sym (append-nil ds)) after in (
+        record { stands = stands_after [] more; at_once = λ i d less. absurd (omega (arith, less)); bits = bits_are },
+        inr (λ s x.
+            let c = h.count.ports in
+            let port_is : p ≡ slice_index_or n.ports node x = sym port ∙ sym (set_here r.ports node q x (omega (arith, c, there))) ∙ ap (λ l. slice_index_or l node x) (sym ports_are) in
+            let step_is : one ≡ slice_index_or (steps_at plan node) (length ds) s = is ∙ index_any (steps_at plan node) (length ds) one s left in
+            subst (λ (l : List Entry). HasToWait l ds (slice_index_or n.ports node x) (slice_index_or (steps_at plan node) (length ds) s)) (sym same)
+            (subst (λ (g : Registers). HasToWait j ds g (slice_index_or (steps_at plan node) (length ds) s)) port_is (subst (λ (t : Step). HasToWait j ds p t) step_is why))),
+      )

@@ -1,6 +1,6 @@
 -- What was taken where one item at most waited.
-use Rattle.std.proofs.Common.{◌≡◌, ◌≢◌, ℕ, suc, ◌+◌, ◌<◌, ◌≤◌, Bool, true, false, List, [], ◌∷◌, ◌++◌, length, refl, sym, ap, ◌∙◌, subst, cond, append_assoc, append-nil, arith, inl, inr}
-use Rattle.std.specs.Prelude.{◌==◌, ◌⊎◌, if◌then◌else◌, slice_index_or}
+use Rattle.std.proofs.Common.{◌≡◌, ◌≢◌, ℕ, suc, ◌<◌, ◌≤◌, Bool, true, false, List, [], ◌∷◌, ◌++◌, length, refl, sym, ap, ◌∙◌, subst, cond, append_assoc, append-nil, arith, inl, inr}
+use Rattle.std.specs.Prelude.{◌==◌, if◌then◌else◌}
 use Rattle.std.proofs.lemmas.Bool.{cases_eq, eq-eqb, ne_eqb, eqb-true}
 use Rattle.sja_link.specs.declared.up.Up.{Up}
 use Rattle.sja_link.specs.declared.entry.Entry.{Entry}
@@ -88,7 +88,7 @@ just_taken j [] (x ∷ xs) b up read few here whole dry =
     absurd (some_none x xs (sym at ∙ whole (stops_of j) h.1 ∙ none))
 just_taken j (u ∷ us) gave b up read few here whole dry =
     let first : cond (b == suc (stops_of j)) gave [] ≡ u ∷ (adds (j ++ Item u ∷ []) us (suc (stops_of j)) ++ up (stops_of j)) =
-        whole (stops_of j) read.0.left ∙ ap (λ l. l ++ up (stops_of j)) (adds_first j u us read.0) in
+    whole (stops_of j) read.0.left ∙ ap (λ l. l ++ up (stops_of j)) (adds_first j u us read.0) in
     let one = one_is (b == suc (stops_of j)) u gave _ few first in
     let is : b ≡ suc (stops_of j) = eqb-true b (suc (stops_of j)) one.0 in
     let none : us ≡ [] = no_adds (j ++ Item u ∷ []) us read.1 (λ m less. elim (cases_eq (stops_of j) m) [

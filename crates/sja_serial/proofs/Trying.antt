@@ -1,20 +1,18 @@
 -- What comes of a try of a step, beside the journal.
-use Rattle.std.proofs.Common.{◌≡◌, ◌≢◌, ℕ, suc, ◌+◌, ◌<◌, ◌≤◌, Bool, true, false, List, [], ◌∷◌, ◌++◌, length, map, refl, sym, ap, ◌∙◌, subst, append-nil, arith, inl, inr}
-use Rattle.std.specs.Prelude.{min, slice_index_or, ◌⊎◌}
+use Rattle.std.proofs.Common.{◌≡◌, ◌≢◌, ℕ, suc, ◌+◌, ◌<◌, Bool, true, false, List, [], ◌∷◌, ◌++◌, length, map, refl, sym, ap, ◌∙◌, subst, arith}
+use Rattle.std.specs.Prelude.{min, slice_index_or}
 use Rattle.can_frame.specs.declared.seen.Seen.{Seen}
-use Rattle.sja_link.specs.declared.down.Down.{Down}
 use Rattle.sja_link.specs.declared.driver_ledger.DriverLedger.{DriverLedger}
 use Rattle.sja_link.specs.declared.entry.Entry.{Entry}
 use Rattle.sja_link.specs.Accounts.{account}
 use Rattle.sja_link.specs.Deques.{Deques, Lies}
-use Rattle.sja_link.specs.Lists.{Lists, messages}
-use Rattle.sja_link.specs.Looking.{Holds as GotHolds, off_among}
+use Rattle.sja_link.specs.Looking.{Holds as GotHolds}
 use Rattle.sja_link.specs.Parts.{part}
-use Rattle.sja_link.specs.Carried.{put_of, taken_of}
+use Rattle.sja_link.specs.Carried.{taken_of}
 use Rattle.sja_link.specs.Places.{place_of}
 use Rattle.sja_link.specs.Verdicts.{IsLawful as IsLawfulJournal}
 use Rattle.sja_regs.specs.declared.registers.Registers.{Registers}
-use Rattle.sja_script.specs.declared.refusal.Refusal.TheVariants.{Closed, Stopped}
+use Rattle.sja_script.specs.declared.refusal.Refusal.TheVariants.{Closed}
 use Rattle.sja_script.specs.declared.step.Step.{Step}
 use Rattle.sja_script.specs.declared.step.Step.TheVariants.{Start, Stop, Window, Release, Read, Write, Load, Command, Await, Sent}
 use Rattle.sja_script.specs.declared.step_answer.StepAnswer.{StepAnswer}
@@ -30,7 +28,7 @@ use Rattle.sja_driver.specs.Carried.{Sees, Tells, carried, ported}
 use Rattle.sja_driver.specs.Deeds.{Deed, opened_by, is_active, given_in, deeds_of, released_lengths, FitsState}
 use Rattle.sja_driver.specs.Holding.{HoldsBy, place_after}
 use Rattle.sja_driver.specs.Logs.{Traces, releases_in, left_in, released_of, leaves, deeds_by}
-use Rattle.sja_driver.specs.Tries.{is_met, off_after, window_after, port_after}
+use Rattle.sja_driver.specs.Tries.{is_met, off_after, window_after}
 use Rattle.sja_report.specs.Windows.{off_by, window_of, SeesIf}
 use Rattle.sja_serial.specs.Waiting.{HasToWait}
 use Rattle.sja_serial.proofs.Taking.{same_front}
@@ -128,12 +126,12 @@ module _ (j : List Entry) (deeds : List Deed) (log : WorkLog) (links : List Dequ
       let at : place_after base n ≡ base + n = ap (λ m. base + m) (min_few n few) in
       let g = given_in (deeds_of deeds (suc n)) in
       let lies : Lies (slice_index_or links (place_after base n) none) (account j (opened_by deeds) (record { got = h.got n; given = g })) =
-          subst (λ (m : ℕ). Lies (slice_index_or links m none) (account j (opened_by deeds) (record { got = h.got n; given = g }))) (sym at)
-          (subst (λ (m : ℕ). Lies (slice_index_or links (base + n) none) (account j m (record { got = h.got n; given = g }))) opened (h.kept n none few)) in
+      subst (λ (m : ℕ). Lies (slice_index_or links m none) (account j (opened_by deeds) (record { got = h.got n; given = g }))) (sym at)
+      (subst (λ (m : ℕ). Lies (slice_index_or links (base + n) none) (account j m (record { got = h.got n; given = g }))) opened (h.kept n none few)) in
       let released = released_of (releases_in log) (suc n) in
       let holds : GotHolds (h.got n) released (held_of (InActive d)) = h.told n few ∙ ap (λ l. released ++ l) (leaves_last (left_in log) (held_of (InActive d))) in
       let lengths : released_lengths (deeds_of deeds (opened_by deeds)) ≡ map (λ (m : List ℕ). length m) released =
-          sym (trace.released (opened_by deeds)) ∙ ap (λ m. map (λ (x : List ℕ). length x) (released_of (releases_in log) m)) (sym opened) in
+      sym (trace.released (opened_by deeds)) ∙ ap (λ m. map (λ (x : List ℕ). length x) (released_of (releases_in log) m)) (sym opened) in
       is_shown j deeds (slice_index_or links (place_after base n) none) (h.got n) g released (held_of (InActive d)) window (off_of (InActive d)) off lies holds h.off_is lengths
       (λ all down put told. few_held j (opened_by deeds) deeds all down released window lawful put told (given (opened_by deeds)) trace.answered.gives lengths) look
 

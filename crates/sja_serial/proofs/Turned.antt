@@ -1,5 +1,5 @@
 -- A node after a step of its driver and a taking of the bus, and a node whose driver did nothing.
-use Rattle.std.proofs.Common.{◌≡◌, ◌≢◌, ℕ, zero, suc, ◌+◌, ◌*◌, ◌<◌, ◌≤◌, Bool, true, false, List, [], ◌∷◌, ◌++◌, length, map, refl, sym, ap, ◌∙◌, subst, append_assoc, append-nil, arith, inl, inr}
+use Rattle.std.proofs.Common.{◌≡◌, ◌≢◌, ℕ, zero, suc, ◌+◌, ◌<◌, ◌≤◌, Bool, true, false, List, [], ◌∷◌, ◌++◌, length, map, refl, sym, ap, ◌∙◌, subst, append-nil, arith}
 use Rattle.std.specs.Prelude.{◌==◌, if◌then◌else◌, slice_index_or, take}
 use Rattle.std.proofs.lemmas.List.{length-append, map-append}
 use Rattle.sja_link.specs.declared.up.Up.{Up}
@@ -24,25 +24,24 @@ use Rattle.sja_driver.specs.declared.tried.Tried.{Tried}
 use Rattle.sja_driver.specs.declared.tried.Tried.TheVariants.{Unmet, Answered, Released, Ended}
 use Rattle.sja_driver.specs.declared.work_log.WorkLog.{WorkLog}
 use Rattle.sja_driver.specs.Acting.{Acts}
-use Rattle.sja_driver.specs.AnyDrivers.{opened_of, IsDriverOf}
+use Rattle.sja_driver.specs.AnyDrivers.{IsDriverOf}
 use Rattle.sja_driver.specs.Deeds.{Deed, opens_by, opened_by, is_active, given_in, deeds_of, Gives}
 use Rattle.sja_driver.specs.Holding.{HoldsBy, place_after}
 use Rattle.sja_driver.specs.LoggedDrivers.{node_of, driver_of, log_of, ended_of, IsLawful, Steps}
-use Rattle.sja_driver.specs.Logs.{HasRoom, Traces, left_in, deeds_by}
+use Rattle.sja_driver.specs.Logs.{HasRoom, Traces, deeds_by}
 use Rattle.sja_driver.specs.Tries.{is_met}
 use Rattle.sja_driver.proofs.Giving.{gives_carried}
 use Rattle.sja_report.specs.InTime.{IsInTime}
 use Rattle.sja_report.proofs.Stepping.{given_push, given_taken}
-use Rattle.sja_serial.specs.Linking.{IsLevel, IsLinked}
+use Rattle.sja_serial.specs.Linking.{IsLevel}
 use Rattle.sja_serial.specs.Nodes.{IsNode}
 use Rattle.sja_serial.specs.Porting.{IsPorted}
-use Rattle.sja_serial.specs.Tracing.{IsTraced}
 use Rattle.sja_serial.specs.Waiting.{HasToWait}
 use Rattle.sja_serial.proofs.Givings.{Kind, kind_of}
 use Rattle.sja_serial.proofs.Givings.Kind.{quiet, starts, credits, sends, stops}
 use Rattle.sja_serial.proofs.Taking.{waiting, AtMostOne}
-use Rattle.sja_serial.proofs.Trying.{shows_none, takes_none, IsNext, Comes, comes, waits}
-use Rattle.sja_serial.proofs.After.{Enters, enters, level_after, in_time_after, ported_after}
+use Rattle.sja_serial.proofs.Trying.{shows_none, takes_none, Comes, comes, waits}
+use Rattle.sja_serial.proofs.After.{enters, level_after, in_time_after, ported_after}
 use Rattle.sja_serial.proofs.Gathered.{items_are, linked_after}
 
 -- ---- what a deed gives
@@ -100,7 +99,7 @@ module _ (version : ℕ) (steps : List Step) (j k : List Entry) (deeds : List De
   stepped st room =
       let trace = h.traced.traces in
       let c : Comes j deeds (log_of was) links base (node_of was) none lawful before p q one st.tried = comes j deeds (log_of was) links base (node_of was) none lawful before p q one (driver_of was) (driver_of now)
-          (slice_index_or given (place_after base (ended_of was)) none) st.tried trace h.traced.lawful h.linked.holds h.ported.unclosed st.met (st.acts none none) in
+      (slice_index_or given (place_after base (ended_of was)) none) st.tried trace h.traced.lawful h.linked.holds h.ported.unclosed st.met (st.acts none none) in
       let d = c.deed in
       let next = c.next in
       let gives : Gives d.step d.answer d.gave = subst (λ (l : List Up). Gives d.step d.answer l) (sym next.gave) (gives_carried p d.step d.answer) in
@@ -108,11 +107,11 @@ module _ (version : ℕ) (steps : List Step) (j k : List Entry) (deeds : List De
       let b = opened_by deeds + opens_by d in
       let trace_now : Traces (driver_of now) (log_of now) (deeds ++ d ∷ []) = subst (λ (l : List Deed). Traces (driver_of now) (log_of now) (deeds ++ l)) c.only (st.goes.traces deeds trace) in
       let holds_now : HoldsBy Lies (deeds ++ d ∷ []) (driver_of now) (log_of now) j given base =
-          subst (λ (l : List Deed). HoldsBy Lies (deeds ++ l) (driver_of now) (log_of now) j given base) c.only (st.goes.holds deeds j trace h.linked.holds) in
+      subst (λ (l : List Deed). HoldsBy Lies (deeds ++ l) (driver_of now) (log_of now) j given base) c.only (st.goes.holds deeds j trace h.linked.holds) in
       let waits_now : (a : ℕ) → given_in (deeds_of (deeds ++ d ∷ []) a) ≡ taken_of (part j a) ++ waiting b d.gave a = λ a. given_push deeds d a ∙ ap (λ (l : List Up). l ++ waiting b d.gave a) (before a) in
       let most = opened_most deeds (driver_of was) (log_of was) (node_of was) (ended_of was) trace h.traced.lawful in
       let entered : k ≡ j ++ entries_of_items d.gave = items_are j k (deeds ++ d ∷ []) (driver_of now) (log_of now) given after base none holds_now kept d.gave b items
-          (at_most_one (is_active deeds) (opened_by deeds) d.step d.answer d.gave kind) (is_read j deeds d h.linked.level most kind) waits_now dry in
+      (at_most_one (is_active deeds) (opened_by deeds) d.step d.answer d.gave kind) (is_read j deeds d h.linked.level most kind) waits_now dry in
       let e = enters j k deeds d entered h.linked.level kind in
       let level = level_after j k deeds d entered h.linked.level kind in
       let in_time = in_time_after version j k deeds d p q e next h.ported h.in_time in record {

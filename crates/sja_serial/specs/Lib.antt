@@ -8,3 +8,4 @@ pub mod Nodes
 pub mod Waiting
 -- ---- the whole run
 pub mod Serial
+pub mod Beginning

@@ -1,5 +1,5 @@
 -- A run in one thread, between two turns (this project's own rule).
-use Rattle.std.specs.Prelude.{◌≡◌, ◌+◌, ◌*◌, ◌<◌, ◌≤◌, ◌++◌, ◌⊎◌, ℕ, None, List, [], length, slice_index_or, slice_set}
+use Rattle.std.specs.Prelude.{◌≡◌, ◌*◌, ◌<◌, ◌≤◌, ◌++◌, ◌⊎◌, ℕ, None, List, [], length, slice_index_or, slice_set}
 use Rattle.sja_link.specs.Deques.{Deques}
 use Rattle.sja_bus.specs.Buses.{BusValue}
 use Rattle.sja_bus.specs.Links.{Numbered}
@@ -69,7 +69,7 @@ abbrev pub IsStuck : PlanValue → SerialValue → List (List Deed) → ℕ → 
 IsStuck plan r deeds node =
     (length (steps_at plan node) ≤ length (deeds_at deeds node))
     ⊎ ((s : Step) (p : Registers) → HasToWait (journal_at r.bus.journals node) (deeds_at deeds node)
-      (slice_index_or r.ports node p) (slice_index_or (steps_at plan node) (length (deeds_at deeds node)) s))
+    (slice_index_or r.ports node p) (slice_index_or (steps_at plan node) (length (deeds_at deeds node)) s))
 
 -- one turn of a node: these deeds more, at most so many; fewer only where the driver is stuck
 pub record TakesTurn (plan : PlanValue) (was now : SerialValue) (node count : ℕ) (deeds : List (List Deed)) : Type 0 where

@@ -1,5 +1,5 @@
 -- Why a step of a run in one thread isn't done (this project's own rule).
-use Rattle.std.specs.Prelude.{◌≡◌, ◌<◌, ℕ, true, false, List, length}
+use Rattle.std.specs.Prelude.{◌≡◌, ◌<◌, true, false, List, length}
 use Rattle.sja_link.specs.declared.entry.Entry.{Entry}
 use Rattle.sja_link.specs.Places.{place_of}
 use Rattle.sja_regs.specs.declared.registers.Registers.{Registers}

@@ -1,11 +1,14 @@
 //! [`SerialRun`]: a run in one thread, as far as it has come.
 
+use super::beginning::{new_drivers, script_of};
 use super::run_fault::RunFault;
 use super::stepping::take_turn;
-use sja_bus::{Bus, SerialBoard};
+use can_frame::OutOfMemory;
+use sja_bus::{Bus, SerialBoard, serial_links};
 use sja_driver::LoggedDriver;
 use sja_link::DequeLink;
 use sja_plan::Plan;
+use std::alloc::Global;
 use std::marker::Model;
 
 /// A run in one thread, as far as it has come (this project's own rule).
@@ -36,9 +39,33 @@ impl Model for SerialRun {
 }
 
 impl SerialRun {
-    ghost use Rattle.std.specs.Prelude.{◌<◌, List, length, OnOk};
+    ghost use Rattle.std.specs.Prelude.{◌≡◌, ◌<◌, List, [], length, replicate, OnOk, IfOk};
+    ghost use Rattle.sja_bus.specs.Buses.{new_bus};
     ghost use Rattle.sja_driver.specs.Deeds.{Deed};
     ghost use Rattle.sja_serial.specs.Serial.{StandsAt, IsRunOf, TakesTurn};
+
+    /// A run of this plan to which nothing happened. All its room is made here.
+    ///
+    /// Error: [`OutOfMemory`] where memory was refused.
+    pub fn new(alloc: Global, plan: &Plan) -> Result<SerialRun, OutOfMemory>
+        ensures stands { IfOk result (λ r. StandsAt plan.now r (replicate (length plan.now.nodes) [])) }
+        ensures bus { IfOk result (λ r. r.bus ≡ new_bus plan.now.strikes plan.now.bits (length plan.now.nodes)) }
+    {
+        plan.limits();
+        let nodes = plan.nodes() as u8;
+        let script = script_of(alloc, plan)?;
+        let bus = Bus::new(alloc, nodes, plan.bits(), script)?;
+        let board = SerialBoard::new(alloc, nodes, plan.version())?;
+        let links = serial_links(alloc, nodes)?;
+        let drivers = new_drivers(alloc, plan)?;
+        Ok(SerialRun {
+            bus,
+            board,
+            links,
+            drivers,
+            bits: 0,
+        })
+    }
 
     /// One turn of a node, counted from 0: so many steps of its driver, one after the other, or as many as it has left, or
     /// up to one that has to wait. No bit is run, and what the driver gives is taken at once.

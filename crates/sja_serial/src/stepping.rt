@@ -33,17 +33,23 @@ pub(crate) fn try_next(
     ensures done { IfOk result (λ done. done ≡ true → (deeds : List (List Deed)) →
         StandsAt plan.now (run_now bus.old drivers.old ports.old links.old bits) deeds →
         (d : Deed) × Does plan.now (run_now bus.old drivers.old ports.old links.old bits)
-          (run_now bus.new drivers.new ports.new links.new bits) node deeds (d ∷ [])) }
+        (run_now bus.new drivers.new ports.new links.new bits) node deeds (d ∷ [])) }
     ensures waits { IfOk result (λ done. done ≡ false → (deeds : List (List Deed)) →
         StandsAt plan.now (run_now bus.old drivers.old ports.old links.old bits) deeds →
         Does plan.now (run_now bus.old drivers.old ports.old links.old bits)
-          (run_now bus.new drivers.new ports.new links.new bits) node deeds []
+        (run_now bus.new drivers.new ports.new links.new bits) node deeds []
         × IsStuck plan.now (run_now bus.new drivers.new ports.new links.new bits) deeds node) }
 {
     let at = drivers[node].log().done().len();
     bus.keeps_its_laws();
     ports[node].keeps_its_facts();
-    let done = drivers[node].step(links, LINKS * node, &mut ports[node], &plan.steps(node)[at], bits);
+    let done = drivers[node].step(
+        links,
+        LINKS * node,
+        &mut ports[node],
+        &plan.steps(node)[at],
+        bits,
+    );
     match bus.gather(links) {
         Ok(()) => Ok(done),
         Err(fault) => Err(RunFault::Bus(fault)),
@@ -69,7 +75,7 @@ pub(crate) fn take_turn(
     ensures turn { OnOk result ((deeds : List (List Deed)) →
         StandsAt plan.now (run_now bus.old drivers.old ports.old links.old bits) deeds →
         TakesTurn plan.now (run_now bus.old drivers.old ports.old links.old bits)
-          (run_now bus.new drivers.new ports.new links.new bits) node count deeds) }
+        (run_now bus.new drivers.new ports.new links.new bits) node count deeds) }
 {
     for _ in 0..count {
         let done = drivers[node].log().done().len();

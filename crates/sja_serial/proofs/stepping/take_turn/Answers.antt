@@ -1,8 +1,7 @@
-use Rattle.std.proofs.Common.{rules, ◌≡◌, ◌<◌, ◌≤◌, List, length, true, false, ap, ◌∙◌, sym, arith, inl}
+use Rattle.std.proofs.Common.{rules, ◌≡◌, ◌<◌, length, true, false, ap, ◌∙◌, arith, inl}
 use Rattle.sja_regs.specs.Registers.{at_power_on}
-use Rattle.sja_driver.specs.Deeds.{Deed}
 use Rattle.sja_driver.specs.Logs.{done_in}
-use Rattle.sja_serial.specs.Serial.{SerialValue, StandsAt, run_now, with_deeds, deeds_at, steps_at}
+use Rattle.sja_serial.specs.Serial.{run_now, with_deeds, deeds_at, steps_at}
 use Rattle.sja_serial.proofs.Several.{so_far_none, so_far_one, turn_stuck, turn_waits, turn_done, done_count}
 use Rattle.sja_serial.proofs.stepping.take_turn.Goals as goal
 
