@@ -204,19 +204,28 @@ module _ (j : List Entry) (deeds : List Deed) (log : WorkLog) (links : List Dequ
   pub waits : (p : Registers) (one : Step) (w now : AnyDriver) → Traces w log deeds → IsDriverOf node (length (left_in log)) w → HoldsBy Lies deeds w log j links base →
       ((a : ℕ) (d : Deques) → a < 8 → (slice_index_or links (base + a) d).up ≡ []) →
       Waits Lies shows_none takes_none (slice_index_or links (place_after base (length (left_in log))) none) p one w now → HasToWait j deeds p one
-  waits p (Await count) w now trace place h empty (out, closed, on, few, look) =
-      let shown = looked w out trace place h (held_of now) (off_of now) look in
+  waits p (Await count) (InActive was) now trace place h empty (closed, on, few, look) =
+      let shown = looked (InActive was) refl trace place h (held_of now) (off_of now) look in
       let same = shown.window_is on in
-      (trace.out ∙ out, shown.off_is ∙ on, subst (λ (l : List (List ℕ)). length l < count) (sym same) few)
-  waits p Sent w now trace place h empty (out, closed, busy) = (trace.out ∙ out, busy)
-  waits p Start w now trace place h empty full = not_full (slice_index_or links (place_after base (length (left_in log))) none) (empty (min (length (left_in log)) 7) none (min_less (length (left_in log)))) full
-  waits p Stop w now trace place h empty full = not_full (slice_index_or links (place_after base (length (left_in log))) none) (empty (min (length (left_in log)) 7) none (min_less (length (left_in log)))) full
-  waits p (Command value) w now trace place h empty full = not_full (slice_index_or links (place_after base (length (left_in log))) none) (empty (min (length (left_in log)) 7) none (min_less (length (left_in log)))) full
+      (trace.out, shown.off_is ∙ on, subst (λ (l : List (List ℕ)). length l < count) (sym same) few)
+  waits p (Await count) (InReset was) now trace place h empty full = elim full [ ]
+  waits p Sent (InActive was) now trace place h empty (closed, busy, look) = (trace.out, busy)
+  waits p Sent (InReset was) now trace place h empty full = elim full [ ]
+  waits p Start (InReset was) now trace place h empty (left, full) =
+      not_full (slice_index_or links (place_after base (length (left_in log))) none) (empty (min (length (left_in log)) 7) none (min_less (length (left_in log)))) full
+  waits p Start (InActive was) now trace place h empty full = elim full [ ]
+  waits p Stop (InActive was) now trace place h empty full =
+      not_full (slice_index_or links (place_after base (length (left_in log))) none) (empty (min (length (left_in log)) 7) none (min_less (length (left_in log)))) full
+  waits p Stop (InReset was) now trace place h empty full = elim full [ ]
+  waits p (Command value) (InActive was) now trace place h empty (full, asks, fits) =
+      not_full (slice_index_or links (place_after base (length (left_in log))) none) (empty (min (length (left_in log)) 7) none (min_less (length (left_in log)))) full
+  waits p (Command value) (InReset was) now trace place h empty full = elim full [ ]
   waits p Window w now trace place h empty full = elim full [ ]
   waits p (Read a) w now trace place h empty full = elim full [ ]
   waits p (Write a v) w now trace place h empty full = elim full [ ]
   waits p (Load m) w now trace place h empty full = elim full [ ]
-  waits p Release w now trace place h empty r =
+  waits p Release (InReset was) now trace place h empty full = elim full [ ]
+  waits p Release (InActive was) now trace place h empty (on, r) =
       let a = min (length (left_in log)) 7 in
       let lies = h.kept a none (min_less (length (left_in log))) in
       let after = r.lists _ lies in

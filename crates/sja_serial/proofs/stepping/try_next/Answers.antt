@@ -14,12 +14,16 @@ use Rattle.sja_serial.proofs.Trying.{shows_none, takes_none}
 use Rattle.sja_serial.proofs.Standing.{next_done, next_waits}
 use Rattle.sja_serial.proofs.stepping.try_next.Goals as goal
 
-pub step-done-requires-clause-room : goal.step-done-requires-clause-room
-step-done-requires-clause-room c =
+pub step-done-requires : goal.step-done-requires
+step-done-requires c =
     let h = c.requires.run in
     let left = c.requires.left h.0 h.1 in
-    let n = h.1.nodes c.args.node c.index-drivers-node-2.result c.index-ports-node-2.result c.requires.node in
-    n.traced.room 1 (omega (arith, left))
+    let n = h.1.nodes c.args.node c.index-drivers-node-2.result c.index-ports-node-2.result c.requires.node in record {
+      lawful = search rules;
+      room = n.traced.room 1 (omega (arith, left));
+      eight = search rules;
+      ids = search rules;
+    }
 
 abbrev no_link : Deques
 no_link = record { link = record { node = 0; activation = 0 }; down = []; up = [] }
@@ -37,7 +41,7 @@ returns-in-Ok-clause-done c = λ yes deeds h.
     let inside : node < length c.args.bus.now.journals = let e = h.count.journals in omega (arith, e, there) in
     let place = bits_counted (slice_index_or c.args.bus.now.journals node []) ∙ laws.wired.count node inside ∙ sym h.bits in
     let many : length c.gather.new.links ≡ length c.args.links.now = omega (arith, c.gather.auto.links, c.step-done.auto.links) in
-    let whose : node_of c.step-done.new.self ≡ node = c.step-done.ensures.node ∙ h.own node c.index-drivers-node-2.result there in
+    let whose : node_of c.step-done.new.self ≡ node = c.step-done.ensures.stays.node ∙ h.own node c.index-drivers-node-2.result there in
     let trace = (h.nodes node c.index-drivers-node.result c.index-ports-node.result there).traced.traces in
     let many_done : length c.done-at.result.now ≡ length (deeds_at deeds node) =
     ap (λ l. length l) (c.done-at.ensures ∙ ap done_in c.log.ensures ∙ sym trace.done) ∙ length-map (deeds_at deeds node) done_of in
@@ -50,8 +54,8 @@ returns-in-Ok-clause-done c = λ yes deeds h.
     let facts : RegisterFacts p = subst (λ (x : Registers). RegisterFacts x) (index_any c.args.ports.now node c.index-ports-node.result c.index-ports-node-2.result few) c.keeps_its_facts.ensures in
     next_done c.args.plan.now r n deeds node h there c.step-done.new.links was c.step-done.new.self c.step-done.new.port no_link refl refl refl
     c.in-Ok.ensures.right c.gather.ensures.bits.0 c.gather.ensures.nodes c.in-Ok.ensures.kept c.in-Ok.ensures.items c.in-Ok.ensures.dry c.gather.ensures.sames many
-    c.step-done.ensures.others c.step-done.ensures.ids whose
-    p c.index-steps-at.result w (laws.lawful node inside) facts (c.requires.left deeds h) is c.step-done.ensures.lawful place st c.step-done.ensures.room
+    c.step-done.ensures.stays.others c.step-done.ensures.stays.ids whose
+    p c.index-steps-at.result w (laws.lawful node inside) facts (c.requires.left deeds h) is c.step-done.ensures.stays.lawful place st c.step-done.ensures.stays.room
 
 pub returns-in-Ok-clause-waits : goal.returns-in-Ok-clause-waits
 returns-in-Ok-clause-waits c = λ yes deeds h.
@@ -66,7 +70,7 @@ returns-in-Ok-clause-waits c = λ yes deeds h.
     let inside : node < length c.args.bus.now.journals = let e = h.count.journals in omega (arith, e, there) in
     let place = bits_counted (slice_index_or c.args.bus.now.journals node []) ∙ laws.wired.count node inside ∙ sym h.bits in
     let many : length c.gather.new.links ≡ length c.args.links.now = omega (arith, c.gather.auto.links, c.step-done.auto.links) in
-    let whose : node_of c.step-done.new.self ≡ node = c.step-done.ensures.node ∙ h.own node c.index-drivers-node-2.result there in
+    let whose : node_of c.step-done.new.self ≡ node = c.step-done.ensures.stays.node ∙ h.own node c.index-drivers-node-2.result there in
     let trace = (h.nodes node c.index-drivers-node.result c.index-ports-node.result there).traced.traces in
     let many_done : length c.done-at.result.now ≡ length (deeds_at deeds node) =
     ap (λ l. length l) (c.done-at.ensures ∙ ap done_in c.log.ensures ∙ sym trace.done) ∙ length-map (deeds_at deeds node) done_of in
@@ -77,5 +81,5 @@ returns-in-Ok-clause-waits c = λ yes deeds h.
     subst (λ (b : Bool). Steps Lies shows_none takes_none was c.step-done.new.self c.args.links.now c.step-done.new.links (8 * node) p c.step-done.new.port c.index-steps-at.result c.args.bits b) yes c.step-done.ensures.steps in
     next_waits c.args.plan.now r n deeds node h there c.step-done.new.links was c.step-done.new.self c.step-done.new.port no_link refl refl refl
     c.in-Ok.ensures.right c.gather.ensures.bits.0 c.gather.ensures.nodes c.in-Ok.ensures.kept c.in-Ok.ensures.items c.in-Ok.ensures.dry c.gather.ensures.sames many
-    c.step-done.ensures.others c.step-done.ensures.ids whose
-    p c.index-steps-at.result w (laws.lawful node inside) (c.requires.left deeds h) is c.step-done.ensures.lawful place st (c.step-done.ensures.waits yes)
+    c.step-done.ensures.stays.others c.step-done.ensures.stays.ids whose
+    p c.index-steps-at.result w (laws.lawful node inside) (c.requires.left deeds h) is c.step-done.ensures.stays.lawful place st (c.step-done.ensures.stays.waits yes)
