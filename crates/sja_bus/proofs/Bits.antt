@@ -20,7 +20,8 @@ use Rattle.sja_link.specs.Verdicts.{filter_of, PassesAny, IsDue, entry_of}
 use Rattle.sja_link.specs.Gathering.{total}
 use Rattle.sja_link.proofs.Freeing.{total_append}
 use Rattle.sja_link.proofs.Entering.{gathered_push, gathered_append}
-use Rattle.sja_bus.specs.OneBit.{IsRead, AreRead, HasItems, HasAbort, abort_as, entries_of_items, judged_as, off_as, HasBit}
+use Rattle.sja_bus.specs.OneBit.{IsRead, AreRead, HasItems, HasAbort, abort_as, entries_of_items, judged_as, off_as, HasBit, AreInOrder}
+use Rattle.sja_bus.specs.OutOfOrder.{IsOutOfOrder}
 use Rattle.sja_bus.specs.Inside.Following.{Follows, FollowsBit}
 use Rattle.sja_bus.specs.declared.heard.Heard.{Heard}
 use Rattle.sja_bus.specs.Inside.Turning.{Hears, Brings}
@@ -111,7 +112,7 @@ rest_brings (Err fault) j after x seen e h = tt
 
 -- items one after another
 pub items_none : (j : List Entry) → HasItems j j
-items_none j = record { items = []; whole = sym (append-nil j); read = tt }
+items_none j = record { items = []; whole = sym (append-nil j); read = tt; in_order = tt }
 
 items_end : (items : List Up) (u : Up) → entries_of_items (items ++ u ∷ []) ≡ entries_of_items items ++ Item u ∷ []
 items_end [] u = refl
@@ -122,8 +123,16 @@ read_push j [] u h r = (subst (λ (l : List Entry). IsRead l u) (append-nil j) r
 read_push j (v ∷ items) u h r =
     (h.0, read_push (j ++ Item v ∷ []) items u h.1 (subst (λ (l : List Entry). IsRead l u) (sym (append_assoc j (Item v ∷ []) (entries_of_items items))) r))
 
-pub items_push : (j k after : List Entry) (u : Up) → after ≡ k ++ Item u ∷ [] → IsRead k u → HasItems j k → HasItems j after
-items_push j k after u e r h = record {
+order_end : (j : List Entry) (items : List Up) (u : Up) → (IsOutOfOrder (j ++ entries_of_items items) u → ⊥) → AreInOrder j items → AreInOrder j (items ++ u ∷ [])
+order_end j [] u due h = (subst (λ (l : List Entry). IsOutOfOrder l u → ⊥) (append-nil j) due, tt)
+order_end j (v ∷ items) u due h = (
+  h.0,
+  order_end (j ++ Item v ∷ []) items u (subst (λ (l : List Entry). IsOutOfOrder l u → ⊥) (sym (append_assoc j (Item v ∷ []) (entries_of_items items))) due) h.1,
+)
+
+pub items_push : (j k after : List Entry) (u : Up) → after ≡ k ++ Item u ∷ [] → IsRead k u → (IsOutOfOrder k u → ⊥) → HasItems j k → HasItems j after
+items_push j k after u e r due h = record {
+  in_order = order_end j h.items u (subst (λ (l : List Entry). IsOutOfOrder l u → ⊥) h.whole due) h.in_order;
   items = h.items ++ u ∷ [];
   whole = e ∙ ap (λ l. l ++ Item u ∷ []) h.whole ∙ append_assoc j (entries_of_items h.items) (Item u ∷ []) ∙ ap (λ l. j ++ l) (sym (items_end h.items u));
   read = read_push j h.items u h.read (subst (λ (l : List Entry). IsRead l u) h.whole r);

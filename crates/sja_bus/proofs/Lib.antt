@@ -2,6 +2,7 @@ pub mod Lists
 pub mod Begun
 pub mod Steps
 pub mod OnBus
+pub mod AskingOff
 pub mod Reading
 pub mod Lawfuls
 pub mod Moving

@@ -28,6 +28,7 @@ use Rattle.sja_bus.specs.Inside.Seats.{Pays}
 use Rattle.sja_bus.specs.OutOfOrder.{HasOff, HasAskedOff}
 use Rattle.sja_bus.specs.Inside.Following.{open_in, is_on, IsActive, Reads}
 use Rattle.sja_bus.proofs.OnBus.{on_both}
+use Rattle.sja_bus.proofs.AskingOff.{off_before, asked_before, off_of_asked, none_off}
 
 -- nothing was taken
 pub reads_new : (node : Node) → InReset node → Reads node [] 0 Between 64
@@ -49,9 +50,32 @@ free_on j e a n m step quiet h = elim (cases_eq (past (place_of j) e).activation
       subst (λ (p : List Entry). IsFree p m) (sym (part_else j e a ne)) (subst (λ (k : ℕ). IsFree (part j a) k) same h)
 ]
 
--- an entry that begins and ends no activation, stores nothing and gives nothing back, and isn't bus-off
+-- 1 for a stop, and for a request
+abbrev pub marks_in : Entry → ℕ
+marks_in (Item Stop) = 1
+marks_in (Item (Send request)) = 1
+marks_in (Item (Start config)) = 0
+marks_in (Item (Credit n)) = 0
+marks_in (Bit driven seen) = 0
+marks_in Abort = 0
+marks_in (Stored m) = 0
+marks_in (Overrun m) = 0
+marks_in Off = 0
+
+no_stop : (e : Entry) → marks_in e ≡ 0 → stops_in e ≡ 0
+no_stop (Item Stop) none = none
+no_stop (Item (Send request)) none = refl
+no_stop (Item (Start config)) none = refl
+no_stop (Item (Credit n)) none = refl
+no_stop (Bit driven seen) none = refl
+no_stop Abort none = refl
+no_stop (Stored m) none = refl
+no_stop (Overrun m) none = refl
+no_stop Off none = refl
+
+-- an entry that begins and ends no activation, is no request, stores nothing and gives nothing back, and isn't bus-off
 abbrev pub IsQuiet : Entry → Type 0
-IsQuiet e = ((p : Place) → past p e ≡ record p { bits = (past p e).bits }) × (bytes_in e ≡ 0) × (credit_in e ≡ 0) × (stops_in e ≡ 0)
+IsQuiet e = ((p : Place) → past p e ≡ record p { bits = (past p e).bits }) × (bytes_in e ≡ 0) × (credit_in e ≡ 0) × (marks_in e ≡ 0)
 
 pub stays_of : (e : Entry) → ((p : Place) → past p e ≡ record p { bits = (past p e).bits }) → StaysIn e
 stays_of e h p = ap (λ (q : Place). q.activation) (h p)
@@ -99,11 +123,28 @@ asked_more j e a h = elim (cases_eq (past (place_of j) e).activation a) [
   | inr ne ↦ record { before = h.before; between = h.between; request = h.request; after = h.after; whole = part_else j e a ne ∙ h.whole }
 ]
 
-active_same : (activity : Activity) (old new : Node) (j : List Entry) (e : Entry) (a : ℕ) → ((p : Place) → past p e ≡ record p { bits = (past p e).bits }) → stops_in e ≡ 0 →
+-- bus-off, and a request after it, that stood there before
+off_less : (j : List Entry) (e : Entry) (a : ℕ) → ((p : Place) → past p e ≡ record p { bits = (past p e).bits }) → HasOff (part (j ++ e ∷ []) a) → HasOff (part j a)
+off_less j e a stays h = elim (cases_eq (past (place_of j) e).activation a) [
+  | inl q ↦ off_before (part j a) e
+      (λ is. let P : Entry → Type 0 = λ x. (p : Place) → past p x ≡ record p { bits = (past p x).bits } in
+      let s : true ≡ false = ap (λ (p : Place). p.off) (subst P is stays first_place) in cc)
+      (subst (λ (l : List Entry). HasOff l) (part_here j e a q) h)
+  | inr ne ↦ subst (λ (l : List Entry). HasOff l) (part_else j e a ne) h
+]
+
+asked_less : (j : List Entry) (e : Entry) (a : ℕ) → marks_in e ≡ 0 → HasAskedOff (part (j ++ e ∷ []) a) → HasAskedOff (part j a)
+asked_less j e a none h = elim (cases_eq (past (place_of j) e).activation a) [
+  | inl q ↦ asked_before (part j a) e (λ r is. let m : marks_in (Item (Send r)) ≡ 0 = ap marks_in (sym is) ∙ none in omega (arith, m))
+      (subst (λ (l : List Entry). HasAskedOff l) (part_here j e a q) h)
+  | inr ne ↦ subst (λ (l : List Entry). HasAskedOff l) (part_else j e a ne) h
+]
+
+active_same : (activity : Activity) (old new : Node) (j : List Entry) (e : Entry) (a : ℕ) → ((p : Place) → past p e ≡ record p { bits = (past p e).bits }) → marks_in e ≡ 0 →
     (InReset old → InReset new) → IsActive activity old j a → IsActive activity new (j ++ e ∷ []) a
 active_same Between old new j e a stays none reset h = reset h
-active_same (Running filter) old new j e a stays none reset h = (off_same j e stays ∙ h.0, filter_push j e a (stays_of e stays) ∙ h.1, on_same j e stays none ∙ h.2)
-active_same IsOff old new j e a stays none reset h = (off_same j e stays ∙ h.0, reset h.1, off_more j e a h.2)
+active_same (Running filter) old new j e a stays none reset h = (off_same j e stays ∙ h.0, filter_push j e a (stays_of e stays) ∙ h.1, on_same j e stays (no_stop e none) ∙ h.2, λ off. h.3 (off_less j e a stays off))
+active_same IsOff old new j e a stays none reset h = (off_same j e stays ∙ h.0, reset h.1, off_more j e a h.2, λ asked. h.3 (asked_less j e a none asked))
 active_same OffAndAsked old new j e a stays none reset h = (off_same j e stays ∙ h.0, reset h.1, asked_more j e a h.2)
 
 -- an entry with which nothing changes but the node: an abort, and a bit
@@ -111,7 +152,7 @@ pub reads_quiet : (old new : Node) (j : List Entry) (e : Entry) (ended : ℕ) (a
     Reads old j ended activity free → Reads new (j ++ e ∷ []) ended activity free
 reads_quiet old new j e ended activity free quiet reset h = record {
   begun = begun_same j e (stays_of e quiet.0) ∙ h.begun;
-  stopped = stopped_same j e ended quiet.3 h.stopped;
+  stopped = stopped_same j e ended (no_stop e quiet.3) h.stopped;
   free_is = free_on j e (suc ended) free free (omega (arith, quiet.1, quiet.2)) (quiet.1, quiet.2) h.free_is;
   active = active_same activity old new j e (suc ended) quiet.0 quiet.3 reset h.active;
 }
@@ -134,6 +175,7 @@ reads_start old new j config ended free left pays h =
         ap (λ (p : Place). p.off) place,
         ap filter_of one ∙ ap (λ l. filter_of (l ++ e ∷ [])) none,
         ap (is_on false) (record_push j e) ∙ on_both false (record_of j) (told (place_of j).off e),
+        λ off. none_off (off_before [] e (λ is. cc) (subst (λ (l : List Entry). HasOff l) (one ∙ ap (λ l. l ++ e ∷ []) none) off)),
       );
     }
 
@@ -142,30 +184,36 @@ pub here_in : (activity : Activity) (node : Node) (j : List Entry) (ended free :
     (past (place_of j) e).activation ≡ suc ended
 here_in activity node j ended free e stays runs h = let b = h.begun in let s = stays (place_of j) in omega (arith, b, s, runs)
 
--- an entry of the activation that is read: a credit, a request that the node took, a verdict
-pub reads_here : (old new : Node) (j : List Entry) (e : Entry) (ended : ℕ) (activity : Activity) (free left : ℕ) → ((p : Place) → past p e ≡ record p { bits = (past p e).bits }) →
-    stops_in e ≡ 0 → open_in activity ≡ 1 → (InReset old → InReset new) → Pays free left e → Reads old j ended activity free → Reads new (j ++ e ∷ []) ended activity left
-reads_here old new j e ended activity free left stays none runs reset pays h =
-    let at = here_in activity old j ended free e (stays_of e stays) runs h in record {
-      begun = begun_same j e (stays_of e stays) ∙ h.begun;
+-- an entry of the activation that is read, and what the bus knows of it then
+reads_with : (old new : Node) (j : List Entry) (e : Entry) (ended : ℕ) (was now : Activity) (free left : ℕ) → ((p : Place) → past p e ≡ record p { bits = (past p e).bits }) →
+    stops_in e ≡ 0 → open_in was ≡ 1 → open_in now ≡ 1 → Pays free left e → IsActive now new (j ++ e ∷ []) (suc ended) → Reads old j ended was free → Reads new (j ++ e ∷ []) ended now left
+reads_with old new j e ended was now free left stays none runs still pays active h =
+    let at = here_in was old j ended free e (stays_of e stays) runs h in record {
+      begun = begun_same j e (stays_of e stays) ∙ h.begun ∙ ap (λ n. ended + n) (runs ∙ sym still);
       stopped = stopped_same j e ended none h.stopped;
       free_is = subst (λ (p : List Entry). IsFree p left) (sym (part_here j e (suc ended) at)) (pays (part j (suc ended)) h.free_is);
-      active = active_same activity old new j e (suc ended) stays none reset h.active;
+      active = active;
     }
+
+-- a credit, and a verdict
+pub reads_here : (old new : Node) (j : List Entry) (e : Entry) (ended : ℕ) (activity : Activity) (free left : ℕ) → ((p : Place) → past p e ≡ record p { bits = (past p e).bits }) →
+    marks_in e ≡ 0 → open_in activity ≡ 1 → (InReset old → InReset new) → Pays free left e → Reads old j ended activity free → Reads new (j ++ e ∷ []) ended activity left
+reads_here old new j e ended activity free left stays none runs reset pays h =
+    reads_with old new j e ended activity activity free left stays (no_stop e none) runs runs pays (active_same activity old new j e (suc ended) stays none reset h.active) h
 
 -- a request that the node took
 pub reads_ask : (old new : Node) (j : List Entry) (request : Request) (ended : ℕ) (filter : Filter) (free left : ℕ) → Pays free left (Item (Send request)) →
     Reads old j ended (Running filter) free → Reads new (j ++ Item (Send request) ∷ []) ended (Running filter) left
 reads_ask old new j request ended filter free left pays h =
-    let s = reads_here old old j (Item (Send request)) ended (Running filter) free left (λ p. refl) refl refl (λ r. r) pays h in
-    record { begun = s.begun; stopped = s.stopped; free_is = s.free_is; active = s.active }
+    let e : Entry = Item (Send request) in
+    reads_with old new j e ended (Running filter) (Running filter) free left (λ p. refl) refl refl refl pays
+    (off_same j e (λ p. refl) ∙ h.active.0, filter_push j e (suc ended) (λ p. refl) ∙ h.active.1, on_same j e (λ p. refl) refl ∙ h.active.2, λ off. h.active.3 (off_less j e (suc ended) (λ p. refl) off)) h
 
 -- a request that is dropped is counted
 pub reads_drop : (node : Node) (j : List Entry) (request : Request) (ended free left : ℕ) → Pays free left (Item (Send request)) → Reads node j ended IsOff free →
     Reads node (j ++ Item (Send request) ∷ []) ended OffAndAsked left
 reads_drop node j request ended free left pays h =
     let e : Entry = Item (Send request) in
-    let s = reads_here node node j e ended IsOff free left (λ p. refl) refl refl (λ r. r) pays h in
     let was = h.active.2 in
     let at = here_in IsOff node j ended free e (λ p. refl) refl h in
     let asked : HasAskedOff (part (j ++ e ∷ []) (suc ended)) = record {
@@ -174,7 +222,8 @@ reads_drop node j request ended free left pays h =
       request = request;
       after = [];
       whole = part_here j e (suc ended) at ∙ ap (λ l. l ++ e ∷ []) was.whole ∙ append_assoc was.before (Off ∷ was.after) (e ∷ []);
-    } in record { begun = s.begun; stopped = s.stopped; free_is = s.free_is; active = (s.active.0, s.active.1, asked) }
+    } in
+    reads_with node node j e ended IsOff OffAndAsked free left (λ p. refl) refl refl refl pays (off_same j e (λ p. refl) ∙ h.active.0, h.active.1, asked) h
 
 pub reads_stop : (old new : Node) (j : List Entry) (ended : ℕ) (activity : Activity) (free : ℕ) → open_in activity ≡ 1 → InReset new → Reads old j ended activity free →
     Reads new (j ++ Item Stop ∷ []) (suc ended) Between 64
@@ -207,7 +256,7 @@ pub verdict_stays : (v : Verdict) (m : List ℕ) (p : Place) → past p (entry_o
 verdict_stays ToStore m p = refl
 verdict_stays ToLose m p = refl
 
-pub verdict_no_stop : (v : Verdict) (m : List ℕ) → stops_in (entry_of v m) ≡ 0
+pub verdict_no_stop : (v : Verdict) (m : List ℕ) → marks_in (entry_of v m) ≡ 0
 verdict_no_stop ToStore m = refl
 verdict_no_stop ToLose m = refl
 
@@ -220,7 +269,7 @@ reads_off node j ended filter free reset h =
       begun = begun_same j Off (λ p. refl) ∙ h.begun;
       stopped = stopped_same j Off ended refl h.stopped;
       free_is = free_on j Off (suc ended) free free (omega arith) (refl, refl) h.free_is;
-      active = (ap (λ (p : Place). p.off) (place_push j Off), reset, record { before = part j (suc ended); after = []; whole = part_here j Off (suc ended) at });
+      active = (ap (λ (p : Place). p.off) (place_push j Off), reset, record { before = part j (suc ended); after = []; whole = part_here j Off (suc ended) at }, λ asked. h.active.3 (off_of_asked (part j (suc ended)) (asked_less j Off (suc ended) refl asked)));
     }
 
 -- while one runs what the bus knows of it doesn't hang on the node

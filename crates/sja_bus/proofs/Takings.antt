@@ -20,8 +20,8 @@ use Rattle.sja_bus.specs.declared.activity.Activity.TheVariants.{Between, Runnin
 use Rattle.sja_link.specs.declared.entry.Entry.TheVariants.{Up as Item}
 use Rattle.sja_link.specs.Places.{past, place_of}
 use Rattle.sja_bus.specs.declared.seat.Seat.{Seat}
-use Rattle.sja_bus.specs.OutOfOrder.{IsAskedWrongly}
-use Rattle.sja_bus.specs.OutOfOrder.IsAskedWrongly.{while_held}
+use Rattle.sja_bus.specs.OutOfOrder.{HasAskedOff, IsOutOfOrder, IsAskedWrongly}
+use Rattle.sja_bus.specs.OutOfOrder.IsAskedWrongly.{outside, while_held, again_off}
 use Rattle.sja_bus.specs.Inside.Following.{Follows, Reads, open_in, is_on}
 use Rattle.sja_bus.specs.Inside.Seats.{IsSound, IsSeat, Pays}
 use Rattle.sja_bus.specs.Inside.Taking.{Takes}
@@ -36,12 +36,12 @@ seat_entered s new same h =
     subst P (sym same) (record { own = h.own; few = h.few; runs = h.runs })
 
 -- the entry was written
-pub takes_entered : {A X P : Type 0} (r : Result A X) (old new : Seat) (item : Up) → OnOk r P → (P → IsSound new) → IsSeat new →
+pub takes_entered : {A X P : Type 0} (r : Result A X) (old new : Seat) (item : Up) → (IsOutOfOrder old.journal.entries item → ⊥) → OnOk r P → (P → IsSound new) → IsSeat new →
     (past (place_of old.journal.entries) (Item item)).activation ≡ suc old.ended →
     OnOk r ((new.journal.entries ≡ old.journal.entries ++ Item item ∷ []) × (length old.journal.entries < old.journal.room)) →
     OnOk r (Takes old new item)
-takes_entered (Ok a) old new item p f seat at ok = record { sound = f p; seat = seat; fits = ok.1; stands = at; entered = ok.0 }
-takes_entered (Err x) old new item p f seat at ok = tt
+takes_entered (Ok a) old new item due p f seat at ok = record { due = due; sound = f p; seat = seat; fits = ok.1; stands = at; entered = ok.0 }
+takes_entered (Err x) old new item due p f seat at ok = tt
 
 -- no credit is taken between two activations, where all 64 bytes are free
 pub credit_open : (activity : Activity) (node : Node) (j : List Entry) (ended free left n : ℕ) → left ≤ 64 → 3 ≤ n → Pays free left (Item (Credit n)) → Reads node j ended activity free → open_in activity ≡ 1
@@ -54,6 +54,21 @@ credit_open Between node j ended free left n few some pays h =
 credit_open (Running filter) node j ended free left n few some pays h = refl
 credit_open Off node j ended free left n few some pays h = refl
 credit_open OffAndAsked node j ended free left n few some pays h = refl
+
+-- a request that the node took, and one that was dropped, may come there
+pub taken_right : (old new : Node) (j : List Entry) (ended free : ℕ) (filter : _) (request : Request) → Follows old j → Requests old new request (Ok tt) →
+    Reads old j ended (Running filter) free → IsAskedWrongly j → ⊥
+taken_right old new j ended free filter request follows took h (outside between) = let b = h.begun in let s = h.stopped in omega (arith, b, s, between)
+taken_right old new j ended free filter request follows took h (while_held opened on held) =
+    let none = (took.1 (record_of j) follows.found follows.stands).1 in
+    let yes = held follows.found follows.stands.cut in
+    let e : false ≡ true = sym (ap is_held none) ∙ yes in cc
+taken_right old new j ended free filter request follows took h (again_off opened off asked) = let e : true ≡ false = sym off ∙ h.active.0 in cc
+
+pub dropped_right : (node : Node) (j : List Entry) (ended free : ℕ) → Reads node j ended Off free → IsAskedWrongly j → ⊥
+dropped_right node j ended free h (outside between) = let b = h.begun in let s = h.stopped in omega (arith, b, s, between)
+dropped_right node j ended free h (while_held opened on held) = let e : true ≡ false = sym h.active.0 ∙ on in cc
+dropped_right node j ended free h (again_off opened off asked) = let P : ℕ → Type 0 = λ n. HasAskedOff (part j (suc n)) in h.active.3 (subst P h.stopped asked)
 
 -- ---- one that isn't
 

@@ -6,6 +6,7 @@ pub mod Lawful
 pub mod Resting
 -- ---- what a bit adds to a journal, and what a port is told of it
 pub mod Opening
+pub mod OutOfOrder
 pub mod Aborting
 pub mod OneBit
 pub mod Telling
@@ -16,7 +17,6 @@ pub mod Boards
 -- ---- all nodes of a bus
 pub mod Buses
 -- ---- why a bus stops
-pub mod OutOfOrder
 pub mod Reasons
 -- ---- how the code keeps a bus: definitions of the private contracts alone
 pub mod Inside

@@ -9,6 +9,7 @@ use Rattle.sja_link.specs.declared.entry.Entry.TheVariants.{Bit, Up as Item, Abo
 use Rattle.sja_link.specs.Places.{past, place_of}
 use Rattle.sja_link.specs.Verdicts.{entry_of}
 use Rattle.sja_bus.specs.Links.{per_node, stops_of}
+use Rattle.sja_bus.specs.OutOfOrder.{IsOutOfOrder}
 use Rattle.sja_bus.specs.Aborting.{IsApplied}
 
 -- the entries of items that were taken
@@ -25,11 +26,17 @@ abbrev pub AreRead : List Entry → List Up → Type 0
 AreRead j [] = Unit {0}
 AreRead j (u ∷ items) = IsRead j u × AreRead (j ++ Item u ∷ []) items
 
--- the journal has these items more, each of the activation whose link is read
+-- after this journal each of these items may come where it comes
+abbrev pub AreInOrder : List Entry → List Up → Type 0
+AreInOrder j [] = Unit {0}
+AreInOrder j (u ∷ items) = (IsOutOfOrder j u → ⊥) × AreInOrder (j ++ Item u ∷ []) items
+
+-- the journal has these items more, each of the activation whose link is read, and none out of order
 pub record HasItems (j k : List Entry) : Type 0 where
   pub items : List Up
   pub whole : k ≡ j ++ entries_of_items items
   pub read : AreRead j items
+  pub in_order : AreInOrder j items
 
 -- the entry of an abort that changed the node, or none
 abbrev pub abort_as : Bool → List Entry

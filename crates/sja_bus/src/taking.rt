@@ -16,6 +16,7 @@ impl Seat {
     ghost use Rattle.sja_link.specs.BusLedgers.{link_of, free_in};
     ghost use Rattle.sja_bus.specs.Links.{Moves};
     ghost use Rattle.sja_bus.specs.declared.news.News.TheVariants.{Changed};
+    ghost use Rattle.sja_bus.specs.OutOfOrder.{IsOutOfOrder};
     ghost use Rattle.sja_bus.specs.Inside.Seats.{IsSound, IsOwed, IsSeat};
     ghost use Rattle.sja_bus.specs.Inside.Taking.{Takes, Refuses, RefusesHere};
 
@@ -129,7 +130,8 @@ impl Seat {
         ensures seat { OnOk result (IsSeat self.new) }
         ensures moves { OnOk result (Moves E.stands end.old end.new self.old.journal.entries self.new.journal.entries (suc self.old.ended)) }
         ensures some { result ≡ Ok true → (item : Given) × (self.new.journal.entries ≡ self.old.journal.entries ++ Item item ∷ []) × (length self.old.journal.entries < self.old.journal.room)
-            × ((past (place_of self.old.journal.entries) (Item item)).activation ≡ suc self.old.ended) }
+            × ((past (place_of self.old.journal.entries) (Item item)).activation ≡ suc self.old.ended)
+            × (IsOutOfOrder self.old.journal.entries item → ⊥) }
         ensures news { result ≡ Ok true → self.new.news ≡ Changed }
         ensures none { result ≡ Ok false → E.dry end.new × (self.new ≡ self.old) }
         ensures refused { IfErr result (λ f. RefusesHere E.stands end.old end.new self.old self.new f) }

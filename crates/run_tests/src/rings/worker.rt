@@ -3,6 +3,7 @@
 ghost use Rattle.std.specs.Prelude.{◌≡◌, length};
 ghost use Rattle.sja_driver.specs.LoggedDrivers.{node_of, log_of, IsLawful};
 ghost use Rattle.sja_driver.specs.Logs.{HasRoom};
+ghost use Rattle.run_tests.proofs.Lawful.{lawful_once};
 
 use super::ready::are_links_of_node;
 use super::told::Told;
@@ -24,7 +25,7 @@ pub struct Worker {
     /// How many steps its log has room for.
     room: usize,
     ghost own: { node_of driver ≡ node },
-    ghost lawful: { IsLawful driver },
+    ghost lawful: { IsLawful driver } by { lawful_once driver },
     ghost has_room: { HasRoom room (log_of driver) },
 }
 

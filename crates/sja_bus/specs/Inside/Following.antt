@@ -53,9 +53,10 @@ is_on on (e ∷ entries) = is_on (on_after on e) entries
 -- what the bus knows of the activation that it reads
 abbrev pub IsActive : Activity → Node → List Entry → ℕ → Type 0
 IsActive Between node j a = InReset node
-IsActive (Running filter) node j a =
-    ((place_of j).off ≡ false) × (filter_of (part j a) ≡ Some filter) × (is_on false (record_of j) ≡ true)
-IsActive Off node j a = ((place_of j).off ≡ true) × InReset node × HasOff (part j a)
+IsActive (Running filter) node j a = ((place_of j).off ≡ false) × (filter_of (part j a) ≡ Some filter)
+    × (is_on false (record_of j) ≡ true) × (HasOff (part j a) → ⊥)
+IsActive Off node j a =
+    ((place_of j).off ≡ true) × InReset node × HasOff (part j a) × (HasAskedOff (part j a) → ⊥)
 IsActive OffAndAsked node j a = ((place_of j).off ≡ true) × InReset node × HasAskedOff (part j a)
 
 -- so many activations have ended; the next one is read, and of it so many bytes are free

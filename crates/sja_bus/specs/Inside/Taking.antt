@@ -12,12 +12,14 @@ use Rattle.sja_bus.specs.declared.bus_fault.BusFault.TheVariants.{BitsSpent, Bad
 use Rattle.sja_bus.specs.declared.seat.Seat.{Seat}
 use Rattle.sja_bus.specs.Links.{Kept}
 use Rattle.sja_bus.specs.Reasons.{IsRefusedFor}
+use Rattle.sja_bus.specs.OutOfOrder.{IsOutOfOrder}
 use Rattle.sja_bus.specs.Aborting.{IsApplied}
 use Rattle.sja_bus.specs.OneBit.{HasItems, HasAbort}
 use Rattle.sja_bus.specs.Inside.Seats.{IsSound, IsSeat}
 
--- it was entered, and belongs to the activation that was read
+-- it may come there, was entered, and belongs to the activation that was read
 pub record Takes (old new : Seat) (item : Up) : Type 0 where
+  pub due : IsOutOfOrder old.journal.entries item → ⊥
   pub sound : IsSound new
   pub seat : IsSeat new
   pub fits : length old.journal.entries < old.journal.room

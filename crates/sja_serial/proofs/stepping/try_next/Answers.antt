@@ -1,4 +1,4 @@
-use Rattle.std.proofs.Common.{◌≡◌, ◌<◌, [], length, true, false, refl, sym, ap, ◌∙◌, subst, arith, ◌*◌}
+use Rattle.std.proofs.Common.{rules, ◌≡◌, ◌<◌, [], length, true, false, refl, sym, ap, ◌∙◌, subst, arith, ◌*◌}
 use Rattle.std.specs.Prelude.{Bool, slice_index_or, slice_set}
 use Rattle.std.proofs.lemmas.List.{length-map}
 use Rattle.sja_link.specs.Deques.{Deques, Lies}

@@ -7,7 +7,7 @@ use Rattle.sja_bus.specs.declared.activity.Activity.TheVariants.{Running, Off, O
 use Rattle.sja_bus.specs.Inside.Following.{Reads}
 use Rattle.sja_bus.proofs.Steps.{follows_send, follows_drop}
 use Rattle.sja_bus.proofs.Reading.{reads_ask, reads_drop, here_in}
-use Rattle.sja_bus.proofs.Takings.{seat_entered, takes_entered, held_wrongly}
+use Rattle.sja_bus.proofs.Takings.{seat_entered, takes_entered, held_wrongly, taken_right, dropped_right}
 use Rattle.sja_bus.proofs.seat.Seat.ask.Goals as goal
 
 pub returns-in-Ok-clause-takes : goal.returns-in-Ok-clause-takes
@@ -18,7 +18,7 @@ returns-in-Ok-clause-takes c =
     let reads = subst P c.in-Running.is owed.reads in
     let Q : Activity → Type 0 = λ a. Reads c.request.new.self (j ++ Item (Send c.args.request) ∷ []) was.ended a (free_in was.ledger) in
     let took = rw c.copy.ensures at c.in-Ok.ensures in
-    takes_entered c.enter.result was new (Send c.args.request) c.enter.ensures.sound
+    takes_entered c.enter.result was new (Send c.args.request) (taken_right was.node c.request.new.self j was.ended owed.free filter c.args.request owed.follows took reads) c.enter.ensures.sound
     (λ f. f (follows_send was.node c.request.new.self j c.args.request reads.active.0 took owed.follows)
     (subst Q (sym c.in-Running.is) (reads_ask was.node c.request.new.self j c.args.request was.ended filter owed.free (free_in was.ledger) owed.pays reads)))
     (seat_entered (record was { node = c.request.new.self }) new c.enter.ensures.others (record { own = seat.own; few = seat.few; runs = seat.runs }))
@@ -31,7 +31,7 @@ returns-in-Off-clause-takes c =
     let new = c.enter-in-Off.new.self in
     let P : Activity → Type 0 = λ a. Reads was.node j was.ended a owed.free in
     let reads = subst P c.in-Off.is owed.reads in
-    takes_entered c.enter-in-Off.result was new (Send c.args.request) c.enter-in-Off.ensures.sound
+    takes_entered c.enter-in-Off.result was new (Send c.args.request) (dropped_right was.node j was.ended owed.free reads) c.enter-in-Off.ensures.sound
     (λ f. f (follows_drop was.node j c.args.request reads.active.0 owed.follows) (reads_drop was.node j c.args.request was.ended owed.free (free_in was.ledger) owed.pays reads))
     (seat_entered (record was { activity = OffAndAsked }) new c.enter-in-Off.ensures.others (record { own = seat.own; few = seat.few; runs = λ o. c.requires.more }))
     (here_in Off was.node j was.ended owed.free (Item (Send c.args.request)) (λ p. refl) refl reads)

@@ -17,7 +17,7 @@ returns-clause-takes c =
     let enters = rw c.copy.ensures at c.start.ensures in
     let new = c.enter.new.self in
     let begun = reads.begun in
-    takes_entered c.enter.result was new (Start c.args.config) c.enter.ensures.sound
+    takes_entered c.enter.result was new (Start c.args.config) (λ opened. let stopped = reads.stopped in omega (arith, begun, stopped, opened)) c.enter.ensures.sound
     (λ f. f (follows_start was.node c.start.new.self j c.args.config enters owed.follows)
     (reads_start was.node c.start.new.self j c.args.config was.ended owed.free (free_in was.ledger) owed.pays reads))
     (seat_entered (record was { node = c.start.new.self; activity = Running c.args.config.filter }) new c.enter.ensures.others

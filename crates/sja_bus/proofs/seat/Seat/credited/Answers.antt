@@ -12,7 +12,7 @@ returns-clause-takes c =
     let was = c.args.self.now in let j = was.journal.entries in let owed = c.requires.owed in
     let new = c.enter.new.self in
     let runs = credit_open was.activity was.node j was.ended owed.free (free_in was.ledger) c.args.bytes was.ledger.fits c.requires.some owed.pays owed.reads in
-    takes_entered c.enter.result was new (Credit c.args.bytes) c.enter.ensures.sound
+    takes_entered c.enter.result was new (Credit c.args.bytes) (λ never. never) c.enter.ensures.sound
     (λ f. f (follows_credit was.node j c.args.bytes owed.follows)
     (reads_here was.node was.node j (Item (Credit c.args.bytes)) was.ended was.activity owed.free (free_in was.ledger) (λ p. refl) refl runs (λ r. r) owed.pays owed.reads))
     (seat_entered was new c.enter.ensures.others c.requires.seat)

@@ -1,7 +1,10 @@
-use Rattle.std.proofs.Common.{◌≡◌, Bool, true, false, rules, subst, ap}
+use Rattle.std.proofs.Common.{◌≡◌, ℕ, suc, Bool, true, false, rules, subst, ap}
 use Rattle.std.specs.Prelude.{Err}
 use Rattle.sja_bus.specs.Inside.Following.{FollowsBit}
+use Rattle.sja_bus.specs.Links.{Moves}
+use Rattle.sja_bus.specs.Inside.Seats.{IsMid}
 use Rattle.sja_bus.specs.Inside.Taking.{BreaksHere}
+use Rattle.sja_bus.proofs.Moving.{moves_trans}
 use Rattle.sja_bus.proofs.Lists.{err_is}
 use Rattle.sja_bus.proofs.Breaking.{verdict_few, breaks_after}
 use Rattle.sja_bus.proofs.Steps.{follows_on}
@@ -35,3 +38,16 @@ returns-in_err-go_off-clause-broken g c =
     err_is P c.from_residual-in_err-go_off.result f is
     (breaks_after E.stands E.full c.args.end.now c.hear.new.end was mid new f (ap (λ l. l.node) kept.2) heard.room kept.0
     (verdict_few was.journal.entries mid.journal.entries c.args.self.now.drives c.args.seen heard.hears.verdict) c.in_err-go_off.ensures.unentered heard.moves c.in_err-go_off.ensures.broken)
+
+pub go_off-requires-clause-mid : goal.go_off-requires-clause-mid
+go_off-requires-clause-mid g c =
+    let off : c.in_ok-heard.heard.events.went_off ≡ true = search rules in
+    let P : Bool → Type 0 = λ w. IsMid c.hear.new.self w in subst P off c.in_ok-heard.ensures.mid
+
+pub returns-clause-moves : goal.returns-clause-moves
+returns-clause-moves g c =
+    let stands = g.E.BusEnd.stands in let j = c.args.self.now.journal.entries in
+    let mid = c.hear.new.self.journal.entries in let new = c.go_off.new.self.journal.entries in
+    let heard = c.in_ok-heard.ensures in
+    let M : ℕ → Type 0 = λ n. Moves stands c.hear.new.end c.go_off.new.end mid new (suc n) in
+    moves_trans stands c.args.end.now c.hear.new.end c.go_off.new.end j mid new (suc c.args.self.now.ended) heard.moves (subst M heard.kept.0 c.in_ok-go_off.ensures.moves)

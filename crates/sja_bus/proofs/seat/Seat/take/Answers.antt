@@ -10,4 +10,4 @@ returns-in_ok-note-in-Ok-Some-clause-moves g c =
     rw told.takes.entered (moves_push g.E.BusEnd.stands c.args.end.now c.collect.new.end was.journal.entries (Item c.in-Ok-Some.item) (suc was.ended) told.takes.stands took)
 
 pub returns-in_ok-note-in-Ok-Some-clause-some : goal.returns-in_ok-note-in-Ok-Some-clause-some
-returns-in_ok-note-in-Ok-Some-clause-some g c = λ e. (c.in-Ok-Some.item, c.in_ok-note-in-Ok-Some.ensures.takes.entered, c.in_ok-note-in-Ok-Some.ensures.takes.fits, c.in_ok-note-in-Ok-Some.ensures.takes.stands)
+returns-in_ok-note-in-Ok-Some-clause-some g c = λ e. (c.in-Ok-Some.item, c.in_ok-note-in-Ok-Some.ensures.takes.entered, c.in_ok-note-in-Ok-Some.ensures.takes.fits, c.in_ok-note-in-Ok-Some.ensures.takes.stands, c.in_ok-note-in-Ok-Some.ensures.takes.due)

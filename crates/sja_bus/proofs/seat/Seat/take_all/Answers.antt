@@ -58,7 +58,7 @@ loop-self-preserved g c =
       goes = goes_trans E.same E.stands met.same_trans c.args.self.now.journal.entries s.journal.entries c.take.new.self.journal.entries c.args.links.now c.loop-self.links (slice_set c.loop-self.links (c.args.base + s.ended) c.take.new.end) c.args.base c.loop-self.invariant.goes
           (goes_one E.same E.stands met.same_refl s.journal.entries c.take.new.self.journal.entries c.loop-self.links c.args.base s.ended c.index-links-here.result c.take.new.end c.if-self-ge8.false room c.take.ensures.same c.in_ok-take.ensures.moves);
       items = items_push c.args.self.now.journal.entries s.journal.entries c.take.new.self.journal.entries took.0 took.1
-          (record { activation = took.3 ∙ ap suc (sym c.loop-self.invariant.sound.reads.stopped); left = rw c.loop-self.invariant.sound.reads.stopped (omega arith) }) c.loop-self.invariant.items;
+          (record { activation = took.3 ∙ ap suc (sym c.loop-self.invariant.sound.reads.stopped); left = rw c.loop-self.invariant.sound.reads.stopped (omega arith) }) took.4 c.loop-self.invariant.items;
       news = takes_one c.args.self.now s c.take.new.self (c.in_ok-take.ensures.news (search rules)) took.0 took.1 c.loop-self.invariant.news;
     }
 
