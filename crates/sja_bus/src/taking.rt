@@ -129,7 +129,9 @@ impl Seat {
         ensures sound { OnOk result (IsSound self.new) }
         ensures seat { OnOk result (IsSeat self.new) }
         ensures moves { OnOk result (Moves E.stands end.old end.new self.old.journal.entries self.new.journal.entries (suc self.old.ended)) }
-        ensures some { result ≡ Ok true → (item : Given) × (self.new.journal.entries ≡ self.old.journal.entries ++ Item item ∷ []) × (length self.old.journal.entries < self.old.journal.room)
+        ensures some { result ≡ Ok true → (item : Given)
+            × (self.new.journal.entries ≡ self.old.journal.entries ++ Item item ∷ [])
+            × (length self.old.journal.entries < self.old.journal.room)
             × ((past (place_of self.old.journal.entries) (Item item)).activation ≡ suc self.old.ended)
             × (IsOutOfOrder self.old.journal.entries item → ⊥) }
         ensures news { result ≡ Ok true → self.new.news ≡ Changed }

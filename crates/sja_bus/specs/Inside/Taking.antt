@@ -78,4 +78,5 @@ pub record FullForAbort {E : Type 0} (stands : E → Lists → Type 0) (old new 
   pub is : f ≡ JournalFull (link_of old.ledger).node
   pub items : HasItems old.journal.entries new.journal.entries
   pub full : old.journal.room ≤ length new.journal.entries
-  pub kept : (h : ℕ → Account) → Kept stands old.journal.entries links base h → Kept stands new.journal.entries after base h
+  pub kept : (h : ℕ → Account) → Kept stands old.journal.entries links base h →
+      Kept stands new.journal.entries after base h
