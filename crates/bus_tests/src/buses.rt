@@ -15,3 +15,4 @@ mod self_reception;
 mod stops;
 mod strikes;
 mod stuck;
+mod told;
