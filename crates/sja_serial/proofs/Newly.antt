@@ -99,11 +99,13 @@ length_all zero x = refl
 length_all (suc n) x = ap suc (length_all n x)
 
 -- a run to which nothing happened stands where no driver did anything
-pub stands_new : (plan : PlanValue) (bus : BusValue) (drivers : List LoggedDriver) (ports : List Registers) (links : List Deques) (nodes bits : ℕ) (script : List Strike) → nodes ≡ length plan.nodes → bus ≡ new_bus script bits nodes →
+pub stands_new : (plan : PlanValue) (bus : BusValue) (drivers : List LoggedDriver) (ports : List Registers) (links : List Deques) (nodes bits : ℕ) (script : List Strike) → nodes ≡ length plan.nodes → script ≡ plan.strikes → bits ≡ plan.bits → bus ≡ new_bus script bits nodes →
     length drivers ≡ length plan.nodes → AreNew plan (length plan.nodes) drivers → ports ≡ replicate nodes (at_power_on plan.version) → AreNewLinks nodes links →
     StandsAt plan (run_now bus drivers ports links 0) (replicate (length plan.nodes) [])
-stands_new plan bus drivers ports links nodes bits script count bus_is driver_count made ports_are fresh = record {
+stands_new plan bus drivers ports links nodes bits script count script_is bits_is bus_is driver_count made ports_are fresh = record {
   right = ap (λ (b : BusValue). b.fault) bus_is;
+  script = ap (λ (b : BusValue). b.script) bus_is ∙ script_is;
+  all_bits = let a = ap (λ (b : BusValue). b.run) bus_is in let l = ap (λ (b : BusValue). b.left) bus_is in omega (arith, a, l, bits_is);
   bits = sym (ap (λ (b : BusValue). b.run) bus_is);
   count = record {
     journals = ap (λ (b : BusValue). length b.journals) bus_is ∙ length_all nodes [] ∙ count;

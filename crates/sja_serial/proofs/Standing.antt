@@ -56,7 +56,7 @@ each_link (x ∷ xs) (y ∷ ys) r (suc i) d = each_link xs ys r.1 i d
 
 module _ (plan : PlanValue) (r n : SerialValue) (deeds : List (List Deed)) (node : ℕ) (h : StandsAt plan r deeds) (there : node < length plan.nodes) (given : List Deques) (was now : LoggedDriver) (q : Registers) (none : Deques)
     (drivers_are : n.drivers ≡ slice_set r.drivers node now) (ports_are : n.ports ≡ slice_set r.ports node q) (bits_are : n.bits ≡ r.bits)
-    (right : n.bus.fault ≡ None) (run : n.bus.run ≡ r.bus.run) (journals : length n.bus.journals ≡ length r.bus.journals)
+    (right : n.bus.fault ≡ None) (run : n.bus.run ≡ r.bus.run) (script : n.bus.script ≡ r.bus.script) (left_is : n.bus.left ≡ r.bus.left) (journals : length n.bus.journals ≡ length r.bus.journals)
     (kept : KeepsAll Lies r.bus.journals n.bus.journals given n.links) (items : EachJournal HasItems r.bus.journals n.bus.journals) (dry : AllDry (λ (s : Deques). s.up ≡ []) n.bus.journals n.links)
     (sames : EachRelated (λ (a b : Deques). b.link ≡ a.link) given n.links) (many : length n.links ≡ length r.links)
     (others : (i : ℕ) (d : Deques) → i ≢ place_after (8 * node) (ended_of was) → slice_index_or given i d ≡ slice_index_or r.links i d)
@@ -98,6 +98,8 @@ module _ (plan : PlanValue) (r n : SerialValue) (deeds : List (List Deed)) (node
   pub stands_after : (more : List Deed) → IsNode plan.version (steps_at plan node) (journal_at n.bus.journals node) (deeds_at deeds node ++ more) now q n.links (8 * node) → StandsAt plan n (with_deeds deeds node more)
   stands_after more node_after = record {
     right = right;
+    script = script ∙ h.script;
+    all_bits = let a = h.all_bits in omega (arith, a, run, left_is);
     bits = let b = h.bits in bits_are ∙ b ∙ sym run;
     count = record {
       journals = journals ∙ h.count.journals;

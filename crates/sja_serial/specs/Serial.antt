@@ -1,5 +1,5 @@
 -- A run in one thread, between two turns (this project's own rule).
-use Rattle.std.specs.Prelude.{◌≡◌, ◌*◌, ◌<◌, ◌≤◌, ◌++◌, ◌⊎◌, ℕ, None, List, [], length, slice_index_or, slice_set}
+use Rattle.std.specs.Prelude.{◌≡◌, ◌+◌, ◌*◌, ◌<◌, ◌≤◌, ◌++◌, ◌⊎◌, ℕ, None, List, [], length, slice_index_or, slice_set}
 use Rattle.sja_link.specs.Deques.{Deques}
 use Rattle.sja_bus.specs.Buses.{BusValue}
 use Rattle.sja_bus.specs.Links.{Numbered}
@@ -41,6 +41,8 @@ deeds_at deeds node = slice_index_or deeds node []
 -- the run of a plan stands where its drivers did these deeds, a list for each node
 pub record StandsAt (plan : PlanValue) (r : SerialValue) (deeds : List (List Deed)) : Type 0 where
   pub right : r.bus.fault ≡ None
+  pub script : r.bus.script ≡ plan.strikes
+  pub all_bits : r.bus.run + r.bus.left ≡ plan.bits
   pub bits : r.bits ≡ r.bus.run
   pub count : HasNodes (length plan.nodes) r
   pub deeds_count : length deeds ≡ length plan.nodes

@@ -53,7 +53,7 @@ returns-in-Ok-clause-done c = λ yes deeds h.
     let few : node < length c.args.ports.now = let e = h.count.ports in omega (arith, e, there) in
     let facts : RegisterFacts p = subst (λ (x : Registers). RegisterFacts x) (index_any c.args.ports.now node c.index-ports-node.result c.index-ports-node-2.result few) c.keeps_its_facts.ensures in
     next_done c.args.plan.now r n deeds node h there c.step-done.new.links was c.step-done.new.self c.step-done.new.port no_link refl refl refl
-    c.in-Ok.ensures.right c.gather.ensures.bits.0 c.gather.ensures.nodes c.in-Ok.ensures.kept c.in-Ok.ensures.items c.in-Ok.ensures.dry c.gather.ensures.sames many
+    c.in-Ok.ensures.right c.gather.ensures.bits.0 c.gather.ensures.script c.gather.ensures.bits.1 c.gather.ensures.nodes c.in-Ok.ensures.kept c.in-Ok.ensures.items c.in-Ok.ensures.dry c.gather.ensures.sames many
     c.step-done.ensures.stays.others c.step-done.ensures.stays.ids whose
     p c.index-steps-at.result w (laws.lawful node inside) facts (c.requires.left deeds h) is c.step-done.ensures.stays.lawful place st c.step-done.ensures.stays.room
 
@@ -80,6 +80,6 @@ returns-in-Ok-clause-waits c = λ yes deeds h.
     let st : Steps Lies shows_none takes_none was c.step-done.new.self c.args.links.now c.step-done.new.links (8 * node) p c.step-done.new.port c.index-steps-at.result c.args.bits false =
     subst (λ (b : Bool). Steps Lies shows_none takes_none was c.step-done.new.self c.args.links.now c.step-done.new.links (8 * node) p c.step-done.new.port c.index-steps-at.result c.args.bits b) yes c.step-done.ensures.steps in
     next_waits c.args.plan.now r n deeds node h there c.step-done.new.links was c.step-done.new.self c.step-done.new.port no_link refl refl refl
-    c.in-Ok.ensures.right c.gather.ensures.bits.0 c.gather.ensures.nodes c.in-Ok.ensures.kept c.in-Ok.ensures.items c.in-Ok.ensures.dry c.gather.ensures.sames many
+    c.in-Ok.ensures.right c.gather.ensures.bits.0 c.gather.ensures.script c.gather.ensures.bits.1 c.gather.ensures.nodes c.in-Ok.ensures.kept c.in-Ok.ensures.items c.in-Ok.ensures.dry c.gather.ensures.sames many
     c.step-done.ensures.stays.others c.step-done.ensures.stays.ids whose
     p c.index-steps-at.result w (laws.lawful node inside) (c.requires.left deeds h) is c.step-done.ensures.stays.lawful place st (c.step-done.ensures.stays.waits yes)
