@@ -76,6 +76,7 @@ impl SerialRun {
         requires node { node < length plan.now.nodes }
         ensures turn { OnOk result ((deeds : List (List Deed)) → StandsAt plan.now self.old deeds →
             TakesTurn plan.now self.old self.new node count deeds) }
+        ensures stays { OnOk result (IsRunOf plan.now self.new) }
     {
         take_turn(
             plan,
