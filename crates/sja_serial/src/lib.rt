@@ -9,7 +9,7 @@
 //! did these deeds, of the steps that the plan has for it; its links carried what its journal and its deeds say; its port
 //! is as its writes and loads have set it; and all was in time, as `IsInTime` of sja_report has it.
 //!
-//! `SerialRun::new` alone takes memory.
+//! `SerialRun::new` alone takes memory. The tests stand in `crates/serial_tests`.
 #![tactic(auto)]
 
 mod beginning;
