@@ -7,12 +7,7 @@ use sja_bus::{Bus, SerialBoard};
 use sja_link::DequeLink;
 
 /// So many bits. Whether all were run.
-pub fn run_bits(
-    bus: &mut Bus,
-    links: &mut [DequeLink],
-    board: &mut SerialBoard,
-    count: u32,
-) -> bool
+pub fn run_bits(bus: &mut Bus, links: &mut [DequeLink], board: &mut SerialBoard, count: u32) -> bool
     requires count { length links.old ≡ 8 * length bus.old.journals }
     requires ids { Numbered (λ l. l.link) links.old }
     requires ports { length bus.old.journals ≤ length board.old.ports.items }

@@ -28,16 +28,17 @@ pub struct RingRun {
 impl RingRun {
     /// The run of this plan, before its first turn.
     pub fn new(alloc: Global, plan: &Plan) -> Result<RingRun, Fail> {
-        let nodes = plan.nodes() as u8;
-        if nodes == 0 || nodes > 8 || plan.bits() == 0 || plan.bits() > 200_000 {
+        let count = plan.nodes();
+        if count == 0 || count > 8 || plan.bits() == 0 || plan.bits() > 200_000 {
             return Err("no such bus")?;
         }
+        let nodes = count as u8;
         let mut ends = Vec::with_capacity(alloc, 64)?;
         let mut workers = Vec::with_capacity(alloc, 8)?;
         for node in 0..nodes {
             let own = pairs_of(alloc, node, &mut ends)?;
             let steps = plan.steps(usize::from(node)).len();
-            workers.push(Worker::new(alloc, node, own, steps as u16)?)?;
+            workers.push(Worker::new(alloc, node, own, steps.min(1_000) as u16)?)?;
         }
         Ok(RingRun {
             bus: bus_of(alloc, nodes, plan)?,
@@ -72,11 +73,7 @@ impl RingRun {
     /// Bits until every node is at rest, when all that was given was taken.
     fn rest(&mut self, most: u32) -> Result<(), Fail> {
         for _ in 0..most {
-            self.are_ready()?;
-            if self.bus.gather(self.ends.as_mut_slice()).is_err() {
-                return Err("a fault of the bus")?;
-            }
-            if self.bus.at_rest() {
+            if self.is_at_rest()? {
                 return Ok(());
             }
             self.bit()?;
@@ -96,20 +93,26 @@ impl RingRun {
         }
     }
 
-    /// Fails where ends and ports aren't those of the bus.
-    fn are_ready(&self) -> Result<(), Fail> {
-        if are_links_of(self.ends.as_slice(), self.nodes)
-            && self.board.ports.len() >= usize::from(self.nodes)
+    /// Takes what the drivers gave. Whether every node is at rest then.
+    fn is_at_rest(&mut self) -> Result<bool, Fail> {
+        if !are_links_of(self.ends.as_slice(), self.nodes)
+            || self.board.ports.len() < usize::from(self.nodes)
         {
-            Ok(())
-        } else {
-            Err("not the bus's links and ports")?
+            return Err("not the bus's links and ports")?;
+        }
+        match self.bus.gather(self.ends.as_mut_slice()) {
+            Ok(()) => Ok(self.bus.at_rest()),
+            Err(_) => Err("a fault of the bus")?,
         }
     }
 
     /// One bit.
     fn bit(&mut self) -> Result<(), Fail> {
-        self.are_ready()?;
+        if !are_links_of(self.ends.as_slice(), self.nodes)
+            || self.board.ports.len() < usize::from(self.nodes)
+        {
+            return Err("not the bus's links and ports")?;
+        }
         match self.bus.bit(self.ends.as_mut_slice(), &mut self.board) {
             Ok(()) => {
                 self.bits = self.bits.saturating_add(1);

@@ -48,14 +48,16 @@ fn repeated(alloc: Global, text: &str, count: u32) -> Result<String, Fail> {
 fn overrun_plan(alloc: Global) -> Result<String, Fail> {
     let sends = repeated(alloc, ", \"load 000000\", \"command 01\"", 23)?;
     let turns = repeated(alloc, "\"node 0 2\", \"rest\", ", 22)?;
-    Ok(format!(in alloc; "version = 1
+    Ok(format!(in alloc;
+        "version = 1
 bits = 2000
 turns = [\"node 0 1\", \"node 1 1\", {turns}\"node 1 4\", \"node 0 2\", \"rest\"]
 [[node]]
 steps = [\"start\"{sends}]
 [[node]]
 steps = [\"start\", \"read 2\", \"command 08\", \"read 2\", \"release\"]
-")?)
+"
+    )?)
 }
 
 #[test]
@@ -72,7 +74,8 @@ fn the_message_that_finds_no_room_is_overrun_and_later_ones_are_stored(
 
 /// The last EOF bit of a frame is struck at this node.
 fn struck_plan(alloc: Global, node: u8) -> Result<String, Fail> {
-    Ok(format!(in alloc; "version = 1
+    Ok(format!(in alloc;
+        "version = 1
 bits = 200
 turns = [\"node 0 3\", \"node 1 1\", \"rest\", \"node 1 2\"]
 faults = [\"{node} 60\"]
@@ -80,7 +83,8 @@ faults = [\"{node} 60\"]
 steps = [\"start\", \"load 000000\", \"command 01\"]
 [[node]]
 steps = [\"start\", \"release\", \"release\"]
-")?)
+"
+    )?)
 }
 
 #[test]
@@ -127,7 +131,10 @@ fn what_a_stopped_activation_left_unread_stays_its_own(rt: HostRuntime) -> Resul
     let (bits, first) = told_of(rt.alloc(), STOPPED, 1, 1)?;
     assert_eq!(rt; bits, 171);
     are(first.released.as_slice(), &[])?;
-    are(first.unread.as_slice(), &[[0; 3], [0x00, 0x24, 0x40], [0x00, 0x24, 0x60]])?;
+    are(
+        first.unread.as_slice(),
+        &[[0; 3], [0x00, 0x24, 0x40], [0x00, 0x24, 0x60]],
+    )?;
     are(first.overrun.as_slice(), &[])?;
     let (_, second) = told_of(rt.alloc(), STOPPED, 1, 2)?;
     are(second.released.as_slice(), &[])?;

@@ -3,7 +3,7 @@
 ghost use Rattle.std.specs.Prelude.{◌≡◌, length};
 ghost use Rattle.sja_driver.specs.LoggedDrivers.{node_of, log_of, IsLawful};
 ghost use Rattle.sja_driver.specs.Logs.{HasRoom};
-ghost use Rattle.run_tests.proofs.Lawful.{lawful_once};
+ghost use Rattle.run_tests.specs.Lawful.{lawful_once};
 
 use super::ready::are_links_of_node;
 use super::told::Told;
@@ -31,12 +31,7 @@ pub struct Worker {
 
 impl Worker {
     /// A driver before its first activation, whose script has so many steps.
-    pub fn new(
-        alloc: Global,
-        node: u8,
-        ends: Vec<RingDriver>,
-        steps: u16,
-    ) -> Result<Worker, Fail> {
+    pub fn new(alloc: Global, node: u8, ends: Vec<RingDriver>, steps: u16) -> Result<Worker, Fail> {
         let log = WorkLog::new(alloc, steps)?;
         Ok(Worker {
             driver: LoggedDriver::new(node, log),
@@ -78,7 +73,7 @@ impl Worker {
             return Ok(false);
         }
         self.room -= 1;
-        self.done += 1;
+        self.done = self.done.saturating_add(1);
         Ok(true)
     }
 
