@@ -19,7 +19,7 @@ impl Node {
 
     /// Sees the level of the bus where the bit changes nothing that the node shows: no event, and the same error
     /// counters, phase, role and held request. Answers whether that was so; else the node is what it was, and
-    /// [`sample`](Node::sample) is to be called (this project's own rule).
+    /// [`sample_fully`](Node::sample_fully) is to be called (this project's own rule).
     #[inline(always)]
     pub fn sample_quietly(&mut self, level: Level) -> bool
         ensures quiet { result ≡ true → Samples self.old self.new level (nothing (is_receiving self.old)) }
