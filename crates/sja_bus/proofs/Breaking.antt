@@ -9,12 +9,14 @@ use Rattle.sja_link.specs.declared.entry.Entry.{Entry}
 use Rattle.sja_link.specs.declared.entry.Entry.TheVariants.{Bit}
 use Rattle.sja_link.specs.Lists.{Lists}
 use Rattle.sja_link.specs.Accounts.{Account, account}
+use Rattle.sja_link.specs.Parts.{part}
 use Rattle.sja_link.specs.BusLedgers.{link_of}
 use Rattle.sja_bus.specs.declared.bus_fault.BusFault.{BusFault}
 use Rattle.sja_bus.specs.declared.bus_fault.BusFault.TheVariants.{BitsSpent, BadCredit, Stuck, BadOrder, JournalFull}
 use Rattle.sja_bus.specs.declared.seat.Seat.{Seat}
 use Rattle.sja_bus.specs.Wire.{journal_at}
 use Rattle.sja_bus.specs.Links.{Kept, Goes, Moves}
+use Rattle.sja_bus.specs.OutOfOrder.{HasOff}
 use Rattle.sja_bus.specs.OneBit.{HasItems, HasVerdict, Opens, judged_as}
 use Rattle.sja_bus.specs.Reasons.{IsBrokenFor, IsNotTaken, IsNotAborted, IsBrokenOff, StopsBit, room_for}
 use Rattle.sja_bus.specs.Reasons.StopsBit.{not_taken as not_taken_bit, not_aborted as not_aborted_bit, broken_off as broken_off_bit}
@@ -72,6 +74,9 @@ breaks_after stands full x y old mid new (Stuck k) node room ended few same move
     stood = λ h was.
         let P : ℕ → Type 0 = λ n. stands y (account mid.journal.entries (suc n) h) → stands b.1.last (account new.journal.entries (suc n) h) in
         subst P ended (b.1.stood h) (moves.here h was);
+    heard = b.1.heard;
+    verdicts = b.1.verdicts;
+    on = subst (λ (n : ℕ). HasOff (part new.journal.entries (suc n)) → ⊥) ended b.1.on;
   },
 )
 breaks_after stands full x y old mid new (BadCredit k bytes) node room ended few same moves b = absurd b
@@ -85,7 +90,16 @@ pub broken_link : {E : Type 0} (stands : E → Lists → Type 0) (full : E → T
 broken_link stands full old new links base d (JournalFull k) few b = b
 broken_link stands full old new links base d (Stuck k) few b = (
   b.0,
-  record { place = old.ended; few = few; end = b.1.last; is_full = b.1.is_full; stood = λ h was. b.1.stood (h old.ended) (was old.ended d few) },
+  record {
+    place = old.ended;
+    few = few;
+    end = b.1.last;
+    is_full = b.1.is_full;
+    stood = λ h was. b.1.stood (h old.ended) (was old.ended d few);
+    heard = b.1.heard;
+    verdicts = b.1.verdicts;
+    on = b.1.on;
+  },
 )
 broken_link stands full old new links base d (BadCredit k bytes) few b = absurd b
 broken_link stands full old new links base d (BadOrder k) few b = absurd b
@@ -98,7 +112,16 @@ broken_from : {E : Type 0} (stands : E → Lists → Type 0) (full : E → Type 
 broken_from stands full node room before j links here base (JournalFull k) back b = b
 broken_from stands full node room before j links here base (Stuck k) back b = (
   b.0,
-  record { place = b.1.place; few = b.1.few; end = b.1.end; is_full = b.1.is_full; stood = λ h was. b.1.stood h (back h was) },
+  record {
+    place = b.1.place;
+    few = b.1.few;
+    end = b.1.end;
+    is_full = b.1.is_full;
+    stood = λ h was. b.1.stood h (back h was);
+    heard = b.1.heard;
+    verdicts = b.1.verdicts;
+    on = b.1.on;
+  },
 )
 broken_from stands full node room before j links here base (BadCredit k bytes) back b = absurd b
 broken_from stands full node room before j links here base (BadOrder k) back b = absurd b

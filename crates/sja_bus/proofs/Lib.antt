@@ -23,5 +23,8 @@ pub mod Running
 pub mod Levels
 pub mod Journals
 pub mod Rests
+pub mod AtRest
+pub mod Stretches
+pub mod QuietBits
 pub mod Logs
 pub mod Boards

@@ -7,3 +7,4 @@ pub mod Turning
 pub mod Rows
 pub mod Whole
 pub mod Ending
+pub mod Idling

@@ -18,5 +18,7 @@ pub mod Boards
 pub mod Buses
 -- ---- why a bus stops
 pub mod Reasons
+-- ---- bits that are run at once
+pub mod Stretches
 -- ---- how the code keeps a bus: definitions of the private contracts alone
 pub mod Inside

@@ -1,17 +1,20 @@
 -- Why a bus doesn't go on: what each fault says of its node (this project's own rule).
 use Rattle.std.specs.Prelude.{◌≡◌, ◌+◌, ◌*◌, ◌<◌, ◌≤◌, ℕ, suc, List, length, slice_index_or}
+use Rattle.sja_link.specs.NodeWords.{ReceivedFrame}
 use Rattle.sja_link.specs.declared.up.Up.{Up}
 use Rattle.sja_link.specs.declared.up.Up.TheVariants.{Credit}
 use Rattle.sja_link.specs.declared.entry.Entry.{Entry}
 use Rattle.sja_link.specs.Lists.{Lists, with_taken}
 use Rattle.sja_link.specs.Accounts.{Account, account}
+use Rattle.sja_link.specs.Parts.{part}
+use Rattle.sja_link.specs.Verdicts.{HasVerdicts}
 use Rattle.sja_regs.specs.declared.orders.Orders.{Orders}
 use Rattle.sja_bus.specs.declared.bus_fault.BusFault.{BusFault}
 use Rattle.sja_bus.specs.declared.bus_fault.BusFault.TheVariants.{BitsSpent, BadCredit, Stuck, BadOrder, JournalFull}
 use Rattle.sja_bus.specs.Wire.{journal_at}
 use Rattle.sja_bus.specs.Links.{per_node, Kept, stops_of}
 use Rattle.sja_bus.specs.OneBit.{HasItems, Opens}
-use Rattle.sja_bus.specs.OutOfOrder.{read_in, IsBadCredit, IsOutOfOrder}
+use Rattle.sja_bus.specs.OutOfOrder.{read_in, IsBadCredit, IsOutOfOrder, HasOff}
 use Rattle.sja_bus.specs.Buses.{BusValue}
 
 -- ---- a node whose item was refused
@@ -40,8 +43,9 @@ pub record RefusesItem {E : Type 0} (stands : E → Lists → Type 0) (room : �
 
 -- ---- a node whose bit broke off
 
--- the end of one of its links had no room: whatever its driver got and gave, where its links stood for its journal
--- before, that end stood for it then
+-- the end of one of its links had no room for a message or for bus-off: whatever its driver got and gave, where its links
+-- stood for its journal before, that end stood for it then. The journal's verdicts are right beside the frames that its
+-- node received, and in the link's activation no bus-off was entered
 pub record GivesBack {E : Type 0} (stands : E → Lists → Type 0) (full : E → Type 0) (before j : List Entry)
     (links : List E) (base : ℕ) : Type 0 where
   pub place : ℕ
@@ -49,6 +53,9 @@ pub record GivesBack {E : Type 0} (stands : E → Lists → Type 0) (full : E �
   pub end : E
   pub is_full : full end
   pub stood : (h : ℕ → Account) → Kept stands before links base h → stands end (account j (suc place) (h place))
+  pub heard : List ReceivedFrame
+  pub verdicts : HasVerdicts j heard
+  pub on : HasOff (part j (suc place)) → ⊥
 
 -- with this fault the bit of a node broke off, which had so many reserved entries and this journal before: the reserved
 -- entries are used, and at most the bit and a verdict were entered; or a put was given back

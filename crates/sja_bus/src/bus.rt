@@ -24,11 +24,11 @@ use std::marker::Model;
 /// no bit takes memory.
 #[derive(Debug, Drop)]
 pub struct Bus {
-    struck: StruckBits,
-    run: u32,
-    left: u32,
-    fault: Option<BusFault>,
-    seats: Vec<Seat>,
+    pub(crate) struck: StruckBits,
+    pub(crate) run: u32,
+    pub(crate) left: u32,
+    pub(crate) fault: Option<BusFault>,
+    pub(crate) seats: Vec<Seat>,
     logs: Vec<NodeLog>,
 }
 
@@ -98,7 +98,7 @@ impl Bus {
     /// Takes what the drivers gave: of each node in order all that its links show, one link after the other. `links` are
     /// eight a node, by node and activation.
     ///
-    /// Error: [`BusFault`] 2, 4 or 5, and then the same always.
+    /// Error: [`BusFault::BadCredit`], [`BusFault::BadOrder`] or [`BusFault::JournalFull`], and then the same always.
     pub fn gather<E: BusEnd>(&mut self, links: &mut [E]) -> Result<(), BusFault>
         requires count { length links.old ≡ 8 * length self.old.journals }
         requires ids { Numbered E.link links.old }

@@ -15,10 +15,14 @@ use can_frame::{Filter, Frame, Message};
 use sja_link::{BusEnd, Busy, Entry, Verdict};
 
 impl Seat {
-    ghost use Rattle.std.specs.Prelude.{◌≡◌, ◌<◌, ℕ, suc, Ok, [], ◌∷◌, ◌++◌, OnOk, IfOk, IfErr, true, false};
+    ghost use Rattle.std.specs.Prelude.{◌≡◌, ◌<◌, ℕ, suc, List, Ok, [], ◌∷◌, ◌++◌, OnOk, IfOk, IfErr, true, false};
     ghost use Rattle.can_frame.specs.declared.filter.Filter.{Filter as Filtering};
     ghost use Rattle.can_node.specs.Stands.{InReset, Samples};
     ghost use Rattle.sja_link.specs.declared.entry.Entry.TheVariants.{Bit, Off as OffEntry};
+    ghost use Rattle.sja_link.specs.NodeWords.{ReceivedFrame};
+    ghost use Rattle.sja_link.specs.Parts.{part};
+    ghost use Rattle.sja_link.specs.Verdicts.{HasVerdicts};
+    ghost use Rattle.sja_bus.specs.OutOfOrder.{HasOff};
     ghost use Rattle.sja_link.specs.BusLedgers.{link_of, free_in};
     ghost use Rattle.sja_bus.specs.declared.activity.Activity.TheVariants.{Running};
     ghost use Rattle.sja_bus.specs.Links.{Moves};
@@ -38,6 +42,8 @@ impl Seat {
         requires id { E.link end.old ≡ link_of self.old.ledger }
         requires runs { open_in self.old.activity ≡ 1 }
         requires reads { Reads self.old.node self.old.journal.entries self.old.ended self.old.activity (free_in self.old.ledger) }
+        requires verdicts { (heard : List ReceivedFrame) × HasVerdicts self.old.journal.entries heard }
+        requires on { HasOff (part self.old.journal.entries (suc self.old.ended)) → ⊥ }
         requires seat { IsSeat self.old }
         ensures same { E.same end.old end.new }
         ensures room { self.new.journal.room ≡ self.old.journal.room }

@@ -70,7 +70,7 @@ impl Seat {
 
     /// Writes a bit.
     #[inline(always)]
-    fn enter_bit(&mut self, driven: Level, seen: Level) -> Result<(), BusFault>
+    pub(crate) fn enter_bit(&mut self, driven: Level, seen: Level) -> Result<(), BusFault>
         ensures others { self.new ≡ record self.old { journal = self.new.journal } }
         ensures room { self.new.journal.room ≡ self.old.journal.room }
         ensures ok { OnOk result ((self.new.journal.entries ≡ self.old.journal.entries ++ BitEntry driven seen ∷ [])

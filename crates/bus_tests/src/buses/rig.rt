@@ -4,12 +4,13 @@ ghost use Rattle.std.specs.Prelude.{◌≡◌, length};
 
 use super::given::script_of;
 use super::hand::Hand;
+use super::places::{link_at, place_of, port_at};
 use super::ready::are_links_of;
 use can_frame::Message;
 use sja_bus::{Bus, BusFault, NodeLog, SerialBoard, serial_links};
 use sja_driver::CommandFault;
 use sja_link::{DequeLink, Down, DriverEnd, ReleaseFault, Up};
-use sja_regs::{Port, RegFault};
+use sja_regs::RegFault;
 use std::alloc::Global;
 use std::mem;
 use std::test::Fail;
@@ -179,6 +180,19 @@ impl Rig {
         Ok(Ok(()))
     }
 
+    /// Up to so many bits at once, as far as every node is at rest: how many.
+    pub fn quiet_bits(&mut self, count: u32) -> Result<Result<u32, BusFault>, Fail> {
+        if !are_links_of(self.links.as_slice(), self.nodes)
+            || self.board.ports.len() < usize::from(self.nodes)
+        {
+            return Err("not the bus's links and ports")?;
+        }
+        Ok(
+            self.bus
+                .quiet_bits(self.links.as_mut_slice(), &self.board, count),
+        )
+    }
+
     /// Gathers, and runs bits until every node is at rest: how many.
     pub fn rest(&mut self) -> Result<Result<u32, BusFault>, Fail> {
         for bits in 0..MANY {
@@ -224,26 +238,5 @@ impl Rig {
             }
             None => Err("no such node")?,
         }
-    }
-}
-
-/// The place of a link among eight links a node, by node and activation.
-fn place_of(node: u8, activation: u8) -> usize {
-    (8 * usize::from(node) + usize::from(activation)).saturating_sub(1)
-}
-
-/// The link at this place.
-fn link_at(links: &mut Vec<DequeLink>, place: usize) -> Result<&mut DequeLink, Fail> {
-    match links.get_mut(place) {
-        Some(link) => Ok(link),
-        None => Err("no such link")?,
-    }
-}
-
-/// The port of this node.
-fn port_at(board: &mut SerialBoard, node: u8) -> Result<&mut Port, Fail> {
-    match board.ports.get_mut(usize::from(node)) {
-        Some(port) => Ok(port),
-        None => Err("no such node")?,
     }
 }

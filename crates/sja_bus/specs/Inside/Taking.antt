@@ -1,18 +1,21 @@
 -- An item that the bus takes, and an abort that it applies.
 use Rattle.std.specs.Prelude.{◌≡◌, ◌<◌, ◌≤◌, ◌+◌, ℕ, suc, List, [], ◌∷◌, ◌++◌, length}
+use Rattle.sja_link.specs.NodeWords.{ReceivedFrame}
 use Rattle.sja_link.specs.declared.up.Up.{Up}
 use Rattle.sja_link.specs.declared.entry.Entry.{Entry}
 use Rattle.sja_link.specs.declared.entry.Entry.TheVariants.{Up as Item}
 use Rattle.sja_link.specs.Places.{past, place_of}
 use Rattle.sja_link.specs.Lists.{Lists, with_taken}
 use Rattle.sja_link.specs.Accounts.{Account, account}
+use Rattle.sja_link.specs.Parts.{part}
+use Rattle.sja_link.specs.Verdicts.{HasVerdicts}
 use Rattle.sja_link.specs.BusLedgers.{link_of}
 use Rattle.sja_bus.specs.declared.bus_fault.BusFault.{BusFault}
 use Rattle.sja_bus.specs.declared.bus_fault.BusFault.TheVariants.{BitsSpent, BadCredit, Stuck, BadOrder, JournalFull}
 use Rattle.sja_bus.specs.declared.seat.Seat.{Seat}
 use Rattle.sja_bus.specs.Links.{Kept}
 use Rattle.sja_bus.specs.Reasons.{IsRefusedFor}
-use Rattle.sja_bus.specs.OutOfOrder.{IsOutOfOrder}
+use Rattle.sja_bus.specs.OutOfOrder.{IsOutOfOrder, HasOff}
 use Rattle.sja_bus.specs.Aborting.{IsApplied}
 use Rattle.sja_bus.specs.OneBit.{HasItems, HasAbort}
 use Rattle.sja_bus.specs.Inside.Seats.{IsSound, IsSeat}
@@ -50,12 +53,16 @@ pub record IsGivenBack {E : Type 0} (stands : E → Lists → Type 0) (full : E 
   pub is_full : full last
   pub stood : (l : Lists) → stands end l → stands last l
 
--- an end that gave an item back, as it was then: full, and it stood for the journal
+-- an end that gave an item back, as it was then: full, and it stood for the journal. The journal's verdicts are right
+-- beside the frames that its node received, and in the activation no bus-off was entered
 pub record GaveBack {E : Type 0} (stands : E → Lists → Type 0) (full : E → Type 0) (end : E) (before j : List Entry)
     (a : ℕ) : Type 0 where
   pub last : E
   pub is_full : full last
   pub stood : (h : Account) → stands end (account before a h) → stands last (account j a h)
+  pub heard : List ReceivedFrame
+  pub verdicts : HasVerdicts j heard
+  pub on : HasOff (part j a) → ⊥
 
 -- with this fault the bit of a node broke off
 abbrev pub BreaksHere : {E : Type 0} → (E → Lists → Type 0) → (E → Type 0) → E → Seat → Seat → BusFault → Type 0

@@ -1,0 +1,36 @@
+-- Controllers at rest, and bits in which they stay so.
+use Rattle.std.specs.Prelude.{◌≡◌, ◌≤◌, ◌<◌, ℕ, true, List, ◌++◌, length, map, slice_index_or}
+use Rattle.can_bits.specs.declared.level.Level.TheVariants.{Recessive}
+use Rattle.can_node.specs.Stands.{ShowsRest}
+use Rattle.sja_regs.specs.declared.orders.Orders.{Orders}
+use Rattle.sja_bus.specs.declared.bus_fault.BusFault.{BusFault}
+use Rattle.sja_bus.specs.declared.bus_fault.BusFault.TheVariants.{JournalFull}
+use Rattle.sja_bus.specs.declared.news.News.TheVariants.{Nothing}
+use Rattle.sja_bus.specs.declared.seat.Seat.{Seat}
+use Rattle.sja_bus.specs.Stretches.{recessive_bits}
+
+-- the node is at rest and drives recessive, and nothing is to be told of it
+pub record IsResting (s : Seat) : Type 0 where
+  pub none : s.news ≡ Nothing
+  pub drives : s.drives ≡ Recessive
+  pub rests : ShowsRest s.node true
+
+-- each of them is, and its port has orders
+pub record AreResting (orders_are : ℕ → Orders → Type 0) (seats : List Seat) : Type 0 where
+  pub each : (k : ℕ) (s : Seat) → k < length seats → IsResting (slice_index_or seats k s)
+  pub orders : (k : ℕ) → k < length seats → (o : Orders) × orders_are k o
+
+-- a seat after so many recessive bits that changed nothing but its journal, and all of them
+abbrev pub after_bits : ℕ → Seat → Seat
+after_bits count s = record s { journal = record s.journal { entries = s.journal.entries ++ recessive_bits count } }
+
+abbrev pub all_after : ℕ → List Seat → List Seat
+all_after count seats = map (λ s. after_bits count s) seats
+
+-- the journal of one of them was full
+pub record IsFullBy (seats now : List Seat) (f : BusFault) : Type 0 where
+  pub node : ℕ
+  pub few : node < length seats
+  pub is : f ≡ JournalFull node
+  pub full : (s : Seat) →
+      (slice_index_or seats node s).journal.room ≤ length (slice_index_or now node s).journal.entries

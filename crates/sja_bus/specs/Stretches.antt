@@ -1,0 +1,38 @@
+-- Bits that are run at once, in each of which every node is at rest (this project's own rule).
+use Rattle.std.specs.Prelude.{◌≡◌, ◌+◌, ◌<◌, ◌≤◌, ℕ, suc, Bool, false, List, ◌++◌, length, map, replicate}
+use Rattle.can_bits.specs.declared.level.Level.TheVariants.{Recessive}
+use Rattle.sja_link.specs.declared.entry.Entry.{Entry}
+use Rattle.sja_link.specs.declared.entry.Entry.TheVariants.{Bit}
+use Rattle.sja_script.specs.declared.strike.Strike.{Strike}
+use Rattle.sja_regs.specs.declared.orders.Orders.{Orders}
+use Rattle.sja_regs.specs.declared.bus_turn.BusTurn.{BusTurn}
+use Rattle.sja_bus.specs.declared.bus_fault.BusFault.{BusFault}
+use Rattle.sja_bus.specs.declared.bus_fault.BusFault.TheVariants.{JournalFull}
+use Rattle.sja_bus.specs.Wire.{journal_at}
+use Rattle.sja_bus.specs.Buses.{untold_at, IsBit}
+use Rattle.sja_bus.specs.Reasons.{room_for}
+
+-- the entries of so many bits that were driven and seen recessive
+abbrev pub recessive_bits : ℕ → List Entry
+recessive_bits count = replicate count (Bit Recessive Recessive)
+
+-- the journals with so many such bits more each, and nothing else
+abbrev pub with_recessive : ℕ → List (List Entry) → List (List Entry)
+with_recessive count journals = map (λ j. j ++ recessive_bits count) journals
+
+-- so many bits of all nodes, one after the other. Nothing was untold of any node; each journal has that many recessive
+-- bits more; and each of the bits, from the journals before it to those after it, is one bit of all nodes
+pub record IsStretch (orders_are : ℕ → Orders → Type 0) (was_told : ℕ → BusTurn → Type 0) (was_kept : ℕ → Type 0)
+    (script : List Strike) (run count : ℕ) (untold : List Bool) (before after : List (List Entry)) : Type 0 where
+  pub told : (node : ℕ) → node < length before → untold_at untold node ≡ false
+  pub grown : after ≡ with_recessive count before
+  pub bits : (i : ℕ) → i < count →
+      IsBit orders_are was_told was_kept script (run + i) untold (with_recessive i before)
+      (with_recessive (suc i) before)
+
+-- with this fault the reserved entries of a node's journal, for a run of so many bits, are used
+pub record IsOutOfEntries (bits : ℕ) (before now : List (List Entry)) (f : BusFault) : Type 0 where
+  pub node : ℕ
+  pub few : node < length before
+  pub is : f ≡ JournalFull node
+  pub full : room_for bits ≤ length (journal_at now node)

@@ -1,0 +1,68 @@
+//! Bits in which every node of a bus is at rest.
+
+ghost use Rattle.std.specs.Prelude.{◌≡◌, ◌≤◌, true, length, OnOk, IfErr};
+ghost use Rattle.sja_bus.specs.Inside.Idling.{AreResting, all_after, IsFullBy};
+ghost use Rattle.sja_bus.specs.Inside.Rows.{AreReady};
+
+use super::board::Board;
+use super::bus_fault::BusFault;
+use super::news::News;
+use super::seat::Seat;
+use can_bits::Level;
+
+impl Seat {
+    ghost use Rattle.std.specs.Prelude.{◌≡◌, ◌≤◌, true, length, OnOk, IfErr};
+    ghost use Rattle.sja_link.specs.BusLedgers.{link_of};
+    ghost use Rattle.sja_bus.specs.declared.bus_fault.BusFault.TheVariants.{JournalFull};
+    ghost use Rattle.sja_bus.specs.Inside.Idling.{IsResting, after_bits};
+
+    /// Whether the node is at rest, and its port is told all.
+    fn is_resting(&self) -> bool
+        ensures { result ≡ true → IsResting self.now }
+    {
+        match self.news {
+            News::Nothing => self.drives.is_recessive() && self.node.at_rest(),
+            _ => false,
+        }
+    }
+
+    /// So many recessive bits of a node at rest: they change nothing but the journal.
+    fn rest_for(&mut self, count: u32) -> Result<(), BusFault>
+        ensures rested { OnOk result (self.new ≡ after_bits count self.old) }
+        ensures full { IfErr result (λ f. (f ≡ JournalFull (link_of self.old.ledger).node)
+            × (self.old.journal.room ≤ length self.new.journal.entries)) }
+    {
+        for _ in 0..count {
+            self.enter_bit(Level::Recessive, Level::Recessive)?;
+        }
+        Ok(())
+    }
+}
+
+/// Whether every node is at rest, and its port is told all. What the ports order is asked too, but changes nothing: an
+/// abort finds no request.
+pub(crate) fn are_resting<B: Board>(seats: &[Seat], board: &B) -> bool
+    requires ready { AreReady seats.now }
+    requires ports { length seats.now ≤ B.ports board.now }
+    ensures { result ≡ true → AreResting (B.orders_are board.now) seats.now }
+{
+    for k in 0..seats.len() {
+        if !seats[k].is_resting() {
+            return false;
+        }
+        let _orders = board.orders(seats[k].number());
+    }
+    true
+}
+
+/// So many recessive bits of all nodes, which are at rest.
+pub(crate) fn rest_all(seats: &mut [Seat], count: u32) -> Result<(), BusFault>
+    requires ready { AreReady seats.old }
+    ensures rested { OnOk result (seats.new ≡ all_after count seats.old) }
+    ensures full { IfErr result (λ f. IsFullBy seats.old seats.new f) }
+{
+    for k in 0..seats.len() {
+        seats[k].rest_for(count)?;
+    }
+    Ok(())
+}
