@@ -1,0 +1,55 @@
+-- Lists with an element set, and the places of links.
+use Rattle.std.proofs.Common.{◌≡◌, ◌≢◌, ℕ, zero, suc, ◌+◌, ◌*◌, ◌<◌, List, [], ◌∷◌, length, refl, sym, ap, ◌∙◌, subst, append-nil, arith}
+use Rattle.std.specs.Prelude.{min, slice_index_or, slice_set}
+use Rattle.sja_link.specs.declared.entry.Entry.{Entry}
+use Rattle.sja_link.specs.Accounts.{account}
+use Rattle.sja_link.specs.Deques.{Deques, Lies}
+use Rattle.sja_bus.specs.Links.{EachRelated}
+use Rattle.sja_driver.specs.declared.logged_driver.LoggedDriver.{LoggedDriver}
+use Rattle.sja_driver.specs.Deeds.{Deed, given_in, deeds_of}
+use Rattle.sja_driver.specs.Holding.{HoldsBy, place_after}
+use Rattle.sja_driver.specs.LoggedDrivers.{driver_of, log_of}
+use Rattle.sja_turns.specs.Serial.{deeds_at, with_deeds}
+
+min_less : (n : ℕ) → min n 7 < 8
+min_less n = grind arith
+
+-- places of two nodes' links differ
+pub apart : (m node a ended : ℕ) → (m ≡ node → ⊥) → a < 8 → 8 * m + a ≡ place_after (8 * node) ended → ⊥
+apart m node a ended differ few e = let l = min_less ended in omega (arith, differ, few, e, l)
+
+pub set_length : {A : Type 0} (xs : List A) (i : ℕ) (z : A) → length (slice_set xs i z) ≡ length xs
+set_length [] i z = refl
+set_length (x ∷ xs) zero z = refl
+set_length (x ∷ xs) (suc i) z = ap suc (set_length xs i z)
+
+set_same : {A : Type 0} (xs : List A) (i : ℕ) (d : A) → slice_set xs i (slice_index_or xs i d) ≡ xs
+set_same [] i d = refl
+set_same (x ∷ xs) zero d = refl
+set_same (x ∷ xs) (suc i) d = ap (λ l. x ∷ l) (set_same xs i d)
+
+pub no_deeds : (deeds : List (List Deed)) (node : ℕ) → with_deeds deeds node [] ≡ deeds
+no_deeds deeds node = ap (slice_set deeds node) (append-nil (deeds_at deeds node)) ∙ set_same deeds node []
+
+pub each_link : (old new : List Deques) → EachRelated (λ (a b : Deques). b.link ≡ a.link) old new → (i : ℕ) (d : Deques) →
+    (slice_index_or new i d).link ≡ (slice_index_or old i d).link
+each_link [] [] r i d = refl
+each_link [] (y ∷ ys) r i d = elim r [ ]
+each_link (x ∷ xs) [] r i d = elim r [ ]
+each_link (x ∷ xs) (y ∷ ys) r zero d = r.0
+each_link (x ∷ xs) (y ∷ ys) r (suc i) d = each_link xs ys r.1 i d
+
+-- what another node's links hold, of which none was changed
+pub each_other : (deeds : List Deed) (w : LoggedDriver) (j : List Entry) (links given : List Deques) (m node ended : ℕ) →
+    (m ≡ node → ⊥) → HoldsBy Lies deeds (driver_of w) (log_of w) j links (8 * m) →
+    ((i : ℕ) (d : Deques) → i ≢ place_after (8 * node) ended → slice_index_or given i d ≡ slice_index_or links i d) →
+    HoldsBy Lies deeds (driver_of w) (log_of w) j given (8 * m)
+each_other deeds w j links given m node ended differ l others = record {
+  got = l.got;
+  kept = λ a e few. subst (λ (s : Deques). Lies s (account j (suc a) (record { got = l.got a; given =
+      given_in (deeds_of deeds (suc a)) })))
+      (sym (others (8 * m + a) e (apart m node a ended differ few))) (l.kept a e few);
+  told = l.told;
+  off_is = l.off_is;
+  later = l.later;
+}

@@ -1,0 +1,65 @@
+-- Bits of a run, one after another.
+use Rattle.std.proofs.Common.{◌≡◌, ℕ, suc, ◌+◌, ◌<◌, ◌≤◌, Bool, true, false, List, length, subst, refl, arith}
+use Rattle.sja_link.specs.Records.{record_of}
+use Rattle.sja_bus.specs.Resting.{RestsAs}
+use Rattle.sja_bus.specs.Wire.{journal_at}
+use Rattle.sja_plan.specs.Plan.{PlanValue}
+use Rattle.sja_driver.specs.Deeds.{Deed}
+use Rattle.sja_turns.specs.Bits.{TakesBit, TakesBits, AllRest, SomeWorks, TakesBusTurn, TakesRest}
+use Rattle.sja_turns.specs.Bits.TakesBits.{no_bit, one_more}
+use Rattle.sja_turns.specs.Serial.{SerialValue, StandsAt}
+
+-- so many were run
+pub record SomeBits (plan : PlanValue) (deeds : List (List Deed)) (Before : SerialValue → Type 0) (r n : SerialValue) (count : ℕ) : Type 0 where
+  pub bits : TakesBits plan deeds Before r count n
+  pub stands : StandsAt plan n deeds
+  pub many : n.bits ≡ r.bits + count
+
+pub bits_none : (plan : PlanValue) (deeds : List (List Deed)) (Before : SerialValue → Type 0) (r : SerialValue) → StandsAt plan r deeds → SomeBits plan deeds Before r r 0
+bits_none plan deeds Before r h = record { bits = no_bit r; stands = h; many = omega arith }
+
+pub bits_more : (plan : PlanValue) (deeds : List (List Deed)) (Before : SerialValue → Type 0) (r m n : SerialValue) (count : ℕ) → SomeBits plan deeds Before r m count → Before m → TakesBit plan deeds m n →
+    SomeBits plan deeds Before r n (count + 1)
+bits_more plan deeds Before r m n count s before t =
+    let one : suc count ≡ count + 1 = omega arith in
+    let k = s.many in let b = t.bits in record {
+      bits = subst (λ (c : ℕ). TakesBits plan deeds Before r c n) one (one_more r m n count s.bits before t);
+      stands = t.stands;
+      many = omega (arith, k, b);
+    }
+
+-- no more bits are run than the plan has
+pub bits_within : (plan : PlanValue) (r : SerialValue) (deeds : List (List Deed)) → StandsAt plan r deeds → r.bits ≤ plan.bits
+bits_within plan r deeds h = let a = h.all_bits in let b = h.bits in omega (arith, a, b)
+
+-- ---- `bus`
+
+pub bus_all : (plan : PlanValue) (deeds : List (List Deed)) (r n : SerialValue) (run count : ℕ) → run ≡ count → SomeBits plan deeds (λ x. Unit {0}) r n run → TakesBusTurn plan deeds r n count true
+bus_all plan deeds r n run count all s = record { run = run; bits = s.bits; whole = λ yes. all; spent = λ no. cc no }
+
+pub bus_spent : (plan : PlanValue) (deeds : List (List Deed)) (r n : SerialValue) (run count : ℕ) → run < count → plan.bits ≤ n.bits → SomeBits plan deeds (λ x. Unit {0}) r n run → TakesBusTurn plan deeds r n count false
+bus_spent plan deeds r n run count few spent s =
+    let w = bits_within plan n deeds s.stands in record { run = run; bits = s.bits; whole = λ yes. cc yes; spent = λ no. (few, omega (arith, spent, w)) }
+
+-- ---- `rest`
+
+pub all_rest : (plan : PlanValue) (n : SerialValue) (deeds : List (List Deed)) → StandsAt plan n deeds →
+    ((node : ℕ) → node < length n.bus.journals → RestsAs (record_of (journal_at n.bus.journals node)) true) → AllRest plan n
+all_rest plan n deeds h rest node less = let c = h.count.journals in rest node (omega (arith, c, less))
+
+pub some_works : (plan : PlanValue) (n : SerialValue) (deeds : List (List Deed)) → StandsAt plan n deeds →
+    ((node : ℕ) × (node < length n.bus.journals) × RestsAs (record_of (journal_at n.bus.journals node)) false) → SomeWorks plan n
+some_works plan n deeds h busy = let c = h.count.journals in let l = busy.1 in (busy.0, omega (arith, c, l), busy.2)
+
+pub rest_all : (plan : PlanValue) (deeds : List (List Deed)) (r n : SerialValue) (run : ℕ) → AllRest plan n → SomeBits plan deeds (SomeWorks plan) r n run → TakesRest plan deeds r n true
+rest_all plan deeds r n run all s = record { run = run; bits = s.bits; whole = λ yes. all; spent = λ no. cc no }
+
+pub rest_spent : (plan : PlanValue) (deeds : List (List Deed)) (r n : SerialValue) (run : ℕ) → SomeWorks plan n → plan.bits ≤ n.bits → SomeBits plan deeds (SomeWorks plan) r n run → TakesRest plan deeds r n false
+rest_spent plan deeds r n run busy spent s =
+    let w = bits_within plan n deeds s.stands in record { run = run; bits = s.bits; whole = λ yes. cc yes; spent = λ no. (busy, omega (arith, spent, w)) }
+
+-- the bits are spent
+pub rest_end : (plan : PlanValue) (deeds : List (List Deed)) (r n : SerialValue) (run : ℕ) (rests : Bool) → (rests ≡ true → AllRest plan n) → (rests ≡ false → SomeWorks plan n) → plan.bits ≤ n.bits → SomeBits plan deeds (SomeWorks plan) r n run →
+    TakesRest plan deeds r n rests
+rest_end plan deeds r n run rests all busy spent s =
+    let w = bits_within plan n deeds s.stands in record { run = run; bits = s.bits; whole = all; spent = λ no. (busy no, omega (arith, spent, w)) }

@@ -1,0 +1,57 @@
+use Rattle.std.proofs.Common.{rules, ◌≡◌, ◌<◌, ◌+◌, true, false, length, take, drop, sym, ap, subst, arith}
+use Rattle.std.proofs.lemmas.List.{take_all}
+use Rattle.std.specs.Prelude.{slice_index_or}
+use Rattle.sja_plan.specs.Plan.{NamesNode}
+use Rattle.sja_plan.specs.declared.turn.Turn.{Turn}
+use Rattle.sja_plan.specs.declared.turn.Turn.TheVariants.{Bus}
+use Rattle.sja_turns.proofs.Coming.{come_first, come_at, come_one, whole_at, end_one, end_all}
+use Rattle.sja_turns.proofs.running.take_turns.Goals as goal
+
+pub loop-turn-init : goal.loop-turn-init
+loop-turn-init c = come_first c.args.plan.now c.args.run.now c.requires.stands c.requires.bus
+
+pub take_one-requires-clause-run : goal.take_one-requires-clause-run
+take_one-requires-clause-run c = let inv = c.loop-turn.invariant in (inv.deeds, inv.stands)
+
+pub take_one-requires-clause-names : goal.take_one-requires-clause-names
+take_one-requires-clause-names c =
+    let plan = c.args.plan.now in let i = c.loop-turn.turn-index in
+    let same = ap (λ l. length l) c.turns-turn-items.ensures in let t = c.loop-turn-test.true in
+    let less : i < length plan.turns = omega (arith, same, t) in
+    subst (λ (x : Turn). NamesNode (length plan.nodes) x) (ap (λ l. slice_index_or l i (Bus 0))
+        (sym c.turns-turn-items.ensures)) (c.limits.ensures.turns i (Bus 0) less)
+
+pub loop-turn-preserved : goal.loop-turn-preserved
+loop-turn-preserved c =
+    let plan = c.args.plan.now in let i = c.loop-turn.turn-index in let inv = c.loop-turn.invariant in
+    let same = ap (λ l. length l) c.turns-turn-items.ensures in let t = c.loop-turn-test.true in
+    let less : i < length plan.turns = omega (arith, same, t) in
+    let one = slice_index_or c.turns-turn-items.result.now i (Bus 0) in
+    let is : slice_index_or plan.turns i (Bus 0) ≡ one = ap (λ l. slice_index_or l i (Bus 0))
+        (sym c.turns-turn-items.ensures) in
+    let names : NamesNode (length plan.nodes) one = subst (λ (x : Turn). NamesNode (length plan.nodes) x) is
+        (c.limits.ensures.turns i (Bus 0) less) in
+    let yes : c.take_one.result ≡ true = search rules in
+    come_at plan i (Bus 0) one c.take_one.new.run less is
+    (come_one plan (take i plan.turns) c.loop-turn.run c.take_one.new.run inv one c.take_one.result names yes
+        (c.take_one.ensures inv.deeds inv.stands))
+
+pub returns-then-not-take_one : goal.returns-then-not-take_one
+returns-then-not-take_one c =
+    let plan = c.args.plan.now in let i = c.loop-turn.turn-index in let inv = c.loop-turn.invariant in
+    let same = ap (λ l. length l) c.turns-turn-items.ensures in let t = c.loop-turn-test.true in
+    let less : i < length plan.turns = omega (arith, same, t) in
+    let one = slice_index_or c.turns-turn-items.result.now i (Bus 0) in
+    let is : slice_index_or plan.turns i (Bus 0) ≡ one = ap (λ l. slice_index_or l i (Bus 0))
+        (sym c.turns-turn-items.ensures) in
+    let no : c.take_one.result ≡ false = search rules in
+    end_one plan (take i plan.turns) c.loop-turn.run c.take_one.new.run inv one c.take_one.result (drop
+        (i + 1) plan.turns) no
+    (c.take_one.ensures inv.deeds inv.stands) (whole_at plan i (Bus 0) one less is)
+
+pub returns : goal.returns
+returns c =
+    let plan = c.args.plan.now in let i = c.loop-turn.turn-index in
+    let same = ap (λ l. length l) c.turns-turn-items.ensures in let t = c.loop-turn-test.false in
+    let all : take i plan.turns ≡ plan.turns = take_all i plan.turns (omega (arith, same, t)) in
+    end_all plan (take i plan.turns) c.loop-turn.run c.loop-turn.invariant all

@@ -1,0 +1,19 @@
+pub mod Alike
+-- ---- a node between two steps, part by part
+pub mod Tracing
+pub mod Linking
+pub mod Porting
+pub mod Asking
+pub mod Counted
+pub mod Dated
+pub mod Nodes
+-- ---- what a turn of a node does
+pub mod Waiting
+-- ---- what bits do
+pub mod Bits
+-- ---- the whole run
+pub mod Serial
+pub mod Beginning
+-- ---- its end
+pub mod Finishing
+pub mod Ending

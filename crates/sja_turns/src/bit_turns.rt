@@ -1,0 +1,98 @@
+//! The turns of the bus.
+
+ghost use Rattle.std.specs.Prelude.{◌<◌, ℕ, length, slice_index_or};
+ghost use Rattle.sja_regs.specs.declared.registers.Registers.{Registers};
+ghost use Rattle.sja_regs.specs.Facts.{RegisterFacts};
+
+use super::serial_run::SerialRun;
+use sja_plan::Plan;
+use sja_regs::Port;
+
+/// What holds of every port, of each of these. It does nothing.
+fn keep_their_facts(ports: &[Port])
+    ensures { (node : ℕ) (d : Registers) → node < length ports.now → RegisterFacts (slice_index_or ports.now node d) }
+{
+    for node in 0..ports.len() {
+        ports[node].keeps_its_facts();
+    }
+}
+
+impl SerialRun {
+    ghost use Rattle.std.specs.Prelude.{◌≡◌, ◌<◌, ◌≤◌, ℕ, None, true, false, List, length};
+    ghost use Rattle.sja_link.specs.Records.{record_of};
+    ghost use Rattle.sja_bus.specs.Resting.{RestsAs};
+    ghost use Rattle.sja_bus.specs.Wire.{journal_at};
+    ghost use Rattle.sja_driver.specs.Deeds.{Deed};
+    ghost use Rattle.sja_turns.specs.Bits.{TakesBit, TakesBusTurn, TakesRest};
+    ghost use Rattle.sja_turns.specs.Serial.{StandsAt, IsRunOf};
+
+    /// Whether no bit is left.
+    fn is_spent(&self, plan: &Plan) -> bool
+        ensures spent { result ≡ true → plan.now.bits ≤ self.now.bits }
+        ensures left { result ≡ false → self.now.bits < plan.now.bits }
+    {
+        self.bits >= plan.bits()
+    }
+
+    /// Whether every node is at rest.
+    fn rests(&self) -> bool
+        ensures rest { self.now.bus.fault ≡ None → result ≡ true → (node : ℕ) → node < length self.now.bus.journals →
+            RestsAs (record_of (journal_at self.now.bus.journals node)) true }
+        ensures busy { self.now.bus.fault ≡ None → result ≡ false → (node : ℕ) × (node < length self.now.bus.journals)
+            × RestsAs (record_of (journal_at self.now.bus.journals node)) false }
+    {
+        self.bus.at_rest()
+    }
+
+    /// One bit of the bus. No item is taken, since all that the drivers gave was taken before. Nothing stops it.
+    fn run_bit(&mut self, plan: &Plan)
+        requires run { IsRunOf plan.now self.old }
+        requires left { self.old.bits < plan.now.bits }
+        ensures { (deeds : List (List Deed)) → StandsAt plan.now self.old deeds →
+            TakesBit plan.now deeds self.old self.new }
+    {
+        plan.limits();
+        self.bus.keeps_its_laws();
+        keep_their_facts(self.board.ports.as_slice());
+        match self.bus.bit(self.links.as_mut_slice(), &mut self.board) {
+            Ok(()) => self.bits += 1,
+            Err(_) => unreachable!(),
+        }
+    }
+
+    /// `bus`: so many bits, or as many as are left. It says whether all were run.
+    pub fn bus_turn(&mut self, plan: &Plan, count: u32) -> bool
+        requires run { IsRunOf plan.now self.old }
+        ensures turn { (deeds : List (List Deed)) → StandsAt plan.now self.old deeds →
+            TakesBusTurn plan.now deeds self.old self.new count result }
+        ensures stays { IsRunOf plan.now self.new }
+    {
+        for _ in 0..count {
+            if self.is_spent(plan) {
+                return false;
+            }
+            self.run_bit(plan);
+        }
+        true
+    }
+
+    /// `rest`: bits until every controller is at rest: in reset, or idle with no request. It says whether they came to rest
+    /// before the bits were spent.
+    pub fn rest_turn(&mut self, plan: &Plan) -> bool
+        requires run { IsRunOf plan.now self.old }
+        ensures turn { (deeds : List (List Deed)) → StandsAt plan.now self.old deeds →
+            TakesRest plan.now deeds self.old self.new result }
+        ensures stays { IsRunOf plan.now self.new }
+    {
+        for _ in 0..plan.bits() {
+            if self.rests() {
+                return true;
+            }
+            if self.is_spent(plan) {
+                return false;
+            }
+            self.run_bit(plan);
+        }
+        self.rests()
+    }
+}

@@ -1,0 +1,31 @@
+//! Whole runs in one thread: drivers and bus take turns as a plan says.
+//!
+//! [`run_serial`] runs a plan and gives the log of the run, with all that is promised of it.
+//!
+//! A [`SerialRun`] has the bus, and of each node its port, its eight links and its driver with the log of what it did.
+//! It is made of a plan ([`SerialRun::new`]), takes the turns of its nodes ([`SerialRun::node_turn`]) and of the bus
+//! ([`SerialRun::bus_turn`], [`SerialRun::rest_turn`]), and ends with its log ([`SerialRun::finish`]). After each step
+//! of a driver the bus takes what was given, so between two steps nothing waits on a link: each item is taken after just
+//! the bits before its step, and no link is ever full upward.
+//!
+//! Contracts say at which deeds of the drivers a run stands, `StandsAt` of `specs/Serial.antt`: of each node its driver
+//! did these deeds, of the steps that the plan has for it; its links carried what its journal and its deeds say; its
+//! port is as its writes and loads have set it; and all was in time, as `IsInTime` of sja_report has it.
+//!
+//! `SerialRun::new` and `SerialRun::finish` alone take memory. The tests stand in `crates/turns_tests`.
+#![tactic(auto)]
+
+mod beginning;
+mod bit_turns;
+mod copying;
+mod ending;
+mod finishing;
+mod off_links;
+mod run_fault;
+mod running;
+mod serial_run;
+mod stepping;
+
+pub use run_fault::RunFault;
+pub use running::run_serial;
+pub use serial_run::SerialRun;

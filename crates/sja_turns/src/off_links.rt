@@ -1,0 +1,63 @@
+//! What lies on the links at the end of a run.
+
+ghost use Rattle.std.specs.Prelude.{◌≡◌, IfOk};
+ghost use Rattle.sja_turns.specs.Finishing.{all_down};
+
+use can_frame::OutOfMemory;
+use sja_link::{DequeLink, Down, DriverEnd};
+use std::alloc::Global;
+use std::marker::Model;
+
+/// The items that lay on a link downward, in order.
+#[derive(Debug, Drop)]
+pub(crate) struct Lying {
+    items: Vec<Down>,
+}
+
+impl Model for Lying {
+    ghost use Rattle.std.specs.Prelude.{List};
+    ghost use Rattle.sja_link.specs.declared.down.Down.{Down as Item};
+
+    ghost Value = { List Item };
+
+    ghost view = { λ s. s.items.items };
+}
+
+impl Lying {
+    ghost use Rattle.std.specs.Prelude.{◌≡◌, IfOk};
+
+    /// What lies on a link, which is taken off it.
+    ///
+    /// Error: [`OutOfMemory`] where memory was refused.
+    fn on(alloc: Global, link: DequeLink) -> Result<Lying, OutOfMemory>
+        ensures { IfOk result (λ lying. lying ≡ link.down) }
+    {
+        let mut end = link;
+        let mut items = Vec::new(alloc);
+        while let Some(item) = end.get() {
+            items.push(item)?;
+        }
+        Ok(Lying { items })
+    }
+
+    /// The items.
+    pub(crate) fn items(&self) -> &[Down]
+        ensures { result.now ≡ self.now }
+    {
+        self.items.as_slice()
+    }
+}
+
+/// What lies on each of these links.
+///
+/// Error: [`OutOfMemory`] where memory was refused.
+pub(crate) fn all_lying(alloc: Global, links: Vec<DequeLink>) -> Result<Vec<Lying>, OutOfMemory>
+    ensures { IfOk result (λ lists. lists.items ≡ all_down links.items) }
+{
+    let mut lists = Vec::new(alloc);
+    for link in links {
+        let lying = Lying::on(alloc, link)?;
+        lists.push(lying)?;
+    }
+    Ok(lists)
+}

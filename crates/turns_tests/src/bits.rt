@@ -1,0 +1,57 @@
+//! Turns of the bus.
+
+use sja_plan::read_plan;
+use sja_turns::SerialRun;
+use std::test::Fail;
+
+/// A node that starts, and asks for a frame that nobody acknowledges.
+const ALONE: &str = "version = 1
+bits = 200
+[[node]]
+steps = [\"start\", \"load 000000\", \"command 01\", \"sent\"]
+";
+
+/// The same in self test mode, in which a frame needs no acknowledgement.
+const SELF_TEST: &str = "version = 2
+bits = 100
+[[node]]
+steps = [\"write 0 05\", \"start\", \"load 000000\", \"command 01\", \"sent\"]
+";
+
+/// A lone sender sends again and again, and never comes to rest: `rest` spends all bits.
+#[test]
+fn a_lone_sender_does_not_come_to_rest(rt: HostRuntime) -> Result<(), Fail> {
+    let plan = read_plan(rt.alloc(), ALONE.as_bytes())?;
+    let mut run = SerialRun::new(rt.alloc(), &plan)?;
+    run.node_turn(&plan, 0, 4);
+    assert!(rt; !run.rest_turn(&plan));
+    assert!(rt; run.bus_turn(&plan, 0));
+    assert!(rt; !run.bus_turn(&plan, 1));
+    Ok(())
+}
+
+/// A node in reset is at rest, and no bit is run. A started one is after eleven bits.
+#[test]
+fn a_started_node_rests_after_eleven_bits(rt: HostRuntime) -> Result<(), Fail> {
+    let plan = read_plan(rt.alloc(), ALONE.as_bytes())?;
+    let mut run = SerialRun::new(rt.alloc(), &plan)?;
+    assert!(rt; run.rest_turn(&plan));
+    run.node_turn(&plan, 0, 1);
+    assert!(rt; run.rest_turn(&plan));
+    assert!(rt; run.bus_turn(&plan, 189));
+    assert!(rt; !run.bus_turn(&plan, 1));
+    Ok(())
+}
+
+/// Eleven bits of bus integration, 50 of the frame and 3 of the intermission: then the node is at rest.
+#[test]
+fn a_frame_in_self_test_mode_ends_after_64_bits(rt: HostRuntime) -> Result<(), Fail> {
+    let plan = read_plan(rt.alloc(), SELF_TEST.as_bytes())?;
+    let mut run = SerialRun::new(rt.alloc(), &plan)?;
+    run.node_turn(&plan, 0, 4);
+    assert!(rt; run.rest_turn(&plan));
+    assert!(rt; run.bus_turn(&plan, 35));
+    assert!(rt; run.bus_turn(&plan, 1));
+    assert!(rt; !run.bus_turn(&plan, 1));
+    Ok(())
+}
