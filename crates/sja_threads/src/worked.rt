@@ -1,0 +1,13 @@
+//! [`Worked`]: what a driver hands back when its script has ended.
+
+use sja_driver::LoggedDriver;
+
+/// What a driver hands back when its script has ended (this project's own rule): its ends of the node's eight links,
+/// and the driver with the log of what it did. An open activation stays open.
+#[derive(Drop)]
+pub struct Worked<D: Drop> {
+    /// Its ends, by activation.
+    pub links: Vec<D>,
+    /// The driver, in either state, with its log.
+    pub driver: LoggedDriver,
+}
