@@ -1,7 +1,7 @@
 -- What some words ask for, by computing the parser's answer.
 use Rattle.std.proofs.Common.{◌≡◌, ◌==◌, ℕ, List, [], ◌∷◌, codes, refl, false, Some}
 use Rattle.clap.proofs.OnLiterals.{clap_on_literals}
-use Rattle.sja_words.specs.Words.{Request, ParsesAs, encode, asked, faults}
+use Rattle.sja_words.specs.Words.{Request, ParsesAs, encode, run, asked, faults}
 
 -- `encode` and the empty text
 pub empty_text : (name : List ℕ) → ParsesAs (name ∷ codes "encode" ∷ [] ∷ []) (encode [])
@@ -27,6 +27,11 @@ pub no_message : (name : List ℕ) (r : Request) → ¬ ParsesAs (name ∷ codes
 unfolding clap_on_literals asked
 no_message name r parses = cc (parses.asks)
 
--- both together
+-- `run`
+pub run_alone : (name : List ℕ) → ParsesAs (name ∷ codes "run" ∷ []) run
+unfolding clap_on_literals asked faults
+run_alone name = record { taken = refl; asks = refl }
+
+-- `encode` and such a text, both together
 pub text : (name rest : List ℕ) (x : ℕ) → (x == 45) ≡ false → ParsesAs (name ∷ codes "encode" ∷ (x ∷ rest) ∷ []) (encode (x ∷ rest))
 text name rest x h = record { taken = taken_text name rest x h; asks = asked_text name rest x h }

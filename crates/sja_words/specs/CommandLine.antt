@@ -41,6 +41,14 @@ line_app =
     (with_subcommand empty_app (text_app (codes "encode") (codes "MESSAGE")).top)
     (text_app (codes "decode") (codes "LINE")).top
 
+-- those and the commands over frames: `filter MODE ACR AMR MESSAGE` and `arbitrate MESSAGE..`
+abbrev pub frame_app : App
+frame_app = with_subcommand (with_subcommand line_app filter_app.top) arbitrate_app.top
+
+-- `run`, which has no arguments
+abbrev pub run_app : App
+run_app = new_app (codes "run")
+
 -- the whole
 abbrev pub sja_app : App
-sja_app = with_subcommand (with_subcommand line_app filter_app.top) arbitrate_app.top
+sja_app = with_subcommand frame_app run_app.top

@@ -27,6 +27,7 @@ fn task_by<'a>(name: &str, arguments: &ArgMatches<'a>) -> Option<Task<'a>>
         "decode" => decode_task(arguments),
         "filter" => filter_task(arguments),
         "arbitrate" => arbitrate_task(arguments),
+        "run" => Some(Task::Run),
         _ => None,
     }
 }

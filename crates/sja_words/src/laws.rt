@@ -1,13 +1,18 @@
 //! Laws of the words. Each stands as the contract of a function that does nothing.
 
 ghost use Rattle.std.specs.Prelude.{◌≡◌, ◌==◌, ◌∷◌, [], ℕ, List, codes, false};
-ghost use Rattle.sja_words.specs.Words.{Request, ParsesAs, encode};
+ghost use Rattle.sja_words.specs.Words.{Request, ParsesAs, encode, run};
 
 /// The program's name, `encode` and a text that doesn't begin with `-` (45) ask for the levels of this message.
 pub fn encode_and_a_text_parse()
     ensures empty { (name : List ℕ) → ParsesAs (name ∷ codes "encode" ∷ [] ∷ []) (encode []) }
     ensures text { (name rest : List ℕ) (first : ℕ) → (first == 45) ≡ false
         → ParsesAs (name ∷ codes "encode" ∷ (first ∷ rest) ∷ []) (encode (first ∷ rest)) }
+{}
+
+/// The program's name and `run` ask for the report of the plan on the input.
+pub fn run_parses()
+    ensures { (name : List ℕ) → ParsesAs (name ∷ codes "run" ∷ []) run }
 {}
 
 /// The program's name alone, or with `encode` alone, asks for nothing.

@@ -26,4 +26,6 @@ pub enum Task<'a> {
     },
     /// `arbitrate MESSAGE..`: what becomes of these one to eight messages' frames if their transmitters start together.
     Arbitrate(ArrayVec<&'a str, MOST_MESSAGES>),
+    /// `run`: the report of the run of the plan on the input.
+    Run,
 }
