@@ -1,3 +1,4 @@
 pub mod Symbols
+pub mod Few
 pub mod Memory
 pub mod Spelled

@@ -1,12 +1,15 @@
 -- Refused memory is a refusal of each request.
-use Rattle.std.proofs.Common.{refl, inl}
-use Rattle.sja_words.specs.Words.{Request, encode, decode, filter, arbitrate}
+use Rattle.std.proofs.Common.{List, ℕ, Option, refl, inl}
+use Rattle.sja_words.specs.Words.{Request, encode, decode, filter, arbitrate, run}
 use Rattle.sja_run.specs.Answer.{IsRefused}
+use Rattle.sja_run.specs.Input.{ReadsFew}
 use Rattle.sja_run.specs.declared.refusal.Refusal.TheVariants.{OutOfMemory}
 
--- whatever is asked for
-pub memory_refused : (r : Request) → IsRefused r OutOfMemory
-memory_refused (encode digits) = tt
-memory_refused (decode digits) = tt
-memory_refused (filter single acr amr digits) = inl refl
-memory_refused (arbitrate messages) = inl refl
+-- whatever is asked for, where few bytes were read
+pub memory_refused : (r : Request) (before after : Option (List ℕ)) → ReadsFew before after →
+    IsRefused r before after OutOfMemory
+memory_refused (encode digits) before after few = tt
+memory_refused (decode digits) before after few = tt
+memory_refused (filter single acr amr digits) before after few = inl refl
+memory_refused (arbitrate messages) before after few = inl refl
+memory_refused run before after few = few

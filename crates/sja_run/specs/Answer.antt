@@ -1,7 +1,7 @@
 -- What the program does, by what the words ask for (this project's own rule).
 use Rattle.std.specs.Prelude.{◌≡◌, ◌⊎◌, ℕ, List, Option, Some}
 use Rattle.std.specs.Io.KnownBytes.{Appends, Keeps}
-use Rattle.sja_words.specs.Words.{Request, encode, decode, filter, arbitrate}
+use Rattle.sja_words.specs.Words.{Request, encode, decode, filter, arbitrate, run}
 use Rattle.sja_run.specs.declared.refusal.Refusal.{Refusal}
 use Rattle.sja_run.specs.declared.refusal.Refusal.TheVariants as refusal
 use Rattle.sja_run.specs.Arbitrate.{IsArbitration, RefusesMessages}
@@ -10,29 +10,34 @@ use Rattle.sja_run.specs.Encode.{IsEncoding}
 use Rattle.sja_run.specs.Filter.{IsFiltering, RefusesFilter}
 use Rattle.sja_run.specs.Message.{RefusesMessage}
 use Rattle.sja_run.specs.Refusal.{refusal_line}
+use Rattle.sja_run.specs.Run.{IsRunning, RefusesRun}
 
--- the text that answers the request
-abbrev pub IsPrinted : Request → List ℕ → Type 0
-IsPrinted (encode digits) text = IsEncoding digits text
-IsPrinted (decode digits) text = IsDecoding digits text
-IsPrinted (filter single acr amr digits) text = IsFiltering single acr amr digits text
-IsPrinted (arbitrate messages) text = IsArbitration messages text
+-- the request, what the input held before and holds after, and the text that answers the request
+abbrev pub IsPrinted : Request → Option (List ℕ) → Option (List ℕ) → List ℕ → Type 0
+IsPrinted (encode digits) before after text = IsEncoding digits text
+IsPrinted (decode digits) before after text = IsDecoding digits text
+IsPrinted (filter single acr amr digits) before after text = IsFiltering single acr amr digits text
+IsPrinted (arbitrate messages) before after text = IsArbitration messages text
+IsPrinted run before after text = IsRunning before after text
 
--- why the request has no answer
-abbrev pub IsRefused : Request → Refusal → Type 0
-IsRefused (encode digits) r = RefusesMessage digits r
-IsRefused (decode digits) r = RefusesLine digits r
-IsRefused (filter single acr amr digits) r = RefusesFilter acr amr digits r
-IsRefused (arbitrate messages) r = RefusesMessages messages r
+-- the same, and why the request has no answer
+abbrev pub IsRefused : Request → Option (List ℕ) → Option (List ℕ) → Refusal → Type 0
+IsRefused (encode digits) before after r = RefusesMessage digits r
+IsRefused (decode digits) before after r = RefusesLine digits r
+IsRefused (filter single acr amr digits) before after r = RefusesFilter acr amr digits r
+IsRefused (arbitrate messages) before after r = RefusesMessages messages r
+IsRefused run before after r = RefusesRun before after r
 
--- The request, the exit status, and what the output and the error output held before and hold after.
+-- The request, the exit status, and what the input, the output and the error output held before and hold after.
 -- Either the text is on the output and the status is 0, or the refusal's line is on the error output and the status
 -- is 1; the other writer keeps what it held.
-abbrev pub Shows : Request → Option ℕ → Option (List ℕ) → Option (List ℕ) → Option (List ℕ) → Option (List ℕ) → Type 0
-Shows request status out_old out_new err_old err_new =
-    ((text : List ℕ) × IsPrinted request text × (status ≡ Some 0) × Appends out_old out_new text
+abbrev pub Shows :
+    Request → Option ℕ → Option (List ℕ) → Option (List ℕ) → Option (List ℕ) → Option (List ℕ) → Option (List ℕ)
+    → Option (List ℕ) → Type 0
+Shows request status in_old in_new out_old out_new err_old err_new =
+    ((text : List ℕ) × IsPrinted request in_old in_new text × (status ≡ Some 0) × Appends out_old out_new text
     × Keeps err_old err_new)
-    ⊎ ((r : Refusal) × IsRefused request r × (status ≡ Some 1) × Keeps out_old out_new
+    ⊎ ((r : Refusal) × IsRefused request in_old in_new r × (status ≡ Some 1) × Keeps out_old out_new
     × Appends err_old err_new (refusal_line r))
 
 -- The words don't parse: the status is 2 and the error output has the parser's text, or memory was refused.

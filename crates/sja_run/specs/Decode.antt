@@ -5,7 +5,8 @@ use Rattle.can_bits.specs.Reading.{IsReceived, IsFirstFault}
 use Rattle.can_frame.specs.Frame.{FrameValue}
 use Rattle.can_frame.specs.Message.{message}
 use Rattle.sja_run.specs.declared.refusal.Refusal.{Refusal}
-use Rattle.sja_run.specs.declared.refusal.Refusal.TheVariants.{OutOfMemory, NotHexadecimal, NotALine, Layout, Line}
+use Rattle.sja_run.specs.declared.refusal.Refusal.TheVariants.{OutOfMemory, NotHexadecimal, NotALine, Read}
+use Rattle.sja_run.specs.declared.refusal.Refusal.TheVariants.{Layout, Line, Plan, Run}
 use Rattle.sja_run.specs.BytesText.{bytes_text}
 use Rattle.sja_run.specs.LineText.{symbol}
 
@@ -25,4 +26,7 @@ RefusesLine digits OutOfMemory = Unit {0}
 RefusesLine digits NotALine = (l : List Level) → ¬ ReadsAsLevels digits l
 RefusesLine digits (Line fault) = (l : List Level) × ReadsAsLevels digits l × IsFirstFault l fault
 RefusesLine digits NotHexadecimal = ⊥
+RefusesLine digits Read = ⊥
 RefusesLine digits (Layout fault) = ⊥
+RefusesLine digits (Plan fault) = ⊥
+RefusesLine digits (Run fault) = ⊥

@@ -6,4 +6,6 @@ pub mod Encode
 pub mod Decode
 pub mod Filter
 pub mod Arbitrate
+pub mod Input
+pub mod Run
 pub mod Answer

@@ -5,7 +5,8 @@ use Rattle.can_frame.specs.Layout.{IsShort, IsLong, IsSized, UnusedAreZero, RtrA
 use Rattle.can_frame.specs.declared.layout_fault.LayoutFault.{LayoutFault}
 use Rattle.can_frame.specs.declared.layout_fault.LayoutFault.TheVariants.{Short, Long, UnusedBit, RtrDisagrees}
 use Rattle.sja_run.specs.declared.refusal.Refusal.{Refusal}
-use Rattle.sja_run.specs.declared.refusal.Refusal.TheVariants.{OutOfMemory, NotHexadecimal, NotALine, Layout, Line}
+use Rattle.sja_run.specs.declared.refusal.Refusal.TheVariants.{OutOfMemory, NotHexadecimal, NotALine, Read}
+use Rattle.sja_run.specs.declared.refusal.Refusal.TheVariants.{Layout, Line, Plan, Run}
 
 -- the digits spell these bytes
 abbrev pub ReadsAs : List ℕ → List ℕ → Type 0
@@ -25,4 +26,7 @@ RefusesMessage digits OutOfMemory = Unit {0}
 RefusesMessage digits NotHexadecimal = (bytes : List ℕ) → ¬ ReadsAs digits bytes
 RefusesMessage digits (Layout fault) = (bytes : List ℕ) × ReadsAs digits bytes × IsLayoutFault bytes fault
 RefusesMessage digits NotALine = ⊥
+RefusesMessage digits Read = ⊥
 RefusesMessage digits (Line fault) = ⊥
+RefusesMessage digits (Plan fault) = ⊥
+RefusesMessage digits (Run fault) = ⊥

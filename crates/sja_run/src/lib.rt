@@ -2,7 +2,9 @@
 //!
 //! [`sja_serial`] is the whole program: it reads the words, does what they ask for, writes the exact text to its output
 //! or one line to its error output, and answers the exit status. [`Output`] is a writer that remembers a failed write.
-//! What the words ask for is a [`Task`], from the crate `sja_words`.
+//! What the words ask for is a [`Task`], from the crate `sja_words`. For `run` it reads a [`Plan`] from its input
+//! ([`read_plan`]), runs it in one thread ([`run_serial`]) and writes the report of the run's log ([`report`]); these
+//! calls are those of `sja_plan`, `sja_turns` and `sja_report`.
 //!
 //! Its tests stand in `crates/sja_tests/src/program`.
 #![tactic(auto)]
@@ -13,13 +15,19 @@ mod bytes_text;
 mod decode;
 mod encode;
 mod filter;
+mod input;
 mod line_text;
 mod message;
 mod output;
+mod plan_fault_text;
 mod refusal;
+mod run;
 mod serial;
 
 pub use output::Output;
 pub use refusal::Refusal;
 pub use serial::sja_serial;
+pub use sja_plan::{Plan, PlanFault, Turn, read_plan};
+pub use sja_report::{ActivationLog, End, NodeRun, RunLog, report};
+pub use sja_turns::{RunFault, run_serial};
 pub use sja_words::{Task, WordsFault, parse};

@@ -1,9 +1,13 @@
 //! [`Refusal`]: why the program refuses, and the text that it writes of it.
 
 ghost use Rattle.std.specs.Prelude.{◌≡◌};
+ghost use Rattle.sja_run.specs.Refusal.{layout_fault_text, run_fault_text};
 
+use super::plan_fault_text::PlanFaultText;
 use can_bits::LineFault;
 use can_frame::{LayoutFault, OutOfMemory};
+use sja_plan::PlanFault;
+use sja_turns::RunFault;
 use std::alloc::AllocError;
 use std::fmt;
 
@@ -17,10 +21,16 @@ pub enum Refusal {
     NotHexadecimal,
     /// A text has a character that isn't `0` or `1`.
     NotALine,
+    /// The input can't be read.
+    Read,
     /// Bytes are no message.
     Layout(LayoutFault),
     /// Levels are no acknowledged line.
     Line(LineFault),
+    /// The input is no plan.
+    Plan(PlanFault),
+    /// A run has no log.
+    Run(RunFault),
 }
 
 impl fmt::Display for Refusal {
@@ -34,19 +44,42 @@ impl fmt::Display for Refusal {
             Refusal::OutOfMemory => f.write_str("out of memory"),
             Refusal::NotHexadecimal => f.write_str("not hexadecimal"),
             Refusal::NotALine => f.write_str("not a line"),
-            Refusal::Layout(LayoutFault::Short) => f.write_str("layout fault 1 Short"),
-            Refusal::Layout(LayoutFault::Long) => f.write_str("layout fault 2 Long"),
-            Refusal::Layout(LayoutFault::UnusedBit) => f.write_str("layout fault 3 UnusedBit"),
-            Refusal::Layout(LayoutFault::RtrDisagrees) => f.write_str(
-                "layout fault 4 RtrDisagrees",
-            ),
+            Refusal::Read => f.write_str("read fault"),
+            Refusal::Layout(fault) => f.write_str(layout_fault_text(*fault)),
             Refusal::Line(LineFault::Stuff(at)) => write!(f, "line fault 1 Stuff at {at}"),
             Refusal::Line(LineFault::Form(at)) => write!(f, "line fault 2 Form at {at}"),
             Refusal::Line(LineFault::Crc) => f.write_str("line fault 3 Crc"),
             Refusal::Line(LineFault::NoAck) => f.write_str("line fault 4 NoAck"),
             Refusal::Line(LineFault::Truncated) => f.write_str("line fault 5 Truncated"),
             Refusal::Line(LineFault::Trailing(at)) => write!(f, "line fault 6 Trailing at {at}"),
+            Refusal::Plan(fault) => write!(f, "{}", PlanFaultText(*fault)),
+            Refusal::Run(fault) => f.write_str(run_fault_text(*fault)),
         }
+    }
+}
+
+/// What is wrong with the layout of a message.
+fn layout_fault_text(fault: LayoutFault) -> &'static str
+    ensures { result.now ≡ layout_fault_text fault }
+{
+    match fault {
+        LayoutFault::Short => "layout fault 1 Short",
+        LayoutFault::Long => "layout fault 2 Long",
+        LayoutFault::UnusedBit => "layout fault 3 UnusedBit",
+        LayoutFault::RtrDisagrees => "layout fault 4 RtrDisagrees",
+    }
+}
+
+/// Why a run has no log.
+fn run_fault_text(fault: RunFault) -> &'static str
+    ensures { result.now ≡ run_fault_text fault }
+{
+    match fault {
+        RunFault::Memory => "out of memory",
+        RunFault::GateCount => "run fault 2 GateCount",
+        RunFault::Bus(_) => "run fault 3 Bus",
+        RunFault::Thread => "run fault 4 Thread",
+        RunFault::Unsettled => "run fault 5 Unsettled",
     }
 }
 
@@ -87,5 +120,25 @@ impl From<LineFault> for Refusal {
 
     fn from(fault: LineFault) -> Refusal {
         Refusal::Line(fault)
+    }
+}
+
+impl From<PlanFault> for Refusal {
+    ghost use Rattle.sja_run.specs.declared.refusal.Refusal.TheVariants as refusal;
+
+    ghost from_gives = { λ fault given. given ≡ refusal.Plan fault };
+
+    fn from(fault: PlanFault) -> Refusal {
+        Refusal::Plan(fault)
+    }
+}
+
+impl From<RunFault> for Refusal {
+    ghost use Rattle.sja_run.specs.declared.refusal.Refusal.TheVariants as refusal;
+
+    ghost from_gives = { λ fault given. given ≡ refusal.Run fault };
+
+    fn from(fault: RunFault) -> Refusal {
+        Refusal::Run(fault)
     }
 }

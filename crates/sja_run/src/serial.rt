@@ -1,8 +1,9 @@
 //! [`sja_serial`]: the whole program over words, a reader and two writers.
 
 ghost use Rattle.std.specs.Prelude.{◌≡◌, ◌⊎◌, Some, IsSome, false, true, map};
-ghost use Rattle.sja_words.specs.Words.{Request, ParsesAs, request_of};
+ghost use Rattle.sja_words.specs.Words.{Request, ParsesAs, request_of, run};
 ghost use Rattle.sja_run.specs.Answer.{Shows, IsTurnedAway};
+ghost use Rattle.sja_run.specs.Input.{ReadsFew};
 
 use super::answer::printed;
 use super::output::Output;
@@ -15,9 +16,11 @@ use std::io::{Read, Write};
 /// The program, without threads: does what the words ask for, writes the text to `out` or one line to `err`, and
 /// answers the exit status. The first word is the program's name.
 ///
-/// The status is 0 where the text was written, 1 where the argument or memory was refused or a write failed, and 2
-/// where the words don't parse or ask for help; then `err` has the parser's own text. `input` isn't read.
+/// The status is 0 where the text was written, 1 where an argument, the plan or memory was refused or a read or a write
+/// failed, and 2 where the words don't parse or ask for help; then `err` has the parser's own text. `input` is read for
+/// `run` alone: at most 65,537 bytes of it, in at most 131,074 reads.
 /// The words, texts and statuses are this project's own rule.
+#[tactic(auto, using(crate::proofs::Few::unread))]
 pub fn sja_serial<S: AsStr, R: Read, O: Write, E: Write>(
     alloc: Global,
     words: &[S],
@@ -27,7 +30,8 @@ pub fn sja_serial<S: AsStr, R: Read, O: Write, E: Write>(
 ) -> Option<u8>
     ensures answered { (r : Request) → ParsesAs (map S.text words.now) r
         → out.new.failed ≡ false → err.new.failed ≡ false
-        → Shows r result (O.contents out.old.writer) (O.contents out.new.writer)
+        → Shows r result (R.remaining input.old) (R.remaining input.new)
+        (O.contents out.old.writer) (O.contents out.new.writer)
         (E.contents err.old.writer) (E.contents err.new.writer) }
     ensures unparsed { ((r : Request) → ¬ ParsesAs (map S.text words.now) r)
         → out.new.failed ≡ false → err.new.failed ≡ false
@@ -37,31 +41,36 @@ pub fn sja_serial<S: AsStr, R: Read, O: Write, E: Write>(
     ensures one_writer { (out.new ≡ out.old) ⊎ (err.new ≡ err.old) }
     ensures failed { out.old.failed ≡ false → err.old.failed ≡ false
         → (out.new.failed ≡ true) ⊎ (err.new.failed ≡ true) → result ≡ Some 1 }
-    ensures unread { input.new ≡ input.old }
+    ensures unread { ¬ ParsesAs (map S.text words.now) run → input.new ≡ input.old }
+    ensures few { ReadsFew (R.remaining input.old) (R.remaining input.new) }
 {
-    let _ = input;
     match parse(alloc, words) {
-        Ok(task) => Some(reply(alloc, task, out, err)),
+        Ok(task) => Some(reply(alloc, task, input, out, err)),
         Err(WordsFault::OutOfMemory) => Some(err.refuse(Refusal::OutOfMemory)),
         Err(WordsFault::Unparsed(text)) => Some(err.turn_away(text.as_bytes())),
     }
 }
 
 /// Does the task, and gives the exit status.
-fn reply<O: Write, E: Write>(
+#[tactic(auto, using(crate::proofs::Few::few_printed, crate::proofs::Few::few_turned_down))]
+fn reply<R: Read, O: Write, E: Write>(
     alloc: Global,
     task: Task<'_>,
+    input: &mut R,
     out: &mut Output<O>,
     err: &mut Output<E>,
 ) -> u8
     ensures answered { out.new.failed ≡ false → err.new.failed ≡ false
-        → Shows (request_of task.entry) (Some result) (O.contents out.old.writer) (O.contents out.new.writer)
+        → Shows (request_of task.entry) (Some result) (R.remaining input.old) (R.remaining input.new)
+        (O.contents out.old.writer) (O.contents out.new.writer)
         (E.contents err.old.writer) (E.contents err.new.writer) }
     ensures one_writer { (out.new ≡ out.old) ⊎ (err.new ≡ err.old) }
     ensures failed { out.old.failed ≡ false → err.old.failed ≡ false
         → (out.new.failed ≡ true) ⊎ (err.new.failed ≡ true) → result ≡ 1 }
+    ensures unread { (request_of task.entry ≡ run) ⊎ (input.new ≡ input.old) }
+    ensures few { ReadsFew (R.remaining input.old) (R.remaining input.new) }
 {
-    match printed(alloc, task) {
+    match printed(alloc, task, input) {
         Ok(text) => {
             out.put(text.as_slice());
             if out.failed { 1 } else { 0 }

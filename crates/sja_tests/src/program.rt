@@ -7,3 +7,4 @@ mod failing_writes;
 mod filter;
 mod refused_memory;
 mod row;
+mod runs;

@@ -1,6 +1,7 @@
 use Rattle.std.proofs.Common.{rules, inr, ap, Some}
 use Rattle.sja_words.specs.Words.{request_of}
 use Rattle.sja_run.specs.declared.refusal.Refusal.TheVariants as refusal
+use Rattle.sja_run.proofs.Few.{unread}
 use Rattle.sja_run.proofs.Memory.{memory_refused}
 use Rattle.sja_run.proofs.serial.sja_serial.Goals as goal
 
@@ -18,4 +19,10 @@ returns-in-Ok-clause-untouched g c = λ none. absurd (none (request_of c.in-Ok.t
 -- memory may be refused while the words are parsed
 pub returns-in-Err-OutOfMemory-clause-answered : goal.returns-in-Err-OutOfMemory-clause-answered
 returns-in-Err-OutOfMemory-clause-answered g c = λ r _ _ told.
-    inr (refusal.OutOfMemory, memory_refused r, ap Some c.refuse.ensures.status, search rules, (c.refuse.ensures.written told).1)
+    inr (
+      refusal.OutOfMemory,
+      memory_refused r _ _ (unread _),
+      ap Some c.refuse.ensures.status,
+      search rules,
+      (c.refuse.ensures.written told).1,
+    )

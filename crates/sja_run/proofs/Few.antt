@@ -1,0 +1,50 @@
+-- Whatever becomes of a request, few bytes are read for it.
+use Rattle.std.proofs.Common.{◌≡◌, ◌≤◌, ◌+◌, ◌⊎◌, ◌++◌, List, ℕ, [], Option, length, length-append, sym, subst}
+use Rattle.std.proofs.Common.{arith, inl, inr}
+use Rattle.std.specs.Io.KnownBytes.{Consumes}
+use Rattle.std.proofs.KnownBytes.{Consumes-nil, Consumes-trans}
+use Rattle.sja_words.specs.Words.{Request, run}
+use Rattle.sja_run.specs.declared.refusal.Refusal.{Refusal}
+use Rattle.sja_run.specs.declared.refusal.Refusal.TheVariants as refusal
+use Rattle.sja_run.specs.Answer.{IsPrinted, IsRefused}
+use Rattle.sja_run.specs.Input.{ReadsFew}
+use Rattle.sja_run.specs.Run.{IsRunning, RefusesRun}
+
+-- nothing was read
+pub unread : (input : Option (List ℕ)) → ReadsFew input input
+unread input = ([], Consumes-nil input, omega arith)
+
+-- some bytes were read, and then more
+pub read_more : (a b c : Option (List ℕ)) (some more : List ℕ) → Consumes a b some → Consumes b c more →
+    length some + length more ≤ 65537 → ReadsFew a c
+read_more a b c some more earlier later few =
+    (some ++ more, Consumes-trans a b c some more earlier later, rw (length-append some more) few)
+
+-- there is a report
+few_running : (before after : Option (List ℕ)) (text : List ℕ) → IsRunning before after text → ReadsFew before after
+few_running before after text runs = (runs.0, runs.1.0, runs.1.1)
+
+-- there is none
+few_refused : (before after : Option (List ℕ)) (r : Refusal) → RefusesRun before after r → ReadsFew before after
+few_refused before after refusal.OutOfMemory h = h
+few_refused before after refusal.Read h = (h.0, h.1, omega arith)
+few_refused before after (refusal.Plan fault) h = (h.0, h.1.0, h.1.1)
+few_refused before after (refusal.Run fault) h = (h.0, h.2.0, h.2.1)
+few_refused before after refusal.NotHexadecimal h = absurd h
+few_refused before after refusal.NotALine h = absurd h
+few_refused before after (refusal.Layout fault) h = absurd h
+few_refused before after (refusal.Line fault) h = absurd h
+
+-- whatever is printed: only for a run anything is read
+pub few_printed : (r : Request) (before after : Option (List ℕ)) (text : List ℕ) → (r ≡ run) ⊎ (after ≡ before) →
+    IsPrinted r before after text → ReadsFew before after
+few_printed r before after text (inl is) printed =
+    few_running before after text (subst (λ q. IsPrinted q before after text) is printed)
+few_printed r before after text (inr same) printed = subst (ReadsFew before) (sym same) (unread before)
+
+-- and whatever is refused
+pub few_turned_down : (r : Request) (before after : Option (List ℕ)) (why : Refusal) → (r ≡ run) ⊎ (after ≡ before) →
+    IsRefused r before after why → ReadsFew before after
+few_turned_down r before after why (inl is) refused =
+    few_refused before after why (subst (λ q. IsRefused q before after why) is refused)
+few_turned_down r before after why (inr same) refused = subst (ReadsFew before) (sym same) (unread before)

@@ -1,0 +1,16 @@
+-- What is read of the input, by what it held before and holds after, where that is known (this project's own rule).
+use Rattle.std.specs.Prelude.{◌<◌, ◌≤◌, ℕ, List, Option, length}
+use Rattle.std.specs.Io.KnownBytes.{Consumes, IsAtEnd}
+
+-- these bytes were read: all that the input gives, or the first 65,537 of them, one more than a plan may have
+abbrev pub IsRead : Option (List ℕ) → Option (List ℕ) → List ℕ → Type 0
+IsRead before after bytes =
+    Consumes before after bytes × (length bytes ≤ 65537) × (length bytes < 65537 → IsAtEnd after)
+
+-- no more than 65,537 bytes were read
+abbrev pub ReadsFew : Option (List ℕ) → Option (List ℕ) → Type 0
+ReadsFew before after = (bytes : List ℕ) × Consumes before after bytes × (length bytes ≤ 65537)
+
+-- the reading came to an end before the bytes were 65,537
+abbrev pub BreaksOff : Option (List ℕ) → Option (List ℕ) → Type 0
+BreaksOff before after = (bytes : List ℕ) × Consumes before after bytes × (length bytes < 65537)

@@ -1,0 +1,24 @@
+//! `run`: the report of a run of the plan on the input.
+
+ghost use Rattle.std.specs.Prelude.{IfOk, IfErr};
+ghost use Rattle.sja_run.specs.Run.{IsRunning, RefusesRun};
+
+use super::input::read_input;
+use super::refusal::Refusal;
+use sja_plan::read_plan;
+use sja_report::report;
+use sja_turns::run_serial;
+use std::alloc::Global;
+use std::io::Read;
+
+/// The report of a run in one thread of the plan that the bytes of the input are.
+pub fn reported<R: Read>(alloc: Global, input: &mut R) -> Result<Vec<u8>, Refusal>
+    ensures ok { IfOk result (λ text. IsRunning (R.remaining input.old) (R.remaining input.new) text.items) }
+    ensures err { IfErr result (RefusesRun (R.remaining input.old) (R.remaining input.new)) }
+{
+    let bytes = read_input(alloc, input)?;
+    let plan = read_plan(alloc, bytes.as_slice())?;
+    let log = run_serial(alloc, &plan)?;
+    let text = report(alloc, &log)?;
+    Ok(text.into_bytes())
+}

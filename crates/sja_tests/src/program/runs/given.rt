@@ -1,0 +1,85 @@
+//! `run` over an input, and what the program gives.
+
+use sja_run::{Output, sja_serial};
+use std::alloc::Global;
+use std::io::Read;
+
+/// Two nodes: node 0 sends the frame with identifier 0, and node 1 releases twice after the rest.
+pub const SENT_ONCE: &str = "version = 1
+bits = 200
+turns = ['node 0 3', 'node 1 1', 'rest', 'node 1 2']
+[[node]]
+steps = ['start', 'load 000000', 'command 01']
+[[node]]
+steps = ['start', 'release', 'release']
+";
+
+/// Its report: the frame is on the bus from bit 11 to bit 60, and intermission ends with bit 63.
+pub const SENT_ONCE_REPORT: &str = "sja version 1 bits 64 end turns
+node 0 tec 0 rec 0 steps 3
+step 1 ok
+step 2 ok
+step 3 ok
+activation 1 stored 0 overrun 0 free 64
+node 1 tec 0 rec 0 steps 3
+step 1 ok
+step 2 3
+step 3 refused Empty
+activation 1 stored 1 overrun 0 free 64
+released 00 00 00
+";
+
+/// Whether `run` over this input answers this status, with these texts on the output and on the error output.
+fn answers<R: Read>(alloc: Global, input: &mut R, status: u8, written: &[u8], told: &[u8]) -> bool {
+    let words = ["sja", "run"];
+    let mut out = Output::new(Vec::new(alloc));
+    let mut err = Output::new(Vec::new(alloc));
+    let answer = sja_serial(alloc, words.as_slice(), input, &mut out, &mut err);
+    answer == Some(status) && out.writer.as_slice() == written && err.writer.as_slice() == told
+}
+
+/// Whether `run` over this input prints this report.
+pub fn prints<R: Read>(alloc: Global, input: &mut R, report: &str) -> bool {
+    answers(alloc, input, 0, report.as_bytes(), b"")
+}
+
+/// Whether `run` over this input is refused with this line.
+pub fn refuses<R: Read>(alloc: Global, input: &mut R, line: &str) -> bool {
+    answers(alloc, input, 1, b"", line.as_bytes())
+}
+
+/// Whether the run of this plan has this report.
+pub fn reports(alloc: Global, plan: &str, report: &str) -> bool {
+    let mut input = plan.as_bytes();
+    prints(alloc, &mut input, report) && input.is_empty()
+}
+
+/// Whether this plan is refused with this line.
+pub fn refuses_plan(alloc: Global, plan: &str, line: &str) -> bool {
+    let mut input = plan.as_bytes();
+    refuses(alloc, &mut input, line)
+}
+
+/// Whether `run` over these bytes has some text on the output and status 0, or one line on the error output and status
+/// 1.
+pub fn answered(alloc: Global, bytes: &[u8]) -> bool {
+    let words = ["sja", "run"];
+    let mut input = bytes;
+    let mut out = Output::new(Vec::new(alloc));
+    let mut err = Output::new(Vec::new(alloc));
+    let answer = sja_serial(alloc, words.as_slice(), &mut input, &mut out, &mut err);
+    let told = err.writer.as_slice();
+    match answer {
+        Some(0) => !out.writer.is_empty() && told.is_empty(),
+        Some(1) => out.writer.is_empty() && is_one_line(told),
+        _ => false,
+    }
+}
+
+/// Whether a text has one line feed, at its end.
+fn is_one_line(text: &[u8]) -> bool {
+    match text {
+        [line @ .., b'\n'] => !line.contains(&b'\n'),
+        _ => false,
+    }
+}
