@@ -79,9 +79,9 @@ level_quiet : (j : List Entry) (deeds : List Deed) (d : Deed) → d.gave ≡ [] 
 level_quiet j deeds d none o same h =
     let more = opened_push deeds d in let b = h.begun in let e = h.ended in
     let act : one_if (is_active (deeds ++ d ∷ [])) ≡ one_if (is_active deeds) =
-        ap one_if (active_push false deeds d ∙ same) in
+    ap one_if (active_push false deeds d ∙ same) in
     let s = asked_more deeds d in let z : total is_send d.gave ≡ 0 = ap (total is_send) none in let a =
-        h.asked in record {
+    h.asked in record {
       begun = omega (arith, b, more, o);
       ended = omega (arith, e, more, o, act);
       asked = omega (arith, a, s, z);
@@ -90,16 +90,16 @@ level_quiet j deeds d none o same h =
 level_item : (j : List Entry) (deeds : List Deed) (d : Deed) (u : Up) (more_stops : ℕ) (now : Bool) → d.gave ≡ u ∷ [] →
     (past (place_of j) (Item u)).activation ≡ opened_by deeds + opens_by d →
     stops_in (Item u) ≡ more_stops → active_after (is_active deeds) d.step d.answer ≡ now →
-        more_stops + one_if now ≡ one_if (is_active deeds) + opens_by d → IsLevel j deeds →
-        IsLevel (j ++ Item u ∷ []) (deeds ++ d ∷ [])
+    more_stops + one_if now ≡ one_if (is_active deeds) + opens_by d → IsLevel j deeds →
+    IsLevel (j ++ Item u ∷ []) (deeds ++ d ∷ [])
 level_item j deeds d u more_stops now gave at st act sum h =
     let more = opened_push deeds d in let e = h.ended in
     let place : (place_of (j ++ Item u ∷ [])).activation ≡ (past (place_of j) (Item u)).activation =
-        ap (λ (p : Place). p.activation) (place_push j (Item u)) in
+    ap (λ (p : Place). p.activation) (place_push j (Item u)) in
     let pushed = stops_push j u in
     let is : one_if (is_active (deeds ++ d ∷ [])) ≡ one_if now = ap one_if (active_push false deeds d ∙ act) in
     let s = asked_more deeds d in let z : total is_send d.gave ≡ is_send u + 0 = ap (total is_send) gave in let a =
-        h.asked in let t = sends_push j u in record {
+    h.asked in let t = sends_push j u in record {
       begun = omega (arith, place, at, more);
       ended = omega (arith, pushed, st, is, sum, e, more);
       asked = omega (arith, a, s, z, t);
@@ -109,24 +109,24 @@ pub level_after : (j k : List Entry) (deeds : List Deed) (d : Deed) → k ≡ j 
     IsLevel j deeds → Kind (is_active deeds) (opened_by deeds) d.step d.answer d.gave → IsLevel k (deeds ++ d ∷ [])
 level_after j k deeds d e h (quiet none o same) =
     subst (λ (l : List Entry). IsLevel l (deeds ++ d ∷ [])) (sym (e ∙ ap (λ (l : List Up). j ++ entries_of_items l) none
-        ∙ append-nil j)) (level_quiet j deeds d none o same h)
+    ∙ append-nil j)) (level_quiet j deeds d none o same h)
 level_after j k deeds d e h (starts was few config gave o same) =
     let b = h.begun in let w : one_if (is_active deeds) ≡ 0 = ap one_if was in
     subst (λ (l : List Entry). IsLevel l (deeds ++ d ∷ [])) (sym (entered_one j k d _ e gave))
-        (level_item j deeds d (StartItem config) 0 true gave (omega (arith, b, o)) refl same (omega (arith, w, o)) h)
+    (level_item j deeds d (StartItem config) 0 true gave (omega (arith, b, o)) refl same (omega (arith, w, o)) h)
 level_after j k deeds d e h (credits was n gave o same) =
     let b = h.begun in
     subst (λ (l : List Entry). IsLevel l (deeds ++ d ∷ [])) (sym (entered_one j k d _ e gave))
-        (level_item j deeds d (Credit n) 0 (is_active deeds) gave (omega (arith, b, o)) refl same (omega (arith, o)) h)
+    (level_item j deeds d (Credit n) 0 (is_active deeds) gave (omega (arith, b, o)) refl same (omega (arith, o)) h)
 level_after j k deeds d e h (sends was request gave o same) =
     let b = h.begun in
     subst (λ (l : List Entry). IsLevel l (deeds ++ d ∷ [])) (sym (entered_one j k d _ e gave))
-        (level_item j deeds d (SendItem request) 0 (is_active deeds) gave (omega (arith, b, o)) refl same
-        (omega (arith, o)) h)
+    (level_item j deeds d (SendItem request) 0 (is_active deeds) gave (omega (arith, b, o)) refl same
+    (omega (arith, o)) h)
 level_after j k deeds d e h (stops was gave o same) =
     let b = h.begun in let w : one_if (is_active deeds) ≡ 1 = ap one_if was in
     subst (λ (l : List Entry). IsLevel l (deeds ++ d ∷ [])) (sym (entered_one j k d _ e gave))
-        (level_item j deeds d StopItem 1 false gave (omega (arith, b, o)) refl same (omega (arith, w, o)) h)
+    (level_item j deeds d StopItem 1 false gave (omega (arith, b, o)) refl same (omega (arith, w, o)) h)
 
 -- ---- in time
 
@@ -138,17 +138,17 @@ in_time_after version j k deeds d p q e next ported h =
       when = λ a. when_after a e;
       sees = each_push (λ before (x : Deed). SeesIf (is_active before) k before x) [] deeds d
           (each_map (λ before (x : Deed). SeesIf (is_active before) j before x) (λ before (x : Deed).
-              SeesIf (is_active before) k before x) (λ before x s. sees_same j k same (is_active before) before x s) []
-              deeds h.sees)
+          SeesIf (is_active before) k before x) (λ before x s. sees_same j k same (is_active before) before x s) []
+          deeds h.sees)
           (sees_same j k same (is_active deeds) deeds d next.sees);
       carries = each_push (λ before (x : Deed). x.gave ≡ carried (settings_of version k before) x.step x.answer) []
           deeds d
           (each_map (λ before (x : Deed). x.gave ≡ carried (settings_of version j before) x.step x.answer)
-              (λ before (x : Deed). x.gave ≡ carried (settings_of version k before) x.step x.answer)
+          (λ before (x : Deed). x.gave ≡ carried (settings_of version k before) x.step x.answer)
           (λ before x s. s ∙ ap (λ (r : Registers). carried r x.step x.answer)
-              (sym (settings_same version j k same before))) [] deeds h.carries)
+          (sym (settings_same version j k same before))) [] deeds h.carries)
           (next.gave ∙ carried_alike p (settings_of version j deeds) d.step d.answer ported.set
-              ∙ ap (λ (r : Registers). carried r d.step d.answer) (sym (settings_same version j k same deeds)));
+          ∙ ap (λ (r : Registers). carried r d.step d.answer) (sym (settings_same version j k same deeds)));
       aborts = aborts_after e;
       patient = each_push (λ before (x : Deed). x.answer ≢ Refused Closed) [] deeds d h.patient next.patient;
     }
@@ -164,4 +164,4 @@ in_time_after version j k deeds d p q e next ported h =
         (aborts_on deeds d [] j h.aborts)
     aborts_after (item u gave is at) =
         subst (λ (l : List Entry). EachAfter (AbortIsDue (deeds ++ d ∷ [])) [] l) (sym is)
-            (aborts_push (deeds ++ d ∷ []) j (Item u) (aborts_on deeds d [] j h.aborts) tt)
+        (aborts_push (deeds ++ d ∷ []) j (Item u) (aborts_on deeds d [] j h.aborts) tt)

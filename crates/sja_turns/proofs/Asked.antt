@@ -64,9 +64,9 @@ more_known : (p : Place) (e : Entry) (es : List Entry) (a : ℕ) →
     off_among false (put_of (gathered (in_part entry_at a) (placed_from p (e ∷ es)))) ≡ true
 more_known p e es a h =
     ap (off_among false) (gathered_append put_in (in_part entry_at a (record { before = p; entry = e }))
-        (gathered (in_part entry_at a) (placed_from (past p e) es)))
+    (gathered (in_part entry_at a) (placed_from (past p e) es)))
     ∙ off_both false (put_of (in_part entry_at a (record { before = p; entry = e })))
-        (put_of (gathered (in_part entry_at a) (placed_from (past p e) es)))
+    (put_of (gathered (in_part entry_at a) (placed_from (past p e) es)))
     ∙ over (off_among false (put_of (in_part entry_at a (record { before = p; entry = e }))))
   where
     over : (b : Bool) → off_among b (put_of (gathered (in_part entry_at a) (placed_from (past p e) es))) ≡ true
@@ -99,7 +99,7 @@ known_from p (Off ∷ es) h = elim (known_from (past p Off) es h) [
       let here : in_part entry_at a (record { before = p; entry = Off }) ≡ Off ∷ [] =
       ap (λ (b : Bool). if b then Off ∷ [] else []) (eq-eqb p.activation a (sym before.1)) in
       inr (ap (λ (l : List Entry).
-          off_among false (put_of (l ++ gathered (in_part entry_at a) (placed_from (past p Off) es)))) here
+      off_among false (put_of (l ++ gathered (in_part entry_at a) (placed_from (past p Off) es)))) here
       ∙ off_kept (put_of (gathered (in_part entry_at a) (placed_from (past p Off) es))))
   | inr among ↦ inr (more_known p Off es (past_all (past p Off) es).activation among)
 ]
@@ -132,16 +132,16 @@ module _ (j : List Entry) (p q : Registers) (lawful : IsLawful j) (h : IsAsked j
   pub asked_start : (config : Config) → p.tbs ≡ true → q.tbs ≡ p.tbs → IsAsked (j ++ Item (StartItem config) ∷ []) q
   asked_start config free t =
       held_as (j ++ Item (StartItem config) ∷ []) p q (record_of j ++ NodeStarted config ∷ []) p.tbs
-          (record_push j (Item (StartItem config))) t
+      (record_push j (Item (StartItem config))) t
       (λ found cut. h lawful.found lawful.cut
-          ∙ ap not (sym (started_holds (record_of j) lawful.found found lawful.cut config cut)))
+      ∙ ap not (sym (started_holds (record_of j) lawful.found found lawful.cut config cut)))
 
   pub asked_send : (request : Request) → (place_of j).off ≡ false → q.tbs ≡ false →
       IsAsked (j ++ Item (SendItem request) ∷ []) q
   asked_send request on t =
       held_as (j ++ Item (SendItem request) ∷ []) p q (record_of j ++ NodeAsked request ∷ []) false
       (record_push j (Item (SendItem request)) ∙ ap (λ (b : Bool). record_of j ++ told b (Item (SendItem request))) on)
-          t
+      t
       (λ found cut. ap not (sym (sent_holds (record_of j) lawful.found found lawful.cut request cut)))
 
   pub asked_stop : q.tbs ≡ true → IsAsked (j ++ Item StopItem ∷ []) q

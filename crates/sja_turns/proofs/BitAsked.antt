@@ -53,7 +53,7 @@ place_judged j (Some (ToLose, m)) = place_push j (Overrun m)
 
 place_off : (j : List Entry) (off : Bool) →
     ((place_of (j ++ off_as off)).activation ≡ (place_of j).activation) ×
-        ((place_of (j ++ off_as off)).bits ≡ (place_of j).bits)
+    ((place_of (j ++ off_as off)).bits ≡ (place_of j).bits)
 place_off j true = let e = place_push j Off in (ap (λ (s : Point). s.activation) e, ap (λ (s : Point). s.bits) e)
 place_off j false = let e = ap place_of (append-nil j) in
     (ap (λ (s : Point). s.activation) e, ap (λ (s : Point). s.bits) e)
@@ -65,7 +65,7 @@ place_bit j k driven seen h =
     let whole = ap place_of h.whole in
     let o = place_off (l ++ judged_as h.verdict) h.off in
     let e : place_of (l ++ judged_as h.verdict) ≡ past (place_of j) (Bit driven seen) = place_judged l h.verdict
-        ∙ place_push j (Bit driven seen) in (
+    ∙ place_push j (Bit driven seen) in (
       ap (λ (s : Point). s.activation) whole ∙ o.0 ∙ ap (λ (s : Point). s.activation) e,
       ap (λ (s : Point). s.bits) whole ∙ o.1 ∙ ap (λ (s : Point). s.bits) e,
     )
@@ -74,7 +74,7 @@ place_bit j k driven seen h =
 pub opened_as : {has_orders : Orders → Type 0} {was_told : BusTurn → Type 0} {was_kept : Type 0} (untold : Bool)
     (j k : List Entry) (driven seen : Level) →
     (bit : IsNodeBit has_orders was_told was_kept untold j k driven seen) → bit.opens.taken ≡ j →
-        bit.opened ≡ j ++ abort_as bit.opens.aborts.changed
+    bit.opened ≡ j ++ abort_as bit.opens.aborts.changed
 opened_as untold j k driven seen bit none = bit.opens.aborts.whole
     ∙ ap (λ l. l ++ abort_as bit.opens.aborts.changed) none
 
@@ -101,31 +101,31 @@ bit_keeps j k driven seen bit found others h c = by bit.off (record_bit j k driv
 pub bit_told : (changed : Bool) (j k : List Entry) (driven seen : Level) (bit : HasBit j driven seen k) (turn : BusTurn)
     (t : IsTurn changed j driven seen k bit turn) (others : List FinishedPiece)
     (c : IsCut (record_of k) others) → not (is_held (now_in c).held) ≡
-        (turn.events.went_off || (is_some turn.events.ended || not (is_held (now_in t.cut).held)))
+    (turn.events.went_off || (is_some turn.events.ended || not (is_held (now_in t.cut).held)))
 bit_told changed j k driven seen bit turn t others c = by bit.off t.off (record_bit j k driven seen bit)
   where
     by : (off : Bool) → turn.events.went_off ≡ off → record_of k ≡
         (record_of j ++ Took (record { driven = driven; seen = seen }) ∷ []) ++ off_left off →
         not (is_held (now_in c).held) ≡
-            (turn.events.went_off || (is_some turn.events.ended || not (is_held (now_in t.cut).held)))
+        (turn.events.went_off || (is_some turn.events.ended || not (is_held (now_in t.cut).held)))
     by true off e =
         let none = off_more (record_of j ++ Took (record { driven = driven; seen = seen }) ∷ [])
-            (record_of k) others c e in
+        (record_of k) others c e in
         ap (λ o. not (is_held o)) none ∙ ap (λ w. w || (is_some turn.events.ended || not (is_held (now_in t.cut).held)))
-            (sym off)
+        (sym off)
     by false off e =
         let b : Levels = record { driven = driven; seen = seen } in
         let h = t.cut in let before = now_in h in
         let n = counted none_yet (record_of j ++ Took b ∷ []) in
         let m = bit_more (record_of j) (record_of k) t.found others b h c
-            (e ∙ append-nil (record_of j ++ Took b ∷ [])) in
+        (e ∙ append-nil (record_of j ++ Took b ∷ [])) in
         let once : t.found ++ closed_by n t.step ≡ others = cut_once (record_of k)
-            (t.found ++ closed_by n t.step) others t.after c in
+        (t.found ++ closed_by n t.step) others t.after c in
         let pieces : closed_by n t.step ≡ closed_by m.count m.step = append_cancel_left t.found (closed_by n t.step)
-            (closed_by m.count m.step) (once ∙ m.pieces) in
+        (closed_by m.count m.step) (once ∙ m.pieces) in
         let now = stepped t.step before h.place (open_bits h) b in
         let held : (now_in c).held ≡ now.held = ap (λ (d : ContextValue). d.held) m.is
-            ∙ sym (held_alike n m.count t.step m.step before h.place (open_bits h) b pieces) in
+        ∙ sym (held_alike n m.count t.step m.step before h.place (open_bits h) b pieces) in
         let on_bus : nat_le 256 now.tec ≡ false = sym (ap (λ (v : BitEvents). v.went_off) t.events) ∙ off in
         let ended : turn.events.ended ≡ ended_in t.step before now = ap (λ (v : BitEvents). v.ended) t.events in
         ap (λ o. not (is_held o)) held ∙ ended_is t.step before h.place (open_bits h) b on_bus
@@ -158,7 +158,7 @@ opened_asked j opened true p e lawful asked found cut =
     let was = now_in lawful.cut in
     let made : now_in cut ≡ with_abort lawful.cut.place was =
     abort_more (record_of j) (record_of opened) lawful.found found lawful.cut cut
-        (ap record_of e ∙ record_push j Abort) in
+    (ap record_of e ∙ record_push j Abort) in
     either (is_held was.held) (is_held (now_in cut).held) p.tbs (asked lawful.found lawful.cut)
     (λ none. ap (λ (d : ContextValue). is_held d.held) made ∙ abort_none lawful.cut.place was none)
 
@@ -203,27 +203,27 @@ bit_asked untold j k driven seen p q bit none told kept lawful facts activation 
     let whole = opened_as untold j k driven seen bit none in
     let before = not (is_held (now_in t.cut).held) in
     let was : before ≡ (turn.aborted || p.tbs) = opened_asked j opened changed p whole lawful asked t.found t.cut
-        ∙ ap (λ a. a || p.tbs) (sym t.aborted) in
+    ∙ ap (λ a. a || p.tbs) (sym t.aborted) in
     let now : not (is_held (now_in c).held) ≡
-        (turn.events.went_off || (is_some turn.events.ended || (turn.aborted || p.tbs))) =
+    (turn.events.went_off || (is_some turn.events.ended || (turn.aborted || p.tbs))) =
     bit_told changed opened k driven seen bit.bit turn t others c
-        ∙ ap (λ x. turn.events.went_off || (is_some turn.events.ended || x)) was in
+    ∙ ap (λ x. turn.events.went_off || (is_some turn.events.ended || x)) was in
     let place = place_bit opened k driven seen bit.bit in
     let at : turn.activation ≡ p.activation =
     t.says.activation ∙ place.0 ∙ ap (λ (s : Point). s.activation) (ap place_of whole ∙ place_abort j changed)
-        ∙ sym activation in
+    ∙ sym activation in
     elim bit.port [
       | inl has ↦
           ap (λ (r : Registers). r.tbs) (told turn has)
           ∙ tbs_as (is_live p turn) turn.events.went_off (is_some turn.events.ended) turn.aborted p.tbs
-              (rests_released p turn facts at) ∙ sym now
+          (rests_released p turn facts at) ∙ sym now
       | inr over ↦
           let quiet = over.alone.events in
           let off : turn.events.went_off ≡ false = ap (λ (v : BitEvents). v.went_off) quiet in
           let ended : turn.events.ended ≡ None = ap (λ (v : BitEvents). v.ended) quiet in
           ap (λ (r : Registers). r.tbs) (kept over.kept)
           ∙ sym (now ∙ ap (λ w. w || (is_some turn.events.ended || (turn.aborted || p.tbs))) off
-              ∙ ap (λ o. is_some o || (turn.aborted || p.tbs)) ended
+          ∙ ap (λ o. is_some o || (turn.aborted || p.tbs)) ended
           ∙ ap (λ a. a || p.tbs) over.alone.aborted)
     ]
 

@@ -81,8 +81,8 @@ offs_few j found cut =
 counts_bit : (f : Entry → ℕ) (j opened k : List Entry) (driven seen : Level) (changed : Bool) →
     opened ≡ j ++ abort_as changed → (h : HasBit opened driven seen k) →
     total f k ≡
-        (((total f j + total f (abort_as changed)) + f (Bit driven seen)) + total f (judged_as h.verdict)) + total f
-        (off_as h.off)
+    (((total f j + total f (abort_as changed)) + f (Bit driven seen)) + total f (judged_as h.verdict)) + total f
+    (off_as h.off)
 counts_bit f j opened k driven seen changed e h =
     let a = ap (total f) h.whole in
     let b = total_append f ((opened ++ Bit driven seen ∷ []) ++ judged_as h.verdict) (off_as h.off) in
@@ -131,12 +131,12 @@ some_left request false = omega arith
 lowers_by : (going : Bool) (held : Option Request) (marked : Bool) (c : ContextValue) → c.held ≡ held →
     c.aborted ≡ marked → changes (abort_of going held marked) ≡ true →
     1 + changes_left (if going then record c { aborted = true } else record c { held = None }).held
-        (if going then record c { aborted = true } else record c { held = None }).aborted ≤ changes_left held marked
+    (if going then record c { aborted = true } else record c { held = None }).aborted ≤ changes_left held marked
 lowers_by going None marked c h m e = absurd cc
 lowers_by true (Some request) marked c h m e =
     let now : changes_left c.held true ≡ 1 = ap (λ o. changes_left o true) h in
     let was : changes_left (Some request) marked ≡ 2 = ap (λ b. changes_left (Some request) b)
-        (marks_once request.single_shot marked e) in omega (arith, now, was)
+    (marks_once request.single_shot marked e) in omega (arith, now, was)
 lowers_by false (Some request) marked c h m e = let some = some_left request marked in omega (arith, some)
 
 -- where it changed the node, each cut says so
@@ -150,6 +150,7 @@ changed_at j changed is applied found cut =
   where
     never : (((place_of j).activation ≡ suc (stops_of j) → ⊥) ⊎ ((place_of j).off ≡ true)) → ⊥
     never rests = let e : true ≡ false = sym is ∙ applied.rests rests in absurd cc
+
     by : (off : Bool) → (place_of j).off ≡ off → (place_of j).activation ≡ suc (stops_of j) → changes
         (abort_at cut) ≡ true
     by true off begun = absurd (never (inr off))
@@ -159,13 +160,13 @@ changed_at j changed is applied found cut =
 opened_counted : (j opened : List Entry) (changed : Bool) (abort : Bool) (most : ℕ) → opened ≡ j ++ abort_as changed →
     IsLawful j → (changed ≡ true → abort ≡ true) →
     (abort ≡ true → IsApplied j changed) →
-        ((found : List FinishedPiece) (cut : IsCut (record_of j) found) → total abort_in j + pending abort
-        (now_in cut) ≤ most) →
+    ((found : List FinishedPiece) (cut : IsCut (record_of j) found) → total abort_in j + pending abort
+    (now_in cut) ≤ most) →
     (found : List FinishedPiece) (cut : IsCut (record_of opened) found) →
-        (total abort_in j + total abort_in (abort_as changed)) + pending abort (now_in cut) ≤ most
+    (total abort_in j + total abort_in (abort_as changed)) + pending abort (now_in cut) ≤ most
 opened_counted j opened false abort most e lawful ordered applied few found cut =
     let P : List Entry → Type 0 = λ l. (pieces : List FinishedPiece) (h : IsCut (record_of l) pieces) →
-        total abort_in j + pending abort (now_in h) ≤ most in
+    total abort_in j + pending abort (now_in h) ≤ most in
     let r = subst P (sym (e ∙ append-nil j)) few found cut in omega (arith, r)
 opened_counted j opened true false most e lawful ordered applied few found cut = let no : false ≡ true = ordered refl in
     absurd cc
@@ -173,10 +174,10 @@ opened_counted j opened true true most e lawful ordered applied few found cut =
     let c = now_in lawful.cut in let place = lawful.cut.place in
     let made : now_in cut ≡ with_abort place c =
     abort_more (record_of j) (record_of opened) lawful.found found lawful.cut cut
-        (ap record_of e ∙ record_push j Abort) in
+    (ap record_of e ∙ record_push j Abort) in
     let now = ap (λ (d : ContextValue). changes_left d.held d.aborted) made in
     let one = lowers_by (is_in_progress c place) c.held c.aborted c refl refl
-        (changed_at j true refl (applied refl) lawful.found lawful.cut) in
+    (changed_at j true refl (applied refl) lawful.found lawful.cut) in
     let r = few lawful.found lawful.cut in omega (arith, now, one, r)
 
 abort_stood : (gone stood : Bool) → (not gone && stood) ≡ true → stood ≡ true
@@ -194,7 +195,7 @@ unasked_not false changed h is = let no : true ≡ false = sym is ∙ h refl in 
 pub bit_counted : {has_orders : Orders → Type 0} {was_told : BusTurn → Type 0} {was_kept : Type 0} (untold : Bool)
     (j k : List Entry) (driven seen : Level) (deeds : List Deed) (p q : Registers) →
     (bit : IsNodeBit has_orders was_told was_kept untold j k driven seen) → bit.opens.taken ≡ j →
-        ((orders : Orders) → has_orders orders → orders.abort ≡ p.abort) →
+    ((orders : Orders) → has_orders orders → orders.abort ≡ p.abort) →
     ((turn : BusTurn) → was_told turn → q ≡ after_turn p turn) → (was_kept → q ≡ p) →
     IsLawful j → IsCounted j deeds p → IsCounted k deeds q
 bit_counted untold j k driven seen deeds p q bit none orders told kept lawful h =
@@ -205,7 +206,7 @@ bit_counted untold j k driven seen deeds p q bit none orders told kept lawful h 
     let bits : (place_of k).bits ≡ (place_of j).bits + 1 = place.1 ∙ ap (λ (s : Point). s.bits + 1) begun in
     let abort : bit.opens.orders.abort ≡ p.abort = orders bit.opens.orders bit.opens.are_orders in
     let ordered : changed ≡ true → p.abort ≡ true = λ is. unasked_not p.abort changed
-        (λ no. bit.opens.unasked (abort ∙ no)) is in
+    (λ no. bit.opens.unasked (abort ∙ no)) is in
     let A : List Entry → Type 0 = λ l. IsApplied l changed in
     let applied : p.abort ≡ true → IsApplied j changed = λ stands. subst A none (bit.opens.applied (abort ∙ stands)) in
     let stood : q.abort ≡ true → p.abort ≡ true = elim bit.port [
@@ -231,9 +232,9 @@ bit_counted untold j k driven seen deeds p q bit none orders told kept lawful h 
           let b = of_judged abort_in one.verdict 0 (λ m. (omega arith, omega arith)) in
           let d = of_off abort_in one.off refl in
           let e = opened_counted j opened changed p.abort
-              (2 * total asks_by deeds) whole lawful ordered applied h.aborts t.found t.cut in
+          (2 * total asks_by deeds) whole lawful ordered applied h.aborts t.found t.cut in
           let g = falls p.abort q.abort (now_in t.cut) (now_in c) stood
-              (bit_keeps opened k driven seen one t.found others t.cut c) in
+          (bit_keeps opened k driven seen one t.found others t.cut c) in
           omega (arith, a, b, d, e, g);
     }
 

@@ -113,10 +113,10 @@ module _ (j : List Entry) (deeds : List Deed) (d : Deed) (p q : Registers) (h : 
   pub counted_credit : (n : ℕ) → d.gave ≡ Credit n ∷ [] → IsCounted (j ++ Item (Credit n) ∷ []) (deeds ++ d ∷ []) q
   counted_credit n gave =
       let same : record_of (j ++ Item (Credit n) ∷ []) ≡ record_of j = record_push j (Item (Credit n))
-          ∙ append-nil (record_of j) in
+      ∙ append-nil (record_of j) in
       let t = total_push abort_in j (Item (Credit n)) in
       let P : List NodeEntry → Type 0 = λ l. (found : List FinishedPiece) (cut : IsCut l found) →
-          total abort_in (j ++ Item (Credit n) ∷ []) + pending q.abort (now_in cut) ≤ 2 * total asks_by
-              (deeds ++ d ∷ []) in
+      total abort_in (j ++ Item (Credit n) ∷ []) + pending q.abort (now_in cut) ≤ 2 * total asks_by
+      (deeds ++ d ∷ []) in
       counted_by (Credit n) gave (subst P (sym same) (λ found cut.
-          let s = aborts_same found cut in omega (arith, s, t)))
+      let s = aborts_same found cut in omega (arith, s, t)))

@@ -63,8 +63,13 @@ last_is before slice x e first is whole = (same_from_push before slice x e (sym 
 start_keeps : (config : Config) (c : ContextValue) → is_held (with_start config c).held ≡ is_held c.held
 start_keeps config c = over (c.off && not config.listen)
   where
-    over : (b : Bool) → is_held (if b then record c { listen = config.listen; self_test = config.self_test; tec =
-        127; rec = 0 } else
+    over : (b : Bool) → is_held (if b then record c {
+      listen = config.listen;
+      self_test = config.self_test;
+      tec =
+          127;
+      rec = 0;
+    } else
         record c { listen = config.listen; self_test = config.self_test }).held ≡ is_held c.held
     over true = refl
     over false = refl
@@ -174,7 +179,7 @@ module _ (entries : List Entry) (found others : List FinishedPiece) (h : IsCut e
       Through none_yet entries found h.context h.place h.rest (e ∷ []) others k.context k.place k.rest
   through e k =
       goes_through none_yet fresh h.context k.context AtReset h.place k.place entries (entries ++ e ∷ []) h.rest
-          (e ∷ [])
+      (e ∷ [])
       k.rest found others h.from k.from refl
 
   pub sent_holds : (request : Request) (k : IsCut (entries ++ Send request ∷ []) others) →

@@ -132,8 +132,8 @@ busy_none : (p : Registers) (v : ℕ) → p.tbs ≡ false →
     Done ≡ done_unless (first_fault (command_faults p (command_of v))) → total is_send (carried p (Command v) Done) ≡ 0
 busy_none p v busy h =
     none_sent (requests (command_of v)) _ (asks_none (requests (command_of v)) p.tbs p.mode.lom p.mode.rm
-        (command_of v).rrb ((command_of v).srr && is_first_version p) ActiveOnly UseTyped NotInVersion ListenOnly Locked
-        h busy)
+    (command_of v).rrb ((command_of v).srr && is_first_version p) ActiveOnly UseTyped NotInVersion ListenOnly Locked
+    h busy)
 
 -- nothing is requested while the transmit buffer isn't released
 pub busy_sends_none : (p : Registers) (n : ℕ) (s : Step) (r : StepAnswer) (active : Bool) (seen : Seen) →

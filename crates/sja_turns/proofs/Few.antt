@@ -109,7 +109,7 @@ pub room_all : (p es : List Entry) → EachAfter IsDue p es → total bytes_in p
 room_all p [] due h = subst (λ (l : List Entry). total bytes_in l ≤ 64 + total credit_in l) (sym (append-nil p)) h
 room_all p (e ∷ es) due h =
     subst (λ (l : List Entry). total bytes_in l ≤ 64 + total credit_in l) (append_assoc p (e ∷ []) es)
-        (room_all (p ++ e ∷ []) es due.1 (room_one p e due.0 h))
+    (room_all (p ++ e ∷ []) es due.1 (room_one p e due.0 h))
 
 -- ---- the credits given are the lengths released
 
@@ -147,12 +147,12 @@ credits_section n before (d ∷ ds) a g =
     over : (b : Bool) → total credit_of (given_in (section_from opens_by (n + opens_by d) ds a)) ≡ all_of
         (released_lengths (section_from opens_by (n + opens_by d) ds a)) →
         total credit_of (given_in ((if b then d ∷ [] else []) ++ section_from opens_by (n + opens_by d) ds a)) ≡ all_of
-            (released_lengths ((if b then d ∷ [] else []) ++ section_from opens_by (n + opens_by d) ds a))
+        (released_lengths ((if b then d ∷ [] else []) ++ section_from opens_by (n + opens_by d) ds a))
     over true h =
         total_append credit_of d.gave (given_in (section_from opens_by (n + opens_by d) ds a))
         ∙ ap₂ (λ x y. x + y) (credits_one d.step d.answer d.gave g.0) h
         ∙ sym (total_append (λ (k : ℕ). k) (length_in d.step d.answer)
-            (released_lengths (section_from opens_by (n + opens_by d) ds a)))
+        (released_lengths (section_from opens_by (n + opens_by d) ds a)))
     over false h = h
 
 pub bytes_lengths : (ms : List (List ℕ)) → bytes ms ≡ all_of (map (λ (m : List ℕ). length m) ms)
@@ -169,16 +169,16 @@ pub few_held : (j : List Entry) (a : ℕ) (deeds : List Deed) (got down : List D
 few_held j a deeds got down released window lawful put holds given gives lengths =
     let driver : Account = record { got = got; given = [] } in
     let all : released ++ (window ++ messages down) ≡ stored_of (part j a) =
-        told_stored j a driver down released window put holds in
+    told_stored j a driver down released window put holds in
     let long : AllFit window = fit_front window (messages down)
     (fit_back released (window ++ messages down) (subst (λ (l : List (List ℕ)). AllFit l) (sym all)
-        (stored_fit j a lawful))) in
+    (stored_fit j a lawful))) in
     let due = (lawful.verdicts lawful.found lawful.cut).due a in
     let room = room_all [] (part j a) due (omega arith) in
     let stored = bytes_stored (part j a) ∙ ap bytes (sym all) ∙ total_append (λ (m : List ℕ). length m) released
-        (window ++ messages down) in
+    (window ++ messages down) in
     let rest = total_append (λ (m : List ℕ). length m) window (messages down) in
     let credits = credits_taken (part j a) ∙ ap (total credit_of) (sym given) ∙ credits_section 0 [] deeds a gives
-        ∙ ap all_of lengths ∙ sym (bytes_lengths released) in
+    ∙ ap all_of lengths ∙ sym (bytes_lengths released) in
     let enough = long_bytes window long in
     omega (arith, room, stored, rest, credits, enough)

@@ -17,5 +17,5 @@ pub first_more : (steps : List Step) (deeds : List Deed) (d : Deed) (e : Step) �
 first_more steps deeds d e less is h =
     let n : length (deeds ++ d ∷ []) ≡ suc (length deeds) = length-append deeds (d ∷ []) ∙ omega arith in
     map-append (λ (x : Deed). x.step) deeds (d ∷ []) ∙ ap (λ l. l ++ d.step ∷ []) h
-        ∙ ap (λ s. take (length deeds) steps ++ s ∷ []) is
+    ∙ ap (λ s. take (length deeds) steps ++ s ∷ []) is
     ∙ sym (take_one steps (length deeds) e less) ∙ ap (λ m. take m steps) (sym n)

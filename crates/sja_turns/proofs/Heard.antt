@@ -91,7 +91,7 @@ from_heard (here opened stays) = tt
 from_heard {k = k} (on {entries = first} {ps = ps} {qs = qs} move from) =
     subst (λ (l : List ReceivedFrame). AreFrames l) (sym (received_both (tagged (counted k first) ps) qs))
     (frames_both (received (tagged (counted k first) ps)) (received qs) (by_move (counted k first) move)
-        (from_heard from))
+    (from_heard from))
 
 pub all_frames : (entries : List Entry) (found : List FinishedPiece) → IsCut entries found → AreFrames (received found)
 all_frames entries found cut = from_heard cut.from

@@ -37,9 +37,10 @@ module _ (version : ℕ) (j : List Entry) (deeds : List Deed) (d : Deed) (p q : 
       ((place_of j).off ≡ false)
   on request gave =
       let k = j ++ entries_of_items d.gave in
-      let e = enters j k deeds d refl level kind in let after = level_after j k deeds d refl level kind in
-      (was_on version j k deeds d p q e next ported level after kind facts request gave,
-      on_bus version j k deeds d p q e next ported level after kind facts request gave)
+      let e = enters j k deeds d refl level kind in let after = level_after j k deeds d refl level kind in (
+        was_on version j k deeds d p q e next ported level after kind facts request gave,
+        on_bus version j k deeds d p q e next ported level after kind facts request gave,
+      )
 
   wrongly : (request : Request) → is_active deeds ≡ true → d.gave ≡ SendItem request ∷ [] → IsAskedWrongly j → ⊥
   wrongly request was gave (outside between) =

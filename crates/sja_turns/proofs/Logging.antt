@@ -20,14 +20,14 @@ pub leaves_ended : (left : List DriverLedger) (held : List (List ℕ)) (a : ℕ)
 leaves_ended left held a d less =
     let n = length-map left (λ (l : DriverLedger). held_by l) in
     push_front (map (λ (l : DriverLedger). held_by l) left) held [] a (omega (arith, n, less)) ∙ index_map (λ
-        (l : DriverLedger). held_by l) left a d [] less
+    (l : DriverLedger). held_by l) left a d [] less
 
 pub leaves_held : (left : List DriverLedger) (held : List (List ℕ)) (a : ℕ) → a ≡ length left → slice_index_or
     (leaves left held) a [] ≡ held
 leaves_held left held a e =
     let n = length-map left (λ (l : DriverLedger). held_by l) in
     ap (λ m. slice_index_or (leaves left held) m []) (e ∙ sym n) ∙ push_here (map (λ
-        (l : DriverLedger). held_by l) left) held []
+    (l : DriverLedger). held_by l) left) held []
 
 -- no activation yet, and one more
 pub no_activations : (driver : LoggedDriver) (links : List (List Down)) (base : ℕ) →
@@ -37,7 +37,7 @@ no_activations driver links base = record { count_is = refl; each = λ a d l les
 pub activations_push : (driver : LoggedDriver) (links : List (List Down)) (base n : ℕ) (logs : List ActivationValue)
     (x : ActivationValue) → AreActivations driver links base n logs →
     ((l : List Down) → x ≡ activation_after driver (slice_index_or links (base + n) l) n) →
-        AreActivations driver links base (n + 1) (logs ++ x ∷ [])
+    AreActivations driver links base (n + 1) (logs ++ x ∷ [])
 activations_push driver links base n logs x h is = record {
   count_is = let c = h.count_is in let e = length-append logs (x ∷ []) in omega (arith, c, e);
   each = λ a d l less. elim (cases_eq n a) [
@@ -58,21 +58,21 @@ no_nodes logs drivers links = record { count_is = refl; each = λ k g d n less. 
 pub nodes_push : (logs : List NodeLog) (drivers : List LoggedDriver) (links : List (List Down)) (n : ℕ)
     (nodes : List NodeValue) (x : NodeValue) → AreNodeEnds logs drivers links n nodes →
     ((g : NodeLog) (d : LoggedDriver) → IsNodeEnd (slice_index_or logs n g) (slice_index_or drivers n d) links
-        (8 * n) x) → AreNodeEnds logs drivers links (n + 1) (nodes ++ x ∷ [])
+    (8 * n) x) → AreNodeEnds logs drivers links (n + 1) (nodes ++ x ∷ [])
 nodes_push logs drivers links n nodes x h is = record {
   count_is = let c = h.count_is in let e = length-append nodes (x ∷ []) in omega (arith, c, e);
   each = λ k g d y less. elim (cases_eq n k) [
     | inl e ↦
         let at : slice_index_or (nodes ++ x ∷ []) k y ≡ x = ap (λ m. slice_index_or (nodes ++ x ∷ []) m y) (sym
-            (h.count_is ∙ e)) ∙ push_here nodes x y in
+        (h.count_is ∙ e)) ∙ push_here nodes x y in
         subst (λ (z : NodeValue). IsNodeEnd (slice_index_or logs k g) (slice_index_or drivers k d) links (8 * k) z)
-            (sym at)
+        (sym at)
         (subst (λ (m : ℕ). IsNodeEnd (slice_index_or logs m g) (slice_index_or drivers m d) links (8 * m) x) e (is g d))
     | inr differ ↦
         let c = h.count_is in
         subst (λ (z : NodeValue). IsNodeEnd (slice_index_or logs k g) (slice_index_or drivers k d) links (8 * k) z)
-            (sym (push_front nodes x y k (omega (arith, c, less, differ)))) (h.each k g d y (omega
-            (arith, less, differ)))
+        (sym (push_front nodes x y k (omega (arith, c, less, differ)))) (h.each k g d y (omega
+        (arith, less, differ)))
   ];
 }
 

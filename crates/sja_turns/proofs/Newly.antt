@@ -44,20 +44,24 @@ pub new_push : (plan : PlanValue) (n : ℕ) (ds : List LoggedDriver) (x : Logged
 new_push plan n ds x len made is node d less = elim (cases_eq n node) [
   | inl e ↦
       let at : slice_index_or (ds ++ x ∷ []) node d ≡ x = ap (λ m. slice_index_or (ds ++ x ∷ []) m d) (sym (len ∙ e))
-          ∙ push_here ds x d in
+      ∙ push_here ds x d in
       subst (λ (y : LoggedDriver). IsNewDriver node (length (steps_at plan node)) y) (sym at)
-          (subst (λ (m : ℕ). IsNewDriver m (length (steps_at plan m)) x) e is)
+      (subst (λ (m : ℕ). IsNewDriver m (length (steps_at plan m)) x) e is)
   | inr differ ↦
       subst (λ (y : LoggedDriver). IsNewDriver node (length (steps_at plan node)) y)
-          (sym (push_front ds x d node (omega (arith, len, less, differ)))) (made node d (omega (arith, less, differ)))
+      (sym (push_front ds x d node (omega (arith, len, less, differ)))) (made node d (omega (arith, less, differ)))
 ]
 
 -- ---- a node
 
 room_less : (k n : ℕ) (log : WorkLog) → k ≤ n → HasRoom n log → HasRoom k log
 room_less k n log less h =
-    let a = h.done in let b = h.releases in record { done = omega (arith, a, less); releases =
-    omega (arith, b, less); left = h.left }
+    let a = h.done in let b = h.releases in record {
+      done = omega (arith, a, less);
+      releases =
+          omega (arith, b, less);
+      left = h.left;
+    }
 
 nothing_held : (w : AnyDriver) → is_out w ≡ false → held_of w ≡ []
 nothing_held (InReset d) e = refl
@@ -76,19 +80,28 @@ no_leaves (x ∷ left) held a l e = absurd cc
 pub new_node : (version node : ℕ) (steps : List Step) (x : LoggedDriver) (links : List Deques) (base : ℕ) →
     IsNewDriver node (length steps) x →
     ((a : ℕ) (d : Deques) → a < 8 → slice_index_or links (base + a) d ≡ new_link node (suc a)) →
-        IsNode version steps [] [] x (at_power_on version) links base
+    IsNode version steps [] [] x (at_power_on version) links base
 new_node version node steps x links base new fresh = record {
-  traced = record { lawful = new.lawful; traces = new.traces; within = omega arith; first = refl; room =
-      λ k l. room_less k (length steps) (log_of x) (omega (arith, l)) new.room };
+  traced = record {
+    lawful = new.lawful;
+    traces = new.traces;
+    within = omega arith;
+    first = refl;
+    room =
+        λ k l. room_less k (length steps) (log_of x) (omega (arith, l)) new.room;
+  };
   linked = record {
     holds = record {
       got = λ a. [];
-      kept = λ a d few. subst (λ (s : Deques). Lies s (account [] (suc a) (record { got = []; given =
-          given_in (deeds_of [] (suc a)) }))) (sym (fresh a d few)) (refl, refl);
+      kept = λ a d few. subst (λ (s : Deques). Lies s (account [] (suc a) (record {
+        got = [];
+        given =
+            given_in (deeds_of [] (suc a));
+      }))) (sym (fresh a d few)) (refl, refl);
       told = λ a few. sym (ap (λ (r : List Release). released_of r (suc a) ++ slice_index_or
           (leaves (left_in (log_of x)) (held_of (driver_of x))) a []) new.empty.releases
           ∙ no_leaves (left_in (log_of x)) (held_of (driver_of x)) a new.empty.left
-              (nothing_held (driver_of x) new.reset));
+          (nothing_held (driver_of x) new.reset));
       off_is = nothing_known (driver_of x) new.reset;
       later = λ a less. refl;
     };
@@ -103,8 +116,13 @@ new_node version node steps x links base new fresh = record {
     commanded = λ e. absurd cc;
   };
   asked = λ found cut. ap not (sym (none_held_first found cut));
-  counted = record { items = omega arith; verdicts = omega arith; offs = omega arith; aborts =
-      λ found cut. omega arith };
+  counted = record {
+    items = omega arith;
+    verdicts = omega arith;
+    offs = omega arith;
+    aborts =
+        λ found cut. omega arith;
+  };
   done = tt;
   in_time = record { when = λ a. refl; sees = tt; carries = tt; aborts = tt; patient = tt };
 }
@@ -123,39 +141,39 @@ pub stands_new : (plan : PlanValue) (bus : BusValue) (drivers : List LoggedDrive
     (links : List Deques) (nodes bits : ℕ) (script : List Strike) → nodes ≡ length plan.nodes → script ≡ plan.strikes →
     bits ≡ plan.bits → bus ≡ new_bus script bits nodes →
     length drivers ≡ length plan.nodes → AreNew plan (length plan.nodes) drivers →
-        ports ≡ replicate nodes (at_power_on plan.version) → AreNewLinks nodes links →
+    ports ≡ replicate nodes (at_power_on plan.version) → AreNewLinks nodes links →
     StandsAt plan (run_now bus drivers ports links 0) (replicate (length plan.nodes) [])
 stands_new plan bus drivers ports links nodes bits script count script_is bits_is bus_is driver_count made ports_are
     fresh = record {
-  right = ap (λ (b : BusValue). b.fault) bus_is;
-  script = ap (λ (b : BusValue). b.script) bus_is ∙ script_is;
-  all_bits = let a = ap (λ (b : BusValue). b.run) bus_is in let l =
-      ap (λ (b : BusValue). b.left) bus_is in omega (arith, a, l, bits_is);
-  bits = sym (ap (λ (b : BusValue). b.run) bus_is);
-  count = record {
-    journals = ap (λ (b : BusValue). length b.journals) bus_is ∙ length_all nodes [] ∙ count;
-    drivers = driver_count;
-    ports = ap (λ l. length l) ports_are ∙ length_all nodes (at_power_on plan.version) ∙ count;
-    links = fresh.count ∙ ap (λ n. 8 * n) count;
-  };
-  deeds_count = length_all (length plan.nodes) [];
-  ids = λ node a d few less. ap (λ (s : Deques). s.link) (fresh.each node a d (let c =
-      fresh.count in omega (arith, c, few, less)) few);
-  own = λ node d less. (made node d less).own;
-  nodes = λ node d p less.
-      let few : node < nodes = omega (arith, less, count) in
-      let x = slice_index_or drivers node d in
-      let is = new_node plan.version node (steps_at plan node) x links (8 * node) (made node d less) (λ a e small.
+      right = ap (λ (b : BusValue). b.fault) bus_is;
+      script = ap (λ (b : BusValue). b.script) bus_is ∙ script_is;
+      all_bits = let a = ap (λ (b : BusValue). b.run) bus_is in let l =
+          ap (λ (b : BusValue). b.left) bus_is in omega (arith, a, l, bits_is);
+      bits = sym (ap (λ (b : BusValue). b.run) bus_is);
+      count = record {
+        journals = ap (λ (b : BusValue). length b.journals) bus_is ∙ length_all nodes [] ∙ count;
+        drivers = driver_count;
+        ports = ap (λ l. length l) ports_are ∙ length_all nodes (at_power_on plan.version) ∙ count;
+        links = fresh.count ∙ ap (λ n. 8 * n) count;
+      };
+      deeds_count = length_all (length plan.nodes) [];
+      ids = λ node a d few less. ap (λ (s : Deques). s.link) (fresh.each node a d (let c =
+          fresh.count in omega (arith, c, few, less)) few);
+      own = λ node d less. (made node d less).own;
+      nodes = λ node d p less.
+          let few : node < nodes = omega (arith, less, count) in
+          let x = slice_index_or drivers node d in
+          let is = new_node plan.version node (steps_at plan node) x links (8 * node) (made node d less) (λ a e small.
           fresh.each node a e few small) in
-      let journal : journal_at bus.journals node ≡ [] = ap (λ (b : BusValue). journal_at b.journals node) bus_is
+          let journal : journal_at bus.journals node ≡ [] = ap (λ (b : BusValue). journal_at b.journals node) bus_is
           ∙ index_all nodes [] [] node few in
-      let port : slice_index_or ports node p ≡ at_power_on plan.version = ap (λ l. slice_index_or l node p) ports_are
+          let port : slice_index_or ports node p ≡ at_power_on plan.version = ap (λ l. slice_index_or l node p) ports_are
           ∙ index_all nodes (at_power_on plan.version) p node few in
-      let deeds : deeds_at (replicate (length plan.nodes) []) node ≡ [] = index_all (length plan.nodes) [] [] node
+          let deeds : deeds_at (replicate (length plan.nodes) []) node ≡ [] = index_all (length plan.nodes) [] [] node
           less in
-      subst (λ (j : List Entry). IsNode plan.version (steps_at plan node) j (deeds_at (replicate (length plan.nodes) [])
+          subst (λ (j : List Entry). IsNode plan.version (steps_at plan node) j (deeds_at (replicate (length plan.nodes) [])
           node) x (slice_index_or ports node p) links (8 * node)) (sym journal)
-      (subst (λ (ds : List Deed). IsNode plan.version (steps_at plan node) [] ds x (slice_index_or ports node p) links
+          (subst (λ (ds : List Deed). IsNode plan.version (steps_at plan node) [] ds x (slice_index_or ports node p) links
           (8 * node)) (sym deeds)
-      (subst (λ (r : Registers). IsNode plan.version (steps_at plan node) [] [] x r links (8 * node)) (sym port) is));
-}
+          (subst (λ (r : Registers). IsNode plan.version (steps_at plan node) [] [] x r links (8 * node)) (sym port) is));
+    }

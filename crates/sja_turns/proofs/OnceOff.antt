@@ -45,7 +45,7 @@ way_off : (c next : ContextValue) (place site : Place) (before entries : List En
     next.held ≡ None
 way_off c next place site before entries ps (finishes s h row on_bus) e =
     let ends = h.ends in let no = (same_from_push ends.before before (OneBit ends.bit) BusOff (sym ends.whole ∙ e)).1 in
-        absurd cc
+    absurd cc
 way_off c next place site before entries ps (comes entry between) e =
     absurd (no_off_between c next place entry between (same_from_push [] before entry BusOff e).1)
 way_off c next place site before entries ps (closes s entry part out closing) e =
@@ -65,10 +65,10 @@ off_last k c end place last before entries rest found
           ap (λ (d : ContextValue). d.held) only.1 ∙ way_off c next place site before first ps (way_of move) whole
       | inr some ↦
           let same : (first ++ some.0) ++ some.1 ∷ [] ≡ before ++ BusOff ∷ [] = append_assoc first some.0 (some.1 ∷ [])
-              ∙ sym (ap (λ l. first ++ l) some.2) ∙ e in
+          ∙ sym (ap (λ l. first ++ l) some.2) ∙ e in
           let is : some.1 ≡ BusOff = (same_from_push (first ++ some.0) before some.1 BusOff same).1 in
           off_last (counted k first) next end site last some.0 more rest later from
-              (some.2 ∙ ap (λ x. some.0 ++ x ∷ []) is)
+          (some.2 ∙ ap (λ x. some.0 ++ x ∷ []) is)
     ]
 
 -- right after bus-off the node holds no request
@@ -124,13 +124,13 @@ quiet_inner : (k : Count) (b : Bool) (l : List Entry) → Inner l → IsQuiet k 
 quiet_inner k b l none_left = record { same = refl; none = refl; starts = refl }
 quiet_inner k b l (samples {entries = xs} bit h) =
     let q = quiet_inner (counted_one k (OneBit bit)) b xs h in
-        record { same = q.same; none = let n = q.none in omega (arith, n); starts = q.starts }
+    record { same = q.same; none = let n = q.none in omega (arith, n); starts = q.starts }
 quiet_inner k b l (sends {entries = xs} request h) =
     let q = quiet_inner k b xs h in
-        record { same = q.same; none = let n = q.none in omega (arith, n); starts = q.starts }
+    record { same = q.same; none = let n = q.none in omega (arith, n); starts = q.starts }
 quiet_inner k b l (aborts {entries = xs} h) =
     let q = quiet_inner k b xs h in
-        record { same = q.same; none = let n = q.none in omega (arith, n); starts = q.starts }
+    record { same = q.same; none = let n = q.none in omega (arith, n); starts = q.starts }
 
 -- entries after which the count is right where it was before, and after bus-off the node is in reset
 record GoesRight (k : Count) (b : Bool) (entries : List Entry) (site : Place) : Type 0 where
@@ -165,12 +165,12 @@ right_off k b slice q was =
 right_closed : (k : Count) (b : Bool) (slice : List Entry) (entry : Entry) (c next : ContextValue) (place site : Place)
     (ps : List Piece) →
     Inner slice → (b ≡ true → place ≡ AtReset) → Closing c slice place entry ps next site → GoesRight k b
-        (slice ++ entry ∷ []) site
+    (slice ++ entry ∷ []) site
 right_closed k b slice entry c next place site ps inner at (by_start config) =
     let q = quiet_inner k b slice inner in let n = q.none in let s = q.starts in
     let a = offs_both slice (Start config ∷ []) in
     let o : is_off b (slice ++ Start config ∷ []) ≡ false = is_off_both b slice (Start config ∷ []) in let l =
-        ap left o in
+    ap left o in
     let w = ap (λ (j : Count). j.starts) (counted_both k slice (Start config ∷ [])) in
     record { reset = λ e. let no : false ≡ true = sym o ∙ e in absurd cc; few = omega (arith, n, s, a, l, w) }
 right_closed k b slice entry c next place site ps inner at (by_stop opened) =
@@ -181,7 +181,7 @@ right_closed k b slice entry c next place site ps inner at (by_stop opened) =
     record { reset = λ e. refl; few = omega (arith, n, s, a, l, w) }
 right_closed k b slice entry c next place site ps inner at (by_off unfinished) =
     right_off k b slice (quiet_inner k b slice inner)
-        (is_on b (λ e. no_reset_row c place _ _ _ unfinished.lawful (at e)))
+    (is_on b (λ e. no_reset_row c place _ _ _ unfinished.lawful (at e)))
 right_closed k b slice entry c next place site ps inner at (by_off_after is row full) =
     right_off k b slice (quiet_inner k b slice inner) (is_on b (λ e. no_reset_row c place _ _ _ row (at e)))
 
@@ -200,7 +200,7 @@ right_way k b entries c next place site ps at (closes s entry part out closing) 
 right_from : (k : Count) (b : Bool) (c end : ContextValue) (place last : Place) (entries rest : List Entry)
     (found : List FinishedPiece) → (b ≡ true → place ≡ AtReset) →
     From k c place entries found end last rest → offs entries + left (is_off b entries) + k.starts ≤
-        (counted k entries).starts + left b
+    (counted k entries).starts + left b
 right_from k b c end place last entries rest found at (here opened stays) =
     (right_quiet k b entries place (quiet_inner k b entries (open_part opened).inner) at).few
 right_from k b c end place last entries rest found at
@@ -215,4 +215,4 @@ pub off_once : (entries : List Entry) (found : List FinishedPiece) → IsCut ent
     offs entries + left (is_off false entries) ≤ (counted none_yet entries).starts + 1
 off_once entries found h =
     let r = right_from none_yet false fresh h.context AtReset h.place entries h.rest found (λ no. cc) h.from in omega
-        (arith, r)
+    (arith, r)

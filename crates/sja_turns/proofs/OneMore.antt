@@ -57,12 +57,12 @@ pub data Ends (k : Count) (c : ContextValue) (place : Place) (entries : List Ent
 ended_by : (k : Count) (c next : ContextValue) (place site : Place) (entries all : List Entry) (ps : List Piece)
     (found later : List FinishedPiece) (now : ContextValue) →
     Move c place entries ps next site → entries ≡ all → found ≡ tagged (counted k entries) ps ++ later → later ≡ [] →
-        now ≡ next → Ends k c place all found now
+    now ≡ next → Ends k c place all found now
 ended_by k c next place site entries all ps found later now move same whole none is =
     let P : List Entry → Type 0 = λ l. Ends k c place l (tagged (counted k entries) ps) next in
     let made : Ends k c place entries (tagged (counted k entries) ps) next = moves (way_of move) in
     let pieces : found ≡ tagged (counted k entries) ps = whole ∙ ap (λ l. tagged (counted k entries) ps ++ l) none
-        ∙ append-nil (tagged (counted k entries) ps) in
+    ∙ append-nil (tagged (counted k entries) ps) in
     let R : List FinishedPiece → Type 0 = λ l. Ends k c place all l next in
     let S : ContextValue → Type 0 = λ d. Ends k c place all found d in
     subst S (sym is) (subst R (sym pieces) (subst P same made))
@@ -70,7 +70,7 @@ ended_by k c next place site entries all ps found later now move same whole none
 pub ends_with : (k : Count) (c end : ContextValue) (place last : Place) (slice all rest : List Entry) (e : Entry)
     (found : List FinishedPiece) →
     From k c place all found end last rest → IsOpenAt c place slice → all ≡ slice ++ e ∷ [] → Ends k c place all found
-        (along end last [] rest)
+    (along end last [] rest)
 ends_with k c end place last slice all rest e found (here opened on_bus) was whole = stays
 ends_with k c end place last slice all rest e found
     (on {next = next} {site = site} {entries = first} {more = more} {ps = ps} {qs = later} move from) was whole =
@@ -81,9 +81,9 @@ ends_with k c end place last slice all rest e found
           (sym (ap (λ l. first ++ l) none ∙ append-nil first)) refl only.0 only.1
       | inr some ↦
           let same : slice ++ e ∷ [] ≡ (first ++ some.0) ++ some.1 ∷ [] = sym whole ∙ ap (λ l. first ++ l) some.2
-              ∙ sym (append_assoc first some.0 (some.1 ∷ [])) in
+          ∙ sym (append_assoc first some.0 (some.1 ∷ [])) in
           absurd (move_or_open c next place site first slice some.0 ps move was
-              (same_from_push slice (first ++ some.0) e some.1 same).0)
+          (same_from_push slice (first ++ some.0) e some.1 same).0)
     ]
 
 -- ---- a bit more
@@ -108,7 +108,7 @@ no_between_bit c next place entry b abort e = cc
 bit_way : (k : Count) (c next : ContextValue) (place site : Place) (slice all : List Entry) (b : Bit)
     (ps : List Piece) →
     Way c place all ps next site → all ≡ slice ++ OneBit b ∷ [] → BitMore k c place slice b
-        (tagged (counted k all) ps) next
+    (tagged (counted k all) ps) next
 bit_way k c next place site slice all b ps (finishes {next = n} {p = p} s h row on_bus) e = record {
   step = Finishes p n;
   is = ap (λ d. closed p n d) (ap (λ l. along c place [] l) e ∙ along-bit c place slice b);
@@ -143,10 +143,10 @@ pub bit_more : (entries all : List Entry) (found others : List FinishedPiece) (b
     all ≡ entries ++ OneBit b ∷ [] → StepIs entries found others h b (now_in k)
 bit_more entries all found others b h k e =
     let t = goes_through none_yet fresh h.context k.context AtReset h.place k.place entries all h.rest
-        (OneBit b ∷ []) k.rest found others h.from k.from e in
+    (OneBit b ∷ []) k.rest found others h.from k.from e in
     let m = bit_ends t.count h.context h.place h.rest (h.rest ++ OneBit b ∷ []) b t.later (now_in k)
     (ends_with t.count h.context k.context h.place k.place h.rest (h.rest ++ OneBit b ∷ []) k.rest
-        (OneBit b) t.later t.from (open_end h.from) refl) refl in
+    (OneBit b) t.later t.from (open_end h.from) refl) refl in
     record {
       step = m.step;
       is = m.is;
@@ -174,7 +174,7 @@ abort_ends k c place slice all found now stays e = ap (λ l. along c place [] l)
     (Abort ∷ [])
 abort_ends k c place slice all found now (moves (finishes s h row on_bus)) e =
     let ends = h.ends in let no = (same_from_push ends.before slice (OneBit ends.bit) Abort (sym ends.whole ∙ e)).1 in
-        absurd cc
+    absurd cc
 abort_ends k c place slice all found now (moves {next = n} (comes entry between)) e =
     let same = same_from_push [] slice entry Abort e in abort_between c n place entry slice between same.1 (sym same.0)
 abort_ends k c place slice all found now (moves (closes s entry part out closing)) e =
@@ -186,7 +186,7 @@ pub abort_more : (entries all : List Entry) (found others : List FinishedPiece) 
     all ≡ entries ++ Abort ∷ [] → now_in k ≡ with_abort h.place (now_in h)
 abort_more entries all found others h k e =
     let t = goes_through none_yet fresh h.context k.context AtReset h.place k.place entries all h.rest
-        (Abort ∷ []) k.rest found others h.from k.from e in
+    (Abort ∷ []) k.rest found others h.from k.from e in
     abort_ends t.count h.context h.place h.rest (h.rest ++ Abort ∷ []) t.later (now_in k)
     (ends_with t.count h.context k.context h.place k.place h.rest (h.rest ++ Abort ∷ []) k.rest Abort t.later t.from
-        (open_end h.from) refl) refl
+    (open_end h.from) refl) refl

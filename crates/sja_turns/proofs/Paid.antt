@@ -44,44 +44,44 @@ last_fits (m ∷ ms) (l ∷ ls) n e h = last_fits ms ls n (cc) h.1
 module _ (j : List Entry) (deeds : List Deed) (d : Deed) (n : ℕ) (driver : AnyDriver) (log : WorkLog)
     (links : List Deques)
     (base : ℕ) (none : Deques) (lawful : IsLawful j) (given : (a : ℕ) → given_in (deeds_of deeds a) ≡ taken_of
-        (part j a))
+    (part j a))
     (gives : EachAfter (λ b (x : Deed). Gives x.step x.answer x.gave) [] deeds)
-        (trace : Traces driver log (deeds ++ d ∷ []))
+    (trace : Traces driver log (deeds ++ d ∷ []))
     (holds : HoldsBy Lies (deeds ++ d ∷ []) driver log j links base) (lengths : length_in d.step d.answer ≡ n ∷ [])
-        where
-  -- the credit of a release in this activation
-  pub paid_right : (a : ℕ) → a < 8 → suc a ≡ opened_by deeds + opens_by d →
-      ((3 ≤ n) × (n ≤ 13)) × (total credit_in (part j (suc a)) + n ≤ total bytes_in (part j (suc a)))
-  paid_right a few at =
-      let released = released_of (releases_in log) (suc a) in
-      let held = slice_index_or (leaves (left_in log) (held_of driver)) a [] in
-      let link = slice_index_or links (base + a) none in
-      let account : Account = record { got = holds.got a; given = [] } in
-      let all : released ++ (held ++ messages link.down) ≡ stored_of (part j (suc a)) =
-      told_stored j (suc a) account link.down released held (holds.kept a none few).0 (holds.told a few) in
-      let more : released_lengths (deeds_of (deeds ++ d ∷ []) (suc a)) ≡ released_lengths (deeds_of deeds (suc a)) ++ n
-          ∷ [] =
-      deeds_here (λ (x : Deed). length_in x.step x.answer) deeds d (suc a) (inl (sym at))
-      ∙ ap (λ (l : List ℕ). released_lengths (deeds_of deeds (suc a)) ++ l) lengths in
-      let long : map (λ (m : List ℕ). length m) released ≡ released_lengths (deeds_of deeds (suc a)) ++ n ∷ [] =
-      trace.released (suc a) ∙ more in
-      let fit : AllFit released = fit_front released (held ++ messages link.down)
-      (subst (λ (l : List (List ℕ)). AllFit l) (sym all) (stored_fit j (suc a) lawful)) in
-      let stored = bytes_stored (part j (suc a)) ∙ ap bytes (sym all)
-      ∙ total_append (λ (m : List ℕ). length m) released (held ++ messages link.down) in
-      let paid = credits_taken (part j (suc a)) ∙ ap (total credit_of) (sym (given (suc a)))
-          ∙ credits_section 0 [] deeds (suc a) gives in
-      let let_go = bytes_lengths released ∙ ap all_of long
-          ∙ total_push (λ (m : ℕ). m) (released_lengths (deeds_of deeds (suc a))) n in
-      (last_fits released (released_lengths (deeds_of deeds (suc a))) n long fit, omega (arith, stored, paid, let_go))
+  where
+    -- the credit of a release in this activation
+    pub paid_right : (a : ℕ) → a < 8 → suc a ≡ opened_by deeds + opens_by d →
+        ((3 ≤ n) × (n ≤ 13)) × (total credit_in (part j (suc a)) + n ≤ total bytes_in (part j (suc a)))
+    paid_right a few at =
+        let released = released_of (releases_in log) (suc a) in
+        let held = slice_index_or (leaves (left_in log) (held_of driver)) a [] in
+        let link = slice_index_or links (base + a) none in
+        let account : Account = record { got = holds.got a; given = [] } in
+        let all : released ++ (held ++ messages link.down) ≡ stored_of (part j (suc a)) =
+        told_stored j (suc a) account link.down released held (holds.kept a none few).0 (holds.told a few) in
+        let more : released_lengths (deeds_of (deeds ++ d ∷ []) (suc a)) ≡ released_lengths (deeds_of deeds (suc a)) ++ n
+        ∷ [] =
+        deeds_here (λ (x : Deed). length_in x.step x.answer) deeds d (suc a) (inl (sym at))
+        ∙ ap (λ (l : List ℕ). released_lengths (deeds_of deeds (suc a)) ++ l) lengths in
+        let long : map (λ (m : List ℕ). length m) released ≡ released_lengths (deeds_of deeds (suc a)) ++ n ∷ [] =
+        trace.released (suc a) ∙ more in
+        let fit : AllFit released = fit_front released (held ++ messages link.down)
+        (subst (λ (l : List (List ℕ)). AllFit l) (sym all) (stored_fit j (suc a) lawful)) in
+        let stored = bytes_stored (part j (suc a)) ∙ ap bytes (sym all)
+        ∙ total_append (λ (m : List ℕ). length m) released (held ++ messages link.down) in
+        let paid = credits_taken (part j (suc a)) ∙ ap (total credit_of) (sym (given (suc a)))
+        ∙ credits_section 0 [] deeds (suc a) gives in
+        let let_go = bytes_lengths released ∙ ap all_of long
+        ∙ total_push (λ (m : ℕ). m) (released_lengths (deeds_of deeds (suc a))) n in
+        (last_fits released (released_lengths (deeds_of deeds (suc a))) n long fit, omega (arith, stored, paid, let_go))
 
-  -- it isn't bad
-  pub credit_right : (a : ℕ) → a < 8 → suc a ≡ opened_by deeds + opens_by d → (free : ℕ) →
-      free + total bytes_in (part j (suc a)) ≡ 64 + total credit_in (part j (suc a)) →
-      (n < 3) ⊎ ((13 < n) ⊎ (64 < free + n)) → ⊥
-  credit_right a few at free is (inl short) = let r = (paid_right a few at).0.0 in omega (arith, r, short)
-  credit_right a few at free is (inr (inl long)) = let r = (paid_right a few at).0.1 in omega (arith, r, long)
-  credit_right a few at free is (inr (inr much)) = let r = (paid_right a few at).1 in omega (arith, r, much, is)
+    -- it isn't bad
+    pub credit_right : (a : ℕ) → a < 8 → suc a ≡ opened_by deeds + opens_by d → (free : ℕ) →
+        free + total bytes_in (part j (suc a)) ≡ 64 + total credit_in (part j (suc a)) →
+        (n < 3) ⊎ ((13 < n) ⊎ (64 < free + n)) → ⊥
+    credit_right a few at free is (inl short) = let r = (paid_right a few at).0.0 in omega (arith, r, short)
+    credit_right a few at free is (inr (inl long)) = let r = (paid_right a few at).0.1 in omega (arith, r, long)
+    credit_right a few at free is (inr (inr much)) = let r = (paid_right a few at).1 in omega (arith, r, much, is)
 
 -- ---- only a release gives a credit, of the length that it answers
 

@@ -42,31 +42,31 @@ use Rattle.sja_turns.proofs.Trying.{IsNext}
 module _ (version : ℕ) (j k : List Entry) (deeds : List Deed) (d : Deed) (p q : Registers) (e : Enters j k deeds d)
     (next : IsNext j deeds p q d) (h : IsPorted version j deeds p) (before : IsLevel j deeds)
     (after : IsLevel k (deeds ++ d ∷ [])) (kind : Kind (is_active deeds) (opened_by deeds) d.step d.answer d.gave)
-        (facts : RegisterFacts p) where
+    (facts : RegisterFacts p) where
   set_after : AreAlike (ported p d.step d.answer) (settings_of version k (deeds ++ d ∷ []))
   set_after =
       let same = same_put j k deeds d e in
       let rm : p.mode.rm ≡ (not (is_active deeds) || off_by d.bits j (opened_by deeds)) =
-          h.reset ∙ ap (λ (n : ℕ). not (is_active deeds) || off_by n j (opened_by deeds)) (sym next.now) in
+      h.reset ∙ ap (λ (n : ℕ). not (is_active deeds) || off_by n j (opened_by deeds)) (sym next.now) in
       let is : settings_of version k (deeds ++ d ∷ []) ≡ after_setting p.mode.rm (settings_of version j deeds) d.step
-          d.answer =
+      d.answer =
       settings_same version j k same (deeds ++ d ∷ []) ∙ settings_push version j deeds d
-          ∙ ap (λ (b : Bool). after_setting b (settings_of version j deeds) d.step d.answer) (sym rm) in
+      ∙ ap (λ (b : Bool). after_setting b (settings_of version j deeds) d.step d.answer) (sym rm) in
       subst (λ (r : Registers). AreAlike (ported p d.step d.answer) r) (sym is)
-          (alike_step p (settings_of version j deeds) d.step d.answer h.set)
+      (alike_step p (settings_of version j deeds) d.step d.answer h.set)
 
   -- nothing opened, and so what is known of bus-off is the same
   reset_same : opens_by d ≡ 0 → (ported p d.step d.answer).mode.rm ≡ is_reset k (deeds ++ d ∷ [])
   reset_same o =
       let n : opened_by (deeds ++ d ∷ []) ≡ opened_by deeds =
-          let more = opened_push deeds d in omega (arith, more, o) in
+      let more = opened_push deeds d in omega (arith, more, o) in
       let off : off_by (place_of k).bits k (opened_by (deeds ++ d ∷ [])) ≡ off_by (place_of j).bits j
-          (opened_by deeds) =
+      (opened_by deeds) =
       off_same j k (same_put j k deeds d e) (place_of k).bits (opened_by (deeds ++ d ∷ []))
-          ∙ ap (λ (b : ℕ). off_by b j (opened_by (deeds ++ d ∷ []))) (same_bits j k deeds d e)
+      ∙ ap (λ (b : ℕ). off_by b j (opened_by (deeds ++ d ∷ []))) (same_bits j k deeds d e)
       ∙ ap (λ (a : ℕ). off_by (place_of j).bits j a) n in
       (rm_step p d.step d.answer (is_active deeds) (is_active deeds) next.seen
-          (off_by (place_of j).bits j (opened_by deeds)) next.tells h.reset).0 o
+      (off_by (place_of j).bits j (opened_by deeds)) next.tells h.reset).0 o
       ∙ ap (λ (b : Bool). not b || off_by (place_of j).bits j (opened_by deeds)) (sym (active_push false deeds d))
       ∙ ap (λ (b : Bool). not (is_active (deeds ++ d ∷ [])) || b) (sym off)
 
@@ -75,14 +75,14 @@ module _ (version : ℕ) (j k : List Entry) (deeds : List Deed) (d : Deed) (p q 
       (ported p d.step d.answer).mode.rm ≡ is_reset k (deeds ++ d ∷ [])
   reset_new o act =
       let later : (place_of j).activation < opened_by (deeds ++ d ∷ []) =
-          let more = opened_push deeds d in let b = before.begun in omega (arith, more, o, b) in
+      let more = opened_push deeds d in let b = before.begun in omega (arith, more, o, b) in
       let off : off_by (place_of k).bits k (opened_by (deeds ++ d ∷ [])) ≡ false =
       off_same j k (same_put j k deeds d e) (place_of k).bits (opened_by (deeds ++ d ∷ []))
-          ∙ ap (off_among false) (of_part_later _ j (opened_by (deeds ++ d ∷ [])) later) in
+      ∙ ap (off_among false) (of_part_later _ j (opened_by (deeds ++ d ∷ [])) later) in
       (rm_step p d.step d.answer (is_active deeds) (is_active deeds) next.seen
-          (off_by (place_of j).bits j (opened_by deeds)) next.tells h.reset).1 o
+      (off_by (place_of j).bits j (opened_by deeds)) next.tells h.reset).1 o
       ∙ sym (ap (λ (b : Bool). not b || off_by (place_of k).bits k (opened_by (deeds ++ d ∷ [])))
-          (active_push false deeds d ∙ act) ∙ off)
+      (active_push false deeds d ∙ act) ∙ off)
 
   reset_after : Kind (is_active deeds) (opened_by deeds) d.step d.answer d.gave →
       (ported p d.step d.answer).mode.rm ≡ is_reset k (deeds ++ d ∷ [])
@@ -95,13 +95,13 @@ module _ (version : ℕ) (j k : List Entry) (deeds : List Deed) (d : Deed) (p q 
   commanded_after : (ported p d.step d.answer).abort ≡ true → IsCommanded (deeds ++ d ∷ []) k
   commanded_after stands =
       let more = asked_more deeds d in let s = before.asked in let t = after.asked in let bits =
-          same_bits j k deeds d e in
+      same_bits j k deeds d e in
       elim (abort_step p d.step d.answer stands) [
         | inl was ↦
             let c = h.commanded was in
             let none : total is_send d.gave ≡ 0 = ap (total is_send) next.gave
-                ∙ busy_sends_none p (opened_by deeds) d.step d.answer (is_active deeds) next.seen next.fits next.tells
-                (facts.abort was) in
+            ∙ busy_sends_none p (opened_by deeds) d.step d.answer (is_active deeds) next.seen next.fits next.tells
+            (facts.abort was) in
             let l = c.later in let b = c.by_then in record {
               early = c.early;
               command = c.command;
@@ -113,7 +113,7 @@ module _ (version : ℕ) (j k : List Entry) (deeds : List Deed) (d : Deed) (p q 
             }
         | inr asks ↦
             let none : total is_send d.gave ≡ 0 = ap (total is_send) next.gave
-                ∙ ap (total is_send) (abort_gives_none p d.step d.answer asks) in
+            ∙ ap (total is_send) (abort_gives_none p d.step d.answer asks) in
             let b = next.now in record {
               early = deeds;
               command = d;
@@ -168,9 +168,9 @@ module _ (version : ℕ) (j k : List Entry) (deeds : List Deed) (d : Deed) (p q 
   pub on_bus : (request : Request) → d.gave ≡ SendItem request ∷ [] → (place_of j).off ≡ false
   on_bus request gave = not_true (place_of j).off (λ off.
       let known : off_by (place_of j).bits j (opened_by deeds) ≡ true =
-          ap (λ (a : ℕ). off_by (place_of j).bits j a) (sym before.begun) ∙ off_known j off in
+      ap (λ (a : ℕ). off_by (place_of j).bits j a) (sym before.begun) ∙ off_known j off in
       let rm : p.mode.rm ≡ true = h.reset ∙ ap (λ (b : Bool). not (is_active deeds) || b) known
-          ∙ or_true (not (is_active deeds)) in
+      ∙ or_true (not (is_active deeds)) in
       neither p.mode.rm rm (was_on request gave).0)
 
   pub asked_after : IsAsked j p → IsLawful j → IsAsked k q
@@ -186,7 +186,7 @@ module _ (version : ℕ) (j k : List Entry) (deeds : List Deed) (d : Deed) (p q 
       by (starts was few config given o same) (nothing none is) = absurd (no_item _ (sym given ∙ none))
       by (starts was few config given o same) (item u gave is at) =
           over (j ++ Item (StartItem config) ∷ []) (is
-              ∙ ap (λ (x : Up). j ++ Item x ∷ []) (one_item _ _ (sym gave ∙ given)))
+          ∙ ap (λ (x : Up). j ++ Item x ∷ []) (one_item _ _ (sym gave ∙ given)))
           (asked_start j p q lawful asked config (facts.reset (was_reset was)).0 (tbs_now ∙ ap (tbs_by p.tbs) given))
       by (credits was n given o same) (nothing none is) = absurd (no_item _ (sym given ∙ none))
       by (credits was n given o same) (item u gave is at) =
@@ -195,7 +195,7 @@ module _ (version : ℕ) (j k : List Entry) (deeds : List Deed) (d : Deed) (p q 
       by (sends was request given o same) (nothing none is) = absurd (no_item _ (sym given ∙ none))
       by (sends was request given o same) (item u gave is at) =
           over (j ++ Item (SendItem request) ∷ []) (is
-              ∙ ap (λ (x : Up). j ++ Item x ∷ []) (one_item _ _ (sym gave ∙ given)))
+          ∙ ap (λ (x : Up). j ++ Item x ∷ []) (one_item _ _ (sym gave ∙ given)))
           (asked_send j p q lawful asked request (on_bus request given) (tbs_now ∙ ap (tbs_by p.tbs) given))
       by (stops was given o same) (nothing none is) = absurd (no_item _ (sym given ∙ none))
       by (stops was given o same) (item u gave is at) =

@@ -41,17 +41,17 @@ just_refused j (u ∷ us) gave b s item up read few others next = elim (cases_eq
       absurd (some_within (adds (j ++ Item u ∷ []) us (suc (stops_of j))) item (up s) one.2)
   | inr differ ↦
       let one = one_is (b == suc (stops_of j)) u gave (adds (j ++ Item u ∷ []) us (suc (stops_of j)) ++ up (stops_of j))
-          few
+      few
       (others (stops_of j) read.0.left differ ∙ ap (λ l. l ++ up (stops_of j)) (adds_first j u us read.0)) in
       let is : b ≡ suc (stops_of j) = eqb-true b (suc (stops_of j)) one.0 in
       absurd (some_within (adds j (u ∷ us) (suc s)) item (up s) (sym next
-          ∙ none_waits b s gave (λ e. differ (omega (arith, e, is)))))
+      ∙ none_waits b s gave (λ e. differ (omega (arith, e, is)))))
 ]
 
 -- a node whose links stand for what its driver gave, where at most one item waited
 pub refused_is : (j k : List Entry) (deeds : List Deed) (driver : AnyDriver) (log : WorkLog) (links after : List Deques)
     (base room node : ℕ) (none : Deques) (f : BusFault) (gave : List Up) (b : ℕ) → HoldsBy Lies deeds driver log j links
-        base →
+    base →
     AtMostOne gave → ((a : ℕ) → given_in (deeds_of deeds a) ≡ taken_of (part j a) ++ waiting b gave a) →
     (r : RefusesItem Lies room j k links after base node f) → (k ≡ j) × (gave ≡ r.item ∷ [])
 refused_is j k deeds driver log links after base room node none f gave b holds few given r =

@@ -64,7 +64,7 @@ lost (Some request) c = by (request.single_shot || c.aborted)
 in_frame : (role : Role) (c : ContextValue) (l : List Level) (b : Bit) → Keeps c (frame_bit role c l b)
 in_frame Transmitter c l b =
     chosen (is_some (lost_by c.held l b.driven b.seen)) c (record (drop_failed c.held c) { role = Receiver }) c
-        (lost c.held c) (same c)
+    (lost c.held c) (same c)
 in_frame Receiver c l b = acknowledged b.driven b.seen
   where
     acknowledged : (x y : Level) → Keeps c (if_acknowledged x y c)
@@ -94,14 +94,14 @@ in_delimiter Dominant done c =
     let h = after_flag done c.role c.flag c in
     chosen c.listen c c (if_eighth done d) (same c)
     (chosen (are_dominant (seen_of done) && (length done + 1) % 8 == 0) c (more_by d.role 8 8 d) d
-        (steps_by d.role 8 8 c d h) h)
+    (steps_by d.role 8 8 c d h) h)
 in_delimiter Recessive done c = same c
 
 bit_keeps : (c : ContextValue) (place : Place) (done : List Bit) (b : Bit) → Keeps c (at_bit c place done b)
 bit_keeps c AtReset done b = same c
 bit_keeps c AtIntegration done b =
     chosen ((c.off && not c.listen) && ends_eleven (fold next_run 0 (seen_of done)) b.seen) c
-        (record c { tec = c.tec - 1 }) c (same c) (same c)
+    (record c { tec = c.tec - 1 }) c (same c) (same c)
 bit_keeps c AtIdle [] b = first (sent_at c AtIdle) c
 bit_keeps c AtIdle (x ∷ done) b = in_frame c.role c (seen_of (x ∷ done)) b
 bit_keeps c AfterSof done b = in_frame c.role c (Dominant ∷ seen_of done) b
@@ -159,7 +159,7 @@ step_keeps (Finishes piece next) c place done b =
     let d = at_bit c place done b in
     keeps_both c d (closed piece next d) (bit_keeps c place done b)
     (keeps_both d (own_step piece d) (closed piece next d) (own_keeps piece d)
-        (inr (enters next piece d (own_step piece d))))
+    (inr (enters next piece d (own_step piece d))))
 
 -- ---- the end of a request
 
@@ -216,17 +216,17 @@ on_bus_ends : (off : Bool) (step : Step) (before after : ContextValue) → off �
     (if off then None else if sends_in step then Some Sent else if is_held before.held && not
     (is_held after.held) then Some Failed else None) ≡
     is_some (if sends_in step then Some Sent else if is_held before.held && not
-        (is_held after.held) then Some Failed else None)
+    (is_held after.held) then Some Failed else None)
 on_bus_ends false step before after e = refl
 on_bus_ends true step before after e = absurd cc
 
 pub ended_is : (step : Step) (c : ContextValue) (place : Place) (done : List Bit) (b : Bit) → nat_le 256
     (stepped step c place done b).tec ≡ false →
     not (is_held (stepped step c place done b).held) ≡
-        (is_some (ended_in step c (stepped step c place done b)) || not (is_held c.held))
+    (is_some (ended_in step c (stepped step c place done b)) || not (is_held c.held))
 ended_is step c place done b on_bus =
     let d = stepped step c place done b in
     let e = ends_as (sends_in step) (is_held c.held) (is_held d.held)
-        (λ sends. ap is_held (sent_done step c place done b sends))
+    (λ sends. ap is_held (sent_done step c place done b sends))
     (keeps_none c d (step_keeps step c place done b)) in
     e ∙ ap (λ x. x || not (is_held c.held)) (sym (on_bus_ends (nat_le 256 d.tec) step c d on_bus))

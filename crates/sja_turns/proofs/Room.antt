@@ -25,7 +25,7 @@ use Rattle.sja_turns.specs.Counted.{item_in, verdict_in, off_in, abort_in, asks_
 
 entries_from : (p : Place) (es : List Entry) →
     p.bits + length es ≡ (((past_all p es).bits + total item_in es) + total verdict_in es)
-        + (total off_in es + total abort_in es)
+    + (total off_in es + total abort_in es)
 entries_from p [] = omega arith
 entries_from p (Bit driven seen ∷ es) = let h = entries_from (past p (Bit driven seen)) es in omega (arith, h)
 entries_from p (Item (StartItem config) ∷ es) =
@@ -79,7 +79,7 @@ all_each : (before ds : List Deed) → EachAfter (λ b (d : Deed). Gives d.step 
 all_each before [] g = omega arith
 all_each before (d ∷ ds) g =
     let one = one_each d.step d.answer d.gave g.0 in let rest =
-        all_each (before ++ d ∷ []) ds g.1 in omega (arith, one, rest)
+    all_each (before ++ d ∷ []) ds g.1 in omega (arith, one, rest)
 
 -- ---- all together: with room for a bit, a verdict and bus-off more
 

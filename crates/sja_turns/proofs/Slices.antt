@@ -46,8 +46,11 @@ pub each_other : (deeds : List Deed) (w : LoggedDriver) (j : List Entry) (links 
     HoldsBy Lies deeds (driver_of w) (log_of w) j given (8 * m)
 each_other deeds w j links given m node ended differ l others = record {
   got = l.got;
-  kept = λ a e few. subst (λ (s : Deques). Lies s (account j (suc a) (record { got = l.got a; given =
-      given_in (deeds_of deeds (suc a)) })))
+  kept = λ a e few. subst (λ (s : Deques). Lies s (account j (suc a) (record {
+    got = l.got a;
+    given =
+        given_in (deeds_of deeds (suc a));
+  })))
       (sym (others (8 * m + a) e (apart m node a ended differ few))) (l.kept a e few);
   told = l.told;
   off_is = l.off_is;

@@ -31,14 +31,14 @@ use Rattle.sja_turns.proofs.Turned.{idle, stepped, still_journal, same_port, sti
 module _ (plan : PlanValue) (r n : SerialValue) (deeds : List (List Deed)) (node : ℕ) (h : StandsAt plan r deeds)
     (there : node < length plan.nodes) (given : List Deques) (was now : LoggedDriver) (q : Registers) (none : Deques)
     (drivers_are : n.drivers ≡ slice_set r.drivers node now) (ports_are : n.ports ≡ slice_set r.ports node q)
-        (bits_are : n.bits ≡ r.bits)
+    (bits_are : n.bits ≡ r.bits)
     (right : n.bus.fault ≡ None) (run : n.bus.run ≡ r.bus.run) (script : n.bus.script ≡ r.bus.script)
-        (left_is : n.bus.left ≡ r.bus.left) (journals : length n.bus.journals ≡ length r.bus.journals)
+    (left_is : n.bus.left ≡ r.bus.left) (journals : length n.bus.journals ≡ length r.bus.journals)
     (kept : KeepsAll Lies r.bus.journals n.bus.journals given n.links) (items : EachJournal HasItems r.bus.journals
-        n.bus.journals) (dry : AllDry (λ (s : Deques). s.up ≡ []) n.bus.journals n.links)
+    n.bus.journals) (dry : AllDry (λ (s : Deques). s.up ≡ []) n.bus.journals n.links)
     (sames : EachRelated (λ (a b : Deques). b.link ≡ a.link) given n.links) (many : length n.links ≡ length r.links)
     (others : (i : ℕ) (d : Deques) → i ≢ place_after (8 * node) (ended_of was) →
-        slice_index_or given i d ≡ slice_index_or r.links i d)
+    slice_index_or given i d ≡ slice_index_or r.links i d)
     (ids : NumberedAt (λ (s : Deques). s.link) given (8 * node) (node_of now)) (whose : node_of now ≡ node) where
   -- the links after the step are numbered as before it
   pub given_ids : (m a : ℕ) (d : Deques) → a < per_node → per_node * m + a < length r.links →
@@ -47,8 +47,11 @@ module _ (plan : PlanValue) (r n : SerialValue) (deeds : List (List Deed)) (node
     | inl q ↦
         let i = ids a d few in
         ap (λ (x : ℕ). (slice_index_or given (8 * x + a) d).link) q ∙ i
-        ∙ (λ t. record { node = whose t; activation = add_one a t }) ∙ (λ t. record { node = sym q t; activation =
-            suc a })
+        ∙ (λ t. record { node = whose t; activation = add_one a t }) ∙ (λ t. record {
+          node = sym q t;
+          activation =
+              suc a;
+        })
     | inr differ ↦ ap (λ (s : Deques). s.link) (others (8 * m + a) d (apart m node a (ended_of was) differ few))
         ∙ h.ids m a d few less
   ]
@@ -59,7 +62,7 @@ module _ (plan : PlanValue) (r n : SerialValue) (deeds : List (List Deed)) (node
   -- what another node keeps, whose links and driver are as they were
   other_node : (m : ℕ) (d : LoggedDriver) (p : Registers) → (m ≡ node → ⊥) → m < length plan.nodes →
       IsNode plan.version (steps_at plan m) (journal_at n.bus.journals m) (deeds_at deeds m)
-          (slice_index_or r.drivers m d) (slice_index_or r.ports m p) n.links (8 * m)
+      (slice_index_or r.drivers m d) (slice_index_or r.ports m p) n.links (8 * m)
   other_node m d p differ less =
       let w = slice_index_or r.drivers m d in
       let g = slice_index_or r.ports m p in
@@ -70,7 +73,7 @@ module _ (plan : PlanValue) (r n : SerialValue) (deeds : List (List Deed)) (node
       let holds : HoldsBy Lies (deeds_at deeds m) (driver_of w) (log_of w) (journal_at r.bus.journals m) given (8 * m) =
       each_other (deeds_at deeds m) w (journal_at r.bus.journals m) r.links given m node (ended_of was) differ l others in
       idle plan.version (steps_at plan m) (journal_at r.bus.journals m) (journal_at n.bus.journals m) (deeds_at deeds m)
-          w w g g r.links given n.links (8 * m) none was_node was_node.traced.lawful was_node.traced.traces holds
+      w w g g r.links given n.links (8 * m) none was_node was_node.traced.lawful was_node.traced.traces holds
       (λ k x. x) refl (items m inside) (λ acc. kept m acc inside) (λ few. dry m none now_inside few)
 
   -- the run stands at the deeds that are had more
@@ -95,8 +98,8 @@ module _ (plan : PlanValue) (r n : SerialValue) (deeds : List (List Deed)) (node
         (journal_at n.bus.journals m) (deeds_at (with_deeds deeds node more) m) (slice_index_or ds m d)
         (slice_index_or n.ports m p) n.links (8 * m)) (sym drivers_are)
         (subst (λ (ps : List Registers). IsNode plan.version (steps_at plan m) (journal_at n.bus.journals m)
-            (deeds_at (with_deeds deeds node more) m) (slice_index_or (slice_set r.drivers node now) m d)
-            (slice_index_or ps m p) n.links (8 * m)) (sym ports_are)
+        (deeds_at (with_deeds deeds node more) m) (slice_index_or (slice_set r.drivers node now) m d)
+        (slice_index_or ps m p) n.links (8 * m)) (sym ports_are)
         (each m d p less));
   }
     where
@@ -120,32 +123,32 @@ module _ (plan : PlanValue) (r n : SerialValue) (deeds : List (List Deed)) (node
 
       each : (m : ℕ) (d : LoggedDriver) (p : Registers) → m < length plan.nodes →
           IsNode plan.version (steps_at plan m) (journal_at n.bus.journals m) (deeds_at (with_deeds deeds node more) m)
-              (slice_index_or (slice_set r.drivers node now) m d) (slice_index_or (slice_set r.ports node q) m p)
-              n.links (8 * m)
+          (slice_index_or (slice_set r.drivers node now) m d) (slice_index_or (slice_set r.ports node q) m p)
+          n.links (8 * m)
       each m d p less = elim (cases_eq node m) [
         | inl e ↦
             let P : ℕ → Type 0 = λ x. IsNode plan.version (steps_at plan x) (journal_at n.bus.journals x)
-                (deeds_at (with_deeds deeds node more) x) (slice_index_or (slice_set r.drivers node now) x d)
-                (slice_index_or (slice_set r.ports node q) x p) n.links (8 * x) in
+            (deeds_at (with_deeds deeds node more) x) (slice_index_or (slice_set r.drivers node now) x d)
+            (slice_index_or (slice_set r.ports node q) x p) n.links (8 * x) in
             subst P e
             (subst (λ (ds : List Deed). IsNode plan.version (steps_at plan node) (journal_at n.bus.journals node) ds
-                (slice_index_or (slice_set r.drivers node now) node d) (slice_index_or (slice_set r.ports node q) node
-                p) n.links (8 * node)) (sym here_deeds)
+            (slice_index_or (slice_set r.drivers node now) node d) (slice_index_or (slice_set r.ports node q) node
+            p) n.links (8 * node)) (sym here_deeds)
             (subst (λ (x : LoggedDriver). IsNode plan.version (steps_at plan node) (journal_at n.bus.journals node)
-                (deeds_at deeds node ++ more) x (slice_index_or (slice_set r.ports node q) node p) n.links (8 * node))
-                (sym (here_driver d))
+            (deeds_at deeds node ++ more) x (slice_index_or (slice_set r.ports node q) node p) n.links (8 * node))
+            (sym (here_driver d))
             (subst (λ (x : Registers). IsNode plan.version (steps_at plan node) (journal_at n.bus.journals node)
-                (deeds_at deeds node ++ more) now x n.links (8 * node)) (sym (here_port p)) node_after)))
+            (deeds_at deeds node ++ more) now x n.links (8 * node)) (sym (here_port p)) node_after)))
         | inr differ ↦
             subst (λ (ds : List Deed). IsNode plan.version (steps_at plan m) (journal_at n.bus.journals m) ds
-                (slice_index_or (slice_set r.drivers node now) m d) (slice_index_or (slice_set r.ports node q) m p)
-                n.links (8 * m)) (sym (set_else deeds node m (deeds_at deeds node ++ more) [] differ))
+            (slice_index_or (slice_set r.drivers node now) m d) (slice_index_or (slice_set r.ports node q) m p)
+            n.links (8 * m)) (sym (set_else deeds node m (deeds_at deeds node ++ more) [] differ))
             (subst (λ (x : LoggedDriver). IsNode plan.version (steps_at plan m) (journal_at n.bus.journals m)
-                (deeds_at deeds m) x (slice_index_or (slice_set r.ports node q) m p) n.links (8 * m)) (sym
-                (set_else r.drivers node m now d differ))
+            (deeds_at deeds m) x (slice_index_or (slice_set r.ports node q) m p) n.links (8 * m)) (sym
+            (set_else r.drivers node m now d differ))
             (subst (λ (x : Registers). IsNode plan.version (steps_at plan m) (journal_at n.bus.journals m)
-                (deeds_at deeds m) (slice_index_or r.drivers m d) x n.links (8 * m)) (sym
-                (set_else r.ports node m q p differ))
+            (deeds_at deeds m) (slice_index_or r.drivers m d) x n.links (8 * m)) (sym
+            (set_else r.ports node m q p differ))
             (other_node m d p (λ e. differ (sym e)) less)))
       ]
 
@@ -164,22 +167,28 @@ module _ (plan : PlanValue) (r n : SerialValue) (deeds : List (List Deed)) (node
       (journal_at r.bus.journals node) (deeds_at deeds node) was p r.links (8 * node) →
       IsLawfulJournal (journal_at r.bus.journals node) →
       RegisterFacts p → length (deeds_at deeds node) < length (steps_at plan node) →
-          one ≡ slice_index_or (steps_at plan node) (length (deeds_at deeds node)) one → IsLawful now →
+      one ≡ slice_index_or (steps_at plan node) (length (deeds_at deeds node)) one → IsLawful now →
       (place_of (journal_at r.bus.journals node)).bits ≡ r.bits → Steps Lies shows_none takes_none was now r.links given
-          (8 * node) p q one r.bits true → ((m : ℕ) → HasRoom (m + 1) (log_of was) → HasRoom m (log_of now)) →
+      (8 * node) p q one r.bits true → ((m : ℕ) → HasRoom (m + 1) (log_of was) → HasRoom m (log_of now)) →
       (d : Deed) × Does plan r n node deeds (d ∷ [])
   next_done p one w lawful facts left is now_lawful place st room =
       let at : Steps Lies shows_none takes_none was now r.links given (8 * node) p q one
-          (place_of (journal_at r.bus.journals node)).bits true =
+      (place_of (journal_at r.bus.journals node)).bits true =
       subst (λ (b : ℕ). Steps Lies shows_none takes_none was now r.links given (8 * node) p q one b true) (sym place)
-          st in
+      st in
       let s = stepped plan.version (steps_at plan node) (journal_at r.bus.journals node)
-          (journal_at n.bus.journals node) (deeds_at deeds node) was now p q r.links given n.links (8 * node) one none w
-          lawful facts left is now_lawful
-      (items node inside) (λ acc. kept node acc inside) (λ few. dry node none now_inside few) at room in
-      (s.deed, record { stands = stands_after (s.deed ∷ []) s.node; at_once =
-          λ i d less. only s.deed i d (s.bits ∙ place) less; bits = bits_are;
-        items = more_items })
+      (journal_at n.bus.journals node) (deeds_at deeds node) was now p q r.links given n.links (8 * node) one none w
+      lawful facts left is now_lawful
+      (items node inside) (λ acc. kept node acc inside) (λ few. dry node none now_inside few) at room in (
+        s.deed,
+        record {
+          stands = stands_after (s.deed ∷ []) s.node;
+          at_once =
+              λ i d less. only s.deed i d (s.bits ∙ place) less;
+          bits = bits_are;
+          items = more_items;
+        },
+      )
     where
       only : (x : Deed) (i : ℕ) (d : Deed) → x.bits ≡ r.bits → i < 1 → (slice_index_or (x ∷ []) i d).bits ≡ r.bits
       only x zero d e less = e
@@ -190,50 +199,54 @@ module _ (plan : PlanValue) (r n : SerialValue) (deeds : List (List Deed)) (node
       (journal_at r.bus.journals node) (deeds_at deeds node) was p r.links (8 * node) →
       IsLawfulJournal (journal_at r.bus.journals node) →
       length (deeds_at deeds node) < length (steps_at plan node) → one ≡ slice_index_or (steps_at plan node)
-          (length (deeds_at deeds node)) one → IsLawful now →
+      (length (deeds_at deeds node)) one → IsLawful now →
       (place_of (journal_at r.bus.journals node)).bits ≡ r.bits → Steps Lies shows_none takes_none was now r.links given
-          (8 * node) p q one r.bits false → ((m : ℕ) → HasRoom m (log_of was) → HasRoom m (log_of now)) →
+      (8 * node) p q one r.bits false → ((m : ℕ) → HasRoom m (log_of was) → HasRoom m (log_of now)) →
       Does plan r n node deeds [] × IsStuck plan n deeds node
   next_waits p one w lawful left is now_lawful place st room =
       let at : Steps Lies shows_none takes_none was now r.links given (8 * node) p q one
-          (place_of (journal_at r.bus.journals node)).bits false =
+      (place_of (journal_at r.bus.journals node)).bits false =
       subst (λ (b : ℕ). Steps Lies shows_none takes_none was now r.links given (8 * node) p q one b false) (sym place)
-          st in
+      st in
       let j = journal_at r.bus.journals node in let k = journal_at n.bus.journals node in let ds =
-          deeds_at deeds node in
+      deeds_at deeds node in
       let its = items node inside in let keeps = λ (acc : ℕ → Account). kept node acc inside in
       let shows : stops_of k < 8 → (slice_index_or n.links (8 * node + stops_of k) none).up ≡ [] =
-          λ few. dry node none now_inside few in
+      λ few. dry node none now_inside few in
       let same = still_journal plan.version (steps_at plan node) j k ds was now p q r.links given n.links (8 * node) one
-          none w lawful now_lawful its keeps shows at room in
+      none w lawful now_lawful its keeps shows at room in
       let port = same_port plan.version (steps_at plan node) j k ds was now p q r.links given n.links (8 * node) one
-          none w lawful now_lawful its keeps shows at room in
+      none w lawful now_lawful its keeps shows at room in
       let after = still plan.version (steps_at plan node) j k ds was now p q r.links given n.links (8 * node) one none w
-          lawful now_lawful its keeps shows at room in
+      lawful now_lawful its keeps shows at room in
       let why = waited plan.version (steps_at plan node) j k ds was now p q r.links given n.links (8 * node) one none w
-          lawful now_lawful its keeps shows at room in
+      lawful now_lawful its keeps shows at room in
       let more : IsNode plan.version (steps_at plan node) k (ds ++ []) now q n.links (8 * node) =
-          subst (λ (l : List Deed). IsNode plan.version (steps_at plan node) k l now q n.links (8 * node))
-          (sym (append-nil ds)) after in (
-        record { stands = stands_after [] more; at_once = λ i d less. absurd (omega (arith, less)); bits = bits_are;
-        items = more_items },
+      subst (λ (l : List Deed). IsNode plan.version (steps_at plan node) k l now q n.links (8 * node))
+      (sym (append-nil ds)) after in (
+        record {
+          stands = stands_after [] more;
+          at_once = λ i d less. absurd (omega (arith, less));
+          bits = bits_are;
+          items = more_items;
+        },
         inr (λ s x.
             let c = h.count.ports in
             let port_is : p ≡ slice_index_or n.ports node x =
-                sym port ∙ sym (set_here r.ports node q x (omega (arith, c, there)))
-                ∙ ap (λ l. slice_index_or l node x) (sym ports_are) in
+            sym port ∙ sym (set_here r.ports node q x (omega (arith, c, there)))
+            ∙ ap (λ l. slice_index_or l node x) (sym ports_are) in
             let step_is : one ≡ slice_index_or (steps_at plan node) (length ds) s =
-                is ∙ index_any (steps_at plan node) (length ds) one s left in
+            is ∙ index_any (steps_at plan node) (length ds) one s left in
             subst (λ (l : List Entry). HasToWait l ds (slice_index_or n.ports node x)
-                (slice_index_or (steps_at plan node) (length ds) s)) (sym same)
+            (slice_index_or (steps_at plan node) (length ds) s)) (sym same)
             (subst (λ (g : Registers). HasToWait j ds g (slice_index_or (steps_at plan node) (length ds) s)) port_is
-                (subst (λ (t : Step). HasToWait j ds p t) step_is why))),
+            (subst (λ (t : Step). HasToWait j ds p t) step_is why))),
       )
 
   -- either of both
   pub next_tried : (p : Registers) (one : Step) (b : Bool) →
       IsNode plan.version (steps_at plan node) (journal_at r.bus.journals node) (deeds_at deeds node) was p r.links
-          (8 * node) →
+      (8 * node) →
       IsLawfulJournal (journal_at r.bus.journals node) → RegisterFacts p →
       length (deeds_at deeds node) < length (steps_at plan node) →
       one ≡ slice_index_or (steps_at plan node) (length (deeds_at deeds node)) one → IsLawful now →

@@ -47,11 +47,11 @@ use Rattle.sja_turns.proofs.Turned.{at_most_one, is_read, opened_most, is_unmet}
 pub none_taken : (j k : List Entry) (deeds : List Deed) (driver : AnyDriver) (log : WorkLog) (links after : List Deques)
     (base room node : ℕ) (none : Deques) (f : BusFault) → HoldsBy Lies deeds driver log j links base →
     ((a : ℕ) → given_in (deeds_of deeds a) ≡ taken_of (part j a)) → RefusesItem Lies room j k links after base node f →
-        ⊥
+    ⊥
 none_taken j k deeds driver log links after base room node none f holds given r =
     let is = refused_is j k deeds driver log links after base room node none f [] 0 holds (omega arith)
     (λ a. given a ∙ sym (ap (λ (l : List Up). taken_of (part j a) ++ l) (no_wait a) ∙ append-nil (taken_of (part j a))))
-        r in
+    r in
     no_item r.item (sym is.1)
 
 -- ---- a step of a driver, and a node whose item was refused then
@@ -59,7 +59,7 @@ none_taken j k deeds driver log links after base room node none f holds given r 
 module _ (version : ℕ) (steps : List Step) (j : List Entry) (deeds : List Deed) (was now : LoggedDriver)
     (p q : Registers)
     (links given : List Deques) (base : ℕ) (one : Step) (none : Deques) (h : IsNode version steps j deeds was p links
-        base)
+    base)
     (lawful : IsLawfulJournal j) (facts : RegisterFacts p) (bits : ℕ) (short : length deeds ≤ 1000)
     (run : (place_of j).bits ≤ bits) where
   before : (a : ℕ) → given_in (deeds_of deeds a) ≡ taken_of (part j a)
@@ -97,7 +97,7 @@ module _ (version : ℕ) (steps : List Step) (j : List Entry) (deeds : List Deed
       let waits_now : (a : ℕ) → given_in (deeds_of (deeds ++ d ∷ []) a) ≡ taken_of (part j a) ++ waiting b d.gave a =
       λ a. given_push deeds d a ∙ ap (λ (l : List Up). l ++ waiting b d.gave a) (before a) in
       let is = refused_is j k (deeds ++ d ∷ []) (driver_of now) (log_of now) given after base (room_for bits) node none
-          f d.gave b
+      f d.gave b
       holds_now (at_most_one (is_active deeds) (opened_by deeds) d.step d.answer d.gave kind) waits_now r in
       let read = is_read j deeds d h.linked.level most kind (λ e. no_item r.item (sym is.1 ∙ e)) in
       let right : (n : ℕ) → d.gave ≡ Credit n ∷ [] → IsBadCredit j n → ⊥ = λ n gave bad.
@@ -105,7 +105,7 @@ module _ (version : ℕ) (steps : List Step) (j : List Entry) (deeds : List Deed
       holds_now (credit_lengths p d.step d.answer n (sym next.gave ∙ gave)) (stops_of j) read.1 (sym read.0) bad.free
       bad.is_free bad.bad in
       never_refused version j deeds d p q next h.ported h.asked h.linked.level kind facts lawful right node
-          (room_for bits)
+      (room_for bits)
       r.item f is.1 fits (subst (λ (l : List Entry). IsRefusedFor node (room_for bits) l r.item f) is.0 r.why)
 
   -- it waits
@@ -120,22 +120,22 @@ module _ (version : ℕ) (steps : List Step) (j : List Entry) (deeds : List Deed
       subst (λ (l : List Deed). HoldsBy Lies l (driver_of now) (log_of now) j given base) nothing_done
       (st.goes.holds deeds j h.traced.traces h.linked.holds) in
       none_taken j k deeds (driver_of now) (log_of now) given after base (room_for bits) node none f holds_still before
-          r
+      r
 
 -- ---- a taking after a step
 
 -- no item of any node is refused
 pub gather_takes : (plan : PlanValue) (r : SerialValue) (deeds : List (List Deed)) (node : ℕ) (was now : LoggedDriver)
     (p q : Registers) (given after : List Deques) (journals : List (List Entry)) (one : Step) (none : Deques)
-        (f : BusFault)
+    (f : BusFault)
     (b : Bool) → StandsAt plan r deeds →
     IsNode plan.version (steps_at plan node) (journal_at r.bus.journals node) (deeds_at deeds node) was p r.links
-        (8 * node) →
+    (8 * node) →
     IsLawfulJournal (journal_at r.bus.journals node) → RegisterFacts p → length (deeds_at deeds node) ≤ 1000 →
     (place_of (journal_at r.bus.journals node)).bits ≡ r.bits →
     Steps Lies shows_none takes_none was now r.links given (8 * node) p q one r.bits b →
     ((i : ℕ) (d : Deques) → i ≢ place_after (8 * node) (ended_of was) → slice_index_or given i d ≡ slice_index_or
-        r.links i d) →
+    r.links i d) →
     IsNotTaken Lies (r.bus.run + r.bus.left) r.bus.journals journals given after f → ⊥
 gather_takes plan r deeds node was now p q given after journals one none f b h w lawful facts short place st others
     r_not =
@@ -143,19 +143,19 @@ gather_takes plan r deeds node was now p q given after journals one none f b h w
     elim (cases_eq m node) [
       | inl e ↦
           let P : ℕ → Type 0 = λ x. RefusesItem Lies (room_for (r.bus.run + r.bus.left)) (journal_at r.bus.journals x)
-              (journal_at journals x) given after (8 * x) x f in
+          (journal_at journals x) given after (8 * x) x f in
           let refuses = subst P e r_not.refuses in
           here b (subst (λ (n : ℕ). Steps Lies shows_none takes_none was now r.links given (8 * node) p q one n b)
-              (sym place) st) refuses
+          (sym place) st) refuses
       | inr differ ↦
           let x = slice_index_or r.drivers m now in
           let few : m < length plan.nodes = let c = h.count.journals in let l = r_not.few in omega (arith, c, l) in
           let n = h.nodes m now p few in
           none_taken (journal_at r.bus.journals m) (journal_at journals m) (deeds_at deeds m) (driver_of x) (log_of x)
-              given after (8 * m)
+          given after (8 * m)
           (room_for (r.bus.run + r.bus.left)) m none f
           (each_other (deeds_at deeds m) x (journal_at r.bus.journals m) r.links given m node (ended_of was) differ
-              n.linked.holds others)
+          n.linked.holds others)
           (λ a. given_taken (deeds_at deeds m) (journal_at r.bus.journals m) a (n.in_time.when a)) r_not.refuses
     ]
   where
@@ -167,12 +167,12 @@ gather_takes plan r deeds node was now p q given after journals one none f b h w
 
     here : (x : Bool) → Steps Lies shows_none takes_none was now r.links given (8 * node) p q one (place_of j).bits x →
         RefusesItem Lies (room_for (r.bus.run + r.bus.left)) j (journal_at journals node) given after (8 * node) node
-            f → ⊥
+        f → ⊥
     here true s refuses =
         done_taken plan.version (steps_at plan node) j (deeds_at deeds node) was now p q r.links given (8 * node) one
-            none w lawful
+        none w lawful
         facts (r.bus.run + r.bus.left) short run (journal_at journals node) after node f s refuses
     here false s refuses =
         waits_taken plan.version (steps_at plan node) j (deeds_at deeds node) was now p q r.links given (8 * node) one
-            none w lawful
+        none w lawful
         facts (r.bus.run + r.bus.left) short run (journal_at journals node) after node f s refuses

@@ -35,7 +35,7 @@ taken_adds j (u ∷ us) a =
     ∙ taken_adds (j ++ Item u ∷ []) us a
     ∙ ap (λ l. l ++ adds (j ++ Item u ∷ []) us a) (taken_one j u a)
     ∙ append_assoc (taken_of (part j a)) (if (past (place_of j) (Item u)).activation ==
-        a then u ∷ [] else []) (adds (j ++ Item u ∷ []) us a)
+    a then u ∷ [] else []) (adds (j ++ Item u ∷ []) us a)
 
 -- what waits in an activation, where these wait in this one
 abbrev pub waiting : ℕ → List Up → ℕ → List Up
@@ -71,14 +71,14 @@ pub adds_first : (j : List Entry) (u : Up) (us : List Up) → IsRead j u → add
     (j ++ Item u ∷ []) us (suc (stops_of j))
 adds_first j u us r =
     ap (λ t. cond t (u ∷ []) [] ++ adds (j ++ Item u ∷ []) us (suc (stops_of j)))
-        (eq-eqb (past (place_of j) (Item u)).activation (suc (stops_of j)) r.activation)
+    (eq-eqb (past (place_of j) (Item u)).activation (suc (stops_of j)) r.activation)
 
 -- where no activation has one there is none
 pub no_adds : (j : List Entry) (us : List Up) → AreRead j us → ((m : ℕ) → m < 8 → adds j us (suc m) ≡ []) → us ≡ []
 no_adds j [] r none = refl
 no_adds j (u ∷ us) r none =
     absurd (some_none u (adds (j ++ Item u ∷ []) us (suc (stops_of j))) (sym (adds_first j u us r.0)
-        ∙ none (stops_of j) r.0.left))
+    ∙ none (stops_of j) r.0.left))
 
 -- of one that waited and is the first that was taken
 pub one_is : (b : Bool) (u : Up) (gave rest : List Up) → AtMostOne gave → cond b gave [] ≡ u ∷ rest →
@@ -99,12 +99,12 @@ just_taken j [] (x ∷ xs) b up read few here whole dry =
     let h = here (λ e. cc) in
     let n : stops_of (j ++ []) ≡ stops_of j = ap stops_of (append-nil j) in
     let at : waiting b (x ∷ xs) (suc (stops_of j)) ≡ x ∷ xs =
-        ap (λ t. cond t (x ∷ xs) []) (eq-eqb b (suc (stops_of j)) h.0) in
+    ap (λ t. cond t (x ∷ xs) []) (eq-eqb b (suc (stops_of j)) h.0) in
     let none : up (stops_of j) ≡ [] = ap up (sym n) ∙ dry (subst (λ (m : ℕ). m < 8) (sym n) h.1) in
     absurd (some_none x xs (sym at ∙ whole (stops_of j) h.1 ∙ none))
 just_taken j (u ∷ us) gave b up read few here whole dry =
     let first : cond (b == suc (stops_of j)) gave [] ≡ u ∷ (adds (j ++ Item u ∷ []) us (suc (stops_of j)) ++ up
-        (stops_of j)) =
+    (stops_of j)) =
     whole (stops_of j) read.0.left ∙ ap (λ l. l ++ up (stops_of j)) (adds_first j u us read.0) in
     let one = one_is (b == suc (stops_of j)) u gave _ few first in
     let is : b ≡ suc (stops_of j) = eqb-true b (suc (stops_of j)) one.0 in
@@ -113,8 +113,8 @@ just_taken j (u ∷ us) gave b up read few here whole dry =
           (none_front (adds (j ++ Item u ∷ []) us (suc (stops_of j))) (up (stops_of j)) one.2)
       | inr differ ↦
           let off : cond (b == suc m) gave [] ≡ [] =
-              ap (λ t. cond t gave []) (ne_eqb b (suc m) (λ e. omega (arith, e, is, differ))) in
+          ap (λ t. cond t gave []) (ne_eqb b (suc m) (λ e. omega (arith, e, is, differ))) in
           none_back _ (adds (j ++ Item u ∷ []) us (suc m)) (none_front (adds j (u ∷ us) (suc m)) (up m)
-              (sym (whole m less) ∙ off))
+          (sym (whole m less) ∙ off))
     ]) in
     ap (λ l. u ∷ l) none ∙ sym one.1

@@ -95,9 +95,9 @@ opened_most deeds (InActive d) log node n trace place =
 module _ (version : ℕ) (steps : List Step) (j k : List Entry) (deeds : List Deed) (was now : LoggedDriver)
     (p q : Registers) (links given after : List Deques) (base : ℕ) (one : Step) (none : Deques)
     (h : IsNode version steps j deeds was p links base) (lawful : IsLawfulJournal j) (facts : RegisterFacts p)
-        (left : length deeds < length steps) (is : one ≡ slice_index_or steps (length deeds) one)
+    (left : length deeds < length steps) (is : one ≡ slice_index_or steps (length deeds) one)
     (now_lawful : IsLawful now) (items : HasItems j k) (kept : (acc : ℕ → Account) → Kept Lies j given base acc →
-        Kept Lies k after base acc)
+    Kept Lies k after base acc)
     (dry : stops_of k < 8 → (slice_index_or after (base + stops_of k) none).up ≡ []) where
   before : (a : ℕ) → given_in (deeds_of deeds a) ≡ taken_of (part j a)
   before a = given_taken deeds j a (h.in_time.when a)
@@ -113,29 +113,29 @@ module _ (version : ℕ) (steps : List Step) (j k : List Entry) (deeds : List De
   stepped st room =
       let trace = h.traced.traces in
       let c : Comes j deeds (log_of was) links base (node_of was) none lawful before p q one st.tried =
-          comes j deeds (log_of was) links base (node_of was) none lawful before p q one (driver_of was) (driver_of now)
+      comes j deeds (log_of was) links base (node_of was) none lawful before p q one (driver_of was) (driver_of now)
       (slice_index_or given (place_after base (ended_of was)) none) st.tried trace h.traced.lawful h.linked.holds
-          h.ported.unclosed st.met (st.acts none none) in
+      h.ported.unclosed st.met (st.acts none none) in
       let d = c.deed in
       let next = c.next in
       let gives : Gives d.step d.answer d.gave =
-          subst (λ (l : List Up). Gives d.step d.answer l) (sym next.gave) (gives_carried p d.step d.answer) in
+      subst (λ (l : List Up). Gives d.step d.answer l) (sym next.gave) (gives_carried p d.step d.answer) in
       let kind = kind_of (is_active deeds) (opened_by deeds) d.step d.answer d.gave next.fits gives in
       let b = opened_by deeds + opens_by d in
       let trace_now : Traces (driver_of now) (log_of now) (deeds ++ d ∷ []) =
-          subst (λ (l : List Deed). Traces (driver_of now) (log_of now) (deeds ++ l)) c.only
-          (st.goes.traces deeds trace) in
+      subst (λ (l : List Deed). Traces (driver_of now) (log_of now) (deeds ++ l)) c.only
+      (st.goes.traces deeds trace) in
       let holds_now : HoldsBy Lies (deeds ++ d ∷ []) (driver_of now) (log_of now) j given base =
       subst (λ (l : List Deed). HoldsBy Lies (deeds ++ l) (driver_of now) (log_of now) j given base) c.only
-          (st.goes.holds deeds j trace h.linked.holds) in
+      (st.goes.holds deeds j trace h.linked.holds) in
       let waits_now : (a : ℕ) → given_in (deeds_of (deeds ++ d ∷ []) a) ≡ taken_of (part j a) ++ waiting b d.gave a =
-          λ a. given_push deeds d a ∙ ap (λ (l : List Up). l ++ waiting b d.gave a) (before a) in
+      λ a. given_push deeds d a ∙ ap (λ (l : List Up). l ++ waiting b d.gave a) (before a) in
       let most = opened_most deeds (driver_of was) (log_of was) (node_of was) (ended_of was) trace h.traced.lawful in
       let entered : k ≡ j ++ entries_of_items d.gave =
-          items_are j k (deeds ++ d ∷ []) (driver_of now) (log_of now) given after base none holds_now kept d.gave b
-          items
+      items_are j k (deeds ++ d ∷ []) (driver_of now) (log_of now) given after base none holds_now kept d.gave b
+      items
       (at_most_one (is_active deeds) (opened_by deeds) d.step d.answer d.gave kind) (is_read j deeds d h.linked.level
-          most kind) waits_now dry in
+      most kind) waits_now dry in
       let e = enters j k deeds d entered h.linked.level kind in
       let level = level_after j k deeds d entered h.linked.level kind in
       let in_time = in_time_after version j k deeds d p q e next h.ported h.in_time in record {
@@ -165,25 +165,31 @@ module _ (version : ℕ) (steps : List Step) (j k : List Entry) (deeds : List De
 module _ (version : ℕ) (steps : List Step) (j k : List Entry) (deeds : List Deed) (was now : LoggedDriver)
     (p q : Registers) (links given after : List Deques) (base : ℕ) (none : Deques)
     (h : IsNode version steps j deeds was p links base) (now_lawful : IsLawful now) (trace : Traces (driver_of now)
-        (log_of now) deeds) (holds : HoldsBy Lies deeds (driver_of now) (log_of now) j given base)
+    (log_of now) deeds) (holds : HoldsBy Lies deeds (driver_of now) (log_of now) j given base)
     (room : (m : ℕ) → HasRoom m (log_of was) → HasRoom m (log_of now)) (port : q ≡ p) (items : HasItems j k)
-        (kept : (acc : ℕ → Account) → Kept Lies j given base acc → Kept Lies k after base acc)
+    (kept : (acc : ℕ → Account) → Kept Lies j given base acc → Kept Lies k after base acc)
     (dry : stops_of k < 8 → (slice_index_or after (base + stops_of k) none).up ≡ []) where
   pub same_journal : k ≡ j
   same_journal =
       items_are j k deeds (driver_of now) (log_of now) given after base none holds kept [] 0 items (omega arith) (λ e.
-          absurd (e refl))
+      absurd (e refl))
       (λ a. given_taken deeds j a (h.in_time.when a) ∙ sym (ap (λ (l : List Up). taken_of (part j a) ++ l) (no_wait a)
-          ∙ append-nil (taken_of (part j a)))) dry
+      ∙ append-nil (taken_of (part j a)))) dry
       ∙ append-nil j
 
   pub idle : IsNode version steps k deeds now q after base
   idle =
       let level : IsLevel k deeds = subst (λ (l : List Entry). IsLevel l deeds) (sym same_journal) h.linked.level in
       let in_time : IsInTime version k deeds =
-          subst (λ (l : List Entry). IsInTime version l deeds) (sym same_journal) h.in_time in record {
-        traced = record { lawful = now_lawful; traces = trace; within = h.traced.within; first = h.traced.first; room =
-            λ m l. room m (h.traced.room m l) };
+      subst (λ (l : List Entry). IsInTime version l deeds) (sym same_journal) h.in_time in record {
+        traced = record {
+          lawful = now_lawful;
+          traces = trace;
+          within = h.traced.within;
+          first = h.traced.first;
+          room =
+              λ m l. room m (h.traced.room m l);
+        };
         linked = linked_after j k deeds (driver_of now) (log_of now) given after base none holds kept now refl refl
             (λ a. given_taken deeds k a (in_time.when a)) level;
         ported = subst (λ (r : Registers). IsPorted version k deeds r) (sym port) (subst (λ (l : List Entry).
@@ -207,10 +213,10 @@ is_unmet (Ended l) e = absurd cc
 module _ (version : ℕ) (steps : List Step) (j k : List Entry) (deeds : List Deed) (was now : LoggedDriver)
     (p q : Registers) (links given after : List Deques) (base : ℕ) (one : Step) (none : Deques)
     (h : IsNode version steps j deeds was p links base) (lawful : IsLawfulJournal j) (now_lawful : IsLawful now)
-        (items : HasItems j k)
+    (items : HasItems j k)
     (kept : (acc : ℕ → Account) → Kept Lies j given base acc → Kept Lies k after base acc)
     (dry : stops_of k < 8 → (slice_index_or after (base + stops_of k) none).up ≡ [])
-        (st : Steps Lies shows_none takes_none was now links given base p q one (place_of j).bits false)
+    (st : Steps Lies shows_none takes_none was now links given base p q one (place_of j).bits false)
     (room : (m : ℕ) → HasRoom m (log_of was) → HasRoom m (log_of now)) where
   unmet : st.tried ≡ Unmet
   unmet = is_unmet st.tried st.met

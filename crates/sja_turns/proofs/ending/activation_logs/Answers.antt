@@ -20,16 +20,16 @@ loop-ended-preserved c =
     let eight = (opened_few (node_of driver) (ended_of driver) (driver_of driver) c.requires.lawful).0 in
     let less : c.args.base + n < length lists =
     let all = inv.all in let t = c.loop-ended-test.true in let room = c.requires.lists in omega
-        (arith, all, t, room, eight) in
+    (arith, all, t, room, eight) in
     let made : x ≡ activation_after driver r n = c.in_ok-activation_log.ensures in
     let here : (l : List Down) → r ≡ slice_index_or lists (c.args.base + n) l = λ l.
     c.index-lists-base.is ∙ ap (λ m. slice_index_or lists (c.args.base + m) r) c.from-in-loop-ended.ensures
-        ∙ index_any lists (c.args.base + n) r l less in
+    ∙ index_any lists (c.args.base + n) r l less in
     record {
       room = search rules;
       all = inv.all;
       each = subst (λ (l : List ActivationValue). AreActivations driver lists c.args.base (n + 1) l)
           (sym c.push_reserved.ensures.items)
           (activations_push driver lists c.args.base n c.loop-ended.logs.items x inv.each (λ l. made ∙ ap (λ
-              (s : List Down). activation_after driver s n) (here l)));
+          (s : List Down). activation_after driver s n) (here l)));
     }

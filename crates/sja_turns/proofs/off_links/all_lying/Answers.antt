@@ -12,4 +12,4 @@ loop-link-preserved c =
     let e = down_next was now c.in-Some.link c.in_ok-lying.lying c.in-Some.ensures.steps.0 c.in_ok-lying.ensures in
     subst (λ (l : List (List Down)). l ++ all_down now ≡ all_down c.args.links.items) (sym c.in_ok-push.ensures.items)
     (gathers_more c.loop-link.lists.items (all_down was) (all_down now)
-        (all_down c.args.links.items) c.in_ok-lying.lying e c.loop-link.invariant)
+    (all_down c.args.links.items) c.in_ok-lying.lying e c.loop-link.invariant)

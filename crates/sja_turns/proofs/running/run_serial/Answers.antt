@@ -15,5 +15,5 @@ returns-in-Ok-finish-clause-headline c = λ k d less.
     let t = c.take_turns-end.ensures in let log = c.in-Ok-finish.log in
     let run : IsSerialRun c.args.plan.now log =
     serial_of c.args.plan.now c.take_turns-end.new.run c.take_turns-end.result log t
-        (c.in-Ok-finish.ensures.log t.deeds t.stands) in
+    (c.in-Ok-finish.ensures.log t.deeds t.stands) in
     (run.run.nodes k d less).account

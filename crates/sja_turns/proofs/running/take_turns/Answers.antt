@@ -19,7 +19,7 @@ take_one-requires-clause-names c =
     let same = ap (λ l. length l) c.turns-turn-items.ensures in let t = c.loop-turn-test.true in
     let less : i < length plan.turns = omega (arith, same, t) in
     subst (λ (x : Turn). NamesNode (length plan.nodes) x) (ap (λ l. slice_index_or l i (Bus 0))
-        (sym c.turns-turn-items.ensures)) (c.limits.ensures.turns i (Bus 0) less)
+    (sym c.turns-turn-items.ensures)) (c.limits.ensures.turns i (Bus 0) less)
 
 pub loop-turn-preserved : goal.loop-turn-preserved
 loop-turn-preserved c =
@@ -28,13 +28,13 @@ loop-turn-preserved c =
     let less : i < length plan.turns = omega (arith, same, t) in
     let one = slice_index_or c.turns-turn-items.result.now i (Bus 0) in
     let is : slice_index_or plan.turns i (Bus 0) ≡ one = ap (λ l. slice_index_or l i (Bus 0))
-        (sym c.turns-turn-items.ensures) in
+    (sym c.turns-turn-items.ensures) in
     let names : NamesNode (length plan.nodes) one = subst (λ (x : Turn). NamesNode (length plan.nodes) x) is
-        (c.limits.ensures.turns i (Bus 0) less) in
+    (c.limits.ensures.turns i (Bus 0) less) in
     let yes : c.take_one.result ≡ true = search rules in
     come_at plan i (Bus 0) one c.take_one.new.run less is
     (come_one plan (take i plan.turns) c.loop-turn.run c.take_one.new.run inv one c.take_one.result names yes
-        (c.take_one.ensures inv.deeds inv.stands))
+    (c.take_one.ensures inv.deeds inv.stands))
 
 pub returns-then-not-take_one : goal.returns-then-not-take_one
 returns-then-not-take_one c =
@@ -43,10 +43,10 @@ returns-then-not-take_one c =
     let less : i < length plan.turns = omega (arith, same, t) in
     let one = slice_index_or c.turns-turn-items.result.now i (Bus 0) in
     let is : slice_index_or plan.turns i (Bus 0) ≡ one = ap (λ l. slice_index_or l i (Bus 0))
-        (sym c.turns-turn-items.ensures) in
+    (sym c.turns-turn-items.ensures) in
     let no : c.take_one.result ≡ false = search rules in
     end_one plan (take i plan.turns) c.loop-turn.run c.take_one.new.run inv one c.take_one.result (drop
-        (i + 1) plan.turns) no
+    (i + 1) plan.turns) no
     (c.take_one.ensures inv.deeds inv.stands) (whole_at plan i (Bus 0) one less is)
 
 pub returns : goal.returns

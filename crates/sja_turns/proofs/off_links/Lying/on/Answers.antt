@@ -12,9 +12,9 @@ loop-item-preserved c =
 pub loop-item-smaller : goal.loop-item-smaller
 loop-item-smaller c =
     let e = ap (λ (l : List Down). length l)
-        (taken_off c.loop-item.end c.get.new.self c.in-Some.item c.in-Some.ensures.item) in omega (arith, e)
+    (taken_off c.loop-item.end c.get.new.self c.in-Some.item c.in-Some.ensures.item) in omega (arith, e)
 
 pub returns : goal.returns
 returns c =
     gathers_all c.loop-item.items.items c.loop-item.end.down c.args.link.down
-        (none_left c.loop-item.end c.get.new.self c.in_default.ensures.kept c.in_default.ensures.dry) c.loop-item.invariant
+    (none_left c.loop-item.end c.get.new.self c.in_default.ensures.kept c.in_default.ensures.dry) c.loop-item.invariant
