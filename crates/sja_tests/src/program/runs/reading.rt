@@ -95,7 +95,7 @@ fn an_input_without_end_is_too_long(rt: HostRuntime) {
 }
 
 /// The plan above, with comment lines behind it up to so many bytes.
-fn commented(alloc: Global, length: usize) -> core::result::Result<String, Fail> {
+fn commented(alloc: Global, length: usize) -> std::result::Result<String, Fail> {
     let mut text = String::new(alloc);
     text.push_str(SENT_ONCE)?;
     for _ in 0..length {
@@ -109,7 +109,7 @@ fn commented(alloc: Global, length: usize) -> core::result::Result<String, Fail>
 #[test]
 fn a_plan_of_65536_bytes_is_run_and_one_byte_more_is_too_long(
     rt: HostRuntime,
-) -> core::result::Result<(), Fail> {
+) -> std::result::Result<(), Fail> {
     let longest = commented(rt.alloc(), 65_536)?;
     let mut input = longest.as_bytes();
     assert!(rt; prints(rt.alloc(), &mut input, SENT_ONCE_REPORT));
