@@ -88,12 +88,12 @@ stretch_taken orders_are was_told was_kept script run count untold now before mi
 
 -- ---- the links
 
-longer_at : (n : ℕ) (journals : List (List Entry)) (node : ℕ) → node < length journals → journal_at (with_recessive n journals) node ≡ journal_at journals node ++ recessive_bits n
+pub longer_at : (n : ℕ) (journals : List (List Entry)) (node : ℕ) → node < length journals → journal_at (with_recessive n journals) node ≡ journal_at journals node ++ recessive_bits n
 longer_at n [] node few = absurd (omega arith)
 longer_at n (j ∷ journals) zero few = refl
 longer_at n (j ∷ journals) (suc node) few = longer_at n journals node (omega arith)
 
-account_still : (n : ℕ) (j : List Entry) (a : ℕ) (h : Account) → account (j ++ recessive_bits n) a h ≡ account j a h
+pub account_still : (n : ℕ) (j : List Entry) (a : ℕ) (h : Account) → account (j ++ recessive_bits n) a h ≡ account j a h
 account_still zero j a h = ap (λ l. account l a h) (append-nil j)
 account_still (suc n) j a h =
     ap (λ l. account l a h) (sym (one_more n j)) ∙ account_quiet (j ++ recessive_bits n) (Bit Recessive Recessive) a h (λ l. refl) ∙ account_still n j a h

@@ -1,6 +1,6 @@
 -- Bits in which every node is at rest.
 use Rattle.std.proofs.Common.{◌≡◌, ℕ, zero, suc, ◌+◌, ◌<◌, ◌≤◌, Bool, false, cond, List, [], ◌∷◌, ◌++◌, length, refl, sym, ap, ◌∙◌, subst, arith}
-use Rattle.std.specs.Prelude.{slice_index_or, ◌↔◌}
+use Rattle.std.specs.Prelude.{slice_index_or, slice_set, ◌↔◌}
 use Rattle.std.specs.Int.{bit_at}
 use Rattle.std.proofs.lemmas.Bool.{ne_eqb}
 use Rattle.std.proofs.lemmas.List.{length-map}
@@ -20,13 +20,16 @@ use Rattle.sja_bus.specs.StrikesByBit.{IsAmong}
 use Rattle.sja_bus.specs.Wire.{wired, IsWired}
 use Rattle.sja_bus.specs.Reasons.{room_for}
 use Rattle.sja_bus.specs.declared.bus_fault.BusFault.{BusFault}
+use Rattle.sja_bus.specs.declared.bus_fault.BusFault.TheVariants.{JournalFull}
 use Rattle.sja_bus.specs.Buses.{untold_at, IsBit}
 use Rattle.sja_bus.specs.Stretches.{recessive_bits, with_recessive, IsStretch, IsOutOfEntries}
 use Rattle.sja_bus.specs.Inside.Turning.{is_untold, Turns}
-use Rattle.sja_bus.specs.Inside.Rows.{IsOf, AreReady, AreCalm, journals_of, untold_of, driven_by, seen_by, IsBus, SeatOpens, SeatOpensNews, SeatTurns}
+use Rattle.sja_bus.specs.Inside.Rows.{IsOf, AreReady, Done, AreCalm, journals_of, untold_of, driven_by, seen_by, IsBus, SeatOpens, SeatOpensNews, SeatTurns}
 use Rattle.sja_bus.specs.Inside.Whole.{IsRowBit}
-use Rattle.sja_bus.specs.Inside.Idling.{AreResting, IsFullBy, after_bits, all_after}
+use Rattle.sja_bus.specs.Inside.Idling.{AreResting, IsFullAfter, IsFullBy, after_bits, all_after}
 use Rattle.sja_bus.specs.Inside.Refusing.{HaveRoom}
+use Rattle.sja_bus.proofs.Lists.{set_here}
+use Rattle.sja_bus.proofs.Many.{or_same}
 use Rattle.sja_bus.proofs.Running.{journal_is, untold_is, count_is}
 use Rattle.sja_bus.proofs.Journals.{is_bit, wired_row}
 use Rattle.sja_bus.proofs.AtRest.{after_none, ready_after, turns_after, opens_after, news_after}
@@ -175,16 +178,35 @@ module _ (orders_are : ℕ → Orders → Type 0) (was_told : ℕ → BusTurn �
 
 -- ---- no entry was free
 
-pub out_of_entries : (bits : ℕ) (seats now : List Seat) (f : BusFault) → length now ≡ length seats → HaveRoom (room_for bits) seats → IsFullBy seats now f →
-    IsOutOfEntries bits (journals_of seats) (journals_of now) f
-out_of_entries bits [] now f len rooms h = let few = h.few in absurd (omega (arith, few))
-out_of_entries bits (s ∷ seats) now f len rooms h =
-    let all = s ∷ seats in let few = h.few in let cs = count_is all in
+-- of the first whose journal was full, after those that have so many bits more
+pub full_by : (n k : ℕ) (before after : List Seat) (s new : Seat) (f : BusFault) → k < length before → length after ≡ length before → AreReady before →
+    Done (λ m old now. now ≡ after_bits n old) k before after → IsFullAfter n (slice_index_or after k s) new f → IsFullBy n before (slice_set after k new) f
+full_by n k before after s new f few len ready done h = record {
+  node = k;
+  few = few;
+  own = λ e. (ready k e few).own;
+  after = λ e.
+      let here : slice_index_or (slice_set after k new) k e ≡ new = set_here after k new e (omega (arith, few, len)) in
+      let was : slice_index_or after k s ≡ slice_index_or before k e = or_same after k s e (omega (arith, few, len)) ∙ (done k e few).1 (omega arith) in
+      let P : Seat → Type 0 = λ x. IsFullAfter n (slice_index_or before k e) x f in
+      let Q : Seat → Type 0 = λ x. IsFullAfter n x new f in
+      subst P (sym here) (subst Q was h);
+}
+
+pub out_of_entries : (bits left count : ℕ) (seats now : List Seat) (f : BusFault) → length now ≡ length seats → count ≤ left → HaveRoom (room_for bits) seats → IsFullBy count seats now f →
+    IsOutOfEntries bits left (journals_of seats) (journals_of now) f
+out_of_entries bits left count [] now f len most rooms h = let few = h.few in absurd (omega (arith, few))
+out_of_entries bits left count (s ∷ seats) now f len most rooms h =
+    let all = s ∷ seats in let few = h.few in let cs = count_is all in let after = h.after s in
     let is = journal_is now h.node s (omega (arith, few, len)) in
-    let room = rooms h.node s few in let full = h.full s in
+    let was = journal_is all h.node s few in
+    let room = rooms h.node s few in let full = after.full in let early = after.early in
     let size = ap (λ (l : List Entry). length l) is in record {
       node = h.node;
       few = omega (arith, few, cs);
-      is = h.is;
+      is = after.is ∙ ap (λ k. JournalFull k) (h.own s);
+      entered = after.entered;
+      early = omega (arith, early, most);
+      grown = is ∙ after.grown ∙ ap (λ (l : List Entry). l ++ recessive_bits after.entered) (sym was);
       full = omega (arith, room, full, size);
     }

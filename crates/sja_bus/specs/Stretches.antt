@@ -3,13 +3,15 @@ use Rattle.std.specs.Prelude.{◌≡◌, ◌+◌, ◌<◌, ◌≤◌, ℕ, suc, 
 use Rattle.can_bits.specs.declared.level.Level.TheVariants.{Recessive}
 use Rattle.sja_link.specs.declared.entry.Entry.{Entry}
 use Rattle.sja_link.specs.declared.entry.Entry.TheVariants.{Bit}
+use Rattle.sja_link.specs.Lists.{Lists}
 use Rattle.sja_script.specs.declared.strike.Strike.{Strike}
 use Rattle.sja_regs.specs.declared.orders.Orders.{Orders}
 use Rattle.sja_regs.specs.declared.bus_turn.BusTurn.{BusTurn}
 use Rattle.sja_bus.specs.declared.bus_fault.BusFault.{BusFault}
 use Rattle.sja_bus.specs.declared.bus_fault.BusFault.TheVariants.{JournalFull}
 use Rattle.sja_bus.specs.Wire.{journal_at}
-use Rattle.sja_bus.specs.Buses.{untold_at, IsBit}
+use Rattle.sja_bus.specs.OneBit.{HasItems}
+use Rattle.sja_bus.specs.Buses.{EachJournal, KeepsAll, untold_at, IsBit}
 use Rattle.sja_bus.specs.Reasons.{room_for}
 
 -- the entries of so many bits that were driven and seen recessive
@@ -30,9 +32,22 @@ pub record IsStretch (orders_are : ℕ → Orders → Type 0) (was_told : ℕ �
       IsBit orders_are was_told was_kept script (run + i) untold (with_recessive i before)
       (with_recessive (suc i) before)
 
--- with this fault the reserved entries of a node's journal, for a run of so many bits, are used
-pub record IsOutOfEntries (bits : ℕ) (before now : List (List Entry)) (f : BusFault) : Type 0 where
+-- with this fault the reserved entries of a node's journal, for a run of so many bits, are used: it has fewer recessive
+-- bits more than there are left, and nothing else
+pub record IsOutOfEntries (bits left : ℕ) (before now : List (List Entry)) (f : BusFault) : Type 0 where
   pub node : ℕ
   pub few : node < length before
   pub is : f ≡ JournalFull node
+  pub entered : ℕ
+  pub early : entered < left
+  pub grown : journal_at now node ≡ journal_at before node ++ recessive_bits entered
   pub full : room_for bits ≤ length (journal_at now node)
+
+-- of each node what came on its links was taken, and then the reserved entries of one were used
+pub record IsFullInStretch {E : Type 0} (stands : E → Lists → Type 0) (bits left : ℕ) (before now : List (List Entry))
+    (links after : List E) (f : BusFault) : Type 0 where
+  pub taken : List (List Entry)
+  pub count : length taken ≡ length before
+  pub items : EachJournal HasItems before taken
+  pub kept : KeepsAll stands before taken links after
+  pub out : IsOutOfEntries bits left taken now f

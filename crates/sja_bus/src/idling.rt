@@ -11,10 +11,8 @@ use super::seat::Seat;
 use can_bits::Level;
 
 impl Seat {
-    ghost use Rattle.std.specs.Prelude.{◌≡◌, ◌≤◌, true, length, OnOk, IfErr};
-    ghost use Rattle.sja_link.specs.BusLedgers.{link_of};
-    ghost use Rattle.sja_bus.specs.declared.bus_fault.BusFault.TheVariants.{JournalFull};
-    ghost use Rattle.sja_bus.specs.Inside.Idling.{IsResting, after_bits};
+    ghost use Rattle.std.specs.Prelude.{◌≡◌, true, OnOk, IfErr};
+    ghost use Rattle.sja_bus.specs.Inside.Idling.{IsResting, IsFullAfter, after_bits};
 
     /// Whether the node is at rest, and its port is told all.
     fn is_resting(&self) -> bool
@@ -29,8 +27,7 @@ impl Seat {
     /// So many recessive bits of a node at rest: they change nothing but the journal.
     fn rest_for(&mut self, count: u32) -> Result<(), BusFault>
         ensures rested { OnOk result (self.new ≡ after_bits count self.old) }
-        ensures full { IfErr result (λ f. (f ≡ JournalFull (link_of self.old.ledger).node)
-            × (self.old.journal.room ≤ length self.new.journal.entries)) }
+        ensures full { IfErr result (λ f. IsFullAfter count self.old self.new f) }
     {
         for _ in 0..count {
             self.enter_bit(Level::Recessive, Level::Recessive)?;
@@ -59,7 +56,7 @@ pub(crate) fn are_resting<B: Board>(seats: &[Seat], board: &B) -> bool
 pub(crate) fn rest_all(seats: &mut [Seat], count: u32) -> Result<(), BusFault>
     requires ready { AreReady seats.old }
     ensures rested { OnOk result (seats.new ≡ all_after count seats.old) }
-    ensures full { IfErr result (λ f. IsFullBy seats.old seats.new f) }
+    ensures full { IfErr result (λ f. IsFullBy count seats.old seats.new f) }
 {
     for k in 0..seats.len() {
         seats[k].rest_for(count)?;

@@ -13,7 +13,7 @@ impl Bus {
     ghost use Rattle.sja_bus.specs.OneBit.{HasItems};
     ghost use Rattle.sja_bus.specs.Buses.{EachJournal, EachUntold, KeepsAll, AllDry, AllTold};
     ghost use Rattle.sja_bus.specs.Reasons.{IsNotTaken};
-    ghost use Rattle.sja_bus.specs.Stretches.{IsStretch, IsOutOfEntries};
+    ghost use Rattle.sja_bus.specs.Stretches.{IsStretch, IsOutOfEntries, IsFullInStretch};
 
     /// Runs bits at once as far as it can: nothing waits on any link.
     fn rest<B: Board>(&mut self, board: &B, count: u32) -> Result<u32, BusFault>
@@ -31,7 +31,7 @@ impl Bus {
         ensures right { OnOk result (self.new.fault ≡ None) }
         ensures fault { IfErr result (λ f. self.new.fault ≡ Some f) }
         ensures reason { IfErr result (λ f.
-            IsOutOfEntries (self.old.run + self.old.left) self.old.journals self.new.journals f) }
+            IsOutOfEntries (self.old.run + self.old.left) self.old.left self.old.journals self.new.journals f) }
     {
         let bits = self.struck.quiet_for(self.run, count.min(self.left));
         if bits == 0 || !are_resting(self.seats.as_slice(), board) {
@@ -85,7 +85,8 @@ impl Bus {
         ensures fault { IfErr result (λ f. self.new.fault ≡ Some f) }
         ensures reason { IfErr result (λ f. self.old.fault ≡ None →
             IsNotTaken E.stands (self.old.run + self.old.left) self.old.journals self.new.journals links.old links.new f
-            ⊎ IsOutOfEntries (self.old.run + self.old.left) self.old.journals self.new.journals f) }
+            ⊎ IsFullInStretch E.stands (self.old.run + self.old.left) self.old.left self.old.journals self.new.journals
+            links.old links.new f) }
         ensures stays { (f : Fault) → self.old.fault ≡ Some f →
             (result ≡ Err f) × (self.new ≡ self.old) × (links.new ≡ links.old) }
     {

@@ -2,6 +2,7 @@
 use Rattle.std.specs.Prelude.{◌≡◌, ◌≤◌, ◌<◌, ℕ, true, List, ◌++◌, length, map, slice_index_or}
 use Rattle.can_bits.specs.declared.level.Level.TheVariants.{Recessive}
 use Rattle.can_node.specs.Stands.{ShowsRest}
+use Rattle.sja_link.specs.BusLedgers.{link_of}
 use Rattle.sja_regs.specs.declared.orders.Orders.{Orders}
 use Rattle.sja_bus.specs.declared.bus_fault.BusFault.{BusFault}
 use Rattle.sja_bus.specs.declared.bus_fault.BusFault.TheVariants.{JournalFull}
@@ -27,10 +28,17 @@ after_bits count s = record s { journal = record s.journal { entries = s.journal
 abbrev pub all_after : ℕ → List Seat → List Seat
 all_after count seats = map (λ s. after_bits count s) seats
 
--- the journal of one of them was full
-pub record IsFullBy (seats now : List Seat) (f : BusFault) : Type 0 where
+-- with this fault a seat's journal is full after fewer such bits
+pub record IsFullAfter (count : ℕ) (old new : Seat) (f : BusFault) : Type 0 where
+  pub is : f ≡ JournalFull (link_of old.ledger).node
+  pub entered : ℕ
+  pub early : entered < count
+  pub grown : new.journal.entries ≡ old.journal.entries ++ recessive_bits entered
+  pub full : old.journal.room ≤ length new.journal.entries
+
+-- the journal of one of them is
+pub record IsFullBy (count : ℕ) (seats now : List Seat) (f : BusFault) : Type 0 where
   pub node : ℕ
   pub few : node < length seats
-  pub is : f ≡ JournalFull node
-  pub full : (s : Seat) →
-      (slice_index_or seats node s).journal.room ≤ length (slice_index_or now node s).journal.entries
+  pub own : (s : Seat) → (link_of (slice_index_or seats node s).ledger).node ≡ node
+  pub after : (s : Seat) → IsFullAfter count (slice_index_or seats node s) (slice_index_or now node s) f

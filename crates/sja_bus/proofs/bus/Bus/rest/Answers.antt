@@ -1,4 +1,4 @@
-use Rattle.std.proofs.Common.{◌≡◌, ◌+◌, ◌-◌, true, false, replicate, None, List, ◌++◌, length, take, drop, sym, ap, ◌∙◌, subst, arith, rules, ℕ}
+use Rattle.std.proofs.Common.{◌≡◌, ◌+◌, ◌-◌, ◌≤◌, true, false, replicate, None, List, ◌++◌, length, take, drop, sym, ap, ◌∙◌, subst, arith, rules, ℕ}
 use Rattle.std.proofs.lemmas.Grind.{common_steps}
 use Rattle.std.specs.Prelude.{vec_capacity}
 use Rattle.sja_bus.specs.declared.seat.Seat.{Seat}
@@ -101,11 +101,13 @@ returns-in-Err-clause-reason g c =
     let len : length now ≡ length was = c.rest_all.auto.seats ∙ ap (λ (l : List Seat). length l) v in
     let e : take b.seats.len (now ++ drop (length now) was) ≡ now = grind (arith, common_steps) in
     let right : b.fault ≡ None = ap (λ (x : BusValue). x.fault) c.self.view_is ∙ c.requires.right in
-    let F : List Seat → Type 0 = λ l. IsFullBy l now f in
-    let full : IsFullBy was now f = subst F v c.in-Err.ensures.full in
+    let n = c.quiet_for-bits.result in
+    let F : List Seat → Type 0 = λ l. IsFullBy n l now f in
+    let full : IsFullBy n was now f = subst F v c.in-Err.ensures.full in
+    let left : n ≤ b.left = let m = c.quiet_for-bits.ensures.most in let l = c.min.ensures in omega (arith, m, l) in
     let H : ℕ → Type 0 = λ m. HaveRoom (room_for m) was in
     let rooms : HaveRoom (room_for (b.run + b.left)) was = subst H (sym inv.bits) (inv.rooms right) in
-    let P : BusValue → Type 0 = λ x. IsOutOfEntries (x.run + x.left) x.journals (journals_of now) f in
+    let P : BusValue → Type 0 = λ x. IsOutOfEntries (x.run + x.left) x.left x.journals (journals_of now) f in
     let old = c.args.self.now in
-    let Q : List Seat → Type 0 = λ l. IsOutOfEntries (old.run + old.left) old.journals (journals_of l) f in
-    subst Q (sym e) (subst P c.self.view_is (out_of_entries (b.run + b.left) was now f len rooms full))
+    let Q : List Seat → Type 0 = λ l. IsOutOfEntries (old.run + old.left) old.left old.journals (journals_of l) f in
+    subst Q (sym e) (subst P c.self.view_is (out_of_entries (b.run + b.left) b.left n was now f len left rooms full))
