@@ -25,7 +25,7 @@ use Rattle.sja_bus.proofs.AtRest.{one_more}
 -- ---- by journals
 
 -- lists that agree at each place
-lists_same : {A : Type 0} (d : A) (xs ys : List A) → length ys ≡ length xs → ((i : ℕ) → i < length xs → slice_index_or ys i d ≡ slice_index_or xs i d) → ys ≡ xs
+pub lists_same : {A : Type 0} (d : A) (xs ys : List A) → length ys ≡ length xs → ((i : ℕ) → i < length xs → slice_index_or ys i d ≡ slice_index_or xs i d) → ys ≡ xs
 lists_same d [] [] len each = refl
 lists_same d [] (y ∷ ys) len each = absurd (omega arith)
 lists_same d (x ∷ xs) [] len each = absurd (omega arith)

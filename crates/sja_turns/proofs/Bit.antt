@@ -11,7 +11,6 @@ use Rattle.sja_link.specs.Parts.{part}
 use Rattle.sja_link.specs.Carried.{taken_of}
 use Rattle.sja_link.specs.Picking.{EachAfter}
 use Rattle.sja_link.specs.Places.{place_of}
-use Rattle.sja_link.specs.Verdicts.{IsLawful}
 use Rattle.sja_regs.specs.declared.bus_turn.BusTurn.{BusTurn}
 use Rattle.sja_regs.specs.declared.orders.Orders.{Orders}
 use Rattle.sja_regs.specs.declared.registers.Registers.{Registers}
@@ -33,7 +32,7 @@ use Rattle.sja_turns.specs.Linking.{IsLinked, IsLevel}
 use Rattle.sja_turns.specs.Nodes.{IsNode}
 use Rattle.sja_turns.specs.Porting.{IsPorted}
 use Rattle.sja_turns.proofs.Adding.{added, added_own, bit_whole, added_bits, added_put, added_due, added_off}
-use Rattle.sja_turns.proofs.BitAsked.{bit_asked}
+use Rattle.sja_turns.proofs.BitAsked.{HasCut, bit_asked}
 use Rattle.sja_turns.proofs.BitCounted.{bit_counted}
 use Rattle.sja_turns.proofs.BitPort.{ported_bit}
 use Rattle.sja_turns.proofs.Dry.{none_taken_own}
@@ -140,8 +139,8 @@ module _ (version : ℕ) (steps : List Step) (j k : List Entry) (deeds : List De
     patient = h.in_time.patient;
   }
 
-  -- its record had a cut, by which its verdicts were right, and its port's registers were as they always are
-  pub after_one_bit : IsLawful j → RegisterFacts p → IsNode version steps k deeds driver q after base
+  -- its record had a cut, and its port's registers were as they always are
+  pub after_one_bit : HasCut j → RegisterFacts p → IsNode version steps k deeds driver q after base
   after_one_bit lawful facts = record {
     traced = h.traced;
     linked = linked;

@@ -22,7 +22,6 @@ use Rattle.sja_link.specs.declared.entry.Entry.{Entry}
 use Rattle.sja_link.specs.declared.entry.Entry.TheVariants.{Bit, Abort, Stored, Overrun, Off}
 use Rattle.sja_link.specs.Places.{Place as Point, past, place_of}
 use Rattle.sja_link.specs.Records.{record_of}
-use Rattle.sja_link.specs.Verdicts.{IsLawful}
 use Rattle.sja_link.proofs.Entering.{record_push, place_push}
 use Rattle.sja_regs.specs.declared.bus_turn.BusTurn.{BusTurn}
 use Rattle.sja_regs.specs.declared.orders.Orders.{Orders}
@@ -39,6 +38,11 @@ use Rattle.sja_turns.specs.Asking.{IsAsked}
 use Rattle.sja_turns.proofs.OneMore.{bit_more, abort_more}
 use Rattle.sja_turns.proofs.OnceOff.{off_more}
 use Rattle.sja_turns.proofs.Requests.{Keeps, step_keeps, held_alike, ended_is}
+
+-- a journal whose record has a cut
+pub record HasCut (j : List Entry) : Type 0 where
+  pub found : List FinishedPiece
+  pub cut : IsCut (record_of j) found
 
 -- ---- the place of a journal with a bit more
 
@@ -148,7 +152,7 @@ either false false tbs e h = refl
 either false true tbs e h = let no : true ≡ false = h refl in absurd cc
 
 -- none is held where TBS was 1 already, or the abort left none
-opened_asked : (j opened : List Entry) (changed : Bool) (p : Registers) → opened ≡ j ++ abort_as changed → IsLawful j →
+opened_asked : (j opened : List Entry) (changed : Bool) (p : Registers) → opened ≡ j ++ abort_as changed → HasCut j →
     IsAsked j p →
     (found : List FinishedPiece) (cut : IsCut (record_of opened) found) →
     not (is_held (now_in cut).held) ≡ ((changed && not (is_held (now_in cut).held)) || p.tbs)
@@ -197,7 +201,7 @@ pub bit_asked : {has_orders : Orders → Type 0} {was_told : BusTurn → Type 0}
     (j k : List Entry) (driven seen : Level) (p q : Registers) →
     (bit : IsNodeBit has_orders was_told was_kept untold j k driven seen) → bit.opens.taken ≡ j →
     ((turn : BusTurn) → was_told turn → q ≡ after_turn p turn) → (was_kept → q ≡ p) →
-    IsLawful j → RegisterFacts p → p.activation ≡ (place_of j).activation → IsAsked j p → IsAsked k q
+    HasCut j → RegisterFacts p → p.activation ≡ (place_of j).activation → IsAsked j p → IsAsked k q
 bit_asked untold j k driven seen p q bit none told kept lawful facts activation asked others c =
     let turn = bit.turn in let t = bit.is_turn in let opened = bit.opened in let changed = bit.opens.aborts.changed in
     let whole = opened_as untold j k driven seen bit none in
@@ -231,7 +235,7 @@ bit_asked untold j k driven seen p q bit none told kept lawful facts activation 
 pub board_asked : (old new : List Registers) (node : ℕ) (d : Registers) (untold : Bool) (j k : List Entry)
     (driven seen : Level)
     (bit : IsNodeBit (HasOrders old node) (WasTold old new node) (WasKept old new node) untold j k driven seen) →
-    bit.opens.taken ≡ j → IsLawful j → RegisterFacts (slice_index_or old node d) →
+    bit.opens.taken ≡ j → HasCut j → RegisterFacts (slice_index_or old node d) →
     (slice_index_or old node d).activation ≡ (place_of j).activation → IsAsked j (slice_index_or old node d) →
     IsAsked k (slice_index_or new node d)
 board_asked old new node d untold j k driven seen bit none lawful facts activation asked =

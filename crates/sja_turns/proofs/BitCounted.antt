@@ -19,7 +19,6 @@ use Rattle.sja_link.specs.declared.entry.Entry.TheVariants.{Bit, Up as Item, Abo
 use Rattle.sja_link.specs.Gathering.{gathered, total}
 use Rattle.sja_link.specs.Places.{Place as Point, first_place, past, past_all, place_of, placed_from}
 use Rattle.sja_link.specs.Records.{told, told_at, record_of}
-use Rattle.sja_link.specs.Verdicts.{IsLawful}
 use Rattle.sja_link.proofs.Entering.{record_push, record_counted}
 use Rattle.sja_link.proofs.Freeing.{total_append, total_push}
 use Rattle.sja_regs.specs.declared.bus_turn.BusTurn.{BusTurn}
@@ -36,7 +35,7 @@ use Rattle.sja_turns.specs.Counted.{item_in, verdict_in, off_in, abort_in, asks_
 use Rattle.sja_turns.proofs.OneMore.{abort_more}
 use Rattle.sja_turns.proofs.OnceOff.{is_off, is_off_both, offs, offs_both, left, off_once}
 use Rattle.sja_turns.proofs.Requests.{Keeps}
-use Rattle.sja_turns.proofs.BitAsked.{place_abort, place_bit, opened_as, bit_keeps}
+use Rattle.sja_turns.proofs.BitAsked.{HasCut, place_abort, place_bit, opened_as, bit_keeps}
 
 -- ---- bus-off, of every journal whose record has a cut
 
@@ -158,7 +157,7 @@ changed_at j changed is applied found cut =
 
 -- as the bit began: an abort that was entered, and what can change still
 opened_counted : (j opened : List Entry) (changed : Bool) (abort : Bool) (most : ℕ) → opened ≡ j ++ abort_as changed →
-    IsLawful j → (changed ≡ true → abort ≡ true) →
+    HasCut j → (changed ≡ true → abort ≡ true) →
     (abort ≡ true → IsApplied j changed) →
     ((found : List FinishedPiece) (cut : IsCut (record_of j) found) → total abort_in j + pending abort
     (now_in cut) ≤ most) →
@@ -197,7 +196,7 @@ pub bit_counted : {has_orders : Orders → Type 0} {was_told : BusTurn → Type 
     (bit : IsNodeBit has_orders was_told was_kept untold j k driven seen) → bit.opens.taken ≡ j →
     ((orders : Orders) → has_orders orders → orders.abort ≡ p.abort) →
     ((turn : BusTurn) → was_told turn → q ≡ after_turn p turn) → (was_kept → q ≡ p) →
-    IsLawful j → IsCounted j deeds p → IsCounted k deeds q
+    HasCut j → IsCounted j deeds p → IsCounted k deeds q
 bit_counted untold j k driven seen deeds p q bit none orders told kept lawful h =
     let opened = bit.opened in let changed = bit.opens.aborts.changed in let one = bit.bit in let t = bit.is_turn in
     let whole = opened_as untold j k driven seen bit none in
@@ -242,7 +241,7 @@ bit_counted untold j k driven seen deeds p q bit none orders told kept lawful h 
 pub board_counted : (old new : List Registers) (node : ℕ) (d : Registers) (untold : Bool) (j k : List Entry)
     (driven seen : Level) (deeds : List Deed)
     (bit : IsNodeBit (HasOrders old node) (WasTold old new node) (WasKept old new node) untold j k driven seen) →
-    bit.opens.taken ≡ j → IsLawful j → IsCounted j deeds (slice_index_or old node d) →
+    bit.opens.taken ≡ j → HasCut j → IsCounted j deeds (slice_index_or old node d) →
     IsCounted k deeds (slice_index_or new node d)
 board_counted old new node d untold j k driven seen deeds bit none lawful h =
     bit_counted untold j k driven seen deeds (slice_index_or old node d) (slice_index_or new node d) bit none

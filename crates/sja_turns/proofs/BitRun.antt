@@ -18,6 +18,7 @@ use Rattle.sja_bus.specs.Lawful.{IsBusRun}
 use Rattle.sja_bus.specs.Links.{per_node, EachRelated}
 use Rattle.sja_bus.specs.Wire.{journal_at}
 use Rattle.sja_bus.proofs.Lists.{each_length, each_at}
+use Rattle.sja_script.specs.declared.strike.Strike.{Strike}
 use Rattle.sja_plan.specs.Plan.{PlanValue}
 use Rattle.sja_driver.specs.declared.logged_driver.LoggedDriver.{LoggedDriver}
 use Rattle.sja_driver.specs.Deeds.{Deed}
@@ -25,7 +26,12 @@ use Rattle.sja_driver.specs.LoggedDrivers.{node_of}
 use Rattle.sja_turns.specs.Bits.{HasOneBit, TakesBit}
 use Rattle.sja_turns.specs.Nodes.{IsNode}
 use Rattle.sja_turns.specs.Serial.{SerialValue, StandsAt, steps_at, deeds_at}
+use Rattle.sja_turns.proofs.BitAsked.{HasCut}
 use Rattle.sja_turns.proofs.Bit.{BitOf, after_one_bit, one_bit}
+
+-- each journal of a lawful bus has a cut
+pub cuts_of : {script : List Strike} {run : ℕ} {journals : List (List Entry)} → IsBusRun script run journals → (m : ℕ) → m < length journals → HasCut (journal_at journals m)
+cuts_of h m less = let l = h.lawful m less in record { found = l.found; cut = l.cut }
 
 -- some element
 pub some_of : {A : Type 0} (xs : List A) (i : ℕ) → i < length xs → A
@@ -63,7 +69,7 @@ module _ (plan : PlanValue) (r n : SerialValue) (deeds : List (List Deed)) (h : 
     (run : n.bus.run ≡ r.bus.run + 1) (left : n.bus.left + 1 ≡ r.bus.left) (journals : length n.bus.journals ≡ length r.bus.journals) (drivers_are : n.drivers ≡ r.drivers) (bits_are : n.bits ≡ r.bits + 1)
     (ports : length n.ports ≡ length r.ports) (kept : KeepsAll Lies r.bus.journals n.bus.journals r.links n.links) (sames : EachRelated (λ (a b : Deques). b.link ≡ a.link) r.links n.links)
     (bit : IsBit (HasOrders r.ports) (WasTold r.ports n.ports) (WasKept r.ports n.ports) r.bus.script r.bus.run r.bus.untold r.bus.journals n.bus.journals)
-    (was : IsBusRun r.bus.script r.bus.run r.bus.journals) (facts : (m : ℕ) (d : Registers) → m < length r.ports → RegisterFacts (slice_index_or r.ports m d)) where
+    (cuts : (m : ℕ) → m < length r.bus.journals → HasCut (journal_at r.bus.journals m)) (facts : (m : ℕ) (d : Registers) → m < length r.ports → RegisterFacts (slice_index_or r.ports m d)) where
   many : length n.links ≡ length r.links
   many = each_length (λ (a b : Deques). b.link ≡ a.link) r.links n.links sames
 
@@ -85,7 +91,7 @@ module _ (plan : PlanValue) (r n : SerialValue) (deeds : List (List Deed)) (h : 
     node_now =
         after_one_bit plan.version (steps_at plan m) (journal_at r.bus.journals m) (journal_at n.bus.journals m) (deeds_at deeds m) (slice_index_or r.drivers m d) (slice_index_or r.ports m p) (slice_index_or n.ports m p)
         r.links n.links (8 * m) no_link (untold_at r.bus.untold m) (slice_index_or bit.driven m Recessive) (bit.seen m) (h.nodes m d p less) here (λ acc. kept m acc (inside m less))
-        (was.lawful m (inside m less)) (facts m p (let c = h.count.ports in omega (arith, c, less)))
+        (cuts m (inside m less)) (facts m p (let c = h.count.ports in omega (arith, c, less)))
 
   stands_now : StandsAt plan n deeds
   stands_now = record {

@@ -43,6 +43,7 @@ pub mod Adding
 pub mod BitPort
 pub mod Bit
 pub mod BitRun
+pub mod AtOnce
 pub mod Lying
 pub mod Unstopped
 pub mod SomeBits

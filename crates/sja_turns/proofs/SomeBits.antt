@@ -1,13 +1,15 @@
 -- Bits of a run, one after another.
-use Rattle.std.proofs.Common.{◌≡◌, ℕ, suc, ◌+◌, ◌<◌, ◌≤◌, Bool, true, false, List, length, subst, refl, arith}
+use Rattle.std.proofs.Common.{◌≡◌, ℕ, zero, suc, ◌+◌, ◌<◌, ◌≤◌, Bool, true, false, List, length, subst, refl, arith}
+use Rattle.sja_link.specs.declared.entry.Entry.{Entry}
 use Rattle.sja_link.specs.Records.{record_of}
 use Rattle.sja_bus.specs.Resting.{RestsAs}
 use Rattle.sja_bus.specs.Wire.{journal_at}
 use Rattle.sja_plan.specs.Plan.{PlanValue}
 use Rattle.sja_driver.specs.Deeds.{Deed}
-use Rattle.sja_turns.specs.Bits.{TakesBit, TakesBits, AllRest, SomeWorks, TakesBusTurn, TakesRest}
+use Rattle.sja_turns.specs.Bits.{HasOneBit, TakesBit, TakesBits, TakesAtOnce, AllRest, SomeWorks, TakesBusTurn, TakesRest}
 use Rattle.sja_turns.specs.Bits.TakesBits.{no_bit, one_more}
 use Rattle.sja_turns.specs.Serial.{SerialValue, StandsAt}
+use Rattle.sja_turns.proofs.GoingOn.{bits_run, stands_bits}
 
 -- so many were run
 pub record SomeBits (plan : PlanValue) (deeds : List (List Deed)) (Before : SerialValue → Type 0) (r n : SerialValue) (count : ℕ) : Type 0 where
@@ -25,6 +27,25 @@ bits_more plan deeds Before r m n count s before t =
     let k = s.many in let b = t.bits in record {
       bits = subst (λ (c : ℕ). TakesBits plan deeds Before r c n) one (one_more r m n count s.bits before t);
       stands = t.stands;
+      many = omega (arith, k, b);
+    }
+
+-- and so many more
+pub bits_then : (plan : PlanValue) (deeds : List (List Deed)) (Before : SerialValue → Type 0) (r m n : SerialValue) (count more : ℕ) → TakesBits plan deeds Before r count m → TakesBits plan deeds Before m more n →
+    TakesBits plan deeds Before r (more + count) n
+bits_then plan deeds Before r m n count zero s (no_bit _) = let e : count ≡ 0 + count = omega arith in subst (λ (c : ℕ). TakesBits plan deeds Before r c m) e s
+bits_then plan deeds Before r m n count (suc more) s (one_more _ mid _ _ before holds bit) =
+    let e : suc (more + count) ≡ suc more + count = omega arith in
+    subst (λ (c : ℕ). TakesBits plan deeds Before r c n) e (one_more r mid n (more + count) (bits_then plan deeds Before r m mid count more s before) holds bit)
+
+pub some_then : (plan : PlanValue) (deeds : List (List Deed)) (Before : SerialValue → Type 0) (r m n : SerialValue) (count more : ℕ) → SomeBits plan deeds Before r m count → TakesBits plan deeds Before m more n →
+    SomeBits plan deeds Before r n (count + more)
+some_then plan deeds Before r m n count more s t =
+    let both = bits_then plan deeds Before r m n count more s.bits t in
+    let k = s.many in let b = bits_run plan deeds Before m n more t in
+    let e : more + count ≡ count + more = omega arith in record {
+      bits = subst (λ (c : ℕ). TakesBits plan deeds Before r c n) e both;
+      stands = stands_bits plan deeds Before m n more t s.stands;
       many = omega (arith, k, b);
     }
 
@@ -63,3 +84,21 @@ pub rest_end : (plan : PlanValue) (deeds : List (List Deed)) (r n : SerialValue)
     TakesRest plan deeds r n rests
 rest_end plan deeds r n run rests all busy spent s =
     let w = bits_within plan n deeds s.stands in record { run = run; bits = s.bits; whole = all; spent = λ no. (busy no, omega (arith, spent, w)) }
+
+-- ---- bits at once, or one
+
+-- what one bit is of a run that it left as it was before
+one_after : (plan : PlanValue) (deeds : List (List Deed)) (r m n : SerialValue) → (m.bits ≡ r.bits) × (m.bus.journals ≡ r.bus.journals) → TakesBit plan deeds m n → TakesBit plan deeds r n
+one_after plan deeds r m n same t =
+    let b = t.bits in let e = same.0 in record {
+      stands = t.stands;
+      bits = omega (arith, b, e);
+      nodes = λ k less. subst (λ (l : List (List Entry)). HasOneBit (journal_at l k) (journal_at n.bus.journals k)) same.1 (t.nodes k less);
+    }
+
+pub just_one : (plan : PlanValue) (deeds : List (List Deed)) (r n : SerialValue) → TakesBit plan deeds r n → TakesBits plan deeds (λ x. Unit {0}) r 1 n
+just_one plan deeds r n t = one_more r r n 0 (no_bit r) tt t
+
+-- none could be run at once, and then one was run
+pub none_then_one : (plan : PlanValue) (deeds : List (List Deed)) (r m n : SerialValue) (most run : ℕ) → TakesAtOnce plan deeds r m most run → run ≡ 0 → TakesBit plan deeds m n → TakesBits plan deeds (λ x. Unit {0}) r 1 n
+none_then_one plan deeds r m n most run once is_none t = just_one plan deeds r n (one_after plan deeds r m n (once.none is_none) t)

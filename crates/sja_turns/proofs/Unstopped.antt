@@ -1,10 +1,12 @@
 -- No bit of a run breaks off: nothing waits to be taken, no journal is full, and no link gives back what is put there.
-use Rattle.std.proofs.Common.{◌≡◌, ℕ, suc, ◌+◌, ◌*◌, ◌<◌, ◌≤◌, Bool, true, false, List, [], ◌∷◌, ◌++◌, length, refl, sym, ap, ◌∙◌, subst, append_assoc, arith}
-use Rattle.std.specs.Prelude.{slice_index_or}
-use Rattle.std.proofs.lemmas.List.{length-append}
+use Rattle.std.proofs.Common.{◌≡◌, ℕ, suc, ◌+◌, ◌*◌, ◌<◌, ◌≤◌, Bool, true, false, List, [], ◌∷◌, ◌++◌, length, refl, sym, ap, ◌∙◌, subst, append_assoc, inl, inr, arith}
+use Rattle.std.specs.Prelude.{◌⊎◌, slice_index_or}
+use Rattle.std.proofs.lemmas.List.{length-append, length-replicate}
+use Rattle.can_bits.specs.declared.level.Level.TheVariants.{Recessive}
 use Rattle.std.proofs.lemmas.List.Elements.{All-get_or}
 use Rattle.sja_link.specs.declared.up.Up.{Up}
 use Rattle.sja_link.specs.declared.entry.Entry.{Entry}
+use Rattle.sja_link.specs.declared.entry.Entry.TheVariants.{Bit}
 use Rattle.sja_link.specs.Accounts.{Account, account}
 use Rattle.sja_link.specs.Deques.{Deques, Lies}
 use Rattle.sja_link.specs.Parts.{part}
@@ -22,6 +24,7 @@ use Rattle.sja_bus.specs.Links.{Kept, stops_of}
 use Rattle.sja_bus.specs.OneBit.{HasItems, abort_as}
 use Rattle.sja_bus.specs.Reasons.{GivesBack, IsNotTaken, IsNotAborted, IsBrokenOff, IsBrokenFor, StopsBit, room_for}
 use Rattle.sja_bus.specs.Reasons.StopsBit.{spent, not_taken, not_aborted, broken_off}
+use Rattle.sja_bus.specs.Stretches.{recessive_bits, IsFullInStretch}
 use Rattle.sja_bus.specs.Wire.{journal_at}
 use Rattle.sja_plan.specs.Plan.{PlanValue, IsInLimits}
 use Rattle.sja_driver.specs.declared.logged_driver.LoggedDriver.{LoggedDriver}
@@ -73,18 +76,19 @@ module _ (plan : PlanValue) (r : SerialValue) (deeds : List (List Deed)) (h : St
     before : (a : ℕ) → a < 8 → given a ≡ taken_of (part (journal_at r.bus.journals m) (suc a))
     before a small = given_taken (deeds_at deeds m) (journal_at r.bus.journals m) (suc a) (node.in_time.when (suc a))
 
-    -- there is room for an abort, the bit, a verdict and bus-off
-    room : length (journal_at r.bus.journals m) + 4 ≤ room_for plan.bits
-    room =
+    entries : length (journal_at r.bus.journals m) + 3 ≤ 2 * r.bus.run + 2100
+    entries =
         let j = journal_at r.bus.journals m in let ds = deeds_at deeds m in
         let steps : length (steps_at plan m) ≤ 1000 = All-get_or (λ (steps : List Step). length steps ≤ 1000) plan.nodes m [] less limits.steps in
         let within = node.traced.within in
         let opened = opened_most ds (driver_of (slice_index_or r.drivers m driver)) (log_of (slice_index_or r.drivers m driver)) (node_of (slice_index_or r.drivers m driver)) (ended_of (slice_index_or r.drivers m driver)) node.traced.traces node.traced.lawful in
         let begun = node.linked.level.begun in
         let bits : (place_of j).bits ≡ r.bus.run = bits_counted j ∙ was.wired.count m few in
-        let has : length j + 3 ≤ 2 * r.bus.run + 2100 =
-        has_room j ds (slice_index_or r.ports m (at_power_on plan.version)) r.bus.run node.counted (was.lawful m few) node.traced.traces.answered.gives (omega (arith, within, steps)) (omega (arith, opened, begun)) (omega (arith, bits)) in
-        let a = h.bits in omega (arith, has, a, left)
+        has_room j ds (slice_index_or r.ports m (at_power_on plan.version)) r.bus.run node.counted (was.lawful m few) node.traced.traces.answered.gives (omega (arith, within, steps)) (omega (arith, opened, begun)) (omega (arith, bits))
+
+    -- there is room for an abort, the bit, a verdict and bus-off
+    room : length (journal_at r.bus.journals m) + 4 ≤ room_for plan.bits
+    room = let has = entries in let a = h.all_bits in let b = h.bits in omega (arith, has, a, b, left)
 
     -- an item that was refused would wait
     nothing_shown : (t : List Entry) (items : HasItems (journal_at r.bus.journals m) t) (item : Up) (up : List Up) → stops_of t < 8 →
@@ -161,3 +165,26 @@ module _ (plan : PlanValue) (r : SerialValue) (deeds : List (List Deed)) (h : St
   never_stops orders_are now after f (not_taken x) = no_item now after f x
   never_stops orders_are now after f (not_aborted x) = no_abort now after f x
   never_stops orders_are now after f (broken_off x) = not_broken orders_are now f x
+
+  -- ---- bits that are run at once
+
+  -- and there is room for all bits that are left
+  never_full : (now : BusValue) (after : List Deques) (f : BusFault) → IsFullInStretch Lies (r.bus.run + r.bus.left) r.bus.left r.bus.journals now.journals r.links after f → ⊥
+  never_full now after f x =
+      let o = x.out in let m = o.node in
+      let small : m < length r.bus.journals = let l = o.few in let c = x.count in omega (arith, l, c) in
+      let j = journal_at r.bus.journals m in
+      let t = journal_at x.taken m in
+      let same : t ≡ j = none_taken j t (x.items m small) (given m small) (before m small) (λ a. (slice_index_or after (8 * m + a) no_link).up)
+      (λ a few. (x.kept m (acc m small) small (kept_before m small) a no_link few).1) in
+      let l = ap (λ (s : List Entry). length s) same in
+      let grown = ap (λ (s : List Entry). length s) o.grown ∙ length-append t (recessive_bits o.entered) in
+      let bits : length (recessive_bits o.entered) ≡ o.entered = length-replicate o.entered (Bit Recessive Recessive) in
+      let has = entries m small in let early = o.early in let full = o.full in
+      omega (arith, l, grown, bits, has, early, full)
+
+  pub never_refused : (now : BusValue) (after : List Deques) (f : BusFault) →
+      IsNotTaken Lies (r.bus.run + r.bus.left) r.bus.journals now.journals r.links after f
+      ⊎ IsFullInStretch Lies (r.bus.run + r.bus.left) r.bus.left r.bus.journals now.journals r.links after f → ⊥
+  never_refused now after f (inl x) = no_item now after f x
+  never_refused now after f (inr x) = never_full now after f x

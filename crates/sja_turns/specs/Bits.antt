@@ -1,5 +1,5 @@
 -- What bits do to a run in one thread (this project's own rule).
-use Rattle.std.specs.Prelude.{◌≡◌, ◌+◌, ◌<◌, ◌++◌, ℕ, suc, true, false, Bool, List, length}
+use Rattle.std.specs.Prelude.{◌≡◌, ◌≢◌, ◌+◌, ◌<◌, ◌≤◌, ◌++◌, ℕ, suc, true, false, Bool, List, length}
 use Rattle.can_bits.specs.declared.level.Level.{Level}
 use Rattle.sja_link.specs.declared.entry.Entry.{Entry}
 use Rattle.sja_link.specs.Records.{record_of}
@@ -30,6 +30,14 @@ pub data TakesBits (plan : PlanValue) (deeds : List (List Deed)) (Before : Seria
   no_bit : (r : SerialValue) → TakesBits plan deeds Before r 0 r
   one_more : (was mid now : SerialValue) (n : ℕ) → TakesBits plan deeds Before was n mid → Before mid →
       TakesBit plan deeds mid now → TakesBits plan deeds Before was (suc n) now
+
+-- so many bits were run at once, at most as many as were asked for. Where there were none, neither the bits nor a journal
+-- changed
+pub record TakesAtOnce (plan : PlanValue) (deeds : List (List Deed)) (was now : SerialValue) (most run : ℕ) : Type 0 where
+  pub within : run ≤ most
+  pub stands : StandsAt plan now deeds
+  pub none : run ≡ 0 → (now.bits ≡ was.bits) × (now.bus.journals ≡ was.bus.journals)
+  pub some : run ≢ 0 → TakesBits plan deeds (λ r. Unit {0}) was run now
 
 -- every node is at rest
 abbrev pub AllRest : PlanValue → SerialValue → Type 0

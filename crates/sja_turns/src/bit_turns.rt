@@ -23,7 +23,7 @@ impl SerialRun {
     ghost use Rattle.sja_bus.specs.Resting.{RestsAs};
     ghost use Rattle.sja_bus.specs.Wire.{journal_at};
     ghost use Rattle.sja_driver.specs.Deeds.{Deed};
-    ghost use Rattle.sja_turns.specs.Bits.{TakesBit, TakesBusTurn, TakesRest};
+    ghost use Rattle.sja_turns.specs.Bits.{TakesBit, TakesBits, TakesAtOnce, TakesBusTurn, TakesRest};
     ghost use Rattle.sja_turns.specs.Serial.{StandsAt, IsRunOf};
 
     /// Whether no bit is left.
@@ -60,6 +60,65 @@ impl SerialRun {
         }
     }
 
+    /// Up to so many of the next bits at once, as far as every node is at rest in them, nothing is to be told and no
+    /// strike falls. It says how many.
+    fn run_at_once(&mut self, plan: &Plan, count: u32) -> u32
+        requires run { IsRunOf plan.now self.old }
+        requires left { self.old.bits < plan.now.bits }
+        ensures { (deeds : List (List Deed)) → StandsAt plan.now self.old deeds →
+            TakesAtOnce plan.now deeds self.old self.new count result }
+    {
+        plan.limits();
+        self.bus.keeps_its_laws();
+        keep_their_facts(self.board.ports.as_slice());
+        match self
+            .bus
+            .quiet_bits(self.links.as_mut_slice(), &self.board, count)
+        {
+            Ok(bits) => {
+                self.bits += bits;
+                bits
+            }
+            Err(_) => unreachable!(),
+        }
+    }
+
+    /// The next bits, at most so many: as many as can be run at once, or one where none can. It says how many.
+    fn run_resting(&mut self, plan: &Plan, count: u32) -> u32
+        requires run { IsRunOf plan.now self.old }
+        requires left { self.old.bits < plan.now.bits }
+        requires some { 1 ≤ count }
+        ensures some { 1 ≤ result }
+        ensures most { result ≤ count }
+        ensures bits { (deeds : List (List Deed)) → StandsAt plan.now self.old deeds →
+            TakesBits plan.now deeds (λ r. Unit {0}) self.old result self.new }
+    {
+        let bits = self.run_at_once(plan, count);
+        if bits == 0 {
+            self.run_bit(plan);
+            return 1;
+        }
+        bits
+    }
+
+    /// The next bits, at most so many: one where some node works, and else as many as can be run at once. It says how
+    /// many.
+    fn run_bits(&mut self, plan: &Plan, count: u32) -> u32
+        requires run { IsRunOf plan.now self.old }
+        requires left { self.old.bits < plan.now.bits }
+        requires some { 1 ≤ count }
+        ensures some { 1 ≤ result }
+        ensures most { result ≤ count }
+        ensures bits { (deeds : List (List Deed)) → StandsAt plan.now self.old deeds →
+            TakesBits plan.now deeds (λ r. Unit {0}) self.old result self.new }
+    {
+        if self.rests() {
+            return self.run_resting(plan, count);
+        }
+        self.run_bit(plan);
+        1
+    }
+
     /// `bus`: so many bits, or as many as are left. It says whether all were run.
     pub fn bus_turn(&mut self, plan: &Plan, count: u32) -> bool
         requires run { IsRunOf plan.now self.old }
@@ -67,11 +126,12 @@ impl SerialRun {
             TakesBusTurn plan.now deeds self.old self.new count result }
         ensures stays { IsRunOf plan.now self.new }
     {
-        for _ in 0..count {
+        let mut run = 0;
+        while run < count {
             if self.is_spent(plan) {
                 return false;
             }
-            self.run_bit(plan);
+            run += self.run_bits(plan, count - run);
         }
         true
     }

@@ -7,7 +7,7 @@ use Rattle.sja_regs.specs.Facts.{RegisterFacts}
 use Rattle.sja_bus.specs.Boards.{HasOrders}
 use Rattle.sja_turns.specs.Bits.{TakesBit}
 use Rattle.sja_turns.specs.Serial.{SerialValue, StandsAt, run_now}
-use Rattle.sja_turns.proofs.BitRun.{takes_bit}
+use Rattle.sja_turns.proofs.BitRun.{cuts_of, takes_bit}
 use Rattle.sja_turns.proofs.Unstopped.{never_stops}
 use Rattle.sja_turns.proofs.serial_run.SerialRun.run_bit.Goals as goal
 
@@ -21,7 +21,7 @@ returns c = λ deeds h.
     let facts : (m : ℕ) (d : Registers) → m < length ports → RegisterFacts (slice_index_or ports m d) =
     subst (λ (l : List Registers). (m : ℕ) (d : Registers) → m < length l → RegisterFacts (slice_index_or l m d)) c.as_slice.ensures.value c.keep_their_facts.ensures in
     let t : TakesBit c.args.plan.now deeds r n = takes_bit c.args.plan.now r n deeds stood c.in-Ok.ensures.right c.bit.ensures.script c.in-Ok.ensures.bits.0 c.in-Ok.ensures.bits.1 c.bit.ensures.nodes refl refl
-    c.bit.ensures.others.0 c.in-Ok.ensures.kept c.bit.ensures.sames c.in-Ok.ensures.bit (c.keeps_its_laws.ensures stood.right) facts in
+    c.bit.ensures.others.0 c.in-Ok.ensures.kept c.bit.ensures.sames c.in-Ok.ensures.bit (cuts_of (c.keeps_its_laws.ensures stood.right)) facts in
     let l : (with_items c.self.inside.links c.bit.new.links).items ≡ c.bit.new.links = with_items_is c.self.inside.links c.bit.new.links (omega (arith, c.bit.auto.links, c.as_mut_slice.ensures.len)) in
     let after : n ≡ run_now c.bit.new.self drivers c.bit.new.board.ports.items (with_items c.self.inside.links c.bit.new.links).items (bits + 1) =
     λ i. run_now c.bit.new.self drivers c.bit.new.board.ports.items (sym l i) (bits + 1) in
