@@ -16,6 +16,7 @@ mod board;
 mod board_laws;
 mod bus;
 mod bus_fault;
+mod gathering;
 mod heard;
 mod hearing;
 mod idling;
@@ -32,6 +33,7 @@ mod struck_bits;
 mod struck_nodes;
 mod taking;
 mod telling;
+mod ticking;
 
 pub use board::Board;
 pub use board_laws::{

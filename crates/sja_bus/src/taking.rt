@@ -17,7 +17,7 @@ impl Seat {
     ghost use Rattle.sja_bus.specs.Links.{Moves};
     ghost use Rattle.sja_bus.specs.declared.news.News.TheVariants.{Changed};
     ghost use Rattle.sja_bus.specs.OutOfOrder.{IsOutOfOrder};
-    ghost use Rattle.sja_bus.specs.Inside.Seats.{IsSound, IsOwed, IsSeat};
+    ghost use Rattle.sja_bus.specs.Inside.Seats.{IsOwed, IsSeat, IsReady};
     ghost use Rattle.sja_bus.specs.Inside.Taking.{Takes, Refuses, RefusesHere};
 
     /// A start was taken.
@@ -99,6 +99,7 @@ impl Seat {
     }
 
     /// An item was taken.
+    #[inline(never)]
     fn note(&mut self, item: Up) -> Result<(), BusFault>
         requires owed { IsOwed self.old (Item item) }
         requires seat { IsSeat self.old }
@@ -120,14 +121,12 @@ impl Seat {
     /// Takes one item from the link that is read. False where it shows none.
     pub(crate) fn take<E: BusEnd>(&mut self, end: &mut E) -> Result<bool, BusFault>
         requires id { E.link end.old ≡ link_of self.old.ledger }
-        requires sound { IsSound self.old }
-        requires seat { IsSeat self.old }
+        requires ready { IsReady self.old }
         requires more { self.old.ended < 8 }
         ensures same { E.same end.old end.new }
         ensures node { (link_of self.new.ledger).node ≡ (link_of self.old.ledger).node }
         ensures room { self.new.journal.room ≡ self.old.journal.room }
-        ensures sound { OnOk result (IsSound self.new) }
-        ensures seat { OnOk result (IsSeat self.new) }
+        ensures ready { OnOk result (IsReady self.new) }
         ensures moves { OnOk result (Moves E.stands end.old end.new self.old.journal.entries self.new.journal.entries (suc self.old.ended)) }
         ensures some { result ≡ Ok true → (item : Given)
             × (self.new.journal.entries ≡ self.old.journal.entries ++ Item item ∷ [])
@@ -143,6 +142,7 @@ impl Seat {
             Ok(Some(item)) => {
                 self.note(item)?;
                 self.news = News::Changed;
+                self.drives = self.node.drive();
                 Ok(true)
             }
             Err(BadCredit(bytes)) => Err(BusFault::BadCredit(self.number(), bytes)),

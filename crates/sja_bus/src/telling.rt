@@ -56,7 +56,7 @@ impl Seat {
     }
 
     /// Tells the port what a bit brought: nothing is left to be told.
-    #[inline(never)]
+    #[inline(always)]
     pub(crate) fn tell<B: Board>(&mut self, board: &mut B, heard: Heard)
         requires seat { IsSeat self.old }
         requires sound { IsSound self.old }

@@ -1,15 +1,15 @@
-use Rattle.std.proofs.Common.{◌≡◌, ℕ, rules, refl, sym, ap, ◌∙◌, subst}
+use Rattle.std.proofs.Common.{◌≡◌, rules, refl, ap, ◌∙◌, subst}
+use Rattle.std.specs.Prelude.{OnOk}
 use Rattle.can_node.specs.declared.node.Node.{Node}
 use Rattle.can_node.specs.Stands.{DrivesNext, is_receiving}
 use Rattle.sja_link.specs.declared.entry.Entry.TheVariants.{Bit}
 use Rattle.sja_bus.specs.declared.seat.Seat.{Seat}
-use Rattle.sja_bus.specs.Inside.Seats.{IsReady}
 use Rattle.sja_bus.specs.Inside.Turning.{Turns}
 use Rattle.sja_bus.proofs.seat.Seat.tick.Goals.{in-Nothing+else-sample_quietly, in_default}
 use Rattle.sja_bus.proofs.Lists.{each_refl}
 use Rattle.sja_bus.proofs.Moving.{goes_quiet}
 use Rattle.sja_link.specs.BusLedgers.{link_of}
-use Rattle.sja_bus.proofs.Turning.{quiet_turns, full_turns}
+use Rattle.sja_bus.proofs.Turning.{quiet_turns}
 use Rattle.sja_bus.proofs.Quiet.{quiet_sound}
 use Rattle.sja_bus.proofs.seat.Seat.tick.Goals as goal
 
@@ -54,24 +54,6 @@ returns-clause-turns g c =
       | in-Nothing+else-sample_quietly w ↦ w.self-is ∙ ap (λ (n : Node). let x : Seat = record s { node = n } in x) (w.sample_quietly.ensures.same w.if-sample_quietly.false)
       | in_default w ↦ w.self-is
     ] in
-    let mid : Seat = record c.full_bit.new.self { drives = c.drive-self-2.result } in
-    let node = (link_of s.ledger).node in
-    let did = c.in_ok-heard.ensures in
-    let number : (link_of mid.ledger).node ≡ node = c.full_bit.ensures.node ∙ ap (λ (x : Seat). (link_of x.ledger).node) same in
-    let T : ℕ → Type 0 = λ n. B.told c.args.board.now c.tell.new.board n c.tell.ensures.told.0 in
-    let R : Seat → Type 0 = λ x. IsReady x in
-    let was : Seat → Type 0 = λ x. Turns (B.told c.args.board.now c.tell.new.board node) (B.kept c.args.board.now c.tell.new.board node) c.args.seen x c.tell.new.self in
-    let now : Seat → Type 0 = λ x. Turns (B.told c.args.board.now c.tell.new.board node) (B.kept c.args.board.now c.tell.new.board node) c.args.seen then x in
-    subst was same (subst now (sym c.tell.ensures.seat)
-    (full_turns (B.told c.args.board.now c.tell.new.board node) (B.kept c.args.board.now c.tell.new.board node) c.args.seen then mid c.in_ok-heard.heard c.tell.ensures.told.0
-    (subst T number c.tell.ensures.told.1) (subst R (sym same) c.requires.ready) did.news did.samples did.brings did.sound.reads.begun c.tell.ensures.told.2))
-
-pub returns-clause-ready : goal.returns-clause-ready
-returns-clause-ready g c =
-    let did = c.in_ok-heard.ensures in
-    let R : Seat → Type 0 = λ x. IsReady x in
-    subst R (sym c.tell.ensures.seat) (record {
-      sound = record { follows = did.sound.follows; reads = did.sound.reads };
-      seat = record { own = did.seat.own; few = did.seat.few; runs = did.seat.runs };
-      drives = c.drive-self-2.ensures;
-    })
+    let P : Seat → Type 0 = λ x. OnOk c.tick_fully.result (Turns (B.told c.args.board.now c.tick_fully.new.board (link_of x.ledger).node)
+    (B.kept c.args.board.now c.tick_fully.new.board (link_of x.ledger).node) c.args.seen x c.tick_fully.new.self) in
+    subst P same c.tick_fully.ensures.turns

@@ -2,14 +2,13 @@ use Rattle.std.proofs.Common.{◌≡◌, ◌-◌, length}
 use Rattle.sja_link.specs.BusLedgers.{link_of}
 use Rattle.sja_bus.specs.Links.{Goes}
 use Rattle.sja_bus.specs.OneBit.{HasItems}
-use Rattle.sja_bus.specs.Inside.Seats.{IsSound, IsSeat}
+use Rattle.sja_bus.specs.Inside.Seats.{IsReady}
 use Rattle.sja_bus.specs.Inside.Turning.{TakesNews}
-use Rattle.sja_bus.proofs.seat.Seat.take_all.Given as goal
+use Rattle.sja_bus.proofs.seat.Seat.gather.Given as goal
 
 abbrev pub invariant-loop-self : goal.invariant-loop-self
 invariant-loop-self g l = record {
-  sound : IsSound l.self;
-  seat : IsSeat l.self;
+  ready : IsReady l.self;
   node : (link_of l.self.ledger).node ≡ (link_of l.initial.self.ledger).node;
   room : l.self.journal.room ≡ l.initial.self.journal.room;
   goes : Goes g.E.BusEnd.same g.E.BusEnd.stands l.initial.self.journal.entries l.self.journal.entries l.initial.links l.links l.base;

@@ -7,12 +7,11 @@ use Rattle.sja_bus.proofs.Moving.{goes_refl, goes_trans, goes_one}
 use Rattle.sja_bus.proofs.Refusing.{refuses_link}
 use Rattle.sja_bus.proofs.Bits.{items_none, items_push}
 use Rattle.sja_bus.proofs.Turning.{takes_one}
-use Rattle.sja_bus.proofs.seat.Seat.take_all.Goals as goal
+use Rattle.sja_bus.proofs.seat.Seat.gather.Goals as goal
 
 pub loop-self-init : goal.loop-self-init
 loop-self-init g c = record {
-  sound = c.requires.sound;
-  seat = c.requires.seat;
+  ready = c.requires.ready;
   node = refl;
   room = refl;
   goes = goes_refl g.E.BusEnd.same g.E.BusEnd.stands g.met.E.BusEnd.same_refl c.args.self.now.journal.entries c.args.links.now c.args.base;
@@ -26,7 +25,7 @@ take-requires-clause-id g c =
     let d = c.index-links-here.result in
     let a = each_at E.same E.link g.met.E.BusEnd.same_link c.args.links.now c.loop-self.links (c.args.base + s.ended) d inv.goes.sames in
     let b = c.requires.ids s.ended d c.if-self-ge8.false in
-    let n : link_of s.ledger ≡ record { node = (link_of c.args.self.now.ledger).node; activation = suc s.ended } = λ i. record { node = inv.node i; activation = inv.seat.own i } in
+    let n : link_of s.ledger ≡ record { node = (link_of c.args.self.now.ledger).node; activation = suc s.ended } = λ i. record { node = inv.node i; activation = inv.ready.seat.own i } in
     a ∙ b ∙ sym n
 
 pub returns-in_err-take-clause-sames : goal.returns-in_err-take-clause-sames
@@ -51,14 +50,13 @@ loop-self-preserved g c =
     let E = g.E.BusEnd in let s = c.loop-self.self in let met = g.met.E.BusEnd in
     let room : c.args.base + 8 ≤ length c.loop-self.links = omega (arith, c.requires.room, c.loop-self.auto.links) in
     let took = c.in_ok-take.ensures.some (search rules) in record {
-      sound = c.in_ok-take.ensures.sound;
-      seat = c.in_ok-take.ensures.seat;
+      ready = c.in_ok-take.ensures.ready;
       node = c.take.ensures.node ∙ c.loop-self.invariant.node;
       room = c.take.ensures.room ∙ c.loop-self.invariant.room;
       goes = goes_trans E.same E.stands met.same_trans c.args.self.now.journal.entries s.journal.entries c.take.new.self.journal.entries c.args.links.now c.loop-self.links (slice_set c.loop-self.links (c.args.base + s.ended) c.take.new.end) c.args.base c.loop-self.invariant.goes
           (goes_one E.same E.stands met.same_refl s.journal.entries c.take.new.self.journal.entries c.loop-self.links c.args.base s.ended c.index-links-here.result c.take.new.end c.if-self-ge8.false room c.take.ensures.same c.in_ok-take.ensures.moves);
       items = items_push c.args.self.now.journal.entries s.journal.entries c.take.new.self.journal.entries took.0 took.1
-          (record { activation = took.3 ∙ ap suc (sym c.loop-self.invariant.sound.reads.stopped); left = rw c.loop-self.invariant.sound.reads.stopped (omega arith) }) took.4 c.loop-self.invariant.items;
+          (record { activation = took.3 ∙ ap suc (sym c.loop-self.invariant.ready.sound.reads.stopped); left = rw c.loop-self.invariant.ready.sound.reads.stopped (omega arith) }) took.4 c.loop-self.invariant.items;
       news = takes_one c.args.self.now s c.take.new.self (c.in_ok-take.ensures.news (search rules)) took.0 took.1 c.loop-self.invariant.news;
     }
 
@@ -70,4 +68,4 @@ returns-in_err-take-clause-refused g c =
     let P : _ → Type 0 = λ f. RefusesItem E.stands c.args.self.now.journal.room c.args.self.now.journal.entries c.take.new.self.journal.entries c.args.links.now (slice_set c.loop-self.links (c.args.base + s.ended) c.take.new.end) c.args.base (link_of c.args.self.now.ledger).node f in
     err_is P c.from_residual.result c.in_err-take.field-0.0 is
     (refuses_link E.same E.stands c.args.self.now.journal.entries s c.take.new.self c.args.links.now c.loop-self.links c.args.base c.args.self.now.journal.room (link_of c.args.self.now.ledger).node
-    c.index-links-here.result c.take.new.end c.in_err-take.field-0.0 c.if-self-ge8.false room inv.sound inv.node inv.room inv.items inv.goes c.in_err-take.ensures.refused)
+    c.index-links-here.result c.take.new.end c.in_err-take.field-0.0 c.if-self-ge8.false room inv.ready.sound inv.node inv.room inv.items inv.goes c.in_err-take.ensures.refused)

@@ -1,0 +1,117 @@
+//! What a controller takes and what is aborted before it drives a bit.
+
+use super::activity::Activity;
+use super::board::Board;
+use super::bus_fault::BusFault;
+use super::news::News;
+use super::seat::Seat;
+use can_node::Aborted;
+use sja_link::{BusEnd, Entry};
+
+impl Seat {
+    ghost use Rattle.std.specs.Prelude.{◌≡◌, ◌<◌, ◌≤◌, ◌+◌, ℕ, [], ◌∷◌, ◌++◌, slice_index_or, length, OnOk, IfErr, ◌⊎◌};
+    ghost use Rattle.sja_link.specs.BusLedgers.{link_of, free_in};
+    ghost use Rattle.sja_link.specs.declared.entry.Entry.TheVariants.{Abort as AbortEntry};
+    ghost use Rattle.sja_bus.specs.Links.{Goes, EachRelated, AreOf};
+    ghost use Rattle.sja_bus.specs.OneBit.{HasItems, Opens};
+    ghost use Rattle.sja_bus.specs.Reasons.{RefusesItem};
+    ghost use Rattle.sja_bus.specs.Inside.Following.{Follows, Reads};
+    ghost use Rattle.sja_bus.specs.Inside.Seats.{IsSeat, IsReady};
+    ghost use Rattle.sja_bus.specs.Inside.Taking.{Applies, IsFull, FullForAbort};
+    ghost use Rattle.sja_bus.specs.Inside.Turning.{TakesNews, AbortsNews, OpensNews};
+
+    /// Takes all that the links show, one link after the other.
+    pub(crate) fn gather<E: BusEnd>(&mut self, links: &mut [E], base: usize) -> Result<(), BusFault>
+        requires room { base + 8 ≤ length links.old }
+        requires ids { AreOf E.link (link_of self.old.ledger).node links.old base }
+        requires ready { IsReady self.old }
+        ensures sames { EachRelated E.same links.old links.new }
+        ensures node { (link_of self.new.ledger).node ≡ (link_of self.old.ledger).node }
+        ensures room { self.new.journal.room ≡ self.old.journal.room }
+        ensures ready { OnOk result (IsReady self.new) }
+        ensures goes { OnOk result (Goes E.same E.stands self.old.journal.entries self.new.journal.entries links.old links.new base) }
+        ensures items { OnOk result (HasItems self.old.journal.entries self.new.journal.entries) }
+        ensures news { OnOk result (TakesNews self.old self.new) }
+        ensures dry { OnOk result ((d : E) → self.new.ended < 8 → E.dry (slice_index_or links.new (base + self.new.ended) d)) }
+        ensures refused { IfErr result (λ f. RefusesItem E.stands self.old.journal.room self.old.journal.entries
+            self.new.journal.entries links.old links.new base (link_of self.old.ledger).node f) }
+    {
+        loop {
+            if self.ended >= 8 {
+                return Ok(());
+            }
+            let here = base + self.ended as usize;
+            if !self.take(&mut links[here])? {
+                return Ok(());
+            }
+        }
+    }
+
+    /// Writes an abort that changed the node.
+    fn enter_abort(&mut self, news: News) -> Result<(), BusFault>
+        requires follows { Follows self.old.node (self.old.journal.entries ++ AbortEntry ∷ []) }
+        requires reads { Reads self.old.node (self.old.journal.entries ++ AbortEntry ∷ []) self.old.ended self.old.activity (free_in self.old.ledger) }
+        requires seat { IsSeat self.old }
+        ensures ledger { self.new.ledger ≡ self.old.ledger }
+        ensures room { self.new.journal.room ≡ self.old.journal.room }
+        ensures ready { OnOk result (IsReady self.new) }
+        ensures ended { self.new.ended ≡ self.old.ended }
+        ensures news { self.new.news ≡ news }
+        ensures entered { OnOk result (self.new.journal.entries ≡ self.old.journal.entries ++ AbortEntry ∷ []) }
+        ensures full { IfErr result (λ f. IsFull self.old self.new f) }
+    {
+        self.news = news;
+        self.drives = self.node.drive();
+        self.enter(Entry::Abort)
+    }
+
+    /// Applies an abort that stands.
+    #[inline(never)]
+    pub(crate) fn abort(&mut self) -> Result<(), BusFault>
+        requires ready { IsReady self.old }
+        ensures ledger { self.new.ledger ≡ self.old.ledger }
+        ensures room { self.new.journal.room ≡ self.old.journal.room }
+        ensures ready { OnOk result (IsReady self.new) }
+        ensures ended { self.new.ended ≡ self.old.ended }
+        ensures aborts { OnOk result (Applies self.old.journal.entries self.new.journal.entries) }
+        ensures news { OnOk result (AbortsNews self.old self.new) }
+        ensures full { IfErr result (λ f. IsFull self.old self.new f) }
+    {
+        let Activity::Running(_) = self.activity else {
+            return Ok(());
+        };
+        match self.node.abort() {
+            Aborted::Unchanged => Ok(()),
+            Aborted::Marked => self.enter_abort(News::Changed),
+            Aborted::Dropped => self.enter_abort(News::Dropped),
+        }
+    }
+
+    /// Takes all that the links show, and then applies an abort that stands.
+    pub(crate) fn open_bit<E: BusEnd, B: Board>(
+        &mut self,
+        links: &mut [E],
+        base: usize,
+        board: &B,
+    ) -> Result<(), BusFault>
+        requires room { base + 8 ≤ length links.old }
+        requires ids { AreOf E.link (link_of self.old.ledger).node links.old base }
+        requires ready { IsReady self.old }
+        requires port { (link_of self.old.ledger).node < B.ports board.now }
+        ensures sames { EachRelated E.same links.old links.new }
+        ensures node { (link_of self.new.ledger).node ≡ (link_of self.old.ledger).node }
+        ensures room { self.new.journal.room ≡ self.old.journal.room }
+        ensures ready { OnOk result (IsReady self.new) }
+        ensures goes { OnOk result (Goes E.same E.stands self.old.journal.entries self.new.journal.entries links.old links.new base) }
+        ensures opens { OnOk result (Opens (B.orders_are board.now (link_of self.old.ledger).node) self.old.journal.entries self.new.journal.entries) }
+        ensures news { OnOk result (OpensNews self.old self.new) }
+        ensures dry { OnOk result ((d : E) → self.new.ended < 8 → E.dry (slice_index_or links.new (base + self.new.ended) d)) }
+        ensures stops { IfErr result (λ f. RefusesItem E.stands self.old.journal.room self.old.journal.entries
+            self.new.journal.entries links.old links.new base (link_of self.old.ledger).node f
+            ⊎ FullForAbort E.stands self.old self.new links.old links.new base f) }
+    {
+        self.gather(links, base)?;
+        let ordered = board.orders(self.number()).abort;
+        if ordered { self.abort() } else { Ok(()) }
+    }
+}

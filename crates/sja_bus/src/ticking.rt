@@ -1,0 +1,118 @@
+//! One bit of a controller.
+
+use super::activity::Activity;
+use super::board::Board;
+use super::bus_fault::BusFault;
+use super::heard::Heard;
+use super::news::News;
+use super::seat::Seat;
+use can_bits::Level;
+use sja_link::BusEnd;
+
+impl Seat {
+    ghost use Rattle.std.specs.Prelude.{◌≡◌, ◌≢◌, ◌<◌, ◌≤◌, ◌+◌, ℕ, length, OnOk, IfOk, IfErr};
+    ghost use Rattle.can_node.specs.Stands.{Samples};
+    ghost use Rattle.sja_link.specs.BusLedgers.{link_of};
+    ghost use Rattle.sja_bus.specs.Links.{Goes, EachRelated, AreOf};
+    ghost use Rattle.sja_bus.specs.Reasons.{IsBrokenFor};
+    ghost use Rattle.sja_bus.specs.Inside.Seats.{IsSound, IsSeat, IsReady};
+    ghost use Rattle.sja_bus.specs.Inside.Turning.{Brings, Turns};
+
+    /// One bit of the node in which something may happen.
+    #[inline(always)]
+    fn full_bit<E: BusEnd>(
+        &mut self,
+        links: &mut [E],
+        base: usize,
+        seen: Level,
+    ) -> Result<Heard, BusFault>
+        requires room { base + 8 ≤ length links.old }
+        requires ids { AreOf E.link (link_of self.old.ledger).node links.old base }
+        requires ready { IsReady self.old }
+        ensures sames { EachRelated E.same links.old links.new }
+        ensures node { (link_of self.new.ledger).node ≡ (link_of self.old.ledger).node }
+        ensures room { self.new.journal.room ≡ self.old.journal.room }
+        ensures sound { OnOk result (IsSound self.new) }
+        ensures seat { OnOk result (IsSeat self.new) }
+        ensures news { self.new.news ≡ self.old.news }
+        ensures samples { IfOk result (λ heard. Samples self.old.node self.new.node seen heard.events) }
+        ensures goes { OnOk result (Goes E.same E.stands self.old.journal.entries self.new.journal.entries links.old links.new base) }
+        ensures brings { IfOk result (λ heard.
+            Brings self.old.journal.entries self.old.drives seen heard self.new.journal.entries) }
+        ensures broken { IfErr result (λ f. IsBrokenFor E.stands E.full (link_of self.old.ledger).node self.old.journal.room
+            self.old.journal.entries self.new.journal.entries links.old base f) }
+    {
+        let Activity::Running(filter) = self.activity else {
+            return self.rest_bit(seen);
+        };
+        let here = base + self.ended as usize;
+        self.run_bit(&mut links[here], filter, seen)
+    }
+
+    /// One bit of the node in which something may happen, and its port is told of it.
+    #[inline(never)]
+    fn tick_fully<E: BusEnd, B: Board>(
+        &mut self,
+        links: &mut [E],
+        base: usize,
+        seen: Level,
+        board: &mut B,
+    ) -> Result<(), BusFault>
+        requires room { base + 8 ≤ length links.old }
+        requires ids { AreOf E.link (link_of self.old.ledger).node links.old base }
+        requires ready { IsReady self.old }
+        requires port { (link_of self.old.ledger).node < B.ports board.old }
+        ensures sames { EachRelated E.same links.old links.new }
+        ensures node { (link_of self.new.ledger).node ≡ (link_of self.old.ledger).node }
+        ensures room { self.new.journal.room ≡ self.old.journal.room }
+        ensures ready { OnOk result (IsReady self.new) }
+        ensures goes { OnOk result (Goes E.same E.stands self.old.journal.entries self.new.journal.entries links.old links.new base) }
+        ensures ports { B.ports board.new ≡ B.ports board.old }
+        ensures others { (k : ℕ) → k ≢ (link_of self.old.ledger).node → B.kept board.old board.new k }
+        ensures turns { OnOk result (Turns (B.told board.old board.new (link_of self.old.ledger).node)
+            (B.kept board.old board.new (link_of self.old.ledger).node) seen self.old self.new) }
+        ensures broken { IfErr result (λ f. IsBrokenFor E.stands E.full (link_of self.old.ledger).node self.old.journal.room
+            self.old.journal.entries self.new.journal.entries links.old base f) }
+    {
+        let heard = self.full_bit(links, base, seen)?;
+        self.drives = self.node.drive();
+        self.tell(board, heard);
+        Ok(())
+    }
+
+    /// One bit of the node, which sees this level. Its port is told of it, unless nothing happened and nothing is left
+    /// to be told.
+    #[inline(always)]
+    pub(crate) fn tick<E: BusEnd, B: Board>(
+        &mut self,
+        links: &mut [E],
+        base: usize,
+        seen: Level,
+        board: &mut B,
+    ) -> Result<(), BusFault>
+        requires room { base + 8 ≤ length links.old }
+        requires ids { AreOf E.link (link_of self.old.ledger).node links.old base }
+        requires ready { IsReady self.old }
+        requires port { (link_of self.old.ledger).node < B.ports board.old }
+        ensures sames { EachRelated E.same links.old links.new }
+        ensures node { (link_of self.new.ledger).node ≡ (link_of self.old.ledger).node }
+        ensures room { self.new.journal.room ≡ self.old.journal.room }
+        ensures ready { OnOk result (IsReady self.new) }
+        ensures goes { OnOk result (Goes E.same E.stands self.old.journal.entries self.new.journal.entries links.old links.new base) }
+        ensures ports { B.ports board.new ≡ B.ports board.old }
+        ensures others { (k : ℕ) → k ≢ (link_of self.old.ledger).node → B.kept board.old board.new k }
+        ensures turns { OnOk result (Turns (B.told board.old board.new (link_of self.old.ledger).node)
+            (B.kept board.old board.new (link_of self.old.ledger).node) seen self.old self.new) }
+        ensures broken { IfErr result (λ f. IsBrokenFor E.stands E.full (link_of self.old.ledger).node self.old.journal.room
+            self.old.journal.entries self.new.journal.entries links.old base f) }
+    {
+        if let News::Nothing = self.news {
+            if self.node.sample_quietly(seen) {
+                self.enter_bit(self.drives, seen)?;
+                self.drives = self.node.drive();
+                return Ok(());
+            }
+        }
+        self.tick_fully(links, base, seen, board)
+    }
+}
