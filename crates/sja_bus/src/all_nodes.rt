@@ -38,6 +38,7 @@ pub(crate) fn gather_all<E: BusEnd>(seats: &mut [Seat], links: &mut [E]) -> Resu
 }
 
 /// Takes all that the links show, and applies the aborts that stand.
+#[inline(always)]
 pub(crate) fn open_all<E: BusEnd, B: Board>(
     seats: &mut [Seat],
     links: &mut [E],
@@ -64,6 +65,7 @@ pub(crate) fn open_all<E: BusEnd, B: Board>(
 }
 
 /// The level on the bus: dominant where any node drives dominant.
+#[inline(always)]
 pub(crate) fn level_of(seats: &[Seat]) -> Level
     ensures { result ≡ wired (driven_by seats.now) }
 {
@@ -96,6 +98,7 @@ fn struck_level(level: Level) -> Level
 
 /// Each node has its bit, and sees this level, or the other one where it is struck. Its port is told of it where there
 /// is something to tell.
+#[inline(always)]
 pub(crate) fn tick_all<E: BusEnd, B: Board>(
     seats: &mut [Seat],
     links: &mut [E],
@@ -122,6 +125,7 @@ pub(crate) fn tick_all<E: BusEnd, B: Board>(
 
 /// One bit of all nodes, in which these are struck: what the links show is taken and what stands is aborted, all drive,
 /// each sees the level, and the ports are told.
+#[inline(never)]
 pub(crate) fn bit_all<E: BusEnd, B: Board>(
     seats: &mut [Seat],
     links: &mut [E],

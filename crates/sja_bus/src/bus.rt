@@ -55,7 +55,7 @@ impl Model for Bus {
 }
 
 impl Bus {
-    ghost use Rattle.std.specs.Prelude.{◌≡◌, ◌+◌, ◌*◌, ◌<◌, ◌≤◌, ◌⊎◌, ◌≢◌, ℕ, None, Some, Err, true, false, length, map, slice_index_or, OnOk, IfOk, IfErr, IfSome};
+    ghost use Rattle.std.specs.Prelude.{◌≡◌, ◌+◌, ◌*◌, ◌<◌, ◌≤◌, ◌⊎◌, ◌≢◌, ℕ, None, Some, Err, true, false, length, map, slice_index_or, OnOk, IfOk, IfErr};
     ghost use Rattle.sja_bus.specs.declared.bus_fault.BusFault.{BusFault as Fault};
     ghost use Rattle.sja_bus.specs.declared.bus_fault.BusFault.TheVariants.{BitsSpent};
     ghost use Rattle.sja_bus.specs.Links.{EachRelated, Numbered};
@@ -129,18 +129,20 @@ impl Bus {
         }
     }
 
-    /// Why there is no further bit: the fault that is answered always, or that no bit is left.
-    fn refusal(&self) -> Option<BusFault>
-        ensures fault { (f : Fault) → self.now.fault ≡ Some f → result ≡ Some f }
-        ensures spent { self.now.fault ≡ None → self.now.left ≡ 0 → result ≡ Some BitsSpent }
-        ensures none { result ≡ None → (self.now.fault ≡ None) × (self.now.left ≢ 0) }
-        ensures some { IfSome result (λ f. (f ≡ BitsSpent) ⊎ (self.now.fault ≡ Some f)) }
-        ensures why { IfSome result (λ f. self.now.fault ≡ None → (f ≡ BitsSpent) × (self.now.left ≡ 0)) }
+    /// Whether there is a further bit.
+    ///
+    /// Error: the fault that is answered always, or that no bit is left.
+    fn goes_on(&self) -> Result<(), BusFault>
+        ensures fault { (f : Fault) → self.now.fault ≡ Some f → result ≡ Err f }
+        ensures spent { self.now.fault ≡ None → self.now.left ≡ 0 → result ≡ Err BitsSpent }
+        ensures ok { OnOk result ((self.now.fault ≡ None) × (self.now.left ≢ 0)) }
+        ensures some { IfErr result (λ f. (f ≡ BitsSpent) ⊎ (self.now.fault ≡ Some f)) }
+        ensures why { IfErr result (λ f. self.now.fault ≡ None → (f ≡ BitsSpent) × (self.now.left ≡ 0)) }
     {
         match self.fault {
-            Some(fault) => Some(fault),
-            None if self.left == 0 => Some(BusFault::BitsSpent),
-            None => None,
+            Some(fault) => Err(fault),
+            None if self.left == 0 => Err(BusFault::BitsSpent),
+            None => Ok(()),
         }
     }
 
@@ -175,9 +177,7 @@ impl Bus {
         ensures stays { (f : Fault) → self.old.fault ≡ Some f →
             (result ≡ Err f) × IsStill self.old self.new links.old links.new board.old board.new }
     {
-        if let Some(fault) = self.refusal() {
-            return Err(fault);
-        }
+        self.goes_on()?;
         let struck = self.struck.at(self.run);
         match bit_all(self.seats.as_mut_slice(), links, board, struck) {
             Ok(()) => {

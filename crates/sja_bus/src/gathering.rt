@@ -21,6 +21,7 @@ impl Seat {
     ghost use Rattle.sja_bus.specs.Inside.Turning.{TakesNews, AbortsNews, OpensNews};
 
     /// Takes all that the links show, one link after the other.
+    #[inline(always)]
     pub(crate) fn gather<E: BusEnd>(&mut self, links: &mut [E], base: usize) -> Result<(), BusFault>
         requires room { base + 8 ≤ length links.old }
         requires ids { AreOf E.link (link_of self.old.ledger).node links.old base }
@@ -88,6 +89,7 @@ impl Seat {
     }
 
     /// Takes all that the links show, and then applies an abort that stands.
+    #[inline(always)]
     pub(crate) fn open_bit<E: BusEnd, B: Board>(
         &mut self,
         links: &mut [E],

@@ -121,7 +121,7 @@ impl Seat {
         let events = self.node.sample_fully(seen);
         match passing(&filter, &events.received) {
             None => {
-                self.enter(Entry::Bit(driven, seen))?;
+                self.enter_bit(driven, seen)?;
                 Ok(Heard {
                     events,
                     overrun: false,

@@ -119,6 +119,7 @@ impl Seat {
     }
 
     /// Takes one item from the link that is read. False where it shows none.
+    #[inline(always)]
     pub(crate) fn take<E: BusEnd>(&mut self, end: &mut E) -> Result<bool, BusFault>
         requires id { E.link end.old ≡ link_of self.old.ledger }
         requires ready { IsReady self.old }

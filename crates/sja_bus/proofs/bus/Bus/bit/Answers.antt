@@ -1,6 +1,6 @@
 use Rattle.std.proofs.Common.{◌≡◌, ◌≢◌, ◌+◌, ◌-◌, false, replicate, None, List, ◌++◌, length, take, drop, sym, ap, ◌∙◌, subst, arith, rules, ℕ, refl, Some}
 use Rattle.std.proofs.lemmas.Grind.{common_steps}
-use Rattle.std.specs.Prelude.{◌⊎◌, vec_capacity}
+use Rattle.std.specs.Prelude.{◌⊎◌, Err, vec_capacity}
 use Rattle.sja_bus.specs.declared.seat.Seat.{Seat}
 use Rattle.sja_bus.specs.Buses.{BusValue, KeepsAll, IsBit}
 use Rattle.sja_bus.specs.Inside.Rows.{journals_of, untold_of, GoesAll}
@@ -8,7 +8,7 @@ use Rattle.sja_bus.specs.Inside.Whole.{IsWhole, IsRowBit}
 use Rattle.sja_bus.specs.Reasons.{room_for, StopsBit}
 use Rattle.sja_bus.specs.Reasons.StopsBit.{spent}
 use Rattle.sja_bus.specs.Inside.Refusing.{HaveRoom, SeatRefuses, SeatFull, SeatStops}
-use Rattle.sja_bus.proofs.Lists.{each_refl}
+use Rattle.sja_bus.proofs.Lists.{each_refl, err_is}
 use Rattle.sja_bus.proofs.Journals.{wired_row, is_bit, all_told}
 use Rattle.sja_bus.proofs.Logs.{calm_by, none_untold}
 use Rattle.sja_bus.proofs.Running.{count_is}
@@ -16,11 +16,11 @@ use Rattle.sja_bus.proofs.Journals.{keeps_all}
 use Rattle.sja_bus.proofs.Breaking.{stops_bit}
 use Rattle.sja_bus.proofs.bus.Bus.bit.Goals as goal
 
-pub returns-in-Some-clause-sames : goal.returns-in-Some-clause-sames
-returns-in-Some-clause-sames g c = each_refl g.E.BusEnd.same g.met.E.BusEnd.same_refl c.args.links.now
+pub returns-in_err-goes_on-clause-sames : goal.returns-in_err-goes_on-clause-sames
+returns-in_err-goes_on-clause-sames g c = each_refl g.E.BusEnd.same g.met.E.BusEnd.same_refl c.args.links.now
 
-pub returns-in-Some-clause-others : goal.returns-in-Some-clause-others
-returns-in-Some-clause-others g c = (refl, λ k far. g.met.B.Board.kept_refl c.args.board.now k)
+pub returns-in_err-goes_on-clause-others : goal.returns-in_err-goes_on-clause-others
+returns-in_err-goes_on-clause-others g c = (refl, λ k far. g.met.B.Board.kept_refl c.args.board.now k)
 
 pub invariant_of-self : goal.invariant_of-self
 invariant_of-self g c =
@@ -32,7 +32,7 @@ invariant_of-self g c =
     let T : List Seat → Type 0 = λ l. IsRowBit (g.B.Board.orders_are c.args.board.now) (g.B.Board.told c.args.board.now c.bit_all.new.board) (g.B.Board.kept c.args.board.now c.bit_all.new.board) c.at-struck.result l now in
     let row : IsRowBit (g.B.Board.orders_are c.args.board.now) (g.B.Board.told c.args.board.now c.bit_all.new.board) (g.B.Board.kept c.args.board.now c.bit_all.new.board) c.at-struck.result was now = subst T v c.in-Ok.ensures.bit in
     let F : BusValue → Type 0 = λ w. (w.fault ≡ None) × (w.left ≢ 0) in
-    let some = (subst F (sym c.self.view_is) (c.refusal.ensures.none (search rules))).1 in let bits = inv.bits in
+    let some = (subst F (sym c.self.view_is) c.in_ok-goes_on.ensures.ok).1 in let bits = inv.bits in
     let few = inv.few in let logs = inv.logs in
     let H : List Seat → Type 0 = λ l. (n : ℕ) → HaveRoom n l → HaveRoom n now in
     let l : IsWhole b.struck (b.run + 1) (b.left - 1) b.fault now (vec_capacity b.logs) = record {
@@ -78,7 +78,7 @@ returns-in-Ok-clause-bit g c =
     let P : BusValue → Type 0 = λ w. IsBit orders told kept w.script w.run w.untold w.journals (journals_of now) in
     let Q : List Seat → Type 0 = λ xs. IsBit orders told kept c.args.self.now.script c.args.self.now.run c.args.self.now.untold c.args.self.now.journals (journals_of xs) in
     let F : BusValue → Type 0 = λ w. (w.fault ≡ None) × (w.left ≢ 0) in
-    let right : b.fault ≡ None = (subst F (sym c.self.view_is) (c.refusal.ensures.none (search rules))).0 in
+    let right : b.fault ≡ None = (subst F (sym c.self.view_is) c.in_ok-goes_on.ensures.ok).0 in
     subst Q (sym e) (subst P c.self.view_is (is_bit orders told kept b.struck.script b.run c.at-struck.result was now len few c.at-struck.ensures (inv.bus right).calm row))
 
 pub returns-in-Ok-clause-told : goal.returns-in-Ok-clause-told
@@ -96,8 +96,12 @@ returns-in-Ok-clause-told g c =
     let Q : List Seat → Type 0 = λ xs. untold_of xs ≡ replicate (length c.args.self.now.journals) false in
     subst Q (sym e) (subst P c.self.view_is (none ∙ ap (λ n. replicate n false) (sym (count_is was))))
 
-pub returns-in-Some-clause-reason : goal.returns-in-Some-clause-reason
-returns-in-Some-clause-reason g c = λ none. let why = c.in-Some.ensures.why none in spent why.0 why.1
+pub returns-in_err-goes_on-clause-reason : goal.returns-in_err-goes_on-clause-reason
+returns-in_err-goes_on-clause-reason g c =
+    let f = c.in_err-goes_on.field-0.0 in
+    let is : c.from_residual.result ≡ Err f = search rules in
+    let P : _ → Type 0 = λ x. c.args.self.now.fault ≡ None → StopsBit g.E.BusEnd.stands g.E.BusEnd.full (g.B.Board.orders_are c.args.board.now) c.args.self.now c.args.self.now c.args.links.now c.args.links.now x in
+    err_is P c.from_residual.result f is (λ none. let why = c.in_err-goes_on.ensures.why none in spent why.0 why.1)
 
 pub returns-in-Err-clause-reason : goal.returns-in-Err-clause-reason
 returns-in-Err-clause-reason g c = λ none.

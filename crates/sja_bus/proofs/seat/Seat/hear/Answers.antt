@@ -13,42 +13,42 @@ use Rattle.sja_bus.proofs.Reading.{reads_quiet, reads_swap, runs_at, stands_at}
 use Rattle.sja_bus.proofs.Moving.{moves_quiet}
 use Rattle.sja_bus.proofs.seat.Seat.hear.Goals as goal
 
-pub returns-in_ok-enter-in-None-clause-mid : goal.returns-in_ok-enter-in-None-clause-mid
-returns-in_ok-enter-in-None-clause-mid g c =
+pub returns-in_ok-enter_bit-in-None-clause-mid : goal.returns-in_ok-enter_bit-in-None-clause-mid
+returns-in_ok-enter_bit-in-None-clause-mid g c =
     let was = c.args.self.now in let j = was.journal.entries in let x = c.args.self.now.drives in let seen = c.args.seen in
     let new = c.sample_fully-events.new.self in
     let P : Activity → Type 0 = λ a. Reads was.node j was.ended a (free_in was.ledger) in
     let Q : Activity → Type 0 = λ a. Reads new (j ++ Bit x seen ∷ []) was.ended a (free_in was.ledger) in
     let reads = subst P c.requires.runs c.requires.ready.sound.reads in
     let at = runs_at (Running c.args.filter) was.node j was.ended (free_in was.ledger) refl reads in
-    let o = c.enter.ensures.others in
+    let o = c.enter_bit.ensures.others in
     let follows = heard_quiet was.node new j x seen c.sample_fully-events.result c.args.filter (suc was.ended) c.requires.ready.drives c.sample_fully-events.ensures.samples at reads.active.1 c.in-None.ensures c.requires.ready.sound.follows in
     let swapped = reads_quiet new new j (Bit x seen) was.ended (Running c.args.filter) (free_in was.ledger) (λ p. refl, refl, refl, refl) (λ r. r) (reads_swap was.node new j was.ended c.args.filter (free_in was.ledger) reads) in
     record {
-      follows = follows_by c.enter.new.self new (j ++ Bit x seen ∷ []) c.sample_fully-events.result.went_off (ap (λ (s : Seat). s.node) o) c.in_ok-enter-in-None.ensures.ok.0 follows;
-      reads = reads_by c.enter.new.self new (j ++ Bit x seen ∷ []) was.ended was.activity (free_in was.ledger) (ap (λ (s : Seat). s.node) o) c.in_ok-enter-in-None.ensures.ok.0
+      follows = follows_by c.enter_bit.new.self new (j ++ Bit x seen ∷ []) c.sample_fully-events.result.went_off (ap (λ (s : Seat). s.node) o) c.in_ok-enter_bit-in-None.ensures.ok.0 follows;
+      reads = reads_by c.enter_bit.new.self new (j ++ Bit x seen ∷ []) was.ended was.activity (free_in was.ledger) (ap (λ (s : Seat). s.node) o) c.in_ok-enter_bit-in-None.ensures.ok.0
           (ap (λ (s : Seat). s.ended) o) (ap (λ (s : Seat). s.activity) o) (ap (λ (s : Seat). free_in s.ledger) o) (subst Q (sym c.requires.runs) swapped);
     }
 
-pub returns-in_ok-enter-in-None-clause-samples : goal.returns-in_ok-enter-in-None-clause-samples
-returns-in_ok-enter-in-None-clause-samples g c =
+pub returns-in_ok-enter_bit-in-None-clause-samples : goal.returns-in_ok-enter_bit-in-None-clause-samples
+returns-in_ok-enter_bit-in-None-clause-samples g c =
     let was = c.args.self.now in
     let P : Node → Type 0 = λ n. Samples was.node n c.args.seen c.sample_fully-events.result in
-    subst P (sym (ap (λ (s : Seat). s.node) c.enter.ensures.others)) c.sample_fully-events.ensures.samples
+    subst P (sym (ap (λ (s : Seat). s.node) c.enter_bit.ensures.others)) c.sample_fully-events.ensures.samples
 
-pub returns-in_ok-enter-in-None-clause-off : goal.returns-in_ok-enter-in-None-clause-off
-returns-in_ok-enter-in-None-clause-off g c = λ went.
+pub returns-in_ok-enter_bit-in-None-clause-off : goal.returns-in_ok-enter_bit-in-None-clause-off
+returns-in_ok-enter_bit-in-None-clause-off g c = λ went.
     let P : Node → Type 0 = λ n. InReset n in
-    subst P (sym (ap (λ (s : Seat). s.node) c.enter.ensures.others)) (c.sample_fully-events.ensures.off (search rules))
+    subst P (sym (ap (λ (s : Seat). s.node) c.enter_bit.ensures.others)) (c.sample_fully-events.ensures.off (search rules))
 
-pub returns-in_ok-enter-in-None-clause-moves : goal.returns-in_ok-enter-in-None-clause-moves
-returns-in_ok-enter-in-None-clause-moves g c =
+pub returns-in_ok-enter_bit-in-None-clause-moves : goal.returns-in_ok-enter_bit-in-None-clause-moves
+returns-in_ok-enter_bit-in-None-clause-moves g c =
     let was = c.args.self.now in let j = was.journal.entries in let b = Bit c.args.self.now.drives c.args.seen in
     let at = runs_at was.activity was.node j was.ended (free_in was.ledger) (ap open_in c.requires.runs) c.requires.ready.sound.reads in
-    rw c.in_ok-enter-in-None.ensures.ok.0 (moves_quiet g.E.BusEnd.stands c.args.end.now j b (suc was.ended) (stands_at j b (suc was.ended) (λ p. refl) at) (λ l. refl))
+    rw c.in_ok-enter_bit-in-None.ensures.ok.0 (moves_quiet g.E.BusEnd.stands c.args.end.now j b (suc was.ended) (stands_at j b (suc was.ended) (λ p. refl) at) (λ l. refl))
 
-pub returns-in_ok-enter-in-None-clause-hears : goal.returns-in_ok-enter-in-None-clause-hears
-returns-in_ok-enter-in-None-clause-hears g c = has_alone c.args.self.now.journal.entries c.enter.new.self.journal.entries c.args.self.now.drives c.args.seen c.in_ok-enter-in-None.ensures.ok.0
+pub returns-in_ok-enter_bit-in-None-clause-hears : goal.returns-in_ok-enter_bit-in-None-clause-hears
+returns-in_ok-enter_bit-in-None-clause-hears g c = has_alone c.args.self.now.journal.entries c.enter_bit.new.self.journal.entries c.args.self.now.drives c.args.seen c.in_ok-enter_bit-in-None.ensures.ok.0
 
 pub returns-in_ok-overrun-in-Some-clause-mid : goal.returns-in_ok-overrun-in-Some-clause-mid
 returns-in_ok-overrun-in-Some-clause-mid g c =
