@@ -13,11 +13,12 @@ const WAITING: u32 = 11;
 /// How many frames a bus is run for at most: a run has at most 200,000 bits.
 const FRAMES: u32 = 1_300;
 
-/// A bus, and how many of its nodes send.
+/// A bus, how many of its nodes send, and whether the bits in which every node is at rest are run at once.
 #[derive(Clone, Copy)]
 pub struct Traffic {
     pub nodes: u8,
     pub senders: usize,
+    pub at_once: bool,
 }
 
 /// Lets the bits of so many frames pass. Before each the senders' drivers ask for one, and after it every driver releases
@@ -37,12 +38,12 @@ fn stored_of(alloc: Global, frames: u32, traffic: Traffic) -> Option<u64> {
     let bits = frames.checked_mul(BITS)?.checked_add(WAITING)?;
     let mut station = Station::new(alloc, traffic.nodes, bits)?;
     let messages = messages_of(alloc, traffic)?;
-    if !station.bits(WAITING) {
+    if !station.bits(WAITING, traffic.at_once) {
         return None;
     }
     for _ in 0..frames {
         ask(&mut station, messages.as_slice());
-        if !station.bits(BITS) {
+        if !station.bits(BITS, traffic.at_once) {
             return None;
         }
         for node in 0..usize::from(traffic.nodes) {

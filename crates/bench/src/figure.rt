@@ -30,8 +30,10 @@ pub enum Figure {
     BusStream,
     /// A bus of eight nodes that contend.
     BusContending,
-    /// A bus of eight idle nodes.
+    /// A bus of eight idle nodes, bit by bit.
     BusIdle,
+    /// The same, by stretches of bits that are run at once.
+    BusIdleStretch,
     /// A plan is read that has as many steps, turns and strikes as there is room for.
     Plan,
     /// A short plan is read, with comment lines behind it.
@@ -45,7 +47,7 @@ pub enum Figure {
 }
 
 /// Every figure, in the order in which `all` tells them.
-pub const FIGURES: [Figure; 17] = [
+pub const FIGURES: [Figure; 18] = [
     Figure::Shift,
     Figure::Line,
     Figure::Node,
@@ -58,6 +60,7 @@ pub const FIGURES: [Figure; 17] = [
     Figure::BusStream,
     Figure::BusContending,
     Figure::BusIdle,
+    Figure::BusIdleStretch,
     Figure::Plan,
     Figure::Comments,
     Figure::Numbers,
@@ -69,18 +72,27 @@ pub const FIGURES: [Figure; 17] = [
 const STREAM: Traffic = Traffic {
     nodes: 2,
     senders: 1,
+    at_once: false,
 };
 
 /// Eight nodes, each of which always has a frame to send.
 const CONTENDING: Traffic = Traffic {
     nodes: 8,
     senders: 8,
+    at_once: false,
 };
 
 /// Eight nodes of which none sends.
 const IDLE: Traffic = Traffic {
     nodes: 8,
     senders: 0,
+    at_once: false,
+};
+
+/// The same, by stretches of bits that are run at once.
+const IDLE_STRETCH: Traffic = Traffic {
+    at_once: true,
+    ..IDLE
 };
 
 impl Figure {
@@ -99,6 +111,7 @@ impl Figure {
             "bus-stream" => Some(Figure::BusStream),
             "bus-contending" => Some(Figure::BusContending),
             "bus-idle" => Some(Figure::BusIdle),
+            "bus-idle-stretch" => Some(Figure::BusIdleStretch),
             "plan" => Some(Figure::Plan),
             "comments" => Some(Figure::Comments),
             "numbers" => Some(Figure::Numbers),
@@ -124,6 +137,7 @@ impl Figure {
             Figure::BusStream => buses::told(alloc, count / 10, STREAM),
             Figure::BusContending => buses::told(alloc, count / 10, CONTENDING),
             Figure::BusIdle => buses::told(alloc, count / 10, IDLE),
+            Figure::BusIdleStretch => buses::told(alloc, count / 10, IDLE_STRETCH),
             Figure::Plan => plans::told(alloc, count, Document::Steps),
             Figure::Comments => plans::told(alloc, count, Document::Comments),
             Figure::Numbers => plans::told(alloc, count, Document::Numbers),

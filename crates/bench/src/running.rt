@@ -20,3 +20,32 @@ pub fn run_bits(bus: &mut Bus, links: &mut [DequeLink], board: &mut SerialBoard,
     }
     true
 }
+
+/// So many bits, of which those in which every node is at rest are run at once. Whether all were run.
+pub fn run_bits_at_once(
+    bus: &mut Bus,
+    links: &mut [DequeLink],
+    board: &mut SerialBoard,
+    count: u32,
+) -> bool
+    requires count { length links.old ≡ 8 * length bus.old.journals }
+    requires ids { Numbered (λ l. l.link) links.old }
+    requires ports { length bus.old.journals ≤ length board.old.ports.items }
+    ensures { length bus.new.journals ≡ length bus.old.journals }
+{
+    let mut left = count;
+    for _ in 0..count {
+        let Ok(run) = bus.quiet_bits(links, board, left) else {
+            return false;
+        };
+        left -= run;
+        if left == 0 {
+            return true;
+        }
+        if bus.bit(links, board).is_err() {
+            return false;
+        }
+        left -= 1;
+    }
+    left == 0
+}

@@ -2,7 +2,7 @@
 
 ghost use Rattle.std.specs.Prelude.{◌≡◌, ◌≤◌, length, IfOk};
 
-use super::running::run_bits;
+use super::running::{run_bits, run_bits_at_once};
 use can_frame::{Message, OutOfMemory};
 use sja_bus::{Bus, NodeLog, SerialBoard, are_links_of, serial_links};
 use sja_driver::{Active, Driver};
@@ -78,19 +78,19 @@ impl Station {
         }
     }
 
-    /// So many bits. Whether all were run.
-    pub fn bits(&mut self, count: u32) -> bool {
+    /// So many bits, one by one, or those in which every node is at rest at once. Whether all were run.
+    pub fn bits(&mut self, count: u32, at_once: bool) -> bool {
         if !are_links_of(self.links.as_slice(), self.nodes)
             || self.board.ports.len() < usize::from(self.nodes)
         {
             return false;
         }
-        run_bits(
-            &mut self.bus,
-            self.links.as_mut_slice(),
-            &mut self.board,
-            count,
-        )
+        let links = self.links.as_mut_slice();
+        if at_once {
+            run_bits_at_once(&mut self.bus, links, &mut self.board, count)
+        } else {
+            run_bits(&mut self.bus, links, &mut self.board, count)
+        }
     }
 
     /// How many messages the nodes stored.
@@ -127,7 +127,7 @@ fn started(node: u8, links: &mut [DequeLink], board: &mut SerialBoard) -> Option
 /// How many messages a node stored.
 fn stored_in(log: &NodeLog) -> u64 {
     let mut stored = 0u64;
-    for entry in log.journal.entries() {
+    for entry in log.journal.between_bits() {
         if let Entry::Stored(_) = entry {
             stored = stored.wrapping_add(1);
         }

@@ -1,0 +1,35 @@
+use Rattle.std.proofs.Common.{◌≡◌, ◌*◌, ℕ, length, arith, sym, ap, ◌∙◌}
+use Rattle.sja_link.specs.Deques.{Deques}
+use Rattle.sja_bus.proofs.Lists.{each_length}
+use Rattle.sja_bus.proofs.Many.{numbered_kept}
+use Rattle.bench.proofs.running.run_bits_at_once.Goals as goal
+
+pub bit-requires-clause-count : goal.bit-requires-clause-count
+bit-requires-clause-count c =
+    let i = c.loop.invariant in let e = c.quiet_bits.ensures in
+    let same : Deques → Deques → Type 0 = λ x y. y.link ≡ x.link in
+    each_length same c.loop.links c.quiet_bits.new.links e.sames ∙ i.1 ∙ ap (λ (n : ℕ). 8 * n) (sym e.nodes)
+
+pub bit-requires-clause-ids : goal.bit-requires-clause-ids
+bit-requires-clause-ids c =
+    let same : Deques → Deques → Type 0 = λ x y. y.link ≡ x.link in
+    numbered_kept (λ (x : Deques). x.link) same (λ x y h. h) c.loop.links c.quiet_bits.new.links c.quiet_bits.ensures.sames c.loop.invariant.2
+
+pub bit-requires-clause-ports : goal.bit-requires-clause-ports
+bit-requires-clause-ports c =
+    let nodes = c.quiet_bits.ensures.nodes in let few = c.loop.invariant.3 in omega (arith, nodes, few)
+
+pub loop-preserved : goal.loop-preserved
+loop-preserved c =
+    let i = c.loop.invariant in let q = c.quiet_bits.ensures in let e = c.bit.ensures in
+    let before = c.loop.links in let between = c.quiet_bits.new.links in let after = c.bit.new.links in
+    let same : Deques → Deques → Type 0 = λ x y. y.link ≡ x.link in
+    let first : length between ≡ length before = each_length same before between q.sames in
+    let then : length after ≡ length between = each_length same between after e.sames in
+    let rested = q.nodes in let nodes = e.nodes in let ports = e.others.0 in let few = i.3 in (
+      nodes ∙ rested ∙ i.0,
+      then ∙ first ∙ i.1 ∙ ap (λ (n : ℕ). 8 * n) (sym (nodes ∙ rested)),
+      numbered_kept (λ (x : Deques). x.link) same (λ x y h. h) between after e.sames
+          (numbered_kept (λ (x : Deques). x.link) same (λ x y h. h) before between q.sames i.2),
+      omega (arith, rested, nodes, ports, few),
+    )
