@@ -1,7 +1,9 @@
 //! Tests of `sja_words` and `sja_run`: words, and what the program writes and answers.
 
 mod arbitrate;
+mod cut_words;
 mod decode;
+mod each_write;
 mod encode;
 mod failing_writes;
 mod filter;

@@ -93,7 +93,7 @@ fn decode_answers_every_beginning_of_a_line(rt: HostRuntime) -> Result<(), Fail>
 }
 
 /// Whether these words give status 0 and one line on the output, or status 1 and one line on the error output.
-fn gives_one_line(alloc: Global, words: &[&str]) -> bool {
+pub fn gives_one_line(alloc: Global, words: &[&str]) -> bool {
     let mut input: &[u8] = &[];
     let mut out = Output::new(Vec::new(alloc));
     let mut err = Output::new(Vec::new(alloc));

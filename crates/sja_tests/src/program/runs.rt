@@ -4,8 +4,10 @@
 
 mod arbitration;
 mod buffers;
+mod cut;
+mod each_bit;
 mod errors;
-mod given;
+pub mod given;
 mod listening;
 mod plans;
 mod reading;

@@ -3,6 +3,7 @@
 use sja_run::{Output, sja_serial};
 use std::alloc::Global;
 use std::io::Read;
+use std::str;
 
 /// Two nodes: node 0 sends the frame with identifier 0, and node 1 releases twice after the rest.
 pub const SENT_ONCE: &str = "version = 1
@@ -52,6 +53,20 @@ pub fn refuses<R: Read>(alloc: Global, input: &mut R, line: &str) -> bool {
 pub fn reports(alloc: Global, plan: &str, report: &str) -> bool {
     let mut input = plan.as_bytes();
     prints(alloc, &mut input, report) && input.is_empty()
+}
+
+/// Whether the run of this plan takes all its turns and has a report with this end.
+pub fn ends(alloc: Global, plan: &str, end: &str) -> bool {
+    let words = ["sja", "run"];
+    let mut input = plan.as_bytes();
+    let mut out = Output::new(Vec::new(alloc));
+    let mut err = Output::new(Vec::new(alloc));
+    let answer = sja_serial(alloc, words.as_slice(), &mut input, &mut out, &mut err);
+    let (Some(0), Ok(report)) = (answer, str::from_utf8(&out.writer)) else {
+        return false;
+    };
+    let first = report.lines().next().unwrap_or("");
+    first.ends_with(" end turns") && report.ends_with(end) && err.writer.is_empty()
 }
 
 /// Whether this plan is refused with this line.

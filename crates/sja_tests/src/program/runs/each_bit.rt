@@ -1,0 +1,114 @@
+//! A frame that is struck at each of its bits, and a receiver that is stopped after each number of bits.
+
+use super::given::ends;
+use std::alloc::Global;
+use std::test::Fail;
+
+/// Node 0 sends the frame with identifier 0, and node 1 releases twice after the rest. This node is struck at this bit.
+fn struck(alloc: Global, node: u32, bit: u32) -> Result<String, Fail> {
+    Ok(format!(in alloc;
+        "version = 1
+bits = 200
+turns = [\"node 0 3\", \"node 1 1\", \"rest\", \"node 1 2\"]
+faults = [\"{node} {bit}\"]
+[[node]]
+steps = [\"start\", \"load 000000\", \"command 01\"]
+[[node]]
+steps = [\"start\", \"release\", \"release\"]
+"
+    )?)
+}
+
+/// The end of the report where node 1 got the frame once.
+const ONCE: &str = "
+step 1 ok
+step 2 3
+step 3 refused Empty
+activation 1 stored 1 overrun 0 free 64
+released 00 00 00
+";
+
+/// The end of the report where it got it twice.
+const TWICE: &str = "
+step 1 ok
+step 2 3
+step 3 3
+activation 1 stored 2 overrun 0 free 64
+released 00 00 00
+released 00 00 00
+";
+
+/// The frame is on the bus from bit 11 to bit 60. Its receiver has it with bit 59, the sixth of the end of frame, and
+/// its transmitter has sent it with bit 60: only between the two can it come twice, and it is never lost.
+#[test]
+fn a_frame_that_is_struck_at_any_bit_is_stored_once_but_for_two(
+    rt: HostRuntime,
+) -> Result<(), Fail> {
+    for bit in 11..=60u32 {
+        let plan = struck(rt.alloc(), 1, bit)?;
+        assert!(rt; ends(rt.alloc(), &plan, ONCE), "node 1 at bit {bit}");
+        let plan = struck(rt.alloc(), 0, bit)?;
+        let end = if bit < 59 { ONCE } else { TWICE };
+        assert!(rt; ends(rt.alloc(), &plan, end), "node 0 at bit {bit}");
+    }
+    Ok(())
+}
+
+/// Node 0 sends the frame; node 1 is stopped after so many bits, and started again at once.
+fn stopped(alloc: Global, bits: u32) -> Result<String, Fail> {
+    Ok(format!(in alloc;
+        "version = 1
+bits = 200
+turns = [\"node 0 3\", \"node 1 1\", \"bus {bits}\", \"node 1 2\", \"rest\"]
+[[node]]
+steps = [\"start\", \"load 000000\", \"command 01\"]
+[[node]]
+steps = [\"start\", \"stop\", \"start\"]
+"
+    )?)
+}
+
+/// Nobody acknowledged the frame; it is sent again, and the second activation gets it.
+const SECOND: &str = "
+step 1 ok
+step 2 ok
+step 3 ok
+activation 1 stored 0 overrun 0 free 64
+activation 2 stored 1 overrun 0 free 61
+unread 00 00 00
+";
+
+/// It was acknowledged and counts as sent, and no one holds it.
+const NEITHER: &str = "
+step 1 ok
+step 2 ok
+step 3 ok
+activation 1 stored 0 overrun 0 free 64
+activation 2 stored 0 overrun 0 free 64
+";
+
+/// It is left unread in the first activation.
+const FIRST: &str = "
+step 1 ok
+step 2 ok
+step 3 ok
+activation 1 stored 1 overrun 0 free 61
+unread 00 00 00
+activation 2 stored 0 overrun 0 free 64
+";
+
+#[test]
+fn a_stop_after_any_bit_leaves_the_frame_to_one_activation_or_none(
+    rt: HostRuntime,
+) -> Result<(), Fail> {
+    for bits in 1..=64u32 {
+        let plan = stopped(rt.alloc(), bits)?;
+        let end = match bits {
+            1..=52 => SECOND,
+            53..=59 => NEITHER,
+            _ => FIRST,
+        };
+        assert!(rt; ends(rt.alloc(), &plan, end), "after {bits} bits");
+    }
+    Ok(())
+}
