@@ -7,6 +7,8 @@ mod faults;
 mod given;
 mod hand;
 mod last_eof_bit;
+mod lawless;
+mod lawless_ends;
 mod listening;
 mod places;
 mod ready;

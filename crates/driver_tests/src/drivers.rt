@@ -1,8 +1,10 @@
 //! Drivers: starts and stops, windows, what comes back, and the steps of a script.
 
+mod each_given_back;
 mod endless;
 mod given;
 mod given_back;
+mod returning;
 mod scripts;
 mod starts;
 mod windows;

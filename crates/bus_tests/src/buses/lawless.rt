@@ -1,0 +1,167 @@
+//! Links whose bus's ends do what no lawful link does, and a bus over them.
+
+ghost use Rattle.std.specs.Prelude.{◌≡◌, length};
+
+use super::given::script_of;
+use super::ready::are_links_of;
+use sja_bus::{Bus, BusFault, NodeLog, SerialBoard};
+use sja_link::{BusEnd, Down, LinkId, Up};
+use std::alloc::Global;
+use std::test::Fail;
+
+/// The end of a link that shows up to two items, and then one more again and again. It gives back its first puts.
+#[derive(Drop)]
+pub struct Lawless {
+    id: LinkId,
+    /// What it shows first.
+    pub first: Option<Up>,
+    /// What it shows then.
+    pub second: Option<Up>,
+    /// What it shows without end after that.
+    pub endless: Option<Up>,
+    /// It shows that only once bus-off was put.
+    pub waits: bool,
+    /// How many puts it still gives back.
+    pub back: u32,
+    /// How many puts were tried.
+    pub tries: u32,
+    off: bool,
+}
+
+impl Lawless {
+    /// An end that shows nothing, and takes every put.
+    fn silent(id: LinkId) -> Lawless
+        ensures { result.id ≡ id }
+    {
+        Lawless {
+            id,
+            first: None,
+            second: None,
+            endless: None,
+            waits: false,
+            back: 0,
+            tries: 0,
+            off: false,
+        }
+    }
+}
+
+impl BusEnd for Lawless {
+    ghost use Rattle.std.specs.Prelude.{◌≡◌, ⊤, refl};
+    ghost use Rattle.std.proofs.Common.{◌∙◌};
+
+    ghost link = { λ e. e.id };
+
+    ghost stands = { λ e l. ⊤ };
+
+    ghost same = { λ a b. b.id ≡ a.id };
+
+    ghost full = { λ e. ⊤ };
+
+    ghost dry = { λ e. ⊤ };
+
+    fn id(&self) -> LinkId {
+        self.id
+    }
+
+    fn put(&mut self, item: Down) -> Result<(), Down> {
+        self.tries = self.tries.saturating_add(1);
+        if self.back > 0 {
+            self.back -= 1;
+            return Err(item);
+        }
+        if item == Down::Off {
+            self.off = true;
+        }
+        Ok(())
+    }
+
+    fn take(&mut self) -> Option<Up> {
+        if let Some(item) = self.first.take() {
+            return Some(item);
+        }
+        if let Some(item) = self.second.take() {
+            return Some(item);
+        }
+        match &self.endless {
+            Some(item) if self.off || !self.waits => Some(item.copy()),
+            _ => None,
+        }
+    }
+
+    ghost same_refl = { λ e. refl };
+
+    ghost same_trans = { λ a b c p q. q ∙ p };
+
+    ghost same_link = { λ a b p. p };
+}
+
+/// A bus of two nodes over such links, which show nothing at first.
+#[derive(Drop)]
+pub struct LawlessRig {
+    bus: Bus,
+    links: Vec<Lawless>,
+    board: SerialBoard,
+    ghost size: { length bus.journals ≡ 2 },
+}
+
+impl LawlessRig {
+    /// Two nodes after power-on, for 1,000 bits, with these strikes.
+    pub fn new(alloc: Global, strikes: &[(u8, u32, u32, u32)]) -> Result<LawlessRig, Fail> {
+        let mut links = Vec::new(alloc);
+        for node in 0..2 {
+            for activation in 1..=8 {
+                links.push(Lawless::silent(LinkId { node, activation }))?;
+            }
+        }
+        Ok(LawlessRig {
+            bus: Bus::new(alloc, 2, 1_000, script_of(alloc, strikes)?)?,
+            links,
+            board: SerialBoard::new(alloc, 2, 1)?,
+        })
+    }
+
+    /// The link of the first activation of a node.
+    pub fn link(&mut self, node: u8) -> Result<&mut Lawless, Fail> {
+        match self.links.get_mut(8 * usize::from(node)) {
+            Some(link) => Ok(link),
+            None => Err("no such node")?,
+        }
+    }
+
+    /// One bit.
+    pub fn bit(&mut self) -> Result<Result<(), BusFault>, Fail> {
+        if !are_links_of(self.links.as_slice(), 2) || self.board.ports.len() < 2 {
+            return Err("not the bus's links and ports")?;
+        }
+        Ok(self.bus.bit(self.links.as_mut_slice(), &mut self.board))
+    }
+
+    /// Takes what the ends show.
+    pub fn gather(&mut self) -> Result<Result<(), BusFault>, Fail> {
+        if !are_links_of(self.links.as_slice(), 2) {
+            return Err("not the bus's links")?;
+        }
+        Ok(self.bus.gather(self.links.as_mut_slice()))
+    }
+
+    /// Bits up to the first fault, at most so many: how many went well, and the fault.
+    pub fn bits(&mut self, most: u32) -> Result<(u32, Option<BusFault>), Fail> {
+        for bits in 0..most {
+            if let Err(fault) = self.bit()? {
+                return Ok((bits, Some(fault)));
+            }
+        }
+        Ok((most, None))
+    }
+
+    /// What stands of each node at the end, by node.
+    pub fn finish(self) -> Vec<NodeLog> {
+        let LawlessRig {
+            bus,
+            links: _,
+            board: _,
+        } = self;
+        bus.finish()
+    }
+}
