@@ -4,6 +4,7 @@ mod each_given_back;
 mod endless;
 mod given;
 mod given_back;
+mod refused_memory;
 mod returning;
 mod scripts;
 mod starts;
