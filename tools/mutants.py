@@ -147,7 +147,7 @@ def huge(rng):
         turns = ["node 0 " + "0" * rng.choice([5, 6, 60_000]) + "1", "bus " + "9" * rng.choice([7, 8, 60_000])]
     text = written(rng, 1, rng.choice([1, 2000, 200000]), turns, faults, scripts)
     if kind == 6:
-        text = "".join(f"a{it}=1\n" for it in range(rng.choice([100, 1000, 8000]))) + text
+        text = "".join(f"a{it}=1\n" for it in range(rng.choice([100, 1000, 7500]))) + text
     if kind == 7:
         text += "#" * rng.choice([0, 1000, 65_536 - len(text), 65_537 - len(text), 66_000])
     return text
