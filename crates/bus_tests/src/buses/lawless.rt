@@ -13,18 +13,16 @@ use std::test::Fail;
 #[derive(Drop)]
 pub struct Lawless {
     id: LinkId,
-    /// What it shows first.
-    pub first: Option<Up>,
-    /// What it shows then.
-    pub second: Option<Up>,
-    /// What it shows without end after that.
-    pub endless: Option<Up>,
-    /// It shows that only once bus-off was put.
-    pub waits: bool,
+    first: Option<Up>,
+    second: Option<Up>,
+    endless: Option<Up>,
+    /// It shows the third item only once bus-off was put.
+    waits: bool,
     /// How many puts it still gives back.
-    pub back: u32,
+    back: u32,
     /// How many puts were tried.
-    pub tries: u32,
+    tries: u32,
+    /// Bus-off was put.
     off: bool,
 }
 
@@ -121,11 +119,52 @@ impl LawlessRig {
         })
     }
 
-    /// The link of the first activation of a node.
-    pub fn link(&mut self, node: u8) -> Result<&mut Lawless, Fail> {
+    /// The end of a node's first link shows these two items, and then the third without end.
+    pub fn shows(
+        &mut self,
+        node: u8,
+        first: Option<Up>,
+        second: Option<Up>,
+        endless: Option<Up>,
+    ) -> bool {
         match self.links.get_mut(8 * usize::from(node)) {
-            Some(link) => Ok(link),
-            None => Err("no such node")?,
+            Some(link) => {
+                link.first = first;
+                link.second = second;
+                link.endless = endless;
+                true
+            }
+            None => false,
+        }
+    }
+
+    /// It waits with the third one until bus-off is put.
+    pub fn waits(&mut self, node: u8) -> bool {
+        match self.links.get_mut(8 * usize::from(node)) {
+            Some(link) => {
+                link.waits = true;
+                true
+            }
+            None => false,
+        }
+    }
+
+    /// It gives back so many puts.
+    pub fn gives_back(&mut self, node: u8, puts: u32) -> bool {
+        match self.links.get_mut(8 * usize::from(node)) {
+            Some(link) => {
+                link.back = puts;
+                true
+            }
+            None => false,
+        }
+    }
+
+    /// How many puts were tried at it.
+    pub fn tries(&self, node: u8) -> u32 {
+        match self.links.get(8 * usize::from(node)) {
+            Some(link) => link.tries,
+            None => 0,
         }
     }
 

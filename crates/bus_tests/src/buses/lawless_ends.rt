@@ -50,10 +50,7 @@ fn an_end_that_shows_what_it_may_not_is_answered_always_again(rt: HostRuntime) -
     for by_bit in [true, false] {
         for (first, second, endless, fault) in rows()? {
             let mut rig = LawlessRig::new(rt.alloc(), &[])?;
-            let link = rig.link(1)?;
-            link.first = first;
-            link.second = second;
-            link.endless = endless;
+            assert!(rt; rig.shows(1, first, second, endless));
             let answer = if by_bit { rig.bit()? } else { rig.gather()? };
             assert_eq!(rt; answer, Err(fault));
             assert_eq!(rt; rig.gather()?, Err(fault));
@@ -63,22 +60,22 @@ fn an_end_that_shows_what_it_may_not_is_answered_always_again(rt: HostRuntime) -
     Ok(())
 }
 
-/// A bus on which node 1 is struck at each SOF that it sends, until it is off with the 698th bit.
-fn off_soon(alloc: Global) -> Result<LawlessRig, Fail> {
+/// A bus on which node 1 is struck at each SOF that it sends, until it is off with the 698th bit. Its end
+/// shows this without end after its request.
+fn off_soon(alloc: Global, endless: Option<Up>) -> Result<LawlessRig, Fail> {
     let mut rig = LawlessRig::new(alloc, &[(1, 11, 18, 16), (1, 307, 26, 16)])?;
-    let link = rig.link(1)?;
-    link.first = start();
-    link.second = Some(Up::Send(request()?));
-    Ok(rig)
+    if rig.shows(1, start(), Some(Up::Send(request()?)), endless) {
+        Ok(rig)
+    } else {
+        Err("no such link")?
+    }
 }
 
 /// The first request after bus-off may be on its way when the bus-off is put, and is dropped.
 #[test]
 fn requests_without_end_after_bus_off_are_out_of_order(rt: HostRuntime) -> Result<(), Fail> {
-    let mut rig = off_soon(rt.alloc())?;
-    let link = rig.link(1)?;
-    link.endless = Some(Up::Send(request()?));
-    link.waits = true;
+    let mut rig = off_soon(rt.alloc(), Some(Up::Send(request()?)))?;
+    assert!(rt; rig.waits(1));
     assert_eq!(rt; rig.bits(1_000)?, (698, Some(BusFault::BadOrder(1))));
     assert_eq!(rt; rig.bit()?, Err(BusFault::BadOrder(1)));
     assert_eq!(rt; rig.gather()?, Err(BusFault::BadOrder(1)));
@@ -91,11 +88,13 @@ fn requests_without_end_after_bus_off_are_out_of_order(rt: HostRuntime) -> Resul
 /// A bus on which node 0 sends a frame to node 1, which has it with the 60th bit.
 fn sent_soon(alloc: Global) -> Result<LawlessRig, Fail> {
     let mut rig = LawlessRig::new(alloc, &[])?;
-    let link = rig.link(0)?;
-    link.first = start();
-    link.second = Some(Up::Send(request()?));
-    rig.link(1)?.first = start();
-    Ok(rig)
+    if rig.shows(0, start(), Some(Up::Send(request()?)), None)
+        && rig.shows(1, start(), None, None)
+    {
+        Ok(rig)
+    } else {
+        Err("no such link")?
+    }
 }
 
 /// A put is tried a million times. How many bits go well, and the fault, where so many puts come back.
@@ -109,20 +108,20 @@ fn a_put_that_comes_back_is_tried_again_up_to_a_million_times(rt: HostRuntime) -
         (1_000_000, 1_000_000, stuck),
     ] {
         let mut rig = sent_soon(rt.alloc())?;
-        rig.link(1)?.back = back;
+        assert!(rt; rig.gives_back(1, back));
         let bits = if fault.is_none() { 64 } else { 59 };
         assert_eq!(rt; rig.bits(64)?, (bits, fault), "{back}");
-        assert_eq!(rt; rig.link(1)?.tries, tries);
+        assert_eq!(rt; rig.tries(1), tries);
         let logs = rig.finish();
         assert!(rt; logs.len() == 2);
         let stored = if fault.is_none() { 1 } else { 0 };
         assert_eq!(rt; verdicts_in(&logs[1].journal), (stored, 0), "{back}");
 
-        let mut rig = off_soon(rt.alloc())?;
-        rig.link(1)?.back = back;
+        let mut rig = off_soon(rt.alloc(), None)?;
+        assert!(rt; rig.gives_back(1, back));
         let bits = if fault.is_none() { 1_000 } else { 697 };
         assert_eq!(rt; rig.bits(1_000)?, (bits, fault), "{back}");
-        assert_eq!(rt; rig.link(1)?.tries, tries);
+        assert_eq!(rt; rig.tries(1), tries);
     }
     Ok(())
 }

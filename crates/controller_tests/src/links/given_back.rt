@@ -35,7 +35,7 @@ fn a_message_that_comes_back_is_stored_at_the_next_try(rt: HostRuntime) -> Resul
             }
             assert_eq!(rt; judged(&mut ledger, &mut end, length)?, Ok(Verdict::Stored));
             assert_eq!(rt; ledger.free().saturating_add(length), free);
-            place += 1;
+            place = place.wrapping_add(1);
         }
         assert_eq!(rt; ledger.free(), 20);
         for length in LENGTHS {
@@ -100,7 +100,7 @@ fn a_credit_that_comes_back_is_given_at_the_next_try(rt: HostRuntime) -> Result<
             }
             assert!(rt; shows(&mut ledger, &mut end, length)?, "{back}");
             assert_eq!(rt; released(&mut ledger, &mut end), Ok(length));
-            place += 1;
+            place = place.wrapping_add(1);
         }
         for length in LENGTHS {
             assert!(rt; end.link.take() == Some(Up::Credit(length)), "{back}");

@@ -78,10 +78,10 @@ fn releases(
     comes_back: bool,
 ) -> Result<(), Fail> {
     let first = message(7)?;
-    if driver.link() != end.id() {
-        return Err("another link")?;
-    }
     if comes_back {
+        if driver.link() != end.id() {
+            return Err("another link")?;
+        }
         if driver.release(end) != Err(ReleaseFault::Busy) {
             return Err("the credit was taken")?;
         }
@@ -89,6 +89,9 @@ fn releases(
             Ok(Some(shown)) if *shown == first => {}
             _ => Err("the window shows something else")?,
         }
+    }
+    if driver.link() != end.id() {
+        return Err("another link")?;
     }
     match driver.release(end) {
         Ok(3) => Ok(()),
