@@ -1,1 +1,4 @@
 pub mod Works
+pub mod LeftOn
+pub mod Outside
+pub mod Over

@@ -10,9 +10,12 @@
 //! No call takes memory. The tests stand in `crates/thread_tests`.
 #![tactic(auto)]
 
+mod apart;
+mod finishing;
 mod gate;
 mod lock_board;
 mod pass;
+mod settling;
 mod waiting;
 mod worked;
 mod working;

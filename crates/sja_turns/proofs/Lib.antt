@@ -44,7 +44,7 @@ pub mod BitPort
 pub mod Bit
 pub mod BitRun
 pub mod AtOnce
-pub mod Lying
+pub mod FewLying
 pub mod Unstopped
 pub mod SomeBits
 -- the turns of a whole run
@@ -54,6 +54,7 @@ pub mod GoingOn
 pub mod Follows
 pub mod Coming
 pub mod OffLinks
+pub mod NodeEnds
 pub mod Ended
 pub mod Whole
 pub mod Logging

@@ -39,7 +39,7 @@ use Rattle.sja_turns.specs.Serial.{SerialValue, StandsAt, steps_at, deeds_at}
 use Rattle.sja_turns.proofs.Adding.{one_abort}
 use Rattle.sja_turns.proofs.BitRun.{some_of, no_link}
 use Rattle.sja_turns.proofs.Dry.{none_beyond, none_taken, none_taken_own}
-use Rattle.sja_turns.proofs.Lying.{few_lying}
+use Rattle.sja_turns.proofs.FewLying.{few_lying}
 use Rattle.sja_turns.proofs.Own.{AreOwn}
 use Rattle.sja_turns.proofs.Room.{has_room}
 use Rattle.sja_turns.proofs.Turned.{opened_most}

@@ -12,7 +12,7 @@ use Rattle.sja_report.specs.Turns.{Acts, Progress, RunsTo}
 use Rattle.sja_report.proofs.Logs.{index_map}
 use Rattle.sja_turns.specs.Serial.{SerialValue, deeds_at}
 use Rattle.sja_turns.specs.Ending.{IsLogOf, TakesTurns, progress}
-use Rattle.sja_turns.proofs.Ended.{any_of, same_by}
+use Rattle.sja_turns.proofs.NodeEnds.{any_of, same_by}
 
 module _ (plan : PlanValue) (r : SerialValue) (end : End) (log : RunValue) (t : TakesTurns plan r end) (l : IsLogOf plan r t.deeds end log) where
   -- as many steps are done as there are deeds

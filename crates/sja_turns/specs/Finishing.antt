@@ -1,4 +1,4 @@
--- What the log of a run in one thread is made of: definitions of private contracts alone.
+-- What the log of a run is made of (this project's own rule).
 use Rattle.std.specs.Prelude.{◌≡◌, ◌+◌, ◌*◌, ◌<◌, ◌++◌, ℕ, List, [], length, map, slice_index_or}
 use Rattle.sja_link.specs.declared.down.Down.{Down}
 use Rattle.sja_link.specs.Deques.{Deques}

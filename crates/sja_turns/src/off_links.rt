@@ -8,9 +8,10 @@ use sja_link::{DequeLink, Down, DriverEnd};
 use std::alloc::Global;
 use std::marker::Model;
 
-/// The items that lay on a link downward, in order.
+/// The items that lay on a link downward at the end of a run, in order (this project's own rule). Contracts see it as
+/// the list of them.
 #[derive(Debug, Drop)]
-pub(crate) struct Lying {
+pub struct Lying {
     items: Vec<Down>,
 }
 
@@ -25,6 +26,19 @@ impl Model for Lying {
 
 impl Lying {
     ghost use Rattle.std.specs.Prelude.{◌≡◌, IfOk};
+
+    /// These items.
+    ///
+    /// Error: [`OutOfMemory`] where memory was refused.
+    pub fn of(alloc: Global, down: &[Down]) -> Result<Lying, OutOfMemory>
+        ensures { IfOk result (λ lying. lying ≡ down.now) }
+    {
+        let mut items = Vec::with_capacity(alloc, down.len())?;
+        for item in down {
+            items.push_reserved(item.copy());
+        }
+        Ok(Lying { items })
+    }
 
     /// What lies on a link, which is taken off it.
     ///
@@ -41,7 +55,7 @@ impl Lying {
     }
 
     /// The items.
-    pub(crate) fn items(&self) -> &[Down]
+    pub fn items(&self) -> &[Down]
         ensures { result.now ≡ self.now }
     {
         self.items.as_slice()

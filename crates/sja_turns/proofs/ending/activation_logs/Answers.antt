@@ -5,7 +5,7 @@ use Rattle.sja_driver.specs.LoggedDrivers.{node_of, driver_of, ended_of}
 use Rattle.sja_driver.proofs.Each.{index_any}
 use Rattle.sja_report.specs.Log.{ActivationValue}
 use Rattle.sja_turns.specs.Finishing.{activation_after, AreActivations}
-use Rattle.sja_turns.proofs.Ended.{opened_few}
+use Rattle.sja_turns.proofs.NodeEnds.{opened_few}
 use Rattle.sja_turns.proofs.Logging.{activations_push}
 use Rattle.sja_turns.proofs.ending.activation_logs.Goals as goal
 
