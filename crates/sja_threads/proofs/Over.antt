@@ -34,6 +34,7 @@ use Rattle.sja_threads.specs.declared.worked.Worked.{Worked}
 use Rattle.sja_threads.specs.Ended.{IsOverAt, IsOver}
 use Rattle.sja_threads.specs.Settling.{all_drivers, all_ends, IsLeftOn, AreLeftOn, IsLogOf}
 use Rattle.sja_threads.proofs.LeftOn.{AreEight, eight_length, eight_at}
+use Rattle.sja_threads.proofs.Linking.{linked_by}
 use Rattle.sja_threads.proofs.Outside.{given_outside}
 
 -- ---- one node
@@ -261,6 +262,8 @@ module _ (plan : PlanValue) (bus : BusValue) (links : List RingBus) (workeds : L
     ends = m.ends;
     journals = journals_in_log plan log logs bus.journals (all_drivers workeds) lying are;
     done = λ node n w less. done_there node n less w;
+    linked = λ node n less. linked_by (steps_at plan node) (deeds_at deeds node) (slice_index_or log.nodes node n)
+        (trace_there node n less) (settled_there node n less);
   }
 
 -- ---- as it is made

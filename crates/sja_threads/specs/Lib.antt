@@ -1,3 +1,4 @@
 pub mod Working
 pub mod Ended
+pub mod Linked
 pub mod Settling

@@ -13,6 +13,7 @@ use Rattle.sja_bus.specs.Buses.{BusValue}
 use Rattle.sja_report.specs.declared.end.End.{End}
 use Rattle.sja_report.specs.Log.{NodeValue, RunValue, journals_in}
 use Rattle.sja_threads.specs.declared.worked.Worked.{Worked}
+use Rattle.sja_threads.specs.Linked.{AreLinked}
 
 -- the drivers that were handed back, and their ends of all links, one driver's after the other's
 abbrev pub all_drivers : List (Worked RingDriver) → List LoggedDriver
@@ -34,10 +35,12 @@ pub record AreLeftOn (buses : List RingBus) (drivers : List RingDriver) (count :
   pub each : (i : ℕ) (b : RingBus) (d : RingDriver) (l : List Down) → i < count →
       IsLeftOn (slice_index_or buses i b) (slice_index_or drivers i d) (slice_index_or lying i l)
 
--- a log says how many bits were run, why the run ended, the journals of the bus, and the steps that each driver did
+-- a log says how many bits were run, why the run ended, the journals of the bus, and the steps that each driver did; and
+-- some order of events leads to what each activation's link carried, if its part of the journal is in order
 pub record IsLogOf (bus : BusValue) (workeds : List (Worked RingDriver)) (end : End) (log : RunValue) : Type 0 where
   pub bits : log.bits ≡ bus.run
   pub ends : log.end ≡ end
   pub journals : journals_in log ≡ bus.journals
   pub done : (node : ℕ) (n : NodeValue) (w : Worked RingDriver) → node < length log.nodes →
       (slice_index_or log.nodes node n).done ≡ done_in (log_of (slice_index_or workeds node w).driver)
+  pub linked : (node : ℕ) (n : NodeValue) → node < length log.nodes → AreLinked (slice_index_or log.nodes node n)

@@ -1,0 +1,475 @@
+-- An order of the events of a link, made along an activation's part of a journal. What the driver gives it gives right
+-- before it is taken; before a credit it gets the message, and before a stop, or else at the end, all that it gets.
+use Rattle.std.proofs.Common.{◌≡◌, ◌≢◌, ℕ, zero, suc, ◌+◌, ◌-◌, ◌<◌, ◌≤◌, Bool, true, false, List, [], ◌∷◌, ◌++◌, length, map, refl, sym, ap, ap₂, ◌∙◌, subst, arith, append_assoc, append-nil}
+use Rattle.std.proofs.lemmas.List.{length-map, map-append}
+use Rattle.can_node.specs.declared.config.Config.{Config}
+use Rattle.can_node.specs.declared.request.Request.{Request}
+use Rattle.can_frame.specs.Message.{IsMessage}
+use Rattle.sja_link.specs.declared.down.Down.{Down}
+use Rattle.sja_link.specs.declared.down.Down.TheVariants.{Message, Off as OffDown}
+use Rattle.sja_link.specs.declared.up.Up.{Up}
+use Rattle.sja_link.specs.declared.up.Up.TheVariants.{Start as StartUp, Credit, Send as SendUp, Stop as StopUp}
+use Rattle.sja_link.specs.declared.entry.Entry.{Entry}
+use Rattle.sja_link.specs.declared.entry.Entry.TheVariants.{Bit, Up as Item, Abort, Stored, Overrun, Off as OffEntry}
+use Rattle.sja_link.specs.declared.event.Event.{Event}
+use Rattle.sja_link.specs.declared.event.Event.TheVariants.{Put, Off, Take}
+use Rattle.sja_link.specs.Carried.{put_in, put_of, taken_in, taken_of, stored_of}
+use Rattle.sja_link.specs.Free.{credit_of, credit_in, bytes_in, free_of}
+use Rattle.sja_link.specs.Gathering.{gathered, total}
+use Rattle.sja_link.specs.Lists.{messages}
+use Rattle.sja_link.specs.Picking.{EachAfter}
+use Rattle.sja_link.specs.World.{is_off, is_start, is_stop, bytes_of, credits_of, free}
+use Rattle.sja_link.proofs.Entering.{gathered_append, gathered_push}
+use Rattle.sja_link.proofs.Freeing.{total_append, total_push}
+use Rattle.sja_link.proofs.Judging.{put_stored}
+use Rattle.sja_link.proofs.Worlds.{messages_both, credits_both}
+use Rattle.sja_turns.proofs.Few.{bytes_stored, credits_taken}
+use Rattle.sja_threads.specs.Linked.{event_in, IsRunning, IsOrderly, IsLinked}
+use Rattle.sja_threads.proofs.Events.{world, Comes, comes_first, comes_act, comes_get, comes_gets, comes_start, comes_stop, comes_release, comes_send}
+
+-- ---- bytes
+
+bytes_put : (p : List Entry) → bytes_of (messages (put_of p)) ≡ total bytes_in p
+bytes_put p = ap bytes_of (put_stored p) ∙ sym (bytes_stored p)
+
+-- the credits of these messages
+credits_sum : (us : List Up) (ms : List (List ℕ)) → credits_of us ≡ map (λ (m : List ℕ). length m) ms →
+    total credit_of us ≡ bytes_of ms
+credits_sum [] [] e = refl
+credits_sum [] (m ∷ ms) e = absurd cc
+credits_sum (Credit n ∷ us) [] e = absurd cc
+credits_sum (Credit n ∷ us) (m ∷ ms) e =
+    let same : n ≡ length m = cc in ap₂ (λ a b. a + b) same (credits_sum us ms (cc))
+credits_sum (StartUp config ∷ us) ms e = let s = credits_sum us ms e in omega (arith, s)
+credits_sum (SendUp request ∷ us) ms e = let s = credits_sum us ms e in omega (arith, s)
+credits_sum (StopUp ∷ us) ms e = let s = credits_sum us ms e in omega (arith, s)
+
+-- ---- bus-off is the last that is put
+
+abbrev IsOffLast : List Down → Type 0
+IsOffLast [] = Unit {0}
+IsOffLast (Message m ∷ xs) = IsOffLast xs
+IsOffLast (OffDown ∷ xs) = xs ≡ []
+
+off_last_push : (xs : List Down) (x : Down) → total is_off xs ≡ 0 → IsOffLast (xs ++ x ∷ [])
+off_last_push [] (Message m) none = tt
+off_last_push [] OffDown none = refl
+off_last_push (Message m ∷ xs) x none = off_last_push xs x (omega (arith, none))
+off_last_push (OffDown ∷ xs) x none = absurd (omega (arith, none))
+
+-- where messages with bytes are on the way, and then some message is to be released, it is the next item
+record IsNext (m : List ℕ) (waits todo : List Down) : Type 0 where
+  later : List Down
+  undone : List Down
+  waits_is : waits ≡ Message m ∷ later
+  todo_is : todo ≡ Message m ∷ undone
+
+next_message : (waits todo put down : List Down) (m : List ℕ) (rest : List (List ℕ)) → IsOffLast waits →
+    1 ≤ bytes_of (messages waits) → messages todo ≡ m ∷ rest → waits ++ put ≡ todo ++ down → IsNext m waits todo
+next_message [] todo put down m rest last some told same = absurd (omega (arith, some))
+next_message (OffDown ∷ waits) todo put down m rest last some told same =
+    let none = ap (λ (l : List Down). bytes_of (messages l)) last in absurd (omega (arith, some, none))
+next_message (Message x ∷ waits) [] put down m rest last some told same = absurd cc
+next_message (Message x ∷ waits) (OffDown ∷ todo) put down m rest last some told same = absurd cc
+next_message (Message x ∷ waits) (Message y ∷ todo) put down m rest last some told same =
+    let one : y ≡ m = cc in let other : x ≡ y = cc in record {
+      later = waits;
+      undone = todo;
+      waits_is = ap (λ (l : List ℕ). Message l ∷ waits) (other ∙ one);
+      todo_is = ap (λ (l : List ℕ). Message l ∷ todo) one;
+    }
+
+-- ---- along the part
+
+module _ (p : List Entry) (got down : List Down) (held : List (List ℕ)) (all : put_of p ≡ got ++ down) where
+  abbrev Ends : Type 0
+  Ends = IsLinked p (record { put = put_of p; taken = taken_of p; got = got; given = taken_of p })
+
+  -- an order up to here, of a driver that got so much
+  abbrev Order : List Entry → List Down → Bool → Type 0
+  Order q done send = Comes (gathered event_in q) (world (put_of q) (taken_of q) done (taken_of q) send)
+
+  -- with an entry more
+  with_entry : (q : List Entry) (e : Entry) (done : List Down) (send : Bool) →
+      Comes (gathered event_in q ++ event_in e)
+      (world (put_of q ++ put_in e) (taken_of q ++ taken_in e) done (taken_of q ++ taken_in e) send) →
+      Order (q ++ e ∷ []) done send
+  with_entry q e done send c =
+      subst (λ (l : List Event). Comes l (world (put_of (q ++ e ∷ [])) (taken_of (q ++ e ∷ [])) done
+      (taken_of (q ++ e ∷ [])) send)) (sym (gathered_push event_in q e))
+      (subst (λ (l : List Up). Comes (gathered event_in q ++ event_in e)
+      (world (put_of (q ++ e ∷ [])) l done l send)) (sym (gathered_push taken_in q e))
+      (subst (λ (l : List Down). Comes (gathered event_in q ++ event_in e)
+      (world l (taken_of q ++ taken_in e) done (taken_of q ++ taken_in e) send)) (sym (gathered_push put_in q e)) c))
+
+  -- one by which nothing was taken, and one by which nothing was put
+  with_put : (q : List Entry) (e : Entry) (done : List Down) (send : Bool) → taken_in e ≡ [] →
+      Comes (gathered event_in q ++ event_in e) (world (put_of q ++ put_in e) (taken_of q) done (taken_of q) send) →
+      Order (q ++ e ∷ []) done send
+  with_put q e done send none c =
+      with_entry q e done send
+      (subst (λ (l : List Up). Comes (gathered event_in q ++ event_in e) (world (put_of q ++ put_in e) l done l send))
+      (sym (ap (λ (l : List Up). taken_of q ++ l) none ∙ append-nil (taken_of q))) c)
+
+  with_taken : (q : List Entry) (e : Entry) (done : List Down) (send : Bool) → put_in e ≡ [] →
+      Comes (gathered event_in q ++ event_in e)
+      (world (put_of q) (taken_of q ++ taken_in e) done (taken_of q ++ taken_in e) send) → Order (q ++ e ∷ []) done send
+  with_taken q e done send none c =
+      with_entry q e done send
+      (subst (λ (l : List Down). Comes (gathered event_in q ++ event_in e)
+      (world l (taken_of q ++ taken_in e) done (taken_of q ++ taken_in e) send))
+      (sym (ap (λ (l : List Down). put_of q ++ l) none ∙ append-nil (put_of q))) c)
+
+  -- one by which the bus did nothing on the link
+  with_quiet : (q : List Entry) (e : Entry) (done : List Down) (send : Bool) → event_in e ≡ [] → put_in e ≡ [] →
+      taken_in e ≡ [] → Order q done send → Order (q ++ e ∷ []) done send
+  with_quiet q e done send no_event no_put no_taken c =
+      with_put q e done send no_taken
+      (subst (λ (l : List Event). Comes l (world (put_of q ++ put_in e) (taken_of q) done (taken_of q) send))
+      (sym (ap (λ (l : List Event). gathered event_in q ++ l) no_event ∙ append-nil (gathered event_in q)))
+      (subst (λ (l : List Down). Comes (gathered event_in q) (world l (taken_of q) done (taken_of q) send))
+      (sym (ap (λ (l : List Down). put_of q ++ l) no_put ∙ append-nil (put_of q))) c))
+
+  put_same : (q : List Entry) (e : Entry) → put_in e ≡ [] → put_of (q ++ e ∷ []) ≡ put_of q
+  put_same q e none =
+      gathered_push put_in q e ∙ ap (λ (l : List Down). put_of q ++ l) none ∙ append-nil (put_of q)
+
+  taken_same : (q : List Entry) (e : Entry) → taken_in e ≡ [] → taken_of (q ++ e ∷ []) ≡ taken_of q
+  taken_same q e none =
+      gathered_push taken_in q e ∙ ap (λ (l : List Up). taken_of q ++ l) none ∙ append-nil (taken_of q)
+
+  next_whole : (q es : List Entry) (e : Entry) → p ≡ q ++ e ∷ es → p ≡ (q ++ e ∷ []) ++ es
+  next_whole q es e whole = whole ∙ sym (append_assoc q (e ∷ []) es)
+
+  -- all is got
+  ended : (q : List Entry) (send : Bool) → p ≡ q → Order q got send → Ends
+  ended q send e c =
+      let o : Order p got send = subst (λ (l : List Entry). Order l got send) (sym e) c in record {
+        events = o.events;
+        world = world (put_of p) (taken_of p) got (taken_of p) send;
+        reached = o.reached;
+        ends = refl;
+        order = o.order;
+      }
+
+  -- ---- after the stop
+
+  Stopped : List Entry → Type 0
+  Stopped q = total is_stop (taken_of q) ≢ 0
+
+  still_stopped : (q : List Entry) (e : Entry) → taken_in e ≡ [] → Stopped q → Stopped (q ++ e ∷ [])
+  unfolding Stopped
+  still_stopped q e none stop = λ zero. stop (sym (ap (total is_stop) (taken_same q e none)) ∙ zero)
+
+  not_running : (q : List Entry) → Stopped q → IsRunning q → ⊥
+  unfolding Stopped
+  not_running q stop run = stop run.running
+
+  not_first : (q : List Entry) → Stopped q → taken_of q ≡ [] → ⊥
+  unfolding Stopped
+  not_first q stop none = stop (ap (total is_stop) none)
+
+  -- nothing is put
+  none_put : (q es : List Entry) → EachAfter IsOrderly q es → Stopped q → put_of es ≡ []
+  none_put q [] orderly stop = refl
+  none_put q (Bit driven seen ∷ es) orderly stop =
+      none_put (q ++ Bit driven seen ∷ []) es orderly.1 (still_stopped q (Bit driven seen) refl stop)
+  none_put q (Abort ∷ es) orderly stop = none_put (q ++ Abort ∷ []) es orderly.1 (still_stopped q Abort refl stop)
+  none_put q (Overrun m ∷ es) orderly stop =
+      none_put (q ++ Overrun m ∷ []) es orderly.1 (still_stopped q (Overrun m) refl stop)
+  none_put q (Stored m ∷ es) orderly stop = absurd (not_running q stop orderly.0.0)
+  none_put q (OffEntry ∷ es) orderly stop = absurd (not_running q stop orderly.0.0)
+  none_put q (Item (StartUp config) ∷ es) orderly stop = absurd (not_first q stop orderly.0)
+  none_put q (Item (Credit n) ∷ es) orderly stop = absurd (not_running q stop orderly.0.0)
+  none_put q (Item (SendUp request) ∷ es) orderly stop = absurd (not_running q stop orderly.0)
+  none_put q (Item StopUp ∷ es) orderly stop = absurd (not_running q stop orderly.0)
+
+  stopped : (q es : List Entry) (send : Bool) → p ≡ q ++ es → EachAfter IsOrderly q es → Stopped q →
+      Order q got send → Ends
+  stopped q [] send whole orderly stop c = ended q send (whole ∙ append-nil q) c
+  stopped q (Bit driven seen ∷ es) send whole orderly stop c =
+      stopped (q ++ Bit driven seen ∷ []) es send (next_whole q es (Bit driven seen) whole) orderly.1
+      (still_stopped q (Bit driven seen) refl stop) (with_quiet q (Bit driven seen) got send refl refl refl c)
+  stopped q (Abort ∷ es) send whole orderly stop c =
+      stopped (q ++ Abort ∷ []) es send (next_whole q es Abort whole) orderly.1
+      (still_stopped q Abort refl stop) (with_quiet q Abort got send refl refl refl c)
+  stopped q (Overrun m ∷ es) send whole orderly stop c =
+      stopped (q ++ Overrun m ∷ []) es send (next_whole q es (Overrun m) whole) orderly.1
+      (still_stopped q (Overrun m) refl stop) (with_quiet q (Overrun m) got send refl refl refl c)
+  stopped q (Stored m ∷ es) send whole orderly stop c = absurd (not_running q stop orderly.0.0)
+  stopped q (OffEntry ∷ es) send whole orderly stop c = absurd (not_running q stop orderly.0.0)
+  stopped q (Item (StartUp config) ∷ es) send whole orderly stop c = absurd (not_first q stop orderly.0)
+  stopped q (Item (Credit n) ∷ es) send whole orderly stop c = absurd (not_running q stop orderly.0.0)
+  stopped q (Item (SendUp request) ∷ es) send whole orderly stop c = absurd (not_running q stop orderly.0)
+  stopped q (Item StopUp ∷ es) send whole orderly stop c = absurd (not_running q stop orderly.0)
+
+  -- ---- before it
+
+  -- where the driver stands right after these entries: it got just the messages whose credits were taken; of what it gets
+  -- still these are released
+  record IsAt (q es : List Entry) : Type 0 where
+    send : Bool
+    gone : List Down
+    todo : List Down
+    waits : List Down
+    releases : List (List ℕ)
+    order : Order q gone send
+    got_is : got ≡ gone ++ todo
+    put_is : put_of q ≡ gone ++ waits
+    credits_are : credits_of (taken_of q) ≡ map (λ (m : List ℕ). length m) (messages gone)
+    credits_left : credits_of (taken_of es) ≡ map (λ (m : List ℕ). length m) releases
+    told : messages todo ≡ releases ++ held
+    on : total is_off gone ≡ 0
+    last : IsOffLast waits
+
+  same_back : (xs a b : List Down) → xs ++ a ≡ xs ++ b → a ≡ b
+  same_back [] a b e = e
+  same_back (x ∷ xs) a b e = same_back xs a b cc
+
+  -- what waits, and what is put later, is what it gets still, and what it leaves
+  left_is : (q es : List Entry) (h : IsAt q es) → p ≡ q ++ es → h.waits ++ put_of es ≡ h.todo ++ down
+  left_is q es h whole =
+      same_back h.gone (h.waits ++ put_of es) (h.todo ++ down)
+      (sym (append_assoc h.gone h.waits (put_of es)) ∙ ap (λ (l : List Down). l ++ put_of es) (sym h.put_is)
+      ∙ sym (gathered_append put_in q es) ∙ ap put_of (sym whole) ∙ all
+      ∙ ap (λ (l : List Down). l ++ down) h.got_is ∙ append_assoc h.gone h.todo down)
+
+  -- it gets the rest, where nothing is put later
+  gets_all : (q es : List Entry) (h : IsAt q es) → p ≡ q ++ es → put_of es ≡ [] → total is_stop (taken_of q) ≡ 0 →
+      Order q got h.send
+  gets_all q es h whole none running =
+      let waits : h.waits ≡ h.todo ++ down =
+      sym (append-nil h.waits) ∙ ap (λ (l : List Down). h.waits ++ l) (sym none) ∙ left_is q es h whole in
+      subst (λ (l : List Down). Order q l h.send) (sym h.got_is)
+      (comes_gets (gathered event_in q) (put_of q) (taken_of q) h.gone (taken_of q) h.send h.todo down h.order
+      (h.put_is ∙ ap (λ (l : List Down). h.gone ++ l) waits) running)
+
+  quiet_at : (q es : List Entry) (e : Entry) → event_in e ≡ [] → put_in e ≡ [] → taken_in e ≡ [] →
+      IsAt q (e ∷ es) → IsAt (q ++ e ∷ []) es
+  quiet_at q es e no_event no_put no_taken h = record {
+    send = h.send;
+    gone = h.gone;
+    todo = h.todo;
+    waits = h.waits;
+    releases = h.releases;
+    order = with_quiet q e h.gone h.send no_event no_put no_taken h.order;
+    got_is = h.got_is;
+    put_is = put_same q e no_put ∙ h.put_is;
+    credits_are = ap credits_of (taken_same q e no_taken) ∙ h.credits_are;
+    credits_left = ap (λ (l : List Up). credits_of (l ++ taken_of es)) (sym no_taken) ∙ h.credits_left;
+    told = h.told;
+    on = h.on;
+    last = h.last;
+  }
+
+  -- something is put
+  put_at : (q es : List Entry) (e : Entry) (x : Down) → put_in e ≡ x ∷ [] → taken_in e ≡ [] →
+      total is_off (put_of q) ≡ 0 → (h : IsAt q (e ∷ es)) → Order (q ++ e ∷ []) h.gone h.send → IsAt (q ++ e ∷ []) es
+  put_at q es e x puts no_taken none h order =
+      let offs = total_append is_off h.gone h.waits in
+      let all_off = ap (total is_off) h.put_is in record {
+        send = h.send;
+        gone = h.gone;
+        todo = h.todo;
+        waits = h.waits ++ x ∷ [];
+        releases = h.releases;
+        order = order;
+        got_is = h.got_is;
+        put_is = gathered_push put_in q e ∙ ap (λ (l : List Down). put_of q ++ l) puts
+            ∙ ap (λ (l : List Down). l ++ x ∷ []) h.put_is ∙ append_assoc h.gone h.waits (x ∷ []);
+        credits_are = ap credits_of (taken_same q e no_taken) ∙ h.credits_are;
+        credits_left = ap (λ (l : List Up). credits_of (l ++ taken_of es)) (sym no_taken) ∙ h.credits_left;
+        told = h.told;
+        on = h.on;
+        last = off_last_push h.waits x (omega (arith, offs, all_off, none));
+      }
+
+  -- an item is given and taken that is no credit
+  item_at : (q es : List Entry) (u : Up) (send : Bool) → credits_of (u ∷ []) ≡ [] →
+      credits_of (u ∷ taken_of es) ≡ credits_of (taken_of es) → (h : IsAt q (Item u ∷ es)) →
+      Order (q ++ Item u ∷ []) h.gone send → IsAt (q ++ Item u ∷ []) es
+  item_at q es u send none later h order = record {
+    send = send;
+    gone = h.gone;
+    todo = h.todo;
+    waits = h.waits;
+    releases = h.releases;
+    order = order;
+    got_is = h.got_is;
+    put_is = put_same q (Item u) refl ∙ h.put_is;
+    credits_are = ap credits_of (gathered_push taken_in q (Item u)) ∙ credits_both (taken_of q) (u ∷ [])
+        ∙ ap (λ (l : List ℕ). credits_of (taken_of q) ++ l) none ∙ append-nil (credits_of (taken_of q)) ∙ h.credits_are;
+    credits_left = sym later ∙ h.credits_left;
+    told = h.told;
+    on = h.on;
+    last = h.last;
+  }
+
+  free_same : (q : List Entry) (gone : List Down) (send : Bool) →
+      free_of q ≡ free (world (put_of q) (taken_of q) gone (taken_of q) send)
+  free_same q gone send = ap₂ (λ (a b : ℕ). (64 + a) - b) (credits_taken q) (sym (bytes_put q))
+
+  stored_at : (q es : List Entry) (m : List ℕ) → IsOrderly q (Stored m) → IsAt q (Stored m ∷ es) →
+      IsAt (q ++ Stored m ∷ []) es
+  stored_at q es m o h =
+      put_at q es (Stored m) (Message m) refl refl o.1 h
+      (with_put q (Stored m) h.gone h.send refl
+      (comes_act (gathered event_in q) (world (put_of q) (taken_of q) h.gone (taken_of q) h.send) (Put m) h.order o.2 (
+        record { started = o.0.started; running = o.0.running; on = o.1 },
+        subst (λ (n : ℕ). length m ≤ n) (free_same q h.gone h.send) o.3,
+      )))
+
+  off_at : (q es : List Entry) → IsOrderly q OffEntry → IsAt q (OffEntry ∷ es) → IsAt (q ++ OffEntry ∷ []) es
+  off_at q es o h =
+      put_at q es OffEntry OffDown refl refl o.1 h
+      (with_put q OffEntry h.gone h.send refl
+      (comes_act (gathered event_in q) (world (put_of q) (taken_of q) h.gone (taken_of q) h.send) Off h.order tt
+      (record { started = o.0.started; running = o.0.running; on = o.1 })))
+
+  -- ---- a credit
+
+  record IsFirst (n : ℕ) (ns : List ℕ) (releases : List (List ℕ)) : Type 0 where
+    message : List ℕ
+    others : List (List ℕ)
+    whole : releases ≡ message ∷ others
+    long : n ≡ length message
+    rest : ns ≡ map (λ (m : List ℕ). length m) others
+
+  first_release : (n : ℕ) (ns : List ℕ) (releases : List (List ℕ)) →
+      n ∷ ns ≡ map (λ (m : List ℕ). length m) releases → IsFirst n ns releases
+  first_release n ns [] e = absurd cc
+  first_release n ns (m ∷ ms) e = record { message = m; others = ms; whole = refl; long = cc; rest = cc }
+
+  same_tail : (m : List ℕ) (a b : List (List ℕ)) → m ∷ a ≡ m ∷ b → a ≡ b
+  same_tail m a b e = cc
+
+  credit_at : (q es : List Entry) (n : ℕ) → p ≡ q ++ Item (Credit n) ∷ es → IsOrderly q (Item (Credit n)) →
+      IsAt q (Item (Credit n) ∷ es) → IsAt (q ++ Item (Credit n) ∷ []) es
+  credit_at q es n whole o h =
+      let lengths : List (List ℕ) → List ℕ = map (λ (m : List ℕ). length m) in
+      let f = first_release n (credits_of (taken_of es)) h.releases h.credits_left in
+      let m = f.message in
+      let told : messages h.todo ≡ m ∷ (f.others ++ held) =
+      h.told ∙ ap (λ (l : List (List ℕ)). l ++ held) f.whole in
+      let paid = credits_taken q ∙ credits_sum (taken_of q) (messages h.gone) h.credits_are in
+      let stored = sym (bytes_put q) ∙ ap (λ (l : List Down). bytes_of (messages l)) h.put_is
+      ∙ ap bytes_of (messages_both h.gone h.waits)
+      ∙ total_append (λ (x : List ℕ). length x) (messages h.gone) (messages h.waits) in
+      let big = o.1 in let fits = o.2 in
+      let x = next_message h.waits h.todo (put_of es) down m (f.others ++ held) h.last
+      (omega (arith, big, fits, paid, stored)) told (left_is q (Item (Credit n) ∷ es) h whole) in
+      let gone = h.gone ++ Message m ∷ [] in
+      let one : messages gone ≡ messages h.gone ++ m ∷ [] = messages_both h.gone (Message m ∷ []) in
+      let offs = total_push is_off h.gone (Message m) in
+      let none = h.on in
+      let on : total is_off gone ≡ 0 = omega (arith, offs, none) in
+      let many : length (credits_of (taken_of q)) ≡ length (messages h.gone) =
+      ap (λ (l : List ℕ). length l) h.credits_are ∙ length-map (messages h.gone) (λ (y : List ℕ). length y) in
+      let got_one = comes_get (gathered event_in q) (put_of q) (taken_of q) h.gone (taken_of q) h.send h.order (Message m)
+      x.later (h.put_is ∙ ap (λ (l : List Down). h.gone ++ l) x.waits_is) o.0.running in
+      let released = comes_release (gathered event_in q) (put_of q) (taken_of q) gone h.send got_one m (messages h.gone)
+      one many on o.0.running in
+      let taken : Comes (gathered event_in q ++ Take ∷ [])
+      (world (put_of q) (taken_of q ++ Credit n ∷ []) gone (taken_of q ++ Credit n ∷ []) h.send) =
+      subst (λ (k : ℕ). Comes (gathered event_in q ++ Take ∷ [])
+      (world (put_of q) (taken_of q ++ Credit k ∷ []) gone (taken_of q ++ Credit k ∷ []) h.send)) (sym f.long) released in
+      record {
+        send = h.send;
+        gone = gone;
+        todo = x.undone;
+        waits = x.later;
+        releases = f.others;
+        order = with_taken q (Item (Credit n)) gone h.send refl taken;
+        got_is = h.got_is ∙ ap (λ (l : List Down). h.gone ++ l) x.todo_is
+            ∙ sym (append_assoc h.gone (Message m ∷ []) x.undone);
+        put_is = put_same q (Item (Credit n)) refl ∙ h.put_is ∙ ap (λ (l : List Down). h.gone ++ l) x.waits_is
+            ∙ sym (append_assoc h.gone (Message m ∷ []) x.later);
+        credits_are = ap credits_of (gathered_push taken_in q (Item (Credit n)))
+            ∙ credits_both (taken_of q) (Credit n ∷ [])
+            ∙ ap₂ (λ (a : List ℕ) (k : ℕ). a ++ k ∷ []) h.credits_are f.long
+            ∙ sym (map-append (λ (y : List ℕ). length y) (messages h.gone) (m ∷ [])) ∙ ap lengths (sym one);
+        credits_left = f.rest;
+        told = same_tail m (messages x.undone) (f.others ++ held)
+            (ap messages (sym x.todo_is) ∙ told);
+        on = on;
+        last = subst (λ (l : List Down). IsOffLast l) x.waits_is h.last;
+      }
+
+  -- ---- all of it
+
+  stop_taken : (q : List Entry) → Stopped (q ++ Item StopUp ∷ [])
+  unfolding Stopped
+  stop_taken q = λ zero.
+      let e = ap (total is_stop) (gathered_push taken_in q (Item StopUp)) in
+      let n = total_push is_stop (taken_of q) StopUp in omega (arith, e, n, zero)
+
+  none_stopped : (q : List Entry) (e : Entry) → total is_stop (taken_in e) ≡ 0 → total is_stop (taken_of q) ≡ 0 →
+      total is_stop (taken_of (q ++ e ∷ [])) ≡ 0
+  none_stopped q e none running =
+      let whole = ap (total is_stop) (gathered_push taken_in q e) in
+      let n = total_append is_stop (taken_of q) (taken_in e) in omega (arith, whole, n, none, running)
+
+  along : (q es : List Entry) → p ≡ q ++ es → EachAfter IsOrderly q es → total is_stop (taken_of q) ≡ 0 → IsAt q es →
+      Ends
+  along q [] whole orderly running h =
+      ended q h.send (whole ∙ append-nil q) (gets_all q [] h whole refl running)
+  along q (Bit driven seen ∷ es) whole orderly running h =
+      along (q ++ Bit driven seen ∷ []) es (next_whole q es (Bit driven seen) whole) orderly.1
+      (none_stopped q (Bit driven seen) refl running) (quiet_at q es (Bit driven seen) refl refl refl h)
+  along q (Abort ∷ es) whole orderly running h =
+      along (q ++ Abort ∷ []) es (next_whole q es Abort whole) orderly.1
+      (none_stopped q Abort refl running) (quiet_at q es Abort refl refl refl h)
+  along q (Overrun m ∷ es) whole orderly running h =
+      along (q ++ Overrun m ∷ []) es (next_whole q es (Overrun m) whole) orderly.1
+      (none_stopped q (Overrun m) refl running) (quiet_at q es (Overrun m) refl refl refl h)
+  along q (Stored m ∷ es) whole orderly running h =
+      along (q ++ Stored m ∷ []) es (next_whole q es (Stored m) whole) orderly.1
+      (none_stopped q (Stored m) refl running) (stored_at q es m orderly.0 h)
+  along q (OffEntry ∷ es) whole orderly running h =
+      along (q ++ OffEntry ∷ []) es (next_whole q es OffEntry whole) orderly.1
+      (none_stopped q OffEntry refl running) (off_at q es orderly.0 h)
+  along q (Item (StartUp config) ∷ es) whole orderly running h =
+      along (q ++ Item (StartUp config) ∷ []) es (next_whole q es (Item (StartUp config)) whole) orderly.1
+      (none_stopped q (Item (StartUp config)) refl running)
+      (item_at q es (StartUp config) h.send refl refl h
+      (with_taken q (Item (StartUp config)) h.gone h.send refl
+      (comes_start (gathered event_in q) (put_of q) (taken_of q) h.gone h.send h.order config orderly.0)))
+  along q (Item (Credit n) ∷ es) whole orderly running h =
+      along (q ++ Item (Credit n) ∷ []) es (next_whole q es (Item (Credit n)) whole) orderly.1
+      (none_stopped q (Item (Credit n)) refl running) (credit_at q es n whole orderly.0 h)
+  along q (Item (SendUp request) ∷ es) whole orderly running h =
+      along (q ++ Item (SendUp request) ∷ []) es (next_whole q es (Item (SendUp request)) whole) orderly.1
+      (none_stopped q (Item (SendUp request)) refl running)
+      (item_at q es (SendUp request) false refl refl h
+      (with_taken q (Item (SendUp request)) h.gone false refl
+      (comes_send (gathered event_in q) (put_of q) (taken_of q) h.gone h.send request h.order orderly.0.started
+      orderly.0.running)))
+  along q (Item StopUp ∷ es) whole orderly running h =
+      stopped (q ++ Item StopUp ∷ []) es h.send (next_whole q es (Item StopUp) whole) orderly.1 (stop_taken q)
+      (with_taken q (Item StopUp) got h.send refl
+      (comes_stop (gathered event_in q) (put_of q) (taken_of q) got h.send
+      (gets_all q (Item StopUp ∷ es) h whole (none_put (q ++ Item StopUp ∷ []) es orderly.1 (stop_taken q)) running)
+      orderly.0.started orderly.0.running))
+
+-- the part of an activation is linked, where each of its entries may come where it comes, its driver got a front of what
+-- was put, and the credits that were taken are those of the first messages that it got
+pub linked_part : (p : List Entry) (got down : List Down) (released held : List (List ℕ)) →
+    EachAfter IsOrderly [] p → put_of p ≡ got ++ down → messages got ≡ released ++ held →
+    credits_of (taken_of p) ≡ map (λ (m : List ℕ). length m) released →
+    IsLinked p (record { put = put_of p; taken = taken_of p; got = got; given = taken_of p })
+linked_part p got down released held orderly all told credits =
+    along p got down held all [] p refl orderly refl (record {
+      send = true;
+      gone = [];
+      todo = got;
+      waits = [];
+      releases = released;
+      order = comes_first;
+      got_is = refl;
+      put_is = refl;
+      credits_are = refl;
+      credits_left = credits;
+      told = told;
+      on = refl;
+      last = tt;
+    })
