@@ -1,23 +1,19 @@
 -- One event after another of one link.
-use Rattle.std.proofs.Common.{◌≡◌, ◌≢◌, ℕ, zero, suc, ◌+◌, ◌-◌, ◌<◌, ◌≤◌, Bool, true, false, List, [], ◌∷◌, ◌++◌, length, map, take, drop, refl, sym, ap, ap₂, ◌∙◌, subst, arith, append_assoc, append-nil}
-use Rattle.std.proofs.lemmas.List.{length-append, length-map}
+use Rattle.std.proofs.Common.{◌≡◌, ◌≢◌, ℕ, ◌<◌, Bool, true, false, List, [], ◌∷◌, ◌++◌, length, take, drop, refl, sym, ap, ap₂, ◌∙◌, subst, arith, append_assoc, append-nil}
+use Rattle.std.proofs.lemmas.List.{length-append}
 use Rattle.can_node.specs.declared.config.Config.{Config}
 use Rattle.can_node.specs.declared.request.Request.{Request}
-use Rattle.can_frame.specs.Message.{IsMessage}
 use Rattle.sja_link.specs.declared.down.Down.{Down}
-use Rattle.sja_link.specs.declared.down.Down.TheVariants.{Message, Off as OffDown}
 use Rattle.sja_link.specs.declared.up.Up.{Up}
 use Rattle.sja_link.specs.declared.up.Up.TheVariants.{Start as StartUp, Credit, Send as SendUp, Stop as StopUp}
 use Rattle.sja_link.specs.declared.event.Event.{Event}
-use Rattle.sja_link.specs.declared.event.Event.TheVariants.{Start, Put, Off, Get, Release, Send, SendDone, Stop, Take}
-use Rattle.sja_link.specs.Free.{credit_of}
+use Rattle.sja_link.specs.declared.event.Event.TheVariants.{Start, Get, Release, Send, SendDone, Stop, Take}
 use Rattle.sja_link.specs.Gathering.{gathered, total}
-use Rattle.sja_link.specs.Lists.{Lists, messages}
-use Rattle.sja_link.specs.World.{WorldValue, new_world, is_off, is_start, is_send, is_stop, bytes_of, credits_of, on_way}
+use Rattle.sja_link.specs.Lists.{messages}
+use Rattle.sja_link.specs.World.{WorldValue, new_world, is_off, is_start, is_send, is_stop, credits_of}
 use Rattle.sja_link.specs.WorldEvents.{Allowed, done, first_credit, IsEvent, Reached}
 use Rattle.sja_link.specs.WorldEvents.Reached.{begun, next}
 use Rattle.sja_link.proofs.Entering.{gathered_push}
-use Rattle.sja_link.proofs.Worlds.{messages_both}
 use Rattle.sja_threads.specs.Linked.{bus_event}
 
 -- a world with these lists

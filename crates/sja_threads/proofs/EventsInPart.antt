@@ -1,210 +1,31 @@
 -- An order of the events of a link, made along an activation's part of a journal. What the driver gives it gives right
 -- before it is taken; before a credit it gets the message, and before a stop, or else at the end, all that it gets.
-use Rattle.std.proofs.Common.{◌≡◌, ◌≢◌, ℕ, zero, suc, ◌+◌, ◌-◌, ◌<◌, ◌≤◌, Bool, true, false, List, [], ◌∷◌, ◌++◌, length, map, refl, sym, ap, ap₂, ◌∙◌, subst, arith, append_assoc, append-nil}
+use Rattle.std.proofs.Common.{◌≡◌, ℕ, ◌+◌, ◌-◌, ◌≤◌, Bool, true, false, List, [], ◌∷◌, ◌++◌, length, map, refl, sym, ap, ap₂, ◌∙◌, subst, arith, append_assoc, append-nil}
 use Rattle.std.proofs.lemmas.List.{length-map, map-append}
-use Rattle.can_node.specs.declared.config.Config.{Config}
-use Rattle.can_node.specs.declared.request.Request.{Request}
-use Rattle.can_frame.specs.Message.{IsMessage}
 use Rattle.sja_link.specs.declared.down.Down.{Down}
 use Rattle.sja_link.specs.declared.down.Down.TheVariants.{Message, Off as OffDown}
 use Rattle.sja_link.specs.declared.up.Up.{Up}
 use Rattle.sja_link.specs.declared.up.Up.TheVariants.{Start as StartUp, Credit, Send as SendUp, Stop as StopUp}
 use Rattle.sja_link.specs.declared.entry.Entry.{Entry}
 use Rattle.sja_link.specs.declared.entry.Entry.TheVariants.{Bit, Up as Item, Abort, Stored, Overrun, Off as OffEntry}
-use Rattle.sja_link.specs.declared.event.Event.{Event}
 use Rattle.sja_link.specs.declared.event.Event.TheVariants.{Put, Off, Take}
-use Rattle.sja_link.specs.Carried.{put_in, put_of, taken_in, taken_of, stored_of}
-use Rattle.sja_link.specs.Free.{credit_of, credit_in, bytes_in, free_of}
+use Rattle.sja_link.specs.Carried.{put_in, put_of, taken_in, taken_of}
+use Rattle.sja_link.specs.Free.{free_of}
 use Rattle.sja_link.specs.Gathering.{gathered, total}
 use Rattle.sja_link.specs.Lists.{messages}
 use Rattle.sja_link.specs.Picking.{EachAfter}
-use Rattle.sja_link.specs.World.{is_off, is_start, is_stop, bytes_of, credits_of, free}
+use Rattle.sja_link.specs.World.{is_off, is_stop, bytes_of, credits_of, free}
 use Rattle.sja_link.proofs.Entering.{gathered_append, gathered_push}
 use Rattle.sja_link.proofs.Freeing.{total_append, total_push}
-use Rattle.sja_link.proofs.Judging.{put_stored}
 use Rattle.sja_link.proofs.Worlds.{messages_both, credits_both}
-use Rattle.sja_turns.proofs.Few.{bytes_stored, credits_taken}
-use Rattle.sja_threads.specs.Linked.{event_in, IsRunning, IsOrderly, IsLinked}
+use Rattle.sja_threads.specs.Linked.{event_in, IsOrderly, IsLinked}
 use Rattle.sja_threads.proofs.Events.{world, Comes, comes_first, comes_act, comes_get, comes_gets, comes_start, comes_stop, comes_release, comes_send}
-
--- ---- bytes
-
-bytes_put : (p : List Entry) → bytes_of (messages (put_of p)) ≡ total bytes_in p
-bytes_put p = ap bytes_of (put_stored p) ∙ sym (bytes_stored p)
-
--- the credits of these messages
-credits_sum : (us : List Up) (ms : List (List ℕ)) → credits_of us ≡ map (λ (m : List ℕ). length m) ms →
-    total credit_of us ≡ bytes_of ms
-credits_sum [] [] e = refl
-credits_sum [] (m ∷ ms) e = absurd cc
-credits_sum (Credit n ∷ us) [] e = absurd cc
-credits_sum (Credit n ∷ us) (m ∷ ms) e =
-    let same : n ≡ length m = cc in ap₂ (λ a b. a + b) same (credits_sum us ms (cc))
-credits_sum (StartUp config ∷ us) ms e = let s = credits_sum us ms e in omega (arith, s)
-credits_sum (SendUp request ∷ us) ms e = let s = credits_sum us ms e in omega (arith, s)
-credits_sum (StopUp ∷ us) ms e = let s = credits_sum us ms e in omega (arith, s)
-
--- ---- bus-off is the last that is put
-
-abbrev IsOffLast : List Down → Type 0
-IsOffLast [] = Unit {0}
-IsOffLast (Message m ∷ xs) = IsOffLast xs
-IsOffLast (OffDown ∷ xs) = xs ≡ []
-
-off_last_push : (xs : List Down) (x : Down) → total is_off xs ≡ 0 → IsOffLast (xs ++ x ∷ [])
-off_last_push [] (Message m) none = tt
-off_last_push [] OffDown none = refl
-off_last_push (Message m ∷ xs) x none = off_last_push xs x (omega (arith, none))
-off_last_push (OffDown ∷ xs) x none = absurd (omega (arith, none))
-
--- where messages with bytes are on the way, and then some message is to be released, it is the next item
-record IsNext (m : List ℕ) (waits todo : List Down) : Type 0 where
-  later : List Down
-  undone : List Down
-  waits_is : waits ≡ Message m ∷ later
-  todo_is : todo ≡ Message m ∷ undone
-
-next_message : (waits todo put down : List Down) (m : List ℕ) (rest : List (List ℕ)) → IsOffLast waits →
-    1 ≤ bytes_of (messages waits) → messages todo ≡ m ∷ rest → waits ++ put ≡ todo ++ down → IsNext m waits todo
-next_message [] todo put down m rest last some told same = absurd (omega (arith, some))
-next_message (OffDown ∷ waits) todo put down m rest last some told same =
-    let none = ap (λ (l : List Down). bytes_of (messages l)) last in absurd (omega (arith, some, none))
-next_message (Message x ∷ waits) [] put down m rest last some told same = absurd cc
-next_message (Message x ∷ waits) (OffDown ∷ todo) put down m rest last some told same = absurd cc
-next_message (Message x ∷ waits) (Message y ∷ todo) put down m rest last some told same =
-    let one : y ≡ m = cc in let other : x ≡ y = cc in record {
-      later = waits;
-      undone = todo;
-      waits_is = ap (λ (l : List ℕ). Message l ∷ waits) (other ∙ one);
-      todo_is = ap (λ (l : List ℕ). Message l ∷ todo) one;
-    }
-
--- ---- along the part
+use Rattle.sja_threads.proofs.NextItem.{bytes_put, credits_sum, IsOffLast, off_last_push, next_message}
+use Rattle.sja_threads.proofs.Orders.{Order, with_put, with_taken, with_quiet, put_same, taken_same, next_whole}
+use Rattle.sja_threads.proofs.AfterStop.{Ends, ended, Stopped, none_put, stopped}
+use Rattle.sja_turns.proofs.Few.{credits_taken}
 
 module _ (p : List Entry) (got down : List Down) (held : List (List ℕ)) (all : put_of p ≡ got ++ down) where
-  abbrev Ends : Type 0
-  Ends = IsLinked p (record { put = put_of p; taken = taken_of p; got = got; given = taken_of p })
-
-  -- an order up to here, of a driver that got so much
-  abbrev Order : List Entry → List Down → Bool → Type 0
-  Order q done send = Comes (gathered event_in q) (world (put_of q) (taken_of q) done (taken_of q) send)
-
-  -- with an entry more
-  with_entry : (q : List Entry) (e : Entry) (done : List Down) (send : Bool) →
-      Comes (gathered event_in q ++ event_in e)
-      (world (put_of q ++ put_in e) (taken_of q ++ taken_in e) done (taken_of q ++ taken_in e) send) →
-      Order (q ++ e ∷ []) done send
-  with_entry q e done send c =
-      subst (λ (l : List Event). Comes l (world (put_of (q ++ e ∷ [])) (taken_of (q ++ e ∷ [])) done
-      (taken_of (q ++ e ∷ [])) send)) (sym (gathered_push event_in q e))
-      (subst (λ (l : List Up). Comes (gathered event_in q ++ event_in e)
-      (world (put_of (q ++ e ∷ [])) l done l send)) (sym (gathered_push taken_in q e))
-      (subst (λ (l : List Down). Comes (gathered event_in q ++ event_in e)
-      (world l (taken_of q ++ taken_in e) done (taken_of q ++ taken_in e) send)) (sym (gathered_push put_in q e)) c))
-
-  -- one by which nothing was taken, and one by which nothing was put
-  with_put : (q : List Entry) (e : Entry) (done : List Down) (send : Bool) → taken_in e ≡ [] →
-      Comes (gathered event_in q ++ event_in e) (world (put_of q ++ put_in e) (taken_of q) done (taken_of q) send) →
-      Order (q ++ e ∷ []) done send
-  with_put q e done send none c =
-      with_entry q e done send
-      (subst (λ (l : List Up). Comes (gathered event_in q ++ event_in e) (world (put_of q ++ put_in e) l done l send))
-      (sym (ap (λ (l : List Up). taken_of q ++ l) none ∙ append-nil (taken_of q))) c)
-
-  with_taken : (q : List Entry) (e : Entry) (done : List Down) (send : Bool) → put_in e ≡ [] →
-      Comes (gathered event_in q ++ event_in e)
-      (world (put_of q) (taken_of q ++ taken_in e) done (taken_of q ++ taken_in e) send) → Order (q ++ e ∷ []) done send
-  with_taken q e done send none c =
-      with_entry q e done send
-      (subst (λ (l : List Down). Comes (gathered event_in q ++ event_in e)
-      (world l (taken_of q ++ taken_in e) done (taken_of q ++ taken_in e) send))
-      (sym (ap (λ (l : List Down). put_of q ++ l) none ∙ append-nil (put_of q))) c)
-
-  -- one by which the bus did nothing on the link
-  with_quiet : (q : List Entry) (e : Entry) (done : List Down) (send : Bool) → event_in e ≡ [] → put_in e ≡ [] →
-      taken_in e ≡ [] → Order q done send → Order (q ++ e ∷ []) done send
-  with_quiet q e done send no_event no_put no_taken c =
-      with_put q e done send no_taken
-      (subst (λ (l : List Event). Comes l (world (put_of q ++ put_in e) (taken_of q) done (taken_of q) send))
-      (sym (ap (λ (l : List Event). gathered event_in q ++ l) no_event ∙ append-nil (gathered event_in q)))
-      (subst (λ (l : List Down). Comes (gathered event_in q) (world l (taken_of q) done (taken_of q) send))
-      (sym (ap (λ (l : List Down). put_of q ++ l) no_put ∙ append-nil (put_of q))) c))
-
-  put_same : (q : List Entry) (e : Entry) → put_in e ≡ [] → put_of (q ++ e ∷ []) ≡ put_of q
-  put_same q e none =
-      gathered_push put_in q e ∙ ap (λ (l : List Down). put_of q ++ l) none ∙ append-nil (put_of q)
-
-  taken_same : (q : List Entry) (e : Entry) → taken_in e ≡ [] → taken_of (q ++ e ∷ []) ≡ taken_of q
-  taken_same q e none =
-      gathered_push taken_in q e ∙ ap (λ (l : List Up). taken_of q ++ l) none ∙ append-nil (taken_of q)
-
-  next_whole : (q es : List Entry) (e : Entry) → p ≡ q ++ e ∷ es → p ≡ (q ++ e ∷ []) ++ es
-  next_whole q es e whole = whole ∙ sym (append_assoc q (e ∷ []) es)
-
-  -- all is got
-  ended : (q : List Entry) (send : Bool) → p ≡ q → Order q got send → Ends
-  ended q send e c =
-      let o : Order p got send = subst (λ (l : List Entry). Order l got send) (sym e) c in record {
-        events = o.events;
-        world = world (put_of p) (taken_of p) got (taken_of p) send;
-        reached = o.reached;
-        ends = refl;
-        order = o.order;
-      }
-
-  -- ---- after the stop
-
-  Stopped : List Entry → Type 0
-  Stopped q = total is_stop (taken_of q) ≢ 0
-
-  still_stopped : (q : List Entry) (e : Entry) → taken_in e ≡ [] → Stopped q → Stopped (q ++ e ∷ [])
-  unfolding Stopped
-  still_stopped q e none stop = λ zero. stop (sym (ap (total is_stop) (taken_same q e none)) ∙ zero)
-
-  not_running : (q : List Entry) → Stopped q → IsRunning q → ⊥
-  unfolding Stopped
-  not_running q stop run = stop run.running
-
-  not_first : (q : List Entry) → Stopped q → taken_of q ≡ [] → ⊥
-  unfolding Stopped
-  not_first q stop none = stop (ap (total is_stop) none)
-
-  -- nothing is put
-  none_put : (q es : List Entry) → EachAfter IsOrderly q es → Stopped q → put_of es ≡ []
-  none_put q [] orderly stop = refl
-  none_put q (Bit driven seen ∷ es) orderly stop =
-      none_put (q ++ Bit driven seen ∷ []) es orderly.1 (still_stopped q (Bit driven seen) refl stop)
-  none_put q (Abort ∷ es) orderly stop = none_put (q ++ Abort ∷ []) es orderly.1 (still_stopped q Abort refl stop)
-  none_put q (Overrun m ∷ es) orderly stop =
-      none_put (q ++ Overrun m ∷ []) es orderly.1 (still_stopped q (Overrun m) refl stop)
-  none_put q (Stored m ∷ es) orderly stop = absurd (not_running q stop orderly.0.0)
-  none_put q (OffEntry ∷ es) orderly stop = absurd (not_running q stop orderly.0.0)
-  none_put q (Item (StartUp config) ∷ es) orderly stop = absurd (not_first q stop orderly.0)
-  none_put q (Item (Credit n) ∷ es) orderly stop = absurd (not_running q stop orderly.0.0)
-  none_put q (Item (SendUp request) ∷ es) orderly stop = absurd (not_running q stop orderly.0)
-  none_put q (Item StopUp ∷ es) orderly stop = absurd (not_running q stop orderly.0)
-
-  stopped : (q es : List Entry) (send : Bool) → p ≡ q ++ es → EachAfter IsOrderly q es → Stopped q →
-      Order q got send → Ends
-  stopped q [] send whole orderly stop c = ended q send (whole ∙ append-nil q) c
-  stopped q (Bit driven seen ∷ es) send whole orderly stop c =
-      stopped (q ++ Bit driven seen ∷ []) es send (next_whole q es (Bit driven seen) whole) orderly.1
-      (still_stopped q (Bit driven seen) refl stop) (with_quiet q (Bit driven seen) got send refl refl refl c)
-  stopped q (Abort ∷ es) send whole orderly stop c =
-      stopped (q ++ Abort ∷ []) es send (next_whole q es Abort whole) orderly.1
-      (still_stopped q Abort refl stop) (with_quiet q Abort got send refl refl refl c)
-  stopped q (Overrun m ∷ es) send whole orderly stop c =
-      stopped (q ++ Overrun m ∷ []) es send (next_whole q es (Overrun m) whole) orderly.1
-      (still_stopped q (Overrun m) refl stop) (with_quiet q (Overrun m) got send refl refl refl c)
-  stopped q (Stored m ∷ es) send whole orderly stop c = absurd (not_running q stop orderly.0.0)
-  stopped q (OffEntry ∷ es) send whole orderly stop c = absurd (not_running q stop orderly.0.0)
-  stopped q (Item (StartUp config) ∷ es) send whole orderly stop c = absurd (not_first q stop orderly.0)
-  stopped q (Item (Credit n) ∷ es) send whole orderly stop c = absurd (not_running q stop orderly.0.0)
-  stopped q (Item (SendUp request) ∷ es) send whole orderly stop c = absurd (not_running q stop orderly.0)
-  stopped q (Item StopUp ∷ es) send whole orderly stop c = absurd (not_running q stop orderly.0)
-
-  -- ---- before it
-
   -- where the driver stands right after these entries: it got just the messages whose credits were taken; of what it gets
   -- still these are released
   record IsAt (q es : List Entry) : Type 0 where
@@ -398,7 +219,6 @@ module _ (p : List Entry) (got down : List Down) (held : List (List ℕ)) (all :
   -- ---- all of it
 
   stop_taken : (q : List Entry) → Stopped (q ++ Item StopUp ∷ [])
-  unfolding Stopped
   stop_taken q = λ zero.
       let e = ap (total is_stop) (gathered_push taken_in q (Item StopUp)) in
       let n = total_push is_stop (taken_of q) StopUp in omega (arith, e, n, zero)
@@ -410,42 +230,42 @@ module _ (p : List Entry) (got down : List Down) (held : List (List ℕ)) (all :
       let n = total_append is_stop (taken_of q) (taken_in e) in omega (arith, whole, n, none, running)
 
   along : (q es : List Entry) → p ≡ q ++ es → EachAfter IsOrderly q es → total is_stop (taken_of q) ≡ 0 → IsAt q es →
-      Ends
+      Ends p got
   along q [] whole orderly running h =
-      ended q h.send (whole ∙ append-nil q) (gets_all q [] h whole refl running)
+      ended p got q h.send (whole ∙ append-nil q) (gets_all q [] h whole refl running)
   along q (Bit driven seen ∷ es) whole orderly running h =
-      along (q ++ Bit driven seen ∷ []) es (next_whole q es (Bit driven seen) whole) orderly.1
+      along (q ++ Bit driven seen ∷ []) es (next_whole p q es (Bit driven seen) whole) orderly.1
       (none_stopped q (Bit driven seen) refl running) (quiet_at q es (Bit driven seen) refl refl refl h)
   along q (Abort ∷ es) whole orderly running h =
-      along (q ++ Abort ∷ []) es (next_whole q es Abort whole) orderly.1
+      along (q ++ Abort ∷ []) es (next_whole p q es Abort whole) orderly.1
       (none_stopped q Abort refl running) (quiet_at q es Abort refl refl refl h)
   along q (Overrun m ∷ es) whole orderly running h =
-      along (q ++ Overrun m ∷ []) es (next_whole q es (Overrun m) whole) orderly.1
+      along (q ++ Overrun m ∷ []) es (next_whole p q es (Overrun m) whole) orderly.1
       (none_stopped q (Overrun m) refl running) (quiet_at q es (Overrun m) refl refl refl h)
   along q (Stored m ∷ es) whole orderly running h =
-      along (q ++ Stored m ∷ []) es (next_whole q es (Stored m) whole) orderly.1
+      along (q ++ Stored m ∷ []) es (next_whole p q es (Stored m) whole) orderly.1
       (none_stopped q (Stored m) refl running) (stored_at q es m orderly.0 h)
   along q (OffEntry ∷ es) whole orderly running h =
-      along (q ++ OffEntry ∷ []) es (next_whole q es OffEntry whole) orderly.1
+      along (q ++ OffEntry ∷ []) es (next_whole p q es OffEntry whole) orderly.1
       (none_stopped q OffEntry refl running) (off_at q es orderly.0 h)
   along q (Item (StartUp config) ∷ es) whole orderly running h =
-      along (q ++ Item (StartUp config) ∷ []) es (next_whole q es (Item (StartUp config)) whole) orderly.1
+      along (q ++ Item (StartUp config) ∷ []) es (next_whole p q es (Item (StartUp config)) whole) orderly.1
       (none_stopped q (Item (StartUp config)) refl running)
       (item_at q es (StartUp config) h.send refl refl h
       (with_taken q (Item (StartUp config)) h.gone h.send refl
       (comes_start (gathered event_in q) (put_of q) (taken_of q) h.gone h.send h.order config orderly.0)))
   along q (Item (Credit n) ∷ es) whole orderly running h =
-      along (q ++ Item (Credit n) ∷ []) es (next_whole q es (Item (Credit n)) whole) orderly.1
+      along (q ++ Item (Credit n) ∷ []) es (next_whole p q es (Item (Credit n)) whole) orderly.1
       (none_stopped q (Item (Credit n)) refl running) (credit_at q es n whole orderly.0 h)
   along q (Item (SendUp request) ∷ es) whole orderly running h =
-      along (q ++ Item (SendUp request) ∷ []) es (next_whole q es (Item (SendUp request)) whole) orderly.1
+      along (q ++ Item (SendUp request) ∷ []) es (next_whole p q es (Item (SendUp request)) whole) orderly.1
       (none_stopped q (Item (SendUp request)) refl running)
       (item_at q es (SendUp request) false refl refl h
       (with_taken q (Item (SendUp request)) h.gone false refl
       (comes_send (gathered event_in q) (put_of q) (taken_of q) h.gone h.send request h.order orderly.0.started
       orderly.0.running)))
   along q (Item StopUp ∷ es) whole orderly running h =
-      stopped (q ++ Item StopUp ∷ []) es h.send (next_whole q es (Item StopUp) whole) orderly.1 (stop_taken q)
+      stopped p got (q ++ Item StopUp ∷ []) es h.send (next_whole p q es (Item StopUp) whole) orderly.1 (stop_taken q)
       (with_taken q (Item StopUp) got h.send refl
       (comes_stop (gathered event_in q) (put_of q) (taken_of q) got h.send
       (gets_all q (Item StopUp ∷ es) h whole (none_put (q ++ Item StopUp ∷ []) es orderly.1 (stop_taken q)) running)
