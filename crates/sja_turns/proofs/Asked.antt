@@ -1,23 +1,22 @@
 -- What a node holds after an item was taken.
-use Rattle.std.proofs.Common.{◌≡◌, ℕ, ◌+◌, ◌*◌, ◌<◌, ◌≤◌, Bool, true, false, List, [], ◌∷◌, ◌++◌, length, refl, sym, ap, ◌∙◌, subst, append-nil, arith, inl, inr}
-use Rattle.std.specs.Prelude.{◌==◌, ◌⊎◌, ◌||◌, not, if◌then◌else◌, Option, Some, None}
-use Rattle.std.proofs.lemmas.Bool.{cases_eq, eq-eqb, ne_eqb}
+use Rattle.std.proofs.Common.{◌≡◌, ℕ, ◌≤◌, Bool, true, false, List, [], ◌∷◌, ◌++◌, refl, sym, ap, ◌∙◌, subst, append-nil, arith, inl, inr}
+use Rattle.std.specs.Prelude.{◌⊎◌, not, if◌then◌else◌}
+use Rattle.std.proofs.lemmas.Bool.{eq-eqb}
 use Rattle.can_node.specs.declared.config.Config.{Config}
 use Rattle.can_node.specs.declared.request.Request.{Request}
-use Rattle.can_node.specs.Context.{ContextValue, is_held}
+use Rattle.can_node.specs.Context.{is_held}
 use Rattle.can_node.specs.NextBit.{now_in}
 use Rattle.sja_link.specs.NodeWords.{NodeEntry, NodeStarted, NodeStopped, NodeAsked, FinishedPiece, IsCut}
 use Rattle.sja_link.specs.declared.down.Down.{Down}
 use Rattle.sja_link.specs.declared.down.Down.TheVariants.{Message, Off as OffDown}
-use Rattle.sja_link.specs.declared.up.Up.{Up}
 use Rattle.sja_link.specs.declared.up.Up.TheVariants.{Start as StartItem, Credit, Send as SendItem, Stop as StopItem}
 use Rattle.sja_link.specs.declared.entry.Entry.{Entry}
 use Rattle.sja_link.specs.declared.entry.Entry.TheVariants.{Bit, Up as Item, Abort, Stored, Overrun, Off}
-use Rattle.sja_link.specs.Gathering.{gathered, total}
+use Rattle.sja_link.specs.Gathering.{gathered}
 use Rattle.sja_link.specs.Looking.{off_among}
-use Rattle.sja_link.specs.Parts.{in_part, entry_at, part}
+use Rattle.sja_link.specs.Parts.{in_part, entry_at}
 use Rattle.sja_link.specs.Carried.{put_in, put_of}
-use Rattle.sja_link.specs.Places.{Place, first_place, past, past_all, Placed, placed_from, place_of}
+use Rattle.sja_link.specs.Places.{Place, first_place, past, past_all, placed_from, place_of}
 use Rattle.sja_link.specs.Records.{told, record_of}
 use Rattle.sja_link.specs.Verdicts.{IsLawful}
 use Rattle.sja_link.proofs.Entering.{record_push, gathered_append}

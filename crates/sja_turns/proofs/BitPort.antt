@@ -1,5 +1,5 @@
 -- The port of a node after a bit.
-use Rattle.std.proofs.Common.{◌≡◌, ℕ, ◌≤◌, Bool, true, false, List, ◌++◌, refl, sym, ap, ◌∙◌, subst, arith, inl, inr}
+use Rattle.std.proofs.Common.{◌≡◌, ℕ, ◌≤◌, Bool, true, false, List, refl, sym, ap, ◌∙◌, subst, arith, inl, inr}
 use Rattle.std.specs.Prelude.{◌⊎◌, ◌||◌, ◌&&◌, ◌==◌, not}
 use Rattle.std.proofs.lemmas.Bool.{eq-eqb}
 use Rattle.can_bits.specs.declared.level.Level.{Level}
@@ -8,15 +8,15 @@ use Rattle.sja_link.specs.declared.entry.Entry.{Entry}
 use Rattle.sja_link.specs.Places.{place_of}
 use Rattle.sja_regs.specs.declared.bus_turn.BusTurn.{BusTurn}
 use Rattle.sja_regs.specs.declared.registers.Registers.{Registers}
-use Rattle.sja_regs.specs.Turns.{after_turn, goes_off}
+use Rattle.sja_regs.specs.Turns.{after_turn}
 use Rattle.sja_bus.specs.OneBit.{HasBit}
 use Rattle.sja_bus.specs.Telling.{IsTurn, IsPassedOver}
 use Rattle.sja_driver.specs.Deeds.{Deed, opened_by, is_active}
-use Rattle.sja_report.specs.Aborting.{IsCommanded, sends_taken}
+use Rattle.sja_report.specs.Aborting.{sends_taken}
 use Rattle.sja_report.specs.Settings.{settings_of}
 use Rattle.sja_report.specs.Windows.{off_by}
 use Rattle.sja_turns.specs.Alike.{AreAlike}
-use Rattle.sja_turns.specs.Porting.{is_reset, IsPorted}
+use Rattle.sja_turns.specs.Porting.{IsPorted}
 
 alike_turn : (p r : Registers) (turn : BusTurn) → AreAlike p r → AreAlike (after_turn p turn) r
 alike_turn p r turn h = record { lom = h.lom; stm = h.stm; afm = h.afm; acr = h.acr; amr = h.amr; buffer = h.buffer }
@@ -43,7 +43,8 @@ and_last true b h = h
 and_last false b h = absurd cc
 
 -- the turn of a bit, which the port was told, or for which it was passed over
-module _ (untold changed : Bool) (j opened k : List Entry) (driven seen : Level) (bit : HasBit opened driven seen k) (turn : BusTurn) (is_turn : IsTurn changed opened driven seen k bit turn) (p q : Registers)
+module _ (untold changed : Bool) (j opened k : List Entry) (driven seen : Level) (bit : HasBit opened driven seen k)
+    (turn : BusTurn) (is_turn : IsTurn changed opened driven seen k bit turn) (p q : Registers)
     (port : (q ≡ after_turn p turn) ⊎ IsPassedOver (q ≡ p) untold j opened turn) where
   none_off : IsPassedOver (q ≡ p) untold j opened turn → bit.off ≡ false
   none_off over = sym is_turn.off ∙ ap (λ (e : BitEvents). e.went_off) over.alone.events
@@ -52,8 +53,10 @@ module _ (untold changed : Bool) (j opened k : List Entry) (driven seen : Level)
   reset_now at = elim port [
     | inl told ↦
         ap (λ (r : Registers). r.mode.rm) told
-        ∙ off_or p.mode.rm (turn.activation == p.activation) turn.events.went_off bit.off (eq-eqb turn.activation p.activation (is_turn.says.activation ∙ sym at)) is_turn.off
-    | inr over ↦ ap (λ (r : Registers). r.mode.rm) over.kept ∙ sym (or_none p.mode.rm) ∙ ap (λ (b : Bool). p.mode.rm || b) (sym (none_off over))
+        ∙ off_or p.mode.rm (turn.activation == p.activation) turn.events.went_off bit.off
+        (eq-eqb turn.activation p.activation (is_turn.says.activation ∙ sym at)) is_turn.off
+    | inr over ↦ ap (λ (r : Registers). r.mode.rm) over.kept ∙ sym (or_none p.mode.rm)
+        ∙ ap (λ (b : Bool). p.mode.rm || b) (sym (none_off over))
   ]
 
   set_now : (r : Registers) → AreAlike p r → AreAlike q r
@@ -81,8 +84,11 @@ module _ (untold changed : Bool) (j opened k : List Entry) (driven seen : Level)
     | inr over ↦ sym (ap (λ (r : Registers). r.abort) over.kept) ∙ h
   ]
 
-  pub ported_bit : (version : ℕ) (deeds : List Deed) → settings_of version k deeds ≡ settings_of version j deeds → (place_of k).activation ≡ opened_by deeds → (place_of j).bits ≤ (place_of k).bits → sends_taken k ≡ sends_taken j →
-      off_by (place_of k).bits k (opened_by deeds) ≡ (off_by (place_of j).bits j (opened_by deeds) || bit.off) → IsPorted version j deeds p → IsPorted version k deeds q
+  pub ported_bit : (version : ℕ) (deeds : List Deed) → settings_of version k deeds ≡ settings_of version j deeds →
+      (place_of k).activation ≡ opened_by deeds → (place_of j).bits ≤ (place_of k).bits →
+      sends_taken k ≡ sends_taken j →
+      off_by (place_of k).bits k (opened_by deeds) ≡ (off_by (place_of j).bits j (opened_by deeds) || bit.off) →
+      IsPorted version j deeds p → IsPorted version k deeds q
   ported_bit version deeds settings at more sends offs h = record {
     set = subst (λ (r : Registers). AreAlike q r) (sym settings) (set_now (settings_of version j deeds) h.set);
     reset =

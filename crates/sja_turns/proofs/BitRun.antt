@@ -1,10 +1,9 @@
 -- A run after a bit.
-use Rattle.std.proofs.Common.{◌≡◌, ℕ, suc, ◌+◌, ◌*◌, ◌<◌, Bool, List, [], ◌∷◌, length, sym, ap, ◌∙◌, subst, arith, inl, inr}
-use Rattle.std.specs.Prelude.{◌⊎◌, None, slice_index_or}
+use Rattle.std.proofs.Common.{◌≡◌, ℕ, ◌+◌, ◌*◌, ◌<◌, Bool, List, [], ◌∷◌, length, sym, ap, ◌∙◌, subst, arith, inl, inr}
+use Rattle.std.specs.Prelude.{None, slice_index_or}
 use Rattle.can_bits.specs.declared.level.Level.{Level}
 use Rattle.can_bits.specs.declared.level.Level.TheVariants.{Recessive}
 use Rattle.sja_link.specs.declared.entry.Entry.{Entry}
-use Rattle.sja_link.specs.Accounts.{Account}
 use Rattle.sja_link.specs.Deques.{Deques, Lies}
 use Rattle.sja_regs.specs.declared.bus_turn.BusTurn.{BusTurn}
 use Rattle.sja_regs.specs.declared.orders.Orders.{Orders}
@@ -30,7 +29,8 @@ use Rattle.sja_turns.proofs.BitAsked.{HasCut}
 use Rattle.sja_turns.proofs.Bit.{BitOf, after_one_bit, one_bit}
 
 -- each journal of a lawful bus has a cut
-pub cuts_of : {script : List Strike} {run : ℕ} {journals : List (List Entry)} → IsBusRun script run journals → (m : ℕ) → m < length journals → HasCut (journal_at journals m)
+pub cuts_of : {script : List Strike} {run : ℕ} {journals : List (List Entry)} → IsBusRun script run journals →
+    (m : ℕ) → m < length journals → HasCut (journal_at journals m)
 cuts_of h m less = let l = h.lawful m less in record { found = l.found; cut = l.cut }
 
 -- some element
@@ -42,8 +42,10 @@ pub no_link : Deques
 no_link = record { link = record { node = 0; activation = 0 }; down = []; up = [] }
 
 -- a bit of a node by its port alone
-bit_of : (has_orders : Orders → Type 0) (was_told : BusTurn → Type 0) (was_kept : Type 0) (p q : Registers) (untold : Bool) (j k : List Entry) (driven seen : Level) →
-    ((o : Orders) → has_orders o → o ≡ record { abort = p.abort; ended = p.ended }) → ((t : BusTurn) → was_told t → q ≡ after_turn p t) → (was_kept → q ≡ p) →
+bit_of : (has_orders : Orders → Type 0) (was_told : BusTurn → Type 0) (was_kept : Type 0) (p q : Registers)
+    (untold : Bool) (j k : List Entry) (driven seen : Level) →
+    ((o : Orders) → has_orders o → o ≡ record { abort = p.abort; ended = p.ended }) →
+    ((t : BusTurn) → was_told t → q ≡ after_turn p t) → (was_kept → q ≡ p) →
     IsNodeBit has_orders was_told was_kept untold j k driven seen → BitOf p q untold j k driven seen
 bit_of has_orders was_told was_kept p q untold j k driven seen f g c b = record {
   opened = b.opened;
@@ -65,11 +67,17 @@ bit_of has_orders was_told was_kept p q untold j k driven seen f g c b = record 
   ];
 }
 
-module _ (plan : PlanValue) (r n : SerialValue) (deeds : List (List Deed)) (h : StandsAt plan r deeds) (right : n.bus.fault ≡ None) (script : n.bus.script ≡ r.bus.script)
-    (run : n.bus.run ≡ r.bus.run + 1) (left : n.bus.left + 1 ≡ r.bus.left) (journals : length n.bus.journals ≡ length r.bus.journals) (drivers_are : n.drivers ≡ r.drivers) (bits_are : n.bits ≡ r.bits + 1)
-    (ports : length n.ports ≡ length r.ports) (kept : KeepsAll Lies r.bus.journals n.bus.journals r.links n.links) (sames : EachRelated (λ (a b : Deques). b.link ≡ a.link) r.links n.links)
-    (bit : IsBit (HasOrders r.ports) (WasTold r.ports n.ports) (WasKept r.ports n.ports) r.bus.script r.bus.run r.bus.untold r.bus.journals n.bus.journals)
-    (cuts : (m : ℕ) → m < length r.bus.journals → HasCut (journal_at r.bus.journals m)) (facts : (m : ℕ) (d : Registers) → m < length r.ports → RegisterFacts (slice_index_or r.ports m d)) where
+module _ (plan : PlanValue) (r n : SerialValue) (deeds : List (List Deed)) (h : StandsAt plan r deeds)
+    (right : n.bus.fault ≡ None) (script : n.bus.script ≡ r.bus.script)
+    (run : n.bus.run ≡ r.bus.run + 1) (left : n.bus.left + 1 ≡ r.bus.left)
+    (journals : length n.bus.journals ≡ length r.bus.journals) (drivers_are : n.drivers ≡ r.drivers)
+    (bits_are : n.bits ≡ r.bits + 1)
+    (ports : length n.ports ≡ length r.ports) (kept : KeepsAll Lies r.bus.journals n.bus.journals r.links n.links)
+    (sames : EachRelated (λ (a b : Deques). b.link ≡ a.link) r.links n.links)
+    (bit : IsBit (HasOrders r.ports) (WasTold r.ports n.ports)
+    (WasKept r.ports n.ports) r.bus.script r.bus.run r.bus.untold r.bus.journals n.bus.journals)
+    (cuts : (m : ℕ) → m < length r.bus.journals → HasCut (journal_at r.bus.journals m))
+    (facts : (m : ℕ) (d : Registers) → m < length r.ports → RegisterFacts (slice_index_or r.ports m d)) where
   many : length n.links ≡ length r.links
   many = each_length (λ (a b : Deques). b.link ≡ a.link) r.links n.links sames
 
@@ -77,20 +85,28 @@ module _ (plan : PlanValue) (r n : SerialValue) (deeds : List (List Deed)) (h : 
   inside m less = let c = h.count.journals in omega (arith, c, less)
 
   module _ (m : ℕ) (d : LoggedDriver) (p : Registers) (less : m < length plan.nodes) where
-    here : BitOf (slice_index_or r.ports m p) (slice_index_or n.ports m p) (untold_at r.bus.untold m) (journal_at r.bus.journals m) (journal_at n.bus.journals m) (slice_index_or bit.driven m Recessive) (bit.seen m)
+    here : BitOf (slice_index_or r.ports m p) (slice_index_or n.ports m p) (untold_at r.bus.untold m)
+        (journal_at r.bus.journals m) (journal_at n.bus.journals m) (slice_index_or bit.driven m Recessive) (bit.seen m)
     here =
-        bit_of (HasOrders r.ports m) (WasTold r.ports n.ports m) (WasKept r.ports n.ports m) (slice_index_or r.ports m p) (slice_index_or n.ports m p) (untold_at r.bus.untold m)
-        (journal_at r.bus.journals m) (journal_at n.bus.journals m) (slice_index_or bit.driven m Recessive) (bit.seen m) (λ o x. x p) (λ t x. x p) (λ x. x p) (bit.nodes m (inside m less))
+        bit_of (HasOrders r.ports m) (WasTold r.ports n.ports m) (WasKept r.ports n.ports m)
+        (slice_index_or r.ports m p) (slice_index_or n.ports m p) (untold_at r.bus.untold m)
+        (journal_at r.bus.journals m) (journal_at n.bus.journals m) (slice_index_or bit.driven m Recessive)
+        (bit.seen m) (λ o x. x p) (λ t x. x p) (λ x. x p) (bit.nodes m (inside m less))
 
     one : HasOneBit (journal_at r.bus.journals m) (journal_at n.bus.journals m)
     one =
-        one_bit plan.version (steps_at plan m) (journal_at r.bus.journals m) (journal_at n.bus.journals m) (deeds_at deeds m) (slice_index_or r.drivers m d) (slice_index_or r.ports m p) (slice_index_or n.ports m p)
-        r.links n.links (8 * m) no_link (untold_at r.bus.untold m) (slice_index_or bit.driven m Recessive) (bit.seen m) (h.nodes m d p less) here (λ acc. kept m acc (inside m less))
+        one_bit plan.version (steps_at plan m) (journal_at r.bus.journals m) (journal_at n.bus.journals m)
+        (deeds_at deeds m) (slice_index_or r.drivers m d) (slice_index_or r.ports m p) (slice_index_or n.ports m p)
+        r.links n.links (8 * m) no_link (untold_at r.bus.untold m) (slice_index_or bit.driven m Recessive)
+        (bit.seen m) (h.nodes m d p less) here (λ acc. kept m acc (inside m less))
 
-    node_now : IsNode plan.version (steps_at plan m) (journal_at n.bus.journals m) (deeds_at deeds m) (slice_index_or r.drivers m d) (slice_index_or n.ports m p) n.links (8 * m)
+    node_now : IsNode plan.version (steps_at plan m) (journal_at n.bus.journals m) (deeds_at deeds m)
+        (slice_index_or r.drivers m d) (slice_index_or n.ports m p) n.links (8 * m)
     node_now =
-        after_one_bit plan.version (steps_at plan m) (journal_at r.bus.journals m) (journal_at n.bus.journals m) (deeds_at deeds m) (slice_index_or r.drivers m d) (slice_index_or r.ports m p) (slice_index_or n.ports m p)
-        r.links n.links (8 * m) no_link (untold_at r.bus.untold m) (slice_index_or bit.driven m Recessive) (bit.seen m) (h.nodes m d p less) here (λ acc. kept m acc (inside m less))
+        after_one_bit plan.version (steps_at plan m) (journal_at r.bus.journals m) (journal_at n.bus.journals m)
+        (deeds_at deeds m) (slice_index_or r.drivers m d) (slice_index_or r.ports m p) (slice_index_or n.ports m p)
+        r.links n.links (8 * m) no_link (untold_at r.bus.untold m) (slice_index_or bit.driven m Recessive)
+        (bit.seen m) (h.nodes m d p less) here (λ acc. kept m acc (inside m less))
         (cuts m (inside m less)) (facts m p (let c = h.count.ports in omega (arith, c, less)))
 
   stands_now : StandsAt plan n deeds
@@ -106,10 +122,13 @@ module _ (plan : PlanValue) (r n : SerialValue) (deeds : List (List Deed)) (h : 
       links = many ∙ h.count.links;
     };
     deeds_count = h.deeds_count;
-    ids = λ m a d few less. each_at (λ (x y : Deques). y.link ≡ x.link) (λ (s : Deques). s.link) (λ x y e. e) r.links n.links (per_node * m + a) d sames
+    ids = λ m a d few less. each_at (λ (x y : Deques). y.link ≡ x.link) (λ (s : Deques). s.link)
+        (λ x y e. e) r.links n.links (per_node * m + a) d sames
         ∙ h.ids m a d few (subst (λ (k : ℕ). per_node * m + a < k) many less);
     own = λ m d less. ap (λ (l : List LoggedDriver). node_of (slice_index_or l m d)) drivers_are ∙ h.own m d less;
-    nodes = λ m d p less. subst (λ (l : List LoggedDriver). IsNode plan.version (steps_at plan m) (journal_at n.bus.journals m) (deeds_at deeds m) (slice_index_or l m d) (slice_index_or n.ports m p) n.links (8 * m)) (sym drivers_are)
+    nodes = λ m d p less. subst (λ (l : List LoggedDriver). IsNode plan.version (steps_at plan m)
+        (journal_at n.bus.journals m) (deeds_at deeds m) (slice_index_or l m d) (slice_index_or n.ports m p) n.links
+        (8 * m)) (sym drivers_are)
         (node_now m d p less);
   }
 
@@ -117,5 +136,6 @@ module _ (plan : PlanValue) (r n : SerialValue) (deeds : List (List Deed)) (h : 
   takes_bit = record {
     stands = stands_now;
     bits = bits_are;
-    nodes = λ m less. one m (some_of r.drivers m (let c = h.count.drivers in omega (arith, c, less))) (at_power_on plan.version) less;
+    nodes = λ m less. one m (some_of r.drivers m (let c = h.count.drivers in omega (arith, c, less)))
+        (at_power_on plan.version) less;
   }

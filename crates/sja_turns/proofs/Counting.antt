@@ -18,7 +18,7 @@ use Rattle.sja_link.proofs.Freeing.{total_push}
 use Rattle.sja_regs.specs.declared.registers.Registers.{Registers}
 use Rattle.sja_driver.specs.Carried.{asks_abort}
 use Rattle.sja_driver.specs.Deeds.{Deed}
-use Rattle.sja_turns.specs.Counted.{item_in, verdict_in, off_in, abort_in, asks_by, gave_by, changes_left, pending, off_left, IsCounted}
+use Rattle.sja_turns.specs.Counted.{item_in, verdict_in, off_in, abort_in, asks_by, gave_by, changes_left, pending, IsCounted}
 
 -- ---- what an abort that stands can change
 

@@ -78,7 +78,8 @@ all_below n (x ∷ xs) h =
 
 same_weight : (xs ys : List Weighed) → ((a : ℕ) → at_label xs a ≡ at_label ys a) → weight_of xs ≡ weight_of ys
 same_weight xs ys h =
-    sym (all_below (top_of xs + top_of ys) xs (omega arith)) ∙ below_same (top_of xs + top_of ys) (at_label xs) (at_label ys) h
+    sym (all_below (top_of xs + top_of ys) xs (omega arith))
+    ∙ below_same (top_of xs + top_of ys) (at_label xs) (at_label ys) h
     ∙ all_below (top_of xs + top_of ys) ys (omega arith)
 
 -- ---- what was given
@@ -89,16 +90,20 @@ deed_weights n (d ∷ ds) = (record { label = n + opens_by d; weight = length d.
 
 deeds_weigh : (n : ℕ) (ds : List Deed) → weight_of (deed_weights n ds) ≡ length (given_in ds)
 deeds_weigh n [] = refl
-deeds_weigh n (d ∷ ds) = ap (λ m. length d.gave + m) (deeds_weigh (n + opens_by d) ds) ∙ sym (length-append d.gave (given_in ds))
+deeds_weigh n (d ∷ ds) = ap (λ m. length d.gave + m) (deeds_weigh (n + opens_by d) ds)
+    ∙ sym (length-append d.gave (given_in ds))
 
 abbrev deed_times : Deed → List Timed
 deed_times d = map (timed d.bits) d.gave
 
-deeds_label : (n : ℕ) (ds : List Deed) (a : ℕ) → at_label (deed_weights n ds) a ≡ length (gathered deed_times (section_from opens_by n ds a))
+deeds_label : (n : ℕ) (ds : List Deed) (a : ℕ) →
+    at_label (deed_weights n ds) a ≡ length (gathered deed_times (section_from opens_by n ds a))
 deeds_label n [] a = refl
 deeds_label n (d ∷ ds) a = one (deeds_label (n + opens_by d) ds a) ((n + opens_by d) == a)
   where
-    one : at_label (deed_weights (n + opens_by d) ds) a ≡ length (gathered deed_times (section_from opens_by (n + opens_by d) ds a)) → (b : Bool) → (if b then length d.gave else 0) + at_label (deed_weights (n + opens_by d) ds) a
+    one : at_label (deed_weights (n + opens_by d) ds) a ≡ length
+        (gathered deed_times (section_from opens_by (n + opens_by d) ds a)) → (b : Bool) →
+        (if b then length d.gave else 0) + at_label (deed_weights (n + opens_by d) ds) a
         ≡ length (gathered deed_times ((if b then d ∷ [] else []) ++ section_from opens_by (n + opens_by d) ds a))
     one r true =
         let both = length-append (deed_times d) (gathered deed_times (section_from opens_by (n + opens_by d) ds a)) in
@@ -109,29 +114,37 @@ deeds_label n (d ∷ ds) a = one (deeds_label (n + opens_by d) ds a) ((n + opens
 
 abbrev entry_weights : Place → List Entry → List Weighed
 entry_weights p [] = []
-entry_weights p (e ∷ es) = (record { label = (past p e).activation; weight = length (taken_in e) }) ∷ entry_weights (past p e) es
+entry_weights p (e ∷ es) = (record { label = (past p e).activation; weight = length (taken_in e) }) ∷ entry_weights
+    (past p e) es
 
 entries_weigh : (p : Place) (es : List Entry) → weight_of (entry_weights p es) ≡ length (taken_of es)
 entries_weigh p [] = refl
-entries_weigh p (e ∷ es) = ap (λ m. length (taken_in e) + m) (entries_weigh (past p e) es) ∙ sym (length-append (taken_in e) (taken_of es))
+entries_weigh p (e ∷ es) = ap (λ m. length (taken_in e) + m) (entries_weigh (past p e) es)
+    ∙ sym (length-append (taken_in e) (taken_of es))
 
 abbrev entry_times : Placed → List Timed
 entry_times q = map (timed q.before.bits) (taken_in q.entry)
 
-entries_label : (p : Place) (es : List Entry) (a : ℕ) → at_label (entry_weights p es) a ≡ length (gathered (in_part entry_times a) (placed_from p es))
+entries_label : (p : Place) (es : List Entry) (a : ℕ) →
+    at_label (entry_weights p es) a ≡ length (gathered (in_part entry_times a) (placed_from p es))
 entries_label p [] a = refl
 entries_label p (e ∷ es) a = one (entries_label (past p e) es a) ((past p e).activation == a)
   where
-    one : at_label (entry_weights (past p e) es) a ≡ length (gathered (in_part entry_times a) (placed_from (past p e) es)) → (b : Bool) → (if b then length (taken_in e) else 0) + at_label (entry_weights (past p e) es) a
-        ≡ length ((if b then map (timed p.bits) (taken_in e) else []) ++ gathered (in_part entry_times a) (placed_from (past p e) es))
+    one : at_label (entry_weights (past p e) es) a ≡ length
+        (gathered (in_part entry_times a) (placed_from (past p e) es)) → (b : Bool) →
+        (if b then length (taken_in e) else 0) + at_label (entry_weights (past p e) es) a
+        ≡ length ((if b then map (timed p.bits) (taken_in e) else []) ++ gathered (in_part entry_times a)
+        (placed_from (past p e) es))
     one r true =
-        let both = length-append (map (timed p.bits) (taken_in e)) (gathered (in_part entry_times a) (placed_from (past p e) es)) in
+        let both = length-append (map (timed p.bits) (taken_in e))
+        (gathered (in_part entry_times a) (placed_from (past p e) es)) in
         let many = length-map (taken_in e) (timed p.bits) in omega (arith, both, many, r)
     one r false = omega (arith, r)
 
 -- ---- both
 
-pub as_many : (deeds : List Deed) (j : List Entry) → ((a : ℕ) → given_when deeds a ≡ taken_when j a) → length (taken_of j) ≡ length (given_in deeds)
+pub as_many : (deeds : List Deed) (j : List Entry) → ((a : ℕ) → given_when deeds a ≡ taken_when j a) →
+    length (taken_of j) ≡ length (given_in deeds)
 as_many deeds j h =
     sym (entries_weigh first_place j)
     ∙ sym (same_weight (deed_weights 0 deeds) (entry_weights first_place j)

@@ -1,5 +1,5 @@
 -- What a start, a request or a stop at the end of a record leaves held, by every cut.
-use Rattle.std.proofs.Common.{◌≡◌, ◌≢◌, Bool, true, false, List, [], ◌∷◌, ◌++◌, map, refl, sym, ap, ◌∙◌, subst, append_assoc, append-nil, inl, inr}
+use Rattle.std.proofs.Common.{◌≡◌, Bool, true, false, List, [], ◌∷◌, ◌++◌, map, refl, sym, ap, ◌∙◌, append_assoc, append-nil, inl, inr}
 use Rattle.std.specs.Prelude.{◌⊎◌, ◌&&◌, not, if◌then◌else◌, Option, Some, None}
 use Rattle.std.proofs.lemmas.List.{same_from_push}
 use Rattle.can_bits.specs.declared.level.Level.{Level}
@@ -21,7 +21,7 @@ use Rattle.can_node.specs.Cut.From.{here, on}
 use Rattle.can_node.specs.NextBit.{now_in}
 use Rattle.can_node.proofs.Machine.Along.{along_both}
 use Rattle.can_node.proofs.OneCut.CutOnce.{move_or_open}
-use Rattle.can_node.proofs.OneCut.Entries.{IsOuter, open_part, outer_not_within}
+use Rattle.can_node.proofs.OneCut.Entries.{open_part, outer_not_within}
 use Rattle.can_node.proofs.OneCut.Entries.IsOuter.{start, stop}
 use Rattle.can_node.proofs.OneCut.GoOn.{open_end, rest_open}
 use Rattle.can_node.proofs.OneCut.Through.{Through, goes_through}
@@ -66,8 +66,7 @@ start_keeps config c = over (c.off && not config.listen)
     over : (b : Bool) → is_held (if b then record c {
       listen = config.listen;
       self_test = config.self_test;
-      tec =
-          127;
+      tec = 127;
       rec = 0;
     } else
         record c { listen = config.listen; self_test = config.self_test }).held ≡ is_held c.held

@@ -40,44 +40,59 @@ within : (plan : PlanValue) (r : SerialValue) (deeds : List (List Deed)) → Sta
 within plan r deeds h = let b = h.bits in let a = h.all_bits in omega (arith, a, b)
 
 module _ (plan : PlanValue) (deeds : List (List Deed)) (journals : List (List Entry)) (all : List (List Deed)) where
-  bits_on : (was now : SerialValue) (n : ℕ) → now.bits ≡ was.bits + n → progress now deeds ≡ with_bits (progress was deeds) n
-  bits_on was now n e = ap (λ b. let p : Progress = record { bits = b; done = map (λ (l : List Deed). length l) deeds } in p) e
+  bits_on : (was now : SerialValue) (n : ℕ) → now.bits ≡ was.bits + n →
+      progress now deeds ≡ with_bits (progress was deeds) n
+  bits_on was now n e = ap (λ b. let p : Progress =
+      record { bits = b; done = map (λ (l : List Deed). length l) deeds } in p) e
 
-  pub bus_whole : (was now : SerialValue) (count : ℕ) (turns : List Turn) (q : Progress) (end : End) → StandsAt plan was deeds → TakesBusTurn plan deeds was now count true →
-      RunsTo (acts_of plan journals all) (progress now deeds) turns q end → RunsTo (acts_of plan journals all) (progress was deeds) (Bus count ∷ turns) q end
+  pub bus_whole : (was now : SerialValue) (count : ℕ) (turns : List Turn) (q : Progress) (end : End) →
+      StandsAt plan was deeds → TakesBusTurn plan deeds was now count true →
+      RunsTo (acts_of plan journals all) (progress now deeds) turns q end →
+      RunsTo (acts_of plan journals all) (progress was deeds) (Bus count ∷ turns) q end
   bus_whole was now count turns q end h t follows =
       let n = bits_run plan deeds _ was now t.run t.bits in
       let stands = stands_bits plan deeds _ was now t.run t.bits h in
       let few = within plan now deeds stands in let w = t.whole refl in
       let e : now.bits ≡ was.bits + count = omega (arith, n, w) in
-      bus (progress was deeds) q count turns end (omega (arith, few, e)) (subst (λ (p : Progress). RunsTo (acts_of plan journals all) p turns q end) (bits_on was now count e) follows)
+      bus (progress was deeds) q count turns end (omega (arith, few, e))
+      (subst (λ (p : Progress). RunsTo (acts_of plan journals all) p turns q end) (bits_on was now count e) follows)
 
-  spent_at : (was now : SerialValue) → now.bits ≡ plan.bits → (record (progress was deeds) { bits = plan.bits }) ≡ progress now deeds
-  spent_at was now e = ap (λ b. let p : Progress = record { bits = b; done = map (λ (l : List Deed). length l) deeds } in p) (sym e)
+  spent_at : (was now : SerialValue) → now.bits ≡ plan.bits →
+      (record (progress was deeds) { bits = plan.bits }) ≡ progress now deeds
+  spent_at was now e = ap (λ b. let p : Progress =
+      record { bits = b; done = map (λ (l : List Deed). length l) deeds } in p) (sym e)
 
-  pub bus_short : (was now : SerialValue) (count : ℕ) (turns : List Turn) → TakesBusTurn plan deeds was now count false →
+  pub bus_short : (was now : SerialValue) (count : ℕ) (turns : List Turn) →
+      TakesBusTurn plan deeds was now count false →
       RunsTo (acts_of plan journals all) (progress was deeds) (Bus count ∷ turns) (progress now deeds) BitsSpent
   bus_short was now count turns t =
       let n = bits_run plan deeds _ was now t.run t.bits in let s = t.spent refl in let few = s.0 in let e = s.1 in
-      subst (λ (q : Progress). RunsTo (acts_of plan journals all) (progress was deeds) (Bus count ∷ turns) q BitsSpent) (spent_at was now e)
+      subst (λ (q : Progress). RunsTo (acts_of plan journals all) (progress was deeds)
+      (Bus count ∷ turns) q BitsSpent) (spent_at was now e)
       (bus_spent (progress was deeds) count turns (omega (arith, n, few, e)))
 
   -- ---- rest
 
-  rests_then : (at : Progress) (r : SerialValue) → at.done ≡ map (λ (l : List Deed). length l) deeds → StandsAt plan r deeds → ArePresent plan r → GoesOn plan r deeds journals all → (k : ℕ) → k < length plan.nodes →
-      record_at (journal_at journals k) (take (slice_index at.done k) (deeds_at all k)) r.bits ≡ record_of (journal_at r.bus.journals k)
+  rests_then : (at : Progress) (r : SerialValue) → at.done ≡ map (λ (l : List Deed). length l) deeds →
+      StandsAt plan r deeds → ArePresent plan r → GoesOn plan r deeds journals all → (k : ℕ) → k < length plan.nodes →
+      record_at (journal_at journals k) (take (slice_index at.done k) (deeds_at all k)) r.bits ≡ record_of
+      (journal_at r.bus.journals k)
   rests_then at r e h present go k less =
-      ap (λ l. record_at (journal_at journals k) l r.bits) (ap (λ l. take (slice_index l k) (deeds_at all k)) e ∙ deeds_then plan r deeds journals all go k less)
+      ap (λ l. record_at (journal_at journals k) l r.bits)
+      (ap (λ l. take (slice_index l k) (deeds_at all k)) e ∙ deeds_then plan r deeds journals all go k less)
       ∙ record_then plan r deeds journals all h present go k less
 
   -- where some node works not all are at rest
-  works_then : (was r : SerialValue) → StandsAt plan r deeds → ArePresent plan r → GoesOn plan r deeds journals all → SomeWorks plan r → AllAtRest (acts_of plan journals all) (progress was deeds) r.bits → ⊥
+  works_then : (was r : SerialValue) → StandsAt plan r deeds → ArePresent plan r → GoesOn plan r deeds journals all →
+      SomeWorks plan r → AllAtRest (acts_of plan journals all) (progress was deeds) r.bits → ⊥
   works_then was r h present go works still =
       let k = works.0 in
-      let rests = subst (λ (l : List NodeEntry). IsAtRest l) (rests_then (progress was deeds) r refl h present go k works.1) (still k works.1) in
+      let rests = subst (λ (l : List NodeEntry). IsAtRest l)
+      (rests_then (progress was deeds) r refl h present go k works.1) (still k works.1) in
       false≢true (sym (works.2.every rests.0 rests.1) ∙ rests.2)
 
-  works_before : (was now : SerialValue) (n : ℕ) → TakesBits plan deeds (SomeWorks plan) was n now → StandsAt plan was deeds → ArePresent plan was → GoesOn plan now deeds journals all →
+  works_before : (was now : SerialValue) (n : ℕ) → TakesBits plan deeds (SomeWorks plan) was n now →
+      StandsAt plan was deeds → ArePresent plan was → GoesOn plan now deeds journals all →
       (i : ℕ) → i < n → AllAtRest (acts_of plan journals all) (progress was deeds) (was.bits + i) → ⊥
   works_before was now n (no_bit _) h present go i less still = omega (arith, less)
   works_before was now n (one_more _ mid _ m before holds bit) h present go i less still =
@@ -87,12 +102,15 @@ module _ (plan : PlanValue) (deeds : List (List Deed)) (journals : List (List En
         | inr far ↦
             let e = bits_run plan deeds _ was mid m before in
             let now_is : was.bits + i ≡ mid.bits = omega (arith, e, far, less) in
-            works_then was mid (stands_bits plan deeds _ was mid m before h) (present_bits plan deeds _ was mid m before present) back holds
+            works_then was mid (stands_bits plan deeds _ was mid m before h)
+            (present_bits plan deeds _ was mid m before present) back holds
             (subst (λ (b : ℕ). AllAtRest (acts_of plan journals all) (progress was deeds) b) now_is still)
       ]
 
-  pub rest_whole : (was now : SerialValue) (turns : List Turn) (q : Progress) (end : End) → StandsAt plan was deeds → ArePresent plan was → GoesOn plan now deeds journals all → TakesRest plan deeds was now true →
-      RunsTo (acts_of plan journals all) (progress now deeds) turns q end → RunsTo (acts_of plan journals all) (progress was deeds) (Rest ∷ turns) q end
+  pub rest_whole : (was now : SerialValue) (turns : List Turn) (q : Progress) (end : End) → StandsAt plan was deeds →
+      ArePresent plan was → GoesOn plan now deeds journals all → TakesRest plan deeds was now true →
+      RunsTo (acts_of plan journals all) (progress now deeds) turns q end →
+      RunsTo (acts_of plan journals all) (progress was deeds) (Rest ∷ turns) q end
   rest_whole was now turns q end h present go t follows =
       let e = bits_run plan deeds _ was now t.run t.bits in
       let stands = stands_bits plan deeds _ was now t.run t.bits h in
@@ -100,26 +118,32 @@ module _ (plan : PlanValue) (deeds : List (List Deed)) (journals : List (List En
       let few = within plan now deeds stands in
       let still : AllAtRest (acts_of plan journals all) (progress was deeds) now.bits = λ k less.
       let rests = t.whole refl k less in
-      subst (λ (l : List NodeEntry). IsAtRest l) (sym (rests_then (progress was deeds) now refl stands there go k less)) (rests.found, rests.cut, rests.is) in
-      rest (progress was deeds) q t.run turns end (omega (arith, few, e)) (works_before was now t.run t.bits h present go)
+      subst (λ (l : List NodeEntry). IsAtRest l)
+      (sym (rests_then (progress was deeds) now refl stands there go k less)) (rests.found, rests.cut, rests.is) in
+      rest (progress was deeds) q t.run turns end (omega (arith, few, e))
+      (works_before was now t.run t.bits h present go)
       (subst (λ (b : ℕ). AllAtRest (acts_of plan journals all) (progress was deeds) b) e still)
       (subst (λ (p : Progress). RunsTo (acts_of plan journals all) p turns q end) (bits_on was now t.run e) follows)
 
-  pub rest_short : (was now : SerialValue) (turns : List Turn) → StandsAt plan was deeds → ArePresent plan was → GoesOn plan now deeds journals all → TakesRest plan deeds was now false →
+  pub rest_short : (was now : SerialValue) (turns : List Turn) → StandsAt plan was deeds → ArePresent plan was →
+      GoesOn plan now deeds journals all → TakesRest plan deeds was now false →
       RunsTo (acts_of plan journals all) (progress was deeds) (Rest ∷ turns) (progress now deeds) BitsSpent
   rest_short was now turns h present go t =
       let e = bits_run plan deeds _ was now t.run t.bits in
       let stands = stands_bits plan deeds _ was now t.run t.bits h in
       let there = present_bits plan deeds _ was now t.run t.bits present in
       let s = t.spent refl in let last = s.1 in
-      subst (λ (q : Progress). RunsTo (acts_of plan journals all) (progress was deeds) (Rest ∷ turns) q BitsSpent) (spent_at was now s.1)
+      subst (λ (q : Progress). RunsTo (acts_of plan journals all) (progress was deeds) (Rest ∷ turns) q BitsSpent)
+      (spent_at was now s.1)
       (rest_spent (progress was deeds) turns (λ bits from to still. elim (cases_lt (bits - was.bits) t.run) [
         | inl few ↦
             let same : bits ≡ was.bits + (bits - was.bits) = omega (arith, from) in
-            works_before was now t.run t.bits h present go (bits - was.bits) few (subst (λ (b : ℕ). AllAtRest (acts_of plan journals all) (progress was deeds) b) same still)
+            works_before was now t.run t.bits h present go (bits - was.bits) few
+            (subst (λ (b : ℕ). AllAtRest (acts_of plan journals all) (progress was deeds) b) same still)
         | inr far ↦
             let same : bits ≡ now.bits = omega (arith, from, to, far, e, last) in
-            works_then was now stands there go s.0 (subst (λ (b : ℕ). AllAtRest (acts_of plan journals all) (progress was deeds) b) same still)
+            works_then was now stands there go s.0
+            (subst (λ (b : ℕ). AllAtRest (acts_of plan journals all) (progress was deeds) b) same still)
       ]))
 
 -- ---- steps of a driver
@@ -129,8 +153,10 @@ not_false true e = refl
 not_false false e = sym e
 
 -- the deeds in between
-middle_at : (xs more after : List Deed) (i n : ℕ) (d : Deed) → n ≡ length xs + i → i < length more → slice_index_or ((xs ++ more) ++ after) n d ≡ slice_index_or more i d
-middle_at [] more after i n d e less = ap (λ m. slice_index_or (more ++ after) m d) (e ∙ zero_plus i) ∙ front more i less
+middle_at : (xs more after : List Deed) (i n : ℕ) (d : Deed) → n ≡ length xs + i → i < length more →
+    slice_index_or ((xs ++ more) ++ after) n d ≡ slice_index_or more i d
+middle_at [] more after i n d e less = ap (λ m. slice_index_or (more ++ after) m d) (e ∙ zero_plus i)
+    ∙ front more i less
   where
     zero_plus : (k : ℕ) → 0 + k ≡ k
     zero_plus k = omega arith
@@ -142,24 +168,31 @@ middle_at [] more after i n d e less = ap (λ m. slice_index_or (more ++ after) 
 middle_at (x ∷ xs) more after i zero d e less = absurd (omega (arith, e))
 middle_at (x ∷ xs) more after i (suc n) d e less = middle_at xs more after i n d (omega (arith, e)) less
 
-module _ (plan : PlanValue) (r : SerialValue) (deeds : List (List Deed)) (journals : List (List Entry)) (all : List (List Deed)) (h : StandsAt plan r deeds) (present : ArePresent plan r) (go : GoesOn plan r deeds journals all)
+module _ (plan : PlanValue) (r : SerialValue) (deeds : List (List Deed)) (journals : List (List Entry))
+    (all : List (List Deed)) (h : StandsAt plan r deeds) (present : ArePresent plan r)
+    (go : GoesOn plan r deeds journals all)
     (laws : IsBusRun r.bus.script r.bus.run r.bus.journals) (k : ℕ) (less : k < length plan.nodes) where
   place_is : (place_of (journal_at r.bus.journals k)).bits ≡ r.bits
   place_is = bits_counted (journal_at r.bus.journals k) ∙ (present k less).bits_are
 
   -- a request that isn't released by then
-  holding_then : (p : Registers) → IsAsked (journal_at r.bus.journals k) p → p.tbs ≡ false → IsHolding (record_at (journal_at journals k) (deeds_at deeds k) r.bits)
+  holding_then : (p : Registers) → IsAsked (journal_at r.bus.journals k) p → p.tbs ≡ false →
+      IsHolding (record_at (journal_at journals k) (deeds_at deeds k) r.bits)
   holding_then p asked taken =
       let c = h.count.journals in
       let lawful = laws.lawful k (omega (arith, c, less)) in
       subst (λ (l : List NodeEntry). IsHolding l) (sym (record_then plan r deeds journals all h present go k less))
       (lawful.found, lawful.cut, not_false _ (sym (asked lawful.found lawful.cut) ∙ taken))
 
-  unmet_then : (s : Step) (p : Registers) → IsAsked (journal_at r.bus.journals k) p → HasToWait (journal_at r.bus.journals k) (deeds_at deeds k) p s → IsUnmet (journal_at journals k) (deeds_at deeds k) r.bits s
+  unmet_then : (s : Step) (p : Registers) → IsAsked (journal_at r.bus.journals k) p →
+      HasToWait (journal_at r.bus.journals k) (deeds_at deeds k) p s →
+      IsUnmet (journal_at journals k) (deeds_at deeds k) r.bits s
   unmet_then (Await count) p asked w = (
     w.0,
-    off_then plan r deeds journals all h present go k (opened_by (deeds_at deeds k)) less ∙ ap (λ n. off_by n (journal_at r.bus.journals k) (opened_by (deeds_at deeds k))) (sym (place_is)) ∙ w.1,
-    subst (λ (m : ℕ). m < count) (ap (λ n. length (window_of (journal_at r.bus.journals k) (deeds_at deeds k) n)) place_is ∙ ap (λ l. length l) (sym (window_then plan r deeds journals all h present go k less))) w.2,
+    off_then plan r deeds journals all h present go k (opened_by (deeds_at deeds k)) less
+        ∙ ap (λ n. off_by n (journal_at r.bus.journals k) (opened_by (deeds_at deeds k))) (sym (place_is)) ∙ w.1,
+    subst (λ (m : ℕ). m < count) (ap (λ n. length (window_of (journal_at r.bus.journals k) (deeds_at deeds k) n))
+        place_is ∙ ap (λ l. length l) (sym (window_then plan r deeds journals all h present go k less))) w.2,
   )
   unmet_then Sent p asked w = (w.0, holding_then p asked w.1)
   unmet_then Start p asked w = absurd w
@@ -176,23 +209,36 @@ module _ (plan : PlanValue) (r : SerialValue) (deeds : List (List Deed)) (journa
   stuck_then (inr waits) = record {
     why = inr (λ s.
         let port = slice_index_or r.ports k (at_power_on 1) in
-        let u = unmet_then (slice_index_or (steps_at plan k) (length (deeds_at deeds k)) s) port (h.nodes k (let c = h.count.drivers in first_driver r.drivers (omega (arith, c, less))) (at_power_on 1) less).asked (waits s (at_power_on 1)) in
-        subst (λ (n : ℕ). IsUnmet (journal_at journals k) (take (slice_index (map (λ (l : List Deed). length l) deeds) k) (deeds_at all k)) r.bits (slice_index_or (steps_at plan k) n s)) (sym (length_at deeds k))
-        (subst (λ (l : List Deed). IsUnmet (journal_at journals k) l r.bits (slice_index_or (steps_at plan k) (length (deeds_at deeds k)) s)) (sym (deeds_then plan r deeds journals all go k less)) u));
+        let u = unmet_then (slice_index_or (steps_at plan k) (length (deeds_at deeds k)) s) port
+        (h.nodes k (let c = h.count.drivers in first_driver r.drivers (omega (arith, c, less)))
+        (at_power_on 1) less).asked (waits s (at_power_on 1)) in
+        subst (λ (n : ℕ). IsUnmet (journal_at journals k)
+        (take (slice_index (map (λ (l : List Deed). length l) deeds) k) (deeds_at all k)) r.bits
+        (slice_index_or (steps_at plan k) n s)) (sym (length_at deeds k))
+        (subst (λ (l : List Deed). IsUnmet (journal_at journals k) l r.bits
+        (slice_index_or (steps_at plan k) (length (deeds_at deeds k)) s))
+        (sym (deeds_then plan r deeds journals all go k less)) u));
   }
 
 -- a turn of a node
-module _ (plan : PlanValue) (was now : SerialValue) (k count : ℕ) (deeds : List (List Deed)) (journals : List (List Entry)) (all : List (List Deed)) (h : StandsAt plan was deeds) (t : TakesTurn plan was now k count deeds) (present : ArePresent plan now)
-    (go : GoesOn plan now (with_deeds deeds k t.more) journals all) (laws : IsBusRun now.bus.script now.bus.run now.bus.journals) (less : k < length plan.nodes) where
+module _ (plan : PlanValue) (was now : SerialValue) (k count : ℕ) (deeds : List (List Deed))
+    (journals : List (List Entry)) (all : List (List Deed)) (h : StandsAt plan was deeds)
+    (t : TakesTurn plan was now k count deeds) (present : ArePresent plan now)
+    (go : GoesOn plan now (with_deeds deeds k t.more) journals all)
+    (laws : IsBusRun now.bus.script now.bus.run now.bus.journals) (less : k < length plan.nodes) where
   there : k < length deeds
   there = let c = h.deeds_count in omega (arith, c, less)
 
   steps_on : progress now (with_deeds deeds k t.more) ≡ with_steps (progress was deeds) k (length t.more)
   steps_on =
       let n = length_at deeds k in let both = length-append (deeds_at deeds k) t.more in
-      let many : length (deeds_at deeds k ++ t.more) ≡ slice_index (map (λ (l : List Deed). length l) deeds) k + length t.more = omega (arith, n, both) in
-      let done : map (λ (l : List Deed). length l) (with_deeds deeds k t.more) ≡ set (map (λ (l : List Deed). length l) deeds) k (slice_index (map (λ (l : List Deed). length l) deeds) k + length t.more) =
-      sym (lengths_set deeds k (deeds_at deeds k ++ t.more)) ∙ ap (λ m. set (map (λ (l : List Deed). length l) deeds) k m) many in
+      let many : length (deeds_at deeds k ++ t.more) ≡ slice_index
+      (map (λ (l : List Deed). length l) deeds) k + length t.more = omega (arith, n, both) in
+      let done : map (λ (l : List Deed). length l) (with_deeds deeds k t.more) ≡ set
+      (map (λ (l : List Deed). length l) deeds) k
+      (slice_index (map (λ (l : List Deed). length l) deeds) k + length t.more) =
+      sym (lengths_set deeds k (deeds_at deeds k ++ t.more))
+      ∙ ap (λ m. set (map (λ (l : List Deed). length l) deeds) k m) many in
       λ i. let p : Progress = record { bits = t.does.bits i; done = done i } in p
 
   here : deeds_at (with_deeds deeds k t.more) k ≡ deeds_at deeds k ++ t.more
@@ -206,14 +252,23 @@ module _ (plan : PlanValue) (was now : SerialValue) (k count : ℕ) (deeds : Lis
     most = t.most;
     exist =
         let n = length_at deeds k in let w = ap (λ l. length l) all_here in let after = (go.deeds_go k less).0 in
-        let one = length-append (deeds_at deeds k ++ t.more) after in let two = length-append (deeds_at deeds k) t.more in omega (arith, n, w, one, two);
+        let one = length-append (deeds_at deeds k ++ t.more) after in
+        let two = length-append (deeds_at deeds k) t.more in omega (arith, n, w, one, two);
     now = λ i x few.
         let n = length_at deeds k in
-        let e : slice_index (map (λ (l : List Deed). length l) deeds) k + i ≡ length (deeds_at deeds k) + i = omega (arith, n) in
-        ap (λ (y : Deed). y.bits) (ap (λ l. slice_index_or l (slice_index (map (λ (l : List Deed). length l) deeds) k + i) x) all_here ∙ middle_at (deeds_at deeds k) t.more (go.deeds_go k less).0 i _ x e few)
+        let e : slice_index (map (λ (l : List Deed). length l) deeds) k + i ≡ length (deeds_at deeds k) + i = omega
+        (arith, n) in
+        ap (λ (y : Deed). y.bits) (ap (λ l. slice_index_or l
+        (slice_index (map (λ (l : List Deed). length l) deeds) k + i) x) all_here
+        ∙ middle_at (deeds_at deeds k) t.more (go.deeds_go k less).0 i _ x e few)
         ∙ t.does.at_once i x few;
-    stuck = λ few. subst (λ (p : Progress). IsStuck (acts_of plan journals all) p k) steps_on (stuck_then plan now (with_deeds deeds k t.more) journals all t.does.stands present go laws k less (t.stuck few));
+    stuck = λ few. subst (λ (p : Progress). IsStuck (acts_of plan journals all) p k) steps_on
+        (stuck_then plan now (with_deeds deeds k t.more) journals all t.does.stands present go laws k less
+        (t.stuck few));
   }
 
-  pub node_whole : (turns : List Turn) (q : Progress) (end : End) → RunsTo (acts_of plan journals all) (progress now (with_deeds deeds k t.more)) turns q end → RunsTo (acts_of plan journals all) (progress was deeds) (Node k count ∷ turns) q end
-  node_whole turns q end follows = node (progress was deeds) q k count (length t.more) turns end does (subst (λ (p : Progress). RunsTo (acts_of plan journals all) p turns q end) steps_on follows)
+  pub node_whole : (turns : List Turn) (q : Progress) (end : End) →
+      RunsTo (acts_of plan journals all) (progress now (with_deeds deeds k t.more)) turns q end →
+      RunsTo (acts_of plan journals all) (progress was deeds) (Node k count ∷ turns) q end
+  node_whole turns q end follows = node (progress was deeds) q k count (length t.more) turns end does
+      (subst (λ (p : Progress). RunsTo (acts_of plan journals all) p turns q end) steps_on follows)

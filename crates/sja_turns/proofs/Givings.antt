@@ -17,16 +17,22 @@ use Rattle.sja_driver.specs.Deeds.{opened, active_after, FitsState, GivesSend, G
 -- from a driver that is active or isn't, and has opened so many activations
 pub data Kind (active : Bool) (n : ℕ) (s : Step) (r : StepAnswer) (gave : List Up) : Type 0 where
   quiet : gave ≡ [] → opened s r ≡ 0 → active_after active s r ≡ active → Kind active n s r gave
-  starts : active ≡ false → n < 8 → (config : Config) → gave ≡ StartItem config ∷ [] → opened s r ≡ 1 → active_after active s r ≡ true → Kind active n s r gave
-  credits : active ≡ true → (k : ℕ) → gave ≡ Credit k ∷ [] → opened s r ≡ 0 → active_after active s r ≡ active → Kind active n s r gave
-  sends : active ≡ true → (request : Request) → gave ≡ SendItem request ∷ [] → opened s r ≡ 0 → active_after active s r ≡ active → Kind active n s r gave
-  stops : active ≡ true → gave ≡ StopItem ∷ [] → opened s r ≡ 0 → active_after active s r ≡ false → Kind active n s r gave
+  starts : active ≡ false → n < 8 → (config : Config) → gave ≡ StartItem config ∷ [] → opened s r ≡ 1 →
+      active_after active s r ≡ true → Kind active n s r gave
+  credits : active ≡ true → (k : ℕ) → gave ≡ Credit k ∷ [] → opened s r ≡ 0 → active_after active s r ≡ active →
+      Kind active n s r gave
+  sends : active ≡ true → (request : Request) → gave ≡ SendItem request ∷ [] → opened s r ≡ 0 →
+      active_after active s r ≡ active → Kind active n s r gave
+  stops : active ≡ true → gave ≡ StopItem ∷ [] → opened s r ≡ 0 → active_after active s r ≡ false →
+      Kind active n s r gave
 
-few_left : (n : ℕ) (b : Bool) → nat_lt n 8 ≡ b → DoneAnswer ≡ (if b then DoneAnswer else Refused NoActivationLeft) → n < 8
+few_left : (n : ℕ) (b : Bool) → nat_lt n 8 ≡ b → DoneAnswer ≡ (if b then DoneAnswer else Refused NoActivationLeft) →
+    n < 8
 few_left n true less e = ltb-true n 8 less
 few_left n false less e = absurd cc
 
-pub kind_of : (active : Bool) (n : ℕ) (s : Step) (r : StepAnswer) (gave : List Up) → FitsState active n s r → Gives s r gave → Kind active n s r gave
+pub kind_of : (active : Bool) (n : ℕ) (s : Step) (r : StepAnswer) (gave : List Up) → FitsState active n s r →
+    Gives s r gave → Kind active n s r gave
 kind_of true n Start DoneAnswer gave fits g = absurd cc
 kind_of false n Start DoneAnswer gave fits g = starts refl (few_left n (nat_lt n 8) refl fits) g.0 g.1 refl refl
 kind_of active n Start NoMessage gave fits g = quiet g refl refl

@@ -1,6 +1,6 @@
 -- Each frame that a node received, or sent for itself, is a frame.
-use Rattle.std.proofs.Common.{◌≡◌, ℕ, ◌≤◌, Bool, true, false, List, [], ◌∷◌, ◌++◌, length, refl, sym, ap, ◌∙◌, subst, append-nil, arith}
-use Rattle.std.specs.Prelude.{min, if◌then◌else◌, Option, Some, None}
+use Rattle.std.proofs.Common.{ℕ, ◌≤◌, Bool, true, false, List, [], ◌∷◌, ◌++◌, length, sym, subst, arith}
+use Rattle.std.specs.Prelude.{if◌then◌else◌, Option, Some, None}
 use Rattle.can_bits.specs.declared.level.Level.{Level}
 use Rattle.can_frame.specs.Frame.{FrameValue, IsFrame, data_count}
 use Rattle.can_frame.specs.Message.{head_of}

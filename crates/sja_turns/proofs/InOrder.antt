@@ -27,7 +27,7 @@ use Rattle.sja_turns.proofs.Givings.Kind.{quiet, starts, credits, sends, stops}
 use Rattle.sja_turns.proofs.After.{enters, level_after}
 use Rattle.sja_turns.proofs.Ported.{was_on, on_bus}
 use Rattle.sja_turns.proofs.Small.{no_item, one_item, neither}
-use Rattle.sja_turns.proofs.Trying.{IsNext, comes}
+use Rattle.sja_turns.proofs.Trying.{IsNext}
 
 module _ (version : ℕ) (j : List Entry) (deeds : List Deed) (d : Deed) (p q : Registers) (next : IsNext j deeds p q d)
     (ported : IsPorted version j deeds p) (asked : IsAsked j p) (level : IsLevel j deeds)

@@ -60,15 +60,20 @@ pub off_same : (j k : List Entry) → SamePut j k → (n a : ℕ) → off_by n k
 off_same j k same n a = ap (off_among false) (same n a)
 
 window_same : (j k : List Entry) → SamePut j k → (deeds : List Deed) (n : ℕ) → window_of k deeds n ≡ window_of j deeds n
-window_same j k same deeds n = ap (λ (xs : List Down). drop (length (released_lengths (deeds_of deeds (opened_by deeds)))) (messages xs)) (same n (opened_by deeds))
+window_same j k same deeds n = ap (λ (xs : List Down). drop
+    (length (released_lengths (deeds_of deeds (opened_by deeds)))) (messages xs)) (same n (opened_by deeds))
 
-pub sees_same : (j k : List Entry) → SamePut j k → (b : Bool) (before : List Deed) (d : Deed) → SeesIf b j before d → SeesIf b k before d
+pub sees_same : (j k : List Entry) → SamePut j k → (b : Bool) (before : List Deed) (d : Deed) → SeesIf b j before d →
+    SeesIf b k before d
 sees_same j k same true before d h =
-    subst (λ (x : Bool). Sees d.step x (window_of k before d.bits) d.answer) (sym (off_same j k same d.bits (opened_by before)))
-    (subst (λ (w : List (List ℕ)). Sees d.step (off_by d.bits j (opened_by before)) w d.answer) (sym (window_same j k same before d.bits)) h)
+    subst (λ (x : Bool). Sees d.step x (window_of k before d.bits) d.answer)
+    (sym (off_same j k same d.bits (opened_by before)))
+    (subst (λ (w : List (List ℕ)). Sees d.step (off_by d.bits j (opened_by before)) w d.answer)
+    (sym (window_same j k same before d.bits)) h)
 sees_same j k same false before d h = tt
 
-pub each_map : {X : Type 0} (P Q : List X → X → Type 0) → ((before : List X) (x : X) → P before x → Q before x) → (before xs : List X) → EachAfter P before xs → EachAfter Q before xs
+pub each_map : {X : Type 0} (P Q : List X → X → Type 0) → ((before : List X) (x : X) → P before x → Q before x) →
+    (before xs : List X) → EachAfter P before xs → EachAfter Q before xs
 each_map P Q f before [] h = tt
 each_map P Q f before (x ∷ xs) h = (f before x h.0, each_map P Q f (before ++ x ∷ []) xs h.1)
 
@@ -82,50 +87,68 @@ same_deed j k same s d =
       registers = after_setting (not s.active || b) s.registers d.step d.answer;
     } in r) (off_same j k same d.bits s.activation)
 
-same_standing : (j k : List Entry) → SamePut j k → (s : Standing) (deeds : List Deed) → fold (after_deed k) s deeds ≡ fold (after_deed j) s deeds
+same_standing : (j k : List Entry) → SamePut j k → (s : Standing) (deeds : List Deed) →
+    fold (after_deed k) s deeds ≡ fold (after_deed j) s deeds
 same_standing j k same s [] = refl
-same_standing j k same s (d ∷ deeds) = ap (λ (x : Standing). fold (after_deed k) x deeds) (same_deed j k same s d) ∙ same_standing j k same (after_deed j s d) deeds
+same_standing j k same s (d ∷ deeds) = ap (λ (x : Standing). fold (after_deed k) x deeds) (same_deed j k same s d)
+    ∙ same_standing j k same (after_deed j s d) deeds
 
-pub settings_same : (version : ℕ) (j k : List Entry) → SamePut j k → (deeds : List Deed) → settings_of version k deeds ≡ settings_of version j deeds
+pub settings_same : (version : ℕ) (j k : List Entry) → SamePut j k → (deeds : List Deed) →
+    settings_of version k deeds ≡ settings_of version j deeds
 settings_same version j k same deeds = ap (λ (s : Standing). s.registers) (same_standing j k same _ deeds)
 
-standing_is : (j : List Entry) (s : Standing) (deeds : List Deed) → ((fold (after_deed j) s deeds).active ≡ active_from s.active deeds) × ((fold (after_deed j) s deeds).activation ≡ s.activation + opened_by deeds)
+standing_is : (j : List Entry) (s : Standing) (deeds : List Deed) →
+    ((fold (after_deed j) s deeds).active ≡ active_from s.active deeds) ×
+    ((fold (after_deed j) s deeds).activation ≡ s.activation + opened_by deeds)
 standing_is j s [] = (refl, omega arith)
 standing_is j s (d ∷ deeds) = let h = standing_is j (after_deed j s d) deeds in let e = h.1 in (h.0, omega (arith, e))
 
 -- a deed more sets this
 pub settings_push : (version : ℕ) (j : List Entry) (deeds : List Deed) (d : Deed) →
-    settings_of version j (deeds ++ d ∷ []) ≡ after_setting (not (is_active deeds) || off_by d.bits j (opened_by deeds)) (settings_of version j deeds) d.step d.answer
+    settings_of version j (deeds ++ d ∷ []) ≡ after_setting
+    (not (is_active deeds) || off_by d.bits j (opened_by deeds)) (settings_of version j deeds) d.step d.answer
 settings_push version j deeds d =
     let s : Standing = record { active = false; activation = 0; registers = at_power_on version } in
     let h = standing_is j s deeds in
     let e = h.1 in
     let a : (fold (after_deed j) s deeds).activation ≡ opened_by deeds = omega (arith, e) in
     ap (λ (x : Standing). x.registers) (fold_push (after_deed j) s deeds d)
-    ∙ ap (λ (b : Bool). after_setting (not b || off_by d.bits j (fold (after_deed j) s deeds).activation) (fold (after_deed j) s deeds).registers d.step d.answer) h.0
-    ∙ ap (λ (n : ℕ). after_setting (not (is_active deeds) || off_by d.bits j n) (fold (after_deed j) s deeds).registers d.step d.answer) a
+    ∙ ap (λ (b : Bool). after_setting (not b || off_by d.bits j (fold (after_deed j) s deeds).activation)
+    (fold (after_deed j) s deeds).registers d.step d.answer) h.0
+    ∙ ap (λ (n : ℕ). after_setting (not (is_active deeds) || off_by d.bits j n)
+    (fold (after_deed j) s deeds).registers d.step d.answer) a
 
 -- ---- when it was given and taken
 
-pub when_item : (deeds : List Deed) (d : Deed) (j : List Entry) (u : Up) (a : ℕ) → d.bits ≡ (place_of j).bits → d.gave ≡ u ∷ [] → (past (place_of j) (Item u)).activation ≡ opened_by deeds + opens_by d →
+pub when_item : (deeds : List Deed) (d : Deed) (j : List Entry) (u : Up) (a : ℕ) → d.bits ≡ (place_of j).bits →
+    d.gave ≡ u ∷ [] → (past (place_of j) (Item u)).activation ≡ opened_by deeds + opens_by d →
     given_when deeds a ≡ taken_when j a → given_when (deeds ++ d ∷ []) a ≡ taken_when (j ++ Item u ∷ []) a
 when_item deeds d j u a now gave at h =
     let first : WaitsInTime (given_when deeds a) j a [] = h ∙ sym (append-nil (taken_when j a)) in
-    let both : WaitsInTime (given_when (deeds ++ d ∷ []) a) j a (if stands_in deeds d a then d.gave else []) = timely_deed deeds d j a [] now first in
+    let both : WaitsInTime (given_when (deeds ++ d ∷ []) a) j a
+    (if stands_in deeds d a then d.gave else []) = timely_deed deeds d j a [] now first in
     elim (cases_eq (opened_by deeds + opens_by d) a) [
       | inl q ↦
-          let here : (if stands_in deeds d a then d.gave else []) ≡ u ∷ [] = ap (λ (b : Bool). if b then d.gave else []) (eq-eqb _ _ q) ∙ gave in
-          all_timely _ (j ++ Item u ∷ []) a (timely_take _ j a u [] (at ∙ q) (item_bits (place_of j) u) (subst (λ (l : List Up). WaitsInTime (given_when (deeds ++ d ∷ []) a) j a l) here both))
+          let here : (if stands_in deeds d a then d.gave else []) ≡ u ∷ [] = ap
+          (λ (b : Bool). if b then d.gave else []) (eq-eqb _ _ q) ∙ gave in
+          all_timely _ (j ++ Item u ∷ []) a (timely_take _ j a u [] (at ∙ q) (item_bits (place_of j) u)
+          (subst (λ (l : List Up). WaitsInTime (given_when (deeds ++ d ∷ []) a) j a l) here both))
       | inr n ↦
-          let none : (if stands_in deeds d a then d.gave else []) ≡ [] = ap (λ (b : Bool). if b then d.gave else []) (ne_eqb _ _ n) in
-          all_timely _ (j ++ Item u ∷ []) a (timely_quiet _ j (Item u) a [] (inr (λ e. n (sym at ∙ e))) (item_bits (place_of j) u) (subst (λ (l : List Up). WaitsInTime (given_when (deeds ++ d ∷ []) a) j a l) none both))
+          let none : (if stands_in deeds d a then d.gave else []) ≡ [] = ap (λ (b : Bool). if b then d.gave else [])
+          (ne_eqb _ _ n) in
+          all_timely _ (j ++ Item u ∷ []) a (timely_quiet _ j (Item u) a [] (inr (λ e. n (sym at ∙ e)))
+          (item_bits (place_of j) u) (subst (λ (l : List Up). WaitsInTime (given_when (deeds ++ d ∷ []) a) j a l) none
+          both))
     ]
 
-pub when_none : (deeds : List Deed) (d : Deed) (j : List Entry) (a : ℕ) → d.bits ≡ (place_of j).bits → d.gave ≡ [] → given_when deeds a ≡ taken_when j a → given_when (deeds ++ d ∷ []) a ≡ taken_when j a
+pub when_none : (deeds : List Deed) (d : Deed) (j : List Entry) (a : ℕ) → d.bits ≡ (place_of j).bits → d.gave ≡ [] →
+    given_when deeds a ≡ taken_when j a → given_when (deeds ++ d ∷ []) a ≡ taken_when j a
 when_none deeds d j a now gave h =
     let first : WaitsInTime (given_when deeds a) j a [] = h ∙ sym (append-nil (taken_when j a)) in
-    let both : WaitsInTime (given_when (deeds ++ d ∷ []) a) j a (if stands_in deeds d a then d.gave else []) = timely_deed deeds d j a [] now first in
-    all_timely _ j a (subst (λ (l : List Up). WaitsInTime (given_when (deeds ++ d ∷ []) a) j a l) (none (stands_in deeds d a)) both)
+    let both : WaitsInTime (given_when (deeds ++ d ∷ []) a) j a
+    (if stands_in deeds d a then d.gave else []) = timely_deed deeds d j a [] now first in
+    all_timely _ j a (subst (λ (l : List Up). WaitsInTime (given_when (deeds ++ d ∷ []) a) j a l)
+    (none (stands_in deeds d a)) both)
   where
     none : (b : Bool) → (if b then d.gave else []) ≡ []
     none true = gave

@@ -35,25 +35,31 @@ read_rm (Some ArbitrationLostCapture) p = refl
 read_rm (Some ErrorCodeCapture) p = refl
 read_rm (Some other) p = refl
 
-same_bit : (a b d : Bool) (f : RegFault) (rest : Option RegFault) → differ a b ≡ d → Done ≡ done_unless (if d then Some f else rest) → b ≡ a
+same_bit : (a b d : Bool) (f : RegFault) (rest : Option RegFault) → differ a b ≡ d →
+    Done ≡ done_unless (if d then Some f else rest) → b ≡ a
 same_bit a b true f rest e h = absurd cc
 same_bit true true false f rest e h = refl
 same_bit true false false f rest e h = absurd cc
 same_bit false true false f rest e h = absurd cc
 same_bit false false false f rest e h = refl
 
-write_rm : (x : Option Register) (v : ℕ) (p : Registers) → Done ≡ done_unless (first_fault (write_faults_at p x v)) → (after_writing_at p x v).mode.rm ≡ p.mode.rm
+write_rm : (x : Option Register) (v : ℕ) (p : Registers) → Done ≡ done_unless (first_fault (write_faults_at p x v)) →
+    (after_writing_at p x v).mode.rm ≡ p.mode.rm
 write_rm None v p h = refl
 write_rm (Some Mode) v p h = same_bit p.mode.rm (mode_of v).rm (differ p.mode.rm (mode_of v).rm) _ _ refl h
 write_rm (Some other) v p h = refl
 
 -- a start leaves reset mode, a stop enters it, and no other step does either
-pub rm_step : (p : Registers) (step : Step) (answer : StepAnswer) (active out : Bool) (seen : Seen) (rest : Bool) → Tells step out p seen answer → p.mode.rm ≡ (not active || rest) →
-    (opened step answer ≡ 0 → (ported p step answer).mode.rm ≡ (not (active_after active step answer) || rest)) × (opened step answer ≡ 1 → (ported p step answer).mode.rm ≡ false)
+pub rm_step : (p : Registers) (step : Step) (answer : StepAnswer) (active out : Bool) (seen : Seen) (rest : Bool) →
+    Tells step out p seen answer → p.mode.rm ≡ (not active || rest) →
+    (opened step answer ≡ 0 → (ported p step answer).mode.rm ≡ (not (active_after active step answer) || rest)) ×
+    (opened step answer ≡ 1 → (ported p step answer).mode.rm ≡ false)
 rm_step p Start Done active out seen rest t e = (λ o. absurd (omega (arith, o)), λ o. start_rm p.mode.rm p refl)
 rm_step p Stop Done active out seen rest t e = (λ o. refl, λ o. absurd (omega (arith, o)))
-rm_step p (Read address) answer active out seen rest t e = (λ o. read_rm (register_at p.mode.rm address) p ∙ e, λ o. absurd (omega (arith, o)))
-rm_step p (Write address value) Done active out seen rest t e = (λ o. write_rm (register_at p.mode.rm address) value p t ∙ e, λ o. absurd (omega (arith, o)))
+rm_step p (Read address) answer active out seen rest t e =
+    (λ o. read_rm (register_at p.mode.rm address) p ∙ e, λ o. absurd (omega (arith, o)))
+rm_step p (Write address value) Done active out seen rest t e =
+    (λ o. write_rm (register_at p.mode.rm address) value p t ∙ e, λ o. absurd (omega (arith, o)))
 rm_step p (Load m) Done active out seen rest t e = (λ o. e, λ o. absurd (omega (arith, o)))
 rm_step p (Command value) Done active out seen rest t e = (λ o. e, λ o. absurd (omega (arith, o)))
 rm_step p Start other active out seen rest t e = (λ o. e, λ o. absurd (omega (arith, o)))
@@ -130,7 +136,8 @@ write_abort (Some (AcceptanceMask i)) v p h = h
 write_abort (Some (Buffer i)) v p h = h
 write_abort (Some other) v p h = h
 
-either : (was at asks busy : Bool) → (was || at && not asks && not busy) ≡ true → (was ≡ true) ⊎ ((at && not asks) ≡ true)
+either : (was at asks busy : Bool) → (was || at && not asks && not busy) ≡ true →
+    (was ≡ true) ⊎ ((at && not asks) ≡ true)
 either true at asks busy h = inl refl
 either false true false false h = inr refl
 either false true false true h = absurd cc
@@ -138,7 +145,8 @@ either false true true busy h = absurd cc
 either false false asks busy h = absurd cc
 
 -- it stood before, or this step commanded it
-pub abort_step : (p : Registers) (step : Step) (answer : StepAnswer) → (ported p step answer).abort ≡ true → (p.abort ≡ true) ⊎ (asks_abort step answer ≡ true)
+pub abort_step : (p : Registers) (step : Step) (answer : StepAnswer) → (ported p step answer).abort ≡ true →
+    (p.abort ≡ true) ⊎ (asks_abort step answer ≡ true)
 abort_step p (Command value) Done h = either p.abort (command_of value).at (requests (command_of value)) p.tbs h
 abort_step p Start Done h = inl (start_abort p.mode.rm p h)
 abort_step p Stop Done h = absurd cc

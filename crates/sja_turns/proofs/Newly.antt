@@ -58,8 +58,7 @@ room_less : (k n : ℕ) (log : WorkLog) → k ≤ n → HasRoom n log → HasRoo
 room_less k n log less h =
     let a = h.done in let b = h.releases in record {
       done = omega (arith, a, less);
-      releases =
-          omega (arith, b, less);
+      releases = omega (arith, b, less);
       left = h.left;
     }
 
@@ -95,8 +94,7 @@ new_node version node steps x links base new fresh = record {
       got = λ a. [];
       kept = λ a d few. subst (λ (s : Deques). Lies s (account [] (suc a) (record {
         got = [];
-        given =
-            given_in (deeds_of [] (suc a));
+        given = given_in (deeds_of [] (suc a));
       }))) (sym (fresh a d few)) (refl, refl);
       told = λ a few. sym (ap (λ (r : List Release). released_of r (suc a) ++ slice_index_or
           (leaves (left_in (log_of x)) (held_of (driver_of x))) a []) new.empty.releases
@@ -120,8 +118,7 @@ new_node version node steps x links base new fresh = record {
     items = omega arith;
     verdicts = omega arith;
     offs = omega arith;
-    aborts =
-        λ found cut. omega arith;
+    aborts = λ found cut. omega arith;
   };
   done = tt;
   in_time = record { when = λ a. refl; sees = tt; carries = tt; aborts = tt; patient = tt };
@@ -167,13 +164,17 @@ stands_new plan bus drivers ports links nodes bits script count script_is bits_i
           fresh.each node a e few small) in
           let journal : journal_at bus.journals node ≡ [] = ap (λ (b : BusValue). journal_at b.journals node) bus_is
           ∙ index_all nodes [] [] node few in
-          let port : slice_index_or ports node p ≡ at_power_on plan.version = ap (λ l. slice_index_or l node p) ports_are
+          let port : slice_index_or ports node p ≡ at_power_on plan.version = ap
+          (λ l. slice_index_or l node p) ports_are
           ∙ index_all nodes (at_power_on plan.version) p node few in
           let deeds : deeds_at (replicate (length plan.nodes) []) node ≡ [] = index_all (length plan.nodes) [] [] node
           less in
-          subst (λ (j : List Entry). IsNode plan.version (steps_at plan node) j (deeds_at (replicate (length plan.nodes) [])
+          subst (λ (j : List Entry). IsNode plan.version (steps_at plan node) j
+          (deeds_at (replicate (length plan.nodes) [])
           node) x (slice_index_or ports node p) links (8 * node)) (sym journal)
-          (subst (λ (ds : List Deed). IsNode plan.version (steps_at plan node) [] ds x (slice_index_or ports node p) links
+          (subst (λ (ds : List Deed). IsNode plan.version (steps_at plan node) [] ds x
+          (slice_index_or ports node p) links
           (8 * node)) (sym deeds)
-          (subst (λ (r : Registers). IsNode plan.version (steps_at plan node) [] [] x r links (8 * node)) (sym port) is));
+          (subst (λ (r : Registers). IsNode plan.version (steps_at plan node) [] [] x r links (8 * node))
+          (sym port) is));
     }

@@ -55,7 +55,8 @@ moment_later (Stored m ∷ es) h = absurd h
 moment_later (Overrun m ∷ es) h = absurd h
 moment_later (Off ∷ es) h = absurd h
 
-pub moment_then : (j final : List Entry) (bits items : ℕ) → Extends j final → HasBitsAfterAborts j → length (bits_of j) ≡ bits → length (taken_of j) ≡ items → at_moment bits items final ≡ j
+pub moment_then : (j final : List Entry) (bits items : ℕ) → Extends j final → HasBitsAfterAborts j →
+    length (bits_of j) ≡ bits → length (taken_of j) ≡ items → at_moment bits items final ≡ j
 moment_then j final bits items x aborts b i =
     ap (at_moment bits items) x.whole
     ∙ (λ t. at_moment (sym b t) (sym i t) (j ++ x.rest))
@@ -92,30 +93,37 @@ nothing_twice true true l = refl
 nothing_twice true false l = refl
 nothing_twice false c l = refl
 
-none_after : (n : ℕ) (p : Place) (es : List Entry) (a : ℕ) → n < p.bits → gathered (in_part (early n) a) (placed_from p es) ≡ []
+none_after : (n : ℕ) (p : Place) (es : List Entry) (a : ℕ) → n < p.bits →
+    gathered (in_part (early n) a) (placed_from p es) ≡ []
 none_after n p [] a h = refl
 none_after n p (e ∷ es) a h =
     let more = bits_grow p e in
-    ap (λ (c : Bool). (if (past p e).activation == a then (if c then put_in e else []) else []) ++ gathered (in_part (early n) a) (placed_from (past p e) es)) (lt-leb p.bits n h)
+    ap (λ (c : Bool). (if (past p e).activation == a then (if c then put_in e else []) else []) ++ gathered
+    (in_part (early n) a) (placed_from (past p e) es)) (lt-leb p.bits n h)
     ∙ nothing ((past p e).activation == a) _ ∙ none_after n (past p e) es a (omega (arith, more, h))
 
-none_by_then : (n : ℕ) (p : Place) (es : List Entry) (a : ℕ) → n ≡ p.bits → PutsLater es → gathered (in_part (early n) a) (placed_from p es) ≡ []
+none_by_then : (n : ℕ) (p : Place) (es : List Entry) (a : ℕ) → n ≡ p.bits → PutsLater es →
+    gathered (in_part (early n) a) (placed_from p es) ≡ []
 none_by_then n p [] a e h = refl
 none_by_then n p (Bit driven seen ∷ es) a e h =
-    nothing_twice ((past p (Bit driven seen)).activation == a) (nat_le p.bits n) _ ∙ none_after n (past p (Bit driven seen)) es a (omega (arith, e))
+    nothing_twice ((past p (Bit driven seen)).activation == a) (nat_le p.bits n) _
+    ∙ none_after n (past p (Bit driven seen)) es a (omega (arith, e))
 none_by_then n p (Item u ∷ es) a e h =
-    nothing_twice ((past p (Item u)).activation == a) (nat_le p.bits n) _ ∙ none_by_then n (past p (Item u)) es a (e ∙ sym (item_bits p u)) h
+    nothing_twice ((past p (Item u)).activation == a) (nat_le p.bits n) _
+    ∙ none_by_then n (past p (Item u)) es a (e ∙ sym (item_bits p u)) h
 none_by_then n p (Abort ∷ es) a e h =
     nothing_twice ((past p Abort).activation == a) (nat_le p.bits n) _ ∙ none_by_then n (past p Abort) es a e h
 none_by_then n p (Stored m ∷ es) a e h = absurd h
 none_by_then n p (Overrun m ∷ es) a e h = absurd h
 none_by_then n p (Off ∷ es) a e h = absurd h
 
-placed_append : (p : Place) (es fs : List Entry) → placed_from p (es ++ fs) ≡ placed_from p es ++ placed_from (past_all p es) fs
+placed_append : (p : Place) (es fs : List Entry) →
+    placed_from p (es ++ fs) ≡ placed_from p es ++ placed_from (past_all p es) fs
 placed_append p [] fs = refl
 placed_append p (e ∷ es) fs = ap (λ l. (record { before = p; entry = e }) ∷ l) (placed_append (past p e) es fs)
 
-pub put_then : (j final : List Entry) (n a : ℕ) → Extends j final → n ≡ (place_of j).bits → put_by n final a ≡ put_by n j a
+pub put_then : (j final : List Entry) (n a : ℕ) → Extends j final → n ≡ (place_of j).bits →
+    put_by n final a ≡ put_by n j a
 put_then j final n a x e =
     ap (λ l. put_by n l a) x.whole
     ∙ ap (gathered (in_part (early n) a)) (placed_append first_place j x.rest)
@@ -157,10 +165,13 @@ aborts_both (Off ∷ j) es h k = aborts_both j es h k
 
 pub bits_items : (j k : List Entry) → HasMore j k → length (bits_of k) ≡ length (bits_of j)
 bits_items j k items =
-    ap (λ l. length (bits_of l)) items.whole ∙ ap (λ l. length l) (gathered_append _ j (entries_of_items items.items) ∙ ap (λ l. bits_of j ++ l) (items_bits items.items) ∙ append-nil (bits_of j))
+    ap (λ l. length (bits_of l)) items.whole ∙ ap (λ l. length l)
+    (gathered_append _ j (entries_of_items items.items) ∙ ap (λ l. bits_of j ++ l) (items_bits items.items)
+    ∙ append-nil (bits_of j))
 
 pub aborts_items : (j k : List Entry) → HasMore j k → HasBitsAfterAborts j → HasBitsAfterAborts k
-aborts_items j k items h = subst (λ (l : List Entry). HasBitsAfterAborts l) (sym items.whole) (aborts_both j (entries_of_items items.items) h (items_aborts items.items))
+aborts_items j k items h = subst (λ (l : List Entry). HasBitsAfterAborts l) (sym items.whole)
+    (aborts_both j (entries_of_items items.items) h (items_aborts items.items))
 
 -- ---- a bit more
 
@@ -175,7 +186,8 @@ tail_is j k h =
     ∙ append_assoc (j ++ abort_as h.changed) (Bit h.driven h.seen ∷ []) (judged_as h.bit.verdict ++ off_as h.bit.off)
     ∙ append_assoc j (abort_as h.changed) (Bit h.driven h.seen ∷ (judged_as h.bit.verdict ++ off_as h.bit.off))
 
-tail_later : (changed : Bool) (driven seen : Level) (verdict : Option (Verdict × List ℕ)) (off : Bool) (es : List Entry) → PutsLater (tail_of changed driven seen verdict off ++ es)
+tail_later : (changed : Bool) (driven seen : Level) (verdict : Option (Verdict × List ℕ)) (off : Bool)
+    (es : List Entry) → PutsLater (tail_of changed driven seen verdict off ++ es)
 tail_later true driven seen verdict off es = tt
 tail_later false driven seen verdict off es = tt
 
@@ -188,7 +200,8 @@ extends_bit j k final h x =
     }
 
 -- a verdict and bus-off are no bits and no aborts
-entry_plain : (v : Verdict) (m : List ℕ) (es : List Entry) → (bits_of (entry_of v m ∷ es) ≡ bits_of es) × (HasBitsAfterAborts es → HasBitsAfterAborts (entry_of v m ∷ es))
+entry_plain : (v : Verdict) (m : List ℕ) (es : List Entry) →
+    (bits_of (entry_of v m ∷ es) ≡ bits_of es) × (HasBitsAfterAborts es → HasBitsAfterAborts (entry_of v m ∷ es))
 entry_plain ToStore m es = (refl, λ h. h)
 entry_plain ToLose m es = (refl, λ h. h)
 
@@ -196,16 +209,19 @@ off_plain : (off : Bool) → (bits_of (off_as off) ≡ []) × HasBitsAfterAborts
 off_plain true = (refl, tt)
 off_plain false = (refl, tt)
 
-after_plain : (verdict : Option (Verdict × List ℕ)) (off : Bool) → (bits_of (judged_as verdict ++ off_as off) ≡ []) × HasBitsAfterAborts (judged_as verdict ++ off_as off)
+after_plain : (verdict : Option (Verdict × List ℕ)) (off : Bool) →
+    (bits_of (judged_as verdict ++ off_as off) ≡ []) × HasBitsAfterAborts (judged_as verdict ++ off_as off)
 after_plain None off = off_plain off
 after_plain (Some v) off =
     let o = off_plain off in let e = entry_plain v.0 v.1 (off_as off) in (e.0 ∙ o.0, e.1 o.1)
 
-tail_bits : (changed : Bool) (driven seen : Level) (verdict : Option (Verdict × List ℕ)) (off : Bool) → length (bits_of (tail_of changed driven seen verdict off)) ≡ 1
+tail_bits : (changed : Bool) (driven seen : Level) (verdict : Option (Verdict × List ℕ)) (off : Bool) →
+    length (bits_of (tail_of changed driven seen verdict off)) ≡ 1
 tail_bits true driven seen verdict off = let a = after_plain verdict off in ap (λ l. suc (length l)) a.0
 tail_bits false driven seen verdict off = let a = after_plain verdict off in ap (λ l. suc (length l)) a.0
 
-tail_aborts : (changed : Bool) (driven seen : Level) (verdict : Option (Verdict × List ℕ)) (off : Bool) → HasBitsAfterAborts (tail_of changed driven seen verdict off)
+tail_aborts : (changed : Bool) (driven seen : Level) (verdict : Option (Verdict × List ℕ)) (off : Bool) →
+    HasBitsAfterAborts (tail_of changed driven seen verdict off)
 tail_aborts true driven seen verdict off =
     let a = after_plain verdict off in let b = tail_bits false driven seen verdict off in (omega (arith, b), a.1)
 tail_aborts false driven seen verdict off = let a = after_plain verdict off in a.1
@@ -214,10 +230,12 @@ pub bits_bit : (j k : List Entry) → HasOneBit j k → length (bits_of k) ≡ l
 bits_bit j k h =
     let tail = tail_of h.changed h.driven h.seen h.bit.verdict h.bit.off in
     let one = tail_bits h.changed h.driven h.seen h.bit.verdict h.bit.off in
-    let whole = ap (λ l. length (bits_of l)) (tail_is j k h) ∙ ap (λ l. length l) (gathered_append _ j tail) ∙ length-append (bits_of j) (bits_of tail) in
+    let whole = ap (λ l. length (bits_of l)) (tail_is j k h) ∙ ap (λ l. length l) (gathered_append _ j tail)
+    ∙ length-append (bits_of j) (bits_of tail) in
     omega (arith, whole, one)
 
 pub aborts_bit : (j k : List Entry) → HasOneBit j k → HasBitsAfterAborts j → HasBitsAfterAborts k
 aborts_bit j k h a =
     let tail = tail_of h.changed h.driven h.seen h.bit.verdict h.bit.off in
-    subst (λ (l : List Entry). HasBitsAfterAborts l) (sym (tail_is j k h)) (aborts_both j tail a (tail_aborts h.changed h.driven h.seen h.bit.verdict h.bit.off))
+    subst (λ (l : List Entry). HasBitsAfterAborts l) (sym (tail_is j k h))
+    (aborts_both j tail a (tail_aborts h.changed h.driven h.seen h.bit.verdict h.bit.off))

@@ -1,5 +1,5 @@
 -- A credit that a driver gives is right: of a message of 3 to 13 bytes that was stored and not paid for.
-use Rattle.std.proofs.Common.{◌≡◌, ◌≢◌, ℕ, Bool, true, false, suc, ◌+◌, ◌<◌, ◌≤◌, ◌⊎◌, List, [], ◌∷◌, ◌++◌, length, map, refl, sym, ap, ◌∙◌, subst, arith, inl, inr}
+use Rattle.std.proofs.Common.{◌≡◌, ◌≢◌, ℕ, Bool, true, false, suc, ◌+◌, ◌<◌, ◌≤◌, ◌⊎◌, List, [], ◌∷◌, ◌++◌, length, map, sym, ap, ◌∙◌, subst, arith, inl, inr}
 use Rattle.std.specs.Prelude.{slice_index_or, if◌then◌else◌, Some, None}
 use Rattle.can_node.specs.declared.request.Request.{Request}
 use Rattle.sja_link.specs.declared.up.Up.TheVariants.{Credit}
@@ -59,7 +59,8 @@ module _ (j : List Entry) (deeds : List Deed) (d : Deed) (n : ℕ) (driver : Any
         let account : Account = record { got = holds.got a; given = [] } in
         let all : released ++ (held ++ messages link.down) ≡ stored_of (part j (suc a)) =
         told_stored j (suc a) account link.down released held (holds.kept a none few).0 (holds.told a few) in
-        let more : released_lengths (deeds_of (deeds ++ d ∷ []) (suc a)) ≡ released_lengths (deeds_of deeds (suc a)) ++ n
+        let more : released_lengths (deeds_of (deeds ++ d ∷ []) (suc a)) ≡ released_lengths
+        (deeds_of deeds (suc a)) ++ n
         ∷ [] =
         deeds_here (λ (x : Deed). length_in x.step x.answer) deeds d (suc a) (inl (sym at))
         ∙ ap (λ (l : List ℕ). released_lengths (deeds_of deeds (suc a)) ++ l) lengths in

@@ -36,19 +36,23 @@ start_never : (b : Bool) → (if b then Done else Refused NoActivationLeft) ≢ 
 start_never true e = cc
 start_never false e = cc
 
-window_never : (off : Bool) (window : List (List ℕ)) (answer : StepAnswer) → Sees Window off window answer → answer ≢ Refused Closed
+window_never : (off : Bool) (window : List (List ℕ)) (answer : StepAnswer) → Sees Window off window answer →
+    answer ≢ Refused Closed
 window_never true window answer h e = let x = sym h ∙ e in cc
 window_never false [] answer h e = let x = sym h ∙ e in cc
 window_never false (m ∷ window) answer h e = let x = sym h ∙ e in cc
 
-release_never : (off : Bool) (window : List (List ℕ)) (answer : StepAnswer) → Sees Release off window answer → answer ≢ Refused Closed
+release_never : (off : Bool) (window : List (List ℕ)) (answer : StepAnswer) → Sees Release off window answer →
+    answer ≢ Refused Closed
 release_never true window answer h e = let x = sym h ∙ e in cc
 release_never false [] answer h e = let x = sym h ∙ e in cc
 release_never false (m ∷ window) answer h e = let x = sym h ∙ e in cc
 
 -- by the state, by what it saw and by the registers
-pub never_closed : (active : Bool) (n : ℕ) (step : Step) (answer : StepAnswer) (off : Bool) (window : List (List ℕ)) (p : Registers) (seen : Seen) →
-    FitsState active n step answer → (active ≡ true → Sees step off window answer) → Tells step active p seen answer → p.closed ≡ false → answer ≢ Refused Closed
+pub never_closed : (active : Bool) (n : ℕ) (step : Step) (answer : StepAnswer) (off : Bool) (window : List (List ℕ))
+    (p : Registers) (seen : Seen) →
+    FitsState active n step answer → (active ≡ true → Sees step off window answer) → Tells step active p seen answer →
+    p.closed ≡ false → answer ≢ Refused Closed
 never_closed true n Start answer off window p seen f s t c e = let x = sym f ∙ e in cc
 never_closed false n Start answer off window p seen f s t c e = start_never (nat_lt n 8) (sym f ∙ e)
 never_closed true n Stop answer off window p seen f s t c e = let x = sym f ∙ e in cc

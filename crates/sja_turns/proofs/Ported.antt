@@ -132,7 +132,8 @@ module _ (version : ℕ) (j k : List Entry) (deeds : List Deed) (d : Deed) (p q 
   activation_after : (ported p d.step d.answer).activation ≡ opened_by (deeds ++ d ∷ [])
   activation_after =
       let a = h.activation in
-      activation_step p d.step d.answer (λ one. let o = opened_from (is_active deeds) (opened_by deeds) d.step d.answer d.gave kind one in let few = o.1 in
+      activation_step p d.step d.answer (λ one. let o = opened_from (is_active deeds)
+      (opened_by deeds) d.step d.answer d.gave kind one in let few = o.1 in
       (was_reset o.0, omega (arith, few, a)))
       ∙ ap (λ (n : ℕ). n + opens_by d) a ∙ sym (opened_push deeds d)
 

@@ -22,8 +22,17 @@ use Rattle.sja_turns.specs.Alike.{AreAlike}
 
 -- ---- the same settings
 
-same_mode : (p q r : Registers) → q.mode.lom ≡ p.mode.lom → q.mode.stm ≡ p.mode.stm → q.mode.afm ≡ p.mode.afm → q.acr ≡ p.acr → q.amr ≡ p.amr → q.buffer ≡ p.buffer → AreAlike p r → AreAlike q r
-same_mode p q r l s a c m b h = record { lom = l ∙ h.lom; stm = s ∙ h.stm; afm = a ∙ h.afm; acr = c ∙ h.acr; amr = m ∙ h.amr; buffer = b ∙ h.buffer }
+same_mode : (p q r : Registers) → q.mode.lom ≡ p.mode.lom → q.mode.stm ≡ p.mode.stm → q.mode.afm ≡ p.mode.afm →
+    q.acr ≡ p.acr → q.amr ≡ p.amr → q.buffer ≡ p.buffer → AreAlike p r → AreAlike q r
+same_mode p q r l s a c m b h = record {
+  lom = l ∙ h.lom;
+  stm = s ∙ h.stm;
+  afm = a ∙ h.afm;
+  acr = c ∙ h.acr;
+  amr = m
+      ∙ h.amr;
+  buffer = b ∙ h.buffer;
+}
 
 alike_start : (b : Bool) (p r : Registers) → AreAlike p r → AreAlike (if b then after_leaving_reset p else p) r
 alike_start true p r h = record { lom = h.lom; stm = h.stm; afm = h.afm; acr = h.acr; amr = h.amr; buffer = h.buffer }
@@ -31,29 +40,107 @@ alike_start false p r h = h
 
 alike_read : (x : Option Register) (p r : Registers) → AreAlike p r → AreAlike (after_reading_at p x) r
 alike_read None p r h = h
-alike_read (Some Interrupt) p r h = record { lom = h.lom; stm = h.stm; afm = h.afm; acr = h.acr; amr = h.amr; buffer = h.buffer }
-alike_read (Some ArbitrationLostCapture) p r h = record { lom = h.lom; stm = h.stm; afm = h.afm; acr = h.acr; amr = h.amr; buffer = h.buffer }
-alike_read (Some ErrorCodeCapture) p r h = record { lom = h.lom; stm = h.stm; afm = h.afm; acr = h.acr; amr = h.amr; buffer = h.buffer }
+alike_read (Some Interrupt) p r h = record {
+  lom = h.lom;
+  stm = h.stm;
+  afm = h.afm;
+  acr = h.acr;
+  amr = h.amr;
+  buffer = h.buffer;
+}
+alike_read (Some ArbitrationLostCapture) p r h =
+    record { lom = h.lom; stm = h.stm; afm = h.afm; acr = h.acr; amr = h.amr; buffer = h.buffer }
+alike_read (Some ErrorCodeCapture) p r h = record {
+  lom = h.lom;
+  stm = h.stm;
+  afm = h.afm;
+  acr = h.acr;
+  amr = h.amr;
+  buffer = h.buffer;
+}
 alike_read (Some other) p r h = h
 
-alike_write : (x : Option Register) (v : ℕ) (p r : Registers) → AreAlike p r → AreAlike (after_writing_at p x v) (after_writing_at r x v)
+alike_write : (x : Option Register) (v : ℕ) (p r : Registers) → AreAlike p r →
+    AreAlike (after_writing_at p x v) (after_writing_at r x v)
 alike_write None v p r h = h
-alike_write (Some Mode) v p r h = record { lom = refl; stm = refl; afm = refl; acr = h.acr; amr = h.amr; buffer = h.buffer }
-alike_write (Some InterruptEnable) v p r h = record { lom = h.lom; stm = h.stm; afm = h.afm; acr = h.acr; amr = h.amr; buffer = h.buffer }
-alike_write (Some ErrorWarningLimit) v p r h = record { lom = h.lom; stm = h.stm; afm = h.afm; acr = h.acr; amr = h.amr; buffer = h.buffer }
-alike_write (Some (AcceptanceCode i)) v p r h = record { lom = h.lom; stm = h.stm; afm = h.afm; acr = ap (λ l. slice_set l i v) h.acr; amr = h.amr; buffer = h.buffer }
-alike_write (Some (AcceptanceMask i)) v p r h = record { lom = h.lom; stm = h.stm; afm = h.afm; acr = h.acr; amr = ap (λ l. slice_set l i v) h.amr; buffer = h.buffer }
-alike_write (Some (Buffer i)) v p r h = record { lom = h.lom; stm = h.stm; afm = h.afm; acr = h.acr; amr = h.amr; buffer = ap (λ l. slice_set l i v) h.buffer }
+alike_write (Some Mode) v p r h = record {
+  lom = refl;
+  stm = refl;
+  afm = refl;
+  acr = h.acr;
+  amr = h.amr;
+  buffer = h.buffer;
+}
+alike_write (Some InterruptEnable) v p r h = record {
+  lom = h.lom;
+  stm = h.stm;
+  afm = h.afm;
+  acr = h.acr;
+  amr = h.amr;
+  buffer = h.buffer;
+}
+alike_write (Some ErrorWarningLimit) v p r h =
+    record { lom = h.lom; stm = h.stm; afm = h.afm; acr = h.acr; amr = h.amr; buffer = h.buffer }
+alike_write (Some (AcceptanceCode i)) v p r h =
+    record {
+      lom = h.lom;
+      stm = h.stm;
+      afm = h.afm;
+      acr = ap
+          (λ l. slice_set l i v) h.acr;
+      amr = h.amr;
+      buffer = h.buffer;
+    }
+alike_write (Some (AcceptanceMask i)) v p r h =
+    record {
+      lom = h.lom;
+      stm = h.stm;
+      afm = h.afm;
+      acr = h.acr;
+      amr = ap
+          (λ l. slice_set l i v) h.amr;
+      buffer = h.buffer;
+    }
+alike_write (Some (Buffer i)) v p r h = record {
+  lom = h.lom;
+  stm = h.stm;
+  afm = h.afm;
+  acr = h.acr;
+  amr = h.amr;
+  buffer = ap (λ l. slice_set l i v) h.buffer;
+}
 alike_write (Some other) v p r h = h
 
 -- a step sets the same in both
-pub alike_step : (p r : Registers) (step : Step) (answer : StepAnswer) → AreAlike p r → AreAlike (ported p step answer) (after_setting p.mode.rm r step answer)
+pub alike_step : (p r : Registers) (step : Step) (answer : StepAnswer) → AreAlike p r →
+    AreAlike (ported p step answer) (after_setting p.mode.rm r step answer)
 alike_step p r Start Done h = alike_start p.mode.rm p r h
-alike_step p r Stop Done h = record { lom = h.lom; stm = h.stm; afm = h.afm; acr = h.acr; amr = h.amr; buffer = h.buffer }
+alike_step p r Stop Done h = record {
+  lom = h.lom;
+  stm = h.stm;
+  afm = h.afm;
+  acr = h.acr;
+  amr = h.amr;
+  buffer = h.buffer;
+}
 alike_step p r (Read address) answer h = alike_read (register_at p.mode.rm address) p r h
 alike_step p r (Write address value) Done h = alike_write (register_at p.mode.rm address) value p r h
-alike_step p r (Load m) Done h = record { lom = h.lom; stm = h.stm; afm = h.afm; acr = h.acr; amr = h.amr; buffer = refl }
-alike_step p r (Command value) Done h = record { lom = h.lom; stm = h.stm; afm = h.afm; acr = h.acr; amr = h.amr; buffer = h.buffer }
+alike_step p r (Load m) Done h = record {
+  lom = h.lom;
+  stm = h.stm;
+  afm = h.afm;
+  acr = h.acr;
+  amr = h.amr;
+  buffer = refl;
+}
+alike_step p r (Command value) Done h = record {
+  lom = h.lom;
+  stm = h.stm;
+  afm = h.afm;
+  acr = h.acr;
+  amr = h.amr;
+  buffer = h.buffer;
+}
 alike_step p r Start other h = h
 alike_step p r Stop other h = h
 alike_step p r (Write address value) other h = h
@@ -65,11 +152,19 @@ alike_step p r (Await count) answer h = h
 alike_step p r Sent answer h = h
 
 -- and carries the same from both
-pub carried_alike : (p r : Registers) (step : Step) (answer : StepAnswer) → AreAlike p r → carried p step answer ≡ carried r step answer
-carried_alike p r Start Done h = λ i. StartItem (record { filter = record { single = h.afm i; acr = h.acr i; amr = h.amr i }; self_test = h.stm i; listen = h.lom i }) ∷ []
+pub carried_alike : (p r : Registers) (step : Step) (answer : StepAnswer) → AreAlike p r →
+    carried p step answer ≡ carried r step answer
+carried_alike p r Start Done h = λ i. StartItem
+    (record {
+      filter = record { single = h.afm i; acr = h.acr i; amr = h.amr i };
+      self_test = h.stm i;
+      listen = h.lom
+          i;
+    }) ∷ []
 carried_alike p r (Command value) Done h =
     let c = command_of value in
-    ap (λ b. send_of (if requests c then Some (record { frame = frame_in b; single_shot = c.at; self_receive = not c.tr }) else None)) h.buffer
+    ap (λ b. send_of (if requests c then Some (record
+    { frame = frame_in b; single_shot = c.at; self_receive = not c.tr }) else None)) h.buffer
 carried_alike p r Start other h = refl
 carried_alike p r (Command value) other h = refl
 carried_alike p r Release Done h = refl

@@ -1,5 +1,5 @@
 -- A journal has no more entries than are reserved for its run.
-use Rattle.std.proofs.Common.{◌≡◌, ℕ, ◌+◌, ◌*◌, ◌≤◌, Bool, true, false, List, [], ◌∷◌, ◌++◌, length, refl, sym, ap, ◌∙◌, subst, arith}
+use Rattle.std.proofs.Common.{◌≡◌, ℕ, ◌+◌, ◌≤◌, Bool, true, false, List, [], ◌∷◌, ◌++◌, length, ap, arith}
 use Rattle.std.specs.Prelude.{◌&&◌, not, if◌then◌else◌}
 use Rattle.sja_link.specs.declared.up.Up.{Up}
 use Rattle.sja_link.specs.declared.up.Up.TheVariants.{Start as StartItem, Credit, Send as SendItem, Stop as StopItem}
@@ -17,8 +17,7 @@ use Rattle.sja_script.specs.declared.step.Step.TheVariants.{Start, Stop, Window,
 use Rattle.sja_script.specs.declared.step_answer.StepAnswer.{StepAnswer}
 use Rattle.sja_script.specs.declared.step_answer.StepAnswer.TheVariants.{Done, Released}
 use Rattle.sja_driver.specs.Carried.{asks_abort}
-use Rattle.sja_driver.specs.Deeds.{Deed, opened_by, Gives, GivesSend}
-use Rattle.sja_turns.specs.Linking.{IsLevel}
+use Rattle.sja_driver.specs.Deeds.{Deed, Gives, GivesSend}
 use Rattle.sja_turns.specs.Counted.{item_in, verdict_in, off_in, abort_in, asks_by, gave_by, IsCounted}
 
 -- ---- each entry is of one kind

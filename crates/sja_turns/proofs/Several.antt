@@ -22,18 +22,22 @@ set_twice [] i y z = refl
 set_twice (x ∷ xs) zero y z = refl
 set_twice (x ∷ xs) (suc i) y z = ap (λ l. x ∷ l) (set_twice xs i y z)
 
-pub deeds_twice : (deeds : List (List Deed)) (node : ℕ) (xs ys : List Deed) → node < length deeds → with_deeds (with_deeds deeds node xs) node ys ≡ with_deeds deeds node (xs ++ ys)
+pub deeds_twice : (deeds : List (List Deed)) (node : ℕ) (xs ys : List Deed) → node < length deeds →
+    with_deeds (with_deeds deeds node xs) node ys ≡ with_deeds deeds node (xs ++ ys)
 deeds_twice deeds node xs ys there =
-    ap (λ l. slice_set (with_deeds deeds node xs) node (l ++ ys)) (set_here deeds node (deeds_at deeds node ++ xs) [] there)
+    ap (λ l. slice_set (with_deeds deeds node xs) node (l ++ ys))
+    (set_here deeds node (deeds_at deeds node ++ xs) [] there)
     ∙ set_twice deeds node (deeds_at deeds node ++ xs) ((deeds_at deeds node ++ xs) ++ ys)
     ∙ ap (slice_set deeds node) (append_assoc (deeds_at deeds node) xs ys)
 
-front_at : (xs ys : List Deed) (i : ℕ) (d : Deed) → i < length xs → slice_index_or (xs ++ ys) i d ≡ slice_index_or xs i d
+front_at : (xs ys : List Deed) (i : ℕ) (d : Deed) → i < length xs →
+    slice_index_or (xs ++ ys) i d ≡ slice_index_or xs i d
 front_at [] ys i d less = absurd (omega arith)
 front_at (x ∷ xs) ys zero d less = refl
 front_at (x ∷ xs) ys (suc i) d less = front_at xs ys i d (omega arith)
 
-back_at : (xs ys : List Deed) (i : ℕ) (d : Deed) → length xs ≤ i → (m : ℕ) → i ≡ length xs + m → slice_index_or (xs ++ ys) i d ≡ slice_index_or ys m d
+back_at : (xs ys : List Deed) (i : ℕ) (d : Deed) → length xs ≤ i → (m : ℕ) → i ≡ length xs + m →
+    slice_index_or (xs ++ ys) i d ≡ slice_index_or ys m d
 back_at [] ys i d more m e = ap (λ k. slice_index_or ys k d) (e ∙ zero_plus m)
   where
     zero_plus : (k : ℕ) → 0 + k ≡ k
@@ -41,7 +45,8 @@ back_at [] ys i d more m e = ap (λ k. slice_index_or ys k d) (e ∙ zero_plus m
 back_at (x ∷ xs) ys zero d more m e = absurd (omega (arith, more))
 back_at (x ∷ xs) ys (suc i) d more m e = back_at xs ys i d (omega (arith, more)) m (omega (arith, e))
 
-both_at : (xs ys : List Deed) (n : ℕ) → ((i : ℕ) (d : Deed) → i < length xs → (slice_index_or xs i d).bits ≡ n) → ((i : ℕ) (d : Deed) → i < length ys → (slice_index_or ys i d).bits ≡ n) →
+both_at : (xs ys : List Deed) (n : ℕ) → ((i : ℕ) (d : Deed) → i < length xs → (slice_index_or xs i d).bits ≡ n) →
+    ((i : ℕ) (d : Deed) → i < length ys → (slice_index_or ys i d).bits ≡ n) →
     (i : ℕ) (d : Deed) → i < length (xs ++ ys) → (slice_index_or (xs ++ ys) i d).bits ≡ n
 both_at xs ys n f g i d less =
     let l = length-append xs ys in
@@ -53,10 +58,12 @@ both_at xs ys n f g i d less =
     split : length xs ≤ i → (slice_index_or (xs ++ ys) i d).bits ≡ n
     split back =
         let l = length-append xs ys in
-        ap (λ (x : Deed). x.bits) (back_at xs ys i d back (i - length xs) (omega (arith, back))) ∙ g (i - length xs) d (omega (arith, back, less, l))
+        ap (λ (x : Deed). x.bits) (back_at xs ys i d back (i - length xs) (omega (arith, back)))
+        ∙ g (i - length xs) d (omega (arith, back, less, l))
 
 -- nothing was done
-pub does_none : (plan : PlanValue) (r : SerialValue) (node : ℕ) (deeds : List (List Deed)) → StandsAt plan r deeds → Does plan r r node deeds []
+pub does_none : (plan : PlanValue) (r : SerialValue) (node : ℕ) (deeds : List (List Deed)) → StandsAt plan r deeds →
+    Does plan r r node deeds []
 does_none plan r node deeds h = record {
   stands = subst (λ (l : List (List Deed)). StandsAt plan r l) (sym (no_deeds deeds node)) h;
   at_once = λ i d less. absurd (omega (arith, less));
@@ -68,21 +75,25 @@ does_none plan r node deeds h = record {
 more_both : (j k l : List Entry) → HasMore j k → HasMore k l → HasMore j l
 more_both j k l f g = record {
   items = f.items ++ g.items;
-  whole = g.whole ∙ ap (λ t. t ++ entries_of_items g.items) f.whole ∙ append_assoc j (entries_of_items f.items) (entries_of_items g.items)
+  whole = g.whole ∙ ap (λ t. t ++ entries_of_items g.items) f.whole
+      ∙ append_assoc j (entries_of_items f.items) (entries_of_items g.items)
       ∙ ap (λ t. j ++ t) (sym (map-append (λ u. Item u) f.items g.items));
 }
 
-pub does_both : (plan : PlanValue) (r m n : SerialValue) (node : ℕ) (deeds : List (List Deed)) (xs ys : List Deed) → node < length deeds → Does plan r m node deeds xs → Does plan m n node (with_deeds deeds node xs) ys →
+pub does_both : (plan : PlanValue) (r m n : SerialValue) (node : ℕ) (deeds : List (List Deed)) (xs ys : List Deed) →
+    node < length deeds → Does plan r m node deeds xs → Does plan m n node (with_deeds deeds node xs) ys →
     Does plan r n node deeds (xs ++ ys)
 does_both plan r m n node deeds xs ys there f g = record {
   stands = subst (λ (l : List (List Deed)). StandsAt plan n l) (deeds_twice deeds node xs ys there) g.stands;
   at_once = both_at xs ys r.bits f.at_once (λ i d less. g.at_once i d less ∙ f.bits);
   bits = g.bits ∙ f.bits;
-  items = λ k less. more_both (journal_at r.bus.journals k) (journal_at m.bus.journals k) (journal_at n.bus.journals k) (f.items k less) (g.items k less);
+  items = λ k less. more_both (journal_at r.bus.journals k) (journal_at m.bus.journals k)
+      (journal_at n.bus.journals k) (f.items k less) (g.items k less);
 }
 
 -- how many steps of a driver are done
-pub done_count : (plan : PlanValue) (r : SerialValue) (deeds : List (List Deed)) (node : ℕ) (d : LoggedDriver) (p : Registers) → StandsAt plan r deeds → node < length plan.nodes →
+pub done_count : (plan : PlanValue) (r : SerialValue) (deeds : List (List Deed)) (node : ℕ) (d : LoggedDriver)
+    (p : Registers) → StandsAt plan r deeds → node < length plan.nodes →
     length (done_in (log_of (slice_index_or r.drivers node d))) ≡ length (deeds_at deeds node)
 done_count plan r deeds node d p h there =
     ap (λ l. length l) (sym (h.nodes node d p there).traced.traces.done) ∙ length-map (deeds_at deeds node) done_of
@@ -93,26 +104,52 @@ pub record SoFar (plan : PlanValue) (r n : SerialValue) (node : ℕ) (deeds : Li
   pub does : Does plan r n node deeds more
   pub many : length more ≡ count
 
-pub so_far_none : (plan : PlanValue) (r : SerialValue) (node : ℕ) (deeds : List (List Deed)) → StandsAt plan r deeds → SoFar plan r r node deeds 0
+pub so_far_none : (plan : PlanValue) (r : SerialValue) (node : ℕ) (deeds : List (List Deed)) → StandsAt plan r deeds →
+    SoFar plan r r node deeds 0
 so_far_none plan r node deeds h = record { more = []; does = does_none plan r node deeds h; many = refl }
 
-pub so_far_one : (plan : PlanValue) (r m n : SerialValue) (node count : ℕ) (deeds : List (List Deed)) → node < length deeds → (s : SoFar plan r m node deeds count) → (d : Deed) → Does plan m n node (with_deeds deeds node s.more) (d ∷ []) →
+pub so_far_one : (plan : PlanValue) (r m n : SerialValue) (node count : ℕ) (deeds : List (List Deed)) →
+    node < length deeds → (s : SoFar plan r m node deeds count) → (d : Deed) →
+    Does plan m n node (with_deeds deeds node s.more) (d ∷ []) →
     SoFar plan r n node deeds (count + 1)
 so_far_one plan r m n node count deeds there s d did =
     let l = length-append s.more (d ∷ []) in let k = s.many in
-    record { more = s.more ++ d ∷ []; does = does_both plan r m n node deeds s.more (d ∷ []) there s.does did; many = omega (arith, l, k) }
+    record {
+      more = s.more ++ d ∷ [];
+      does = does_both plan r m n node deeds s.more
+          (d ∷ []) there s.does did;
+      many = omega (arith, l, k);
+    }
 
 -- a turn that ends since the driver is stuck, or since all was done
-pub turn_stuck : (plan : PlanValue) (r n : SerialValue) (node count most : ℕ) (deeds : List (List Deed)) → (s : SoFar plan r n node deeds count) → count ≤ most → IsStuck plan n (with_deeds deeds node s.more) node →
+pub turn_stuck : (plan : PlanValue) (r n : SerialValue) (node count most : ℕ) (deeds : List (List Deed)) →
+    (s : SoFar plan r n node deeds count) → count ≤ most → IsStuck plan n (with_deeds deeds node s.more) node →
     TakesTurn plan r n node most deeds
-turn_stuck plan r n node count most deeds s few stuck = let k = s.many in record { more = s.more; does = s.does; most = omega (arith, k, few); stuck = λ less. stuck }
+turn_stuck plan r n node count most deeds s few stuck = let k = s.many in
+    record { more = s.more; does = s.does; most = omega (arith, k, few); stuck = λ less. stuck }
 
-pub turn_waits : (plan : PlanValue) (r m n : SerialValue) (node count most : ℕ) (deeds : List (List Deed)) → node < length deeds → (s : SoFar plan r m node deeds count) → count ≤ most →
-    Does plan m n node (with_deeds deeds node s.more) [] × IsStuck plan n (with_deeds deeds node s.more) node → TakesTurn plan r n node most deeds
+pub turn_waits : (plan : PlanValue) (r m n : SerialValue) (node count most : ℕ) (deeds : List (List Deed)) →
+    node < length deeds → (s : SoFar plan r m node deeds count) → count ≤ most →
+    Does plan m n node (with_deeds deeds node s.more) [] × IsStuck plan n (with_deeds deeds node s.more) node →
+    TakesTurn plan r n node most deeds
 turn_waits plan r m n node count most deeds there s few w =
     let k = s.many in
     let both : Does plan r n node deeds (s.more ++ []) = does_both plan r m n node deeds s.more [] there s.does w.0 in
-    record { more = s.more; does = subst (λ (l : List Deed). Does plan r n node deeds l) (append-nil s.more) both; most = omega (arith, k, few); stuck = λ less. w.1 }
+    record {
+      more = s.more;
+      does = subst (λ (l : List Deed). Does plan r n node deeds l)
+          (append-nil s.more) both;
+      most = omega (arith, k, few);
+      stuck = λ less. w.1;
+    }
 
-pub turn_done : (plan : PlanValue) (r n : SerialValue) (node count most : ℕ) (deeds : List (List Deed)) → (s : SoFar plan r n node deeds count) → count ≡ most → TakesTurn plan r n node most deeds
-turn_done plan r n node count most deeds s all = let k = s.many in record { more = s.more; does = s.does; most = omega (arith, k, all); stuck = λ less. absurd (omega (arith, k, all, less)) }
+pub turn_done : (plan : PlanValue) (r n : SerialValue) (node count most : ℕ) (deeds : List (List Deed)) →
+    (s : SoFar plan r n node deeds count) → count ≡ most → TakesTurn plan r n node most deeds
+turn_done plan r n node count most deeds s all = let k = s.many in
+    record {
+      more = s.more;
+      does = s.does;
+      most = omega (arith, k, all);
+      stuck = λ less. absurd
+          (omega (arith, k, all, less));
+    }

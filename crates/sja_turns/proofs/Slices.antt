@@ -31,7 +31,8 @@ set_same (x ∷ xs) (suc i) d = ap (λ l. x ∷ l) (set_same xs i d)
 pub no_deeds : (deeds : List (List Deed)) (node : ℕ) → with_deeds deeds node [] ≡ deeds
 no_deeds deeds node = ap (slice_set deeds node) (append-nil (deeds_at deeds node)) ∙ set_same deeds node []
 
-pub each_link : (old new : List Deques) → EachRelated (λ (a b : Deques). b.link ≡ a.link) old new → (i : ℕ) (d : Deques) →
+pub each_link : (old new : List Deques) → EachRelated (λ (a b : Deques). b.link ≡ a.link) old new →
+    (i : ℕ) (d : Deques) →
     (slice_index_or new i d).link ≡ (slice_index_or old i d).link
 each_link [] [] r i d = refl
 each_link [] (y ∷ ys) r i d = elim r [ ]
@@ -40,7 +41,8 @@ each_link (x ∷ xs) (y ∷ ys) r zero d = r.0
 each_link (x ∷ xs) (y ∷ ys) r (suc i) d = each_link xs ys r.1 i d
 
 -- what another node's links hold, of which none was changed
-pub each_other : (deeds : List Deed) (w : LoggedDriver) (j : List Entry) (links given : List Deques) (m node ended : ℕ) →
+pub each_other : (deeds : List Deed) (w : LoggedDriver) (j : List Entry) (links given : List Deques)
+    (m node ended : ℕ) →
     (m ≡ node → ⊥) → HoldsBy Lies deeds (driver_of w) (log_of w) j links (8 * m) →
     ((i : ℕ) (d : Deques) → i ≢ place_after (8 * node) ended → slice_index_or given i d ≡ slice_index_or links i d) →
     HoldsBy Lies deeds (driver_of w) (log_of w) j given (8 * m)

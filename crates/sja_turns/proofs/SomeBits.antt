@@ -1,5 +1,5 @@
 -- Bits of a run, one after another.
-use Rattle.std.proofs.Common.{◌≡◌, ℕ, zero, suc, ◌+◌, ◌<◌, ◌≤◌, Bool, true, false, List, length, subst, refl, arith}
+use Rattle.std.proofs.Common.{◌≡◌, ℕ, zero, suc, ◌+◌, ◌<◌, ◌≤◌, Bool, true, false, List, length, subst, arith}
 use Rattle.sja_link.specs.declared.entry.Entry.{Entry}
 use Rattle.sja_link.specs.Records.{record_of}
 use Rattle.sja_bus.specs.Resting.{RestsAs}
@@ -12,15 +12,18 @@ use Rattle.sja_turns.specs.Serial.{SerialValue, StandsAt}
 use Rattle.sja_turns.proofs.GoingOn.{bits_run, stands_bits}
 
 -- so many were run
-pub record SomeBits (plan : PlanValue) (deeds : List (List Deed)) (Before : SerialValue → Type 0) (r n : SerialValue) (count : ℕ) : Type 0 where
+pub record SomeBits (plan : PlanValue) (deeds : List (List Deed)) (Before : SerialValue → Type 0) (r n : SerialValue)
+    (count : ℕ) : Type 0 where
   pub bits : TakesBits plan deeds Before r count n
   pub stands : StandsAt plan n deeds
   pub many : n.bits ≡ r.bits + count
 
-pub bits_none : (plan : PlanValue) (deeds : List (List Deed)) (Before : SerialValue → Type 0) (r : SerialValue) → StandsAt plan r deeds → SomeBits plan deeds Before r r 0
+pub bits_none : (plan : PlanValue) (deeds : List (List Deed)) (Before : SerialValue → Type 0) (r : SerialValue) →
+    StandsAt plan r deeds → SomeBits plan deeds Before r r 0
 bits_none plan deeds Before r h = record { bits = no_bit r; stands = h; many = omega arith }
 
-pub bits_more : (plan : PlanValue) (deeds : List (List Deed)) (Before : SerialValue → Type 0) (r m n : SerialValue) (count : ℕ) → SomeBits plan deeds Before r m count → Before m → TakesBit plan deeds m n →
+pub bits_more : (plan : PlanValue) (deeds : List (List Deed)) (Before : SerialValue → Type 0) (r m n : SerialValue)
+    (count : ℕ) → SomeBits plan deeds Before r m count → Before m → TakesBit plan deeds m n →
     SomeBits plan deeds Before r n (count + 1)
 bits_more plan deeds Before r m n count s before t =
     let one : suc count ≡ count + 1 = omega arith in
@@ -31,14 +34,18 @@ bits_more plan deeds Before r m n count s before t =
     }
 
 -- and so many more
-pub bits_then : (plan : PlanValue) (deeds : List (List Deed)) (Before : SerialValue → Type 0) (r m n : SerialValue) (count more : ℕ) → TakesBits plan deeds Before r count m → TakesBits plan deeds Before m more n →
+pub bits_then : (plan : PlanValue) (deeds : List (List Deed)) (Before : SerialValue → Type 0) (r m n : SerialValue)
+    (count more : ℕ) → TakesBits plan deeds Before r count m → TakesBits plan deeds Before m more n →
     TakesBits plan deeds Before r (more + count) n
-bits_then plan deeds Before r m n count zero s (no_bit _) = let e : count ≡ 0 + count = omega arith in subst (λ (c : ℕ). TakesBits plan deeds Before r c m) e s
+bits_then plan deeds Before r m n count zero s (no_bit _) = let e : count ≡ 0 + count = omega arith in
+    subst (λ (c : ℕ). TakesBits plan deeds Before r c m) e s
 bits_then plan deeds Before r m n count (suc more) s (one_more _ mid _ _ before holds bit) =
     let e : suc (more + count) ≡ suc more + count = omega arith in
-    subst (λ (c : ℕ). TakesBits plan deeds Before r c n) e (one_more r mid n (more + count) (bits_then plan deeds Before r m mid count more s before) holds bit)
+    subst (λ (c : ℕ). TakesBits plan deeds Before r c n) e
+    (one_more r mid n (more + count) (bits_then plan deeds Before r m mid count more s before) holds bit)
 
-pub some_then : (plan : PlanValue) (deeds : List (List Deed)) (Before : SerialValue → Type 0) (r m n : SerialValue) (count more : ℕ) → SomeBits plan deeds Before r m count → TakesBits plan deeds Before m more n →
+pub some_then : (plan : PlanValue) (deeds : List (List Deed)) (Before : SerialValue → Type 0) (r m n : SerialValue)
+    (count more : ℕ) → SomeBits plan deeds Before r m count → TakesBits plan deeds Before m more n →
     SomeBits plan deeds Before r n (count + more)
 some_then plan deeds Before r m n count more s t =
     let both = bits_then plan deeds Before r m n count more s.bits t in
@@ -50,55 +57,72 @@ some_then plan deeds Before r m n count more s t =
     }
 
 -- no more bits are run than the plan has
-pub bits_within : (plan : PlanValue) (r : SerialValue) (deeds : List (List Deed)) → StandsAt plan r deeds → r.bits ≤ plan.bits
+pub bits_within : (plan : PlanValue) (r : SerialValue) (deeds : List (List Deed)) → StandsAt plan r deeds →
+    r.bits ≤ plan.bits
 bits_within plan r deeds h = let a = h.all_bits in let b = h.bits in omega (arith, a, b)
 
 -- ---- `bus`
 
-pub bus_all : (plan : PlanValue) (deeds : List (List Deed)) (r n : SerialValue) (run count : ℕ) → run ≡ count → SomeBits plan deeds (λ x. Unit {0}) r n run → TakesBusTurn plan deeds r n count true
+pub bus_all : (plan : PlanValue) (deeds : List (List Deed)) (r n : SerialValue) (run count : ℕ) → run ≡ count →
+    SomeBits plan deeds (λ x. Unit {0}) r n run → TakesBusTurn plan deeds r n count true
 bus_all plan deeds r n run count all s = record { run = run; bits = s.bits; whole = λ yes. all; spent = λ no. cc no }
 
-pub bus_spent : (plan : PlanValue) (deeds : List (List Deed)) (r n : SerialValue) (run count : ℕ) → run < count → plan.bits ≤ n.bits → SomeBits plan deeds (λ x. Unit {0}) r n run → TakesBusTurn plan deeds r n count false
+pub bus_spent : (plan : PlanValue) (deeds : List (List Deed)) (r n : SerialValue) (run count : ℕ) → run < count →
+    plan.bits ≤ n.bits → SomeBits plan deeds (λ x. Unit {0}) r n run → TakesBusTurn plan deeds r n count false
 bus_spent plan deeds r n run count few spent s =
-    let w = bits_within plan n deeds s.stands in record { run = run; bits = s.bits; whole = λ yes. cc yes; spent = λ no. (few, omega (arith, spent, w)) }
+    let w = bits_within plan n deeds s.stands in
+    record { run = run; bits = s.bits; whole = λ yes. cc yes; spent = λ no. (few, omega (arith, spent, w)) }
 
 -- ---- `rest`
 
 pub all_rest : (plan : PlanValue) (n : SerialValue) (deeds : List (List Deed)) → StandsAt plan n deeds →
-    ((node : ℕ) → node < length n.bus.journals → RestsAs (record_of (journal_at n.bus.journals node)) true) → AllRest plan n
+    ((node : ℕ) → node < length n.bus.journals → RestsAs (record_of (journal_at n.bus.journals node)) true) →
+    AllRest plan n
 all_rest plan n deeds h rest node less = let c = h.count.journals in rest node (omega (arith, c, less))
 
 pub some_works : (plan : PlanValue) (n : SerialValue) (deeds : List (List Deed)) → StandsAt plan n deeds →
-    ((node : ℕ) × (node < length n.bus.journals) × RestsAs (record_of (journal_at n.bus.journals node)) false) → SomeWorks plan n
+    ((node : ℕ) × (node < length n.bus.journals) × RestsAs (record_of (journal_at n.bus.journals node)) false) →
+    SomeWorks plan n
 some_works plan n deeds h busy = let c = h.count.journals in let l = busy.1 in (busy.0, omega (arith, c, l), busy.2)
 
-pub rest_all : (plan : PlanValue) (deeds : List (List Deed)) (r n : SerialValue) (run : ℕ) → AllRest plan n → SomeBits plan deeds (SomeWorks plan) r n run → TakesRest plan deeds r n true
+pub rest_all : (plan : PlanValue) (deeds : List (List Deed)) (r n : SerialValue) (run : ℕ) → AllRest plan n →
+    SomeBits plan deeds (SomeWorks plan) r n run → TakesRest plan deeds r n true
 rest_all plan deeds r n run all s = record { run = run; bits = s.bits; whole = λ yes. all; spent = λ no. cc no }
 
-pub rest_spent : (plan : PlanValue) (deeds : List (List Deed)) (r n : SerialValue) (run : ℕ) → SomeWorks plan n → plan.bits ≤ n.bits → SomeBits plan deeds (SomeWorks plan) r n run → TakesRest plan deeds r n false
+pub rest_spent : (plan : PlanValue) (deeds : List (List Deed)) (r n : SerialValue) (run : ℕ) → SomeWorks plan n →
+    plan.bits ≤ n.bits → SomeBits plan deeds (SomeWorks plan) r n run → TakesRest plan deeds r n false
 rest_spent plan deeds r n run busy spent s =
-    let w = bits_within plan n deeds s.stands in record { run = run; bits = s.bits; whole = λ yes. cc yes; spent = λ no. (busy, omega (arith, spent, w)) }
+    let w = bits_within plan n deeds s.stands in
+    record { run = run; bits = s.bits; whole = λ yes. cc yes; spent = λ no. (busy, omega (arith, spent, w)) }
 
 -- the bits are spent
-pub rest_end : (plan : PlanValue) (deeds : List (List Deed)) (r n : SerialValue) (run : ℕ) (rests : Bool) → (rests ≡ true → AllRest plan n) → (rests ≡ false → SomeWorks plan n) → plan.bits ≤ n.bits → SomeBits plan deeds (SomeWorks plan) r n run →
+pub rest_end : (plan : PlanValue) (deeds : List (List Deed)) (r n : SerialValue) (run : ℕ) (rests : Bool) →
+    (rests ≡ true → AllRest plan n) → (rests ≡ false → SomeWorks plan n) → plan.bits ≤ n.bits →
+    SomeBits plan deeds (SomeWorks plan) r n run →
     TakesRest plan deeds r n rests
 rest_end plan deeds r n run rests all busy spent s =
-    let w = bits_within plan n deeds s.stands in record { run = run; bits = s.bits; whole = all; spent = λ no. (busy no, omega (arith, spent, w)) }
+    let w = bits_within plan n deeds s.stands in
+    record { run = run; bits = s.bits; whole = all; spent = λ no. (busy no, omega (arith, spent, w)) }
 
 -- ---- bits at once, or one
 
 -- what one bit is of a run that it left as it was before
-one_after : (plan : PlanValue) (deeds : List (List Deed)) (r m n : SerialValue) → (m.bits ≡ r.bits) × (m.bus.journals ≡ r.bus.journals) → TakesBit plan deeds m n → TakesBit plan deeds r n
+one_after : (plan : PlanValue) (deeds : List (List Deed)) (r m n : SerialValue) →
+    (m.bits ≡ r.bits) × (m.bus.journals ≡ r.bus.journals) → TakesBit plan deeds m n → TakesBit plan deeds r n
 one_after plan deeds r m n same t =
     let b = t.bits in let e = same.0 in record {
       stands = t.stands;
       bits = omega (arith, b, e);
-      nodes = λ k less. subst (λ (l : List (List Entry)). HasOneBit (journal_at l k) (journal_at n.bus.journals k)) same.1 (t.nodes k less);
+      nodes = λ k less. subst (λ (l : List (List Entry)). HasOneBit (journal_at l k) (journal_at n.bus.journals k))
+          same.1 (t.nodes k less);
     }
 
-pub just_one : (plan : PlanValue) (deeds : List (List Deed)) (r n : SerialValue) → TakesBit plan deeds r n → TakesBits plan deeds (λ x. Unit {0}) r 1 n
+pub just_one : (plan : PlanValue) (deeds : List (List Deed)) (r n : SerialValue) → TakesBit plan deeds r n →
+    TakesBits plan deeds (λ x. Unit {0}) r 1 n
 just_one plan deeds r n t = one_more r r n 0 (no_bit r) tt t
 
 -- none could be run at once, and then one was run
-pub none_then_one : (plan : PlanValue) (deeds : List (List Deed)) (r m n : SerialValue) (most run : ℕ) → TakesAtOnce plan deeds r m most run → run ≡ 0 → TakesBit plan deeds m n → TakesBits plan deeds (λ x. Unit {0}) r 1 n
-none_then_one plan deeds r m n most run once is_none t = just_one plan deeds r n (one_after plan deeds r m n (once.none is_none) t)
+pub none_then_one : (plan : PlanValue) (deeds : List (List Deed)) (r m n : SerialValue) (most run : ℕ) →
+    TakesAtOnce plan deeds r m most run → run ≡ 0 → TakesBit plan deeds m n → TakesBits plan deeds (λ x. Unit {0}) r 1 n
+none_then_one plan deeds r m n most run once is_none t = just_one plan deeds r n
+    (one_after plan deeds r m n (once.none is_none) t)

@@ -3,7 +3,7 @@ use Rattle.std.proofs.Common.{◌≡◌, ◌≢◌, ℕ, zero, suc, ◌+◌, ◌
 use Rattle.std.specs.Prelude.{Bool, None, slice_index_or, slice_set}
 use Rattle.std.proofs.lemmas.Bool.{cases_eq}
 use Rattle.sja_link.specs.declared.entry.Entry.{Entry}
-use Rattle.sja_link.specs.Accounts.{Account, account}
+use Rattle.sja_link.specs.Accounts.{Account}
 use Rattle.sja_link.specs.Deques.{Deques, Lies}
 use Rattle.sja_bus.specs.Buses.{KeepsAll, EachJournal, AllDry}
 use Rattle.sja_bus.specs.Links.{per_node, stops_of, EachRelated}
@@ -16,7 +16,7 @@ use Rattle.sja_regs.specs.Facts.{RegisterFacts}
 use Rattle.sja_script.specs.declared.step.Step.{Step}
 use Rattle.sja_regs.specs.declared.registers.Registers.{Registers}
 use Rattle.sja_driver.specs.declared.logged_driver.LoggedDriver.{LoggedDriver}
-use Rattle.sja_driver.specs.Deeds.{Deed, given_in, deeds_of}
+use Rattle.sja_driver.specs.Deeds.{Deed}
 use Rattle.sja_driver.specs.Holding.{HoldsBy, place_after, Numbered as NumberedAt}
 use Rattle.sja_driver.specs.LoggedDrivers.{node_of, driver_of, log_of, ended_of, IsLawful, Steps}
 use Rattle.sja_driver.specs.Logs.{HasRoom}
@@ -49,8 +49,7 @@ module _ (plan : PlanValue) (r n : SerialValue) (deeds : List (List Deed)) (node
         ap (λ (x : ℕ). (slice_index_or given (8 * x + a) d).link) q ∙ i
         ∙ (λ t. record { node = whose t; activation = add_one a t }) ∙ (λ t. record {
           node = sym q t;
-          activation =
-              suc a;
+          activation = suc a;
         })
     | inr differ ↦ ap (λ (s : Deques). s.link) (others (8 * m + a) d (apart m node a (ended_of was) differ few))
         ∙ h.ids m a d few less
@@ -71,7 +70,8 @@ module _ (plan : PlanValue) (r n : SerialValue) (deeds : List (List Deed)) (node
       let inside : m < length r.bus.journals = let c = h.count.journals in omega (arith, c, less) in
       let now_inside : m < length n.bus.journals = omega (arith, inside, journals) in
       let holds : HoldsBy Lies (deeds_at deeds m) (driver_of w) (log_of w) (journal_at r.bus.journals m) given (8 * m) =
-      each_other (deeds_at deeds m) w (journal_at r.bus.journals m) r.links given m node (ended_of was) differ l others in
+      each_other (deeds_at deeds m) w (journal_at r.bus.journals m) r.links given m node
+      (ended_of was) differ l others in
       idle plan.version (steps_at plan m) (journal_at r.bus.journals m) (journal_at n.bus.journals m) (deeds_at deeds m)
       w w g g r.links given n.links (8 * m) none was_node was_node.traced.lawful was_node.traced.traces holds
       (λ k x. x) refl (items m inside) (λ acc. kept m acc inside) (λ few. dry m none now_inside few)
@@ -160,7 +160,8 @@ module _ (plan : PlanValue) (r n : SerialValue) (deeds : List (List Deed)) (node
 
   more_items : (m : ℕ) → m < length plan.nodes → HasMore (journal_at r.bus.journals m) (journal_at n.bus.journals m)
   more_items m less =
-      let c = h.count.journals in let its = items m (omega (arith, c, less)) in record { items = its.items; whole = its.whole }
+      let c = h.count.journals in let its = items m (omega (arith, c, less)) in
+      record { items = its.items; whole = its.whole }
 
   -- the step was done
   pub next_done : (p : Registers) (one : Step) → IsNode plan.version (steps_at plan node)

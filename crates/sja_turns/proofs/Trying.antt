@@ -56,7 +56,8 @@ pub record IsNext (j : List Entry) (deeds : List Deed) (p q : Registers) (d : De
 
 -- ---- what a step saw is what had been put
 
-sees_off : (one : Step) (answer : StepAnswer) (window other : List (List ℕ)) → Sees one true window answer → Sees one true other answer
+sees_off : (one : Step) (answer : StepAnswer) (window other : List (List ℕ)) → Sees one true window answer →
+    Sees one true other answer
 sees_off Window answer window other h = h
 sees_off Release answer window other h = h
 sees_off (Await count) answer window other h = h
@@ -68,17 +69,22 @@ sees_off (Load m) answer window other h = tt
 sees_off (Command v) answer window other h = tt
 sees_off Sent answer window other h = tt
 
-sees_same : (one : Step) (answer : StepAnswer) (b off : Bool) (window other : List (List ℕ)) → off ≡ b → (b ≡ false → other ≡ window) → Sees one b window answer → Sees one off other answer
-sees_same one answer true off window other e w h = subst (λ (x : Bool). Sees one x other answer) (sym e) (sees_off one answer window other h)
+sees_same : (one : Step) (answer : StepAnswer) (b off : Bool) (window other : List (List ℕ)) → off ≡ b →
+    (b ≡ false → other ≡ window) → Sees one b window answer → Sees one off other answer
+sees_same one answer true off window other e w h = subst (λ (x : Bool). Sees one x other answer) (sym e)
+    (sees_off one answer window other h)
 sees_same one answer false off window other e w h =
-    subst (λ (x : Bool). Sees one x other answer) (sym e) (subst (λ (l : List (List ℕ)). Sees one false l answer) (sym (w refl)) h)
+    subst (λ (x : Bool). Sees one x other answer) (sym e)
+    (subst (λ (l : List (List ℕ)). Sees one false l answer) (sym (w refl)) h)
 
 -- of a step that looks, and of any other there is nothing to say
-sees_shown : (j : List Entry) (deeds : List Deed) (one : Step) (answer : StepAnswer) (off : Bool) (window : List (List ℕ)) → Sees one off window answer → IfLooking one (IsShown j deeds off window) →
+sees_shown : (j : List Entry) (deeds : List Deed) (one : Step) (answer : StepAnswer) (off : Bool)
+    (window : List (List ℕ)) → Sees one off window answer → IfLooking one (IsShown j deeds off window) →
     Sees one (off_by (place_of j).bits j (opened_by deeds)) (window_of j deeds (place_of j).bits) answer
 sees_shown j deeds Window answer off window h s = sees_same Window answer off _ window _ s.off_is s.window_is h
 sees_shown j deeds Release answer off window h s = sees_same Release answer off _ window _ s.off_is s.window_is h
-sees_shown j deeds (Await count) answer off window h s = sees_same (Await count) answer off _ window _ s.off_is s.window_is h
+sees_shown j deeds (Await count) answer off window h s = sees_same
+    (Await count) answer off _ window _ s.off_is s.window_is h
 sees_shown j deeds Start answer off window h s = tt
 sees_shown j deeds Stop answer off window h s = tt
 sees_shown j deeds (Read a) answer off window h s = tt
@@ -109,49 +115,71 @@ min_few n few = grind arith
 min_less : (n : ℕ) → min n 7 < 8
 min_less n = grind arith
 
-tells_by : (one : Step) (answer : StepAnswer) (b c : Bool) (p : Registers) (seen : Seen) → b ≡ c → Tells one c p seen answer → Tells one b p seen answer
+tells_by : (one : Step) (answer : StepAnswer) (b c : Bool) (p : Registers) (seen : Seen) → b ≡ c →
+    Tells one c p seen answer → Tells one b p seen answer
 tells_by one answer b c p seen e h = subst (λ (x : Bool). Tells one x p seen answer) (sym e) h
 
 -- ---- a driver that took in what its link showed knows what was put
 
-module _ (j : List Entry) (deeds : List Deed) (log : WorkLog) (links : List Deques) (base node : ℕ) (none : Deques) (lawful : IsLawfulJournal j)
+module _ (j : List Entry) (deeds : List Deed) (log : WorkLog) (links : List Deques) (base node : ℕ) (none : Deques)
+    (lawful : IsLawfulJournal j)
     (given : (a : ℕ) → given_in (deeds_of deeds a) ≡ taken_of (part j a)) where
-  pub looked : (w : AnyDriver) → is_out w ≡ true → Traces w log deeds → IsDriverOf node (length (left_in log)) w → HoldsBy Lies deeds w log j links base →
-      (window : List (List ℕ)) (off : Bool) → Looks Lies shows_none (slice_index_or links (place_after base (length (left_in log))) none) (held_of w) window (off_of w) off → IsShown j deeds off window
+  pub looked : (w : AnyDriver) → is_out w ≡ true → Traces w log deeds → IsDriverOf node (length (left_in log)) w →
+      HoldsBy Lies deeds w log j links base →
+      (window : List (List ℕ)) (off : Bool) → Looks Lies shows_none
+      (slice_index_or links (place_after base (length (left_in log))) none) (held_of w) window (off_of w) off →
+      IsShown j deeds off window
   looked (InReset d) out trace place h window off look = absurd cc
   looked (InActive d) out trace place h window off look =
       let n = length (left_in log) in
       let few : n < 8 = place.1 in
-      let opened : suc n ≡ opened_by deeds = let e = trace.opened in let a = ap (λ l. l.activation) place.0 in omega (arith, e, a) in
+      let opened : suc n ≡ opened_by deeds = let e = trace.opened in let a = ap (λ l. l.activation) place.0 in
+      omega (arith, e, a) in
       let at : place_after base n ≡ base + n = ap (λ m. base + m) (min_few n few) in
       let g = given_in (deeds_of deeds (suc n)) in
-      let lies : Lies (slice_index_or links (place_after base n) none) (account j (opened_by deeds) (record { got = h.got n; given = g })) =
-      subst (λ (m : ℕ). Lies (slice_index_or links m none) (account j (opened_by deeds) (record { got = h.got n; given = g }))) (sym at)
-      (subst (λ (m : ℕ). Lies (slice_index_or links (base + n) none) (account j m (record { got = h.got n; given = g }))) opened (h.kept n none few)) in
+      let lies : Lies (slice_index_or links (place_after base n) none)
+      (account j (opened_by deeds) (record { got = h.got n; given = g })) =
+      subst (λ (m : ℕ). Lies (slice_index_or links m none)
+      (account j (opened_by deeds) (record { got = h.got n; given = g }))) (sym at)
+      (subst (λ (m : ℕ). Lies (slice_index_or links (base + n) none)
+      (account j m (record { got = h.got n; given = g }))) opened (h.kept n none few)) in
       let released = released_of (releases_in log) (suc n) in
-      let holds : GotHolds (h.got n) released (held_of (InActive d)) = h.told n few ∙ ap (λ l. released ++ l) (leaves_last (left_in log) (held_of (InActive d))) in
+      let holds : GotHolds (h.got n) released (held_of (InActive d)) = h.told n few
+      ∙ ap (λ l. released ++ l) (leaves_last (left_in log) (held_of (InActive d))) in
       let lengths : released_lengths (deeds_of deeds (opened_by deeds)) ≡ map (λ (m : List ℕ). length m) released =
-      sym (trace.released (opened_by deeds)) ∙ ap (λ m. map (λ (x : List ℕ). length x) (released_of (releases_in log) m)) (sym opened) in
-      is_shown j deeds (slice_index_or links (place_after base n) none) (h.got n) g released (held_of (InActive d)) window (off_of (InActive d)) off lies holds h.off_is lengths
-      (λ all down put told. few_held j (opened_by deeds) deeds all down released window lawful put told (given (opened_by deeds)) trace.answered.gives lengths) look
+      sym (trace.released (opened_by deeds)) ∙ ap
+      (λ m. map (λ (x : List ℕ). length x) (released_of (releases_in log) m)) (sym opened) in
+      is_shown j deeds (slice_index_or links (place_after base n) none) (h.got n) g released
+      (held_of (InActive d)) window (off_of (InActive d)) off lies holds h.off_is lengths
+      (λ all down put told. few_held j (opened_by deeds) deeds all down released window lawful put told
+      (given (opened_by deeds)) trace.answered.gives lengths) look
 
-  fits_by : (one : Step) (answer : StepAnswer) (w : AnyDriver) → Traces w log deeds → FitsState (is_out w) (opened_of w) one answer → FitsState (is_active deeds) (opened_by deeds) one answer
+  fits_by : (one : Step) (answer : StepAnswer) (w : AnyDriver) → Traces w log deeds →
+      FitsState (is_out w) (opened_of w) one answer → FitsState (is_active deeds) (opened_by deeds) one answer
   fits_by one answer w trace fits =
-      subst (λ (b : Bool). FitsState b (opened_by deeds) one answer) (sym trace.out) (subst (λ (m : ℕ). FitsState (is_out w) m one answer) (sym trace.opened) fits)
+      subst (λ (b : Bool). FitsState b (opened_by deeds) one answer) (sym trace.out)
+      (subst (λ (m : ℕ). FitsState (is_out w) m one answer) (sym trace.opened) fits)
 
   -- a step that was answered is the deed that comes next
-  pub next_one : (p q : Registers) (one : Step) (answer : StepAnswer) (w : AnyDriver) (off : Bool) (window : List (List ℕ)) (seen : Seen) → Traces w log deeds → IsDriverOf node (length (left_in log)) w →
-      HoldsBy Lies deeds w log j links base → p.closed ≡ false → FitsState (is_out w) (opened_of w) one answer → IfOut w (Sees one off window answer) → Tells one (is_out w) p seen answer →
-      IfOut w (IfLooking one (Looks Lies shows_none (slice_index_or links (place_after base (length (left_in log))) none) (held_of w) window (off_of w) off)) → q ≡ ported p one answer →
+  pub next_one : (p q : Registers) (one : Step) (answer : StepAnswer) (w : AnyDriver) (off : Bool)
+      (window : List (List ℕ)) (seen : Seen) → Traces w log deeds → IsDriverOf node (length (left_in log)) w →
+      HoldsBy Lies deeds w log j links base → p.closed ≡ false → FitsState (is_out w) (opened_of w) one answer →
+      IfOut w (Sees one off window answer) → Tells one (is_out w) p seen answer →
+      IfOut w (IfLooking one (Looks Lies shows_none
+      (slice_index_or links (place_after base (length (left_in log))) none) (held_of w) window (off_of w) off)) →
+      q ≡ ported p one answer →
       IsNext j deeds p q (record { step = one; answer = answer; bits = (place_of j).bits; gave = carried p one answer })
   next_one p q one answer (InReset d) off window seen trace place h unclosed fits sees tells looks left = record {
     now = refl;
     fits = fits_by one answer (InReset d) trace fits;
     gave = refl;
-    sees = let P : Bool → Type 0 = λ b. SeesIf b j deeds (record { step = one; answer = answer; bits = (place_of j).bits; gave = carried p one answer }) in subst P (sym trace.out) tt;
+    sees = let P : Bool → Type 0 = λ b. SeesIf b j deeds
+        (record { step = one; answer = answer; bits = (place_of j).bits; gave = carried p one answer }) in
+        subst P (sym trace.out) tt;
     seen = seen;
     tells = tells_by one answer _ _ p seen trace.out tells;
-    patient = never_closed false (opened_of (InReset d)) one answer off window p seen fits (λ e. absurd cc) tells unclosed;
+    patient = never_closed false (opened_of (InReset d)) one answer off window p seen fits
+        (λ e. absurd cc) tells unclosed;
     left = left;
   }
   next_one p q one answer (InActive d) off window seen trace place h unclosed fits sees tells looks left = record {
@@ -159,8 +187,10 @@ module _ (j : List Entry) (deeds : List Deed) (log : WorkLog) (links : List Dequ
     fits = fits_by one answer (InActive d) trace fits;
     gave = refl;
     sees =
-        let P : Bool → Type 0 = λ b. SeesIf b j deeds (record { step = one; answer = answer; bits = (place_of j).bits; gave = carried p one answer }) in
-        subst P (sym trace.out) (sees_shown j deeds one answer off window sees (if_looking one _ _ (looked (InActive d) refl trace place h window off) looks));
+        let P : Bool → Type 0 = λ b. SeesIf b j deeds
+        (record { step = one; answer = answer; bits = (place_of j).bits; gave = carried p one answer }) in
+        subst P (sym trace.out) (sees_shown j deeds one answer off window sees
+        (if_looking one _ _ (looked (InActive d) refl trace place h window off) looks));
     seen = seen;
     tells = tells_by one answer _ _ p seen trace.out tells;
     patient = never_closed true (opened_of (InActive d)) one answer off window p seen fits (λ e. sees) tells unclosed;
@@ -174,24 +204,35 @@ module _ (j : List Entry) (deeds : List Deed) (log : WorkLog) (links : List Dequ
     pub step_is : deed.step ≡ one
     pub only : deeds_by p one o (place_of j).bits ≡ deed ∷ []
 
-  pub comes : (p q : Registers) (one : Step) (w now : AnyDriver) (new : Deques) (o : Tried) → Traces w log deeds → IsDriverOf node (length (left_in log)) w → HoldsBy Lies deeds w log j links base →
-      p.closed ≡ false → true ≡ is_met o → Acts Lies shows_none takes_none (slice_index_or links (place_after base (length (left_in log))) none) new p q one w now o → Comes p q one o
+  pub comes : (p q : Registers) (one : Step) (w now : AnyDriver) (new : Deques) (o : Tried) → Traces w log deeds →
+      IsDriverOf node (length (left_in log)) w → HoldsBy Lies deeds w log j links base →
+      p.closed ≡ false → true ≡ is_met o → Acts Lies shows_none takes_none
+      (slice_index_or links (place_after base (length (left_in log))) none) new p q one w now o → Comes p q one o
   comes p q one w now new Unmet trace place h unclosed met acts = absurd cc
   comes p q one w now new (Answered a) trace place h unclosed met acts = record {
     deed = record { step = one; answer = a; bits = (place_of j).bits; gave = carried p one a };
-    next = next_one p q one a w (off_after now (Answered a)) (window_after now (Answered a)) (seen_by now) trace place h unclosed acts.fits acts.sees acts.tells acts.looks acts.port;
+    next = next_one p q one a w (off_after now (Answered a)) (window_after now (Answered a))
+        (seen_by now) trace place h unclosed acts.fits acts.sees acts.tells acts.looks acts.port;
     step_is = refl;
     only = refl;
   }
   comes p q one w now new (Released m) trace place h unclosed met acts = record {
-    deed = record { step = one; answer = ReleasedAnswer (length m); bits = (place_of j).bits; gave = carried p one (ReleasedAnswer (length m)) };
-    next = next_one p q one (ReleasedAnswer (length m)) w (off_after now (Released m)) (window_after now (Released m)) (seen_by now) trace place h unclosed acts.fits acts.sees acts.tells acts.looks acts.port;
+    deed = record {
+      step = one;
+      answer = ReleasedAnswer (length m);
+      bits = (place_of j).bits;
+      gave = carried p one
+          (ReleasedAnswer (length m));
+    };
+    next = next_one p q one (ReleasedAnswer (length m)) w (off_after now (Released m)) (window_after now (Released m))
+        (seen_by now) trace place h unclosed acts.fits acts.sees acts.tells acts.looks acts.port;
     step_is = refl;
     only = refl;
   }
   comes p q one w now new (Ended l) trace place h unclosed met acts = record {
     deed = record { step = one; answer = Done; bits = (place_of j).bits; gave = carried p one Done };
-    next = next_one p q one Done w (off_after now (Ended l)) (window_after now (Ended l)) (seen_by now) trace place h unclosed acts.fits acts.sees acts.tells acts.looks acts.port;
+    next = next_one p q one Done w (off_after now (Ended l)) (window_after now (Ended l))
+        (seen_by now) trace place h unclosed acts.fits acts.sees acts.tells acts.looks acts.port;
     step_is = refl;
     only = refl;
   }
@@ -201,9 +242,11 @@ module _ (j : List Entry) (deeds : List Deed) (log : WorkLog) (links : List Dequ
   not_full : (s : Deques) → s.up ≡ [] → length s.up ≡ 24 → ⊥
   not_full s none_up full = let e : length s.up ≡ 0 = ap (λ l. length l) none_up in omega (arith, e, full)
 
-  pub waits : (p : Registers) (one : Step) (w now : AnyDriver) → Traces w log deeds → IsDriverOf node (length (left_in log)) w → HoldsBy Lies deeds w log j links base →
+  pub waits : (p : Registers) (one : Step) (w now : AnyDriver) → Traces w log deeds →
+      IsDriverOf node (length (left_in log)) w → HoldsBy Lies deeds w log j links base →
       ((a : ℕ) (d : Deques) → a < 8 → (slice_index_or links (base + a) d).up ≡ []) →
-      Waits Lies shows_none takes_none (slice_index_or links (place_after base (length (left_in log))) none) p one w now → HasToWait j deeds p one
+      Waits Lies shows_none takes_none (slice_index_or links (place_after base (length (left_in log))) none) p one w
+      now → HasToWait j deeds p one
   waits p (Await count) (InActive was) now trace place h empty (closed, on, few, look) =
       let shown = looked (InActive was) refl trace place h (held_of now) (off_of now) look in
       let same = shown.window_is on in
@@ -212,13 +255,16 @@ module _ (j : List Entry) (deeds : List Deed) (log : WorkLog) (links : List Dequ
   waits p Sent (InActive was) now trace place h empty (closed, busy, look) = (trace.out, busy)
   waits p Sent (InReset was) now trace place h empty full = elim full [ ]
   waits p Start (InReset was) now trace place h empty (left, full) =
-      not_full (slice_index_or links (place_after base (length (left_in log))) none) (empty (min (length (left_in log)) 7) none (min_less (length (left_in log)))) full
+      not_full (slice_index_or links (place_after base (length (left_in log))) none)
+      (empty (min (length (left_in log)) 7) none (min_less (length (left_in log)))) full
   waits p Start (InActive was) now trace place h empty full = elim full [ ]
   waits p Stop (InActive was) now trace place h empty full =
-      not_full (slice_index_or links (place_after base (length (left_in log))) none) (empty (min (length (left_in log)) 7) none (min_less (length (left_in log)))) full
+      not_full (slice_index_or links (place_after base (length (left_in log))) none)
+      (empty (min (length (left_in log)) 7) none (min_less (length (left_in log)))) full
   waits p Stop (InReset was) now trace place h empty full = elim full [ ]
   waits p (Command value) (InActive was) now trace place h empty (full, asks, fits) =
-      not_full (slice_index_or links (place_after base (length (left_in log))) none) (empty (min (length (left_in log)) 7) none (min_less (length (left_in log)))) full
+      not_full (slice_index_or links (place_after base (length (left_in log))) none)
+      (empty (min (length (left_in log)) 7) none (min_less (length (left_in log)))) full
   waits p (Command value) (InReset was) now trace place h empty full = elim full [ ]
   waits p Window w now trace place h empty full = elim full [ ]
   waits p (Read a) w now trace place h empty full = elim full [ ]
@@ -230,4 +276,5 @@ module _ (j : List Entry) (deeds : List Deed) (log : WorkLog) (links : List Dequ
       let lies = h.kept a none (min_less (length (left_in log))) in
       let after = r.lists _ lies in
       let same = sym after.1 ∙ lies.1 in
-      not_full r.at (same_front _ r.at.up [] (same ∙ ap (λ l. taken_of (part j (suc a)) ++ l) (empty a none (min_less (length (left_in log)))))) r.is_full
+      not_full r.at (same_front _ r.at.up [] (same
+      ∙ ap (λ l. taken_of (part j (suc a)) ++ l) (empty a none (min_less (length (left_in log)))))) r.is_full

@@ -1,5 +1,5 @@
 -- No bit of a run breaks off: nothing waits to be taken, no journal is full, and no link gives back what is put there.
-use Rattle.std.proofs.Common.{◌≡◌, ℕ, suc, ◌+◌, ◌*◌, ◌<◌, ◌≤◌, Bool, true, false, List, [], ◌∷◌, ◌++◌, length, refl, sym, ap, ◌∙◌, subst, append_assoc, inl, inr, arith}
+use Rattle.std.proofs.Common.{◌≡◌, ℕ, suc, ◌+◌, ◌*◌, ◌<◌, ◌≤◌, Bool, true, false, List, [], ◌∷◌, ◌++◌, length, sym, ap, ◌∙◌, append_assoc, inl, inr, arith}
 use Rattle.std.specs.Prelude.{◌⊎◌, slice_index_or}
 use Rattle.std.proofs.lemmas.List.{length-append, length-replicate}
 use Rattle.can_bits.specs.declared.level.Level.TheVariants.{Recessive}
@@ -14,7 +14,6 @@ use Rattle.sja_link.specs.Carried.{taken_of}
 use Rattle.sja_link.specs.Places.{place_of}
 use Rattle.sja_link.proofs.Entering.{bits_counted}
 use Rattle.sja_regs.specs.declared.orders.Orders.{Orders}
-use Rattle.sja_regs.specs.declared.registers.Registers.{Registers}
 use Rattle.sja_regs.specs.Registers.{at_power_on}
 use Rattle.sja_bus.specs.declared.bus_fault.BusFault.{BusFault}
 use Rattle.sja_bus.specs.declared.bus_fault.BusFault.TheVariants.{BitsSpent, BadCredit, Stuck, BadOrder, JournalFull}
@@ -49,7 +48,8 @@ abort_own : (changed : Bool) → AreOwn (abort_as changed)
 abort_own true = (tt, tt)
 abort_own false = tt
 
-module _ (plan : PlanValue) (r : SerialValue) (deeds : List (List Deed)) (h : StandsAt plan r deeds) (left : r.bits < plan.bits)
+module _ (plan : PlanValue) (r : SerialValue) (deeds : List (List Deed)) (h : StandsAt plan r deeds)
+    (left : r.bits < plan.bits)
     (was : IsBusRun r.bus.script r.bus.run r.bus.journals) (limits : IsInLimits plan) where
   all_bits : room_for (r.bus.run + r.bus.left) ≡ room_for plan.bits
   all_bits = ap room_for h.all_bits
@@ -61,7 +61,8 @@ module _ (plan : PlanValue) (r : SerialValue) (deeds : List (List Deed)) (h : St
     driver : LoggedDriver
     driver = some_of r.drivers m (let c = h.count.drivers in let l = less in omega (arith, c, l))
 
-    node : IsNode plan.version (steps_at plan m) (journal_at r.bus.journals m) (deeds_at deeds m) (slice_index_or r.drivers m driver) (slice_index_or r.ports m (at_power_on plan.version)) r.links (8 * m)
+    node : IsNode plan.version (steps_at plan m) (journal_at r.bus.journals m) (deeds_at deeds m)
+        (slice_index_or r.drivers m driver) (slice_index_or r.ports m (at_power_on plan.version)) r.links (8 * m)
     node = h.nodes m driver (at_power_on plan.version) less
 
     abbrev acc : ℕ → Account
@@ -79,23 +80,30 @@ module _ (plan : PlanValue) (r : SerialValue) (deeds : List (List Deed)) (h : St
     entries : length (journal_at r.bus.journals m) + 3 ≤ 2 * r.bus.run + 2100
     entries =
         let j = journal_at r.bus.journals m in let ds = deeds_at deeds m in
-        let steps : length (steps_at plan m) ≤ 1000 = All-get_or (λ (steps : List Step). length steps ≤ 1000) plan.nodes m [] less limits.steps in
+        let steps : length (steps_at plan m) ≤ 1000 = All-get_or
+        (λ (steps : List Step). length steps ≤ 1000) plan.nodes m [] less limits.steps in
         let within = node.traced.within in
-        let opened = opened_most ds (driver_of (slice_index_or r.drivers m driver)) (log_of (slice_index_or r.drivers m driver)) (node_of (slice_index_or r.drivers m driver)) (ended_of (slice_index_or r.drivers m driver)) node.traced.traces node.traced.lawful in
+        let opened = opened_most ds (driver_of (slice_index_or r.drivers m driver))
+        (log_of (slice_index_or r.drivers m driver)) (node_of (slice_index_or r.drivers m driver))
+        (ended_of (slice_index_or r.drivers m driver)) node.traced.traces node.traced.lawful in
         let begun = node.linked.level.begun in
         let bits : (place_of j).bits ≡ r.bus.run = bits_counted j ∙ was.wired.count m few in
-        has_room j ds (slice_index_or r.ports m (at_power_on plan.version)) r.bus.run node.counted (was.lawful m few) node.traced.traces.answered.gives (omega (arith, within, steps)) (omega (arith, opened, begun)) (omega (arith, bits))
+        has_room j ds (slice_index_or r.ports m (at_power_on plan.version)) r.bus.run node.counted
+        (was.lawful m few) node.traced.traces.answered.gives (omega (arith, within, steps))
+        (omega (arith, opened, begun)) (omega (arith, bits))
 
     -- there is room for an abort, the bit, a verdict and bus-off
     room : length (journal_at r.bus.journals m) + 4 ≤ room_for plan.bits
     room = let has = entries in let a = h.all_bits in let b = h.bits in omega (arith, has, a, b, left)
 
     -- an item that was refused would wait
-    nothing_shown : (t : List Entry) (items : HasItems (journal_at r.bus.journals m) t) (item : Up) (up : List Up) → stops_of t < 8 →
+    nothing_shown : (t : List Entry) (items : HasItems (journal_at r.bus.journals m) t) (item : Up) (up : List Up) →
+        stops_of t < 8 →
         given (stops_of t) ≡ (taken_of (part t (suc (stops_of t))) ++ item ∷ []) ++ up → ⊥
     nothing_shown t items item up small shown =
         some_none item up (none_back (adds (journal_at r.bus.journals m) items.items (suc (stops_of t))) (item ∷ up)
-        (none_beyond (journal_at r.bus.journals m) t items given before (stops_of t) (item ∷ up) small (shown ∙ append_assoc (taken_of (part t (suc (stops_of t)))) (item ∷ []) up)))
+        (none_beyond (journal_at r.bus.journals m) t items given before (stops_of t) (item ∷ up) small
+        (shown ∙ append_assoc (taken_of (part t (suc (stops_of t)))) (item ∷ []) up)))
 
     -- no link is full: no bus-off lies there, and fewer than 22 messages fit in 64 bytes
     not_stuck : (opened j : List Entry) (between : List Deques) → Kept Lies opened between (8 * m) acc →
@@ -111,20 +119,25 @@ module _ (plan : PlanValue) (r : SerialValue) (deeds : List (List Deed)) (h : St
         let full = b.is_full in omega (arith, few, full)
 
     -- no entry is refused
-    not_full : (t : List Entry) → length t ≤ length (journal_at r.bus.journals m) + 3 → room_for (r.bus.run + r.bus.left) ≤ length t → ⊥
+    not_full : (t : List Entry) → length t ≤ length (journal_at r.bus.journals m) + 3 →
+        room_for (r.bus.run + r.bus.left) ≤ length t → ⊥
     not_full t short full = let x = room in let e = all_bits in omega (arith, x, e, short, full)
 
-  no_item : (now : BusValue) (after : List Deques) (f : BusFault) → IsNotTaken Lies (r.bus.run + r.bus.left) r.bus.journals now.journals r.links after f → ⊥
+  no_item : (now : BusValue) (after : List Deques) (f : BusFault) →
+      IsNotTaken Lies (r.bus.run + r.bus.left) r.bus.journals now.journals r.links after f → ⊥
   no_item now after f x =
       let t = journal_at now.journals x.node in
-      nothing_shown x.node x.few t x.refuses.items x.refuses.item (slice_index_or after (8 * x.node + stops_of t) no_link).up x.refuses.few
+      nothing_shown x.node x.few t x.refuses.items x.refuses.item
+      (slice_index_or after (8 * x.node + stops_of t) no_link).up x.refuses.few
       (x.refuses.shown (acc x.node x.few) no_link (kept_before x.node x.few)).1
 
-  no_abort : (now : BusValue) (after : List Deques) (f : BusFault) → IsNotAborted Lies (r.bus.run + r.bus.left) r.bus.journals now.journals r.links after f → ⊥
+  no_abort : (now : BusValue) (after : List Deques) (f : BusFault) →
+      IsNotAborted Lies (r.bus.run + r.bus.left) r.bus.journals now.journals r.links after f → ⊥
   no_abort now after f x =
       let j = journal_at r.bus.journals x.node in
       let t = journal_at now.journals x.node in
-      let same : t ≡ j = none_taken j t x.items (given x.node x.few) (before x.node x.few) (λ a. (slice_index_or after (8 * x.node + a) no_link).up)
+      let same : t ≡ j = none_taken j t x.items (given x.node x.few) (before x.node x.few)
+      (λ a. (slice_index_or after (8 * x.node + a) no_link).up)
       (λ a small. (x.kept (acc x.node x.few) (kept_before x.node x.few) a no_link small).1) in
       let l : length t ≡ length j = ap (λ (s : List Entry). length s) same in
       not_full x.node x.few t (omega (arith, l)) x.full
@@ -169,13 +182,15 @@ module _ (plan : PlanValue) (r : SerialValue) (deeds : List (List Deed)) (h : St
   -- ---- bits that are run at once
 
   -- and there is room for all bits that are left
-  never_full : (now : BusValue) (after : List Deques) (f : BusFault) → IsFullInStretch Lies (r.bus.run + r.bus.left) r.bus.left r.bus.journals now.journals r.links after f → ⊥
+  never_full : (now : BusValue) (after : List Deques) (f : BusFault) →
+      IsFullInStretch Lies (r.bus.run + r.bus.left) r.bus.left r.bus.journals now.journals r.links after f → ⊥
   never_full now after f x =
       let o = x.out in let m = o.node in
       let small : m < length r.bus.journals = let l = o.few in let c = x.count in omega (arith, l, c) in
       let j = journal_at r.bus.journals m in
       let t = journal_at x.taken m in
-      let same : t ≡ j = none_taken j t (x.items m small) (given m small) (before m small) (λ a. (slice_index_or after (8 * m + a) no_link).up)
+      let same : t ≡ j = none_taken j t (x.items m small) (given m small) (before m small)
+      (λ a. (slice_index_or after (8 * m + a) no_link).up)
       (λ a few. (x.kept m (acc m small) small (kept_before m small) a no_link few).1) in
       let l = ap (λ (s : List Entry). length s) same in
       let grown = ap (λ (s : List Entry). length s) o.grown ∙ length-append t (recessive_bits o.entered) in

@@ -14,13 +14,16 @@ use Rattle.sja_turns.specs.Serial.{SerialValue, deeds_at}
 use Rattle.sja_turns.specs.Ending.{IsLogOf, TakesTurns, progress}
 use Rattle.sja_turns.proofs.NodeEnds.{any_of, same_by}
 
-module _ (plan : PlanValue) (r : SerialValue) (end : End) (log : RunValue) (t : TakesTurns plan r end) (l : IsLogOf plan r t.deeds end log) where
+module _ (plan : PlanValue) (r : SerialValue) (end : End) (log : RunValue) (t : TakesTurns plan r end)
+    (l : IsLogOf plan r t.deeds end log) where
   -- as many steps are done as there are deeds
   steps_same : map (λ (ds : List Deed). length ds) t.deeds ≡ map (λ (n : NodeValue). length n.done) log.nodes
   steps_same =
-      let m = length-map t.deeds (λ (ds : List Deed). length ds) in let n = length-map log.nodes (λ (x : NodeValue). length x.done) in
+      let m = length-map t.deeds (λ (ds : List Deed). length ds) in
+      let n = length-map log.nodes (λ (x : NodeValue). length x.done) in
       let c = t.stands.deeds_count in let e = l.run.count in
-      same_by 0 (map (λ (ds : List Deed). length ds) t.deeds) (map (λ (x : NodeValue). length x.done) log.nodes) (omega (arith, m, n, c, e)) (λ k less.
+      same_by 0 (map (λ (ds : List Deed). length ds) t.deeds) (map (λ (x : NodeValue). length x.done) log.nodes)
+      (omega (arith, m, n, c, e)) (λ k less.
       let there : k < length t.deeds = omega (arith, m, less) in
       let few : k < length log.nodes = omega (arith, there, c, e) in
       let some = any_of log.nodes (omega (arith, few)) in
@@ -34,11 +37,18 @@ module _ (plan : PlanValue) (r : SerialValue) (end : End) (log : RunValue) (t : 
   pub serial_of : IsSerialRun plan log
   serial_of =
       let first : Progress = record { bits = 0; done = replicate (length plan.nodes) 0 } in
-      let last : Progress = record { bits = log.bits; done = map (λ (n : NodeValue). length n.done) log.nodes } in record {
+      let last : Progress = record { bits = log.bits; done = map (λ (n : NodeValue). length n.done) log.nodes } in
+      record {
         deeds = t.deeds;
         run = l.run;
         in_time = l.in_time;
-        turns = subst (λ (js : List (List Entry)). RunsTo (let a : Acts = record { plan = plan; journals = js; deeds = t.deeds } in a) first plan.turns last log.end) (sym l.journals)
-            (subst (λ (q : Progress). RunsTo (let a : Acts = record { plan = plan; journals = r.bus.journals; deeds = t.deeds } in a) first plan.turns q log.end) ends_there
-            (subst (λ (e : End). RunsTo (let a : Acts = record { plan = plan; journals = r.bus.journals; deeds = t.deeds } in a) first plan.turns (progress r t.deeds) e) (sym l.ends) t.turns));
+        turns = subst (λ (js : List (List Entry)). RunsTo
+            (let a : Acts = record { plan = plan; journals = js; deeds = t.deeds } in a) first plan.turns last
+            log.end) (sym l.journals)
+            (subst (λ (q : Progress). RunsTo (let a : Acts =
+            record { plan = plan; journals = r.bus.journals; deeds = t.deeds } in a) first plan.turns q log.end)
+            ends_there
+            (subst (λ (e : End). RunsTo (let a : Acts =
+            record { plan = plan; journals = r.bus.journals; deeds = t.deeds } in a) first plan.turns
+            (progress r t.deeds) e) (sym l.ends) t.turns));
       }

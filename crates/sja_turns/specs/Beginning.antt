@@ -19,4 +19,5 @@ pub record IsNewDriver (node steps : ℕ) (d : LoggedDriver) : Type 0 where
 -- the first so many of them, by node
 abbrev pub AreNew : PlanValue → ℕ → List LoggedDriver → Type 0
 AreNew plan count drivers =
-    (node : ℕ) (d : LoggedDriver) → node < count → IsNewDriver node (length (steps_at plan node)) (slice_index_or drivers node d)
+    (node : ℕ) (d : LoggedDriver) → node < count →
+    IsNewDriver node (length (steps_at plan node)) (slice_index_or drivers node d)

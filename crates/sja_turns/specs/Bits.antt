@@ -31,9 +31,10 @@ pub data TakesBits (plan : PlanValue) (deeds : List (List Deed)) (Before : Seria
   one_more : (was mid now : SerialValue) (n : ℕ) → TakesBits plan deeds Before was n mid → Before mid →
       TakesBit plan deeds mid now → TakesBits plan deeds Before was (suc n) now
 
--- so many bits were run at once, at most as many as were asked for. Where there were none, neither the bits nor a journal
--- changed
-pub record TakesAtOnce (plan : PlanValue) (deeds : List (List Deed)) (was now : SerialValue) (most run : ℕ) : Type 0 where
+-- so many bits were run at once, at most as many as were asked for. Where there were none, neither the bits nor a
+-- journal changed
+pub record TakesAtOnce (plan : PlanValue) (deeds : List (List Deed)) (was now : SerialValue)
+    (most run : ℕ) : Type 0 where
   pub within : run ≤ most
   pub stands : StandsAt plan now deeds
   pub none : run ≡ 0 → (now.bits ≡ was.bits) × (now.bus.journals ≡ was.bus.journals)

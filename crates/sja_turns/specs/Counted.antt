@@ -1,5 +1,6 @@
--- How many entries a journal can have by the deeds of its driver (this project's own rule). Each item and each abort goes
--- back to a deed, each verdict to a bit, and each bus-off to an activation; so the entries reserved for a run suffice.
+-- How many entries a journal can have by the deeds of its driver (this project's own rule). Each item and each abort
+-- goes back to a deed, each verdict to a bit, and each bus-off to an activation; so the entries reserved for a run
+-- suffice.
 use Rattle.std.specs.Prelude.{◌≤◌, ◌+◌, ◌*◌, ℕ, Bool, true, false, if◌then◌else◌, Option, Some, None, List, length}
 use Rattle.can_node.specs.declared.request.Request.{Request}
 use Rattle.can_node.specs.Context.{ContextValue}

@@ -19,7 +19,8 @@ pub record IsLevel (j : List Entry) (deeds : List Deed) : Type 0 where
 
 -- the links, from this place on, stand for the parts of the journal and for the driver's deeds and releases; all that
 -- was given was taken
-pub record IsLinked (j : List Entry) (deeds : List Deed) (driver : LoggedDriver) (links : List Deques) (base : ℕ) : Type 0 where
+pub record IsLinked (j : List Entry) (deeds : List Deed) (driver : LoggedDriver) (links : List Deques)
+    (base : ℕ) : Type 0 where
   pub holds : HoldsBy Lies deeds (driver_of driver) (log_of driver) j links base
   pub taken : (a : ℕ) (d : Deques) → a < per_node → (slice_index_or links (base + a) d).up ≡ []
   pub level : IsLevel j deeds

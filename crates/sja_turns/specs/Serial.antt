@@ -25,7 +25,13 @@ pub record SerialValue : Type 0 where
   pub bits : ℕ
 
 abbrev pub run_now : BusValue → List LoggedDriver → List Registers → List Deques → ℕ → SerialValue
-run_now bus drivers ports links bits = record { bus = bus; drivers = drivers; ports = ports; links = links; bits = bits }
+run_now bus drivers ports links bits = record {
+  bus = bus;
+  drivers = drivers;
+  ports = ports;
+  links = links;
+  bits = bits;
+}
 
 -- as many of each as the plan has nodes
 pub record HasNodes (nodes : ℕ) (r : SerialValue) : Type 0 where
@@ -70,7 +76,8 @@ pub record HasMore (j k : List Entry) : Type 0 where
 
 -- these deeds were done then: the driver of this node did them after the bits that had run, and no bit was run; the
 -- journals have items more
-pub record Does (plan : PlanValue) (was now : SerialValue) (node : ℕ) (deeds : List (List Deed)) (more : List Deed) : Type 0 where
+pub record Does (plan : PlanValue) (was now : SerialValue) (node : ℕ) (deeds : List (List Deed))
+    (more : List Deed) : Type 0 where
   pub stands : StandsAt plan now (with_deeds deeds node more)
   pub at_once : (i : ℕ) (d : Deed) → i < length more → (slice_index_or more i d).bits ≡ was.bits
   pub bits : now.bits ≡ was.bits
@@ -84,7 +91,8 @@ IsStuck plan r deeds node =
     (slice_index_or r.ports node p) (slice_index_or (steps_at plan node) (length (deeds_at deeds node)) s))
 
 -- one turn of a node: these deeds more, at most so many; fewer only where the driver is stuck
-pub record TakesTurn (plan : PlanValue) (was now : SerialValue) (node count : ℕ) (deeds : List (List Deed)) : Type 0 where
+pub record TakesTurn (plan : PlanValue) (was now : SerialValue) (node count : ℕ)
+    (deeds : List (List Deed)) : Type 0 where
   pub more : List Deed
   pub does : Does plan was now node deeds more
   pub most : length more ≤ count

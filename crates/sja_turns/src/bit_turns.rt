@@ -136,8 +136,8 @@ impl SerialRun {
         true
     }
 
-    /// `rest`: bits until every controller is at rest: in reset, or idle with no request. It says whether they came to rest
-    /// before the bits were spent.
+    /// `rest`: bits until every controller is at rest: in reset, or idle with no request. It says whether they came to
+    /// rest before the bits were spent.
     pub fn rest_turn(&mut self, plan: &Plan) -> bool
         requires run { IsRunOf plan.now self.old }
         ensures turn { (deeds : List (List Deed)) → StandsAt plan.now self.old deeds →

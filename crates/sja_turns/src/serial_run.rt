@@ -67,9 +67,9 @@ impl SerialRun {
         })
     }
 
-    /// One turn of a node, counted from 0: so many steps of its driver, one after the other, or as many as it has left, or
-    /// up to one that has to wait. No bit is run, and what the driver gives is taken at once: the bus refuses no item of
-    /// it.
+    /// One turn of a node, counted from 0: so many steps of its driver, one after the other, or as many as it has left,
+    /// or up to one that has to wait. No bit is run, and what the driver gives is taken at once: the bus refuses no
+    /// item of it.
     pub fn node_turn(&mut self, plan: &Plan, node: u8, count: u32)
         requires run { IsRunOf plan.now self.old }
         requires node { node < length plan.now.nodes }

@@ -13,8 +13,8 @@ use sja_regs::Port;
 /// How many links, and so activations, a node has.
 const LINKS: usize = 8;
 
-/// Tries the next step of a node's driver, and takes what it gave: the bus refuses no item of it. It says whether the step
-/// is done; else it has to wait.
+/// Tries the next step of a node's driver, and takes what it gave: the bus refuses no item of it. It says whether the
+/// step is done; else it has to wait.
 pub(crate) fn try_next(
     plan: &Plan,
     node: usize,
@@ -26,7 +26,8 @@ pub(crate) fn try_next(
 ) -> bool
     requires run { IsRunOf plan.now (run_now bus.old drivers.old ports.old links.old bits) }
     requires node { node < length plan.now.nodes }
-    requires left { (deeds : List (List Deed)) → StandsAt plan.now (run_now bus.old drivers.old ports.old links.old bits) deeds →
+    requires left { (deeds : List (List Deed)) →
+        StandsAt plan.now (run_now bus.old drivers.old ports.old links.old bits) deeds →
         length (deeds_at deeds node) < length (steps_at plan.now node) }
     ensures done { result ≡ true → (deeds : List (List Deed)) →
         StandsAt plan.now (run_now bus.old drivers.old ports.old links.old bits) deeds →
@@ -55,8 +56,8 @@ pub(crate) fn try_next(
     }
 }
 
-/// One turn of a node: so many steps of its driver, one after the other, or as many as it has left, or up to one that has
-/// to wait.
+/// One turn of a node: so many steps of its driver, one after the other, or as many as it has left, or up to one that
+/// has to wait.
 pub(crate) fn take_turn(
     plan: &Plan,
     node: usize,

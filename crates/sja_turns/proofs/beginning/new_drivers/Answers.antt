@@ -14,11 +14,13 @@ loop-node-preserved c =
     let x = c.new-in-loop-node.result in
     let node = c.loop-node.node in
     let own : c.new-in-loop-node.result.node ≡ node = c.new-in-loop-node.ensures.node in
-    let room : HasRoom (length (steps_at c.args.plan.now node)) c.in_ok-log.log = subst (λ (l : List Step). HasRoom (length l) c.in_ok-log.log) c.steps.ensures c.in_ok-log.ensures.room in
+    let room : HasRoom (length (steps_at c.args.plan.now node)) c.in_ok-log.log = subst
+    (λ (l : List Step). HasRoom (length l) c.in_ok-log.log) c.steps.ensures c.in_ok-log.ensures.room in
     let is : IsNewDriver node (length (steps_at c.args.plan.now node)) x = record {
       own = own;
       empty = subst (λ (l : WorkLog). IsEmpty l) (sym c.new-in-loop-node.ensures.log) c.in_ok-log.ensures.empty;
-      room = subst (λ (l : WorkLog). HasRoom (length (steps_at c.args.plan.now node)) l) (sym c.new-in-loop-node.ensures.log) room;
+      room = subst (λ (l : WorkLog). HasRoom (length (steps_at c.args.plan.now node)) l)
+          (sym c.new-in-loop-node.ensures.log) room;
       reset = c.new-in-loop-node.ensures.reset;
       lawful = c.new-in-loop-node.ensures.lawful;
       traces = c.new-in-loop-node.ensures.traces;
@@ -27,5 +29,6 @@ loop-node-preserved c =
       count = search rules;
       room = search rules;
       all = inv.all;
-      new = subst (λ (l : List LoggedDriver). AreNew c.args.plan.now (node + 1) l) (sym c.push_reserved.ensures.items) (new_push c.args.plan.now node c.loop-node.drivers.items x inv.count inv.new is);
+      new = subst (λ (l : List LoggedDriver). AreNew c.args.plan.now (node + 1) l) (sym c.push_reserved.ensures.items)
+          (new_push c.args.plan.now node c.loop-node.drivers.items x inv.count inv.new is);
     }

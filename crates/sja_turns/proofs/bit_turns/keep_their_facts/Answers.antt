@@ -1,4 +1,4 @@
-use Rattle.std.proofs.Common.{rules, ◌≡◌, ℕ, ◌<◌, length, sym, subst, arith, inl, inr}
+use Rattle.std.proofs.Common.{rules, ℕ, ◌<◌, length, sym, subst, arith, inl, inr}
 use Rattle.std.specs.Prelude.{slice_index_or}
 use Rattle.std.proofs.lemmas.Bool.{cases_eq}
 use Rattle.sja_regs.specs.declared.registers.Registers.{Registers}
@@ -13,7 +13,8 @@ pub loop-node-preserved : goal.loop-node-preserved
 loop-node-preserved c = λ m d less. elim (cases_eq m c.loop-node.node) [
   | inl q ↦
       let few : m < length c.args.ports.now = let t = c.loop-node-test.true in omega (arith, q, t) in
-      let here : RegisterFacts (slice_index_or c.args.ports.now c.loop-node.node c.index-ports-node.result) = search rules in
+      let here : RegisterFacts (slice_index_or c.args.ports.now c.loop-node.node c.index-ports-node.result) = search
+      rules in
       subst (λ (x : Registers). RegisterFacts x) (index_any c.args.ports.now m c.index-ports-node.result d few)
       (subst (λ (n : ℕ). RegisterFacts (slice_index_or c.args.ports.now n c.index-ports-node.result)) (sym q) here)
   | inr differ ↦ c.loop-node.invariant m d (omega (arith, less, differ))

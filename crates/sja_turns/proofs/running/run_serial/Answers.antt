@@ -8,7 +8,8 @@ finish-requires c = let t = c.take_turns-end.ensures in record { run = (t.deeds,
 pub returns-in-Ok-finish-clause-run : goal.returns-in-Ok-finish-clause-run
 returns-in-Ok-finish-clause-run c =
     let t = c.take_turns-end.ensures in let log = c.in-Ok-finish.log in
-    serial_of c.args.plan.now c.take_turns-end.new.run c.take_turns-end.result log t (c.in-Ok-finish.ensures.log t.deeds t.stands)
+    serial_of c.args.plan.now c.take_turns-end.new.run c.take_turns-end.result log t
+    (c.in-Ok-finish.ensures.log t.deeds t.stands)
 
 pub returns-in-Ok-finish-clause-headline : goal.returns-in-Ok-finish-clause-headline
 returns-in-Ok-finish-clause-headline c = λ k d less.

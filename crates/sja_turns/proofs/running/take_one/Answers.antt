@@ -1,9 +1,7 @@
-use Rattle.std.proofs.Common.{List, true, refl, length, sym, subst}
+use Rattle.std.proofs.Common.{true, refl, length, sym, subst}
 use Rattle.sja_plan.specs.Plan.{NamesNode}
 use Rattle.sja_plan.specs.declared.turn.Turn.{Turn}
-use Rattle.sja_driver.specs.Deeds.{Deed}
 use Rattle.sja_turns.specs.Ending.{TakesOne}
-use Rattle.sja_turns.specs.Serial.{StandsAt}
 use Rattle.sja_turns.proofs.running.take_one.Goals as goal
 
 pub node_turn-requires-clause-node : goal.node_turn-requires-clause-node

@@ -6,4 +6,5 @@ use Rattle.sja_turns.proofs.SomeBits.{SomeBits}
 use Rattle.sja_turns.proofs.serial_run.SerialRun.rest_turn.Given as goal
 
 abbrev pub invariant-loop : goal.invariant-loop
-invariant-loop l = (deeds : List (List Deed)) → StandsAt l.plan l.initial.self deeds → SomeBits l.plan deeds (SomeWorks l.plan) l.initial.self l.self l.counter
+invariant-loop l = (deeds : List (List Deed)) → StandsAt l.plan l.initial.self deeds →
+    SomeBits l.plan deeds (SomeWorks l.plan) l.initial.self l.self l.counter

@@ -12,29 +12,43 @@ use Rattle.sja_turns.proofs.serial_run.SerialRun.run_at_once.Goals as goal
 
 pub returns : goal.returns
 returns c = λ deeds h.
-    let bus = c.self.inside.bus in let drivers = c.self.inside.drivers.items in let ports = c.self.inside.board.ports.items in let bits = c.self.inside.bits in
+    let bus = c.self.inside.bus in let drivers = c.self.inside.drivers.items in
+    let ports = c.self.inside.board.ports.items in let bits = c.self.inside.bits in
     let many = c.in-Ok.bits in let most = c.args.count in
     let r = run_now bus drivers ports c.as_mut_slice.result.now bits in
     let n = run_now c.quiet_bits.new.self drivers ports c.quiet_bits.new.links (bits + many) in
-    let was : r ≡ c.args.self.now = (λ i. run_now bus drivers ports (c.as_mut_slice.ensures.value i) bits) ∙ c.self.view_is in
-    let stood : StandsAt c.args.plan.now r deeds = subst (λ (x : SerialValue). StandsAt c.args.plan.now x deeds) (sym was) h in
+    let was : r ≡ c.args.self.now = (λ i. run_now bus drivers ports (c.as_mut_slice.ensures.value i) bits)
+    ∙ c.self.view_is in
+    let stood : StandsAt c.args.plan.now r deeds = subst (λ (x : SerialValue). StandsAt c.args.plan.now x deeds)
+    (sym was) h in
     let facts : (m : ℕ) (d : Registers) → m < length ports → RegisterFacts (slice_index_or ports m d) =
-    subst (λ (l : List Registers). (m : ℕ) (d : Registers) → m < length l → RegisterFacts (slice_index_or l m d)) c.as_slice.ensures.value c.keep_their_facts.ensures in
+    subst (λ (l : List Registers). (m : ℕ) (d : Registers) → m < length l → RegisterFacts (slice_index_or l m d))
+    c.as_slice.ensures.value c.keep_their_facts.ensures in
     let is : c.quiet_bits.result ≡ Ok many = search rules in
     let q = c.quiet_bits.ensures in let ok = c.in-Ok.ensures in
-    let t : TakesAtOnce c.args.plan.now deeds r n most many = takes_at_once c.args.plan.now r n deeds stood ok.right q.script q.nodes refl refl q.sames ok.kept (c.keeps_its_laws.ensures stood.right) facts
+    let t : TakesAtOnce c.args.plan.now deeds r n most many = takes_at_once c.args.plan.now r n deeds stood ok.right
+    q.script q.nodes refl refl q.sames ok.kept (c.keeps_its_laws.ensures stood.right) facts
     most many ok.most ok.bits.0 ok.bits.1 refl (λ zero. q.items (is ∙ ap (λ (x : ℕ). Ok x) zero)) ok.stretch in
-    let l : (with_items c.self.inside.links c.quiet_bits.new.links).items ≡ c.quiet_bits.new.links = with_items_is c.self.inside.links c.quiet_bits.new.links (omega (arith, c.quiet_bits.auto.links, c.as_mut_slice.ensures.len)) in
-    let after : n ≡ run_now c.quiet_bits.new.self drivers ports (with_items c.self.inside.links c.quiet_bits.new.links).items (bits + many) =
+    let l : (with_items c.self.inside.links c.quiet_bits.new.links).items ≡ c.quiet_bits.new.links = with_items_is
+    c.self.inside.links c.quiet_bits.new.links (omega (arith, c.quiet_bits.auto.links, c.as_mut_slice.ensures.len)) in
+    let after : n ≡ run_now c.quiet_bits.new.self drivers ports
+    (with_items c.self.inside.links c.quiet_bits.new.links).items (bits + many) =
     λ i. run_now c.quiet_bits.new.self drivers ports (sym l i) (bits + many) in
-    subst (λ (x : SerialValue). TakesAtOnce c.args.plan.now deeds c.args.self.now x most many) after (subst (λ (x : SerialValue). TakesAtOnce c.args.plan.now deeds x n most many) was t)
+    subst (λ (x : SerialValue). TakesAtOnce c.args.plan.now deeds c.args.self.now x most many) after
+    (subst (λ (x : SerialValue). TakesAtOnce c.args.plan.now deeds x n most many) was t)
 
 pub unreachable-requires : goal.unreachable-requires
 unreachable-requires c =
-    let bus = c.self.inside.bus in let drivers = c.self.inside.drivers.items in let ports = c.self.inside.board.ports.items in let bits = c.self.inside.bits in
+    let bus = c.self.inside.bus in let drivers = c.self.inside.drivers.items in
+    let ports = c.self.inside.board.ports.items in let bits = c.self.inside.bits in
     let r = run_now bus drivers ports c.as_mut_slice.result.now bits in
-    let was : r ≡ c.args.self.now = (λ i. run_now bus drivers ports (c.as_mut_slice.ensures.value i) bits) ∙ c.self.view_is in
+    let was : r ≡ c.args.self.now = (λ i. run_now bus drivers ports (c.as_mut_slice.ensures.value i) bits)
+    ∙ c.self.view_is in
     let deeds = c.requires.run.0 in
-    let stood : StandsAt c.args.plan.now r deeds = subst (λ (x : SerialValue). StandsAt c.args.plan.now x deeds) (sym was) c.requires.run.1 in
-    let left : r.bits < c.args.plan.now.bits = subst (λ (x : SerialValue). x.bits < c.args.plan.now.bits) (sym was) c.requires.left in
-    never_refused c.args.plan.now r deeds stood left (c.keeps_its_laws.ensures stood.right) c.limits.ensures c.quiet_bits.new.self c.quiet_bits.new.links _ (c.in-Err.ensures.reason stood.right)
+    let stood : StandsAt c.args.plan.now r deeds = subst (λ (x : SerialValue). StandsAt c.args.plan.now x deeds)
+    (sym was) c.requires.run.1 in
+    let left : r.bits < c.args.plan.now.bits = subst (λ (x : SerialValue). x.bits < c.args.plan.now.bits)
+    (sym was) c.requires.left in
+    never_refused c.args.plan.now r deeds stood left
+    (c.keeps_its_laws.ensures stood.right) c.limits.ensures c.quiet_bits.new.self c.quiet_bits.new.links _
+    (c.in-Err.ensures.reason stood.right)

@@ -1,4 +1,4 @@
-use Rattle.std.proofs.Common.{rules, List, ◌≡◌, ℕ, ◌+◌, ◌<◌, length, refl, sym, ◌∙◌, subst, arith}
+use Rattle.std.proofs.Common.{List, ◌≡◌, ℕ, ◌+◌, ◌<◌, length, refl, sym, ◌∙◌, subst, arith}
 use Rattle.std.specs.Prelude.{slice_index_or}
 use Rattle.std.proofs.lemmas.List.{with_items_is}
 use Rattle.std.specs.Vec.{with_items}
@@ -13,26 +13,40 @@ use Rattle.sja_turns.proofs.serial_run.SerialRun.run_bit.Goals as goal
 
 pub returns : goal.returns
 returns c = λ deeds h.
-    let bus = c.self.inside.bus in let drivers = c.self.inside.drivers.items in let ports = c.self.inside.board.ports.items in let bits = c.self.inside.bits in
+    let bus = c.self.inside.bus in let drivers = c.self.inside.drivers.items in
+    let ports = c.self.inside.board.ports.items in let bits = c.self.inside.bits in
     let r = run_now bus drivers ports c.as_mut_slice.result.now bits in
     let n = run_now c.bit.new.self drivers c.bit.new.board.ports.items c.bit.new.links (bits + 1) in
-    let was : r ≡ c.args.self.now = (λ i. run_now bus drivers ports (c.as_mut_slice.ensures.value i) bits) ∙ c.self.view_is in
-    let stood : StandsAt c.args.plan.now r deeds = subst (λ (x : SerialValue). StandsAt c.args.plan.now x deeds) (sym was) h in
+    let was : r ≡ c.args.self.now = (λ i. run_now bus drivers ports (c.as_mut_slice.ensures.value i) bits)
+    ∙ c.self.view_is in
+    let stood : StandsAt c.args.plan.now r deeds = subst (λ (x : SerialValue). StandsAt c.args.plan.now x deeds)
+    (sym was) h in
     let facts : (m : ℕ) (d : Registers) → m < length ports → RegisterFacts (slice_index_or ports m d) =
-    subst (λ (l : List Registers). (m : ℕ) (d : Registers) → m < length l → RegisterFacts (slice_index_or l m d)) c.as_slice.ensures.value c.keep_their_facts.ensures in
-    let t : TakesBit c.args.plan.now deeds r n = takes_bit c.args.plan.now r n deeds stood c.in-Ok.ensures.right c.bit.ensures.script c.in-Ok.ensures.bits.0 c.in-Ok.ensures.bits.1 c.bit.ensures.nodes refl refl
-    c.bit.ensures.others.0 c.in-Ok.ensures.kept c.bit.ensures.sames c.in-Ok.ensures.bit (cuts_of (c.keeps_its_laws.ensures stood.right)) facts in
-    let l : (with_items c.self.inside.links c.bit.new.links).items ≡ c.bit.new.links = with_items_is c.self.inside.links c.bit.new.links (omega (arith, c.bit.auto.links, c.as_mut_slice.ensures.len)) in
-    let after : n ≡ run_now c.bit.new.self drivers c.bit.new.board.ports.items (with_items c.self.inside.links c.bit.new.links).items (bits + 1) =
+    subst (λ (l : List Registers). (m : ℕ) (d : Registers) → m < length l → RegisterFacts (slice_index_or l m d))
+    c.as_slice.ensures.value c.keep_their_facts.ensures in
+    let t : TakesBit c.args.plan.now deeds r n = takes_bit c.args.plan.now r n deeds stood c.in-Ok.ensures.right
+    c.bit.ensures.script c.in-Ok.ensures.bits.0 c.in-Ok.ensures.bits.1 c.bit.ensures.nodes refl refl
+    c.bit.ensures.others.0 c.in-Ok.ensures.kept c.bit.ensures.sames c.in-Ok.ensures.bit
+    (cuts_of (c.keeps_its_laws.ensures stood.right)) facts in
+    let l : (with_items c.self.inside.links c.bit.new.links).items ≡ c.bit.new.links = with_items_is
+    c.self.inside.links c.bit.new.links (omega (arith, c.bit.auto.links, c.as_mut_slice.ensures.len)) in
+    let after : n ≡ run_now c.bit.new.self drivers c.bit.new.board.ports.items
+    (with_items c.self.inside.links c.bit.new.links).items (bits + 1) =
     λ i. run_now c.bit.new.self drivers c.bit.new.board.ports.items (sym l i) (bits + 1) in
-    subst (λ (x : SerialValue). TakesBit c.args.plan.now deeds c.args.self.now x) after (subst (λ (x : SerialValue). TakesBit c.args.plan.now deeds x n) was t)
+    subst (λ (x : SerialValue). TakesBit c.args.plan.now deeds c.args.self.now x) after
+    (subst (λ (x : SerialValue). TakesBit c.args.plan.now deeds x n) was t)
 
 pub unreachable-requires : goal.unreachable-requires
 unreachable-requires c =
-    let bus = c.self.inside.bus in let drivers = c.self.inside.drivers.items in let ports = c.self.inside.board.ports.items in let bits = c.self.inside.bits in
+    let bus = c.self.inside.bus in let drivers = c.self.inside.drivers.items in
+    let ports = c.self.inside.board.ports.items in let bits = c.self.inside.bits in
     let r = run_now bus drivers ports c.as_mut_slice.result.now bits in
-    let was : r ≡ c.args.self.now = (λ i. run_now bus drivers ports (c.as_mut_slice.ensures.value i) bits) ∙ c.self.view_is in
+    let was : r ≡ c.args.self.now = (λ i. run_now bus drivers ports (c.as_mut_slice.ensures.value i) bits)
+    ∙ c.self.view_is in
     let deeds = c.requires.run.0 in
-    let stood : StandsAt c.args.plan.now r deeds = subst (λ (x : SerialValue). StandsAt c.args.plan.now x deeds) (sym was) c.requires.run.1 in
-    let left : r.bits < c.args.plan.now.bits = subst (λ (x : SerialValue). x.bits < c.args.plan.now.bits) (sym was) c.requires.left in
-    never_stops c.args.plan.now r deeds stood left (c.keeps_its_laws.ensures stood.right) c.limits.ensures (HasOrders ports) c.bit.new.self c.bit.new.links _ (c.in-Err.ensures.reason stood.right)
+    let stood : StandsAt c.args.plan.now r deeds = subst (λ (x : SerialValue). StandsAt c.args.plan.now x deeds)
+    (sym was) c.requires.run.1 in
+    let left : r.bits < c.args.plan.now.bits = subst (λ (x : SerialValue). x.bits < c.args.plan.now.bits)
+    (sym was) c.requires.left in
+    never_stops c.args.plan.now r deeds stood left (c.keeps_its_laws.ensures stood.right) c.limits.ensures
+    (HasOrders ports) c.bit.new.self c.bit.new.links _ (c.in-Err.ensures.reason stood.right)
