@@ -1,0 +1,64 @@
+-- A journal gone over bit by bit.
+use Rattle.std.proofs.Common.{◌≡◌, ℕ, zero, suc, true, false, List, [], ◌∷◌, ◌++◌, refl, ap}
+use Rattle.sja_link.specs.declared.entry.Entry.{Entry}
+use Rattle.sja_link.specs.declared.entry.Entry.TheVariants.{Bit, Up as Item, Abort, Stored, Overrun, Off}
+use Rattle.sja_wave.specs.Through.{through}
+use Rattle.sja_wave.specs.Inside.Cursors.{is_bit, past}
+
+-- the entries up to the next bit are those up to this one, and those up to the first one that is left
+pub through_next : (n : ℕ) (j : List Entry) → through (suc n) j ≡ through n j ++ through 1 (past n j)
+through_next zero j = refl
+through_next (suc n) [] = refl
+through_next (suc n) (Bit driven seen ∷ j) = ap (λ es. Bit driven seen ∷ es) (through_next n j)
+through_next (suc n) (Item u ∷ j) = ap (λ es. Item u ∷ es) (through_next (suc n) j)
+through_next (suc n) (Abort ∷ j) = ap (λ es. Abort ∷ es) (through_next (suc n) j)
+through_next (suc n) (Stored m ∷ j) = ap (λ es. Stored m ∷ es) (through_next (suc n) j)
+through_next (suc n) (Overrun m ∷ j) = ap (λ es. Overrun m ∷ es) (through_next (suc n) j)
+through_next (suc n) (Off ∷ j) = ap (λ es. Off ∷ es) (through_next (suc n) j)
+
+-- what is left after the next bit is left after the first one that was left
+pub past_next : (n : ℕ) (j : List Entry) → past (suc n) j ≡ past 1 (past n j)
+past_next zero j = refl
+past_next (suc n) [] = refl
+past_next (suc n) (Bit driven seen ∷ j) = past_next n j
+past_next (suc n) (Item u ∷ j) = past_next (suc n) j
+past_next (suc n) (Abort ∷ j) = past_next (suc n) j
+past_next (suc n) (Stored m ∷ j) = past_next (suc n) j
+past_next (suc n) (Overrun m ∷ j) = past_next (suc n) j
+past_next (suc n) (Off ∷ j) = past_next (suc n) j
+
+-- ---- one entry after another
+
+-- a bit ends the entries that are passed over
+pub bit_ends : (e : Entry) (es : List Entry) → is_bit e ≡ true → through 1 (e ∷ es) ≡ e ∷ []
+bit_ends (Bit driven seen) es h = refl
+bit_ends (Item u) es h = cc
+bit_ends Abort es h = cc
+bit_ends (Stored m) es h = cc
+bit_ends (Overrun m) es h = cc
+bit_ends Off es h = cc
+
+pub bit_leaves : (e : Entry) (es : List Entry) → is_bit e ≡ true → past 1 (e ∷ es) ≡ es
+bit_leaves (Bit driven seen) es h = refl
+bit_leaves (Item u) es h = cc
+bit_leaves Abort es h = cc
+bit_leaves (Stored m) es h = cc
+bit_leaves (Overrun m) es h = cc
+bit_leaves Off es h = cc
+
+-- another one doesn't
+pub other_goes_on : (e : Entry) (es : List Entry) → is_bit e ≡ false → through 1 (e ∷ es) ≡ e ∷ through 1 es
+other_goes_on (Bit driven seen) es h = cc
+other_goes_on (Item u) es h = refl
+other_goes_on Abort es h = refl
+other_goes_on (Stored m) es h = refl
+other_goes_on (Overrun m) es h = refl
+other_goes_on Off es h = refl
+
+pub other_leaves : (e : Entry) (es : List Entry) → is_bit e ≡ false → past 1 (e ∷ es) ≡ past 1 es
+other_leaves (Bit driven seen) es h = cc
+other_leaves (Item u) es h = refl
+other_leaves Abort es h = refl
+other_leaves (Stored m) es h = refl
+other_leaves (Overrun m) es h = refl
+other_leaves Off es h = refl

@@ -1,0 +1,3 @@
+-- How the writer of a wave goes on from bit to bit.
+pub mod Cursors
+pub mod Changes

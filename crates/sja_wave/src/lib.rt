@@ -1,0 +1,19 @@
+//! The waveform of a run: what was on the bus, and what became of each node, bit by bit.
+//!
+//! [`wave`] makes of the log of a run the text of a value change dump (IEEE 1364), which programs for logic analysers
+//! read. Bit k begins at time 10 k, in units of 100 ns. After the values at the first bit only what changes is written.
+//! Each journal is gone over once.
+//!
+//! `specs/Wires.antt` says what the signals are, each as a function of the bit, and `specs/WaveText.antt` what is
+//! written of them. The tests stand in `crates/wave_tests`.
+#![tactic(auto)]
+
+mod changes;
+mod cursor;
+mod cursors;
+mod declarations;
+mod signals;
+mod values;
+mod waving;
+
+pub use waving::wave;
