@@ -8,25 +8,26 @@ use Rattle.sja_wave.specs.declared.cursor.Cursor.{Cursor}
 use Rattle.sja_wave.specs.Inside.Cursors.{advanced}
 use Rattle.sja_wave.proofs.Texts.{rest_is}
 
-not_dominant : (level : Level) (rest : List Level) → (level ≡ Dominant → ⊥) → wired (level ∷ rest) ≡ wired rest
-not_dominant Dominant rest h = absurd (h refl)
-not_dominant Recessive rest h = refl
+-- the bus has what it had and one node more drives
+with_one : (bus level : Level) (rest : List Level) → wired (wired (bus ∷ level ∷ []) ∷ rest) ≡ wired (bus ∷ level ∷ rest)
+with_one Dominant level rest = refl
+with_one Recessive Dominant rest = refl
+with_one Recessive Recessive rest = refl
 
--- a node that drives dominant
-pub dominant_here : (f : Cursor → Level) (xs : List Cursor) (i : ℕ) (x : Cursor) → i < length xs → x ≡ get_or xs i x → f x ≡ Dominant →
-    wired (map f (drop i xs)) ≡ Dominant
-dominant_here f xs i x less is dominant =
-    ap (λ l. wired (map f l)) (rest_is xs i x less is) ∙ ap (λ level. wired (level ∷ map f (drop (i + 1) xs))) dominant
+pub drives_more : (f : Cursor → Level) (xs : List Cursor) (i : ℕ) (x : Cursor) (bus new all : Level) → i < length xs → x ≡ get_or xs i x →
+    new ≡ wired (bus ∷ f x ∷ []) → wired (bus ∷ map f (drop i xs)) ≡ all → wired (new ∷ map f (drop (i + 1) xs)) ≡ all
+drives_more f xs i x bus new all less is drives so_far =
+    ap (λ level. wired (level ∷ map f (drop (i + 1) xs))) drives ∙ with_one bus (f x) (map f (drop (i + 1) xs))
+    ∙ ap (λ l. wired (bus ∷ map f l)) (sym (rest_is xs i x less is)) ∙ so_far
 
--- one that doesn't
-pub recessive_here : (f : Cursor → Level) (xs : List Cursor) (i : ℕ) (x : Cursor) → i < length xs → x ≡ get_or xs i x → (f x ≡ Dominant → ⊥) →
-    wired (map f (drop i xs)) ≡ wired (map f (drop (i + 1) xs))
-recessive_here f xs i x less is recessive =
-    ap (λ l. wired (map f l)) (rest_is xs i x less is) ∙ not_dominant (f x) (map f (drop (i + 1) xs)) recessive
+-- no node left
+alone : (bus : Level) → bus ≡ wired (bus ∷ [])
+alone Dominant = refl
+alone Recessive = refl
 
--- none left
-pub none_left : (f : Cursor → Level) (xs : List Cursor) (i : ℕ) → length xs ≤ i → wired (map f (drop i xs)) ≡ Recessive
-none_left f xs i past = ap (λ l. wired (map f l)) (drop_of_length-le xs past)
+pub all_drive : (f : Cursor → Level) (xs : List Cursor) (i : ℕ) (bus all : Level) → length xs ≤ i → wired (bus ∷ map f (drop i xs)) ≡ all → bus ≡ all
+all_drive f xs i bus all past so_far =
+    alone bus ∙ ap (λ l. wired (bus ∷ map f l)) (sym (drop_of_length-le xs past)) ∙ so_far
 
 -- one cursor more goes on
 pub one_more : (xs : List Cursor) (i : ℕ) (x y : Cursor) (whole : List Cursor) → i < length xs → x ≡ get_or xs i x → y ≡ advanced x →

@@ -1,6 +1,6 @@
 //! The journals of all nodes, gone over together.
 
-ghost use Rattle.std.specs.Prelude.{◌≡◌, map, IfOk};
+ghost use Rattle.std.specs.Prelude.{◌≡◌, [], ◌∷◌, map, IfOk};
 ghost use Rattle.can_bits.specs.Fields.{is_recessive};
 ghost use Rattle.sja_bus.specs.Wire.{wired};
 ghost use Rattle.sja_wave.specs.Inside.Cursors.{advanced, cursor_at};
@@ -48,22 +48,31 @@ pub(crate) fn advance_all(cursors: &mut [Cursor<'_>])
 pub(crate) fn bus_now(cursors: &[Cursor<'_>]) -> bool
     ensures { result ≡ is_recessive (wired (driven_now cursors.now)) }
 {
+    let mut bus = Level::Recessive;
     for cursor in cursors {
-        if let Level::Dominant = cursor.shows.driven {
-            return false;
-        }
+        bus = with_node(bus, cursor.shows.driven);
     }
-    true
+    bus.is_recessive()
 }
 
 /// Whether it was recessive a bit before.
 pub(crate) fn bus_before(cursors: &[Cursor<'_>]) -> bool
     ensures { result ≡ is_recessive (wired (driven_before cursors.now)) }
 {
+    let mut bus = Level::Recessive;
     for cursor in cursors {
-        if let Level::Dominant = cursor.showed.driven {
-            return false;
-        }
+        bus = with_node(bus, cursor.showed.driven);
     }
-    true
+    bus.is_recessive()
+}
+
+/// The level on a bus of this level where one node more drives this one.
+fn with_node(bus: Level, driven: Level) -> Level
+    ensures { result ≡ wired (bus ∷ driven ∷ []) }
+{
+    if driven == Level::Dominant {
+        driven
+    } else {
+        bus
+    }
 }
