@@ -1,5 +1,6 @@
 //! A run of five bits and one of none, whole.
 
+use Level::{Dominant, Recessive};
 use can_bits::Level;
 use can_frame::{Filter, Message};
 use can_node::Config;
@@ -8,8 +9,6 @@ use sja_report::{End, NodeRun, RunLog};
 use sja_wave::wave;
 use std::alloc::Global;
 use std::test::Fail;
-
-use Level::{Dominant, Recessive};
 
 /// The declarations of two nodes, and the wave of the two journals below.
 ///
