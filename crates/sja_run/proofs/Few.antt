@@ -3,12 +3,13 @@ use Rattle.std.proofs.Common.{◌≡◌, ◌≤◌, ◌+◌, ◌⊎◌, ◌++◌
 use Rattle.std.proofs.Common.{arith, inl, inr}
 use Rattle.std.specs.Io.KnownBytes.{Consumes}
 use Rattle.std.proofs.KnownBytes.{Consumes-nil, Consumes-trans}
-use Rattle.sja_words.specs.Words.{Request, run}
+use Rattle.sja_words.specs.Words.{Request, ParsesAs, run, wave}
 use Rattle.sja_run.specs.declared.refusal.Refusal.{Refusal}
 use Rattle.sja_run.specs.declared.refusal.Refusal.TheVariants as refusal
-use Rattle.sja_run.specs.Answer.{IsPrinted, IsRefused}
+use Rattle.sja_run.specs.Answer.{AsksForRun, IsPrinted, IsRefused}
 use Rattle.sja_run.specs.Input.{ReadsFew}
 use Rattle.sja_run.specs.Run.{IsRunning, RefusesRun}
+use Rattle.sja_run.specs.Wave.{IsWaving}
 
 -- nothing was read
 pub unread : (input : Option (List ℕ)) → ReadsFew input input
@@ -24,6 +25,10 @@ read_more a b c some more earlier later few =
 few_running : (before after : Option (List ℕ)) (text : List ℕ) → IsRunning before after text → ReadsFew before after
 few_running before after text runs = (runs.0, runs.1.0, runs.1.1)
 
+-- there is a waveform
+few_waving : (before after : Option (List ℕ)) (text : List ℕ) → IsWaving before after text → ReadsFew before after
+few_waving before after text waves = (waves.0, waves.1.0, waves.1.1)
+
 -- there is none
 few_refused : (before after : Option (List ℕ)) (r : Refusal) → RefusesRun before after r → ReadsFew before after
 few_refused before after refusal.OutOfMemory h = h
@@ -36,15 +41,26 @@ few_refused before after (refusal.Layout fault) h = absurd h
 few_refused before after (refusal.Line fault) h = absurd h
 
 -- whatever is printed: only for a run anything is read
-pub few_printed : (r : Request) (before after : Option (List ℕ)) (text : List ℕ) → (r ≡ run) ⊎ (after ≡ before) →
+pub few_printed : (r : Request) (before after : Option (List ℕ)) (text : List ℕ) → AsksForRun r ⊎ (after ≡ before) →
     IsPrinted r before after text → ReadsFew before after
-few_printed r before after text (inl is) printed =
+few_printed r before after text (inl (inl is)) printed =
     few_running before after text (subst (λ q. IsPrinted q before after text) is printed)
+few_printed r before after text (inl (inr is)) printed =
+    few_waving before after text (subst (λ q. IsPrinted q before after text) is printed)
 few_printed r before after text (inr same) printed = subst (ReadsFew before) (sym same) (unread before)
 
 -- and whatever is refused
-pub few_turned_down : (r : Request) (before after : Option (List ℕ)) (why : Refusal) → (r ≡ run) ⊎ (after ≡ before) →
+pub few_turned_down : (r : Request) (before after : Option (List ℕ)) (why : Refusal) → AsksForRun r ⊎ (after ≡ before) →
     IsRefused r before after why → ReadsFew before after
-few_turned_down r before after why (inl is) refused =
+few_turned_down r before after why (inl (inl is)) refused =
+    few_refused before after why (subst (λ q. IsRefused q before after why) is refused)
+few_turned_down r before after why (inl (inr is)) refused =
     few_refused before after why (subst (λ q. IsRefused q before after why) is refused)
 few_turned_down r before after why (inr same) refused = subst (ReadsFew before) (sym same) (unread before)
+
+-- words that ask for no run leave the input as it is
+pub only_runs_read : (words : List (List ℕ)) (r : Request) (Same : Type 0) → ParsesAs words r → AsksForRun r ⊎ Same →
+    ¬ ParsesAs words run → ¬ ParsesAs words wave → Same
+only_runs_read words r Same parses (inl (inl is)) no_run no_wave = absurd (no_run (subst (ParsesAs words) is parses))
+only_runs_read words r Same parses (inl (inr is)) no_run no_wave = absurd (no_wave (subst (ParsesAs words) is parses))
+only_runs_read words r Same parses (inr same) no_run no_wave = same

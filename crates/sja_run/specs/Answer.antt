@@ -1,7 +1,7 @@
 -- What the program does, by what the words ask for (this project's own rule).
 use Rattle.std.specs.Prelude.{◌≡◌, ◌⊎◌, ℕ, List, Option, Some}
 use Rattle.std.specs.Io.KnownBytes.{Appends, Keeps}
-use Rattle.sja_words.specs.Words.{Request, encode, decode, filter, arbitrate, run}
+use Rattle.sja_words.specs.Words.{Request, encode, decode, filter, arbitrate, run, wave}
 use Rattle.sja_run.specs.declared.refusal.Refusal.{Refusal}
 use Rattle.sja_run.specs.declared.refusal.Refusal.TheVariants as refusal
 use Rattle.sja_run.specs.Arbitrate.{IsArbitration, RefusesMessages}
@@ -11,6 +11,11 @@ use Rattle.sja_run.specs.Filter.{IsFiltering, RefusesFilter}
 use Rattle.sja_run.specs.Message.{RefusesMessage}
 use Rattle.sja_run.specs.Refusal.{refusal_line}
 use Rattle.sja_run.specs.Run.{IsRunning, RefusesRun}
+use Rattle.sja_run.specs.Wave.{IsWaving}
+
+-- a run is asked for: its report, or its waveform. For these alone the input is read
+abbrev pub AsksForRun : Request → Type 0
+AsksForRun r = (r ≡ run) ⊎ (r ≡ wave)
 
 -- the request, what the input held before and holds after, and the text that answers the request
 abbrev pub IsPrinted : Request → Option (List ℕ) → Option (List ℕ) → List ℕ → Type 0
@@ -19,6 +24,7 @@ IsPrinted (decode digits) before after text = IsDecoding digits text
 IsPrinted (filter single acr amr digits) before after text = IsFiltering single acr amr digits text
 IsPrinted (arbitrate messages) before after text = IsArbitration messages text
 IsPrinted run before after text = IsRunning before after text
+IsPrinted wave before after text = IsWaving before after text
 
 -- the same, and why the request has no answer
 abbrev pub IsRefused : Request → Option (List ℕ) → Option (List ℕ) → Refusal → Type 0
@@ -27,6 +33,7 @@ IsRefused (decode digits) before after r = RefusesLine digits r
 IsRefused (filter single acr amr digits) before after r = RefusesFilter acr amr digits r
 IsRefused (arbitrate messages) before after r = RefusesMessages messages r
 IsRefused run before after r = RefusesRun before after r
+IsRefused wave before after r = RefusesRun before after r
 
 -- The request, the exit status, and what the input, the output and the error output held before and hold after.
 -- Either the text is on the output and the status is 0, or the refusal's line is on the error output and the status

@@ -8,4 +8,5 @@ pub mod Filter
 pub mod Arbitrate
 pub mod Input
 pub mod Run
+pub mod Wave
 pub mod Answer

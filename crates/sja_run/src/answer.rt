@@ -1,8 +1,8 @@
 //! What is written for a task.
 
 ghost use Rattle.std.specs.Prelude.{◌≡◌, ◌⊎◌, IfOk, IfErr};
-ghost use Rattle.sja_words.specs.Words.{request_of, run};
-ghost use Rattle.sja_run.specs.Answer.{IsPrinted, IsRefused};
+ghost use Rattle.sja_words.specs.Words.{request_of};
+ghost use Rattle.sja_run.specs.Answer.{AsksForRun, IsPrinted, IsRefused};
 
 use super::arbitrate::arbitrated;
 use super::decode::decoded;
@@ -10,16 +10,17 @@ use super::encode::encoded;
 use super::filter::filtered;
 use super::refusal::Refusal;
 use super::run::reported;
+use super::waving::waved;
 use sja_words::Task;
 use std::alloc::Global;
 use std::io::Read;
 
-/// The text that answers the task. Only for `run` the input is read.
+/// The text that answers the task. Only for `run` and `wave` the input is read.
 pub fn printed<R: Read>(alloc: Global, task: Task<'_>, input: &mut R) -> Result<Vec<u8>, Refusal>
     ensures ok { IfOk result (λ text.
         IsPrinted (request_of task.entry) (R.remaining input.old) (R.remaining input.new) text.items) }
     ensures err { IfErr result (IsRefused (request_of task.entry) (R.remaining input.old) (R.remaining input.new)) }
-    ensures unread { (request_of task.entry ≡ run) ⊎ (input.new ≡ input.old) }
+    ensures unread { AsksForRun (request_of task.entry) ⊎ (input.new ≡ input.old) }
 {
     match task {
         Task::Encode(digits) => encoded(alloc, digits),
@@ -32,5 +33,6 @@ pub fn printed<R: Read>(alloc: Global, task: Task<'_>, input: &mut R) -> Result<
         } => filtered(alloc, single, acr, amr, message),
         Task::Arbitrate(messages) => arbitrated(alloc, messages.as_slice()),
         Task::Run => reported(alloc, input),
+        Task::Wave => waved(alloc, input),
     }
 }

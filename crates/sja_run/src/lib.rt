@@ -4,7 +4,8 @@
 //! or one line to its error output, and answers the exit status. [`Output`] is a writer that remembers a failed write.
 //! What the words ask for is a [`Task`], from the crate `sja_words`. For `run` it reads a [`Plan`] from its input
 //! ([`read_plan`]), runs it in one thread ([`run_serial`]) and writes the report of the run's log ([`report`]); these
-//! calls are those of `sja_plan`, `sja_turns` and `sja_report`.
+//! calls are those of `sja_plan`, `sja_turns` and `sja_report`. For `wave` it writes the run's waveform ([`wave`]), that of
+//! `sja_wave`.
 //!
 //! Its tests stand in `crates/sja_tests/src/program`.
 #![tactic(auto)]
@@ -23,6 +24,7 @@ mod plan_fault_text;
 mod refusal;
 mod run;
 mod serial;
+mod waving;
 
 pub use output::Output;
 pub use refusal::Refusal;
@@ -30,4 +32,5 @@ pub use serial::sja_serial;
 pub use sja_plan::{Plan, PlanFault, Turn, read_plan};
 pub use sja_report::{ActivationLog, End, NodeRun, RunLog, report};
 pub use sja_turns::{RunFault, run_serial};
+pub use sja_wave::wave;
 pub use sja_words::{Task, WordsFault, parse};

@@ -1,8 +1,8 @@
 //! [`sja_serial`]: the whole program over words, a reader and two writers.
 
 ghost use Rattle.std.specs.Prelude.{◌≡◌, ◌⊎◌, Some, IsSome, false, true, map};
-ghost use Rattle.sja_words.specs.Words.{Request, ParsesAs, request_of, run};
-ghost use Rattle.sja_run.specs.Answer.{Shows, IsTurnedAway};
+ghost use Rattle.sja_words.specs.Words.{Request, ParsesAs, request_of, run, wave};
+ghost use Rattle.sja_run.specs.Answer.{AsksForRun, Shows, IsTurnedAway};
 ghost use Rattle.sja_run.specs.Input.{ReadsFew};
 
 use super::answer::printed;
@@ -18,7 +18,7 @@ use std::io::{Read, Write};
 ///
 /// The status is 0 where the text was written, 1 where an argument, the plan or memory was refused or a read or a write
 /// failed, and 2 where the words don't parse or ask for help; then `err` has the parser's own text. `input` is read for
-/// `run` alone: at most 65,537 bytes of it, in at most 131,074 reads.
+/// `run` and `wave` alone: at most 65,537 bytes of it, in at most 131,074 reads.
 /// The words, texts and statuses are this project's own rule.
 #[tactic(auto, using(crate::proofs::Few::unread))]
 pub fn sja_serial<S: AsStr, R: Read, O: Write, E: Write>(
@@ -41,7 +41,8 @@ pub fn sja_serial<S: AsStr, R: Read, O: Write, E: Write>(
     ensures one_writer { (out.new ≡ out.old) ⊎ (err.new ≡ err.old) }
     ensures failed { out.old.failed ≡ false → err.old.failed ≡ false
         → (out.new.failed ≡ true) ⊎ (err.new.failed ≡ true) → result ≡ Some 1 }
-    ensures unread { ¬ ParsesAs (map S.text words.now) run → input.new ≡ input.old }
+    ensures unread { ¬ ParsesAs (map S.text words.now) run → ¬ ParsesAs (map S.text words.now) wave
+        → input.new ≡ input.old }
     ensures few { ReadsFew (R.remaining input.old) (R.remaining input.new) }
 {
     match parse(alloc, words) {
@@ -67,7 +68,7 @@ fn reply<R: Read, O: Write, E: Write>(
     ensures one_writer { (out.new ≡ out.old) ⊎ (err.new ≡ err.old) }
     ensures failed { out.old.failed ≡ false → err.old.failed ≡ false
         → (out.new.failed ≡ true) ⊎ (err.new.failed ≡ true) → result ≡ 1 }
-    ensures unread { (request_of task.entry ≡ run) ⊎ (input.new ≡ input.old) }
+    ensures unread { AsksForRun (request_of task.entry) ⊎ (input.new ≡ input.old) }
     ensures few { ReadsFew (R.remaining input.old) (R.remaining input.new) }
 {
     match printed(alloc, task, input) {

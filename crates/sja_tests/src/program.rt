@@ -10,3 +10,4 @@ mod filter;
 mod refused_memory;
 mod row;
 mod runs;
+mod waves;

@@ -1,7 +1,7 @@
 -- What some words ask for, by computing the parser's answer.
 use Rattle.std.proofs.Common.{◌≡◌, ◌==◌, ℕ, List, [], ◌∷◌, codes, refl, false, Some}
 use Rattle.clap.proofs.OnLiterals.{clap_on_literals}
-use Rattle.sja_words.specs.Words.{Request, ParsesAs, encode, run, asked, faults}
+use Rattle.sja_words.specs.Words.{Request, ParsesAs, encode, run, wave, asked, faults}
 
 -- `encode` and the empty text
 pub empty_text : (name : List ℕ) → ParsesAs (name ∷ codes "encode" ∷ [] ∷ []) (encode [])
@@ -31,6 +31,11 @@ no_message name r parses = cc (parses.asks)
 pub run_alone : (name : List ℕ) → ParsesAs (name ∷ codes "run" ∷ []) run
 unfolding clap_on_literals asked faults
 run_alone name = record { taken = refl; asks = refl }
+
+-- `wave`
+pub wave_alone : (name : List ℕ) → ParsesAs (name ∷ codes "wave" ∷ []) wave
+unfolding clap_on_literals asked faults
+wave_alone name = record { taken = refl; asks = refl }
 
 -- `encode` and such a text, both together
 pub text : (name rest : List ℕ) (x : ℕ) → (x == 45) ≡ false → ParsesAs (name ∷ codes "encode" ∷ (x ∷ rest) ∷ []) (encode (x ∷ rest))

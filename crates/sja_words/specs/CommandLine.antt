@@ -49,6 +49,10 @@ frame_app = with_subcommand (with_subcommand line_app filter_app.top) arbitrate_
 abbrev pub run_app : App
 run_app = new_app (codes "run")
 
+-- `wave`, which has no arguments
+abbrev pub wave_app : App
+wave_app = new_app (codes "wave")
+
 -- the whole
 abbrev pub sja_app : App
-sja_app = with_subcommand frame_app run_app.top
+sja_app = with_subcommand (with_subcommand frame_app run_app.top) wave_app.top

@@ -5,7 +5,7 @@ use Rattle.std.specs.Prelude.{if◌then◌else◌, nat_lt, nat_le}
 use Rattle.std.specs.Str.{bytes_eq}
 use Rattle.clap.specs.Words.{Kinds, Row, Text, all_of, fault_of, first_of, subcommand_of}
 use Rattle.sja_words.specs.declared.task.Task.{Task}
-use Rattle.sja_words.specs.declared.task.Task.TheVariants.{Encode, Decode, Filter, Arbitrate, Run}
+use Rattle.sja_words.specs.declared.task.Task.TheVariants.{Encode, Decode, Filter, Arbitrate, Run, Wave}
 use Rattle.sja_words.specs.CommandLine.{sja_app}
 
 -- what the program is asked for, with the texts of its arguments
@@ -15,6 +15,7 @@ pub data Request : Type 0 where
   filter : Bool → List ℕ → List ℕ → List ℕ → Request
   arbitrate : List (List ℕ) → Request
   run : Request
+  wave : Request
 
 -- a task as what it asks for
 abbrev pub request_of : Task → Request
@@ -23,6 +24,7 @@ request_of (Decode line) = decode line.now
 request_of (Filter single acr amr message) = filter single acr.now amr.now message.now
 request_of (Arbitrate messages) = arbitrate (map (λ message. message.now) messages.items)
 request_of Run = run
+request_of Wave = wave
 
 -- a mode: whether it is that of a single filter
 abbrev pub single_in : Text → Option Bool
@@ -56,6 +58,7 @@ request_by name rows =
     (first_of (codes "AMR") rows) (first_of (codes "MESSAGE") rows)
     else if bytes_eq name (codes "arbitrate") then arbitrate_in (all_of (codes "MESSAGE") rows)
     else if bytes_eq name (codes "run") then Some run
+    else if bytes_eq name (codes "wave") then Some wave
     else None
 
 -- what the subcommand that was found asks for

@@ -4,7 +4,7 @@ ghost use Rattle.std.specs.Prelude.{◌≡◌, IfOk, codes, false};
 ghost use Rattle.clap.specs.Words.{app_of, rule_of};
 ghost use Rattle.clap.specs.declared.builder.command.Command.TheViews.{out-Command};
 ghost use Rattle.sja_words.specs.CommandLine.{text_rule, text_app, filter_app, arbitrate_app, line_app};
-ghost use Rattle.sja_words.specs.CommandLine.{frame_app, run_app, sja_app};
+ghost use Rattle.sja_words.specs.CommandLine.{frame_app, run_app, wave_app, sja_app};
 
 use super::task::MOST_MESSAGES;
 use clap::{Arg, ArgAction, Command};
@@ -91,9 +91,19 @@ fn run_command<'a>(alloc: Global) -> Command<'a>
     Command::new(alloc, "run").about("Print the report of a run of the plan on standard input")
 }
 
+/// `wave`.
+fn wave_command<'a>(alloc: Global) -> Command<'a>
+    ensures app { app_of result ≡ wave_app }
+    ensures local { (out-Command result).has_globals ≡ false }
+{
+    Command::new(alloc, "wave").about("Print the waveform of a run of the plan on standard input")
+}
+
 /// The whole: a subcommand has to be given.
 pub fn sja_command<'a>(alloc: Global) -> Result<Command<'a>, AllocError>
     ensures { IfOk result (λ command. app_of command ≡ sja_app) }
 {
-    frame_command(alloc)?.subcommand(run_command(alloc))
+    frame_command(alloc)?
+        .subcommand(run_command(alloc))?
+        .subcommand(wave_command(alloc))
 }

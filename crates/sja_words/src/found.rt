@@ -28,6 +28,7 @@ fn task_by<'a>(name: &str, arguments: &ArgMatches<'a>) -> Option<Task<'a>>
         "filter" => filter_task(arguments),
         "arbitrate" => arbitrate_task(arguments),
         "run" => Some(Task::Run),
+        "wave" => Some(Task::Wave),
         _ => None,
     }
 }

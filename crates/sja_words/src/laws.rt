@@ -1,7 +1,7 @@
 //! Laws of the words. Each stands as the contract of a function that does nothing.
 
 ghost use Rattle.std.specs.Prelude.{◌≡◌, ◌==◌, ◌∷◌, [], ℕ, List, codes, false};
-ghost use Rattle.sja_words.specs.Words.{Request, ParsesAs, encode, run};
+ghost use Rattle.sja_words.specs.Words.{Request, ParsesAs, encode, run, wave};
 
 /// The program's name, `encode` and a text that doesn't begin with `-` (45) ask for the levels of this message.
 pub fn encode_and_a_text_parse()
@@ -13,6 +13,11 @@ pub fn encode_and_a_text_parse()
 /// The program's name and `run` ask for the report of the plan on the input.
 pub fn run_parses()
     ensures { (name : List ℕ) → ParsesAs (name ∷ codes "run" ∷ []) run }
+{}
+
+/// The program's name and `wave` ask for the waveform of that plan.
+pub fn wave_parses()
+    ensures { (name : List ℕ) → ParsesAs (name ∷ codes "wave" ∷ []) wave }
 {}
 
 /// The program's name alone, or with `encode` alone, asks for nothing.

@@ -28,4 +28,6 @@ pub enum Task<'a> {
     Arbitrate(ArrayVec<&'a str, MOST_MESSAGES>),
     /// `run`: the report of the run of the plan on the input.
     Run,
+    /// `wave`: the waveform of the run of the plan on the input.
+    Wave,
 }

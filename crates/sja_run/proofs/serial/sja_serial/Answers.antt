@@ -1,7 +1,7 @@
 use Rattle.std.proofs.Common.{rules, inr, ap, Some}
 use Rattle.sja_words.specs.Words.{request_of}
 use Rattle.sja_run.specs.declared.refusal.Refusal.TheVariants as refusal
-use Rattle.sja_run.proofs.Few.{unread}
+use Rattle.sja_run.proofs.Few.{unread, only_runs_read}
 use Rattle.sja_run.proofs.Memory.{memory_refused}
 use Rattle.sja_run.proofs.serial.sja_serial.Goals as goal
 
@@ -26,3 +26,7 @@ returns-in-Err-OutOfMemory-clause-answered g c = λ r _ _ told.
       search rules,
       (c.refuse.ensures.written told).1,
     )
+
+-- only words that ask for a run have the input read
+pub returns-in-Ok-clause-unread : goal.returns-in-Ok-clause-unread
+returns-in-Ok-clause-unread g c = only_runs_read _ _ _ c.in-Ok.ensures.ok c.reply.ensures.unread

@@ -1,0 +1,25 @@
+//! `wave`: the waveform of a run of the plan on the input.
+
+ghost use Rattle.std.specs.Prelude.{IfOk, IfErr};
+ghost use Rattle.sja_run.specs.Run.{RefusesRun};
+ghost use Rattle.sja_run.specs.Wave.{IsWaving};
+
+use super::input::read_input;
+use super::refusal::Refusal;
+use sja_plan::read_plan;
+use sja_turns::run_serial;
+use sja_wave::wave;
+use std::alloc::Global;
+use std::io::Read;
+
+/// The waveform of a run in one thread of the plan that the bytes of the input are.
+pub fn waved<R: Read>(alloc: Global, input: &mut R) -> Result<Vec<u8>, Refusal>
+    ensures ok { IfOk result (λ text. IsWaving (R.remaining input.old) (R.remaining input.new) text.items) }
+    ensures err { IfErr result (RefusesRun (R.remaining input.old) (R.remaining input.new)) }
+{
+    let bytes = read_input(alloc, input)?;
+    let plan = read_plan(alloc, bytes.as_slice())?;
+    let log = run_serial(alloc, &plan)?;
+    let text = wave(alloc, &log)?;
+    Ok(text.into_bytes())
+}
