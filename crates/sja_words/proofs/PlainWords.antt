@@ -1,5 +1,5 @@
 -- What some words ask for, by computing the parser's answer.
-use Rattle.std.proofs.Common.{◌≡◌, ◌==◌, ℕ, List, [], ◌∷◌, codes, refl, false, Some}
+use Rattle.std.proofs.Common.{◌≡◌, ◌==◌, ℕ, List, [], ◌∷◌, codes, refl, false, true, Some}
 use Rattle.clap.proofs.OnLiterals.{clap_on_literals}
 use Rattle.sja_words.specs.Words.{Request, ParsesAs, encode, run, wave, asked, faults}
 
@@ -28,9 +28,14 @@ unfolding clap_on_literals asked
 no_message name r parses = cc (parses.asks)
 
 -- `run`
-pub run_alone : (name : List ℕ) → ParsesAs (name ∷ codes "run" ∷ []) run
+pub run_alone : (name : List ℕ) → ParsesAs (name ∷ codes "run" ∷ []) (run false)
 unfolding clap_on_literals asked faults
 run_alone name = record { taken = refl; asks = refl }
+
+-- `run --threads`
+pub run_in_threads : (name : List ℕ) → ParsesAs (name ∷ codes "run" ∷ codes "--threads" ∷ []) (run true)
+unfolding clap_on_literals asked faults
+run_in_threads name = record { taken = refl; asks = refl }
 
 -- `wave`
 pub wave_alone : (name : List ℕ) → ParsesAs (name ∷ codes "wave" ∷ []) wave

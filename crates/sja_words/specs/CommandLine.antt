@@ -1,7 +1,7 @@
 -- The command line of `sja`, as the parser's own description of commands (this project's own rule).
 use Rattle.std.specs.Prelude.{codes, true, Some}
 use Rattle.clap.specs.Words.{App, Rule, Text, new_app, new_rule, with_rule, with_subcommand}
-use Rattle.clap.specs.declared.builder.action.ArgAction.TheVariants.{Set}
+use Rattle.clap.specs.declared.builder.action.ArgAction.TheVariants.{Set, SetTrue}
 
 -- an argument without a flag, which must be given and takes one text
 abbrev pub text_rule : Text → Rule
@@ -45,9 +45,13 @@ line_app =
 abbrev pub frame_app : App
 frame_app = with_subcommand (with_subcommand line_app filter_app.top) arbitrate_app.top
 
--- `run`, which has no arguments
+-- a flag of this name, which stands or doesn't
+abbrev pub flag_rule : Text → Rule
+flag_rule name = record (new_rule name) { long = Some name; action = Some SetTrue }
+
+-- `run`, or `run --threads`
 abbrev pub run_app : App
-run_app = new_app (codes "run")
+run_app = with_rule (new_app (codes "run")) (flag_rule (codes "threads"))
 
 -- `wave`, which has no arguments
 abbrev pub wave_app : App

@@ -14,7 +14,7 @@ pub data Request : Type 0 where
   decode : List ℕ → Request
   filter : Bool → List ℕ → List ℕ → List ℕ → Request
   arbitrate : List (List ℕ) → Request
-  run : Request
+  run : Bool → Request
   wave : Request
 
 -- a task as what it asks for
@@ -23,7 +23,7 @@ request_of (Encode message) = encode message.now
 request_of (Decode line) = decode line.now
 request_of (Filter single acr amr message) = filter single acr.now amr.now message.now
 request_of (Arbitrate messages) = arbitrate (map (λ message. message.now) messages.items)
-request_of Run = run
+request_of (Run threads) = run threads
 request_of Wave = wave
 
 -- a mode: whether it is that of a single filter
@@ -48,6 +48,11 @@ arbitrate_in None = None
 arbitrate_in (Some messages) =
     if nat_lt 0 (length messages) && nat_le (length messages) 8 then Some (arbitrate messages) else None
 
+-- a flag, by its value: the parser gives the text `true` to one that stands
+abbrev pub flag_in : Option Text → Bool
+flag_in None = false
+flag_in (Some value) = bytes_eq value (codes "true")
+
 -- what a subcommand asks for, by its name and the values of its arguments
 abbrev pub request_by : Text → List Row → Option Request
 request_by name rows =
@@ -57,7 +62,7 @@ request_by name rows =
     filter_in (first_of (codes "MODE") rows) (first_of (codes "ACR") rows)
     (first_of (codes "AMR") rows) (first_of (codes "MESSAGE") rows)
     else if bytes_eq name (codes "arbitrate") then arbitrate_in (all_of (codes "MESSAGE") rows)
-    else if bytes_eq name (codes "run") then Some run
+    else if bytes_eq name (codes "run") then Some (run (flag_in (first_of (codes "threads") rows)))
     else if bytes_eq name (codes "wave") then Some wave
     else None
 

@@ -4,7 +4,7 @@ ghost use Rattle.std.specs.Prelude.{◌≡◌, IfOk, codes, false};
 ghost use Rattle.clap.specs.Words.{app_of, rule_of};
 ghost use Rattle.clap.specs.declared.builder.command.Command.TheViews.{out-Command};
 ghost use Rattle.sja_words.specs.CommandLine.{text_rule, text_app, filter_app, arbitrate_app, line_app};
-ghost use Rattle.sja_words.specs.CommandLine.{frame_app, run_app, wave_app, sja_app};
+ghost use Rattle.sja_words.specs.CommandLine.{frame_app, flag_rule, run_app, wave_app, sja_app};
 
 use super::task::MOST_MESSAGES;
 use clap::{Arg, ArgAction, Command};
@@ -83,12 +83,22 @@ fn frame_command<'a>(alloc: Global) -> Result<Command<'a>, AllocError>
         .subcommand(arbitrate_command(alloc)?)
 }
 
-/// `run`.
-fn run_command<'a>(alloc: Global) -> Command<'a>
-    ensures app { app_of result ≡ run_app }
-    ensures local { (out-Command result).has_globals ≡ false }
+/// A flag of this name, which stands or doesn't.
+fn flag<'a>(alloc: Global, name: &'a str) -> Arg<'a>
+    ensures rule { rule_of result ≡ flag_rule name.entry.now }
+    ensures local { result.global ≡ false }
 {
-    Command::new(alloc, "run").about("Print the report of a run of the plan on standard input")
+    Arg::new(alloc, name).long(name).action(ArgAction::SetTrue)
+}
+
+/// `run`, or `run --threads`.
+fn run_command<'a>(alloc: Global) -> Result<Command<'a>, AllocError>
+    ensures app { IfOk result (λ command. app_of command ≡ run_app) }
+    ensures local { IfOk result (λ command. (out-Command command).has_globals ≡ false) }
+{
+    Command::new(alloc, "run")
+        .about("Print the report of a run of the plan on standard input")
+        .arg(flag(alloc, "threads").help("Run each node's driver in a thread of its own"))
 }
 
 /// `wave`.
@@ -104,6 +114,6 @@ pub fn sja_command<'a>(alloc: Global) -> Result<Command<'a>, AllocError>
     ensures { IfOk result (λ command. app_of command ≡ sja_app) }
 {
     frame_command(alloc)?
-        .subcommand(run_command(alloc))?
+        .subcommand(run_command(alloc)?)?
         .subcommand(wave_command(alloc))
 }

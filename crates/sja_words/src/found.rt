@@ -3,7 +3,7 @@
 ghost use Rattle.std.specs.Prelude.{◌≡◌, codes, option_map};
 ghost use Rattle.clap.specs.Words.{all_of, first_of, found_of, rows_of, subcommand_rows_of};
 ghost use Rattle.sja_words.specs.Words.{arbitrate_in, decode, encode, filter_in, request_by, request_in, request_of};
-ghost use Rattle.sja_words.specs.Words.{single_in};
+ghost use Rattle.sja_words.specs.Words.{flag_in, run, single_in};
 
 use super::task::Task;
 use arrayvec::ArrayVec;
@@ -27,7 +27,7 @@ fn task_by<'a>(name: &str, arguments: &ArgMatches<'a>) -> Option<Task<'a>>
         "decode" => decode_task(arguments),
         "filter" => filter_task(arguments),
         "arbitrate" => arbitrate_task(arguments),
-        "run" => Some(Task::Run),
+        "run" => Some(run_task(arguments)),
         "wave" => Some(Task::Wave),
         _ => None,
     }
@@ -79,6 +79,17 @@ fn arbitrate_task<'a>(arguments: &ArgMatches<'a>) -> Option<Task<'a>>
         return None;
     }
     Some(Task::Arbitrate(messages))
+}
+
+/// `run`, or `run --threads`.
+fn run_task<'a>(arguments: &ArgMatches<'a>) -> Task<'a>
+    ensures { request_of result ≡ run (flag_in (first_of (codes "threads") (rows_of (found_of arguments.now)))) }
+{
+    let threads = match text_at(arguments, "threads") {
+        Some(value) => value == "true",
+        None => false,
+    };
+    Task::Run { threads }
 }
 
 /// Whether this mode is that of a single filter; nothing where it is no mode.

@@ -1,6 +1,6 @@
 //! Laws of the words. Each stands as the contract of a function that does nothing.
 
-ghost use Rattle.std.specs.Prelude.{◌≡◌, ◌==◌, ◌∷◌, [], ℕ, List, codes, false};
+ghost use Rattle.std.specs.Prelude.{◌≡◌, ◌==◌, ◌∷◌, [], ℕ, List, codes, false, true};
 ghost use Rattle.sja_words.specs.Words.{Request, ParsesAs, encode, run, wave};
 
 /// The program's name, `encode` and a text that doesn't begin with `-` (45) ask for the levels of this message.
@@ -10,9 +10,11 @@ pub fn encode_and_a_text_parse()
         → ParsesAs (name ∷ codes "encode" ∷ (first ∷ rest) ∷ []) (encode (first ∷ rest)) }
 {}
 
-/// The program's name and `run` ask for the report of the plan on the input.
+/// The program's name and `run` ask for the report of the plan on the input; with `--threads` behind them they ask for
+/// it with each driver in a thread of its own.
 pub fn run_parses()
-    ensures { (name : List ℕ) → ParsesAs (name ∷ codes "run" ∷ []) run }
+    ensures one { (name : List ℕ) → ParsesAs (name ∷ codes "run" ∷ []) (run false) }
+    ensures threads { (name : List ℕ) → ParsesAs (name ∷ codes "run" ∷ codes "--threads" ∷ []) (run true) }
 {}
 
 /// The program's name and `wave` ask for the waveform of that plan.

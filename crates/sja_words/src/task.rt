@@ -27,7 +27,10 @@ pub enum Task<'a> {
     /// `arbitrate MESSAGE..`: what becomes of these one to eight messages' frames if their transmitters start together.
     Arbitrate(ArrayVec<&'a str, MOST_MESSAGES>),
     /// `run`: the report of the run of the plan on the input.
-    Run,
+    Run {
+        /// With `--threads`: each driver stands in a thread of its own, otherwise all stand in one.
+        threads: bool,
+    },
     /// `wave`: the waveform of the run of the plan on the input.
     Wave,
 }
