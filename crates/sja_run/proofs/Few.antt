@@ -1,6 +1,6 @@
 -- Whatever becomes of a request, few bytes are read for it.
 use Rattle.std.proofs.Common.{◌≡◌, ◌≤◌, ◌+◌, ◌⊎◌, ◌++◌, List, ℕ, [], Option, length, length-append, sym, subst}
-use Rattle.std.proofs.Common.{arith, inl, inr}
+use Rattle.std.proofs.Common.{arith, inl, inr, false}
 use Rattle.std.specs.Io.KnownBytes.{Consumes}
 use Rattle.std.proofs.KnownBytes.{Consumes-nil, Consumes-trans}
 use Rattle.sja_words.specs.Words.{Request, ParsesAs, run, wave}
@@ -60,7 +60,7 @@ few_turned_down r before after why (inr same) refused = subst (ReadsFew before) 
 
 -- words that ask for no run leave the input as it is
 pub only_runs_read : (words : List (List ℕ)) (r : Request) (Same : Type 0) → ParsesAs words r → AsksForRun r ⊎ Same →
-    ¬ ParsesAs words run → ¬ ParsesAs words wave → Same
+    ¬ ParsesAs words (run false) → ¬ ParsesAs words wave → Same
 only_runs_read words r Same parses (inl (inl is)) no_run no_wave = absurd (no_run (subst (ParsesAs words) is parses))
 only_runs_read words r Same parses (inl (inr is)) no_run no_wave = absurd (no_wave (subst (ParsesAs words) is parses))
 only_runs_read words r Same parses (inr same) no_run no_wave = same

@@ -1,4 +1,5 @@
 pub mod Symbols
 pub mod Few
 pub mod Memory
+pub mod Requests
 pub mod Spelled

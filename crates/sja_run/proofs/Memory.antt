@@ -1,5 +1,5 @@
 -- Refused memory is a refusal of each request.
-use Rattle.std.proofs.Common.{List, ℕ, Option, refl, inl}
+use Rattle.std.proofs.Common.{List, ℕ, Option, true, false, refl, inl}
 use Rattle.sja_words.specs.Words.{Request, encode, decode, filter, arbitrate, run, wave}
 use Rattle.sja_run.specs.Answer.{IsRefused}
 use Rattle.sja_run.specs.Input.{ReadsFew}
@@ -12,5 +12,6 @@ memory_refused (encode digits) before after few = tt
 memory_refused (decode digits) before after few = tt
 memory_refused (filter single acr amr digits) before after few = inl refl
 memory_refused (arbitrate messages) before after few = inl refl
-memory_refused run before after few = few
+memory_refused (run false) before after few = few
+memory_refused (run true) before after few = few
 memory_refused wave before after few = few

@@ -1,5 +1,5 @@
 -- What the program does, by what the words ask for (this project's own rule).
-use Rattle.std.specs.Prelude.{◌≡◌, ◌⊎◌, ℕ, List, Option, Some}
+use Rattle.std.specs.Prelude.{◌≡◌, ◌⊎◌, ℕ, Bool, true, false, List, Option, Some, None}
 use Rattle.std.specs.Io.KnownBytes.{Appends, Keeps}
 use Rattle.sja_words.specs.Words.{Request, encode, decode, filter, arbitrate, run, wave}
 use Rattle.sja_run.specs.declared.refusal.Refusal.{Refusal}
@@ -15,7 +15,7 @@ use Rattle.sja_run.specs.Wave.{IsWaving}
 
 -- a run is asked for: its report, or its waveform. For these alone the input is read
 abbrev pub AsksForRun : Request → Type 0
-AsksForRun r = (r ≡ run) ⊎ (r ≡ wave)
+AsksForRun r = (r ≡ run false) ⊎ (r ≡ wave)
 
 -- the request, what the input held before and holds after, and the text that answers the request
 abbrev pub IsPrinted : Request → Option (List ℕ) → Option (List ℕ) → List ℕ → Type 0
@@ -23,7 +23,8 @@ IsPrinted (encode digits) before after text = IsEncoding digits text
 IsPrinted (decode digits) before after text = IsDecoding digits text
 IsPrinted (filter single acr amr digits) before after text = IsFiltering single acr amr digits text
 IsPrinted (arbitrate messages) before after text = IsArbitration messages text
-IsPrinted run before after text = IsRunning before after text
+IsPrinted (run false) before after text = IsRunning before after text
+IsPrinted (run true) before after text = ⊥
 IsPrinted wave before after text = IsWaving before after text
 
 -- the same, and why the request has no answer
@@ -32,7 +33,8 @@ IsRefused (encode digits) before after r = RefusesMessage digits r
 IsRefused (decode digits) before after r = RefusesLine digits r
 IsRefused (filter single acr amr digits) before after r = RefusesFilter acr amr digits r
 IsRefused (arbitrate messages) before after r = RefusesMessages messages r
-IsRefused run before after r = RefusesRun before after r
+IsRefused (run false) before after r = RefusesRun before after r
+IsRefused (run true) before after r = RefusesRun before after r
 IsRefused wave before after r = RefusesRun before after r
 
 -- The request, the exit status, and what the input, the output and the error output held before and hold after.
@@ -46,6 +48,13 @@ Shows request status in_old in_new out_old out_new err_old err_new =
     × Keeps err_old err_new)
     ⊎ ((r : Refusal) × IsRefused request in_old in_new r × (status ≡ Some 1) × Keeps out_old out_new
     × Appends err_old err_new (refusal_line r))
+
+-- The words ask for a run in threads, which is left to another call: there is no status; or memory was refused, and
+-- where no write to the error output failed it has that refusal's line.
+abbrev pub IsLeft : Option ℕ → Bool → Option (List ℕ) → Option (List ℕ) → Type 0
+IsLeft status failed err_old err_new =
+    (status ≡ None)
+    ⊎ ((status ≡ Some 1) × (failed ≡ false → Appends err_old err_new (refusal_line refusal.OutOfMemory)))
 
 -- The words don't parse: the status is 2 and the error output has the parser's text, or memory was refused.
 abbrev pub IsTurnedAway : Option ℕ → Option (List ℕ) → Option (List ℕ) → Type 0

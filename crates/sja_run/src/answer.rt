@@ -1,7 +1,7 @@
 //! What is written for a task.
 
-ghost use Rattle.std.specs.Prelude.{◌≡◌, ◌⊎◌, IfOk, IfErr};
-ghost use Rattle.sja_words.specs.Words.{request_of};
+ghost use Rattle.std.specs.Prelude.{◌≡◌, ◌⊎◌, IfOk, IfErr, true};
+ghost use Rattle.sja_words.specs.Words.{request_of, run};
 ghost use Rattle.sja_run.specs.Answer.{AsksForRun, IsPrinted, IsRefused};
 
 use super::arbitrate::arbitrated;
@@ -15,8 +15,9 @@ use sja_words::Task;
 use std::alloc::Global;
 use std::io::Read;
 
-/// The text that answers the task. Only for `run` and `wave` the input is read.
+/// The text that answers the task, which isn't a run in threads. Only for `run` and `wave` the input is read.
 pub fn printed<R: Read>(alloc: Global, task: Task<'_>, input: &mut R) -> Result<Vec<u8>, Refusal>
+    requires alone { ¬ (request_of task ≡ run true) }
     ensures ok { IfOk result (λ text.
         IsPrinted (request_of task.entry) (R.remaining input.old) (R.remaining input.new) text.items) }
     ensures err { IfErr result (IsRefused (request_of task.entry) (R.remaining input.old) (R.remaining input.new)) }
@@ -32,7 +33,8 @@ pub fn printed<R: Read>(alloc: Global, task: Task<'_>, input: &mut R) -> Result<
             message,
         } => filtered(alloc, single, acr, amr, message),
         Task::Arbitrate(messages) => arbitrated(alloc, messages.as_slice()),
-        Task::Run => reported(alloc, input),
+        Task::Run { threads: false } => reported(alloc, input),
+        Task::Run { threads: true } => unreachable!(),
         Task::Wave => waved(alloc, input),
     }
 }

@@ -1,8 +1,8 @@
-//! [`sja_serial`]: the whole program over words, a reader and two writers.
+//! [`sja_serial`]: the program without threads, over words, a reader and two writers.
 
-ghost use Rattle.std.specs.Prelude.{◌≡◌, ◌⊎◌, Some, IsSome, false, true, map};
+ghost use Rattle.std.specs.Prelude.{◌≡◌, ◌⊎◌, None, Some, IsSome, false, true, map};
 ghost use Rattle.sja_words.specs.Words.{Request, ParsesAs, request_of, run, wave};
-ghost use Rattle.sja_run.specs.Answer.{AsksForRun, Shows, IsTurnedAway};
+ghost use Rattle.sja_run.specs.Answer.{AsksForRun, Shows, IsLeft, IsTurnedAway};
 ghost use Rattle.sja_run.specs.Input.{ReadsFew};
 
 use super::answer::printed;
@@ -14,7 +14,8 @@ use std::convert::AsStr;
 use std::io::{Read, Write};
 
 /// The program, without threads: does what the words ask for, writes the text to `out` or one line to `err`, and
-/// answers the exit status. The first word is the program's name.
+/// answers the exit status. The first word is the program's name. Where the words ask for a run in threads it answers
+/// nothing, and nothing was read or written.
 ///
 /// The status is 0 where the text was written, 1 where an argument, the plan or memory was refused or a read or a write
 /// failed, and 2 where the words don't parse or ask for help; then `err` has the parser's own text. `input` is read for
@@ -28,7 +29,7 @@ pub fn sja_serial<S: AsStr, R: Read, O: Write, E: Write>(
     out: &mut Output<O>,
     err: &mut Output<E>,
 ) -> Option<u8>
-    ensures answered { (r : Request) → ParsesAs (map S.text words.now) r
+    ensures answered { (r : Request) → ParsesAs (map S.text words.now) r → ¬ (r ≡ run true)
         → out.new.failed ≡ false → err.new.failed ≡ false
         → Shows r result (R.remaining input.old) (R.remaining input.new)
         (O.contents out.old.writer) (O.contents out.new.writer)
@@ -37,22 +38,37 @@ pub fn sja_serial<S: AsStr, R: Read, O: Write, E: Write>(
         → out.new.failed ≡ false → err.new.failed ≡ false
         → IsTurnedAway result (E.contents err.old.writer) (E.contents err.new.writer) }
     ensures untouched { ((r : Request) → ¬ ParsesAs (map S.text words.now) r) → out.new ≡ out.old }
-    ensures status { IsSome result }
+    ensures threads { ParsesAs (map S.text words.now) (run true)
+        → IsLeft result err.new.failed (E.contents err.old.writer) (E.contents err.new.writer) }
+    ensures left { result ≡ None → ParsesAs (map S.text words.now) (run true)
+        × (input.new ≡ input.old) × (out.new ≡ out.old) × (err.new ≡ err.old) }
     ensures one_writer { (out.new ≡ out.old) ⊎ (err.new ≡ err.old) }
     ensures failed { out.old.failed ≡ false → err.old.failed ≡ false
         → (out.new.failed ≡ true) ⊎ (err.new.failed ≡ true) → result ≡ Some 1 }
-    ensures unread { ¬ ParsesAs (map S.text words.now) run → ¬ ParsesAs (map S.text words.now) wave
+    ensures unread { ¬ ParsesAs (map S.text words.now) (run false) → ¬ ParsesAs (map S.text words.now) wave
         → input.new ≡ input.old }
     ensures few { ReadsFew (R.remaining input.old) (R.remaining input.new) }
 {
     match parse(alloc, words) {
+        Ok(task) if is_threaded(&task) => None,
         Ok(task) => Some(reply(alloc, task, input, out, err)),
         Err(WordsFault::OutOfMemory) => Some(err.refuse(Refusal::OutOfMemory)),
         Err(WordsFault::Unparsed(text)) => Some(err.turn_away(text.as_bytes())),
     }
 }
 
-/// Does the task, and gives the exit status.
+/// Whether a task is a run in threads.
+fn is_threaded(task: &Task<'_>) -> bool
+    ensures threads { result ≡ true → request_of task.now ≡ run true }
+    ensures other { result ≡ false → ¬ (request_of task.now ≡ run true) }
+{
+    match task {
+        Task::Run { threads } => *threads,
+        _ => false,
+    }
+}
+
+/// Does the task, which isn't a run in threads, and gives the exit status.
 #[tactic(auto, using(crate::proofs::Few::few_printed, crate::proofs::Few::few_turned_down))]
 fn reply<R: Read, O: Write, E: Write>(
     alloc: Global,
@@ -61,6 +77,7 @@ fn reply<R: Read, O: Write, E: Write>(
     out: &mut Output<O>,
     err: &mut Output<E>,
 ) -> u8
+    requires alone { ¬ (request_of task ≡ run true) }
     ensures answered { out.new.failed ≡ false → err.new.failed ≡ false
         → Shows (request_of task.entry) (Some result) (R.remaining input.old) (R.remaining input.new)
         (O.contents out.old.writer) (O.contents out.new.writer)

@@ -10,4 +10,5 @@ mod filter;
 mod refused_memory;
 mod row;
 mod runs;
+mod threads;
 mod waves;

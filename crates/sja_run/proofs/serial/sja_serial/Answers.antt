@@ -3,11 +3,17 @@ use Rattle.sja_words.specs.Words.{request_of}
 use Rattle.sja_run.specs.declared.refusal.Refusal.TheVariants as refusal
 use Rattle.sja_run.proofs.Few.{unread, only_runs_read}
 use Rattle.sja_run.proofs.Memory.{memory_refused}
+use Rattle.sja_run.proofs.Requests.{asks_one}
 use Rattle.sja_run.proofs.serial.sja_serial.Goals as goal
 
 -- words that parse are never turned away
 pub returns-in-Err-Unparsed-clause-answered : goal.returns-in-Err-Unparsed-clause-answered
-returns-in-Err-Unparsed-clause-answered g c = λ r parses _ _. search (rules, c.parse.ensures.refused r parses)
+returns-in-Err-Unparsed-clause-answered g c = λ r parses _ _ _. search (rules, c.parse.ensures.refused r parses)
+
+-- the words ask for nothing but the task
+pub returns-in-Ok-2-clause-answered : goal.returns-in-Ok-2-clause-answered
+returns-in-Ok-2-clause-answered g c = λ r parses _ wrote told.
+    rw (asks_one _ r (request_of c.in-Ok.task) parses c.in-Ok.ensures.ok) (c.reply.ensures.answered wrote told)
 
 -- words that gave a task parse
 pub returns-in-Ok-clause-unparsed : goal.returns-in-Ok-clause-unparsed
@@ -18,7 +24,7 @@ returns-in-Ok-clause-untouched g c = λ none. absurd (none (request_of c.in-Ok.t
 
 -- memory may be refused while the words are parsed
 pub returns-in-Err-OutOfMemory-clause-answered : goal.returns-in-Err-OutOfMemory-clause-answered
-returns-in-Err-OutOfMemory-clause-answered g c = λ r _ _ told.
+returns-in-Err-OutOfMemory-clause-answered g c = λ r _ _ _ told.
     inr (
       refusal.OutOfMemory,
       memory_refused r _ _ (unread _),
