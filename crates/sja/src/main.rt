@@ -1,7 +1,7 @@
-//! The program `sja`: the arguments and the standard streams, handed to [`sja_serial`].
+//! The program `sja`: the arguments and the standard streams, handed to [`sja`].
 #![tactic(auto)]
 
-use sja_run::{Output, Refusal, sja_serial};
+use sja_run::{Output, Refusal, sja};
 use std::env;
 use std::io::ErrorKind;
 use std::process::ExitCode;
@@ -15,13 +15,11 @@ fn main(rt: HostRuntime) -> ExitCode {
     let mut err = Output::new(rt.stderr());
     let status = match env::args(&rt) {
         Ok(args) => match args.collect::<Vec<String>>(rt.alloc()) {
-            Ok(words) => sja_serial(rt.alloc(), &words, &mut rt.stdin(), &mut out, &mut err),
-            Err(_) => Some(err.refuse(Refusal::OutOfMemory)),
+            Ok(words) => sja(&rt, rt.alloc(), &words, &mut rt.stdin(), &mut out, &mut err),
+            Err(_) => err.refuse(Refusal::OutOfMemory),
         },
-        Err(error) if error.kind() == ErrorKind::OutOfMemory => Some(err.refuse(
-            Refusal::OutOfMemory,
-        )),
-        Err(_) => Some(err.turn_away(NO_TEXT.as_bytes())),
+        Err(error) if error.kind() == ErrorKind::OutOfMemory => err.refuse(Refusal::OutOfMemory),
+        Err(_) => err.turn_away(NO_TEXT.as_bytes()),
     };
-    ExitCode::from(status.unwrap_or(1))
+    ExitCode::from(status)
 }

@@ -1,14 +1,17 @@
 -- Whatever becomes of a request, few bytes are read for it.
-use Rattle.std.proofs.Common.{◌≡◌, ◌≤◌, ◌+◌, ◌⊎◌, ◌++◌, List, ℕ, [], Option, length, length-append, sym, subst}
+use Rattle.std.proofs.Common.{◌≡◌, ◌≢◌, ◌≤◌, ◌+◌, ◌⊎◌, ◌++◌, List, ℕ, [], Option, length, length-append, sym, subst}
 use Rattle.std.proofs.Common.{arith, inl, inr, false}
 use Rattle.std.specs.Io.KnownBytes.{Consumes}
 use Rattle.std.proofs.KnownBytes.{Consumes-nil, Consumes-trans}
 use Rattle.sja_words.specs.Words.{Request, ParsesAs, run, wave}
+use Rattle.sja_turns.specs.declared.run_fault.RunFault.{RunFault}
+use Rattle.sja_turns.specs.declared.run_fault.RunFault.TheVariants.{Memory, GateCount}
 use Rattle.sja_run.specs.declared.refusal.Refusal.{Refusal}
 use Rattle.sja_run.specs.declared.refusal.Refusal.TheVariants as refusal
 use Rattle.sja_run.specs.Answer.{AsksForRun, IsPrinted, IsRefused}
 use Rattle.sja_run.specs.Input.{ReadsFew}
-use Rattle.sja_run.specs.Run.{IsRunning, RefusesRun}
+use Rattle.sja_run.specs.Run.{IsRunning, RefusesBy, RefusesRun}
+use Rattle.sja_run.specs.ThreadedRun.{IsRunningThreads, RefusesThreads}
 use Rattle.sja_run.specs.Wave.{IsWaving}
 
 -- nothing was read
@@ -29,16 +32,34 @@ few_running before after text runs = (runs.0, runs.1.0, runs.1.1)
 few_waving : (before after : Option (List ℕ)) (text : List ℕ) → IsWaving before after text → ReadsFew before after
 few_waving before after text waves = (waves.0, waves.1.0, waves.1.1)
 
+-- there is a report of a run in threads
+pub few_running_threads : (before after : Option (List ℕ)) (text : List ℕ) → IsRunningThreads before after text → ReadsFew before after
+few_running_threads before after text runs = (runs.0, runs.1.0, runs.1.1)
+
 -- there is none
-few_refused : (before after : Option (List ℕ)) (r : Refusal) → RefusesRun before after r → ReadsFew before after
-few_refused before after refusal.OutOfMemory h = h
-few_refused before after refusal.Read h = (h.0, h.1, omega arith)
-few_refused before after (refusal.Plan fault) h = (h.0, h.1.0, h.1.1)
-few_refused before after (refusal.Run fault) h = (h.0, h.2.0, h.2.1)
-few_refused before after refusal.NotHexadecimal h = absurd h
-few_refused before after refusal.NotALine h = absurd h
-few_refused before after (refusal.Layout fault) h = absurd h
-few_refused before after (refusal.Line fault) h = absurd h
+few_refused : (May : RunFault → Type 0) (before after : Option (List ℕ)) (r : Refusal) → RefusesBy May before after r → ReadsFew before after
+few_refused May before after refusal.OutOfMemory h = h
+few_refused May before after refusal.Read h = (h.0, h.1, omega arith)
+few_refused May before after (refusal.Plan fault) h = (h.0, h.1.0, h.1.1)
+few_refused May before after (refusal.Run fault) h = (h.0, h.2.0, h.2.1)
+few_refused May before after refusal.NotHexadecimal h = absurd h
+few_refused May before after refusal.NotALine h = absurd h
+few_refused May before after (refusal.Layout fault) h = absurd h
+few_refused May before after (refusal.Line fault) h = absurd h
+
+pub few_refused_threads : (before after : Option (List ℕ)) (r : Refusal) → RefusesThreads before after r → ReadsFew before after
+few_refused_threads before after r h = few_refused (λ fault. fault ≢ GateCount) before after r h
+
+-- what is refused before any run is refused of each
+pub refused_threads : (before after : Option (List ℕ)) (r : Refusal) → RefusesRun before after r → RefusesThreads before after r
+refused_threads before after refusal.OutOfMemory h = h
+refused_threads before after refusal.Read h = h
+refused_threads before after (refusal.Plan fault) h = h
+refused_threads before after (refusal.Run fault) h = (h.0, h.1, h.2, h.3, λ other. cc (h.4))
+refused_threads before after refusal.NotHexadecimal h = absurd h
+refused_threads before after refusal.NotALine h = absurd h
+refused_threads before after (refusal.Layout fault) h = absurd h
+refused_threads before after (refusal.Line fault) h = absurd h
 
 -- whatever is printed: only for a run anything is read
 pub few_printed : (r : Request) (before after : Option (List ℕ)) (text : List ℕ) → AsksForRun r ⊎ (after ≡ before) →
@@ -53,9 +74,9 @@ few_printed r before after text (inr same) printed = subst (ReadsFew before) (sy
 pub few_turned_down : (r : Request) (before after : Option (List ℕ)) (why : Refusal) → AsksForRun r ⊎ (after ≡ before) →
     IsRefused r before after why → ReadsFew before after
 few_turned_down r before after why (inl (inl is)) refused =
-    few_refused before after why (subst (λ q. IsRefused q before after why) is refused)
+    few_refused (λ fault. fault ≡ Memory) before after why (subst (λ q. IsRefused q before after why) is refused)
 few_turned_down r before after why (inl (inr is)) refused =
-    few_refused before after why (subst (λ q. IsRefused q before after why) is refused)
+    few_refused (λ fault. fault ≡ Memory) before after why (subst (λ q. IsRefused q before after why) is refused)
 few_turned_down r before after why (inr same) refused = subst (ReadsFew before) (sym same) (unread before)
 
 -- words that ask for no run leave the input as it is

@@ -11,6 +11,7 @@ use Rattle.sja_run.specs.Filter.{IsFiltering, RefusesFilter}
 use Rattle.sja_run.specs.Message.{RefusesMessage}
 use Rattle.sja_run.specs.Refusal.{refusal_line}
 use Rattle.sja_run.specs.Run.{IsRunning, RefusesRun}
+use Rattle.sja_run.specs.ThreadedRun.{IsRunningThreads, RefusesThreads}
 use Rattle.sja_run.specs.Wave.{IsWaving}
 
 -- a run is asked for: its report, or its waveform. For these alone the input is read
@@ -24,7 +25,7 @@ IsPrinted (decode digits) before after text = IsDecoding digits text
 IsPrinted (filter single acr amr digits) before after text = IsFiltering single acr amr digits text
 IsPrinted (arbitrate messages) before after text = IsArbitration messages text
 IsPrinted (run false) before after text = IsRunning before after text
-IsPrinted (run true) before after text = ⊥
+IsPrinted (run true) before after text = IsRunningThreads before after text
 IsPrinted wave before after text = IsWaving before after text
 
 -- the same, and why the request has no answer
@@ -34,7 +35,7 @@ IsRefused (decode digits) before after r = RefusesLine digits r
 IsRefused (filter single acr amr digits) before after r = RefusesFilter acr amr digits r
 IsRefused (arbitrate messages) before after r = RefusesMessages messages r
 IsRefused (run false) before after r = RefusesRun before after r
-IsRefused (run true) before after r = RefusesRun before after r
+IsRefused (run true) before after r = RefusesThreads before after r
 IsRefused wave before after r = RefusesRun before after r
 
 -- The request, the exit status, and what the input, the output and the error output held before and hold after.

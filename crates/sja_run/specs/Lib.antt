@@ -9,4 +9,5 @@ pub mod Arbitrate
 pub mod Input
 pub mod Run
 pub mod Wave
+pub mod ThreadedRun
 pub mod Answer

@@ -5,29 +5,35 @@ use Rattle.sja_plan.specs.Faults.{IsPlanOf, IsFirstFault}
 use Rattle.sja_report.specs.Log.{RunValue}
 use Rattle.sja_report.specs.ReportLines.{report_text}
 use Rattle.sja_report.specs.Runs.{IsSerialRun}
+use Rattle.sja_turns.specs.declared.run_fault.RunFault.{RunFault}
 use Rattle.sja_turns.specs.declared.run_fault.RunFault.TheVariants.{Memory}
 use Rattle.sja_run.specs.declared.refusal.Refusal.{Refusal}
 use Rattle.sja_run.specs.declared.refusal.Refusal.TheVariants as refusal
 use Rattle.sja_run.specs.Input.{IsRead, ReadsFew, BreaksOff}
 
--- the text is the report of a run in one thread of the plan that these bytes are
-abbrev pub IsReportOf : List ℕ → List ℕ → Type 0
-IsReportOf bytes text =
-    (plan : PlanValue) × (log : RunValue) × IsPlanOf bytes plan × IsSerialRun plan log × (text ≡ report_text log)
+-- the text is the report of such a run of the plan that these bytes are
+abbrev pub IsReportBy : (PlanValue → RunValue → Type 0) → List ℕ → List ℕ → Type 0
+IsReportBy Runs bytes text =
+    (plan : PlanValue) × (log : RunValue) × IsPlanOf bytes plan × Runs plan log × (text ≡ report_text log)
 
--- the text is that of the bytes that were read
+-- the text is the report of a run in one thread of the plan that the bytes which were read are
 abbrev pub IsRunning : Option (List ℕ) → Option (List ℕ) → List ℕ → Type 0
-IsRunning before after text = (bytes : List ℕ) × IsRead before after bytes × IsReportOf bytes text
+IsRunning before after text = (bytes : List ℕ) × IsRead before after bytes × IsReportBy IsSerialRun bytes text
 
 -- why there is no report. Memory may be refused at any time, and a read may fail. Else the bytes that were read have
--- this first fault, or they are a plan, and in its run memory was refused
+-- this first fault, or they are a plan, and its run had one of these faults
+abbrev pub RefusesBy : (RunFault → Type 0) → Option (List ℕ) → Option (List ℕ) → Refusal → Type 0
+RefusesBy May before after refusal.OutOfMemory = ReadsFew before after
+RefusesBy May before after refusal.Read = BreaksOff before after
+RefusesBy May before after (refusal.Plan fault) =
+    (bytes : List ℕ) × IsRead before after bytes × IsFirstFault bytes fault
+RefusesBy May before after (refusal.Run fault) =
+    (bytes : List ℕ) × (plan : PlanValue) × IsRead before after bytes × IsPlanOf bytes plan × May fault
+RefusesBy May before after refusal.NotHexadecimal = ⊥
+RefusesBy May before after refusal.NotALine = ⊥
+RefusesBy May before after (refusal.Layout fault) = ⊥
+RefusesBy May before after (refusal.Line fault) = ⊥
+
+-- in one thread: in the run memory was refused
 abbrev pub RefusesRun : Option (List ℕ) → Option (List ℕ) → Refusal → Type 0
-RefusesRun before after refusal.OutOfMemory = ReadsFew before after
-RefusesRun before after refusal.Read = BreaksOff before after
-RefusesRun before after (refusal.Plan fault) = (bytes : List ℕ) × IsRead before after bytes × IsFirstFault bytes fault
-RefusesRun before after (refusal.Run fault) =
-    (bytes : List ℕ) × (plan : PlanValue) × IsRead before after bytes × IsPlanOf bytes plan × (fault ≡ Memory)
-RefusesRun before after refusal.NotHexadecimal = ⊥
-RefusesRun before after refusal.NotALine = ⊥
-RefusesRun before after (refusal.Layout fault) = ⊥
-RefusesRun before after (refusal.Line fault) = ⊥
+RefusesRun = RefusesBy (λ fault. fault ≡ Memory)

@@ -39,9 +39,9 @@ pub fn sja_serial<S: AsStr, R: Read, O: Write, E: Write>(
         → IsTurnedAway result (E.contents err.old.writer) (E.contents err.new.writer) }
     ensures untouched { ((r : Request) → ¬ ParsesAs (map S.text words.now) r) → out.new ≡ out.old }
     ensures threads { ParsesAs (map S.text words.now) (run true)
-        → IsLeft result err.new.failed (E.contents err.old.writer) (E.contents err.new.writer) }
-    ensures left { result ≡ None → ParsesAs (map S.text words.now) (run true)
-        × (input.new ≡ input.old) × (out.new ≡ out.old) × (err.new ≡ err.old) }
+        → IsLeft result err.new.failed (E.contents err.old.writer) (E.contents err.new.writer)
+        × (input.new ≡ input.old) × (out.new ≡ out.old) }
+    ensures left { result ≡ None → ParsesAs (map S.text words.now) (run true) × (err.new ≡ err.old) }
     ensures one_writer { (out.new ≡ out.old) ⊎ (err.new ≡ err.old) }
     ensures failed { out.old.failed ≡ false → err.old.failed ≡ false
         → (out.new.failed ≡ true) ⊎ (err.new.failed ≡ true) → result ≡ Some 1 }

@@ -1,0 +1,44 @@
+//! `run --threads`: the report of a run in threads of the plan on the input.
+
+ghost use Rattle.std.specs.Prelude.{◌≡◌, IfOk, IfErr, vec_len};
+ghost use Rattle.sja_run.specs.ThreadedRun.{IsRunningThreads, RefusesThreads};
+
+use super::input::read_input;
+use super::refusal::Refusal;
+use super::tries::Tries;
+use sja_plan::read_plan;
+use sja_report::report;
+use sja_threads::run_threads;
+use std::alloc::{AllocError, Global};
+use std::io::Read;
+use std::sync::Wait;
+use std::thread::Threads;
+
+/// The report of a run of the plan that the bytes of the input are, with each driver in a thread of its own.
+#[tactic(auto, using(crate::proofs::Few::refused_threads))]
+pub fn reported_threads<T: Threads + Wait + Sync, R: Read>(
+    rt: &T,
+    alloc: Global,
+    input: &mut R,
+) -> Result<Vec<u8>, Refusal>
+    ensures ok { IfOk result (λ text. IsRunningThreads (R.remaining input.old) (R.remaining input.new) text.items) }
+    ensures err { IfErr result (RefusesThreads (R.remaining input.old) (R.remaining input.new)) }
+{
+    let bytes = read_input(alloc, input)?;
+    let plan = read_plan(alloc, bytes.as_slice())?;
+    let gates = gates_of(alloc, plan.nodes())?;
+    let log = run_threads(rt, alloc, &plan, gates)?;
+    let text = report(alloc, &log)?;
+    Ok(text.into_bytes())
+}
+
+/// A gate for each of so many nodes.
+fn gates_of(alloc: Global, nodes: usize) -> Result<Vec<Tries>, AllocError>
+    ensures { IfOk result (λ gates. vec_len gates ≡ nodes) }
+{
+    let mut gates = Vec::with_capacity(alloc, nodes)?;
+    for _ in 0..nodes {
+        gates.push_reserved(Tries);
+    }
+    Ok(gates)
+}

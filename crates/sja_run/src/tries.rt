@@ -1,0 +1,33 @@
+//! [`Tries`]: the gate of `run --threads`.
+
+ghost use Rattle.std.specs.Prelude.{◌≡◌, ◌<◌, ◌≤◌};
+ghost use Rattle.sja_threads.specs.declared.pass.Pass.TheVariants.{Go, Quit};
+
+use sja_threads::{Gate, Pass};
+
+/// At which try of a step a script ends.
+const LAST_TRY: u32 = 10_000_000;
+
+/// The gate of `run --threads`: it lets a step be tried below 10,000,000 times, and then ends the script (this
+/// project's own rule). So a driver that waits for what never comes ends too.
+#[derive(Drop)]
+pub struct Tries;
+
+impl Gate for Tries {
+    ghost use Rattle.std.specs.Prelude.{true};
+
+    ghost QUITS = { true };
+
+    const QUITS: bool = true;
+
+    fn turn(&self, _node: u8, _step: u16, tries: u32) -> Pass
+        ensures go { tries < 10000000 → result ≡ Go }
+        ensures quit { 10000000 ≤ tries → result ≡ Quit }
+    {
+        if tries < LAST_TRY {
+            Pass::Go
+        } else {
+            Pass::Quit
+        }
+    }
+}
