@@ -1,4 +1,15 @@
 pub mod Works
+-- the bus beside its drivers
+pub mod Places
+pub mod Same
+pub mod Within
+pub mod Due
+pub mod Underway
+-- the threads of the drivers
+pub mod Pairs
+pub mod Returned
+pub mod HandedBack
+pub mod Threaded
 -- the events of each link
 pub mod Events
 pub mod NextItem

@@ -18,8 +18,8 @@ use Rattle.sja_driver.specs.declared.tried.Tried.TheVariants.{Unmet, Answered, R
 use Rattle.sja_driver.specs.declared.work_log.WorkLog.{WorkLog}
 use Rattle.sja_driver.specs.AnyDrivers.{is_out, held_of, off_of}
 use Rattle.sja_driver.specs.Deeds.{Deed, done_of}
-use Rattle.sja_driver.specs.Holding.{EachRelated, HoldsBy}
-use Rattle.sja_driver.specs.LoggedDrivers.{node_of, driver_of, log_of, StaysLawful, Steps}
+use Rattle.sja_driver.specs.Holding.{EachRelated, HoldsBy, Numbered}
+use Rattle.sja_driver.specs.LoggedDrivers.{node_of, driver_of, log_of, IsLawful, StaysLawful, Steps}
 use Rattle.sja_driver.specs.Logs.{HasRoom, IsEmpty, Traces, deeds_by, done_in, left_in, released_of, leaves}
 use Rattle.sja_driver.specs.Tries.{is_met}
 use Rattle.sja_driver.proofs.Each.{each_refl}
@@ -198,6 +198,11 @@ take_few zero xs few = refl
 take_few (suc n) [] few = absurd (omega (arith, few))
 take_few (suc n) (x ∷ xs) few = ap suc (take_few n xs (omega (arith, few)))
 
+front_few : (n : ℕ) (xs : List Step) → length (take n xs) + 0 ≤ length xs
+front_few zero xs = omega arith
+front_few (suc n) [] = omega arith
+front_few (suc n) (x ∷ xs) = let l = front_few n xs in omega (arith, l)
+
 take_one : (n : ℕ) (xs : List Step) (d : Step) → n < length xs →
     take n xs ++ slice_index_or xs n d ∷ [] ≡ take (suc n) xs
 take_one n [] d few = absurd (omega (arith, few))
@@ -213,13 +218,27 @@ pub take_next : (n : ℕ) (xs : List Step) (s d : Step) → n < length xs → s 
 take_next n xs s d few this =
     ap (λ (x : Step). take n xs ++ x ∷ []) this ∙ take_one n xs d few ∙ ap (λ (k : ℕ). take k xs) (next_is n)
 
+-- a driver before its first step, at its ends
+pub may_first : {E : Type 0} (link : E → LinkId) (first : LoggedDriver) (links given : List E) (node steps : ℕ)
+    (log : WorkLog) → node_of first ≡ node → log_of first ≡ log → IsLawful first → given ≡ links → HasRoom steps log →
+    8 ≤ length links → Numbered link links 0 node → MayWork link first given steps
+may_first {E} link first links given node steps log own logs lawful these room eight ids = record {
+  lawful = lawful;
+  room = subst (λ (l : WorkLog). HasRoom steps l) (sym logs) room;
+  eight = subst (λ (l : List E). 8 ≤ length l) (sym these) eight;
+  ids = subst (λ (n : ℕ). Numbered link given 0 n) (sym own)
+      (subst (λ (l : List E). Numbered link l 0 node) (sym these) ids);
+}
+
 -- what a driver hands back that did a front of its steps
 pub worked_of : {E : Type 0} (link : E → LinkId) (same : E → E → Type 0) (stands : E → Lists → Type 0) (node : ℕ)
     (steps : List Step) (n : ℕ) (first : LoggedDriver) (log : WorkLog) (links given gone : List E) (w : Worked E) →
     node_of first ≡ node → log_of first ≡ log → IsEmpty log → is_out (driver_of first) ≡ false →
     Traces (driver_of first) (log_of first) [] → given ≡ links → w.links.items ≡ gone →
+    MayWork link first given (length steps) →
     DoesSteps link same stands first w.driver given gone (take n steps) → HasWorked stands node steps links w
-worked_of {E} link same stands node steps n first log links given gone w own logs empty reset none these those does =
+worked_of {E} link same stands node steps n first log links given gone w own logs empty reset none these those may
+    does =
     let d : DoesSteps link same stands first w.driver links w.links.items (take n steps) =
     subst (λ (l : List E). DoesSteps link same stands first w.driver links l (take n steps)) (sym those)
     (subst (λ (l : List E). DoesSteps link same stands first w.driver l gone (take n steps)) these does) in
@@ -229,6 +248,8 @@ worked_of {E} link same stands node steps n first log links given gone w own log
     sym (length-map d.deeds (λ (x : Deed). x.step)) ∙ ap (λ l. length l) d.are in record {
       deeds = d.deeds;
       own = d.node ∙ own;
+      lawful = (does.able 0 (may_less link same stands first given (length (take n steps) + 0) (length steps)
+          (front_few n steps) may)).lawful;
       deeds_are = record {
         first = d.are ∙ take_front n steps ∙ ap (λ (k : ℕ). take k steps) (sym many);
         states = t.answered.states;

@@ -1,4 +1,10 @@
+-- ---- one driver
 pub mod Working
+-- ---- a whole run
+pub mod Needed
+pub mod Threads
 pub mod Ended
 pub mod Linked
 pub mod Settling
+-- ---- how the code keeps a run: definitions of the private contracts alone
+pub mod Inside

@@ -36,13 +36,14 @@ abbrev pub AreUntouched : {E : Type 0} → (E → Lists → Type 0) → List Ent
 AreUntouched {E} stands j links base = (a : ℕ) (d : E) → a < 8 →
     stands (slice_index_or links (base + a) d) (account j (suc a) (record { got = []; given = [] }))
 
--- what the driver of a node hands back that followed a script with these ends: its deeds are a front of the script's
--- steps, each answered as its state has it, its log is theirs, and, whatever the journal of the node is, its ends stand
--- beside it for these deeds
+-- what the driver of a node hands back that followed a script with these ends: it is lawful, its deeds are a front of
+-- the script's steps, each answered as its state has it, its log is theirs, and, whatever the journal of the node is, its
+-- ends stand beside it for these deeds
 pub record HasWorked {E : Type 0} (stands : E → Lists → Type 0) (node : ℕ) (steps : List Step) (links : List E)
     (w : Worked E) : Type 0 where
   pub deeds : List Deed
   pub own : node_of w.driver ≡ node
+  pub lawful : IsLawful w.driver
   pub deeds_are : AreDeeds steps deeds
   pub traces : Traces (driver_of w.driver) (log_of w.driver) deeds
   pub holds : (j : List Entry) → AreUntouched stands j links 0 →

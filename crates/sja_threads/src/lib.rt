@@ -1,27 +1,41 @@
-//! A driver that follows its script in a thread of its own, and the ports of a bus behind their locks.
+//! Runs with each driver in a thread of its own, and what they are made of.
 //!
-//! [`work`] is the driver's part: one step after the other, each tried until it is done. Before each try it asks a
-//! [`Gate`], which lets the step go, holds it, or quits the script. It hands back the ends of the node's links and the
-//! driver with its log ([`Worked`]). A [`LockBoard`] is the board of a bus whose drivers stand in threads.
+//! [`run_threads`] runs a plan: each driver in a thread of its own, the bus in the caller's, and gives the log of the run,
+//! with all that is promised of it. [`work`] is the driver's part: one step after the other, each tried until it is done.
+//! Before each try it asks a [`Gate`], which lets the step go, holds it, or quits the script. It hands back the ends of the
+//! node's links and the driver with its log ([`Worked`]). A [`LockBoard`] is the board of a bus whose drivers stand in
+//! threads.
 //!
 //! Contracts say which steps were done, `HasWorked` of `specs/Working.antt`: for every journal, so whatever the bus
-//! does meanwhile. No clause says that a wait ends, or how a port stands behind its lock.
+//! does meanwhile; and of a whole run what every run has, and when its bits were due, `IsThreadedRun` of
+//! `specs/Threads.antt`. No clause says that a wait ends, or how a port stands behind its lock.
 //!
-//! No call takes memory. The tests stand in `crates/thread_tests`.
+//! `run_threads` alone takes memory, none of it for a bit. The tests stand in `crates/thread_tests`.
 #![tactic(auto)]
 
 mod apart;
 mod finishing;
 mod gate;
+mod hand;
+mod joined;
+mod keeps;
 mod lock_board;
+mod looping;
+mod making;
+mod moving;
 mod pass;
+mod ready;
+mod running;
 mod settling;
+mod starting;
 mod waiting;
+mod watching;
 mod worked;
 mod working;
 
 pub use gate::Gate;
 pub use lock_board::LockBoard;
 pub use pass::Pass;
+pub use running::run_threads;
 pub use worked::Worked;
 pub use working::work;

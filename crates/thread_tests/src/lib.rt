@@ -10,4 +10,6 @@ mod passing;
 #[cfg(test)]
 mod ready;
 #[cfg(test)]
+mod runs;
+#[cfg(test)]
 mod steps;

@@ -1,0 +1,52 @@
+-- What a run in threads begins with.
+use Rattle.std.specs.Prelude.{◌≡◌, ◌≤◌, ◌+◌, ◌*◌, ◌<◌, ℕ, suc, List, [], length, slice_index_or, vec_capacity}
+use Rattle.sja_link.specs.Lists.{nothing_yet}
+use Rattle.sja_rings.specs.declared.ring_bus.RingBus.{RingBus}
+use Rattle.sja_rings.specs.declared.ring_driver.RingDriver.{RingDriver}
+use Rattle.sja_rings.specs.Ends.{BusLists, DriverLists, OneLink, link_of_bus, link_of_driver}
+use Rattle.sja_plan.specs.Plan.{PlanValue}
+use Rattle.sja_driver.specs.Logs.{HasRoom, IsEmpty}
+use Rattle.sja_bus.specs.Buses.{new_bus}
+use Rattle.sja_turns.specs.Serial.{steps_at}
+use Rattle.sja_threads.specs.declared.hand.Hand.{Hand}
+use Rattle.sja_threads.specs.declared.ready.Ready.{Ready}
+
+-- each end of the link of an activation, with nothing on it
+pub record IsNewBus (node activation : ℕ) (b : RingBus) : Type 0 where
+  pub link : link_of_bus b ≡ record { node = node; activation = activation }
+  pub lists : BusLists b nothing_yet
+
+pub record IsNewDriver (node activation : ℕ) (d : RingDriver) : Type 0 where
+  pub link : link_of_driver d ≡ record { node = node; activation = activation }
+  pub lists : DriverLists d nothing_yet
+
+-- the first so many links of a node, whose ends begin at this place of the bus's
+pub record AreNewLinks (count node : ℕ) (buses : List RingBus) (drivers : List RingDriver) (base : ℕ) : Type 0 where
+  pub buses_new : (a : ℕ) (b : RingBus) → a < count → IsNewBus node (suc a) (slice_index_or buses (base + a) b)
+  pub drivers_new : (a : ℕ) (d : RingDriver) → a < count → IsNewDriver node (suc a) (slice_index_or drivers a d)
+  pub one : (a : ℕ) (b : RingBus) (d : RingDriver) → a < count →
+      OneLink (slice_index_or buses (base + a) b) (slice_index_or drivers a d)
+
+-- what the thread of a node's driver begins with: its ends of the node's eight links, and an empty log with room for
+-- all its steps
+pub record IsMade {G : Type 0} (plan : PlanValue) (node : ℕ) (h : Hand G) (buses : List RingBus) : Type 0 where
+  pub own : h.node ≡ node
+  pub empty : IsEmpty h.log
+  pub room : HasRoom (length (steps_at plan node)) h.log
+  pub eight : length h.links.items ≡ 8
+  pub links : AreNewLinks 8 node buses h.links.items (8 * node)
+
+-- the same of the first so many nodes
+abbrev pub AreMade : {G : Type 0} → PlanValue → ℕ → List (Hand G) → List RingBus → Type 0
+AreMade {G} plan count hands buses = (node : ℕ) (h : Hand G) → node < count →
+    IsMade plan node (slice_index_or hands node h) buses
+
+-- all that a run of this plan begins with
+pub record IsReady {G : Type 0} (plan : PlanValue) (r : Ready G) : Type 0 where
+  pub bus : r.bus ≡ new_bus plan.strikes plan.bits (length plan.nodes)
+  pub links : length r.links.items ≡ 8 * length plan.nodes
+  pub hands : length r.hands.items ≡ length plan.nodes
+  pub made : AreMade plan (length plan.nodes) r.hands.items r.links.items
+  pub ports : length r.ports.items ≡ length plan.nodes
+  pub children : (length plan.nodes ≤ vec_capacity r.children) × (r.children.items ≡ [])
+  pub workeds : (length plan.nodes ≤ vec_capacity r.workeds) × (r.workeds.items ≡ [])

@@ -1,0 +1,17 @@
+-- What is promised of every run whose drivers stand in threads of their own, and which returns (this project's own rule).
+use Rattle.std.specs.Prelude.{◌≡◌, ◌<◌, ℕ, Bool, false, List, length, slice_index_or}
+use Rattle.sja_plan.specs.Plan.{PlanValue}
+use Rattle.sja_driver.specs.Deeds.{Deed}
+use Rattle.sja_report.specs.Log.{NodeValue, RunValue}
+use Rattle.sja_report.specs.Runs.{IsRun}
+use Rattle.sja_turns.specs.Serial.{steps_at}
+use Rattle.sja_threads.specs.Needed.{IsNeeded}
+
+-- of its drivers there are deeds by which it is what every run is; each of its bits was due, and it ended duly; and where
+-- no gate quits every driver did all its steps
+pub record IsThreadedRun (plan : PlanValue) (log : RunValue) (quits : Bool) : Type 0 where
+  pub deeds : List (List Deed)
+  pub run : IsRun plan log deeds
+  pub needed : IsNeeded plan.bits log
+  pub all_done : quits ≡ false → (node : ℕ) (d : NodeValue) → node < length log.nodes →
+      length (slice_index_or log.nodes node d).done ≡ length (steps_at plan node)

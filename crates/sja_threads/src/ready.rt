@@ -1,0 +1,57 @@
+//! [`Ready`]: all that a run in threads begins with.
+
+use super::gate::Gate;
+use super::hand::Hand;
+use super::keeps::Child;
+use super::making::{hands_of, ports_of, script_of};
+use super::worked::Worked;
+use can_frame::OutOfMemory;
+use sja_bus::Bus;
+use sja_plan::Plan;
+use sja_regs::Port;
+use sja_rings::{RingBus, RingDriver};
+use std::alloc::Global;
+use std::sync::Mutex;
+
+/// All that a run in threads begins with (this project's own rule): the bus and its ends of all links, what each
+/// driver's thread begins with, the ports, and room for the threads and for what they hand back.
+#[derive(Drop)]
+pub(crate) struct Ready<G: Gate> {
+    pub(crate) bus: Bus,
+    pub(crate) links: Vec<RingBus>,
+    pub(crate) hands: Vec<Hand<G>>,
+    pub(crate) ports: Vec<Mutex<Port>>,
+    pub(crate) children: Vec<Child<G>>,
+    pub(crate) workeds: Vec<Worked<RingDriver>>,
+}
+
+impl<G: Gate> Ready<G> {
+    ghost use Rattle.std.specs.Prelude.{◌≡◌, length, vec_len, IfOk};
+    ghost use Rattle.sja_threads.specs.Inside.Making.{IsReady};
+
+    /// All of it for a run of this plan, with a gate for each node.
+    ///
+    /// Error: [`OutOfMemory`] where memory was refused.
+    pub(crate) fn new(alloc: Global, plan: &Plan, gates: Vec<G>) -> Result<Ready<G>, OutOfMemory>
+        requires { vec_len gates ≡ length plan.now.nodes }
+        ensures { IfOk result (IsReady plan.now) }
+    {
+        plan.limits();
+        let nodes = plan.nodes();
+        let script = script_of(alloc, plan)?;
+        let bus = Bus::new(alloc, nodes as u8, plan.bits(), script)?;
+        let mut links = Vec::new(alloc);
+        let hands = hands_of(alloc, plan, gates, &mut links)?;
+        let ports = ports_of(alloc, nodes, plan.version())?;
+        let children = Vec::with_capacity(alloc, nodes)?;
+        let workeds = Vec::with_capacity(alloc, nodes)?;
+        Ok(Ready {
+            bus,
+            links,
+            hands,
+            ports,
+            children,
+            workeds,
+        })
+    }
+}

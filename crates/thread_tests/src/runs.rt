@@ -1,0 +1,141 @@
+//! Whole runs in threads.
+
+use super::gates::{Open, Patience};
+use sja_plan::read_plan;
+use sja_report::{End, RunLog};
+use sja_threads::{Gate, run_threads};
+use sja_turns::RunFault;
+use std::alloc::Global;
+use std::sync::Wait;
+use std::test::Fail;
+use std::thread::Threads;
+
+/// Node 0 sends a frame of two bytes, and node 1 awaits and releases it.
+const PASSING: &str = "version = 1
+bits = 2000
+[[node]]
+steps = [\"start\", \"load 0224601122\", \"command 01\", \"sent\", \"stop\"]
+[[node]]
+steps = [\"start\", \"await 1\", \"window\", \"release\", \"stop\"]
+";
+
+/// Node 0 sends to nobody.
+const ALONE: &str = "version = 1
+bits = 1000
+[[node]]
+steps = [\"start\", \"load 000000\", \"command 01\", \"sent\", \"stop\"]
+";
+
+/// Node 0 waits for a message that never comes, and node 1 only starts.
+const WAITING: &str = "version = 1
+bits = 500
+[[node]]
+steps = [\"start\", \"await 1\", \"window\"]
+[[node]]
+steps = [\"start\"]
+";
+
+/// Node 0 sends to node 1, whose driver has no step; and node 2 has started.
+const ENDED: &str = "version = 1
+bits = 2000
+[[node]]
+steps = [\"start\", \"load 0224601122\", \"command 01\", \"sent\"]
+[[node]]
+steps = []
+[[node]]
+steps = [\"start\"]
+";
+
+/// So many gates that let every step go.
+fn open_gates(alloc: Global, nodes: usize) -> Result<Vec<Open>, Fail> {
+    let mut gates = Vec::new(alloc);
+    for _ in 0..nodes {
+        gates.push(Open)?;
+    }
+    Ok(gates)
+}
+
+/// The log of a plan's run.
+fn run<G: Gate, R: Threads + Wait + Sync>(
+    rt: &R,
+    alloc: Global,
+    text: &str,
+    gates: Vec<G>,
+) -> Result<RunLog, Fail> {
+    let plan = read_plan(alloc, text.as_bytes())?;
+    match run_threads(rt, alloc, &plan, gates) {
+        Ok(log) => Ok(log),
+        Err(_) => Err("no run")?,
+    }
+}
+
+/// Of this node: how many steps were done, and how many messages were released and left unread in its first activation.
+fn counts(log: &RunLog, node: usize) -> Result<(usize, usize, usize), Fail> {
+    let Some(run) = log.nodes().get(node) else {
+        return Err("no such node")?;
+    };
+    let Some(activation) = run.activations().get(0) else {
+        return Ok((run.done().len(), 0, 0));
+    };
+    Ok((
+        run.done().len(),
+        activation.released().len(),
+        activation.unread().len(),
+    ))
+}
+
+#[test]
+fn a_frame_is_released_in_the_other_thread(rt: HostRuntime) -> Result<(), Fail> {
+    let gates = open_gates(rt.alloc(), 2)?;
+    let log = run(&rt, rt.alloc(), PASSING, gates)?;
+    assert!(rt; log.end() == End::Rest);
+    assert_eq!(rt; counts(&log, 0)?, (5, 0, 0));
+    assert_eq!(rt; counts(&log, 1)?, (5, 1, 0));
+    Ok(())
+}
+
+#[test]
+fn a_lone_sender_spends_its_bits(rt: HostRuntime) -> Result<(), Fail> {
+    let gates = open_gates(rt.alloc(), 1)?;
+    let log = run(&rt, rt.alloc(), ALONE, gates)?;
+    assert!(rt; log.end() == End::Bits);
+    assert_eq!(rt; log.bits(), 1000);
+    assert_eq!(rt; counts(&log, 0)?, (5, 0, 0));
+    Ok(())
+}
+
+/// A started node is at rest after eleven bits. The driver of node 0 gives up its second step.
+#[test]
+fn a_run_whose_gates_quit_ends_at_rest(rt: HostRuntime) -> Result<(), Fail> {
+    let mut gates = Vec::new(rt.alloc());
+    gates.push(Patience { tries: 1_000 })?;
+    gates.push(Patience { tries: 1_000 })?;
+    let log = run(&rt, rt.alloc(), WAITING, gates)?;
+    assert!(rt; log.end() == End::Rest);
+    assert_eq!(rt; log.bits(), 11);
+    assert_eq!(rt; counts(&log, 0)?, (1, 0, 0));
+    assert_eq!(rt; counts(&log, 1)?, (1, 0, 0));
+    Ok(())
+}
+
+/// Node 1's driver has ended before the first bit, which waits for it no longer. Its controller stays in reset.
+#[test]
+fn a_driver_that_has_ended_is_not_waited_for(rt: HostRuntime) -> Result<(), Fail> {
+    let gates = open_gates(rt.alloc(), 3)?;
+    let log = run(&rt, rt.alloc(), ENDED, gates)?;
+    assert!(rt; log.end() == End::Rest);
+    assert_eq!(rt; counts(&log, 0)?, (4, 0, 0));
+    assert_eq!(rt; counts(&log, 1)?, (0, 0, 0));
+    assert_eq!(rt; counts(&log, 2)?, (1, 0, 1));
+    Ok(())
+}
+
+#[test]
+fn there_is_a_gate_for_each_node(rt: HostRuntime) -> Result<(), Fail> {
+    let plan = read_plan(rt.alloc(), PASSING.as_bytes())?;
+    let gates = open_gates(rt.alloc(), 1)?;
+    match run_threads(&rt, rt.alloc(), &plan, gates) {
+        Err(RunFault::GateCount) => Ok(()),
+        _ => Err("not the fault that there isn't one gate for each node")?,
+    }
+}
