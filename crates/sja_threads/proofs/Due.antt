@@ -25,9 +25,11 @@ AllGrow old new = (node : ℕ) → node < length old → Grows (journal_at old n
 pub due_kept : (bits : ℕ) (old new : List (List Entry)) → length new ≡ length old → AllGrow old new →
     AllDue bits old → AllDue bits new
 due_kept bits old new count grow due i less =
-    let w = due i less in
-    (w.0, (let few = w.1 in omega (arith, few, count)),
-    works_grows (journal_at old w.0) (journal_at new w.0) i (grow w.0 w.1) w.2)
+    let w = due i less in (
+      w.0,
+      (let few = w.1 in omega (arith, few, count)),
+      works_grows (journal_at old w.0) (journal_at new w.0) i (grow w.0 w.1) w.2,
+    )
 
 earlier_or_last : (i n : ℕ) → i < n + 1 → (i < n) ⊎ (i ≡ n)
 earlier_or_last i n h = grind arith

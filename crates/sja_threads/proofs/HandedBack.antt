@@ -1,32 +1,28 @@
 -- A run that is over.
-use Rattle.std.proofs.Common.{◌≡◌, ℕ, zero, suc, ◌+◌, ◌*◌, ◌<◌, ◌≤◌, Bool, List, [], ◌∷◌, length, replicate, refl, sym, ap, ◌∙◌, subst, arith}
+use Rattle.std.proofs.Common.{◌≡◌, ℕ, zero, suc, ◌+◌, ◌*◌, ◌<◌, Bool, List, [], ◌∷◌, length, replicate, refl, sym, ap, ◌∙◌, subst, arith}
 use Rattle.std.specs.Prelude.{slice_index_or}
 use Rattle.std.proofs.lemmas.List.{length-replicate}
 use Rattle.sja_link.specs.declared.entry.Entry.{Entry}
-use Rattle.sja_link.specs.Accounts.{Account, account}
+use Rattle.sja_link.specs.Accounts.{account}
 use Rattle.sja_link.specs.Lists.{nothing_yet}
 use Rattle.sja_link.specs.Parts.{part}
 use Rattle.sja_link.specs.Carried.{taken_of}
 use Rattle.sja_rings.specs.declared.ring_bus.RingBus.{RingBus}
 use Rattle.sja_rings.specs.declared.ring_driver.RingDriver.{RingDriver}
-use Rattle.sja_rings.specs.Ends.{BusLists, DriverLists, SameBus, SameDriver, OneLink, link_of_bus}
+use Rattle.sja_rings.specs.Ends.{BusLists, DriverLists, SameBus, SameDriver, OneLink}
 use Rattle.sja_plan.specs.Plan.{PlanValue}
-use Rattle.sja_script.specs.declared.step.Step.{Step}
 use Rattle.sja_driver.specs.Deeds.{Deed, AreDeeds}
-use Rattle.sja_driver.specs.Holding.{EachRelated, HoldsBy}
-use Rattle.sja_driver.specs.LoggedDrivers.{driver_of, log_of}
-use Rattle.sja_driver.specs.Logs.{done_in}
+use Rattle.sja_driver.specs.Holding.{EachRelated}
 use Rattle.sja_bus.specs.Buses.{BusValue, new_bus}
-use Rattle.sja_bus.specs.Links.{EachRelated as EachLink, Kept, Numbered}
+use Rattle.sja_bus.specs.Links.{EachRelated as EachLink}
 use Rattle.sja_bus.specs.Wire.{journal_at}
-use Rattle.sja_bus.proofs.Lists.{each_length as links_length}
 use Rattle.sja_turns.specs.Serial.{steps_at, deeds_at}
 use Rattle.sja_threads.specs.declared.hand.Hand.{Hand}
 use Rattle.sja_threads.specs.declared.worked.Worked.{Worked}
 use Rattle.sja_threads.specs.Working.{AreUntouched}
-use Rattle.sja_threads.specs.Ended.{IsOverAt, IsOver, IsOverOf}
+use Rattle.sja_threads.specs.Ended.{IsOverAt, IsOverOf}
 use Rattle.sja_threads.specs.Inside.Making.{AreNewLinks, IsMade, AreMade}
-use Rattle.sja_threads.specs.Inside.Started.{HandsBack, Serves}
+use Rattle.sja_threads.specs.Inside.Started.{Serves}
 use Rattle.sja_threads.specs.Inside.Underway.{IsUnderWay}
 use Rattle.sja_threads.proofs.Places.{each_place, link_place}
 use Rattle.sja_threads.proofs.Works.{each_length}

@@ -1,23 +1,19 @@
 -- What the drivers' threads hand back.
-use Rattle.std.proofs.Common.{◌≡◌, ℕ, zero, suc, ◌+◌, ◌<◌, ◌≤◌, Bool, false, List, [], ◌∷◌, ◌++◌, length, map, refl, sym, ap, ◌∙◌, subst, arith}
+use Rattle.std.proofs.Common.{◌≡◌, ℕ, suc, ◌+◌, ◌<◌, Bool, List, [], ◌∷◌, length, sym, ap, ◌∙◌, subst, arith}
 use Rattle.std.specs.Prelude.{All, slice_index_or}
-use Rattle.sja_link.specs.declared.entry.Entry.{Entry}
 use Rattle.sja_rings.specs.declared.ring_bus.RingBus.{RingBus}
 use Rattle.sja_rings.specs.declared.ring_driver.RingDriver.{RingDriver}
-use Rattle.sja_rings.specs.Ends.{DriverLists, link_of_driver}
+use Rattle.sja_rings.specs.Ends.{link_of_driver}
 use Rattle.sja_plan.specs.Plan.{PlanValue}
-use Rattle.sja_script.specs.declared.step.Step.{Step}
-use Rattle.sja_driver.specs.Deeds.{Deed}
 use Rattle.sja_driver.specs.Holding.{EachRelated, Numbered}
 use Rattle.sja_driver.specs.Logs.{HasRoom}
-use Rattle.sja_turns.specs.Serial.{steps_at, deeds_at}
+use Rattle.sja_turns.specs.Serial.{steps_at}
 use Rattle.sja_threads.specs.declared.hand.Hand.{Hand}
 use Rattle.sja_threads.specs.declared.keeps.Keeps.{Keeps}
 use Rattle.sja_threads.specs.declared.worked.Worked.{Worked}
 use Rattle.sja_threads.specs.Inside.Making.{IsMade, AreMade}
 use Rattle.sja_threads.specs.Inside.Promised.{IsFor, IsKept}
 use Rattle.sja_threads.specs.Inside.Started.{IsHand, HandsBack, Serves}
-use Rattle.sja_threads.proofs.Places.{each_append}
 
 no_base : (a : ℕ) → 0 + a ≡ a
 no_base a = omega arith

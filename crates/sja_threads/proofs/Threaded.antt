@@ -1,5 +1,5 @@
 -- What is promised of a run in threads, of a run that is over.
-use Rattle.std.proofs.Common.{◌≡◌, ℕ, zero, suc, ◌<◌, Bool, false, List, [], ◌∷◌, length, ◌*◌, sym, ap, ◌∙◌, subst, arith, inl, inr}
+use Rattle.std.proofs.Common.{◌≡◌, ℕ, ◌<◌, Bool, false, List, length, ◌*◌, sym, ap, ◌∙◌, subst, arith, inl, inr}
 use Rattle.std.specs.Prelude.{◌⊎◌, Result, Ok, Err, IfOk, IfErr, slice_index_or}
 use Rattle.sja_turns.specs.declared.run_fault.RunFault.{RunFault}
 use Rattle.sja_turns.specs.declared.run_fault.RunFault.TheVariants.{Memory, GateCount, Unsettled}
@@ -29,7 +29,7 @@ use Rattle.sja_threads.specs.Threads.{IsThreadedRun}
 use Rattle.sja_threads.specs.Inside.Joined.{IsJoined, IsEnding}
 use Rattle.sja_threads.specs.Inside.Making.{IsMade, AreMade}
 use Rattle.sja_threads.specs.Inside.Underway.{IsUnderWay, IsRunOut}
-use Rattle.sja_threads.proofs.HandedBack.{Done, all_done, is_over, some_at}
+use Rattle.sja_threads.proofs.HandedBack.{all_done, is_over, some_at}
 use Rattle.sja_threads.proofs.Same.{bus_trans}
 
 -- once all threads are joined

@@ -1,15 +1,14 @@
 -- The bus of a run in threads from one turn to the next.
-use Rattle.std.proofs.Common.{◌≡◌, ℕ, ◌+◌, ◌*◌, ◌<◌, ◌≤◌, Bool, true, false, List, [], length, replicate, refl, sym, ap, ◌∙◌, subst, arith}
-use Rattle.std.specs.Prelude.{None, slice_index_or}
+use Rattle.std.proofs.Common.{◌≡◌, ℕ, ◌+◌, ◌<◌, Bool, true, false, List, length, sym, ap, ◌∙◌, subst, arith}
+use Rattle.std.specs.Prelude.{None}
 use Rattle.sja_link.specs.declared.entry.Entry.{Entry}
-use Rattle.sja_link.specs.Accounts.{Account, account}
 use Rattle.sja_link.specs.Records.{record_of}
 use Rattle.sja_rings.specs.declared.ring_bus.RingBus.{RingBus}
 use Rattle.sja_rings.specs.Ends.{BusLists, SameBus, link_of_bus}
 use Rattle.sja_plan.specs.Plan.{PlanValue}
 use Rattle.sja_regs.specs.declared.bus_turn.BusTurn.{BusTurn}
 use Rattle.sja_regs.specs.declared.orders.Orders.{Orders}
-use Rattle.sja_bus.specs.Buses.{BusValue, EachJournal, KeepsAll, IsBit, new_bus}
+use Rattle.sja_bus.specs.Buses.{BusValue, EachJournal, KeepsAll, IsBit}
 use Rattle.sja_bus.specs.Lawful.{IsBusRun}
 use Rattle.sja_bus.specs.Links.{EachRelated}
 use Rattle.sja_bus.specs.OneBit.{HasItems}

@@ -65,5 +65,5 @@ module _ (orders_are : Orders → Type 0) (was_told : BusTurn → Type 0) (was_k
   bit_grows = (
     entries_of_items b.opens.items.items ++ es,
     from_taken ∙ ap (λ (l : List Entry). l ++ es) b.opens.items.whole
-    ∙ append_assoc j (entries_of_items b.opens.items.items) es,
+        ∙ append_assoc j (entries_of_items b.opens.items.items) es,
   )

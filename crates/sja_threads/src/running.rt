@@ -120,15 +120,7 @@ fn end_run<G: Gate, R: Wait>(
     } = joined;
     let mut bus = bus;
     let mut links = links;
-    match run_after(
-        rt,
-        plan,
-        &mut bus,
-        links.as_mut_slice(),
-        ports,
-        run,
-        spent,
-    ) {
+    match run_after(rt, plan, &mut bus, links.as_mut_slice(), ports, run, spent) {
         Ok((bits, end)) => finish_run(alloc, plan, bus, bits, links, workeds, end),
         Err(fault) => Err(RunFault::Bus(fault)),
     }

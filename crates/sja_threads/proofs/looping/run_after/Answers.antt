@@ -1,4 +1,4 @@
-use Rattle.std.proofs.Common.{rules, ◌≡◌, ◌≤◌, ◌+◌, ap, sym, ◌∙◌, subst, arith}
+use Rattle.std.proofs.Common.{subst, arith}
 use Rattle.sja_rings.specs.Ends.{SameBus}
 use Rattle.sja_bus.proofs.Lists.{each_refl, each_trans}
 use Rattle.sja_threads.specs.declared.moving.Move.{Move}

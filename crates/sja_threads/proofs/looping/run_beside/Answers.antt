@@ -1,4 +1,4 @@
-use Rattle.std.proofs.Common.{◌≡◌, ◌+◌, true, arith}
+use Rattle.std.proofs.Common.{true, arith}
 use Rattle.sja_rings.specs.Ends.{SameBus}
 use Rattle.sja_bus.proofs.Lists.{each_refl, each_trans}
 use Rattle.sja_threads.proofs.Same.{bus_refl, bus_trans}

@@ -1,4 +1,4 @@
-use Rattle.std.proofs.Common.{◌≡◌, ◌≤◌, true, length}
+use Rattle.std.proofs.Common.{◌≤◌, length}
 use Rattle.sja_rings.specs.Ends.{SameBus}
 use Rattle.sja_bus.specs.Links.{EachRelated}
 use Rattle.sja_threads.specs.Inside.Underway.{HasRun}

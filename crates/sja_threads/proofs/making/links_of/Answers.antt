@@ -1,10 +1,9 @@
-use Rattle.std.proofs.Common.{◌≡◌, ◌+◌, ◌<◌, List, [], ◌∷◌, ◌++◌, length, suc, sym, ap, ◌∙◌, subst, arith}
+use Rattle.std.proofs.Common.{◌+◌, List, [], ◌∷◌, ◌++◌, length, sym, ap, ◌∙◌, subst, arith}
 use Rattle.std.specs.Prelude.{slice_index_or}
 use Rattle.std.proofs.lemmas.List.{length-append, get_or_append_left}
-use Rattle.sja_link.specs.declared.link_id.LinkId.{LinkId}
 use Rattle.sja_rings.specs.declared.ring_bus.RingBus.{RingBus}
 use Rattle.sja_rings.specs.declared.ring_driver.RingDriver.{RingDriver}
-use Rattle.sja_threads.specs.Inside.Making.{IsNewBus, IsNewDriver, AreNewLinks}
+use Rattle.sja_threads.specs.Inside.Making.{AreNewLinks}
 use Rattle.sja_threads.proofs.Pairs.{links_push, new_bus, new_driver}
 use Rattle.sja_threads.proofs.making.links_of.Goals as goal
 

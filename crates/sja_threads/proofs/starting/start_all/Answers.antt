@@ -2,7 +2,7 @@ use Rattle.std.proofs.Common.{rules, ◌≡◌, ◌∷◌, drop, sym, ◌∙◌,
 use Rattle.std.specs.Vec.Iter.{into_iter_items}
 use Rattle.sja_threads.specs.Inside.Promised.{IsFor}
 use Rattle.sja_threads.proofs.Places.{started_next, rest_next}
-use Rattle.sja_threads.proofs.Returned.{hand_first, hand_rest}
+use Rattle.sja_threads.proofs.Returned.{hand_rest}
 use Rattle.sja_threads.proofs.starting.start_all.Goals as goal
 
 pub loop-hand-preserved : goal.loop-hand-preserved

@@ -1,10 +1,9 @@
-use Rattle.std.proofs.Common.{rules, ◌≡◌, ◌≤◌, List, length, map, vec_len, refl, sym, ◌∙◌, subst, arith}
+use Rattle.std.proofs.Common.{rules, ◌≡◌, List, length, map, vec_len, sym, ◌∙◌, subst, arith}
 use Rattle.std.specs.Vec.{with_items}
 use Rattle.std.proofs.lemmas.List.{length-map, with_items_is}
 use Rattle.sja_rings.specs.declared.ring_bus.RingBus.{RingBus}
 use Rattle.sja_rings.specs.Ends.{SameBus}
 use Rattle.sja_bus.specs.Links.{EachRelated}
-use Rattle.sja_turns.specs.declared.run_fault.RunFault.{RunFault}
 use Rattle.sja_turns.specs.declared.run_fault.RunFault.TheVariants.{GateCount, Thread}
 use Rattle.sja_threads.specs.Inside.Promised.{IsFor}
 use Rattle.sja_threads.specs.Inside.Underway.{HasRun}
