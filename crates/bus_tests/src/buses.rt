@@ -11,7 +11,6 @@ mod lawless;
 mod lawless_ends;
 mod listening;
 mod places;
-mod ready;
 mod refused_memory;
 mod rig;
 mod self_reception;

@@ -3,8 +3,7 @@
 ghost use Rattle.std.specs.Prelude.{◌≡◌, length};
 
 use super::given::script_of;
-use super::ready::are_links_of;
-use sja_bus::{Bus, BusFault, NodeLog, SerialBoard};
+use sja_bus::{Bus, BusFault, NodeLog, SerialBoard, are_links_of};
 use sja_link::{BusEnd, Down, LinkId, Up};
 use std::alloc::Global;
 use std::test::Fail;

@@ -3,8 +3,7 @@
 ghost use Rattle.std.specs.Prelude.{◌≡◌, length};
 
 use super::given::{plain, request, script_of, verdicts_in};
-use super::ready::are_links_of;
-use sja_bus::{Bus, BusFault, SerialBoard, serial_links};
+use sja_bus::{Bus, BusFault, SerialBoard, are_links_of, serial_links};
 use sja_link::{BusEnd, DequeLink, Down, DriverEnd, LinkId, Up};
 use std::alloc::Global;
 use std::test::Fail;

@@ -34,5 +34,5 @@ returns-in-Err-OutOfMemory-clause-answered g c = λ r _ _ _ told.
     )
 
 -- only words that ask for a run have the input read
-pub returns-in-Ok-clause-unread : goal.returns-in-Ok-clause-unread
-returns-in-Ok-clause-unread g c = only_runs_read _ _ _ c.in-Ok.ensures.ok c.reply.ensures.unread
+pub returns-in-Ok-2-clause-unread : goal.returns-in-Ok-2-clause-unread
+returns-in-Ok-2-clause-unread g c = only_runs_read _ _ _ c.in-Ok.ensures.ok c.reply.ensures.unread
