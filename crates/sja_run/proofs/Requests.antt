@@ -1,14 +1,13 @@
 -- What words ask for, and what becomes of a run in threads.
 use Rattle.std.proofs.Common.{◌≡◌, ◌⊎◌, ℕ, Bool, List, Option, Some, true, false, refl, sym, inl, inr}
 use Rattle.std.specs.Io.KnownBytes.{Keeps}
-use Rattle.clap.specs.Words.{Text}
 use Rattle.sja_words.specs.Words.{Request, ParsesAs, encode, decode, filter, arbitrate, run, wave}
 use Rattle.sja_run.specs.declared.refusal.Refusal.TheVariants.{OutOfMemory}
 use Rattle.sja_run.specs.Answer.{Shows, IsLeft}
 use Rattle.sja_run.specs.Input.{ReadsFew}
 
 -- words ask for one thing
-pub asks_one : (words : List Text) (r q : Request) → ParsesAs words r → ParsesAs words q → r ≡ q
+pub asks_one : (words : List (List ℕ)) (r q : Request) → ParsesAs words r → ParsesAs words q → r ≡ q
 asks_one words r q one other = cc (one.asks, other.asks)
 
 -- it is a run in threads, or it isn't
