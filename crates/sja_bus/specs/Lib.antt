@@ -18,7 +18,8 @@ pub mod Boards
 pub mod Buses
 -- ---- why a bus stops
 pub mod Reasons
--- ---- bits that are run at once
+-- ---- bits that are run at once, and one after another
 pub mod Stretches
+pub mod Several
 -- ---- how the code keeps a bus: definitions of the private contracts alone
 pub mod Inside
