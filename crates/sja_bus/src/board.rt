@@ -26,6 +26,13 @@ pub trait Board {
     /// The port of this node is as it was.
     ghost kept: { Self → Self → ℕ → Type 0 };
 
+    /// What holds of every board.
+    ghost facts: { Self → Type 0 };
+
+    /// What holds of every board. It does nothing: a caller calls it for its contract.
+    fn keeps_its_facts(&self)
+        ensures { facts self.now };
+
     /// What the driver of this node wants of the bus.
     fn orders(&self, node: u8) -> Orders
         requires { node < ports self.now }

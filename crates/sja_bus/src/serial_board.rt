@@ -1,6 +1,8 @@
 //! The ports of a bus in one thread.
 
-ghost use Rattle.std.specs.Prelude.{◌≡◌, replicate, IfOk};
+ghost use Rattle.std.specs.Prelude.{◌≡◌, ◌<◌, ℕ, replicate, length, slice_index_or, IfOk};
+ghost use Rattle.sja_regs.specs.declared.registers.Registers.{Registers};
+ghost use Rattle.sja_regs.specs.Facts.{RegisterFacts};
 ghost use Rattle.sja_regs.specs.Registers.{at_power_on};
 
 use super::board::Board;
@@ -31,10 +33,21 @@ impl SerialBoard {
     }
 }
 
+/// What holds of every port, of each of these. It does nothing.
+fn keep_their_facts(ports: &[Port])
+    ensures { (node : ℕ) (d : Registers) → node < length ports.now → RegisterFacts (slice_index_or ports.now node d) }
+{
+    for node in 0..ports.len() {
+        ports[node].keeps_its_facts();
+    }
+}
+
 impl Board for SerialBoard {
-    ghost use Rattle.std.specs.Prelude.{◌≡◌, ◌≢◌, ◌<◌, ℕ, List, length, refl};
+    ghost use Rattle.std.specs.Prelude.{◌≡◌, ◌≢◌, ◌<◌, ℕ, List, length, slice_index_or, refl};
     ghost use Rattle.std.proofs.Common.{◌∙◌, sym, ap};
     ghost use Rattle.sja_regs.specs.Turns.{after_turn};
+    ghost use Rattle.sja_regs.specs.declared.registers.Registers.{Registers};
+    ghost use Rattle.sja_regs.specs.Facts.{RegisterFacts};
     ghost use Rattle.sja_bus.specs.Boards.{HasOrders, ShowsTurn, WasTold, WasClosed, WasKept};
 
     ghost ports = { λ b. length b.ports.items };
@@ -48,6 +61,13 @@ impl Board for SerialBoard {
     ghost shut = { λ a b node. WasClosed a.ports.items b.ports.items node };
 
     ghost kept = { λ a b node. WasKept a.ports.items b.ports.items node };
+
+    ghost facts = { λ b. (node : ℕ) (d : Registers) → node < length b.ports.items →
+        RegisterFacts (slice_index_or b.ports.items node d) };
+
+    fn keeps_its_facts(&self) {
+        keep_their_facts(self.ports.as_slice());
+    }
 
     fn orders(&self, node: u8) -> Orders {
         self.ports[node as usize].orders()

@@ -30,6 +30,10 @@ impl<'a, R: Wait> Board for LockBoard<'a, R> {
 
     ghost kept = { λ a b node. Unit {0} };
 
+    ghost facts = { λ b. Unit {0} };
+
+    fn keeps_its_facts(&self) {}
+
     fn orders(&self, node: u8) -> Orders {
         self.ports[node as usize].lock(self.rt).orders()
     }
