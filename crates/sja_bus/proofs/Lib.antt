@@ -28,3 +28,4 @@ pub mod Stretches
 pub mod QuietBits
 pub mod Logs
 pub mod Boards
+pub mod SoFar

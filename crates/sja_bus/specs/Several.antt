@@ -1,5 +1,5 @@
 -- Bits of a bus, one after another: between them no driver is asked for anything (this project's own rule).
-use Rattle.std.specs.Prelude.{◌≡◌, ◌+◌, ◌<◌, ℕ, suc, true, false, Bool, List, length, Option, None}
+use Rattle.std.specs.Prelude.{◌≡◌, ◌+◌, ◌<◌, ℕ, suc, true, false, Bool, List, length, None}
 use Rattle.sja_link.specs.declared.entry.Entry.{Entry}
 use Rattle.sja_link.specs.Lists.{Lists}
 use Rattle.sja_link.specs.Records.{record_of}

@@ -28,6 +28,7 @@ mod putting;
 mod resting;
 mod seat;
 mod serial_board;
+mod several;
 mod stretch;
 mod struck_bits;
 mod struck_nodes;
