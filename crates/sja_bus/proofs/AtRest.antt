@@ -178,15 +178,14 @@ opens_after has_orders n s o has ready rest =
       applied = λ yes. applied_at_rest s.node j rest.rests (sound_after n s ready rest).follows;
     }
 
-pub news_after : (n : ℕ) (s : Seat) → OpensNews (after_bits n s) (after_bits n s)
-news_after n s =
-    let t = after_bits n s in let j = t.journal.entries in record {
-      taken = j;
-      items = items_none j;
-      aborts = no_abort j;
-      still = λ e. (e, refl);
-      drops = λ ne. drops_none j t.news ne;
-    }
+pub news_none : (s : Seat) → OpensNews s s
+news_none s = record {
+  taken = s.journal.entries;
+  items = items_none s.journal.entries;
+  aborts = no_abort s.journal.entries;
+  still = λ e. (e, refl);
+  drops = λ ne. drops_none s.journal.entries s.news ne;
+}
 
 -- one bit more was entered
 pub after_step : (n : ℕ) (s old new : Seat) → old ≡ after_bits n s → new ≡ record old { journal = new.journal } → new.journal.room ≡ old.journal.room →

@@ -1,6 +1,7 @@
 -- The level that all nodes drive together.
-use Rattle.std.proofs.Common.{◌≡◌, ℕ, zero, suc, ◌<◌, ◌≤◌, List, [], ◌∷◌, length, drop, refl, arith}
-use Rattle.std.specs.Prelude.{slice_index_or}
+use Rattle.std.proofs.Common.{◌≡◌, ℕ, zero, suc, ◌<◌, ◌≤◌, List, [], ◌∷◌, ◌++◌, ◌+◌, length, take, drop, refl, sym, ap, ◌∙◌, arith}
+use Rattle.std.specs.Prelude.{slice_index_or, slice_set}
+use Rattle.std.proofs.lemmas.List.{map-append, take_more_set}
 use Rattle.can_bits.specs.declared.level.Level.{Level}
 use Rattle.can_bits.specs.declared.level.Level.TheVariants.{Dominant, Recessive}
 use Rattle.sja_bus.specs.declared.seat.Seat.{Seat}
@@ -37,3 +38,22 @@ none_left (x ∷ seats) (suc k) few = none_left seats k (omega arith)
 pub not_dominant : (x : Level) → (x ≡ Dominant → ⊥) → x ≡ Recessive
 not_dominant Dominant h = absurd (h refl)
 not_dominant Recessive h = refl
+
+-- ---- so far
+
+wired_last : (levels : List Level) (x : Level) → wired (levels ++ x ∷ []) ≡ wired (wired levels ∷ x ∷ [])
+wired_last [] x = refl
+wired_last (Dominant ∷ levels) x = refl
+wired_last (Recessive ∷ levels) x = wired_last levels x
+
+pub wired_alone : (x : Level) → wired (x ∷ []) ≡ x
+wired_alone Dominant = refl
+wired_alone Recessive = refl
+
+-- one more had its bit
+pub level_now : (seats : List Seat) (k : ℕ) (new : Seat) (before now : Level) → k < length seats → before ≡ wired (driven_by (take k seats)) → now ≡ wired (before ∷ new.drives ∷ []) →
+    now ≡ wired (driven_by (take (k + 1) (slice_set seats k new)))
+level_now seats k new before now few was is =
+    is ∙ ap (λ l. wired (l ∷ new.drives ∷ [])) was ∙ sym (wired_last (driven_by (take k seats)) new.drives)
+    ∙ ap wired (sym (map-append (λ (s : Seat). s.drives) (take k seats) (new ∷ [])))
+    ∙ ap (λ l. wired (driven_by l)) (sym (take_more_set seats k new few))

@@ -27,5 +27,6 @@ pub mod AtRest
 pub mod Stretches
 pub mod QuietBits
 pub mod Logs
+pub mod RunningOn
 pub mod Boards
 pub mod SoFar

@@ -32,7 +32,7 @@ use Rattle.sja_bus.proofs.Lists.{set_here}
 use Rattle.sja_bus.proofs.Many.{or_same}
 use Rattle.sja_bus.proofs.Running.{journal_is, untold_is, count_is}
 use Rattle.sja_bus.proofs.Journals.{is_bit, wired_row}
-use Rattle.sja_bus.proofs.AtRest.{after_none, ready_after, turns_after, opens_after, news_after}
+use Rattle.sja_bus.proofs.AtRest.{after_none, ready_after, turns_after, opens_after, news_none}
 
 -- ---- all seats after so many bits
 
@@ -105,7 +105,7 @@ module _ (orders_are : ℕ → Orders → Type 0) (was_told : ℕ → BusTurn �
         subst P (sym (after_at n seats m s (here n m few))) (opens_after (orders_are m) n (slice_index_or seats m s) o.0 o.1 (ready m s (here n m few)).ready (rest.each m s (here n m few)));
     news = λ m s few.
         let P : Seat → Type 0 = λ x. SeatOpensNews m x x in
-        subst P (sym (after_at n seats m s (here n m few))) (news_after n (slice_index_or seats m s));
+        subst P (sym (after_at n seats m s (here n m few))) (news_none (after_bits n (slice_index_or seats m s)));
     is_level = after_wired n seats (λ k s few. (rest.each k s few).drives);
     turns = λ m s few.
         let P : Seat → Type 0 = λ x. SeatTurns was_told was_kept nobody Recessive m x (slice_index_or (all_after (suc n) seats) m s) in

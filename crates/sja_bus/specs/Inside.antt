@@ -8,3 +8,4 @@ pub mod Rows
 pub mod Whole
 pub mod Ending
 pub mod Idling
+pub mod RunningOn

@@ -1,6 +1,6 @@
 //! What all nodes of a bus do in one bit, node after node.
 
-ghost use Rattle.std.specs.Prelude.{◌≡◌, ◌*◌, ◌<◌, ◌≤◌, ◌+◌, if◌then◌else◌, ℕ, length, OnOk, IfErr, ◌⊎◌};
+ghost use Rattle.std.specs.Prelude.{◌≡◌, ◌*◌, ◌<◌, ◌≤◌, ◌+◌, if◌then◌else◌, ℕ, false, [], ◌∷◌, length, IfOk, OnOk, IfErr, ◌⊎◌};
 ghost use Rattle.sja_regs.specs.declared.bus_turn.BusTurn.{BusTurn as Turn};
 ghost use Rattle.can_bits.specs.Digits.{opposite};
 ghost use Rattle.sja_bus.specs.Wire.{wired};
@@ -12,6 +12,7 @@ ghost use Rattle.sja_bus.specs.Inside.Refusing.{HaveRoom, SeatRefuses, SeatFull,
 
 use super::board::Board;
 use super::bus_fault::BusFault;
+use super::row_end::RowEnd;
 use super::seat::{LINKS, Seat};
 use super::struck_nodes::StruckNodes;
 use can_bits::Level;
@@ -96,8 +97,27 @@ fn struck_level(level: Level) -> Level
     }
 }
 
+/// Whether one is so.
+#[inline(always)]
+fn either(a: bool, b: bool) -> bool
+    ensures { result ≡ false → (a ≡ false) × (b ≡ false) }
+{
+    a || b
+}
+
+/// What two levels make on the bus.
+#[inline(always)]
+fn both(a: Level, b: Level) -> Level
+    ensures { result ≡ wired (a ∷ b ∷ []) }
+{
+    match a {
+        Level::Dominant => a,
+        Level::Recessive => b,
+    }
+}
+
 /// Each node has its bit, and sees this level, or the other one where it is struck. Its port is told of it where there
-/// is something to tell.
+/// is something to tell. Answers what all drive together then, and whether some port was told.
 #[inline(always)]
 pub(crate) fn tick_all<E: BusEnd, B: Board>(
     seats: &mut [Seat],
@@ -105,7 +125,7 @@ pub(crate) fn tick_all<E: BusEnd, B: Board>(
     level: Level,
     struck: StruckNodes,
     board: &mut B,
-) -> Result<(), BusFault>
+) -> Result<RowEnd, BusFault>
     requires seated { AreSeated E.link seats.old links.old (B.ports board.old) }
     ensures sames { EachRelated E.same links.old links.new }
     ensures ready { OnOk result (AreReady seats.new) }
@@ -114,13 +134,19 @@ pub(crate) fn tick_all<E: BusEnd, B: Board>(
     ensures turns { OnOk result (EachSeat
         (SeatTurns (B.told board.old board.new) (B.kept board.old board.new) struck level) seats.old seats.new) }
     ensures rooms { OnOk result ((n : ℕ) → HaveRoom n seats.old → HaveRoom n seats.new) }
+    ensures level { IfOk result (λ end. end.level ≡ wired (driven_by seats.new)) }
+    ensures untold { IfOk result (λ end. end.told ≡ false → board.new ≡ board.old) }
     ensures broken { IfErr result (λ f. SeatBreaks E.stands E.full seats.old seats.new links.old f) }
 {
+    let mut next = Level::Recessive;
+    let mut told = false;
     for k in 0..seats.len() {
         let sees = seen(level, struck.has(k));
-        seats[k].tick(links, LINKS * k, sees, board)?;
+        let is_told = seats[k].tick(links, LINKS * k, sees, board)?;
+        told = either(told, is_told);
+        next = both(next, seats[k].drives);
     }
-    Ok(())
+    Ok(RowEnd { level: next, told })
 }
 
 /// One bit of all nodes, in which these are struck: what the links show is taken and what stands is aborted, all drive,
@@ -146,5 +172,6 @@ pub(crate) fn bit_all<E: BusEnd, B: Board>(
 {
     open_all(seats, links, board)?;
     let level = level_of(seats);
-    tick_all(seats, links, level, struck, board)
+    tick_all(seats, links, level, struck, board)?;
+    Ok(())
 }

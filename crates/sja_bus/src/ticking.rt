@@ -10,7 +10,7 @@ use can_bits::Level;
 use sja_link::BusEnd;
 
 impl Seat {
-    ghost use Rattle.std.specs.Prelude.{◌≡◌, ◌≢◌, ◌<◌, ◌≤◌, ◌+◌, ℕ, length, OnOk, IfOk, IfErr};
+    ghost use Rattle.std.specs.Prelude.{◌≡◌, ◌≢◌, ◌<◌, ◌≤◌, ◌+◌, ℕ, Ok, false, length, OnOk, IfOk, IfErr};
     ghost use Rattle.can_node.specs.Stands.{Samples};
     ghost use Rattle.sja_link.specs.BusLedgers.{link_of};
     ghost use Rattle.sja_bus.specs.Links.{Goes, EachRelated, AreOf};
@@ -81,7 +81,7 @@ impl Seat {
     }
 
     /// One bit of the node, which sees this level. Its port is told of it, unless nothing happened and nothing is left
-    /// to be told.
+    /// to be told. Answers whether it was.
     #[inline(always)]
     pub(crate) fn tick<E: BusEnd, B: Board>(
         &mut self,
@@ -89,7 +89,7 @@ impl Seat {
         base: usize,
         seen: Level,
         board: &mut B,
-    ) -> Result<(), BusFault>
+    ) -> Result<bool, BusFault>
         requires room { base + 8 ≤ length links.old }
         requires ids { AreOf E.link (link_of self.old.ledger).node links.old base }
         requires ready { IsReady self.old }
@@ -103,6 +103,7 @@ impl Seat {
         ensures others { (k : ℕ) → k ≢ (link_of self.old.ledger).node → B.kept board.old board.new k }
         ensures turns { OnOk result (Turns (B.told board.old board.new (link_of self.old.ledger).node)
             (B.kept board.old board.new (link_of self.old.ledger).node) seen self.old self.new) }
+        ensures untold { result ≡ Ok false → board.new ≡ board.old }
         ensures broken { IfErr result (λ f. IsBrokenFor E.stands E.full (link_of self.old.ledger).node self.old.journal.room
             self.old.journal.entries self.new.journal.entries links.old base f) }
     {
@@ -110,9 +111,10 @@ impl Seat {
             if self.node.sample_quietly(seen) {
                 self.enter_bit(self.drives, seen)?;
                 self.drives = self.node.drive();
-                return Ok(());
+                return Ok(false);
             }
         }
-        self.tick_fully(links, base, seen, board)
+        self.tick_fully(links, base, seen, board)?;
+        Ok(true)
     }
 }

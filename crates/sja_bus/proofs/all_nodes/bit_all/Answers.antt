@@ -1,5 +1,7 @@
-use Rattle.std.proofs.Common.{refl, arith, inr}
-use Rattle.sja_bus.proofs.Lists.{each_trans, ok_map, err_map}
+use Rattle.std.proofs.Common.{◌≡◌, refl, arith, rules, inr}
+use Rattle.std.specs.Prelude.{◌⊎◌, Err}
+use Rattle.sja_bus.specs.Inside.Refusing.{SeatRefuses, SeatFull, SeatStops}
+use Rattle.sja_bus.proofs.Lists.{each_trans, err_is}
 use Rattle.sja_bus.proofs.Many.{goes_all_trans, numbered_kept}
 use Rattle.sja_bus.proofs.all_nodes.bit_all.Goals as goal
 
@@ -20,28 +22,27 @@ tick_all-requires g c =
 pub returns-clause-sames : goal.returns-clause-sames
 returns-clause-sames g c = each_trans g.E.BusEnd.same g.met.E.BusEnd.same_trans c.args.links.now c.open_all.new.links c.tick_all.new.links c.open_all.ensures.sames c.tick_all.ensures.sames
 
+pub returns-in_err-tick_all-clause-sames : goal.returns-in_err-tick_all-clause-sames
+returns-in_err-tick_all-clause-sames g c = each_trans g.E.BusEnd.same g.met.E.BusEnd.same_trans c.args.links.now c.open_all.new.links c.tick_all.new.links c.open_all.ensures.sames c.tick_all.ensures.sames
+
 pub returns-clause-goes : goal.returns-clause-goes
 returns-clause-goes g c =
-    ok_map c.tick_all.result
-    (λ q. goes_all_trans g.E.BusEnd.same g.E.BusEnd.stands g.met.E.BusEnd.same_trans c.args.seats.now c.open_all.new.seats c.tick_all.new.seats c.args.links.now c.open_all.new.links c.tick_all.new.links c.open_all.auto.seats c.in_ok-open_all.ensures.goes q)
-    c.tick_all.ensures.goes
+    goes_all_trans g.E.BusEnd.same g.E.BusEnd.stands g.met.E.BusEnd.same_trans c.args.seats.now c.open_all.new.seats c.tick_all.new.seats c.args.links.now c.open_all.new.links c.tick_all.new.links
+    c.open_all.auto.seats c.in_ok-open_all.ensures.goes c.in_ok-tick_all.ensures.goes
 
 pub returns-clause-bit : goal.returns-clause-bit
-returns-clause-bit g c =
-    ok_map c.tick_all.result
-    (λ q. record {
-      opened = c.open_all.new.seats;
-      level = c.level_of-level.result;
-      count = c.open_all.auto.seats;
-      opens = c.in_ok-open_all.ensures.opens;
-      news = c.in_ok-open_all.ensures.news;
-      is_level = c.level_of-level.ensures;
-      turns = q;
-    })
-    c.tick_all.ensures.turns
+returns-clause-bit g c = record {
+  opened = c.open_all.new.seats;
+  level = c.level_of-level.result;
+  count = c.open_all.auto.seats;
+  opens = c.in_ok-open_all.ensures.opens;
+  news = c.in_ok-open_all.ensures.news;
+  is_level = c.level_of-level.ensures;
+  turns = c.in_ok-tick_all.ensures.turns;
+}
 
 pub returns-clause-rooms : goal.returns-clause-rooms
-returns-clause-rooms g c = ok_map c.tick_all.result (λ q. λ n h. q n (c.in_ok-open_all.ensures.rooms n h)) c.tick_all.ensures.rooms
+returns-clause-rooms g c = λ n h. c.in_ok-tick_all.ensures.rooms n (c.in_ok-open_all.ensures.rooms n h)
 
 pub returns-in_err-open_all-clause-board : goal.returns-in_err-open_all-clause-board
 returns-in_err-open_all-clause-board g c = (refl, λ k far. g.met.B.Board.kept_refl c.args.board.now k)
@@ -50,17 +51,25 @@ pub returns-clause-board : goal.returns-clause-board
 returns-clause-board g c =
     let seats = c.open_all.auto.seats in (c.tick_all.ensures.board.0, λ k far. c.tick_all.ensures.board.1 k (omega (arith, far, seats)))
 
-pub returns-clause-stops : goal.returns-clause-stops
-returns-clause-stops g c =
-    let did = c.in_ok-open_all.ensures in
-    err_map c.tick_all.result
-    (λ f b. inr (record {
+pub returns-in_err-tick_all-clause-board : goal.returns-in_err-tick_all-clause-board
+returns-in_err-tick_all-clause-board g c =
+    let seats = c.open_all.auto.seats in (c.tick_all.ensures.board.0, λ k far. c.tick_all.ensures.board.1 k (omega (arith, far, seats)))
+
+pub returns-in_err-tick_all-clause-stops : goal.returns-in_err-tick_all-clause-stops
+returns-in_err-tick_all-clause-stops g c =
+    let E = g.E.BusEnd in let O = g.B.Board.orders_are c.args.board.now in
+    let did = c.in_ok-open_all.ensures in let f = c.in_err-tick_all.field-0.0 in
+    let was = c.args.seats.now in let now = c.tick_all.new.seats in
+    let is : c.from_residual-in_err-tick_all.result ≡ Err f = search rules in
+    let P : _ → Type 0 = λ x. (SeatRefuses E.stands was now c.args.links.now c.tick_all.new.links x
+    ⊎ SeatFull E.stands was now c.args.links.now c.tick_all.new.links x) ⊎ SeatStops E.stands E.full O E.same was now c.args.links.now x in
+    err_is P c.from_residual-in_err-tick_all.result f is
+    (inr (record {
       opened = c.open_all.new.seats;
       between = c.open_all.new.links;
       count = c.open_all.auto.seats;
       opens = did.opens;
       goes = did.goes;
       rooms = did.rooms;
-      breaks = b;
+      breaks = c.in_err-tick_all.ensures.broken;
     }))
-    c.tick_all.ensures.broken

@@ -1,5 +1,4 @@
 use Rattle.std.proofs.Common.{◌≡◌, rules, refl, ap, ◌∙◌, subst}
-use Rattle.std.specs.Prelude.{OnOk}
 use Rattle.can_node.specs.declared.node.Node.{Node}
 use Rattle.can_node.specs.Stands.{DrivesNext, is_receiving}
 use Rattle.sja_link.specs.declared.entry.Entry.TheVariants.{Bit}
@@ -54,6 +53,6 @@ returns-clause-turns g c =
       | in-Nothing+else-sample_quietly w ↦ w.self-is ∙ ap (λ (n : Node). let x : Seat = record s { node = n } in x) (w.sample_quietly.ensures.same w.if-sample_quietly.false)
       | in_default w ↦ w.self-is
     ] in
-    let P : Seat → Type 0 = λ x. OnOk c.tick_fully.result (Turns (B.told c.args.board.now c.tick_fully.new.board (link_of x.ledger).node)
-    (B.kept c.args.board.now c.tick_fully.new.board (link_of x.ledger).node) c.args.seen x c.tick_fully.new.self) in
-    subst P same c.tick_fully.ensures.turns
+    let P : Seat → Type 0 = λ x. Turns (B.told c.args.board.now c.tick_fully.new.board (link_of x.ledger).node)
+    (B.kept c.args.board.now c.tick_fully.new.board (link_of x.ledger).node) c.args.seen x c.tick_fully.new.self in
+    subst P same c.in_ok-tick_fully.ensures.turns

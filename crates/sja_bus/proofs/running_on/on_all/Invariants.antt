@@ -1,0 +1,22 @@
+use Rattle.std.proofs.Common.{◌≡◌, ℕ, ◌+◌, ◌-◌, ◌≤◌}
+use Rattle.sja_bus.specs.Links.{EachRelated}
+use Rattle.sja_bus.specs.Several.{AreBits, IsOneBit, WorksIf}
+use Rattle.sja_bus.specs.Wire.{wired}
+use Rattle.sja_bus.specs.Inside.Refusing.{HaveRoom}
+use Rattle.sja_bus.specs.Inside.Rows.{IsBus, driven_by}
+use Rattle.sja_bus.specs.Inside.RunningOn.{moment_of}
+use Rattle.sja_bus.proofs.running_on.on_all.Given as goal
+
+-- the bits so far, in none of which a port was told anything
+abbrev pub invariant-loop-run : goal.invariant-loop-run
+invariant-loop-run g l = record {
+  level : l.level ≡ wired (driven_by l.seats);
+  board : l.board ≡ l.initial.board;
+  bus : IsBus l.struck.script (l.from + l.run) l.seats;
+  sames : EachRelated g.E.BusEnd.same l.initial.links l.links;
+  rooms : (n : ℕ) → HaveRoom n l.initial.seats → HaveRoom n l.seats;
+  bits : (left : ℕ) → l.most ≤ left →
+      AreBits (IsOneBit g.E.BusEnd.same g.E.BusEnd.stands g.B.Board.ports g.B.Board.facts g.B.Board.orders_are g.B.Board.told g.B.Board.kept) (WorksIf l.to_rest)
+      (moment_of l.struck.script l.from left l.initial.seats l.initial.links l.initial.board) l.run
+      (moment_of l.struck.script (l.from + l.run) (left - l.run) l.seats l.links l.board);
+}

@@ -1,0 +1,11 @@
+//! A bit of a bus that broke off.
+
+use super::bus_fault::BusFault;
+
+/// A bit that broke off, after others.
+#[derive(Debug, Drop)]
+pub(crate) struct BrokenOff {
+    /// How many bits were run before it.
+    pub(crate) after: u32,
+    pub(crate) fault: BusFault,
+}

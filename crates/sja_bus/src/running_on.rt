@@ -1,0 +1,171 @@
+//! Bits of a bus in which nothing is taken and nothing aborted.
+
+ghost use Rattle.std.specs.Prelude.{◌≡◌, ◌+◌, ◌-◌, ◌<◌, ◌≤◌, ℕ, true, false, length, slice_index_or, IfOk, OnOk, IfErr};
+ghost use Rattle.can_node.specs.Stands.{ShowsRest};
+ghost use Rattle.sja_bus.specs.declared.seat.Seat.{Seat as Seated};
+ghost use Rattle.sja_bus.specs.StrikesByBit.{IsAmong};
+ghost use Rattle.sja_bus.specs.Boards.{KeepsOthers};
+ghost use Rattle.sja_bus.specs.Buses.{BusValue};
+ghost use Rattle.sja_bus.specs.Links.{EachRelated};
+ghost use Rattle.sja_bus.specs.Reasons.{room_for};
+ghost use Rattle.sja_bus.specs.Several.{AreBits, BreaksOff, IsOneBit, WorksIf};
+ghost use Rattle.sja_bus.specs.Inside.Refusing.{HaveRoom};
+ghost use Rattle.sja_bus.specs.Inside.Rows.{AreReady, AreSeated, IsBus, journals_of};
+ghost use Rattle.sja_bus.specs.Inside.RunningOn.{NoneAborts, moment_of};
+
+use super::all_nodes::{level_of, tick_all};
+use super::board::Board;
+use super::broken_off::BrokenOff;
+use super::bus::Bus;
+use super::bus_fault::BusFault;
+use super::resting::all_rest;
+use super::seat::Seat;
+use super::struck_bits::StruckBits;
+use super::struck_nodes::StruckNodes;
+use sja_link::BusEnd;
+
+/// Whether no port wants an abort.
+fn none_aborts<B: Board>(seats: &[Seat], board: &B) -> bool
+    requires ready { AreReady seats.now }
+    requires ports { length seats.now ≤ B.ports board.now }
+    ensures { result ≡ true → NoneAborts (B.orders_are board.now) (length seats.now) }
+{
+    for k in 0..seats.len() {
+        if board.orders(seats[k].number()).abort {
+            return false;
+        }
+    }
+    true
+}
+
+/// Whether these are no nodes, and some node works, where that is asked for.
+#[inline(always)]
+fn goes_on(seats: &[Seat], struck: StruckNodes, to_rest: bool) -> bool
+    ensures none { result ≡ true → (node : ℕ) → IsAmong node struck → ⊥ }
+    ensures works { result ≡ true → to_rest ≡ true → (k : ℕ) × (k < length seats.now)
+        × ((s : Seated) → ShowsRest (slice_index_or seats.now k s).node false) }
+{
+    if !struck.is_empty() {
+        return false;
+    }
+    !(to_rest && all_rest(seats))
+}
+
+/// Bits of all nodes from this one on, at most so many: as far as no node is struck, with `to_rest` as long as some node
+/// works, and up to the first in which a port is told something. Answers how many.
+pub(crate) fn on_all<E: BusEnd, B: Board>(
+    seats: &mut [Seat],
+    links: &mut [E],
+    board: &mut B,
+    struck: &StruckBits,
+    from: u32,
+    most: u32,
+    to_rest: bool,
+) -> Result<u32, BrokenOff>
+    requires seated { AreSeated E.link seats.old links.old (B.ports board.old) }
+    requires orders { NoneAborts (B.orders_are board.old) (length seats.old) }
+    requires bus { IsBus struck.now.script from seats.old }
+    requires within { from + most ≤ struck.now.bits }
+    requires bits { struck.now.bits ≤ 200000 }
+    ensures sames { EachRelated E.same links.old links.new }
+    ensures others { KeepsOthers B.ports B.kept (length seats.old) board.old board.new }
+    ensures most { IfOk result (λ n. n ≤ most) }
+    ensures bus { IfOk result (λ n. IsBus struck.now.script (from + n) seats.new) }
+    ensures rooms { OnOk result ((n : ℕ) → HaveRoom n seats.old → HaveRoom n seats.new) }
+    ensures bits { IfOk result (λ n. (left : ℕ) → most ≤ left →
+        AreBits (IsOneBit E.same E.stands B.ports B.facts B.orders_are B.told B.kept) (WorksIf to_rest)
+        (moment_of struck.now.script from left seats.old links.old board.old) n
+        (moment_of struck.now.script (from + n) (left - n) seats.new links.new board.new)) }
+    ensures early { IfErr result (λ f. f.after < most) }
+    ensures breaks { IfErr result (λ f. (left : ℕ) (now : BusValue) → most ≤ left →
+        HaveRoom (room_for (from + left)) seats.old → now.journals ≡ journals_of seats.new →
+        BreaksOff E.stands E.full B.orders_are
+        (IsOneBit E.same E.stands B.ports B.facts B.orders_are B.told B.kept) (WorksIf to_rest) most
+        (moment_of struck.now.script from left seats.old links.old board.old)
+        (record { bus = now; links = links.new; board = board.new }) f.fault) }
+{
+    let mut level = level_of(seats);
+    for run in 0..most {
+        if !goes_on(seats, struck.at(from + run), to_rest) {
+            return Ok(run);
+        }
+        match tick_all(seats, links, level, StruckNodes::none(), board) {
+            Ok(end) => {
+                board.keeps_its_facts();
+                if end.told {
+                    return Ok(run + 1);
+                }
+                level = end.level;
+            }
+            Err(fault) => return Err(BrokenOff { after: run, fault }),
+        }
+    }
+    Ok(most)
+}
+
+impl Bus {
+    ghost use Rattle.std.specs.Prelude.{◌≡◌, ◌*◌, ◌≤◌, None, Some, length, OnOk, IfOk, IfErr};
+    ghost use Rattle.sja_bus.specs.Boards.{KeepsOthers};
+    ghost use Rattle.sja_bus.specs.Links.{EachRelated, Numbered};
+    ghost use Rattle.sja_bus.specs.Several.{AreBits, BreaksOff, IsOneBit, WorksIf};
+
+    /// Further bits, at most so many: none where an abort stands at some port, and else as far as no strike falls, with
+    /// `to_rest` as long as some node works, up to and with the first in which a port is told something. Answers how many.
+    ///
+    /// Nothing is taken from the links in them.
+    ///
+    /// Error: [`BusFault::Stuck`] or [`BusFault::JournalFull`], and then the same always. The bits before it count.
+    pub(crate) fn run_on<E: BusEnd, B: Board>(
+        &mut self,
+        links: &mut [E],
+        board: &mut B,
+        count: u32,
+        to_rest: bool,
+    ) -> Result<u32, BusFault>
+        requires count { length links.old ≡ 8 * length self.old.journals }
+        requires ids { Numbered E.link links.old }
+        requires ports { length self.old.journals ≤ B.ports board.old }
+        requires right { self.old.fault ≡ None }
+        requires most { count ≤ self.old.left }
+        ensures sames { EachRelated E.same links.old links.new }
+        ensures others { KeepsOthers B.ports B.kept (length self.old.journals) board.old board.new }
+        ensures script { self.new.script ≡ self.old.script }
+        ensures nodes { length self.new.journals ≡ length self.old.journals }
+        ensures most { IfOk result (λ n. n ≤ count) }
+        ensures bits { IfOk result (λ n.
+            AreBits (IsOneBit E.same E.stands B.ports B.facts B.orders_are B.told B.kept) (WorksIf to_rest)
+            (record { bus = self.old; links = links.old; board = board.old }) n
+            (record { bus = self.new; links = links.new; board = board.new })) }
+        ensures right { OnOk result (self.new.fault ≡ None) }
+        ensures fault { IfErr result (λ f. self.new.fault ≡ Some f) }
+        ensures reason { IfErr result (λ f. BreaksOff E.stands E.full B.orders_are
+            (IsOneBit E.same E.stands B.ports B.facts B.orders_are B.told B.kept) (WorksIf to_rest) count
+            (record { bus = self.old; links = links.old; board = board.old })
+            (record { bus = self.new; links = links.new; board = board.new }) f) }
+    {
+        if !none_aborts(self.seats.as_slice(), board) {
+            return Ok(0);
+        }
+        match on_all(
+            self.seats.as_mut_slice(),
+            links,
+            board,
+            &self.struck,
+            self.run,
+            count,
+            to_rest,
+        ) {
+            Ok(bits) => {
+                self.run += bits;
+                self.left -= bits;
+                Ok(bits)
+            }
+            Err(broken) => {
+                self.run += broken.after;
+                self.left -= broken.after;
+                self.fault = Some(broken.fault);
+                Err(broken.fault)
+            }
+        }
+    }
+}
