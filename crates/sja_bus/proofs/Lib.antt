@@ -3,6 +3,7 @@ pub mod Begun
 pub mod Steps
 pub mod OnBus
 pub mod AskingOff
+pub mod Orders
 pub mod Reading
 pub mod Lawfuls
 pub mod Moving

@@ -15,6 +15,9 @@ use Rattle.sja_link.specs.declared.entry.Entry.TheVariants.{Bit, Up as Item, Abo
 use Rattle.sja_link.specs.Places.{Place, first_place, past, place_of}
 use Rattle.sja_link.specs.Records.{told, record_of}
 use Rattle.sja_link.specs.Parts.{part}
+use Rattle.sja_link.specs.Carried.{put_of, taken_of}
+use Rattle.sja_link.specs.Gathering.{total}
+use Rattle.sja_link.specs.World.{is_off, is_stop}
 use Rattle.sja_link.specs.Free.{IsFree, credit_in, bytes_in}
 use Rattle.sja_link.specs.Verdicts.{filter_of, EndsInBit, IsPrompt, IsFair, IsDue, entry_of}
 use Rattle.sja_link.proofs.Entering.{place_push, record_push, part_here, part_else, of_part_later}
@@ -27,12 +30,14 @@ use Rattle.sja_bus.specs.Links.{stops_in, stops_of}
 use Rattle.sja_bus.specs.Inside.Seats.{Pays}
 use Rattle.sja_bus.specs.OutOfOrder.{HasOff, HasAskedOff}
 use Rattle.sja_bus.specs.Inside.Following.{open_in, is_on, IsActive, Reads}
+use Rattle.sja_bus.specs.Orderly.{IsRunning, IsOrderly}
+use Rattle.sja_bus.proofs.Orders.{orderly_here, acts_in, quiet_orderly, stopless_with, runs_now, no_off_put}
 use Rattle.sja_bus.proofs.OnBus.{on_both}
 use Rattle.sja_bus.proofs.AskingOff.{off_before, asked_before, off_of_asked, none_off}
 
 -- nothing was taken
 pub reads_new : (node : Node) → InReset node → Reads node [] 0 Between 64
-reads_new node reset = record { begun = refl; stopped = refl; free_is = refl; active = reset }
+reads_new node reset = record { begun = refl; stopped = refl; free_is = refl; stopless = refl; orderly = λ a. tt; active = reset }
 
 -- an entry that is no stop
 stopped_same : (j : List Entry) (e : Entry) (n : ℕ) → stops_in e ≡ 0 → stops_of j ≡ n → stops_of (j ++ e ∷ []) ≡ n
@@ -73,9 +78,17 @@ no_stop (Stored m) none = refl
 no_stop (Overrun m) none = refl
 no_stop Off none = refl
 
--- an entry that begins and ends no activation, is no request, stores nothing and gives nothing back, and isn't bus-off
+-- an entry that begins and ends no activation, by which nothing is taken and nothing put
 abbrev pub IsQuiet : Entry → Type 0
-IsQuiet e = ((p : Place) → past p e ≡ record p { bits = (past p e).bits }) × (bytes_in e ≡ 0) × (credit_in e ≡ 0) × (marks_in e ≡ 0)
+IsQuiet e = ((p : Place) → past p e ≡ record p { bits = (past p e).bits }) × (bytes_in e ≡ 0) × (credit_in e ≡ 0) × (acts_in e ≡ 0)
+
+no_mark : (e : Entry) → acts_in e ≡ 0 → marks_in e ≡ 0
+no_mark (Item u) none = absurd (omega (arith, none))
+no_mark (Bit driven seen) none = refl
+no_mark Abort none = refl
+no_mark (Stored m) none = refl
+no_mark (Overrun m) none = refl
+no_mark Off none = refl
 
 pub stays_of : (e : Entry) → ((p : Place) → past p e ≡ record p { bits = (past p e).bits }) → StaysIn e
 stays_of e h p = ap (λ (q : Place). q.activation) (h p)
@@ -124,7 +137,7 @@ asked_more j e a h = elim (cases_eq (past (place_of j) e).activation a) [
 ]
 
 -- bus-off, and a request after it, that stood there before
-off_less : (j : List Entry) (e : Entry) (a : ℕ) → ((p : Place) → past p e ≡ record p { bits = (past p e).bits }) → HasOff (part (j ++ e ∷ []) a) → HasOff (part j a)
+pub off_less : (j : List Entry) (e : Entry) (a : ℕ) → ((p : Place) → past p e ≡ record p { bits = (past p e).bits }) → HasOff (part (j ++ e ∷ []) a) → HasOff (part j a)
 off_less j e a stays h = elim (cases_eq (past (place_of j) e).activation a) [
   | inl q ↦ off_before (part j a) e
       (λ is. let P : Entry → Type 0 = λ x. (p : Place) → past p x ≡ record p { bits = (past p x).bits } in
@@ -150,12 +163,16 @@ active_same OffAndAsked old new j e a stays none reset h = (off_same j e stays �
 -- an entry with which nothing changes but the node: an abort, and a bit
 pub reads_quiet : (old new : Node) (j : List Entry) (e : Entry) (ended : ℕ) (activity : Activity) (free : ℕ) → IsQuiet e → (InReset old → InReset new) →
     Reads old j ended activity free → Reads new (j ++ e ∷ []) ended activity free
-reads_quiet old new j e ended activity free quiet reset h = record {
-  begun = begun_same j e (stays_of e quiet.0) ∙ h.begun;
-  stopped = stopped_same j e ended (no_stop e quiet.3) h.stopped;
-  free_is = free_on j e (suc ended) free free (omega (arith, quiet.1, quiet.2)) (quiet.1, quiet.2) h.free_is;
-  active = active_same activity old new j e (suc ended) quiet.0 quiet.3 reset h.active;
-}
+reads_quiet old new j e ended activity free quiet reset h =
+    let unmarked = no_mark e quiet.3 in record {
+      begun = begun_same j e (stays_of e quiet.0) ∙ h.begun;
+      stopped = stopped_same j e ended (no_stop e unmarked) h.stopped;
+      free_is = free_on j e (suc ended) free free (omega (arith, quiet.1, quiet.2)) (quiet.1, quiet.2) h.free_is;
+      stopless = stopless_with j e (suc ended) (no_stop e unmarked) h.stopless;
+      orderly = orderly_here j e (past (place_of j) e).activation h.orderly refl
+          (quiet_orderly (part j (past (place_of j) e).activation) e quiet.3);
+      active = active_same activity old new j e (suc ended) quiet.0 unmarked reset h.active;
+    }
 
 -- ---- what the bus takes
 
@@ -171,6 +188,8 @@ reads_start old new j config ended free left pays h =
       begun = ap (λ (p : Place). p.activation) place ∙ at ∙ omega arith;
       stopped = stopped_same j e ended refl h.stopped;
       free_is = subst (λ (p : List Entry). IsFree p left) (sym one) (pays (part j (suc ended)) h.free_is);
+      stopless = stopless_with j e (suc ended) refl h.stopless;
+      orderly = orderly_here j e (suc ended) h.orderly at (ap taken_of none);
       active = (
         ap (λ (p : Place). p.off) place,
         ap filter_of one ∙ ap (λ l. filter_of (l ++ e ∷ [])) none,
@@ -184,29 +203,36 @@ pub here_in : (activity : Activity) (node : Node) (j : List Entry) (ended free :
     (past (place_of j) e).activation ≡ suc ended
 here_in activity node j ended free e stays runs h = let b = h.begun in let s = stays (place_of j) in omega (arith, b, s, runs)
 
+-- it runs
+pub reads_running : (activity : Activity) (node : Node) (j : List Entry) (ended free : ℕ) → open_in activity ≡ 1 → Reads node j ended activity free → IsRunning (part j (suc ended))
+reads_running activity node j ended free runs h =
+    let b = h.begun in runs_now j (suc ended) (omega arith) (omega (arith, b, runs)) h.stopless
+
 -- an entry of the activation that is read, and what the bus knows of it then
 reads_with : (old new : Node) (j : List Entry) (e : Entry) (ended : ℕ) (was now : Activity) (free left : ℕ) → ((p : Place) → past p e ≡ record p { bits = (past p e).bits }) →
-    stops_in e ≡ 0 → open_in was ≡ 1 → open_in now ≡ 1 → Pays free left e → IsActive now new (j ++ e ∷ []) (suc ended) → Reads old j ended was free → Reads new (j ++ e ∷ []) ended now left
-reads_with old new j e ended was now free left stays none runs still pays active h =
+    stops_in e ≡ 0 → open_in was ≡ 1 → open_in now ≡ 1 → Pays free left e → IsOrderly (part j (suc ended)) e → IsActive now new (j ++ e ∷ []) (suc ended) → Reads old j ended was free → Reads new (j ++ e ∷ []) ended now left
+reads_with old new j e ended was now free left stays none runs still pays due active h =
     let at = here_in was old j ended free e (stays_of e stays) runs h in record {
       begun = begun_same j e (stays_of e stays) ∙ h.begun ∙ ap (λ n. ended + n) (runs ∙ sym still);
       stopped = stopped_same j e ended none h.stopped;
       free_is = subst (λ (p : List Entry). IsFree p left) (sym (part_here j e (suc ended) at)) (pays (part j (suc ended)) h.free_is);
+      stopless = stopless_with j e (suc ended) none h.stopless;
+      orderly = orderly_here j e (suc ended) h.orderly at due;
       active = active;
     }
 
 -- a credit, and a verdict
 pub reads_here : (old new : Node) (j : List Entry) (e : Entry) (ended : ℕ) (activity : Activity) (free left : ℕ) → ((p : Place) → past p e ≡ record p { bits = (past p e).bits }) →
-    marks_in e ≡ 0 → open_in activity ≡ 1 → (InReset old → InReset new) → Pays free left e → Reads old j ended activity free → Reads new (j ++ e ∷ []) ended activity left
-reads_here old new j e ended activity free left stays none runs reset pays h =
-    reads_with old new j e ended activity activity free left stays (no_stop e none) runs runs pays (active_same activity old new j e (suc ended) stays none reset h.active) h
+    marks_in e ≡ 0 → open_in activity ≡ 1 → (InReset old → InReset new) → Pays free left e → IsOrderly (part j (suc ended)) e → Reads old j ended activity free → Reads new (j ++ e ∷ []) ended activity left
+reads_here old new j e ended activity free left stays none runs reset pays due h =
+    reads_with old new j e ended activity activity free left stays (no_stop e none) runs runs pays due (active_same activity old new j e (suc ended) stays none reset h.active) h
 
 -- a request that the node took
 pub reads_ask : (old new : Node) (j : List Entry) (request : Request) (ended : ℕ) (filter : Filter) (free left : ℕ) → Pays free left (Item (Send request)) →
     Reads old j ended (Running filter) free → Reads new (j ++ Item (Send request) ∷ []) ended (Running filter) left
 reads_ask old new j request ended filter free left pays h =
     let e : Entry = Item (Send request) in
-    reads_with old new j e ended (Running filter) (Running filter) free left (λ p. refl) refl refl refl pays
+    reads_with old new j e ended (Running filter) (Running filter) free left (λ p. refl) refl refl refl pays (reads_running (Running filter) old j ended free refl h)
     (off_same j e (λ p. refl) ∙ h.active.0, filter_push j e (suc ended) (λ p. refl) ∙ h.active.1, on_same j e (λ p. refl) refl ∙ h.active.2, λ off. h.active.3 (off_less j e (suc ended) (λ p. refl) off)) h
 
 -- a request that is dropped is counted
@@ -223,7 +249,7 @@ reads_drop node j request ended free left pays h =
       after = [];
       whole = part_here j e (suc ended) at ∙ ap (λ l. l ++ e ∷ []) was.whole ∙ append_assoc was.before (Off ∷ was.after) (e ∷ []);
     } in
-    reads_with node node j e ended IsOff OffAndAsked free left (λ p. refl) refl refl refl pays (off_same j e (λ p. refl) ∙ h.active.0, h.active.1, asked) h
+    reads_with node node j e ended IsOff OffAndAsked free left (λ p. refl) refl refl refl pays (reads_running IsOff node j ended free refl h) (off_same j e (λ p. refl) ∙ h.active.0, h.active.1, asked) h
 
 pub reads_stop : (old new : Node) (j : List Entry) (ended : ℕ) (activity : Activity) (free : ℕ) → open_in activity ≡ 1 → InReset new → Reads old j ended activity free →
     Reads new (j ++ Item Stop ∷ []) (suc ended) Between 64
@@ -235,6 +261,9 @@ reads_stop old new j ended activity free runs reset h =
       begun = begun ∙ omega arith;
       stopped = let t = total_push stops_in j e in let was = h.stopped in omega (arith, t, was);
       free_is = subst (λ (p : List Entry). IsFree p 64) (sym none) refl;
+      stopless = ap (λ (p : List Entry). total is_stop (taken_of p)) none;
+      orderly = orderly_here j e (suc ended) h.orderly (here_in activity old j ended free e (λ p. refl) runs h)
+          (reads_running activity old j ended free runs h);
       active = reset;
     }
 
@@ -260,6 +289,12 @@ pub verdict_no_stop : (v : Verdict) (m : List ℕ) → marks_in (entry_of v m) �
 verdict_no_stop ToStore m = refl
 verdict_no_stop ToLose m = refl
 
+-- a verdict stands in order
+pub verdict_orderly : (p : List Entry) (v : Verdict) (m : List ℕ) → IsRunning p → total is_off (put_of p) ≡ 0 →
+    IsFair p (entry_of v m) → IsOrderly p (entry_of v m)
+verdict_orderly p ToStore m runs none fair = (runs, none, fair)
+verdict_orderly p ToLose m runs none fair = tt
+
 -- ---- bus-off
 
 pub reads_off : (node : Node) (j : List Entry) (ended : ℕ) (filter : Filter) (free : ℕ) → InReset node → Reads node j ended (Running filter) free →
@@ -269,12 +304,15 @@ reads_off node j ended filter free reset h =
       begun = begun_same j Off (λ p. refl) ∙ h.begun;
       stopped = stopped_same j Off ended refl h.stopped;
       free_is = free_on j Off (suc ended) free free (omega arith) (refl, refl) h.free_is;
+      stopless = stopless_with j Off (suc ended) refl h.stopless;
+      orderly = orderly_here j Off (suc ended) h.orderly at
+          (reads_running (Running filter) node j ended free refl h, no_off_put (part j (suc ended)) h.active.3);
       active = (ap (λ (p : Place). p.off) (place_push j Off), reset, record { before = part j (suc ended); after = []; whole = part_here j Off (suc ended) at }, λ asked. h.active.3 (off_of_asked (part j (suc ended)) (asked_less j Off (suc ended) refl asked)));
     }
 
 -- while one runs what the bus knows of it doesn't hang on the node
 pub reads_swap : (old new : Node) (j : List Entry) (ended : ℕ) (filter : Filter) (free : ℕ) → Reads old j ended (Running filter) free → Reads new j ended (Running filter) free
-reads_swap old new j ended filter free h = record { begun = h.begun; stopped = h.stopped; free_is = h.free_is; active = h.active }
+reads_swap old new j ended filter free h = record { begun = h.begun; stopped = h.stopped; free_is = h.free_is; stopless = h.stopless; orderly = h.orderly; active = h.active }
 
 -- the activation that runs is the one that is read
 pub runs_at : (activity : Activity) (node : Node) (j : List Entry) (ended free : ℕ) → open_in activity ≡ 1 → Reads node j ended activity free → (place_of j).activation ≡ suc ended

@@ -19,6 +19,7 @@ use Rattle.sja_bus.specs.StrikesByBit.{IsAmong}
 use Rattle.sja_bus.specs.declared.seat.Seat.{Seat}
 use Rattle.sja_bus.specs.Wire.{wired, IsSeen, journal_at, IsWired}
 use Rattle.sja_bus.specs.Lawful.{IsBusRun}
+use Rattle.sja_bus.specs.Orderly.{AreOrderly}
 use Rattle.sja_regs.specs.declared.bus_turn.BusTurn.{BusTurn}
 use Rattle.sja_bus.specs.Inside.Turning.{is_untold}
 use Rattle.sja_bus.specs.Inside.Rows.{EachSeat, SeatTakes, SeatOpens, SeatTurns, seen_by, journals_of, untold_of, driven_by, IsBus}
@@ -111,13 +112,21 @@ wired_ticked was_told was_kept script n (s ∷ seats) after struck level len few
 
 -- every bus is lawful
 pub bus_run : (script : List Strike) (bits : ℕ) (seats : List Seat) → IsBus script bits seats → IsBusRun script bits (journals_of seats)
-bus_run script bits [] h = record { lawful = λ node few. absurd (omega arith); wired = h.wired }
+bus_run script bits [] h = record {
+  lawful = λ node few. absurd (omega arith);
+  orderly = λ node few. absurd (omega arith);
+  wired = h.wired;
+}
 bus_run script bits (s ∷ seats) h =
     let all = s ∷ seats in let cb = count_is all in record {
       lawful = λ node few.
           let near : node < length all = omega (arith, few, cb) in
           let seat = (h.ready node s near).ready.sound in
           subst (λ (j : List Entry). IsLawful j) (sym (journal_is all node s near)) (lawful_of (slice_index_or all node s).node (slice_index_or all node s).journal.entries seat.follows);
+      orderly = λ node few.
+          let near : node < length all = omega (arith, few, cb) in
+          let seat = (h.ready node s near).ready.sound in
+          subst (λ (j : List Entry). AreOrderly j) (sym (journal_is all node s near)) seat.reads.orderly;
       wired = h.wired;
     }
 

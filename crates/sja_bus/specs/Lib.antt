@@ -2,6 +2,7 @@
 pub mod StrikesByBit
 pub mod Wire
 -- ---- what holds of every bus
+pub mod Orderly
 pub mod Lawful
 pub mod Resting
 -- ---- what a bit adds to a journal, and what a port is told of it

@@ -8,9 +8,13 @@ use Rattle.sja_link.specs.Places.{place_of}
 use Rattle.sja_link.specs.Parts.{part}
 use Rattle.sja_link.specs.Records.{record_of}
 use Rattle.sja_link.specs.Free.{IsFree}
+use Rattle.sja_link.specs.Gathering.{total}
+use Rattle.sja_link.specs.Carried.{taken_of}
+use Rattle.sja_link.specs.World.{is_stop}
 use Rattle.sja_link.specs.Verdicts.{filter_of, HasVerdicts}
 use Rattle.sja_bus.specs.Links.{stops_of}
 use Rattle.sja_bus.specs.OutOfOrder.{HasOff, HasAskedOff}
+use Rattle.sja_bus.specs.Orderly.{AreOrderly}
 use Rattle.sja_bus.specs.declared.activity.Activity.{Activity}
 use Rattle.sja_bus.specs.declared.activity.Activity.TheVariants.{Between, Running, Off, OffAndAsked}
 
@@ -59,9 +63,11 @@ IsActive Off node j a =
     ((place_of j).off ≡ true) × InReset node × HasOff (part j a) × (HasAskedOff (part j a) → ⊥)
 IsActive OffAndAsked node j a = ((place_of j).off ≡ true) × InReset node × HasAskedOff (part j a)
 
--- so many activations have ended; the next one is read, and of it so many bytes are free
+-- so many activations have ended; the next one is read, and of it so many bytes are free; what was entered is in order
 pub record Reads (node : Node) (j : List Entry) (ended : ℕ) (activity : Activity) (free : ℕ) : Type 0 where
   pub begun : (place_of j).activation ≡ ended + open_in activity
   pub stopped : stops_of j ≡ ended
   pub free_is : IsFree (part j (suc ended)) free
+  pub stopless : total is_stop (taken_of (part j (suc ended))) ≡ 0
+  pub orderly : AreOrderly j
   pub active : IsActive activity node j (suc ended)

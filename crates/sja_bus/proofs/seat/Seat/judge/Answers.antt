@@ -2,10 +2,12 @@ use Rattle.std.proofs.Common.{◌≡◌, suc, List, [], ◌∷◌, ◌++◌, ref
 use Rattle.sja_link.specs.declared.entry.Entry.{Entry}
 use Rattle.sja_link.specs.declared.entry.Entry.TheVariants.{Bit}
 use Rattle.sja_link.specs.BusLedgers.{free_in}
+use Rattle.sja_link.specs.Parts.{part}
 use Rattle.sja_link.specs.Verdicts.{entry_of}
 use Rattle.sja_bus.specs.declared.seat.Seat.{Seat}
 use Rattle.sja_bus.proofs.Seating.{reads_by}
-use Rattle.sja_bus.proofs.Reading.{due_now, reads_quiet, reads_here, verdict_stays, verdict_no_stop, stays_of, runs_at, stands_at, place_same}
+use Rattle.sja_bus.proofs.Reading.{due_now, reads_quiet, reads_here, verdict_stays, verdict_no_stop, stays_of, runs_at, stands_at, place_same, off_less, reads_running, verdict_orderly}
+use Rattle.sja_bus.proofs.Orders.{no_off_put}
 use Rattle.sja_bus.proofs.Moving.{moves_push, moves_quiet, moves_trans}
 use Rattle.sja_bus.proofs.seat.Seat.judge.Goals as goal
 
@@ -28,7 +30,10 @@ returns-in_ok-enter-in-Ok-2-clause-reads g c =
     let v = c.in-Ok.verdict in let m = c.args.message in
     let first = c.in_ok-enter-in-Ok.ensures.ok.0 in
     let one = reads_quiet was.node was.node j (Bit c.args.driven c.args.seen) was.ended was.activity (free_in was.ledger) (λ p. refl, refl, refl, refl) (λ r. r) c.requires.reads in
-    let two = reads_here was.node was.node k (entry_of v m) was.ended was.activity (free_in was.ledger) (free_in c.accept.new.ledger) (verdict_stays v m) (verdict_no_stop v m) c.requires.runs (λ r. r) (λ p f. (c.in-Ok.ensures.judged p f).1) one in
+    let at = runs_at was.activity was.node j was.ended (free_in was.ledger) c.requires.runs c.requires.reads in
+    let fair = due_now j c.args.driven c.args.seen (suc was.ended) v m (free_in was.ledger) at c.requires.reads.free_is (λ p f. (c.in-Ok.ensures.judged p f).0) in
+    let due = verdict_orderly (part k (suc was.ended)) v m (reads_running was.activity was.node k was.ended (free_in was.ledger) c.requires.runs one) (no_off_put (part k (suc was.ended)) (λ off. c.requires.on (off_less j (Bit c.args.driven c.args.seen) (suc was.ended) (λ p. refl) off))) fair.1 in
+    let two = reads_here was.node was.node k (entry_of v m) was.ended was.activity (free_in was.ledger) (free_in c.accept.new.ledger) (verdict_stays v m) (verdict_no_stop v m) c.requires.runs (λ r. r) (λ p f. (c.in-Ok.ensures.judged p f).1) due one in
     let o1 = c.in_ok-enter-in-Ok.ensures.others in let o2 = c.in_ok-enter-in-Ok-2.ensures.others in
     reads_by c.enter-in-Ok.new.self was.node (k ++ entry_of v m ∷ []) was.ended was.activity (free_in c.accept.new.ledger)
     (ap (λ (s : Seat). s.node) o2 ∙ ap (λ (s : Seat). s.node) o1)

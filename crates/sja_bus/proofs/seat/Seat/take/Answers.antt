@@ -1,4 +1,9 @@
-use Rattle.std.proofs.Common.{suc}
+use Rattle.std.proofs.Common.{rules, ◌≡◌, Err, suc, subst}
+use Rattle.sja_bus.specs.declared.bus_fault.BusFault.{BusFault}
+use Rattle.sja_link.specs.declared.link_id.LinkId.{LinkId}
+use Rattle.sja_bus.specs.Reasons.{IsRefusedFor}
+use Rattle.sja_bus.specs.Inside.Taking.{RefusesHere}
+use Rattle.sja_bus.proofs.Lists.{err_is}
 use Rattle.sja_link.specs.declared.entry.Entry.TheVariants.{Up as Item}
 use Rattle.sja_bus.proofs.Moving.{moves_push}
 use Rattle.sja_bus.proofs.seat.Seat.take.Goals as goal
@@ -11,3 +16,14 @@ returns-in_ok-note-in-Ok-Some-clause-moves g c =
 
 pub returns-in_ok-note-in-Ok-Some-clause-some : goal.returns-in_ok-note-in-Ok-Some-clause-some
 returns-in_ok-note-in-Ok-Some-clause-some g c = λ e. (c.in-Ok-Some.item, c.in_ok-note-in-Ok-Some.ensures.takes.entered, c.in_ok-note-in-Ok-Some.ensures.takes.fits, c.in_ok-note-in-Ok-Some.ensures.takes.stands, c.in_ok-note-in-Ok-Some.ensures.takes.due)
+
+pub returns-in_err-note-in-Ok-Some-clause-refused : goal.returns-in_err-note-in-Ok-Some-clause-refused
+returns-in_err-note-in-Ok-Some-clause-refused g c =
+    let took = rw c.in-Ok-Some.field-0-is at c.in-Ok-Some.ensures.item in
+    let f = c.in_err-note-in-Ok-Some.field-0.0 in
+    let P : BusFault → Type 0 = λ x. RefusesHere g.E.BusEnd.stands c.args.end.now c.collect.new.end c.args.self.now c.note.new.self x in
+    let is : c.from_residual.result ≡ Err f = search rules in
+    let was = c.args.self.now in let r = c.in_err-note-in-Ok-Some.ensures.refused in
+    let Q : LinkId → Type 0 = λ l. IsRefusedFor l.node was.journal.room was.journal.entries c.in-Ok-Some.item f in
+    let here : P f = record { item = c.in-Ok-Some.item; refuses = (r.0, subst Q c.in-Ok-Some.ensures.id r.1); shown = took } in
+    err_is P c.from_residual.result f is here
