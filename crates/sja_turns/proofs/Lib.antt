@@ -47,6 +47,7 @@ pub mod AtOnce
 pub mod FewLying
 pub mod Unstopped
 pub mod SomeBits
+pub mod ManyBits
 -- the turns of a whole run
 pub mod Counts
 pub mod Onward

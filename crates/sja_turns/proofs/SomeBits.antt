@@ -1,5 +1,6 @@
 -- Bits of a run, one after another.
-use Rattle.std.proofs.Common.{◌≡◌, ℕ, zero, suc, ◌+◌, ◌<◌, ◌≤◌, Bool, true, false, List, length, subst, arith}
+use Rattle.std.specs.Prelude.{◌⊎◌}
+use Rattle.std.proofs.Common.{◌≡◌, ℕ, zero, suc, ◌+◌, ◌<◌, ◌≤◌, Bool, true, false, List, length, sym, subst, arith, inl, inr}
 use Rattle.sja_link.specs.declared.entry.Entry.{Entry}
 use Rattle.sja_link.specs.Records.{record_of}
 use Rattle.sja_bus.specs.Resting.{RestsAs}
@@ -21,17 +22,6 @@ pub record SomeBits (plan : PlanValue) (deeds : List (List Deed)) (Before : Seri
 pub bits_none : (plan : PlanValue) (deeds : List (List Deed)) (Before : SerialValue → Type 0) (r : SerialValue) →
     StandsAt plan r deeds → SomeBits plan deeds Before r r 0
 bits_none plan deeds Before r h = record { bits = no_bit r; stands = h; many = omega arith }
-
-pub bits_more : (plan : PlanValue) (deeds : List (List Deed)) (Before : SerialValue → Type 0) (r m n : SerialValue)
-    (count : ℕ) → SomeBits plan deeds Before r m count → Before m → TakesBit plan deeds m n →
-    SomeBits plan deeds Before r n (count + 1)
-bits_more plan deeds Before r m n count s before t =
-    let one : suc count ≡ count + 1 = omega arith in
-    let k = s.many in let b = t.bits in record {
-      bits = subst (λ (c : ℕ). TakesBits plan deeds Before r c n) one (one_more r m n count s.bits before t);
-      stands = t.stands;
-      many = omega (arith, k, b);
-    }
 
 -- and so many more
 pub bits_then : (plan : PlanValue) (deeds : List (List Deed)) (Before : SerialValue → Type 0) (r m n : SerialValue)
@@ -55,6 +45,35 @@ some_then plan deeds Before r m n count more s t =
       stands = stands_bits plan deeds Before m n more t s.stands;
       many = omega (arith, k, b);
     }
+
+-- so many to begin with
+pub some_first : (plan : PlanValue) (deeds : List (List Deed)) (Before : SerialValue → Type 0) (r n : SerialValue)
+    (count : ℕ) → StandsAt plan r deeds → TakesBits plan deeds Before r count n →
+    SomeBits plan deeds Before r n count
+some_first plan deeds Before r n count h t = record {
+  bits = t;
+  stands = stands_bits plan deeds Before r n count t h;
+  many = bits_run plan deeds Before r n count t;
+}
+
+-- whatever held before each of them
+pub bits_freely : (plan : PlanValue) (deeds : List (List Deed)) (Before : SerialValue → Type 0) (r n : SerialValue)
+    (count : ℕ) → TakesBits plan deeds Before r count n → TakesBits plan deeds (λ x. Unit {0}) r count n
+bits_freely plan deeds Before r n count (no_bit _) = no_bit r
+bits_freely plan deeds Before r n count (one_more _ mid _ k before holds bit) =
+    one_more r mid n k (bits_freely plan deeds Before r mid k before) tt bit
+
+-- so many while some node worked, and more since then
+pub some_since : (plan : PlanValue) (deeds : List (List Deed)) (r m n : SerialValue) (first run : ℕ) →
+    StandsAt plan r deeds → TakesBits plan deeds (SomeWorks plan) r first m →
+    (StandsAt plan m deeds →
+    (more : ℕ) × (run ≡ first + more) × SomeBits plan deeds (λ x. Unit {0}) m n more) →
+    SomeBits plan deeds (λ x. Unit {0}) r n run
+some_since plan deeds r m n first run h t since =
+    let s = some_first plan deeds (λ x. Unit {0}) r m first h (bits_freely plan deeds (SomeWorks plan) r m first t) in
+    let x = since s.stands in
+    subst (λ (k : ℕ). SomeBits plan deeds (λ y. Unit {0}) r n k) (sym x.1)
+    (some_then plan deeds (λ y. Unit {0}) r m n first x.0 s x.2.bits)
 
 -- no more bits are run than the plan has
 pub bits_within : (plan : PlanValue) (r : SerialValue) (deeds : List (List Deed)) → StandsAt plan r deeds →
@@ -85,24 +104,31 @@ pub some_works : (plan : PlanValue) (n : SerialValue) (deeds : List (List Deed))
     SomeWorks plan n
 some_works plan n deeds h busy = let c = h.count.journals in let l = busy.1 in (busy.0, omega (arith, c, l), busy.2)
 
-pub rest_all : (plan : PlanValue) (deeds : List (List Deed)) (r n : SerialValue) (run : ℕ) → AllRest plan n →
-    SomeBits plan deeds (SomeWorks plan) r n run → TakesRest plan deeds r n true
-rest_all plan deeds r n run all s = record { run = run; bits = s.bits; whole = λ yes. all; spent = λ no. cc no }
+-- not every node is at rest where some node works
+not_both : (plan : PlanValue) (n : SerialValue) → AllRest plan n → SomeWorks plan n → ⊥
+not_both plan n rest busy =
+    let r = rest busy.0 busy.1 in let is = r.is in let no = busy.2.every r.found r.cut in cc (is, no)
 
-pub rest_spent : (plan : PlanValue) (deeds : List (List Deed)) (r n : SerialValue) (run : ℕ) → SomeWorks plan n →
-    plan.bits ≤ n.bits → SomeBits plan deeds (SomeWorks plan) r n run → TakesRest plan deeds r n false
-rest_spent plan deeds r n run busy spent s =
-    let w = bits_within plan n deeds s.stands in
-    record { run = run; bits = s.bits; whole = λ yes. cc yes; spent = λ no. (busy, omega (arith, spent, w)) }
-
--- the bits are spent
-pub rest_end : (plan : PlanValue) (deeds : List (List Deed)) (r n : SerialValue) (run : ℕ) (rests : Bool) →
-    (rests ≡ true → AllRest plan n) → (rests ≡ false → SomeWorks plan n) → plan.bits ≤ n.bits →
-    SomeBits plan deeds (SomeWorks plan) r n run →
-    TakesRest plan deeds r n rests
-rest_end plan deeds r n run rests all busy spent s =
-    let w = bits_within plan n deeds s.stands in
-    record { run = run; bits = s.bits; whole = all; spent = λ no. (busy no, omega (arith, spent, w)) }
+-- it ran until all rest, or the bits were spent
+pub rest_so : (plan : PlanValue) (deeds : List (List Deed)) (r n : SerialValue) (run most : ℕ) (rests : Bool) →
+    StandsAt plan r deeds → TakesBits plan deeds (SomeWorks plan) r run n → most ≡ plan.bits →
+    (run ≡ most) ⊎ (plan.bits ≤ n.bits) ⊎ AllRest plan n → (rests ≡ true → AllRest plan n) →
+    (rests ≡ false → SomeWorks plan n) → TakesRest plan deeds r n rests
+rest_so plan deeds r n run most rests h t is whole all busy =
+    let s = some_first plan deeds (SomeWorks plan) r n run h t in
+    let w = bits_within plan n deeds s.stands in let k = s.many in record {
+      run = run;
+      bits = t;
+      whole = all;
+      spent = λ no. (
+        busy no,
+        elim whole [
+          | inl asked ↦ omega (arith, asked, is, k, w)
+          | inr (inl spent) ↦ omega (arith, spent, w)
+          | inr (inr rest) ↦ absurd (not_both plan n rest (busy no))
+        ],
+      );
+    }
 
 -- ---- bits at once, or one
 

@@ -1,29 +1,16 @@
 //! The turns of the bus.
 
-ghost use Rattle.std.specs.Prelude.{◌<◌, ℕ, length, slice_index_or};
-ghost use Rattle.sja_regs.specs.declared.registers.Registers.{Registers};
-ghost use Rattle.sja_regs.specs.Facts.{RegisterFacts};
-
 use super::serial_run::SerialRun;
+use sja_bus::Board;
 use sja_plan::Plan;
-use sja_regs::Port;
-
-/// What holds of every port, of each of these. It does nothing.
-fn keep_their_facts(ports: &[Port])
-    ensures { (node : ℕ) (d : Registers) → node < length ports.now → RegisterFacts (slice_index_or ports.now node d) }
-{
-    for node in 0..ports.len() {
-        ports[node].keeps_its_facts();
-    }
-}
 
 impl SerialRun {
-    ghost use Rattle.std.specs.Prelude.{◌≡◌, ◌<◌, ◌≤◌, ℕ, None, true, false, List, length};
+    ghost use Rattle.std.specs.Prelude.{◌≡◌, ◌<◌, ◌≤◌, ◌⊎◌, ℕ, None, true, false, List, length};
     ghost use Rattle.sja_link.specs.Records.{record_of};
     ghost use Rattle.sja_bus.specs.Resting.{RestsAs};
     ghost use Rattle.sja_bus.specs.Wire.{journal_at};
     ghost use Rattle.sja_driver.specs.Deeds.{Deed};
-    ghost use Rattle.sja_turns.specs.Bits.{TakesBit, TakesBits, TakesAtOnce, TakesBusTurn, TakesRest};
+    ghost use Rattle.sja_turns.specs.Bits.{TakesBit, TakesBits, TakesAtOnce, AllRest, SomeWorks, TakesBusTurn, TakesRest};
     ghost use Rattle.sja_turns.specs.Serial.{StandsAt, IsRunOf};
 
     /// Whether no bit is left.
@@ -53,7 +40,7 @@ impl SerialRun {
     {
         plan.limits();
         self.bus.keeps_its_laws();
-        keep_their_facts(self.board.ports.as_slice());
+        self.board.keeps_its_facts();
         match self.bus.bit(self.links.as_mut_slice(), &mut self.board) {
             Ok(()) => self.bits += 1,
             Err(_) => unreachable!(),
@@ -70,7 +57,7 @@ impl SerialRun {
     {
         plan.limits();
         self.bus.keeps_its_laws();
-        keep_their_facts(self.board.ports.as_slice());
+        self.board.keeps_its_facts();
         match self
             .bus
             .quiet_bits(self.links.as_mut_slice(), &self.board, count)
@@ -101,22 +88,29 @@ impl SerialRun {
         bits
     }
 
-    /// The next bits, at most so many: one where some node works, and else as many as can be run at once. It says how
-    /// many.
-    fn run_bits(&mut self, plan: &Plan, count: u32) -> u32
+    /// Bits as long as some node works, at most so many and as many as are left. It says how many. No item is taken in
+    /// them, and nothing stops them.
+    fn run_busy(&mut self, plan: &Plan, count: u32) -> u32
         requires run { IsRunOf plan.now self.old }
-        requires left { self.old.bits < plan.now.bits }
-        requires some { 1 ≤ count }
-        ensures some { 1 ≤ result }
         ensures most { result ≤ count }
         ensures bits { (deeds : List (List Deed)) → StandsAt plan.now self.old deeds →
-            TakesBits plan.now deeds (λ r. Unit {0}) self.old result self.new }
+            TakesBits plan.now deeds (SomeWorks plan.now) self.old result self.new }
+        ensures whole { (result ≡ count) ⊎ (plan.now.bits ≤ self.new.bits) ⊎ AllRest plan.now self.new }
     {
-        if self.rests() {
-            return self.run_resting(plan, count);
+        plan.limits();
+        self.bus.keeps_its_laws();
+        self.board.keeps_its_facts();
+        let most = count.min(plan.bits() - self.bits);
+        match self
+            .bus
+            .bits(self.links.as_mut_slice(), &mut self.board, most, true)
+        {
+            Ok(many) => {
+                self.bits += many;
+                many
+            }
+            Err(_) => unreachable!(),
         }
-        self.run_bit(plan);
-        1
     }
 
     /// `bus`: so many bits, or as many as are left. It says whether all were run.
@@ -126,12 +120,13 @@ impl SerialRun {
             TakesBusTurn plan.now deeds self.old self.new count result }
         ensures stays { IsRunOf plan.now self.new }
     {
-        let mut run = 0;
+        let mut run = self.run_busy(plan, count);
         while run < count {
             if self.is_spent(plan) {
                 return false;
             }
-            run += self.run_bits(plan, count - run);
+            run += self.run_resting(plan, count - run);
+            run += self.run_busy(plan, count - run);
         }
         true
     }
@@ -144,15 +139,7 @@ impl SerialRun {
             TakesRest plan.now deeds self.old self.new result }
         ensures stays { IsRunOf plan.now self.new }
     {
-        for _ in 0..plan.bits() {
-            if self.rests() {
-                return true;
-            }
-            if self.is_spent(plan) {
-                return false;
-            }
-            self.run_bit(plan);
-        }
+        self.run_busy(plan, plan.bits());
         self.rests()
     }
 }

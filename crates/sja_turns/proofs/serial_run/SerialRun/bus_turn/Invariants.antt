@@ -1,4 +1,4 @@
-use Rattle.std.proofs.Common.{List, ◌≤◌, ◌-◌}
+use Rattle.std.proofs.Common.{◌≡◌, ℕ, List, ◌+◌, ◌≤◌, ◌-◌}
 use Rattle.sja_driver.specs.Deeds.{Deed}
 use Rattle.sja_turns.specs.Serial.{SerialValue, StandsAt}
 use Rattle.sja_turns.proofs.SomeBits.{SomeBits}
@@ -8,7 +8,8 @@ abbrev pub invariant-loop-run : goal.invariant-loop-run
 invariant-loop-run l = record {
   most : l.run ≤ l.count;
   some : (deeds : List (List Deed)) → StandsAt l.plan l.initial.self deeds →
-      SomeBits l.plan deeds (λ (r : SerialValue). Unit {0}) l.initial.self l.self l.run;
+      (more : ℕ) × (l.run ≡ l.initial.run + more)
+      × SomeBits l.plan deeds (λ (r : SerialValue). Unit {0}) l.initial.self l.self more;
 }
 
 abbrev pub decreases-loop-run : goal.decreases-loop-run

@@ -1,9 +1,7 @@
-use Rattle.std.proofs.Common.{rules, List, ◌≡◌, ℕ, ◌+◌, ◌<◌, length, refl, sym, ap, ◌∙◌, subst, arith}
-use Rattle.std.specs.Prelude.{Ok, slice_index_or}
+use Rattle.std.proofs.Common.{rules, ◌≡◌, ℕ, ◌+◌, ◌<◌, refl, sym, ap, ◌∙◌, subst, arith}
+use Rattle.std.specs.Prelude.{Ok}
 use Rattle.std.proofs.lemmas.List.{with_items_is}
 use Rattle.std.specs.Vec.{with_items}
-use Rattle.sja_regs.specs.declared.registers.Registers.{Registers}
-use Rattle.sja_regs.specs.Facts.{RegisterFacts}
 use Rattle.sja_turns.specs.Bits.{TakesAtOnce}
 use Rattle.sja_turns.specs.Serial.{SerialValue, StandsAt, run_now}
 use Rattle.sja_turns.proofs.AtOnce.{takes_at_once}
@@ -21,13 +19,10 @@ returns c = λ deeds h.
     ∙ c.self.view_is in
     let stood : StandsAt c.args.plan.now r deeds = subst (λ (x : SerialValue). StandsAt c.args.plan.now x deeds)
     (sym was) h in
-    let facts : (m : ℕ) (d : Registers) → m < length ports → RegisterFacts (slice_index_or ports m d) =
-    subst (λ (l : List Registers). (m : ℕ) (d : Registers) → m < length l → RegisterFacts (slice_index_or l m d))
-    c.as_slice.ensures.value c.keep_their_facts.ensures in
     let is : c.quiet_bits.result ≡ Ok many = search rules in
     let q = c.quiet_bits.ensures in let ok = c.in-Ok.ensures in
     let t : TakesAtOnce c.args.plan.now deeds r n most many = takes_at_once c.args.plan.now r n deeds stood ok.right
-    q.script q.nodes refl refl q.sames ok.kept (c.keeps_its_laws.ensures stood.right) facts
+    q.script q.nodes refl refl q.sames ok.kept (c.keeps_its_laws.ensures stood.right) c.keeps_its_facts.ensures
     most many ok.most ok.bits.0 ok.bits.1 refl (λ zero. q.items (is ∙ ap (λ (x : ℕ). Ok x) zero)) ok.stretch in
     let l : (with_items c.self.inside.links c.quiet_bits.new.links).items ≡ c.quiet_bits.new.links = with_items_is
     c.self.inside.links c.quiet_bits.new.links (omega (arith, c.quiet_bits.auto.links, c.as_mut_slice.ensures.len)) in

@@ -1,9 +1,6 @@
-use Rattle.std.proofs.Common.{List, ◌≡◌, ℕ, ◌+◌, ◌<◌, length, refl, sym, ◌∙◌, subst, arith}
-use Rattle.std.specs.Prelude.{slice_index_or}
+use Rattle.std.proofs.Common.{◌≡◌, ◌+◌, ◌<◌, refl, sym, ◌∙◌, subst, arith}
 use Rattle.std.proofs.lemmas.List.{with_items_is}
 use Rattle.std.specs.Vec.{with_items}
-use Rattle.sja_regs.specs.declared.registers.Registers.{Registers}
-use Rattle.sja_regs.specs.Facts.{RegisterFacts}
 use Rattle.sja_bus.specs.Boards.{HasOrders}
 use Rattle.sja_turns.specs.Bits.{TakesBit}
 use Rattle.sja_turns.specs.Serial.{SerialValue, StandsAt, run_now}
@@ -21,13 +18,10 @@ returns c = λ deeds h.
     ∙ c.self.view_is in
     let stood : StandsAt c.args.plan.now r deeds = subst (λ (x : SerialValue). StandsAt c.args.plan.now x deeds)
     (sym was) h in
-    let facts : (m : ℕ) (d : Registers) → m < length ports → RegisterFacts (slice_index_or ports m d) =
-    subst (λ (l : List Registers). (m : ℕ) (d : Registers) → m < length l → RegisterFacts (slice_index_or l m d))
-    c.as_slice.ensures.value c.keep_their_facts.ensures in
     let t : TakesBit c.args.plan.now deeds r n = takes_bit c.args.plan.now r n deeds stood c.in-Ok.ensures.right
     c.bit.ensures.script c.in-Ok.ensures.bits.0 c.in-Ok.ensures.bits.1 c.bit.ensures.nodes refl refl
     c.bit.ensures.others.0 c.in-Ok.ensures.kept c.bit.ensures.sames c.in-Ok.ensures.bit
-    (cuts_of (c.keeps_its_laws.ensures stood.right)) facts in
+    (cuts_of (c.keeps_its_laws.ensures stood.right)) c.keeps_its_facts.ensures in
     let l : (with_items c.self.inside.links c.bit.new.links).items ≡ c.bit.new.links = with_items_is
     c.self.inside.links c.bit.new.links (omega (arith, c.bit.auto.links, c.as_mut_slice.ensures.len)) in
     let after : n ≡ run_now c.bit.new.self drivers c.bit.new.board.ports.items
