@@ -19,6 +19,7 @@ mod active;
 mod active_steps;
 mod answers;
 mod any_driver;
+mod changing;
 mod command_fault;
 mod driver;
 mod logged_driver;

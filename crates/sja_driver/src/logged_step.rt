@@ -9,14 +9,13 @@ ghost use Rattle.sja_driver.specs.LoggedDrivers.{ended_of, MayStep, StaysLawful,
 
 use super::active_steps::{active_step, release_step, window_step};
 use super::any_driver::AnyDriver;
-use super::driver::Driver;
+use super::changing::{start_step, stop_step};
 use super::logged_driver::LoggedDriver;
-use super::reset_steps::{reset_step, wrong_state};
-use super::tried::Tried;
+use super::reset_steps::reset_step;
+use super::tried::{Tried, refused};
 use sja_link::DriverEnd;
 use sja_regs::Port;
-use sja_script::Step;
-use std::mem;
+use sja_script::{Refusal, Step};
 
 /// The place of the last of a node's links among its eight.
 const LAST: usize = 7;
@@ -38,9 +37,7 @@ impl LoggedDriver {
             step.now bits result }
     {
         let here = base + self.turn();
-        let driver = mem::replace(&mut self.driver, AnyDriver::InReset(Driver::new(0)));
-        let (driver, tried) = try_step(driver, &mut links[here], port, step);
-        self.driver = driver;
+        let tried = try_step(&mut self.driver, &mut links[here], port, step);
         self.log.enter(tried, bits)
     }
 
@@ -53,9 +50,7 @@ impl LoggedDriver {
             Window bits result }
     {
         let here = base + self.turn();
-        let driver = mem::replace(&mut self.driver, AnyDriver::InReset(Driver::new(0)));
-        let (driver, tried) = try_window(driver, &mut links[here]);
-        self.driver = driver;
+        let tried = try_window(&mut self.driver, &mut links[here]);
         self.log.enter(tried, bits)
     }
 
@@ -68,9 +63,7 @@ impl LoggedDriver {
             Release bits result }
     {
         let here = base + self.turn();
-        let driver = mem::replace(&mut self.driver, AnyDriver::InReset(Driver::new(0)));
-        let (driver, tried) = try_release(driver, &mut links[here]);
-        self.driver = driver;
+        let tried = try_release(&mut self.driver, &mut links[here]);
         self.log.enter(tried, bits)
     }
 }
@@ -85,45 +78,49 @@ impl LoggedDriver {
     }
 }
 
-/// Tries a step in either state.
+/// Tries a step in either state. A start and a stop alone put another state in the driver's place.
 fn try_step<E: DriverEnd>(
-    driver: AnyDriver,
+    driver: &mut AnyDriver,
     end: &mut E,
     port: &mut Port,
     step: &Step,
-) -> (AnyDriver, Tried)
-    requires { FitsEnd E.link end.old driver }
+) -> Tried
+    requires { FitsEnd E.link end.old driver.old }
     ensures same { E.same end.old end.new }
-    ensures acts { Acts E.stands E.dry E.full end.old end.new port.old port.new step.now driver (result.0) (result.1) }
+    ensures acts { Acts E.stands E.dry E.full end.old end.new port.old port.new step.now driver.old driver.new result }
 {
-    match driver {
-        AnyDriver::InReset(driver) => reset_step(driver, end, port, step),
-        AnyDriver::InActive(driver) => active_step(driver, end, port, step),
+    match step {
+        Step::Start => start_step(driver, end, port),
+        Step::Stop => stop_step(driver, end, port),
+        _ => match driver {
+            AnyDriver::InReset(driver) => reset_step(driver, end, port, step),
+            AnyDriver::InActive(driver) => active_step(driver, end, port, step),
+        },
     }
 }
 
 /// Tries the step `Window` in either state.
-fn try_window<E: DriverEnd>(driver: AnyDriver, end: &mut E) -> (AnyDriver, Tried)
-    requires { FitsEnd E.link end.old driver }
+fn try_window<E: DriverEnd>(driver: &mut AnyDriver, end: &mut E) -> Tried
+    requires { FitsEnd E.link end.old driver.old }
     ensures same { E.same end.old end.new }
-    ensures acts { (p : Registers) → Acts E.stands E.dry E.full end.old end.new p p Window driver
-        (result.0) (result.1) }
+    ensures acts { (p : Registers) → Acts E.stands E.dry E.full end.old end.new p p Window driver.old driver.new
+        result }
 {
     match driver {
-        AnyDriver::InReset(driver) => wrong_state(driver),
+        AnyDriver::InReset(_) => refused(Refusal::WrongState),
         AnyDriver::InActive(driver) => window_step(driver, end),
     }
 }
 
 /// Tries the step `Release` in either state.
-fn try_release<E: DriverEnd>(driver: AnyDriver, end: &mut E) -> (AnyDriver, Tried)
-    requires { FitsEnd E.link end.old driver }
+fn try_release<E: DriverEnd>(driver: &mut AnyDriver, end: &mut E) -> Tried
+    requires { FitsEnd E.link end.old driver.old }
     ensures same { E.same end.old end.new }
-    ensures acts { (p : Registers) → Acts E.stands E.dry E.full end.old end.new p p Release driver
-        (result.0) (result.1) }
+    ensures acts { (p : Registers) → Acts E.stands E.dry E.full end.old end.new p p Release driver.old driver.new
+        result }
 {
     match driver {
-        AnyDriver::InReset(driver) => wrong_state(driver),
+        AnyDriver::InReset(_) => refused(Refusal::WrongState),
         AnyDriver::InActive(driver) => release_step(driver, end),
     }
 }

@@ -1,5 +1,7 @@
 use Rattle.std.proofs.Common.{refl}
+use Rattle.sja_driver.specs.LoggedDrivers.{ended_of}
 use Rattle.sja_driver.proofs.Logged.{stays_lawful, steps_of}
+use Rattle.sja_driver.proofs.Stepping.{at_most}
 use Rattle.sja_driver.proofs.logged_driver.LoggedDriver.step.Goals as goal
 
 pub returns-clause-stays : goal.returns-clause-stays
@@ -7,15 +9,21 @@ returns-clause-stays g c =
     let e = g.met.E.DriverEnd in
     let entered = c.enter.ensures in
     stays_lawful g.E.DriverEnd.link g.E.DriverEnd.same c.args.self.now _ c.args.links.now c.args.base c.args.bits c.turn.result
-    c.index-links-here.result _ c.try_step-driver.result.1 c.enter.result e.same_refl e.same_link c.requires c.turn.ensures
-    c.try_step-driver.ensures.same refl entered.met entered.done entered.released entered.left entered.done_room
-    entered.release_room entered.left_room (rw c.replace-driver.ensures.value at c.try_step-driver.ensures.acts.place)
+    c.index-links-here.result _ c.try_step-tried.result c.enter.result e.same_refl e.same_link c.requires c.turn.ensures
+    c.try_step-tried.ensures.same refl entered.met entered.done entered.released entered.left entered.done_room
+    entered.release_room entered.left_room (c.try_step-tried.ensures.acts.place)
 
 pub returns-clause-steps : goal.returns-clause-steps
 returns-clause-steps g c =
     let e = g.E.DriverEnd in
-    let acts = c.try_step-driver.ensures.acts in
+    let acts = c.try_step-tried.ensures.acts in
     steps_of e.stands e.dry e.full c.args.self.now _ c.args.links.now c.args.base c.args.bits c.turn.result c.args.port.now
-    c.try_step-driver.new.port c.args.step.now c.index-links-here.result c.try_step-driver.new.end c.try_step-driver.result.1
-    c.enter.result c.requires.lawful c.requires.eight c.turn.ensures (rw c.replace-driver.ensures.value at acts) c.enter.ensures.met
+    c.try_step-tried.new.port c.args.step.now c.index-links-here.result c.try_step-tried.new.end c.try_step-tried.result
+    c.enter.result c.requires.lawful c.requires.eight c.turn.ensures acts c.enter.ensures.met
     c.enter.ensures.done c.enter.ensures.released c.enter.ensures.left
+
+pub enter-requires-clause-fits : goal.enter-requires-clause-fits
+enter-requires-clause-fits g c =
+    let place = c.try_step-tried.ensures.acts.place in
+    at_most c.args.self.now.node _ c.try_step-tried.new.driver
+    (place c.args.self.now.node (ended_of c.args.self.now) c.requires.lawful)
