@@ -5,7 +5,6 @@ mod given_back;
 mod journals;
 mod judging;
 mod refused;
-mod returning;
 mod room;
 mod windows;
 mod worlds;

@@ -5,7 +5,6 @@ mod endless;
 mod given;
 mod given_back;
 mod refused_memory;
-mod returning;
 mod scripts;
 mod starts;
 mod windows;

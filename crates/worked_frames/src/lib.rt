@@ -2,8 +2,10 @@
 //!
 //! A line is as its transmitter sends it, with a recessive ACK slot, or as it is received, with a dominant one.
 //!
-//! The tests of several crates use them.
+//! [`runs`] has plans, reports and waves. The tests of several crates use them.
 #![tactic(auto)]
+
+pub mod runs;
 
 /// The message of the standard data frame with identifier 0 and no data.
 pub const ZEROS: [u8; 3] = [0, 0, 0];

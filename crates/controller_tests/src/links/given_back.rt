@@ -1,12 +1,23 @@
 //! Ledgers at a link that gives one item back, whichever it is: nothing has changed then, and the next try is taken.
 
 use super::given::{LINK, message_of};
-use super::returning::Returning;
-use sja_link::{BusEnd, BusLedger, Busy, Down, DriverEnd, DriverLedger, ReleaseFault, Up, Verdict};
+use sja_link::{
+    BusEnd, BusLedger, Busy, DequeLink, Down, DriverEnd, DriverLedger, ReleaseFault, Up, Verdict,
+};
+use std::alloc::Global;
 use std::test::Fail;
+use test_links::Returning;
 
 /// The lengths of messages that fill 44 of the 64 bytes.
 const LENGTHS: [u8; 6] = [3, 13, 5, 11, 8, 4];
+
+/// The link with nothing on it, which gives an item back after so many that it took.
+fn returning(alloc: Global, items: u32) -> Result<Returning, Fail> {
+    Ok(Returning {
+        link: DequeLink::new(alloc, LINK)?,
+        left: Some(items),
+    })
+}
 
 /// What is judged of a message of this length; a link of another number is busy.
 fn judged(
@@ -24,7 +35,7 @@ fn judged(
 #[test]
 fn a_message_that_comes_back_is_stored_at_the_next_try(rt: HostRuntime) -> Result<(), Fail> {
     for back in 0..6u32 {
-        let mut end = Returning::after(rt.alloc(), back)?;
+        let mut end = returning(rt.alloc(), back)?;
         let mut ledger = BusLedger::new(LINK);
         let mut place = 0u32;
         for length in LENGTHS {
@@ -51,7 +62,7 @@ fn a_message_that_comes_back_is_stored_at_the_next_try(rt: HostRuntime) -> Resul
 
 #[test]
 fn bus_off_that_comes_back_is_put_at_the_next_try(rt: HostRuntime) -> Result<(), Fail> {
-    let mut end = Returning::after(rt.alloc(), 0)?;
+    let mut end = returning(rt.alloc(), 0)?;
     let mut ledger = BusLedger::new(LINK);
     if BusEnd::id(&end) != ledger.id() {
         return Err("another link")?;
@@ -88,7 +99,7 @@ fn shows(ledger: &mut DriverLedger, end: &mut Returning, length: u8) -> Result<b
 #[test]
 fn a_credit_that_comes_back_is_given_at_the_next_try(rt: HostRuntime) -> Result<(), Fail> {
     for back in 0..6u32 {
-        let mut end = Returning::after(rt.alloc(), back)?;
+        let mut end = returning(rt.alloc(), back)?;
         let mut ledger = DriverLedger::new(LINK);
         for length in LENGTHS {
             assert!(rt; end.link.put(Down::Message(message_of(length)?)).is_ok());

@@ -2,13 +2,13 @@
 //! has changed then, and the next try is taken.
 
 use super::given::{NODE, link_with, message};
-use super::returning::Returning;
 use can_node::Request;
 use sja_driver::{Active, CommandFault, Driver, Reset, StartFault};
 use sja_link::{BusEnd, Down, DriverEnd, ReleaseFault, Up};
 use sja_regs::Port;
 use std::alloc::Global;
 use std::test::Fail;
+use test_links::Returning;
 
 /// The address of the mode register, and of the status register (SJA1000 data sheet, 6.4.1).
 const MODE: u8 = 0;
@@ -21,7 +21,7 @@ fn started(end: &mut Returning, port: &mut Port, comes_back: bool) -> Result<Dri
     if comes_back {
         driver = kept_in_reset(driver, end, port)?;
     }
-    if driver.next_link() != Some(end.id()) {
+    if driver.next_link() != Some(DriverEnd::id(end)) {
         return Err("another link")?;
     }
     match driver.start(end, port) {
@@ -36,7 +36,7 @@ fn kept_in_reset(
     end: &mut Returning,
     port: &mut Port,
 ) -> Result<Driver<Reset>, Fail> {
-    if driver.next_link() != Some(end.id()) {
+    if driver.next_link() != Some(DriverEnd::id(end)) {
         return Err("another link")?;
     }
     match driver.start(end, port) {
@@ -53,7 +53,7 @@ fn requests(
     port: &mut Port,
     comes_back: bool,
 ) -> Result<(), Fail> {
-    if driver.link() != end.id() {
+    if driver.link() != DriverEnd::id(end) {
         return Err("another link")?;
     }
     if comes_back {
@@ -79,7 +79,7 @@ fn releases(
 ) -> Result<(), Fail> {
     let first = message(7)?;
     if comes_back {
-        if driver.link() != end.id() {
+        if driver.link() != DriverEnd::id(end) {
             return Err("another link")?;
         }
         if driver.release(end) != Err(ReleaseFault::Busy) {
@@ -90,7 +90,7 @@ fn releases(
             _ => Err("the window shows something else")?,
         }
     }
-    if driver.link() != end.id() {
+    if driver.link() != DriverEnd::id(end) {
         return Err("another link")?;
     }
     match driver.release(end) {
@@ -107,7 +107,7 @@ fn stops(
     comes_back: bool,
 ) -> Result<(), Fail> {
     let mut driver = driver;
-    if driver.link() != end.id() {
+    if driver.link() != DriverEnd::id(end) {
         return Err("another link")?;
     }
     if comes_back {

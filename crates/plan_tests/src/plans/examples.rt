@@ -4,28 +4,7 @@ use can_frame::Message;
 use sja_plan::{Turn, read_plan};
 use sja_script::{Step, Strike};
 use std::test::Fail;
-
-/// A frame is sent, and its receiver is struck at the last bit of the end of frame.
-const RECEIVER_STRUCK: &str = "version = 1
-bits = 200
-turns = [\"node 0 3\", \"node 1 1\", \"rest\", \"node 1 2\"]
-faults = [\"1 60\"]
-[[node]]
-steps = [\"start\", \"load 000000\", \"command 01\"]
-[[node]]
-steps = [\"start\", \"release\", \"release\"]
-";
-
-/// The same with the transmitter struck.
-const TRANSMITTER_STRUCK: &str = "version = 1
-bits = 200
-turns = [\"node 0 3\", \"node 1 1\", \"rest\", \"node 1 2\"]
-faults = [\"0 60\"]
-[[node]]
-steps = [\"start\", \"load 000000\", \"command 01\"]
-[[node]]
-steps = [\"start\", \"release\", \"release\"]
-";
+use worked_frames::runs::{RECEIVER_STRUCK, TRANSMITTER_STRUCK};
 
 /// The strike of this node at bit 60.
 fn once(node: u8) -> Strike {

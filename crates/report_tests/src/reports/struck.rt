@@ -7,35 +7,7 @@ use sja_report::{End, NodeRun, RunLog, report};
 use sja_script::{Done, Refusal, StepAnswer};
 use std::alloc::Global;
 use std::test::Fail;
-
-const RECEIVER_STRUCK: &str = "sja version 1 bits 79 end turns
-node 0 tec 0 rec 0 steps 3
-step 1 ok
-step 2 ok
-step 3 ok
-activation 1 stored 0 overrun 0 free 64
-node 1 tec 0 rec 0 steps 3
-step 1 ok
-step 2 3
-step 3 refused Empty
-activation 1 stored 1 overrun 0 free 64
-released 00 00 00
-";
-
-const TRANSMITTER_STRUCK: &str = "sja version 1 bits 132 end turns
-node 0 tec 7 rec 0 steps 3
-step 1 ok
-step 2 ok
-step 3 ok
-activation 1 stored 0 overrun 0 free 64
-node 1 tec 0 rec 0 steps 3
-step 1 ok
-step 2 3
-step 3 3
-activation 1 stored 2 overrun 0 free 64
-released 00 00 00
-released 00 00 00
-";
+use worked_frames::runs::{STORED_ONCE, STORED_TWICE};
 
 /// The steps of the transmitter: a start, a load and a command.
 fn three_done(alloc: Global) -> Result<Vec<Done>, Fail> {
@@ -106,7 +78,7 @@ fn a_frame_whose_last_bit_is_struck_at_the_receiver_is_stored_once(
     let second = receiver(alloc, stored_once(alloc)?, done, 1)?;
     let nodes = two(alloc, transmitter(alloc, 79, 0)?, second)?;
     let text = report(alloc, &RunLog::of(1, 79, End::Turns, nodes))?;
-    assert!(rt; text.as_str() == RECEIVER_STRUCK);
+    assert!(rt; text.as_str() == STORED_ONCE);
     Ok(())
 }
 
@@ -120,6 +92,6 @@ fn a_frame_whose_last_bit_is_struck_at_the_transmitter_is_stored_twice(
     let second = receiver(alloc, stored_twice(alloc)?, done, 2)?;
     let nodes = two(alloc, transmitter(alloc, 132, 7)?, second)?;
     let text = report(alloc, &RunLog::of(1, 132, End::Turns, nodes))?;
-    assert!(rt; text.as_str() == TRANSMITTER_STRUCK);
+    assert!(rt; text.as_str() == STORED_TWICE);
     Ok(())
 }

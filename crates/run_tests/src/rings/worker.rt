@@ -5,7 +5,6 @@ ghost use Rattle.sja_driver.specs.LoggedDrivers.{node_of, log_of, IsLawful};
 ghost use Rattle.sja_driver.specs.Logs.{HasRoom};
 ghost use Rattle.run_tests.specs.Lawful.{lawful_once};
 
-use super::ready::are_links_of_node;
 use super::told::Told;
 use sja_driver::{LoggedDriver, WorkLog};
 use sja_link::{Down, DriverEnd};
@@ -14,6 +13,7 @@ use sja_rings::RingDriver;
 use sja_script::Step;
 use std::alloc::Global;
 use std::test::Fail;
+use test_links::are_links_of_node;
 
 /// The driver of a node with its ends of eight links of two rings, and how many steps of its script are done.
 #[derive(Drop)]

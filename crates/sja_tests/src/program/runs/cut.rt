@@ -2,28 +2,7 @@
 
 use super::given::{answered, refuses};
 use std::io::{ErrorKind, Read, Result};
-
-/// A frame whose receiver is struck at its last bit.
-const RECEIVER_STRUCK: &[u8] = b"version = 1
-bits = 200
-turns = [\"node 0 3\", \"node 1 1\", \"rest\", \"node 1 2\"]
-faults = [\"1 60\"]
-[[node]]
-steps = [\"start\", \"load 000000\", \"command 01\"]
-[[node]]
-steps = [\"start\", \"release\", \"release\"]
-";
-
-/// The same with the transmitter struck.
-const TRANSMITTER_STRUCK: &[u8] = b"version = 1
-bits = 200
-turns = [\"node 0 3\", \"node 1 1\", \"rest\", \"node 1 2\"]
-faults = [\"0 60\"]
-[[node]]
-steps = [\"start\", \"load 000000\", \"command 01\"]
-[[node]]
-steps = [\"start\", \"release\", \"release\"]
-";
+use worked_frames::runs::{RECEIVER_STRUCK, TRANSMITTER_STRUCK};
 
 /// An input whose first read gives what is there, and whose next one fails.
 #[derive(Drop)]
@@ -50,6 +29,7 @@ impl Read for Broken<'_> {
 #[test]
 fn a_plan_cut_off_or_broken_off_anywhere_is_answered(rt: HostRuntime) {
     for plan in [RECEIVER_STRUCK, TRANSMITTER_STRUCK] {
+        let plan = plan.as_bytes();
         for end in 0..=plan.len() {
             let beginning = plan.get(..end).unwrap_or(plan);
             assert!(rt; answered(rt.alloc(), beginning), "{end} bytes");

@@ -5,14 +5,14 @@ use std::alloc::Global;
 use std::io::Read;
 use std::str;
 
-/// Two nodes: node 0 sends the frame with identifier 0, and node 1 releases twice after the rest.
+/// Two nodes: node 0 sends the frame with identifier 0, and node 1 leaves it unread.
 pub const SENT_ONCE: &str = "version = 1
 bits = 200
-turns = ['node 0 3', 'node 1 1', 'rest', 'node 1 2']
+turns = ['node 0 3', 'node 1 1', 'rest']
 [[node]]
 steps = ['start', 'load 000000', 'command 01']
 [[node]]
-steps = ['start', 'release', 'release']
+steps = ['start']
 ";
 
 /// Its report: the frame is on the bus from bit 11 to bit 60, and intermission ends with bit 63.
@@ -22,12 +22,10 @@ step 1 ok
 step 2 ok
 step 3 ok
 activation 1 stored 0 overrun 0 free 64
-node 1 tec 0 rec 0 steps 3
+node 1 tec 0 rec 0 steps 1
 step 1 ok
-step 2 3
-step 3 refused Empty
-activation 1 stored 1 overrun 0 free 64
-released 00 00 00
+activation 1 stored 1 overrun 0 free 61
+unread 00 00 00
 ";
 
 /// Whether `run` over this input answers this status, with these texts on the output and on the error output.

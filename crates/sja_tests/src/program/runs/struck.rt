@@ -1,64 +1,13 @@
 //! Runs with a strike in one frame.
 
 use super::given::reports;
-
-/// Two nodes: node 0 sends the frame with identifier 0, and node 1 releases twice after the rest. The receiver is
-/// struck at the frame's last bit.
-const RECEIVER_STRUCK: &str = "version = 1
-bits = 200
-turns = ['node 0 3', 'node 1 1', 'rest', 'node 1 2']
-faults = ['1 60']
-[[node]]
-steps = ['start', 'load 000000', 'command 01']
-[[node]]
-steps = ['start', 'release', 'release']
-";
-
-const STORED_ONCE: &str = "sja version 1 bits 79 end turns
-node 0 tec 0 rec 0 steps 3
-step 1 ok
-step 2 ok
-step 3 ok
-activation 1 stored 0 overrun 0 free 64
-node 1 tec 0 rec 0 steps 3
-step 1 ok
-step 2 3
-step 3 refused Empty
-activation 1 stored 1 overrun 0 free 64
-released 00 00 00
-";
+use worked_frames::runs::{RECEIVER_STRUCK, STORED_ONCE, STORED_TWICE, TRANSMITTER_STRUCK};
 
 /// The receiver has the frame and sends an overload flag; the transmitter counts it as sent.
 #[test]
 fn a_frame_struck_at_its_receivers_last_bit_is_stored_once(rt: HostRuntime) {
     assert!(rt; reports(rt.alloc(), RECEIVER_STRUCK, STORED_ONCE));
 }
-
-/// The same with the transmitter struck.
-const TRANSMITTER_STRUCK: &str = "version = 1
-bits = 200
-turns = ['node 0 3', 'node 1 1', 'rest', 'node 1 2']
-faults = ['0 60']
-[[node]]
-steps = ['start', 'load 000000', 'command 01']
-[[node]]
-steps = ['start', 'release', 'release']
-";
-
-const STORED_TWICE: &str = "sja version 1 bits 132 end turns
-node 0 tec 7 rec 0 steps 3
-step 1 ok
-step 2 ok
-step 3 ok
-activation 1 stored 0 overrun 0 free 64
-node 1 tec 0 rec 0 steps 3
-step 1 ok
-step 2 3
-step 3 3
-activation 1 stored 2 overrun 0 free 64
-released 00 00 00
-released 00 00 00
-";
 
 /// The transmitter takes it as failed and sends it again.
 #[test]

@@ -1,28 +1,18 @@
 //! A link that gives one item back.
 
-ghost use Rattle.std.specs.Prelude.{◌≡◌, IfOk};
+ghost use Rattle.std.specs.Prelude.{◌≡◌};
 
-use super::given::LINK;
-use can_frame::OutOfMemory;
 use sja_link::{BusEnd, DequeLink, Down, DriverEnd, LinkId, Up};
-use std::alloc::Global;
 
 /// A link of two queues that gives one of the items back that are put or given, once.
 #[derive(Drop)]
 pub struct Returning {
     pub link: DequeLink,
-    left: Option<u32>,
+    /// How many items are taken before that one; nothing once it was given back.
+    pub left: Option<u32>,
 }
 
 impl Returning {
-    /// The first activation of node 1 with nothing on the link. An item is given back after so many were taken.
-    pub fn after(alloc: Global, items: u32) -> Result<Returning, OutOfMemory> {
-        Ok(Returning {
-            link: DequeLink::new(alloc, LINK)?,
-            left: Some(items),
-        })
-    }
-
     /// Whether the next item is to be given back.
     fn is_due(&mut self) -> bool
         ensures { self.new.link ≡ self.old.link }

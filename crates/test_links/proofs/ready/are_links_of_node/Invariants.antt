@@ -1,6 +1,6 @@
 use Rattle.std.proofs.Common.{◌≡◌, ◌+◌, ◌<◌, ℕ}
 use Rattle.std.specs.Prelude.{slice_index_or}
-use Rattle.run_tests.proofs.rings.ready.are_links_of_node.Given as goal
+use Rattle.test_links.proofs.ready.are_links_of_node.Given as goal
 
 -- the ends so far have the numbers of their places
 abbrev pub invariant-loop-place : goal.invariant-loop-place
