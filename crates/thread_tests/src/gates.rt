@@ -1,6 +1,9 @@
 //! The gates that the tests' drivers ask.
 
 use sja_threads::{Gate, Pass};
+use std::alloc::Global;
+use std::sync::Arc;
+use std::sync::atomic::{AtomicU64, Ordering};
 
 /// A gate that lets every step go.
 #[derive(Drop)]
@@ -61,5 +64,39 @@ impl Gate for HoldsOnce {
         } else {
             Pass::Hold
         }
+    }
+}
+
+/// How often a step is tried that waits for another driver.
+const MOST: u32 = 10_000_000;
+
+/// A gate that holds some of its driver's steps, each until another driver has come to a step of its own. It quits where
+/// that takes too many tries.
+#[derive(Drop)]
+pub struct Meeting {
+    /// The step that this gate was asked for last.
+    pub own: Arc<AtomicU64>,
+    /// The step that the other driver's gate was asked for last.
+    pub other: Arc<AtomicU64>,
+    /// Which steps are held, and up to which step of the other driver.
+    pub held: [(u16, u64); 3],
+}
+
+impl Gate for Meeting {
+    ghost use Rattle.std.specs.Prelude.{true};
+
+    ghost QUITS = { true };
+
+    const QUITS: bool = true;
+
+    fn turn(&self, _node: u8, step: u16, tries: u32) -> Pass {
+        self.own.store(u64::from(step), Ordering::SeqCst);
+        let come = self.other.load(Ordering::SeqCst);
+        for (held, until) in self.held {
+            if step == held && come < until {
+                return if tries < MOST { Pass::Hold } else { Pass::Quit };
+            }
+        }
+        Pass::Go
     }
 }

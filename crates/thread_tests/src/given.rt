@@ -1,15 +1,19 @@
-//! What the tests begin with: the ends of a node's links, and a driver at them.
+//! What the tests begin with: the ends of a node's links and a driver at them, and whole runs.
 
-use super::ready::are_links_of_node;
+use super::gates::Open;
 use sja_driver::WorkLog;
 use sja_link::LinkId;
+use sja_plan::read_plan;
 use sja_regs::Port;
+use sja_report::RunLog;
 use sja_rings::{RingBus, RingDriver, ring_pair};
 use sja_script::{Step, StepAnswer};
-use sja_threads::{Gate, Worked, work};
+use sja_threads::{Gate, Worked, run_threads, work};
 use std::alloc::Global;
 use std::sync::{Mutex, Wait};
 use std::test::Fail;
+use std::thread::Threads;
+use test_links::are_links_of_node;
 
 /// The most steps of a test's script.
 const MOST: usize = 100;
@@ -61,4 +65,42 @@ pub fn answers(worked: &Worked<RingDriver>, expected: &[StepAnswer]) -> Result<(
         }
     }
     Ok(())
+}
+
+/// So many gates that let every step go.
+pub fn open_gates(alloc: Global, nodes: usize) -> Result<Vec<Open>, Fail> {
+    let mut gates = Vec::new(alloc);
+    for _ in 0..nodes {
+        gates.push(Open)?;
+    }
+    Ok(gates)
+}
+
+/// The log of a plan's run.
+pub fn run<G: Gate, R: Threads + Wait + Sync>(
+    rt: &R,
+    alloc: Global,
+    text: &str,
+    gates: Vec<G>,
+) -> Result<RunLog, Fail> {
+    let plan = read_plan(alloc, text.as_bytes())?;
+    match run_threads(rt, alloc, &plan, gates) {
+        Ok(log) => Ok(log),
+        Err(_) => Err("no run")?,
+    }
+}
+
+/// Of this node: how many steps were done, and how many messages were released and left unread in its first activation.
+pub fn counts(log: &RunLog, node: usize) -> Result<(usize, usize, usize), Fail> {
+    let Some(run) = log.nodes().get(node) else {
+        return Err("no such node")?;
+    };
+    let Some(activation) = run.activations().get(0) else {
+        return Ok((run.done().len(), 0, 0));
+    };
+    Ok((
+        run.done().len(),
+        activation.released().len(),
+        activation.unread().len(),
+    ))
 }

@@ -6,9 +6,9 @@ mod gates;
 #[cfg(test)]
 mod given;
 #[cfg(test)]
-mod passing;
+mod meeting;
 #[cfg(test)]
-mod ready;
+mod passing;
 #[cfg(test)]
 mod runs;
 #[cfg(test)]

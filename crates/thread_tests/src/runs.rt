@@ -1,14 +1,12 @@
 //! Whole runs in threads.
 
-use super::gates::{Open, Patience};
+use super::gates::Patience;
+use super::given::{counts, open_gates, run};
 use sja_plan::read_plan;
-use sja_report::{End, RunLog};
-use sja_threads::{Gate, run_threads};
+use sja_report::End;
+use sja_threads::run_threads;
 use sja_turns::RunFault;
-use std::alloc::Global;
-use std::sync::Wait;
 use std::test::Fail;
-use std::thread::Threads;
 
 /// Node 0 sends a frame of two bytes, and node 1 awaits and releases it.
 const PASSING: &str = "version = 1
@@ -35,6 +33,13 @@ steps = [\"start\", \"await 1\", \"window\"]
 steps = [\"start\"]
 ";
 
+/// A node alone waits for one, and has as many bits as it needs to come to rest.
+const WAITING_ALONE: &str = "version = 1
+bits = 11
+[[node]]
+steps = [\"start\", \"await 1\"]
+";
+
 /// Node 0 sends to node 1, whose driver has no step; and node 2 has started.
 const ENDED: &str = "version = 1
 bits = 2000
@@ -46,44 +51,6 @@ steps = []
 steps = [\"start\"]
 ";
 
-/// So many gates that let every step go.
-fn open_gates(alloc: Global, nodes: usize) -> Result<Vec<Open>, Fail> {
-    let mut gates = Vec::new(alloc);
-    for _ in 0..nodes {
-        gates.push(Open)?;
-    }
-    Ok(gates)
-}
-
-/// The log of a plan's run.
-fn run<G: Gate, R: Threads + Wait + Sync>(
-    rt: &R,
-    alloc: Global,
-    text: &str,
-    gates: Vec<G>,
-) -> Result<RunLog, Fail> {
-    let plan = read_plan(alloc, text.as_bytes())?;
-    match run_threads(rt, alloc, &plan, gates) {
-        Ok(log) => Ok(log),
-        Err(_) => Err("no run")?,
-    }
-}
-
-/// Of this node: how many steps were done, and how many messages were released and left unread in its first activation.
-fn counts(log: &RunLog, node: usize) -> Result<(usize, usize, usize), Fail> {
-    let Some(run) = log.nodes().get(node) else {
-        return Err("no such node")?;
-    };
-    let Some(activation) = run.activations().get(0) else {
-        return Ok((run.done().len(), 0, 0));
-    };
-    Ok((
-        run.done().len(),
-        activation.released().len(),
-        activation.unread().len(),
-    ))
-}
-
 #[test]
 fn a_frame_is_released_in_the_other_thread(rt: HostRuntime) -> Result<(), Fail> {
     let gates = open_gates(rt.alloc(), 2)?;
@@ -94,6 +61,7 @@ fn a_frame_is_released_in_the_other_thread(rt: HostRuntime) -> Result<(), Fail> 
     Ok(())
 }
 
+/// It is error passive after 16 frames that nobody acknowledged, and counts no further.
 #[test]
 fn a_lone_sender_spends_its_bits(rt: HostRuntime) -> Result<(), Fail> {
     let gates = open_gates(rt.alloc(), 1)?;
@@ -101,6 +69,9 @@ fn a_lone_sender_spends_its_bits(rt: HostRuntime) -> Result<(), Fail> {
     assert!(rt; log.end() == End::Bits);
     assert_eq!(rt; log.bits(), 1000);
     assert_eq!(rt; counts(&log, 0)?, (5, 0, 0));
+    for node in log.nodes() {
+        assert_eq!(rt; (node.txerr(), node.rxerr()), (128, 0));
+    }
     Ok(())
 }
 
@@ -115,6 +86,18 @@ fn a_run_whose_gates_quit_ends_at_rest(rt: HostRuntime) -> Result<(), Fail> {
     assert_eq!(rt; log.bits(), 11);
     assert_eq!(rt; counts(&log, 0)?, (1, 0, 0));
     assert_eq!(rt; counts(&log, 1)?, (1, 0, 0));
+    Ok(())
+}
+
+/// No bit is due once it is at rest, so the port isn't closed, though the bits are spent.
+#[test]
+fn a_wait_with_all_bits_spent_at_rest_is_left_to_the_gate(rt: HostRuntime) -> Result<(), Fail> {
+    let mut gates = Vec::new(rt.alloc());
+    gates.push(Patience { tries: 1_000 })?;
+    let log = run(&rt, rt.alloc(), WAITING_ALONE, gates)?;
+    assert!(rt; log.end() == End::Rest);
+    assert_eq!(rt; log.bits(), 11);
+    assert_eq!(rt; counts(&log, 0)?, (1, 0, 0));
     Ok(())
 }
 
@@ -133,9 +116,10 @@ fn a_driver_that_has_ended_is_not_waited_for(rt: HostRuntime) -> Result<(), Fail
 #[test]
 fn there_is_a_gate_for_each_node(rt: HostRuntime) -> Result<(), Fail> {
     let plan = read_plan(rt.alloc(), PASSING.as_bytes())?;
-    let gates = open_gates(rt.alloc(), 1)?;
-    match run_threads(&rt, rt.alloc(), &plan, gates) {
-        Err(RunFault::GateCount) => Ok(()),
-        _ => Err("not the fault that there isn't one gate for each node")?,
+    for count in [0, 1, 3] {
+        let gates = open_gates(rt.alloc(), count)?;
+        let run = run_threads(&rt, rt.alloc(), &plan, gates);
+        assert!(rt; matches!(&run, Err(RunFault::GateCount)), "{count} gates");
     }
+    Ok(())
 }

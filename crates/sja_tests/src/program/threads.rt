@@ -2,6 +2,10 @@
 
 use super::row::{Said, Want, said};
 use sja_run::{Output, sja, sja_serial};
+use std::alloc::Global;
+use std::sync::Wait;
+use std::test::Fail;
+use std::thread::Threads;
 
 /// Two drivers that wait for what they need, so that each run in threads has the same report.
 const WAITING: &str = "version = 1
@@ -28,6 +32,90 @@ activation 1 stored 1 overrun 0 free 64
 released 00 00 00
 ";
 
+/// Three messages, each sent once the one before was sent; two drivers wait for all three, and release them.
+const THREE: &str = "version = 1
+bits = 2000
+turns = ['node 0 3', 'node 1 1', 'node 2 1', 'rest', 'node 0 3', 'rest', 'node 0 3', 'rest',
+    'node 0 1', 'node 1 4', 'node 2 4']
+[[node]]
+steps = ['start', 'load 000000', 'command 01', 'sent', 'load 002440', 'command 01', 'sent',
+    'load 002460', 'command 01', 'sent']
+[[node]]
+steps = ['start', 'await 3', 'release', 'release', 'release']
+[[node]]
+steps = ['start', 'await 3', 'release', 'release', 'release']
+";
+
+/// Its report after the end of its first line. The frames have 50, 45 and 45 levels, each with intermission after it, and
+/// before them come eleven bits.
+const THREE_REPORT: &str = "node 0 tec 0 rec 0 steps 10
+step 1 ok
+step 2 ok
+step 3 ok
+step 4 ok
+step 5 ok
+step 6 ok
+step 7 ok
+step 8 ok
+step 9 ok
+step 10 ok
+activation 1 stored 0 overrun 0 free 64
+node 1 tec 0 rec 0 steps 5
+step 1 ok
+step 2 ok
+step 3 3
+step 4 3
+step 5 3
+activation 1 stored 3 overrun 0 free 64
+released 00 00 00
+released 00 24 40
+released 00 24 60
+node 2 tec 0 rec 0 steps 5
+step 1 ok
+step 2 ok
+step 3 3
+step 4 3
+step 5 3
+activation 1 stored 3 overrun 0 free 64
+released 00 00 00
+released 00 24 40
+released 00 24 60
+";
+
+/// A node that nobody acknowledges sends until the bits are spent.
+const ALONE: &str = "version = 1
+bits = 1000
+turns = ['node 0 3', 'rest']
+[[node]]
+steps = ['start', 'load 000000', 'command 01']
+";
+
+/// It is error passive after 16 frames, and counts no further.
+const ALONE_REPORT: &str = "sja version 1 bits 1000 end bits
+node 0 tec 128 rec 0 steps 3
+step 1 ok
+step 2 ok
+step 3 ok
+activation 1 stored 0 overrun 0 free 64
+";
+
+/// What these words print over this plan. It fails where the status isn't 0, something is told, or input is left.
+fn printed<R: Threads + Wait + Sync>(
+    rt: &R,
+    alloc: Global,
+    words: &[&str],
+    plan: &str,
+) -> Result<Vec<u8>, Fail> {
+    let mut input = plan.as_bytes();
+    let mut out = Output::new(Vec::new(alloc));
+    let mut err = Output::new(Vec::new(alloc));
+    let status = sja(rt, alloc, words, &mut input, &mut out, &mut err);
+    if status != 0 || !err.writer.is_empty() || !input.is_empty() {
+        return Err("no report")?;
+    }
+    Ok(out.writer)
+}
+
 #[test]
 fn a_run_in_threads_is_left_to_another_call(rt: HostRuntime) {
     let words = ["sja", "run", "--threads"];
@@ -42,22 +130,32 @@ fn a_run_in_threads_is_left_to_another_call(rt: HostRuntime) {
 }
 
 #[test]
-fn a_run_in_threads_prints_its_report(rt: HostRuntime) {
-    let words = ["sja", "run", "--threads"];
-    let mut input = WAITING.as_bytes();
-    let mut out = Output::new(Vec::new(rt.alloc()));
-    let mut err = Output::new(Vec::new(rt.alloc()));
-    let status = sja(
-        &rt,
-        rt.alloc(),
-        words.as_slice(),
-        &mut input,
-        &mut out,
-        &mut err,
-    );
-    assert_eq!(rt; status, 0);
-    assert!(rt; out.writer.as_slice() == WAITING_REPORT.as_bytes());
-    assert!(rt; input.is_empty() && err.writer.is_empty());
+fn a_run_in_threads_prints_its_report(rt: HostRuntime) -> Result<(), Fail> {
+    let text = printed(&rt, rt.alloc(), &["sja", "run", "--threads"], WAITING)?;
+    assert!(rt; text.as_slice() == WAITING_REPORT.as_bytes());
+    Ok(())
+}
+
+/// Each driver waits for what it needs, so no schedule changes the report but for what it ends with.
+#[test]
+fn a_plan_without_a_race_has_the_report_of_one_thread(rt: HostRuntime) -> Result<(), Fail> {
+    let serial = printed(&rt, rt.alloc(), &["sja", "run"], THREE)?;
+    let threads = printed(&rt, rt.alloc(), &["sja", "run", "--threads"], THREE)?;
+    let serial = str::from_utf8(&serial)?.strip_prefix("sja version 1 bits 160 end turns\n");
+    let threads = str::from_utf8(&threads)?.strip_prefix("sja version 1 bits 160 end rest\n");
+    assert!(rt; serial == Some(THREE_REPORT));
+    assert!(rt; threads == serial);
+    Ok(())
+}
+
+/// With all bits spent the end is the same too.
+#[test]
+fn a_lone_sender_has_the_report_of_one_thread(rt: HostRuntime) -> Result<(), Fail> {
+    let serial = printed(&rt, rt.alloc(), &["sja", "run"], ALONE)?;
+    let threads = printed(&rt, rt.alloc(), &["sja", "run", "--threads"], ALONE)?;
+    assert!(rt; serial.as_slice() == ALONE_REPORT.as_bytes());
+    assert!(rt; threads.as_slice() == serial.as_slice());
+    Ok(())
 }
 
 #[test]
