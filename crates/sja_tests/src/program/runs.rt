@@ -4,6 +4,7 @@
 
 mod arbitration;
 mod buffers;
+mod busy;
 mod cut;
 mod each_bit;
 mod errors;
