@@ -3,6 +3,7 @@ pub mod Sums
 pub mod Accounts
 pub mod Timings
 pub mod Stepping
+pub mod Givings
 pub mod Ordering
 pub mod Windows
 pub mod Moments

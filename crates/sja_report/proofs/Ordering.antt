@@ -10,14 +10,11 @@ use Rattle.sja_link.specs.declared.up.Up.TheVariants.{Start as StartItem, Credit
 use Rattle.sja_link.specs.declared.entry.Entry.{Entry}
 use Rattle.sja_link.specs.Picking.{EachAfter}
 use Rattle.sja_link.proofs.Freeing.{total_push}
-use Rattle.sja_regs.specs.Commands.{command_of, requests}
-use Rattle.sja_script.specs.declared.step.Step.{Step}
-use Rattle.sja_script.specs.declared.step.Step.TheVariants.{Start, Stop, Window, Release, Read, Write, Load, Command, Await, Sent}
-use Rattle.sja_script.specs.declared.step_answer.StepAnswer.{StepAnswer}
-use Rattle.sja_script.specs.declared.step_answer.StepAnswer.TheVariants.{Done as DoneAnswer, NoMessage, Shown, Released, Value, Refused}
-use Rattle.sja_driver.specs.Deeds.{Deed, opened, opens_by, opened_by, active_after, is_active, FitsState, GivesSend, Gives, given_in, deeds_of}
+use Rattle.sja_driver.specs.Deeds.{Deed, opened, opens_by, opened_by, active_after, is_active, FitsState, Gives, given_in, deeds_of}
 use Rattle.sja_report.specs.Orders.{HasStop, StopsLast, GivesInOrder, TakesInOrder}
 use Rattle.sja_report.specs.Timing.{WaitsInTime, given_when}
+use Rattle.sja_report.proofs.Givings.{Kind, kind_of}
+use Rattle.sja_report.proofs.Givings.Kind.{quiet, starts, credits, sends, stops}
 use Rattle.sja_report.proofs.Timings.{no_stop_push, nothing_waits}
 use Rattle.sja_report.proofs.Stepping.{given_push, given_lies}
 
@@ -116,55 +113,8 @@ gives_start n given after x other same here h = record {
 
 -- ---- each deed
 
--- a deed gives nothing and changes nothing, or starts, or stops, or gives one item that is no stop
-data Kind (active : Bool) (s : Step) (r : StepAnswer) (gave : List Up) : Type 0 where
-  quiet : gave ≡ [] → opened s r ≡ 0 → active_after active s r ≡ active → Kind active s r gave
-  starts : active ≡ false → (x : Up) → x ≢ StopItem → gave ≡ x ∷ [] → opened s r ≡ 1 → active_after active s r ≡ true → Kind active s r gave
-  stops : active ≡ true → gave ≡ StopItem ∷ [] → opened s r ≡ 0 → active_after active s r ≡ false → Kind active s r gave
-  gives_one : active ≡ true → (x : Up) → x ≢ StopItem → gave ≡ x ∷ [] → opened s r ≡ 0 → active_after active s r ≡ active → Kind active s r gave
-
-kind_of : (active : Bool) (n : ℕ) (s : Step) (r : StepAnswer) (gave : List Up) → FitsState active n s r → Gives s r gave → Kind active s r gave
-kind_of true n Start DoneAnswer gave fits g = absurd cc
-kind_of false n Start DoneAnswer gave fits g = starts refl (StartItem g.0) (λ e. cc) g.1 refl refl
-kind_of active n Start NoMessage gave fits g = quiet g refl refl
-kind_of active n Start (Shown m) gave fits g = quiet g refl refl
-kind_of active n Start (Released k) gave fits g = quiet g refl refl
-kind_of active n Start (Value k) gave fits g = quiet g refl refl
-kind_of active n Start (Refused k) gave fits g = quiet g refl refl
-kind_of true n Stop DoneAnswer gave fits g = stops refl g refl refl
-kind_of false n Stop DoneAnswer gave fits g = absurd cc
-kind_of active n Stop NoMessage gave fits g = quiet g refl refl
-kind_of active n Stop (Shown m) gave fits g = quiet g refl refl
-kind_of active n Stop (Released k) gave fits g = quiet g refl refl
-kind_of active n Stop (Value k) gave fits g = quiet g refl refl
-kind_of active n Stop (Refused k) gave fits g = quiet g refl refl
-kind_of true n Release (Released k) gave fits g = gives_one refl (Credit k) (λ e. cc) g refl refl
-kind_of false n Release (Released k) gave fits g = absurd cc
-kind_of active n Release DoneAnswer gave fits g = quiet g refl refl
-kind_of active n Release NoMessage gave fits g = quiet g refl refl
-kind_of active n Release (Shown m) gave fits g = quiet g refl refl
-kind_of active n Release (Value k) gave fits g = quiet g refl refl
-kind_of active n Release (Refused k) gave fits g = quiet g refl refl
-kind_of true n (Command v) DoneAnswer gave fits g = asked (requests (command_of v)) g
-  where
-    asked : (b : Bool) → GivesSend b gave → Kind true (Command v) DoneAnswer gave
-    asked true h = gives_one refl (SendItem h.0) (λ e. cc) h.1 refl refl
-    asked false h = quiet h refl refl
-kind_of false n (Command v) DoneAnswer gave fits g = absurd cc
-kind_of active n (Command v) NoMessage gave fits g = quiet g refl refl
-kind_of active n (Command v) (Shown m) gave fits g = quiet g refl refl
-kind_of active n (Command v) (Released k) gave fits g = quiet g refl refl
-kind_of active n (Command v) (Value k) gave fits g = quiet g refl refl
-kind_of active n (Command v) (Refused k) gave fits g = quiet g refl refl
-kind_of active n Window r gave fits g = quiet g refl refl
-kind_of active n (Read x) r gave fits g = quiet g refl refl
-kind_of active n (Write x y) r gave fits g = quiet g refl refl
-kind_of active n (Load m) r gave fits g = quiet g refl refl
-kind_of active n (Await k) r gave fits g = quiet g refl refl
-kind_of active n Sent r gave fits g = quiet g refl refl
-
 -- in order, with what a deed gave
-one_more : (active : Bool) (n : ℕ) (d : Deed) (given after : ℕ → List Up) → Kind active d.step d.answer d.gave →
+one_more : (active : Bool) (n : ℕ) (d : Deed) (given after : ℕ → List Up) → Kind active n d.step d.answer d.gave →
     ((a : ℕ) → after a ≡ given a ++ (if (n + opens_by d) == a then d.gave else [])) → InOrder active n given →
     InOrder (active_after active d.step d.answer) (n + opens_by d) after
 one_more active n d given after kind adds h = over kind
@@ -182,22 +132,27 @@ one_more active n d given after kind adds h = over kind
     become : (b c : Bool) (m k : ℕ) → b ≡ c → m ≡ k → InOrder b m after → InOrder c k after
     become b c m k e q x = subst (λ (v : Bool). InOrder v k after) e (subst (λ (v : ℕ). InOrder b v after) q x)
 
-    over : Kind active d.step d.answer d.gave → InOrder (active_after active d.step d.answer) (n + opens_by d) after
+    one_item : active ≡ true → (x : Up) → x ≢ StopItem → d.gave ≡ x ∷ [] → opened d.step d.answer ≡ 0 →
+        active_after active d.step d.answer ≡ active → InOrder (active_after active d.step d.answer) (n + opens_by d) after
+    one_item was x other gave o same =
+        let m : n + opens_by d ≡ n = omega (arith, o) in
+        become true (active_after active d.step d.answer) n (n + opens_by d) (sym was ∙ sym same) (sym m)
+        (gives_item n given after x other (λ a differ. apart a (λ e. differ (sym m ∙ e))) (here n (x ∷ []) m gave) (subst (λ (v : Bool). InOrder v n given) was h))
+
+    over : Kind active n d.step d.answer d.gave → InOrder (active_after active d.step d.answer) (n + opens_by d) after
     over (quiet none o same) =
         become active (active_after active d.step d.answer) n (n + opens_by d) (sym same) (omega (arith, o))
         (keeps active n given after (λ a. adds a ∙ ap (λ l. given a ++ l) (none_there none ((n + opens_by d) == a)) ∙ append-nil (given a)) h)
-    over (starts was x other gave o same) =
+    over (starts was few config gave o same) =
         let m : n + opens_by d ≡ n + 1 = omega (arith, o) in
         become true (active_after active d.step d.answer) (n + 1) (n + opens_by d) (sym same) (sym m)
-        (gives_start n given after x other (λ a differ. apart a (λ e. differ (sym m ∙ e))) (here (n + 1) (x ∷ []) m gave) (subst (λ (v : Bool). InOrder v n given) was h))
+        (gives_start n given after (StartItem config) (λ e. cc) (λ a differ. apart a (λ e. differ (sym m ∙ e))) (here (n + 1) (StartItem config ∷ []) m gave) (subst (λ (v : Bool). InOrder v n given) was h))
     over (stops was gave o same) =
         let m : n + opens_by d ≡ n = omega (arith, o) in
         become false (active_after active d.step d.answer) n (n + opens_by d) (sym same) (sym m)
         (gives_stop n given after (λ a differ. apart a (λ e. differ (sym m ∙ e))) (here n (StopItem ∷ []) m gave) (subst (λ (v : Bool). InOrder v n given) was h))
-    over (gives_one was x other gave o same) =
-        let m : n + opens_by d ≡ n = omega (arith, o) in
-        become true (active_after active d.step d.answer) n (n + opens_by d) (sym was ∙ sym same) (sym m)
-        (gives_item n given after x other (λ a differ. apart a (λ e. differ (sym m ∙ e))) (here n (x ∷ []) m gave) (subst (λ (v : Bool). InOrder v n given) was h))
+    over (credits was k gave o same) = one_item was (Credit k) (λ e. cc) gave o same
+    over (sends was request gave o same) = one_item was (SendItem request) (λ e. cc) gave o same
 
 -- ---- all deeds
 

@@ -28,8 +28,8 @@ use Rattle.sja_report.specs.Windows.{put_by, SeesIf}
 use Rattle.sja_report.proofs.Timings.{aborts_on, aborts_push}
 use Rattle.sja_turns.specs.Linking.{IsLevel}
 use Rattle.sja_turns.specs.Porting.{IsPorted}
-use Rattle.sja_turns.proofs.Givings.{Kind}
-use Rattle.sja_turns.proofs.Givings.Kind.{quiet, starts, credits, sends, stops}
+use Rattle.sja_report.proofs.Givings.{Kind}
+use Rattle.sja_report.proofs.Givings.Kind.{quiet, starts, credits, sends, stops}
 use Rattle.sja_turns.proofs.Items.{bits_same, stops_push, sends_push, put_item, SamePut, sees_same, each_map, settings_same, when_item, when_none}
 use Rattle.sja_turns.proofs.Ports.{carried_alike}
 use Rattle.sja_turns.proofs.Trying.{IsNext}

@@ -22,8 +22,8 @@ use Rattle.sja_driver.specs.Deeds.{Deed, opened_by, is_active}
 use Rattle.sja_turns.specs.Asking.{IsAsked}
 use Rattle.sja_turns.specs.Linking.{IsLevel}
 use Rattle.sja_turns.specs.Porting.{IsPorted}
-use Rattle.sja_turns.proofs.Givings.{Kind}
-use Rattle.sja_turns.proofs.Givings.Kind.{quiet, starts, credits, sends, stops}
+use Rattle.sja_report.proofs.Givings.{Kind}
+use Rattle.sja_report.proofs.Givings.Kind.{quiet, starts, credits, sends, stops}
 use Rattle.sja_turns.proofs.After.{enters, level_after}
 use Rattle.sja_turns.proofs.Ported.{was_on, on_bus}
 use Rattle.sja_turns.proofs.Small.{no_item, one_item, neither}

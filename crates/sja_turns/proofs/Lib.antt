@@ -2,7 +2,6 @@ pub mod Small
 pub mod Slices
 pub mod Cuts
 pub mod Heard
-pub mod Givings
 pub mod Taking
 pub mod Looks
 pub mod Ports

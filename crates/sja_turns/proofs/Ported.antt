@@ -31,8 +31,8 @@ use Rattle.sja_turns.proofs.After.Enters.{nothing, item}
 use Rattle.sja_turns.proofs.Asked.{off_known, asked_same, asked_start, asked_credit, asked_send, asked_stop}
 use Rattle.sja_turns.proofs.Counting.{counted_none, counted_item, counted_credit}
 use Rattle.sja_turns.proofs.Effects.{tbs_by, tbs_step, stop_drops, busy_sends_none, abort_gives_none, reset_sends_none}
-use Rattle.sja_turns.proofs.Givings.{Kind, opened_from}
-use Rattle.sja_turns.proofs.Givings.Kind.{quiet, starts, credits, sends, stops}
+use Rattle.sja_report.proofs.Givings.{Kind, opened_from}
+use Rattle.sja_report.proofs.Givings.Kind.{quiet, starts, credits, sends, stops}
 use Rattle.sja_turns.proofs.Items.{off_same, settings_same, settings_push}
 use Rattle.sja_turns.proofs.Modes.{rm_step, closed_step, abort_step}
 use Rattle.sja_turns.proofs.Ports.{alike_step}

@@ -31,7 +31,7 @@ use Rattle.sja_driver.proofs.Giving.{gives_carried}
 use Rattle.sja_report.proofs.Stepping.{given_push, given_taken}
 use Rattle.sja_turns.specs.Nodes.{IsNode}
 use Rattle.sja_turns.specs.Serial.{SerialValue, steps_at, deeds_at, StandsAt}
-use Rattle.sja_turns.proofs.Givings.{kind_of}
+use Rattle.sja_report.proofs.Givings.{kind_of}
 use Rattle.sja_turns.proofs.Paid.{credit_lengths, credit_right}
 use Rattle.sja_turns.proofs.InOrder.{never_refused}
 use Rattle.sja_turns.proofs.Small.{no_item}

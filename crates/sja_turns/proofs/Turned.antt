@@ -40,8 +40,8 @@ use Rattle.sja_turns.specs.Linking.{IsLevel}
 use Rattle.sja_turns.specs.Nodes.{IsNode}
 use Rattle.sja_turns.specs.Porting.{IsPorted}
 use Rattle.sja_turns.specs.Waiting.{HasToWait}
-use Rattle.sja_turns.proofs.Givings.{Kind, kind_of}
-use Rattle.sja_turns.proofs.Givings.Kind.{quiet, starts, credits, sends, stops}
+use Rattle.sja_report.proofs.Givings.{Kind, kind_of}
+use Rattle.sja_report.proofs.Givings.Kind.{quiet, starts, credits, sends, stops}
 use Rattle.sja_turns.proofs.Taking.{waiting, no_wait, AtMostOne}
 use Rattle.sja_turns.proofs.Trying.{shows_none, takes_none, Comes, comes, waits}
 use Rattle.sja_turns.proofs.After.{enters, level_after, in_time_after}
