@@ -12,7 +12,6 @@ use sja_link::LinkId;
 use sja_plan::Plan;
 use sja_regs::Port;
 use sja_rings::{RingBus, RingDriver, ring_pair};
-use sja_script::FaultScript;
 use std::alloc::Global;
 use std::sync::Mutex;
 
@@ -97,18 +96,4 @@ pub(crate) fn ports_of(
         ports.push_reserved(Mutex::new(Port::new(version)));
     }
     Ok(ports)
-}
-
-/// The strikes of the plan.
-///
-/// Error: [`OutOfMemory`] where memory was refused.
-pub(crate) fn script_of(alloc: Global, plan: &Plan) -> Result<FaultScript, OutOfMemory>
-    ensures { IfOk result (λ script. script ≡ plan.now.strikes) }
-{
-    let given = plan.strikes();
-    let mut strikes = Vec::with_capacity(alloc, given.len())?;
-    for strike in given {
-        strikes.push_reserved(*strike);
-    }
-    Ok(FaultScript::of(strikes))
 }

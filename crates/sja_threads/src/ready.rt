@@ -3,13 +3,14 @@
 use super::gate::Gate;
 use super::hand::Hand;
 use super::keeps::Child;
-use super::making::{hands_of, ports_of, script_of};
+use super::making::{hands_of, ports_of};
 use super::worked::Worked;
 use can_frame::OutOfMemory;
 use sja_bus::Bus;
 use sja_plan::Plan;
 use sja_regs::Port;
 use sja_rings::{RingBus, RingDriver};
+use sja_turns::script_of;
 use std::alloc::Global;
 use std::sync::Mutex;
 

@@ -27,10 +27,10 @@ pub(crate) fn new_drivers(alloc: Global, plan: &Plan) -> Result<Vec<LoggedDriver
     Ok(drivers)
 }
 
-/// The strikes of the plan.
+/// The strikes of the plan, as a bus takes them.
 ///
 /// Error: [`OutOfMemory`] where memory was refused.
-pub(crate) fn script_of(alloc: Global, plan: &Plan) -> Result<FaultScript, OutOfMemory>
+pub fn script_of(alloc: Global, plan: &Plan) -> Result<FaultScript, OutOfMemory>
     ensures { IfOk result (λ script. script ≡ plan.now.strikes) }
 {
     let given = plan.strikes();
