@@ -78,7 +78,7 @@ impl Station {
         }
     }
 
-    /// So many bits, one by one, or those in which every node is at rest at once. Whether all were run.
+    /// So many bits, one after another, or those in which every node is at rest at once. Whether all were run.
     pub fn bits(&mut self, count: u32, at_once: bool) -> bool {
         if !are_links_of(self.links.as_slice(), self.nodes)
             || self.board.ports.len() < usize::from(self.nodes)
