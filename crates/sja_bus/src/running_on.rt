@@ -51,8 +51,8 @@ fn goes_on(seats: &[Seat], struck: StruckNodes, to_rest: bool) -> bool
     !(to_rest && all_rest(seats))
 }
 
-/// Bits of all nodes from this one on, at most so many: as far as no node is struck, with `to_rest` as long as some node
-/// works, and up to the first in which a port is told something. Answers how many.
+/// Bits of all nodes from this one on, at most so many: as far as no node is struck, with `to_rest` as long as some
+/// node works, and up to the first in which a port is told something. Answers how many.
 pub(crate) fn on_all<E: BusEnd, B: Board>(
     seats: &mut [Seat],
     links: &mut [E],
@@ -110,7 +110,8 @@ impl Bus {
     ghost use Rattle.sja_bus.specs.Several.{AreBits, BreaksOff, IsOneBit, WorksIf};
 
     /// Further bits, at most so many: none where an abort stands at some port, and else as far as no strike falls, with
-    /// `to_rest` as long as some node works, up to and with the first in which a port is told something. Answers how many.
+    /// `to_rest` as long as some node works, up to and with the first in which a port is told something. Answers how
+    /// many.
     ///
     /// Nothing is taken from the links in them.
     ///
