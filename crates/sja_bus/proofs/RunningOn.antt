@@ -73,10 +73,39 @@ bus_row orders_are was_told was_kept script n struck seats after len few at row 
       wired = wired_row orders_are was_told was_kept script n struck seats after len few at row bus.wired;
     })
 
+-- the ports are as they were when they were asked
+pub none_still : {B : Type 0} (orders_are : B → ℕ → Orders → Type 0) (nodes : ℕ) (first board : B) (seats : List Seat) → length seats ≡ nodes → board ≡ first → NoneAborts (orders_are first) nodes →
+    NoneAborts (orders_are board) (length seats)
+none_still orders_are nodes first board seats count same orders =
+    let P : _ → Type 0 = λ b. NoneAborts (orders_are b) (length seats) in
+    let Q : ℕ → Type 0 = λ n. NoneAborts (orders_are first) n in
+    subst P (sym same) (subst Q (sym count) orders)
+
 -- none of those struck is any, and the script strikes none
 pub none_at : (script : List Strike) (n : ℕ) (none here : StruckNodes) → ((node : ℕ) → IsAmong node none → ⊥) → ((node : ℕ) → IsAmong node here → ⊥) →
     ((node : ℕ) → node < 8 → IsAmong node here ↔ Strikes script n node) → (node : ℕ) → node < 8 → IsAmong node none ↔ Strikes script n node
 none_at script n none here is_none is_here at node few = (λ hit. absurd (is_none node hit), λ strikes. absurd (is_here node ((at node few).1 strikes)))
+
+-- a bit in which nothing was taken, and the bus after it
+pub record Passes {B : Type 0} (orders_are : B → ℕ → Orders → Type 0) (was_told : ℕ → BusTurn → Type 0) (was_kept : ℕ → Type 0) (script : List Strike) (n : ℕ) (struck : StruckNodes) (board : B) (seats after : List Seat) : Type 0 where
+  pub few : length seats ≤ 8
+  pub at : (node : ℕ) → node < 8 → IsAmong node struck ↔ Strikes script n node
+  pub row : IsRowBit (orders_are board) was_told was_kept struck seats after
+  pub bus : (next : ℕ) → next ≡ n + 1 → IsBus script next after
+
+pub passes : {B : Type 0} (orders_are : B → ℕ → Orders → Type 0) (was_told : ℕ → BusTurn → Type 0) (was_kept : ℕ → Type 0) (script : List Strike) (n nodes : ℕ) (none here : StruckNodes) (level : Level) (first board : B) (seats after : List Seat) →
+    nodes ≤ 8 → length seats ≡ nodes → length after ≡ length seats → board ≡ first → NoneAborts (orders_are first) nodes → ((node : ℕ) → IsAmong node none → ⊥) → ((node : ℕ) → IsAmong node here → ⊥) →
+    ((node : ℕ) → node < 8 → IsAmong node here ↔ Strikes script n node) → level ≡ wired (driven_by seats) → EachSeat (SeatTurns was_told was_kept none level) seats after → AreReady after → IsBus script n seats →
+    Passes orders_are was_told was_kept script n none board seats after
+passes orders_are was_told was_kept script n nodes none here level first board seats after most count len same orders is_none is_here struck is turns ready bus =
+    let few : length seats ≤ 8 = omega (arith, most, count) in
+    let at = none_at script n none here is_none is_here struck in
+    let row = row_on (orders_are board) was_told was_kept none level seats after (none_still orders_are nodes first board seats count same orders) is turns in record {
+      few = few;
+      at = at;
+      row = row;
+      bus = bus_row (orders_are board) was_told was_kept script n none seats after len few at row ready bus;
+    }
 
 -- some node works
 pub some_work : (seats : List Seat) → AreReady seats → (k : ℕ) × (k < length seats) × ((s : Seat) → ShowsRest (slice_index_or seats k s).node false) → SomeWork (journals_of seats)

@@ -1,11 +1,11 @@
-use Rattle.std.proofs.Common.{◌≡◌, ℕ, ◌+◌, ◌-◌, ◌<◌, ◌≤◌, false, true, length, rules, arith, refl, sym, ap, ◌∙◌, subst}
+use Rattle.std.proofs.Common.{◌≡◌, ℕ, ◌+◌, ◌-◌, ◌<◌, false, true, length, rules, arith, refl, ap, ◌∙◌, subst}
 use Rattle.sja_bus.specs.Reasons.{room_for}
 use Rattle.sja_bus.specs.Several.{IsOneBit, WorksIf}
 use Rattle.sja_bus.specs.Inside.Rows.{IsBus}
-use Rattle.sja_bus.specs.Inside.RunningOn.{NoneAborts, moment_of}
+use Rattle.sja_bus.specs.Inside.RunningOn.{moment_of}
 use Rattle.sja_bus.proofs.Lists.{each_refl, each_trans}
 use Rattle.sja_bus.proofs.Many.{numbered_kept}
-use Rattle.sja_bus.proofs.RunningOn.{row_on, bus_row, none_at, some_work, none_yet, bits_on, stops_on}
+use Rattle.sja_bus.proofs.RunningOn.{passes, none_still, some_work, none_yet, bits_on, stops_on}
 use Rattle.sja_bus.proofs.running_on.on_all.Goals as goal
 
 pub loop-run-init : goal.loop-run-init
@@ -48,73 +48,42 @@ returns-then-end-clause-rooms g c = λ n h. c.in-Ok.ensures.rooms n (c.loop-run.
 
 pub returns-then-end-clause-bus : goal.returns-then-end-clause-bus
 returns-then-end-clause-bus g c =
-    let E = g.E.BusEnd in let B = g.B.Board in let inv = c.loop-run.invariant in let did = c.in-Ok.ensures in
-    let script = c.args.struck.now.script in let from = c.args.from in let run = c.loop-run.run in
-    let was = c.loop-run.seats in let now = c.tick_all.new.seats in
-    let a = c.loop-run.board in let z = c.tick_all.new.board in
-    let len : length now ≡ length was = c.tick_all.auto.seats in
-    let kept = c.loop-run.auto.seats in
-    let few : length was ≤ 8 = let f = c.requires.seated.few in omega (arith, f, kept) in
+    let B = g.B.Board in let inv = c.loop-run.invariant in let a = c.loop-run.board in let z = c.tick_all.new.board in
     let goes : c.goes_on.result ≡ true = search rules in
-    let at = none_at script (from + run) c.none.result c.at.result c.none.ensures (c.goes_on.ensures.none goes) c.at.ensures in
-    let none : NoneAborts (B.orders_are a) (length was) =
-    λ m near.
-    let o = c.requires.orders m (omega (arith, near, kept)) in
-    let O : _ → Type 0 = λ x. B.orders_are x m o.0 in (o.0, subst O (sym inv.board) o.1, o.2) in
-    let row = row_on (B.orders_are a) (B.told a z) (B.kept a z) c.none.result c.loop-run.level was now none inv.level did.turns in
-    let bus = bus_row (B.orders_are a) (B.told a z) (B.kept a z) script (from + run) c.none.result was now len few at row did.ready inv.bus (from + (run + 1)) (omega arith) in
-    bus
+    let pass = passes B.orders_are (B.told a z) (B.kept a z) c.args.struck.now.script (c.args.from + c.loop-run.run) (length c.args.seats.now) c.none.result c.at.result c.loop-run.level c.args.board.now a c.loop-run.seats c.tick_all.new.seats
+    c.requires.seated.few c.loop-run.auto.seats c.tick_all.auto.seats inv.board c.requires.orders c.none.ensures (c.goes_on.ensures.none goes) c.at.ensures inv.level c.in-Ok.ensures.turns c.in-Ok.ensures.ready inv.bus in
+    pass.bus (c.args.from + (c.loop-run.run + 1)) (omega arith)
 
 pub returns-then-end-clause-bits : goal.returns-then-end-clause-bits
-returns-then-end-clause-bits g c =
-    let E = g.E.BusEnd in let B = g.B.Board in let inv = c.loop-run.invariant in let did = c.in-Ok.ensures in
-    let script = c.args.struck.now.script in let from = c.args.from in let run = c.loop-run.run in
-    let was = c.loop-run.seats in let now = c.tick_all.new.seats in
-    let a = c.loop-run.board in let z = c.tick_all.new.board in
-    let len : length now ≡ length was = c.tick_all.auto.seats in
-    let kept = c.loop-run.auto.seats in
-    let few : length was ≤ 8 = let f = c.requires.seated.few in omega (arith, f, kept) in
+returns-then-end-clause-bits g c = λ left enough.
+    let E = g.E.BusEnd in
+    let B = g.B.Board in let inv = c.loop-run.invariant in let a = c.loop-run.board in let z = c.tick_all.new.board in
     let goes : c.goes_on.result ≡ true = search rules in
-    let at = none_at script (from + run) c.none.result c.at.result c.none.ensures (c.goes_on.ensures.none goes) c.at.ensures in
-    let none : NoneAborts (B.orders_are a) (length was) =
-    λ m near.
-    let o = c.requires.orders m (omega (arith, near, kept)) in
-    let O : _ → Type 0 = λ x. B.orders_are x m o.0 in (o.0, subst O (sym inv.board) o.1, o.2) in
-    let row = row_on (B.orders_are a) (B.told a z) (B.kept a z) c.none.result c.loop-run.level was now none inv.level did.turns in
-    let bus = bus_row (B.orders_are a) (B.told a z) (B.kept a z) script (from + run) c.none.result was now len few at row did.ready inv.bus (from + (run + 1)) (omega arith) in
-    λ left enough.
-    bits_on E.same E.stands B.ports B.facts B.orders_are B.told B.kept c.args.to_rest (moment_of script from left c.args.seats.now c.args.links.now c.args.board.now)
-    script from run c.args.most left c.none.result was now c.loop-run.links c.tick_all.new.links a z (search rules) enough len few at row c.tick_all.ensures.sames c.tick_all.ensures.board did.goes inv.bus bus c.keeps_its_facts.ensures
-    (λ yes. some_work was inv.bus.ready (c.goes_on.ensures.works goes yes)) (inv.bits left enough)
+    let pass = passes B.orders_are (B.told a z) (B.kept a z) c.args.struck.now.script (c.args.from + c.loop-run.run) (length c.args.seats.now) c.none.result c.at.result c.loop-run.level c.args.board.now a c.loop-run.seats c.tick_all.new.seats
+    c.requires.seated.few c.loop-run.auto.seats c.tick_all.auto.seats inv.board c.requires.orders c.none.ensures (c.goes_on.ensures.none goes) c.at.ensures inv.level c.in-Ok.ensures.turns c.in-Ok.ensures.ready inv.bus in
+    bits_on E.same E.stands B.ports B.facts B.orders_are B.told B.kept c.args.to_rest (moment_of c.args.struck.now.script c.args.from left c.args.seats.now c.args.links.now c.args.board.now)
+    c.args.struck.now.script c.args.from c.loop-run.run c.args.most left c.none.result c.loop-run.seats c.tick_all.new.seats c.loop-run.links c.tick_all.new.links a z (search rules) enough c.tick_all.auto.seats pass.few pass.at pass.row
+    c.tick_all.ensures.sames c.tick_all.ensures.board c.in-Ok.ensures.goes inv.bus (pass.bus (c.args.from + (c.loop-run.run + 1)) (omega arith)) c.keeps_its_facts.ensures
+    (λ yes. some_work c.loop-run.seats inv.bus.ready (c.goes_on.ensures.works goes yes)) (inv.bits left enough)
 
 pub loop-run-preserved : goal.loop-run-preserved
 loop-run-preserved g c =
-    let E = g.E.BusEnd in let B = g.B.Board in let inv = c.loop-run.invariant in let did = c.in-Ok.ensures in
-    let script = c.args.struck.now.script in let from = c.args.from in let run = c.loop-run.run in
-    let was = c.loop-run.seats in let now = c.tick_all.new.seats in let old = c.loop-run.links in let new = c.tick_all.new.links in
-    let a = c.loop-run.board in let z = c.tick_all.new.board in
-    let len : length now ≡ length was = c.tick_all.auto.seats in
-    let kept = c.loop-run.auto.seats in
-    let few : length was ≤ 8 = let f = c.requires.seated.few in omega (arith, f, kept) in
+    let E = g.E.BusEnd in
+    let B = g.B.Board in let inv = c.loop-run.invariant in let a = c.loop-run.board in let z = c.tick_all.new.board in
     let goes : c.goes_on.result ≡ true = search rules in
-    let untold : c.in-Ok.end.told ≡ false = search rules in
-    let at = none_at script (from + run) c.none.result c.at.result c.none.ensures (c.goes_on.ensures.none goes) c.at.ensures in
-    let none : NoneAborts (B.orders_are a) (length was) =
-    λ m near.
-    let o = c.requires.orders m (omega (arith, near, kept)) in
-    let O : _ → Type 0 = λ x. B.orders_are x m o.0 in (o.0, subst O (sym inv.board) o.1, o.2) in
-    let row = row_on (B.orders_are a) (B.told a z) (B.kept a z) c.none.result c.loop-run.level was now none inv.level did.turns in
-    let bus = bus_row (B.orders_are a) (B.told a z) (B.kept a z) script (from + run) c.none.result was now len few at row did.ready inv.bus (from + (run + 1)) (omega arith) in
-    record {
-      level = did.level;
-      board = did.untold untold ∙ inv.board;
-      bus = bus;
-      sames = each_trans E.same g.met.E.BusEnd.same_trans c.args.links.now old new inv.sames c.tick_all.ensures.sames;
-      rooms = λ n h. did.rooms n (inv.rooms n h);
+    let pass = passes B.orders_are (B.told a z) (B.kept a z) c.args.struck.now.script (c.args.from + c.loop-run.run) (length c.args.seats.now) c.none.result c.at.result c.loop-run.level c.args.board.now a c.loop-run.seats c.tick_all.new.seats
+    c.requires.seated.few c.loop-run.auto.seats c.tick_all.auto.seats inv.board c.requires.orders c.none.ensures (c.goes_on.ensures.none goes) c.at.ensures inv.level c.in-Ok.ensures.turns c.in-Ok.ensures.ready inv.bus in
+    let untold : c.in-Ok.end.told ≡ false = search rules in record {
+      level = c.in-Ok.ensures.level;
+      board = c.in-Ok.ensures.untold untold ∙ inv.board;
+      bus = pass.bus (c.args.from + (c.loop-run.run + 1)) (omega arith);
+      sames = each_trans E.same g.met.E.BusEnd.same_trans c.args.links.now c.loop-run.links c.tick_all.new.links inv.sames c.tick_all.ensures.sames;
+      rooms = λ n h. c.in-Ok.ensures.rooms n (inv.rooms n h);
       bits = λ left enough.
-          bits_on E.same E.stands B.ports B.facts B.orders_are B.told B.kept c.args.to_rest (moment_of script from left c.args.seats.now c.args.links.now c.args.board.now)
-          script from run c.args.most left c.none.result was now old new a z (search rules) enough len few at row c.tick_all.ensures.sames c.tick_all.ensures.board did.goes inv.bus bus c.keeps_its_facts.ensures
-          (λ yes. some_work was inv.bus.ready (c.goes_on.ensures.works goes yes)) (inv.bits left enough);
+          bits_on E.same E.stands B.ports B.facts B.orders_are B.told B.kept c.args.to_rest (moment_of c.args.struck.now.script c.args.from left c.args.seats.now c.args.links.now c.args.board.now)
+          c.args.struck.now.script c.args.from c.loop-run.run c.args.most left c.none.result c.loop-run.seats c.tick_all.new.seats c.loop-run.links c.tick_all.new.links a z (search rules) enough c.tick_all.auto.seats pass.few pass.at pass.row
+          c.tick_all.ensures.sames c.tick_all.ensures.board c.in-Ok.ensures.goes inv.bus (pass.bus (c.args.from + (c.loop-run.run + 1)) (omega arith)) c.keeps_its_facts.ensures
+          (λ yes. some_work c.loop-run.seats inv.bus.ready (c.goes_on.ensures.works goes yes)) (inv.bits left enough);
     }
 
 pub returns-in-Err-clause-breaks : goal.returns-in-Err-clause-breaks
@@ -122,13 +91,10 @@ returns-in-Err-clause-breaks g c = λ left later enough rooms journals.
     let E = g.E.BusEnd in let B = g.B.Board in let inv = c.loop-run.invariant in
     let script = c.args.struck.now.script in let from = c.args.from in let run = c.loop-run.run in
     let was = c.loop-run.seats in let now = c.tick_all.new.seats in
-    let a = c.loop-run.board in let kept = c.loop-run.auto.seats in
+    let a = c.loop-run.board in
     let early : run < c.args.most = search rules in
     let goes : c.goes_on.result ≡ true = search rules in
-    let none : NoneAborts (B.orders_are a) (length was) =
-    λ m near.
-    let o = c.requires.orders m (omega (arith, near, kept)) in
-    let O : _ → Type 0 = λ x. B.orders_are x m o.0 in (o.0, subst O (sym inv.board) o.1, o.2) in record {
+    let none = none_still B.orders_are (length c.args.seats.now) c.args.board.now a was c.loop-run.auto.seats inv.board c.requires.orders in record {
       mid = moment_of script (from + run) (left - run) was c.loop-run.links a;
       run = run;
       early = early;
