@@ -1,12 +1,11 @@
 //! Steps that are tried out of reset, and leave the driver there.
 
 ghost use Rattle.std.specs.Prelude.{◌≡◌};
-ghost use Rattle.sja_link.specs.Looking.{Pulls, IsTaken};
 ghost use Rattle.sja_regs.specs.declared.registers.Registers.{Registers};
 ghost use Rattle.sja_script.specs.declared.step.Step.TheVariants.{Window, Release, Command, Await, Sent};
 ghost use Rattle.sja_driver.specs.declared.any_driver.AnyDriver.TheVariants.{InActive};
 ghost use Rattle.sja_driver.specs.Acting.{Acts, KeepsState};
-ghost use Rattle.sja_driver.specs.Drivers.{link_in, held_in, off_in};
+ghost use Rattle.sja_driver.specs.Drivers.{link_in};
 
 use super::active::Active;
 use super::answers::{done_answer, refusal_of, shows_released, value_answer};
