@@ -110,10 +110,7 @@ fn either(a: bool, b: bool) -> bool
 fn both(a: Level, b: Level) -> Level
     ensures { result ≡ wired (a ∷ b ∷ []) }
 {
-    match a {
-        Level::Dominant => a,
-        Level::Recessive => b,
-    }
+    Level::of(a.is_recessive() && b.is_recessive())
 }
 
 /// Each node has its bit, and sees this level, or the other one where it is struck. Its port is told of it where there

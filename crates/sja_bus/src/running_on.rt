@@ -53,6 +53,7 @@ fn goes_on(seats: &[Seat], struck: StruckNodes, to_rest: bool) -> bool
 
 /// Bits of all nodes from this one on, at most so many: as far as no node is struck, with `to_rest` as long as some
 /// node works, and up to the first in which a port is told something. Answers how many.
+#[inline(never)]
 pub(crate) fn on_all<E: BusEnd, B: Board>(
     seats: &mut [Seat],
     links: &mut [E],
