@@ -14,6 +14,7 @@ mod places;
 mod refused_memory;
 mod rig;
 mod self_reception;
+mod several;
 mod stops;
 mod stretches;
 mod strikes;

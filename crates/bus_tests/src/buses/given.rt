@@ -2,6 +2,7 @@
 
 use can_frame::{Filter, Message};
 use can_node::{Config, Request};
+use sja_bus::NodeLog;
 use sja_link::{Entry, Journal};
 use sja_script::{FaultScript, Strike};
 use std::alloc::Global;
@@ -96,4 +97,30 @@ pub fn bits_in(journal: &Journal) -> u32 {
         }
     }
     bits
+}
+
+/// Whether what is left of two buses is the same: as many nodes, each with the same entries and the same counters.
+pub fn are_same_logs(logs: &[NodeLog], others: &[NodeLog]) -> bool {
+    if logs.len() != others.len() {
+        return false;
+    }
+    for node in 0..logs.len() {
+        let (log, other) = (&logs[node], &others[node]);
+        let counters = log.txerr == other.txerr && log.rxerr == other.rxerr;
+        if !counters || !are_same(&log.journal, &other.journal) {
+            return false;
+        }
+    }
+    true
+}
+
+/// Whether two journals have the same entries.
+fn are_same(one: &Journal, other: &Journal) -> bool {
+    let mut others = other.entries();
+    for entry in one.entries() {
+        if others.next() != Some(entry) {
+            return false;
+        }
+    }
+    others.next().is_none()
 }

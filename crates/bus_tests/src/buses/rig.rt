@@ -169,7 +169,7 @@ impl Rig {
         Ok(self.bus.bit(self.links.as_mut_slice(), &mut self.board))
     }
 
-    /// So many bits.
+    /// So many bits, each by a call of its own.
     pub fn bits(&mut self, count: u32) -> Result<Result<(), BusFault>, Fail> {
         for _ in 0..count {
             if let Err(fault) = self.bit()? {
@@ -177,6 +177,17 @@ impl Rig {
             }
         }
         Ok(Ok(()))
+    }
+
+    /// So many bits, or as many as are left, one after another, with `to_rest` as long as some node works: how many.
+    pub fn several(&mut self, count: u32, to_rest: bool) -> Result<Result<u32, BusFault>, Fail> {
+        if !are_links_of(self.links.as_slice(), self.nodes)
+            || self.board.ports.len() < usize::from(self.nodes)
+        {
+            return Err("not the bus's links and ports")?;
+        }
+        let links = self.links.as_mut_slice();
+        Ok(self.bus.bits(links, &mut self.board, count, to_rest))
     }
 
     /// Up to so many bits at once, as far as every node is at rest: how many.

@@ -2,8 +2,8 @@
 
 ghost use Rattle.std.specs.Prelude.{◌≡◌, length};
 
-use super::given::{plain, request, script_of, verdicts_in};
-use sja_bus::{Bus, BusFault, SerialBoard, are_links_of, serial_links};
+use super::given::{are_same_logs, plain, request, script_of, verdicts_in};
+use sja_bus::{Bus, BusFault, NodeLog, SerialBoard, are_links_of, serial_links};
 use sja_link::{BusEnd, DequeLink, Down, DriverEnd, LinkId, Up};
 use std::alloc::Global;
 use std::test::Fail;
@@ -84,26 +84,68 @@ impl ClosedRig {
         }
         Ok(self.bus.bit(self.links.as_mut_slice(), &mut self.board))
     }
+
+    /// So many bits, one after another.
+    fn bits(&mut self, count: u32) -> Result<Result<u32, BusFault>, Fail> {
+        if !are_links_of(self.links.as_slice(), 2) || self.board.ports.len() < 2 {
+            return Err("not the bus's links and ports")?;
+        }
+        let links = self.links.as_mut_slice();
+        Ok(self.bus.bits(links, &mut self.board, count, false))
+    }
+
+    /// What is left of it.
+    fn finish(self) -> Vec<NodeLog> {
+        let ClosedRig {
+            bus,
+            links: _,
+            board: _,
+        } = self;
+        bus.finish()
+    }
+}
+
+/// Two started nodes, of which one has a request.
+fn asked(alloc: Global) -> Result<ClosedRig, Fail> {
+    let mut rig = ClosedRig::new(alloc)?;
+    if !rig.give(0, Up::Start(plain()))
+        || !rig.give(0, Up::Send(request()?))
+        || !rig.give(8, Up::Start(plain()))
+    {
+        return Err("no room on a link")?;
+    }
+    Ok(rig)
 }
 
 #[test]
 fn a_put_that_comes_back_always_is_answered_and_always_again(rt: HostRuntime) -> Result<(), Fail> {
-    let mut rig = ClosedRig::new(rt.alloc())?;
-    assert!(rt; rig.give(0, Up::Start(plain())));
-    assert!(rt; rig.give(0, Up::Send(request()?)));
-    assert!(rt; rig.give(8, Up::Start(plain())));
+    let mut rig = asked(rt.alloc())?;
     for _ in 0..59 {
         assert!(rt; rig.bit()?.is_ok());
     }
     assert_eq!(rt; rig.bit()?, Err(BusFault::Stuck(1)));
     assert_eq!(rt; rig.bit()?, Err(BusFault::Stuck(1)));
-    let ClosedRig {
-        bus,
-        links: _,
-        board: _,
-    } = rig;
-    let logs = bus.finish();
+    let logs = rig.finish();
     assert!(rt; logs.len() == 2);
     assert_eq!(rt; verdicts_in(&logs[1].journal), (0, 0));
+    Ok(())
+}
+
+#[test]
+fn a_put_that_comes_back_within_bits_leaves_what_single_bits_leave(
+    rt: HostRuntime,
+) -> Result<(), Fail> {
+    let mut rig = asked(rt.alloc())?;
+    let mut single = asked(rt.alloc())?;
+    // the frame ends with bit 59, as above
+    assert_eq!(rt; rig.bits(20)?, Ok(20));
+    assert_eq!(rt; rig.bits(80)?, Err(BusFault::Stuck(1)));
+    assert_eq!(rt; rig.bits(1)?, Err(BusFault::Stuck(1)));
+    assert_eq!(rt; rig.bit()?, Err(BusFault::Stuck(1)));
+    for _ in 0..59 {
+        assert!(rt; single.bit()?.is_ok());
+    }
+    assert_eq!(rt; single.bit()?, Err(BusFault::Stuck(1)));
+    assert!(rt; are_same_logs(rig.finish().as_slice(), single.finish().as_slice()));
     Ok(())
 }
