@@ -9,7 +9,9 @@ use Rattle.sja_link.specs.declared.up.Up.TheVariants.{Start as StartUp, Credit, 
 use Rattle.sja_link.specs.declared.entry.Entry.{Entry}
 use Rattle.sja_link.specs.declared.entry.Entry.TheVariants.{Bit, Up as Item, Abort, Stored, Overrun, Off as OffEntry}
 use Rattle.sja_link.specs.declared.event.Event.TheVariants.{Put, Off, Take}
-use Rattle.sja_link.specs.Carried.{put_in, put_of, taken_in, taken_of}
+use Rattle.sja_link.specs.Carried.{stored_of, put_in, put_of, taken_in, taken_of}
+use Rattle.can_frame.specs.Message.{IsMessage}
+use Rattle.sja_threads.proofs.Real.{AreMessages}
 use Rattle.sja_link.specs.Free.{free_of}
 use Rattle.sja_link.specs.Gathering.{gathered, total}
 use Rattle.sja_link.specs.Lists.{messages}
@@ -18,7 +20,8 @@ use Rattle.sja_link.specs.World.{is_off, is_stop, bytes_of, credits_of, free}
 use Rattle.sja_link.proofs.Entering.{gathered_append, gathered_push}
 use Rattle.sja_link.proofs.Freeing.{total_append, total_push}
 use Rattle.sja_link.proofs.Worlds.{messages_both, credits_both}
-use Rattle.sja_threads.specs.Linked.{event_in, IsOrderly, IsLinked}
+use Rattle.sja_bus.specs.Orderly.{IsOrderly}
+use Rattle.sja_threads.specs.Linked.{event_in, IsLinked}
 use Rattle.sja_threads.proofs.Events.{world, Comes, comes_first, comes_act, comes_get, comes_gets, comes_start, comes_stop, comes_release, comes_send}
 use Rattle.sja_threads.proofs.NextItem.{bytes_put, credits_sum, IsOffLast, off_last_push, next_message}
 use Rattle.sja_threads.proofs.Orders.{Order, with_put, with_taken, with_quiet, put_same, taken_same, next_whole}
@@ -130,14 +133,14 @@ module _ (p : List Entry) (got down : List Down) (held : List (List ℕ)) (all :
       free_of q ≡ free (world (put_of q) (taken_of q) gone (taken_of q) send)
   free_same q gone send = ap₂ (λ (a b : ℕ). (64 + a) - b) (credits_taken q) (sym (bytes_put q))
 
-  stored_at : (q es : List Entry) (m : List ℕ) → IsOrderly q (Stored m) → IsAt q (Stored m ∷ es) →
+  stored_at : (q es : List Entry) (m : List ℕ) → IsMessage m → IsOrderly q (Stored m) → IsAt q (Stored m ∷ es) →
       IsAt (q ++ Stored m ∷ []) es
-  stored_at q es m o h =
+  stored_at q es m is o h =
       put_at q es (Stored m) (Message m) refl refl o.1 h
       (with_put q (Stored m) h.gone h.send refl
-      (comes_act (gathered event_in q) (world (put_of q) (taken_of q) h.gone (taken_of q) h.send) (Put m) h.order o.2 (
+      (comes_act (gathered event_in q) (world (put_of q) (taken_of q) h.gone (taken_of q) h.send) (Put m) h.order is (
         record { started = o.0.started; running = o.0.running; on = o.1 },
-        subst (λ (n : ℕ). length m ≤ n) (free_same q h.gone h.send) o.3,
+        subst (λ (n : ℕ). length m ≤ n) (free_same q h.gone h.send) o.2,
       )))
 
   off_at : (q es : List Entry) → IsOrderly q OffEntry → IsAt q (OffEntry ∷ es) → IsAt (q ++ OffEntry ∷ []) es
@@ -229,42 +232,43 @@ module _ (p : List Entry) (got down : List Down) (held : List (List ℕ)) (all :
       let whole = ap (total is_stop) (gathered_push taken_in q e) in
       let n = total_append is_stop (taken_of q) (taken_in e) in omega (arith, whole, n, none, running)
 
-  along : (q es : List Entry) → p ≡ q ++ es → EachAfter IsOrderly q es → total is_stop (taken_of q) ≡ 0 → IsAt q es →
+  along : (q es : List Entry) → p ≡ q ++ es → EachAfter IsOrderly q es →
+      AreMessages (stored_of es) → total is_stop (taken_of q) ≡ 0 → IsAt q es →
       Ends p got
-  along q [] whole orderly running h =
+  along q [] whole orderly real running h =
       ended p got q h.send (whole ∙ append-nil q) (gets_all q [] h whole refl running)
-  along q (Bit driven seen ∷ es) whole orderly running h =
-      along (q ++ Bit driven seen ∷ []) es (next_whole p q es (Bit driven seen) whole) orderly.1
+  along q (Bit driven seen ∷ es) whole orderly real running h =
+      along (q ++ Bit driven seen ∷ []) es (next_whole p q es (Bit driven seen) whole) orderly.1 real
       (none_stopped q (Bit driven seen) refl running) (quiet_at q es (Bit driven seen) refl refl refl h)
-  along q (Abort ∷ es) whole orderly running h =
-      along (q ++ Abort ∷ []) es (next_whole p q es Abort whole) orderly.1
+  along q (Abort ∷ es) whole orderly real running h =
+      along (q ++ Abort ∷ []) es (next_whole p q es Abort whole) orderly.1 real
       (none_stopped q Abort refl running) (quiet_at q es Abort refl refl refl h)
-  along q (Overrun m ∷ es) whole orderly running h =
-      along (q ++ Overrun m ∷ []) es (next_whole p q es (Overrun m) whole) orderly.1
+  along q (Overrun m ∷ es) whole orderly real running h =
+      along (q ++ Overrun m ∷ []) es (next_whole p q es (Overrun m) whole) orderly.1 real
       (none_stopped q (Overrun m) refl running) (quiet_at q es (Overrun m) refl refl refl h)
-  along q (Stored m ∷ es) whole orderly running h =
-      along (q ++ Stored m ∷ []) es (next_whole p q es (Stored m) whole) orderly.1
-      (none_stopped q (Stored m) refl running) (stored_at q es m orderly.0 h)
-  along q (OffEntry ∷ es) whole orderly running h =
-      along (q ++ OffEntry ∷ []) es (next_whole p q es OffEntry whole) orderly.1
+  along q (Stored m ∷ es) whole orderly real running h =
+      along (q ++ Stored m ∷ []) es (next_whole p q es (Stored m) whole) orderly.1 real.1
+      (none_stopped q (Stored m) refl running) (stored_at q es m real.0 orderly.0 h)
+  along q (OffEntry ∷ es) whole orderly real running h =
+      along (q ++ OffEntry ∷ []) es (next_whole p q es OffEntry whole) orderly.1 real
       (none_stopped q OffEntry refl running) (off_at q es orderly.0 h)
-  along q (Item (StartUp config) ∷ es) whole orderly running h =
-      along (q ++ Item (StartUp config) ∷ []) es (next_whole p q es (Item (StartUp config)) whole) orderly.1
+  along q (Item (StartUp config) ∷ es) whole orderly real running h =
+      along (q ++ Item (StartUp config) ∷ []) es (next_whole p q es (Item (StartUp config)) whole) orderly.1 real
       (none_stopped q (Item (StartUp config)) refl running)
       (item_at q es (StartUp config) h.send refl refl h
       (with_taken q (Item (StartUp config)) h.gone h.send refl
       (comes_start (gathered event_in q) (put_of q) (taken_of q) h.gone h.send h.order config orderly.0)))
-  along q (Item (Credit n) ∷ es) whole orderly running h =
-      along (q ++ Item (Credit n) ∷ []) es (next_whole p q es (Item (Credit n)) whole) orderly.1
+  along q (Item (Credit n) ∷ es) whole orderly real running h =
+      along (q ++ Item (Credit n) ∷ []) es (next_whole p q es (Item (Credit n)) whole) orderly.1 real
       (none_stopped q (Item (Credit n)) refl running) (credit_at q es n whole orderly.0 h)
-  along q (Item (SendUp request) ∷ es) whole orderly running h =
-      along (q ++ Item (SendUp request) ∷ []) es (next_whole p q es (Item (SendUp request)) whole) orderly.1
+  along q (Item (SendUp request) ∷ es) whole orderly real running h =
+      along (q ++ Item (SendUp request) ∷ []) es (next_whole p q es (Item (SendUp request)) whole) orderly.1 real
       (none_stopped q (Item (SendUp request)) refl running)
       (item_at q es (SendUp request) false refl refl h
       (with_taken q (Item (SendUp request)) h.gone false refl
       (comes_send (gathered event_in q) (put_of q) (taken_of q) h.gone h.send request h.order orderly.0.started
       orderly.0.running)))
-  along q (Item StopUp ∷ es) whole orderly running h =
+  along q (Item StopUp ∷ es) whole orderly real running h =
       stopped p got (q ++ Item StopUp ∷ []) es h.send (next_whole p q es (Item StopUp) whole) orderly.1 (stop_taken q)
       (with_taken q (Item StopUp) got h.send refl
       (comes_stop (gathered event_in q) (put_of q) (taken_of q) got h.send
@@ -274,11 +278,11 @@ module _ (p : List Entry) (got down : List Down) (held : List (List ℕ)) (all :
 -- the part of an activation is linked, where each of its entries may come where it comes, its driver got a front of what
 -- was put, and the credits that were taken are those of the first messages that it got
 pub linked_part : (p : List Entry) (got down : List Down) (released held : List (List ℕ)) →
-    EachAfter IsOrderly [] p → put_of p ≡ got ++ down → messages got ≡ released ++ held →
+    EachAfter IsOrderly [] p → AreMessages (stored_of p) → put_of p ≡ got ++ down → messages got ≡ released ++ held →
     credits_of (taken_of p) ≡ map (λ (m : List ℕ). length m) released →
     IsLinked p (record { put = put_of p; taken = taken_of p; got = got; given = taken_of p })
-linked_part p got down released held orderly all told credits =
-    along p got down held all [] p refl orderly refl (record {
+linked_part p got down released held orderly real all told credits =
+    along p got down held all [] p refl orderly real refl (record {
       send = true;
       gone = [];
       todo = got;

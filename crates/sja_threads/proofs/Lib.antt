@@ -12,6 +12,7 @@ pub mod HandedBack
 pub mod Threaded
 -- the events of each link
 pub mod Events
+pub mod Real
 pub mod NextItem
 pub mod Orders
 pub mod AfterStop

@@ -9,12 +9,14 @@ use Rattle.sja_link.specs.Accounts.{Account, account}
 use Rattle.sja_link.specs.Carried.{put_of, taken_of}
 use Rattle.sja_link.specs.Lists.{messages}
 use Rattle.sja_link.specs.Parts.{part}
+use Rattle.sja_link.specs.Verdicts.{IsLawful as IsLawfulJournal}
 use Rattle.sja_rings.specs.declared.ring_bus.RingBus.{RingBus}
 use Rattle.sja_rings.specs.declared.ring_driver.RingDriver.{RingDriver}
 use Rattle.sja_rings.specs.Ends.{DriverLists, OneLink}
 use Rattle.sja_bus.specs.declared.node_log.NodeLog.{NodeLog}
 use Rattle.sja_bus.specs.Buses.{BusValue}
 use Rattle.sja_bus.specs.Lawful.{CountersAre, IsBusRun}
+use Rattle.sja_bus.specs.Orderly.{AreOrderly}
 use Rattle.sja_bus.specs.Wire.{journal_at}
 use Rattle.sja_plan.specs.Plan.{PlanValue}
 use Rattle.sja_script.specs.declared.step.Step.{Step}
@@ -245,6 +247,18 @@ module _ (plan : PlanValue) (bus : BusValue) (links : List RingBus) (workeds : L
         (settled_all (steps_at plan k) k journal (deeds_at deeds k) handed links (8 * k) over lying some_bus some_end
         left_there)
 
+    bus_there : IsBusRun bus.script bus.run bus.journals
+    bus_there = subst (λ (l : List (List Entry)). IsBusRun bus.script bus.run l) m.journals m.lawful
+
+    in_journals : k < length bus.journals
+    in_journals = let c = h.journals_count in let i = in_plan in omega (arith, c, i)
+
+    lawful_there : IsLawfulJournal there.journal
+    lawful_there = subst (λ (j : List Entry). IsLawfulJournal j) (sym same) (bus_there.lawful k in_journals)
+
+    orderly_there : AreOrderly there.journal
+    orderly_there = subst (λ (j : List Entry). AreOrderly j) (sym same) (bus_there.orderly k in_journals)
+
     done_there : (w : Worked RingDriver) → there.done ≡ done_in (log_of (slice_index_or workeds k w).driver)
     done_there w =
         end_there.done
@@ -263,7 +277,7 @@ module _ (plan : PlanValue) (bus : BusValue) (links : List RingBus) (workeds : L
     journals = journals_in_log plan log logs bus.journals (all_drivers workeds) lying are;
     done = λ node n w less. done_there node n less w;
     linked = λ node n less. linked_by (steps_at plan node) (deeds_at deeds node) (slice_index_or log.nodes node n)
-        (trace_there node n less) (settled_there node n less);
+        (trace_there node n less) (settled_there node n less) (lawful_there node n less) (orderly_there node n less);
   }
 
 -- ---- as it is made

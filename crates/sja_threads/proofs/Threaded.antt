@@ -60,6 +60,7 @@ threaded quits plan bits end bus links ws log out over runs is all =
     let run = runs over.0 over.1 in record {
       deeds = over.0;
       run = run;
+      linked = is.linked;
       needed = record {
         due = subst (λ (n : ℕ). AllDue n (journals_in log)) (sym is.bits)
             (subst (λ (j : List (List Entry)). AllDue bus.run j) (sym is.journals) out.way.due);

@@ -5,13 +5,16 @@ use Rattle.sja_driver.specs.Deeds.{Deed}
 use Rattle.sja_report.specs.Log.{NodeValue, RunValue}
 use Rattle.sja_report.specs.Runs.{IsRun}
 use Rattle.sja_turns.specs.Serial.{steps_at}
+use Rattle.sja_threads.specs.Linked.{AreLinked}
 use Rattle.sja_threads.specs.Needed.{IsNeeded}
 
--- of its drivers there are deeds by which it is what every run is; each of its bits was due, and it ended duly; and where
--- no gate quits every driver did all its steps
+-- of its drivers there are deeds by which it is what every run is; some order of events leads to what the link of each
+-- activation carried; each of its bits was due, and it ended duly; and where no gate quits every driver did all its
+-- steps
 pub record IsThreadedRun (plan : PlanValue) (log : RunValue) (quits : Bool) : Type 0 where
   pub deeds : List (List Deed)
   pub run : IsRun plan log deeds
+  pub linked : (node : ℕ) (d : NodeValue) → node < length log.nodes → AreLinked (slice_index_or log.nodes node d)
   pub needed : IsNeeded plan.bits log
   pub all_done : quits ≡ false → (node : ℕ) (d : NodeValue) → node < length log.nodes →
       length (slice_index_or log.nodes node d).done ≡ length (steps_at plan node)

@@ -7,8 +7,8 @@
 //! threads.
 //!
 //! Contracts say which steps were done, `HasWorked` of `specs/Working.antt`: for every journal, so whatever the bus
-//! does meanwhile; and of a whole run what every run has, and when its bits were due, `IsThreadedRun` of
-//! `specs/Threads.antt`. No clause says that a wait ends, or how a port stands behind its lock.
+//! does meanwhile; and of a whole run what every run has, by which events each link carried what it did, and when its
+//! bits were due, `IsThreadedRun` of `specs/Threads.antt`. No clause says that a wait ends, or how a port stands behind its lock.
 //!
 //! `run_threads` alone takes memory, none of it for a bit. The tests stand in `crates/thread_tests`.
 #![tactic(auto)]

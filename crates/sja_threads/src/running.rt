@@ -138,8 +138,9 @@ fn end_run<G: Gate, R: Wait>(
 /// What each driver released in an activation, followed by what it left unread, is, in order and each once, the frames
 /// its controller validly received and its filter passed, less those marked overrun; and a frame is marked overrun
 /// exactly where it is longer than 64 less the bytes stored and not yet collected back. What each node saw in each bit
-/// is what all drove together, or the other level where the plan's faults strike it. Where no gate quits every step was
-/// done. No clause says that a thread is served, or that the call returns.
+/// is what all drove together, or the other level where the plan's faults strike it. What the link of each activation
+/// carried came by events of one link, each allowed when it came, in the order in which the journal has the bus's. Where
+/// no gate quits every step was done. No clause says that a thread is served, or that the call returns.
 ///
 /// Errors: [`RunFault::GateCount`] exactly where there isn't one gate for each node; [`RunFault::Memory`] where memory
 /// was refused; [`RunFault::Thread`] where a thread can't be started; [`RunFault::Bus`] where the bus doesn't go on for
