@@ -21,8 +21,8 @@ pub struct Traffic {
     pub at_once: bool,
 }
 
-/// Lets the bits of so many frames pass. Before each the senders' drivers ask for one, and after it every driver releases
-/// the message that it was shown.
+/// Lets the bits of so many frames pass. Before each the senders' drivers ask for one, and after it every driver
+/// releases the message that it was shown.
 pub fn told(alloc: Global, count: u32, traffic: Traffic) -> Option<String> {
     let mut stored = 0u64;
     for _ in 0..count / FRAMES {

@@ -1,5 +1,6 @@
 -- Places in the arbitration field, told from the levels before (SJA1000 data sheet, 6.4.8, arbitration lost capture).
-use Rattle.std.specs.Prelude.{◌-◌, ◌&&◌, ℕ, Bool, true, false, nat_lt, nat_le, if◌then◌else◌, Option, Some, None, List, [], ◌∷◌, ◌++◌, length, reverse}
+use Rattle.std.specs.Prelude.{◌-◌, ◌&&◌, ℕ, Bool, true, false, nat_lt, nat_le, if◌then◌else◌}
+use Rattle.std.specs.Prelude.{Option, Some, None, List, [], ◌∷◌, ◌++◌, length, reverse}
 use Rattle.can_bits.specs.declared.level.Level.{Level}
 use Rattle.can_bits.specs.declared.level.Level.TheVariants.{Dominant, Recessive}
 use Rattle.can_bits.specs.Fields.{rtr_place}

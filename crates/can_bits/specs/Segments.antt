@@ -1,9 +1,14 @@
 -- The segments of a frame, and to which of them a level belongs (SJA1000 data sheet, 6.4.9, error code capture).
-use Rattle.std.specs.Prelude.{◌≡◌, ◌-◌, ℕ, zero, suc, Bool, true, false, nat_lt, if◌then◌else◌, List, [], ◌∷◌, ◌++◌, length}
+use Rattle.std.specs.Prelude.{◌≡◌, ◌-◌, ℕ, zero, suc, Bool, true, false, nat_lt}
+use Rattle.std.specs.Prelude.{if◌then◌else◌, List, [], ◌∷◌, ◌++◌, length}
 use Rattle.can_frame.specs.Frame.{FrameValue}
 use Rattle.can_bits.specs.declared.level.Level.{Level}
 use Rattle.can_bits.specs.declared.segment.Segment.{Segment}
-use Rattle.can_bits.specs.declared.segment.Segment.TheVariants.{StartOfFrame, Id28To21, Id20To18, RtrStandard, Ide, Id17To13, Id12To5, Id4To0, RtrExtended, Reserved1, Reserved0, LengthCode, Data, CheckSequence, CheckDelimiter, AckSlot, AckDelimiter, EndOfFrame, ActiveErrorFlag, Delimiter, OverloadFlag}
+use Rattle.can_bits.specs.declared.segment.Segment.TheVariants.{StartOfFrame, Id28To21, Id20To18, RtrStandard, Ide}
+use Rattle.can_bits.specs.declared.segment.Segment.TheVariants.{Id17To13, Id12To5, Id4To0, RtrExtended, Reserved1}
+use Rattle.can_bits.specs.declared.segment.Segment.TheVariants.{Reserved0, LengthCode, Data, CheckSequence}
+use Rattle.can_bits.specs.declared.segment.Segment.TheVariants.{CheckDelimiter, AckSlot, AckDelimiter, EndOfFrame}
+use Rattle.can_bits.specs.declared.segment.Segment.TheVariants.{ActiveErrorFlag, Delimiter, OverloadFlag}
 use Rattle.can_bits.specs.Fields.{says_ext, says_count}
 use Rattle.can_bits.specs.Stuffing.{EndsInEqual, IsUnstuffed}
 use Rattle.can_bits.specs.Line.{StuffedPart}

@@ -44,7 +44,8 @@ pub struct Shift {
 }
 
 impl Shift {
-    ghost use Rattle.std.specs.Prelude.{◌≡◌, ◌<◌, ◌+◌, ◌↔◌, ◌==◌, Bool, IsTrue, true, length, ◌∷◌, ◌++◌, [], List, None, Some};
+    ghost use Rattle.std.specs.Prelude.{◌≡◌, ◌<◌, ◌+◌, ◌↔◌, ◌==◌, Bool, IsTrue, true};
+    ghost use Rattle.std.specs.Prelude.{length, ◌∷◌, ◌++◌, [], List, None, Some};
     ghost use Rattle.can_bits.specs.declared.level.Level.{Level as Bus};
     ghost use Rattle.can_bits.specs.Streaming.{Tells, TellsCheck, ShowsFrame, IsReadable, IsOver};
     ghost use Rattle.can_bits.specs.Segments.{IsNext};

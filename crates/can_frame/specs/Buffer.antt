@@ -1,5 +1,6 @@
 -- The transmit buffer (SJA1000 data sheet, 6.4.13), whatever its 13 bytes are.
-use Rattle.std.specs.Prelude.{◌+◌, ◌-◌, ◌*◌, ◌/◌, ℕ, Bool, true, false, List, ◌++◌, slice_index, take, drop, replicate, length}
+use Rattle.std.specs.Prelude.{◌+◌, ◌-◌, ◌*◌, ◌/◌, ℕ, Bool, true, false, List}
+use Rattle.std.specs.Prelude.{◌++◌, slice_index, take, drop, replicate, length}
 use Rattle.can_frame.specs.Frame.{FrameValue, data_count}
 use Rattle.can_frame.specs.Layout.{said_ext, said_rtr, said_dlc, head_count}
 

@@ -11,8 +11,8 @@ use super::message::{Message, extended_id, standard_id};
 
 impl Frame {
     /// The frame in a transmit buffer of any content (SJA1000 data sheet, 6.4.13): format, kind and DLC are
-    /// those of byte 0, and the identifier stands by the format. Bits that the layout doesn't use are ignored, and so is
-    /// the second RTR bit (this project's own rule).
+    /// those of byte 0, and the identifier stands by the format. Bits that the layout doesn't use are ignored, and so
+    /// is the second RTR bit (this project's own rule).
     pub fn in_buffer(buffer: &[u8; 13]) -> Frame
         ensures valid { IsFrame result }
         ensures value { result ≡ frame_in buffer.now }

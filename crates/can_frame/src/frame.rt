@@ -31,9 +31,11 @@ impl Model for Frame {
 
     ghost view = { λ f. record { ext = f.ext; id = f.id; rtr = f.rtr; dlc = f.dlc; bytes = f.bytes.items } };
 
-    ghost invariant = { λ f. IsFrame (record { ext = f.ext; id = f.id; rtr = f.rtr; dlc = f.dlc; bytes = f.bytes.items }) };
+    ghost invariant = { λ f.
+        IsFrame (record { ext = f.ext; id = f.id; rtr = f.rtr; dlc = f.dlc; bytes = f.bytes.items }) };
 
-    ghost inverse = { λ v. record { ext = v.ext; id = v.id; rtr = v.rtr; dlc = v.dlc; bytes = record { items = v.bytes } } };
+    ghost inverse = { λ v.
+        record { ext = v.ext; id = v.id; rtr = v.rtr; dlc = v.dlc; bytes = record { items = v.bytes } } };
 }
 
 impl Frame {

@@ -1,6 +1,7 @@
 -- Frames whose transmitters start together on one bus: which of them go on, and where the others lose arbitration
 -- (Bosch CAN 2.0 part A section 3.1.1 and part B section 3.2; SJA1000 data sheet, 6.4.8, arbitration lost capture).
-use Rattle.std.specs.Prelude.{◌≡◌, ◌↔◌, ℕ, Bool, true, false, List, take, drop, slice_get, Option, Some, None, All, Contains}
+use Rattle.std.specs.Prelude.{◌≡◌, ◌↔◌, ℕ, Bool, true, false, List, take, drop}
+use Rattle.std.specs.Prelude.{slice_get, Option, Some, None, All, Contains}
 use Rattle.std.specs.List.{AllZip}
 use Rattle.can_frame.specs.Frame.{FrameValue}
 use Rattle.can_bits.specs.declared.level.Level.{Level}

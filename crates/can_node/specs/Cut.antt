@@ -10,7 +10,8 @@ use Rattle.can_node.specs.Pieces.Place.{AtReset, AtIntegration}
 use Rattle.can_node.specs.Table.{Row}
 use Rattle.can_node.specs.Record.{Entry, bits_in, Inner, BeginsInBit, IsSlice}
 use Rattle.can_node.specs.Record.Entry.{Start, Stop, OneBit, Send, Abort, BusOff}
-pub use Rattle.can_node.specs.FinishedPieces.{Count, none_yet, counted_one, counted, FinishedPiece, tagged, ReceivedFrame, received_if, received}
+pub use Rattle.can_node.specs.FinishedPieces.{Count, none_yet, counted_one, counted, FinishedPiece}
+pub use Rattle.can_node.specs.FinishedPieces.{tagged, ReceivedFrame, received_if, received}
 use Rattle.can_node.specs.Effects.{with_send, with_abort, with_start, with_stop, with_off, along, after}
 
 -- ---- a piece that isn't finished

@@ -7,11 +7,14 @@ use Rattle.can_node.specs.declared.role.Role.{Role}
 use Rattle.can_node.specs.declared.role.Role.TheVariants.{Transmitter, Receiver}
 use Rattle.can_node.specs.declared.request.Request.{Request}
 use Rattle.can_node.specs.declared.phase.Phase.{Phase}
-use Rattle.can_node.specs.declared.phase.Phase.TheVariants.{Reset, Waiting, Idle as IdlePhase, Frame as FramePhase, Flag as FlagPhase, Delimiter as DelimiterPhase, Intermission, Suspension}
+use Rattle.can_node.specs.declared.phase.Phase.TheVariants.{Reset, Waiting, Idle as IdlePhase}
+use Rattle.can_node.specs.declared.phase.Phase.TheVariants.{Frame as FramePhase, Flag as FlagPhase}
+use Rattle.can_node.specs.declared.phase.Phase.TheVariants.{Delimiter as DelimiterPhase, Intermission, Suspension}
 use Rattle.can_node.specs.Bits.{Bit, dominant_bit, seen_of, driven_of}
 use Rattle.can_node.specs.Context.{ContextValue, flag_level}
 use Rattle.can_node.specs.Pieces.{Place, sent_at}
-use Rattle.can_node.specs.Pieces.Place.{AtReset, AtIntegration, AtIdle, AfterSof, AtLastEofBit, AtFlag, AtDelimiter, AtInterframeSpace}
+use Rattle.can_node.specs.Pieces.Place.{AtReset, AtIntegration, AtIdle, AfterSof}
+use Rattle.can_node.specs.Pieces.Place.{AtLastEofBit, AtFlag, AtDelimiter, AtInterframeSpace}
 use Rattle.can_node.specs.Frames.{Acknowledges, SentPart}
 
 -- the next level of the line that a transmitter sends, of which these bits came (Bosch CAN 2.0 part A section 3.1.1)

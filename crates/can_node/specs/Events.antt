@@ -13,8 +13,10 @@ use Rattle.can_node.specs.declared.role.Role.{Role}
 use Rattle.can_node.specs.Context.{ContextValue, is_transmitter, is_held}
 use Rattle.can_node.specs.declared.role.Role.TheVariants.{Transmitter, Receiver}
 use Rattle.can_node.specs.Pieces.{Place, Piece, received_by}
-use Rattle.can_node.specs.Pieces.Place.{AtReset, AtIntegration, AtIdle, AfterSof, AtLastEofBit, AtFlag, AtDelimiter, AtInterframeSpace}
-use Rattle.can_node.specs.Pieces.Piece.{Integration, IdleBit, Reception, Transmission, Fault, LastEofBit, Flag, Delimiter, InterframeSpace, InterframeSpaceWithSof, InterframeSpaceBroken}
+use Rattle.can_node.specs.Pieces.Place.{AtReset, AtIntegration, AtIdle, AfterSof}
+use Rattle.can_node.specs.Pieces.Place.{AtLastEofBit, AtFlag, AtDelimiter, AtInterframeSpace}
+use Rattle.can_node.specs.Pieces.Piece.{Integration, IdleBit, Reception, Transmission, Fault, LastEofBit, Flag}
+use Rattle.can_node.specs.Pieces.Piece.{Delimiter, InterframeSpace, InterframeSpaceWithSof, InterframeSpaceBroken}
 use Rattle.can_node.specs.Counting.{lost_by, at_bit}
 use Rattle.can_node.specs.Effects.{closed}
 

@@ -1,6 +1,7 @@
 -- The bits of a frame as its receiver and its transmitter have them (Bosch CAN 2.0 part A sections 3.1.1, 3.1.2 and 6).
 -- l are the levels of the frame that a receiver saw before these bits.
-use Rattle.std.specs.Prelude.{◌≡◌, ◌≢◌, ◌+◌, ◌≤◌, ℕ, Bool, true, false, Some, None, IsTrue, IsFalse, List, [], ◌∷◌, ◌++◌, length}
+use Rattle.std.specs.Prelude.{◌≡◌, ◌≢◌, ◌+◌, ◌≤◌, ℕ, Bool, true, false, Some}
+use Rattle.std.specs.Prelude.{None, IsTrue, IsFalse, List, [], ◌∷◌, ◌++◌, length}
 use Rattle.can_frame.specs.Frame.{FrameValue}
 use Rattle.can_bits.specs.declared.level.Level.{Level}
 use Rattle.can_bits.specs.declared.level.Level.TheVariants.{Dominant, Recessive}
@@ -14,7 +15,8 @@ use Rattle.can_bits.specs.Streaming.{EndsInWrongCheck}
 use Rattle.can_bits.specs.Acknowledging.{IsAckDue}
 use Rattle.can_bits.specs.Places.{place_code, is_early_stuff}
 use Rattle.can_node.specs.declared.cause.Cause.{Cause}
-use Rattle.can_node.specs.declared.cause.Cause.TheVariants.{Bit as BitError, Stuff as StuffError, Form as FormError, Crc as CheckError, Ack as AckError}
+use Rattle.can_node.specs.declared.cause.Cause.TheVariants.{Bit as BitError, Stuff as StuffError}
+use Rattle.can_node.specs.declared.cause.Cause.TheVariants.{Form as FormError, Crc as CheckError, Ack as AckError}
 use Rattle.can_node.specs.declared.request.Request.{Request}
 use Rattle.can_node.specs.Bits.{Bit, recessive_bit, dominant_bit, seen_of, driven_of}
 use Rattle.can_node.specs.Pieces.{Place, Piece}

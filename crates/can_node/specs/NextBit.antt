@@ -3,7 +3,9 @@
 use Rattle.std.specs.Prelude.{Bool, true, false, if◌then◌else◌, List, []}
 use Rattle.can_bits.specs.declared.level.Level.{Level}
 use Rattle.can_node.specs.declared.phase.Phase.{Phase}
-use Rattle.can_node.specs.declared.phase.Phase.TheVariants.{Reset, Waiting, Idle as IdlePhase, Frame as FramePhase, Flag as FlagPhase, Delimiter as DelimiterPhase, Intermission, Suspension}
+use Rattle.can_node.specs.declared.phase.Phase.TheVariants.{Reset, Waiting, Idle as IdlePhase}
+use Rattle.can_node.specs.declared.phase.Phase.TheVariants.{Frame as FramePhase, Flag as FlagPhase}
+use Rattle.can_node.specs.declared.phase.Phase.TheVariants.{Delimiter as DelimiterPhase, Intermission, Suspension}
 use Rattle.can_node.specs.Bits.{Bit}
 use Rattle.can_node.specs.Context.{ContextValue, is_held}
 use Rattle.can_node.specs.Record.{Entry, bits_in}

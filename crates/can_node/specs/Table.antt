@@ -13,9 +13,11 @@ use Rattle.can_node.specs.declared.flag_kind.FlagKind.{FlagKind}
 use Rattle.can_node.specs.Context.{ContextValue, owes_suspension, interframe_count, flag_level, integration_count}
 use Rattle.can_node.specs.declared.flag_kind.FlagKind.TheVariants.{ActiveError, PassiveError, Overload}
 use Rattle.can_node.specs.Pieces.{Place, Piece, sent_at}
-use Rattle.can_node.specs.Pieces.Place.{AtIntegration, AtIdle, AfterSof, AtLastEofBit, AtFlag, AtDelimiter, AtInterframeSpace}
+use Rattle.can_node.specs.Pieces.Place.{AtIntegration, AtIdle, AfterSof, AtLastEofBit}
+use Rattle.can_node.specs.Pieces.Place.{AtFlag, AtDelimiter, AtInterframeSpace}
 use Rattle.can_node.specs.declared.fault_site.FaultSite.TheVariants.{InFlag, InDelimiter}
-use Rattle.can_node.specs.Pieces.Piece.{Integration, IdleBit, Fault, LastEofBit, Flag, Delimiter, InterframeSpace, InterframeSpaceWithSof, InterframeSpaceBroken}
+use Rattle.can_node.specs.Pieces.Piece.{Integration, IdleBit, Fault, LastEofBit, Flag, Delimiter}
+use Rattle.can_node.specs.Pieces.Piece.{InterframeSpace, InterframeSpaceWithSof, InterframeSpaceBroken}
 use Rattle.can_node.specs.Frames.{Receives, Transmits}
 
 -- the levels end in eleven recessive ones

@@ -35,7 +35,8 @@ impl Node {
     ghost use Rattle.can_node.specs.Machine.Standing.{context_of};
     ghost use Rattle.can_node.specs.Machine.Stages.{At};
     ghost use Rattle.can_node.specs.Cut.{FinishedPiece};
-    ghost use Rattle.can_node.specs.Stands.{StandsAt, InReset, Enters, DrivesNext, Samples, StaysReset, ShowsPhase, ShowsCounters, ShowsRest, Requests, Aborts};
+    ghost use Rattle.can_node.specs.Stands.{StandsAt, InReset, Enters, DrivesNext, Samples, StaysReset};
+    ghost use Rattle.can_node.specs.Stands.{ShowsPhase, ShowsCounters, ShowsRest, Requests, Aborts};
 
     /// A node in reset, to which nothing has happened.
     pub fn new() -> Node

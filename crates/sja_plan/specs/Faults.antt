@@ -12,8 +12,10 @@ use Rattle.sja_plan.specs.Checks.{HasVersion, HasBits, HasNodes, HasFewSteps, Ha
 use Rattle.sja_plan.specs.Checks.{BeforeBits, BeforeNodeCount, BeforeStepCount, BeforeSteps}
 use Rattle.sja_plan.specs.Checks.{BeforeTurnCount, BeforeTurns, BeforeStrikeCount, BeforeStrikes}
 use Rattle.sja_plan.specs.declared.plan_fault.PlanFault.{PlanFault}
-use Rattle.sja_plan.specs.declared.plan_fault.PlanFault.TheVariants.{TooLong, NotText, Toml, Key, Version, Bits, NodeCount}
-use Rattle.sja_plan.specs.declared.plan_fault.PlanFault.TheVariants.{StepCount, Step, TurnCount, Turn, StrikeCount, Strike, Memory}
+use Rattle.sja_plan.specs.declared.plan_fault.PlanFault.TheVariants.{TooLong, NotText, Toml, Key}
+use Rattle.sja_plan.specs.declared.plan_fault.PlanFault.TheVariants.{Version, Bits, NodeCount}
+use Rattle.sja_plan.specs.declared.plan_fault.PlanFault.TheVariants.{StepCount, Step, TurnCount, Turn}
+use Rattle.sja_plan.specs.declared.plan_fault.PlanFault.TheVariants.{StrikeCount, Strike, Memory}
 
 -- the bytes are a text that isn't too long
 abbrev pub IsText : List ℕ → Type 0

@@ -4,7 +4,8 @@ use Rattle.can_frame.specs.Buffer.{frame_in}
 use Rattle.can_node.specs.declared.request.Request.{Request}
 use Rattle.sja_regs.specs.declared.command.Command.{Command}
 use Rattle.sja_regs.specs.declared.reg_fault.RegFault.{RegFault}
-use Rattle.sja_regs.specs.declared.reg_fault.RegFault.TheVariants.{ActiveOnly, UseTyped, NotInVersion, ListenOnly, Locked}
+use Rattle.sja_regs.specs.declared.reg_fault.RegFault.TheVariants.{ActiveOnly, UseTyped}
+use Rattle.sja_regs.specs.declared.reg_fault.RegFault.TheVariants.{NotInVersion, ListenOnly, Locked}
 use Rattle.sja_regs.specs.declared.registers.Registers.{Registers}
 use Rattle.sja_regs.specs.Bits.{is_set}
 use Rattle.sja_regs.specs.Writing.{is_first_version}

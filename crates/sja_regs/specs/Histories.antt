@@ -1,8 +1,10 @@
 -- What stands in a register after several calls, or after a write.
-use Rattle.std.specs.Prelude.{◌≢◌, ◌≡◌, ◌||◌, ◌&&◌, ◌%◌, ℕ, Bool, true, false, if◌then◌else◌, Option, Some, None, List, [], ◌∷◌, All}
+use Rattle.std.specs.Prelude.{◌≢◌, ◌≡◌, ◌||◌, ◌&&◌, ◌%◌, ℕ, Bool, true, false}
+use Rattle.std.specs.Prelude.{if◌then◌else◌, Option, Some, None, List, [], ◌∷◌, All}
 use Rattle.sja_regs.specs.declared.interrupts.Interrupts.{Interrupts}
 use Rattle.sja_regs.specs.declared.register.Register.{Register}
-use Rattle.sja_regs.specs.declared.register.Register.TheVariants.{Mode, InterruptEnable, ErrorWarningLimit, AcceptanceCode, AcceptanceMask}
+use Rattle.sja_regs.specs.declared.register.Register.TheVariants.{Mode, InterruptEnable, ErrorWarningLimit}
+use Rattle.sja_regs.specs.declared.register.Register.TheVariants.{AcceptanceCode, AcceptanceMask}
 use Rattle.sja_regs.specs.declared.registers.Registers.{Registers}
 use Rattle.sja_regs.specs.Registers.{error_causes}
 use Rattle.sja_regs.specs.Interrupting.{no_interrupt}

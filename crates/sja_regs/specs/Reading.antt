@@ -1,7 +1,11 @@
 -- What a driver reads.
 use Rattle.std.specs.Prelude.{ℕ, Option, Some, None, Result, Ok, Err, List, slice_get, slice_index, unwrap_or}
 use Rattle.sja_regs.specs.declared.register.Register.{Register}
-use Rattle.sja_regs.specs.declared.register.Register.TheVariants.{Mode, Command, Status, Interrupt, InterruptEnable, ArbitrationLostCapture, ErrorCodeCapture, ErrorWarningLimit, ReceiveErrorCounter, TransmitErrorCounter, AcceptanceCode, AcceptanceMask, Buffer, ReceiveMessageCounter}
+use Rattle.sja_regs.specs.declared.register.Register.TheVariants.{Mode, Command, Status, Interrupt, InterruptEnable}
+use Rattle.sja_regs.specs.declared.register.Register.TheVariants.{ArbitrationLostCapture, ErrorCodeCapture}
+use Rattle.sja_regs.specs.declared.register.Register.TheVariants.{ErrorWarningLimit, ReceiveErrorCounter}
+use Rattle.sja_regs.specs.declared.register.Register.TheVariants.{TransmitErrorCounter, AcceptanceCode}
+use Rattle.sja_regs.specs.declared.register.Register.TheVariants.{AcceptanceMask, Buffer, ReceiveMessageCounter}
 use Rattle.sja_regs.specs.declared.reg_fault.RegFault.{RegFault}
 use Rattle.sja_regs.specs.declared.reg_fault.RegFault.TheVariants.{NoRegister}
 use Rattle.sja_regs.specs.declared.registers.Registers.{Registers}

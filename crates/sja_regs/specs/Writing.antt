@@ -4,9 +4,11 @@ use Rattle.can_frame.specs.Message.{message}
 use Rattle.can_frame.specs.Buffer.{frame_in, buffer_of}
 use Rattle.sja_regs.specs.declared.mode.Mode.{Mode as ModeBits}
 use Rattle.sja_regs.specs.declared.register.Register.{Register}
-use Rattle.sja_regs.specs.declared.register.Register.TheVariants.{Mode, Command, InterruptEnable, ErrorWarningLimit, AcceptanceCode, AcceptanceMask, Buffer}
+use Rattle.sja_regs.specs.declared.register.Register.TheVariants.{Mode, Command, InterruptEnable, ErrorWarningLimit}
+use Rattle.sja_regs.specs.declared.register.Register.TheVariants.{AcceptanceCode, AcceptanceMask, Buffer}
 use Rattle.sja_regs.specs.declared.reg_fault.RegFault.{RegFault}
-use Rattle.sja_regs.specs.declared.reg_fault.RegFault.TheVariants.{NoRegister, ReadOnly, ResetOnly, Locked, UseTyped, NotInVersion, ActiveOnly}
+use Rattle.sja_regs.specs.declared.reg_fault.RegFault.TheVariants.{NoRegister, ReadOnly, ResetOnly, Locked}
+use Rattle.sja_regs.specs.declared.reg_fault.RegFault.TheVariants.{UseTyped, NotInVersion, ActiveOnly}
 use Rattle.sja_regs.specs.declared.registers.Registers.{Registers}
 use Rattle.sja_regs.specs.Bits.{differ}
 use Rattle.sja_regs.specs.Registers.{error_causes}

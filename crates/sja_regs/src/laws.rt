@@ -4,7 +4,8 @@
 ghost use Rattle.std.specs.Prelude.{◌≡◌, ◌||◌, ◌<◌, ◌^◌, ℕ, List, Some, All};
 ghost use Rattle.can_frame.specs.declared.seen.Seen.{Seen};
 ghost use Rattle.sja_regs.specs.declared.register.Register.{Register};
-ghost use Rattle.sja_regs.specs.declared.register.Register.TheVariants.{Interrupt, ArbitrationLostCapture, ErrorCodeCapture};
+ghost use Rattle.sja_regs.specs.declared.register.Register.TheVariants.{Interrupt, ArbitrationLostCapture};
+ghost use Rattle.sja_regs.specs.declared.register.Register.TheVariants.{ErrorCodeCapture};
 ghost use Rattle.sja_regs.specs.declared.registers.Registers.{Registers};
 ghost use Rattle.sja_regs.specs.Facts.{RegisterFacts};
 ghost use Rattle.sja_regs.specs.Addresses.{IsPlace};
@@ -12,7 +13,8 @@ ghost use Rattle.sja_regs.specs.Captures.{after_capture};
 ghost use Rattle.sja_regs.specs.Reading.{value_of};
 ghost use Rattle.sja_regs.specs.Writing.{after_writing};
 ghost use Rattle.sja_regs.specs.Calls.{Call, after_calls};
-ghost use Rattle.sja_regs.specs.Histories.{IsUnread, IsNoRequest, first_lost, first_error, either, enabled_causes, some_release};
+ghost use Rattle.sja_regs.specs.Histories.{IsUnread, IsNoRequest, first_lost, first_error};
+ghost use Rattle.sja_regs.specs.Histories.{either, enabled_causes, some_release};
 ghost use Rattle.sja_regs.specs.Histories.{read_back};
 
 /// Until ALC is read it has the first place where arbitration was lost since it was read last.

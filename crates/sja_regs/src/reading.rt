@@ -3,7 +3,8 @@
 ghost use Rattle.std.specs.Prelude.{◌≡◌, ◌<◌};
 ghost use Rattle.sja_regs.specs.Addresses.{register_at, IsPlace};
 ghost use Rattle.sja_regs.specs.Facts.{RegisterFacts};
-ghost use Rattle.sja_regs.specs.Reading.{received_byte, value_of, value_at, or_no_register, after_reading, after_reading_at};
+ghost use Rattle.sja_regs.specs.Reading.{received_byte, value_of, value_at};
+ghost use Rattle.sja_regs.specs.Reading.{or_no_register, after_reading, after_reading_at};
 
 use super::interrupts::Interrupts;
 use super::port::Port;

@@ -3,7 +3,8 @@ use Rattle.std.specs.Prelude.{◌/◌, ◌%◌, ℕ, false, List, [], ◌∷◌,
 use Rattle.std.specs.Fmt.{digit_glyph}
 use Rattle.sja_script.specs.Refusals.{refusal_name}
 use Rattle.sja_script.specs.declared.step_answer.StepAnswer.{StepAnswer}
-use Rattle.sja_script.specs.declared.step_answer.StepAnswer.TheVariants.{Done as IsDone, NoMessage, Shown, Released, Value, Refused}
+use Rattle.sja_script.specs.declared.step_answer.StepAnswer.TheVariants.{Done as IsDone, NoMessage}
+use Rattle.sja_script.specs.declared.step_answer.StepAnswer.TheVariants.{Shown, Released, Value, Refused}
 use Rattle.sja_report.specs.declared.end.End.{End}
 use Rattle.sja_report.specs.declared.end.End.TheVariants.{Turns, Rest, Bits}
 

@@ -13,11 +13,12 @@ ghost use Rattle.sja_report.specs.Settling.{IsSettled, AreSettled};
 ghost use Rattle.sja_report.specs.Headline.{IsAccount};
 ghost use Rattle.sja_report.specs.Runs.{IsTrace, IsRun};
 
-/// A law: where a node's journal is lawful, and each of its activations has begun there and is settled, the node's record
-/// has a cut, and by every cut of it the headline holds of each activation.
+/// A law: where a node's journal is lawful, and each of its activations has begun there and is settled, the node's
+/// record has a cut, and by every cut of it the headline holds of each activation.
 #[tactic(auto, using(crate::proofs::Accounts::account_of))]
 pub fn a_settled_node_has_the_headline()
-    ensures { (node : NodeValue) → IsLawful node.journal → length node.activations ≤ (place_of node.journal).activation →
+    ensures { (node : NodeValue) → IsLawful node.journal →
+        length node.activations ≤ (place_of node.journal).activation →
         ((a : ℕ) (d : ActivationValue) → a < length node.activations →
         IsSettled node.journal (a + 1) (slice_index_or node.activations a d)) →
         IsAccount node }
@@ -30,8 +31,8 @@ pub fn a_log_says_what_was_got_and_given()
         account_in (part j a) act ≡ settled.driver }
 {}
 
-/// A law: what the bus promises of all journals, with the trace of each driver and with activations that are settled, is
-/// what is promised of a run.
+/// A law: what the bus promises of all journals, with the trace of each driver and with activations that are settled,
+/// is what is promised of a run.
 pub fn a_bus_with_traced_drivers_is_a_run()
     ensures { (plan : PlanValue) (log : RunValue) (deeds : List (List Deed)) → log.version ≡ plan.version →
         length log.nodes ≡ length plan.nodes → IsBusRun plan.strikes log.bits (journals_in log) →

@@ -1,7 +1,8 @@
 //! Lines of a report.
 
 ghost use Rattle.std.specs.Prelude.{◌≡◌, ◌<◌, ◌+◌, ◌^◌, ◌++◌, [], ◌∷◌, codes, string_bytes, OnOk};
-ghost use Rattle.sja_report.specs.ReportLines.{line_text, lines_text, numbered, node_line, step_line, step_lines, counts_line, message_line, message_lines};
+ghost use Rattle.sja_report.specs.ReportLines.{line_text, lines_text, numbered, node_line, step_line};
+ghost use Rattle.sja_report.specs.ReportLines.{step_lines, counts_line, message_line, message_lines};
 
 use super::node_run::NodeRun;
 use super::words::{put_answer, put_bytes};

@@ -2,7 +2,8 @@
 
 ghost use Rattle.std.specs.Prelude.{◌≡◌, ◌<◌, ◌+◌, ◌^◌, ◌++◌, length, map, slice_index_or, string_bytes, IfOk, OnOk};
 ghost use Rattle.sja_link.specs.Between.{between_bits};
-ghost use Rattle.sja_report.specs.ReportLines.{lines_text, line_text, numbered, run_line, activation_lines, node_lines, report_text};
+ghost use Rattle.sja_report.specs.ReportLines.{lines_text, line_text, numbered, run_line};
+ghost use Rattle.sja_report.specs.ReportLines.{activation_lines, node_lines, report_text};
 ghost use Rattle.sja_report.specs.Inside.Tallies.{tally_value, no_tally, tallied, activation_lines_of, tallied_lines};
 
 use super::activation_log::ActivationLog;

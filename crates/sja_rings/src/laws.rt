@@ -17,7 +17,8 @@ pub fn ends_of_one_pair_can_be_settled()
         EndsBus last_bus ended_bus → EndsDriver last_driver ended_driver → OneEnded ended_bus ended_driver }
 {}
 
-/// A law: on a link of two rings the first 22 items that are put never come back, and the first 24 that are given don't.
+/// A law: on a link of two rings the first 22 items that are put never come back,
+/// and the first 24 that are given don't.
 pub fn the_first_items_never_come_back()
     ensures down { (bus last_bus : RingBus) (l : Lists) → BusLists bus nothing_yet → places_down bus ≡ 22 →
         SameBus bus last_bus → BusLists last_bus l → places_down last_bus ≡ 0 → 22 ≤ length l.put }

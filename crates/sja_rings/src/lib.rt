@@ -2,8 +2,8 @@
 //!
 //! [`ring_pair`] makes the two ends of a link. A [`RingBus`] is a [`BusEnd`](sja_link::BusEnd) and a [`RingDriver`] a
 //! [`DriverEnd`](sja_link::DriverEnd), and each promises what its trait says. After the last act of both
-//! ([`end_bus`], [`end_driver`]) [`settle`] tells what was left on the link: what was got and then this is what was put,
-//! and the same upward.
+//! ([`end_bus`], [`end_driver`]) [`settle`] tells what was left on the link: what was got and then this is what was
+//! put, and the same upward.
 //!
 //! `ring_pair` alone takes memory, and no call waits. The crate's tests stand in `crates/controller_tests/src/rings`.
 #![tactic(auto)]

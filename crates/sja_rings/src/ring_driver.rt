@@ -8,8 +8,8 @@ use sja_link::{Down, DriverEnd, LinkId, Up};
 
 /// The driver's end of a link of two rings (this project's own rule): 22 places down, 24 up.
 ///
-/// It sees the bus's end as it last looked. So it may give an item back although a place has become free since, and show
-/// nothing although something was put.
+/// It sees the bus's end as it last looked. So it may give an item back although a place has become free since, and
+/// show nothing although something was put.
 #[derive(Drop)]
 pub struct RingDriver {
     pub(crate) id: LinkId,

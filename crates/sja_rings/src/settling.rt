@@ -15,8 +15,8 @@ use rtrb::{Consumer, Finished};
 use sja_link::{Down, Up};
 
 /// What was left on a link, once both ends have done their last act: what was got and then this is what was put, and
-/// what was taken and then this is what was given. Both ends come from one [`ring_pair`](crate::ring_pair), and may have
-/// been in any thread.
+/// what was taken and then this is what was given. Both ends come from one [`ring_pair`](crate::ring_pair), and may
+/// have been in any thread.
 ///
 /// Error: [`Unsettled`] where a ring gave no closing note.
 pub fn settle(bus: EndedBus, driver: EndedDriver) -> Result<Settled, Unsettled>

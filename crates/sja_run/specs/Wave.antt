@@ -1,4 +1,5 @@
--- What `wave` prints, by what the input held before and holds after (this project's own rule). It refuses as `run` does.
+-- What `wave` prints, by what the input held before and holds after (this project's own rule).
+-- It refuses as `run` does.
 use Rattle.std.specs.Prelude.{◌≡◌, ℕ, List, Option}
 use Rattle.sja_plan.specs.Plan.{PlanValue}
 use Rattle.sja_plan.specs.Faults.{IsPlanOf}

@@ -4,8 +4,8 @@
 //! or one line to its error output, and answers the exit status. [`Output`] is a writer that remembers a failed write.
 //! What the words ask for is a [`Task`], from the crate `sja_words`. For `run` it reads a [`Plan`] from its input
 //! ([`read_plan`]), runs it in one thread ([`run_serial`]) and writes the report of the run's log ([`report`]); these
-//! calls are those of `sja_plan`, `sja_turns` and `sja_report`. For `wave` it writes the run's waveform ([`wave`]), that of
-//! `sja_wave`.
+//! calls are those of `sja_plan`, `sja_turns` and `sja_report`. For `wave` it writes the run's waveform ([`wave`]),
+//! that of `sja_wave`.
 //!
 //! Its tests stand in `crates/sja_tests/src/program`.
 #![tactic(auto)]

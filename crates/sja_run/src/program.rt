@@ -14,8 +14,8 @@ use std::io::{Read, Write};
 use std::sync::Wait;
 use std::thread::Threads;
 
-/// The program: does what the words ask for, writes the text to `out` or one line to `err`, and answers the exit status.
-/// The first word is the program's name.
+/// The program: does what the words ask for, writes the text to `out` or one line to `err`, and answers the exit
+/// status. The first word is the program's name.
 ///
 /// The status is 0 where the text was written, 1 where an argument, the plan or memory was refused, a run failed, or a
 /// read or a write failed, and 2 where the words don't parse or ask for help; then `err` has the parser's own text.

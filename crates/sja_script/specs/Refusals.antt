@@ -1,7 +1,9 @@
 -- The names of refusals, as they are printed (this project's own rule).
 use Rattle.std.specs.Prelude.{ℕ, List, codes}
 use Rattle.sja_script.specs.declared.refusal.Refusal.{Refusal}
-use Rattle.sja_script.specs.declared.refusal.Refusal.TheVariants.{NoActivationLeft, Stopped, Empty, WrongState, Closed, NoRegister, ReadOnly, ResetOnly, Locked, UseTyped, NotInVersion, ActiveOnly, ListenOnly}
+use Rattle.sja_script.specs.declared.refusal.Refusal.TheVariants.{NoActivationLeft, Stopped, Empty, WrongState}
+use Rattle.sja_script.specs.declared.refusal.Refusal.TheVariants.{Closed, NoRegister, ReadOnly, ResetOnly, Locked}
+use Rattle.sja_script.specs.declared.refusal.Refusal.TheVariants.{UseTyped, NotInVersion, ActiveOnly, ListenOnly}
 
 -- each refusal's name
 abbrev pub refusal_name : Refusal → List ℕ

@@ -10,7 +10,8 @@ impl SerialRun {
     ghost use Rattle.sja_bus.specs.Resting.{RestsAs};
     ghost use Rattle.sja_bus.specs.Wire.{journal_at};
     ghost use Rattle.sja_driver.specs.Deeds.{Deed};
-    ghost use Rattle.sja_turns.specs.Bits.{TakesBit, TakesBits, TakesAtOnce, AllRest, SomeWorks, TakesBusTurn, TakesRest};
+    ghost use Rattle.sja_turns.specs.Bits.{TakesBit, TakesBits, TakesAtOnce, AllRest};
+    ghost use Rattle.sja_turns.specs.Bits.{SomeWorks, TakesBusTurn, TakesRest};
     ghost use Rattle.sja_turns.specs.Serial.{StandsAt, IsRunOf};
 
     /// Whether no bit is left.

@@ -18,8 +18,8 @@ use std::alloc::Global;
 /// How many links, and so activations, a node has.
 const LINKS: usize = 8;
 
-/// What became of each node, by what the bus left of it, its driver, and what lay downward on its links at the end of the
-/// run, of all that was put there: eight links a node, by node and activation (this project's own rule).
+/// What became of each node, by what the bus left of it, its driver, and what lay downward on its links at the end of
+/// the run, of all that was put there: eight links a node, by node and activation (this project's own rule).
 ///
 /// Error: [`OutOfMemory`] where memory was refused.
 pub fn node_runs(

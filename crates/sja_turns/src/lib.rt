@@ -12,10 +12,11 @@
 //! did these deeds, of the steps that the plan has for it; its links carried what its journal and its deeds say; its
 //! port is as its writes and loads have set it; and all was in time, as `IsInTime` of sja_report has it.
 //!
-//! A run in threads begins with the same strikes ([`script_of`]), and ends with the same log: [`node_runs`] makes it of what
-//! the bus left of each node, its driver, and what lay on its links ([`Lying`]).
+//! A run in threads begins with the same strikes ([`script_of`]), and ends with the same log: [`node_runs`] makes it of
+//! what the bus left of each node, its driver, and what lay on its links ([`Lying`]).
 //!
-//! `SerialRun::new`, `SerialRun::finish`, `script_of`, `Lying::of` and `node_runs` alone take memory. The tests stand in `crates/turns_tests`.
+//! `SerialRun::new`, `SerialRun::finish`, `script_of`, `Lying::of` and `node_runs` alone take memory.
+//! The tests stand in `crates/turns_tests`.
 #![tactic(auto)]
 
 mod beginning;

@@ -1,4 +1,5 @@
--- The text of a wave: a value change dump (IEEE 1364-2005, section 18). A bit lasts one microsecond, ten units of 100 ns.
+-- The text of a wave: a value change dump (IEEE 1364-2005, section 18).
+-- A bit lasts one microsecond, ten units of 100 ns.
 use Rattle.std.specs.Prelude.{◌*◌, ℕ, zero, suc, Bool, true, false, List, [], ◌∷◌, ◌++◌, codes, decimal}
 use Rattle.sja_link.specs.Gathering.{gathered}
 use Rattle.sja_report.specs.Log.{NodeValue, RunValue}

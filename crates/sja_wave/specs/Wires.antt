@@ -6,7 +6,8 @@ use Rattle.sja_bus.specs.Wire.{wired}
 use Rattle.sja_report.specs.Log.{NodeValue, RunValue}
 use Rattle.sja_report.specs.ReportLines.{numbered}
 use Rattle.sja_wave.specs.Through.{through}
-use Rattle.sja_wave.specs.Signals.{last_bit, shows_driven, shows_seen, shows_active, shows_off, shows_stored, shows_overrun}
+use Rattle.sja_wave.specs.Signals.{last_bit, shows_driven, shows_seen, shows_active}
+use Rattle.sja_wave.specs.Signals.{shows_off, shows_stored, shows_overrun}
 
 -- a signal: its name, its identifier code, and its value at each bit, counted from 0
 pub record Wire : Type 0 where

@@ -34,7 +34,8 @@ fn put_scopes(text: &mut String, nodes: &[NodeRun]) -> Result<(), AllocError>
 
 /// The scope of a node, with its signals.
 fn put_scope(text: &mut String, number: usize) -> Result<(), AllocError>
-    ensures { (node : NodeValue) → OnOk result (string_bytes text.new ≡ string_bytes text.old ++ node_scope number node) }
+    ensures { (node : NodeValue) →
+        OnOk result (string_bytes text.new ≡ string_bytes text.old ++ node_scope number node) }
 {
     put_opening(text, number)?;
     put_signal(text, "driven", "d", number)?;

@@ -70,8 +70,8 @@ impl Gate for HoldsOnce {
 /// How often a step is tried that waits for another driver.
 const MOST: u32 = 10_000_000;
 
-/// A gate that holds some of its driver's steps, each until another driver has come to a step of its own. It quits where
-/// that takes too many tries.
+/// A gate that holds some of its driver's steps, each until another driver has come to a step of its own. It quits
+/// where that takes too many tries.
 #[derive(Drop)]
 pub struct Meeting {
     /// The step that this gate was asked for last.

@@ -17,7 +17,8 @@ steps = [\"start\", \"load 002460\", \"command 01\", \"sent\", \"await 1\", \"re
 steps = [\"start\", \"load 002440\", \"command 01\", \"sent\", \"await 1\", \"release\"]
 ";
 
-/// The gates of two drivers: which steps of the first are held, and which of the second, each up to a step of the other.
+/// The gates of two drivers: which steps of the first are held, and which of the second,
+/// each up to a step of the other.
 fn two_gates(
     alloc: Global,
     first: [(u16, u64); 3],
@@ -105,7 +106,8 @@ fn two_gates_meet(rt: HostRuntime) -> Result<(), Fail> {
 }
 
 /// Node 0 loads its last message, in step 65, when node 1 has released all that it had and is asked about step 24. The
-/// message has room, so the bus has collected credits while both drivers run. A frame and its intermission take 53 bits.
+/// message has room, so the bus has collected credits while both drivers run.
+/// A frame and its intermission take 53 bits.
 #[test]
 fn credits_come_back(rt: HostRuntime) -> Result<(), Fail> {
     let plan = one_too_many(rt.alloc())?;

@@ -68,8 +68,8 @@ $var wire 1 o0 overrun $end
 $upscope $end
 ";
 
-/// What follows where no other node is there, and this one is active on an idle bus from the first bit on: the end of the
-/// declarations, and the values at the first bit.
+/// What follows where no other node is there, and this one is active on an idle bus from the first bit on: the end of
+/// the declarations, and the values at the first bit.
 pub const FIRST_VALUES: &str = "$upscope $end
 $enddefinitions $end
 #0

@@ -8,7 +8,8 @@ use crate::segment::Segment;
 use crate::sent_body::SentBody;
 
 impl Gathered {
-    ghost use Rattle.std.specs.Prelude.{◌≡◌, ◌≤◌, ◌-◌, ◌&&◌, ◌∷◌, ◌++◌, List, length, Some, None, nat_lt, nat_le, if◌then◌else◌};
+    ghost use Rattle.std.specs.Prelude.{◌≡◌, ◌≤◌, ◌-◌, ◌&&◌, ◌∷◌, ◌++◌, List, length};
+    ghost use Rattle.std.specs.Prelude.{Some, None, nat_lt, nat_le, if◌then◌else◌};
     ghost use Rattle.can_bits.specs.declared.level.Level.{Level as Bus};
     ghost use Rattle.can_bits.specs.Check.{Crc};
     ghost use Rattle.can_bits.specs.Body.{sent_body};

@@ -1,6 +1,7 @@
 -- The causes of the faults of a line.
 use Rattle.can_bits.specs.declared.line_fault.LineFault.{LineFault}
-use Rattle.can_bits.specs.declared.line_fault.LineFault.TheVariants.{Stuff as StuffFault, Form as FormFault, Crc as CheckFault, NoAck, Truncated, Trailing}
+use Rattle.can_bits.specs.declared.line_fault.LineFault.TheVariants.{Stuff as StuffFault, Form as FormFault}
+use Rattle.can_bits.specs.declared.line_fault.LineFault.TheVariants.{Crc as CheckFault, NoAck, Truncated, Trailing}
 use Rattle.can_node.specs.declared.cause.Cause.{Cause}
 use Rattle.can_node.specs.declared.cause.Cause.TheVariants.{Stuff as StuffError, Form as FormError, Crc as CheckError}
 

@@ -5,12 +5,18 @@ use Rattle.can_bits.specs.Shifts.{StandsFor}
 use Rattle.can_node.specs.Machine.Standing.{context_of, HasBody, IsKept}
 use Rattle.can_node.specs.Driving.{Drives, TransmitsNext}
 use Rattle.can_node.specs.Frames.{Acknowledges}
-use Rattle.std.specs.Prelude.{◌≡◌, ◌+◌, ℕ, Bool, nat_le, nat_lt, true, false, if◌then◌else◌, List, [], ◌∷◌, ◌++◌, is_some, Some}
+use Rattle.std.specs.Prelude.{◌≡◌, ◌+◌, ℕ, Bool, nat_le, nat_lt, true, false}
+use Rattle.std.specs.Prelude.{if◌then◌else◌, List, [], ◌∷◌, ◌++◌, is_some, Some}
 use Rattle.can_bits.specs.declared.shift.Shift.{Shift}
 use Rattle.can_node.specs.declared.ending.Ending.{Ending}
-use Rattle.can_node.specs.declared.ending.Ending.TheVariants.{Integration as EndingIntegration, IdleBit as EndingIdleBit, Received, Sent, Fault as EndingFault, LastEofBit as EndingLastEofBit, Flag as EndingFlag, Delimiter as EndingDelimiter, InterframeSpace as EndingInterframeSpace, Sof, Overload}
+use Rattle.can_node.specs.declared.ending.Ending.TheVariants.{Integration as EndingIntegration}
+use Rattle.can_node.specs.declared.ending.Ending.TheVariants.{IdleBit as EndingIdleBit, Received, Sent}
+use Rattle.can_node.specs.declared.ending.Ending.TheVariants.{Fault as EndingFault, LastEofBit as EndingLastEofBit}
+use Rattle.can_node.specs.declared.ending.Ending.TheVariants.{Flag as EndingFlag, Delimiter as EndingDelimiter}
+use Rattle.can_node.specs.declared.ending.Ending.TheVariants.{InterframeSpace as EndingInterframeSpace, Sof, Overload}
 use Rattle.can_node.specs.declared.overload_condition.OverloadCondition.{OverloadCondition}
-use Rattle.can_node.specs.declared.overload_condition.OverloadCondition.TheVariants.{Intermission, LastDelimiterBit, LastEofBit as LastEof}
+use Rattle.can_node.specs.declared.overload_condition.OverloadCondition.TheVariants.{Intermission, LastDelimiterBit}
+use Rattle.can_node.specs.declared.overload_condition.OverloadCondition.TheVariants.{LastEofBit as LastEof}
 use Rattle.can_bits.specs.declared.level.Level.{Level}
 use Rattle.can_bits.specs.declared.level.Level.TheVariants.{Dominant, Recessive}
 use Rattle.can_node.specs.declared.after_bit.AfterBit.{AfterBit}
@@ -20,7 +26,8 @@ use Rattle.can_node.specs.Bits.{Bit, seen_of}
 use Rattle.can_node.specs.Context.{ContextValue}
 use Rattle.can_node.specs.Pieces.{Place, Piece}
 use Rattle.can_node.specs.Pieces.Place.{AtIdle, AfterSof, AtLastEofBit, AtFlag, AtDelimiter, AtInterframeSpace}
-use Rattle.can_node.specs.Pieces.Piece.{Integration, IdleBit, Reception, Transmission, Fault, LastEofBit, Flag, Delimiter, InterframeSpace, InterframeSpaceWithSof, InterframeSpaceBroken}
+use Rattle.can_node.specs.Pieces.Piece.{Integration, IdleBit, Reception, Transmission, Fault, LastEofBit, Flag}
+use Rattle.can_node.specs.Pieces.Piece.{Delimiter, InterframeSpace, InterframeSpaceWithSof, InterframeSpaceBroken}
 use Rattle.can_node.specs.Table.{Row}
 use Rattle.can_node.specs.Counting.{at_bit, lost_by}
 use Rattle.can_node.specs.Effects.{closed, with_off}

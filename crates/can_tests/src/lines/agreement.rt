@@ -1,5 +1,5 @@
-//! Whole lists of levels read by `read_line`, plainly, and by the reader of one level at a time: the three agree, on 2,000
-//! generated lists.
+//! Whole lists of levels read by `read_line`, plainly, and by the reader of one level at a time: the three agree, on
+//! 2,000 generated lists.
 
 use super::plain::read_plainly;
 use crate::generated::next;

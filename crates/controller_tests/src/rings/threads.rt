@@ -1,5 +1,5 @@
-//! The two ends of a link in two threads: what was got and then is left is what was put, whenever either thread ran, and
-//! the same upward.
+//! The two ends of a link in two threads: what was got and then is left is what was put, whenever either thread ran,
+//! and the same upward.
 
 ghost use Rattle.sja_rings.specs.Ends.{SameBus, SameDriver};
 

@@ -153,7 +153,8 @@ fn the_first_bad_step_is_told(rt: HostRuntime) -> Result<(), Fail> {
             PlanFault::Step(0, 2),
         ),
         (
-            "[{ steps = [] }, { steps = [] }, { steps = [] }, { steps = [] }, { steps = [] }, { steps = [] }, { steps = [] }, { steps = [''] }]",
+            "[{ steps = [] }, { steps = [] }, { steps = [] }, { steps = [] },
+              { steps = [] }, { steps = [] }, { steps = [] }, { steps = [''] }]",
             PlanFault::Step(7, 1),
         ),
     ];

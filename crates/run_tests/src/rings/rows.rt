@@ -115,8 +115,8 @@ fn a_frame_whose_last_bit_is_struck_at_the_transmitter_is_released_twice(
 const STOPPED: &str = "version = 1
 bits = 200
 turns = [
-  \"node 0 3\", \"node 1 1\", \"rest\", \"node 1 1\", \"node 0 2\", \"rest\", \"node 0 2\", \"rest\", \"node 1 2\", \"rest\",
-  \"node 1 1\",
+  \"node 0 3\", \"node 1 1\", \"rest\", \"node 1 1\", \"node 0 2\", \"rest\", \"node 0 2\", \"rest\",
+  \"node 1 2\", \"rest\", \"node 1 1\",
 ]
 [[node]]
 steps = [

@@ -46,8 +46,8 @@ steps = ['start', 'await 3', 'release', 'release', 'release']
 steps = ['start', 'await 3', 'release', 'release', 'release']
 ";
 
-/// Its report after the end of its first line. The frames have 50, 45 and 45 levels, each with intermission after it, and
-/// before them come eleven bits.
+/// Its report after the end of its first line. The frames have 50, 45 and 45 levels, each with intermission after it,
+/// and before them come eleven bits.
 const THREE_REPORT: &str = "node 0 tec 0 rec 0 steps 10
 step 1 ok
 step 2 ok

@@ -33,10 +33,10 @@ steps = ['start', 'load 002440', 'command 01']
 ";
 
 /// How often each signal changes in it. The frames that the bus has, each with its ACK slot, are
-/// 000100100010000010001001010010010111011111111 and 000100100011000001001101000010110001011111111, both after recessive
-/// levels: the bus changes 42 times, and each node sees just that. Node 0 drives its first frame up to ID.18, then the
-/// ACK slot of the other one, then its own frame without the ACK slot: 4, 2 and 20 changes. Node 1 drives the first frame
-/// without its ACK slot, and the ACK slot of the second: 20 and 2. Each stores one message.
+/// 000100100010000010001001010010010111011111111 and 000100100011000001001101000010110001011111111, both after
+/// recessive levels: the bus changes 42 times, and each node sees just that. Node 0 drives its first frame up to ID.18,
+/// then the ACK slot of the other one, then its own frame without the ACK slot: 4, 2 and 20 changes. Node 1 drives the
+/// first frame without its ACK slot, and the ACK slot of the second: 20 and 2. Each stores one message.
 const CHANGES: [(&str, usize); 8] = [
     ("w", 42),
     ("d0", 26),

@@ -17,8 +17,8 @@ const STORED: u32 = 15;
 /// bits of intermission after it; before all come eleven bits.
 const BITS: u32 = 11 + 189 + 220 + 253 + 284 + 320 + 20 * 3;
 
-/// Adds the message that a node sends in a round, with this between two bytes. Its identifier rises with the node, and it
-/// has a data byte more each round.
+/// Adds the message that a node sends in a round, with this between two bytes. Its identifier rises with the node, and
+/// it has a data byte more each round.
 fn add_message(text: &mut String, round: u32, node: u32, between: &str) -> Result<(), Fail> {
     let (upper, lower) = (round.saturating_mul(2), node.saturating_mul(2));
     write!(text, "0{round}{between}2{upper}{between}{lower}0")?;
@@ -60,7 +60,8 @@ fn busy(alloc: Global) -> Result<String, Fail> {
     Ok(text)
 }
 
-/// Adds the message that a node stored at this place: in each round that of the lowest identifier first, without its own.
+/// Adds the message that a node stored at this place: in each round that of the lowest identifier first,
+/// without its own.
 fn add_stored(text: &mut String, node: u32, place: u32) -> Result<(), Fail> {
     let other = place % 3;
     let sender = if other < node {
