@@ -1,5 +1,6 @@
 -- The CRC sequence.
-use Rattle.std.proofs.Common.{◌≡◌, ◌+◌, ◌*◌, ◌/◌, ◌%◌, ◌^◌, ◌<◌, ◌≢◌, ◌-◌, ℕ, zero, suc, List, [], ◌∷◌, ◌++◌, refl, ap, sym, subst, ◌∙◌, arith}
+use Rattle.std.proofs.Common.{◌≡◌, ◌+◌, ◌*◌, ◌/◌, ◌%◌, ◌^◌, ◌<◌, ◌≢◌, ◌-◌, ℕ, zero, suc}
+use Rattle.std.proofs.Common.{List, [], ◌∷◌, ◌++◌, refl, ap, sym, subst, ◌∙◌, arith}
 use Rattle.std.proofs.Common.{append_assoc, inl, inr}
 use Rattle.std.proofs.lemmas.Bool.{cases_eq}
 use Rattle.std.proofs.lemmas.List.{append-nil}
@@ -8,7 +9,8 @@ use Rattle.std.specs.Int.Bits.{xor_block, xor_comm, xor_lt, xor_zero_l}
 use Rattle.can_bits.specs.declared.level.Level.{Level}
 use Rattle.can_bits.specs.Digits.{digit, bits, value}
 use Rattle.can_bits.specs.Check.{generator, IsMultiple, Crc}
-use Rattle.can_bits.proofs.Values.{digit-lt, value-push, value-append, value-append-bits, value-lt, value-injective, length-bits}
+use Rattle.can_bits.proofs.Values.{digit-lt, value-push, value-append, value-append-bits}
+use Rattle.can_bits.proofs.Values.{value-lt, value-injective, length-bits}
 use Rattle.can_bits.proofs.Products.{IsMultiple-double, IsMultiple-double-add, multiples_agree}
 
 -- with these 15 digits after them the levels are a multiple of the generator

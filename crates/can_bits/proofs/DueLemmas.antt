@@ -1,5 +1,6 @@
 -- When an ACK is due, and when a whole line has come.
-use Rattle.std.proofs.Common.{◌≡◌, inl, inr, ◌↔◌, IsTrue, ℕ, Bool, Option, None, List, [], ◌∷◌, ◌++◌, length, replicate, take, refl, ap, sym, subst, ◌∙◌, arith, append_assoc}
+use Rattle.std.proofs.Common.{◌≡◌, inl, inr, ◌↔◌, IsTrue, ℕ, Bool, Option, None, List, [], ◌∷◌, ◌++◌}
+use Rattle.std.proofs.Common.{length, replicate, take, refl, ap, sym, subst, ◌∙◌, arith, append_assoc}
 use Rattle.std.proofs.lemmas.List.{append-nil, length-take-le, length_push, nil_from_length, same_from_push}
 use Rattle.can_frame.specs.Frame.{FrameValue}
 use Rattle.can_bits.specs.declared.level.Level.{Level}

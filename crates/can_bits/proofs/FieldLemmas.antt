@@ -1,14 +1,17 @@
 -- What a body says of itself.
-use Rattle.std.proofs.Common.{◌≡◌, ◌+◌, ◌-◌, ◌*◌, ◌/◌, ◌^◌, ◌<◌, ◌≤◌, ℕ, Bool, true, false, List, [], ◌∷◌, ◌++◌, length, replicate, refl, ap, sym, subst, ◌∙◌, arith, append_assoc, inl, inr}
+use Rattle.std.proofs.Common.{◌≡◌, ◌+◌, ◌-◌, ◌*◌, ◌/◌, ◌^◌, ◌<◌, ◌≤◌, ℕ, Bool, true, false, List, [], ◌∷◌}
+use Rattle.std.proofs.Common.{◌++◌, length, replicate, refl, ap, sym, subst, ◌∙◌, arith, append_assoc, inl, inr}
 use Rattle.std.specs.List.{flat_map}
 use Rattle.std.proofs.lemmas.Bool.{cases_lt}
-use Rattle.std.proofs.lemmas.List.{get_or_append_left, get_or-append_right, get_or-replicate, get_or_past, length-append, length-replicate, length_push}
+use Rattle.std.proofs.lemmas.List.{get_or_append_left, get_or-append_right, get_or-replicate}
+use Rattle.std.proofs.lemmas.List.{get_or_past, length-append, length-replicate, length_push}
 use Rattle.can_frame.specs.Frame.{FrameValue, IsFrame, data_count}
 use Rattle.can_bits.specs.declared.level.Level.{Level}
 use Rattle.can_bits.specs.declared.level.Level.TheVariants.{Dominant, Recessive}
 use Rattle.can_bits.specs.Digits.{digit, level_of, bits, value}
 use Rattle.can_bits.specs.Body.{head_bits, IsBody}
-use Rattle.can_bits.specs.Fields.{level_at, is_recessive, says_ext, rtr_place, dlc_place, says_rtr, four_from, says_dlc, says_count, IsWhole}
+use Rattle.can_bits.specs.Fields.{level_at, is_recessive, says_ext, rtr_place, dlc_place}
+use Rattle.can_bits.specs.Fields.{says_rtr, four_from, says_dlc, says_count, IsWhole}
 use Rattle.can_bits.specs.Spelling.{Spells}
 use Rattle.can_bits.proofs.Values.{length-bits, value-bits}
 use Rattle.can_bits.proofs.Whole.Bytes.{length_bytes}

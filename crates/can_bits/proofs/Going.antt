@@ -1,5 +1,6 @@
 -- Whatever was right so far can go on to a line.
-use Rattle.std.proofs.Common.{◌≡◌, ◌-◌, ◌<◌, ◌≤◌, inl, inr, List, [], ◌∷◌, ◌++◌, length, reverse, replicate, refl, ap, sym, subst, ◌∙◌, arith, append_assoc}
+use Rattle.std.proofs.Common.{◌≡◌, ◌-◌, ◌<◌, ◌≤◌, inl, inr, List, [], ◌∷◌, ◌++◌, length}
+use Rattle.std.proofs.Common.{reverse, replicate, refl, ap, sym, subst, ◌∙◌, arith, append_assoc}
 use Rattle.std.proofs.lemmas.Bool.{cases_lt}
 use Rattle.std.proofs.lemmas.List.{append-nil, reverse-append, reverse-reverse, length-append, length-replicate}
 use Rattle.can_frame.specs.Frame.{FrameValue}
@@ -12,7 +13,8 @@ use Rattle.can_bits.specs.Reading.{Begins, IsOpen}
 use Rattle.can_bits.specs.Stuffing.{Stuffed}
 use Rattle.can_bits.proofs.Lists.{reverse-cons}
 use Rattle.can_bits.proofs.Runs.{run, run-other, run_one_more, IsShort}
-use Rattle.can_bits.proofs.Stuffs.{unstuffed, unstuffed-kept, unstuffed-dropped, opposite-other, IsStuffed, stuffed_from}
+use Rattle.can_bits.proofs.Stuffs.{unstuffed, unstuffed-kept, unstuffed-dropped}
+use Rattle.can_bits.proofs.Stuffs.{opposite-other, IsStuffed, stuffed_from}
 use Rattle.can_bits.proofs.Parts.{plain, part_of}
 use Rattle.can_bits.proofs.FieldLemmas.{says_count-padded, level_at-padded}
 use Rattle.can_bits.proofs.Whole.Decoding.{decoded}

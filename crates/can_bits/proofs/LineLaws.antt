@@ -1,5 +1,6 @@
 -- Laws of lines.
-use Rattle.std.proofs.Common.{◌≡◌, ◌≢◌, ◌+◌, ◌-◌, ◌<◌, ◌≤◌, ◌⊎◌, inl, inr, ℕ, List, [], ◌∷◌, ◌++◌, length, reverse, replicate, refl, ap, sym, subst, ◌∙◌, arith, append_assoc, set}
+use Rattle.std.proofs.Common.{◌≡◌, ◌≢◌, ◌+◌, ◌-◌, ◌<◌, ◌≤◌, ◌⊎◌, inl, inr, ℕ, List, [], ◌∷◌, ◌++◌, length}
+use Rattle.std.proofs.Common.{reverse, replicate, refl, ap, sym, subst, ◌∙◌, arith, append_assoc, set}
 use Rattle.std.proofs.lemmas.Bool.{cases_lt}
 use Rattle.std.proofs.lemmas.List.{append-nil, length-append, same_from_push, reverse-reverse, set_at}
 use Rattle.can_frame.specs.Frame.{FrameValue}
@@ -18,7 +19,8 @@ use Rattle.can_bits.proofs.Going.{inside_open}
 use Rattle.can_bits.proofs.Stuffs.{run-leads}
 use Rattle.can_bits.proofs.Parts.{part_of}
 use Rattle.can_bits.proofs.Whole.Decoding.{decoded}
-use Rattle.can_bits.proofs.Whole.Steps.{Holds, IsBefore, Holds-nothing, IsBefore-nothing, Holds-kept, Holds-dropped, run_same, before_here, inside_of}
+use Rattle.can_bits.proofs.Whole.Steps.{Holds, IsBefore, Holds-nothing, IsBefore-nothing}
+use Rattle.can_bits.proofs.Whole.Steps.{Holds-kept, Holds-dropped, run_same, before_here, inside_of}
 
 -- the tail of a line without its last level
 most_of_tail : Level → List Level

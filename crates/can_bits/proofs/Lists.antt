@@ -1,6 +1,8 @@
 -- Parts of lists, and lists from their last element.
-use Rattle.std.proofs.Common.{◌<◌, ◌≤◌, ◌+◌, ◌-◌, length, take, drop, get_or, slice_range, ◌≡◌, ◌≢◌, sym, ℕ, zero, suc, List, [], ◌∷◌, ◌++◌, reverse, replicate, refl, ap, ◌∙◌, add-one, arith, ◌⊎◌, inl, inr}
-use Rattle.std.proofs.lemmas.List.{reverse-append, replicate_more, append_cancel_left, append-nil, take-append-drop, drop_more, take_at, drop_at, length-take-le, length-drop}
+use Rattle.std.proofs.Common.{◌<◌, ◌≤◌, ◌+◌, ◌-◌, length, take, drop, get_or, slice_range, ◌≡◌, ◌≢◌, sym, ℕ, zero, suc}
+use Rattle.std.proofs.Common.{List, [], ◌∷◌, ◌++◌, reverse, replicate, refl, ap, ◌∙◌, add-one, arith, ◌⊎◌, inl, inr}
+use Rattle.std.proofs.lemmas.List.{reverse-append, replicate_more, append_cancel_left, append-nil}
+use Rattle.std.proofs.lemmas.List.{take-append-drop, drop_more, take_at, drop_at, length-take-le, length-drop}
 use Rattle.std.proofs.Math.Seq.{take-add}
 
 -- a list with one more in front, reversed

@@ -1,5 +1,6 @@
 -- A list has one stuffing, and a frame one sent line.
-use Rattle.std.proofs.Common.{◌≡◌, ◌≢◌, ◌<◌, ◌≤◌, inl, inr, if◌then◌else◌, nat_le, suc, List, [], ◌∷◌, ◌++◌, reverse, refl, ap, sym, subst, ◌∙◌, arith}
+use Rattle.std.proofs.Common.{◌≡◌, ◌≢◌, ◌<◌, ◌≤◌, inl, inr, if◌then◌else◌, nat_le, suc}
+use Rattle.std.proofs.Common.{List, [], ◌∷◌, ◌++◌, reverse, refl, ap, sym, subst, ◌∙◌, arith}
 use Rattle.std.proofs.lemmas.Bool.{cases_lt, le-leb, lt-leb}
 use Rattle.std.proofs.lemmas.List.{reverse-reverse}
 use Rattle.can_frame.specs.Frame.{FrameValue}

@@ -1,5 +1,6 @@
 -- A place code and an early stuff bit mean what the stuffing rule says.
-use Rattle.std.proofs.Common.{◌≡◌, ◌-◌, ◌&&◌, ℕ, Bool, true, false, IsTrue, nat_le, nat_lt, Some, None, List, reverse, length, refl, ap, sym, subst, ◌∙◌, arith, ◌↔◌, inl, inr}
+use Rattle.std.proofs.Common.{◌≡◌, ◌-◌, ◌&&◌, ℕ, Bool, true, false, IsTrue, nat_le, nat_lt, Some, None}
+use Rattle.std.proofs.Common.{List, reverse, length, refl, ap, sym, subst, ◌∙◌, arith, ◌↔◌, inl, inr}
 use Rattle.std.proofs.lemmas.Bool.{cases_Bool, le-leb, leb-true, ltb-true, and_from, lt-ltb}
 use Rattle.std.proofs.lemmas.List.{length-reverse, reverse-reverse}
 use Rattle.can_bits.specs.declared.level.Level.{Level}

@@ -1,12 +1,15 @@
 -- Places in the arbitration field.
-use Rattle.std.proofs.Common.{◌≡◌, ◌-◌, ◌&&◌, ◌<◌, ◌≤◌, inl, inr, ℕ, Bool, true, false, IsTrue, if◌then◌else◌, nat_le, nat_lt, Some, None, List, [], ◌∷◌, ◌++◌, reverse, length, refl, ap, sym, ◌∙◌, arith, append_assoc}
+use Rattle.std.proofs.Common.{◌≡◌, ◌-◌, ◌&&◌, ◌<◌, ◌≤◌, inl, inr, ℕ, Bool, true, false}
+use Rattle.std.proofs.Common.{IsTrue, if◌then◌else◌, nat_le, nat_lt, Some, None, List, [], ◌∷◌}
+use Rattle.std.proofs.Common.{◌++◌, reverse, length, refl, ap, sym, ◌∙◌, arith, append_assoc}
 use Rattle.std.proofs.lemmas.Bool.{cases_Bool, cases_lt, le-leb, lt-leb, leb-true, and_parts}
 use Rattle.std.proofs.lemmas.List.{append-nil, length-append, length-reverse, reverse-append}
 use Rattle.can_bits.specs.declared.level.Level.{Level}
 use Rattle.can_bits.specs.declared.level.Level.TheVariants.{Dominant, Recessive}
 use Rattle.can_bits.specs.Fields.{rtr_place}
 use Rattle.can_bits.specs.Line.{StuffedPart}
-use Rattle.can_bits.specs.Places.{begins_in_five, is_full, unless_stuff, plain_after, plain_count, place_code, is_early_stuff}
+use Rattle.can_bits.specs.Places.{begins_in_five, is_full, unless_stuff, plain_after}
+use Rattle.can_bits.specs.Places.{plain_count, place_code, is_early_stuff}
 use Rattle.can_bits.proofs.FieldLemmas.{length_body, dlc_place-least}
 use Rattle.can_bits.proofs.Lists.{reverse-cons, reverse-push}
 use Rattle.can_bits.proofs.Parts.{plain, unstuffed-later}

@@ -1,5 +1,6 @@
 -- Products with the generator, as polynomials over two elements.
-use Rattle.std.proofs.Common.{◌≡◌, ◌+◌, ◌*◌, ◌/◌, ◌^◌, ◌<◌, ◌≤◌, ◌⊎◌, inl, inr, ℕ, Bool, true, false, List, [], ◌∷◌, refl, ap, sym, ◌∙◌, arith}
+use Rattle.std.proofs.Common.{◌≡◌, ◌+◌, ◌*◌, ◌/◌, ◌^◌, ◌<◌, ◌≤◌, ◌⊎◌, inl, inr, ℕ, Bool}
+use Rattle.std.proofs.Common.{true, false, List, [], ◌∷◌, refl, ap, sym, ◌∙◌, arith}
 use Rattle.std.specs.Prelude.{bit_xor}
 use Rattle.std.specs.Int.Bits.{xor_block, xor_comm, xor_assoc, xor_lt, xor_self, xor_shr, xor_zero_l, xor_zero_r}
 use Rattle.can_bits.specs.Check.{generator, scaled, product, IsMultiple}

@@ -1,5 +1,6 @@
 -- The frame in a transmit buffer that begins with a message is the message's.
-use Rattle.std.proofs.Common.{◌≡◌, ◌==◌, ◌+◌, ◌*◌, ◌/◌, ◌%◌, ◌<◌, ℕ, Bool, true, false, List, ◌∷◌, ◌++◌, length, take, refl, ap, arith}
+use Rattle.std.proofs.Common.{◌≡◌, ◌==◌, ◌+◌, ◌*◌, ◌/◌, ◌%◌, ◌<◌, ℕ, Bool, true}
+use Rattle.std.proofs.Common.{false, List, ◌∷◌, ◌++◌, length, take, refl, ap, arith}
 use Rattle.std.proofs.Math.Seq.{take-append_seam}
 use Rattle.can_frame.specs.Frame.{data_count, id_limit}
 use Rattle.can_frame.specs.Message.{bit, message, head_of, IsMessage}

@@ -1,10 +1,12 @@
 -- Bytes with no layout fault are the message of a frame.
-use Rattle.std.proofs.Common.{◌≡◌, ◌==◌, ◌+◌, ◌*◌, ◌/◌, ◌%◌, ◌<◌, ℕ, zero, suc, Bool, true, false, List, [], ◌∷◌, length, get_or, refl, arith}
+use Rattle.std.proofs.Common.{◌≡◌, ◌==◌, ◌+◌, ◌*◌, ◌/◌, ◌%◌, ◌<◌, ℕ, zero, suc, Bool}
+use Rattle.std.proofs.Common.{true, false, List, [], ◌∷◌, length, get_or, refl, arith}
 use Rattle.std.proofs.lemmas.Bool.{eqb-true, eqb-false}
 use Rattle.std.proofs.lemmas.List.Elements.{All-from_get_or}
 use Rattle.can_frame.specs.Frame.{data_count}
 use Rattle.can_frame.specs.Message.{bit, IsMessage}
-use Rattle.can_frame.specs.Layout.{said_ext, said_rtr, said_dlc, head_count, spare_of, second_rtr_of, IsSized, UnusedAreZero, RtrAgrees}
+use Rattle.can_frame.specs.Layout.{said_ext, said_rtr, said_dlc, head_count, spare_of}
+use Rattle.can_frame.specs.Layout.{second_rtr_of, IsSized, UnusedAreZero, RtrAgrees}
 
 -- a number below 2 is the bit that says whether it is 1
 bit-is_one : (x : ℕ) → x < 2 → bit (x == 1) ≡ x
@@ -22,12 +24,18 @@ standard a b c rest ha hb hc hrest short count unused spare agrees =
     let second : b ≡ (8 * b + c / 32) / 8 = omega arith in
     let third : c ≡ 32 * ((8 * b + c / 32) % 8) + 16 * bit (a / 64 % 2 == 1) = omega (arith, agrees) in (
       record { ext = false; id = 8 * b + c / 32; rtr = a / 64 % 2 == 1; dlc = a % 16; bytes = rest },
-      record { id = omega arith; dlc = omega arith; count = count; bytes = All-from_get_or (λ x. x < 256) rest 0 (λ i _. hrest i) },
+      record {
+        id = omega arith;
+        dlc = omega arith;
+        count = count;
+        bytes = All-from_get_or (λ x. x < 256) rest 0 (λ i _. hrest i);
+      },
       cc,
     )
 
 -- bytes in the layout of an extended frame
-extended : (a b c d e : ℕ) (rest : List ℕ) → a < 256 → b < 256 → c < 256 → d < 256 → e < 256 → ((i : ℕ) → get_or rest i 0 < 256) →
+extended : (a b c d e : ℕ) (rest : List ℕ) → a < 256 → b < 256 → c < 256 → d < 256 → e < 256 →
+    ((i : ℕ) → get_or rest i 0 < 256) →
     a / 128 % 2 ≡ 1 → length rest ≡ data_count (a / 64 % 2 == 1) (a % 16) →
     a / 16 % 4 ≡ 0 → e % 4 ≡ 0 → e / 4 % 2 ≡ bit (a / 64 % 2 == 1) → IsMessage (a ∷ b ∷ c ∷ d ∷ e ∷ rest)
 extended a b c d e rest ha hb hc hd he hrest long count unused spare agrees =
@@ -36,9 +44,21 @@ extended a b c d e rest ha hb hc hd he hrest long count unused spare agrees =
     let second : b ≡ (2097152 * b + 8192 * c + 32 * d + e / 8) / 2097152 = omega arith in
     let third : c ≡ (2097152 * b + 8192 * c + 32 * d + e / 8) / 8192 % 256 = omega arith in
     let fourth : d ≡ (2097152 * b + 8192 * c + 32 * d + e / 8) / 32 % 256 = omega arith in
-    let fifth : e ≡ 8 * ((2097152 * b + 8192 * c + 32 * d + e / 8) % 32) + 4 * bit (a / 64 % 2 == 1) = omega (arith, agrees) in (
-      record { ext = true; id = 2097152 * b + 8192 * c + 32 * d + e / 8; rtr = a / 64 % 2 == 1; dlc = a % 16; bytes = rest },
-      record { id = omega arith; dlc = omega arith; count = count; bytes = All-from_get_or (λ x. x < 256) rest 0 (λ i _. hrest i) },
+    let fifth : e ≡ 8 * ((2097152 * b + 8192 * c + 32 * d + e / 8) % 32) + 4 * bit (a / 64 % 2 == 1) =
+    omega (arith, agrees) in (
+      record {
+        ext = true;
+        id = 2097152 * b + 8192 * c + 32 * d + e / 8;
+        rtr = a / 64 % 2 == 1;
+        dlc = a % 16;
+        bytes = rest;
+      },
+      record {
+        id = omega arith;
+        dlc = omega arith;
+        count = count;
+        bytes = All-from_get_or (λ x. x < 256) rest 0 (λ i _. hrest i);
+      },
       cc,
     )
 
@@ -47,9 +67,11 @@ by_format : (ext : Bool) (m : List ℕ) → ((i : ℕ) → get_or m i 0 < 256) �
     length m ≡ head_count ext + data_count (said_rtr m) (said_dlc m) → get_or m 0 0 / 16 % 4 ≡ 0 →
     spare_of ext m ≡ 0 → second_rtr_of ext m ≡ bit (said_rtr m) → IsMessage m
 by_format false (a ∷ b ∷ c ∷ rest) fit format count unused spare agrees =
-    standard a b c rest (fit 0) (fit 1) (fit 2) (λ i. fit (suc (suc (suc i)))) (omega (arith, eqb-false _ _ format)) (omega arith) unused spare agrees
+    standard a b c rest (fit 0) (fit 1) (fit 2) (λ i. fit (suc (suc (suc i)))) (omega (arith, eqb-false _ _ format))
+    (omega arith) unused spare agrees
 by_format true (a ∷ b ∷ c ∷ d ∷ e ∷ rest) fit format count unused spare agrees =
-    extended a b c d e rest (fit 0) (fit 1) (fit 2) (fit 3) (fit 4) (λ i. fit (suc (suc (suc (suc (suc i)))))) (eqb-true _ _ format) (omega arith) unused spare agrees
+    extended a b c d e rest (fit 0) (fit 1) (fit 2) (fit 3) (fit 4) (λ i. fit (suc (suc (suc (suc (suc i))))))
+    (eqb-true _ _ format) (omega arith) unused spare agrees
 by_format false [] fit format count unused spare agrees = absurd (omega arith)
 by_format false (a ∷ []) fit format count unused spare agrees = absurd (omega arith)
 by_format false (a ∷ b ∷ []) fit format count unused spare agrees = absurd (omega arith)

@@ -1,9 +1,11 @@
 -- A register is compared with a number all at once, which says the same as bit by bit.
-use Rattle.std.proofs.Common.{◌≡◌, ◌+◌, ◌-◌, ◌/◌, ◌%◌, ◌^◌, ◌<◌, ◌≤◌, ◌↔◌, IsTrue, ℕ, ◌⊎◌, inl, inr, min, nat_eq, bit_and, bit_xor, sym, ◌∙◌, ap, arith, w8}
+use Rattle.std.proofs.Common.{◌≡◌, ◌+◌, ◌-◌, ◌/◌, ◌%◌, ◌^◌, ◌<◌, ◌≤◌, ◌↔◌, IsTrue, ℕ, ◌⊎◌}
+use Rattle.std.proofs.Common.{inl, inr, min, nat_eq, bit_and, bit_xor, sym, ◌∙◌, ap, arith, w8}
 use Rattle.std.specs.Int.{bit_at}
 use Rattle.std.proofs.lemmas.Bool.{cases_lt, eqb-true, eq-eqb}
 use Rattle.std.proofs.lemmas.Nat.{shr-shr}
-use Rattle.std.proofs.lemmas.Nat.Bits.{bit_at_and, bit_at_xor, bit_at_not, bit_at_ones, bit_at_ones_above, bit_at-lt, bit_at-zero, same_from_bits}
+use Rattle.std.proofs.lemmas.Nat.Bits.{bit_at_and, bit_at_xor, bit_at_not, bit_at_ones}
+use Rattle.std.proofs.lemmas.Nat.Bits.{bit_at_ones_above, bit_at-lt, bit_at-zero, same_from_bits}
 use Rattle.can_frame.specs.Filter.{Matches}
 
 -- the bits, among the lowest `count`, in which a number isn't the code from bit `low` on and is compared with it
@@ -49,7 +51,8 @@ module _ (code mask low count number : ℕ) (room : low + count ≤ 8) (fits : m
   -- where the register matches no bit below `count` differs, whether it is compared or not
   same-below : Matches code mask low count number → (i : ℕ) → i < count →
       (bit_at mask (low + i) < 1) ⊎ (1 ≤ bit_at mask (low + i)) → differs i ≡ 0
-  same-below same i within (inl compared) = omega (arith, differs-below i within, same i within (omega (arith, compared)))
+  same-below same i within (inl compared) =
+      omega (arith, differs-below i within, same i within (omega (arith, compared)))
   same-below same i within (inr masked) = omega (arith, differs-below i within, masked)
 
   -- where the register matches no bit differs

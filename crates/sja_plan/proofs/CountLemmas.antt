@@ -1,5 +1,6 @@
 -- How many strikes texts count for.
-use Rattle.std.proofs.Common.{◌≡◌, ◌≤◌, ◌<◌, ◌+◌, ◌∙◌, ℕ, List, length, map, take, get_or, false, nat_le, ap, subst, Bor, arith}
+use Rattle.std.proofs.Common.{◌≡◌, ◌≤◌, ◌<◌, ◌+◌, ◌∙◌, ℕ, List, length, map}
+use Rattle.std.proofs.Common.{take, get_or, false, nat_le, ap, subst, Bor, arith}
 use Rattle.std.proofs.lemmas.Bool.Decides.{nat_tests}
 use Rattle.std.proofs.lemmas.List.{map_more, take-map}
 use Rattle.std.proofs.lemmas.List.Sums.{sum_by-take-le, sum_by_push}
@@ -13,15 +14,19 @@ bytes_of texts = map (λ t. t.now) texts
 pub count_more : (texts : List (Bor Text)) (i : ℕ) (d : Bor Text) → i < length texts →
     strikes_in (bytes_of (take (i + 1) texts)) ≡ strikes_in (bytes_of (take i texts)) + count_of (get_or texts i d).now
 count_more texts i d within =
-    ap strikes_in (map_more (λ (t : Bor Text). t.now) texts i d within) ∙ sum_by_push count_of (bytes_of (take i texts)) (get_or texts i d).now
+    ap strikes_in (map_more (λ (t : Bor Text). t.now) texts i d within)
+    ∙ sum_by_push count_of (bytes_of (take i texts)) (get_or texts i d).now
 
 -- the first of them count for no more
 first_count : (texts : List (Bor Text)) (i : ℕ) → strikes_in (bytes_of (take i texts)) ≤ strikes_in (bytes_of texts)
-first_count texts i = subst (λ (l : List Text). strikes_in l ≤ strikes_in (bytes_of texts)) (take-map (λ (t : Bor Text). t.now) i texts) (sum_by-take-le count_of (bytes_of texts) i)
+first_count texts i = subst (λ (l : List Text). strikes_in l ≤ strikes_in (bytes_of texts))
+    (take-map (λ (t : Bor Text). t.now) i texts) (sum_by-take-le count_of (bytes_of texts) i)
 
 -- so many at the first are too many
-pub too_many : (texts : List (Bor Text)) (i total n : ℕ) (d : Bor Text) → i < length texts → total ≡ strikes_in (bytes_of (take i texts)) →
+pub too_many : (texts : List (Bor Text)) (i total n : ℕ) (d : Bor Text) → i < length texts →
+    total ≡ strikes_in (bytes_of (take i texts)) →
     n ≡ count_of (get_or texts i d).now → 1000 < total + n → false ≡ nat_le (strikes_in (bytes_of texts)) 1000
 too_many texts i total n d within is this many =
-    let more : 1000 < strikes_in (bytes_of texts) = omega (arith, first_count texts (i + 1), count_more texts i d within, is, this, many) in
+    let more : 1000 < strikes_in (bytes_of texts) =
+    omega (arith, first_count texts (i + 1), count_more texts i d within, is, this, many) in
     grind (arith, nat_tests)

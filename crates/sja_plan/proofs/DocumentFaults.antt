@@ -10,10 +10,13 @@ use Rattle.sja_plan.specs.StrikeTexts.{SaysStrike}
 use Rattle.sja_plan.specs.Texts.{IsFirstBad, IsFirstBadIn}
 use Rattle.sja_plan.specs.Document.{DocumentValue}
 use Rattle.sja_plan.specs.Plan.{PlanValue}
-use Rattle.sja_plan.specs.Checks.{SaysPlan, HasVersion, HasBits, HasNodes, HasFewSteps, HasSteps, HasFewTurns, HasTurns, HasFewStrikes}
+use Rattle.sja_plan.specs.Checks.{SaysPlan, HasVersion, HasBits, HasNodes, HasFewSteps}
+use Rattle.sja_plan.specs.Checks.{HasSteps, HasFewTurns, HasTurns, HasFewStrikes}
 use Rattle.sja_plan.specs.Faults.{IsDocumentFault}
 use Rattle.sja_plan.specs.declared.plan_fault.PlanFault.{PlanFault}
-use Rattle.sja_plan.specs.declared.plan_fault.PlanFault.TheVariants.{TooLong, NotText, Toml, Key, Version, Bits, NodeCount, StepCount, Step, TurnCount, Turn, StrikeCount, Strike, Memory}
+use Rattle.sja_plan.specs.declared.plan_fault.PlanFault.TheVariants.{TooLong, NotText, Toml, Key, Version, Bits}
+use Rattle.sja_plan.specs.declared.plan_fault.PlanFault.TheVariants.{NodeCount, StepCount, Step, TurnCount}
+use Rattle.sja_plan.specs.declared.plan_fault.PlanFault.TheVariants.{Turn, StrikeCount, Strike, Memory}
 use Rattle.sja_plan.proofs.FirstBad.{SameNumbers, bad_says_nothing, bad_lists_say_nothing, one_bad, one_bad_in}
 
 -- the check of what a document says with this number, from 0
@@ -115,7 +118,8 @@ fault_of (suc (suc (suc (suc (suc (suc zero)))))) a b = Turn a
 fault_of (suc (suc (suc (suc (suc (suc (suc zero))))))) a b = StrikeCount
 fault_of n a b = Strike a
 
-rebuilt : (d : DocumentValue) (f : PlanFault) → f ≢ Memory → IsDocumentFault d f → fault_of (check_of f) (first_of f) (second_of f) ≡ f
+rebuilt : (d : DocumentValue) (f : PlanFault) → f ≢ Memory → IsDocumentFault d f →
+    fault_of (check_of f) (first_of f) (second_of f) ≡ f
 rebuilt d Version m h = refl
 rebuilt d Bits m h = refl
 rebuilt d NodeCount m h = refl
@@ -135,10 +139,12 @@ rebuilt d Memory m h = absurd (m refl)
 abbrev IsAt : ℕ → DocumentValue → ℕ → ℕ → Type 0
 IsAt (suc (suc (suc (suc zero)))) d a b = IsFirstBadIn SaysStep d.nodes a b
 IsAt (suc (suc (suc (suc (suc (suc zero)))))) d a b = IsFirstBad (SaysTurn (length d.nodes)) d.turns a × (b ≡ 0)
-IsAt (suc (suc (suc (suc (suc (suc (suc (suc zero)))))))) d a b = IsFirstBad (SaysStrike (length d.nodes)) d.faults a × (b ≡ 0)
+IsAt (suc (suc (suc (suc (suc (suc (suc (suc zero)))))))) d a b =
+    IsFirstBad (SaysStrike (length d.nodes)) d.faults a × (b ≡ 0)
 IsAt n d a b = (a ≡ 0) × (b ≡ 0)
 
-is_at : (d : DocumentValue) (f : PlanFault) → f ≢ Memory → IsDocumentFault d f → IsAt (check_of f) d (first_of f) (second_of f)
+is_at : (d : DocumentValue) (f : PlanFault) → f ≢ Memory → IsDocumentFault d f →
+    IsAt (check_of f) d (first_of f) (second_of f)
 is_at d Version m h = (refl, refl)
 is_at d Bits m h = (refl, refl)
 is_at d NodeCount m h = (refl, refl)
@@ -163,22 +169,29 @@ at_once (suc (suc (suc (suc zero)))) d a b x y h k = one_bad_in SaysStep d.nodes
 at_once (suc (suc (suc (suc (suc zero))))) d a b x y h k = record { list_is = h.0 ∙ sym k.0; number_is = h.1 ∙ sym k.1 }
 at_once (suc (suc (suc (suc (suc (suc zero)))))) d a b x y h k =
     record { list_is = one_bad (SaysTurn (length d.nodes)) d.turns a x h.0 k.0; number_is = h.1 ∙ sym k.1 }
-at_once (suc (suc (suc (suc (suc (suc (suc zero))))))) d a b x y h k = record { list_is = h.0 ∙ sym k.0; number_is = h.1 ∙ sym k.1 }
+at_once (suc (suc (suc (suc (suc (suc (suc zero))))))) d a b x y h k =
+    record { list_is = h.0 ∙ sym k.0; number_is = h.1 ∙ sym k.1 }
 at_once (suc (suc (suc (suc (suc (suc (suc (suc zero)))))))) d a b x y h k =
     record { list_is = one_bad (SaysStrike (length d.nodes)) d.faults a x h.0 k.0; number_is = h.1 ∙ sym k.1 }
-at_once (suc (suc (suc (suc (suc (suc (suc (suc (suc n))))))))) d a b x y h k = record { list_is = h.0 ∙ sym k.0; number_is = h.1 ∙ sym k.1 }
+at_once (suc (suc (suc (suc (suc (suc (suc (suc (suc n))))))))) d a b x y h k =
+    record { list_is = h.0 ∙ sym k.0; number_is = h.1 ∙ sym k.1 }
 
 -- what a document says has one first fault at most
-pub one_document_fault : (d : DocumentValue) (e f : PlanFault) → e ≢ Memory → f ≢ Memory → IsDocumentFault d e → IsDocumentFault d f → e ≡ f
+pub one_document_fault : (d : DocumentValue) (e f : PlanFault) → e ≢ Memory → f ≢ Memory → IsDocumentFault d e →
+    IsDocumentFault d f → e ≡ f
 one_document_fault d e f m n h k = by_order (cases_order (check_of e) (check_of f))
   where
     by_order : (check_of e ≡ check_of f) ⊎ ((check_of e < check_of f) ⊎ (check_of f < check_of e)) → e ≡ f
     by_order (inl same) =
         let there = subst (λ i. IsAt i d (first_of e) (second_of e)) same (is_at d e m h) in
-        let numbers = at_once (check_of f) d (first_of e) (second_of e) (first_of f) (second_of f) there (is_at d f n k) in
-        sym (rebuilt d e m h) ∙ ap (λ i. fault_of i (first_of e) (second_of e)) same ∙ ap₂ (λ a b. fault_of (check_of f) a b) numbers.list_is numbers.number_is ∙ rebuilt d f n k
-    by_order (inr (inl less)) = absurd (fails d e m h (passes_at (check_of e) (check_of f) d less (before_fault d f n k)))
-    by_order (inr (inr more)) = absurd (fails d f n k (passes_at (check_of f) (check_of e) d more (before_fault d e m h)))
+        let numbers =
+        at_once (check_of f) d (first_of e) (second_of e) (first_of f) (second_of f) there (is_at d f n k) in
+        sym (rebuilt d e m h) ∙ ap (λ i. fault_of i (first_of e) (second_of e)) same
+        ∙ ap₂ (λ a b. fault_of (check_of f) a b) numbers.list_is numbers.number_is ∙ rebuilt d f n k
+    by_order (inr (inl less)) =
+        absurd (fails d e m h (passes_at (check_of e) (check_of f) d less (before_fault d f n k)))
+    by_order (inr (inr more)) =
+        absurd (fails d f n k (passes_at (check_of f) (check_of e) d more (before_fault d e m h)))
 
 -- a plan has passed every check
 passes_all : (d : DocumentValue) (p : PlanValue) (n : ℕ) → SaysPlan d p → Passes n d
@@ -193,5 +206,6 @@ passes_all d p (suc (suc (suc (suc (suc (suc (suc zero))))))) h = h.strike_count
 passes_all d p (suc (suc (suc (suc (suc (suc (suc (suc n)))))))) h = (p.strikes, h.strikes)
 
 -- a document that is a plan has no fault
-pub no_document_fault : (d : DocumentValue) (p : PlanValue) (f : PlanFault) → f ≢ Memory → SaysPlan d p → ¬ IsDocumentFault d f
+pub no_document_fault : (d : DocumentValue) (p : PlanValue) (f : PlanFault) → f ≢ Memory →
+    SaysPlan d p → ¬ IsDocumentFault d f
 no_document_fault d p f m h = λ k. fails d f m k (passes_all d p (check_of f) h)

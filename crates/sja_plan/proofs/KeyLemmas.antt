@@ -12,11 +12,13 @@ use Rattle.sja_plan.specs.Document.{knows}
 abbrev pub is_allowed : List (Bor Text) → String Global → Bool
 is_allowed allowed k = list_any (λ name. bytes_eq name.now (string_bytes k)) allowed
 
-pub knows-entries : (allowed : List (Bor Text)) (es : List (String Global × Value)) → list_all (is_allowed allowed) (keys_of es)
+pub knows-entries : (allowed : List (Bor Text)) (es : List (String Global × Value)) →
+    list_all (is_allowed allowed) (keys_of es)
     ≡ knows (map (λ s. s.now) allowed) (members_view es)
 knows-entries allowed [] = refl
 knows-entries allowed (e ∷ es) = ap₂ (λ a b. a && b) (any allowed) (knows-entries allowed es)
   where
-    any : (names : List (Bor Text)) → list_any (λ name. bytes_eq name.now (string_bytes e.0)) names ≡ list_any (λ k. bytes_eq k (string_bytes e.0)) (map (λ s. s.now) names)
+    any : (names : List (Bor Text)) → list_any (λ name. bytes_eq name.now (string_bytes e.0)) names
+        ≡ list_any (λ k. bytes_eq k (string_bytes e.0)) (map (λ s. s.now) names)
     any [] = refl
     any (n ∷ ns) = ap₂ (λ a b. a || b) refl (any ns)

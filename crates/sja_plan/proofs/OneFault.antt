@@ -7,7 +7,9 @@ use Rattle.sja_plan.specs.Document.{DocumentValue, HasShape, IsMisshapen}
 use Rattle.sja_plan.specs.Plan.{PlanValue}
 use Rattle.sja_plan.specs.Faults.{IsText, Says, IsPlanOf, IsDocumentFault, IsFirstFault}
 use Rattle.sja_plan.specs.declared.plan_fault.PlanFault.{PlanFault}
-use Rattle.sja_plan.specs.declared.plan_fault.PlanFault.TheVariants.{TooLong, NotText, Toml, Key, Version, Bits, NodeCount, StepCount, Step, TurnCount, Turn, StrikeCount, Strike, Memory}
+use Rattle.sja_plan.specs.declared.plan_fault.PlanFault.TheVariants.{TooLong, NotText, Toml, Key, Version, Bits}
+use Rattle.sja_plan.specs.declared.plan_fault.PlanFault.TheVariants.{NodeCount, StepCount, Step, TurnCount}
+use Rattle.sja_plan.specs.declared.plan_fault.PlanFault.TheVariants.{Turn, StrikeCount, Strike, Memory}
 use Rattle.sja_plan.proofs.DocumentFaults.{one_document_fault, no_document_fault}
 use Rattle.sja_plan.proofs.OnePlan.{one_document}
 
@@ -48,7 +50,8 @@ one_early bytes e f (no_keys ms a b c) (no_toml q r) = absurd (not_both bytes ms
 one_early bytes e f (no_keys ms a b c) (no_keys other q r t) = refl
 
 -- a fault is found before the document says anything, or of what it says
-found : (bytes : List ℕ) (f : PlanFault) → f ≢ Memory → IsFirstFault bytes f → Early bytes f ⊎ ((d : DocumentValue) × Says bytes d × IsDocumentFault d f)
+found : (bytes : List ℕ) (f : PlanFault) → f ≢ Memory → IsFirstFault bytes f →
+    Early bytes f ⊎ ((d : DocumentValue) × Says bytes d × IsDocumentFault d f)
 found bytes TooLong m h = inl (too_long h)
 found bytes NotText m h = inl (not_text h.0 h.1)
 found bytes Toml m h = inl (no_toml h.0 h.1)
@@ -65,15 +68,18 @@ found bytes StrikeCount m h = inr h
 found bytes (Strike number) m h = inr h
 
 -- bytes have one first fault at most, but for refused memory
-pub one_fault : (bytes : List ℕ) (e f : PlanFault) → e ≢ Memory → f ≢ Memory → IsFirstFault bytes e → IsFirstFault bytes f → e ≡ f
+pub one_fault : (bytes : List ℕ) (e f : PlanFault) → e ≢ Memory → f ≢ Memory → IsFirstFault bytes e →
+    IsFirstFault bytes f → e ≡ f
 one_fault bytes e f m n h k = by_both (found bytes e m h) (found bytes f n k)
   where
-    by_both : Early bytes e ⊎ ((d : DocumentValue) × Says bytes d × IsDocumentFault d e) → Early bytes f ⊎ ((d : DocumentValue) × Says bytes d × IsDocumentFault d f) → e ≡ f
+    by_both : Early bytes e ⊎ ((d : DocumentValue) × Says bytes d × IsDocumentFault d e) →
+        Early bytes f ⊎ ((d : DocumentValue) × Says bytes d × IsDocumentFault d f) → e ≡ f
     by_both (inl a) (inl b) = one_early bytes e f a b
     by_both (inl a) (inr (d, says, b)) = absurd (early_says_nothing bytes e d a says)
     by_both (inr (d, says, a)) (inl b) = absurd (early_says_nothing bytes f d b says)
     by_both (inr (d, says, a)) (inr (o, other, b)) =
-        one_document_fault d e f m n a (subst (λ (x : DocumentValue). IsDocumentFault x f) (one_document bytes o d other says) b)
+        one_document_fault d e f m n a
+        (subst (λ (x : DocumentValue). IsDocumentFault x f) (one_document bytes o d other says) b)
 
 -- nor do its bytes
 pub no_fault : (bytes : List ℕ) (p : PlanValue) (f : PlanFault) → f ≢ Memory → IsPlanOf bytes p → ¬ IsFirstFault bytes f
@@ -81,4 +87,5 @@ no_fault bytes p f m (d, says, plan) = λ h. by_kind (found bytes f m h)
   where
     by_kind : Early bytes f ⊎ ((d : DocumentValue) × Says bytes d × IsDocumentFault d f) → ⊥
     by_kind (inl a) = early_says_nothing bytes f d a says
-    by_kind (inr (o, other, b)) = no_document_fault d p f m plan (subst (λ (x : DocumentValue). IsDocumentFault x f) (one_document bytes o d other says) b)
+    by_kind (inr (o, other, b)) = no_document_fault d p f m plan
+        (subst (λ (x : DocumentValue). IsDocumentFault x f) (one_document bytes o d other says) b)

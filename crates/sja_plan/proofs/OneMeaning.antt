@@ -1,5 +1,6 @@
 -- A text says one thing at most.
-use Rattle.std.proofs.Common.{◌≡◌, ◌∙◌, ℕ, Option, Some, None, Result, Ok, Err, List, [], ◌∷◌, codes, if◌then◌else◌, option_map, refl, sym, ap, ap₂}
+use Rattle.std.proofs.Common.{◌≡◌, ◌∙◌, ℕ, Option, Some, None, Result, Ok, Err, List, []}
+use Rattle.std.proofs.Common.{◌∷◌, codes, if◌then◌else◌, option_map, refl, sym, ap, ap₂}
 use Rattle.std.specs.Str.{bytes_eq}
 use Rattle.hex.specs.Hex.{decode_of}
 use Rattle.hex.specs.declared.error.FromHexError.{FromHexError}
@@ -8,7 +9,8 @@ use Rattle.sja_plan.specs.StepTexts.{AreStepWords, SaysStep}
 use Rattle.sja_plan.specs.TurnTexts.{AreTurnWords, SaysTurn}
 use Rattle.sja_plan.specs.StrikeTexts.{AreStrikeWords, SaysStrike}
 use Rattle.sja_script.specs.declared.step.Step.{Step}
-use Rattle.sja_script.specs.declared.step.Step.TheVariants.{Start, Stop, Window, Release, Read, Write, Load, Command, Await, Sent}
+use Rattle.sja_script.specs.declared.step.Step.TheVariants.{Start, Stop, Window, Release, Read}
+use Rattle.sja_script.specs.declared.step.Step.TheVariants.{Write, Load, Command, Await, Sent}
 use Rattle.sja_plan.specs.declared.turn.Turn.{Turn}
 use Rattle.sja_plan.specs.declared.turn.Turn.TheVariants.{Bus, Rest, Node}
 use Rattle.sja_script.specs.declared.strike.Strike.{Strike}
@@ -90,18 +92,21 @@ number_is word n m h k = ap (value_or n) (sym h ∙ k)
 abbrev strike_of : ℕ → ℕ → ℕ → ℕ → Strike
 strike_of node bit every times = record { node = node; bit = bit; every = every; times = times }
 
-same_strike : (nodes : ℕ) (ws : List Text) (s t : Strike) → AreStrikeWords nodes ws s → AreStrikeWords nodes ws t → s ≡ t
+same_strike : (nodes : ℕ) (ws : List Text) (s t : Strike) → AreStrikeWords nodes ws s →
+    AreStrikeWords nodes ws t → s ≡ t
 same_strike nodes [] s t h k = absurd h
 same_strike nodes (a ∷ []) s t h k = absurd h
 same_strike nodes (a ∷ b ∷ []) s t h k =
     let n = number_is a s.node t.node h.node.0.0 k.node.0.0 in
     let m = number_is b s.bit t.bit h.bit.0 k.bit.0 in
-    ap₂ (λ x y. strike_of x y s.every s.times) n m ∙ ap₂ (λ x y. strike_of t.node t.bit x y) (h.every ∙ sym k.every) (h.times ∙ sym k.times)
+    ap₂ (λ x y. strike_of x y s.every s.times) n m
+    ∙ ap₂ (λ x y. strike_of t.node t.bit x y) (h.every ∙ sym k.every) (h.times ∙ sym k.times)
 same_strike nodes (a ∷ b ∷ c ∷ []) s t h k = absurd h
 same_strike nodes (a ∷ b ∷ c ∷ d ∷ []) s t h k =
     let n = number_is a s.node t.node h.node.0.0 k.node.0.0 in
     let m = number_is b s.bit t.bit h.bit.0 k.bit.0 in
-    ap₂ (λ x y. strike_of x y s.every s.times) n m ∙ ap₂ (λ x y. strike_of t.node t.bit x y) (number_is c s.every t.every h.every.0 k.every.0) (number_is d s.times t.times h.times.0 k.times.0)
+    ap₂ (λ x y. strike_of x y s.every s.times) n m ∙ ap₂ (λ x y. strike_of t.node t.bit x y)
+    (number_is c s.every t.every h.every.0 k.every.0) (number_is d s.times t.times h.times.0 k.times.0)
 same_strike nodes (a ∷ b ∷ c ∷ d ∷ e ∷ ws) s t h k = absurd h
 
 pub one_strike : (nodes : ℕ) (text : Text) (s t : Strike) → SaysStrike nodes text s → SaysStrike nodes text t → s ≡ t

@@ -5,15 +5,19 @@ use Rattle.toml.specs.Parse.{parse_document}
 use Rattle.sja_plan.specs.Document.{DocumentValue, HasShape, IsMisshapen}
 use Rattle.sja_plan.specs.Faults.{IsFirstFault, IsDocumentFault, IsText}
 use Rattle.sja_plan.specs.declared.plan_fault.PlanFault.{PlanFault}
-use Rattle.sja_plan.specs.declared.plan_fault.PlanFault.TheVariants.{TooLong, NotText, Toml, Key, Version, Bits, NodeCount, StepCount, Step, TurnCount, Turn, StrikeCount, Strike, Memory}
+use Rattle.sja_plan.specs.declared.plan_fault.PlanFault.TheVariants.{TooLong, NotText, Toml, Key, Version, Bits}
+use Rattle.sja_plan.specs.declared.plan_fault.PlanFault.TheVariants.{NodeCount, StepCount, Step, TurnCount}
+use Rattle.sja_plan.specs.declared.plan_fault.PlanFault.TheVariants.{Turn, StrikeCount, Strike, Memory}
 
 -- the document has no plan's shape, or memory was refused
-pub shape_fault : (bytes : List ℕ) (ms : Members) (e : PlanFault) → IsText bytes → parse_document bytes ≡ Some ms → (e ≡ Memory) ⊎ ((e ≡ Key) × IsMisshapen ms) → IsFirstFault bytes e
+pub shape_fault : (bytes : List ℕ) (ms : Members) (e : PlanFault) → IsText bytes → parse_document bytes ≡ Some ms →
+    (e ≡ Memory) ⊎ ((e ≡ Key) × IsMisshapen ms) → IsFirstFault bytes e
 shape_fault bytes ms e t p (inl h) = subst (IsFirstFault bytes) (sym h) t
 shape_fault bytes ms e t p (inr h) = subst (IsFirstFault bytes) (sym h.0) (ms, t, p, h.1)
 
 -- what the document says is no plan, or memory was refused
-pub document_fault : (bytes : List ℕ) (ms : Members) (d : DocumentValue) (e : PlanFault) → IsText bytes → parse_document bytes ≡ Some ms → HasShape ms d → IsDocumentFault d e → IsFirstFault bytes e
+pub document_fault : (bytes : List ℕ) (ms : Members) (d : DocumentValue) (e : PlanFault) → IsText bytes →
+    parse_document bytes ≡ Some ms → HasShape ms d → IsDocumentFault d e → IsFirstFault bytes e
 document_fault bytes ms d TooLong t p s h = absurd h
 document_fault bytes ms d NotText t p s h = absurd h
 document_fault bytes ms d Toml t p s h = absurd h

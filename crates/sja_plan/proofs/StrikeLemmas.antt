@@ -14,7 +14,8 @@ no_strike nodes (k ∷ x ∷ e ∷ t ∷ []) s a b = λ h. b refl
 no_strike nodes (k ∷ x ∷ e ∷ t ∷ y ∷ ws) s a b = λ h. h
 
 -- a list of four
-pub four_words : {X : Type 0} (xs : List X) (d : X) → length xs ≡ 4 → xs ≡ get_or xs 0 d ∷ get_or xs 1 d ∷ get_or xs 2 d ∷ get_or xs 3 d ∷ []
+pub four_words : {X : Type 0} (xs : List X) (d : X) → length xs ≡ 4 →
+    xs ≡ get_or xs 0 d ∷ get_or xs 1 d ∷ get_or xs 2 d ∷ get_or xs 3 d ∷ []
 four_words [] d h = absurd (omega arith)
 four_words (a ∷ []) d h = absurd (omega arith)
 four_words (a ∷ b ∷ []) d h = absurd (omega arith)

@@ -1,17 +1,20 @@
 -- Texts that say values, up to one that says none.
-use Rattle.std.proofs.Common.{◌≡◌, ◌<◌, ◌+◌, ℕ, suc, List, [], ◌∷◌, ◌++◌, length, map, take, drop, get_or, refl, sym, ap, subst, ◌∙◌, Bor, take-append-drop, length-take-le, arith}
+use Rattle.std.proofs.Common.{◌≡◌, ◌<◌, ◌+◌, ℕ, suc, List, [], ◌∷◌, ◌++◌, length, map, take, drop, get_or}
+use Rattle.std.proofs.Common.{refl, sym, ap, subst, ◌∙◌, Bor, take-append-drop, length-take-le, arith}
 use Rattle.std.specs.List.{AllZip}
 use Rattle.std.proofs.lemmas.List.{map-append, map_more, drop_more, length-map}
 use Rattle.sja_plan.specs.Words.{Text}
 use Rattle.sja_plan.specs.Texts.{IsFirstBad}
 
-pub zip_push : {A B : Type 0} (R : A → B → Type 0) (xs : List A) (ys : List B) (x : A) (y : B) → AllZip R xs ys → R x y → AllZip R (xs ++ x ∷ []) (ys ++ y ∷ [])
+pub zip_push : {A B : Type 0} (R : A → B → Type 0) (xs : List A) (ys : List B) (x : A) (y : B) → AllZip R xs ys →
+    R x y → AllZip R (xs ++ x ∷ []) (ys ++ y ∷ [])
 zip_push R [] [] x y h r = (r, tt)
 zip_push R [] (b ∷ ys) x y h r = absurd h
 zip_push R (a ∷ xs) [] x y h r = absurd h
 zip_push R (a ∷ xs) (b ∷ ys) x y h r = (h.0, zip_push R xs ys x y h.1 r)
 
-pub zip_length : {A B : Type 0} (R : A → B → Type 0) (xs : List A) (ys : List B) → AllZip R xs ys → length ys ≡ length xs
+pub zip_length : {A B : Type 0} (R : A → B → Type 0) (xs : List A) (ys : List B) →
+    AllZip R xs ys → length ys ≡ length xs
 zip_length R [] [] h = refl
 zip_length R [] (b ∷ ys) h = absurd h
 zip_length R (a ∷ xs) [] h = absurd h
@@ -22,15 +25,18 @@ abbrev pub bytes_of : List (Bor Text) → List Text
 bytes_of texts = map (λ t. t.now) texts
 
 -- one text more was read
-pub read_more : {A : Type 0} (Says : Text → A → Type 0) (texts : List (Bor Text)) (values : List A) (i : ℕ) (d : Bor Text) (x : A) →
+pub read_more : {A : Type 0} (Says : Text → A → Type 0) (texts : List (Bor Text)) (values : List A) (i : ℕ)
+    (d : Bor Text) (x : A) →
     i < length texts → AllZip Says (bytes_of (take i texts)) values → Says (get_or texts i d).now x →
     AllZip Says (bytes_of (take (i + 1) texts)) (values ++ x ∷ [])
 read_more Says texts values i d x within read this =
     let more = map_more (λ (t : Bor Text). t.now) texts i d within in
-    subst (λ l. AllZip Says l (values ++ x ∷ [])) (sym more) (zip_push Says (bytes_of (take i texts)) values (get_or texts i d).now x read this)
+    subst (λ l. AllZip Says l (values ++ x ∷ [])) (sym more)
+    (zip_push Says (bytes_of (take i texts)) values (get_or texts i d).now x read this)
 
 -- the first that isn't read; its number is one more than those that were
-pub first_bad : {A : Type 0} (Says : Text → A → Type 0) (texts : List (Bor Text)) (values : List A) (i : ℕ) (d : Bor Text) →
+pub first_bad : {A : Type 0} (Says : Text → A → Type 0) (texts : List (Bor Text)) (values : List A)
+    (i : ℕ) (d : Bor Text) →
     i < length texts → AllZip Says (bytes_of (take i texts)) values → ((x : A) → ¬ Says (get_or texts i d).now x) →
     IsFirstBad Says (bytes_of texts) (length values + 1)
 first_bad Says texts values i d within read none = record {
@@ -49,4 +55,5 @@ first_bad Says texts values i d within read none = record {
 pub read_count : {A : Type 0} (Says : Text → A → Type 0) (texts : List (Bor Text)) (values : List A) (i : ℕ) →
     i < length texts → AllZip Says (bytes_of (take i texts)) values → length values ≡ i
 read_count Says texts values i within read =
-    zip_length Says (bytes_of (take i texts)) values read ∙ length-map (take i texts) (λ (t : Bor Text). t.now) ∙ length-take-le i texts (omega arith)
+    zip_length Says (bytes_of (take i texts)) values read ∙ length-map (take i texts) (λ (t : Bor Text). t.now)
+    ∙ length-take-le i texts (omega arith)

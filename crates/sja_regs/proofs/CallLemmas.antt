@@ -1,8 +1,13 @@
 -- What each call does to the capture registers, to IR and to TBS.
-use Rattle.std.proofs.Common.{◌≡◌, ◌≢◌, ◌||◌, ◌&&◌, not, ℕ, Bool, true, false, if◌then◌else◌, Option, Some, None, [], ◌∷◌, refl, ap}
+use Rattle.std.proofs.Common.{◌≡◌, ◌≢◌, ◌||◌, ◌&&◌, not, ℕ, Bool, true, false}
+use Rattle.std.proofs.Common.{if◌then◌else◌, Option, Some, None, [], ◌∷◌, refl, ap}
 use Rattle.sja_regs.specs.declared.interrupts.Interrupts.{Interrupts}
 use Rattle.sja_regs.specs.declared.register.Register.{Register}
-use Rattle.sja_regs.specs.declared.register.Register.TheVariants.{Mode, Command, Status, Interrupt, InterruptEnable, ArbitrationLostCapture, ErrorCodeCapture, ErrorWarningLimit, ReceiveErrorCounter, TransmitErrorCounter, AcceptanceCode, AcceptanceMask, Buffer, ReceiveMessageCounter}
+use Rattle.sja_regs.specs.declared.register.Register.TheVariants.{Mode, Command, Status, Interrupt, InterruptEnable}
+use Rattle.sja_regs.specs.declared.register.Register.TheVariants.{ArbitrationLostCapture, ErrorCodeCapture}
+use Rattle.sja_regs.specs.declared.register.Register.TheVariants.{ErrorWarningLimit, ReceiveErrorCounter}
+use Rattle.sja_regs.specs.declared.register.Register.TheVariants.{TransmitErrorCounter, AcceptanceCode}
+use Rattle.sja_regs.specs.declared.register.Register.TheVariants.{AcceptanceMask, Buffer, ReceiveMessageCounter}
 use Rattle.sja_regs.specs.declared.reg_fault.RegFault.{RegFault}
 use Rattle.sja_regs.specs.declared.reg_fault.RegFault.TheVariants.{ResetOnly}
 use Rattle.sja_regs.specs.declared.registers.Registers.{Registers}
@@ -13,7 +18,8 @@ use Rattle.sja_regs.specs.Refusals.{first_fault}
 use Rattle.sja_regs.specs.Reading.{after_reading}
 use Rattle.sja_regs.specs.Writing.{write_faults, after_writing, load_faults, after_loading}
 use Rattle.sja_regs.specs.Commands.{requests, command_faults, after_command}
-use Rattle.sja_regs.specs.Calls.{Call, Turn, Read, Write, Load, Give, LeaveReset, EnterReset, Close, Finish, unless_refused, after_call}
+use Rattle.sja_regs.specs.Calls.{Call, Turn, Read, Write, Load, Give, LeaveReset}
+use Rattle.sja_regs.specs.Calls.{EnterReset, Close, Finish, unless_refused, after_call}
 use Rattle.sja_regs.specs.Histories.{IsNoRequest, lost_by, fault_by, either, both, causes_by, releases}
 
 -- a refused call keeps what a call keeps that is done

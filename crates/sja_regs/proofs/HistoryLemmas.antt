@@ -1,5 +1,6 @@
 -- What stands in a register after several calls.
-use Rattle.std.proofs.Common.{◌≡◌, ◌≢◌, ◌||◌, ◌∙◌, ℕ, Bool, true, false, Option, Some, None, List, [], ◌∷◌, refl, ap, All}
+use Rattle.std.proofs.Common.{◌≡◌, ◌≢◌, ◌||◌, ◌∙◌, ℕ, Bool, true, false}
+use Rattle.std.proofs.Common.{Option, Some, None, List, [], ◌∷◌, refl, ap, All}
 use Rattle.std.proofs.lemmas.List.Elements.{All-head, All-tail}
 use Rattle.sja_regs.specs.declared.capture.Capture.{Capture}
 use Rattle.sja_regs.specs.declared.interrupts.Interrupts.{Interrupts}
@@ -8,7 +9,8 @@ use Rattle.sja_regs.specs.declared.register.Register.TheVariants.{Interrupt, Arb
 use Rattle.sja_regs.specs.declared.registers.Registers.{Registers}
 use Rattle.sja_regs.specs.Captures.{after_capture}
 use Rattle.sja_regs.specs.Calls.{Call, Read, after_call, after_calls}
-use Rattle.sja_regs.specs.Histories.{IsUnread, IsNoRequest, or_else, lost_by, first_lost, fault_by, first_error, either, both, causes_by, enabled_causes, releases, some_release}
+use Rattle.sja_regs.specs.Histories.{IsUnread, IsNoRequest, or_else, lost_by, first_lost, fault_by, first_error}
+use Rattle.sja_regs.specs.Histories.{either, both, causes_by, enabled_causes, releases, some_release}
 use Rattle.sja_regs.proofs.CallLemmas.{alc_by, ecc_by, pending_by, tbs_by}
 
 -- the first call, and those after it

@@ -1,5 +1,6 @@
 -- What the signals show after more entries.
-use Rattle.std.proofs.Common.{◌≡◌, ℕ, zero, suc, Bool, false, not, List, [], ◌∷◌, ◌++◌, length, map, refl, sym, ap, ap₂, ◌∙◌, append-nil, append_assoc}
+use Rattle.std.proofs.Common.{◌≡◌, ℕ, zero, suc, Bool, false, not, List, [], ◌∷◌, ◌++◌}
+use Rattle.std.proofs.Common.{length, map, refl, sym, ap, ap₂, ◌∙◌, append-nil, append_assoc}
 use Rattle.can_bits.specs.declared.level.Level.{Level}
 use Rattle.can_bits.specs.declared.level.Level.TheVariants.{Recessive}
 use Rattle.can_node.specs.Bits.{Bit as NodeBit, recessive_bit}
@@ -13,7 +14,8 @@ use Rattle.sja_report.specs.Log.{NodeValue}
 use Rattle.sja_wave.specs.declared.cursor.Cursor.{Cursor}
 use Rattle.sja_wave.specs.declared.signals.Signals.{Signals}
 use Rattle.sja_wave.specs.Through.{through}
-use Rattle.sja_wave.specs.Signals.{last_or, last_bit, activity_in, absence_in, is_odd, shows_active, shows_off, shows_stored, shows_overrun}
+use Rattle.sja_wave.specs.Signals.{last_or, last_bit, activity_in, absence_in, is_odd}
+use Rattle.sja_wave.specs.Signals.{shows_active, shows_off, shows_stored, shows_overrun}
 use Rattle.sja_wave.specs.Inside.Cursors.{signals_of, entered, all_entered, past, advanced, opened, cursor_at}
 use Rattle.sja_wave.proofs.Passing.{through_next, past_next}
 
@@ -97,7 +99,8 @@ all_enter p (e ∷ q) =
 -- ---- a bit more
 
 pub same_cursor : (j k : List Entry) (b n m : Signals) → j ≡ k → n ≡ m →
-    (let x : Cursor = record { entries = j; showed = b; shows = n } in x) ≡ (let x : Cursor = record { entries = k; showed = b; shows = m } in x)
+    (let x : Cursor = record { entries = j; showed = b; shows = n } in x)
+    ≡ (let x : Cursor = record { entries = k; showed = b; shows = m } in x)
 same_cursor j k b n m p q = cc
 
 pub first_bit : (node : NodeValue) → advanced (opened node) ≡ cursor_at 0 node
@@ -110,6 +113,7 @@ next_bit k node =
     (sym (ap signals_of (through_next (suc k) j) ∙ all_enter (through (suc k) j) (through 1 (past (suc k) j))))
 
 -- of all nodes
-pub next_bits : (k : ℕ) (nodes : List NodeValue) → map advanced (map (cursor_at k) nodes) ≡ map (cursor_at (suc k)) nodes
+pub next_bits : (k : ℕ) (nodes : List NodeValue) →
+    map advanced (map (cursor_at k) nodes) ≡ map (cursor_at (suc k)) nodes
 next_bits k [] = refl
 next_bits k (node ∷ nodes) = ap₂ (λ x xs. x ∷ xs) (next_bit k node) (next_bits k nodes)

@@ -1,5 +1,6 @@
 -- What is written of all nodes.
-use Rattle.std.proofs.Common.{◌≡◌, ℕ, ◌+◌, ◌<◌, zero, suc, Bool, true, false, List, [], ◌∷◌, ◌++◌, length, map, drop, get_or, codes, decimal, refl, sym, ap, ap₂, ◌∙◌, append-nil, append_assoc}
+use Rattle.std.proofs.Common.{◌≡◌, ℕ, ◌+◌, ◌<◌, zero, suc, Bool, true, false, List, [], ◌∷◌, ◌++◌, length, map}
+use Rattle.std.proofs.Common.{drop, get_or, codes, decimal, refl, sym, ap, ap₂, ◌∙◌, append-nil, append_assoc}
 use Rattle.std.proofs.lemmas.List.{drop_more}
 use Rattle.can_bits.specs.declared.level.Level.{Level}
 use Rattle.can_bits.specs.Fields.{is_recessive}
@@ -9,9 +10,11 @@ use Rattle.sja_bus.specs.Wire.{wired}
 use Rattle.sja_report.specs.Log.{NodeValue, RunValue}
 use Rattle.sja_report.specs.ReportLines.{numbered}
 use Rattle.sja_wave.specs.declared.cursor.Cursor.{Cursor}
-use Rattle.sja_wave.specs.Signals.{last_bit, shows_driven, shows_seen, shows_active, shows_off, shows_stored, shows_overrun}
+use Rattle.sja_wave.specs.Signals.{last_bit, shows_driven, shows_seen, shows_active}
+use Rattle.sja_wave.specs.Signals.{shows_off, shows_stored, shows_overrun}
 use Rattle.sja_wave.specs.Wires.{Wire, by_bit, bus_wire, node_wire, node_wires, wires_of}
-use Rattle.sja_wave.specs.WaveText.{line, value_line, change, first_in, change_after, first_values, changes_after, timed, time_line, changes_to, changes_of, declarations, node_scope, wave_text}
+use Rattle.sja_wave.specs.WaveText.{line, value_line, change, first_in, change_after, first_values, changes_after}
+use Rattle.sja_wave.specs.WaveText.{timed, time_line, changes_to, changes_of, declarations, node_scope, wave_text}
 use Rattle.sja_wave.specs.Inside.Cursors.{advanced, cursor_at}
 use Rattle.sja_wave.specs.Inside.Changes.{node_values, node_changes, driven_before, driven_now, all_values, all_changes}
 use Rattle.sja_wave.proofs.Showing.{next_bits}
@@ -31,19 +34,25 @@ before_at k (node ∷ nodes) = ap (λ l. (last_bit (by_bit k node)).driven ∷ l
 -- ---- the signals of all nodes
 
 -- six texts, one after another
-six : (g : Wire → List ℕ) (a b c d e f : Wire) → gathered g (a ∷ b ∷ c ∷ d ∷ e ∷ f ∷ []) ≡ g a ++ g b ++ g c ++ g d ++ g e ++ g f
+six : (g : Wire → List ℕ) (a b c d e f : Wire) →
+    gathered g (a ∷ b ∷ c ∷ d ∷ e ∷ f ∷ []) ≡ g a ++ g b ++ g c ++ g d ++ g e ++ g f
 six g a b c d e f = simp (append_assoc, append-nil)
 
 -- those of one node
 of_node : (g : Wire → List ℕ) (i : ℕ) (node : NodeValue) →
     gathered g (node_wires i node)
-    ≡ g (node_wire (codes "driven") (codes "d") shows_driven i node) ++ g (node_wire (codes "seen") (codes "s") shows_seen i node)
-    ++ g (node_wire (codes "active") (codes "a") shows_active i node) ++ g (node_wire (codes "off") (codes "f") shows_off i node)
-    ++ g (node_wire (codes "stored") (codes "m") shows_stored i node) ++ g (node_wire (codes "overrun") (codes "o") shows_overrun i node)
+    ≡ g (node_wire (codes "driven") (codes "d") shows_driven i node)
+    ++ g (node_wire (codes "seen") (codes "s") shows_seen i node)
+    ++ g (node_wire (codes "active") (codes "a") shows_active i node)
+    ++ g (node_wire (codes "off") (codes "f") shows_off i node)
+    ++ g (node_wire (codes "stored") (codes "m") shows_stored i node)
+    ++ g (node_wire (codes "overrun") (codes "o") shows_overrun i node)
 of_node g i node =
-    six g (node_wire (codes "driven") (codes "d") shows_driven i node) (node_wire (codes "seen") (codes "s") shows_seen i node)
+    six g (node_wire (codes "driven") (codes "d") shows_driven i node)
+    (node_wire (codes "seen") (codes "s") shows_seen i node)
     (node_wire (codes "active") (codes "a") shows_active i node) (node_wire (codes "off") (codes "f") shows_off i node)
-    (node_wire (codes "stored") (codes "m") shows_stored i node) (node_wire (codes "overrun") (codes "o") shows_overrun i node)
+    (node_wire (codes "stored") (codes "m") shows_stored i node)
+    (node_wire (codes "overrun") (codes "o") shows_overrun i node)
 
 values_at : (i : ℕ) (nodes : List NodeValue) →
     gathered first_in (numbered node_wires i nodes) ≡ numbered node_values i (map (cursor_at 0) nodes)
@@ -63,15 +72,18 @@ changes_at k i (node ∷ nodes) =
 
 pub first_are : (log : RunValue) → all_values (map (cursor_at 0) log.nodes) ≡ first_values log
 first_are log =
-    ap₂ (λ bus rest. line (codes "#0") ++ line (codes "$dumpvars") ++ value_line (codes "w") (is_recessive (wired bus)) ++ rest ++ line (codes "$end"))
+    ap₂ (λ bus rest. line (codes "#0") ++ line (codes "$dumpvars") ++ value_line (codes "w") (is_recessive (wired bus))
+    ++ rest ++ line (codes "$end"))
     (now_at 0 log.nodes) (sym (values_at 0 log.nodes))
     ∙ ap (λ t. t ++ line (codes "$end"))
-    (append_assoc (line (codes "#0") ++ line (codes "$dumpvars")) (first_in (bus_wire log.nodes)) (gathered first_in (numbered node_wires 0 log.nodes)))
+    (append_assoc (line (codes "#0") ++ line (codes "$dumpvars")) (first_in (bus_wire log.nodes))
+    (gathered first_in (numbered node_wires 0 log.nodes)))
 
 pub changes_are : (k : ℕ) (log : RunValue) → all_changes (map (cursor_at (suc k)) log.nodes) ≡ changes_after k log
 changes_are k log =
     ap₂ (λ x y. x ++ y)
-    (ap₂ (λ before now. change (codes "w") (is_recessive (wired before)) (is_recessive (wired now))) (before_at k log.nodes) (now_at (suc k) log.nodes))
+    (ap₂ (λ before now. change (codes "w") (is_recessive (wired before)) (is_recessive (wired now)))
+    (before_at k log.nodes) (now_at (suc k) log.nodes))
     (sym (changes_at k 0 log.nodes))
 
 -- ---- the scopes of all nodes
@@ -81,8 +93,10 @@ no_node : NodeValue
 no_node = record { journal = []; txerr = 0; rxerr = 0; done = []; activations = [] }
 
 -- what was written, and the scopes of the rest: one node more
-pub scopes_next : (nodes : List NodeValue) (i : ℕ) (old new whole : List ℕ) → i < length nodes → ((node : NodeValue) → new ≡ old ++ node_scope i node) →
-    old ++ numbered node_scope i (drop i nodes) ≡ whole → new ++ numbered node_scope (i + 1) (drop (i + 1) nodes) ≡ whole
+pub scopes_next : (nodes : List NodeValue) (i : ℕ) (old new whole : List ℕ) → i < length nodes →
+    ((node : NodeValue) → new ≡ old ++ node_scope i node) →
+    old ++ numbered node_scope i (drop i nodes) ≡ whole →
+    new ++ numbered node_scope (i + 1) (drop (i + 1) nodes) ≡ whole
 scopes_next nodes i old new whole less wrote so_far =
     let node = get_or nodes i no_node in
     let rest = numbered node_scope (i + 1) (drop (i + 1) nodes) in
@@ -92,8 +106,10 @@ scopes_next nodes i old new whole less wrote so_far =
 -- ---- bit after bit
 
 -- one bit more; n is its number, and wrote says what was written of it
-pub bits_more : (k n : ℕ) (log : RunValue) (start old new : List ℕ) (cursors : List Cursor) → n ≡ suc k → cursors ≡ map (cursor_at k) log.nodes →
-    old ≡ start ++ changes_to k log → new ≡ old ++ timed n (all_changes (map advanced cursors)) → new ≡ start ++ changes_to n log
+pub bits_more : (k n : ℕ) (log : RunValue) (start old new : List ℕ) (cursors : List Cursor) → n ≡ suc k →
+    cursors ≡ map (cursor_at k) log.nodes →
+    old ≡ start ++ changes_to k log → new ≡ old ++ timed n (all_changes (map advanced cursors)) →
+    new ≡ start ++ changes_to n log
 bits_more k n log start old new cursors number at so_far wrote =
     wrote ∙ ap (λ (m : ℕ). old ++ timed m (all_changes (map advanced cursors))) number
     ∙ ap (λ l. old ++ timed (suc k) (all_changes l)) (ap (map advanced) at ∙ next_bits k log.nodes)
@@ -107,7 +123,8 @@ pub no_bits : (log : RunValue) (text : List ℕ) → log.bits ≡ 0 → text ≡
 no_bits log text none = sym (append-nil text) ∙ ap (λ (m : ℕ). text ++ changes_of m log) (sym none)
 
 -- the end of the last bit, k
-pub bits_end : (k : ℕ) (log : RunValue) (start old new : List ℕ) (cursors : List Cursor) → log.bits ≡ suc k → cursors ≡ map (cursor_at k) log.nodes →
+pub bits_end : (k : ℕ) (log : RunValue) (start old new : List ℕ) (cursors : List Cursor) → log.bits ≡ suc k →
+    cursors ≡ map (cursor_at k) log.nodes →
     old ≡ start ++ changes_to k log → new ≡ old ++ (time_line log.bits ++ all_changes (map advanced cursors)) →
     new ≡ start ++ changes_of log.bits log
 bits_end k log start old new cursors number at so_far wrote =
@@ -121,7 +138,8 @@ bits_end k log start old new cursors number at so_far wrote =
 
 -- the whole
 pub whole_text : (log : RunValue) (t1 t2 t3 : List ℕ) (cursors : List Cursor) → cursors ≡ map (cursor_at 0) log.nodes →
-    t1 ≡ declarations log.nodes → t2 ≡ t1 ++ all_values cursors → t3 ≡ t2 ++ changes_of log.bits log → t3 ≡ wave_text log
+    t1 ≡ declarations log.nodes → t2 ≡ t1 ++ all_values cursors →
+    t3 ≡ t2 ++ changes_of log.bits log → t3 ≡ wave_text log
 whole_text log t1 t2 t3 cursors at one two three =
     three ∙ ap (λ t. t ++ changes_of log.bits log)
     (two ∙ ap (λ t. t ++ all_values cursors) one

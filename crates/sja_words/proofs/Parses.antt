@@ -1,6 +1,7 @@
 -- From the parser's answer to what the words ask for.
 use Rattle.std.proofs.Common.{◌≡◌, List, [], ◌∷◌, Ok, Err, refl, true, inl, inr}
-use Rattle.clap.specs.Words.{App, FailsBy, HasMatchesOf, Text, fault_of, is_simple_and_free, kind_of, subcommand_rows_of}
+use Rattle.clap.specs.Words.{App, FailsBy, HasMatchesOf, Text, fault_of}
+use Rattle.clap.specs.Words.{is_simple_and_free, kind_of, subcommand_rows_of}
 use Rattle.clap.specs.Kinds.{HasKind, Kinds}
 use Rattle.clap.specs.declared.error.Error.{Error}
 use Rattle.clap.specs.declared.error.kind.ErrorKind.TheVariants.{OutOfMemory}
@@ -9,7 +10,8 @@ use Rattle.sja_words.specs.CommandLine.{sja_app}
 use Rattle.sja_words.specs.Words.{asked, faults, request_in}
 
 -- what the matches ask for is what the words ask for
-pub asked_at : (a : App) (words : List Text) (m : ArgMatches) → a ≡ sja_app → HasMatchesOf a words m → request_in (subcommand_rows_of m) ≡ asked words
+pub asked_at : (a : App) (words : List Text) (m : ArgMatches) → a ≡ sja_app → HasMatchesOf a words m →
+    request_in (subcommand_rows_of m) ≡ asked words
 unfolding asked
 asked_at a words m is matches =
     let own : HasMatchesOf sja_app words m = rw is at matches in
@@ -31,7 +33,8 @@ only_memory (k ∷ ks) e (inr among) none = cc
 
 -- where the parser finds no fault its only error is one of memory
 pub refused_at : (a : App) (words : List Text) (e : Error) → a ≡ sja_app →
-    (is_simple_and_free a ≡ true → FailsBy {T = ArgMatches} (fault_of a words) (Err e)) → faults words ≡ [] → kind_of e ≡ OutOfMemory
+    (is_simple_and_free a ≡ true → FailsBy {T = ArgMatches} (fault_of a words) (Err e)) → faults words ≡ [] →
+    kind_of e ≡ OutOfMemory
 unfolding faults
 refused_at a words e is fails none =
     let own : is_simple_and_free sja_app ≡ true → HasKind (fault_of sja_app words) e = rw is at fails in

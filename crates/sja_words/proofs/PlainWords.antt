@@ -9,7 +9,8 @@ unfolding clap_on_literals asked faults
 empty_text name = record { taken = refl; asks = refl }
 
 -- `encode` and a text whose first byte is no `-`
-asked_text : (name rest : List ℕ) (x : ℕ) → (x == 45) ≡ false → asked (name ∷ codes "encode" ∷ (x ∷ rest) ∷ []) ≡ Some (encode (x ∷ rest))
+asked_text : (name rest : List ℕ) (x : ℕ) → (x == 45) ≡ false →
+    asked (name ∷ codes "encode" ∷ (x ∷ rest) ∷ []) ≡ Some (encode (x ∷ rest))
 unfolding clap_on_literals asked
 asked_text name rest x h = simp h
 
@@ -43,5 +44,6 @@ unfolding clap_on_literals asked faults
 wave_alone name = record { taken = refl; asks = refl }
 
 -- `encode` and such a text, both together
-pub text : (name rest : List ℕ) (x : ℕ) → (x == 45) ≡ false → ParsesAs (name ∷ codes "encode" ∷ (x ∷ rest) ∷ []) (encode (x ∷ rest))
+pub text : (name rest : List ℕ) (x : ℕ) → (x == 45) ≡ false →
+    ParsesAs (name ∷ codes "encode" ∷ (x ∷ rest) ∷ []) (encode (x ∷ rest))
 text name rest x h = record { taken = taken_text name rest x h; asks = asked_text name rest x h }

@@ -4,7 +4,8 @@ use Rattle.std.specs.Prelude.{option_map, option_and_then, find, slice_get, map,
 use Rattle.std.specs.Str.{bytes_eq}
 use Rattle.std.specs.Box.{box_value}
 use Rattle.std.specs.Borrow.{Bor}
-use Rattle.clap.specs.Words.{Row, Text, all_of, first_of, first_value, found_of, matched_of, raw_values, rows_of, subcommand_rows}
+use Rattle.clap.specs.Words.{Row, Text, all_of, first_of, first_value, found_of}
+use Rattle.clap.specs.Words.{matched_of, raw_values, rows_of, subcommand_rows}
 use Rattle.clap.specs.Walk.{row_of}
 use Rattle.clap.specs.declared.parser.matches.MatchedArg.{MatchedArg}
 use Rattle.clap.specs.declared.parser.matches.ArgMatches.{ArgMatches}
@@ -18,14 +19,16 @@ first_now (v ∷ vs) = refl
 
 -- the first value of an argument, of the entries of a parse
 abbrev first_in : List (Bor (List ℕ) × MatchedArg) → Text → Option Text
-first_in xs id = option_and_then (λ a. option_map (λ s. s.now) (slice_get a.vals.items 0)) (option_map (λ e. e.1) (find (λ e. bytes_eq e.0.now id) xs))
+first_in xs id = option_and_then (λ a. option_map (λ s. s.now) (slice_get a.vals.items 0))
+    (option_map (λ e. e.1) (find (λ e. bytes_eq e.0.now id) xs))
 
 -- it is the same in the rows and in the matches
 first_of-entries : (xs : List (Bor (List ℕ) × MatchedArg)) (id : Text) → first_of id (map row_of xs) ≡ first_in xs id
 first_of-entries [] id = refl
 first_of-entries (x ∷ xs) id = go (bytes_eq x.0.now id) refl (first_of-entries xs id)
   where
-    go : (t : Bool) → bytes_eq x.0.now id ≡ t → first_of id (map row_of xs) ≡ first_in xs id → first_of id (map row_of (x ∷ xs)) ≡ first_in (x ∷ xs) id
+    go : (t : Bool) → bytes_eq x.0.now id ≡ t → first_of id (map row_of xs) ≡ first_in xs id →
+        first_of id (map row_of (x ∷ xs)) ≡ first_in (x ∷ xs) id
     go true t rest = rw t (first_now x.1.vals.items)
     go false t rest = rw t rest
 
@@ -52,10 +55,12 @@ all_of-entries : (xs : List (Bor (List ℕ) × MatchedArg)) (id : Text) → all_
 all_of-entries [] id = refl
 all_of-entries (x ∷ xs) id = go (bytes_eq x.0.now id) refl (all_of-entries xs id)
   where
-    go : (t : Bool) → bytes_eq x.0.now id ≡ t → all_of id (map row_of xs) ≡ all_in xs id → all_of id (map row_of (x ∷ xs)) ≡ all_in (x ∷ xs) id
+    go : (t : Bool) → bytes_eq x.0.now id ≡ t → all_of id (map row_of xs) ≡ all_in xs id →
+        all_of id (map row_of (x ∷ xs)) ≡ all_in (x ∷ xs) id
     go true t rest = rw t refl
     go false t rest = rw t rest
 
 -- all values of an argument, in the matches and in their rows
-pub raw_values-rows : (n : ArgMatches) (id : Text) → option_map raw_values (matched_of (found_of n) id) ≡ all_of id (rows_of (found_of n))
+pub raw_values-rows : (n : ArgMatches) (id : Text) →
+    option_map raw_values (matched_of (found_of n) id) ≡ all_of id (rows_of (found_of n))
 raw_values-rows n id = rw (all_of-entries (found_of n).entries.items id) refl

@@ -10,7 +10,8 @@ nothing_asked None is = refl
 nothing_asked (Some messages) is = cc
 
 -- too few or too many of them
-pub not_asked : (given : Option (List Text)) (messages : List Text) → given ≡ Some messages → (length messages ≡ 0) ⊎ (8 < length messages) →
+pub not_asked : (given : Option (List Text)) (messages : List Text) → given ≡ Some messages → (length messages ≡ 0)
+    ⊎ (8 < length messages) →
     None ≡ arbitrate_in given
 not_asked given messages is (inl few) =
     rw is (sym (cond-false _ _ _ (and_left _ _ (le-ltb 0 (length messages) (omega arith)))))
@@ -18,7 +19,8 @@ not_asked given messages is (inr many) =
     rw is (sym (cond-false _ _ _ (and_right _ _ (lt-leb (length messages) 8 many))))
 
 -- one to eight of them
-pub arbitrate_asked : (given : Option (List Text)) (messages : List Text) → given ≡ Some messages → 0 < length messages → length messages ≤ 8 →
+pub arbitrate_asked : (given : Option (List Text)) (messages : List Text) → given ≡ Some messages →
+    0 < length messages → length messages ≤ 8 →
     Some (arbitrate messages) ≡ arbitrate_in given
 arbitrate_asked given messages is some few =
     rw is (sym (cond-true _ _ _ (and_from _ _ (lt-ltb 0 (length messages) some) (le-leb (length messages) 8 few))))

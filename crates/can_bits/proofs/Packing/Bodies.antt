@@ -1,5 +1,6 @@
 -- The packed body that a transmitter sends.
-use Rattle.std.proofs.Common.{◌≡◌, ◌+◌, ◌*◌, ◌/◌, ◌%◌, ◌^◌, ◌<◌, ◌≤◌, ℕ, Bool, true, false, List, [], ◌∷◌, ◌++◌, length, take, get_or, refl, ap, sym, ◌∙◌, arith, append_assoc}
+use Rattle.std.proofs.Common.{◌≡◌, ◌+◌, ◌*◌, ◌/◌, ◌%◌, ◌^◌, ◌<◌, ◌≤◌, ℕ, Bool, true, false, List, []}
+use Rattle.std.proofs.Common.{◌∷◌, ◌++◌, length, take, get_or, refl, ap, sym, ◌∙◌, arith, append_assoc}
 use Rattle.std.specs.List.{flat_map}
 use Rattle.std.proofs.Math.Pow.{pow_mono}
 use Rattle.std.proofs.lemmas.List.{length-append, append-nil, take_more}
@@ -11,7 +12,8 @@ use Rattle.can_bits.specs.Digits.{digit, level_of, bits, value}
 use Rattle.can_bits.specs.Body.{head_bits, sent_body}
 use Rattle.can_bits.specs.Fields.{dlc_place}
 use Rattle.can_bits.specs.Packing.{Packs}
-use Rattle.can_bits.proofs.Values.{length-bits, value-append, value-append-bits, value-bits, value-lt, bits-value, bits-split}
+use Rattle.can_bits.proofs.Values.{length-bits, value-append, value-append-bits}
+use Rattle.can_bits.proofs.Values.{value-bits, value-lt, bits-value, bits-split}
 use Rattle.can_bits.proofs.FieldLemmas.{length_head}
 use Rattle.can_bits.proofs.Whole.Bytes.{length_bytes}
 use Rattle.can_bits.proofs.Packing.Frames.{count_most}

@@ -1,5 +1,6 @@
 -- Levels read off the number that they write.
-use Rattle.std.proofs.Common.{◌≡◌, ◌+◌, ◌-◌, ◌*◌, ◌/◌, ◌%◌, ◌^◌, ◌<◌, ◌≤◌, ◌==◌, ℕ, List, [], ◌∷◌, ◌++◌, length, take, drop, slice_range, refl, ap, sym, subst, ◌∙◌, arith}
+use Rattle.std.proofs.Common.{◌≡◌, ◌+◌, ◌-◌, ◌*◌, ◌/◌, ◌%◌, ◌^◌, ◌<◌, ◌≤◌, ◌==◌, ℕ, List, [], ◌∷◌}
+use Rattle.std.proofs.Common.{◌++◌, length, take, drop, slice_range, refl, ap, sym, subst, ◌∙◌, arith}
 use Rattle.std.proofs.Math.Pow.{pow_mono}
 use Rattle.std.proofs.lemmas.Nat.{div-mul-add, mod-mul-add, pow-add}
 use Rattle.std.proofs.lemmas.List.{drop_more, take-append-drop, length-append, length-drop}

@@ -1,5 +1,6 @@
 -- The place of the level that a reader of one level at a time waits for.
-use Rattle.std.proofs.Common.{◌≡◌, ◌≢◌, ◌<◌, ℕ, Bool, true, false, Option, Some, None, List, length, reverse, take, ap, sym, subst, ◌∙◌, arith}
+use Rattle.std.proofs.Common.{◌≡◌, ◌≢◌, ◌<◌, ℕ, Bool, true, false, Option, Some, None}
+use Rattle.std.proofs.Common.{List, length, reverse, take, ap, sym, subst, ◌∙◌, arith}
 use Rattle.std.proofs.lemmas.Bool.{le-leb, lt-leb}
 use Rattle.std.proofs.lemmas.List.{length-reverse}
 use Rattle.can_bits.specs.declared.level.Level.{Level}

@@ -1,5 +1,6 @@
 -- The frame that levels spell.
-use Rattle.std.proofs.Common.{◌≡◌, ◌+◌, ◌-◌, ◌*◌, ◌/◌, ◌^◌, ◌<◌, ◌≤◌, ℕ, Bool, true, false, List, [], ◌∷◌, ◌++◌, length, drop, slice_range, refl, ap, sym, subst, ◌∙◌, arith, append_assoc}
+use Rattle.std.proofs.Common.{◌≡◌, ◌+◌, ◌-◌, ◌*◌, ◌/◌, ◌^◌, ◌<◌, ◌≤◌, ℕ, Bool, true, false, List, [], ◌∷◌}
+use Rattle.std.proofs.Common.{◌++◌, length, drop, slice_range, refl, ap, sym, subst, ◌∙◌, arith, append_assoc}
 use Rattle.std.specs.List.{flat_map}
 use Rattle.std.proofs.lemmas.List.{get_or-drop, length-append, length-drop, drop_more}
 use Rattle.std.proofs.lemmas.List.Folds.{drop_split}
@@ -8,11 +9,13 @@ use Rattle.can_bits.specs.declared.level.Level.{Level}
 use Rattle.can_bits.specs.declared.level.Level.TheVariants.{Dominant, Recessive}
 use Rattle.can_bits.specs.Digits.{level_of, bits, value}
 use Rattle.can_bits.specs.Body.{head_bits, IsBody}
-use Rattle.can_bits.specs.Fields.{level_at, is_recessive, says_ext, rtr_place, dlc_place, says_rtr, four_from, says_dlc, IsWhole}
+use Rattle.can_bits.specs.Fields.{level_at, is_recessive, says_ext, rtr_place}
+use Rattle.can_bits.specs.Fields.{dlc_place, says_rtr, four_from, says_dlc, IsWhole}
 use Rattle.can_bits.specs.Data.{id_by, says_id, data_place, says_bytes, data_levels}
 use Rattle.can_bits.specs.Spelling.{Spells}
 use Rattle.can_bits.proofs.Lists.{append-split, length_range}
-use Rattle.can_bits.proofs.Values.{length-bits, digit-lt, value-append, value-lt, bits-value, bits-injective, bits-split}
+use Rattle.can_bits.proofs.Values.{length-bits, digit-lt, value-append, value-lt}
+use Rattle.can_bits.proofs.Values.{bits-value, bits-injective, bits-split}
 use Rattle.can_bits.proofs.Whole.Bytes.{Writes, bytes_of, bytes-injective}
 use Rattle.can_bits.proofs.FieldLemmas.{four-same, four-value, length_head, says_spelled, whole_has_fields}
 

@@ -1,15 +1,18 @@
 -- The first fault after levels with which nothing is wrong.
-use Rattle.std.proofs.Common.{◌≡◌, inl, inr, ℕ, List, [], ◌∷◌, ◌++◌, length, replicate, refl, ap, sym, subst, ◌∙◌, arith, append_assoc, Result, Ok, Err, OnOk, IfErr}
+use Rattle.std.proofs.Common.{◌≡◌, inl, inr, ℕ, List, [], ◌∷◌, ◌++◌, length, replicate, refl, ap}
+use Rattle.std.proofs.Common.{sym, subst, ◌∙◌, arith, append_assoc, Result, Ok, Err, OnOk, IfErr}
 use Rattle.std.proofs.lemmas.List.{same_from_push}
 use Rattle.can_frame.specs.Frame.{FrameValue}
 use Rattle.can_bits.specs.declared.level.Level.{Level}
 use Rattle.can_bits.specs.declared.level.Level.TheVariants.{Recessive}
 use Rattle.can_bits.specs.declared.gathered.Gathered.{Gathered}
 use Rattle.can_bits.specs.declared.line_fault.LineFault.{LineFault}
-use Rattle.can_bits.specs.declared.line_fault.LineFault.TheVariants.{Stuff, Form, Crc as CheckFault, NoAck, Truncated, Trailing}
+use Rattle.can_bits.specs.declared.line_fault.LineFault.TheVariants.{Stuff, Form, Crc as CheckFault}
+use Rattle.can_bits.specs.declared.line_fault.LineFault.TheVariants.{NoAck, Truncated, Trailing}
 use Rattle.can_bits.specs.Check.{Crc}
 use Rattle.can_bits.specs.Line.{Line, tail}
-use Rattle.can_bits.specs.Reading.{IsReceived, Begins, IsPastPart, IsFaultless, IsOpen, HasWrongCheck, IsNotAcknowledged, IsFirstFault}
+use Rattle.can_bits.specs.Reading.{IsReceived, Begins, IsPastPart, IsFaultless, IsOpen}
+use Rattle.can_bits.specs.Reading.{HasWrongCheck, IsNotAcknowledged, IsFirstFault}
 use Rattle.can_bits.specs.Streaming.{IsOver, IsLineButFor, BreaksWith}
 use Rattle.can_bits.specs.Machine.FrameParts.{IsPast}
 use Rattle.can_bits.proofs.Lists.{cases_list}

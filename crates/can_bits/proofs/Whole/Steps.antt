@@ -1,5 +1,6 @@
 -- The stuffed part is taken apart one level after the other.
-use Rattle.std.proofs.Common.{Bool, true, false, ◌*◌, ◌≡◌, ◌≢◌, ◌+◌, ◌<◌, ◌≤◌, ◌⊎◌, inl, inr, ℕ, List, [], ◌∷◌, ◌++◌, length, reverse, refl, ap, sym, subst, ◌∙◌, arith}
+use Rattle.std.proofs.Common.{Bool, true, false, ◌*◌, ◌≡◌, ◌≢◌, ◌+◌, ◌<◌, ◌≤◌, ◌⊎◌, inl, inr, ℕ}
+use Rattle.std.proofs.Common.{List, [], ◌∷◌, ◌++◌, length, reverse, refl, ap, sym, subst, ◌∙◌, arith}
 use Rattle.std.proofs.lemmas.Bool.{cases_lt}
 use Rattle.std.proofs.lemmas.List.{reverse-reverse}
 use Rattle.can_frame.specs.Frame.{data_count}
@@ -8,7 +9,8 @@ use Rattle.can_bits.specs.declared.level.Level.TheVariants.{Dominant}
 use Rattle.can_bits.specs.Fields.{level_at, says_ext, says_rtr, says_dlc, dlc_place, says_count}
 use Rattle.can_bits.proofs.Lists.{reverse-cons, cases_list}
 use Rattle.can_bits.proofs.Runs.{run, IsShort}
-use Rattle.can_bits.proofs.Stuffs.{unstuffed, unstuffed-kept, unstuffed-dropped, Leads, run-leads, lead-same, lead-other}
+use Rattle.can_bits.proofs.Stuffs.{unstuffed, unstuffed-kept, unstuffed-dropped}
+use Rattle.can_bits.proofs.Stuffs.{Leads, run-leads, lead-same, lead-other}
 use Rattle.can_bits.proofs.Parts.{plain}
 use Rattle.can_bits.proofs.Going.{IsInside}
 use Rattle.can_bits.proofs.Ending.{plain-first}

@@ -1,13 +1,16 @@
 -- A list of levels is read in one way.
-use Rattle.std.proofs.Common.{◌≡◌, ◌≢◌, List, [], ◌∷◌, ◌++◌, length, replicate, IfOk, IfErr, Result, Ok, Err, refl, ap, sym, subst, ◌∙◌, append_assoc}
+use Rattle.std.proofs.Common.{◌≡◌, ◌≢◌, List, [], ◌∷◌, ◌++◌, length, replicate, IfOk, IfErr}
+use Rattle.std.proofs.Common.{Result, Ok, Err, refl, ap, sym, subst, ◌∙◌, append_assoc}
 use Rattle.can_frame.specs.Frame.{FrameValue}
 use Rattle.can_bits.specs.declared.level.Level.{Level}
 use Rattle.can_bits.specs.declared.level.Level.TheVariants.{Dominant, Recessive}
 use Rattle.can_bits.specs.declared.line_fault.LineFault.{LineFault}
-use Rattle.can_bits.specs.declared.line_fault.LineFault.TheVariants.{Stuff, Form, Crc as CheckFault, NoAck, Truncated, Trailing}
+use Rattle.can_bits.specs.declared.line_fault.LineFault.TheVariants.{Stuff, Form, Crc as CheckFault}
+use Rattle.can_bits.specs.declared.line_fault.LineFault.TheVariants.{NoAck, Truncated, Trailing}
 use Rattle.can_bits.specs.Check.{Crc}
 use Rattle.can_bits.specs.Line.{StuffedPart}
-use Rattle.can_bits.specs.Reading.{IsReceived, Begins, IsFaultless, IsOpen, IsInPart, BreaksAfter, HasWrongCheck, IsNotAcknowledged, IsFirstFault}
+use Rattle.can_bits.specs.Reading.{IsReceived, Begins, IsFaultless, IsOpen, IsInPart}
+use Rattle.can_bits.specs.Reading.{BreaksAfter, HasWrongCheck, IsNotAcknowledged, IsFirstFault}
 use Rattle.can_bits.proofs.Lists.{longer_not}
 use Rattle.can_bits.proofs.Ending.{same_part, same_spelling}
 use Rattle.can_bits.proofs.Whole.Faultless.{faultless_whole, whole_ends, faultless_check, faultless_ack}

@@ -1,5 +1,6 @@
 -- One arbitration field that loses to another.
-use Rattle.std.proofs.Common.{◌≡◌, ◌≢◌, ◌/◌, ◌^◌, ◌<◌, ◌≤◌, ◌⊎◌, ℕ, zero, suc, Bool, true, false, List, [], ◌∷◌, ◌++◌, length, take, Some, refl, ap, sym, subst, ◌∙◌, arith, append_assoc, inl, inr}
+use Rattle.std.proofs.Common.{◌≡◌, ◌≢◌, ◌/◌, ◌^◌, ◌<◌, ◌≤◌, ◌⊎◌, ℕ, zero, suc, Bool, true, false, List, [], ◌∷◌}
+use Rattle.std.proofs.Common.{◌++◌, length, take, Some, refl, ap, sym, subst, ◌∙◌, arith, append_assoc, inl, inr}
 use Rattle.std.specs.List.{slice_get}
 use Rattle.std.proofs.lemmas.Bool.{cases_order}
 use Rattle.std.proofs.lemmas.List.{take-take, take-append-le, take_at, length-append}
@@ -10,7 +11,8 @@ use Rattle.can_bits.specs.declared.level.Level.TheVariants.{Dominant, Recessive}
 use Rattle.can_bits.specs.Digits.{bits, level_of}
 use Rattle.can_bits.proofs.Values.{length-bits}
 use Rattle.can_node.specs.Contending.{arbitration_field, LosesAt}
-use Rattle.can_node.proofs.Contending.FieldLevels.{get-append_left, get-append_right, field_by, length_standard, length_extended, field_is}
+use Rattle.can_node.proofs.Contending.FieldLevels.{get-append_left, get-append_right, field_by}
+use Rattle.can_node.proofs.Contending.FieldLevels.{length_standard, length_extended, field_is}
 
 -- a place within a front of a list
 get-take : {A : Type 0} (n : ℕ) (l : List A) (k : ℕ) → k < n → slice_get (take n l) k ≡ slice_get l k

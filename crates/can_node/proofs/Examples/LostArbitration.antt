@@ -1,6 +1,7 @@
 -- A record and its cut: a node starts, takes a request, waits for eleven recessive levels, and loses arbitration in the
 -- first bit of its identifier. Then the bus stays dominant, and as a receiver it finds a stuff error.
-use Rattle.std.proofs.Common.{◌≡◌, Bool, true, false, List, [], ◌∷◌, ◌++◌, map, replicate, refl, ap, sym, subst, ◌∙◌, arith, Some}
+use Rattle.std.proofs.Common.{◌≡◌, Bool, true, false, List, [], ◌∷◌, ◌++◌, map}
+use Rattle.std.proofs.Common.{replicate, refl, ap, sym, subst, ◌∙◌, arith, Some}
 use Rattle.can_bits.specs.declared.level.Level.{Level}
 use Rattle.can_bits.specs.declared.level.Level.TheVariants.{Dominant, Recessive}
 use Rattle.can_bits.specs.declared.segment.Segment.TheVariants.{Id28To21}

@@ -20,7 +20,8 @@ use Rattle.can_node.specs.Cut.IsOpenAt.{nothing}
 use Rattle.can_node.specs.Cut.Move.{started, sent}
 use Rattle.can_node.specs.Cut.From.{here, on}
 use Rattle.can_node.proofs.OneCut.Slices.{by_bits, integrates}
-use Rattle.can_node.proofs.Examples.LoneSender.{asked, waiting, unanswered, rest_of, fails, is_unanswered, flags, ends, rests, pieces_of_sender}
+use Rattle.can_node.proofs.Examples.LoneSender.{asked, waiting, unanswered, rest_of, fails}
+use Rattle.can_node.proofs.Examples.LoneSender.{is_unanswered, flags, ends, rests, pieces_of_sender}
 
 -- the context of the second try: the transmit error counter is 8
 abbrev pub again : ContextValue

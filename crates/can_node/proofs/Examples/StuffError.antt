@@ -1,6 +1,7 @@
 -- A record and its cut: a node starts, sees eleven recessive levels, and then six dominant ones. The sixth is a stuff
 -- error in the identifier.
-use Rattle.std.proofs.Common.{◌≡◌, Bool, true, false, List, [], ◌∷◌, ◌++◌, map, length, replicate, refl, sym, subst, ◌∙◌, ap, append_assoc, arith, None}
+use Rattle.std.proofs.Common.{◌≡◌, Bool, true, false, List, [], ◌∷◌, ◌++◌, map, length}
+use Rattle.std.proofs.Common.{replicate, refl, sym, subst, ◌∙◌, ap, append_assoc, arith, None}
 use Rattle.can_bits.specs.declared.level.Level.TheVariants.{Dominant, Recessive}
 use Rattle.can_bits.specs.declared.segment.Segment.TheVariants.{Id28To21}
 use Rattle.can_bits.specs.Fields.{says_count}

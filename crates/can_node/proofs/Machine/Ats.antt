@@ -4,7 +4,10 @@ use Rattle.can_bits.specs.declared.level.Level.{Level}
 use Rattle.can_bits.specs.declared.level.Level.TheVariants.{Dominant, Recessive}
 use Rattle.can_bits.specs.declared.shift.Shift.{Shift}
 use Rattle.can_node.specs.declared.stage.Stage.{Stage}
-use Rattle.can_node.specs.declared.stage.Stage.TheVariants.{Integrating as StageIntegrating, BusIdle as StageBusIdle, LastEofBit as StageLastEofBit, InFlag as StageInFlag, InDelimiter as StageInDelimiter, InInterframeSpace as StageInInterframeSpace}
+use Rattle.can_node.specs.declared.stage.Stage.TheVariants.{Integrating as StageIntegrating}
+use Rattle.can_node.specs.declared.stage.Stage.TheVariants.{BusIdle as StageBusIdle, LastEofBit as StageLastEofBit}
+use Rattle.can_node.specs.declared.stage.Stage.TheVariants.{InFlag as StageInFlag, InDelimiter as StageInDelimiter}
+use Rattle.can_node.specs.declared.stage.Stage.TheVariants.{InInterframeSpace as StageInInterframeSpace}
 use Rattle.can_node.specs.declared.role.Role.TheVariants.{Receiver}
 use Rattle.can_node.specs.declared.after_bit.AfterBit.{AfterBit}
 use Rattle.can_node.specs.Bits.{Bit, recessive_bit, dominant_bit}
@@ -14,7 +17,8 @@ use Rattle.can_node.specs.Pieces.Place.{AtIntegration, AtIdle, AtLastEofBit, AtF
 use Rattle.can_node.specs.Table.Row.{last_eof_bit, last_eof_bit_overload}
 use Rattle.can_node.specs.Driving.{Drives}
 use Rattle.can_node.specs.Machine.Standing.{IsKept}
-use Rattle.can_node.specs.Machine.Stages.{At, IsIntegrating, IsInFlag, IsInDominantFlag, IsInPassiveFlag, IsInDelimiter, IsInInterframeSpace}
+use Rattle.can_node.specs.Machine.Stages.{At, IsIntegrating, IsInFlag, IsInDominantFlag}
+use Rattle.can_node.specs.Machine.Stages.{IsInPassiveFlag, IsInDelimiter, IsInInterframeSpace}
 use Rattle.can_node.specs.Machine.Turns.{IsTurn, after_last_eof}
 
 -- the stage is this one

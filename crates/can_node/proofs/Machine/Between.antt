@@ -1,5 +1,6 @@
 -- A request or an abort between the bits of a record.
-use Rattle.std.proofs.Common.{◌≡◌, ◌≢◌, ℕ, Bool, Option, None, List, [], ◌∷◌, ◌++◌, refl, ap, sym, subst, ◌∙◌, if◌then◌else◌}
+use Rattle.std.proofs.Common.{◌≡◌, ◌≢◌, ℕ, Bool, Option, None, List, [], ◌∷◌}
+use Rattle.std.proofs.Common.{◌++◌, refl, ap, sym, subst, ◌∙◌, if◌then◌else◌}
 use Rattle.std.proofs.lemmas.List.{append-nil}
 use Rattle.can_bits.specs.declared.level.Level.{Level}
 use Rattle.can_bits.specs.declared.level.Level.TheVariants.{Dominant, Recessive}
@@ -8,7 +9,11 @@ use Rattle.can_node.specs.declared.role.Role.{Role}
 use Rattle.can_node.specs.declared.role.Role.TheVariants.{Transmitter, Receiver}
 use Rattle.can_node.specs.declared.request.Request.{Request}
 use Rattle.can_node.specs.declared.stage.Stage.{Stage}
-use Rattle.can_node.specs.declared.stage.Stage.TheVariants.{InReset as StageInReset, Integrating as StageIntegrating, BusIdle as StageBusIdle, InFrame as StageInFrame, LastEofBit as StageLastEofBit, InFlag as StageInFlag, InDelimiter as StageInDelimiter, InInterframeSpace as StageInInterframeSpace}
+use Rattle.can_node.specs.declared.stage.Stage.TheVariants.{InReset as StageInReset, Integrating as StageIntegrating}
+use Rattle.can_node.specs.declared.stage.Stage.TheVariants.{BusIdle as StageBusIdle, InFrame as StageInFrame}
+use Rattle.can_node.specs.declared.stage.Stage.TheVariants.{LastEofBit as StageLastEofBit, InFlag as StageInFlag}
+use Rattle.can_node.specs.declared.stage.Stage.TheVariants.{InDelimiter as StageInDelimiter}
+use Rattle.can_node.specs.declared.stage.Stage.TheVariants.{InInterframeSpace as StageInInterframeSpace}
 use Rattle.can_node.specs.declared.node.Node.{Node}
 use Rattle.can_node.specs.Bits.{Bit}
 use Rattle.can_node.specs.Context.{ContextValue, fresh, is_transmitter, flag_level}

@@ -1,14 +1,17 @@
 -- The steps of a bit at each piece, from what the node's functions say of them.
-use Rattle.std.proofs.Common.{◌≡◌, ◌<◌, ◌+◌, ◌%◌, ◌==◌, ◌&&◌, ℕ, zero, suc, Bool, false, fold, length, is_some, List, [], ◌∷◌, refl, ap, sym, subst, ◌∙◌, arith}
+use Rattle.std.proofs.Common.{◌≡◌, ◌<◌, ◌+◌, ◌%◌, ◌==◌, ◌&&◌, ℕ, zero, suc, Bool, false, fold}
+use Rattle.std.proofs.Common.{length, is_some, List, [], ◌∷◌, refl, ap, sym, subst, ◌∙◌, arith}
 use Rattle.can_bits.specs.declared.level.Level.{Level}
 use Rattle.can_bits.specs.declared.shift.Shift.{Shift}
 use Rattle.can_node.specs.declared.role.Role.TheVariants.{Transmitter}
 use Rattle.can_node.specs.declared.stage.Stage.{Stage}
-use Rattle.can_node.specs.declared.stage.Stage.TheVariants.{Integrating as StageIntegrating, InFrame as StageInFrame, InDelimiter as StageInDelimiter}
+use Rattle.can_node.specs.declared.stage.Stage.TheVariants.{Integrating as StageIntegrating}
+use Rattle.can_node.specs.declared.stage.Stage.TheVariants.{InFrame as StageInFrame, InDelimiter as StageInDelimiter}
 use Rattle.can_node.specs.Bits.{Bit, seen_of}
 use Rattle.can_node.specs.Context.{ContextValue}
 use Rattle.can_node.specs.Pieces.{Place}
-use Rattle.can_node.specs.Counting.{at_bit, integration_bit, next_run, frame_bit, lost_by, delimiter_level, are_dominant}
+use Rattle.can_node.specs.Counting.{at_bit, integration_bit, next_run, frame_bit}
+use Rattle.can_node.specs.Counting.{lost_by, delimiter_level, are_dominant}
 use Rattle.can_node.specs.Events.{lost_in, lost_as}
 use Rattle.can_node.specs.Machine.Standing.{is_nil}
 use Rattle.can_node.specs.Machine.Stages.{At, IsInDelimiter, frame_bits}

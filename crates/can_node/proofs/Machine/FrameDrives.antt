@@ -1,5 +1,6 @@
 -- What a node drives in a frame, and what it knows of its next bit.
-use Rattle.std.proofs.Common.{◌≡◌, ◌↔◌, ℕ, length, IsTrue, Bool, true, false, Option, Some, List, ◌∷◌, ◌++◌, refl, ap, sym, subst, ◌∙◌}
+use Rattle.std.proofs.Common.{◌≡◌, ◌↔◌, ℕ, length, IsTrue, Bool, true, false, Option}
+use Rattle.std.proofs.Common.{Some, List, ◌∷◌, ◌++◌, refl, ap, sym, subst, ◌∙◌}
 use Rattle.can_bits.specs.declared.level.Level.{Level}
 use Rattle.can_bits.specs.declared.level.Level.TheVariants.{Dominant, Recessive}
 use Rattle.can_bits.specs.declared.shift.Shift.{Shift}

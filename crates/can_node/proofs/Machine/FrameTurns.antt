@@ -1,5 +1,6 @@
 -- One bit of a frame, as the node has it.
-use Rattle.std.proofs.Common.{◌≡◌, Bool, true, false, Some, is_some, List, [], ◌∷◌, ◌++◌, refl, ap, sym, subst, ◌∙◌, if◌then◌else◌}
+use Rattle.std.proofs.Common.{◌≡◌, Bool, true, false, Some, is_some, List, []}
+use Rattle.std.proofs.Common.{◌∷◌, ◌++◌, refl, ap, sym, subst, ◌∙◌, if◌then◌else◌}
 use Rattle.can_bits.specs.declared.level.Level.{Level}
 use Rattle.can_bits.specs.declared.level.Level.TheVariants.{Dominant, Recessive}
 use Rattle.can_bits.specs.declared.shift.Shift.{Shift}
@@ -19,7 +20,8 @@ use Rattle.can_node.specs.Events.{lost_in, lost_as}
 use Rattle.can_node.specs.Frames.{Acknowledges}
 use Rattle.can_node.specs.Driving.{Drives, FrameDrives}
 use Rattle.can_node.specs.Machine.Standing.{IsKept}
-use Rattle.can_node.specs.Machine.Stages.{At, ByRole, IsFramePlace, IsInFrame, IsReading, IsReceiving, IsTransmitting, frame_bits}
+use Rattle.can_node.specs.Machine.Stages.{At, ByRole, IsFramePlace, IsInFrame, IsReading}
+use Rattle.can_node.specs.Machine.Stages.{IsReceiving, IsTransmitting, frame_bits}
 use Rattle.can_node.specs.Machine.Stages.IsFramePlace.{idle_place, sof_place}
 use Rattle.can_node.specs.Machine.Stages.IsInFrame.{from_idle, from_sof}
 use Rattle.can_node.specs.Machine.Turns.{IsMade, IsTurn, ReceivesOn, TransmitsOn, TransmitsBit, ReceivesBit}

@@ -1,12 +1,15 @@
 -- The quick way of a bit outside a frame.
-use Rattle.std.proofs.Common.{◌≡◌, ◌==◌, ◌&&◌, ◌||◌, ◌+◌, ◌-◌, not, ℕ, Bool, true, false, Some, None, fold, List, [], ◌∷◌, ◌++◌, refl, ap, sym, subst, ◌∙◌, if◌then◌else◌}
+use Rattle.std.proofs.Common.{◌≡◌, ◌==◌, ◌&&◌, ◌||◌, ◌+◌, ◌-◌, not, ℕ, Bool, true, false, Some, None}
+use Rattle.std.proofs.Common.{fold, List, [], ◌∷◌, ◌++◌, refl, ap, sym, subst, ◌∙◌, if◌then◌else◌}
 use Rattle.std.proofs.lemmas.Bool.{ne_eqb}
 use Rattle.can_bits.specs.declared.level.Level.{Level}
 use Rattle.can_bits.specs.declared.level.Level.TheVariants.{Dominant, Recessive}
 use Rattle.can_bits.specs.declared.shift.Shift.{Shift}
 use Rattle.can_bits.specs.Fields.{is_recessive}
 use Rattle.can_node.specs.declared.stage.Stage.{Stage}
-use Rattle.can_node.specs.declared.stage.Stage.TheVariants.{InReset as StageInReset, Integrating as StageIntegrating, InFlag as StageInFlag, InDelimiter as StageInDelimiter, InInterframeSpace as StageInInterframeSpace}
+use Rattle.can_node.specs.declared.stage.Stage.TheVariants.{InReset as StageInReset, Integrating as StageIntegrating}
+use Rattle.can_node.specs.declared.stage.Stage.TheVariants.{InFlag as StageInFlag, InDelimiter as StageInDelimiter}
+use Rattle.can_node.specs.declared.stage.Stage.TheVariants.{InInterframeSpace as StageInInterframeSpace}
 use Rattle.can_node.specs.declared.after_bit.AfterBit.{AfterBit}
 use Rattle.can_node.specs.declared.after_bit.AfterBit.TheVariants.{InPiece, Ended}
 use Rattle.can_node.specs.declared.flag_kind.FlagKind.{FlagKind}
@@ -15,7 +18,8 @@ use Rattle.can_node.specs.Bits.{Bit, seen_of}
 use Rattle.can_node.specs.Context.{ContextValue}
 use Rattle.can_node.specs.Pieces.{Place}
 use Rattle.can_node.specs.Pieces.Place.{AtReset, AtIntegration, AtFlag, AtDelimiter, AtInterframeSpace}
-use Rattle.can_node.specs.Counting.{at_bit, integration_bit, next_run, ends_eleven, if_ack_step_owed, delimiter_level, if_eighth, after_error_flag, unless_listening, more_by}
+use Rattle.can_node.specs.Counting.{at_bit, integration_bit, next_run, ends_eleven, if_ack_step_owed}
+use Rattle.can_node.specs.Counting.{delimiter_level, if_eighth, after_error_flag, unless_listening, more_by}
 use Rattle.can_node.specs.Events.{lost_in}
 use Rattle.can_node.specs.Machine.Standing.{is_nil}
 use Rattle.can_node.specs.Machine.Stages.{At, IsInDelimiter}

@@ -1,5 +1,6 @@
 -- One bit, put together from the node's own steps: the level driven, the turn, the counts, the place after it, bus-off.
-use Rattle.std.proofs.Common.{◌≡◌, ◌<◌, ◌≤◌, ◌&&◌, not, ℕ, Bool, nat_le, Option, is_some, List, [], ◌∷◌, ◌++◌, ap, ap₂, sym, subst, ◌∙◌}
+use Rattle.std.proofs.Common.{◌≡◌, ◌<◌, ◌≤◌, ◌&&◌, not, ℕ, Bool, nat_le, Option}
+use Rattle.std.proofs.Common.{is_some, List, [], ◌∷◌, ◌++◌, ap, ap₂, sym, subst, ◌∙◌}
 use Rattle.can_frame.specs.Frame.{FrameValue}
 use Rattle.can_bits.specs.declared.level.Level.{Level}
 use Rattle.can_bits.specs.declared.segment.Segment.{Segment}

@@ -7,11 +7,16 @@ use Rattle.can_bits.specs.declared.shift.Shift.{Shift}
 use Rattle.can_node.specs.declared.role.Role.{Role}
 use Rattle.can_node.specs.declared.role.Role.TheVariants.{Transmitter, Receiver}
 use Rattle.can_node.specs.declared.stage.Stage.{Stage}
-use Rattle.can_node.specs.declared.stage.Stage.TheVariants.{InReset as StageInReset, Integrating as StageIntegrating, BusIdle as StageBusIdle, InFrame as StageInFrame, LastEofBit as StageLastEofBit, InFlag as StageInFlag, InDelimiter as StageInDelimiter, InInterframeSpace as StageInInterframeSpace}
+use Rattle.can_node.specs.declared.stage.Stage.TheVariants.{InReset as StageInReset, Integrating as StageIntegrating}
+use Rattle.can_node.specs.declared.stage.Stage.TheVariants.{BusIdle as StageBusIdle, InFrame as StageInFrame}
+use Rattle.can_node.specs.declared.stage.Stage.TheVariants.{LastEofBit as StageLastEofBit, InFlag as StageInFlag}
+use Rattle.can_node.specs.declared.stage.Stage.TheVariants.{InDelimiter as StageInDelimiter}
+use Rattle.can_node.specs.declared.stage.Stage.TheVariants.{InInterframeSpace as StageInInterframeSpace}
 use Rattle.can_node.specs.Bits.{Bit, recessive_bit, recessive_bits}
 use Rattle.can_node.specs.Context.{ContextValue}
 use Rattle.can_node.specs.Pieces.{Place}
-use Rattle.can_node.specs.Pieces.Place.{AtReset, AtIntegration, AtIdle, AtLastEofBit, AtFlag, AtDelimiter, AtInterframeSpace}
+use Rattle.can_node.specs.Pieces.Place.{AtReset, AtIntegration, AtIdle, AtLastEofBit}
+use Rattle.can_node.specs.Pieces.Place.{AtFlag, AtDelimiter, AtInterframeSpace}
 use Rattle.can_node.specs.Record.{Entry, bits_in}
 use Rattle.can_node.specs.Record.Entry.{OneBit}
 use Rattle.can_node.specs.Record.Inner.{none_left, samples}

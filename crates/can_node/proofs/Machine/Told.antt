@@ -1,5 +1,7 @@
 -- What a bit tells is what the cut has there.
-use Rattle.std.proofs.Common.{◌≡◌, ◌<◌, ◌≤◌, ◌+◌, ◌-◌, ◌%◌, ◌==◌, ◌&&◌, ◌||◌, not, fold, length, ℕ, Bool, true, false, nat_le, Option, Some, None, is_some, List, [], ◌∷◌, ◌++◌, refl, ap, sym, subst, ◌∙◌, arith, if◌then◌else◌}
+use Rattle.std.proofs.Common.{◌≡◌, ◌<◌, ◌≤◌, ◌+◌, ◌-◌, ◌%◌, ◌==◌, ◌&&◌, ◌||◌, not, fold, length}
+use Rattle.std.proofs.Common.{ℕ, Bool, true, false, nat_le, Option, Some, None, is_some, List}
+use Rattle.std.proofs.Common.{[], ◌∷◌, ◌++◌, refl, ap, sym, subst, ◌∙◌, arith, if◌then◌else◌}
 use Rattle.can_frame.specs.Frame.{FrameValue}
 use Rattle.can_bits.specs.declared.level.Level.{Level}
 use Rattle.can_bits.specs.declared.level.Level.TheVariants.{Dominant, Recessive}
@@ -19,8 +21,11 @@ use Rattle.can_node.specs.declared.bit_events.BitEvents.{BitEvents}
 use Rattle.can_node.specs.Bits.{Bit, dominant_bit, seen_of, driven_of}
 use Rattle.can_node.specs.Context.{ContextValue, is_transmitter, is_held}
 use Rattle.can_node.specs.Pieces.{Place, sent_at}
-use Rattle.can_node.specs.Pieces.Place.{AtReset, AtIntegration, AtIdle, AfterSof, AtLastEofBit, AtFlag, AtDelimiter, AtInterframeSpace}
-use Rattle.can_node.specs.Counting.{at_bit, next_run, ends_eleven, first_bit, frame_bit, lost_by, lose, drop_failed, if_acknowledged, if_ack_step_owed, delimiter_level, if_eighth, are_dominant, after_error_flag, more_by}
+use Rattle.can_node.specs.Pieces.Place.{AtReset, AtIntegration, AtIdle, AfterSof}
+use Rattle.can_node.specs.Pieces.Place.{AtLastEofBit, AtFlag, AtDelimiter, AtInterframeSpace}
+use Rattle.can_node.specs.Counting.{at_bit, next_run, ends_eleven, first_bit, frame_bit, lost_by}
+use Rattle.can_node.specs.Counting.{lose, drop_failed, if_acknowledged, if_ack_step_owed}
+use Rattle.can_node.specs.Counting.{delimiter_level, if_eighth, are_dominant, after_error_flag, more_by}
 use Rattle.can_node.specs.Events.{Step, stepped, received_in, fault_in, ended_in, lost_in, events_of}
 use Rattle.can_node.specs.Driving.{Drives, FrameDrives, IdleDrives, TransmitsNext}
 use Rattle.can_node.specs.Machine.Turns.{step_of, resulted}

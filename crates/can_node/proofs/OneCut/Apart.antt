@@ -1,6 +1,7 @@
 -- At each place outside a frame the pieces are told apart: of two that begin one list neither is a proper front of the
 -- other, and they are one piece that leads to one place.
-use Rattle.std.proofs.Common.{◌≡◌, ◌+◌, ◌<◌, ◌≤◌, ℕ, IsTrue, IsFalse, List, [], ◌∷◌, ◌++◌, replicate, refl, ap, sym, ◌∙◌, arith, inl, inr, if◌then◌else◌, nat_le}
+use Rattle.std.proofs.Common.{◌≡◌, ◌+◌, ◌<◌, ◌≤◌, ℕ, IsTrue, IsFalse, List, [], ◌∷◌, ◌++◌}
+use Rattle.std.proofs.Common.{replicate, refl, ap, sym, ◌∙◌, arith, inl, inr, if◌then◌else◌, nat_le}
 use Rattle.std.proofs.lemmas.Bool.{cases_Bool, le-leb, lt-leb}
 use Rattle.std.proofs.lemmas.List.{append_assoc}
 use Rattle.can_bits.specs.declared.level.Level.{Level}
@@ -11,11 +12,16 @@ use Rattle.can_node.specs.declared.cause.Cause.TheVariants.{Bit as BitError, For
 use Rattle.can_node.specs.Bits.{Bit, recessive_bits, dominant_bits, seen_of, IsFirst}
 use Rattle.can_node.specs.Context.{ContextValue, owes_suspension, interframe_count, flag_level, integration_count}
 use Rattle.can_node.specs.Pieces.{Place, Piece}
-use Rattle.can_node.specs.Pieces.Place.{AtIntegration, AtIdle, AfterSof, AtLastEofBit, AtFlag, AtDelimiter, AtInterframeSpace}
+use Rattle.can_node.specs.Pieces.Place.{AtIntegration, AtIdle, AfterSof, AtLastEofBit}
+use Rattle.can_node.specs.Pieces.Place.{AtFlag, AtDelimiter, AtInterframeSpace}
 use Rattle.can_node.specs.declared.fault_site.FaultSite.TheVariants.{InFlag, InDelimiter}
-use Rattle.can_node.specs.Pieces.Piece.{Fault, Flag, Delimiter, InterframeSpace, InterframeSpaceWithSof, InterframeSpaceBroken}
+use Rattle.can_node.specs.Pieces.Piece.{Fault, Flag, Delimiter, InterframeSpace}
+use Rattle.can_node.specs.Pieces.Piece.{InterframeSpaceWithSof, InterframeSpaceBroken}
 use Rattle.can_node.specs.Table.{Row, flag_segment}
-use Rattle.can_node.specs.Table.Row.{integration, last_eof_bit, last_eof_bit_overload, flag, flag_fault, flag_passive, delimiter, delimiter_overload, delimiter_fault, interframe_space, interframe_space_sof, suspend_transmission_sof, intermission_overload, intermission_overload_second}
+use Rattle.can_node.specs.Table.Row.{integration, last_eof_bit, last_eof_bit_overload, flag, flag_fault}
+use Rattle.can_node.specs.Table.Row.{flag_passive, delimiter, delimiter_overload, delimiter_fault}
+use Rattle.can_node.specs.Table.Row.{interframe_space, interframe_space_sof, suspend_transmission_sof}
+use Rattle.can_node.specs.Table.Row.{intermission_overload, intermission_overload_second}
 use Rattle.can_node.proofs.Bits.DrivenAlike.{same_receives, same_forces, recessive-other, dominant-other}
 use Rattle.can_node.proofs.Waiting.Waits.{first_once, elevens_once, IsWait, leading, wait_once}
 use Rattle.can_node.proofs.Waiting.Waits.IsWait.{whole, cut_off}

@@ -1,6 +1,7 @@
 -- What a longer record adds: the frames received of more pieces, the counts of more entries, and what one bit of a node
 -- adds to both.
-use Rattle.std.proofs.Common.{◌≡◌, ◌≤◌, ℕ, Option, Some, None, List, [], ◌∷◌, ◌++◌, All, refl, ap, sym, subst, ◌∙◌, arith}
+use Rattle.std.proofs.Common.{◌≡◌, ◌≤◌, ℕ, Option, Some, None, List, [], ◌∷◌}
+use Rattle.std.proofs.Common.{◌++◌, All, refl, ap, sym, subst, ◌∙◌, arith}
 use Rattle.std.proofs.lemmas.List.Elements.{All-append, All-nil, All-cons}
 use Rattle.can_frame.specs.Frame.{FrameValue}
 use Rattle.can_bits.specs.declared.level.Level.{Level}
@@ -12,7 +13,8 @@ use Rattle.can_node.specs.Record.{Entry}
 use Rattle.can_node.specs.Record.Entry.{OneBit, Start, Send, Abort, Stop, BusOff}
 use Rattle.can_node.specs.Pieces.{Place, Piece, received_by}
 use Rattle.can_node.specs.Pieces.Place.{AtReset}
-use Rattle.can_node.specs.FinishedPieces.{FinishedPiece, ReceivedFrame, received_if, received, Count, counted, counted_one, tagged, none_yet}
+use Rattle.can_node.specs.FinishedPieces.{FinishedPiece, ReceivedFrame, received_if, received}
+use Rattle.can_node.specs.FinishedPieces.{Count, counted, counted_one, tagged, none_yet}
 use Rattle.can_node.specs.Cut.{IsCut, From}
 use Rattle.can_node.specs.Cut.From.{here, on}
 use Rattle.can_node.specs.Events.{Step, received_in}

@@ -13,7 +13,8 @@ use Rattle.can_node.specs.Cut.IsOpenAt.{rests, nothing, begun}
 use Rattle.can_node.proofs.Machine.Along.{bits_both}
 use Rattle.can_node.proofs.OneCut.GoOn.{no_rest_piece}
 use Rattle.can_node.proofs.OneCut.RowOnce.{row_once}
-use Rattle.can_node.proofs.OneCut.Entries.{IsOuter, IsPart, outer_once, inner_before, some_not_none, slices_once, open_part}
+use Rattle.can_node.proofs.OneCut.Entries.{IsOuter, IsPart, outer_once, inner_before}
+use Rattle.can_node.proofs.OneCut.Entries.{some_not_none, slices_once, open_part}
 use Rattle.can_node.proofs.OneCut.Entries.IsOuter.{start, stop, off}
 use Rattle.can_node.proofs.OneCut.Ways.{Between, Closing, Way, way_of}
 use Rattle.can_node.proofs.OneCut.Ways.Between.{send, abort}

@@ -6,12 +6,14 @@ use Rattle.can_node.specs.declared.request.Request.{Request}
 use Rattle.can_node.specs.Bits.{Bit, recessive_bit, dominant_bit}
 use Rattle.can_node.specs.Context.{ContextValue}
 use Rattle.can_node.specs.Pieces.{Place, Piece, sent_at}
-use Rattle.can_node.specs.Pieces.Place.{AtReset, AtIntegration, AtIdle, AfterSof, AtLastEofBit, AtFlag, AtDelimiter, AtInterframeSpace}
+use Rattle.can_node.specs.Pieces.Place.{AtReset, AtIntegration, AtIdle, AfterSof}
+use Rattle.can_node.specs.Pieces.Place.{AtLastEofBit, AtFlag, AtDelimiter, AtInterframeSpace}
 use Rattle.can_node.specs.Frames.{Transmits}
 use Rattle.can_node.specs.Table.{Row}
 use Rattle.can_node.specs.Table.Row.{idle, other, own, other_begun, own_begun}
 use Rattle.can_node.proofs.Bits.DrivenAlike.{recessive-other}
-use Rattle.can_node.proofs.OneCut.Apart.{AreOne, integrating_once, after_reception_once, flagging_once, after_flag_once, interframe_once}
+use Rattle.can_node.proofs.OneCut.Apart.{AreOne, integrating_once, after_reception_once}
+use Rattle.can_node.proofs.OneCut.Apart.{flagging_once, after_flag_once, interframe_once}
 use Rattle.can_node.proofs.Bits.Nexts.{IsNext-unique}
 use Rattle.can_node.proofs.Reception.ReceptionOnce.{receives_once}
 use Rattle.can_node.proofs.Transmission.TransmissionOnce.{sends_once}

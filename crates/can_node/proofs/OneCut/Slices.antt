@@ -1,5 +1,6 @@
 -- Moves by bits alone, with no other entry between them.
-use Rattle.std.proofs.Common.{◌≡◌, ◌≤◌, List, [], ◌∷◌, map, length, replicate, refl, ap, sym, subst, ◌∙◌, arith, Option, None, ◌++◌, false}
+use Rattle.std.proofs.Common.{◌≡◌, ◌≤◌, List, [], ◌∷◌, map, length, replicate, refl}
+use Rattle.std.proofs.Common.{ap, sym, subst, ◌∙◌, arith, Option, None, ◌++◌, false}
 use Rattle.std.proofs.lemmas.List.{length-append}
 use Rattle.can_bits.specs.declared.level.Level.{Level}
 use Rattle.can_bits.specs.declared.level.Level.TheVariants.{Recessive}

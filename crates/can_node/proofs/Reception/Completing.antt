@@ -1,5 +1,6 @@
 -- A frame is received, from what the reader of one level at a time says.
-use Rattle.std.proofs.Common.{◌≡◌, ◌≢◌, ◌&&◌, not, Bool, true, false, inl, inr, List, [], ◌∷◌, ◌++◌, length, reverse, replicate, refl, ap, ap₂, sym, subst, ◌∙◌, arith, append_assoc}
+use Rattle.std.proofs.Common.{◌≡◌, ◌≢◌, ◌&&◌, not, Bool, true, false, inl, inr, List, [], ◌∷◌, ◌++◌, length}
+use Rattle.std.proofs.Common.{reverse, replicate, refl, ap, ap₂, sym, subst, ◌∙◌, arith, append_assoc}
 use Rattle.std.proofs.lemmas.List.{length-append, length_push, nil_from_length, same_from_push}
 use Rattle.can_node.proofs.Bits.Slots.{due_here}
 use Rattle.can_frame.specs.Frame.{FrameValue}

@@ -1,12 +1,14 @@
 -- One bit of a frame for its receiver.
-use Rattle.std.proofs.Common.{◌≡◌, ◌≢◌, ◌&&◌, not, Bool, true, false, Option, None, Some, List, [], ◌∷◌, ◌++◌, length, ap, sym, subst, ◌∙◌, arith, append_assoc}
+use Rattle.std.proofs.Common.{◌≡◌, ◌≢◌, ◌&&◌, not, Bool, true, false, Option, None, Some, List}
+use Rattle.std.proofs.Common.{[], ◌∷◌, ◌++◌, length, ap, sym, subst, ◌∙◌, arith, append_assoc}
 use Rattle.std.proofs.lemmas.List.{append-nil, nil_from_length}
 use Rattle.can_frame.specs.Frame.{FrameValue}
 use Rattle.can_bits.specs.declared.level.Level.{Level}
 use Rattle.can_bits.specs.declared.level.Level.TheVariants.{Dominant, Recessive}
 use Rattle.can_bits.specs.declared.segment.Segment.{Segment}
 use Rattle.can_bits.specs.declared.line_fault.LineFault.{LineFault}
-use Rattle.can_bits.specs.declared.line_fault.LineFault.TheVariants.{Stuff as StuffFault, Form as FormFault, Crc as CheckFault, NoAck, Truncated, Trailing}
+use Rattle.can_bits.specs.declared.line_fault.LineFault.TheVariants.{Stuff as StuffFault, Form as FormFault}
+use Rattle.can_bits.specs.declared.line_fault.LineFault.TheVariants.{Crc as CheckFault, NoAck, Truncated, Trailing}
 use Rattle.can_bits.specs.declared.shift_fault.ShiftFault.{ShiftFault}
 use Rattle.can_bits.specs.Fields.{is_recessive}
 use Rattle.can_bits.specs.Line.{Line, tail}
@@ -22,7 +24,8 @@ use Rattle.can_node.specs.Bits.{Bit, dominant_bit, seen_of}
 use Rattle.can_node.specs.Machine.Causes.{cause_by}
 use Rattle.can_node.specs.Context.{ContextValue}
 use Rattle.can_node.specs.Pieces.{Place, Piece}
-use Rattle.can_node.specs.Pieces.Place.{AtReset, AtIntegration, AtIdle, AfterSof, AtLastEofBit, AtFlag, AtDelimiter, AtInterframeSpace}
+use Rattle.can_node.specs.Pieces.Place.{AtReset, AtIntegration, AtIdle, AfterSof}
+use Rattle.can_node.specs.Pieces.Place.{AtLastEofBit, AtFlag, AtDelimiter, AtInterframeSpace}
 use Rattle.can_node.specs.Pieces.Piece.{Reception, Fault}
 use Rattle.can_node.specs.Frames.{Acknowledges, AllAcknowledge, IsWithin, Breaks, Receives}
 use Rattle.can_node.specs.Frames.Breaks.{own_ack}

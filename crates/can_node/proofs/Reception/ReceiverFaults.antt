@@ -1,5 +1,6 @@
 -- What is wrong with a bit for a receiver.
-use Rattle.std.proofs.Common.{◌≡◌, Bool, true, false, List, [], ◌∷◌, ◌++◌, replicate, refl, ap, sym, subst, ◌∙◌, append_assoc}
+use Rattle.std.proofs.Common.{◌≡◌, Bool, true, false, List, [], ◌∷◌, ◌++◌}
+use Rattle.std.proofs.Common.{replicate, refl, ap, sym, subst, ◌∙◌, append_assoc}
 use Rattle.std.proofs.lemmas.List.{same_from_push}
 use Rattle.can_frame.specs.Frame.{FrameValue}
 use Rattle.can_bits.specs.declared.level.Level.{Level}
@@ -11,7 +12,8 @@ use Rattle.can_bits.specs.Streaming.{EndsInWrongCheck}
 use Rattle.can_bits.proofs.Ending.{line_at}
 use Rattle.can_bits.proofs.Readables.{wrong_whole}
 use Rattle.can_node.specs.declared.cause.Cause.{Cause}
-use Rattle.can_node.specs.declared.cause.Cause.TheVariants.{Bit as BitError, Stuff as StuffError, Form as FormError, Crc as CheckError}
+use Rattle.can_node.specs.declared.cause.Cause.TheVariants.{Bit as BitError, Stuff as StuffError}
+use Rattle.can_node.specs.declared.cause.Cause.TheVariants.{Form as FormError, Crc as CheckError}
 use Rattle.can_node.specs.Bits.{Bit, recessive_bit, dominant_bit, seen_of}
 use Rattle.can_bits.specs.Acknowledging.{IsAckDue}
 use Rattle.can_node.specs.Frames.{Acknowledges, AllAcknowledge, AckFits, Breaks}

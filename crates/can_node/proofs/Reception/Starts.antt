@@ -1,5 +1,6 @@
 -- A receiver in a frame has seen its SOF.
-use Rattle.std.proofs.Common.{◌≡◌, ◌≢◌, Bool, false, List, [], ◌∷◌, ◌++◌, length, replicate, refl, ap, sym, subst, ◌∙◌, arith}
+use Rattle.std.proofs.Common.{◌≡◌, ◌≢◌, Bool, false, List, [], ◌∷◌, ◌++◌, length}
+use Rattle.std.proofs.Common.{replicate, refl, ap, sym, subst, ◌∙◌, arith}
 use Rattle.std.proofs.lemmas.List.{length-append, nil_from_length}
 use Rattle.can_bits.specs.declared.level.Level.{Level}
 use Rattle.can_bits.specs.declared.level.Level.TheVariants.{Dominant, Recessive}
@@ -16,13 +17,17 @@ use Rattle.can_node.specs.declared.request.Request.{Request}
 use Rattle.can_node.specs.Bits.{Bit, recessive_bit, seen_of}
 use Rattle.can_node.specs.Context.{ContextValue}
 use Rattle.can_node.specs.Pieces.{Place, Piece}
-use Rattle.can_node.specs.Pieces.Place.{AtReset, AtIntegration, AtIdle, AfterSof, AtLastEofBit, AtFlag, AtDelimiter, AtInterframeSpace}
+use Rattle.can_node.specs.Pieces.Place.{AtReset, AtIntegration, AtIdle, AfterSof}
+use Rattle.can_node.specs.Pieces.Place.{AtLastEofBit, AtFlag, AtDelimiter, AtInterframeSpace}
 use Rattle.can_node.specs.Pieces.Piece.{Fault}
 use Rattle.can_node.specs.Frames.{IsWithin, Transmits, Receives}
 use Rattle.can_node.specs.Frames.Transmits.{sending, failed, lost}
 use Rattle.can_node.specs.Frames.Receives.{broken}
 use Rattle.can_node.specs.Table.{Row}
-use Rattle.can_node.specs.Table.Row.{integration, idle, other, own, other_begun, own_begun, last_eof_bit, last_eof_bit_overload, flag, flag_fault, flag_passive, delimiter, delimiter_overload, delimiter_fault, interframe_space, interframe_space_sof, suspend_transmission_sof, intermission_overload, intermission_overload_second}
+use Rattle.can_node.specs.Table.Row.{integration, idle, other, own, other_begun, own_begun, last_eof_bit}
+use Rattle.can_node.specs.Table.Row.{last_eof_bit_overload, flag, flag_fault, flag_passive, delimiter}
+use Rattle.can_node.specs.Table.Row.{delimiter_overload, delimiter_fault, interframe_space, interframe_space_sof}
+use Rattle.can_node.specs.Table.Row.{suspend_transmission_sof, intermission_overload, intermission_overload_second}
 use Rattle.can_node.specs.Machine.Stages.{IsReceiving, frame_bits}
 use Rattle.can_node.proofs.Reception.StuffFaults.{stuff_fault}
 

@@ -1,5 +1,6 @@
 -- A frame under way at its receiver can go on to a piece.
-use Rattle.std.proofs.Common.{◌≡◌, ◌≢◌, inl, inr, Bool, true, false, List, [], ◌∷◌, ◌++◌, length, refl, ap, sym, subst, ◌∙◌, arith, append_assoc}
+use Rattle.std.proofs.Common.{◌≡◌, ◌≢◌, inl, inr, Bool, true, false, List, [], ◌∷◌, ◌++◌}
+use Rattle.std.proofs.Common.{length, refl, ap, sym, subst, ◌∙◌, arith, append_assoc}
 use Rattle.std.proofs.lemmas.Bool.{cases_eq}
 use Rattle.std.proofs.lemmas.List.{append-nil}
 use Rattle.can_frame.specs.Frame.{FrameValue}
@@ -24,9 +25,11 @@ use Rattle.can_node.specs.Cut.{IsUnfinished}
 use Rattle.can_node.specs.Machine.Stages.{IsReceiving, frame_bits}
 use Rattle.can_node.proofs.Reception.Acknowledging.{quiet}
 use Rattle.can_node.proofs.Bits.Nexts.{past_here}
-use Rattle.can_node.proofs.Reception.ReceiverBits.{fault_row, frame_push, receiving_next, receiving_push, receiving_within, not_lost_driven, not_lost_seen}
+use Rattle.can_node.proofs.Reception.ReceiverBits.{fault_row, frame_push, receiving_next, receiving_push}
+use Rattle.can_node.proofs.Reception.ReceiverBits.{receiving_within, not_lost_driven, not_lost_seen}
 use Rattle.can_node.proofs.Reception.Beginnings.{front_good}
-use Rattle.can_node.proofs.Bits.Slots.{right_or_wrong, due_right, not_due, within_not_due, dominant_wrong, delimiter_here, slot_good}
+use Rattle.can_node.proofs.Bits.Slots.{right_or_wrong, due_right, not_due, within_not_due}
+use Rattle.can_node.proofs.Bits.Slots.{dominant_wrong, delimiter_here, slot_good}
 
 -- what isn't finished with one bit more isn't finished before it
 before_more : (c : ContextValue) (place : Place) (bits : List Bit) (x : Bit) → IsUnfinished c place (bits ++ x ∷ []) →

@@ -4,7 +4,8 @@ use Rattle.std.proofs.Common.{◌≡◌, true, false, [], ◌∷◌, ◌++◌, m
 use Rattle.can_bits.specs.declared.level.Level.TheVariants.{Dominant, Recessive}
 use Rattle.can_bits.specs.declared.segment.Segment.TheVariants.{Id28To21, AckDelimiter}
 use Rattle.can_node.specs.declared.cause.Cause.{Cause}
-use Rattle.can_node.specs.declared.cause.Cause.TheVariants.{Bit as BitError, Stuff as StuffError, Form as FormError, Crc as CheckError, Ack as AckError}
+use Rattle.can_node.specs.declared.cause.Cause.TheVariants.{Bit as BitError, Stuff as StuffError}
+use Rattle.can_node.specs.declared.cause.Cause.TheVariants.{Form as FormError, Crc as CheckError, Ack as AckError}
 use Rattle.can_node.specs.declared.config.Config.{Config}
 use Rattle.can_node.specs.declared.request.Request.{Request}
 use Rattle.can_node.specs.Bits.{recessive_bit, dominant_bit, recessive_bits}
@@ -14,7 +15,8 @@ use Rattle.can_node.specs.declared.flag_kind.FlagKind.TheVariants.{ActiveError, 
 use Rattle.can_node.specs.declared.fault_site.FaultSite.{FaultSite}
 use Rattle.can_node.specs.Pieces.Place.{AtIntegration, AtIdle, AfterSof, AtFlag, AtDelimiter, AtInterframeSpace}
 use Rattle.can_node.specs.declared.fault_site.FaultSite.TheVariants.{InTransmission, InReception, InFlag, InDelimiter}
-use Rattle.can_node.specs.Pieces.Piece.{Integration, Fault, LastEofBit, Flag, Delimiter, InterframeSpace, InterframeSpaceWithSof, InterframeSpaceBroken, Transmission}
+use Rattle.can_node.specs.Pieces.Piece.{Integration, Fault, LastEofBit, Flag, Delimiter, InterframeSpace}
+use Rattle.can_node.specs.Pieces.Piece.{InterframeSpaceWithSof, InterframeSpaceBroken, Transmission}
 use Rattle.can_node.specs.Record.Entry.{OneBit, Send}
 use Rattle.can_node.specs.Counting.{at_bit}
 use Rattle.can_node.specs.Effects.{with_start, with_off, along, closed}

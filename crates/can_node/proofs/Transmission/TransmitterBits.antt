@@ -1,5 +1,6 @@
 -- A bit of a frame for its transmitter: there is a fault, or the frame goes on, or it is sent.
-use Rattle.std.proofs.Common.{◌≡◌, ◌+◌, ◌↔◌, IsTrue, ℕ, Bool, true, false, Option, Some, None, is_some, List, [], ◌∷◌, ◌++◌, length, refl, ap, sym, subst, ◌∙◌}
+use Rattle.std.proofs.Common.{◌≡◌, ◌+◌, ◌↔◌, IsTrue, ℕ, Bool, true, false, Option, Some, None}
+use Rattle.std.proofs.Common.{is_some, List, [], ◌∷◌, ◌++◌, length, refl, ap, sym, subst, ◌∙◌}
 use Rattle.std.proofs.lemmas.List.{append-nil, nil_from_length}
 use Rattle.can_bits.specs.declared.level.Level.{Level}
 use Rattle.can_bits.specs.declared.level.Level.TheVariants.{Dominant, Recessive}
@@ -30,7 +31,8 @@ use Rattle.can_node.proofs.Transmission.AfterLoss.{receives_on, lost_not_over}
 use Rattle.can_node.proofs.Bits.FramePlaces.{row_own, frame_more, frame_seen}
 use Rattle.can_node.proofs.Transmission.SentLines.{sent_part_once}
 use Rattle.can_node.proofs.Transmission.TransmitterFronts.{sends_all}
-use Rattle.can_node.proofs.Transmission.WellNext.{driven_push, IsOneMore, well_next, well_slot, as_much_left, well_readable, due_at_slot, slot_at_due, over_at_end, end_at_over}
+use Rattle.can_node.proofs.Transmission.WellNext.{driven_push, IsOneMore, well_next, well_slot, as_much_left}
+use Rattle.can_node.proofs.Transmission.WellNext.{well_readable, due_at_slot, slot_at_due, over_at_end, end_at_over}
 use Rattle.can_node.proofs.Transmission.WrongBits.{IsFine, cause_fails, none_fine}
 use Rattle.can_node.proofs.Transmission.WrongBits.IsFine.{loses, fits_slot, is_seen}
 

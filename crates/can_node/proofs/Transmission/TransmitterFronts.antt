@@ -1,5 +1,6 @@
 -- A transmitter within its frame: how it begins, what it drives next, and that it may go on to the end.
-use Rattle.std.proofs.Common.{◌≡◌, ◌≢◌, inl, inr, Bool, false, Option, Some, List, [], ◌∷◌, ◌++◌, length, refl, ap, sym, subst, ◌∙◌, arith, append_assoc}
+use Rattle.std.proofs.Common.{◌≡◌, ◌≢◌, inl, inr, Bool, false, Option, Some, List, [], ◌∷◌}
+use Rattle.std.proofs.Common.{◌++◌, length, refl, ap, sym, subst, ◌∙◌, arith, append_assoc}
 use Rattle.std.proofs.lemmas.List.{length-append, length-map, map-append}
 use Rattle.can_frame.specs.Frame.{IsFrame}
 use Rattle.can_bits.specs.declared.level.Level.{Level}

@@ -1,5 +1,6 @@
 -- What is wrong with a bit for a transmitter, or what makes it right.
-use Rattle.std.proofs.Common.{◌≡◌, ◌≢◌, ◌+◌, Bool, true, false, ℕ, Option, Some, None, is_some, List, length, refl, sym, subst}
+use Rattle.std.proofs.Common.{◌≡◌, ◌≢◌, ◌+◌, Bool, true, false, ℕ, Option, Some}
+use Rattle.std.proofs.Common.{None, is_some, List, length, refl, sym, subst}
 use Rattle.can_bits.specs.declared.level.Level.{Level}
 use Rattle.can_bits.specs.declared.level.Level.TheVariants.{Dominant, Recessive}
 use Rattle.can_bits.specs.Places.{place_code, is_early_stuff}

@@ -1,5 +1,7 @@
 -- While bus-off stands each eleven recessive levels of bus integration take one from TEC.
-use Rattle.std.proofs.Common.{◌≡◌, ◌+◌, ◌-◌, ◌<◌, ◌&&◌, ◌==◌, not, inl, inr, ℕ, zero, suc, Bool, true, false, if◌then◌else◌, fold, List, [], ◌∷◌, ◌++◌, map, replicate, length, refl, ap, sym, subst, ◌∙◌, arith, append_assoc}
+use Rattle.std.proofs.Common.{◌≡◌, ◌+◌, ◌-◌, ◌<◌, ◌&&◌, ◌==◌, not, inl, inr, ℕ, zero, suc}
+use Rattle.std.proofs.Common.{Bool, true, false, if◌then◌else◌, fold, List, [], ◌∷◌, ◌++◌, map}
+use Rattle.std.proofs.Common.{replicate, length, refl, ap, sym, subst, ◌∙◌, arith, append_assoc}
 use Rattle.std.proofs.lemmas.Bool.{cases_lt}
 use Rattle.std.proofs.lemmas.Bool.Decides.{nat_tests}
 use Rattle.std.proofs.lemmas.List.{append-nil, length-append, length-replicate}

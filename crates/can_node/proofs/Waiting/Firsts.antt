@@ -1,7 +1,9 @@
 -- Lists of levels that wait for equal ones: no front of them has the property yet, and with all that is waited for they
 -- are the first that has it.
-use Rattle.std.proofs.Common.{◌≡◌, ◌+◌, ◌<◌, ◌≤◌, ℕ, zero, suc, List, [], ◌∷◌, ◌++◌, replicate, length, refl, ap, sym, subst, ◌∙◌, arith, append_assoc, add-one, ◌⊎◌, inl, inr}
-use Rattle.std.proofs.lemmas.List.{append-nil, append_cancel_left, replicate_more, same_from_push, length-append, nil_from_length}
+use Rattle.std.proofs.Common.{◌≡◌, ◌+◌, ◌<◌, ◌≤◌, ℕ, zero, suc, List, [], ◌∷◌, ◌++◌, replicate, length}
+use Rattle.std.proofs.Common.{refl, ap, sym, subst, ◌∙◌, arith, append_assoc, add-one, ◌⊎◌, inl, inr}
+use Rattle.std.proofs.lemmas.List.{append-nil, append_cancel_left, replicate_more}
+use Rattle.std.proofs.lemmas.List.{same_from_push, length-append, nil_from_length}
 use Rattle.can_bits.specs.declared.level.Level.{Level}
 use Rattle.can_bits.proofs.Lists.{fronts}
 use Rattle.can_node.specs.Bits.{IsFirst}

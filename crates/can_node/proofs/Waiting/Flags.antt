@@ -1,5 +1,6 @@
 -- Error flags and overload flags: what a level makes of them.
-use Rattle.std.proofs.Common.{◌≡◌, ◌≢◌, ◌+◌, ◌-◌, ◌<◌, ◌≤◌, ℕ, zero, suc, Bool, true, false, nat_lt, if◌then◌else◌, List, [], ◌∷◌, ◌++◌, replicate, length, refl, ap, sym, subst, ◌∙◌, arith, append_assoc}
+use Rattle.std.proofs.Common.{◌≡◌, ◌≢◌, ◌+◌, ◌-◌, ◌<◌, ◌≤◌, ℕ, zero, suc, Bool, true, false, nat_lt, if◌then◌else◌}
+use Rattle.std.proofs.Common.{List, [], ◌∷◌, ◌++◌, replicate, length, refl, ap, sym, subst, ◌∙◌, arith, append_assoc}
 use Rattle.std.proofs.lemmas.Bool.Decides.{nat_tests}
 use Rattle.std.proofs.lemmas.List.{replicate-append-replicate, length-replicate, length-append}
 use Rattle.can_bits.specs.declared.level.Level.{Level}
@@ -23,7 +24,8 @@ use Rattle.can_node.specs.Cut.{IsUnfinished}
 use Rattle.can_node.specs.Machine.Stages.{IsInDominantFlag, IsInPassiveFlag, IsInFlag}
 use Rattle.can_node.specs.Machine.Turns.{IsTurn, one_more}
 use Rattle.can_node.proofs.Bits.DrivenAlike.{receives_on, forces_on}
-use Rattle.can_node.proofs.Waiting.Firsts.{no_front_yet, one_on, last_on, first_run, first_by_length, same_end, ends_as, before_end, end_as, push_run}
+use Rattle.can_node.proofs.Waiting.Firsts.{no_front_yet, one_on, last_on, first_run, first_by_length}
+use Rattle.can_node.proofs.Waiting.Firsts.{same_end, ends_as, before_end, end_as, push_run}
 
 -- ---- a dominant flag
 

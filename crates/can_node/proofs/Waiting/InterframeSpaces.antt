@@ -1,5 +1,6 @@
 -- Interframe space: what a level makes of it, and what the stage's count says of the bits.
-use Rattle.std.proofs.Common.{◌≡◌, ◌+◌, ◌-◌, ◌<◌, ◌≤◌, ℕ, zero, suc, IsTrue, List, [], ◌∷◌, ◌++◌, replicate, length, refl, ap, sym, subst, ◌∙◌, arith, inl, inr}
+use Rattle.std.proofs.Common.{◌≡◌, ◌+◌, ◌-◌, ◌<◌, ◌≤◌, ℕ, zero, suc, IsTrue, List, [], ◌∷◌, ◌++◌}
+use Rattle.std.proofs.Common.{replicate, length, refl, ap, sym, subst, ◌∙◌, arith, inl, inr}
 use Rattle.std.proofs.lemmas.Bool.{cases_Bool}
 use Rattle.std.proofs.lemmas.List.{replicate_more, replicate-append-replicate, length-replicate}
 use Rattle.can_bits.specs.declared.level.Level.{Level}
@@ -9,7 +10,8 @@ use Rattle.can_node.specs.Context.{ContextValue, owes_suspension, interframe_cou
 use Rattle.can_node.specs.Pieces.Place.{AtIdle, AfterSof, AtFlag, AtInterframeSpace}
 use Rattle.can_node.specs.Pieces.Piece.{InterframeSpace, InterframeSpaceWithSof, InterframeSpaceBroken}
 use Rattle.can_node.specs.Table.{Row}
-use Rattle.can_node.specs.Table.Row.{interframe_space, interframe_space_sof, suspend_transmission_sof, intermission_overload, intermission_overload_second}
+use Rattle.can_node.specs.Table.Row.{interframe_space, interframe_space_sof, suspend_transmission_sof}
+use Rattle.can_node.specs.Table.Row.{intermission_overload, intermission_overload_second}
 use Rattle.can_node.specs.Cut.{IsUnfinished}
 use Rattle.can_node.specs.Machine.Stages.{IsInInterframeSpace}
 use Rattle.can_node.proofs.Bits.DrivenAlike.{receives_on, receives_length}

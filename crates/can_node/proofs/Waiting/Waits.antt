@@ -1,6 +1,7 @@
 -- Lists that wait for a number of equal levels, and lists that end with the first of their kind: neither has a proper
 -- front of its kind.
-use Rattle.std.proofs.Common.{◌≡◌, ◌≢◌, ◌<◌, inl, inr, ℕ, zero, suc, List, [], ◌∷◌, ◌++◌, replicate, refl, ap, sym, ◌∙◌, arith}
+use Rattle.std.proofs.Common.{◌≡◌, ◌≢◌, ◌<◌, inl, inr, ℕ, zero, suc, List, []}
+use Rattle.std.proofs.Common.{◌∷◌, ◌++◌, replicate, refl, ap, sym, ◌∙◌, arith}
 use Rattle.std.proofs.lemmas.List.{append_assoc, append-nil}
 use Rattle.can_bits.specs.declared.level.Level.{Level}
 use Rattle.can_bits.proofs.Lists.{fronts, append-cancel}

@@ -1,4 +1,5 @@
-use Rattle.std.proofs.Common.{rules, ◌<◌, ◌+◌, ◌∷◌, ◌++◌, [], List, ℕ, Option, length, take, refl, sym, ap, subst, ◌∙◌, arith}
+use Rattle.std.proofs.Common.{rules, ◌<◌, ◌+◌, ◌∷◌, ◌++◌, [], List, ℕ, Option}
+use Rattle.std.proofs.Common.{length, take, refl, sym, ap, subst, ◌∙◌, arith}
 use Rattle.std.specs.List.{AllZip}
 use Rattle.std.proofs.lemmas.List.{take_more}
 use Rattle.std.proofs.lemmas.Option.{slice_get_read}

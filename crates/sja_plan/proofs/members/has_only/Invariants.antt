@@ -6,4 +6,5 @@ use Rattle.sja_plan.proofs.members.has_only.Given as goal
 
 -- the keys that are left decide
 abbrev pub invariant-loop-key : goal.invariant-loop-key
-invariant-loop-key l = list_all (is_allowed l.allowed) (keys_of l.table.entries) ≡ list_all (is_allowed l.allowed) l.key-iterator
+invariant-loop-key l =
+    list_all (is_allowed l.allowed) (keys_of l.table.entries) ≡ list_all (is_allowed l.allowed) l.key-iterator

@@ -11,5 +11,12 @@ returns-in-len4-clause-err c =
 
 pub returns-in_default-2-clause-err : goal.returns-in_default-2-clause-err
 returns-in_default-2-clause-err c =
-    let long = length-map c.args.words.now (λ (w : Bor Text). w.now) in
-    (refl, λ s. no_strike c.args.nodes _ s (λ e. omega (arith, long, e, c.in_default.len_at_least)) (λ e. omega (arith, long, e, c.in_default.len_below)))
+    let long = length-map c.args.words.now (λ (w : Bor Text). w.now) in (
+      refl,
+      λ s. no_strike c.args.nodes _ s (λ e. omega (arith, long, e, c.in_default.len_at_least)) (λ e. omega (
+        arith,
+        long,
+        e,
+        c.in_default.len_below,
+      )),
+    )

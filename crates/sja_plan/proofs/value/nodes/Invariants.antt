@@ -6,4 +6,5 @@ use Rattle.sja_plan.proofs.value.nodes.Given as goal
 
 -- what is found, and what the rest gives, are what the whole gives
 abbrev pub invariant-loop-value : goal.invariant-loop-value
-invariant-loop-value l = nodes_of (items_view l.values) ≡ joined (map (λ steps. map (λ s. s.now) steps.items) l.found.items) (nodes_of (items_view (drop l.value-index l.values)))
+invariant-loop-value l = nodes_of (items_view l.values) ≡ joined
+    (map (λ steps. map (λ s. s.now) steps.items) l.found.items) (nodes_of (items_view (drop l.value-index l.values)))

@@ -6,4 +6,5 @@ use Rattle.sja_plan.proofs.value.texts.Given as goal
 
 -- what is found, and what the rest gives, are what the whole gives
 abbrev pub invariant-loop-value : goal.invariant-loop-value
-invariant-loop-value l = texts_of (items_view l.values) ≡ joined (map (λ s. s.now) l.found.items) (texts_of (items_view (drop l.value-index l.values)))
+invariant-loop-value l = texts_of (items_view l.values)
+    ≡ joined (map (λ s. s.now) l.found.items) (texts_of (items_view (drop l.value-index l.values)))

@@ -5,4 +5,5 @@ use Rattle.sja_wave.proofs.cursors.bus_before.Given as goal
 
 -- what the nodes so far drive, and what the others drive, is on the bus
 abbrev pub invariant-loop-cursor : goal.invariant-loop-cursor
-invariant-loop-cursor l = wired (l.bus ∷ driven_before (drop l.cursor-index l.cursors)) ≡ wired (driven_before l.cursors)
+invariant-loop-cursor l =
+    wired (l.bus ∷ driven_before (drop l.cursor-index l.cursors)) ≡ wired (driven_before l.cursors)

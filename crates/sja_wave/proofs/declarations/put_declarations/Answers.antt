@@ -3,5 +3,6 @@ use Rattle.sja_wave.proofs.declarations.put_declarations.Goals as goal
 
 pub returns : goal.returns
 returns c =
-    six_texts _ _ _ _ _ _ _ _ _ _ _ _ _ c.in_ok-writeln.ensures.bytes c.in_ok-writeln-2.ensures.bytes c.in_ok-writeln-3.ensures.bytes
+    six_texts _ _ _ _ _ _ _ _ _ _ _ _ _ c.in_ok-writeln.ensures.bytes c.in_ok-writeln-2.ensures.bytes
+    c.in_ok-writeln-3.ensures.bytes
     c.in_ok-put_scopes.ensures c.in_ok-writeln-4.ensures.bytes c.in_ok-writeln-5.ensures.bytes

@@ -1,4 +1,5 @@
-use Rattle.std.proofs.Common.{◌≡◌, ◌<◌, ◌≤◌, ◌+◌, ◌++◌, ◌⊎◌, [], codes, false, true, map, length, Result, Ok, Err, Some, None, refl, sym, ap, ◌∙◌, arith, inl, inr}
+use Rattle.std.proofs.Common.{◌≡◌, ◌<◌, ◌≤◌, ◌+◌, ◌++◌, ◌⊎◌, [], codes, false, true, map, length}
+use Rattle.std.proofs.Common.{Result, Ok, Err, Some, None, refl, sym, ap, ◌∙◌, arith, inl, inr}
 use Rattle.std.specs.Prelude.{option_map}
 use Rattle.std.specs.Result.{is_err, IsOk, OnOk}
 use Rattle.std.proofs.lemmas.Bool.{eqb-true, eqb-false}
@@ -7,7 +8,8 @@ use Rattle.sja_words.specs.Words.{request_of, arbitrate}
 use Rattle.sja_words.proofs.Rows.{raw_values-rows}
 use Rattle.sja_words.proofs.Several.{nothing_asked, not_asked, arbitrate_asked}
 use Rattle.sja_words.proofs.found.arbitrate_task.Goals as goal
-use Rattle.sja_words.proofs.found.arbitrate_task.Goals.{then-is_empty-via-then-is_empty, then-is_empty-via-else-is_empty+then-is_err}
+use Rattle.sja_words.proofs.found.arbitrate_task.Goals.{then-is_empty-via-then-is_empty}
+use Rattle.sja_words.proofs.found.arbitrate_task.Goals.{then-is_empty-via-else-is_empty+then-is_err}
 
 -- what is no error is Ok
 ok_by : {T E : Type 0} (r : Result T E) → is_err r ≡ false → IsOk r
@@ -38,8 +40,10 @@ returns-then-is_empty c =
     let number : (length messages ≡ 0) ⊎ (8 < length messages) =
     elim c.then-is_empty.branch [
       | then-is_empty-via-then-is_empty w ↦ inl (count ∙ eqb-true _ _ (sym c.is_empty.ensures ∙ w.if-is_empty.true))
-      | then-is_empty-via-else-is_empty+then-is_err w ↦ let many = not_ok w.try_extend_from_slice.result (sym w.is_err.ensures.value ∙ w.if-is_err.true) in
-          let room : (length texts ≤ 8 → ⊥) = λ h. many (w.try_extend_from_slice.ensures.variant.1 (omega (arith, ap length c.new-messages.ensures))) in
+      | then-is_empty-via-else-is_empty+then-is_err w ↦ let many =
+          not_ok w.try_extend_from_slice.result (sym w.is_err.ensures.value ∙ w.if-is_err.true) in
+          let room : (length texts ≤ 8 → ⊥) =
+          λ h. many (w.try_extend_from_slice.ensures.variant.1 (omega (arith, ap length c.new-messages.ensures))) in
           inr (omega arith)
     ] in
     not_asked _ messages (sym all ∙ rw some refl) number
@@ -53,8 +57,10 @@ returns c =
     let count : length messages ≡ length texts = length-map texts (λ m. m.now) in
     let extend = c.try_extend_from_slice in
     let fine = sym c.is_err.ensures.value ∙ c.if-is_err.false in
-    let held : extend.new.self.items ≡ [] ++ texts = on_ok extend.result _ fine extend.ensures.ok ∙ ap (λ l. l ++ texts) c.new-messages.ensures in
-    let few : length c.new-messages.result.items + length texts ≤ 8 = extend.ensures.variant.0 (ok_by extend.result fine) in
+    let held : extend.new.self.items ≡ [] ++ texts =
+    on_ok extend.result _ fine extend.ensures.ok ∙ ap (λ l. l ++ texts) c.new-messages.ensures in
+    let few : length c.new-messages.result.items + length texts ≤ 8 =
+    extend.ensures.variant.0 (ok_by extend.result fine) in
     let any : length texts ≡ 0 → ⊥ = eqb-false _ _ (sym c.is_empty.ensures ∙ c.if-is_empty.false) in
     ap (λ l. Some (arbitrate (map (λ m. m.now) l))) held
     ∙ arbitrate_asked _ messages (sym all ∙ rw some refl) (omega arith) (omega arith)

@@ -8,5 +8,6 @@ use Rattle.sja_words.proofs.found.task_of.Goals as goal
 pub returns : goal.returns
 returns c =
     let found = c.in_ok-name.ensures in
-    let rows = found_rows (out-ArgMatches c.args.matches.now).subcommand c.in_ok-name.name.now (rows_of (found_of c.in_ok-name.arguments.now)) found.name found.rows in
+    let rows = found_rows (out-ArgMatches c.args.matches.now).subcommand c.in_ok-name.name.now
+    (rows_of (found_of c.in_ok-name.arguments.now)) found.name found.rows in
     c.task_by.ensures ∙ sym (ap request_in rows)

@@ -16,14 +16,16 @@ returns-in-Some-clause-ok g c =
 
 pub returns-in-Ok-clause-refused : goal.returns-in-Ok-clause-refused
 returns-in-Ok-clause-refused g c = λ r parses.
-    let asked = asked_at _ (map g.S.AsStr.text c.args.words.now) c.in-Ok.matches c.in_ok-command.ensures c.in-Ok.ensures.ok.2 in
+    let asked =
+    asked_at _ (map g.S.AsStr.text c.args.words.now) c.in-Ok.matches c.in_ok-command.ensures c.in-Ok.ensures.ok.2 in
     let nothing = ap (option_map request_of) c.in-None.is in
     let bad : None ≡ Some r = sym nothing ∙ c.task_of.ensures ∙ asked ∙ parses.asks in
     cc
 
 pub returns-clause-refused : goal.returns-clause-refused
 returns-clause-refused g c = λ r parses.
-    let memory = refused_at _ (map g.S.AsStr.text c.args.words.now) c.in-Err.error c.in_ok-command.ensures c.in-Err.ensures.kinds parses.taken in
+    let memory = refused_at _ (map g.S.AsStr.text c.args.words.now) c.in-Err.error c.in_ok-command.ensures
+    c.in-Err.ensures.kinds parses.taken in
     let is : c.kind.result ≡ kind.OutOfMemory = c.kind.ensures ∙ memory in
     let bad : true ≡ false = sym (rw is at c.eq.ensures) ∙ c.if-eq.false in
     cc

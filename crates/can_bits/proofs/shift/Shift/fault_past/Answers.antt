@@ -4,7 +4,8 @@ use Rattle.can_bits.specs.Reading.{SaysWhetherRight}
 use Rattle.can_bits.specs.Machine.FrameParts.{IsPast}
 use Rattle.can_bits.proofs.Values.{recessive_by, dominant_by}
 use Rattle.can_bits.proofs.Reader.Past.{past_slot, past_form, past_recessive, past_wrong, past_trailing}
-use Rattle.can_bits.proofs.shift.Shift.fault_past.Goals.{else-n-eq2-via-then-n-eq2+else-not-check_is_right, else-n-eq2-via-else-n-eq2}
+use Rattle.can_bits.proofs.shift.Shift.fault_past.Goals.{else-n-eq2-via-then-n-eq2+else-not-check_is_right}
+use Rattle.can_bits.proofs.shift.Shift.fault_past.Goals.{else-n-eq2-via-else-n-eq2}
 use Rattle.can_bits.proofs.shift.Shift.fault_past.Goals as goal
 
 pub returns-then-n-eq1-clause-goes_on : goal.returns-then-n-eq1-clause-goes_on

@@ -5,7 +5,8 @@ use Rattle.can_bits.specs.Reading.{SaysWhetherRight}
 use Rattle.can_bits.proofs.Values.{recessive_by, dominant_by}
 use Rattle.can_bits.proofs.Whole.Faultless.{faultless_next, tail_left}
 use Rattle.can_bits.proofs.Whole.FirstFault.{wrong_check_here, no_ack_here, right_check_here}
-use Rattle.can_bits.proofs.shift.Shift.judge_answered.Goals.{else-is_past-2-via-then-is_past-2+else-is_recessive, else-is_past-2-via-else-is_past-2}
+use Rattle.can_bits.proofs.shift.Shift.judge_answered.Goals.{else-is_past-2-via-then-is_past-2+else-is_recessive}
+use Rattle.can_bits.proofs.shift.Shift.judge_answered.Goals.{else-is_past-2-via-else-is_past-2}
 use Rattle.can_bits.proofs.shift.Shift.judge_answered.Goals as goal
 
 pub returns-then-check_is_right-clause-good : goal.returns-then-check_is_right-clause-good

@@ -1,6 +1,7 @@
 use Rattle.std.proofs.Common.{sym, refl}
 use Rattle.can_bits.proofs.PlaceLemmas.{late_no_code}
-use Rattle.can_bits.proofs.Reader.Places.{reads_inside, reads_past, inside_count, inside_full, inside_not_full, past_late}
+use Rattle.can_bits.proofs.Reader.Places.{reads_inside, reads_past, inside_count}
+use Rattle.can_bits.proofs.Reader.Places.{inside_full, inside_not_full, past_late}
 use Rattle.can_bits.proofs.shift.Shift.place_code.Goals as goal
 
 pub returns-then-self-eq-RUN : goal.returns-then-self-eq-RUN

@@ -1,7 +1,8 @@
 use Rattle.std.proofs.Common.{sym, ◌∙◌}
 use Rattle.can_node.specs.Machine.Standing.{context_of}
 use Rattle.can_node.proofs.Machine.Ats.{at_integration, at_flag, at_delimiter, at_interframe_space}
-use Rattle.can_node.proofs.Machine.QuietPlaces.{integrates_quietly, flags_quietly, delimits_quietly, interframes_quietly}
+use Rattle.can_node.proofs.Machine.QuietPlaces.{integrates_quietly, flags_quietly}
+use Rattle.can_node.proofs.Machine.QuietPlaces.{delimits_quietly, interframes_quietly}
 use Rattle.can_node.proofs.node.Node.quiet_stage.Goals as goal
 
 -- src/quiet.rt

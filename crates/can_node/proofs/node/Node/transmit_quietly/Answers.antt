@@ -1,7 +1,8 @@
 use Rattle.std.proofs.Common.{◌≡◌, true, refl}
 use Rattle.can_node.proofs.Machine.Quiet.{quietly}
 use Rattle.can_node.proofs.Machine.QuietTransmitter.{transmits_right}
-use Rattle.can_node.proofs.node.Node.transmit_quietly.Goals.{else-ack_is_due-via-then-ack_is_due+else-not-self, else-ack_is_due-via-else-ack_is_due}
+use Rattle.can_node.proofs.node.Node.transmit_quietly.Goals.{else-ack_is_due-via-then-ack_is_due+else-not-self}
+use Rattle.can_node.proofs.node.Node.transmit_quietly.Goals.{else-ack_is_due-via-else-ack_is_due}
 use Rattle.can_node.proofs.node.Node.transmit_quietly.Goals as goal
 
 -- src/quiet.rt

@@ -7,7 +7,8 @@ use Rattle.sja_wave.proofs.cursor.Cursor.advance.Given as goal
 abbrev pub invariant-loop-entry : goal.invariant-loop-entry
 invariant-loop-entry l = record {
   showed : l.self.showed ≡ l.fn.self.shows;
-  shows : all_entered l.self.shows (through 1 l.self.entries) ≡ all_entered l.fn.self.shows (through 1 l.fn.self.entries);
+  shows : all_entered l.self.shows (through 1 l.self.entries)
+      ≡ all_entered l.fn.self.shows (through 1 l.fn.self.entries);
   left : past 1 l.self.entries ≡ past 1 l.fn.self.entries;
 }
 
