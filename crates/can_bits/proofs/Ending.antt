@@ -12,7 +12,7 @@ use Rattle.can_bits.proofs.Lists.{reverse-cons, reverse-push, fronts, last_of, a
 use Rattle.can_bits.proofs.Runs.{run, IsShort}
 use Rattle.can_bits.proofs.Parts.{plain, IsPart, part_to, spelt, beyond, part_once, unstuffed-later}
 use Rattle.can_bits.proofs.Going.{IsInside}
-use Rattle.can_bits.proofs.Whole.Decoding.{Spells-unique}
+use Rattle.can_bits.proofs.Whole.OneSpelling.{Spells-unique}
 
 -- one list of levels has one stuffed part at its beginning
 pub same_part : {f g : FrameValue} {b c d e s t : List Level} (x y : List Level) → StuffedPart f b c s →

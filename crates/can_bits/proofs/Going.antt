@@ -16,7 +16,7 @@ use Rattle.can_bits.proofs.Runs.{run, run-other, run_one_more, IsShort}
 use Rattle.can_bits.proofs.Stuffs.{unstuffed, unstuffed-kept, unstuffed-dropped}
 use Rattle.can_bits.proofs.Stuffs.{opposite-other, IsStuffed, stuffed_from}
 use Rattle.can_bits.proofs.Parts.{plain, part_of}
-use Rattle.can_bits.proofs.FieldLemmas.{says_count-padded, level_at-padded}
+use Rattle.can_bits.proofs.SaidCounts.{says_count-padded, level_at-padded}
 use Rattle.can_bits.proofs.Whole.Decoding.{decoded}
 
 -- levels that may follow: without their stuff bits they are these

@@ -8,6 +8,7 @@ pub mod Products
 pub mod Checks
 -- What a body says of itself.
 pub mod FieldLemmas
+pub mod SaidCounts
 -- Bit stuffing, and where a stuffed part ends.
 pub mod Stuffs
 pub mod Parts

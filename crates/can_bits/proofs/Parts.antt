@@ -11,7 +11,7 @@ use Rattle.can_bits.specs.Line.{StuffedPart}
 use Rattle.can_bits.proofs.Lists.{reverse-cons, fronts}
 use Rattle.can_bits.proofs.Runs.{run, IsShort}
 use Rattle.can_bits.proofs.Stuffs.{unstuffed, unstuffed-kept, unstuffed-dropped, stuffed_from, stuffed_to}
-use Rattle.can_bits.proofs.FieldLemmas.{whole_of, says_count-more, whole_has_fields}
+use Rattle.can_bits.proofs.SaidCounts.{whole_of, says_count-more, whole_has_fields}
 
 -- the levels without their stuff bits, oldest first
 abbrev pub plain : List Level → List Level

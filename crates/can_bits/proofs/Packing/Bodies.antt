@@ -14,7 +14,7 @@ use Rattle.can_bits.specs.Fields.{dlc_place}
 use Rattle.can_bits.specs.Packing.{Packs}
 use Rattle.can_bits.proofs.Values.{length-bits, value-append, value-append-bits}
 use Rattle.can_bits.proofs.Values.{value-bits, value-lt, bits-value, bits-split}
-use Rattle.can_bits.proofs.FieldLemmas.{length_head}
+use Rattle.can_bits.proofs.SaidCounts.{length_head}
 use Rattle.can_bits.proofs.Whole.Bytes.{length_bytes}
 use Rattle.can_bits.proofs.Packing.Frames.{count_most}
 

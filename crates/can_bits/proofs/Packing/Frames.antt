@@ -13,8 +13,9 @@ use Rattle.can_bits.specs.Spelling.{Spells}
 use Rattle.can_bits.proofs.Lists.{append-split, length_range}
 use Rattle.can_bits.proofs.Values.{bits-value, value-lt}
 use Rattle.can_bits.proofs.Whole.Bytes.{Writes}
-use Rattle.can_bits.proofs.FieldLemmas.{whole_of}
-use Rattle.can_bits.proofs.Whole.Decoding.{said_frame, spelled, Spells-unique}
+use Rattle.can_bits.proofs.SaidCounts.{whole_of}
+use Rattle.can_bits.proofs.Whole.Decoding.{said_frame, spelled}
+use Rattle.can_bits.proofs.Whole.OneSpelling.{Spells-unique}
 
 -- two parts of a list that meet
 range_join : {A : Type 0} (w : List A) (a b c : ℕ) → a ≤ b → b ≤ c → c ≤ length w →

@@ -14,7 +14,7 @@ use Rattle.can_bits.proofs.Stuffs.{Leads, run-leads, lead-same, lead-other}
 use Rattle.can_bits.proofs.Parts.{plain}
 use Rattle.can_bits.proofs.Going.{IsInside}
 use Rattle.can_bits.proofs.Ending.{plain-first}
-use Rattle.can_bits.proofs.FieldLemmas.{says_count-next}
+use Rattle.can_bits.proofs.SaidCounts.{says_count-next}
 
 -- after some levels: their stuffed part so far without its stuff bits, and the last run counted
 pub record Holds (past w : List Level) (last : Level) (n : ℕ) : Type 0 where

@@ -12,7 +12,7 @@ use Rattle.can_bits.specs.Places.{is_full, plain_count, place_code}
 use Rattle.can_bits.specs.Reading.{IsPastPart, IsOpen, BeginsDominant}
 use Rattle.can_bits.specs.Stuffing.{HasNoSixEqual}
 use Rattle.can_bits.proofs.Ending.{part_begins}
-use Rattle.can_bits.proofs.FieldLemmas.{length_body, dlc_place-least}
+use Rattle.can_bits.proofs.SaidCounts.{length_body, dlc_place-least}
 use Rattle.can_bits.proofs.LineLaws.{can_go_on}
 use Rattle.can_bits.proofs.Lists.{fronts, append-cancel, reverse-cons, reverse-push}
 use Rattle.can_bits.proofs.Parts.{unstuffed-later}

@@ -4,7 +4,7 @@ use Rattle.std.proofs.lemmas.List.Elements.{All-nil, All-cons, All-append}
 use Rattle.can_bits.specs.Digits.{value}
 use Rattle.can_bits.specs.Data.{data_place}
 use Rattle.can_bits.proofs.Whole.Bytes.{Writes}
-use Rattle.can_bits.proofs.FieldLemmas.{whole_has_fields}
+use Rattle.can_bits.proofs.SaidCounts.{whole_has_fields}
 use Rattle.can_bits.proofs.Packing.Frames.{first_levels, no_bytes, byte_more}
 use Rattle.can_bits.proofs.gathered.Gathered.data_bytes.Goals as goal
 

@@ -3,7 +3,7 @@ use Rattle.can_frame.specs.Frame.{data_count, id_limit}
 use Rattle.can_frame.specs.declared.frame_fault.FrameFault.{FrameFault}
 use Rattle.can_frame.specs.declared.frame_fault.FrameFault.TheVariants.{IdRange, DlcRange, DataLength}
 use Rattle.can_bits.specs.Fields.{says_rtr}
-use Rattle.can_bits.proofs.FieldLemmas.{whole_of, whole_has_fields}
+use Rattle.can_bits.proofs.SaidCounts.{whole_of, whole_has_fields}
 use Rattle.can_bits.proofs.Whole.Decoding.{said_frame, says_id-lt}
 use Rattle.can_bits.proofs.Packing.Frames.{said_is}
 use Rattle.can_bits.proofs.gathered.Gathered.frame.Goals as goal

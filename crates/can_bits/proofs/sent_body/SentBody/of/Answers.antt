@@ -10,7 +10,7 @@ use Rattle.can_bits.specs.Body.{head_bits}
 use Rattle.can_bits.specs.Packing.{Packs}
 use Rattle.can_bits.proofs.Values.{length-bits}
 use Rattle.can_bits.proofs.Whole.Bytes.{length_bytes}
-use Rattle.can_bits.proofs.FieldLemmas.{length_head}
+use Rattle.can_bits.proofs.SaidCounts.{length_head}
 use Rattle.can_bits.proofs.Packing.Frames.{count_most}
 use Rattle.can_bits.proofs.Packing.Bodies.{sent_more, dlc_place-most}
 use Rattle.can_bits.proofs.sent_body.SentBody.of.Goals as goal
