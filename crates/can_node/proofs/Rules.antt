@@ -1,3 +1,5 @@
 -- facts computed from the definitions, at rules that are easily got wrong
-pub mod Judged
+pub mod Given
+pub mod Counters
+pub mod States
 pub mod JudgedEvents

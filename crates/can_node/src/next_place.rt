@@ -53,7 +53,7 @@ impl Node {
     }
 
     /// Stands at the beginning of the place after a piece.
-    #[tactic(auto, using(crate::proofs::Waiting::Flags::flags_from, crate::proofs::Waiting::Delimiters::delimits_from, crate::proofs::Waiting::InterframeSpaces::interframes_from))]
+    #[tactic(auto, using(crate::proofs::Waiting::Beginnings::beginnings))]
     fn begin_place(&mut self, ending: &Ending)
         ensures kept { self.new ≡ record self.old { stage = self.new.stage; shift = self.new.shift } }
         ensures at { (before : ContextValue) → HasBody self.old.context self.old.body

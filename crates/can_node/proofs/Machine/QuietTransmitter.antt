@@ -34,7 +34,8 @@ use Rattle.can_node.proofs.Machine.FrameDrives.{transmitting_drives}
 use Rattle.can_node.proofs.Machine.FrameTurns.{frame_at, lost_at, transmit_turn, transmitting_by}
 use Rattle.can_node.proofs.Machine.QuietReceiver.{inside_not_due}
 use Rattle.can_node.proofs.Machine.Quiet.{GoesQuietly, IsQuiet}
-use Rattle.can_node.proofs.Transmission.TransmitterBits.{IsOwnBit, transmits_more}
+use Rattle.can_node.proofs.Transmission.OwnBits.{IsOwnBit}
+use Rattle.can_node.proofs.Transmission.TransmitterBits.{transmits_more}
 
 -- with a level that is seen as driven nothing is lost
 pub none_lost : (held : Option Request) (l : List Level) (x : Level) → lost_by held l x x ≡ None

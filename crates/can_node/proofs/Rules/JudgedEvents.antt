@@ -13,7 +13,7 @@ use Rattle.can_node.specs.declared.fault_site.FaultSite.TheVariants.{InTransmiss
 use Rattle.can_node.specs.Pieces.Piece.{Integration, Fault, Transmission}
 use Rattle.can_node.specs.Effects.{with_send, with_abort, with_stop}
 use Rattle.can_node.specs.Events.{events_of}
-use Rattle.can_node.proofs.Rules.Judged.{asked, once, sender, passive_sender, gone, failed}
+use Rattle.can_node.proofs.Rules.Given.{asked, once, sender, passive_sender, gone, failed}
 use Rattle.can_node.specs.declared.bit_events.BitEvents.{BitEvents}
 use Rattle.can_node.specs.Events.Step.{Within, Finishes}
 

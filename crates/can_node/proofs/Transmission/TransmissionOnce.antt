@@ -1,158 +1,26 @@
 -- Of two transmitter's pieces that begin alike neither is a proper front of the other, and equal lists are the same
 -- piece.
-use Rattle.std.proofs.Common.{◌≡◌, ◌+◌, ◌<◌, inl, inr, ℕ, Bool, true, false, Some, List, []}
-use Rattle.std.proofs.Common.{◌∷◌, ◌++◌, length, refl, ap, sym, subst, ◌∙◌, arith, append_assoc}
+use Rattle.std.proofs.Common.{◌≡◌, ◌+◌, ◌<◌, Bool, List, [], ◌∷◌, ◌++◌, length}
+use Rattle.std.proofs.Common.{refl, ap, sym, subst, ◌∙◌, arith, append_assoc}
 use Rattle.std.proofs.lemmas.List.{append-nil, length-append, length-map, map-append}
 use Rattle.can_bits.specs.declared.level.Level.{Level}
 use Rattle.can_bits.specs.declared.level.Level.TheVariants.{Dominant, Recessive}
-use Rattle.can_bits.specs.declared.segment.Segment.{Segment}
 use Rattle.can_bits.specs.Line.{tail}
-use Rattle.can_bits.specs.Places.{place_code, is_early_stuff}
-use Rattle.can_bits.specs.Segments.{IsNext}
-use Rattle.can_bits.proofs.Lists.{fronts, append-cancel, append-split}
-use Rattle.can_bits.proofs.PlaceLemmas.{code_early, stuff_early}
-use Rattle.can_node.specs.declared.cause.Cause.{Cause}
-use Rattle.can_node.specs.declared.cause.Cause.TheVariants.{Bit as BitError, Stuff as StuffError, Ack as AckError}
+use Rattle.can_bits.proofs.Lists.{append-split}
+use Rattle.can_bits.proofs.PlaceLemmas.{code_early}
 use Rattle.can_node.specs.declared.request.Request.{Request}
 use Rattle.can_node.specs.Bits.{Bit, recessive_bit, seen_of, driven_of}
 use Rattle.can_node.specs.Pieces.{Place, Piece}
-use Rattle.can_node.specs.Pieces.Place.{AtFlag, AtInterframeSpace}
-use Rattle.can_node.specs.declared.fault_site.FaultSite.TheVariants.{InTransmission}
-use Rattle.can_node.specs.Pieces.Piece.{Transmission, Fault}
-use Rattle.can_node.specs.Frames.{Receives, SentPart, GoesWell, Fails, Transmits}
-use Rattle.can_node.specs.Frames.Fails.{no_ack, stuff_bit, unseen, overdriven}
+use Rattle.can_node.specs.Pieces.Place.{AtInterframeSpace}
+use Rattle.can_node.specs.Pieces.Piece.{Transmission}
+use Rattle.can_node.specs.Frames.{SentPart, GoesWell, Fails, Transmits}
+use Rattle.can_node.specs.Frames.Fails.{stuff_bit}
 use Rattle.can_node.specs.Frames.Transmits.{sending, failed, lost}
 use Rattle.can_node.proofs.Transmission.SentLines.{sent_part_once}
-use Rattle.can_node.proofs.Transmission.SentBits.{well_front, lost_not_well, fails_not_well}
-
--- of two receiver's pieces that begin alike neither is a proper front of the other, and equal lists are the same piece
-abbrev pub ReceivesOnce : Type 0
-ReceivesOnce = (listen : Bool) (l : List Level) (a b x y : List Bit) (p q : Piece) (n m : Place) →
-    Receives listen l a p n → Receives listen l b q m → a ++ x ≡ b ++ y → (a ≡ b) × (p ≡ q) × (n ≡ m)
-
--- the next level of a line belongs to one segment
-abbrev pub NextOnce : Type 0
-NextOnce = (l : List Level) (s t : Segment) (u v : Bool) → IsNext l s u → IsNext l t v → (s ≡ t) × (u ≡ v)
-
--- ---- the first bit that doesn't go well
-
--- all goes well before this bit, and with it no more
-record IsBad (self_test : Bool) (part : List Level) (before : List Bit) (bad : Bit) : Type 0 where
-  well : GoesWell self_test part before
-  wrong : GoesWell self_test part (before ++ bad ∷ []) → ⊥
-  within : length before < length part + 10
-
--- what goes well and begins as what doesn't is no longer than what goes well of it
-no_further : (self_test : Bool) (part : List Level) (before c other more rest : List Bit) (bad : Bit) →
-    IsBad self_test part before bad →
-    GoesWell self_test part other → other ≡ before ++ c → before ++ bad ∷ more ≡ other ++ rest → c ≡ []
-no_further self_test part before [] other more rest bad h well longer e = refl
-no_further self_test part before (u ∷ c) other more rest bad h well longer e =
-    let all : before ++ bad ∷ more ≡ before ++ (u ∷ (c ++ rest)) =
-    e ∙ ap (λ l. l ++ rest) longer ∙ append_assoc before (u ∷ c) rest in
-    let after : bad ∷ more ≡ u ∷ (c ++ rest) = append-cancel before (bad ∷ more) (u ∷ (c ++ rest)) all in
-    let same : u ≡ bad = cc in
-    let joined : other ≡ (before ++ bad ∷ []) ++ c =
-    longer ∙ ap (λ v. before ++ v ∷ c) same ∙ sym (append_assoc before (bad ∷ []) c) in
-    let P : List Bit → Type 0 = λ l. GoesWell self_test part l in
-    absurd (h.wrong (well_front self_test part (before ++ bad ∷ []) c (subst P joined well)))
-
--- a list has one such bit
-bad_once : (self_test : Bool) (part : List Level) (before other more rest : List Bit) (bad worse : Bit) →
-    IsBad self_test part before bad →
-    IsBad self_test part other worse → before ++ bad ∷ more ≡ other ++ worse ∷ rest →
-    (before ≡ other) × (bad ≡ worse) × (more ≡ rest)
-bad_once self_test part before other more rest bad worse h k e =
-    let same : before ≡ other = elim (fronts before other (bad ∷ more) (worse ∷ rest) e) [
-      | inl longer ↦
-          let none = no_further self_test part before longer.0 other more (worse ∷ rest) bad h k.well longer.1 e in
-          sym (longer.1 ∙ ap (λ c. before ++ c) none ∙ append-nil before)
-      | inr longer ↦
-          let none = no_further self_test part other longer.0 before rest (bad ∷ more) worse k h.well longer.1
-          (sym e) in
-          longer.1 ∙ ap (λ c. other ++ c) none ∙ append-nil other
-    ] in
-    let after : bad ∷ more ≡ worse ∷ rest =
-    append-cancel before (bad ∷ more) (worse ∷ rest) (e ∙ ap (λ l. l ++ worse ∷ rest) (sym same)) in
-    (same, cc, cc)
-
--- a whole line that goes well has none
-none_in_whole : (self_test : Bool) (part : List Level) (bits before more x : List Bit) (bad : Bit) →
-    GoesWell self_test part bits →
-    length bits ≡ length part + 10 → IsBad self_test part before bad → before ++ bad ∷ more ≡ bits ++ x → ⊥
-none_in_whole self_test part bits before more x bad well count h e =
-    let within = h.within in
-    elim (fronts before bits (bad ∷ more) x e) [
-      | inl longer ↦
-          let none = no_further self_test part before longer.0 bits more x bad h well longer.1 e in
-          let same : bits ≡ before = longer.1 ∙ ap (λ c. before ++ c) none ∙ append-nil before in
-          omega (arith, ap length same)
-      | inr shorter ↦ omega (arith, ap length shorter.1, length-append bits shorter.0)
-    ]
-
--- ---- what there is at that bit
-
--- the piece that has this bit and these after it: a fault, or the piece of a node that lost arbitration
-data Ends (self_test : Bool) (request : Request) (part : List Level) (before : List Bit) (bad : Bit) : List Bit →
-    Piece → Place → Type 0 where
-  fault : {cause : Cause} {segment : Segment} (stuffed : Bool) →
-      Fails self_test request.frame.ext part before bad cause →
-      IsNext (seen_of before) segment stuffed →
-      Ends self_test request part before bad [] (Fault InTransmission cause segment) AtFlag
-  loss : {more : List Bit} {piece : Piece} {next : Place} (code : ℕ) → bad ≡ recessive_bit Dominant →
-      place_code request.frame.ext (seen_of before) ≡ Some code →
-      Receives false (seen_of before ++ Dominant ∷ []) more piece next →
-      Ends self_test request part before bad more piece next
-
--- the cause of a fault, by what is driven and what is seen
-abbrev cause_of : Bool → Level → Level → Cause
-cause_of early Dominant seen = BitError
-cause_of early Recessive Recessive = AckError
-cause_of true Recessive Dominant = StuffError
-cause_of false Recessive Dominant = BitError
-
--- a fault has that cause
-fails-cause : {self_test ext : Bool} {part : List Level} {before : List Bit} {bad : Bit} {cause : Cause} →
-    Fails self_test ext part before bad cause →
-    cause ≡ cause_of (is_early_stuff ext (seen_of before)) bad.driven bad.seen
-fails-cause (no_ack strict site) = refl
-fails-cause (stuff_bit early) = rw early refl
-fails-cause unseen = refl
-fails-cause (overdriven other late none) = rw late refl
-
--- a fault is no loss of arbitration
-fault_no_loss : {self_test ext : Bool} {part : List Level} {before : List Bit} {bad : Bit} {cause : Cause} (code : ℕ) →
-    Fails self_test ext part before bad cause → bad ≡ recessive_bit Dominant →
-    place_code ext (seen_of before) ≡ Some code → ⊥
-fault_no_loss code (no_ack strict site) e some = let wrong : Recessive ≡ Dominant = ap (λ (b : Bit). b.seen) e in cc
-fault_no_loss {ext = ext} {before = before} code (stuff_bit early) e some =
-    let one = stuff_early ext (seen_of before) early in
-    let other = code_early ext (seen_of before) code some in
-    let wrong : true ≡ false = sym one.0 ∙ other.0 in
-    cc
-fault_no_loss code unseen e some = let wrong : Recessive ≡ Dominant = ap (λ (b : Bit). b.seen) e in cc
-fault_no_loss code (overdriven other late none) e some = let wrong = sym none ∙ some in cc
-
--- of two pieces with the same first bit that doesn't go well neither is a proper front of the other
-ends_once : ReceivesOnce → NextOnce →
-    (self_test : Bool) (request : Request) (part : List Level) (before : List Bit) (bad : Bit)
-    (a b x y : List Bit) (p q : Piece) (n m : Place) →
-    Ends self_test request part before bad a p n → Ends self_test request part before bad b q m → a ++ x ≡ b ++ y →
-    (a ≡ b) × (p ≡ q) × (n ≡ m)
-ends_once receives next self_test request part before bad a b x y p q n m (fault {segment = s} u h k)
-    (fault {segment = t} v i j) e =
-    let causes = fails-cause h ∙ sym (fails-cause i) in
-    let segments = next (seen_of before) s t u v k j in
-    let same = segments.0 in
-    (refl, cc, refl)
-ends_once receives next self_test request part before bad a b x y p q n m (fault u h k) (loss code e some i) w =
-    absurd (fault_no_loss code h e some)
-ends_once receives next self_test request part before bad a b x y p q n m (loss code e some i) (fault u h k) w =
-    absurd (fault_no_loss code h e some)
-ends_once receives next self_test request part before bad a b x y p q n m (loss code e some h) (loss other f more k) w =
-    receives false (seen_of before ++ Dominant ∷ []) a b x y p q n m h k w
-
--- ---- pieces
+use Rattle.can_node.proofs.Transmission.SentBits.{lost_not_well, fails_not_well}
+use Rattle.can_node.proofs.Transmission.BadBits.{IsBad, bad_once, none_in_whole}
+use Rattle.can_node.proofs.Transmission.PieceEnds.{ReceivesOnce, NextOnce, Ends, ends_once}
+use Rattle.can_node.proofs.Transmission.PieceEnds.Ends.{fault, loss}
 
 -- a transmitter's piece, by the first bit that doesn't go well
 data Way (self_test : Bool) (request : Request) (part : List Level) : List Bit → Piece → Place → Type 0 where

@@ -1,103 +1,36 @@
 -- A bit of a frame for its transmitter: there is a fault, or the frame goes on, or it is sent.
-use Rattle.std.proofs.Common.{◌≡◌, ◌+◌, ◌↔◌, IsTrue, ℕ, Bool, true, false, Option, Some, None}
-use Rattle.std.proofs.Common.{is_some, List, [], ◌∷◌, ◌++◌, length, refl, ap, sym, subst, ◌∙◌}
+use Rattle.std.proofs.Common.{◌≡◌, ◌+◌, ◌↔◌, IsTrue, ℕ, Bool, true, false, Some, None}
+use Rattle.std.proofs.Common.{List, [], ◌∷◌, ◌++◌, length, refl, ap, sym, subst, ◌∙◌}
 use Rattle.std.proofs.lemmas.List.{append-nil, nil_from_length}
 use Rattle.can_bits.specs.declared.level.Level.{Level}
 use Rattle.can_bits.specs.declared.level.Level.TheVariants.{Dominant, Recessive}
 use Rattle.can_bits.specs.declared.segment.Segment.{Segment}
 use Rattle.can_bits.specs.Segments.{IsNext}
-use Rattle.can_bits.specs.Acknowledging.{IsAckDue}
 use Rattle.can_bits.specs.Line.{tail}
-use Rattle.can_bits.specs.Places.{place_code, is_early_stuff}
+use Rattle.can_bits.specs.Places.{place_code}
 use Rattle.can_bits.specs.Streaming.{IsReadable, IsOver}
 use Rattle.can_node.specs.declared.cause.Cause.{Cause}
 use Rattle.can_node.specs.declared.fault_site.FaultSite.TheVariants.{InTransmission}
 use Rattle.can_node.specs.declared.request.Request.{Request}
 use Rattle.can_node.specs.Bits.{Bit, seen_of, driven_of}
 use Rattle.can_node.specs.Context.{ContextValue}
-use Rattle.can_node.specs.Counting.{lost_by}
-use Rattle.can_node.specs.Driving.{TransmitsNext}
 use Rattle.can_node.specs.Frames.{GoesWell, Transmits}
 use Rattle.can_node.specs.Frames.Transmits.{failed}
 use Rattle.can_node.specs.Pieces.{Place}
 use Rattle.can_node.specs.Pieces.Place.{AtFlag, AtInterframeSpace}
 use Rattle.can_node.specs.Pieces.Piece.{Transmission, Fault}
-use Rattle.can_node.specs.Machine.Stages.{IsTransmitting, IsFramePlace, frame_bits}
+use Rattle.can_node.specs.Machine.Stages.{IsTransmitting, frame_bits}
 use Rattle.can_node.specs.Table.{Row}
-use Rattle.can_node.specs.declared.own_bit.OwnBit.{OwnBit}
 use Rattle.can_node.specs.Machine.TransmitterCauses.{cause_of_bit, kind_of}
 use Rattle.can_node.specs.Machine.Turns.{GoesOnAs}
 use Rattle.can_node.proofs.Transmission.AfterLoss.{receives_on, lost_not_over}
 use Rattle.can_node.proofs.Bits.FramePlaces.{row_own, frame_more, frame_seen}
-use Rattle.can_node.proofs.Transmission.SentLines.{sent_part_once}
 use Rattle.can_node.proofs.Transmission.TransmitterFronts.{sends_all}
-use Rattle.can_node.proofs.Transmission.WellNext.{driven_push, IsOneMore, well_next, well_slot, as_much_left}
-use Rattle.can_node.proofs.Transmission.WellNext.{well_readable, due_at_slot, slot_at_due, over_at_end, end_at_over}
+use Rattle.can_node.proofs.Transmission.WellNext.{driven_push, IsOneMore, well_next, well_slot}
+use Rattle.can_node.proofs.Transmission.WellNext.{as_much_left, well_readable, over_at_end, end_at_over}
 use Rattle.can_node.proofs.Transmission.WrongBits.{IsFine, cause_fails, none_fine}
 use Rattle.can_node.proofs.Transmission.WrongBits.IsFine.{loses, fits_slot, is_seen}
-
--- a transmitter drives the next level of its line, and this is what is found of the level that it sees
-pub record IsOwnBit (c now : ContextValue) (place : Place) (bits : List Bit) (driven seen : Level)
-    (self_test slot early lost : Bool) (cause : Option Cause) : Type 0 where
-  pub site : IsFramePlace place
-  pub same : self_test ≡ c.self_test
-  pub transmitting : IsTransmitting c now place bits
-  pub sends : TransmitsNext transmitting.request (frame_bits place bits) driven
-  pub early_is : early ≡ is_early_stuff transmitting.request.frame.ext (seen_of (frame_bits place bits))
-  pub lost_is : lost ≡ is_some (lost_by (Some transmitting.request) (seen_of (frame_bits place bits)) driven seen)
-  pub slot_is : IsTrue slot ↔ IsAckDue (seen_of (frame_bits place bits))
-  pub cause_is : cause_of_bit driven seen (kind_of slot early lost) self_test ≡ cause
-
--- the same from what the code finds
-pub own_bit_by : {c now : ContextValue} {place : Place} {bits : List Bit} {driven seen : Level}
-    {self_test lost ext : Bool} {kind : OwnBit} {cause : Option Cause}
-    (request : Request) → IsFramePlace place → self_test ≡ c.self_test → (h : IsTransmitting c now place bits) →
-    request ≡ h.request →
-    TransmitsNext h.request (frame_bits place bits) driven →
-    lost ≡ is_some (lost_by (Some h.request) (seen_of (frame_bits place bits)) driven seen) →
-    ext ≡ request.frame.ext →
-    (slot : Bool) × (IsTrue slot ↔ IsAckDue (seen_of (frame_bits place bits)))
-    × (kind ≡ kind_of slot (is_early_stuff ext (seen_of (frame_bits place bits))) lost) →
-    cause ≡ cause_of_bit driven seen kind self_test →
-    (slot : Bool) × (told : IsOwnBit c now place bits driven seen self_test slot
-    (is_early_stuff ext (seen_of (frame_bits place bits))) lost cause)
-    × (told.transmitting.request ≡ h.request)
-own_bit_by {place = place} {bits = bits} {driven = driven} {seen = seen} {self_test = self_test} request site same h one
-    sends lost format own wrong = (
-      own.0,
-      record {
-        site = site;
-        same = same;
-        transmitting = h;
-        sends = sends;
-        early_is = ap (λ e. is_early_stuff e (seen_of (frame_bits place bits)))
-            (format ∙ ap (λ (r : Request). r.frame.ext) one);
-        lost_is = lost;
-        slot_is = own.1;
-        cause_is = sym (wrong ∙ ap (λ k. cause_of_bit driven seen k self_test) own.2);
-      },
-      refl,
-    )
-
--- the driven level is the next one of its line
-pub line_next : {c now : ContextValue} {place : Place} {bits : List Bit} {x : Level}
-    (h : IsTransmitting c now place bits) (s : TransmitsNext h.request (frame_bits place bits) x) →
-    h.part ++ tail Recessive ≡ driven_of (frame_bits place bits) ++ x ∷ s.rest
-line_next h s = ap (λ l. l ++ tail Recessive)
-    (sent_part_once h.request.frame h.check s.check h.part s.part h.is_part s.is_part).1 ∙ s.whole
-
--- the ACK slot is where one is due
-slot_here : {c now : ContextValue} {place : Place} {bits : List Bit} {slot : Bool}
-    (h : IsTransmitting c now place bits) → IsTrue slot ↔ IsAckDue (seen_of (frame_bits place bits)) →
-    slot ≡ true → length (frame_bits place bits) ≡ length h.part + 1
-slot_here {c = c} {place = place} {bits = bits} h due e =
-    slot_at_due c.self_test h.request.frame h.check h.part (frame_bits place bits) h.is_part h.well (due.0 e)
-
-here_slot : {c now : ContextValue} {place : Place} {bits : List Bit} {slot : Bool}
-    (h : IsTransmitting c now place bits) → IsTrue slot ↔ IsAckDue (seen_of (frame_bits place bits)) →
-    length (frame_bits place bits) ≡ length h.part + 1 → slot ≡ true
-here_slot {c = c} {place = place} {bits = bits} h due count =
-    due.1 (due_at_slot c.self_test h.request.frame h.check h.part (frame_bits place bits) h.is_part h.well count)
+use Rattle.can_node.proofs.Transmission.OwnBits.{IsOwnBit, line_next, slot_here, here_slot}
 
 -- ---- a fault
 pub transmits_fault : {c now : ContextValue} {place : Place} {bits : List Bit} {driven seen : Level}

@@ -15,7 +15,7 @@ use Rattle.can_node.specs.Table.Row.{intermission_overload, intermission_overloa
 use Rattle.can_node.specs.Cut.{IsUnfinished}
 use Rattle.can_node.specs.Machine.Stages.{IsInInterframeSpace}
 use Rattle.can_node.proofs.Bits.DrivenAlike.{receives_on, receives_length}
-use Rattle.can_node.proofs.OneCut.Apart.{interframe_long, interframe_owed, interframe_short}
+use Rattle.can_node.proofs.OneCut.InterframeSpaces.{interframe_long, interframe_owed, interframe_short}
 
 -- no bit came yet
 pub interframes_from : (c : ContextValue) → IsInInterframeSpace 0 c []

@@ -1,4 +1,4 @@
-use Rattle.can_node.proofs.Waiting.Flags.{dominant_more, flag_breaks}
+use Rattle.can_node.proofs.Waiting.DominantFlags.{dominant_more, flag_breaks}
 use Rattle.can_node.proofs.flag.after_dominant_flag_bit.Goals as goal
 
 pub returns-in-Dominant : goal.returns-in-Dominant

@@ -1,5 +1,5 @@
 use Rattle.std.proofs.Common.{◌≡◌, ◌≢◌, rules}
-use Rattle.can_node.proofs.Waiting.Flags.{passive_more, passive_other}
+use Rattle.can_node.proofs.Waiting.PassiveFlags.{passive_more, passive_other}
 use Rattle.can_node.proofs.flag.after_passive_flag_bit.Goals as goal
 
 pub returns-then-eq : goal.returns-then-eq
