@@ -20,7 +20,8 @@ use Rattle.sja_turns.specs.Ending.{progress, TakesTurns, TakesOne}
 use Rattle.sja_turns.specs.Serial.{SerialValue, StandsAt, TakesTurn, deeds_at, with_deeds}
 use Rattle.sja_turns.proofs.Onward.{extends_none, extends_items, bits_items, aborts_items}
 use Rattle.sja_turns.proofs.GoingOn.{acts_of, GoesOn, IsPresent, ArePresent, present_bits, back_bits, stands_bits}
-use Rattle.sja_turns.proofs.Follows.{bus_whole, bus_short, rest_whole, rest_short, node_whole}
+use Rattle.sja_turns.proofs.AfterBusTurn.{bus_whole, bus_short, rest_whole, rest_short}
+use Rattle.sja_turns.proofs.AfterNodeTurn.{node_whole}
 
 -- where every run begins
 abbrev pub start_of : PlanValue → Progress

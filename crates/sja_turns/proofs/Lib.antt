@@ -10,6 +10,7 @@ pub mod Patience
 pub mod Effects
 pub mod Activations
 pub mod Few
+pub mod SawPut
 pub mod Trying
 pub mod Items
 pub mod Asked
@@ -24,6 +25,7 @@ pub mod Gathered
 pub mod FirstSteps
 pub mod Turned
 pub mod Standing
+pub mod NextStep
 pub mod Room
 pub mod Refused
 pub mod Paid
@@ -42,6 +44,7 @@ pub mod Adding
 pub mod BitPort
 pub mod Bit
 pub mod BitRun
+pub mod StillBits
 pub mod AtOnce
 pub mod FewLying
 pub mod Unstopped
@@ -51,7 +54,8 @@ pub mod ManyBits
 pub mod Counts
 pub mod Onward
 pub mod GoingOn
-pub mod Follows
+pub mod AfterBusTurn
+pub mod AfterNodeTurn
 pub mod Coming
 pub mod OffLinks
 pub mod NodeEnds
