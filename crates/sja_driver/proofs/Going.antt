@@ -9,7 +9,7 @@ use Rattle.sja_link.specs.Accounts.{account}
 use Rattle.sja_link.specs.Lists.{Lists, messages}
 use Rattle.sja_link.specs.Looking.{off_among}
 use Rattle.sja_link.proofs.Pullings.{off_both}
-use Rattle.sja_link.proofs.Worlds.{messages_both}
+use Rattle.sja_link.proofs.ListCounts.{messages_both}
 use Rattle.sja_driver.specs.declared.release.Release.{Release}
 use Rattle.sja_driver.specs.Acting.{Does}
 use Rattle.sja_driver.specs.Deeds.{Deed, opens_by, opened_by, given_in, deeds_of}

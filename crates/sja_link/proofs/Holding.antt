@@ -7,7 +7,7 @@ use Rattle.sja_link.specs.Parts.{part}
 use Rattle.sja_link.specs.Carried.{put_of, stored_of}
 use Rattle.sja_link.specs.Accounts.{Account}
 use Rattle.sja_link.specs.Looking.{Pulls, Releases, Holds}
-use Rattle.sja_link.proofs.Worlds.{messages_both}
+use Rattle.sja_link.proofs.ListCounts.{messages_both}
 use Rattle.sja_link.proofs.Judging.{put_stored}
 
 -- more is got

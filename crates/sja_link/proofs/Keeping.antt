@@ -13,7 +13,9 @@ use Rattle.sja_link.specs.World.{WorldValue, bytes_of, credits_of, free, is_off,
 use Rattle.sja_link.specs.WorldEvents.{Allowed, MayRelease, first_credit, done, Steps}
 use Rattle.sja_link.specs.Kept.Fields.{world_of, IsWorld, IsStored}
 use Rattle.sja_link.specs.declared.up.Up.TheVariants.{Credit}
-use Rattle.sja_link.proofs.Worlds.{world_next, credits_both, messages_both, budget}
+use Rattle.sja_link.proofs.ListCounts.{credits_both, messages_both}
+use Rattle.sja_link.proofs.WorldBudget.{budget}
+use Rattle.sja_link.proofs.Worlds.{world_next}
 use Rattle.sja_link.proofs.Freeing.{total_push}
 use Rattle.sja_link.specs.declared.down.Down.TheVariants.{Message, Off}
 

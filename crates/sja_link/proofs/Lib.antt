@@ -2,6 +2,9 @@ pub mod Entering
 pub mod Freeing
 pub mod Judging
 pub mod Openings
+pub mod ListCounts
+pub mod WorldBudget
+pub mod LongMessages
 pub mod Worlds
 pub mod Pullings
 pub mod Decoding

@@ -4,7 +4,7 @@ use Rattle.sja_link.specs.declared.down.Down.{Down}
 use Rattle.sja_link.specs.declared.down.Down.TheVariants.{Message, Off}
 use Rattle.sja_link.specs.Lists.{Lists, with_got, messages}
 use Rattle.sja_link.specs.Looking.{with_gots, off_among, Pulls, one_if}
-use Rattle.sja_link.proofs.Worlds.{messages_both}
+use Rattle.sja_link.proofs.ListCounts.{messages_both}
 
 pub off_both : (off : Bool) (xs ys : List Down) → off_among off (xs ++ ys) ≡ off_among (off_among off xs) ys
 off_both off [] ys = refl

@@ -19,7 +19,7 @@ use Rattle.sja_link.specs.Picking.{EachAfter}
 use Rattle.sja_link.specs.World.{is_off, is_stop, bytes_of, credits_of, free}
 use Rattle.sja_link.proofs.Entering.{gathered_append, gathered_push}
 use Rattle.sja_link.proofs.Freeing.{total_append, total_push}
-use Rattle.sja_link.proofs.Worlds.{messages_both, credits_both}
+use Rattle.sja_link.proofs.ListCounts.{messages_both, credits_both}
 use Rattle.sja_bus.specs.Orderly.{IsOrderly}
 use Rattle.sja_threads.specs.Linked.{event_in, IsLinked}
 use Rattle.sja_threads.proofs.Events.{world, Comes, comes_first, comes_act, comes_get, comes_gets, comes_start, comes_stop, comes_release, comes_send}

@@ -10,7 +10,7 @@ use Rattle.sja_link.specs.Lists.{Lists}
 use Rattle.sja_link.specs.Parts.{part}
 use Rattle.sja_link.specs.Picking.{EachAfter}
 use Rattle.sja_link.specs.World.{credits_of}
-use Rattle.sja_link.proofs.Worlds.{credits_both}
+use Rattle.sja_link.proofs.ListCounts.{credits_both}
 use Rattle.sja_regs.specs.Commands.{command_of, requests}
 use Rattle.sja_script.specs.declared.step.Step.{Step}
 use Rattle.sja_script.specs.declared.step.Step.TheVariants.{Start, Stop, Window, Release, Read, Write, Load, Command, Await, Sent}

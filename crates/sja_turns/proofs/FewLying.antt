@@ -23,7 +23,7 @@ use Rattle.sja_link.specs.Verdicts.{IsOn, HasVerdicts}
 use Rattle.sja_link.proofs.Freeing.{total_append}
 use Rattle.sja_link.proofs.Holding.{told_stored}
 use Rattle.sja_link.proofs.Judging.{kept_stored}
-use Rattle.sja_link.proofs.Worlds.{messages_both}
+use Rattle.sja_link.proofs.ListCounts.{messages_both}
 use Rattle.sja_bus.specs.OutOfOrder.{HasOff}
 use Rattle.sja_driver.specs.Deeds.{Deed, Gives, given_in, released_lengths, deeds_of}
 use Rattle.sja_turns.proofs.Few.{bytes, all_of, room_all, bytes_stored, credits_taken, credits_section, bytes_lengths}

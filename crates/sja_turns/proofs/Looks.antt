@@ -11,7 +11,7 @@ use Rattle.sja_link.specs.Places.{place_of}
 use Rattle.sja_link.specs.Parts.{part}
 use Rattle.sja_link.specs.Carried.{put_of}
 use Rattle.sja_link.proofs.Pullings.{off_both}
-use Rattle.sja_link.proofs.Worlds.{messages_both}
+use Rattle.sja_link.proofs.ListCounts.{messages_both}
 use Rattle.sja_driver.specs.Acting.{Looks}
 use Rattle.sja_driver.specs.Deeds.{Deed, opened_by, released_lengths, deeds_of}
 use Rattle.sja_report.specs.Windows.{off_by, window_of}

@@ -4,7 +4,7 @@ use Rattle.sja_link.specs.Gathering.{total}
 use Rattle.sja_link.specs.Lists.{messages}
 use Rattle.sja_link.specs.World.{credits_of, is_off, is_stop}
 use Rattle.sja_link.specs.WorldEvents.{first_credit}
-use Rattle.sja_link.proofs.Worlds.{up_count}
+use Rattle.sja_link.proofs.ListCounts.{up_count}
 use Rattle.sja_link.proofs.Keeping.{release_stored}
 use Rattle.sja_link.proofs.world.World.release.Goals as goal
 
