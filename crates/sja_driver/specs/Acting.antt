@@ -62,12 +62,6 @@ IfTakingNothing (Load m) P = P
 IfTakingNothing (Command value) P = P
 IfTakingNothing other P = Unit {0}
 
--- the step leaves the driver in reset or out of it: all do but a start and a stop
-abbrev pub KeepsState : Step → Type 0
-KeepsState Start = ⊥
-KeepsState Stop = ⊥
-KeepsState other = Unit {0}
-
 -- why a step is to be tried again. A start in reset with an activation left, a stop, and a release where bus-off isn't
 -- known and a message is held: the end gave its item back. A command that the port doesn't refuse: the end gave its
 -- request back. A wait: all that the end showed was taken in, the bits aren't spent, and fewer messages are at the

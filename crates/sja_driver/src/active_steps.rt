@@ -1,58 +1,33 @@
-//! Steps that are tried out of reset, and leave the driver there.
+//! Steps that an activation alone has: in reset each is refused.
 
 ghost use Rattle.std.specs.Prelude.{◌≡◌};
 ghost use Rattle.sja_regs.specs.declared.registers.Registers.{Registers};
-ghost use Rattle.sja_script.specs.declared.step.Step.TheVariants.{Window, Release, Command, Await, Sent};
-ghost use Rattle.sja_driver.specs.declared.any_driver.AnyDriver.TheVariants.{InActive};
-ghost use Rattle.sja_driver.specs.Acting.{Acts, KeepsState};
-ghost use Rattle.sja_driver.specs.Drivers.{link_in};
+ghost use Rattle.sja_script.specs.declared.step.Step.TheVariants.{Window, Release, Load, Command, Await, Sent};
+ghost use Rattle.sja_driver.specs.Acting.{Acts};
+ghost use Rattle.sja_driver.specs.AnyDrivers.{FitsEnd};
 
-use super::active::Active;
-use super::answers::{done_answer, refusal_of, shows_released, value_answer};
+use super::answers::{done_answer, refusal_of, shows_released};
+use super::any_driver::AnyDriver;
 use super::command_fault::CommandFault;
-use super::driver::Driver;
 use super::tried::{Tried, passed, refused};
-use can_frame::Seen;
+use can_frame::{Message, Seen};
 use sja_link::{DriverEnd, ReleaseFault, Stopped};
 use sja_regs::Port;
-use sja_script::{Refusal, Step, StepAnswer};
+use sja_script::{Refusal, StepAnswer};
 
 /// The address of the status register.
 const STATUS: u8 = 2;
 
-/// Tries a step out of reset that keeps the state.
-pub(crate) fn active_step<E: DriverEnd>(
-    driver: &mut Driver<Active>,
-    end: &mut E,
-    port: &mut Port,
-    step: &Step,
-) -> Tried
-    requires link { E.link end.old ≡ link_in driver.old }
-    requires keeps { KeepsState step.now }
-    ensures same { E.same end.old end.new }
-    ensures acts { Acts E.stands E.dry E.full end.old end.new port.old port.new step.now (InActive driver.old)
-        (InActive driver.new) result }
-{
-    match step {
-        Step::Start | Step::Stop => unreachable!(),
-        Step::Window => window_step(driver, end),
-        Step::Release => release_step(driver, end),
-        Step::Read(addr) => Tried::Answered(value_answer(driver.read(end, port, *addr))),
-        Step::Write(addr, value) => Tried::Answered(done_answer(driver.write(port, *addr, *value))),
-        Step::Load(message) => Tried::Answered(done_answer(driver.load(port, message))),
-        Step::Command(value) => command_step(driver, end, port, *value),
-        Step::Await(count) => await_step(driver, end, port, *count),
-        Step::Sent => sent_step(driver, end, port),
-    }
-}
-
 /// Looks at the window. No port is touched.
-pub(crate) fn window_step<E: DriverEnd>(driver: &mut Driver<Active>, end: &mut E) -> Tried
-    requires { E.link end.old ≡ link_in driver.old }
+pub(crate) fn window_step<E: DriverEnd>(driver: &mut AnyDriver, end: &mut E) -> Tried
+    requires { FitsEnd E.link end.old driver.old }
     ensures same { E.same end.old end.new }
-    ensures acts { (p : Registers) → Acts E.stands E.dry E.full end.old end.new p p Window (InActive driver.old)
-        (InActive driver.new) result }
+    ensures acts { (p : Registers) → Acts E.stands E.dry E.full end.old end.new p p Window driver.old driver.new
+        result }
 {
+    let AnyDriver::InActive(driver) = driver else {
+        return refused(Refusal::WrongState);
+    };
     let answer = match driver.window(end) {
         Ok(Some(message)) => StepAnswer::Shown(message.copy()),
         Ok(None) => StepAnswer::NoMessage,
@@ -62,12 +37,15 @@ pub(crate) fn window_step<E: DriverEnd>(driver: &mut Driver<Active>, end: &mut E
 }
 
 /// Tries a release. No port is touched.
-pub(crate) fn release_step<E: DriverEnd>(driver: &mut Driver<Active>, end: &mut E) -> Tried
-    requires { E.link end.old ≡ link_in driver.old }
+pub(crate) fn release_step<E: DriverEnd>(driver: &mut AnyDriver, end: &mut E) -> Tried
+    requires { FitsEnd E.link end.old driver.old }
     ensures same { E.same end.old end.new }
-    ensures acts { (p : Registers) → Acts E.stands E.dry E.full end.old end.new p p Release (InActive driver.old)
-        (InActive driver.new) result }
+    ensures acts { (p : Registers) → Acts E.stands E.dry E.full end.old end.new p p Release driver.old driver.new
+        result }
 {
+    let AnyDriver::InActive(driver) = driver else {
+        return refused(Refusal::WrongState);
+    };
     if driver.look(end).is_err() {
         return refused(Refusal::Stopped);
     }
@@ -83,18 +61,36 @@ pub(crate) fn release_step<E: DriverEnd>(driver: &mut Driver<Active>, end: &mut 
     }
 }
 
+/// Tries a load. No link is touched.
+pub(crate) fn load_step<E: DriverEnd>(
+    driver: &AnyDriver,
+    port: &mut Port,
+    message: &Message,
+) -> Tried
+    ensures { (e : E) → Acts E.stands E.dry E.full e e port.old port.new (Load message.now) driver.now driver.now
+        result }
+{
+    match driver {
+        AnyDriver::InReset(_) => refused(Refusal::WrongState),
+        AnyDriver::InActive(driver) => Tried::Answered(done_answer(driver.load(port, message))),
+    }
+}
+
 /// Tries a command.
-fn command_step<E: DriverEnd>(
-    driver: &mut Driver<Active>,
+pub(crate) fn command_step<E: DriverEnd>(
+    driver: &mut AnyDriver,
     end: &mut E,
     port: &mut Port,
     value: u8,
 ) -> Tried
-    requires { E.link end.old ≡ link_in driver.old }
+    requires { FitsEnd E.link end.old driver.old }
     ensures same { E.same end.old end.new }
-    ensures acts { Acts E.stands E.dry E.full end.old end.new port.old port.new (Command value) (InActive driver.old)
-        (InActive driver.new) result }
+    ensures acts { Acts E.stands E.dry E.full end.old end.new port.old port.new (Command value) driver.old
+        driver.new result }
 {
+    let AnyDriver::InActive(driver) = driver else {
+        return refused(Refusal::WrongState);
+    };
     match driver.command(end, port, value) {
         Ok(()) => passed(),
         Err(CommandFault::Reg(fault)) => refused(refusal_of(fault)),
@@ -103,17 +99,20 @@ fn command_step<E: DriverEnd>(
 }
 
 /// Passes where so many messages are at the driver's end. With the bits spent no more will come.
-fn await_step<E: DriverEnd>(
-    driver: &mut Driver<Active>,
+pub(crate) fn await_step<E: DriverEnd>(
+    driver: &mut AnyDriver,
     end: &mut E,
     port: &mut Port,
     count: u8,
 ) -> Tried
-    requires { E.link end.old ≡ link_in driver.old }
+    requires { FitsEnd E.link end.old driver.old }
     ensures same { E.same end.old end.new }
-    ensures acts { Acts E.stands E.dry E.full end.old end.new port.old port.new (Await count) (InActive driver.old)
-        (InActive driver.new) result }
+    ensures acts { Acts E.stands E.dry E.full end.old end.new port.old port.new (Await count) driver.old
+        driver.new result }
 {
+    let AnyDriver::InActive(driver) = driver else {
+        return refused(Refusal::WrongState);
+    };
     // Asked before the look: what was put before the bits were spent is then seen.
     let closed = port.closed();
     if driver.look(end).is_err() {
@@ -129,12 +128,14 @@ fn await_step<E: DriverEnd>(
 }
 
 /// Passes where the transmit buffer is released. With the bits spent it won't be.
-fn sent_step<E: DriverEnd>(driver: &mut Driver<Active>, end: &mut E, port: &mut Port) -> Tried
-    requires { E.link end.old ≡ link_in driver.old }
+pub(crate) fn sent_step<E: DriverEnd>(driver: &mut AnyDriver, end: &mut E, port: &mut Port) -> Tried
+    requires { FitsEnd E.link end.old driver.old }
     ensures same { E.same end.old end.new }
-    ensures acts { Acts E.stands E.dry E.full end.old end.new port.old port.new Sent (InActive driver.old)
-        (InActive driver.new) result }
+    ensures acts { Acts E.stands E.dry E.full end.old end.new port.old port.new Sent driver.old driver.new result }
 {
+    let AnyDriver::InActive(driver) = driver else {
+        return refused(Refusal::WrongState);
+    };
     let closed = port.closed();
     let _ = driver.look(end);
     if is_released(port) {

@@ -7,15 +7,17 @@ ghost use Rattle.sja_driver.specs.Acting.{Acts};
 ghost use Rattle.sja_driver.specs.AnyDrivers.{FitsEnd};
 ghost use Rattle.sja_driver.specs.LoggedDrivers.{ended_of, MayStep, StaysLawful, Steps};
 
-use super::active_steps::{active_step, release_step, window_step};
+use super::active_steps::{
+    await_step, command_step, load_step, release_step, sent_step, window_step,
+};
 use super::any_driver::AnyDriver;
 use super::changing::{start_step, stop_step};
 use super::logged_driver::LoggedDriver;
-use super::reset_steps::reset_step;
-use super::tried::{Tried, refused};
+use super::register_steps::{read_step, write_step};
+use super::tried::Tried;
 use sja_link::DriverEnd;
 use sja_regs::Port;
-use sja_script::{Refusal, Step};
+use sja_script::Step;
 
 /// The place of the last of a node's links among its eight.
 const LAST: usize = 7;
@@ -50,7 +52,7 @@ impl LoggedDriver {
             Window bits result }
     {
         let here = base + self.turn();
-        let tried = try_window(&mut self.driver, &mut links[here]);
+        let tried = window_step(&mut self.driver, &mut links[here]);
         self.log.enter(tried, bits)
     }
 
@@ -63,7 +65,7 @@ impl LoggedDriver {
             Release bits result }
     {
         let here = base + self.turn();
-        let tried = try_release(&mut self.driver, &mut links[here]);
+        let tried = release_step(&mut self.driver, &mut links[here]);
         self.log.enter(tried, bits)
     }
 }
@@ -78,7 +80,7 @@ impl LoggedDriver {
     }
 }
 
-/// Tries a step in either state. A start and a stop alone put another state in the driver's place.
+/// Tries a step. Each has a function of its own, which takes the driver in either state.
 fn try_step<E: DriverEnd>(
     driver: &mut AnyDriver,
     end: &mut E,
@@ -92,35 +94,13 @@ fn try_step<E: DriverEnd>(
     match step {
         Step::Start => start_step(driver, end, port),
         Step::Stop => stop_step(driver, end, port),
-        _ => match driver {
-            AnyDriver::InReset(driver) => reset_step(driver, end, port, step),
-            AnyDriver::InActive(driver) => active_step(driver, end, port, step),
-        },
-    }
-}
-
-/// Tries the step `Window` in either state.
-fn try_window<E: DriverEnd>(driver: &mut AnyDriver, end: &mut E) -> Tried
-    requires { FitsEnd E.link end.old driver.old }
-    ensures same { E.same end.old end.new }
-    ensures acts { (p : Registers) → Acts E.stands E.dry E.full end.old end.new p p Window driver.old driver.new
-        result }
-{
-    match driver {
-        AnyDriver::InReset(_) => refused(Refusal::WrongState),
-        AnyDriver::InActive(driver) => window_step(driver, end),
-    }
-}
-
-/// Tries the step `Release` in either state.
-fn try_release<E: DriverEnd>(driver: &mut AnyDriver, end: &mut E) -> Tried
-    requires { FitsEnd E.link end.old driver.old }
-    ensures same { E.same end.old end.new }
-    ensures acts { (p : Registers) → Acts E.stands E.dry E.full end.old end.new p p Release driver.old driver.new
-        result }
-{
-    match driver {
-        AnyDriver::InReset(_) => refused(Refusal::WrongState),
-        AnyDriver::InActive(driver) => release_step(driver, end),
+        Step::Window => window_step(driver, end),
+        Step::Release => release_step(driver, end),
+        Step::Read(addr) => read_step(driver, end, port, *addr),
+        Step::Write(addr, value) => write_step::<E>(driver, port, *addr, *value),
+        Step::Load(message) => load_step::<E>(driver, port, message),
+        Step::Command(value) => command_step(driver, end, port, *value),
+        Step::Await(count) => await_step(driver, end, port, *count),
+        Step::Sent => sent_step(driver, end, port),
     }
 }

@@ -11,21 +11,21 @@ returns-clause-stays g c =
     let e = g.met.E.DriverEnd in
     let entered = c.enter.ensures in
     stays_lawful g.E.DriverEnd.link g.E.DriverEnd.same c.args.self.now _ c.args.links.now c.args.base c.args.bits c.turn.result
-    c.index-links-here.result _ c.try_release-tried.result c.enter.result e.same_refl e.same_link c.requires c.turn.ensures
-    c.try_release-tried.ensures.same refl entered.met entered.done entered.released entered.left entered.done_room
-    entered.release_room entered.left_room ((c.try_release-tried.ensures.acts (at_power_on 1)).place)
+    c.index-links-here.result _ c.release_step-tried.result c.enter.result e.same_refl e.same_link c.requires c.turn.ensures
+    c.release_step-tried.ensures.same refl entered.met entered.done entered.released entered.left entered.done_room
+    entered.release_room entered.left_room ((c.release_step-tried.ensures.acts (at_power_on 1)).place)
 
 pub returns-clause-steps : goal.returns-clause-steps
 returns-clause-steps g c = λ p.
     let e = g.E.DriverEnd in
-    let acts = c.try_release-tried.ensures.acts p in
+    let acts = c.release_step-tried.ensures.acts p in
     steps_of e.stands e.dry e.full c.args.self.now _ c.args.links.now c.args.base c.args.bits c.turn.result p p
-    step.Release c.index-links-here.result c.try_release-tried.new.end c.try_release-tried.result
+    step.Release c.index-links-here.result c.release_step-tried.new.end c.release_step-tried.result
     c.enter.result c.requires.lawful c.requires.eight c.turn.ensures acts c.enter.ensures.met
     c.enter.ensures.done c.enter.ensures.released c.enter.ensures.left
 
 pub enter-requires-clause-fits : goal.enter-requires-clause-fits
 enter-requires-clause-fits g c =
-    let place = (c.try_release-tried.ensures.acts (at_power_on 1)).place in
-    at_most c.args.self.now.node _ c.try_release-tried.new.driver
+    let place = (c.release_step-tried.ensures.acts (at_power_on 1)).place in
+    at_most c.args.self.now.node _ c.release_step-tried.new.driver
     (place c.args.self.now.node (ended_of c.args.self.now) c.requires.lawful)

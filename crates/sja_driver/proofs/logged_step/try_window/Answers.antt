@@ -1,4 +1,0 @@
-use Rattle.sja_driver.proofs.logged_step.try_window.Goals as goal
-
-pub returns-in-InActive-clause-acts : goal.returns-in-InActive-clause-acts
-returns-in-InActive-clause-acts g c = λ p. rw c.in-InActive.is (c.window_step.ensures.acts p)

@@ -1,0 +1,47 @@
+//! Steps that either state has: a register is read or written.
+
+ghost use Rattle.sja_script.specs.declared.step.Step.TheVariants.{Read, Write};
+ghost use Rattle.sja_driver.specs.Acting.{Acts};
+ghost use Rattle.sja_driver.specs.AnyDrivers.{FitsEnd};
+
+use super::answers::{done_answer, value_answer};
+use super::any_driver::AnyDriver;
+use super::tried::Tried;
+use sja_link::DriverEnd;
+use sja_regs::Port;
+
+/// Tries a read. Out of reset all that the link shows is taken in first.
+pub(crate) fn read_step<E: DriverEnd>(
+    driver: &mut AnyDriver,
+    end: &mut E,
+    port: &mut Port,
+    addr: u8,
+) -> Tried
+    requires { FitsEnd E.link end.old driver.old }
+    ensures same { E.same end.old end.new }
+    ensures acts { Acts E.stands E.dry E.full end.old end.new port.old port.new (Read addr) driver.old driver.new
+        result }
+{
+    match driver {
+        AnyDriver::InReset(driver) => Tried::Answered(value_answer(driver.read(port, addr))),
+        AnyDriver::InActive(driver) => Tried::Answered(value_answer(driver.read(end, port, addr))),
+    }
+}
+
+/// Tries a write. No link is touched.
+pub(crate) fn write_step<E: DriverEnd>(
+    driver: &AnyDriver,
+    port: &mut Port,
+    addr: u8,
+    value: u8,
+) -> Tried
+    ensures { (e : E) → Acts E.stands E.dry E.full e e port.old port.new (Write addr value) driver.now driver.now
+        result }
+{
+    match driver {
+        AnyDriver::InReset(driver) => Tried::Answered(done_answer(driver.write(port, addr, value))),
+        AnyDriver::InActive(driver) => {
+            Tried::Answered(done_answer(driver.write(port, addr, value)))
+        }
+    }
+}
