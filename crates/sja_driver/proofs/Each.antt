@@ -28,7 +28,8 @@ set_else (x ∷ xs) (suc i) zero z d h = refl
 set_else (x ∷ xs) (suc i) (suc k) z d h = set_else xs i k z d (λ e. h (ap suc e))
 
 -- an element that is there doesn't hang on what stands in for one that isn't
-pub index_any : {A : Type 0} (xs : List A) (i : ℕ) (d e : A) → i < length xs → slice_index_or xs i d ≡ slice_index_or xs i e
+pub index_any : {A : Type 0} (xs : List A) (i : ℕ) (d e : A) → i < length xs →
+    slice_index_or xs i d ≡ slice_index_or xs i e
 index_any [] i d e h = absurd (omega arith)
 index_any (x ∷ xs) zero d e h = refl
 index_any (x ∷ xs) (suc i) d e h = index_any xs i d e (omega arith)

@@ -37,14 +37,21 @@ pub holds_deed : {E : Type 0} (stands : E → Lists → Type 0) (t : List Deed) 
     → slice_index_or left n [] ≡ held → slice_index_or left' n [] ≡ held'
     → ((a : ℕ) → (n ≡ a → ⊥) → slice_index_or left' a [] ≡ slice_index_or left a [])
     → ((n' ≡ n) × (off' ≡ now')) ⊎ ((n' ≡ suc n) × (off' ≡ false))
-    → Holds stands t rel left n off j links base → Holds stands (t ++ d ∷ []) rel' left' n' off' j (slice_set links (base + n) new) base
-holds_deed {E} stands t rel rel' left left' j links base n n' d0 new held held' off off' now' d released few room gi did r re was now rest next h =
+    → Holds stands t rel left n off j links base
+    → Holds stands (t ++ d ∷ []) rel' left' n' off' j (slice_set links (base + n) new) base
+holds_deed {E} stands t rel rel' left left' j links base n n' d0 new held held' off off' now' d released few room gi did
+    r re was now rest next h =
+    let links' : List E = slice_set links (base + n) new in
+    let given' : ℕ → List Up = λ a. given_in (deeds_of (t ++ d ∷ []) a) in
     let got' : ℕ → List Down = λ a. if n == a then h.got a ++ did.got else h.got a in
+    let lists' : ℕ → Lists = λ a. account j (suc a) (record { got = got' a; given = given' (suc a) }) in
     let same : got' n ≡ h.got n ++ did.got = ap (λ b. cond b (h.got n ++ did.got) (h.got n)) (eq-eqb n n refl) in
-    let else' : (a : ℕ) → (n ≡ a → ⊥) → got' a ≡ h.got a = λ a ne. ap (λ b. cond b (h.got a ++ did.got) (h.got a)) (ne_eqb n a ne) in
-    let g : given_in (deeds_of (t ++ d ∷ []) (suc n)) ≡ given_in (deeds_of t (suc n)) ++ d.gave = deeds_here gave_of t d (suc n) gi in
-    let here : stands new (account j (suc n) (record { got = got' n; given = given_in (deeds_of (t ++ d ∷ []) (suc n)) })) =
-    rw (same, g) (did.lists (account j (suc n) (record { got = h.got n; given = given_in (deeds_of t (suc n)) })) (h.kept n d0 few)) in
+    let else' : (a : ℕ) → (n ≡ a → ⊥) → got' a ≡ h.got a =
+    λ a ne. ap (λ b. cond b (h.got a ++ did.got) (h.got a)) (ne_eqb n a ne) in
+    let g : given' (suc n) ≡ given_in (deeds_of t (suc n)) ++ d.gave = deeds_here gave_of t d (suc n) gi in
+    let here : stands new (lists' n) =
+    rw (same, g) (did.lists (account j (suc n) (record { got = h.got n; given = given_in (deeds_of t (suc n)) }))
+    (h.kept n d0 few)) in
     let all : messages (got' n) ≡ released_of rel' (suc n) ++ slice_index_or left' n [] =
     ap messages same ∙ messages_both (h.got n) did.got ∙ ap (λ x. x ++ messages did.got) (h.told n few)
     ∙ append_assoc (released_of rel (suc n)) (slice_index_or left n []) (messages did.got)
@@ -56,14 +63,16 @@ holds_deed {E} stands t rel rel' left left' j links base n n' d0 new held held' 
     ∙ sym (off_both false (h.got n) did.got) ∙ ap (off_among false) (sym same) in record {
       got = got';
       kept = λ a e l. elim (cases_eq n a) [
-        | inl q ↦ let at : slice_index_or (slice_set links (base + n) new) (base + a) e ≡ new =
-            ap (λ m. slice_index_or (slice_set links (base + n) new) (base + m) e) (sym q) ∙ set_here links (base + n) new e (omega (arith, few, room)) in
-            let moved = subst (λ (m : ℕ). stands new (account j (suc m) (record { got = got' m; given = given_in (deeds_of (t ++ d ∷ []) (suc m)) }))) q here in
-            subst (λ (x : E). stands x (account j (suc a) (record { got = got' a; given = given_in (deeds_of (t ++ d ∷ []) (suc a)) }))) (sym at) moved
-        | inr ne ↦ let at : slice_index_or (slice_set links (base + n) new) (base + a) e ≡ slice_index_or links (base + a) e =
+        | inl q ↦ let at : slice_index_or links' (base + a) e ≡ new =
+            ap (λ m. slice_index_or links' (base + m) e) (sym q)
+            ∙ set_here links (base + n) new e (omega (arith, few, room)) in
+            let moved = subst (λ (m : ℕ). stands new (lists' m)) q here in
+            subst (λ (x : E). stands x (lists' a)) (sym at) moved
+        | inr ne ↦ let at : slice_index_or links' (base + a) e ≡ slice_index_or links (base + a) e =
             set_else links (base + n) (base + a) new e (λ x. ne (omega (arith, x))) in
             let gs : got' a ≡ h.got a = else' a ne in
-            let ga : given_in (deeds_of (t ++ d ∷ []) (suc a)) ≡ given_in (deeds_of t (suc a)) = deeds_else gave_of t d (suc a) (other d n a t ne gi) in
+            let ga : given' (suc a) ≡ given_in (deeds_of t (suc a)) =
+            deeds_else gave_of t d (suc a) (other d n a t ne gi) in
             rw (at, gs, ga) (h.kept a e l)
       ];
       told = λ a l. elim (cases_eq n a) [

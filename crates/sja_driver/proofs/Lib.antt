@@ -4,5 +4,8 @@ pub mod Sections
 pub mod Stepping
 pub mod Giving
 pub mod Going
+pub mod Left
+pub mod Traced
+pub mod Came
 pub mod Goes
 pub mod Logged

@@ -76,29 +76,39 @@ pub inside : (base ended k n : ℕ) → k ≡ min ended 7 → base + 8 ≤ n →
 inside base ended k n is room = let l = min_less ended in omega (arith, is, l, room)
 
 -- a try at the present link is a logged step
-pub steps_of : {E : Type 0} (stands : E → Lists → Type 0) (dry full : E → Type 0) (was now : LoggedDriver) (links : List E)
-    (base bits k : ℕ) (p q : Registers) (step : Step) (d0 new : E) (o : Tried) (done : Bool) →
+pub steps_of : {E : Type 0} (stands : E → Lists → Type 0) (dry full : E → Type 0) (was now : LoggedDriver)
+    (links : List E) (base bits k : ℕ) (p q : Registers) (step : Step) (d0 new : E) (o : Tried) (done : Bool) →
     IsLawful was → base + 8 ≤ length links → k ≡ min (ended_of was) 7 →
     Acts stands dry full (slice_index_or links (base + k) d0) new p q step (driver_of was) (driver_of now) o →
     done ≡ is_met o → done_in (log_of now) ≡ done_in (log_of was) ++ done_by o bits →
     releases_in (log_of now) ≡ releases_in (log_of was) ++ releases_by (ended_of was) o →
     left_in (log_of now) ≡ left_in (log_of was) ++ left_by o →
     Steps stands dry full was now links (slice_set links (base + k) new) base p q step bits done
-steps_of {E} stands dry full was now links base bits k p q step d0 new o done lawful room is acts met logged releases leaves =
+steps_of {E} stands dry full was now links base bits k p q step d0 new o done lawful room is acts met logged releases
+    leaves =
+    let links_now : List E = slice_set links (base + k) new in
     let few : k < 8 = let l = min_less (ended_of was) in omega (arith, is, l) in
     let inside : base + k < length links = omega (arith, few, room) in
     let at : base + k ≡ place_after base (ended_of was) = ap (λ i. base + i) is in
     record {
       tried = o;
       met = met;
-      acts = λ d e. subst (λ (i : ℕ). Acts stands dry full (slice_index_or links i d) (slice_index_or (slice_set links (base + k) new) i e)
-          p q step (driver_of was) (driver_of now) o) at
+      acts = λ d e. subst (λ (i : ℕ). Acts stands dry full (slice_index_or links i d) (slice_index_or links_now i e) p q
+          step (driver_of was) (driver_of now) o) at
           (rw (index_any links (base + k) d d0 inside, set_here links (base + k) new e inside) acts);
       logged = logged;
       releases = releases;
       leaves = leaves;
-      goes = goes_step stands dry full (driver_of was) (driver_of now) (log_of was) (log_of now) links base (node_of was) bits p q step k d0 new o
-          (λ l. is ∙ min_few (ended_of was) l) few room lawful acts logged releases leaves;
+      goes = goes_step stands dry full (driver_of was) (driver_of now) (log_of was) (log_of now) links base
+          (node_of was) bits p q step d0 new k o (λ l. is ∙ min_few (ended_of was) l) (record {
+            few = few;
+            room = room;
+            own = lawful;
+            acts = acts;
+            done = logged;
+            released = releases;
+            left = leaves;
+          });
     }
 
 -- the driver after a try is that of its node, after the activations that the log then says have ended
@@ -107,7 +117,8 @@ pub lawful_after : (was : LoggedDriver) (driver : AnyDriver) (log : WorkLog) (o 
     ((node n : ℕ) → IsDriverOf node n (driver_of was) → IsDriverOf node (n + ended_by o) driver) → IsLawful was →
     IsDriverOf (node_of was) (length (left_in log)) driver
 lawful_after was driver log o left place lawful =
-    subst (λ (n : ℕ). IsDriverOf (node_of was) n driver) (sym (ap (λ l. length l) left ∙ left_count (left_in (log_of was)) o))
+    subst (λ (n : ℕ). IsDriverOf (node_of was) n driver)
+    (sym (ap (λ l. length l) left ∙ left_count (left_in (log_of was)) o))
     (place (node_of was) (ended_of was) lawful)
 
 -- and all stays in order
@@ -121,10 +132,11 @@ pub stays_lawful : {E : Type 0} (link : E → LinkId) (same : E → E → Type 0
     release_room (log_of now) ≡ release_room (log_of was) → left_room (log_of now) ≡ left_room (log_of was) →
     ((node n : ℕ) → IsDriverOf node n (driver_of was) → IsDriverOf node (n + ended_by o) (driver_of now)) →
     StaysLawful link same was now links (slice_set links (base + k) new) base done
-stays_lawful link same was now links base bits k d0 new o done refl_same same_link may is tried owner met logged released
-    leaves same_done same_releases same_left place =
+stays_lawful link same was now links base bits k d0 new o done refl_same same_link may is tried owner met logged
+    released leaves same_done same_releases same_left place =
     record {
-      same = each_one same refl_same links (base + k) d0 new (inside base (ended_of was) k (length links) is may.eight) tried;
+      same = each_one same refl_same links (base + k) d0 new (inside base (ended_of was) k (length links) is may.eight)
+          tried;
       others = search rules;
       ids = search rules;
       node = owner;
@@ -134,6 +146,6 @@ stays_lawful link same was now links base bits k d0 new o done refl_same same_li
           (few_releases (ended_of was) o) logged released same_done same_releases same_left room;
       waits = λ waited n room.
           let none = none_unmet (ended_of was) o bits (sym met ∙ waited) in
-          room_by (log_of was) (log_of now) n 0 bits (ended_of was) o (omega (arith, none.0)) (omega (arith, none.1)) logged
-          released same_done same_releases same_left (subst (λ m. HasRoom m (log_of was)) (omega arith) room);
+          room_by (log_of was) (log_of now) n 0 bits (ended_of was) o (omega (arith, none.0)) (omega (arith, none.1))
+          logged released same_done same_releases same_left (subst (λ m. HasRoom m (log_of was)) (omega arith) room);
     }

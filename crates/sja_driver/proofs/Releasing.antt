@@ -69,13 +69,15 @@ stays : (d e : Driver Active) → link_in e ≡ link_in d → (node n : ℕ) →
 stays d e same node n h =
     subst (λ (k : ℕ). IsDriverOf node k (InActive e)) (sym (add-zero n)) (same ∙ h.0, h.1)
 
-module _ {E : Type 0} (stands : E → Lists → Type 0) (dry full : E → Type 0) (old mid new : E) (d b e : Driver Active) where
+module _ {E : Type 0} (stands : E → Lists → Type 0) (dry full : E → Type 0) (old mid new : E)
+    (d b e : Driver Active) where
   pub released_acts : (m : List ℕ) → link_in e ≡ link_in d → off_in e ≡ false →
       Pulls stands old mid (held_in d) (held_in b) (off_in d) (off_in b) →
       Releases stands dry mid new (held_in b) (held_in e) (off_in b) (off_in e) m →
       (p : Registers) → Acts stands dry full old new p p Release (InActive d) (InActive e) (Released m)
   released_acts m same on look release p =
-      let r = release_after stands dry old mid new (held_in d) (held_in b) (held_in e) (off_in d) (off_in b) (off_in e) m look release in
+      let r = release_after stands dry old mid new (held_in d) (held_in b) (held_in e) (off_in d) (off_in b) (off_in e)
+      m look release in
       record {
         does = record {
           got = r.pulls.got;
@@ -112,7 +114,8 @@ module _ {E : Type 0} (stands : E → Lists → Type 0) (dry full : E → Type 0
     looks = tt;
     waits = (
       refuses.0,
-      refuse_after stands dry full old mid (held_in d) (held_in b) (held_in e) (off_in d) (off_in b) (off_in e) look (refuses.1),
+      refuse_after stands dry full old mid (held_in d) (held_in b) (held_in e) (off_in d) (off_in b) (off_in e) look
+          (refuses.1),
     );
     kind = tt;
     out = refl;
@@ -126,7 +129,8 @@ module _ {E : Type 0} (stands : E → Lists → Type 0) (dry full : E → Type 0
       Pulls stands mid new (held_in b) (held_in e) (off_in b) (off_in e) →
       (p : Registers) → Acts stands dry full old new p p Release (InActive d) (InActive e) (Answered (Refused Stopped))
   stopped_acts same off look more p =
-      let pulls = pulls_trans stands old mid new (held_in d) (held_in b) (held_in e) (off_in d) (off_in b) (off_in e) look more in
+      let pulls = pulls_trans stands old mid new (held_in d) (held_in b) (held_in e) (off_in d) (off_in b) (off_in e)
+      look more in
       record {
         does = does_pull stands old new (held_in d) (held_in e) (off_in d) (off_in e) pulls;
         still = tt;

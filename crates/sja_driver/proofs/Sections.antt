@@ -8,12 +8,14 @@ use Rattle.sja_link.proofs.Freeing.{total_push}
 use Rattle.sja_driver.specs.Deeds.{Deed, opens_by, opened_by, section_from, deeds_of, active_after, active_from}
 
 section_push : {X : Type 0} (o : X → ℕ) (n : ℕ) (xs : List X) (y : X) (a : ℕ) →
-    section_from o n (xs ++ y ∷ []) a ≡ section_from o n xs a ++ (if ((n + total o xs) + o y) == a then y ∷ [] else [])
+    section_from o n (xs ++ y ∷ []) a
+    ≡ section_from o n xs a ++ (if ((n + total o xs) + o y) == a then y ∷ [] else [])
 section_push o n [] y a = rw (add-zero, append-nil) refl
 section_push o n (x ∷ xs) y a =
     ap (λ l. cond ((n + o x) == a) (x ∷ []) [] ++ l) (section_push o (n + o x) xs y a)
     ∙ sym (append_assoc (cond ((n + o x) == a) (x ∷ []) []) (section_from o (n + o x) xs a) _)
-    ∙ ap (λ k. (cond ((n + o x) == a) (x ∷ []) [] ++ section_from o (n + o x) xs a) ++ cond ((k + o y) == a) (y ∷ []) [])
+    ∙ ap (λ k. (cond ((n + o x) == a) (x ∷ []) [] ++ section_from o (n + o x) xs a)
+    ++ cond ((k + o y) == a) (y ∷ []) [])
     (add_assoc n (o x) (total o xs))
 
 module _ {B : Type 0} (f : Deed → List B) (xs : List Deed) (y : Deed) (a : ℕ) where
@@ -29,7 +31,8 @@ module _ {B : Type 0} (f : Deed → List B) (xs : List Deed) (y : Deed) (a : ℕ
   one t = base ∙ ap (λ b. gathered f (deeds_of xs a) ++ gathered f (cond b (y ∷ []) [])) t
       ∙ ap (λ x. gathered f (deeds_of xs a) ++ x) (append-nil (f y))
 
-  none : ((opened_by xs + opens_by y) == a) ≡ false → gathered f (deeds_of (xs ++ y ∷ []) a) ≡ gathered f (deeds_of xs a)
+  none : ((opened_by xs + opens_by y) == a) ≡ false →
+      gathered f (deeds_of (xs ++ y ∷ []) a) ≡ gathered f (deeds_of xs a)
   none t = base ∙ ap (λ b. gathered f (deeds_of xs a) ++ gathered f (cond b (y ∷ []) [])) t
       ∙ append-nil (gathered f (deeds_of xs a))
 

@@ -6,21 +6,24 @@ use Rattle.sja_driver.proofs.logged_driver.LoggedDriver.step.Goals as goal
 
 pub returns-clause-stays : goal.returns-clause-stays
 returns-clause-stays g c =
-    let e = g.met.E.DriverEnd in
+    let e = g.E.DriverEnd in
+    let laws = g.met.E.DriverEnd in
     let entered = c.enter.ensures in
-    stays_lawful g.E.DriverEnd.link g.E.DriverEnd.same c.args.self.now _ c.args.links.now c.args.base c.args.bits c.turn.result
-    c.index-links-here.result _ c.try_step-tried.result c.enter.result e.same_refl e.same_link c.requires c.turn.ensures
-    c.try_step-tried.ensures.same refl entered.met entered.done entered.released entered.left entered.done_room
-    entered.release_room entered.left_room (c.try_step-tried.ensures.acts.place)
+    let tried = c.try_step-tried in
+    stays_lawful e.link e.same c.args.self.now _ c.args.links.now c.args.base c.args.bits c.turn.result
+    c.index-links-here.result _ tried.result c.enter.result laws.same_refl laws.same_link c.requires c.turn.ensures
+    tried.ensures.same refl entered.met entered.done entered.released entered.left entered.done_room
+    entered.release_room entered.left_room tried.ensures.acts.place
 
 pub returns-clause-steps : goal.returns-clause-steps
 returns-clause-steps g c =
     let e = g.E.DriverEnd in
-    let acts = c.try_step-tried.ensures.acts in
-    steps_of e.stands e.dry e.full c.args.self.now _ c.args.links.now c.args.base c.args.bits c.turn.result c.args.port.now
-    c.try_step-tried.new.port c.args.step.now c.index-links-here.result c.try_step-tried.new.end c.try_step-tried.result
-    c.enter.result c.requires.lawful c.requires.eight c.turn.ensures acts c.enter.ensures.met
-    c.enter.ensures.done c.enter.ensures.released c.enter.ensures.left
+    let entered = c.enter.ensures in
+    let tried = c.try_step-tried in
+    steps_of e.stands e.dry e.full c.args.self.now _ c.args.links.now c.args.base c.args.bits c.turn.result
+    c.args.port.now tried.new.port c.args.step.now c.index-links-here.result tried.new.end tried.result c.enter.result
+    c.requires.lawful c.requires.eight c.turn.ensures tried.ensures.acts entered.met entered.done entered.released
+    entered.left
 
 pub enter-requires-clause-fits : goal.enter-requires-clause-fits
 enter-requires-clause-fits g c =
