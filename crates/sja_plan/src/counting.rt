@@ -3,16 +3,17 @@
 ghost use Rattle.std.specs.Prelude.{◌≡◌, ◌<◌, [], ◌∷◌, nat_le, map, IfOk};
 ghost use Rattle.sja_plan.specs.StrikeTexts.{strike_count, count_of, strikes_in};
 
-use super::word::{number, words_of};
+use super::word::{find_words, number};
 use std::alloc::{AllocError, Global};
 
 /// Whether these texts count for at most 1,000 strikes.
 pub(crate) fn strikes_are_few(alloc: Global, texts: &[&str]) -> Result<bool, AllocError>
     ensures { IfOk result (λ few. few ≡ nat_le (strikes_in (map (λ t. t.now) texts.now)) 1000) }
 {
+    let mut room = Vec::new(alloc);
     let mut total = 0u32;
     for text in texts {
-        total += count_of(alloc, text)?;
+        total += count_of(&mut room, text)?;
         if total > 1000 {
             return Ok(false);
         }
@@ -20,13 +21,13 @@ pub(crate) fn strikes_are_few(alloc: Global, texts: &[&str]) -> Result<bool, All
     Ok(true)
 }
 
-/// For how many strikes a text counts.
-fn count_of(alloc: Global, text: &str) -> Result<u32, AllocError>
-    ensures value { IfOk result (λ n. n ≡ count_of text.now) }
+/// For how many strikes a text counts. Its words are left in `room`.
+fn count_of<'a>(room: &mut Vec<&'a str>, text: &'a str) -> Result<u32, AllocError>
+    ensures value { IfOk result (λ n. n ≡ count_of text.entry.now) }
     ensures small { IfOk result (λ n. n < 10000000) }
 {
-    let words = words_of(alloc, text)?;
-    Ok(strike_count(words.as_slice()))
+    find_words(room, text)?;
+    Ok(strike_count(room.as_slice()))
 }
 
 /// For how many strikes words count.

@@ -13,12 +13,17 @@ pub(crate) trait Said: Sized + Drop {
     /// In a plan of so many nodes the text says this value.
     ghost says: { ℕ → List ℕ → Self → Type 0 };
 
-    /// What a text says, in a plan of so many nodes.
-    fn said(alloc: Global, nodes: usize, text: &str) -> Result<Self, TextFault>
+    /// What a text says, in a plan of so many nodes. Its words are left in `room`, so that one list serves all texts.
+    fn said<'a>(
+        alloc: Global,
+        nodes: usize,
+        text: &'a str,
+        room: &mut Vec<&'a str>,
+    ) -> Result<Self, TextFault>
         requires { nodes ≤ 8 }
-        ensures ok { IfOk result (λ x. says nodes text.now x) }
+        ensures ok { IfOk result (λ x. says nodes text.entry.now x) }
         ensures err { IfErr result (λ e. (e ≡ TextFault.NoMemory)
-            ⊎ ((e ≡ TextFault.Bad) × ((x : Self) → ¬ says nodes text.now x))) };
+            ⊎ ((e ≡ TextFault.Bad) × ((x : Self) → ¬ says nodes text.entry.now x))) };
 }
 
 /// What each text says, in a plan of so many nodes.
@@ -32,8 +37,9 @@ pub(crate) fn read_all<T: Said>(
     ensures err { IfErr result (IsListFault (T.says nodes) (map (λ t. t.now) texts.now)) }
 {
     let mut found = Vec::new(alloc);
+    let mut room = Vec::new(alloc);
     for text in texts {
-        match T::said(alloc, nodes, text) {
+        match T::said(alloc, nodes, text, &mut room) {
             Ok(value) => found.push(value)?,
             Err(TextFault::NoMemory) => return Err(ListFault::NoMemory),
             Err(TextFault::Bad) => return Err(ListFault::Bad(found.len() + 1)),

@@ -6,17 +6,22 @@ ghost use Rattle.sja_plan.specs.StepTexts.{AreStepWords};
 
 use super::said::Said;
 use super::text_fault::TextFault;
-use super::word::{byte, message, number_within, words_of};
+use super::word::{byte, find_words, message, number_within};
 use sja_script::Step;
 use std::alloc::Global;
 
 impl Said for Step {
     ghost says = { λ nodes text s. AreStepWords (words text) s };
 
-    fn said(alloc: Global, nodes: usize, text: &str) -> Result<Step, TextFault> {
+    fn said<'a>(
+        alloc: Global,
+        nodes: usize,
+        text: &'a str,
+        room: &mut Vec<&'a str>,
+    ) -> Result<Step, TextFault> {
         let _ = nodes;
-        let words = words_of(alloc, text)?;
-        step_of(alloc, words.as_slice())
+        find_words(room, text)?;
+        step_of(alloc, room.as_slice())
     }
 }
 

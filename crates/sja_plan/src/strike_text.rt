@@ -6,16 +6,22 @@ ghost use Rattle.sja_plan.specs.StrikeTexts.{AreOnce, AreRepeated, AreStrikeWord
 
 use super::said::Said;
 use super::text_fault::TextFault;
-use super::word::{GREATEST, node_within, number_within, words_of};
+use super::word::{GREATEST, find_words, node_within, number_within};
 use sja_script::Strike;
 use std::alloc::Global;
 
 impl Said for Strike {
     ghost says = { λ nodes text s. AreStrikeWords nodes (words text) s };
 
-    fn said(alloc: Global, nodes: usize, text: &str) -> Result<Strike, TextFault> {
-        let words = words_of(alloc, text)?;
-        strike_of(nodes, words.as_slice())
+    fn said<'a>(
+        alloc: Global,
+        nodes: usize,
+        text: &'a str,
+        room: &mut Vec<&'a str>,
+    ) -> Result<Strike, TextFault> {
+        let _ = alloc;
+        find_words(room, text)?;
+        strike_of(nodes, room.as_slice())
     }
 }
 

@@ -7,15 +7,21 @@ ghost use Rattle.sja_plan.specs.TurnTexts.{AreTurnWords};
 use super::said::Said;
 use super::text_fault::TextFault;
 use super::turn::Turn;
-use super::word::{GREATEST, node_within, number_within, words_of};
+use super::word::{GREATEST, find_words, node_within, number_within};
 use std::alloc::Global;
 
 impl Said for Turn {
     ghost says = { λ nodes text t. AreTurnWords nodes (words text) t };
 
-    fn said(alloc: Global, nodes: usize, text: &str) -> Result<Turn, TextFault> {
-        let words = words_of(alloc, text)?;
-        turn_of(nodes, words.as_slice())
+    fn said<'a>(
+        alloc: Global,
+        nodes: usize,
+        text: &'a str,
+        room: &mut Vec<&'a str>,
+    ) -> Result<Turn, TextFault> {
+        let _ = alloc;
+        find_words(room, text)?;
+        turn_of(nodes, room.as_slice())
     }
 }
 

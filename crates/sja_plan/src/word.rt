@@ -1,6 +1,6 @@
 //! The words of a text, and what a word spells.
 
-ghost use Rattle.std.specs.Prelude.{◌≡◌, ◌≤◌, ◌<◌, ◌⊎◌, ℕ, List, IfOk, IfSome, IfErr, map};
+ghost use Rattle.std.specs.Prelude.{◌≡◌, ◌≤◌, ◌<◌, ◌⊎◌, ℕ, List, IfOk, IfSome, IfErr, OnOk, map};
 ghost use Rattle.sja_plan.specs.Words.{words, number_of, SpellsWithin, SpellsNode, SpellsByte, SpellsMessage};
 
 use super::text_fault::TextFault;
@@ -11,18 +11,18 @@ use std::alloc::{AllocError, Global};
 /// The greatest number that seven digits spell.
 pub(crate) const GREATEST: u32 = 9_999_999;
 
-/// The words of a text: what stands between its spaces.
-pub(crate) fn words_of<'a>(alloc: Global, text: &'a str) -> Result<Vec<&'a str>, AllocError>
-    ensures { IfOk result (λ v. map (λ w. w.now) v.items ≡ words text.entry.now) }
+/// The words of a text, what stands between its spaces, in the place of those that were found before.
+pub(crate) fn find_words<'a>(found: &mut Vec<&'a str>, text: &'a str) -> Result<(), AllocError>
+    ensures { OnOk result (map (λ w. w.now) found.new.items ≡ words text.entry.now) }
 {
-    let mut found = Vec::new(alloc);
+    found.clear();
     let mut rest = text;
     while let Some((word, behind)) = rest.split_once(' ') {
         found.push(word)?;
         rest = behind;
     }
     found.push(rest)?;
-    Ok(found)
+    Ok(())
 }
 
 /// The number that a word spells with one to seven digits.
