@@ -48,7 +48,7 @@ fn put_step(text: &mut String, number: usize, done: &Done) -> Result<(), AllocEr
 {
     write!(text, "step {number}")?;
     put_answer(text, &done.answer)?;
-    writeln!(text)?;
+    text.push('\n')?;
     Ok(())
 }
 
@@ -87,8 +87,8 @@ fn put_message(text: &mut String, word: &str, message: &Message) -> Result<(), A
     ensures { OnOk result (string_bytes text.new ≡ string_bytes text.old
         ++ line_text (message_line word.now message.now)) }
 {
-    write!(text, "{word}")?;
+    text.push_str(word)?;
     put_bytes(text, message)?;
-    writeln!(text)?;
+    text.push('\n')?;
     Ok(())
 }

@@ -4,6 +4,7 @@ use Rattle.sja_report.proofs.Texts.{line_whole}
 use Rattle.sja_report.proofs.lines.put_step.Goals as goal
 
 pub returns : goal.returns
+unfolding lib.Utf8.encode
 returns c =
     line_whole _ _ _ _ (codes "step " ++ decimal c.args.number) (answer_words c.args.done.now.answer)
-    c.in_ok-write.ensures.bytes c.in_ok-put_answer.ensures c.in_ok-writeln.ensures.bytes
+    c.in_ok-write.ensures.bytes c.in_ok-put_answer.ensures c.in_ok-push.ensures.bytes
