@@ -128,4 +128,6 @@ breaks_later stands full orders_are One Before was mid now m left count f most b
   bits = many_more One Before was mid off.mid m off.run bits off.bits;
   before = off.before;
   stops = off.stops;
+  run_so_far = off.run_so_far;
+  left_so_far = off.left_so_far;
 }

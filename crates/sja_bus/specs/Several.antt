@@ -57,7 +57,7 @@ pub data AreBits {E B : Type 0} (One : Moment E B → Moment E B → Type 0) (Be
 abbrev pub WorksIf : {E B : Type 0} → Bool → Moment E B → Type 0
 WorksIf to_rest m = to_rest ≡ true → SomeWork m.bus.journals
 
--- fewer than so many bits, and then the next one didn't come to its end, with this fault
+-- fewer than so many bits, and then the next one didn't come to its end, with this fault; it isn't counted
 pub record BreaksOff {E B : Type 0} (stands : E → Lists → Type 0) (full : E → Type 0)
     (orders_are : B → ℕ → Orders → Type 0) (One : Moment E B → Moment E B → Type 0) (Before : Moment E B → Type 0)
     (count : ℕ) (was now : Moment E B) (f : BusFault) : Type 0 where
@@ -67,3 +67,5 @@ pub record BreaksOff {E B : Type 0} (stands : E → Lists → Type 0) (full : E 
   pub bits : AreBits One Before was run mid
   pub before : Before mid
   pub stops : StopsBit stands full (orders_are mid.board) mid.bus now.bus mid.links now.links f
+  pub run_so_far : now.bus.run ≡ mid.bus.run
+  pub left_so_far : now.bus.left ≡ mid.bus.left

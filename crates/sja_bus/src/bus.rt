@@ -150,7 +150,8 @@ impl Bus {
     /// nodes drive; all see the level, or the other one where the script strikes them; each received frame that passes is
     /// judged and put; each port is told the turn of the bit, unless there is nothing to tell.
     ///
-    /// Error: [`BusFault::BitsSpent`] where no bit is left; nothing changed. After any other fault the same always.
+    /// Error: [`BusFault::BitsSpent`] where no bit is left; nothing changed. After any other fault the same always. A bit
+    /// that doesn't come to its end isn't counted.
     pub fn bit<E: BusEnd, B: Board>(
         &mut self,
         links: &mut [E],
@@ -164,6 +165,7 @@ impl Bus {
         ensures script { self.new.script ≡ self.old.script }
         ensures nodes { length self.new.journals ≡ length self.old.journals }
         ensures bits { OnOk result ((self.new.run ≡ self.old.run + 1) × (self.new.left + 1 ≡ self.old.left)) }
+        ensures unrun { IfErr result (λ f. (self.new.run ≡ self.old.run) × (self.new.left ≡ self.old.left)) }
         ensures kept { OnOk result (KeepsAll E.stands self.old.journals self.new.journals links.old links.new) }
         ensures bit { OnOk result (IsBit (B.orders_are board.old) (B.told board.old board.new)
             (B.kept board.old board.new) self.old.script self.old.run self.old.untold self.old.journals self.new.journals) }
@@ -178,8 +180,12 @@ impl Bus {
             (result ≡ Err f) × IsStill self.old self.new links.old links.new board.old board.new }
     {
         self.goes_on()?;
-        let struck = self.struck.at(self.run);
-        match bit_all(self.seats.as_mut_slice(), links, board, struck) {
+        match bit_all(
+            self.seats.as_mut_slice(),
+            links,
+            board,
+            self.struck.at(self.run),
+        ) {
             Ok(()) => {
                 self.run += 1;
                 self.left -= 1;

@@ -80,6 +80,7 @@ pub(crate) fn on_all<E: BusEnd, B: Board>(
     ensures early { IfErr result (λ f. f.after < most) }
     ensures breaks { IfErr result (λ f. (left : ℕ) (now : BusValue) → most ≤ left →
         HaveRoom (room_for (from + left)) seats.old → now.journals ≡ journals_of seats.new →
+        now.run ≡ from + f.after → now.left ≡ left - f.after →
         BreaksOff E.stands E.full B.orders_are
         (IsOneBit E.same E.stands B.ports B.facts B.orders_are B.told B.kept) (WorksIf to_rest) most
         (moment_of struck.now.script from left seats.old links.old board.old)

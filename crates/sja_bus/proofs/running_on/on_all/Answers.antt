@@ -87,7 +87,7 @@ loop-run-preserved g c =
     }
 
 pub returns-in-Err-clause-breaks : goal.returns-in-Err-clause-breaks
-returns-in-Err-clause-breaks g c = λ left later enough rooms journals.
+returns-in-Err-clause-breaks g c = λ left later enough rooms journals run_is left_is.
     let E = g.E.BusEnd in let B = g.B.Board in let inv = c.loop-run.invariant in
     let script = c.args.struck.now.script in let from = c.args.from in let run = c.loop-run.run in
     let was = c.loop-run.seats in let now = c.tick_all.new.seats in
@@ -102,4 +102,6 @@ returns-in-Err-clause-breaks g c = λ left later enough rooms journals.
       before = λ yes. some_work was inv.bus.ready (c.goes_on.ensures.works goes yes);
       stops = stops_on E.same E.stands E.full (B.orders_are a) script (from + run) (left - run) (from + left) was now c.loop-run.links c.tick_all.new.links c.in-Err.fault later g.met.E.BusEnd.same_refl journals
           (omega (arith, early, enough)) c.tick_all.auto.seats (inv.rooms (room_for (from + left)) rooms) none c.in-Err.ensures.broken;
+      run_so_far = run_is;
+      left_so_far = left_is;
     }

@@ -59,6 +59,8 @@ returns-in_err-bit-clause-reason g c =
       bits = far.bits;
       before = works;
       stops = c.in_err-bit.ensures.reason right;
+      run_so_far = c.in_err-bit.ensures.unrun.0;
+      left_so_far = c.in_err-bit.ensures.unrun.1;
     })
 
 pub run_on-requires-clause-ids : goal.run_on-requires-clause-ids

@@ -85,4 +85,4 @@ returns-in-Err-clause-reason g c =
     let P : List Seat → Type 0 = λ l. HaveRoom (room_for (b.run + b.left)) l → A (bus_of script b.run b.left l) (end now) in
     let Q : BusValue → Type 0 = λ w. A w (end now) in
     let S : List Seat → Type 0 = λ l. A c.args.self.now (end l) in
-    subst S (sym e) (subst Q start (subst P v (λ r. c.in-Err.ensures.breaks b.left (end now) left r refl) rooms))
+    subst S (sym e) (subst Q start (subst P v (λ r. c.in-Err.ensures.breaks b.left (end now) left r refl refl refl) rooms))
