@@ -4,7 +4,9 @@ pub mod Steps
 pub mod OnBus
 pub mod AskingOff
 pub mod Orders
+pub mod Parted
 pub mod Reading
+pub mod Judging
 pub mod Lawfuls
 pub mod Moving
 pub mod Seating

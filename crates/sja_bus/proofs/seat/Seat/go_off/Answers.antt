@@ -5,7 +5,8 @@ use Rattle.sja_bus.specs.declared.activity.Activity.{Activity}
 use Rattle.sja_bus.specs.Inside.Following.{Reads, open_in}
 use Rattle.sja_bus.proofs.Lists.{ok_map}
 use Rattle.sja_bus.proofs.Steps.{follows_off}
-use Rattle.sja_bus.proofs.Reading.{reads_off, runs_at, stands_at}
+use Rattle.sja_bus.proofs.Parted.{stands_at}
+use Rattle.sja_bus.proofs.Reading.{reads_off, runs_at}
 use Rattle.sja_bus.proofs.Moving.{moves_push}
 use Rattle.sja_bus.proofs.seat.Seat.go_off.Goals as goal
 

@@ -6,7 +6,9 @@ use Rattle.sja_link.specs.Parts.{part}
 use Rattle.sja_link.specs.Verdicts.{entry_of}
 use Rattle.sja_bus.specs.declared.seat.Seat.{Seat}
 use Rattle.sja_bus.proofs.Seating.{reads_by}
-use Rattle.sja_bus.proofs.Reading.{due_now, reads_quiet, reads_here, verdict_stays, verdict_no_stop, stays_of, runs_at, stands_at, place_same, off_less, reads_running, verdict_orderly}
+use Rattle.sja_bus.proofs.Parted.{stays_of, stands_at, place_same, off_less}
+use Rattle.sja_bus.proofs.Reading.{reads_quiet, reads_here, runs_at, reads_running}
+use Rattle.sja_bus.proofs.Judging.{due_now, verdict_stays, verdict_no_stop, verdict_orderly}
 use Rattle.sja_bus.proofs.Orders.{no_off_put}
 use Rattle.sja_bus.proofs.Moving.{moves_push, moves_quiet, moves_trans}
 use Rattle.sja_bus.proofs.seat.Seat.judge.Goals as goal
