@@ -11,21 +11,20 @@ returns-clause-stays g c =
     let e = g.E.DriverEnd in
     let laws = g.met.E.DriverEnd in
     let entered = c.enter.ensures in
-    let tried = c.window_step-tried in
     stays_lawful e.link e.same c.args.self.now _ c.args.links.now c.args.base c.args.bits c.turn.result
-    c.index-links-here.result _ tried.result c.enter.result laws.same_refl laws.same_link c.requires c.turn.ensures
-    tried.ensures.same refl entered.met entered.done entered.released entered.left entered.done_room
-    entered.release_room entered.left_room (tried.ensures.acts (at_power_on 1)).place
+    c.index-links-here.result _ c.window_step-tried.result c.enter.result laws.same_refl laws.same_link c.requires
+    c.turn.ensures c.window_step-tried.ensures.same refl entered.met entered.done entered.released entered.left
+    entered.done_room entered.release_room entered.left_room
+    ((c.window_step-tried.ensures.acts (at_power_on 1)).place)
 
 pub returns-clause-steps : goal.returns-clause-steps
 returns-clause-steps g c = λ p.
     let e = g.E.DriverEnd in
     let entered = c.enter.ensures in
-    let tried = c.window_step-tried in
-    steps_of e.stands e.dry e.full c.args.self.now _ c.args.links.now c.args.base c.args.bits c.turn.result
-    p p step.Window c.index-links-here.result tried.new.end tried.result c.enter.result
-    c.requires.lawful c.requires.eight c.turn.ensures (tried.ensures.acts p) entered.met entered.done entered.released
-    entered.left
+    steps_of e.stands e.dry e.full c.args.self.now _ c.args.links.now c.args.base c.args.bits c.turn.result p p
+    step.Window c.index-links-here.result c.window_step-tried.new.end c.window_step-tried.result c.enter.result
+    c.requires.lawful c.requires.eight c.turn.ensures (c.window_step-tried.ensures.acts p) entered.met entered.done
+    entered.released entered.left
 
 pub enter-requires-clause-fits : goal.enter-requires-clause-fits
 enter-requires-clause-fits g c =
