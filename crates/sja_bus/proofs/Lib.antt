@@ -31,5 +31,6 @@ pub mod Stretches
 pub mod QuietBits
 pub mod Logs
 pub mod RunningOn
+pub mod RanOn
 pub mod Boards
 pub mod SoFar

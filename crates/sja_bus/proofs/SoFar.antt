@@ -1,14 +1,16 @@
--- Bits one after another.
-use Rattle.std.proofs.Common.{◌≤◌, ◌≡◌, ◌+◌, ℕ, suc, None, length, refl, ◌∙◌, subst, arith}
+-- Bits one after another, as far as they came.
+use Rattle.std.proofs.Common.{◌≡◌, ℕ, suc, ◌+◌, ◌≤◌, Bool, None, length, refl, ◌∙◌, subst, arith}
 use Rattle.sja_link.specs.Lists.{Lists}
-use Rattle.sja_regs.specs.declared.bus_turn.BusTurn.{BusTurn}
+use Rattle.sja_link.specs.declared.bus_end.BusEnd.{Ghosts as Ends}
 use Rattle.sja_regs.specs.declared.orders.Orders.{Orders}
+use Rattle.sja_bus.specs.declared.board.Board.{Ghosts as Ports}
 use Rattle.sja_bus.specs.declared.bus_fault.BusFault.{BusFault}
 use Rattle.sja_bus.specs.Boards.{KeepsOthers}
-use Rattle.sja_bus.specs.Links.{EachRelated}
-use Rattle.sja_bus.specs.Several.{Moment, IsOneBit, AreBits, BreaksOff}
+use Rattle.sja_bus.specs.Several.{Moment, OneBit, AreBits, WorksIf, BreaksOff}
 use Rattle.sja_bus.specs.Several.AreBits.{no_bit, one_more}
-use Rattle.sja_bus.proofs.Lists.{each_refl, each_trans}
+use Rattle.sja_bus.specs.Inside.RunningOn.{AreFor, Keeps, IsSoFar}
+use Rattle.sja_bus.proofs.Lists.{each_refl, each_trans, each_length}
+use Rattle.sja_bus.proofs.Many.{numbered_kept}
 
 -- the ports from a number on are as they were, over two times
 pub others_trans : {B : Type 0} (ports : B → ℕ) (kept : B → B → ℕ → Type 0) →
@@ -16,56 +18,6 @@ pub others_trans : {B : Type 0} (ports : B → ℕ) (kept : B → B → ℕ → 
     KeepsOthers ports kept nodes a b → KeepsOthers ports kept same b c → KeepsOthers ports kept nodes a c
 others_trans ports kept trans nodes same a b c e p q =
     (q.0 ∙ p.0, λ k far. trans a b c k (p.1 k far) (q.1 k (omega (arith, far, e))))
-
--- so many bits so far, and what they keep
-pub record IsSoFar {E B : Type 0} (same : E → E → Type 0) (ports : B → ℕ) (kept : B → B → ℕ → Type 0)
-    (One : Moment E B → Moment E B → Type 0) (Before : Moment E B → Type 0) (was now : Moment E B) (n : ℕ) : Type 0 where
-  pub sames : EachRelated same was.links now.links
-  pub others : KeepsOthers ports kept (length was.bus.journals) was.board now.board
-  pub script : now.bus.script ≡ was.bus.script
-  pub nodes : length now.bus.journals ≡ length was.bus.journals
-  pub left : now.bus.left + n ≡ was.bus.left
-  pub right : now.bus.fault ≡ None
-  pub bits : AreBits One Before was n now
-
-pub none_yet : {E B : Type 0} (same : E → E → Type 0) (ports : B → ℕ) (kept : B → B → ℕ → Type 0)
-    (One : Moment E B → Moment E B → Type 0) (Before : Moment E B → Type 0) →
-    ((e : E) → same e e) → ((b : B) (k : ℕ) → kept b b k) →
-    (m : Moment E B) → m.bus.fault ≡ None → IsSoFar same ports kept One Before m m 0
-none_yet same ports kept One Before same_refl kept_refl m right = record {
-  sames = each_refl same same_refl m.links;
-  others = (refl, λ k far. kept_refl m.board k);
-  script = refl;
-  nodes = refl;
-  left = omega arith;
-  right = right;
-  bits = no_bit m;
-}
-
--- and one more
-pub and_one : {E B : Type 0} (same : E → E → Type 0) (stands : E → Lists → Type 0) (ports : B → ℕ)
-    (facts : B → Type 0) (orders_are : B → ℕ → Orders → Type 0) (told : B → B → ℕ → BusTurn → Type 0)
-    (kept : B → B → ℕ → Type 0) (Before : Moment E B → Type 0) →
-    ((a b c : E) → same a b → same b c → same a c) →
-    ((a b c : B) (k : ℕ) → kept a b k → kept b c k → kept a c k) →
-    (was mid now : Moment E B) (n : ℕ) →
-    IsSoFar same ports kept (IsOneBit same stands ports facts orders_are told kept) Before was mid n → Before mid →
-    IsOneBit same stands ports facts orders_are told kept mid now →
-    IsSoFar same ports kept (IsOneBit same stands ports facts orders_are told kept) Before was now (n + 1)
-and_one same stands ports facts orders_are told kept Before same_trans kept_trans was mid now n far before one =
-    let left = far.left in let less = one.left in
-    let One = IsOneBit same stands ports facts orders_are told kept in
-    let next : suc n ≡ n + 1 = omega arith in
-    let P : ℕ → Type 0 = λ m. AreBits One Before was m now in record {
-      sames = each_trans same same_trans was.links mid.links now.links far.sames one.sames;
-      others = others_trans ports kept kept_trans (length was.bus.journals) (length mid.bus.journals) was.board mid.board
-          now.board far.nodes far.others one.others;
-      script = one.script ∙ far.script;
-      nodes = one.nodes ∙ far.nodes;
-      left = omega (arith, left, less);
-      right = one.right;
-      bits = subst P next (one_more was mid now n far.bits before one);
-    }
 
 -- bits after bits
 pub many_more : {E B : Type 0} (One : Moment E B → Moment E B → Type 0) (Before : Moment E B → Type 0)
@@ -78,43 +30,6 @@ many_more One Before was _ _ m _ p (one_more mid last now k q before one) =
     let P : ℕ → Type 0 = λ x. AreBits One Before was x now in
     let is : suc (m + k) ≡ m + suc k = omega arith in
     subst P is (one_more was last now (m + k) (many_more One Before was mid last m k p q) before one)
-
--- as many bits less are left
-pub left_after : {E B : Type 0} (same : E → E → Type 0) (stands : E → Lists → Type 0) (ports : B → ℕ)
-    (facts : B → Type 0) (orders_are : B → ℕ → Orders → Type 0) (told : B → B → ℕ → BusTurn → Type 0)
-    (kept : B → B → ℕ → Type 0) (Before : Moment E B → Type 0) (was now : Moment E B) (n : ℕ) →
-    AreBits (IsOneBit same stands ports facts orders_are told kept) Before was n now →
-    now.bus.left + n ≡ was.bus.left
-left_after same stands ports facts orders_are told kept Before _ _ _ (no_bit was) = omega arith
-left_after same stands ports facts orders_are told kept Before _ _ _ (one_more was mid now k p before one) =
-    let far = left_after same stands ports facts orders_are told kept Before was mid k p in let less = one.left in
-    omega (arith, far, less)
-
--- and as many more
-pub and_more : {E B : Type 0} (same : E → E → Type 0) (stands : E → Lists → Type 0) (ports : B → ℕ)
-    (facts : B → Type 0) (orders_are : B → ℕ → Orders → Type 0) (told : B → B → ℕ → BusTurn → Type 0)
-    (kept : B → B → ℕ → Type 0) (Before : Moment E B → Type 0) →
-    ((a b c : E) → same a b → same b c → same a c) →
-    ((a b c : B) (k : ℕ) → kept a b k → kept b c k → kept a c k) →
-    (was mid now : Moment E B) (m n : ℕ) →
-    IsSoFar same ports kept (IsOneBit same stands ports facts orders_are told kept) Before was mid m →
-    EachRelated same mid.links now.links → KeepsOthers ports kept (length mid.bus.journals) mid.board now.board →
-    now.bus.script ≡ mid.bus.script → length now.bus.journals ≡ length mid.bus.journals → now.bus.fault ≡ None →
-    AreBits (IsOneBit same stands ports facts orders_are told kept) Before mid n now →
-    IsSoFar same ports kept (IsOneBit same stands ports facts orders_are told kept) Before was now (m + n)
-and_more same stands ports facts orders_are told kept Before same_trans kept_trans was mid now m n far sames others script
-    nodes right bits =
-    let left = far.left in
-    let less = left_after same stands ports facts orders_are told kept Before mid now n bits in record {
-      sames = each_trans same same_trans was.links mid.links now.links far.sames sames;
-      others = others_trans ports kept kept_trans (length was.bus.journals) (length mid.bus.journals) was.board mid.board
-          now.board far.nodes far.others others;
-      script = script ∙ far.script;
-      nodes = nodes ∙ far.nodes;
-      left = omega (arith, left, less);
-      right = right;
-      bits = many_more (IsOneBit same stands ports facts orders_are told kept) Before was mid now m n far.bits bits;
-    }
 
 -- bits, and then some of which one broke off
 pub breaks_later : {E B : Type 0} (stands : E → Lists → Type 0) (full : E → Type 0) (orders_are : B → ℕ → Orders → Type 0)
@@ -131,3 +46,63 @@ breaks_later stands full orders_are One Before was mid now m left count f most b
   run_so_far = off.run_so_far;
   left_so_far = off.left_so_far;
 }
+
+module _ {E B : Type 0} (e : Ends E) (b : Ports B) where
+  -- links and ports for the nodes stay such
+  pub still_for : ((x y : E) → e.same x y → e.link y ≡ e.link x) → (was now : Moment E B) → Keeps e b was now →
+      AreFor e.link was.links (length was.bus.journals) (b.ports was.board) →
+      AreFor e.link now.links (length now.bus.journals) (b.ports now.board)
+  still_for same_link was now keeps are =
+      let nodes = keeps.nodes in let count = are.count in let ports = are.ports in let boards = keeps.others.0 in
+      let len = each_length e.same was.links now.links keeps.sames in record {
+        count = omega (arith, nodes, count, len);
+        ids = numbered_kept e.link e.same same_link was.links now.links keeps.sames are.ids;
+        ports = omega (arith, nodes, ports, boards);
+      }
+
+  pub keeps_trans : ((x y z : E) → e.same x y → e.same y z → e.same x z) →
+      ((x y z : B) (k : ℕ) → b.kept x y k → b.kept y z k → b.kept x z k) → (was mid now : Moment E B) →
+      Keeps e b was mid → Keeps e b mid now → Keeps e b was now
+  keeps_trans same_trans kept_trans was mid now p q = record {
+    sames = each_trans e.same same_trans was.links mid.links now.links p.sames q.sames;
+    others = others_trans b.ports b.kept kept_trans (length was.bus.journals) (length mid.bus.journals) was.board
+        mid.board now.board p.nodes p.others q.others;
+    script = q.script ∙ p.script;
+    nodes = q.nodes ∙ p.nodes;
+  }
+
+  -- none so far
+  pub none_yet : ((x : E) → e.same x x) → ((x : B) (k : ℕ) → b.kept x x k) → (to_rest : Bool) (m : Moment E B) →
+      m.bus.fault ≡ None → IsSoFar e b to_rest m 0 m
+  none_yet same_refl kept_refl to_rest m right = record {
+    keeps = record {
+      sames = each_refl e.same same_refl m.links;
+      others = (refl, λ k far. kept_refl m.board k);
+      script = refl;
+      nodes = refl;
+    };
+    left = omega arith;
+    right = right;
+    bits = no_bit m;
+  }
+
+  module _ (same_trans : (x y z : E) → e.same x y → e.same y z → e.same x z)
+      (kept_trans : (x y z : B) (k : ℕ) → b.kept x y k → b.kept y z k → b.kept x z k) (to_rest : Bool)
+      (was mid now : Moment E B) (m : ℕ) (far : IsSoFar e b to_rest was m mid) where
+    -- and so many more
+    pub and_more : (n : ℕ) → IsSoFar e b to_rest mid n now → IsSoFar e b to_rest was (m + n) now
+    and_more n on = let left = far.left in let less = on.left in record {
+      keeps = keeps_trans same_trans kept_trans was mid now far.keeps on.keeps;
+      left = omega (arith, left, less);
+      right = on.right;
+      bits = many_more (OneBit e b) (WorksIf to_rest) was mid now m n far.bits on.bits;
+    }
+
+    -- and one more
+    pub and_one : WorksIf to_rest mid → OneBit e b mid now → IsSoFar e b to_rest was (m + 1) now
+    and_one before one = let left = one.left in and_more 1 (record {
+      keeps = record { sames = one.sames; others = one.others; script = one.script; nodes = one.nodes };
+      left = left;
+      right = one.right;
+      bits = one_more mid mid now 0 (no_bit mid) before one;
+    })

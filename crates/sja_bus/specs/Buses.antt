@@ -9,6 +9,7 @@ use Rattle.sja_script.specs.declared.strike.Strike.{Strike}
 use Rattle.sja_script.specs.Striking.{Strikes}
 use Rattle.sja_regs.specs.declared.orders.Orders.{Orders}
 use Rattle.sja_regs.specs.declared.bus_turn.BusTurn.{BusTurn}
+use Rattle.sja_bus.specs.declared.board.Board.{Ghosts as Ports}
 use Rattle.sja_bus.specs.declared.bus_fault.BusFault.{BusFault}
 use Rattle.sja_bus.specs.Wire.{wired, IsSeen, journal_at}
 use Rattle.sja_bus.specs.Links.{per_node, Kept, stops_of}
@@ -94,3 +95,8 @@ pub record IsBit (orders_are : ℕ → Orders → Type 0) (was_told : ℕ → Bu
       IsNodeBit (orders_are node) (was_told node) (was_kept node) (untold_at untold node) (journal_at before node)
       (journal_at after node) (slice_index_or driven node Recessive) (seen node)
   pub sees : (node : ℕ) → node < length before → IsSeen (Strikes script n node) (wired driven) (seen node)
+
+-- the next bit of a bus, whose ports were as they were before and are as they are now
+abbrev pub IsBitOf : {B : Type 0} → Ports B → B → B → BusValue → List (List Entry) → Type 0
+IsBitOf p was now bus after =
+    IsBit (p.orders_are was) (p.told was now) (p.kept was now) bus.script bus.run bus.untold bus.journals after

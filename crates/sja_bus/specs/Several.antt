@@ -3,8 +3,10 @@ use Rattle.std.specs.Prelude.{◌≡◌, ◌+◌, ◌<◌, ℕ, suc, true, false
 use Rattle.sja_link.specs.declared.entry.Entry.{Entry}
 use Rattle.sja_link.specs.Lists.{Lists}
 use Rattle.sja_link.specs.Records.{record_of}
+use Rattle.sja_link.specs.declared.bus_end.BusEnd.{Ghosts as Ends}
 use Rattle.sja_regs.specs.declared.orders.Orders.{Orders}
 use Rattle.sja_regs.specs.declared.bus_turn.BusTurn.{BusTurn}
+use Rattle.sja_bus.specs.declared.board.Board.{Ghosts as Ports}
 use Rattle.sja_bus.specs.declared.bus_fault.BusFault.{BusFault}
 use Rattle.sja_bus.specs.Boards.{KeepsOthers}
 use Rattle.sja_bus.specs.Buses.{BusValue, KeepsAll, AllTold, IsBit}
@@ -28,6 +30,10 @@ pub record Moment (E B : Type 0) : Type 0 where
   pub links : List E
   pub board : B
 
+-- this bus with these links and ports
+abbrev pub moment : {E B : Type 0} → BusValue → List E → B → Moment E B
+moment bus links board = record { bus = bus; links = links; board = board }
+
 -- one bit, which went well: what a call of `bit` says, what holds of every bus after it, and what holds of every board
 pub record IsOneBit {E B : Type 0} (same : E → E → Type 0) (stands : E → Lists → Type 0) (ports : B → ℕ)
     (facts : B → Type 0) (orders_are : B → ℕ → Orders → Type 0) (told : B → B → ℕ → BusTurn → Type 0)
@@ -45,6 +51,10 @@ pub record IsOneBit {E B : Type 0} (same : E → E → Type 0) (stands : E → L
   pub right : now.bus.fault ≡ None
   pub lawful : IsBusRun now.bus.script now.bus.run now.bus.journals
   pub are_facts : facts now.board
+
+-- the same over ends of links and ports of these kinds
+abbrev pub OneBit : {E B : Type 0} → Ends E → Ports B → Moment E B → Moment E B → Type 0
+OneBit e b = IsOneBit e.same e.stands b.ports b.facts b.orders_are b.told b.kept
 
 -- so many bits, each of which is such a bit, and before each of which this held
 pub data AreBits {E B : Type 0} (One : Moment E B → Moment E B → Type 0) (Before : Moment E B → Type 0) :
@@ -69,3 +79,12 @@ pub record BreaksOff {E B : Type 0} (stands : E → Lists → Type 0) (full : E 
   pub stops : StopsBit stands full (orders_are mid.board) mid.bus now.bus mid.links now.links f
   pub run_so_far : now.bus.run ≡ mid.bus.run
   pub left_so_far : now.bus.left ≡ mid.bus.left
+
+-- so many bits over ends of links and ports of these kinds, before each of which some node works, where that was asked
+-- for
+abbrev pub RunsBits : {E B : Type 0} → Ends E → Ports B → Bool → Moment E B → ℕ → Moment E B → Type 0
+RunsBits e b to_rest = AreBits (OneBit e b) (WorksIf to_rest)
+
+-- fewer than so many of these bits, and then one that didn't come to its end, with this fault
+abbrev pub StopsBits : {E B : Type 0} → Ends E → Ports B → Bool → ℕ → Moment E B → Moment E B → BusFault → Type 0
+StopsBits e b to_rest = BreaksOff e.stands e.full b.orders_are (OneBit e b) (WorksIf to_rest)

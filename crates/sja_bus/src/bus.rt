@@ -66,7 +66,7 @@ impl Bus {
     ghost use Rattle.sja_bus.specs.Wire.{journal_at};
     ghost use Rattle.sja_bus.specs.Resting.{RestsAs};
     ghost use Rattle.sja_bus.specs.Lawful.{IsBusRun, CountersAre};
-    ghost use Rattle.sja_bus.specs.Buses.{EachJournal, KeepsAll, AllDry, IsBit, new_bus, EachUntold, AllTold, IsStill};
+    ghost use Rattle.sja_bus.specs.Buses.{EachJournal, KeepsAll, AllDry, IsBitOf, new_bus, EachUntold, AllTold, IsStill};
     ghost use Rattle.sja_bus.specs.Reasons.{IsNotTaken, StopsBit};
     ghost use Rattle.sja_bus.specs.Boards.{KeepsOthers};
 
@@ -167,8 +167,7 @@ impl Bus {
         ensures bits { OnOk result ((self.new.run ≡ self.old.run + 1) × (self.new.left + 1 ≡ self.old.left)) }
         ensures unrun { IfErr result (λ f. (self.new.run ≡ self.old.run) × (self.new.left ≡ self.old.left)) }
         ensures kept { OnOk result (KeepsAll E.stands self.old.journals self.new.journals links.old links.new) }
-        ensures bit { OnOk result (IsBit (B.orders_are board.old) (B.told board.old board.new)
-            (B.kept board.old board.new) self.old.script self.old.run self.old.untold self.old.journals self.new.journals) }
+        ensures bit { OnOk result (IsBitOf B.Board board.old board.new self.old self.new.journals) }
         ensures told { OnOk result (AllTold (length self.old.journals) self.new.untold) }
         ensures right { OnOk result (self.new.fault ≡ None) }
         ensures fault { IfErr result (λ f. (f ≡ BitsSpent) ⊎ (self.new.fault ≡ Some f)) }
@@ -180,12 +179,8 @@ impl Bus {
             (result ≡ Err f) × IsStill self.old self.new links.old links.new board.old board.new }
     {
         self.goes_on()?;
-        match bit_all(
-            self.seats.as_mut_slice(),
-            links,
-            board,
-            self.struck.at(self.run),
-        ) {
+        let struck = self.struck.at(self.run);
+        match bit_all(self.seats.as_mut_slice(), links, board, struck) {
             Ok(()) => {
                 self.run += 1;
                 self.left -= 1;

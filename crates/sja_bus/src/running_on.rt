@@ -1,17 +1,14 @@
 //! Bits of a bus in which nothing is taken and nothing aborted.
 
-ghost use Rattle.std.specs.Prelude.{◌≡◌, ◌+◌, ◌-◌, ◌<◌, ◌≤◌, ℕ, true, false, length, slice_index_or, IfOk, OnOk, IfErr};
+ghost use Rattle.std.specs.Prelude.{◌≡◌, ◌+◌, ◌-◌, ◌<◌, ◌≤◌, ℕ, true, false, length, slice_index_or, IfOk, OnOk, IfErr, MatchResult};
 ghost use Rattle.can_node.specs.Stands.{ShowsRest};
 ghost use Rattle.sja_bus.specs.declared.seat.Seat.{Seat as Seated};
 ghost use Rattle.sja_bus.specs.StrikesByBit.{IsAmong};
 ghost use Rattle.sja_bus.specs.Boards.{KeepsOthers};
-ghost use Rattle.sja_bus.specs.Buses.{BusValue};
 ghost use Rattle.sja_bus.specs.Links.{EachRelated};
-ghost use Rattle.sja_bus.specs.Reasons.{room_for};
-ghost use Rattle.sja_bus.specs.Several.{AreBits, BreaksOff, IsOneBit, WorksIf};
 ghost use Rattle.sja_bus.specs.Inside.Refusing.{HaveRoom};
-ghost use Rattle.sja_bus.specs.Inside.Rows.{AreReady, AreSeated, IsBus, journals_of};
-ghost use Rattle.sja_bus.specs.Inside.RunningOn.{NoneAborts, moment_of};
+ghost use Rattle.sja_bus.specs.Inside.Rows.{AreReady, AreSeated, IsBus};
+ghost use Rattle.sja_bus.specs.Inside.RunningOn.{NoneAborts, RowsRun, RowsStop};
 
 use super::all_nodes::{level_of, tick_all};
 use super::board::Board;
@@ -66,25 +63,15 @@ pub(crate) fn on_all<E: BusEnd, B: Board>(
     requires seated { AreSeated E.link seats.old links.old (B.ports board.old) }
     requires orders { NoneAborts (B.orders_are board.old) (length seats.old) }
     requires bus { IsBus struck.now.script from seats.old }
-    requires within { from + most ≤ struck.now.bits }
-    requires bits { struck.now.bits ≤ 200000 }
+    requires within { (from + most ≤ struck.now.bits) × (struck.now.bits ≤ 200000) }
     ensures sames { EachRelated E.same links.old links.new }
     ensures others { KeepsOthers B.ports B.kept (length seats.old) board.old board.new }
-    ensures most { IfOk result (λ n. n ≤ most) }
-    ensures bus { IfOk result (λ n. IsBus struck.now.script (from + n) seats.new) }
+    ensures most { MatchResult result (λ n. n ≤ most) (λ f. f.after < most) }
     ensures rooms { OnOk result ((n : ℕ) → HaveRoom n seats.old → HaveRoom n seats.new) }
-    ensures bits { IfOk result (λ n. (left : ℕ) → most ≤ left →
-        AreBits (IsOneBit E.same E.stands B.ports B.facts B.orders_are B.told B.kept) (WorksIf to_rest)
-        (moment_of struck.now.script from left seats.old links.old board.old) n
-        (moment_of struck.now.script (from + n) (left - n) seats.new links.new board.new)) }
-    ensures early { IfErr result (λ f. f.after < most) }
-    ensures breaks { IfErr result (λ f. (left : ℕ) (now : BusValue) → most ≤ left →
-        HaveRoom (room_for (from + left)) seats.old → now.journals ≡ journals_of seats.new →
-        now.run ≡ from + f.after → now.left ≡ left - f.after →
-        BreaksOff E.stands E.full B.orders_are
-        (IsOneBit E.same E.stands B.ports B.facts B.orders_are B.told B.kept) (WorksIf to_rest) most
-        (moment_of struck.now.script from left seats.old links.old board.old)
-        (record { bus = now; links = links.new; board = board.new }) f.fault) }
+    ensures runs { IfOk result (λ n. RowsRun E.BusEnd B.Board to_rest struck.now.script from most
+        seats.old seats.new links.old links.new board.old board.new n) }
+    ensures breaks { IfErr result (λ f. RowsStop E.BusEnd B.Board to_rest struck.now.script from most
+        seats.old seats.new links.old links.new board.old board.new f) }
 {
     let mut level = level_of(seats);
     for run in 0..most {
@@ -106,10 +93,9 @@ pub(crate) fn on_all<E: BusEnd, B: Board>(
 }
 
 impl Bus {
-    ghost use Rattle.std.specs.Prelude.{◌≡◌, ◌*◌, ◌≤◌, None, Some, length, OnOk, IfOk, IfErr};
-    ghost use Rattle.sja_bus.specs.Boards.{KeepsOthers};
-    ghost use Rattle.sja_bus.specs.Links.{EachRelated, Numbered};
-    ghost use Rattle.sja_bus.specs.Several.{AreBits, BreaksOff, IsOneBit, WorksIf};
+    ghost use Rattle.std.specs.Prelude.{◌≡◌, ◌≤◌, None, length, IfOk, IfErr};
+    ghost use Rattle.sja_bus.specs.Several.{moment};
+    ghost use Rattle.sja_bus.specs.Inside.RunningOn.{AreFor, IsSoFar, IsStopped};
 
     /// Further bits, at most so many: none where an abort stands at some port, and else as far as no strike falls, with
     /// `to_rest` as long as some node works, up to and with the first in which a port is told something. Answers how
@@ -125,39 +111,20 @@ impl Bus {
         count: u32,
         to_rest: bool,
     ) -> Result<u32, BusFault>
-        requires count { length links.old ≡ 8 * length self.old.journals }
-        requires ids { Numbered E.link links.old }
-        requires ports { length self.old.journals ≤ B.ports board.old }
+        requires fit { AreFor E.link links.old (length self.old.journals) (B.ports board.old) }
         requires right { self.old.fault ≡ None }
         requires most { count ≤ self.old.left }
-        ensures sames { EachRelated E.same links.old links.new }
-        ensures others { KeepsOthers B.ports B.kept (length self.old.journals) board.old board.new }
-        ensures script { self.new.script ≡ self.old.script }
-        ensures nodes { length self.new.journals ≡ length self.old.journals }
         ensures most { IfOk result (λ n. n ≤ count) }
-        ensures bits { IfOk result (λ n.
-            AreBits (IsOneBit E.same E.stands B.ports B.facts B.orders_are B.told B.kept) (WorksIf to_rest)
-            (record { bus = self.old; links = links.old; board = board.old }) n
-            (record { bus = self.new; links = links.new; board = board.new })) }
-        ensures right { OnOk result (self.new.fault ≡ None) }
-        ensures fault { IfErr result (λ f. self.new.fault ≡ Some f) }
-        ensures reason { IfErr result (λ f. BreaksOff E.stands E.full B.orders_are
-            (IsOneBit E.same E.stands B.ports B.facts B.orders_are B.told B.kept) (WorksIf to_rest) count
-            (record { bus = self.old; links = links.old; board = board.old })
-            (record { bus = self.new; links = links.new; board = board.new }) f) }
+        ensures runs { IfOk result (λ n. IsSoFar E.BusEnd B.Board to_rest
+            (moment self.old links.old board.old) n (moment self.new links.new board.new)) }
+        ensures stops { IfErr result (λ f. IsStopped E.BusEnd B.Board to_rest count
+            (moment self.old links.old board.old) (moment self.new links.new board.new) f) }
     {
         if !none_aborts(self.seats.as_slice(), board) {
             return Ok(0);
         }
-        match on_all(
-            self.seats.as_mut_slice(),
-            links,
-            board,
-            &self.struck,
-            self.run,
-            count,
-            to_rest,
-        ) {
+        let seats = self.seats.as_mut_slice();
+        match on_all(seats, links, board, &self.struck, self.run, count, to_rest) {
             Ok(bits) => {
                 self.run += bits;
                 self.left -= bits;

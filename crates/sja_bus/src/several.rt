@@ -11,7 +11,7 @@ impl Bus {
     ghost use Rattle.sja_bus.specs.Links.{EachRelated, Numbered};
     ghost use Rattle.sja_bus.specs.Boards.{KeepsOthers};
     ghost use Rattle.sja_bus.specs.Buses.{IsStill};
-    ghost use Rattle.sja_bus.specs.Several.{AllRest, IsOneBit, AreBits, WorksIf, BreaksOff};
+    ghost use Rattle.sja_bus.specs.Several.{AllRest, moment, RunsBits, StopsBits};
 
     /// So many bits, or as many as are left.
     ///
@@ -53,18 +53,14 @@ impl Bus {
         ensures script { self.new.script ≡ self.old.script }
         ensures nodes { length self.new.journals ≡ length self.old.journals }
         ensures most { IfOk result (λ n. n ≤ count) }
-        ensures bits { IfOk result (λ n.
-            AreBits (IsOneBit E.same E.stands B.ports B.facts B.orders_are B.told B.kept) (WorksIf to_rest)
-            (record { bus = self.old; links = links.old; board = board.old }) n
-            (record { bus = self.new; links = links.new; board = board.new })) }
+        ensures bits { IfOk result (λ n. RunsBits E.BusEnd B.Board to_rest
+            (moment self.old links.old board.old) n (moment self.new links.new board.new)) }
         ensures whole { IfOk result (λ n.
             (n ≡ count) ⊎ (self.new.left ≡ 0) ⊎ ((to_rest ≡ true) × AllRest self.new.journals)) }
         ensures right { OnOk result (self.new.fault ≡ None) }
         ensures fault { IfErr result (λ f. self.new.fault ≡ Some f) }
-        ensures reason { IfErr result (λ f. self.old.fault ≡ None → BreaksOff E.stands E.full B.orders_are
-            (IsOneBit E.same E.stands B.ports B.facts B.orders_are B.told B.kept) (WorksIf to_rest) count
-            (record { bus = self.old; links = links.old; board = board.old })
-            (record { bus = self.new; links = links.new; board = board.new }) f) }
+        ensures reason { IfErr result (λ f. self.old.fault ≡ None → StopsBits E.BusEnd B.Board to_rest count
+            (moment self.old links.old board.old) (moment self.new links.new board.new) f) }
         ensures stays { (f : Fault) → self.old.fault ≡ Some f →
             (result ≡ Err f) × IsStill self.old self.new links.old links.new board.old board.new }
     {

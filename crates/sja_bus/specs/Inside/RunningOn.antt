@@ -1,11 +1,20 @@
 -- Bits in which the bus takes nothing and aborts nothing.
-use Rattle.std.specs.Prelude.{◌≡◌, ◌<◌, ℕ, false, None, List}
+use Rattle.std.specs.Prelude.{◌≡◌, ◌+◌, ◌-◌, ◌*◌, ◌<◌, ◌≤◌, ℕ, false, Bool, None, Some, List, length}
+use Rattle.sja_link.specs.declared.bus_end.BusEnd.{Ghosts as Ends}
+use Rattle.sja_link.specs.declared.link_id.LinkId.{LinkId}
 use Rattle.sja_regs.specs.declared.orders.Orders.{Orders}
 use Rattle.sja_script.specs.declared.strike.Strike.{Strike}
+use Rattle.sja_bus.specs.declared.board.Board.{Ghosts as Ports}
+use Rattle.sja_bus.specs.declared.broken_off.BrokenOff.{BrokenOff}
+use Rattle.sja_bus.specs.declared.bus_fault.BusFault.{BusFault}
 use Rattle.sja_bus.specs.declared.seat.Seat.{Seat}
+use Rattle.sja_bus.specs.Boards.{KeepsOthers}
 use Rattle.sja_bus.specs.Buses.{BusValue}
-use Rattle.sja_bus.specs.Several.{Moment}
-use Rattle.sja_bus.specs.Inside.Rows.{journals_of, untold_of}
+use Rattle.sja_bus.specs.Links.{EachRelated, Numbered}
+use Rattle.sja_bus.specs.Reasons.{room_for}
+use Rattle.sja_bus.specs.Several.{Moment, RunsBits, StopsBits}
+use Rattle.sja_bus.specs.Inside.Refusing.{HaveRoom}
+use Rattle.sja_bus.specs.Inside.Rows.{IsBus, journals_of, untold_of}
 
 -- each of so many ports has orders, and they want no abort
 abbrev pub NoneAborts : (ℕ → Orders → Type 0) → ℕ → Type 0
@@ -27,3 +36,49 @@ bus_of script run left seats =
 abbrev pub moment_of : {E B : Type 0} → List Strike → ℕ → ℕ → List Seat → List E → B → Moment E B
 moment_of script run left seats links board =
     record { bus = bus_of script run left seats; links = links; board = board }
+
+-- so many of these bits, however many are left that are enough, and the bus after them
+pub record RowsRun {E B : Type 0} (e : Ends E) (b : Ports B) (to_rest : Bool) (script : List Strike) (from most : ℕ)
+    (was now : List Seat) (links after : List E) (board told : B) (n : ℕ) : Type 0 where
+  pub bus : IsBus script (from + n) now
+  pub bits : (left : ℕ) → most ≤ left → RunsBits e b to_rest (moment_of script from left was links board) n
+      (moment_of script (from + n) (left - n) now after told)
+
+-- fewer than so many, and then one that broke off: so for every bus that counts just the bits before it
+abbrev pub RowsStop : {E B : Type 0} → Ends E → Ports B → Bool → List Strike → ℕ → ℕ → List Seat → List Seat → List E →
+    List E → B → B → BrokenOff → Type 0
+RowsStop e b to_rest script from most was now links after board told f =
+    (left : ℕ) (bus : BusValue) → most ≤ left → HaveRoom (room_for (from + left)) was →
+    bus.journals ≡ journals_of now → bus.run ≡ from + f.after → bus.left ≡ left - f.after →
+    StopsBits e b to_rest most (moment_of script from left was links board)
+    (record { bus = bus; links = after; board = told }) f.fault
+
+-- ---- by the bus
+
+-- links and ports for so many nodes, eight links of each
+pub record AreFor {E : Type 0} (link : E → LinkId) (links : List E) (nodes boards : ℕ) : Type 0 where
+  pub count : length links ≡ 8 * nodes
+  pub ids : Numbered link links
+  pub ports : nodes ≤ boards
+
+-- what all bits keep, also one that didn't come to its end
+pub record Keeps {E B : Type 0} (e : Ends E) (b : Ports B) (was now : Moment E B) : Type 0 where
+  pub sames : EachRelated e.same was.links now.links
+  pub others : KeepsOthers b.ports b.kept (length was.bus.journals) was.board now.board
+  pub script : now.bus.script ≡ was.bus.script
+  pub nodes : length now.bus.journals ≡ length was.bus.journals
+
+-- so many bits, which went well
+pub record IsSoFar {E B : Type 0} (e : Ends E) (b : Ports B) (to_rest : Bool) (was : Moment E B) (n : ℕ)
+    (now : Moment E B) : Type 0 where
+  pub keeps : Keeps e b was now
+  pub left : now.bus.left + n ≡ was.bus.left
+  pub right : now.bus.fault ≡ None
+  pub bits : RunsBits e b to_rest was n now
+
+-- fewer than so many bits, and then one that didn't come to its end
+pub record IsStopped {E B : Type 0} (e : Ends E) (b : Ports B) (to_rest : Bool) (count : ℕ) (was now : Moment E B)
+    (f : BusFault) : Type 0 where
+  pub keeps : Keeps e b was now
+  pub fault : now.bus.fault ≡ Some f
+  pub reason : StopsBits e b to_rest count was now f

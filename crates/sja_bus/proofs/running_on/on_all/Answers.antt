@@ -46,25 +46,20 @@ returns-in-Err-clause-sames g c =
 pub returns-then-end-clause-rooms : goal.returns-then-end-clause-rooms
 returns-then-end-clause-rooms g c = λ n h. c.in-Ok.ensures.rooms n (c.loop-run.invariant.rooms n h)
 
-pub returns-then-end-clause-bus : goal.returns-then-end-clause-bus
-returns-then-end-clause-bus g c =
-    let B = g.B.Board in let inv = c.loop-run.invariant in let a = c.loop-run.board in let z = c.tick_all.new.board in
-    let goes : c.goes_on.result ≡ true = search rules in
-    let pass = passes B.orders_are (B.told a z) (B.kept a z) c.args.struck.now.script (c.args.from + c.loop-run.run) (length c.args.seats.now) c.none.result c.at.result c.loop-run.level c.args.board.now a c.loop-run.seats c.tick_all.new.seats
-    c.requires.seated.few c.loop-run.auto.seats c.tick_all.auto.seats inv.board c.requires.orders c.none.ensures (c.goes_on.ensures.none goes) c.at.ensures inv.level c.in-Ok.ensures.turns c.in-Ok.ensures.ready inv.bus in
-    pass.bus (c.args.from + (c.loop-run.run + 1)) (omega arith)
-
-pub returns-then-end-clause-bits : goal.returns-then-end-clause-bits
-returns-then-end-clause-bits g c = λ left enough.
+pub returns-then-end-clause-runs : goal.returns-then-end-clause-runs
+returns-then-end-clause-runs g c =
     let E = g.E.BusEnd in
     let B = g.B.Board in let inv = c.loop-run.invariant in let a = c.loop-run.board in let z = c.tick_all.new.board in
     let goes : c.goes_on.result ≡ true = search rules in
     let pass = passes B.orders_are (B.told a z) (B.kept a z) c.args.struck.now.script (c.args.from + c.loop-run.run) (length c.args.seats.now) c.none.result c.at.result c.loop-run.level c.args.board.now a c.loop-run.seats c.tick_all.new.seats
-    c.requires.seated.few c.loop-run.auto.seats c.tick_all.auto.seats inv.board c.requires.orders c.none.ensures (c.goes_on.ensures.none goes) c.at.ensures inv.level c.in-Ok.ensures.turns c.in-Ok.ensures.ready inv.bus in
-    bits_on E.same E.stands B.ports B.facts B.orders_are B.told B.kept c.args.to_rest (moment_of c.args.struck.now.script c.args.from left c.args.seats.now c.args.links.now c.args.board.now)
-    c.args.struck.now.script c.args.from c.loop-run.run c.args.most left c.none.result c.loop-run.seats c.tick_all.new.seats c.loop-run.links c.tick_all.new.links a z (search rules) enough c.tick_all.auto.seats pass.few pass.at pass.row
-    c.tick_all.ensures.sames c.tick_all.ensures.board c.in-Ok.ensures.goes inv.bus (pass.bus (c.args.from + (c.loop-run.run + 1)) (omega arith)) c.keeps_its_facts.ensures
-    (λ yes. some_work c.loop-run.seats inv.bus.ready (c.goes_on.ensures.works goes yes)) (inv.bits left enough)
+    c.requires.seated.few c.loop-run.auto.seats c.tick_all.auto.seats inv.board c.requires.orders c.none.ensures (c.goes_on.ensures.none goes) c.at.ensures inv.level c.in-Ok.ensures.turns c.in-Ok.ensures.ready inv.bus in record {
+      bus = pass.bus (c.args.from + (c.loop-run.run + 1)) (omega arith);
+      bits = λ left enough.
+          bits_on E.same E.stands B.ports B.facts B.orders_are B.told B.kept c.args.to_rest (moment_of c.args.struck.now.script c.args.from left c.args.seats.now c.args.links.now c.args.board.now)
+          c.args.struck.now.script c.args.from c.loop-run.run c.args.most left c.none.result c.loop-run.seats c.tick_all.new.seats c.loop-run.links c.tick_all.new.links a z (search rules) enough c.tick_all.auto.seats pass.few pass.at pass.row
+          c.tick_all.ensures.sames c.tick_all.ensures.board c.in-Ok.ensures.goes inv.bus (pass.bus (c.args.from + (c.loop-run.run + 1)) (omega arith)) c.keeps_its_facts.ensures
+          (λ yes. some_work c.loop-run.seats inv.bus.ready (c.goes_on.ensures.works goes yes)) (inv.bits left enough);
+    }
 
 pub loop-run-preserved : goal.loop-run-preserved
 loop-run-preserved g c =

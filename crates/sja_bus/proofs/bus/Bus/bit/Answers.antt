@@ -29,8 +29,8 @@ invariant_of-self g c =
     let v : c.as_mut_slice.result.now ≡ was = c.as_mut_slice.ensures.value in
     let len : length now ≡ length was = c.bit_all.auto.seats ∙ ap (λ (l : List Seat). length l) v in
     let e : take b.seats.len (now ++ drop (length now) was) ≡ now = grind (arith, common_steps) in
-    let T : List Seat → Type 0 = λ l. IsRowBit (g.B.Board.orders_are c.args.board.now) (g.B.Board.told c.args.board.now c.bit_all.new.board) (g.B.Board.kept c.args.board.now c.bit_all.new.board) c.at.result l now in
-    let row : IsRowBit (g.B.Board.orders_are c.args.board.now) (g.B.Board.told c.args.board.now c.bit_all.new.board) (g.B.Board.kept c.args.board.now c.bit_all.new.board) c.at.result was now = subst T v c.in-Ok.ensures.bit in
+    let T : List Seat → Type 0 = λ l. IsRowBit (g.B.Board.orders_are c.args.board.now) (g.B.Board.told c.args.board.now c.bit_all.new.board) (g.B.Board.kept c.args.board.now c.bit_all.new.board) c.at-struck.result l now in
+    let row : IsRowBit (g.B.Board.orders_are c.args.board.now) (g.B.Board.told c.args.board.now c.bit_all.new.board) (g.B.Board.kept c.args.board.now c.bit_all.new.board) c.at-struck.result was now = subst T v c.in-Ok.ensures.bit in
     let F : BusValue → Type 0 = λ w. (w.fault ≡ None) × (w.left ≢ 0) in
     let some = (subst F (sym c.self.view_is) c.in_ok-goes_on.ensures.ok).1 in let bits = inv.bits in
     let few = inv.few in let logs = inv.logs in
@@ -41,8 +41,8 @@ invariant_of-self g c =
       most = inv.most;
       bus = λ f. record {
         ready = c.in-Ok.ensures.ready;
-        calm = calm_by now (all_told (g.B.Board.told c.args.board.now c.bit_all.new.board) (g.B.Board.kept c.args.board.now c.bit_all.new.board) c.at.result was now len row);
-        wired = wired_row (g.B.Board.orders_are c.args.board.now) (g.B.Board.told c.args.board.now c.bit_all.new.board) (g.B.Board.kept c.args.board.now c.bit_all.new.board) b.struck.script b.run c.at.result was now len few c.at.ensures row (inv.bus f).wired;
+        calm = calm_by now (all_told (g.B.Board.told c.args.board.now c.bit_all.new.board) (g.B.Board.kept c.args.board.now c.bit_all.new.board) c.at-struck.result was now len row);
+        wired = wired_row (g.B.Board.orders_are c.args.board.now) (g.B.Board.told c.args.board.now c.bit_all.new.board) (g.B.Board.kept c.args.board.now c.bit_all.new.board) b.struck.script b.run c.at-struck.result was now len few c.at-struck.ensures row (inv.bus f).wired;
       };
       logs = omega (arith, len, logs);
       rooms = λ f. subst H v c.in-Ok.ensures.rooms (room_for b.struck.bits) (inv.rooms f);
@@ -71,15 +71,15 @@ returns-in-Ok-clause-bit g c =
     let v : c.as_mut_slice.result.now ≡ was = c.as_mut_slice.ensures.value in
     let len : length now ≡ length was = c.bit_all.auto.seats ∙ ap (λ (l : List Seat). length l) v in
     let e : take b.seats.len (now ++ drop (length now) was) ≡ now = grind (arith, common_steps) in
-    let T : List Seat → Type 0 = λ l. IsRowBit (g.B.Board.orders_are c.args.board.now) (g.B.Board.told c.args.board.now c.bit_all.new.board) (g.B.Board.kept c.args.board.now c.bit_all.new.board) c.at.result l now in
-    let row : IsRowBit (g.B.Board.orders_are c.args.board.now) (g.B.Board.told c.args.board.now c.bit_all.new.board) (g.B.Board.kept c.args.board.now c.bit_all.new.board) c.at.result was now = subst T v c.in-Ok.ensures.bit in
+    let T : List Seat → Type 0 = λ l. IsRowBit (g.B.Board.orders_are c.args.board.now) (g.B.Board.told c.args.board.now c.bit_all.new.board) (g.B.Board.kept c.args.board.now c.bit_all.new.board) c.at-struck.result l now in
+    let row : IsRowBit (g.B.Board.orders_are c.args.board.now) (g.B.Board.told c.args.board.now c.bit_all.new.board) (g.B.Board.kept c.args.board.now c.bit_all.new.board) c.at-struck.result was now = subst T v c.in-Ok.ensures.bit in
     let orders = g.B.Board.orders_are c.args.board.now in
     let told = g.B.Board.told c.args.board.now c.bit_all.new.board in let kept = g.B.Board.kept c.args.board.now c.bit_all.new.board in
     let P : BusValue → Type 0 = λ w. IsBit orders told kept w.script w.run w.untold w.journals (journals_of now) in
     let Q : List Seat → Type 0 = λ xs. IsBit orders told kept c.args.self.now.script c.args.self.now.run c.args.self.now.untold c.args.self.now.journals (journals_of xs) in
     let F : BusValue → Type 0 = λ w. (w.fault ≡ None) × (w.left ≢ 0) in
     let right : b.fault ≡ None = (subst F (sym c.self.view_is) c.in_ok-goes_on.ensures.ok).0 in
-    subst Q (sym e) (subst P c.self.view_is (is_bit orders told kept b.struck.script b.run c.at.result was now len few c.at.ensures (inv.bus right).calm row))
+    subst Q (sym e) (subst P c.self.view_is (is_bit orders told kept b.struck.script b.run c.at-struck.result was now len few c.at-struck.ensures (inv.bus right).calm row))
 
 pub returns-in-Ok-clause-told : goal.returns-in-Ok-clause-told
 returns-in-Ok-clause-told g c =
@@ -89,9 +89,9 @@ returns-in-Ok-clause-told g c =
     let len : length now ≡ length was = c.bit_all.auto.seats ∙ ap (λ (l : List Seat). length l) v in
     let e : take b.seats.len (now ++ drop (length now) was) ≡ now = grind (arith, common_steps) in
     let told = g.B.Board.told c.args.board.now c.bit_all.new.board in let kept = g.B.Board.kept c.args.board.now c.bit_all.new.board in
-    let T : List Seat → Type 0 = λ l. IsRowBit (g.B.Board.orders_are c.args.board.now) told kept c.at.result l now in
+    let T : List Seat → Type 0 = λ l. IsRowBit (g.B.Board.orders_are c.args.board.now) told kept c.at-struck.result l now in
     let row = subst T v c.in-Ok.ensures.bit in
-    let none : untold_of now ≡ replicate (length was) false = none_untold now (all_told told kept c.at.result was now len row) ∙ ap (λ n. replicate n false) len in
+    let none : untold_of now ≡ replicate (length was) false = none_untold now (all_told told kept c.at-struck.result was now len row) ∙ ap (λ n. replicate n false) len in
     let P : BusValue → Type 0 = λ w. untold_of now ≡ replicate (length w.journals) false in
     let Q : List Seat → Type 0 = λ xs. untold_of xs ≡ replicate (length c.args.self.now.journals) false in
     subst Q (sym e) (subst P c.self.view_is (none ∙ ap (λ n. replicate n false) (sym (count_is was))))

@@ -1,164 +1,150 @@
-use Rattle.std.proofs.Common.{◌≡◌, ◌+◌, ◌-◌, ◌∙◌, None, length, arith, rules}
+use Rattle.std.proofs.Common.{◌≡◌, ◌+◌, ◌-◌, None, arith, rules}
 use Rattle.std.specs.Prelude.{Err}
 use Rattle.sja_bus.specs.declared.bus_fault.BusFault.{BusFault}
-use Rattle.sja_bus.specs.Several.{Moment, IsOneBit, WorksIf, BreaksOff}
-use Rattle.sja_bus.proofs.Lists.{each_refl, each_trans, err_is}
+use Rattle.sja_bus.specs.Several.{moment, OneBit, WorksIf, StopsBits}
+use Rattle.sja_bus.specs.Inside.RunningOn.{Keeps, IsSoFar}
+use Rattle.sja_bus.proofs.Lists.{each_refl, err_is}
 use Rattle.sja_bus.proofs.Many.{numbered_kept}
-use Rattle.sja_bus.proofs.SoFar.{none_yet, and_one, and_more, others_trans, breaks_later}
+use Rattle.sja_bus.proofs.SoFar.{none_yet, and_one, and_more, keeps_trans, still_for, breaks_later}
 use Rattle.sja_bus.proofs.bus.Bus.bits.Goals as goal
-use Rattle.sja_bus.proofs.bus.Bus.bits.Goals.{else-to_rest-via-then-to_rest+else-at_rest, else-to_rest-via-else-to_rest}
+use Rattle.sja_bus.proofs.bus.Bus.bits.Goals.{After-bit, After-run_on, else-to_rest-via-then-to_rest+else-at_rest, else-to_rest-via-else-to_rest}
+
+-- before a bit some node works, where that was asked for
+works : (g : _) (c : After-bit g) → WorksIf c.args.to_rest (moment c.loop-run.self c.loop-run.links c.loop-run.board)
+works g c = λ yes. elim c.else-to_rest.branch [
+  | else-to_rest-via-then-to_rest+else-at_rest w ↦ w.at_rest.ensures.busy c.loop-run.invariant.far.right w.if-at_rest.false
+  | else-to_rest-via-else-to_rest w ↦ let no = w.if-to_rest.false in absurd cc
+]
+
+-- what the bits so far keep, and a bit that came to its end or didn't
+kept : (g : _) (c : After-bit g) → Keeps g.E.BusEnd g.B.Board
+    (moment c.args.self.now c.args.links.now c.args.board.now) (moment c.bit.new.self c.bit.new.links c.bit.new.board)
+kept g c = let did = c.bit.ensures in
+    keeps_trans g.E.BusEnd g.B.Board g.met.E.BusEnd.same_trans g.met.B.Board.kept_trans
+    (moment c.args.self.now c.args.links.now c.args.board.now)
+    (moment c.loop-run.self c.loop-run.links c.loop-run.board)
+    (moment c.bit.new.self c.bit.new.links c.bit.new.board) c.loop-run.invariant.far.keeps
+    (record { sames = did.sames; others = did.others; script = did.script; nodes = did.nodes })
+
+-- one that did is one more
+one_more : (g : _) (c : After-run_on g) →
+    WorksIf c.args.to_rest (moment c.loop-run.self c.loop-run.links c.loop-run.board) → IsSoFar g.E.BusEnd g.B.Board c.args.to_rest
+    (moment c.args.self.now c.args.links.now c.args.board.now) (c.loop-run.run + 1)
+    (moment c.bit.new.self c.bit.new.links c.bit.new.board)
+one_more g c before =
+    let did = c.bit.ensures in let ok = c.in_ok-bit.ensures in
+    let mid = moment c.loop-run.self c.loop-run.links c.loop-run.board in
+    let next = moment c.bit.new.self c.bit.new.links c.bit.new.board in
+    let one : OneBit g.E.BusEnd g.B.Board mid next = record {
+      sames = did.sames;
+      others = did.others;
+      script = did.script;
+      nodes = did.nodes;
+      run = ok.bits.0;
+      left = ok.bits.1;
+      keeps = ok.kept;
+      bit = ok.bit;
+      all_told = ok.told;
+      right = ok.right;
+      lawful = c.keeps_its_laws.ensures ok.right;
+      are_facts = c.keeps_its_facts.ensures;
+    } in
+    and_one g.E.BusEnd g.B.Board g.met.E.BusEnd.same_trans g.met.B.Board.kept_trans c.args.to_rest
+    (moment c.args.self.now c.args.links.now c.args.board.now) mid next c.loop-run.run c.loop-run.invariant.far
+    before one
+
+-- what they and further ones keep
+kept_on : (g : _) (c : After-run_on g) →
+    Keeps g.E.BusEnd g.B.Board (moment c.args.self.now c.args.links.now c.args.board.now)
+    (moment c.bit.new.self c.bit.new.links c.bit.new.board) →
+    Keeps g.E.BusEnd g.B.Board (moment c.bit.new.self c.bit.new.links c.bit.new.board)
+    (moment c.run_on.new.self c.run_on.new.links c.run_on.new.board) →
+    Keeps g.E.BusEnd g.B.Board (moment c.args.self.now c.args.links.now c.args.board.now)
+    (moment c.run_on.new.self c.run_on.new.links c.run_on.new.board)
+kept_on g c = keeps_trans g.E.BusEnd g.B.Board g.met.E.BusEnd.same_trans g.met.B.Board.kept_trans
+    (moment c.args.self.now c.args.links.now c.args.board.now) (moment c.bit.new.self c.bit.new.links c.bit.new.board)
+    (moment c.run_on.new.self c.run_on.new.links c.run_on.new.board)
 
 pub returns-in_err-most-clause-sames : goal.returns-in_err-most-clause-sames
 returns-in_err-most-clause-sames g c = each_refl g.E.BusEnd.same g.met.E.BusEnd.same_refl c.args.links.now
 
 pub loop-run-init : goal.loop-run-init
-loop-run-init g c = let E = g.E.BusEnd in let B = g.B.Board in record {
+loop-run-init g c = record {
   few = omega arith;
-  far = none_yet E.same B.ports B.kept (IsOneBit E.same E.stands B.ports B.facts B.orders_are B.told B.kept)
-      (WorksIf c.args.to_rest) g.met.E.BusEnd.same_refl g.met.B.Board.kept_refl
-      (record { bus = c.args.self.now; links = c.args.links.now; board = c.args.board.now })
-      c.in_ok-most.ensures.right;
+  far = none_yet g.E.BusEnd g.B.Board g.met.E.BusEnd.same_refl g.met.B.Board.kept_refl c.args.to_rest
+      (moment c.args.self.now c.args.links.now c.args.board.now) c.in_ok-most.ensures.right;
 }
 
 pub bit-requires-clause-ids : goal.bit-requires-clause-ids
 bit-requires-clause-ids g c =
     numbered_kept g.E.BusEnd.link g.E.BusEnd.same g.met.E.BusEnd.same_link c.args.links.now c.loop-run.links
-    c.loop-run.invariant.far.sames c.requires.ids
+    c.loop-run.invariant.far.keeps.sames c.requires.ids
 
 pub returns-in_err-bit-clause-sames : goal.returns-in_err-bit-clause-sames
-returns-in_err-bit-clause-sames g c =
-    each_trans g.E.BusEnd.same g.met.E.BusEnd.same_trans c.args.links.now c.loop-run.links c.bit.new.links
-    c.loop-run.invariant.far.sames c.bit.ensures.sames
+returns-in_err-bit-clause-sames g c = (kept g (goal.at.returns-in_err-bit-clause-sames g c).After-bit).sames
 
 pub returns-in_err-bit-clause-others : goal.returns-in_err-bit-clause-others
-returns-in_err-bit-clause-others g c =
-    let far = c.loop-run.invariant.far in
-    others_trans g.B.Board.ports g.B.Board.kept g.met.B.Board.kept_trans (length c.args.self.now.journals)
-    (length c.loop-run.self.journals) c.args.board.now c.loop-run.board c.bit.new.board far.nodes far.others
-    c.bit.ensures.others
+returns-in_err-bit-clause-others g c = (kept g (goal.at.returns-in_err-bit-clause-others g c).After-bit).others
 
 pub returns-in_err-bit-clause-reason : goal.returns-in_err-bit-clause-reason
 returns-in_err-bit-clause-reason g c =
-    let E = g.E.BusEnd in let B = g.B.Board in let f = c.in_err-bit.field-0.0 in
-    let far = c.loop-run.invariant.far in let right = far.right in
+    let f = c.in_err-bit.field-0.0 in let far = c.loop-run.invariant.far in
     let more = c.loop-run-test.true in let most = c.in_ok-most.ensures.count in
-    let works : WorksIf c.args.to_rest (record { bus = c.loop-run.self; links = c.loop-run.links; board = c.loop-run.board }) =
-    λ yes. elim c.else-to_rest.branch [
-      | else-to_rest-via-then-to_rest+else-at_rest w ↦ w.at_rest.ensures.busy right w.if-at_rest.false
-      | else-to_rest-via-else-to_rest w ↦ let no = w.if-to_rest.false in absurd cc
-    ] in
     let is : c.from_residual-in_err-bit.result ≡ Err f = search rules in
-    let was : Moment _ _ = record { bus = c.args.self.now; links = c.args.links.now; board = c.args.board.now } in
-    let now : Moment _ _ = record { bus = c.bit.new.self; links = c.bit.new.links; board = c.bit.new.board } in
-    let P : BusFault → Type 0 = λ x. c.args.self.now.fault ≡ None → BreaksOff E.stands E.full B.orders_are
-    (IsOneBit E.same E.stands B.ports B.facts B.orders_are B.told B.kept) (WorksIf c.args.to_rest) c.args.count was now x in
+    let P : BusFault → Type 0 = λ x. c.args.self.now.fault ≡ None →
+    StopsBits g.E.BusEnd g.B.Board c.args.to_rest c.args.count
+    (moment c.args.self.now c.args.links.now c.args.board.now) (moment c.bit.new.self c.bit.new.links c.bit.new.board)
+    x in
     err_is P c.from_residual-in_err-bit.result f is (λ _. record {
-      mid = record { bus = c.loop-run.self; links = c.loop-run.links; board = c.loop-run.board };
+      mid = moment c.loop-run.self c.loop-run.links c.loop-run.board;
       run = c.loop-run.run;
       early = omega (arith, more, most);
       bits = far.bits;
-      before = works;
-      stops = c.in_err-bit.ensures.reason right;
+      before = works g (goal.at.returns-in_err-bit-clause-reason g c).After-bit;
+      stops = c.in_err-bit.ensures.reason far.right;
       run_so_far = c.in_err-bit.ensures.unrun.0;
       left_so_far = c.in_err-bit.ensures.unrun.1;
     })
 
-pub run_on-requires-clause-ids : goal.run_on-requires-clause-ids
-run_on-requires-clause-ids g c =
-    let E = g.E.BusEnd in
-    numbered_kept E.link E.same g.met.E.BusEnd.same_link c.args.links.now c.bit.new.links
-    (each_trans E.same g.met.E.BusEnd.same_trans c.args.links.now c.loop-run.links c.bit.new.links
-    c.loop-run.invariant.far.sames c.bit.ensures.sames)
-    c.requires.ids
+pub run_on-requires-clause-fit : goal.run_on-requires-clause-fit
+run_on-requires-clause-fit g c = let fit = c.requires in
+    still_for g.E.BusEnd g.B.Board g.met.E.BusEnd.same_link
+    (moment c.args.self.now c.args.links.now c.args.board.now) (moment c.bit.new.self c.bit.new.links c.bit.new.board)
+    (kept g (goal.at.run_on-requires-clause-fit g c).After-bit)
+    (record { count = fit.count; ids = fit.ids; ports = fit.ports })
 
 pub returns-in_err-run-clause-sames : goal.returns-in_err-run-clause-sames
 returns-in_err-run-clause-sames g c =
-    let same = g.E.BusEnd.same in let trans = g.met.E.BusEnd.same_trans in
-    each_trans same trans c.args.links.now c.bit.new.links c.run_on.new.links
-    (each_trans same trans c.args.links.now c.loop-run.links c.bit.new.links c.loop-run.invariant.far.sames
-    c.bit.ensures.sames)
-    c.run_on.ensures.sames
+    let at = goal.at.returns-in_err-run-clause-sames g c in
+    (kept_on g at.After-run_on (kept g at.After-bit) c.in_err-run.ensures.stops.keeps).sames
 
 pub returns-in_err-run-clause-others : goal.returns-in_err-run-clause-others
 returns-in_err-run-clause-others g c =
-    let B = g.B.Board in let trans = g.met.B.Board.kept_trans in let far = c.loop-run.invariant.far in
-    let nodes = length c.args.self.now.journals in let did = c.bit.ensures in
-    others_trans B.ports B.kept trans nodes (length c.bit.new.self.journals) c.args.board.now c.bit.new.board
-    c.run_on.new.board (did.nodes ∙ far.nodes)
-    (others_trans B.ports B.kept trans nodes (length c.loop-run.self.journals) c.args.board.now c.loop-run.board
-    c.bit.new.board far.nodes far.others did.others)
-    c.run_on.ensures.others
+    let at = goal.at.returns-in_err-run-clause-others g c in
+    (kept_on g at.After-run_on (kept g at.After-bit) c.in_err-run.ensures.stops.keeps).others
 
 pub returns-in_err-run-clause-reason : goal.returns-in_err-run-clause-reason
 returns-in_err-run-clause-reason g c =
-    let E = g.E.BusEnd in let B = g.B.Board in let did = c.bit.ensures in let ok = c.in_ok-bit.ensures in
-    let far = c.loop-run.invariant.far in
-    let was : Moment _ _ = record { bus = c.args.self.now; links = c.args.links.now; board = c.args.board.now } in
-    let mid : Moment _ _ = record { bus = c.loop-run.self; links = c.loop-run.links; board = c.loop-run.board } in
-    let next : Moment _ _ = record { bus = c.bit.new.self; links = c.bit.new.links; board = c.bit.new.board } in
-    let now : Moment _ _ = record { bus = c.run_on.new.self; links = c.run_on.new.links; board = c.run_on.new.board } in
-    let works : WorksIf c.args.to_rest mid = λ yes. elim c.else-to_rest.branch [
-      | else-to_rest-via-then-to_rest+else-at_rest w ↦ w.at_rest.ensures.busy far.right w.if-at_rest.false
-      | else-to_rest-via-else-to_rest w ↦ let no = w.if-to_rest.false in absurd cc
-    ] in
-    let one : IsOneBit E.same E.stands B.ports B.facts B.orders_are B.told B.kept mid next = record {
-      sames = did.sames;
-      others = did.others;
-      script = did.script;
-      nodes = did.nodes;
-      run = ok.bits.0;
-      left = ok.bits.1;
-      keeps = ok.kept;
-      bit = ok.bit;
-      all_told = ok.told;
-      right = ok.right;
-      lawful = c.keeps_its_laws.ensures ok.right;
-      are_facts = c.keeps_its_facts.ensures;
-    } in
-    let onward = and_one E.same E.stands B.ports B.facts B.orders_are B.told B.kept (WorksIf c.args.to_rest)
-    g.met.E.BusEnd.same_trans g.met.B.Board.kept_trans was mid next c.loop-run.run far works one in
-    let f = c.in_err-run.field-0.0 in
+    let E = g.E.BusEnd in let B = g.B.Board in let to_rest = c.args.to_rest in let f = c.in_err-run.field-0.0 in
     let more = c.loop-run-test.true in let most = c.in_ok-most.ensures.count in
-    let One = IsOneBit E.same E.stands B.ports B.facts B.orders_are B.told B.kept in
+    let was = moment c.args.self.now c.args.links.now c.args.board.now in
+    let now = moment c.run_on.new.self c.run_on.new.links c.run_on.new.board in
+    let at = goal.at.returns-in_err-run-clause-reason g c in
     let is : c.from_residual-in_err-run.result ≡ Err f = search rules in
-    let P : BusFault → Type 0 = λ x. c.args.self.now.fault ≡ None →
-    BreaksOff E.stands E.full B.orders_are One (WorksIf c.args.to_rest) c.args.count was now x in
-    err_is P c.from_residual-in_err-run.result f is (λ _. breaks_later E.stands E.full B.orders_are One
-    (WorksIf c.args.to_rest) was next now (c.loop-run.run + 1) (c.in_ok-most.most - (c.loop-run.run + 1)) c.args.count f
-    (omega (arith, more, most)) onward.bits c.in_err-run.ensures.reason)
+    let P : BusFault → Type 0 = λ x. c.args.self.now.fault ≡ None → StopsBits E B to_rest c.args.count was now x in
+    err_is P c.from_residual-in_err-run.result f is (λ _. breaks_later E.stands E.full B.orders_are (OneBit E B)
+    (WorksIf to_rest) was (moment c.bit.new.self c.bit.new.links c.bit.new.board) now (c.loop-run.run + 1)
+    (c.in_ok-most.most - (c.loop-run.run + 1)) c.args.count f (omega (arith, more, most))
+    (one_more g at.After-run_on (works g at.After-bit)).bits c.in_err-run.ensures.stops.reason)
 
 pub loop-run-preserved : goal.loop-run-preserved
 loop-run-preserved g c =
-    let E = g.E.BusEnd in let B = g.B.Board in let did = c.bit.ensures in let ok = c.in_ok-bit.ensures in
-    let far = c.loop-run.invariant.far in
-    let was : Moment _ _ = record { bus = c.args.self.now; links = c.args.links.now; board = c.args.board.now } in
-    let mid : Moment _ _ = record { bus = c.loop-run.self; links = c.loop-run.links; board = c.loop-run.board } in
-    let next : Moment _ _ = record { bus = c.bit.new.self; links = c.bit.new.links; board = c.bit.new.board } in
-    let now : Moment _ _ = record { bus = c.run_on.new.self; links = c.run_on.new.links; board = c.run_on.new.board } in
-    let works : WorksIf c.args.to_rest mid = λ yes. elim c.else-to_rest.branch [
-      | else-to_rest-via-then-to_rest+else-at_rest w ↦ w.at_rest.ensures.busy far.right w.if-at_rest.false
-      | else-to_rest-via-else-to_rest w ↦ let no = w.if-to_rest.false in absurd cc
-    ] in
-    let one : IsOneBit E.same E.stands B.ports B.facts B.orders_are B.told B.kept mid next = record {
-      sames = did.sames;
-      others = did.others;
-      script = did.script;
-      nodes = did.nodes;
-      run = ok.bits.0;
-      left = ok.bits.1;
-      keeps = ok.kept;
-      bit = ok.bit;
-      all_told = ok.told;
-      right = ok.right;
-      lawful = c.keeps_its_laws.ensures ok.right;
-      are_facts = c.keeps_its_facts.ensures;
-    } in
-    let onward = and_one E.same E.stands B.ports B.facts B.orders_are B.told B.kept (WorksIf c.args.to_rest)
-    g.met.E.BusEnd.same_trans g.met.B.Board.kept_trans was mid next c.loop-run.run far works one in
-    let more = c.loop-run-test.true in let on = c.run_on.ensures in let went = c.in_ok-run.ensures in
-    let most = went.most in record {
+    let at = goal.at.loop-run-preserved g c in
+    let more = c.loop-run-test.true in let most = c.in_ok-run.ensures.most in record {
       few = omega (arith, more, most);
-      far = and_more E.same E.stands B.ports B.facts B.orders_are B.told B.kept (WorksIf c.args.to_rest)
-          g.met.E.BusEnd.same_trans g.met.B.Board.kept_trans was next now (c.loop-run.run + 1) c.in_ok-run.field-0 onward
-          on.sames on.others on.script on.nodes went.right went.bits;
+      far = and_more g.E.BusEnd g.B.Board g.met.E.BusEnd.same_trans g.met.B.Board.kept_trans c.args.to_rest
+          (moment c.args.self.now c.args.links.now c.args.board.now)
+          (moment c.bit.new.self c.bit.new.links c.bit.new.board)
+          (moment c.run_on.new.self c.run_on.new.links c.run_on.new.board) (c.loop-run.run + 1)
+          (one_more g at.After-run_on (works g at.After-bit)) c.in_ok-run.field-0 c.in_ok-run.ensures.runs;
     }
