@@ -4,6 +4,7 @@ pub mod Seats
 pub mod Taking
 pub mod Refusing
 pub mod Turning
+pub mod Ticking
 pub mod Rows
 pub mod Whole
 pub mod Ending

@@ -17,6 +17,7 @@ impl Seat {
     ghost use Rattle.sja_bus.specs.Reasons.{IsBrokenFor};
     ghost use Rattle.sja_bus.specs.Inside.Seats.{IsSound, IsSeat, IsReady};
     ghost use Rattle.sja_bus.specs.Inside.Turning.{Brings, Turns};
+    ghost use Rattle.sja_bus.specs.Inside.Ticking.{CanTick, TickKeeps, Ticks};
 
     /// One bit of the node in which something may happen.
     #[inline(always)]
@@ -58,19 +59,10 @@ impl Seat {
         seen: Level,
         board: &mut B,
     ) -> Result<(), BusFault>
-        requires room { base + 8 ≤ length links.old }
-        requires ids { AreOf E.link (link_of self.old.ledger).node links.old base }
-        requires ready { IsReady self.old }
-        requires port { (link_of self.old.ledger).node < B.ports board.old }
-        ensures sames { EachRelated E.same links.old links.new }
-        ensures node { (link_of self.new.ledger).node ≡ (link_of self.old.ledger).node }
-        ensures room { self.new.journal.room ≡ self.old.journal.room }
-        ensures ready { OnOk result (IsReady self.new) }
-        ensures goes { OnOk result (Goes E.same E.stands self.old.journal.entries self.new.journal.entries links.old links.new base) }
-        ensures ports { B.ports board.new ≡ B.ports board.old }
-        ensures others { (k : ℕ) → k ≢ (link_of self.old.ledger).node → B.kept board.old board.new k }
-        ensures turns { OnOk result (Turns (B.told board.old board.new (link_of self.old.ledger).node)
-            (B.kept board.old board.new (link_of self.old.ledger).node) seen self.old self.new) }
+        requires can { CanTick E.BusEnd B.Board self.old links.old base board.old }
+        ensures keeps { TickKeeps E.BusEnd B.Board self.old self.new links.old links.new board.old board.new }
+        ensures ticks { OnOk result
+            (Ticks E.BusEnd B.Board seen self.old self.new links.old links.new base board.old board.new) }
         ensures broken { IfErr result (λ f. IsBrokenFor E.stands E.full (link_of self.old.ledger).node self.old.journal.room
             self.old.journal.entries self.new.journal.entries links.old base f) }
     {

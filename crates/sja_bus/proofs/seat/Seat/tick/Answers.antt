@@ -55,4 +55,4 @@ returns-clause-turns g c =
     ] in
     let P : Seat → Type 0 = λ x. Turns (B.told c.args.board.now c.tick_fully.new.board (link_of x.ledger).node)
     (B.kept c.args.board.now c.tick_fully.new.board (link_of x.ledger).node) c.args.seen x c.tick_fully.new.self in
-    subst P same c.in_ok-tick_fully.ensures.turns
+    subst P same c.in_ok-tick_fully.ensures.ticks.turns
