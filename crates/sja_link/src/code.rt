@@ -48,11 +48,12 @@ impl Code {
         ensures bit { decoded (result ∷ []) [] [] [] [] ≡ Bit driven seen ∷ [] }
         ensures alone { HasContents result 0 0 0 0 }
     {
-        match (driven, seen) {
-            (Level::Dominant, Level::Dominant) => Code::DominantAsDriven,
-            (Level::Dominant, Level::Recessive) => Code::DominantSeenRecessive,
-            (Level::Recessive, Level::Dominant) => Code::RecessiveSeenDominant,
-            (Level::Recessive, Level::Recessive) => Code::RecessiveAsDriven,
+        // The codes of bits are numbered by the two levels. There are four: the mask says so to the compiler.
+        match (2 * (driven as u8) + seen as u8) & 3 {
+            0 => Code::DominantAsDriven,
+            1 => Code::DominantSeenRecessive,
+            2 => Code::RecessiveSeenDominant,
+            _ => Code::RecessiveAsDriven,
         }
     }
 
