@@ -13,6 +13,9 @@ const WAITING: u32 = 11;
 /// How many frames a bus is run for at most: a run has at most 200,000 bits.
 const FRAMES: u32 = 1_300;
 
+/// How many messages a node's receive FIFO holds at most: its 64 bytes have room for so many of three bytes.
+const MOST_HELD: u32 = 21;
+
 /// A bus, how many of its nodes send, and whether the bits in which every node is at rest are run at once.
 #[derive(Clone, Copy)]
 pub struct Traffic {
@@ -24,33 +27,46 @@ pub struct Traffic {
 /// Lets the bits of so many frames pass. Before each the senders' drivers ask for one, and after it every driver
 /// releases the message that it was shown.
 pub fn told(alloc: Global, count: u32, traffic: Traffic) -> Option<String> {
-    let mut stored = 0u64;
+    let mut released = 0u64;
     for _ in 0..count / FRAMES {
-        stored = stored.wrapping_add(stored_of(alloc, FRAMES, traffic)?);
+        released = released.wrapping_add(released_of(alloc, FRAMES, traffic)?);
     }
-    stored = stored.wrapping_add(stored_of(alloc, count % FRAMES, traffic)?);
+    released = released.wrapping_add(released_of(alloc, count % FRAMES, traffic)?);
     let bits = u64::from(count).wrapping_mul(u64::from(BITS * u32::from(traffic.nodes)));
-    format!(in alloc; "bits {bits} stored {stored}").ok()
+    format!(in alloc; "bits {bits} released {released}").ok()
 }
 
-/// How many messages were stored in a run of so many frames.
-fn stored_of(alloc: Global, frames: u32, traffic: Traffic) -> Option<u64> {
+/// How many messages were released in a run of so many frames, the last ones after it.
+fn released_of(alloc: Global, frames: u32, traffic: Traffic) -> Option<u64> {
     let bits = frames.checked_mul(BITS)?.checked_add(WAITING)?;
     let mut station = Station::new(alloc, traffic.nodes, bits)?;
     let messages = messages_of(alloc, traffic)?;
     if !station.bits(WAITING, traffic.at_once) {
         return None;
     }
+    let mut released = 0u64;
     for _ in 0..frames {
         ask(&mut station, messages.as_slice());
         if !station.bits(BITS, traffic.at_once) {
             return None;
         }
-        for node in 0..usize::from(traffic.nodes) {
-            station.release(node);
+        released = released.wrapping_add(release_each(&mut station, traffic.nodes));
+    }
+    for _ in 0..MOST_HELD {
+        released = released.wrapping_add(release_each(&mut station, traffic.nodes));
+    }
+    Some(released)
+}
+
+/// Has the driver of each node release the first message that it was shown. Answers how many did.
+fn release_each(station: &mut Station, nodes: u8) -> u64 {
+    let mut released = 0u64;
+    for node in 0..usize::from(nodes) {
+        if station.release(node) {
+            released = released.wrapping_add(1);
         }
     }
-    Some(station.stored())
+    released
 }
 
 /// Has the driver of each sender ask for its message.

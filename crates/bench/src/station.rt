@@ -4,9 +4,9 @@ ghost use Rattle.std.specs.Prelude.{◌≡◌, ◌≤◌, length, IfOk};
 
 use super::running::{run_bits, run_bits_at_once};
 use can_frame::{Message, OutOfMemory};
-use sja_bus::{Bus, NodeLog, SerialBoard, are_links_of, serial_links};
+use sja_bus::{Bus, SerialBoard, are_links_of, serial_links};
 use sja_driver::{Active, Driver};
-use sja_link::{DequeLink, DriverEnd, Entry};
+use sja_link::{DequeLink, DriverEnd};
 use sja_script::FaultScript;
 use std::alloc::Global;
 
@@ -65,17 +65,15 @@ impl Station {
         }
     }
 
-    /// Has the driver of this node release the first message that it was shown.
-    pub fn release(&mut self, node: usize) {
+    /// Has the driver of this node release the first message that it was shown. Whether there was one.
+    pub fn release(&mut self, node: usize) -> bool {
         let Some(driver) = self.drivers.get_mut(node) else {
-            return;
+            return false;
         };
         let Some(link) = self.links.get_mut(8 * (node % 8)) else {
-            return;
+            return false;
         };
-        if DriverEnd::id(link) == driver.link() {
-            let _ = driver.release(link);
-        }
+        DriverEnd::id(link) == driver.link() && driver.release(link).is_ok()
     }
 
     /// So many bits, one after another, or those in which every node is at rest at once. Whether all were run.
@@ -91,16 +89,6 @@ impl Station {
         } else {
             run_bits(&mut self.bus, links, &mut self.board, count)
         }
-    }
-
-    /// How many messages the nodes stored.
-    pub fn stored(self) -> u64 {
-        let Station { bus, .. } = self;
-        let mut stored = 0u64;
-        for log in bus.finish() {
-            stored = stored.wrapping_add(stored_in(&log));
-        }
-        stored
     }
 }
 
@@ -122,15 +110,4 @@ fn started(node: u8, links: &mut [DequeLink], board: &mut SerialBoard) -> Option
         return None;
     }
     driver.start(link, port).ok()
-}
-
-/// How many messages a node stored.
-fn stored_in(log: &NodeLog) -> u64 {
-    let mut stored = 0u64;
-    for entry in log.journal.between_bits() {
-        if let Entry::Stored(_) = entry {
-            stored = stored.wrapping_add(1);
-        }
-    }
-    stored
 }
