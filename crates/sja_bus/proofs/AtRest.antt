@@ -157,9 +157,14 @@ ready_after n s ready rest = record {
 pub turns_after : (was_told : BusTurn → Type 0) (was_kept : Type 0) (n : ℕ) (s : Seat) → was_kept → IsReady s → IsResting s →
     Turns was_told was_kept Recessive (after_bits n s) (after_bits (suc n) s)
 turns_after was_told was_kept n s kept ready rest =
-    quiet_turns was_told was_kept Recessive (after_bits n s) (after_bits (suc n) s) s.node kept (ready_after n s ready rest) rest.none rest.none
-    (samples_recessive s ready rest) (same_shown s.node)
-    (sym (one_more n s.journal.entries) ∙ ap (λ x. (s.journal.entries ++ recessive_bits n) ++ Bit x Recessive ∷ []) (sym rest.drives))
+    quiet_turns was_told was_kept Recessive (after_bits n s) (after_bits (suc n) s) kept (ready_after n s ready rest)
+    (record {
+      untold = rest.none;
+      told = rest.none;
+      samples = samples_recessive s ready rest;
+      shows = same_shown s.node;
+      whole = sym (one_more n s.journal.entries) ∙ ap (λ x. (s.journal.entries ++ recessive_bits n) ++ Bit x Recessive ∷ []) (sym rest.drives);
+    })
 
 -- nothing is taken before it, and no abort changes the node
 abbrev no_abort : (j : List Entry) → HasAbort j j

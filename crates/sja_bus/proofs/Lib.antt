@@ -23,6 +23,7 @@ pub mod Many
 pub mod Refusing
 pub mod Breaking
 pub mod Running
+pub mod Underway
 pub mod Levels
 pub mod Journals
 pub mod Rests

@@ -31,7 +31,7 @@ use Rattle.sja_bus.specs.Inside.Following.{Follows, off_left}
 use Rattle.sja_bus.specs.declared.heard.Heard.{Heard}
 use Rattle.sja_bus.specs.Inside.Following.{open_in}
 use Rattle.sja_bus.specs.Inside.Seats.{IsReady}
-use Rattle.sja_bus.specs.Inside.Turning.{Drops, TakesNews, AbortsNews, OpensNews, Brings, TurnOf, Turns, is_dropped}
+use Rattle.sja_bus.specs.Inside.Turning.{IsQuietBit, Drops, TakesNews, AbortsNews, OpensNews, Brings, TurnOf, Turns, is_dropped}
 use Rattle.std.proofs.lemmas.List.{length-append}
 use Rattle.sja_bus.proofs.Steps.{entries_split}
 
@@ -202,18 +202,17 @@ takes_then old mid new takes items h = record {
 -- ---- one bit of a seat
 
 -- nothing happened, and nothing was to be told
-pub quiet_turns : (was_told : BusTurn → Type 0) (was_kept : Type 0) (seen : Level) (old new : Seat) (node : Node) → was_kept → IsReady old → old.news ≡ Nothing → new.news ≡ Nothing →
-    Samples old.node node seen (nothing (is_receiving old.node)) → ShowsSame old.node node → new.journal.entries ≡ old.journal.entries ++ Bit old.drives seen ∷ [] →
+pub quiet_turns : (was_told : BusTurn → Type 0) (was_kept : Type 0) (seen : Level) (old new : Seat) → was_kept → IsReady old → IsQuietBit seen old new →
     Turns was_told was_kept seen old new
-quiet_turns was_told was_kept seen old new node kept ready none now samples same whole =
+quiet_turns was_told was_kept seen old new kept ready quiet =
     let j = old.journal.entries in let k = new.journal.entries in let one = j ++ Bit old.drives seen ∷ [] in
-    let bit : HasBit j old.drives seen k = record { verdict = None; off = false; whole = whole ∙ sym (append-nil one) ∙ sym (append-nil (one ++ [])) } in record {
+    let bit : HasBit j old.drives seen k = record { verdict = None; off = false; whole = quiet.whole ∙ sym (append-nil one) ∙ sym (append-nil (one ++ [])) } in record {
       bit = bit;
       turn = still old.node j;
       is_turn = λ changed drops.
-          still_turn old.node node j k old.drives seen bit changed (is_dropped old.news) ready.drives samples same ready.sound.follows whole refl refl (ap is_dropped none) drops;
-      port = inr (kept, none, still_alone old.node j ready.sound.follows);
-      told = now;
+          still_turn old.node new.node j k old.drives seen bit changed (is_dropped old.news) ready.drives quiet.samples quiet.shows ready.sound.follows quiet.whole refl refl (ap is_dropped quiet.untold) drops;
+      port = inr (kept, quiet.untold, still_alone old.node j ready.sound.follows);
+      told = quiet.told;
     }
 
 -- the port is told the turn of the bit

@@ -6,6 +6,7 @@ pub mod Refusing
 pub mod Turning
 pub mod Ticking
 pub mod Rows
+pub mod Underway
 pub mod Whole
 pub mod Ending
 pub mod Idling

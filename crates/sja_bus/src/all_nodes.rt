@@ -1,12 +1,14 @@
 //! What all nodes of a bus do in one bit, node after node.
 
-ghost use Rattle.std.specs.Prelude.{◌≡◌, ◌*◌, ◌<◌, ◌≤◌, ◌+◌, if◌then◌else◌, ℕ, false, [], ◌∷◌, length, IfOk, OnOk, IfErr, ◌⊎◌};
+ghost use Rattle.std.specs.Prelude.{◌≡◌, ◌*◌, ◌<◌, ◌≤◌, ◌+◌, if◌then◌else◌, ℕ, List, false, [], ◌∷◌, length, IfOk, OnOk, IfErr, ◌⊎◌};
 ghost use Rattle.sja_regs.specs.declared.bus_turn.BusTurn.{BusTurn as Turn};
 ghost use Rattle.can_bits.specs.Digits.{opposite};
 ghost use Rattle.sja_bus.specs.Wire.{wired};
 ghost use Rattle.sja_bus.specs.Links.{EachRelated, Numbered};
-ghost use Rattle.sja_bus.specs.Inside.Rows.{AreReady, AreSeated, EachSeat, SeatTakes, SeatNews, SeatOpens, SeatOpensNews, SeatTurns, GoesAll, AllRead, driven_by};
+ghost use Rattle.sja_bus.specs.Inside.Rows.{AreReady, AreSeated, AreTold, EachSeat, SeatTakes, SeatNews, SeatOpens, SeatOpensNews, SeatTurns, GoesAll, AllRead, driven_by};
 ghost use Rattle.sja_bus.specs.Boards.{KeepsOthers};
+ghost use Rattle.sja_bus.specs.declared.seat.Seat.{Seat as Seated};
+ghost use Rattle.sja_bus.specs.Inside.Underway.{IsUnderway};
 ghost use Rattle.sja_bus.specs.Inside.Whole.{IsRowBit};
 ghost use Rattle.sja_bus.specs.Inside.Refusing.{HaveRoom, SeatRefuses, SeatFull, SeatBreaks, SeatStops};
 
@@ -97,20 +99,43 @@ fn struck_level(level: Level) -> Level
     }
 }
 
-/// Whether one is so.
-#[inline(always)]
-fn either(a: bool, b: bool) -> bool
-    ensures { result ≡ false → (a ≡ false) × (b ≡ false) }
-{
-    a || b
-}
-
 /// What two levels make on the bus.
 #[inline(always)]
 fn both(a: Level, b: Level) -> Level
     ensures { result ≡ wired (a ∷ b ∷ []) }
 {
     Level::of(a.is_recessive() && b.is_recessive())
+}
+
+/// The nodes from this one on have their bit, and see this level, or the other one where they are struck. Their ports
+/// are told of it where there is something to tell. What was so of those before goes on to all.
+#[inline(never)]
+fn tick_from<E: BusEnd, B: Board>(
+    seats: &mut [Seat],
+    links: &mut [E],
+    level: Level,
+    struck: StruckNodes,
+    board: &mut B,
+    first: usize,
+) -> Result<(), BusFault>
+    requires seated { AreSeated E.link seats.old links.old (B.ports board.old) }
+    ensures sames { EachRelated E.same links.old links.new }
+    ensures board { KeepsOthers B.ports B.kept (length seats.old) board.old board.new }
+    ensures row { OnOk result ((before : List Seated) (given : List E) (was : B) →
+        IsUnderway E.same E.stands B.ports B.told B.kept struck level before given was first
+        seats.old links.old board.old →
+        (k : ℕ) × (length seats.new ≤ k) × IsUnderway E.same E.stands B.ports B.told B.kept struck level before given was k
+        seats.new links.new board.new) }
+    ensures broken { IfErr result (λ f. (before : List Seated) (given : List E) (was : B) →
+        IsUnderway E.same E.stands B.ports B.told B.kept struck level before given was first
+        seats.old links.old board.old →
+        SeatBreaks E.stands E.full before seats.new given f) }
+{
+    for k in first..seats.len() {
+        let sees = seen(level, struck.has(k));
+        seats[k].tick(links, LINKS * k, sees, board)?;
+    }
+    Ok(())
 }
 
 /// Each node has its bit, and sees this level, or the other one where it is struck. Its port is told of it where there
@@ -124,6 +149,7 @@ pub(crate) fn tick_all<E: BusEnd, B: Board>(
     board: &mut B,
 ) -> Result<RowEnd, BusFault>
     requires seated { AreSeated E.link seats.old links.old (B.ports board.old) }
+    requires told { AreTold seats.old }
     ensures sames { EachRelated E.same links.old links.new }
     ensures ready { OnOk result (AreReady seats.new) }
     ensures goes { OnOk result (GoesAll E.same E.stands seats.old seats.new links.old links.new) }
@@ -136,14 +162,21 @@ pub(crate) fn tick_all<E: BusEnd, B: Board>(
     ensures broken { IfErr result (λ f. SeatBreaks E.stands E.full seats.old seats.new links.old f) }
 {
     let mut next = Level::Recessive;
-    let mut told = false;
     for k in 0..seats.len() {
         let sees = seen(level, struck.has(k));
-        let is_told = seats[k].tick(links, LINKS * k, sees, board)?;
-        told = either(told, is_told);
+        if !seats[k].tick_quietly(sees)? {
+            tick_from(seats, links, level, struck, board, k)?;
+            return Ok(RowEnd {
+                level: level_of(seats),
+                told: true,
+            });
+        }
         next = both(next, seats[k].drives);
     }
-    Ok(RowEnd { level: next, told })
+    Ok(RowEnd {
+        level: next,
+        told: false,
+    })
 }
 
 /// One bit of all nodes, in which these are struck: what the links show is taken and what stands is aborted, all drive,
@@ -169,6 +202,6 @@ pub(crate) fn bit_all<E: BusEnd, B: Board>(
 {
     open_all(seats, links, board)?;
     let level = level_of(seats);
-    tick_all(seats, links, level, struck, board)?;
+    tick_from(seats, links, level, struck, board, 0)?;
     Ok(())
 }

@@ -11,6 +11,7 @@
 
 mod activity;
 mod all_nodes;
+mod all_told;
 mod beginning;
 mod board;
 mod board_laws;

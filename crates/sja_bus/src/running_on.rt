@@ -11,6 +11,7 @@ ghost use Rattle.sja_bus.specs.Inside.Rows.{AreReady, AreSeated, IsBus};
 ghost use Rattle.sja_bus.specs.Inside.RunningOn.{NoneAborts, RowsRun, RowsStop};
 
 use super::all_nodes::{level_of, tick_all};
+use super::all_told::are_told;
 use super::board::Board;
 use super::broken_off::BrokenOff;
 use super::bus::Bus;
@@ -73,6 +74,9 @@ pub(crate) fn on_all<E: BusEnd, B: Board>(
     ensures breaks { IfErr result (λ f. RowsStop E.BusEnd B.Board to_rest struck.now.script from most
         seats.old seats.new links.old links.new board.old board.new f) }
 {
+    if !are_told(seats) {
+        return Ok(0);
+    }
     let mut level = level_of(seats);
     for run in 0..most {
         if !goes_on(seats, struck.at(from + run), to_rest) {

@@ -10,14 +10,16 @@ use can_bits::Level;
 use sja_link::BusEnd;
 
 impl Seat {
-    ghost use Rattle.std.specs.Prelude.{◌≡◌, ◌≢◌, ◌<◌, ◌≤◌, ◌+◌, ℕ, Ok, false, length, OnOk, IfOk, IfErr};
+    ghost use Rattle.std.specs.Prelude.{◌≡◌, ◌≢◌, ◌<◌, ◌≤◌, ◌+◌, ℕ, Ok, true, false, length, OnOk, IfOk, IfErr};
     ghost use Rattle.can_node.specs.Stands.{Samples};
     ghost use Rattle.sja_link.specs.BusLedgers.{link_of};
     ghost use Rattle.sja_bus.specs.Links.{Goes, EachRelated, AreOf};
     ghost use Rattle.sja_bus.specs.Reasons.{IsBrokenFor};
     ghost use Rattle.sja_bus.specs.Inside.Seats.{IsSound, IsSeat, IsReady};
-    ghost use Rattle.sja_bus.specs.Inside.Turning.{Brings, Turns};
+    ghost use Rattle.sja_bus.specs.declared.news.News.TheVariants.{Nothing};
+    ghost use Rattle.sja_bus.specs.Inside.Turning.{Brings, IsQuietBit, Turns};
     ghost use Rattle.sja_bus.specs.Inside.Ticking.{CanTick, TickKeeps, Ticks};
+    ghost use Rattle.sja_bus.specs.Inside.Taking.{IsFull};
 
     /// One bit of the node in which something may happen.
     #[inline(always)]
@@ -72,8 +74,29 @@ impl Seat {
         Ok(())
     }
 
+    /// A bit of the node, which sees this level and whose port is told all, where nothing happens. Answers whether it was
+    /// one; else nothing changed.
+    #[inline(always)]
+    pub(crate) fn tick_quietly(&mut self, seen: Level) -> Result<bool, BusFault>
+        requires ready { IsReady self.old }
+        requires told { self.old.news ≡ Nothing }
+        ensures node { (link_of self.new.ledger).node ≡ (link_of self.old.ledger).node }
+        ensures room { self.new.journal.room ≡ self.old.journal.room }
+        ensures ready { OnOk result (IsReady self.new) }
+        ensures quiet { result ≡ Ok true → IsQuietBit seen self.old self.new }
+        ensures same { result ≡ Ok false → self.new ≡ self.old }
+        ensures full { IfErr result (λ f. IsFull self.old self.new f) }
+    {
+        if self.node.sample_quietly(seen) {
+            self.enter_bit(self.drives, seen)?;
+            self.drives = self.node.drive();
+            return Ok(true);
+        }
+        Ok(false)
+    }
+
     /// One bit of the node, which sees this level. Its port is told of it, unless nothing happened and nothing is left
-    /// to be told. Answers whether it was.
+    /// to be told.
     #[inline(always)]
     pub(crate) fn tick<E: BusEnd, B: Board>(
         &mut self,
@@ -81,7 +104,7 @@ impl Seat {
         base: usize,
         seen: Level,
         board: &mut B,
-    ) -> Result<bool, BusFault>
+    ) -> Result<(), BusFault>
         requires room { base + 8 ≤ length links.old }
         requires ids { AreOf E.link (link_of self.old.ledger).node links.old base }
         requires ready { IsReady self.old }
@@ -95,18 +118,14 @@ impl Seat {
         ensures others { (k : ℕ) → k ≢ (link_of self.old.ledger).node → B.kept board.old board.new k }
         ensures turns { OnOk result (Turns (B.told board.old board.new (link_of self.old.ledger).node)
             (B.kept board.old board.new (link_of self.old.ledger).node) seen self.old self.new) }
-        ensures untold { result ≡ Ok false → board.new ≡ board.old }
         ensures broken { IfErr result (λ f. IsBrokenFor E.stands E.full (link_of self.old.ledger).node self.old.journal.room
             self.old.journal.entries self.new.journal.entries links.old base f) }
     {
         if let News::Nothing = self.news {
-            if self.node.sample_quietly(seen) {
-                self.enter_bit(self.drives, seen)?;
-                self.drives = self.node.drive();
-                return Ok(false);
+            if self.tick_quietly(seen)? {
+                return Ok(());
             }
         }
-        self.tick_fully(links, base, seen, board)?;
-        Ok(true)
+        self.tick_fully(links, base, seen, board)
     }
 }

@@ -12,7 +12,7 @@ use Rattle.sja_regs.specs.declared.orders.Orders.{Orders}
 use Rattle.sja_regs.specs.declared.bus_turn.BusTurn.{BusTurn}
 use Rattle.sja_script.specs.declared.strike.Strike.{Strike}
 use Rattle.sja_bus.specs.declared.struck_nodes.StruckNodes.{StruckNodes}
-use Rattle.sja_bus.specs.declared.news.News.TheVariants.{Dropped}
+use Rattle.sja_bus.specs.declared.news.News.TheVariants.{Nothing, Dropped}
 use Rattle.sja_bus.specs.declared.seat.Seat.{Seat}
 use Rattle.sja_bus.specs.Wire.{IsWired}
 use Rattle.sja_bus.specs.Links.{per_node, EachRelated, Kept, Grows, Numbered}
@@ -93,6 +93,10 @@ abbrev pub AllRead : {E : Type 0} → (E → Type 0) → List Seat → List E �
 AllRead {E} dry seats links =
     (k : ℕ) (s : Seat) (d : E) → k < length seats → (slice_index_or seats k s).ended < per_node →
     dry (slice_index_or links (per_node * k + (slice_index_or seats k s).ended) d)
+
+-- no port is to be told anything
+abbrev pub AreTold : List Seat → Type 0
+AreTold seats = (k : ℕ) (s : Seat) → k < length seats → (slice_index_or seats k s).news ≡ Nothing
 
 -- no request was dropped since the last bit
 abbrev pub AreCalm : List Seat → Type 0

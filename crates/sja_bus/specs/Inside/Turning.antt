@@ -1,12 +1,13 @@
 -- What the port of a controller is still to be told, and what it is told.
-use Rattle.std.specs.Prelude.{◌≡◌, ◌≢◌, ◌⊎◌, ◌+◌, ◌<◌, ◌&&◌, not, Bool, true, false, List, length}
+use Rattle.std.specs.Prelude.{◌≡◌, ◌≢◌, ◌⊎◌, ◌+◌, ◌<◌, ◌&&◌, not, Bool, true, false, List, [], ◌∷◌, ◌++◌, length}
 use Rattle.can_bits.specs.declared.level.Level.{Level}
 use Rattle.can_node.specs.declared.bit_events.BitEvents.{BitEvents}
 use Rattle.can_node.specs.Context.{is_held}
 use Rattle.can_node.specs.NextBit.{now_in}
-use Rattle.can_node.specs.Stands.{StandsAt, ShowsPhase}
+use Rattle.can_node.specs.Stands.{StandsAt, ShowsPhase, Samples, ShowsSame, nothing, is_receiving}
 use Rattle.sja_link.specs.NodeWords.{NodeEntry, FinishedPiece, IsCut}
 use Rattle.sja_link.specs.declared.entry.Entry.{Entry}
+use Rattle.sja_link.specs.declared.entry.Entry.TheVariants.{Bit}
 use Rattle.sja_link.specs.Records.{record_of}
 use Rattle.sja_regs.specs.declared.bus_turn.BusTurn.{BusTurn}
 use Rattle.sja_bus.specs.declared.heard.Heard.{Heard}
@@ -63,6 +64,14 @@ pub record Brings (j : List Entry) (driven seen : Level) (heard : Heard) (k : Li
   pub bit : HasBit j driven seen k
   pub off : heard.events.went_off ≡ bit.off
   pub overrun : heard.overrun ≡ is_overrun bit.verdict
+
+-- one bit of a seat with which nothing happened, and nothing was or is to be told
+pub record IsQuietBit (seen : Level) (old new : Seat) : Type 0 where
+  pub untold : old.news ≡ Nothing
+  pub told : new.news ≡ Nothing
+  pub samples : Samples old.node new.node seen (nothing (is_receiving old.node))
+  pub shows : ShowsSame old.node new.node
+  pub whole : new.journal.entries ≡ old.journal.entries ++ Bit old.drives seen ∷ []
 
 -- the turn says this of the bit that is over, and what the seat shows after it
 pub record TurnOf (s : Seat) (events : BitEvents) (overrun : Bool) (turn : BusTurn) : Type 0 where

@@ -2,11 +2,13 @@ use Rattle.std.proofs.Common.{◌≡◌, refl, arith, rules, inr}
 use Rattle.std.specs.Prelude.{◌⊎◌, Err}
 use Rattle.sja_bus.specs.Inside.Refusing.{SeatRefuses, SeatFull, SeatStops}
 use Rattle.sja_bus.proofs.Lists.{each_trans, err_is}
-use Rattle.sja_bus.proofs.Many.{goes_all_trans, numbered_kept}
+use Rattle.sja_bus.specs.Inside.Rows.{SeatTurns}
+use Rattle.sja_bus.proofs.Many.{goes_all_trans, numbered_kept, done_all}
+use Rattle.sja_bus.proofs.Underway.{underway_none}
 use Rattle.sja_bus.proofs.all_nodes.bit_all.Goals as goal
 
-pub tick_all-requires : goal.tick_all-requires
-tick_all-requires g c =
+pub tick_from-requires : goal.tick_from-requires
+tick_from-requires g c =
     let h = c.requires.seated in let did = c.in_ok-open_all.ensures in
     let seats = c.open_all.auto.seats in let links = c.open_all.auto.links in
     let few = h.few in let count = h.count in let ports = h.ports in record {
@@ -20,50 +22,70 @@ tick_all-requires g c =
     }
 
 pub returns-clause-sames : goal.returns-clause-sames
-returns-clause-sames g c = each_trans g.E.BusEnd.same g.met.E.BusEnd.same_trans c.args.links.now c.open_all.new.links c.tick_all.new.links c.open_all.ensures.sames c.tick_all.ensures.sames
+returns-clause-sames g c = each_trans g.E.BusEnd.same g.met.E.BusEnd.same_trans c.args.links.now c.open_all.new.links c.tick_from.new.links c.open_all.ensures.sames c.tick_from.ensures.sames
 
-pub returns-in_err-tick_all-clause-sames : goal.returns-in_err-tick_all-clause-sames
-returns-in_err-tick_all-clause-sames g c = each_trans g.E.BusEnd.same g.met.E.BusEnd.same_trans c.args.links.now c.open_all.new.links c.tick_all.new.links c.open_all.ensures.sames c.tick_all.ensures.sames
+pub returns-in_err-tick_from-clause-sames : goal.returns-in_err-tick_from-clause-sames
+returns-in_err-tick_from-clause-sames g c = each_trans g.E.BusEnd.same g.met.E.BusEnd.same_trans c.args.links.now c.open_all.new.links c.tick_from.new.links c.open_all.ensures.sames c.tick_from.ensures.sames
 
 pub returns-clause-goes : goal.returns-clause-goes
 returns-clause-goes g c =
-    goes_all_trans g.E.BusEnd.same g.E.BusEnd.stands g.met.E.BusEnd.same_trans c.args.seats.now c.open_all.new.seats c.tick_all.new.seats c.args.links.now c.open_all.new.links c.tick_all.new.links
-    c.open_all.auto.seats c.in_ok-open_all.ensures.goes c.in_ok-tick_all.ensures.goes
+    let E = g.E.BusEnd in let B = g.B.Board in let seats = c.open_all.new.seats in
+    let row = underway_none E.same E.stands g.met.E.BusEnd.same_refl B.ports B.told B.kept g.met.B.Board.kept_refl c.args.struck c.level_of-level.result seats c.open_all.new.links c.args.board.now c.in_ok-open_all.ensures.ready in
+    let did = c.in_ok-tick_from.ensures.row seats c.open_all.new.links c.args.board.now row in
+    goes_all_trans g.E.BusEnd.same g.E.BusEnd.stands g.met.E.BusEnd.same_trans c.args.seats.now c.open_all.new.seats c.tick_from.new.seats c.args.links.now c.open_all.new.links c.tick_from.new.links
+    c.open_all.auto.seats c.in_ok-open_all.ensures.goes did.2.goes
 
 pub returns-clause-bit : goal.returns-clause-bit
-returns-clause-bit g c = record {
-  opened = c.open_all.new.seats;
-  level = c.level_of-level.result;
-  count = c.open_all.auto.seats;
-  opens = c.in_ok-open_all.ensures.opens;
-  news = c.in_ok-open_all.ensures.news;
-  is_level = c.level_of-level.ensures;
-  turns = c.in_ok-tick_all.ensures.turns;
-}
+returns-clause-bit g c =
+    let E = g.E.BusEnd in let B = g.B.Board in let seats = c.open_all.new.seats in
+    let row = underway_none E.same E.stands g.met.E.BusEnd.same_refl B.ports B.told B.kept g.met.B.Board.kept_refl c.args.struck c.level_of-level.result seats c.open_all.new.links c.args.board.now c.in_ok-open_all.ensures.ready in
+    let did = c.in_ok-tick_from.ensures.row seats c.open_all.new.links c.args.board.now row in
+    let u = did.2 in let all = did.1 in let count = u.count in record {
+      opened = c.open_all.new.seats;
+      level = c.level_of-level.result;
+      count = c.open_all.auto.seats;
+      opens = c.in_ok-open_all.ensures.opens;
+      news = c.in_ok-open_all.ensures.news;
+      is_level = c.level_of-level.ensures;
+      turns = done_all (SeatTurns (B.told c.args.board.now c.tick_from.new.board) (B.kept c.args.board.now c.tick_from.new.board) c.args.struck c.level_of-level.result) did.0 seats c.tick_from.new.seats (omega (arith, all, count)) u.done;
+    }
 
 pub returns-clause-rooms : goal.returns-clause-rooms
-returns-clause-rooms g c = λ n h. c.in_ok-tick_all.ensures.rooms n (c.in_ok-open_all.ensures.rooms n h)
+returns-clause-rooms g c = λ n h.
+    let E = g.E.BusEnd in let B = g.B.Board in let seats = c.open_all.new.seats in
+    let row = underway_none E.same E.stands g.met.E.BusEnd.same_refl B.ports B.told B.kept g.met.B.Board.kept_refl c.args.struck c.level_of-level.result seats c.open_all.new.links c.args.board.now c.in_ok-open_all.ensures.ready in
+    let did = c.in_ok-tick_from.ensures.row seats c.open_all.new.links c.args.board.now row in
+    did.2.rooms n (c.in_ok-open_all.ensures.rooms n h)
+
+pub returns-clause-ready : goal.returns-clause-ready
+returns-clause-ready g c =
+    let E = g.E.BusEnd in let B = g.B.Board in let seats = c.open_all.new.seats in
+    let row = underway_none E.same E.stands g.met.E.BusEnd.same_refl B.ports B.told B.kept g.met.B.Board.kept_refl c.args.struck c.level_of-level.result seats c.open_all.new.links c.args.board.now c.in_ok-open_all.ensures.ready in
+    let did = c.in_ok-tick_from.ensures.row seats c.open_all.new.links c.args.board.now row in
+    did.2.ready
 
 pub returns-in_err-open_all-clause-board : goal.returns-in_err-open_all-clause-board
 returns-in_err-open_all-clause-board g c = (refl, λ k far. g.met.B.Board.kept_refl c.args.board.now k)
 
 pub returns-clause-board : goal.returns-clause-board
 returns-clause-board g c =
-    let seats = c.open_all.auto.seats in (c.tick_all.ensures.board.0, λ k far. c.tick_all.ensures.board.1 k (omega (arith, far, seats)))
+    let seats = c.open_all.auto.seats in (c.tick_from.ensures.board.0, λ k far. c.tick_from.ensures.board.1 k (omega (arith, far, seats)))
 
-pub returns-in_err-tick_all-clause-board : goal.returns-in_err-tick_all-clause-board
-returns-in_err-tick_all-clause-board g c =
-    let seats = c.open_all.auto.seats in (c.tick_all.ensures.board.0, λ k far. c.tick_all.ensures.board.1 k (omega (arith, far, seats)))
+pub returns-in_err-tick_from-clause-board : goal.returns-in_err-tick_from-clause-board
+returns-in_err-tick_from-clause-board g c =
+    let seats = c.open_all.auto.seats in (c.tick_from.ensures.board.0, λ k far. c.tick_from.ensures.board.1 k (omega (arith, far, seats)))
 
-pub returns-in_err-tick_all-clause-stops : goal.returns-in_err-tick_all-clause-stops
-returns-in_err-tick_all-clause-stops g c =
-    let E = g.E.BusEnd in let O = g.B.Board.orders_are c.args.board.now in
-    let did = c.in_ok-open_all.ensures in let f = c.in_err-tick_all.field-0.0 in
-    let was = c.args.seats.now in let now = c.tick_all.new.seats in
-    let is : c.from_residual-in_err-tick_all.result ≡ Err f = search rules in
-    let P : _ → Type 0 = λ x. (SeatRefuses E.stands was now c.args.links.now c.tick_all.new.links x
-    ⊎ SeatFull E.stands was now c.args.links.now c.tick_all.new.links x) ⊎ SeatStops E.stands E.full O E.same was now c.args.links.now x in
-    err_is P c.from_residual-in_err-tick_all.result f is
+pub returns-in_err-tick_from-clause-stops : goal.returns-in_err-tick_from-clause-stops
+returns-in_err-tick_from-clause-stops g c =
+    let E = g.E.BusEnd in let B = g.B.Board in let seats = c.open_all.new.seats in
+    let row = underway_none E.same E.stands g.met.E.BusEnd.same_refl B.ports B.told B.kept g.met.B.Board.kept_refl c.args.struck c.level_of-level.result seats c.open_all.new.links c.args.board.now c.in_ok-open_all.ensures.ready in
+    let O = g.B.Board.orders_are c.args.board.now in
+    let did = c.in_ok-open_all.ensures in let f = c.in_err-tick_from.field-0.0 in
+    let was = c.args.seats.now in let now = c.tick_from.new.seats in
+    let is : c.from_residual-in_err-tick_from.result ≡ Err f = search rules in
+    let P : _ → Type 0 = λ x. (SeatRefuses E.stands was now c.args.links.now c.tick_from.new.links x
+    ⊎ SeatFull E.stands was now c.args.links.now c.tick_from.new.links x) ⊎ SeatStops E.stands E.full O E.same was now c.args.links.now x in
+    err_is P c.from_residual-in_err-tick_from.result f is
     (inr (record {
       opened = c.open_all.new.seats;
       between = c.open_all.new.links;
@@ -71,5 +93,5 @@ returns-in_err-tick_all-clause-stops g c =
       opens = did.opens;
       goes = did.goes;
       rooms = did.rooms;
-      breaks = c.in_err-tick_all.ensures.broken;
+      breaks = c.in_err-tick_from.ensures.broken seats c.open_all.new.links c.args.board.now row;
     }))

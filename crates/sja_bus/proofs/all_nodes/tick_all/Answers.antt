@@ -1,82 +1,109 @@
-use Rattle.std.proofs.Common.{◌≡◌, ◌≢◌, ℕ, suc, ◌<◌, ◌≤◌, Bool, [], ◌∷◌, length, rules, arith, refl, sym, ap, ◌∙◌, subst}
-use Rattle.can_bits.specs.declared.level.Level.{Level}
-use Rattle.sja_link.specs.declared.link_id.LinkId.{LinkId}
-use Rattle.std.proofs.lemmas.List.{take_all}
-use Rattle.std.specs.Prelude.{Ok, Err, slice_index_or, slice_set}
+use Rattle.std.proofs.Common.{◌≡◌, ◌*◌, ◌<◌, ◌≤◌, ◌∷◌, [], length, rules, arith, refl, sym, ap, ◌∙◌, subst}
+use Rattle.std.specs.Prelude.{Err, slice_index_or, slice_set}
+use Rattle.std.proofs.Math.ListN.{length-set}
+use Rattle.std.proofs.lemmas.List.{take_all, set-get_or}
+use Rattle.sja_link.specs.declared.entry.Entry.TheVariants.{Bit}
+use Rattle.sja_link.specs.BusLedgers.{link_of}
 use Rattle.sja_bus.specs.declared.seat.Seat.{Seat}
-use Rattle.sja_bus.specs.Inside.Rows.{SeatTurns, seen_by, driven_by}
 use Rattle.sja_bus.specs.Wire.{wired}
-use Rattle.sja_bus.specs.Inside.Turning.{Turns}
-use Rattle.sja_bus.proofs.Turning.{turns_by}
-use Rattle.sja_bus.proofs.Lists.{each_trans, err_is, set_here}
+use Rattle.sja_bus.specs.Links.{EachRelated, Goes}
+use Rattle.sja_bus.specs.Inside.Rows.{SeatTurns, seen_by, driven_by}
 use Rattle.sja_bus.specs.Inside.Refusing.{SeatBreaks}
+use Rattle.sja_bus.proofs.Breaking.{breaks_seat, broken_full}
 use Rattle.sja_bus.proofs.Levels.{level_now}
+use Rattle.sja_bus.proofs.Lists.{err_is, set_here}
+use Rattle.sja_bus.proofs.Many.{done_all}
+use Rattle.sja_bus.proofs.Moving.{goes_quiet}
 use Rattle.sja_bus.proofs.Running.{seen_is}
-use Rattle.sja_bus.proofs.Many.{or_same, goes_all_refl, goes_all_one, ready_one, numbered_at, done_none, done_one, done_all, done_before}
-use Rattle.sja_bus.proofs.Refusing.{rooms_one}
-use Rattle.sja_bus.proofs.Breaking.{breaks_seat}
+use Rattle.sja_bus.proofs.Turning.{quiet_turns}
+use Rattle.sja_bus.proofs.Underway.{underway_none, underway_one, underway_at}
 use Rattle.sja_bus.proofs.all_nodes.tick_all.Goals as goal
 
 pub loop-k-init : goal.loop-k-init
-loop-k-init g c = record {
-  ready = c.requires.seated.ready;
-  goes = goes_all_refl g.E.BusEnd.same g.E.BusEnd.stands g.met.E.BusEnd.same_refl c.args.seats.now c.args.links.now;
-  rooms = λ n h. h;
-  done = done_none (SeatTurns (g.B.Board.told c.args.board.now c.args.board.now) (g.B.Board.kept c.args.board.now c.args.board.now) c.args.struck c.args.level) c.args.seats.now;
-  ports = refl;
-  level = refl;
-  untold = λ none. refl;
-  others = λ m far. g.met.B.Board.kept_refl c.args.board.now m;
-}
-
-pub tick-requires-clause-ids : goal.tick-requires-clause-ids
-tick-requires-clause-ids g c = λ a d few.
-    let E = g.E.BusEnd in let k = c.loop-k.k in
-    let here : k < length c.args.seats.now = search rules in
-    let i = numbered_at E.link E.same g.met.E.BusEnd.same_link c.args.links.now c.loop-k.links (length c.args.seats.now) k c.requires.seated.count here c.loop-k.invariant.goes.sames c.requires.seated.ids a d few in
-    let n = (c.loop-k.invariant.ready k c.index-seats-k.result (search rules)).own in
-    i ∙ sym (ap (λ (m : ℕ). let x : LinkId = record { node = m; activation = suc a } in x) n)
-
-pub returns-in_err-is_told-clause-sames : goal.returns-in_err-is_told-clause-sames
-returns-in_err-is_told-clause-sames g c = each_trans g.E.BusEnd.same g.met.E.BusEnd.same_trans c.args.links.now c.loop-k.links c.tick.new.links c.loop-k.invariant.goes.sames c.tick.ensures.sames
+loop-k-init g c =
+    let E = g.E.BusEnd in let B = g.B.Board in record {
+      row = underway_none E.same E.stands g.met.E.BusEnd.same_refl B.ports B.told B.kept g.met.B.Board.kept_refl c.args.struck c.args.level c.args.seats.now c.args.links.now c.args.board.now c.requires.seated.ready;
+      links = refl;
+      board = refl;
+      level = refl;
+    }
 
 pub loop-k-preserved : goal.loop-k-preserved
 loop-k-preserved g c =
-    let E = g.E.BusEnd in let k = c.loop-k.k in let did = c.in_ok-is_told.ensures in
+    let E = g.E.BusEnd in let B = g.B.Board in let met = g.met.B.Board in let k = c.loop-k.k in let inv = c.loop-k.invariant in
+    let s = c.index-seats-k.result in let a = c.args.board.now in let links = c.args.links.now in
     let here : k < length c.loop-k.seats = search rules in
-    let was : k < length c.args.seats.now = search rules in
-    let n = (c.loop-k.invariant.ready k c.index-seats-k.result here).own in
-    let at : (s : Seat) → slice_index_or c.loop-k.seats k s ≡ slice_index_or c.loop-k.seats k c.index-seats-k.result = λ s. or_same c.loop-k.seats k s c.index-seats-k.result here in
+    let old = slice_index_or c.loop-k.seats k s in let new = c.tick_quietly.new.self in
+    let quiet = c.tick_quietly.ensures.quiet (search rules) in
+    let node = (link_of old.ledger).node in
     let sees : c.seen-sees.result ≡ seen_by c.args.struck c.args.level k = c.seen-sees.ensures ∙ seen_is c.has.result c.args.struck c.args.level k c.has.ensures in
-    let was_here = slice_index_or c.loop-k.seats k c.index-seats-k.result in
-    let B = g.B.Board in let met = g.met.B.Board in
-    let a = c.args.board.now in let b = c.loop-k.board in let z = c.tick.new.board in
-    let P : ℕ → Type 0 = λ m. Turns (B.told b z m) (B.kept b z m) c.seen-sees.result was_here c.tick.new.self in
-    let Q : Level → Type 0 = λ x. Turns (B.told b z k) (B.kept b z k) x was_here c.tick.new.self in
-    let did_now = turns_by (λ t told. met.told_last a b z k t (c.loop-k.invariant.others k (omega arith)) told) (λ kept. met.kept_trans a b z k (c.loop-k.invariant.others k (omega arith)) kept)
-    (subst Q sees (subst P n did.turns)) in
-    let far : (m : ℕ) → m ≢ k → B.kept b z m = λ m ne. did.others m (λ e. ne (e ∙ n)) in
+    let goes : Goes E.same E.stands old.journal.entries new.journal.entries links links (8 * k) =
+    rw quiet.whole (goes_quiet E.same E.stands g.met.E.BusEnd.same_refl old.journal.entries (Bit old.drives c.seen-sees.result) links (8 * k) (λ l. refl)) in
     record {
-      ready = ready_one c.loop-k.seats k c.tick.new.self here c.loop-k.invariant.ready (record { ready = did.ready; own = did.node ∙ n });
-      goes = goes_all_one E.same E.stands g.met.E.BusEnd.same_trans c.args.seats.now c.loop-k.seats c.args.links.now c.loop-k.links c.tick.new.links k c.index-seats-k.result c.tick.new.self here c.loop-k.auto.seats c.loop-k.invariant.goes did.goes;
-      rooms = λ n h. rooms_one n c.loop-k.seats k c.index-seats-k.result c.tick.new.self here c.tick.ensures.room (c.loop-k.invariant.rooms n h);
-      done = done_one (SeatTurns (B.told a z) (B.kept a z) c.args.struck c.args.level) k c.args.seats.now c.loop-k.seats c.index-seats-k.result c.tick.new.self was c.loop-k.auto.seats did_now
-          (done_before k c.args.seats.now c.loop-k.seats (λ m near s t.
-          turns_by {seen = seen_by c.args.struck c.args.level m} {old = s} {new = t} (λ u told. met.told_first a b z m u told (far m (omega (arith, near)))) (λ kept. met.kept_trans a b z m kept (far m (omega (arith, near))))) c.loop-k.invariant.done);
-      ports = did.ports ∙ c.loop-k.invariant.ports;
-      level = level_now c.loop-k.seats k c.tick.new.self c.loop-k.next c.both-next.result here c.loop-k.invariant.level
+      row = underway_one E.same E.stands g.met.E.BusEnd.same_trans B.ports B.told B.kept met.kept_trans met.told_first met.told_last c.args.struck c.args.level c.seen-sees.result c.args.seats.now c.loop-k.seats
+          links links links a a a k s new here sees
+          (record {
+            ready = c.in_ok-tick_quietly.ensures.ready;
+            node = c.tick_quietly.ensures.node;
+            room = c.tick_quietly.ensures.room;
+            goes = goes;
+            ports_are = refl;
+            others = λ m far. met.kept_refl a m;
+            turns = quiet_turns (B.told a a node) (B.kept a a node) c.seen-sees.result old new (met.kept_refl a node) (inv.row.ready k s here).ready quiet;
+          }) inv.row;
+      links = inv.links;
+      board = inv.board;
+      level = level_now c.loop-k.seats k new c.loop-k.next c.both-next.result here inv.level
           (c.both-next.ensures ∙ ap (λ (x : Seat). wired (c.loop-k.next ∷ x.drives ∷ []))
-          (set_here c.loop-k.seats k c.tick.new.self c.index-seats-k-in-loop-k.result here));
-      untold = λ none.
-          let neither = c.either-told.ensures none in
-          c.tick.ensures.untold (c.in_ok-is_told.was ∙ ap (λ (b : Bool). Ok b) neither.1) ∙ c.loop-k.invariant.untold neither.0;
-      others = λ m l. met.kept_trans a b z m (c.loop-k.invariant.others m (omega (arith, l))) (far m (omega (arith, l)));
+          (set_here c.loop-k.seats k new c.index-seats-k-in-loop-k.result here));
     }
+
+pub tick_quietly-requires-clause-told : goal.tick_quietly-requires-clause-told
+tick_quietly-requires-clause-told g c =
+    let k = c.loop-k.k in let s = c.index-seats-k.result in
+    let was : k < length c.args.seats.now = search rules in
+    ap (λ (x : Seat). x.news) ((c.loop-k.invariant.row.done k s was).1 (omega arith)) ∙ c.requires.told k s was
+
+pub tick_from-requires : goal.tick_from-requires
+tick_from-requires g c =
+    let E = g.E.BusEnd in let B = g.B.Board in let inv = c.loop-k.invariant in let k = c.loop-k.k in
+    let same : slice_set c.loop-k.seats k c.tick_quietly.new.self ≡ c.loop-k.seats = ap (λ x. slice_set c.loop-k.seats k x) (c.tick_quietly.ensures.same (search rules)) ∙ set-get_or c.loop-k.seats k c.index-seats-k.result in
+    let row = underway_at E.same E.stands B.ports B.told B.kept c.args.struck c.args.level c.args.seats.now c.loop-k.seats (slice_set c.loop-k.seats k c.tick_quietly.new.self) c.args.links.now c.loop-k.links c.args.board.now c.loop-k.board k same inv.links inv.board inv.row in
+    let h = c.requires.seated in
+    let seats = c.loop-k.auto.seats in let links = c.loop-k.auto.links in let few = h.few in let count = h.count in let ports = h.ports in let p = ap B.ports inv.board in record {
+      seated = record {
+        few = omega (arith, few, seats);
+        count = omega (arith, count, seats, links);
+        ids = rw inv.links h.ids;
+        ready = row.ready;
+        ports = omega (arith, ports, seats, p);
+      };
+    }
+
+pub returns-clause-sames : goal.returns-clause-sames
+returns-clause-sames g c =
+    rw c.loop-k.invariant.links c.loop-k.invariant.row.goes.sames
+
+pub returns-clause-ready : goal.returns-clause-ready
+returns-clause-ready g c =
+    c.loop-k.invariant.row.ready
+
+pub returns-clause-goes : goal.returns-clause-goes
+returns-clause-goes g c =
+    rw c.loop-k.invariant.links c.loop-k.invariant.row.goes
+
+pub returns-clause-board : goal.returns-clause-board
+returns-clause-board g c =
+    rw c.loop-k.invariant.board (refl, λ m far. g.met.B.Board.kept_refl c.args.board.now m)
 
 pub returns-clause-turns : goal.returns-clause-turns
 returns-clause-turns g c =
-    done_all (SeatTurns (g.B.Board.told c.args.board.now c.loop-k.board) (g.B.Board.kept c.args.board.now c.loop-k.board) c.args.struck c.args.level) c.loop-k.k c.args.seats.now c.loop-k.seats (search rules)
-    c.loop-k.invariant.done
+    let B = g.B.Board in let a = c.args.board.now in let all : length c.args.seats.now ≤ c.loop-k.k = search rules in
+    rw c.loop-k.invariant.board (done_all (SeatTurns (B.told a a) (B.kept a a) c.args.struck c.args.level) c.loop-k.k c.args.seats.now c.loop-k.seats all c.loop-k.invariant.row.done)
+
+pub returns-clause-rooms : goal.returns-clause-rooms
+returns-clause-rooms g c =
+    c.loop-k.invariant.row.rooms
 
 pub returns-clause-level : goal.returns-clause-level
 returns-clause-level g c =
@@ -84,30 +111,85 @@ returns-clause-level g c =
     c.loop-k.invariant.level ∙ ap (λ l. wired (driven_by l)) (take_all c.loop-k.k c.loop-k.seats all)
 
 pub returns-clause-untold : goal.returns-clause-untold
-returns-clause-untold g c = c.loop-k.invariant.untold
+returns-clause-untold g c =
+    λ none. c.loop-k.invariant.board
 
-pub returns-clause-board : goal.returns-clause-board
-returns-clause-board g c = (c.loop-k.invariant.ports, λ m far. c.loop-k.invariant.others m (search (rules, far)))
+pub returns-then-not-branch-clause-sames : goal.returns-then-not-branch-clause-sames
+returns-then-not-branch-clause-sames g c =
+    subst (λ x. EachRelated g.E.BusEnd.same x c.tick_from.new.links) c.loop-k.invariant.links c.tick_from.ensures.sames
 
-pub returns-in_err-is_told-clause-board : goal.returns-in_err-is_told-clause-board
-returns-in_err-is_told-clause-board g c =
-    let here : c.loop-k.k < length c.args.seats.now = search rules in
-    let n = (c.loop-k.invariant.ready c.loop-k.k c.index-seats-k.result (search rules)).own in (
-      c.tick.ensures.ports ∙ c.loop-k.invariant.ports,
-      λ m far. g.met.B.Board.kept_trans c.args.board.now c.loop-k.board c.tick.new.board m (c.loop-k.invariant.others m (omega (arith, far, here)))
-          (c.tick.ensures.others m (λ e. omega (arith, e, n, far, here))),
-    )
+pub returns-then-not-branch-clause-board : goal.returns-then-not-branch-clause-board
+returns-then-not-branch-clause-board g c =
+    let b = c.loop-k.invariant.board in let few = c.loop-k.auto.seats in let set = length-set c.loop-k.seats c.loop-k.k c.tick_quietly.new.self in
+    rw (sym b) (c.tick_from.ensures.board.0, λ m far. c.tick_from.ensures.board.1 m (omega (arith, far, few, set)))
 
-pub returns-clause-rooms : goal.returns-clause-rooms
-returns-clause-rooms g c = c.loop-k.invariant.rooms
+pub returns-then-not-branch-clause-ready : goal.returns-then-not-branch-clause-ready
+returns-then-not-branch-clause-ready g c =
+    let E = g.E.BusEnd in let B = g.B.Board in let inv = c.loop-k.invariant in let k = c.loop-k.k in
+    let same : slice_set c.loop-k.seats k c.tick_quietly.new.self ≡ c.loop-k.seats = ap (λ x. slice_set c.loop-k.seats k x) (c.tick_quietly.ensures.same (search rules)) ∙ set-get_or c.loop-k.seats k c.index-seats-k.result in
+    let row = underway_at E.same E.stands B.ports B.told B.kept c.args.struck c.args.level c.args.seats.now c.loop-k.seats (slice_set c.loop-k.seats k c.tick_quietly.new.self) c.args.links.now c.loop-k.links c.args.board.now c.loop-k.board k same inv.links inv.board inv.row in
+    let did = c.in_ok-tick_from.ensures.row c.args.seats.now c.args.links.now c.args.board.now row in
+    did.2.ready
 
-pub returns-in_err-is_told-clause-broken : goal.returns-in_err-is_told-clause-broken
-returns-in_err-is_told-clause-broken g c =
-    let E = g.E.BusEnd in let k = c.loop-k.k in let s = c.index-seats-k.result in let f = c.in_err-is_told.field-0.0 in
-    let before = c.args.seats.now in let inv = c.loop-k.invariant in let new = c.tick.new.self in
-    let was : k < length before = search rules in
+pub returns-then-not-branch-clause-goes : goal.returns-then-not-branch-clause-goes
+returns-then-not-branch-clause-goes g c =
+    let E = g.E.BusEnd in let B = g.B.Board in let inv = c.loop-k.invariant in let k = c.loop-k.k in
+    let same : slice_set c.loop-k.seats k c.tick_quietly.new.self ≡ c.loop-k.seats = ap (λ x. slice_set c.loop-k.seats k x) (c.tick_quietly.ensures.same (search rules)) ∙ set-get_or c.loop-k.seats k c.index-seats-k.result in
+    let row = underway_at E.same E.stands B.ports B.told B.kept c.args.struck c.args.level c.args.seats.now c.loop-k.seats (slice_set c.loop-k.seats k c.tick_quietly.new.self) c.args.links.now c.loop-k.links c.args.board.now c.loop-k.board k same inv.links inv.board inv.row in
+    let did = c.in_ok-tick_from.ensures.row c.args.seats.now c.args.links.now c.args.board.now row in
+    did.2.goes
+
+pub returns-then-not-branch-clause-rooms : goal.returns-then-not-branch-clause-rooms
+returns-then-not-branch-clause-rooms g c =
+    let E = g.E.BusEnd in let B = g.B.Board in let inv = c.loop-k.invariant in let k = c.loop-k.k in
+    let same : slice_set c.loop-k.seats k c.tick_quietly.new.self ≡ c.loop-k.seats = ap (λ x. slice_set c.loop-k.seats k x) (c.tick_quietly.ensures.same (search rules)) ∙ set-get_or c.loop-k.seats k c.index-seats-k.result in
+    let row = underway_at E.same E.stands B.ports B.told B.kept c.args.struck c.args.level c.args.seats.now c.loop-k.seats (slice_set c.loop-k.seats k c.tick_quietly.new.self) c.args.links.now c.loop-k.links c.args.board.now c.loop-k.board k same inv.links inv.board inv.row in
+    let did = c.in_ok-tick_from.ensures.row c.args.seats.now c.args.links.now c.args.board.now row in
+    did.2.rooms
+
+pub returns-then-not-branch-clause-turns : goal.returns-then-not-branch-clause-turns
+returns-then-not-branch-clause-turns g c =
+    let E = g.E.BusEnd in let B = g.B.Board in let inv = c.loop-k.invariant in let k = c.loop-k.k in
+    let same : slice_set c.loop-k.seats k c.tick_quietly.new.self ≡ c.loop-k.seats = ap (λ x. slice_set c.loop-k.seats k x) (c.tick_quietly.ensures.same (search rules)) ∙ set-get_or c.loop-k.seats k c.index-seats-k.result in
+    let row = underway_at E.same E.stands B.ports B.told B.kept c.args.struck c.args.level c.args.seats.now c.loop-k.seats (slice_set c.loop-k.seats k c.tick_quietly.new.self) c.args.links.now c.loop-k.links c.args.board.now c.loop-k.board k same inv.links inv.board inv.row in
+    let did = c.in_ok-tick_from.ensures.row c.args.seats.now c.args.links.now c.args.board.now row in
+    let u = did.2 in let all = did.1 in let count = u.count in
+    done_all (SeatTurns (B.told c.args.board.now c.tick_from.new.board) (B.kept c.args.board.now c.tick_from.new.board) c.args.struck c.args.level) did.0 c.args.seats.now c.tick_from.new.seats (omega (arith, all, count)) u.done
+
+pub returns-in_err-tick_from-clause-sames : goal.returns-in_err-tick_from-clause-sames
+returns-in_err-tick_from-clause-sames g c =
+    subst (λ x. EachRelated g.E.BusEnd.same x c.tick_from.new.links) c.loop-k.invariant.links c.tick_from.ensures.sames
+
+pub returns-in_err-tick_from-clause-board : goal.returns-in_err-tick_from-clause-board
+returns-in_err-tick_from-clause-board g c =
+    let b = c.loop-k.invariant.board in let few = c.loop-k.auto.seats in let set = length-set c.loop-k.seats c.loop-k.k c.tick_quietly.new.self in
+    rw (sym b) (c.tick_from.ensures.board.0, λ m far. c.tick_from.ensures.board.1 m (omega (arith, far, few, set)))
+
+pub returns-in_err-tick_from-clause-broken : goal.returns-in_err-tick_from-clause-broken
+returns-in_err-tick_from-clause-broken g c =
+    let E = g.E.BusEnd in let B = g.B.Board in let inv = c.loop-k.invariant in let k = c.loop-k.k in
+    let same : slice_set c.loop-k.seats k c.tick_quietly.new.self ≡ c.loop-k.seats = ap (λ x. slice_set c.loop-k.seats k x) (c.tick_quietly.ensures.same (search rules)) ∙ set-get_or c.loop-k.seats k c.index-seats-k.result in
+    let row = underway_at E.same E.stands B.ports B.told B.kept c.args.struck c.args.level c.args.seats.now c.loop-k.seats (slice_set c.loop-k.seats k c.tick_quietly.new.self) c.args.links.now c.loop-k.links c.args.board.now c.loop-k.board k same inv.links inv.board inv.row in
+    let f = c.in_err-tick_from.field-0.0 in
+    let is : c.from_residual-in_err-tick_from.result ≡ Err f = search rules in
+    let P : _ → Type 0 = λ x. SeatBreaks E.stands E.full c.args.seats.now c.tick_from.new.seats c.args.links.now x in
+    err_is P c.from_residual-in_err-tick_from.result f is (c.in_err-tick_from.ensures.broken c.args.seats.now c.args.links.now c.args.board.now row)
+
+pub returns-in_err-tick_quietly-clause-sames : goal.returns-in_err-tick_quietly-clause-sames
+returns-in_err-tick_quietly-clause-sames g c =
+    rw c.loop-k.invariant.links c.loop-k.invariant.row.goes.sames
+
+pub returns-in_err-tick_quietly-clause-board : goal.returns-in_err-tick_quietly-clause-board
+returns-in_err-tick_quietly-clause-board g c =
+    rw c.loop-k.invariant.board (refl, λ m far. g.met.B.Board.kept_refl c.args.board.now m)
+
+pub returns-in_err-tick_quietly-clause-broken : goal.returns-in_err-tick_quietly-clause-broken
+returns-in_err-tick_quietly-clause-broken g c =
+    let E = g.E.BusEnd in let B = g.B.Board in let k = c.loop-k.k in let s = c.index-seats-k.result in let f = c.in_err-tick_quietly.field-0.0 in
+    let u = c.loop-k.invariant.row in let new = c.tick_quietly.new.self in let a = c.args.board.now in
+    let was : k < length c.args.seats.now = search rules in
     let is : c.from_residual.result ≡ Err f = search rules in
-    let P : _ → Type 0 = λ x. SeatBreaks E.stands E.full before (slice_set c.loop-k.seats k new) c.args.links.now x in
+    let P : _ → Type 0 = λ x. SeatBreaks E.stands E.full c.args.seats.now (slice_set c.loop-k.seats k new) c.args.links.now x in
     err_is P c.from_residual.result f is
-    (breaks_seat E.same E.stands E.full
-    (SeatTurns (g.B.Board.told c.args.board.now c.loop-k.board) (g.B.Board.kept c.args.board.now c.loop-k.board) c.args.struck c.args.level) before c.loop-k.seats c.args.links.now c.loop-k.links k s new f was c.loop-k.auto.seats inv.ready inv.goes inv.done c.in_err-is_told.ensures.broken)
+    (breaks_seat E.same E.stands E.full (SeatTurns (B.told a a) (B.kept a a) c.args.struck c.args.level) c.args.seats.now c.loop-k.seats c.args.links.now c.args.links.now k s new f was u.count u.ready u.goes u.done
+    (broken_full E.stands E.full (slice_index_or c.loop-k.seats k s) new c.args.links.now (8 * k) f c.in_err-tick_quietly.ensures.full))

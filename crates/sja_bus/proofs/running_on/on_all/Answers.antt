@@ -16,10 +16,19 @@ loop-run-init g c =
       level = c.level_of-level.ensures;
       board = refl;
       bus = subst P at c.requires.bus;
+      told = c.are_told.ensures (search rules);
       sames = each_refl E.same g.met.E.BusEnd.same_refl c.args.links.now;
       rooms = λ n h. h;
       bits = λ left enough. none_yet (IsOneBit E.same E.stands B.ports B.facts B.orders_are B.told B.kept) (WorksIf c.args.to_rest) script c.args.from left c.args.seats.now c.args.links.now c.args.board.now;
     }
+
+pub returns-then-not-are_told-clause-sames : goal.returns-then-not-are_told-clause-sames
+returns-then-not-are_told-clause-sames g c = each_refl g.E.BusEnd.same g.met.E.BusEnd.same_refl c.args.links.now
+
+pub returns-then-not-are_told-clause-bits : goal.returns-then-not-are_told-clause-bits
+returns-then-not-are_told-clause-bits g c = λ left enough.
+    let E = g.E.BusEnd in let B = g.B.Board in
+    none_yet (IsOneBit E.same E.stands B.ports B.facts B.orders_are B.told B.kept) (WorksIf c.args.to_rest) c.args.struck.now.script c.args.from left c.args.seats.now c.args.links.now c.args.board.now
 
 pub tick_all-requires : goal.tick_all-requires
 tick_all-requires g c =
@@ -33,6 +42,7 @@ tick_all-requires g c =
         ready = inv.bus.ready;
         ports = omega (arith, ports, seats, p);
       };
+      told = inv.told;
     }
 
 pub returns-then-end-clause-sames : goal.returns-then-end-clause-sames
@@ -72,6 +82,7 @@ loop-run-preserved g c =
       level = c.in-Ok.ensures.level;
       board = c.in-Ok.ensures.untold untold ∙ inv.board;
       bus = pass.bus (c.args.from + (c.loop-run.run + 1)) (omega arith);
+      told = λ k s few. (c.in-Ok.ensures.turns k s (let count = c.tick_all.auto.seats in omega (arith, few, count))).told;
       sames = each_trans E.same g.met.E.BusEnd.same_trans c.args.links.now c.loop-run.links c.tick_all.new.links inv.sames c.tick_all.ensures.sames;
       rooms = λ n h. c.in-Ok.ensures.rooms n (inv.rooms n h);
       bits = λ left enough.

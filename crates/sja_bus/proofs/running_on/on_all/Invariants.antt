@@ -3,7 +3,7 @@ use Rattle.sja_bus.specs.Links.{EachRelated}
 use Rattle.sja_bus.specs.Several.{AreBits, IsOneBit, WorksIf}
 use Rattle.sja_bus.specs.Wire.{wired}
 use Rattle.sja_bus.specs.Inside.Refusing.{HaveRoom}
-use Rattle.sja_bus.specs.Inside.Rows.{IsBus, driven_by}
+use Rattle.sja_bus.specs.Inside.Rows.{AreTold, IsBus, driven_by}
 use Rattle.sja_bus.specs.Inside.RunningOn.{moment_of}
 use Rattle.sja_bus.proofs.running_on.on_all.Given as goal
 
@@ -13,6 +13,7 @@ invariant-loop-run g l = record {
   level : l.level ≡ wired (driven_by l.seats);
   board : l.board ≡ l.initial.board;
   bus : IsBus l.struck.script (l.from + l.run) l.seats;
+  told : AreTold l.seats;
   sames : EachRelated g.E.BusEnd.same l.initial.links l.links;
   rooms : (n : ℕ) → HaveRoom n l.initial.seats → HaveRoom n l.seats;
   bits : (left : ℕ) → l.most ≤ left →
