@@ -7,7 +7,7 @@ ghost use Rattle.sja_threads.specs.Inside.Underway.{IsUnderWay, HasRun, IsRunOut
 
 use super::lock_board::LockBoard;
 use super::moving::{Move, turn, turn_beside};
-use super::waiting::wait_a_little;
+use super::waiting::wait_for_drivers;
 use super::watching::{all_ended, close_all, ended_of};
 use sja_bus::{Bus, BusFault};
 use sja_plan::Plan;
@@ -53,7 +53,7 @@ pub(crate) fn run_beside<R: Wait>(
                 if all_ended(&ended) {
                     return Ok((run, spent));
                 }
-                wait_a_little(rt, &parker, tries);
+                wait_for_drivers(rt, &parker, tries);
                 tries = tries.saturating_add(1);
             }
             Move::Spent => {
@@ -62,7 +62,7 @@ pub(crate) fn run_beside<R: Wait>(
                     return Ok((run, true));
                 }
                 spent = true;
-                wait_a_little(rt, &parker, tries);
+                wait_for_drivers(rt, &parker, tries);
                 tries = tries.saturating_add(1);
             }
         }

@@ -5,31 +5,51 @@ use std::thread;
 use std::thread::Parker;
 use std::time::Duration;
 
-/// So many tries a thread only yields.
-const YIELDS: u32 = 100;
+/// So often a thread waits without a park.
+const SHORT: u32 = 100;
 
-/// After them it parks at each try whose number this divides, and yields at the others.
-const PARK_EACH: u32 = 64;
-
-/// From this try on it parks at fewer.
-const LATE: u32 = 1_000_000;
-
-/// At each whose number this divides.
-const PARK_EACH_LATE: u32 = 256;
-
-/// For so many microseconds.
+/// A park's length in microseconds; the system makes about a hundred of them.
 const PARK_MICROS: u64 = 50;
 
-/// Waits a little after a try in vain: it yields, and after the first tries it parks every so many. The parker is the
-/// thread's own. So a wait costs a fifth of a core at first, and ten million tries end within 15 seconds.
-pub(crate) fn wait_a_little(rt: &impl Wait, parker: &Parker, tries: u32) {
-    let each = if tries < LATE {
-        PARK_EACH
+/// After them a driver parks at each try whose number this divides.
+const PARK_EACH: u32 = 16;
+
+/// From this try on, which comes after a second of waiting, a driver hastens to its gate's last try.
+const LATE: u32 = 131_072;
+
+/// Then it parks at each try whose number this divides.
+const PARK_EACH_LATE: u32 = 512;
+
+/// And it yields at each whose number this divides.
+const YIELD_EACH_LATE: u32 = 8;
+
+/// Parks a little. The parker is the thread's own.
+fn park(rt: &impl Wait, parker: &Parker) {
+    parker.park_timeout(rt, Duration::from_micros(PARK_MICROS));
+}
+
+/// Waits after a driver's try in vain, which has this number. It yields, but after the first hundred tries it parks at
+/// each 16th. From try 131,072 on, after a second, it parks at each 512th, yields at each other 8th, and tries again at
+/// once after the rest. So a second of waiting costs a fifth of a core, and ten million tries end within 15 seconds,
+/// with eight drivers on four cores too.
+pub(crate) fn wait_to_try(rt: &impl Wait, parker: &Parker, tries: u32) {
+    let (parks, yields) = if tries < LATE {
+        (PARK_EACH, 1)
     } else {
-        PARK_EACH_LATE
+        (PARK_EACH_LATE, YIELD_EACH_LATE)
     };
-    if tries > YIELDS && tries % each == 0 {
-        parker.park_timeout(rt, Duration::from_micros(PARK_MICROS));
+    if tries > SHORT && tries % parks == 0 {
+        park(rt, parker);
+    } else if tries % yields == 0 {
+        thread::yield_now();
+    }
+}
+
+/// Waits after the bus's turns in which nothing was due, of which so many came one after another: it yields after the
+/// first hundred, and parks after each later one.
+pub(crate) fn wait_for_drivers(rt: &impl Wait, parker: &Parker, turns: u32) {
+    if turns > SHORT {
+        park(rt, parker);
     } else {
         thread::yield_now();
     }

@@ -8,7 +8,7 @@ ghost use Rattle.sja_threads.specs.Working.{MayWork, DoesSteps, HasWorked};
 
 use super::gate::Gate;
 use super::pass::Pass;
-use super::waiting::wait_a_little;
+use super::waiting::wait_to_try;
 use super::worked::Worked;
 use sja_driver::{LoggedDriver, WorkLog};
 use sja_link::DriverEnd;
@@ -88,7 +88,7 @@ fn do_step<D: DriverEnd, G: Gate>(
         if try_if(rt, driver, links, port, step, pass) {
             return true;
         }
-        wait_a_little(rt, &parker, tries);
+        wait_to_try(rt, &parker, tries);
         tries = tries.saturating_add(1);
     }
     unreachable!()
