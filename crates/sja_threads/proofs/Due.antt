@@ -1,5 +1,6 @@
 -- Bits that were due stay so as the journals grow.
-use Rattle.std.proofs.Common.{◌≡◌, ℕ, ◌+◌, ◌<◌, false, List, [], ◌++◌, length, sym, ap, ◌∙◌, append_assoc, append-nil, arith, inl, inr}
+use Rattle.std.proofs.Common.{◌≡◌, ℕ, ◌+◌, ◌<◌, false, List, [], ◌++◌, length, sym, ap, ◌∙◌, append_assoc, append-nil}
+use Rattle.std.proofs.Common.{arith, inl, inr}
 use Rattle.std.specs.Prelude.{◌⊎◌}
 use Rattle.sja_link.specs.declared.entry.Entry.{Entry}
 use Rattle.sja_link.specs.Carried.{bits_of}
@@ -36,8 +37,8 @@ earlier_or_last i n h = grind arith
 
 -- a bit more, before which a node wasn't at rest
 pub due_more : (bits : ℕ) (old new : List (List Entry)) (node : ℕ) → length new ≡ length old → AllGrow old new →
-    node < length old → length (bits_of (journal_at old node)) ≡ bits → RestsAs (record_of (journal_at old node)) false →
-    AllDue bits old → AllDue (bits + 1) new
+    node < length old → length (bits_of (journal_at old node)) ≡ bits →
+    RestsAs (record_of (journal_at old node)) false → AllDue bits old → AllDue (bits + 1) new
 due_more bits old new node count grow few many busy due i less = elim (earlier_or_last i bits less) [
   | inl before ↦ due_kept bits old new count grow due i before
   | inr last ↦

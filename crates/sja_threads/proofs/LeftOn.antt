@@ -1,5 +1,6 @@
 -- What is left on links, one after another.
-use Rattle.std.proofs.Common.{◌≡◌, ℕ, zero, suc, ◌+◌, ◌*◌, ◌<◌, ◌≤◌, List, [], ◌∷◌, ◌++◌, length, drop, refl, sym, ap, ◌∙◌, subst, arith, inl, inr}
+use Rattle.std.proofs.Common.{◌≡◌, ℕ, zero, suc, ◌+◌, ◌*◌, ◌<◌, ◌≤◌, List, [], ◌∷◌, ◌++◌, length, drop, refl, sym, ap}
+use Rattle.std.proofs.Common.{◌∙◌, subst, arith, inl, inr}
 use Rattle.std.specs.Prelude.{slice_index_or}
 use Rattle.std.proofs.lemmas.Bool.{cases_eq}
 use Rattle.std.proofs.lemmas.List.{length-append}
@@ -17,10 +18,7 @@ none_beyond zero (x ∷ xs) e = absurd cc
 none_beyond (suc n) [] e = omega arith
 none_beyond (suc n) (x ∷ xs) e = let less = none_beyond n xs e in omega (arith, less)
 
--- no link yet, and one more
-pub left_none : (buses : List RingBus) (drivers : List RingDriver) → AreLeftOn buses drivers 0 []
-left_none buses drivers = record { count_is = refl; each = λ i b d l less. absurd (omega (arith, less)) }
-
+-- one link more
 pub left_push : (buses : List RingBus) (drivers : List RingDriver) (n : ℕ) (lying : List (List Down)) (x : List Down) →
     AreLeftOn buses drivers n lying →
     ((b : RingBus) (d : RingDriver) → IsLeftOn (slice_index_or buses n b) (slice_index_or drivers n d) x) →
@@ -48,7 +46,8 @@ module _ {A B : Type 0} (f : A → List B) where
   front_at (x ∷ xs) ys zero d less = refl
   front_at (x ∷ xs) ys (suc i) d less = front_at xs ys i d (omega (arith, less))
 
-  back_at : (xs ys : List B) (n i : ℕ) (d : B) → n ≡ length xs → slice_index_or (xs ++ ys) (n + i) d ≡ slice_index_or ys i d
+  back_at : (xs ys : List B) (n i : ℕ) (d : B) → n ≡ length xs →
+      slice_index_or (xs ++ ys) (n + i) d ≡ slice_index_or ys i d
   back_at [] ys n i d e = let m : n + i ≡ i = omega (arith, e) in ap (λ k. slice_index_or ys k d) m
   back_at (x ∷ xs) ys zero i d e = absurd (omega (arith, e))
   back_at (x ∷ xs) ys (suc n) i d e =

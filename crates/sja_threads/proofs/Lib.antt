@@ -1,4 +1,5 @@
 pub mod Works
+pub mod Scripts
 -- the bus beside its drivers
 pub mod Places
 pub mod Same
@@ -16,9 +17,13 @@ pub mod Real
 pub mod NextItem
 pub mod Orders
 pub mod AfterStop
+pub mod AtEntry
+pub mod AtCredit
 pub mod EventsInPart
 pub mod Linking
 -- a run that is over
 pub mod LeftOn
 pub mod Outside
+pub mod NodeOver
+pub mod LinksOver
 pub mod Over

@@ -1,5 +1,6 @@
 -- Some order of events leads to what the link of an activation carried.
-use Rattle.std.proofs.Common.{◌≡◌, ℕ, ◌+◌, Bool, true, false, List, [], ◌∷◌, ◌++◌, length, map, refl, sym, ap, ap₂, ◌∙◌, subst}
+use Rattle.std.proofs.Common.{◌≡◌, ℕ, ◌+◌, Bool, true, false, List, [], ◌∷◌, ◌++◌, length, map, refl, sym, ap, ap₂, ◌∙◌}
+use Rattle.std.proofs.Common.{subst}
 use Rattle.std.specs.Prelude.{◌==◌, if◌then◌else◌, slice_index_or}
 use Rattle.sja_link.specs.declared.up.Up.{Up}
 use Rattle.sja_link.specs.declared.entry.Entry.{Entry}
@@ -13,10 +14,12 @@ use Rattle.sja_link.specs.World.{credits_of}
 use Rattle.sja_link.proofs.ListCounts.{credits_both}
 use Rattle.sja_regs.specs.Commands.{command_of, requests}
 use Rattle.sja_script.specs.declared.step.Step.{Step}
-use Rattle.sja_script.specs.declared.step.Step.TheVariants.{Start, Stop, Window, Release, Read, Write, Load, Command, Await, Sent}
+use Rattle.sja_script.specs.declared.step.Step.TheVariants.{Start, Stop, Window, Release, Read, Write, Load, Command}
+use Rattle.sja_script.specs.declared.step.Step.TheVariants.{Await, Sent}
 use Rattle.sja_script.specs.declared.step_answer.StepAnswer.{StepAnswer}
 use Rattle.sja_script.specs.declared.step_answer.StepAnswer.TheVariants.{Done, Released}
-use Rattle.sja_driver.specs.Deeds.{Deed, opens_by, Gives, GivesSend, length_in, given_in, released_lengths, section_from}
+use Rattle.sja_driver.specs.Deeds.{Deed, opens_by, Gives, GivesSend, length_in, given_in, released_lengths}
+use Rattle.sja_driver.specs.Deeds.{section_from}
 use Rattle.sja_report.specs.Log.{ActivationValue, NodeValue, lists_in}
 use Rattle.sja_report.specs.Runs.{IsTrace}
 use Rattle.sja_report.specs.Settling.{IsSettled, AreSettled}

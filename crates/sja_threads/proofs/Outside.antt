@@ -1,12 +1,14 @@
 -- A driver gives nothing before it starts, and nothing in an activation that it didn't open.
-use Rattle.std.proofs.Common.{◌≡◌, ℕ, ◌+◌, ◌<◌, ◌≤◌, ◌⊎◌, Bool, true, false, cond, List, [], ◌∷◌, ◌++◌, refl, ap, ap₂, ◌∙◌, append-nil, arith, inl, inr}
+use Rattle.std.proofs.Common.{◌≡◌, ℕ, ◌+◌, ◌<◌, ◌≤◌, ◌⊎◌, Bool, true, false, cond, List, [], ◌∷◌, ◌++◌, refl, ap, ap₂}
+use Rattle.std.proofs.Common.{◌∙◌, append-nil, arith, inl, inr}
 use Rattle.std.specs.Prelude.{◌==◌, if◌then◌else◌}
 use Rattle.std.proofs.lemmas.Bool.{ne_eqb}
 use Rattle.sja_link.specs.Gathering.{total}
 use Rattle.sja_link.specs.Picking.{EachAfter}
 use Rattle.sja_link.proofs.Entering.{gathered_append}
 use Rattle.sja_script.specs.declared.step.Step.{Step}
-use Rattle.sja_driver.specs.Deeds.{Deed, opens_by, opened_by, active_after, is_active, FitsState, Gives, given_in, section_from, deeds_of, AreDeeds}
+use Rattle.sja_driver.specs.Deeds.{Deed, opens_by, opened_by, active_after, is_active, FitsState, Gives, given_in}
+use Rattle.sja_driver.specs.Deeds.{section_from, deeds_of, AreDeeds}
 use Rattle.sja_driver.proofs.Sections.{active_push, opened_push}
 use Rattle.sja_report.proofs.Givings.{Kind, kind_of}
 use Rattle.sja_report.proofs.Givings.Kind.{quiet, starts, credits, sends, stops}

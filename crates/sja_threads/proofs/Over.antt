@@ -1,158 +1,38 @@
 -- The log of a run that is over, by what its bus and its drivers handed back.
-use Rattle.std.proofs.Common.{◌≡◌, ℕ, zero, suc, ◌+◌, ◌*◌, ◌<◌, ◌≤◌, List, [], ◌++◌, length, map, refl, sym, ap, ◌∙◌, subst, arith, inl, inr}
+use Rattle.std.proofs.Common.{◌≡◌, ℕ, ◌+◌, ◌*◌, ◌<◌, List, [], length, map, sym, ap, ◌∙◌, subst, arith}
 use Rattle.std.specs.Prelude.{slice_index_or}
-use Rattle.std.proofs.lemmas.Bool.{cases_lt}
 use Rattle.std.proofs.lemmas.List.{length-map}
 use Rattle.sja_link.specs.declared.entry.Entry.{Entry}
 use Rattle.sja_link.specs.declared.down.Down.{Down}
-use Rattle.sja_link.specs.Accounts.{Account, account}
-use Rattle.sja_link.specs.Carried.{put_of, taken_of}
-use Rattle.sja_link.specs.Lists.{messages}
-use Rattle.sja_link.specs.Parts.{part}
 use Rattle.sja_link.specs.Verdicts.{IsLawful as IsLawfulJournal}
 use Rattle.sja_rings.specs.declared.ring_bus.RingBus.{RingBus}
 use Rattle.sja_rings.specs.declared.ring_driver.RingDriver.{RingDriver}
-use Rattle.sja_rings.specs.Ends.{DriverLists, OneLink}
 use Rattle.sja_bus.specs.declared.node_log.NodeLog.{NodeLog}
 use Rattle.sja_bus.specs.Buses.{BusValue}
 use Rattle.sja_bus.specs.Lawful.{CountersAre, IsBusRun}
 use Rattle.sja_bus.specs.Orderly.{AreOrderly}
 use Rattle.sja_bus.specs.Wire.{journal_at}
 use Rattle.sja_plan.specs.Plan.{PlanValue}
-use Rattle.sja_script.specs.declared.step.Step.{Step}
 use Rattle.sja_driver.specs.declared.logged_driver.LoggedDriver.{LoggedDriver}
-use Rattle.sja_driver.specs.Deeds.{Deed, opened_by, given_in, deeds_of}
-use Rattle.sja_driver.specs.LoggedDrivers.{node_of, driver_of, log_of, ended_of, IsLawful}
-use Rattle.sja_driver.specs.Logs.{done_in, releases_in, released_of}
+use Rattle.sja_driver.specs.Deeds.{Deed}
+use Rattle.sja_driver.specs.LoggedDrivers.{log_of}
+use Rattle.sja_driver.specs.Logs.{done_in}
 use Rattle.sja_report.specs.declared.end.End.{End}
-use Rattle.sja_report.specs.Log.{ActivationValue, NodeValue, RunValue}
+use Rattle.sja_report.specs.Log.{NodeValue, RunValue}
 use Rattle.sja_report.specs.Runs.{IsTrace, IsRun}
-use Rattle.sja_report.specs.Settling.{IsSettled, AreSettled}
+use Rattle.sja_report.specs.Settling.{AreSettled}
 use Rattle.sja_report.proofs.Logs.{index_map}
 use Rattle.sja_turns.specs.Serial.{steps_at, deeds_at}
-use Rattle.sja_turns.specs.Finishing.{held_after, activation_after, IsNodeEnd, AreNodeEnds}
-use Rattle.sja_turns.proofs.NodeEnds.{AreEnds, any_of, opened_few, trace_of, settled_of, nodes_count, some_log, some_driver, node_end, journal_is, journals_in_log, run_of_ends}
+use Rattle.sja_turns.specs.Finishing.{IsNodeEnd, AreNodeEnds}
+use Rattle.sja_turns.proofs.NodeEnds.{AreEnds, any_of, trace_of, settled_of, nodes_count, some_log, some_driver}
+use Rattle.sja_turns.proofs.NodeEnds.{node_end, journal_is, journals_in_log, run_of_ends}
 use Rattle.sja_threads.specs.declared.worked.Worked.{Worked}
 use Rattle.sja_threads.specs.Ended.{IsOverAt, IsOver}
 use Rattle.sja_threads.specs.Settling.{all_drivers, all_ends, IsLeftOn, AreLeftOn, IsLogOf}
-use Rattle.sja_threads.proofs.LeftOn.{AreEight, eight_length, eight_at}
+use Rattle.sja_threads.proofs.LeftOn.{eight_at}
 use Rattle.sja_threads.proofs.Linking.{linked_by}
-use Rattle.sja_threads.proofs.Outside.{given_outside}
-
--- ---- one node
-
-module _ (steps : List Step) (node : ℕ) (j : List Entry) (deeds : List Deed) (w : Worked RingDriver)
-    (links : List RingBus) (base : ℕ) (h : IsOverAt steps node j deeds w links base) (lying : List (List Down))
-    (bus : RingBus) (end : RingDriver)
-    (left : (a : ℕ) → a < 8 → IsLeftOn (slice_index_or links (base + a) bus) (slice_index_or w.links.items a end)
-    (slice_index_or lying (base + a) [])) where
-  abbrev did : ℕ → Account
-  did a = record { got = h.drivers.got a; given = given_in (deeds_of deeds (suc a)) }
-
-  -- what was put is what the driver got and what lies there, and all that it gave was taken
-  on_link : (a : ℕ) → a < 8 →
-      (put_of (part j (suc a)) ≡ h.drivers.got a ++ slice_index_or lying (base + a) [])
-      × (given_in (deeds_of deeds (suc a)) ≡ taken_of (part j (suc a)))
-  on_link a few =
-      let from_none : 0 + a ≡ a = omega arith in
-      left a few (account j (suc a) (did a)) (h.buses did a bus few)
-      (subst (λ (n : ℕ). DriverLists (slice_index_or w.links.items n end) (account j (suc a) (did a))) from_none
-      (h.drivers.kept a end few))
-
-  opened_most : opened_by deeds ≤ 8
-  opened_most =
-      let e = h.traces.opened in
-      let few = (opened_few (node_of w.driver) (ended_of w.driver) (driver_of w.driver) h.lawful).0 in
-      omega (arith, e, few)
-
-  pub given_all : (a : ℕ) → given_in (deeds_of deeds a) ≡ taken_of (part j a)
-  given_all zero = given_outside steps deeds 0 h.deeds_are opened_most (inl refl) ∙ sym (h.within 0 (inl refl))
-  given_all (suc a) = elim (cases_lt a 8) [
-    | inl few ↦ (on_link a few).1
-    | inr most ↦
-        given_outside steps deeds (suc a) h.deeds_are opened_most (inr (omega (arith, most)))
-        ∙ sym (h.within (suc a) (inr (omega (arith, most))))
-  ]
-
-  abbrev ended_with : ℕ → ℕ → ActivationValue
-  ended_with a n = record {
-    released = released_of (releases_in (log_of w.driver)) n;
-    unread = held_after w.driver a ++ messages (slice_index_or lying (base + a) []);
-    left = length (slice_index_or lying (base + a) []);
-  }
-
-  pub settled_all : (a : ℕ) → a < 8 →
-      IsSettled j (a + 1) (activation_after w.driver (slice_index_or lying (base + a) []) a)
-  settled_all a few =
-      let one : suc a ≡ a + 1 = omega arith in
-      let link = on_link a few in
-      subst (λ (n : ℕ). IsSettled j n (ended_with a n)) one
-      (record {
-        driver = did a;
-        down = slice_index_or lying (base + a) [];
-        held = held_after w.driver a;
-        put = link.0;
-        given = link.1;
-        holds = h.drivers.told a few;
-        unread = refl;
-        left = refl;
-      })
-
--- ---- all nodes
-
--- a place of a list of links is that of one of eight of a node
-record IsPlaceOf (i : ℕ) : Type 0 where
-  node : ℕ
-  place : ℕ
-  few : place < 8
-  is : i ≡ 8 * node + place
-
-place_of_link : (i : ℕ) → IsPlaceOf i
-place_of_link zero = record { node = 0; place = 0; few = omega arith; is = refl }
-place_of_link (suc i) = let p = place_of_link i in let e = p.is in let f = p.few in elim (cases_lt (p.place + 1) 8) [
-  | inl few ↦ record { node = p.node; place = p.place + 1; few = few; is = omega (arith, e) }
-  | inr most ↦ record { node = p.node + 1; place = 0; few = omega arith; is = omega (arith, e, f, most) }
-]
-
-in_links : (k n a m : ℕ) → k < n → a < 8 → m ≡ 8 * n → 8 * k + a < m
-in_links k n a m less few e = omega (arith, less, few, e)
-
-in_nodes : (k n a m : ℕ) → 8 * k + a < m → m ≡ 8 * n → k < n
-in_nodes k n a m less e = omega (arith, less, e)
-
-module _ (plan : PlanValue) (bus : BusValue) (links : List RingBus) (workeds : List (Worked RingDriver))
-    (deeds : List (List Deed)) (h : IsOver plan bus links workeds deeds) where
-  eights : AreEight (λ (w : Worked RingDriver). w.links.items) workeds
-  eights k w less = let c = h.workeds_count in (h.nodes k w (omega (arith, c, less))).eight
-
-  pub ends_count : length links ≡ length (all_ends workeds)
-  ends_count =
-      let e = eight_length (λ (w : Worked RingDriver). w.links.items) workeds eights in
-      let l = h.links_count in let c = h.workeds_count in omega (arith, e, l, c)
-
-  pub one_link : (i : ℕ) (b : RingBus) (d : RingDriver) → i < length links →
-      OneLink (slice_index_or links i b) (slice_index_or (all_ends workeds) i d)
-  one_link i b d less =
-      let p = place_of_link i in
-      let here : 8 * p.node + p.place < length links = let e = p.is in omega (arith, e, less) in
-      let few : p.node < length plan.nodes =
-      in_nodes p.node (length plan.nodes) p.place (length links) here h.links_count in
-      let there : p.node < length workeds = let c = h.workeds_count in omega (arith, c, few) in
-      let w = any_of workeds (omega (arith, there)) in
-      subst (λ (n : ℕ). OneLink (slice_index_or links n b) (slice_index_or (all_ends workeds) n d)) (sym p.is)
-      (subst (λ (x : RingDriver). OneLink (slice_index_or links (8 * p.node + p.place) b) x)
-      (sym (eight_at (λ (x : Worked RingDriver). x.links.items) workeds eights p.node p.place w d there p.few))
-      ((h.nodes p.node w few).pairs p.place b d p.few))
-
-  pub all_lawful : (k : ℕ) (d : LoggedDriver) → k < length (all_drivers workeds) →
-      IsLawful (slice_index_or (all_drivers workeds) k d)
-  all_lawful k d less =
-      let many = length-map workeds (λ (w : Worked RingDriver). w.driver) in
-      let there : k < length workeds = omega (arith, many, less) in
-      let c = h.workeds_count in let w = any_of workeds (omega (arith, there)) in
-      subst (λ (x : LoggedDriver). IsLawful x)
-      (sym (index_map (λ (x : Worked RingDriver). x.driver) workeds k w d there))
-      (h.nodes k w (omega (arith, c, there))).lawful
+use Rattle.sja_threads.proofs.NodeOver.{given_all, settled_all}
+use Rattle.sja_threads.proofs.LinksOver.{eights, in_links}
 
 -- what the log of a run that is over is made of
 pub record IsMade (plan : PlanValue) (bus : BusValue) (links : List RingBus) (workeds : List (Worked RingDriver))

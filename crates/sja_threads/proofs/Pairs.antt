@@ -1,5 +1,6 @@
 -- The links of a run, made one after another.
-use Rattle.std.proofs.Common.{◌≡◌, ℕ, suc, ◌+◌, ◌*◌, ◌<◌, List, [], ◌∷◌, ◌++◌, length, inl, inr, sym, ap, ◌∙◌, subst, arith}
+use Rattle.std.proofs.Common.{◌≡◌, ℕ, suc, ◌+◌, ◌*◌, ◌<◌, List, [], ◌∷◌, ◌++◌, length, inl, inr, sym, ap, ◌∙◌, subst}
+use Rattle.std.proofs.Common.{arith}
 use Rattle.std.specs.Prelude.{slice_index_or}
 use Rattle.std.proofs.Math.Seq.{get_or-append_seam}
 use Rattle.std.proofs.lemmas.Bool.{cases_eq}
@@ -71,15 +72,6 @@ links_push count node buses drivers base b d long many so bus driver one = recor
         (subst (λ (v : RingDriver). OneLink (slice_index_or buses (base + a) x) v)
         (sym (get_or_append_left drivers (d ∷ []) y a among)) (so.one a x y before))
   ];
-}
-
--- none yet
-pub no_links : (node : ℕ) (buses : List RingBus) (drivers : List RingDriver) (base : ℕ) →
-    AreNewLinks 0 node buses drivers base
-no_links node buses drivers base = record {
-  buses_new = λ a b less. absurd (omega (arith, less));
-  drivers_new = λ a d less. absurd (omega (arith, less));
-  one = λ a b d less. absurd (omega (arith, less));
 }
 
 -- links that were made before others stay as they are

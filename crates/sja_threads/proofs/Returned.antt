@@ -1,6 +1,7 @@
 -- What the drivers' threads hand back.
 use Rattle.std.proofs.Common.{◌≡◌, ℕ, suc, ◌+◌, ◌<◌, Bool, List, [], ◌∷◌, length, sym, ap, ◌∙◌, subst, arith}
 use Rattle.std.specs.Prelude.{All, slice_index_or}
+use Rattle.sja_link.specs.declared.link_id.LinkId.{LinkId}
 use Rattle.sja_rings.specs.declared.ring_bus.RingBus.{RingBus}
 use Rattle.sja_rings.specs.declared.ring_driver.RingDriver.{RingDriver}
 use Rattle.sja_rings.specs.Ends.{link_of_driver}
@@ -34,8 +35,8 @@ hand_of plan node h buses few m = record {
   where
     numbered : Numbered link_of_driver h.links.items 0 node
     numbered a d less =
-        subst (λ (i : ℕ). link_of_driver (slice_index_or h.links.items i d) ≡ record { node = node; activation = a + 1 })
-        (sym (no_base a))
+        let id : LinkId = record { node = node; activation = a + 1 } in
+        subst (λ (i : ℕ). link_of_driver (slice_index_or h.links.items i d) ≡ id) (sym (no_base a))
         ((m.links.drivers_new a d less).link ∙ ap (λ (n : ℕ). record { node = node; activation = n }) (next_is a))
 
 -- the same of all
@@ -45,13 +46,7 @@ all_hands plan hands buses many made node h less =
     let few : node < length plan.nodes = omega (arith, less, many) in
     hand_of plan node (slice_index_or hands node h) buses few (made node h few)
 
--- of the first of them, and of the others
-pub hand_first : {G : Type 0} (plan : PlanValue) (all rest : List (Hand G)) (h : Hand G) → all ≡ h ∷ rest →
-    All (IsHand plan) all → IsHand plan h
-hand_first {G} plan all rest h is hands =
-    let those : All (IsHand plan) (h ∷ rest) = subst (λ (l : List (Hand G)). All (IsHand plan) l) is hands in
-    those 0 h (omega arith)
-
+-- the same of all but the first
 pub hand_rest : {G : Type 0} (plan : PlanValue) (all rest : List (Hand G)) (h : Hand G) → all ≡ h ∷ rest →
     All (IsHand plan) all → All (IsHand plan) rest
 hand_rest {G} plan all rest h is hands =

@@ -1,5 +1,5 @@
 -- The bus's end of a link stays the same end.
-use Rattle.std.proofs.Common.{◌≡◌, ℕ, ◌+◌, refl, ◌∙◌, le_refl, le_trans, arith}
+use Rattle.std.proofs.Common.{refl, ◌∙◌, le_refl, le_trans}
 use Rattle.sja_rings.specs.declared.ring_bus.RingBus.{RingBus}
 use Rattle.sja_rings.specs.Ends.{SameBus, reach_down}
 use Rattle.sja_rings.specs.Carrying.{same_producer, same_producer_trans, same_consumer, same_consumer_trans}
@@ -14,7 +14,3 @@ bus_trans a b c p q = (
   same_consumer_trans a.up b.up c.up p.2 q.2,
   le_trans p.3 q.3,
 )
-
--- no bit more
-pub none_more : (now was run : ℕ) → now ≡ was → was ≡ run → now ≡ run + 0
-none_more now was run p q = omega (arith, p, q)

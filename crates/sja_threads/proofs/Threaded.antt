@@ -1,8 +1,6 @@
 -- What is promised of a run in threads, of a run that is over.
-use Rattle.std.proofs.Common.{◌≡◌, ℕ, ◌<◌, Bool, false, List, length, ◌*◌, sym, ap, ◌∙◌, subst, arith, inl, inr}
-use Rattle.std.specs.Prelude.{◌⊎◌, Result, Ok, Err, IfOk, IfErr, slice_index_or}
-use Rattle.sja_turns.specs.declared.run_fault.RunFault.{RunFault}
-use Rattle.sja_turns.specs.declared.run_fault.RunFault.TheVariants.{Memory, GateCount, Unsettled}
+use Rattle.std.proofs.Common.{◌≡◌, ℕ, ◌<◌, Bool, false, List, length, ◌*◌, sym, ap, ◌∙◌, subst, arith}
+use Rattle.std.specs.Prelude.{Result, Ok, Err, IfOk, slice_index_or}
 use Rattle.sja_link.specs.declared.entry.Entry.{Entry}
 use Rattle.sja_rings.specs.declared.ring_bus.RingBus.{RingBus}
 use Rattle.sja_rings.specs.declared.ring_driver.RingDriver.{RingDriver}
@@ -10,6 +8,7 @@ use Rattle.sja_rings.specs.Ends.{SameBus}
 use Rattle.sja_plan.specs.Plan.{PlanValue}
 use Rattle.sja_script.specs.declared.done.Done.{Done as Step}
 use Rattle.sja_driver.specs.Deeds.{Deed}
+use Rattle.sja_driver.specs.Holding.{EachRelated as EachHand}
 use Rattle.sja_driver.specs.LoggedDrivers.{log_of}
 use Rattle.sja_driver.specs.Logs.{done_in}
 use Rattle.sja_bus.specs.Buses.{BusValue}
@@ -26,22 +25,24 @@ use Rattle.sja_threads.specs.Ended.{IsOver, IsOverOf}
 use Rattle.sja_threads.specs.Needed.{AllDue, EndsDuly}
 use Rattle.sja_threads.specs.Settling.{IsLogOf}
 use Rattle.sja_threads.specs.Threads.{IsThreadedRun}
-use Rattle.sja_threads.specs.Inside.Joined.{IsJoined, IsEnding}
+use Rattle.sja_threads.specs.Inside.Joined.{IsEnding}
 use Rattle.sja_threads.specs.Inside.Making.{IsMade, AreMade}
-use Rattle.sja_threads.specs.Inside.Underway.{IsUnderWay, IsRunOut}
+use Rattle.sja_threads.specs.Inside.Started.{Serves}
+use Rattle.sja_threads.specs.Inside.Underway.{IsUnderWay, HasRun, IsRunOut}
 use Rattle.sja_threads.proofs.HandedBack.{all_done, is_over, some_at}
 use Rattle.sja_threads.proofs.Same.{bus_trans}
 
 -- once all threads are joined
-pub ending : {G : Type 0} (quits : Bool) (plan : PlanValue) (hands : List (Hand G)) (first : List RingBus) (j : Joined) →
-    length hands ≡ length plan.nodes → length first ≡ 8 * length plan.nodes →
-    AreMade plan (length plan.nodes) hands first → IsJoined quits plan hands first j → IsEnding quits plan j
-ending {G} quits plan hands first j many long made joined = record {
-  has_run = joined.has_run;
+pub ending : {G : Type 0} (quits : Bool) (plan : PlanValue) (hands : List (Hand G)) (first : List RingBus)
+    (j : Joined) → length hands ≡ length plan.nodes → length first ≡ 8 * length plan.nodes →
+    AreMade plan (length plan.nodes) hands first → HasRun plan j.run j.spent j.bus j.links.items →
+    EachRelated SameBus first j.links.items → EachHand (Serves quits plan) hands j.workeds.items → IsEnding quits plan j
+ending {G} quits plan hands first j many long made run sames served = record {
+  has_run = run;
   over = λ bus links same way. is_over quits plan hands j.workeds.items first links bus many long made
-      (each_trans SameBus bus_trans first j.links.items links joined.sames same) way joined.served;
+      (each_trans SameBus bus_trans first j.links.items links sames same) way served;
   all_done = λ never node w few.
-      let done = all_done quits plan hands j.workeds.items joined.served in
+      let done = all_done quits plan hands j.workeds.items served in
       let p = done.places node (omega (arith, few, many)) in
       let own : IsMade plan node p.hand first =
       subst (λ (x : Hand G). IsMade plan node x first) (p.hand_is p.hand) (made node p.hand few) in
@@ -81,21 +82,6 @@ pub if_both : {A X : Type 0} {P Q R : A → Type 0} (r : Result A X) → ((a : A
     IfOk r Q → IfOk r R
 if_both (Ok a) f p q = f a p q
 if_both (Err x) f p q = tt
-
-pub if_then : {A X : Type 0} {P Q : A → Type 0} (r : Result A X) → ((a : A) → P a → Q a) → IfOk r P → IfOk r Q
-if_then (Ok a) f p = f a p
-if_then (Err x) f p = tt
-
--- at the end of a run gates were counted before
-pub not_gates : (f : RunFault) → (f ≡ Memory) ⊎ (f ≡ Unsettled) → f ≡ GateCount → ⊥
-not_gates f why same = elim why [
-  | inl memory ↦ (let e : Memory ≡ GateCount = sym memory ∙ same in cc)
-  | inr unsettled ↦ (let e : Unsettled ≡ GateCount = sym unsettled ∙ same in cc)
-]
-
-pub no_count : {A : Type 0} (r : Result A RunFault) → IfErr r (λ f. f ≡ GateCount → ⊥) → r ≡ Err GateCount → ⊥
-no_count (Ok a) h e = cc
-no_count (Err f) h e = h cc
 
 -- ---- the links as a list that was lent and given back
 

@@ -18,8 +18,8 @@ use Rattle.sja_bus.proofs.Lists.{each_length}
 use Rattle.sja_bus.proofs.Many.{numbered_kept}
 use Rattle.sja_threads.specs.Needed.{AllDue, AllRest}
 use Rattle.sja_threads.specs.declared.moving.Move.{Move}
-use Rattle.sja_threads.specs.declared.moving.Move.TheVariants.{Ran, Rests, Spent}
-use Rattle.sja_threads.specs.Inside.Underway.{IsUnderWay, IsMoved, HasRun, ran_by}
+use Rattle.sja_threads.specs.declared.moving.Move.TheVariants.{Ran, Rests}
+use Rattle.sja_threads.specs.Inside.Underway.{TakesWithin, IsUnderWay, MayTurn, IsMoved, HasRun, ran_by}
 use Rattle.sja_threads.proofs.Due.{due_kept, due_more}
 use Rattle.sja_threads.proofs.Within.{within_items, items_grow, within_bit, bit_grows}
 
@@ -30,23 +30,31 @@ module _ (plan : PlanValue) (old new : BusValue) (links after : List RingBus) (w
   few : (node : ℕ) → node < length plan.nodes → node < length old.journals
   few node less = let e = w.journals in omega (arith, e, less)
 
-  -- items were taken
-  pub after_gather : (new.run ≡ old.run) × (new.left ≡ old.left) → EachJournal HasItems old.journals new.journals →
-      IsUnderWay plan new after
-  after_gather bits items = record {
+  -- the bus is under way still, where its bits are counted, items were taken in such activations, and bits were due
+  goes_on : new.run + new.left ≡ plan.bits →
+      ((node : ℕ) → node < length plan.nodes → TakesWithin (journal_at new.journals node)) →
+      AllDue new.run new.journals → IsUnderWay plan new after
+  goes_on all within due = record {
     right = right;
     script = script ∙ w.script;
-    all_bits = let all = w.all_bits in let run = bits.0 in let left = bits.1 in omega (arith, all, run, left);
+    all_bits = all;
     journals = nodes ∙ w.journals;
     count = each_length SameBus links after sames ∙ w.count;
     ids = numbered_kept link_of_bus SameBus (λ a b p. p.0) links after sames w.ids;
     kept = λ node h less. kept node h (few node less) (w.kept node h less);
-    within = λ node less. within_items (journal_at old.journals node) (journal_at new.journals node)
-        (items node (few node less)) (w.within node less);
-    due = subst (λ (n : ℕ). AllDue n new.journals) (sym bits.0) (due_kept old.run old.journals new.journals nodes
-        (λ node less. items_grow (journal_at old.journals node) (journal_at new.journals node) (items node less))
-        w.due);
+    within = within;
+    due = due;
   }
+
+  -- items were taken
+  pub after_gather : (new.run ≡ old.run) × (new.left ≡ old.left) → EachJournal HasItems old.journals new.journals →
+      IsUnderWay plan new after
+  after_gather bits items = goes_on
+      (let all = w.all_bits in let run = bits.0 in let left = bits.1 in omega (arith, all, run, left))
+      (λ node less. within_items (journal_at old.journals node) (journal_at new.journals node)
+      (items node (few node less)) (w.within node less))
+      (subst (λ (n : ℕ). AllDue n new.journals) (sym bits.0) (due_kept old.run old.journals new.journals nodes
+      (λ node less. items_grow (journal_at old.journals node) (journal_at new.journals node) (items node less)) w.due))
 
   -- a bit was run, before which a node wasn't at rest
   pub after_bit : (orders_are : ℕ → Orders → Type 0) (was_told : ℕ → BusTurn → Type 0) (was_kept : ℕ → Type 0) →
@@ -54,51 +62,49 @@ module _ (plan : PlanValue) (old new : BusValue) (links after : List RingBus) (w
       (node : ℕ) × (node < length old.journals) × RestsAs (record_of (journal_at old.journals node)) false →
       IsBit orders_are was_told was_kept old.script old.run old.untold old.journals new.journals →
       IsUnderWay plan new after
-  after_bit orders_are was_told was_kept bits laws busy bit = record {
-    right = right;
-    script = script ∙ w.script;
-    all_bits = let all = w.all_bits in let run = bits.0 in let left = bits.1 in omega (arith, all, run, left);
-    journals = nodes ∙ w.journals;
-    count = each_length SameBus links after sames ∙ w.count;
-    ids = numbered_kept link_of_bus SameBus (λ a b p. p.0) links after sames w.ids;
-    kept = λ node h less. kept node h (few node less) (w.kept node h less);
-    within = λ node less. within_bit _ _ _ _ (journal_at old.journals node) (journal_at new.journals node) _ _
-        (bit.nodes node (few node less)) (w.within node less);
-    due = subst (λ (n : ℕ). AllDue n new.journals) (sym bits.0) (due_more old.run old.journals new.journals busy.0 nodes
-        (λ node less. bit_grows _ _ _ _ (journal_at old.journals node) (journal_at new.journals node) _ _
-        (bit.nodes node less)) busy.1 (laws.wired.count busy.0 busy.1) busy.2 w.due);
-  }
+  after_bit orders_are was_told was_kept bits laws busy bit = goes_on
+      (let all = w.all_bits in let run = bits.0 in let left = bits.1 in omega (arith, all, run, left))
+      (λ node less. within_bit _ _ _ _ (journal_at old.journals node) (journal_at new.journals node) _ _
+      (bit.nodes node (few node less)) (w.within node less))
+      (subst (λ (n : ℕ). AllDue n new.journals) (sym bits.0) (due_more old.run old.journals new.journals busy.0 nodes
+      (λ node less. bit_grows _ _ _ _ (journal_at old.journals node) (journal_at new.journals node) _ _
+      (bit.nodes node less)) busy.1 (laws.wired.count busy.0 busy.1) busy.2 w.due))
 
 -- where each node is at rest, it is so by a cut
 pub all_rest : (journals : List (List Entry)) →
     ((node : ℕ) → node < length journals → RestsAs (record_of (journal_at journals node)) true) → AllRest journals
 all_rest journals rests node few = let r = rests node few in (r.found, r.cut, r.is)
 
--- ---- after a turn
+-- ---- a turn
 
-module _ (plan : PlanValue) (run : ℕ) (spent : Bool) (move : Move) (bus : BusValue) (links : List RingBus) where
-  pub ran_on : (spent ≡ true → run ≡ plan.bits) → move ≡ Ran → IsMoved plan run move bus links →
-      HasRun plan (run + 1) spent bus links
-  ran_on all is m =
-      let bits : bus.run ≡ run + 1 = m.bits ∙ ap (λ (x : Move). run + ran_by x) is in record {
-        way = m.way;
-        bits = bits;
-        all = λ e. let last = all e in let sum = m.way.all_bits in absurd (omega (arith, last, sum, bits));
-      }
+-- a turn goes on after items were taken
+pub may_go_on : (plan : PlanValue) (run ports : ℕ) (old new : BusValue) (links after : List RingBus) →
+    MayTurn plan run old links ports → new.fault ≡ None → new.script ≡ old.script →
+    length new.journals ≡ length old.journals → EachRelated SameBus links after →
+    KeepsAll BusLists old.journals new.journals links after → (new.run ≡ old.run) × (new.left ≡ old.left) →
+    EachJournal HasItems old.journals new.journals → MayTurn plan run new after ports
+may_go_on plan run ports old new links after m right script nodes sames kept bits items = record {
+  way = after_gather plan old new links after m.way right script nodes sames kept bits items;
+  run_is = bits.0 ∙ m.run_is;
+  many = m.many;
+}
 
-  pub rests_on : (spent ≡ true → run ≡ plan.bits) → move ≡ Rests → IsMoved plan run move bus links →
-      HasRun plan run spent bus links
-  rests_on all is m =
-      let bits : bus.run ≡ run + 0 = m.bits ∙ ap (λ (x : Move). run + ran_by x) is in record {
-        way = m.way;
-        bits = omega (arith, bits);
-        all = all;
-      }
+-- no bit is run in it
+pub none_due : (plan : PlanValue) (run ports : ℕ) (bus : BusValue) (links : List RingBus) →
+    MayTurn plan run bus links ports → IsMoved plan run Rests bus links
+none_due plan run ports bus links m = record {
+  way = m.way;
+  bits = let same = m.run_is in let none_more : bus.run ≡ run + 0 = omega (arith, same) in none_more;
+  spent = λ e. absurd cc;
+}
 
-  pub spent_on : move ≡ Spent → IsMoved plan run move bus links → HasRun plan run spent bus links
-  spent_on is m =
-      let bits : bus.run ≡ run + 0 = m.bits ∙ ap (λ (x : Move). run + ran_by x) is in record {
-        way = m.way;
-        bits = omega (arith, bits);
-        all = λ e. m.spent is;
-      }
+-- a bit was run in it
+pub ran_on : (plan : PlanValue) (run : ℕ) (spent : Bool) (move : Move) (bus : BusValue) (links : List RingBus) →
+    (spent ≡ true → run ≡ plan.bits) → move ≡ Ran → IsMoved plan run move bus links →
+    HasRun plan (run + 1) spent bus links
+ran_on plan run spent move bus links all is m =
+    let bits : bus.run ≡ run + 1 = m.bits ∙ ap (λ (x : Move). run + ran_by x) is in record {
+      way = m.way;
+      bits = bits;
+      all = λ e. let last = all e in let sum = m.way.all_bits in absurd (omega (arith, last, sum, bits));
+    }

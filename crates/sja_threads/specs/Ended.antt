@@ -28,8 +28,8 @@ pub record IsOverAt (steps : List Step) (node : ℕ) (j : List Entry) (deeds : L
   pub lawful : IsLawful w.driver
   pub deeds_are : AreDeeds steps deeds
   pub traces : Traces (driver_of w.driver) (log_of w.driver) deeds
-  -- the driver's ends stand beside the journal for these deeds, and the bus's for the parts of the journal, whatever the
-  -- driver got and gave
+  -- the driver's ends stand beside the journal for these deeds, and the bus's for the parts of the journal, whatever
+  -- the driver got and gave
   pub drivers : HoldsBy DriverLists deeds (driver_of w.driver) (log_of w.driver) j w.links.items 0
   pub buses : (h : ℕ → Account) → Kept BusLists j links base h
   -- both ends of each link come from one pair

@@ -35,8 +35,8 @@ pub record AreLeftOn (buses : List RingBus) (drivers : List RingDriver) (count :
   pub each : (i : ℕ) (b : RingBus) (d : RingDriver) (l : List Down) → i < count →
       IsLeftOn (slice_index_or buses i b) (slice_index_or drivers i d) (slice_index_or lying i l)
 
--- a log says how many bits were run, why the run ended, the journals of the bus, and the steps that each driver did; and
--- some order of events leads to what each activation's link carried
+-- a log says how many bits were run, why the run ended, the journals of the bus, and the steps that each driver did;
+-- and some order of events leads to what each activation's link carried
 pub record IsLogOf (bus : BusValue) (workeds : List (Worked RingDriver)) (end : End) (log : RunValue) : Type 0 where
   pub bits : log.bits ≡ bus.run
   pub ends : log.end ≡ end

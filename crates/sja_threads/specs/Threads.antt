@@ -1,4 +1,5 @@
--- What is promised of every run whose drivers stand in threads of their own, and which returns (this project's own rule).
+-- What is promised of every run whose drivers stand in threads of their own, and which returns (this project's own
+-- rule).
 use Rattle.std.specs.Prelude.{◌≡◌, ◌<◌, ℕ, Bool, false, List, length, slice_index_or}
 use Rattle.sja_plan.specs.Plan.{PlanValue}
 use Rattle.sja_driver.specs.Deeds.{Deed}

@@ -37,8 +37,8 @@ AreUntouched {E} stands j links base = (a : ℕ) (d : E) → a < 8 →
     stands (slice_index_or links (base + a) d) (account j (suc a) (record { got = []; given = [] }))
 
 -- what the driver of a node hands back that followed a script with these ends: it is lawful, its deeds are a front of
--- the script's steps, each answered as its state has it, its log is theirs, and, whatever the journal of the node is, its
--- ends stand beside it for these deeds
+-- the script's steps, each answered as its state has it, its log is theirs, and, whatever the journal of the node is,
+-- its ends stand beside it for these deeds
 pub record HasWorked {E : Type 0} (stands : E → Lists → Type 0) (node : ℕ) (steps : List Step) (links : List E)
     (w : Worked E) : Type 0 where
   pub deeds : List Deed

@@ -17,9 +17,9 @@ use sja_rings::{RingBus, RingDriver};
 use sja_turns::{RunFault, node_runs};
 use std::alloc::Global;
 
-/// The log of a run that is over, and ends so: of each node its journal, its error counters, the steps done, and of each
-/// activation what was released, and what was left unread, by the driver and on the link. So many bits were run. `links`
-/// are the bus's ends of all links, eight of each node, and `workeds` what the drivers handed back, by node.
+/// The log of a run that is over, and ends so: of each node its journal, its error counters, the steps done, and of
+/// each activation what was released, and what was left unread, by the driver and on the link. So many bits were run.
+/// `links` are the bus's ends of all links, eight of each node, and `workeds` what the drivers handed back, by node.
 ///
 /// Error: [`RunFault::Unsettled`] where the bus didn't take all that was given on a link, or an end of one gave no
 /// account; [`RunFault::Memory`] where memory was refused.

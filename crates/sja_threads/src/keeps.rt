@@ -8,8 +8,8 @@ use std::marker::PhantomData;
 use std::snapshot::Snapshot;
 use std::thread::{Promise, PromisedHandle};
 
-/// What a driver's thread promises (this project's own rule): that it followed the steps which the plan has for its node,
-/// with these ends and as such a gate lets it.
+/// What a driver's thread promises (this project's own rule): that it followed the steps which the plan has for its
+/// node, with these ends and as such a gate lets it.
 #[derive(Drop)]
 pub(crate) struct Keeps<G: Gate> {
     pub(crate) plan: Snapshot<Plan>,

@@ -1,14 +1,15 @@
 //! Runs with each driver in a thread of its own, and what they are made of.
 //!
-//! [`run_threads`] runs a plan: each driver in a thread of its own, the bus in the caller's, and gives the log of the run,
-//! with all that is promised of it. [`work`] is the driver's part: one step after the other, each tried until it is done.
-//! Before each try it asks a [`Gate`], which lets the step go, holds it, or quits the script. It hands back the ends of the
-//! node's links and the driver with its log ([`Worked`]). A [`LockBoard`] is the board of a bus whose drivers stand in
-//! threads.
+//! [`run_threads`] runs a plan: each driver in a thread of its own, the bus in the caller's, and gives the log of the
+//! run, with all that is promised of it. [`work`] is the driver's part: one step after the other, each tried until it
+//! is done. Before each try it asks a [`Gate`], which lets the step go, holds it, or quits the script. It hands back
+//! the ends of the node's links and the driver with its log ([`Worked`]). A [`LockBoard`] is the board of a bus whose
+//! drivers stand in threads.
 //!
 //! Contracts say which steps were done, `HasWorked` of `specs/Working.antt`: for every journal, so whatever the bus
 //! does meanwhile; and of a whole run what every run has, by which events each link carried what it did, and when its
-//! bits were due, `IsThreadedRun` of `specs/Threads.antt`. No clause says that a wait ends, or how a port stands behind its lock.
+//! bits were due, `IsThreadedRun` of `specs/Threads.antt`. No clause says that a wait ends, or how a port stands behind
+//! its lock.
 //!
 //! `run_threads` alone takes memory, none of it for a bit. The tests stand in `crates/thread_tests`.
 #![tactic(auto)]

@@ -6,7 +6,7 @@ ghost use Rattle.sja_bus.specs.Links.{EachRelated};
 ghost use Rattle.sja_threads.specs.Inside.Underway.{IsUnderWay, HasRun, IsRunOut};
 
 use super::lock_board::LockBoard;
-use super::moving::{Move, turn, turn_beside};
+use super::moving::{Move, bit_if_due, turn_beside};
 use super::waiting::wait_for_drivers;
 use super::watching::{all_ended, close_all, ended_of};
 use sja_bus::{Bus, BusFault};
@@ -18,8 +18,8 @@ use std::sync::{Mutex, Wait};
 use std::thread::Parker;
 
 /// The bus beside its drivers' threads: it takes what they give, and runs the bits that are due, until all drivers have
-/// ended. Which have is asked before each taking, so that what a driver gave before it ended is taken. Where a bit is due
-/// and none is left, the ports are closed, and taking goes on. It says how many bits were run, and whether they are
+/// ended. Which have is asked before each taking, so that what a driver gave before it ended is taken. Where a bit is
+/// due and none is left, the ports are closed, and taking goes on. It says how many bits were run, and whether they are
 /// spent: a bit was due when none was left.
 ///
 /// Error: what the bus answers for another cause than spent bits.
@@ -41,38 +41,31 @@ pub(crate) fn run_beside<R: Wait>(
     let mut board = LockBoard { rt, ports };
     let mut run = 0u32;
     let mut spent = false;
-    let mut tries = 1u32;
+    let mut idle = 1u32;
     for _ in rt.forever() {
         let ended = ended_of(rt, ports);
-        match turn_beside(plan, bus, links, &mut board, &ended, run)? {
-            Move::Ran => {
-                run += 1;
-                tries = 1;
-            }
-            Move::Rests => {
-                if all_ended(&ended) {
-                    return Ok((run, spent));
-                }
-                wait_for_drivers(rt, &parker, tries);
-                tries = tries.saturating_add(1);
-            }
-            Move::Spent => {
-                close_all(rt, ports);
-                if all_ended(&ended) {
-                    return Ok((run, true));
-                }
+        let moved = turn_beside(plan, bus, links, &mut board, run, &ended)?;
+        if moved == Move::Ran {
+            run += 1;
+            idle = 1;
+        } else {
+            if moved == Move::Spent {
                 spent = true;
-                wait_for_drivers(rt, &parker, tries);
-                tries = tries.saturating_add(1);
+                close_all(rt, ports);
             }
+            if all_ended(&ended) {
+                return Ok((run, spent));
+            }
+            wait_for_drivers(rt, &parker, idle);
+            idle = idle.saturating_add(1);
         }
     }
     unreachable!()
 }
 
-/// The bus after its drivers' threads, which has run so many bits, and has spent them or not: it takes what is left, and
-/// runs the bits that are due, until every controller is at rest or the bits are spent. It says how many bits were run
-/// in all, and which of the two it was.
+/// The bus after its drivers' threads, which has run so many bits, and has spent them or not: it takes what is left,
+/// and runs the bits that are due, until every controller is at rest or the bits are spent. It says how many bits were
+/// run in all, and which of the two it was.
 ///
 /// Error: what the bus answers for another cause than spent bits.
 pub(crate) fn run_after<R: Wait>(
@@ -89,19 +82,15 @@ pub(crate) fn run_after<R: Wait>(
     ensures sames { EachRelated SameBus links.old links.new }
     ensures out { IfOk result (λ r. IsRunOut plan.now r.0 r.1 bus.new links.new) }
 {
+    plan.limits();
     let mut board = LockBoard { rt, ports };
-    for now in run..plan.bits() {
-        match turn(plan, bus, links, &mut board, now)? {
+    for now in run..=plan.bits() {
+        bus.gather(links)?;
+        match bit_if_due(plan, bus, links, &mut board, now)? {
             Move::Ran => {}
-            Move::Rests => return Ok((now, End::Rest)),
-            Move::Spent => return Ok((now, End::Bits)),
+            Move::Rests if !spent => return Ok((now, End::Rest)),
+            _ => return Ok((now, End::Bits)),
         }
     }
-    let last = turn(plan, bus, links, &mut board, plan.bits())?;
-    let end = if last == Move::Rests && !spent {
-        End::Rest
-    } else {
-        End::Bits
-    };
-    Ok((plan.bits(), end))
+    unreachable!()
 }

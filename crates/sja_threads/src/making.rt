@@ -80,20 +80,17 @@ pub(crate) fn hands_of<G: Gate>(
     Ok(hands)
 }
 
-/// The ports of so many nodes, each behind its lock, in this version of a plan's rules.
+/// The ports of the plan's nodes, each behind its lock, in the plan's version of the rules.
 ///
 /// Error: [`OutOfMemory`] where memory was refused.
-pub(crate) fn ports_of(
-    alloc: Global,
-    nodes: usize,
-    version: u8,
-) -> Result<Vec<Mutex<Port>>, OutOfMemory>
-    requires { (1 ≤ version) × (version ≤ 2) }
-    ensures { IfOk result (λ ports. length ports.items ≡ nodes) }
+pub(crate) fn ports_of(alloc: Global, plan: &Plan) -> Result<Vec<Mutex<Port>>, OutOfMemory>
+    ensures { IfOk result (λ ports. length ports.items ≡ length plan.now.nodes) }
 {
+    plan.limits();
+    let nodes = plan.nodes();
     let mut ports = Vec::with_capacity(alloc, nodes)?;
     for _ in 0..nodes {
-        ports.push_reserved(Mutex::new(Port::new(version)));
+        ports.push_reserved(Mutex::new(Port::new(plan.version())));
     }
     Ok(ports)
 }

@@ -1,11 +1,11 @@
 //! One turn of the bus.
 
-ghost use Rattle.std.specs.Prelude.{◌≡◌, ◌≤◌, length, Ok, IfOk};
+ghost use Rattle.std.specs.Prelude.{◌≡◌, length, Ok, IfOk};
 ghost use Rattle.sja_rings.specs.Ends.{SameBus};
 ghost use Rattle.sja_bus.specs.Links.{EachRelated};
 ghost use Rattle.sja_threads.specs.declared.moving.Move.TheVariants.{Rests};
 ghost use Rattle.sja_threads.specs.Needed.{AllRest};
-ghost use Rattle.sja_threads.specs.Inside.Underway.{IsUnderWay, IsMoved};
+ghost use Rattle.sja_threads.specs.Inside.Underway.{MayTurn, IsMoved};
 
 use super::lock_board::LockBoard;
 use super::watching::all_begun;
@@ -28,16 +28,14 @@ pub(crate) enum Move {
 /// Runs a bit where one is due: where some controller isn't at rest.
 ///
 /// Error: what the bus answers for another cause than spent bits.
-fn bit_if_due<R: Wait>(
+pub(crate) fn bit_if_due<R: Wait>(
     plan: &Plan,
     bus: &mut Bus,
     links: &mut [RingBus],
     board: &mut LockBoard<R>,
     run: u32,
 ) -> Result<Move, BusFault>
-    requires way { IsUnderWay plan.now bus.old links.old }
-    requires run { bus.old.run ≡ run }
-    requires ports { length plan.now.nodes ≤ length board.old.ports.now }
+    requires { MayTurn plan.now run bus.old links.old (length board.old.ports.now) }
     ensures sames { EachRelated SameBus links.old links.new }
     ensures ports { length board.new.ports.now ≡ length board.old.ports.now }
     ensures moved { IfOk result (λ move. IsMoved plan.now run move bus.new links.new) }
@@ -54,30 +52,8 @@ fn bit_if_due<R: Wait>(
     Ok(Move::Ran)
 }
 
-/// Takes what the drivers gave, and then runs a bit where one is due.
-///
-/// Error: what the bus answers for another cause than spent bits.
-pub(crate) fn turn<R: Wait>(
-    plan: &Plan,
-    bus: &mut Bus,
-    links: &mut [RingBus],
-    board: &mut LockBoard<R>,
-    run: u32,
-) -> Result<Move, BusFault>
-    requires way { IsUnderWay plan.now bus.old links.old }
-    requires run { bus.old.run ≡ run }
-    requires ports { length plan.now.nodes ≤ length board.old.ports.now }
-    ensures sames { EachRelated SameBus links.old links.new }
-    ensures ports { length board.new.ports.now ≡ length board.old.ports.now }
-    ensures moved { IfOk result (λ move. IsMoved plan.now run move bus.new links.new) }
-    ensures rests { result ≡ Ok Rests → AllRest bus.new.journals }
-{
-    bus.gather(links)?;
-    bit_if_due(plan, bus, links, board, run)
-}
-
-/// The same while the drivers are at work, of which these have ended: no bit is due before of each node a start was taken
-/// or its driver had ended.
+/// Takes what the drivers gave, and then runs a bit where one is due. The drivers are at work, and these have ended: no
+/// bit is due before of each node a start was taken or its driver had ended.
 ///
 /// Error: what the bus answers for another cause than spent bits.
 pub(crate) fn turn_beside<R: Wait>(
@@ -85,12 +61,10 @@ pub(crate) fn turn_beside<R: Wait>(
     bus: &mut Bus,
     links: &mut [RingBus],
     board: &mut LockBoard<R>,
-    ended: &[bool; 8],
     run: u32,
+    ended: &[bool; 8],
 ) -> Result<Move, BusFault>
-    requires way { IsUnderWay plan.now bus.old links.old }
-    requires run { bus.old.run ≡ run }
-    requires ports { length plan.now.nodes ≤ length board.old.ports.now }
+    requires { MayTurn plan.now run bus.old links.old (length board.old.ports.now) }
     ensures sames { EachRelated SameBus links.old links.new }
     ensures ports { length board.new.ports.now ≡ length board.old.ports.now }
     ensures moved { IfOk result (λ move. IsMoved plan.now run move bus.new links.new) }

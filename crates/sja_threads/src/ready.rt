@@ -1,27 +1,24 @@
-//! [`Ready`]: all that a run in threads begins with.
+//! [`Ready`]: all that a run in threads begins with beside the ports.
 
 use super::gate::Gate;
 use super::hand::Hand;
 use super::keeps::Child;
-use super::making::{hands_of, ports_of};
+use super::making::hands_of;
 use super::worked::Worked;
 use can_frame::OutOfMemory;
 use sja_bus::Bus;
 use sja_plan::Plan;
-use sja_regs::Port;
 use sja_rings::{RingBus, RingDriver};
 use sja_turns::script_of;
 use std::alloc::Global;
-use std::sync::Mutex;
 
-/// All that a run in threads begins with (this project's own rule): the bus and its ends of all links, what each
-/// driver's thread begins with, the ports, and room for the threads and for what they hand back.
+/// All that a run in threads begins with beside the ports (this project's own rule): the bus and its ends of all links,
+/// what each driver's thread begins with, and room for the threads and for what they hand back.
 #[derive(Drop)]
 pub(crate) struct Ready<G: Gate> {
     pub(crate) bus: Bus,
     pub(crate) links: Vec<RingBus>,
     pub(crate) hands: Vec<Hand<G>>,
-    pub(crate) ports: Vec<Mutex<Port>>,
     pub(crate) children: Vec<Child<G>>,
     pub(crate) workeds: Vec<Worked<RingDriver>>,
 }
@@ -43,14 +40,12 @@ impl<G: Gate> Ready<G> {
         let bus = Bus::new(alloc, nodes as u8, plan.bits(), script)?;
         let mut links = Vec::new(alloc);
         let hands = hands_of(alloc, plan, gates, &mut links)?;
-        let ports = ports_of(alloc, nodes, plan.version())?;
         let children = Vec::with_capacity(alloc, nodes)?;
         let workeds = Vec::with_capacity(alloc, nodes)?;
         Ok(Ready {
             bus,
             links,
             hands,
-            ports,
             children,
             workeds,
         })

@@ -1,95 +1,95 @@
 //! Whole runs with each driver in a thread of its own.
 
-ghost use Rattle.std.specs.Prelude.{◌≡◌, ◌≢◌, ◌≤◌, ◌<◌, ℕ, [], length, slice_index_or, vec_len, vec_capacity, Err, All, IfOk, IfErr};
+ghost use Rattle.std.specs.Prelude.{◌≡◌, ◌≢◌, ◌≤◌, ◌<◌, ℕ, length, slice_index_or, vec_len, Err, IfOk, IfErr};
 ghost use Rattle.sja_report.specs.Headline.{IsAccount};
 ghost use Rattle.sja_report.specs.Log.{NodeValue};
 ghost use Rattle.sja_turns.specs.declared.run_fault.RunFault.TheVariants.{GateCount};
 ghost use Rattle.sja_threads.specs.Threads.{IsThreadedRun};
-ghost use Rattle.sja_threads.specs.Inside.Joined.{IsJoined, IsEnding};
-ghost use Rattle.sja_threads.specs.Inside.Started.{IsHand};
-ghost use Rattle.sja_threads.specs.Inside.Underway.{IsUnderWay};
+ghost use Rattle.sja_threads.specs.Inside.Joined.{IsEnding};
+ghost use Rattle.sja_threads.specs.Inside.Making.{IsReady};
 
 use super::finishing::finish_run;
 use super::gate::Gate;
-use super::hand::Hand;
 use super::joined::Joined;
-use super::keeps::Child;
 use super::looping::{run_after, run_beside};
+use super::making::ports_of;
 use super::ready::Ready;
 use super::starting::{join_all, start_all};
 use super::watching::close_all;
-use super::worked::Worked;
-use sja_bus::Bus;
 use sja_plan::Plan;
 use sja_regs::Port;
 use sja_report::RunLog;
-use sja_rings::{RingBus, RingDriver};
 use sja_turns::RunFault;
 use std::alloc::Global;
 use std::sync::{Mutex, Wait};
 use std::thread;
-use std::thread::Threads;
+use std::thread::{Scope, Threads};
 
-/// Each driver in a thread of its own and the bus in this one, until all drivers have ended and are joined. Where the run
-/// stops before that, the ports are closed, so that the drivers end.
+/// Starts the threads of all drivers, runs the bus beside them until they have ended, and joins them.
+///
+/// Error: [`RunFault::Thread`] where a thread can't be started, and [`RunFault::Bus`] where the bus doesn't go on. Then
+/// those that were started run on.
+fn run_in<'s, E, G: Gate + 's, R: Threads + Wait + Sync>(
+    scope: &Scope<'s, E>,
+    rt: &'s R,
+    plan: &'s Plan,
+    ready: Ready<G>,
+    ports: &'s [Mutex<Port>],
+) -> Result<Joined, RunFault>
+    requires ready { IsReady plan.now ready }
+    requires ports { length ports.now ≡ length plan.now.nodes }
+    ensures ending { IfOk result (IsEnding G.QUITS plan.now) }
+    ensures fault { IfErr result (λ f. f ≢ GateCount) }
+{
+    let Ready {
+        mut bus,
+        mut links,
+        hands,
+        children,
+        workeds,
+    } = ready;
+    let children = start_all(scope, rt, plan, hands, ports, children)?;
+    match run_beside(rt, plan, &mut bus, links.as_mut_slice(), ports) {
+        Ok((run, spent)) => Ok(Joined {
+            bus,
+            links,
+            workeds: join_all(rt, children, workeds),
+            run,
+            spent,
+        }),
+        Err(fault) => Err(RunFault::Bus(fault)),
+    }
+}
+
+/// Each driver in a thread of its own and the bus in this one, until all drivers have ended and are joined. Where the
+/// run stops before that, the ports are closed, so that the drivers end.
 ///
 /// Error: [`RunFault::Thread`] where a thread can't be started, and [`RunFault::Bus`] where the bus doesn't go on.
 fn run_drivers<G: Gate, R: Threads + Wait + Sync>(
     rt: &R,
     plan: &Plan,
-    bus: Bus,
-    links: Vec<RingBus>,
-    hands: Vec<Hand<G>>,
+    ready: Ready<G>,
     ports: &[Mutex<Port>],
-    children: Vec<Child<G>>,
-    workeds: Vec<Worked<RingDriver>>,
 ) -> Result<Joined, RunFault>
-    requires way { IsUnderWay plan.now bus links.items }
-    requires first { bus.run ≡ 0 }
-    requires hands { All (IsHand plan.now) hands.items }
-    requires many { vec_len hands ≡ length plan.now.nodes }
+    requires ready { IsReady plan.now ready }
     requires ports { length ports.now ≡ length plan.now.nodes }
-    requires children { (length plan.now.nodes ≤ vec_capacity children) × (children.items ≡ []) }
-    requires workeds { (length plan.now.nodes ≤ vec_capacity workeds) × (workeds.items ≡ []) }
-    ensures joined { IfOk result (IsJoined G.QUITS plan.now hands.items links.items) }
+    ensures ending { IfOk result (IsEnding G.QUITS plan.now) }
     ensures fault { IfErr result (λ f. f ≢ GateCount) }
 {
     thread::scope(
         thread::scope_env(),
         rt,
         move |scope| -> Result<Joined, RunFault>
-            requires way { IsUnderWay plan.now bus links.items }
-            requires first { bus.run ≡ 0 }
-            requires hands { All (IsHand plan.now) hands.items }
-            requires many { vec_len hands ≡ length plan.now.nodes }
+            requires ready { IsReady plan.now ready }
             requires ports { length ports.now ≡ length plan.now.nodes }
-            requires children { (length plan.now.nodes ≤ vec_capacity children) × (children.items ≡ []) }
-            requires workeds { (length plan.now.nodes ≤ vec_capacity workeds) × (workeds.items ≡ []) }
-            ensures joined { IfOk result (IsJoined G.QUITS plan.entry.now hands.items links.items) }
+            ensures ending { IfOk result (IsEnding G.QUITS plan.entry.now) }
             ensures fault { IfErr result (λ f. f ≢ GateCount) }
         {
-            let children = match start_all(scope, rt, plan, hands, ports, children) {
-                Ok(children) => children,
-                Err(fault) => {
-                    close_all(rt, ports);
-                    return Err(fault);
-                }
-            };
-            let mut bus = bus;
-            let mut links = links;
-            match run_beside(rt, plan, &mut bus, links.as_mut_slice(), ports) {
-                Ok((run, spent)) => Ok(Joined {
-                    bus,
-                    links,
-                    workeds: join_all(rt, children, workeds),
-                    run,
-                    spent,
-                }),
-                Err(fault) => {
-                    close_all(rt, ports);
-                    Err(RunFault::Bus(fault))
-                }
+            let joined = run_in(scope, rt, plan, ready, ports);
+            if joined.is_err() {
+                close_all(rt, ports);
             }
+            joined
         },
     )
 }
@@ -112,14 +112,12 @@ fn end_run<G: Gate, R: Wait>(
     ensures fault { IfErr result (λ f. f ≢ GateCount) }
 {
     let Joined {
-        bus,
-        links,
+        mut bus,
+        mut links,
         workeds,
         run,
         spent,
     } = joined;
-    let mut bus = bus;
-    let mut links = links;
     match run_after(rt, plan, &mut bus, links.as_mut_slice(), ports, run, spent) {
         Ok((bits, end)) => finish_run(alloc, plan, bus, bits, links, workeds, end),
         Err(fault) => Err(RunFault::Bus(fault)),
@@ -129,23 +127,23 @@ fn end_run<G: Gate, R: Wait>(
 /// Runs a plan with each driver in a thread of its own and the bus in the caller's, and gives the log of the run. Each
 /// driver follows its script as its gate lets it ([`work`](crate::work)); the plan's turns are left out of account.
 ///
-/// Each activation has a link of its own, and each port stands behind a lock; the threads share nothing else. Before each
-/// bit the bus takes what the drivers gave. No bit is run before the first start of each driver was taken or the driver
-/// had ended, and none where every controller is at rest. Where a bit is due and none is left, the ports are closed, and
-/// taking goes on. When all drivers have ended and are joined, the bus takes the rest and runs on until every controller
-/// is at rest or the bits are spent.
+/// Each activation has a link of its own, and each port stands behind a lock; the threads share nothing else. Before
+/// each bit the bus takes what the drivers gave. No bit is run before the first start of each driver was taken or the
+/// driver had ended, and none where every controller is at rest. Where a bit is due and none is left, the ports are
+/// closed, and taking goes on. When all drivers have ended and are joined, the bus takes the rest and runs on until
+/// every controller is at rest or the bits are spent.
 ///
 /// What each driver released in an activation, followed by what it left unread, is, in order and each once, the frames
 /// its controller validly received and its filter passed, less those marked overrun; and a frame is marked overrun
 /// exactly where it is longer than 64 less the bytes stored and not yet collected back. What each node saw in each bit
 /// is what all drove together, or the other level where the plan's faults strike it. What the link of each activation
-/// carried came by events of one link, each allowed when it came, in the order in which the journal has the bus's. Where
-/// no gate quits every step was done. No clause says that a thread is served, or that the call returns.
+/// carried came by events of one link, each allowed when it came, in the order in which the journal has the bus's.
+/// Where no gate quits every step was done. No clause says that a thread is served, or that the call returns.
 ///
 /// Errors: [`RunFault::GateCount`] exactly where there isn't one gate for each node; [`RunFault::Memory`] where memory
 /// was refused; [`RunFault::Thread`] where a thread can't be started; [`RunFault::Bus`] where the bus doesn't go on for
-/// another cause than spent bits; [`RunFault::Unsettled`] where a link gave no account at its end, or items were left on
-/// it that the bus didn't take.
+/// another cause than spent bits; [`RunFault::Unsettled`] where a link gave no account at its end, or items were left
+/// on it that the bus didn't take.
 pub fn run_threads<G: Gate, R: Threads + Wait + Sync>(
     rt: &R,
     alloc: Global,
@@ -164,23 +162,9 @@ pub fn run_threads<G: Gate, R: Threads + Wait + Sync>(
     let Ok(ready) = Ready::new(alloc, plan, gates) else {
         return Err(RunFault::Memory);
     };
-    let Ready {
-        bus,
-        links,
-        hands,
-        ports,
-        children,
-        workeds,
-    } = ready;
-    let joined = run_drivers(
-        rt,
-        plan,
-        bus,
-        links,
-        hands,
-        ports.as_slice(),
-        children,
-        workeds,
-    )?;
+    let Ok(ports) = ports_of(alloc, plan) else {
+        return Err(RunFault::Memory);
+    };
+    let joined = run_drivers(rt, plan, ready, ports.as_slice())?;
     end_run::<G, R>(rt, alloc, plan, joined, ports.as_slice())
 }

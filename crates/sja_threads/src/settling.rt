@@ -11,8 +11,8 @@ use sja_rings::{RingBus, RingDriver, end_bus, end_driver, settle};
 use sja_turns::{Lying, RunFault};
 use std::alloc::Global;
 
-/// Ends both ends of a link, and gives what lies there downward: all that was put and not got. Nothing lies there upward:
-/// all that was given was taken.
+/// Ends both ends of a link, and gives what lies there downward: all that was put and not got. Nothing lies there
+/// upward: all that was given was taken.
 ///
 /// Error: [`RunFault::Unsettled`] where something lies there upward, or an end gave no account;
 /// [`RunFault::Memory`] where memory was refused.

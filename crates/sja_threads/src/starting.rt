@@ -94,7 +94,8 @@ pub(crate) fn start_all<'s, E, G: Gate + 's, R: Threads + Wait + Sync>(
     requires ports { length ports.now ≡ vec_len hands }
     requires room { vec_len hands ≤ vec_capacity children }
     requires none { children.items ≡ [] }
-    ensures all { IfOk result (λ all. EachRelated (IsFor plan.now) hands.items (map (λ child. child.promise) all.items)) }
+    ensures all { IfOk result (λ all.
+        EachRelated (IsFor plan.now) hands.items (map (λ child. child.promise) all.items)) }
     ensures fault { IfErr result (λ f. f ≡ Thread) }
 {
     let mut children = children;

@@ -6,26 +6,16 @@ use Rattle.sja_rings.specs.Ends.{SameBus}
 use Rattle.sja_plan.specs.Plan.{PlanValue}
 use Rattle.sja_bus.specs.Buses.{BusValue}
 use Rattle.sja_bus.specs.Links.{EachRelated as EachLink}
-use Rattle.sja_driver.specs.Holding.{EachRelated}
 use Rattle.sja_driver.specs.LoggedDrivers.{log_of}
 use Rattle.sja_driver.specs.Logs.{done_in}
 use Rattle.sja_turns.specs.Serial.{steps_at}
-use Rattle.sja_threads.specs.declared.hand.Hand.{Hand}
 use Rattle.sja_threads.specs.declared.joined.Joined.{Joined}
 use Rattle.sja_threads.specs.declared.worked.Worked.{Worked}
 use Rattle.sja_threads.specs.Ended.{IsOverOf}
-use Rattle.sja_threads.specs.Inside.Started.{Serves}
 use Rattle.sja_threads.specs.Inside.Underway.{IsUnderWay, HasRun}
 
--- the bus has run so many bits, its ends of the links are the same ones, and each thread handed back what it promised
-pub record IsJoined {G : Type 0} (quits : Bool) (plan : PlanValue) (hands : List (Hand G)) (links : List RingBus)
-    (j : Joined) : Type 0 where
-  pub has_run : HasRun plan j.run j.spent j.bus j.links.items
-  pub sames : EachLink SameBus links j.links.items
-  pub served : EachRelated (Serves quits plan) hands j.workeds.items
-
--- the same for what comes after it: however the bus goes on from here with the same links, with what the threads handed
--- back the run is over then; and where no gate quits every driver did all its steps
+-- the bus has run so many bits; however it goes on from here with the same links, with what the threads handed back the
+-- run is over then; and where no gate quits every driver did all its steps
 pub record IsEnding (quits : Bool) (plan : PlanValue) (j : Joined) : Type 0 where
   pub has_run : HasRun plan j.run j.spent j.bus j.links.items
   pub over : (bus : BusValue) (links : List RingBus) → EachLink SameBus j.links.items links →

@@ -41,12 +41,11 @@ abbrev pub AreMade : {G : Type 0} → PlanValue → ℕ → List (Hand G) → Li
 AreMade {G} plan count hands buses = (node : ℕ) (h : Hand G) → node < count →
     IsMade plan node (slice_index_or hands node h) buses
 
--- all that a run of this plan begins with
+-- all that a run of this plan begins with beside the ports
 pub record IsReady {G : Type 0} (plan : PlanValue) (r : Ready G) : Type 0 where
   pub bus : r.bus ≡ new_bus plan.strikes plan.bits (length plan.nodes)
   pub links : length r.links.items ≡ 8 * length plan.nodes
   pub hands : length r.hands.items ≡ length plan.nodes
   pub made : AreMade plan (length plan.nodes) r.hands.items r.links.items
-  pub ports : length r.ports.items ≡ length plan.nodes
   pub children : (length plan.nodes ≤ vec_capacity r.children) × (r.children.items ≡ [])
   pub workeds : (length plan.nodes ≤ vec_capacity r.workeds) × (r.workeds.items ≡ [])

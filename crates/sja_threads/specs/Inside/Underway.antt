@@ -1,5 +1,5 @@
 -- The bus of a run in threads, whatever its drivers do meanwhile.
-use Rattle.std.specs.Prelude.{◌≡◌, ◌⊎◌, ◌+◌, ◌*◌, ◌<◌, ℕ, Bool, true, None, List, [], length}
+use Rattle.std.specs.Prelude.{◌≡◌, ◌⊎◌, ◌+◌, ◌*◌, ◌≤◌, ◌<◌, ℕ, Bool, true, None, List, [], length}
 use Rattle.sja_link.specs.declared.entry.Entry.{Entry}
 use Rattle.sja_link.specs.Accounts.{Account}
 use Rattle.sja_link.specs.Parts.{part}
@@ -32,6 +32,12 @@ pub record IsUnderWay (plan : PlanValue) (bus : BusValue) (links : List RingBus)
       Kept BusLists (journal_at bus.journals node) links (8 * node) h
   pub within : (node : ℕ) → node < length plan.nodes → TakesWithin (journal_at bus.journals node)
   pub due : AllDue bus.run bus.journals
+
+-- before a turn of the bus: so many bits were run, and there is a port for each node
+pub record MayTurn (plan : PlanValue) (run : ℕ) (bus : BusValue) (links : List RingBus) (ports : ℕ) : Type 0 where
+  pub way : IsUnderWay plan bus links
+  pub run_is : bus.run ≡ run
+  pub many : length plan.nodes ≤ ports
 
 -- how many bits a turn of the bus ran
 abbrev pub ran_by : Move → ℕ

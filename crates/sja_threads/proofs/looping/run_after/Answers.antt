@@ -1,51 +1,56 @@
-use Rattle.std.proofs.Common.{subst, arith}
+use Rattle.std.proofs.Common.{length, arith}
 use Rattle.sja_rings.specs.Ends.{SameBus}
+use Rattle.sja_bus.specs.Links.{EachRelated}
 use Rattle.sja_bus.proofs.Lists.{each_refl, each_trans}
-use Rattle.sja_threads.specs.declared.moving.Move.{Move}
-use Rattle.sja_threads.specs.declared.moving.Move.TheVariants.{Ran}
-use Rattle.sja_threads.specs.Inside.Underway.{IsMoved}
 use Rattle.sja_threads.proofs.Same.{bus_refl, bus_trans}
+use Rattle.sja_threads.proofs.Underway.{may_go_on, ran_on}
+use Rattle.sja_threads.proofs.looping.run_after.Given.{Over}
+use Rattle.sja_threads.proofs.looping.run_after.Goals.{After-bit_if_due}
 use Rattle.sja_threads.proofs.looping.run_after.Goals as goal
+
+-- the bus's ends are the same ones after the bit too
+run_sames : (g : Over) (c : After-bit_if_due g) → EachRelated SameBus c.args.links.now c.bit_if_due.new.links
+run_sames g c =
+    each_trans SameBus bus_trans c.args.links.now c.loop-now.links c.bit_if_due.new.links c.loop-now.invariant.sames
+    (each_trans SameBus bus_trans c.loop-now.links c.gather.new.links c.bit_if_due.new.links c.gather.ensures.sames
+    c.bit_if_due.ensures.sames)
 
 pub loop-now-init : goal.loop-now-init
 loop-now-init g c =
-    let r = c.requires.run in record {
-      way = r.way;
-      bits = r.bits;
-      few = let all = r.way.all_bits in let run = r.bits in omega (arith, all, run);
-      sames = each_refl SameBus bus_refl c.args.links.now;
-      ports = c.requires.ports;
-    }
+    record { run = c.requires.run; sames = each_refl SameBus bus_refl c.args.links.now; ports = c.requires.ports }
 
-pub returns-in_err-turn-clause-sames : goal.returns-in_err-turn-clause-sames
-returns-in_err-turn-clause-sames g c =
-    each_trans SameBus bus_trans c.args.links.now c.loop-now.links c.turn.new.links c.loop-now.invariant.sames
-    c.turn.ensures.sames
+pub returns-in_err-gather-clause-sames : goal.returns-in_err-gather-clause-sames
+returns-in_err-gather-clause-sames g c =
+    each_trans SameBus bus_trans c.args.links.now c.loop-now.links c.gather.new.links c.loop-now.invariant.sames
+    c.gather.ensures.sames
+
+pub bit_if_due-requires : goal.bit_if_due-requires
+bit_if_due-requires g c =
+    let r = c.loop-now.invariant.run in
+    let e = c.gather.ensures in
+    let o = c.in_ok-gather.ensures in
+    may_go_on c.args.plan.now c.loop-now.now (length c.loop-now.board.ports.now) c.loop-now.bus c.gather.new.self
+    c.loop-now.links c.gather.new.links
+    (record { way = r.way; run_is = r.bits; many = c.loop-now.invariant.ports }) o.right e.script e.nodes e.sames o.kept
+    e.bits o.items
+
+pub returns-in_err-bit_if_due-clause-sames : goal.returns-in_err-bit_if_due-clause-sames
+returns-in_err-bit_if_due-clause-sames g c =
+    run_sames g (goal.at.returns-in_err-bit_if_due-clause-sames g c).After-bit_if_due
 
 pub returns-in-Rests-clause-sames : goal.returns-in-Rests-clause-sames
-returns-in-Rests-clause-sames g c =
-    each_trans SameBus bus_trans c.args.links.now c.loop-now.links c.turn.new.links c.loop-now.invariant.sames
-    c.turn.ensures.sames
+returns-in-Rests-clause-sames g c = run_sames g (goal.at.returns-in-Rests-clause-sames g c).After-bit_if_due
+
+pub returns-in_default-clause-sames : goal.returns-in_default-clause-sames
+returns-in_default-clause-sames g c = run_sames g (goal.at.returns-in_default-clause-sames g c).After-bit_if_due
+
+pub returns-in_default-2-clause-sames : goal.returns-in_default-2-clause-sames
+returns-in_default-2-clause-sames g c = run_sames g (goal.at.returns-in_default-2-clause-sames g c).After-bit_if_due
 
 pub loop-now-preserved : goal.loop-now-preserved
-loop-now-preserved g c =
-    let moved : IsMoved c.args.plan.now c.loop-now.now Ran c.turn.new.bus c.turn.new.links =
-    subst (λ (m : Move). IsMoved c.args.plan.now c.loop-now.now m c.turn.new.bus c.turn.new.links) c.in-Ran.is
-    c.in_ok-turn.ensures.moved in record {
-      way = moved.way;
-      bits = moved.bits;
-      few = let all = moved.way.all_bits in let run = moved.bits in omega (arith, all, run);
-      sames = each_trans SameBus bus_trans c.args.links.now c.loop-now.links c.turn.new.links c.loop-now.invariant.sames
-          c.turn.ensures.sames;
-      ports = let was = c.loop-now.invariant.ports in let same = c.turn.ensures.ports in omega (arith, was, same);
-    }
-
-pub returns-in_err-last-clause-sames : goal.returns-in_err-last-clause-sames
-returns-in_err-last-clause-sames g c =
-    each_trans SameBus bus_trans c.args.links.now c.loop-now.links c.turn-2.new.links c.loop-now.invariant.sames
-    c.turn-2.ensures.sames
-
-pub returns-clause-sames : goal.returns-clause-sames
-returns-clause-sames g c =
-    each_trans SameBus bus_trans c.args.links.now c.loop-now.links c.turn-2.new.links c.loop-now.invariant.sames
-    c.turn-2.ensures.sames
+loop-now-preserved g c = record {
+  run = ran_on c.args.plan.now c.loop-now.now c.args.spent _ _ _ c.loop-now.invariant.run.all c.in-Ran.is
+      c.in_ok-bit_if_due.ensures.moved;
+  sames = run_sames g (goal.at.loop-now-preserved g c).After-bit_if_due;
+  ports = let was = c.loop-now.invariant.ports in let same = c.bit_if_due.ensures.ports in omega (arith, was, same);
+}

@@ -1,14 +1,12 @@
-use Rattle.std.proofs.Common.{◌≡◌, ◌≤◌, length}
+use Rattle.std.proofs.Common.{◌≤◌, length}
 use Rattle.sja_rings.specs.Ends.{SameBus}
 use Rattle.sja_bus.specs.Links.{EachRelated}
-use Rattle.sja_threads.specs.Inside.Underway.{IsUnderWay}
+use Rattle.sja_threads.specs.Inside.Underway.{HasRun}
 use Rattle.sja_threads.proofs.looping.run_after.Given as goal
 
 abbrev pub invariant-loop-now : goal.invariant-loop-now
 invariant-loop-now g l = record {
-  way : IsUnderWay l.plan l.bus l.links;
-  bits : l.bus.run ≡ l.now;
-  few : l.now ≤ l.plan.bits;
+  run : HasRun l.plan l.now l.spent l.bus l.links;
   sames : EachRelated SameBus l.initial.links l.links;
   ports : length l.plan.nodes ≤ length l.board.ports.now;
 }

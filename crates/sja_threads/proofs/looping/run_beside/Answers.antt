@@ -1,9 +1,19 @@
-use Rattle.std.proofs.Common.{true, arith}
+use Rattle.std.proofs.Common.{rules, ◌≡◌, arith}
 use Rattle.sja_rings.specs.Ends.{SameBus}
+use Rattle.sja_bus.specs.Links.{EachRelated}
 use Rattle.sja_bus.proofs.Lists.{each_refl, each_trans}
+use Rattle.sja_threads.specs.declared.moving.Move.TheVariants.{Ran}
 use Rattle.sja_threads.proofs.Same.{bus_refl, bus_trans}
-use Rattle.sja_threads.proofs.Underway.{ran_on, rests_on, spent_on}
+use Rattle.sja_threads.proofs.Underway.{ran_on}
+use Rattle.sja_threads.proofs.looping.run_beside.Given.{Over}
+use Rattle.sja_threads.proofs.looping.run_beside.Goals.{After-turn_beside}
 use Rattle.sja_threads.proofs.looping.run_beside.Goals as goal
+
+-- the bus's ends are the same ones after the turn too
+turned_sames : (g : Over) (c : After-turn_beside g) → EachRelated SameBus c.args.links.now c.turn_beside.new.links
+turned_sames g c =
+    each_trans SameBus bus_trans c.args.links.now c.loop.links c.turn_beside.new.links c.loop.invariant.sames
+    c.turn_beside.ensures.sames
 
 pub loop-init : goal.loop-init
 loop-init g c = record {
@@ -12,43 +22,26 @@ loop-init g c = record {
   ports = c.requires.ports;
 }
 
-pub returns-in_err-turn_beside-clause-sames : goal.returns-in_err-turn_beside-clause-sames
-returns-in_err-turn_beside-clause-sames g c =
-    each_trans SameBus bus_trans c.args.links.now c.loop.links c.turn_beside.new.links c.loop.invariant.sames
-    c.turn_beside.ensures.sames
-
-pub loop-preserved-in-Ran : goal.loop-preserved-in-Ran
-loop-preserved-in-Ran g c = record {
-  run = ran_on c.args.plan.now c.loop.run c.loop.spent _ _ _ c.loop.invariant.run.all c.in-Ran.is
-      c.in_ok-turn_beside.ensures.moved;
-  sames = each_trans SameBus bus_trans c.args.links.now c.loop.links c.turn_beside.new.links c.loop.invariant.sames
-      c.turn_beside.ensures.sames;
-  ports = let was = c.loop.invariant.ports in let same = c.turn_beside.ensures.ports in omega (arith, was, same);
-}
-
-pub loop-preserved-in-Rests : goal.loop-preserved-in-Rests
-loop-preserved-in-Rests g c = record {
-  run = rests_on c.args.plan.now c.loop.run c.loop.spent _ _ _ c.loop.invariant.run.all c.in-Rests.is
-      c.in_ok-turn_beside.ensures.moved;
-  sames = each_trans SameBus bus_trans c.args.links.now c.loop.links c.turn_beside.new.links c.loop.invariant.sames
-      c.turn_beside.ensures.sames;
-  ports = let was = c.loop.invariant.ports in let same = c.turn_beside.ensures.ports in omega (arith, was, same);
-}
-
-pub loop-preserved : goal.loop-preserved
-loop-preserved g c = record {
-  run = spent_on c.args.plan.now c.loop.run true _ _ _ c.in-Spent.is c.in_ok-turn_beside.ensures.moved;
-  sames = each_trans SameBus bus_trans c.args.links.now c.loop.links c.turn_beside.new.links c.loop.invariant.sames
-      c.turn_beside.ensures.sames;
-  ports = let was = c.loop.invariant.ports in let same = c.turn_beside.ensures.ports in omega (arith, was, same);
-}
+pub returns-in_err-moved-clause-sames : goal.returns-in_err-moved-clause-sames
+returns-in_err-moved-clause-sames g c =
+    turned_sames g (goal.at.returns-in_err-moved-clause-sames g c).After-turn_beside
 
 pub returns-then-all_ended-clause-sames : goal.returns-then-all_ended-clause-sames
 returns-then-all_ended-clause-sames g c =
-    each_trans SameBus bus_trans c.args.links.now c.loop.links c.turn_beside.new.links c.loop.invariant.sames
-    c.turn_beside.ensures.sames
+    turned_sames g (goal.at.returns-then-all_ended-clause-sames g c).After-turn_beside
 
-pub returns-then-all_ended-2-clause-sames : goal.returns-then-all_ended-2-clause-sames
-returns-then-all_ended-2-clause-sames g c =
-    each_trans SameBus bus_trans c.args.links.now c.loop.links c.turn_beside.new.links c.loop.invariant.sames
-    c.turn_beside.ensures.sames
+pub loop-preserved-then-eq : goal.loop-preserved-then-eq
+loop-preserved-then-eq g c =
+    let is : c.in_ok-moved.moved ≡ Ran = search rules in record {
+      run = ran_on c.args.plan.now c.loop.run c.loop.spent _ _ _ c.loop.invariant.run.all is
+          c.in_ok-moved.ensures.moved;
+      sames = turned_sames g (goal.at.loop-preserved-then-eq g c).After-turn_beside;
+      ports = let was = c.loop.invariant.ports in let same = c.turn_beside.ensures.ports in omega (arith, was, same);
+    }
+
+pub loop-preserved : goal.loop-preserved
+loop-preserved g c = record {
+  run = search rules;
+  sames = turned_sames g (goal.at.loop-preserved g c).After-turn_beside;
+  ports = let was = c.loop.invariant.ports in let same = c.turn_beside.ensures.ports in omega (arith, was, same);
+}

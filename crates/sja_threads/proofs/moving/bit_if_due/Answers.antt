@@ -23,6 +23,6 @@ returns-clause-moved g c =
       way = after_bit c.args.plan.now c.args.bus.now c.bit.new.self c.args.links.now c.bit.new.links w o.right e.script
           e.nodes e.sames o.kept _ _ _ o.bits (c.keeps_its_laws.ensures w.right)
           (c.at_rest.ensures.busy w.right c.if-at_rest.false) o.bit;
-      bits = o.bits.0 ∙ ap (λ n. n + 1) c.requires.run;
+      bits = o.bits.0 ∙ ap (λ n. n + 1) c.requires.run_is;
       spent = λ same. absurd cc;
     }

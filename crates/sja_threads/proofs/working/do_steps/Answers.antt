@@ -1,7 +1,8 @@
 use Rattle.std.proofs.Common.{take, ◌≡◌, ◌+◌, List, [], ◌∷◌, length, subst, arith}
 use Rattle.sja_script.specs.declared.step.Step.{Step}
 use Rattle.sja_threads.specs.Working.{DoesSteps}
-use Rattle.sja_threads.proofs.Works.{may_less, does_none, does_more, does_no_more, take_few, take_next}
+use Rattle.sja_threads.proofs.Works.{may_less, does_none, does_more, does_no_more}
+use Rattle.sja_threads.proofs.Scripts.{take_few, take_next}
 use Rattle.sja_threads.proofs.working.do_steps.Goals as goal
 
 pub loop-k-init : goal.loop-k-init

@@ -1,7 +1,7 @@
 use Rattle.std.proofs.Common.{◌≡◌, length, arith}
 use Rattle.std.proofs.lemmas.List.{with_items_is}
 use Rattle.std.specs.Vec.{with_items}
-use Rattle.sja_threads.proofs.Works.{may_first, worked_of, all_done}
+use Rattle.sja_threads.proofs.Scripts.{may_first, worked_of, all_done}
 use Rattle.sja_threads.proofs.working.work.Goals as goal
 
 pub returns-clause-worked : goal.returns-clause-worked
