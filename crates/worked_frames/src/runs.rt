@@ -1,58 +1,74 @@
 //! Worked runs: plans with their reports, and what a wave begins with.
 
-/// The plan of a frame whose receiver is struck: node 0 sends the frame with identifier 0, node 1 is struck in its last
-/// bit, and releases twice after the rest.
-pub const RECEIVER_STRUCK: &str = "version = 1
+/// A plan of two nodes: node 0 sends the frame with identifier 0, one of them is struck in its last bit, and node 1
+/// releases twice after the rest.
+macro_rules! struck_plan {
+    ($node:literal) => {
+        concat!(
+            "version = 1
 bits = 200
 turns = [\"node 0 3\", \"node 1 1\", \"rest\", \"node 1 2\"]
-faults = [\"1 60\"]
+faults = [\"",
+            $node,
+            " 60\"]
 [[node]]
 steps = [\"start\", \"load 000000\", \"command 01\"]
 [[node]]
 steps = [\"start\", \"release\", \"release\"]
-";
+"
+        )
+    };
+}
+
+/// Its report: with so many bits and this transmit error counter of node 0, and with what follows node 1's first release.
+macro_rules! struck_report {
+    ($bits:literal, $counter:literal, $end:literal) => {
+        concat!(
+            "sja version 1 bits ",
+            $bits,
+            " end turns
+node 0 tec ",
+            $counter,
+            " rec 0 steps 3
+step 1 ok
+step 2 ok
+step 3 ok
+activation 1 stored 0 overrun 0 free 64
+node 1 tec 0 rec 0 steps 3
+step 1 ok
+step 2 3
+",
+            $end
+        )
+    };
+}
+
+/// The plan of a frame whose receiver is struck: node 1, in its last bit.
+pub const RECEIVER_STRUCK: &str = struck_plan!("1");
 
 /// Its report: the receiver has the frame and sends an overload flag; the transmitter counts it as sent.
-pub const STORED_ONCE: &str = "sja version 1 bits 79 end turns
-node 0 tec 0 rec 0 steps 3
-step 1 ok
-step 2 ok
-step 3 ok
-activation 1 stored 0 overrun 0 free 64
-node 1 tec 0 rec 0 steps 3
-step 1 ok
-step 2 3
-step 3 refused Empty
+pub const STORED_ONCE: &str = struck_report!(
+    "79",
+    "0",
+    "step 3 refused Empty
 activation 1 stored 1 overrun 0 free 64
 released 00 00 00
-";
+"
+);
 
 /// The same plan with the transmitter struck.
-pub const TRANSMITTER_STRUCK: &str = "version = 1
-bits = 200
-turns = [\"node 0 3\", \"node 1 1\", \"rest\", \"node 1 2\"]
-faults = [\"0 60\"]
-[[node]]
-steps = [\"start\", \"load 000000\", \"command 01\"]
-[[node]]
-steps = [\"start\", \"release\", \"release\"]
-";
+pub const TRANSMITTER_STRUCK: &str = struck_plan!("0");
 
 /// Its report: the transmitter takes the frame as failed, and sends it again.
-pub const STORED_TWICE: &str = "sja version 1 bits 132 end turns
-node 0 tec 7 rec 0 steps 3
-step 1 ok
-step 2 ok
-step 3 ok
-activation 1 stored 0 overrun 0 free 64
-node 1 tec 0 rec 0 steps 3
-step 1 ok
-step 2 3
-step 3 3
+pub const STORED_TWICE: &str = struck_report!(
+    "132",
+    "7",
+    "step 3 3
 activation 1 stored 2 overrun 0 free 64
 released 00 00 00
 released 00 00 00
-";
+"
+);
 
 /// What a wave begins with: the declarations of the bus and of node 0.
 pub const DECLARED: &str = "$timescale 100 ns $end
