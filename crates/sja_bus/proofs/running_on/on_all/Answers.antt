@@ -25,10 +25,16 @@ loop-run-init g c =
 pub returns-then-not-are_told-clause-sames : goal.returns-then-not-are_told-clause-sames
 returns-then-not-are_told-clause-sames g c = each_refl g.E.BusEnd.same g.met.E.BusEnd.same_refl c.args.links.now
 
-pub returns-then-not-are_told-clause-bits : goal.returns-then-not-are_told-clause-bits
-returns-then-not-are_told-clause-bits g c = λ left enough.
-    let E = g.E.BusEnd in let B = g.B.Board in
-    none_yet (IsOneBit E.same E.stands B.ports B.facts B.orders_are B.told B.kept) (WorksIf c.args.to_rest) c.args.struck.now.script c.args.from left c.args.seats.now c.args.links.now c.args.board.now
+pub returns-then-not-are_told-clause-runs : goal.returns-then-not-are_told-clause-runs
+returns-then-not-are_told-clause-runs g c =
+    let E = g.E.BusEnd in let B = g.B.Board in let script = c.args.struck.now.script in
+    let at : c.args.from ≡ c.args.from + 0 = omega arith in
+    let P : ℕ → Type 0 = λ n. IsBus script n c.args.seats.now in record {
+      bus = subst P at c.requires.bus;
+      bits = λ left enough.
+          none_yet (IsOneBit E.same E.stands B.ports B.facts B.orders_are B.told B.kept) (WorksIf c.args.to_rest) script
+          c.args.from left c.args.seats.now c.args.links.now c.args.board.now;
+    }
 
 pub tick_all-requires : goal.tick_all-requires
 tick_all-requires g c =
