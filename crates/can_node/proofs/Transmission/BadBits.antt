@@ -10,9 +10,9 @@ use Rattle.can_node.proofs.Transmission.SentBits.{well_front}
 
 -- all goes well before this bit, and with it no more
 pub record IsBad (self_test : Bool) (part : List Level) (before : List Bit) (bad : Bit) : Type 0 where
-  well : GoesWell self_test part before
-  wrong : GoesWell self_test part (before ++ bad ∷ []) → ⊥
-  within : length before < length part + 10
+  pub well : GoesWell self_test part before
+  pub wrong : GoesWell self_test part (before ++ bad ∷ []) → ⊥
+  pub within : length before < length part + 10
 
 -- what goes well and begins as what doesn't is no longer than what goes well of it
 no_further : (self_test : Bool) (part : List Level) (before c other more rest : List Bit) (bad : Bit) →
