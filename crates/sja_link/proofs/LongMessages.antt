@@ -11,8 +11,8 @@ head_long false id rtr dlc rest = omega arith
 head_long true id rtr dlc rest = omega arith
 
 pub message_long : (m : List ℕ) → IsMessage m → 3 ≤ length m
-message_long m h = let f = h.0 in
-    subst (λ (l : List ℕ). 3 ≤ length l) (sym h.2) (head_long f.ext f.id f.rtr f.dlc f.bytes)
+message_long m h =
+    let f = h.0 in subst (λ (l : List ℕ). 3 ≤ length l) (sym h.2) (head_long f.ext f.id f.rtr f.dlc f.bytes)
 
 -- a message that is put has at least three bytes
 abbrev pub IsLong : Event → Type 0

@@ -113,7 +113,8 @@ module _ (w : WorldValue) (h : IsWorld w) where
     up = h.up;
     put_is = h.put_is;
     given_is = h.given_is;
-    sum = let hs = held_sum in let fits = h.fits in let g = given_sum in let gp = given_parts in let ps = put_sum in
+    sum =
+        let hs = held_sum in let fits = h.fits in let g = given_sum in let gp = given_parts in let ps = put_sum in
         omega (arith, hs, fits, g, gp, ps);
     few_down = few_down;
     few_up = few_up;

@@ -206,7 +206,8 @@ world_next w Take h item may =
           ∙ sym (append_assoc w.lists.taken (n.item ∷ []) n.rest) ∙ ap (λ l. l ++ n.rest) (sym n.next_is);
       got_is = h.got_is;
       credits = h.credits;
-      fits = let t = ap (total credit_of) n.next_is in let p = total_push credit_of w.lists.taken n.item in let fits =
+      fits =
+          let t = ap (total credit_of) n.next_is in let p = total_push credit_of w.lists.taken n.item in let fits =
           h.fits in omega (arith, t, p, fits);
       big = h.big;
       off = h.off;

@@ -37,8 +37,8 @@ parsed_number {E} word r h plain few = by_result r (parse_plain own 32 word r h 
     by_test : (b : Bool) → is_number word ≡ b →
         ¬ ((all_ascii_digits word ≡ true) × (0 < length word) × (digits_value 10 word < 2 ^ 32)) → None ≡ number_of word
     by_test false is refused = rw is refl
-    by_test true is refused = let s = spelled word is in
-        absurd (refused (s.digits, s.some, omega (arith, number_small word s)))
+    by_test true is refused =
+        let s = spelled word is in absurd (refused (s.digits, s.some, omega (arith, number_small word s)))
 
     by_result : (r : Result ℕ E) → OkIff r ((all_ascii_digits word ≡ true) × (0 < length word)
         × (digits_value 10 word < 2 ^ 32)) (digits_value 10 word) → result_ok r ≡ number_of word
