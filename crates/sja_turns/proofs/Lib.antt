@@ -25,7 +25,6 @@ pub mod Gathered
 pub mod FirstSteps
 pub mod Turned
 pub mod Standing
-pub mod NextStep
 pub mod Room
 pub mod Refused
 pub mod Paid

@@ -1,6 +1,8 @@
 -- Lists with an element set, and the places of links.
-use Rattle.std.proofs.Common.{◌≡◌, ◌≢◌, ℕ, zero, suc, ◌+◌, ◌*◌, ◌<◌, List, [], ◌∷◌, length, refl, sym, ap, ◌∙◌, subst, append-nil, arith}
+use Rattle.std.proofs.Common.{◌≡◌, ◌≢◌, ℕ, zero, suc, ◌+◌, ◌*◌, ◌<◌, List, [], ◌∷◌, length}
+use Rattle.std.proofs.Common.{refl, sym, ap, ◌∙◌, subst, append-nil, arith, inl, inr}
 use Rattle.std.specs.Prelude.{min, slice_index_or, slice_set}
+use Rattle.std.proofs.lemmas.Bool.{cases_eq}
 use Rattle.sja_link.specs.declared.entry.Entry.{Entry}
 use Rattle.sja_link.specs.Accounts.{account}
 use Rattle.sja_link.specs.Deques.{Deques, Lies}
@@ -9,6 +11,7 @@ use Rattle.sja_driver.specs.declared.logged_driver.LoggedDriver.{LoggedDriver}
 use Rattle.sja_driver.specs.Deeds.{Deed, given_in, deeds_of}
 use Rattle.sja_driver.specs.Holding.{HoldsBy, place_after}
 use Rattle.sja_driver.specs.LoggedDrivers.{driver_of, log_of}
+use Rattle.sja_driver.proofs.Each.{set_here, set_else}
 use Rattle.sja_turns.specs.Serial.{deeds_at, with_deeds}
 
 min_less : (n : ℕ) → min n 7 < 8
@@ -27,6 +30,22 @@ set_same : {A : Type 0} (xs : List A) (i : ℕ) (d : A) → slice_set xs i (slic
 set_same [] i d = refl
 set_same (x ∷ xs) zero d = refl
 set_same (x ∷ xs) (suc i) d = ap (λ l. x ∷ l) (set_same xs i d)
+
+-- what holds of three lists place by place, where one place of each is set anew
+pub each_set : {A B C : Type 0} (P : ℕ → A → B → C → Type 0) (xs : List A) (ys : List B) (zs : List C) (i : ℕ)
+    (x a : A) (y b : B) (z c : C) → i < length xs → i < length ys → i < length zs → P i x y z →
+    ((m : ℕ) → (m ≡ i → ⊥) → P m (slice_index_or xs m a) (slice_index_or ys m b) (slice_index_or zs m c)) →
+    (m : ℕ) → P m (slice_index_or (slice_set xs i x) m a) (slice_index_or (slice_set ys i y) m b)
+    (slice_index_or (slice_set zs i z) m c)
+each_set P xs ys zs i x a y b z c p q r here others m = elim (cases_eq i m) [
+  | inl e ↦
+      subst (λ k. P k (slice_index_or (slice_set xs i x) k a) (slice_index_or (slice_set ys i y) k b)
+      (slice_index_or (slice_set zs i z) k c)) e
+      (rw (set_here xs i x a p, set_here ys i y b q, set_here zs i z c r) here)
+  | inr differ ↦
+      rw (set_else xs i m x a differ, set_else ys i m y b differ, set_else zs i m z c differ)
+      (others m (λ e. differ (sym e)))
+]
 
 pub no_deeds : (deeds : List (List Deed)) (node : ℕ) → with_deeds deeds node [] ≡ deeds
 no_deeds deeds node = ap (slice_set deeds node) (append-nil (deeds_at deeds node)) ∙ set_same deeds node []

@@ -1,24 +1,33 @@
--- A run after a step of one node's driver and a taking: it stands at the deeds that are had more.
-use Rattle.std.proofs.Common.{◌≡◌, ◌≢◌, ℕ, suc, ◌+◌, ◌*◌, ◌<◌, List, [], ◌++◌}
-use Rattle.std.proofs.Common.{length, refl, sym, ap, ◌∙◌, subst, arith, inl, inr}
-use Rattle.std.specs.Prelude.{None, slice_index_or, slice_set}
+-- A run after a step of one node's driver and a taking.
+use Rattle.std.proofs.Common.{◌≡◌, ◌≢◌, ℕ, zero, suc, ◌+◌, ◌*◌, ◌<◌, true, false, List, [], ◌∷◌}
+use Rattle.std.proofs.Common.{◌++◌, length, refl, sym, ap, ◌∙◌, subst, append-nil, arith, inl, inr}
+use Rattle.std.specs.Prelude.{Bool, None, slice_index_or, slice_set}
 use Rattle.std.proofs.lemmas.Bool.{cases_eq}
+use Rattle.sja_link.specs.declared.entry.Entry.{Entry}
+use Rattle.sja_link.specs.Accounts.{Account}
 use Rattle.sja_link.specs.Deques.{Deques, Lies}
 use Rattle.sja_bus.specs.Buses.{KeepsAll, EachJournal, AllDry}
-use Rattle.sja_bus.specs.Links.{per_node, EachRelated}
+use Rattle.sja_bus.specs.Links.{per_node, stops_of, EachRelated}
 use Rattle.sja_bus.specs.OneBit.{HasItems}
 use Rattle.sja_bus.specs.Wire.{journal_at}
+use Rattle.sja_link.specs.Places.{place_of}
+use Rattle.sja_link.specs.Verdicts.{IsLawful as IsLawfulJournal}
 use Rattle.sja_plan.specs.Plan.{PlanValue}
+use Rattle.sja_regs.specs.Facts.{RegisterFacts}
+use Rattle.sja_script.specs.declared.step.Step.{Step}
 use Rattle.sja_regs.specs.declared.registers.Registers.{Registers}
 use Rattle.sja_driver.specs.declared.logged_driver.LoggedDriver.{LoggedDriver}
 use Rattle.sja_driver.specs.Deeds.{Deed}
 use Rattle.sja_driver.specs.Holding.{HoldsBy, place_after, Numbered as NumberedAt}
-use Rattle.sja_driver.specs.LoggedDrivers.{node_of, driver_of, log_of, ended_of}
-use Rattle.sja_driver.proofs.Each.{set_here, set_else}
+use Rattle.sja_driver.specs.LoggedDrivers.{node_of, driver_of, log_of, ended_of, IsLawful, Steps}
+use Rattle.sja_driver.specs.Logs.{HasRoom}
+use Rattle.sja_driver.proofs.Each.{set_here, set_else, index_any}
 use Rattle.sja_turns.specs.Nodes.{IsNode}
-use Rattle.sja_turns.specs.Serial.{SerialValue, steps_at, deeds_at, StandsAt, with_deeds}
-use Rattle.sja_turns.proofs.Slices.{apart, set_length, each_link, each_other}
-use Rattle.sja_turns.proofs.Turned.{idle}
+use Rattle.sja_turns.specs.Serial.{SerialValue, steps_at, deeds_at, StandsAt, HasMore, with_deeds, Does, IsStuck}
+use Rattle.sja_turns.specs.Waiting.{HasToWait}
+use Rattle.sja_turns.proofs.Slices.{apart, set_length, each_set, each_link, each_other}
+use Rattle.sja_turns.proofs.Trying.{shows_none, takes_none}
+use Rattle.sja_turns.proofs.Turned.{idle, stepped, still_journal, same_port, still, waited}
 
 module _ (plan : PlanValue) (r n : SerialValue) (deeds : List (List Deed)) (node : ℕ) (h : StandsAt plan r deeds)
     (there : node < length plan.nodes) (given : List Deques) (was now : LoggedDriver) (q : Registers) (none : Deques)
@@ -95,21 +104,14 @@ module _ (plan : PlanValue) (r n : SerialValue) (deeds : List (List Deed)) (node
         (each m d p less));
   }
     where
-      here_driver : (d : LoggedDriver) → slice_index_or (slice_set r.drivers node now) node d ≡ now
-      here_driver d = let c = h.count.drivers in set_here r.drivers node now d (omega (arith, c, there))
-
-      here_port : (p : Registers) → slice_index_or (slice_set r.ports node q) node p ≡ q
-      here_port p = let c = h.count.ports in set_here r.ports node q p (omega (arith, c, there))
-
-      here_deeds : deeds_at (with_deeds deeds node more) node ≡ deeds_at deeds node ++ more
-      here_deeds = let c =
-          h.deeds_count in set_here deeds node (deeds_at deeds node ++ more) [] (omega (arith, c, there))
+      few : node < length r.drivers
+      few = let c = h.count.drivers in omega (arith, c, there)
 
       owner : (m : ℕ) (d : LoggedDriver) → m < length plan.nodes →
           node_of (slice_index_or (slice_set r.drivers node now) m d) ≡ m
       owner m d less = elim (cases_eq node m) [
         | inl e ↦ subst (λ (x : ℕ). node_of (slice_index_or (slice_set r.drivers node now) x d) ≡ x) e
-            (ap node_of (here_driver d) ∙ whose)
+            (ap node_of (set_here r.drivers node now d few) ∙ whose)
         | inr differ ↦ ap node_of (set_else r.drivers node m now d differ) ∙ h.own m d less
       ]
 
@@ -117,29 +119,120 @@ module _ (plan : PlanValue) (r n : SerialValue) (deeds : List (List Deed)) (node
           IsNode plan.version (steps_at plan m) (journal_at n.bus.journals m) (deeds_at (with_deeds deeds node more) m)
           (slice_index_or (slice_set r.drivers node now) m d) (slice_index_or (slice_set r.ports node q) m p)
           n.links (8 * m)
-      each m d p less = elim (cases_eq node m) [
-        | inl e ↦
-            let P : ℕ → Type 0 = λ x. IsNode plan.version (steps_at plan x) (journal_at n.bus.journals x)
-            (deeds_at (with_deeds deeds node more) x) (slice_index_or (slice_set r.drivers node now) x d)
-            (slice_index_or (slice_set r.ports node q) x p) n.links (8 * x) in
-            subst P e
-            (subst (λ (ds : List Deed). IsNode plan.version (steps_at plan node) (journal_at n.bus.journals node) ds
-            (slice_index_or (slice_set r.drivers node now) node d) (slice_index_or (slice_set r.ports node q) node
-            p) n.links (8 * node)) (sym here_deeds)
-            (subst (λ (x : LoggedDriver). IsNode plan.version (steps_at plan node) (journal_at n.bus.journals node)
-            (deeds_at deeds node ++ more) x (slice_index_or (slice_set r.ports node q) node p) n.links (8 * node))
-            (sym (here_driver d))
-            (subst (λ (x : Registers). IsNode plan.version (steps_at plan node) (journal_at n.bus.journals node)
-            (deeds_at deeds node ++ more) now x n.links (8 * node)) (sym (here_port p)) node_after)))
-        | inr differ ↦
-            subst (λ (ds : List Deed). IsNode plan.version (steps_at plan m) (journal_at n.bus.journals m) ds
-            (slice_index_or (slice_set r.drivers node now) m d) (slice_index_or (slice_set r.ports node q) m p)
-            n.links (8 * m)) (sym (set_else deeds node m (deeds_at deeds node ++ more) [] differ))
-            (subst (λ (x : LoggedDriver). IsNode plan.version (steps_at plan m) (journal_at n.bus.journals m)
-            (deeds_at deeds m) x (slice_index_or (slice_set r.ports node q) m p) n.links (8 * m)) (sym
-            (set_else r.drivers node m now d differ))
-            (subst (λ (x : Registers). IsNode plan.version (steps_at plan m) (journal_at n.bus.journals m)
-            (deeds_at deeds m) (slice_index_or r.drivers m d) x n.links (8 * m)) (sym
-            (set_else r.ports node m q p differ))
-            (other_node m d p (λ e. differ (sym e)) less)))
-      ]
+      each m d p less =
+          let P : ℕ → List Deed → LoggedDriver → Registers → Type 0 = λ k ds w g. k < length plan.nodes →
+          IsNode plan.version (steps_at plan k) (journal_at n.bus.journals k) ds w g n.links (8 * k) in
+          let c = h.deeds_count in let e = h.count.ports in
+          each_set P deeds r.drivers r.ports node (deeds_at deeds node ++ more) [] now d q p
+          (omega (arith, c, there)) few (omega (arith, e, there)) (λ t. node_after)
+          (λ k differ near. other_node k d p differ near) m less
+
+  inside : node < length r.bus.journals
+  inside = let c = h.count.journals in omega (arith, c, there)
+
+  now_inside : node < length n.bus.journals
+  now_inside = let i = inside in omega (arith, i, journals)
+
+  more_items : (m : ℕ) → m < length plan.nodes → HasMore (journal_at r.bus.journals m) (journal_at n.bus.journals m)
+  more_items m less =
+      let c = h.count.journals in let its = items m (omega (arith, c, less)) in
+      record { items = its.items; whole = its.whole }
+
+  -- the step was done
+  pub next_done : (p : Registers) (one : Step) → IsNode plan.version (steps_at plan node)
+      (journal_at r.bus.journals node) (deeds_at deeds node) was p r.links (8 * node) →
+      IsLawfulJournal (journal_at r.bus.journals node) →
+      RegisterFacts p → length (deeds_at deeds node) < length (steps_at plan node) →
+      one ≡ slice_index_or (steps_at plan node) (length (deeds_at deeds node)) one → IsLawful now →
+      (place_of (journal_at r.bus.journals node)).bits ≡ r.bits → Steps Lies shows_none takes_none was now r.links given
+      (8 * node) p q one r.bits true → ((m : ℕ) → HasRoom (m + 1) (log_of was) → HasRoom m (log_of now)) →
+      (d : Deed) × Does plan r n node deeds (d ∷ [])
+  next_done p one w lawful facts left is now_lawful place st room =
+      let at : Steps Lies shows_none takes_none was now r.links given (8 * node) p q one
+      (place_of (journal_at r.bus.journals node)).bits true =
+      subst (λ (b : ℕ). Steps Lies shows_none takes_none was now r.links given (8 * node) p q one b true) (sym place)
+      st in
+      let s = stepped plan.version (steps_at plan node) (journal_at r.bus.journals node)
+      (journal_at n.bus.journals node) (deeds_at deeds node) was now p q r.links given n.links (8 * node) one none w
+      lawful facts left is now_lawful
+      (items node inside) (λ acc. kept node acc inside) (λ few. dry node none now_inside few) at room in (
+        s.deed,
+        record {
+          stands = stands_after (s.deed ∷ []) s.node;
+          at_once =
+              λ i d less. only s.deed i d (s.bits ∙ place) less;
+          bits = bits_are;
+          items = more_items;
+        },
+      )
+    where
+      only : (x : Deed) (i : ℕ) (d : Deed) → x.bits ≡ r.bits → i < 1 → (slice_index_or (x ∷ []) i d).bits ≡ r.bits
+      only x zero d e less = e
+      only x (suc i) d e less = absurd (omega (arith, less))
+
+  -- the step has to wait
+  pub next_waits : (p : Registers) (one : Step) → IsNode plan.version (steps_at plan node)
+      (journal_at r.bus.journals node) (deeds_at deeds node) was p r.links (8 * node) →
+      IsLawfulJournal (journal_at r.bus.journals node) →
+      length (deeds_at deeds node) < length (steps_at plan node) → one ≡ slice_index_or (steps_at plan node)
+      (length (deeds_at deeds node)) one → IsLawful now →
+      (place_of (journal_at r.bus.journals node)).bits ≡ r.bits → Steps Lies shows_none takes_none was now r.links given
+      (8 * node) p q one r.bits false → ((m : ℕ) → HasRoom m (log_of was) → HasRoom m (log_of now)) →
+      Does plan r n node deeds [] × IsStuck plan n deeds node
+  next_waits p one w lawful left is now_lawful place st room =
+      let at : Steps Lies shows_none takes_none was now r.links given (8 * node) p q one
+      (place_of (journal_at r.bus.journals node)).bits false =
+      subst (λ (b : ℕ). Steps Lies shows_none takes_none was now r.links given (8 * node) p q one b false) (sym place)
+      st in
+      let j = journal_at r.bus.journals node in let k = journal_at n.bus.journals node in let ds =
+      deeds_at deeds node in
+      let its = items node inside in let keeps = λ (acc : ℕ → Account). kept node acc inside in
+      let shows : stops_of k < 8 → (slice_index_or n.links (8 * node + stops_of k) none).up ≡ [] =
+      λ few. dry node none now_inside few in
+      let same = still_journal plan.version (steps_at plan node) j k ds was now p q r.links given n.links (8 * node) one
+      none w lawful now_lawful its keeps shows at room in
+      let port = same_port plan.version (steps_at plan node) j k ds was now p q r.links given n.links (8 * node) one
+      none w lawful now_lawful its keeps shows at room in
+      let after = still plan.version (steps_at plan node) j k ds was now p q r.links given n.links (8 * node) one none w
+      lawful now_lawful its keeps shows at room in
+      let why = waited plan.version (steps_at plan node) j k ds was now p q r.links given n.links (8 * node) one none w
+      lawful now_lawful its keeps shows at room in
+      let more : IsNode plan.version (steps_at plan node) k (ds ++ []) now q n.links (8 * node) =
+      subst (λ (l : List Deed). IsNode plan.version (steps_at plan node) k l now q n.links (8 * node))
+      (sym (append-nil ds)) after in (
+        record {
+          stands = stands_after [] more;
+          at_once = λ i d less. absurd (omega (arith, less));
+          bits = bits_are;
+          items = more_items;
+        },
+        inr (λ s x.
+            let c = h.count.ports in
+            let port_is : p ≡ slice_index_or n.ports node x =
+            sym port ∙ sym (set_here r.ports node q x (omega (arith, c, there)))
+            ∙ ap (λ l. slice_index_or l node x) (sym ports_are) in
+            let step_is : one ≡ slice_index_or (steps_at plan node) (length ds) s =
+            is ∙ index_any (steps_at plan node) (length ds) one s left in
+            subst (λ (l : List Entry). HasToWait l ds (slice_index_or n.ports node x)
+            (slice_index_or (steps_at plan node) (length ds) s)) (sym same)
+            (subst (λ (g : Registers). HasToWait j ds g (slice_index_or (steps_at plan node) (length ds) s)) port_is
+            (subst (λ (t : Step). HasToWait j ds p t) step_is why))),
+      )
+
+  -- either of both
+  pub next_tried : (p : Registers) (one : Step) (b : Bool) →
+      IsNode plan.version (steps_at plan node) (journal_at r.bus.journals node) (deeds_at deeds node) was p r.links
+      (8 * node) →
+      IsLawfulJournal (journal_at r.bus.journals node) → RegisterFacts p →
+      length (deeds_at deeds node) < length (steps_at plan node) →
+      one ≡ slice_index_or (steps_at plan node) (length (deeds_at deeds node)) one → IsLawful now →
+      (place_of (journal_at r.bus.journals node)).bits ≡ r.bits →
+      Steps Lies shows_none takes_none was now r.links given (8 * node) p q one r.bits b →
+      ((m : ℕ) → HasRoom (m + 1) (log_of was) → HasRoom m (log_of now)) →
+      (b ≡ false → (m : ℕ) → HasRoom m (log_of was) → HasRoom m (log_of now)) →
+      (b ≡ true → (d : Deed) × Does plan r n node deeds (d ∷ []))
+      × (b ≡ false → Does plan r n node deeds [] × IsStuck plan n deeds node)
+  next_tried p one true w lawful facts left is now_lawful place st room still_room =
+      (λ e. next_done p one w lawful facts left is now_lawful place st room, λ e. absurd cc)
+  next_tried p one false w lawful facts left is now_lawful place st room still_room =
+      (λ e. absurd cc, λ e. next_waits p one w lawful left is now_lawful place st (still_room refl))

@@ -10,7 +10,7 @@ use Rattle.sja_driver.specs.LoggedDrivers.{node_of}
 use Rattle.sja_driver.specs.Logs.{done_in}
 use Rattle.sja_driver.proofs.Each.{index_any}
 use Rattle.sja_turns.specs.Serial.{run_now, steps_at, deeds_at, StandsAt, Does, IsStuck}
-use Rattle.sja_turns.proofs.NextStep.{next_tried}
+use Rattle.sja_turns.proofs.Standing.{next_tried}
 use Rattle.sja_turns.proofs.Taken.{gather_takes}
 use Rattle.sja_turns.proofs.stepping.try_next.Goals as goal
 
