@@ -8,9 +8,6 @@ use std::time::Duration;
 /// So often a thread waits without a park.
 const SHORT: u32 = 100;
 
-/// A park's length in microseconds; the system makes about a hundred of them.
-const PARK_MICROS: u64 = 50;
-
 /// After them a driver parks at each try whose number this divides.
 const PARK_EACH: u32 = 16;
 
@@ -23,6 +20,9 @@ const PARK_EACH_LATE: u32 = 512;
 /// And it yields at each whose number this divides.
 const YIELD_EACH_LATE: u32 = 8;
 
+/// A park's length in microseconds; the system makes about a hundred of them.
+const PARK_MICROS: u64 = 50;
+
 /// Parks a little. The parker is the thread's own.
 fn park(rt: &impl Wait, parker: &Parker) {
     parker.park_timeout(rt, Duration::from_micros(PARK_MICROS));
@@ -30,8 +30,8 @@ fn park(rt: &impl Wait, parker: &Parker) {
 
 /// Waits after a driver's try in vain, which has this number. It yields, but after the first hundred tries it parks at
 /// each 16th. From try 131,072 on, after a second, it parks at each 512th, yields at each other 8th, and tries again at
-/// once after the rest. So a second of waiting costs a fifth of a core, and ten million tries end within 15 seconds,
-/// with eight drivers on four cores too.
+/// once after the rest. So a second of waiting costs less than a fifth of a core, and ten million tries end within 15
+/// seconds, with eight drivers on four cores too.
 pub(crate) fn wait_to_try(rt: &impl Wait, parker: &Parker, tries: u32) {
     let (parks, yields) = if tries < LATE {
         (PARK_EACH, 1)
