@@ -16,6 +16,9 @@ numbered_eight link node e1 e2 e3 e4 e5 e6 e7 e8 p1 p2 p3 p4 p5 p6 p7 p8 (suc (s
 numbered_eight link node e1 e2 e3 e4 e5 e6 e7 e8 p1 p2 p3 p4 p5 p6 p7 p8 (suc (suc (suc zero))) d few = p4
 numbered_eight link node e1 e2 e3 e4 e5 e6 e7 e8 p1 p2 p3 p4 p5 p6 p7 p8 (suc (suc (suc (suc zero)))) d few = p5
 numbered_eight link node e1 e2 e3 e4 e5 e6 e7 e8 p1 p2 p3 p4 p5 p6 p7 p8 (suc (suc (suc (suc (suc zero))))) d few = p6
-numbered_eight link node e1 e2 e3 e4 e5 e6 e7 e8 p1 p2 p3 p4 p5 p6 p7 p8 (suc (suc (suc (suc (suc (suc zero)))))) d few = p7
-numbered_eight link node e1 e2 e3 e4 e5 e6 e7 e8 p1 p2 p3 p4 p5 p6 p7 p8 (suc (suc (suc (suc (suc (suc (suc zero))))))) d few = p8
-numbered_eight link node e1 e2 e3 e4 e5 e6 e7 e8 p1 p2 p3 p4 p5 p6 p7 p8 (suc (suc (suc (suc (suc (suc (suc (suc a)))))))) d few = absurd (omega arith)
+numbered_eight link node e1 e2 e3 e4 e5 e6 e7 e8 p1 p2 p3 p4 p5 p6 p7 p8
+    (suc (suc (suc (suc (suc (suc zero)))))) d few = p7
+numbered_eight link node e1 e2 e3 e4 e5 e6 e7 e8 p1 p2 p3 p4 p5 p6 p7 p8
+    (suc (suc (suc (suc (suc (suc (suc zero))))))) d few = p8
+numbered_eight link node e1 e2 e3 e4 e5 e6 e7 e8 p1 p2 p3 p4 p5 p6 p7 p8
+    (suc (suc (suc (suc (suc (suc (suc (suc a)))))))) d few = absurd (omega arith)

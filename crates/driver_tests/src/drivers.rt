@@ -1,5 +1,6 @@
 //! Drivers: starts and stops, windows, what comes back, and the steps of a script.
 
+mod apart;
 mod each_given_back;
 mod endless;
 mod given;

@@ -1,27 +1,13 @@
 //! Scripts over the eight links of a node: each step's answer, and what the log says.
 
-use super::given::{message, scripted};
+use super::given::{answers, message, scripted};
 use can_frame::Message;
-use sja_driver::{LoggedDriver, Release};
+use sja_driver::Release;
 use sja_link::Down;
 use sja_regs::Port;
-use sja_script::{Done, Refusal, Step, StepAnswer};
+use sja_script::{Refusal, Step, StepAnswer};
 use std::alloc::Global;
 use std::test::Fail;
-
-/// The steps done answered so, each after 7 bits.
-fn answers(driver: &LoggedDriver, wanted: &[StepAnswer]) -> bool {
-    let done = driver.log().done();
-    if done.len() != wanted.len() {
-        return false;
-    }
-    for (one, answer) in done.iter().zip(wanted) {
-        if one.answer != *answer || one.bits != 7 {
-            return false;
-        }
-    }
-    true
-}
 
 /// Eight times a start and a stop, and a ninth start.
 fn nine_starts(alloc: Global) -> Result<Vec<Step>, Fail> {
@@ -41,7 +27,7 @@ fn a_node_has_eight_activations(rt: HostRuntime) -> Result<(), Fail> {
     if script.len() > 100 {
         return Err(Fail::new(format_args!("too long")));
     }
-    let driver = scripted(rt.alloc(), &mut port, &[], script.as_slice())?;
+    let driver = scripted(rt.alloc(), &mut port, &[], script.as_slice(), false)?;
     let mut wanted = Vec::new(rt.alloc());
     for _ in 0..16 {
         wanted.push(StepAnswer::Done)?;
@@ -66,7 +52,7 @@ fn a_step_of_the_other_state_is_refused(rt: HostRuntime) -> Result<(), Fail> {
         Step::Start,
         Step::Start,
     ];
-    let driver = scripted(rt.alloc(), &mut port, &[], &script)?;
+    let driver = scripted(rt.alloc(), &mut port, &[], &script, false)?;
     let wrong = || StepAnswer::Refused(Refusal::WrongState);
     let wanted = [
         wrong(),
@@ -98,7 +84,7 @@ fn the_registers_refuse_by_name(rt: HostRuntime) -> Result<(), Fail> {
         Step::Load(Message::default()),
         Step::Read(2),
     ];
-    let driver = scripted(rt.alloc(), &mut port, &[], &script)?;
+    let driver = scripted(rt.alloc(), &mut port, &[], &script, false)?;
     let wanted = [
         StepAnswer::Done,
         StepAnswer::Refused(Refusal::ResetOnly),
@@ -131,7 +117,7 @@ fn messages_are_awaited_shown_and_released(rt: HostRuntime) -> Result<(), Fail> 
         Step::Start,
         Step::Window,
     ];
-    let driver = scripted(rt.alloc(), &mut port, &put, &script)?;
+    let driver = scripted(rt.alloc(), &mut port, &put, &script, false)?;
     let wanted = [
         StepAnswer::Done,
         StepAnswer::Done,
@@ -160,7 +146,7 @@ fn messages_are_awaited_shown_and_released(rt: HostRuntime) -> Result<(), Fail> 
 fn a_request_is_sent_once_the_buffer_is_released(rt: HostRuntime) -> Result<(), Fail> {
     let mut port = Port::new(1);
     let script = [Step::Start, Step::Sent, Step::Command(0x01), Step::Sent];
-    let driver = scripted(rt.alloc(), &mut port, &[], &script)?;
+    let driver = scripted(rt.alloc(), &mut port, &[], &script, false)?;
     let wanted = [StepAnswer::Done, StepAnswer::Done, StepAnswer::Done];
     assert!(rt; answers(&driver, &wanted));
     Ok(())
@@ -179,7 +165,7 @@ fn with_the_bits_spent_a_wait_is_given_up(rt: HostRuntime) -> Result<(), Fail> {
         Step::Command(0x01),
         Step::Sent,
     ];
-    let driver = scripted(rt.alloc(), &mut port, &put, &script)?;
+    let driver = scripted(rt.alloc(), &mut port, &put, &script, false)?;
     let wanted = [
         StepAnswer::Done,
         StepAnswer::Done,
@@ -202,7 +188,7 @@ fn after_bus_off_steps_are_stopped(rt: HostRuntime) -> Result<(), Fail> {
         Step::Await(1),
         Step::Stop,
     ];
-    let driver = scripted(rt.alloc(), &mut port, &put, &script)?;
+    let driver = scripted(rt.alloc(), &mut port, &put, &script, false)?;
     let stopped = || StepAnswer::Refused(Refusal::Stopped);
     let wanted = [
         StepAnswer::Done,
@@ -219,11 +205,11 @@ fn after_bus_off_steps_are_stopped(rt: HostRuntime) -> Result<(), Fail> {
 fn self_reception_is_of_later_versions(rt: HostRuntime) -> Result<(), Fail> {
     let script = [Step::Write(0, 0x05), Step::Start, Step::Command(0x10)];
     let mut first = Port::new(1);
-    let driver = scripted(rt.alloc(), &mut first, &[], &script)?;
+    let driver = scripted(rt.alloc(), &mut first, &[], &script, false)?;
     let refused = || StepAnswer::Refused(Refusal::NotInVersion);
     assert!(rt; answers(&driver, &[refused(), StepAnswer::Done, refused()]));
     let mut later = Port::new(2);
-    let driver = scripted(rt.alloc(), &mut later, &[], &script)?;
+    let driver = scripted(rt.alloc(), &mut later, &[], &script, false)?;
     assert!(rt;
         answers(
             &driver,

@@ -59,8 +59,8 @@ fn a_start_asks_for_the_link_of_the_next_activation(rt: HostRuntime) -> Result<(
     Ok(())
 }
 
-/// Outside reset mode a write to the acceptance filter goes to the transmit buffer,
-/// and after a stop back to the filter.
+/// Outside reset mode a write to the acceptance filter goes to the transmit buffer, and after a stop back to the
+/// filter.
 #[test]
 fn a_driver_writes_what_its_state_shows(rt: HostRuntime) -> Result<(), Fail> {
     let mut port = Port::new(1);

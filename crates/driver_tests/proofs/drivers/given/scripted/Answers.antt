@@ -3,8 +3,8 @@ use Rattle.sja_link.specs.Deques.{Deques}
 use Rattle.sja_driver.specs.Holding.{Numbered}
 use Rattle.driver_tests.proofs.drivers.given.scripted.Goals as goal
 
-pub step-requires : goal.step-requires
-step-requires c =
+pub tried-requires : goal.tried-requires
+tried-requires c =
     let i = c.loop-step.invariant in
     record {
       lawful = i.0;
@@ -16,9 +16,9 @@ step-requires c =
 pub loop-step-preserved : goal.loop-step-preserved
 loop-step-preserved c =
     let i = c.loop-step.invariant in
-    let e = c.step.ensures.stays in (
+    let e = c.tried.ensures in (
       e.lawful,
       e.node ∙ i.1,
-      subst (λ (node : ℕ). Numbered (λ (s : Deques). s.link) c.step.new.links 0 node) (e.node ∙ i.1) e.ids,
+      subst (λ (node : ℕ). Numbered (λ (s : Deques). s.link) c.tried.new.links 0 node) (e.node ∙ i.1) e.ids,
       λ k h. e.room k (i.3 (k + 1) (omega (arith, h))),
     )
