@@ -49,6 +49,7 @@ pub mod FewLying
 pub mod Unstopped
 pub mod SomeBits
 pub mod ManyBits
+pub mod Borrowed
 -- the turns of a whole run
 pub mod Counts
 pub mod Onward

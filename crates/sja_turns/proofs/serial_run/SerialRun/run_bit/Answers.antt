@@ -1,10 +1,11 @@
-use Rattle.std.proofs.Common.{◌≡◌, ◌+◌, ◌<◌, refl, sym, ◌∙◌, subst, arith}
+use Rattle.std.proofs.Common.{◌≡◌, ◌+◌, refl, sym, subst, arith}
 use Rattle.std.proofs.lemmas.List.{with_items_is}
 use Rattle.std.specs.Vec.{with_items}
 use Rattle.sja_bus.specs.Boards.{HasOrders}
 use Rattle.sja_turns.specs.Bits.{TakesBit}
 use Rattle.sja_turns.specs.Serial.{SerialValue, StandsAt, run_now}
 use Rattle.sja_turns.proofs.BitRun.{cuts_of, takes_bit}
+use Rattle.sja_turns.proofs.Borrowed.{run_is, stands_there}
 use Rattle.sja_turns.proofs.Unstopped.{never_stops}
 use Rattle.sja_turns.proofs.serial_run.SerialRun.run_bit.Goals as goal
 
@@ -14,8 +15,8 @@ returns c = λ deeds h.
     let ports = c.self.inside.board.ports.items in let bits = c.self.inside.bits in
     let r = run_now bus drivers ports c.as_mut_slice.result.now bits in
     let n = run_now c.bit.new.self drivers c.bit.new.board.ports.items c.bit.new.links (bits + 1) in
-    let was : r ≡ c.args.self.now = (λ i. run_now bus drivers ports (c.as_mut_slice.ensures.value i) bits)
-    ∙ c.self.view_is in
+    let was : r ≡ c.args.self.now = run_is bus drivers ports c.as_mut_slice.result.now c.self.inside.links.items bits
+    c.args.self.now c.as_mut_slice.ensures.value c.self.view_is in
     let stood : StandsAt c.args.plan.now r deeds = subst (λ (x : SerialValue). StandsAt c.args.plan.now x deeds)
     (sym was) h in
     let t : TakesBit c.args.plan.now deeds r n = takes_bit c.args.plan.now r n deeds stood c.in-Ok.ensures.right
@@ -32,15 +33,9 @@ returns c = λ deeds h.
 
 pub unreachable-requires : goal.unreachable-requires
 unreachable-requires c =
-    let bus = c.self.inside.bus in let drivers = c.self.inside.drivers.items in
-    let ports = c.self.inside.board.ports.items in let bits = c.self.inside.bits in
-    let r = run_now bus drivers ports c.as_mut_slice.result.now bits in
-    let was : r ≡ c.args.self.now = (λ i. run_now bus drivers ports (c.as_mut_slice.ensures.value i) bits)
-    ∙ c.self.view_is in
-    let deeds = c.requires.run.0 in
-    let stood : StandsAt c.args.plan.now r deeds = subst (λ (x : SerialValue). StandsAt c.args.plan.now x deeds)
-    (sym was) c.requires.run.1 in
-    let left : r.bits < c.args.plan.now.bits = subst (λ (x : SerialValue). x.bits < c.args.plan.now.bits)
-    (sym was) c.requires.left in
-    never_stops c.args.plan.now r deeds stood left (c.keeps_its_laws.ensures stood.right) c.limits.ensures
-    (HasOrders ports) c.bit.new.self c.bit.new.links _ (c.in-Err.ensures.reason stood.right)
+    let b = c.self.inside in let slice = c.as_mut_slice.result.now in
+    let there = stands_there b.bus b.drivers.items b.board.ports.items slice b.links.items b.bits c.args.self.now
+    c.as_mut_slice.ensures.value c.self.view_is c.args.plan.now c.requires.run c.requires.left in
+    never_stops c.args.plan.now (run_now b.bus b.drivers.items b.board.ports.items slice b.bits) there.0 there.1
+    there.2 (c.keeps_its_laws.ensures there.1.right) c.limits.ensures (HasOrders b.board.ports.items) c.bit.new.self
+    c.bit.new.links _ (c.in-Err.ensures.reason there.1.right)
