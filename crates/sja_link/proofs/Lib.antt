@@ -12,3 +12,4 @@ pub mod Counting
 pub mod Keeping
 pub mod Holding
 pub mod Skipping
+pub mod Blocks

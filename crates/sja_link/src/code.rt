@@ -1,11 +1,15 @@
 //! The codes of a journal, one byte an entry.
 
 ghost use Rattle.std.specs.Prelude.{◌≡◌, ◌≤◌, [], ◌∷◌, length};
+ghost use Rattle.std.specs.List.{list_all};
 ghost use Rattle.sja_link.specs.declared.entry.Entry.TheVariants.{Bit};
-ghost use Rattle.sja_link.specs.Kept.Codes.{bits_before};
+ghost use Rattle.sja_link.specs.Kept.Codes.{bits_before, is_bit};
 
 use can_bits::Level;
 use std::mem::size_of;
+
+/// How many codes are compared at once.
+const BLOCK: usize = 32;
 
 // A journal keeps one byte an entry.
 const _: () = prove!(size_of::<Code>() == 1);
@@ -71,8 +75,31 @@ impl Code {
     }
 }
 
-/// How many of these codes stand before the first one that is no bit.
+/// How many of these codes stand before the first one that is no bit. Whole blocks of bits are passed over first.
 pub(crate) fn leading_bits(codes: &[Code]) -> usize
+    ensures count { result ≡ bits_before codes.now }
+    ensures few { result ≤ length codes.now }
+{
+    let mut bits = 0;
+    while codes.len() - bits >= BLOCK && are_bits(&codes[bits..bits + BLOCK]) {
+        bits += BLOCK;
+    }
+    bits + bits_one_by_one(&codes[bits..])
+}
+
+/// Whether all of these codes are bits. It looks at each of them, so that many can be compared at once.
+fn are_bits(codes: &[Code]) -> bool
+    ensures { result ≡ list_all is_bit codes.now }
+{
+    let mut all = true;
+    for code in codes {
+        all &= code.is_bit();
+    }
+    all
+}
+
+/// How many of these codes stand before the first one that is no bit.
+fn bits_one_by_one(codes: &[Code]) -> usize
     ensures count { result ≡ bits_before codes.now }
     ensures few { result ≤ length codes.now }
 {
