@@ -1,5 +1,6 @@
 -- All nodes of a bus, by their journals (this project's own rule).
-use Rattle.std.specs.Prelude.{◌≡◌, ◌⊎◌, ◌+◌, ◌*◌, ◌<◌, ℕ, Bool, false, Option, None, List, [], length, replicate, slice_index_or}
+use Rattle.std.specs.Prelude.{◌≡◌, ◌⊎◌, ◌+◌, ◌*◌, ◌<◌, ℕ, Bool, false, Option}
+use Rattle.std.specs.Prelude.{None, List, [], length, replicate, slice_index_or}
 use Rattle.can_bits.specs.declared.level.Level.{Level}
 use Rattle.can_bits.specs.declared.level.Level.TheVariants.{Recessive}
 use Rattle.sja_link.specs.declared.entry.Entry.{Entry}
@@ -49,7 +50,8 @@ EachJournal R before after =
     (node : ℕ) → node < length before → R (journal_at before node) (journal_at after node)
 
 -- of each node, and whatever its driver got and gave: its links stand for its journal now, where they did before
-abbrev pub KeepsAll : {E : Type 0} → (E → Lists → Type 0) → List (List Entry) → List (List Entry) → List E → List E → Type 0
+abbrev pub KeepsAll : {E : Type 0} → (E → Lists → Type 0) → List (List Entry) → List (List Entry) →
+    List E → List E → Type 0
 KeepsAll {E} stands before after links links_after =
     (node : ℕ) (h : ℕ → Account) → node < length before →
     Kept stands (journal_at before node) links (per_node * node) h →

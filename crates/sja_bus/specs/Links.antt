@@ -56,13 +56,15 @@ pub record Goes {E : Type 0} (same : E → E → Type 0) (stands : E → Lists �
     (links after : List E) (base : ℕ) : Type 0 where
   pub sames : EachRelated same links after
   pub kept : (h : ℕ → Account) → Kept stands j links base h → Kept stands k after base h
-  pub others : (i : ℕ) (d : E) → (i < base) ⊎ (base + per_node ≤ i) → slice_index_or after i d ≡ slice_index_or links i d
+  pub others : (i : ℕ) (d : E) → (i < base) ⊎ (base + per_node ≤ i) →
+      slice_index_or after i d ≡ slice_index_or links i d
   pub grows : Grows j k
 
 -- the links from this place on are those of this node
 abbrev pub AreOf : {E : Type 0} → (E → LinkId) → ℕ → List E → ℕ → Type 0
 AreOf {E} link node links base =
-    (a : ℕ) (d : E) → a < per_node → link (slice_index_or links (base + a) d) ≡ record { node = node; activation = suc a }
+    (a : ℕ) (d : E) → a < per_node →
+    link (slice_index_or links (base + a) d) ≡ record { node = node; activation = suc a }
 
 -- the links are those of the nodes in order, eight of each
 abbrev pub Numbered : {E : Type 0} → (E → LinkId) → List E → Type 0

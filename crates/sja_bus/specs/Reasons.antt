@@ -43,9 +43,9 @@ pub record RefusesItem {E : Type 0} (stands : E → Lists → Type 0) (room : �
 
 -- ---- a node whose bit broke off
 
--- the end of one of its links had no room for a message or for bus-off: whatever its driver got and gave, where its links
--- stood for its journal before, that end stood for it then. The journal's verdicts are right beside the frames that its
--- node received, and in the link's activation no bus-off was entered
+-- the end of one of its links had no room for a message or for bus-off: whatever its driver got and gave, where its
+-- links stood for its journal before, that end stood for it then. The journal's verdicts are right beside the frames
+-- that its node received, and in the link's activation no bus-off was entered
 pub record GivesBack {E : Type 0} (stands : E → Lists → Type 0) (full : E → Type 0) (before j : List Entry)
     (links : List E) (base : ℕ) : Type 0 where
   pub place : ℕ

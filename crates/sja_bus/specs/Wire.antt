@@ -1,5 +1,5 @@
--- The wire: what the nodes of a bus drive and see together (Bosch CAN 2.0 part A section 2, "Bus values"; strikes are this
--- project's own rule).
+-- The wire: what the nodes of a bus drive and see together (Bosch CAN 2.0 part A section 2, "Bus values"; strikes are
+-- this project's own rule).
 use Rattle.std.specs.Prelude.{◌≡◌, ◌<◌, ℕ, List, [], ◌∷◌, length, map, slice_index_or}
 use Rattle.can_bits.specs.declared.level.Level.{Level}
 use Rattle.can_bits.specs.declared.level.Level.TheVariants.{Dominant, Recessive}

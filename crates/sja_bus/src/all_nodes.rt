@@ -1,11 +1,13 @@
 //! What all nodes of a bus do in one bit, node after node.
 
-ghost use Rattle.std.specs.Prelude.{◌≡◌, ◌*◌, ◌<◌, ◌≤◌, ◌+◌, if◌then◌else◌, ℕ, List, false, [], ◌∷◌, length, IfOk, OnOk, IfErr, ◌⊎◌};
+ghost use Rattle.std.specs.Prelude.{◌≡◌, ◌*◌, ◌<◌, ◌≤◌, ◌+◌, if◌then◌else◌, ℕ, List};
+ghost use Rattle.std.specs.Prelude.{false, [], ◌∷◌, length, IfOk, OnOk, IfErr, ◌⊎◌};
 ghost use Rattle.sja_regs.specs.declared.bus_turn.BusTurn.{BusTurn as Turn};
 ghost use Rattle.can_bits.specs.Digits.{opposite};
 ghost use Rattle.sja_bus.specs.Wire.{wired};
 ghost use Rattle.sja_bus.specs.Links.{EachRelated, Numbered};
-ghost use Rattle.sja_bus.specs.Inside.Rows.{AreReady, AreSeated, AreTold, EachSeat, SeatTakes, SeatNews, SeatOpens, SeatOpensNews, SeatTurns, GoesAll, AllRead, driven_by};
+ghost use Rattle.sja_bus.specs.Inside.Rows.{AreReady, AreSeated, AreTold, EachSeat, SeatTakes, SeatNews};
+ghost use Rattle.sja_bus.specs.Inside.Rows.{SeatOpens, SeatOpensNews, SeatTurns, GoesAll, AllRead, driven_by};
 ghost use Rattle.sja_bus.specs.Boards.{KeepsOthers};
 ghost use Rattle.sja_bus.specs.declared.seat.Seat.{Seat as Seated};
 ghost use Rattle.sja_bus.specs.Inside.Underway.{IsUnderway};
@@ -124,7 +126,8 @@ fn tick_from<E: BusEnd, B: Board>(
     ensures row { OnOk result ((before : List Seated) (given : List E) (was : B) →
         IsUnderway E.same E.stands B.ports B.told B.kept struck level before given was first
         seats.old links.old board.old →
-        (k : ℕ) × (length seats.new ≤ k) × IsUnderway E.same E.stands B.ports B.told B.kept struck level before given was k
+        (k : ℕ) × (length seats.new ≤ k)
+        × IsUnderway E.same E.stands B.ports B.told B.kept struck level before given was k
         seats.new links.new board.new) }
     ensures broken { IfErr result (λ f. (before : List Seated) (given : List E) (was : B) →
         IsUnderway E.same E.stands B.ports B.told B.kept struck level before given was first

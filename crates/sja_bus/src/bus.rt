@@ -16,12 +16,12 @@ use sja_script::FaultScript;
 use std::alloc::Global;
 use std::marker::Model;
 
-/// The shared bus of one to eight nodes (Bosch CAN 2.0 part A section 2; its links, journals and ports are this project's
-/// own rule).
+/// The shared bus of one to eight nodes (Bosch CAN 2.0 part A section 2; its links, journals and ports are this
+/// project's own rule).
 ///
-/// Contracts see it as its script, the bits that were run and those that are left, the fault that it answers always, the
-/// journals of its nodes, and of which node something is untold to its port. All its room is reserved when it is made:
-/// no bit takes memory.
+/// Contracts see it as its script, the bits that were run and those that are left, the fault that it answers always,
+/// the journals of its nodes, and of which node something is untold to its port. All its room is reserved when it is
+/// made: no bit takes memory.
 #[derive(Debug, Drop)]
 pub struct Bus {
     pub(crate) struck: StruckBits,
@@ -55,7 +55,8 @@ impl Model for Bus {
 }
 
 impl Bus {
-    ghost use Rattle.std.specs.Prelude.{◌≡◌, ◌+◌, ◌*◌, ◌<◌, ◌≤◌, ◌⊎◌, ◌≢◌, ℕ, None, Some, Err, true, false, length, map, slice_index_or, OnOk, IfOk, IfErr};
+    ghost use Rattle.std.specs.Prelude.{◌≡◌, ◌+◌, ◌*◌, ◌<◌, ◌≤◌, ◌⊎◌, ◌≢◌, ℕ, None, Some, Err};
+    ghost use Rattle.std.specs.Prelude.{true, false, length, map, slice_index_or, OnOk, IfOk, IfErr};
     ghost use Rattle.sja_bus.specs.declared.bus_fault.BusFault.{BusFault as Fault};
     ghost use Rattle.sja_bus.specs.declared.bus_fault.BusFault.TheVariants.{BitsSpent};
     ghost use Rattle.sja_bus.specs.Links.{EachRelated, Numbered};
@@ -66,7 +67,8 @@ impl Bus {
     ghost use Rattle.sja_bus.specs.Wire.{journal_at};
     ghost use Rattle.sja_bus.specs.Resting.{RestsAs};
     ghost use Rattle.sja_bus.specs.Lawful.{IsBusRun, CountersAre};
-    ghost use Rattle.sja_bus.specs.Buses.{EachJournal, KeepsAll, AllDry, IsBitOf, new_bus, EachUntold, AllTold, IsStill};
+    ghost use Rattle.sja_bus.specs.Buses.{EachJournal, KeepsAll, AllDry, IsBitOf};
+    ghost use Rattle.sja_bus.specs.Buses.{new_bus, EachUntold, AllTold, IsStill};
     ghost use Rattle.sja_bus.specs.Reasons.{IsNotTaken, StopsBit};
     ghost use Rattle.sja_bus.specs.Boards.{KeepsOthers};
 
@@ -95,8 +97,8 @@ impl Bus {
         })
     }
 
-    /// Takes what the drivers gave: of each node in order all that its links show, one link after the other. `links` are
-    /// eight a node, by node and activation.
+    /// Takes what the drivers gave: of each node in order all that its links show, one link after the other. `links`
+    /// are eight a node, by node and activation.
     ///
     /// Error: [`BusFault::BadCredit`], [`BusFault::BadOrder`] or [`BusFault::JournalFull`], and then the same always.
     pub fn gather<E: BusEnd>(&mut self, links: &mut [E]) -> Result<(), BusFault>
@@ -147,11 +149,11 @@ impl Bus {
     }
 
     /// One bit. Of each node in order all that its links show is taken, and then an abort that stands is applied; all
-    /// nodes drive; all see the level, or the other one where the script strikes them; each received frame that passes is
-    /// judged and put; each port is told the turn of the bit, unless there is nothing to tell.
+    /// nodes drive; all see the level, or the other one where the script strikes them; each received frame that passes
+    /// is judged and put; each port is told the turn of the bit, unless there is nothing to tell.
     ///
-    /// Error: [`BusFault::BitsSpent`] where no bit is left; nothing changed. After any other fault the same always. A bit
-    /// that doesn't come to its end isn't counted.
+    /// Error: [`BusFault::BitsSpent`] where no bit is left; nothing changed. After any other fault the same always. A
+    /// bit that doesn't come to its end isn't counted.
     pub fn bit<E: BusEnd, B: Board>(
         &mut self,
         links: &mut [E],
@@ -193,8 +195,8 @@ impl Bus {
         }
     }
 
-    /// What holds of every bus without such a fault: by every cut of each node's record the verdicts are right, and what
-    /// each node saw in each bit is what the wire had.
+    /// What holds of every bus without such a fault: by every cut of each node's record the verdicts are right, and
+    /// what each node saw in each bit is what the wire had.
     pub fn keeps_its_laws(&self)
         ensures { self.now.fault ≡ None → IsBusRun self.now.script self.now.run self.now.journals }
     {
@@ -225,9 +227,9 @@ impl Bus {
         self.seats[place].has_begun()
     }
 
-    /// What is left of the nodes, in order: each journal, and the error counters at its end. By every cut of a journal's
-    /// record, and there is one alone, the verdicts and the counters are right; what each node saw in each bit is what the
-    /// wire had.
+    /// What is left of the nodes, in order: each journal, and the error counters at its end. By every cut of a
+    /// journal's record, and there is one alone, the verdicts and the counters are right; what each node saw in each
+    /// bit is what the wire had.
     pub fn finish(self) -> Vec<NodeLog>
         ensures journals { map (λ g. g.journal.entries) result.items ≡ self.journals }
         ensures lawful { self.fault ≡ None →

@@ -9,8 +9,8 @@ pub enum BusFault {
     BadCredit(u8, u8),
     /// The link of this node gave an item back again and again.
     Stuck(u8),
-    /// This node's driver gave an item that may not come there: a start inside an activation, a request or a stop before
-    /// its start, a request while one is held, or a second request after bus-off.
+    /// This node's driver gave an item that may not come there: a start inside an activation, a request or a stop
+    /// before its start, a request while one is held, or a second request after bus-off.
     BadOrder(u8),
     /// The reserved entries of this node's journal are used.
     JournalFull(u8),

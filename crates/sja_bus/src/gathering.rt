@@ -30,10 +30,12 @@ impl Seat {
         ensures node { (link_of self.new.ledger).node ≡ (link_of self.old.ledger).node }
         ensures room { self.new.journal.room ≡ self.old.journal.room }
         ensures ready { OnOk result (IsReady self.new) }
-        ensures goes { OnOk result (Goes E.same E.stands self.old.journal.entries self.new.journal.entries links.old links.new base) }
+        ensures goes { OnOk result
+            (Goes E.same E.stands self.old.journal.entries self.new.journal.entries links.old links.new base) }
         ensures items { OnOk result (HasItems self.old.journal.entries self.new.journal.entries) }
         ensures news { OnOk result (TakesNews self.old self.new) }
-        ensures dry { OnOk result ((d : E) → self.new.ended < 8 → E.dry (slice_index_or links.new (base + self.new.ended) d)) }
+        ensures dry { OnOk result
+            ((d : E) → self.new.ended < 8 → E.dry (slice_index_or links.new (base + self.new.ended) d)) }
         ensures refused { IfErr result (λ f. RefusesItem E.stands self.old.journal.room self.old.journal.entries
             self.new.journal.entries links.old links.new base (link_of self.old.ledger).node f) }
     {
@@ -51,7 +53,8 @@ impl Seat {
     /// Writes an abort that changed the node.
     fn enter_abort(&mut self, news: News) -> Result<(), BusFault>
         requires follows { Follows self.old.node (self.old.journal.entries ++ AbortEntry ∷ []) }
-        requires reads { Reads self.old.node (self.old.journal.entries ++ AbortEntry ∷ []) self.old.ended self.old.activity (free_in self.old.ledger) }
+        requires reads { Reads self.old.node (self.old.journal.entries ++ AbortEntry ∷ []) self.old.ended
+            self.old.activity (free_in self.old.ledger) }
         requires seat { IsSeat self.old }
         ensures ledger { self.new.ledger ≡ self.old.ledger }
         ensures room { self.new.journal.room ≡ self.old.journal.room }
@@ -104,10 +107,13 @@ impl Seat {
         ensures node { (link_of self.new.ledger).node ≡ (link_of self.old.ledger).node }
         ensures room { self.new.journal.room ≡ self.old.journal.room }
         ensures ready { OnOk result (IsReady self.new) }
-        ensures goes { OnOk result (Goes E.same E.stands self.old.journal.entries self.new.journal.entries links.old links.new base) }
-        ensures opens { OnOk result (Opens (B.orders_are board.now (link_of self.old.ledger).node) self.old.journal.entries self.new.journal.entries) }
+        ensures goes { OnOk result
+            (Goes E.same E.stands self.old.journal.entries self.new.journal.entries links.old links.new base) }
+        ensures opens { OnOk result (Opens (B.orders_are board.now (link_of self.old.ledger).node)
+            self.old.journal.entries self.new.journal.entries) }
         ensures news { OnOk result (OpensNews self.old self.new) }
-        ensures dry { OnOk result ((d : E) → self.new.ended < 8 → E.dry (slice_index_or links.new (base + self.new.ended) d)) }
+        ensures dry { OnOk result
+            ((d : E) → self.new.ended < 8 → E.dry (slice_index_or links.new (base + self.new.ended) d)) }
         ensures stops { IfErr result (λ f. RefusesItem E.stands self.old.journal.room self.old.journal.entries
             self.new.journal.entries links.old links.new base (link_of self.old.ledger).node f
             ⊎ FullForAbort E.stands self.old self.new links.old links.new base f) }

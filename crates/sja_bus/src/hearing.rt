@@ -41,18 +41,23 @@ impl Seat {
     ) -> Result<bool, BusFault>
         requires id { E.link end.old ≡ link_of self.old.ledger }
         requires runs { open_in self.old.activity ≡ 1 }
-        requires reads { Reads self.old.node self.old.journal.entries self.old.ended self.old.activity (free_in self.old.ledger) }
+        requires reads { Reads self.old.node self.old.journal.entries self.old.ended self.old.activity
+            (free_in self.old.ledger) }
         requires verdicts { (heard : List ReceivedFrame) × HasVerdicts self.old.journal.entries heard }
         requires on { HasOff (part self.old.journal.entries (suc self.old.ended)) → ⊥ }
         requires seat { IsSeat self.old }
         ensures same { E.same end.old end.new }
         ensures room { self.new.journal.room ≡ self.old.journal.room }
-        ensures kept { (self.new.node ≡ self.old.node) × (self.new.ended ≡ self.old.ended) × (self.new.activity ≡ self.old.activity) × (link_of self.new.ledger ≡ link_of self.old.ledger) }
+        ensures kept { (self.new.node ≡ self.old.node) × (self.new.ended ≡ self.old.ended)
+            × (self.new.activity ≡ self.old.activity) × (link_of self.new.ledger ≡ link_of self.old.ledger) }
         ensures news { self.new.news ≡ self.old.news }
         ensures judged { IfOk result (λ overrun.
-            IsJudged self.old.journal.entries driven seen (suc self.old.ended) message overrun self.new.journal.entries) }
-        ensures reads { OnOk result (Reads self.new.node self.new.journal.entries self.new.ended self.new.activity (free_in self.new.ledger)) }
-        ensures moves { OnOk result (Moves E.stands end.old end.new self.old.journal.entries self.new.journal.entries (suc self.old.ended)) }
+            IsJudged self.old.journal.entries driven seen (suc self.old.ended) message overrun
+            self.new.journal.entries) }
+        ensures reads { OnOk result
+            (Reads self.new.node self.new.journal.entries self.new.ended self.new.activity (free_in self.new.ledger)) }
+        ensures moves { OnOk result
+            (Moves E.stands end.old end.new self.old.journal.entries self.new.journal.entries (suc self.old.ended)) }
         ensures broken { IfErr result (λ f. BreaksHere E.stands E.full end.old self.old self.new f) }
     {
         match accept(&mut self.ledger, end, &message) {
@@ -81,7 +86,8 @@ impl Seat {
         ensures node { self.new.node ≡ self.old.node }
         ensures sound { OnOk result (IsSound self.new) }
         ensures seat { OnOk result (IsSeat self.new) }
-        ensures moves { OnOk result (Moves E.stands end.old end.new self.old.journal.entries self.new.journal.entries (suc self.old.ended)) }
+        ensures moves { OnOk result
+            (Moves E.stands end.old end.new self.old.journal.entries self.new.journal.entries (suc self.old.ended)) }
         ensures entered { OnOk result (self.new.journal.entries ≡ self.old.journal.entries ++ OffEntry ∷ []) }
         ensures broken { IfErr result (λ f. BreaksHere E.stands E.full end.old self.old self.new f) }
         ensures unentered { IfErr result (λ f. self.new.journal.entries ≡ self.old.journal.entries) }
@@ -106,13 +112,15 @@ impl Seat {
         requires runs { self.old.activity ≡ Running filter }
         requires ready { IsReady self.old }
         ensures same { E.same end.old end.new }
-        ensures kept { (self.new.ended ≡ self.old.ended) × (self.new.activity ≡ self.old.activity) × (link_of self.new.ledger ≡ link_of self.old.ledger) }
+        ensures kept { (self.new.ended ≡ self.old.ended) × (self.new.activity ≡ self.old.activity)
+            × (link_of self.new.ledger ≡ link_of self.old.ledger) }
         ensures room { self.new.journal.room ≡ self.old.journal.room }
         ensures news { self.new.news ≡ self.old.news }
         ensures mid { IfOk result (λ heard. IsMid self.new heard.events.went_off) }
         ensures off { IfOk result (λ heard. heard.events.went_off ≡ true → InReset self.new.node) }
         ensures samples { IfOk result (λ heard. Samples self.old.node self.new.node seen heard.events) }
-        ensures moves { OnOk result (Moves E.stands end.old end.new self.old.journal.entries self.new.journal.entries (suc self.old.ended)) }
+        ensures moves { OnOk result
+            (Moves E.stands end.old end.new self.old.journal.entries self.new.journal.entries (suc self.old.ended)) }
         ensures hears { IfOk result (λ heard.
             Hears self.old.journal.entries self.old.drives seen heard.overrun self.new.journal.entries) }
         ensures broken { IfErr result (λ f. BreaksHere E.stands E.full end.old self.old self.new f) }
@@ -152,7 +160,8 @@ impl Seat {
         ensures sound { OnOk result (IsSound self.new) }
         ensures seat { OnOk result (IsSeat self.new) }
         ensures samples { IfOk result (λ heard. Samples self.old.node self.new.node seen heard.events) }
-        ensures moves { OnOk result (Moves E.stands end.old end.new self.old.journal.entries self.new.journal.entries (suc self.old.ended)) }
+        ensures moves { OnOk result
+            (Moves E.stands end.old end.new self.old.journal.entries self.new.journal.entries (suc self.old.ended)) }
         ensures brings { IfOk result (λ heard.
             Brings self.old.journal.entries self.old.drives seen heard self.new.journal.entries) }
         ensures broken { IfErr result (λ f. BreaksHere E.stands E.full end.old self.old self.new f) }

@@ -1,6 +1,7 @@
 //! Bits of a bus in which nothing is taken and nothing aborted.
 
-ghost use Rattle.std.specs.Prelude.{◌≡◌, ◌+◌, ◌-◌, ◌<◌, ◌≤◌, ℕ, true, false, length, slice_index_or, IfOk, OnOk, IfErr, MatchResult};
+ghost use Rattle.std.specs.Prelude.{◌≡◌, ◌+◌, ◌-◌, ◌<◌, ◌≤◌, ℕ, true, false, length};
+ghost use Rattle.std.specs.Prelude.{slice_index_or, IfOk, OnOk, IfErr, MatchResult};
 ghost use Rattle.can_node.specs.Stands.{ShowsRest};
 ghost use Rattle.sja_bus.specs.declared.seat.Seat.{Seat as Seated};
 ghost use Rattle.sja_bus.specs.StrikesByBit.{IsAmong};

@@ -48,7 +48,8 @@ impl Seat {
         ensures others { self.new ≡ record self.old { journal = self.new.journal } }
         ensures room { self.new.journal.room ≡ self.old.journal.room }
         ensures sound { OnOk result (Follows self.old.node (self.old.journal.entries ++ entry ∷ []) →
-            Reads self.old.node (self.old.journal.entries ++ entry ∷ []) self.old.ended self.old.activity (free_in self.old.ledger) →
+            Reads self.old.node (self.old.journal.entries ++ entry ∷ []) self.old.ended self.old.activity
+            (free_in self.old.ledger) →
             IsSound self.new) }
         ensures ok { OnOk result ((self.new.journal.entries ≡ self.old.journal.entries ++ entry ∷ [])
             × (length self.old.journal.entries < self.old.journal.room)) }

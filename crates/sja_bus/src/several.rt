@@ -33,8 +33,8 @@ impl Bus {
     /// Bits one after another: so many, or as many as are left; with `to_rest` only as long as some node isn't at rest.
     /// Answers how many they were.
     ///
-    /// They are what as many calls of [`bit`](Bus::bit) are between which no driver does anything: what the drivers gave
-    /// is taken before the first of them. `links` are eight a node, by node and activation.
+    /// They are what as many calls of [`bit`](Bus::bit) are between which no driver does anything: what the drivers
+    /// gave is taken before the first of them. `links` are eight a node, by node and activation.
     ///
     /// Error: after some of these bits, any fault of [`bit`](Bus::bit) but [`BusFault::BitsSpent`], and then the same
     /// always. The bits before it count.

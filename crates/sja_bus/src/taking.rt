@@ -8,7 +8,8 @@ use can_node::{Config, Request};
 use sja_link::{BadCredit, BusEnd, BusLedger, Entry, LinkId, Up};
 
 impl Seat {
-    ghost use Rattle.std.specs.Prelude.{◌≡◌, ◌<◌, ◌≤◌, ◌+◌, ℕ, suc, Ok, [], ◌∷◌, ◌++◌, OnOk, IfOk, IfErr, true, false, length};
+    ghost use Rattle.std.specs.Prelude.{◌≡◌, ◌<◌, ◌≤◌, ◌+◌, ℕ, suc, Ok, [], ◌∷◌};
+    ghost use Rattle.std.specs.Prelude.{◌++◌, OnOk, IfOk, IfErr, true, false, length};
     ghost use Rattle.sja_link.specs.declared.up.Up.TheVariants.{Start, Credit, Send, Stop};
     ghost use Rattle.sja_link.specs.declared.entry.Entry.TheVariants.{Up as Item};
     ghost use Rattle.sja_link.specs.declared.up.Up.{Up as Given};
@@ -128,7 +129,8 @@ impl Seat {
         ensures node { (link_of self.new.ledger).node ≡ (link_of self.old.ledger).node }
         ensures room { self.new.journal.room ≡ self.old.journal.room }
         ensures ready { OnOk result (IsReady self.new) }
-        ensures moves { OnOk result (Moves E.stands end.old end.new self.old.journal.entries self.new.journal.entries (suc self.old.ended)) }
+        ensures moves { OnOk result
+            (Moves E.stands end.old end.new self.old.journal.entries self.new.journal.entries (suc self.old.ended)) }
         ensures some { result ≡ Ok true → (item : Given)
             × (self.new.journal.entries ≡ self.old.journal.entries ++ Item item ∷ [])
             × (length self.old.journal.entries < self.old.journal.room)

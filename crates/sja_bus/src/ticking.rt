@@ -39,10 +39,12 @@ impl Seat {
         ensures seat { OnOk result (IsSeat self.new) }
         ensures news { self.new.news ≡ self.old.news }
         ensures samples { IfOk result (λ heard. Samples self.old.node self.new.node seen heard.events) }
-        ensures goes { OnOk result (Goes E.same E.stands self.old.journal.entries self.new.journal.entries links.old links.new base) }
+        ensures goes { OnOk result
+            (Goes E.same E.stands self.old.journal.entries self.new.journal.entries links.old links.new base) }
         ensures brings { IfOk result (λ heard.
             Brings self.old.journal.entries self.old.drives seen heard self.new.journal.entries) }
-        ensures broken { IfErr result (λ f. IsBrokenFor E.stands E.full (link_of self.old.ledger).node self.old.journal.room
+        ensures broken { IfErr result (λ f.
+            IsBrokenFor E.stands E.full (link_of self.old.ledger).node self.old.journal.room
             self.old.journal.entries self.new.journal.entries links.old base f) }
     {
         let Activity::Running(filter) = self.activity else {
@@ -65,7 +67,8 @@ impl Seat {
         ensures keeps { TickKeeps E.BusEnd B.Board self.old self.new links.old links.new board.old board.new }
         ensures ticks { OnOk result
             (Ticks E.BusEnd B.Board seen self.old self.new links.old links.new base board.old board.new) }
-        ensures broken { IfErr result (λ f. IsBrokenFor E.stands E.full (link_of self.old.ledger).node self.old.journal.room
+        ensures broken { IfErr result (λ f.
+            IsBrokenFor E.stands E.full (link_of self.old.ledger).node self.old.journal.room
             self.old.journal.entries self.new.journal.entries links.old base f) }
     {
         let heard = self.full_bit(links, base, seen)?;
@@ -74,8 +77,8 @@ impl Seat {
         Ok(())
     }
 
-    /// A bit of the node, which sees this level and whose port is told all, where nothing happens. Answers whether it was
-    /// one; else nothing changed.
+    /// A bit of the node, which sees this level and whose port is told all, where nothing happens. Answers whether it
+    /// was one; else nothing changed.
     #[inline(always)]
     pub(crate) fn tick_quietly(&mut self, seen: Level) -> Result<bool, BusFault>
         requires ready { IsReady self.old }
@@ -113,12 +116,14 @@ impl Seat {
         ensures node { (link_of self.new.ledger).node ≡ (link_of self.old.ledger).node }
         ensures room { self.new.journal.room ≡ self.old.journal.room }
         ensures ready { OnOk result (IsReady self.new) }
-        ensures goes { OnOk result (Goes E.same E.stands self.old.journal.entries self.new.journal.entries links.old links.new base) }
+        ensures goes { OnOk result
+            (Goes E.same E.stands self.old.journal.entries self.new.journal.entries links.old links.new base) }
         ensures ports { B.ports board.new ≡ B.ports board.old }
         ensures others { (k : ℕ) → k ≢ (link_of self.old.ledger).node → B.kept board.old board.new k }
         ensures turns { OnOk result (Turns (B.told board.old board.new (link_of self.old.ledger).node)
             (B.kept board.old board.new (link_of self.old.ledger).node) seen self.old self.new) }
-        ensures broken { IfErr result (λ f. IsBrokenFor E.stands E.full (link_of self.old.ledger).node self.old.journal.room
+        ensures broken { IfErr result (λ f.
+            IsBrokenFor E.stands E.full (link_of self.old.ledger).node self.old.journal.room
             self.old.journal.entries self.new.journal.entries links.old base f) }
     {
         if let News::Nothing = self.news {

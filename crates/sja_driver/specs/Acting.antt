@@ -8,7 +8,8 @@ use Rattle.sja_regs.specs.declared.registers.Registers.{Registers}
 use Rattle.sja_regs.specs.Commands.{command_of, requests, command_faults}
 use Rattle.sja_regs.specs.Refusals.{first_fault}
 use Rattle.sja_script.specs.declared.step.Step.{Step}
-use Rattle.sja_script.specs.declared.step.Step.TheVariants.{Start, Stop, Window, Release, Read, Write, Load, Command, Await, Sent}
+use Rattle.sja_script.specs.declared.step.Step.TheVariants.{Start, Stop, Window, Release, Read}
+use Rattle.sja_script.specs.declared.step.Step.TheVariants.{Write, Load, Command, Await, Sent}
 use Rattle.sja_driver.specs.declared.any_driver.AnyDriver.{AnyDriver}
 use Rattle.sja_driver.specs.declared.any_driver.AnyDriver.TheVariants.{InReset, InActive}
 use Rattle.sja_driver.specs.declared.tried.Tried.{Tried}
@@ -17,7 +18,8 @@ use Rattle.sja_driver.specs.Carried.{Sees, Tells}
 use Rattle.sja_driver.specs.Deeds.{FitsState}
 use Rattle.sja_driver.specs.Drivers.{started_in, held_in, off_in}
 use Rattle.sja_driver.specs.Giving.{IsGiven}
-use Rattle.sja_driver.specs.Tries.{IfAnswered, IfUnmet, IsOf, ended_by, released_by, gave_by, port_after, held_after, off_after, window_after, opened_after, is_out_after, IsQuiet}
+use Rattle.sja_driver.specs.Tries.{IfAnswered, IfUnmet, IsOf, ended_by, released_by, gave_by, port_after}
+use Rattle.sja_driver.specs.Tries.{held_after, off_after, window_after, opened_after, is_out_after, IsQuiet}
 
 -- with items got, and items given
 abbrev pub with_both : Lists → List Down → List Up → Lists

@@ -12,10 +12,12 @@ use Rattle.sja_regs.specs.Refusals.{first_fault}
 use Rattle.sja_regs.specs.Registers.{config_of, after_entering_reset}
 use Rattle.sja_regs.specs.Writing.{write_faults_at, after_writing_at, load_faults, after_loading}
 use Rattle.sja_script.specs.declared.step.Step.{Step}
-use Rattle.sja_script.specs.declared.step.Step.TheVariants.{Start, Stop, Window, Release, Read, Write, Load, Command, Await, Sent}
+use Rattle.sja_script.specs.declared.step.Step.TheVariants.{Start, Stop, Window, Release, Read}
+use Rattle.sja_script.specs.declared.step.Step.TheVariants.{Write, Load, Command, Await, Sent}
 use Rattle.sja_script.specs.declared.refusal.Refusal.TheVariants.{Stopped, Empty, Closed}
 use Rattle.sja_script.specs.declared.step_answer.StepAnswer.{StepAnswer}
-use Rattle.sja_script.specs.declared.step_answer.StepAnswer.TheVariants.{Done as DoneAnswer, NoMessage, Shown, Released, Refused}
+use Rattle.sja_script.specs.declared.step_answer.StepAnswer.TheVariants.{Done as DoneAnswer, NoMessage}
+use Rattle.sja_script.specs.declared.step_answer.StepAnswer.TheVariants.{Shown, Released, Refused}
 use Rattle.sja_driver.specs.Answers.{done_unless, value_answer}
 use Rattle.sja_driver.specs.Ports.{after_start, sent_by}
 

@@ -2,7 +2,8 @@
 
 ghost use Rattle.std.specs.Prelude.{◌≡◌, ℕ, List, ◌<◌, [], ◌∷◌, length, true, false, Ok, Err, OnOk, OnErr, IfOk, IfErr};
 ghost use Rattle.sja_link.specs.declared.up.Up.TheVariants.{Stop};
-ghost use Rattle.sja_link.specs.declared.release_fault.ReleaseFault.TheVariants.{Stopped as FaultStopped, Empty, Busy as ReleaseBusy};
+ghost use Rattle.sja_link.specs.declared.release_fault.ReleaseFault.TheVariants.{Stopped as FaultStopped};
+ghost use Rattle.sja_link.specs.declared.release_fault.ReleaseFault.TheVariants.{Empty, Busy as ReleaseBusy};
 ghost use Rattle.sja_link.specs.DriverLedgers.{link_of, held_by, knows_off};
 ghost use Rattle.sja_link.specs.Looking.{Pulls, IsTaken, Releases, Refuses};
 ghost use Rattle.sja_link.specs.Showing.{seen_of};

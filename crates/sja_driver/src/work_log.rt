@@ -1,7 +1,8 @@
 //! The log of a driver that follows a script.
 
 ghost use Rattle.std.specs.Prelude.{◌≡◌, ◌+◌, ◌<◌, ◌≤◌, ◌++◌, ℕ, suc, [], ◌∷◌, length, true, IfOk};
-ghost use Rattle.sja_driver.specs.Logs.{done_in, releases_in, left_in, done_room, release_room, left_room, IsEmpty, HasRoom};
+ghost use Rattle.sja_driver.specs.Logs.{done_in, releases_in, left_in, done_room};
+ghost use Rattle.sja_driver.specs.Logs.{release_room, left_room, IsEmpty, HasRoom};
 ghost use Rattle.sja_driver.specs.Logs.{done_by, releases_by, left_by};
 ghost use Rattle.sja_driver.specs.Tries.{ended_by, is_met};
 

@@ -1,5 +1,6 @@
 -- The words of can_node that this crate speaks of: a bit, the record of a node, and what its cuts find.
 pub use Rattle.can_node.specs.Bits.{Bit as NodeBit}
 pub use Rattle.can_node.specs.Record.{Entry as NodeEntry}
-pub use Rattle.can_node.specs.Record.Entry.{Start as NodeStarted, Stop as NodeStopped, OneBit as NodeTook, Send as NodeAsked, Abort as NodeAborted, BusOff as NodeWentOff}
+pub use Rattle.can_node.specs.Record.Entry.{Start as NodeStarted, Stop as NodeStopped, OneBit as NodeTook}
+pub use Rattle.can_node.specs.Record.Entry.{Send as NodeAsked, Abort as NodeAborted, BusOff as NodeWentOff}
 pub use Rattle.can_node.specs.Cut.{FinishedPiece, ReceivedFrame, received, IsCut, Count, none_yet, counted}

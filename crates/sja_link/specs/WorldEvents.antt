@@ -1,5 +1,6 @@
 -- The events of one link, as a table: where each is allowed, and what it does (this project's own rule).
-use Rattle.std.specs.Prelude.{◌≡◌, ◌≢◌, ◌↔◌, ◌≤◌, ◌<◌, Bool, true, false, if◌then◌else◌, Result, IfOk, OnErr, List, [], ◌∷◌, ◌++◌, ℕ, length, take, drop}
+use Rattle.std.specs.Prelude.{◌≡◌, ◌≢◌, ◌↔◌, ◌≤◌, ◌<◌, Bool, true, false, if◌then◌else◌}
+use Rattle.std.specs.Prelude.{Result, IfOk, OnErr, List, [], ◌∷◌, ◌++◌, ℕ, length, take, drop}
 use Rattle.can_frame.specs.declared.out_of_memory.OutOfMemory.{OutOfMemory}
 use Rattle.can_frame.specs.Message.{IsMessage}
 use Rattle.sja_link.specs.declared.down.Down.TheVariants.{Message, Off as OffDown}

@@ -27,7 +27,8 @@ pub struct BusLedger {
 }
 
 impl BusLedger {
-    ghost use Rattle.std.specs.Prelude.{◌≡◌, ◌≢◌, ℕ, List, [], ◌∷◌, ◌++◌, ◌+◌, ◌<◌, ◌≤◌, ◌⊎◌, length, Ok, OnOk, OnErr, IfOk, IfErr, IfSome, IfNone};
+    ghost use Rattle.std.specs.Prelude.{◌≡◌, ◌≢◌, ℕ, List, [], ◌∷◌, ◌++◌, ◌+◌, ◌<◌, ◌≤◌, ◌⊎◌};
+    ghost use Rattle.std.specs.Prelude.{length, Ok, OnOk, OnErr, IfOk, IfErr, IfSome, IfNone};
     ghost use Rattle.sja_link.specs.declared.down.Down.TheVariants.{Off as OffDown};
     ghost use Rattle.sja_link.specs.declared.up.Up.TheVariants.{Credit};
     ghost use Rattle.sja_link.specs.declared.verdict.Verdict.TheVariants.{Stored, Overrun};

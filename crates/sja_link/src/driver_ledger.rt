@@ -23,12 +23,14 @@ pub struct DriverLedger {
 }
 
 impl DriverLedger {
-    ghost use Rattle.std.specs.Prelude.{◌≡◌, ◌≤◌, ◌+◌, ℕ, List, [], length, true, false, Some, Err, OnOk, OnErr, IfOk, IfSome, IfNone, slice_get, ⊤};
+    ghost use Rattle.std.specs.Prelude.{◌≡◌, ◌≤◌, ◌+◌, ℕ, List, [], length, true, false, Some};
+    ghost use Rattle.std.specs.Prelude.{Err, OnOk, OnErr, IfOk, IfSome, IfNone, slice_get, ⊤};
     ghost use Rattle.std.specs.Borrow.{sem};
     ghost use mathlib.Core.Option.{none};
     ghost use denote.Follow.{follows_so};
     ghost use Rattle.sja_link.specs.contracts.driver_ledger.DriverLedger.{the_row};
-    ghost use Rattle.sja_link.specs.declared.release_fault.ReleaseFault.TheVariants.{Stopped as FaultStopped, Empty, Busy};
+    ghost use Rattle.sja_link.specs.declared.release_fault.ReleaseFault.TheVariants.{Stopped as FaultStopped};
+    ghost use Rattle.sja_link.specs.declared.release_fault.ReleaseFault.TheVariants.{Empty, Busy};
     ghost use Rattle.sja_link.specs.DriverLedgers.{link_of, held_by, knows_off};
     ghost use Rattle.sja_link.specs.Looking.{Pulls, IsTaken, Releases, Refuses, one_if};
     ghost use Rattle.sja_link.specs.Showing.{Shows, window_in, seen_of};

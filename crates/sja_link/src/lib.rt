@@ -1,8 +1,8 @@
 //! The link between the bus and the driver of a node in one activation of its controller: what it carries, its two
 //! ends, the ledgers of bytes at both, the journal of a node, and the pure core of one link.
 //!
-//! Downward a link carries messages and bus-off ([`Down`]), upward starts, credits, requests and stops ([`Up`]). Its two
-//! ends are the traits [`BusEnd`] and [`DriverEnd`]; a [`DequeLink`] is both in one value. At the bus's end the
+//! Downward a link carries messages and bus-off ([`Down`]), upward starts, credits, requests and stops ([`Up`]). Its
+//! two ends are the traits [`BusEnd`] and [`DriverEnd`]; a [`DequeLink`] is both in one value. At the bus's end the
 //! [`BusLedger`] decides which message is stored and which is overrun, by the bytes that are free. At the driver's end
 //! the [`DriverLedger`] shows the messages and releases them. The [`Journal`] of a node has all that happened, and what
 //! it means is said of it alone: the part of each activation, the record of the node, the free bytes and the verdicts.

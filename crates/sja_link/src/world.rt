@@ -1,7 +1,8 @@
 //! The world of one link.
 
 ghost use Rattle.std.specs.Prelude.{◌≡◌, ◌≢◌, true, false, Ok};
-ghost use Rattle.sja_link.specs.declared.event.Event.TheVariants.{Start, Put, Off, Get, Release, Send, SendDone, Stop, Take};
+ghost use Rattle.sja_link.specs.declared.event.Event.TheVariants.{Start, Put, Off, Get, Release};
+ghost use Rattle.sja_link.specs.declared.event.Event.TheVariants.{Send, SendDone, Stop, Take};
 
 use super::counts::{credit_at, credit_of, starts, stops, waits, went_off};
 use super::down::Down;

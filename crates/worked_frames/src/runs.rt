@@ -20,7 +20,8 @@ steps = [\"start\", \"release\", \"release\"]
     };
 }
 
-/// Its report: with so many bits and this transmit error counter of node 0, and with what follows node 1's first release.
+/// Its report: with so many bits and this transmit error counter of node 0,
+/// and with what follows node 1's first release.
 macro_rules! struck_report {
     ($bits:literal, $counter:literal, $end:literal) => {
         concat!(

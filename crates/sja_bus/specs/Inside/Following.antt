@@ -2,7 +2,8 @@
 use Rattle.std.specs.Prelude.{◌≡◌, ◌+◌, ℕ, suc, Bool, true, false, if◌then◌else◌, Some, List, [], ◌∷◌, ◌++◌}
 use Rattle.can_node.specs.declared.node.Node.{Node}
 use Rattle.can_node.specs.Stands.{StandsAt, InReset}
-use Rattle.sja_link.specs.NodeWords.{NodeEntry, NodeStarted, NodeStopped, NodeTook, NodeAsked, NodeAborted, NodeWentOff, FinishedPiece, received}
+use Rattle.sja_link.specs.NodeWords.{NodeEntry, NodeStarted, NodeStopped, NodeTook, NodeAsked}
+use Rattle.sja_link.specs.NodeWords.{NodeAborted, NodeWentOff, FinishedPiece, received}
 use Rattle.sja_link.specs.declared.entry.Entry.{Entry}
 use Rattle.sja_link.specs.Places.{place_of}
 use Rattle.sja_link.specs.Parts.{part}

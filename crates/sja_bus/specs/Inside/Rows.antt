@@ -1,5 +1,6 @@
 -- All controllers of a bus, one at each place of a list.
-use Rattle.std.specs.Prelude.{◌≡◌, ◌≢◌, ◌+◌, ◌*◌, ◌<◌, ◌≤◌, ◌==◌, ℕ, Bool, if◌then◌else◌, List, length, map, slice_index_or}
+use Rattle.std.specs.Prelude.{◌≡◌, ◌≢◌, ◌+◌, ◌*◌, ◌<◌, ◌≤◌, ◌==◌, ℕ, Bool}
+use Rattle.std.specs.Prelude.{if◌then◌else◌, List, length, map, slice_index_or}
 use Rattle.std.specs.Int.{bit_at}
 use Rattle.can_bits.specs.declared.level.Level.{Level}
 use Rattle.can_bits.specs.Digits.{opposite}

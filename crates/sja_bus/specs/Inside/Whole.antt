@@ -14,7 +14,8 @@ use Rattle.sja_bus.specs.Inside.Rows.{IsBus, EachSeat, SeatOpens, driven_by, Sea
 
 -- one to eight nodes, as many bits as it is known whom the script strikes, and while there is no fault a bus, with room
 -- for all its bits
-pub record IsWhole (struck : Scripted) (run left : ℕ) (fault : Option BusFault) (seats : List Seat) (room : ℕ) : Type 0 where
+pub record IsWhole (struck : Scripted) (run left : ℕ) (fault : Option BusFault) (seats : List Seat)
+    (room : ℕ) : Type 0 where
   pub few : length seats ≤ 8
   pub bits : run + left ≡ struck.bits
   pub most : struck.bits ≤ 200000

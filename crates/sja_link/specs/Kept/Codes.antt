@@ -3,11 +3,15 @@ use Rattle.std.specs.Prelude.{◌≡◌, ◌≤◌, ℕ, suc, Bool, true, false,
 use Rattle.can_node.specs.declared.config.Config.{Config}
 use Rattle.can_node.specs.declared.request.Request.{Request}
 use Rattle.can_bits.specs.declared.level.Level.TheVariants.{Dominant, Recessive}
-use Rattle.sja_link.specs.declared.up.Up.TheVariants.{Start as StartUp, Credit as CreditUp, Send as SendUp, Stop as StopUp}
+use Rattle.sja_link.specs.declared.up.Up.TheVariants.{Start as StartUp, Credit as CreditUp}
+use Rattle.sja_link.specs.declared.up.Up.TheVariants.{Send as SendUp, Stop as StopUp}
 use Rattle.sja_link.specs.declared.entry.Entry.{Entry}
-use Rattle.sja_link.specs.declared.entry.Entry.TheVariants.{Bit, Up as Item, Abort as AbortEntry, Stored as StoredEntry, Overrun as OverrunEntry, Off as OffEntry}
+use Rattle.sja_link.specs.declared.entry.Entry.TheVariants.{Bit, Up as Item, Abort as AbortEntry, Stored as StoredEntry}
+use Rattle.sja_link.specs.declared.entry.Entry.TheVariants.{Overrun as OverrunEntry, Off as OffEntry}
 use Rattle.sja_link.specs.declared.code.Code.{Code}
-use Rattle.sja_link.specs.declared.code.Code.TheVariants.{DominantAsDriven, DominantSeenRecessive, RecessiveSeenDominant, RecessiveAsDriven, Start, Credit, Send, Stop, Abort, Stored, Overrun, Off}
+use Rattle.sja_link.specs.declared.code.Code.TheVariants.{DominantAsDriven, DominantSeenRecessive}
+use Rattle.sja_link.specs.declared.code.Code.TheVariants.{RecessiveSeenDominant, RecessiveAsDriven, Start}
+use Rattle.sja_link.specs.declared.code.Code.TheVariants.{Credit, Send, Stop, Abort, Stored, Overrun, Off}
 use Rattle.sja_link.specs.Gathering.{total}
 
 -- the entries of these codes; a code with contents takes the next ones of its list
