@@ -8,7 +8,7 @@ ghost use Rattle.sja_bus.specs.StrikesByBit.{IsAmong};
 ghost use Rattle.sja_bus.specs.Boards.{KeepsOthers};
 ghost use Rattle.sja_bus.specs.Links.{EachRelated};
 ghost use Rattle.sja_bus.specs.Inside.Refusing.{HaveRoom};
-ghost use Rattle.sja_bus.specs.Inside.Rows.{AreReady, AreSeated, IsBus};
+ghost use Rattle.sja_bus.specs.Inside.Rows.{AreReady, AreSeated, AreTold, IsBus};
 ghost use Rattle.sja_bus.specs.Inside.RunningOn.{NoneAborts, RowsRun, RowsStop};
 
 use super::all_nodes::{level_of, tick_all};
@@ -23,18 +23,19 @@ use super::struck_bits::StruckBits;
 use super::struck_nodes::StruckNodes;
 use sja_link::BusEnd;
 
-/// Whether no port wants an abort.
-fn none_aborts<B: Board>(seats: &[Seat], board: &B) -> bool
+/// Whether no port wants an abort, and the ports are told all.
+fn may_run_on<B: Board>(seats: &[Seat], board: &B) -> bool
     requires ready { AreReady seats.now }
     requires ports { length seats.now ≤ B.ports board.now }
-    ensures { result ≡ true → NoneAborts (B.orders_are board.now) (length seats.now) }
+    ensures orders { result ≡ true → NoneAborts (B.orders_are board.now) (length seats.now) }
+    ensures told { result ≡ true → AreTold seats.now }
 {
     for k in 0..seats.len() {
         if board.orders(seats[k].number()).abort {
             return false;
         }
     }
-    true
+    are_told(seats)
 }
 
 /// Whether these are no nodes, and some node works, where that is asked for.
@@ -63,7 +64,7 @@ pub(crate) fn on_all<E: BusEnd, B: Board>(
     to_rest: bool,
 ) -> Result<u32, BrokenOff>
     requires seated { AreSeated E.link seats.old links.old (B.ports board.old) }
-    requires orders { NoneAborts (B.orders_are board.old) (length seats.old) }
+    requires may { NoneAborts (B.orders_are board.old) (length seats.old) × AreTold seats.old }
     requires bus { IsBus struck.now.script from seats.old }
     requires within { (from + most ≤ struck.now.bits) × (struck.now.bits ≤ 200000) }
     ensures sames { EachRelated E.same links.old links.new }
@@ -75,9 +76,6 @@ pub(crate) fn on_all<E: BusEnd, B: Board>(
     ensures breaks { IfErr result (λ f. RowsStop E.BusEnd B.Board to_rest struck.now.script from most
         seats.old seats.new links.old links.new board.old board.new f) }
 {
-    if !are_told(seats) {
-        return Ok(0);
-    }
     let mut level = level_of(seats);
     for run in 0..most {
         if !goes_on(seats, struck.at(from + run), to_rest) {
@@ -125,7 +123,7 @@ impl Bus {
         ensures stops { IfErr result (λ f. IsStopped E.BusEnd B.Board to_rest count
             (moment self.old links.old board.old) (moment self.new links.new board.new) f) }
     {
-        if !none_aborts(self.seats.as_slice(), board) {
+        if !may_run_on(self.seats.as_slice(), board) {
             return Ok(0);
         }
         let seats = self.seats.as_mut_slice();

@@ -16,24 +16,10 @@ loop-run-init g c =
       level = c.level_of-level.ensures;
       board = refl;
       bus = subst P at c.requires.bus;
-      told = c.are_told.ensures (search rules);
+      told = c.requires.may.1;
       sames = each_refl E.same g.met.E.BusEnd.same_refl c.args.links.now;
       rooms = λ n h. h;
       bits = λ left enough. none_yet (IsOneBit E.same E.stands B.ports B.facts B.orders_are B.told B.kept) (WorksIf c.args.to_rest) script c.args.from left c.args.seats.now c.args.links.now c.args.board.now;
-    }
-
-pub returns-then-not-are_told-clause-sames : goal.returns-then-not-are_told-clause-sames
-returns-then-not-are_told-clause-sames g c = each_refl g.E.BusEnd.same g.met.E.BusEnd.same_refl c.args.links.now
-
-pub returns-then-not-are_told-clause-runs : goal.returns-then-not-are_told-clause-runs
-returns-then-not-are_told-clause-runs g c =
-    let E = g.E.BusEnd in let B = g.B.Board in let script = c.args.struck.now.script in
-    let at : c.args.from ≡ c.args.from + 0 = omega arith in
-    let P : ℕ → Type 0 = λ n. IsBus script n c.args.seats.now in record {
-      bus = subst P at c.requires.bus;
-      bits = λ left enough.
-          none_yet (IsOneBit E.same E.stands B.ports B.facts B.orders_are B.told B.kept) (WorksIf c.args.to_rest) script
-          c.args.from left c.args.seats.now c.args.links.now c.args.board.now;
     }
 
 pub tick_all-requires : goal.tick_all-requires
@@ -68,7 +54,7 @@ returns-then-end-clause-runs g c =
     let B = g.B.Board in let inv = c.loop-run.invariant in let a = c.loop-run.board in let z = c.tick_all.new.board in
     let goes : c.goes_on.result ≡ true = search rules in
     let pass = passes B.orders_are (B.told a z) (B.kept a z) c.args.struck.now.script (c.args.from + c.loop-run.run) (length c.args.seats.now) c.none.result c.at.result c.loop-run.level c.args.board.now a c.loop-run.seats c.tick_all.new.seats
-    c.requires.seated.few c.loop-run.auto.seats c.tick_all.auto.seats inv.board c.requires.orders c.none.ensures (c.goes_on.ensures.none goes) c.at.ensures inv.level c.in-Ok.ensures.turns c.in-Ok.ensures.ready inv.bus in record {
+    c.requires.seated.few c.loop-run.auto.seats c.tick_all.auto.seats inv.board c.requires.may.0 c.none.ensures (c.goes_on.ensures.none goes) c.at.ensures inv.level c.in-Ok.ensures.turns c.in-Ok.ensures.ready inv.bus in record {
       bus = pass.bus (c.args.from + (c.loop-run.run + 1)) (omega arith);
       bits = λ left enough.
           bits_on E.same E.stands B.ports B.facts B.orders_are B.told B.kept c.args.to_rest (moment_of c.args.struck.now.script c.args.from left c.args.seats.now c.args.links.now c.args.board.now)
@@ -83,7 +69,7 @@ loop-run-preserved g c =
     let B = g.B.Board in let inv = c.loop-run.invariant in let a = c.loop-run.board in let z = c.tick_all.new.board in
     let goes : c.goes_on.result ≡ true = search rules in
     let pass = passes B.orders_are (B.told a z) (B.kept a z) c.args.struck.now.script (c.args.from + c.loop-run.run) (length c.args.seats.now) c.none.result c.at.result c.loop-run.level c.args.board.now a c.loop-run.seats c.tick_all.new.seats
-    c.requires.seated.few c.loop-run.auto.seats c.tick_all.auto.seats inv.board c.requires.orders c.none.ensures (c.goes_on.ensures.none goes) c.at.ensures inv.level c.in-Ok.ensures.turns c.in-Ok.ensures.ready inv.bus in
+    c.requires.seated.few c.loop-run.auto.seats c.tick_all.auto.seats inv.board c.requires.may.0 c.none.ensures (c.goes_on.ensures.none goes) c.at.ensures inv.level c.in-Ok.ensures.turns c.in-Ok.ensures.ready inv.bus in
     let untold : c.in-Ok.end.told ≡ false = search rules in record {
       level = c.in-Ok.ensures.level;
       board = c.in-Ok.ensures.untold untold ∙ inv.board;
@@ -106,7 +92,7 @@ returns-in-Err-clause-breaks g c = λ left later enough rooms journals run_is le
     let a = c.loop-run.board in
     let early : run < c.args.most = search rules in
     let goes : c.goes_on.result ≡ true = search rules in
-    let none = none_still B.orders_are (length c.args.seats.now) c.args.board.now a was c.loop-run.auto.seats inv.board c.requires.orders in record {
+    let none = none_still B.orders_are (length c.args.seats.now) c.args.board.now a was c.loop-run.auto.seats inv.board c.requires.may.0 in record {
       mid = moment_of script (from + run) (left - run) was c.loop-run.links a;
       run = run;
       early = early;

@@ -57,8 +57,8 @@ invariant_of-self g c =
     let P : List Seat → Type 0 = λ xs. IsWhole b.struck (b.run + n) (b.left - n) b.fault xs (vec_capacity b.logs) in
     (subst P (sym (are_back g at)) l, c.self.invariant.1)
 
-pub returns-then-not-none_aborts-clause-runs : goal.returns-then-not-none_aborts-clause-runs
-returns-then-not-none_aborts-clause-runs g c =
+pub returns-then-not-may_run_on-clause-runs : goal.returns-then-not-may_run_on-clause-runs
+returns-then-not-may_run_on-clause-runs g c =
     none_yet g.E.BusEnd g.B.Board g.met.E.BusEnd.same_refl g.met.B.Board.kept_refl c.args.to_rest
     (moment c.args.self.now c.args.links.now c.args.board.now) c.requires.right
 

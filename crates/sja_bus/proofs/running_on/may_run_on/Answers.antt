@@ -2,7 +2,7 @@ use Rattle.std.proofs.Common.{◌≡◌, ℕ, ◌<◌, false, length, rules, sym
 use Rattle.sja_link.specs.BusLedgers.{link_of}
 use Rattle.sja_bus.specs.declared.seat.Seat.{Seat}
 use Rattle.sja_bus.proofs.Rests.{earlier_or_now}
-use Rattle.sja_bus.proofs.running_on.none_aborts.Goals as goal
+use Rattle.sja_bus.proofs.running_on.may_run_on.Goals as goal
 
 pub loop-k-preserved : goal.loop-k-preserved
 loop-k-preserved g c =

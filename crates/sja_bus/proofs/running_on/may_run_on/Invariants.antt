@@ -1,6 +1,6 @@
 use Rattle.std.proofs.Common.{◌≡◌, ℕ, ◌<◌, false}
 use Rattle.sja_regs.specs.declared.orders.Orders.{Orders}
-use Rattle.sja_bus.proofs.running_on.none_aborts.Given as goal
+use Rattle.sja_bus.proofs.running_on.may_run_on.Given as goal
 
 -- those so far want none
 abbrev pub invariant-loop-k : goal.invariant-loop-k
