@@ -5,6 +5,7 @@ mod addresses;
 mod buffering;
 mod calls;
 mod capturing;
+mod controller;
 mod given;
 mod interrupting;
 mod modes;

@@ -1,7 +1,7 @@
 //! A link with both its ledgers, and messages by their length.
 
-use can_frame::{Filter, Message};
-use can_node::{Config, Request};
+use can_frame::Message;
+use can_node::Request;
 use sja_link::{BusEnd, BusLedger, DequeLink, Down, DriverEnd, DriverLedger, LinkId, Up, Verdict};
 use std::alloc::Global;
 use std::test::Fail;
@@ -10,13 +10,6 @@ use std::test::Fail;
 pub const LINK: LinkId = LinkId {
     node: 1,
     activation: 1,
-};
-
-/// The filter that passes every frame.
-const EVERY_FRAME: Filter = Filter {
-    single: true,
-    acr: [0; 4],
-    amr: [255; 4],
 };
 
 /// A message of so many bytes, 3 to 13, with identifier 0 and zeros for data.
@@ -76,15 +69,6 @@ impl Linked {
             }
         }
         Ok(true)
-    }
-}
-
-/// No special mode, and every frame passes.
-pub fn plain() -> Config {
-    Config {
-        filter: EVERY_FRAME,
-        self_test: false,
-        listen: false,
     }
 }
 

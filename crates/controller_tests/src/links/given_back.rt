@@ -41,14 +41,14 @@ fn a_message_that_comes_back_is_stored_at_the_next_try(rt: HostRuntime) -> Resul
         for length in LENGTHS {
             let free = ledger.free();
             if place == back {
-                assert_eq!(rt; judged(&mut ledger, &mut end, length)?, Err(Busy));
-                assert_eq!(rt; ledger.free(), free);
+                assert!(rt; judged(&mut ledger, &mut end, length)? == Err(Busy));
+                assert!(rt; ledger.free() == free);
             }
-            assert_eq!(rt; judged(&mut ledger, &mut end, length)?, Ok(Verdict::Stored));
-            assert_eq!(rt; ledger.free().saturating_add(length), free);
+            assert!(rt; judged(&mut ledger, &mut end, length)? == Ok(Verdict::Stored));
+            assert!(rt; ledger.free().saturating_add(length) == free);
             place = place.wrapping_add(1);
         }
-        assert_eq!(rt; ledger.free(), 20);
+        assert!(rt; ledger.free() == 20);
         for length in LENGTHS {
             assert!(rt;
                 end.link.get() == Some(Down::Message(message_of(length)?)),
@@ -107,10 +107,10 @@ fn a_credit_that_comes_back_is_given_at_the_next_try(rt: HostRuntime) -> Result<
         let mut place = 0u32;
         for length in LENGTHS {
             if place == back {
-                assert_eq!(rt; released(&mut ledger, &mut end), Err(ReleaseFault::Busy));
+                assert!(rt; released(&mut ledger, &mut end) == Err(ReleaseFault::Busy));
             }
             assert!(rt; shows(&mut ledger, &mut end, length)?, "{back}");
-            assert_eq!(rt; released(&mut ledger, &mut end), Ok(length));
+            assert!(rt; released(&mut ledger, &mut end) == Ok(length));
             place = place.wrapping_add(1);
         }
         for length in LENGTHS {

@@ -1,29 +1,35 @@
 //! Journals: entries of each kind come out as they were entered, and the reserved ones are counted.
 
-use super::given::{message_of, plain, request_for};
+use super::given::{message_of, request_for};
 use can_bits::Level;
 use sja_link::{Entry, Journal, Up};
 use std::alloc::Global;
 use std::test::Fail;
+use worked_frames::nodes::PLAIN;
 
 /// One entry of each kind, and bits with all four pairs of levels.
 fn some_of_each(alloc: Global) -> Result<Vec<Entry>, Fail> {
-    let mut entries = Vec::new(alloc);
-    entries.push(Entry::Up(Up::Start(plain())))?;
-    entries.push(Entry::Bit(Level::Recessive, Level::Recessive))?;
-    entries.push(Entry::Bit(Level::Dominant, Level::Dominant))?;
-    entries.push(Entry::Up(Up::Send(request_for(&[0, 0x24, 0x60])?)))?;
-    entries.push(Entry::Bit(Level::Dominant, Level::Recessive))?;
-    entries.push(Entry::Stored(message_of(5)?))?;
-    entries.push(Entry::Bit(Level::Recessive, Level::Dominant))?;
-    entries.push(Entry::Overrun(message_of(13)?))?;
-    entries.push(Entry::Up(Up::Credit(5)))?;
-    entries.push(Entry::Abort)?;
-    entries.push(Entry::Stored(message_of(3)?))?;
-    entries.push(Entry::Off)?;
-    entries.push(Entry::Up(Up::Stop))?;
-    entries.push(Entry::Up(Up::Start(plain())))?;
-    Ok(entries)
+    let request = request_for(&[0, 0x24, 0x60])?;
+    let first = message_of(5)?;
+    let second = message_of(3)?;
+    let overrun = message_of(13)?;
+    let entries = [
+        Entry::Up(Up::Start(PLAIN)),
+        Entry::Bit(Level::Recessive, Level::Recessive),
+        Entry::Bit(Level::Dominant, Level::Dominant),
+        Entry::Up(Up::Send(request)),
+        Entry::Bit(Level::Dominant, Level::Recessive),
+        Entry::Stored(first),
+        Entry::Bit(Level::Recessive, Level::Dominant),
+        Entry::Overrun(overrun),
+        Entry::Up(Up::Credit(5)),
+        Entry::Abort,
+        Entry::Stored(second),
+        Entry::Off,
+        Entry::Up(Up::Stop),
+        Entry::Up(Up::Start(PLAIN)),
+    ];
+    Ok(Vec::from_array(alloc, entries)?)
 }
 
 #[test]

@@ -1,8 +1,9 @@
 //! The bus's ledger: what is stored and what is overrun, and which credits are taken.
 
-use super::given::{Linked, message_of, plain, request_for};
+use super::given::{Linked, message_of, request_for};
 use sja_link::{BadCredit, BusEnd, Down, DriverEnd, Up, Verdict};
 use std::test::Fail;
+use worked_frames::nodes::PLAIN;
 
 /// What the ledger collects; a link of another number is a credit of 0 that it refuses.
 fn collected(linked: &mut Linked) -> Result<Option<Up>, BadCredit> {
@@ -55,9 +56,9 @@ fn a_credit_gives_its_bytes_back(rt: HostRuntime) -> Result<(), Fail> {
     let mut linked = Linked::new(rt.alloc())?;
     assert!(rt; linked.are_judged(&[(13, Verdict::Stored), (5, Verdict::Stored)])?);
     assert!(rt; linked.bus.free() == 46);
-    assert!(rt; linked.give(Up::Start(plain())) && linked.give(Up::Credit(13)));
+    assert!(rt; linked.give(Up::Start(PLAIN)) && linked.give(Up::Credit(13)));
     assert!(rt; linked.give(Up::Send(request_for(&[0, 0, 0])?)) && linked.give(Up::Credit(5)));
-    assert!(rt; collected(&mut linked) == Ok(Some(Up::Start(plain()))));
+    assert!(rt; collected(&mut linked) == Ok(Some(Up::Start(PLAIN))));
     assert!(rt; linked.bus.free() == 46);
     assert!(rt; collected(&mut linked) == Ok(Some(Up::Credit(13))));
     assert!(rt; linked.bus.free() == 59);
@@ -71,8 +72,8 @@ fn a_credit_gives_its_bytes_back(rt: HostRuntime) -> Result<(), Fail> {
 #[test]
 fn a_credit_that_cannot_be_right_is_refused(rt: HostRuntime) -> Result<(), Fail> {
     let mut linked = Linked::new(rt.alloc())?;
-    assert!(rt; linked.give(Up::Start(plain())) && linked.give(Up::Credit(1)));
-    assert!(rt; collected(&mut linked) == Ok(Some(Up::Start(plain()))));
+    assert!(rt; linked.give(Up::Start(PLAIN)) && linked.give(Up::Credit(1)));
+    assert!(rt; collected(&mut linked) == Ok(Some(Up::Start(PLAIN))));
     assert!(rt; collected(&mut linked) == Err(BadCredit(1)));
     assert!(rt; linked.bus.free() == 64);
     assert!(rt; linked.are_judged(&[(13, Verdict::Stored), (13, Verdict::Stored)])?);

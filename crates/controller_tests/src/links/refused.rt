@@ -2,9 +2,10 @@
 //!
 //! Each answers well with and without memory, so that each allocation can be made to fail under it.
 
-use super::given::{LINK, plain};
+use super::given::LINK;
 use can_frame::OutOfMemory;
 use sja_link::{DequeLink, Event, Journal, World};
+use worked_frames::nodes::PLAIN;
 
 #[test]
 fn refused_memory_gives_no_link(rt: HostRuntime) {
@@ -25,12 +26,12 @@ fn refused_memory_gives_no_journal(rt: HostRuntime) {
 #[test]
 fn refused_memory_changes_no_world(rt: HostRuntime) {
     let mut world = World::new(rt.alloc());
-    match world.step(Event::Start(plain())) {
+    match world.step(Event::Start(PLAIN)) {
         Ok(allowed) => assert!(rt; allowed && world.step(Event::Take) == Ok(true)),
         Err(refused) => {
             assert!(rt; refused == OutOfMemory);
             assert!(rt; world.step(Event::Take) == Ok(false));
-            assert!(rt; world.step(Event::Start(plain())) == Ok(true));
+            assert!(rt; world.step(Event::Start(PLAIN)) == Ok(true));
         }
     }
 }

@@ -1,18 +1,43 @@
 //! The world of one link: where its events are allowed.
 
-use super::given::{message_of, plain, request_for};
+use super::given::{message_of, request_for};
 use sja_link::{Event, World};
-use std::alloc::Global;
 use std::test::Fail;
+use worked_frames::nodes::PLAIN;
+
+/// An event by its kind: a message is put by its length, and a request is for the frame of zeros.
+#[derive(Clone, Copy)]
+enum Kind {
+    Start,
+    Send,
+    SendDone,
+    Stop,
+    Take,
+    Put(u8),
+    Off,
+    Get,
+    Release,
+}
+
+/// The event of this kind.
+fn event(kind: Kind) -> Result<Event, Fail> {
+    Ok(match kind {
+        Kind::Start => Event::Start(PLAIN),
+        Kind::Send => Event::Send(request_for(&[0, 0, 0])?),
+        Kind::SendDone => Event::SendDone,
+        Kind::Stop => Event::Stop,
+        Kind::Take => Event::Take,
+        Kind::Put(length) => Event::Put(message_of(length)?),
+        Kind::Off => Event::Off,
+        Kind::Get => Event::Get,
+        Kind::Release => Event::Release,
+    })
+}
 
 /// Whether each of these events is allowed where it stands, as wanted.
-fn are_allowed<const N: usize>(
-    alloc: Global,
-    world: &mut World,
-    events: [(Event, bool); N],
-) -> Result<bool, Fail> {
-    for (event, wanted) in Vec::from_array(alloc, events)? {
-        if world.step(event)? != wanted {
+fn are_allowed(world: &mut World, events: &[(Kind, bool)]) -> Result<bool, Fail> {
+    for (kind, wanted) in events {
+        if world.step(event(*kind)?)? != *wanted {
             return Ok(false);
         }
     }
@@ -23,33 +48,33 @@ fn are_allowed<const N: usize>(
 fn world_budget(rt: HostRuntime) -> Result<(), Fail> {
     let mut world = World::new(rt.alloc());
     let filled = [
-        (Event::Start(plain()), true),
-        (Event::Take, true),
-        (Event::Put(message_of(13)?), true),
-        (Event::Put(message_of(13)?), true),
-        (Event::Put(message_of(13)?), true),
-        (Event::Put(message_of(13)?), true),
-        (Event::Put(message_of(12)?), true),
-        (Event::Put(message_of(3)?), false),
+        (Kind::Start, true),
+        (Kind::Take, true),
+        (Kind::Put(13), true),
+        (Kind::Put(13), true),
+        (Kind::Put(13), true),
+        (Kind::Put(13), true),
+        (Kind::Put(12), true),
+        (Kind::Put(3), false),
     ];
-    assert!(rt; are_allowed(rt.alloc(), &mut world, filled)?);
+    assert!(rt; are_allowed(&mut world, &filled)?);
     let emptied = [
-        (Event::Get, true),
-        (Event::Release, true),
-        (Event::Put(message_of(3)?), false),
-        (Event::Take, true),
-        (Event::Put(message_of(13)?), true),
+        (Kind::Get, true),
+        (Kind::Release, true),
+        (Kind::Put(3), false),
+        (Kind::Take, true),
+        (Kind::Put(13), true),
     ];
-    assert!(rt; are_allowed(rt.alloc(), &mut world, emptied)?);
+    assert!(rt; are_allowed(&mut world, &emptied)?);
     let sent = [
-        (Event::Send(request_for(&[0, 0, 0])?), true),
-        (Event::Send(request_for(&[0, 0, 0])?), false),
-        (Event::SendDone, false),
-        (Event::Take, true),
-        (Event::SendDone, true),
-        (Event::Send(request_for(&[0, 0, 0])?), true),
+        (Kind::Send, true),
+        (Kind::Send, false),
+        (Kind::SendDone, false),
+        (Kind::Take, true),
+        (Kind::SendDone, true),
+        (Kind::Send, true),
     ];
-    assert!(rt; are_allowed(rt.alloc(), &mut world, sent)?);
+    assert!(rt; are_allowed(&mut world, &sent)?);
     Ok(())
 }
 
@@ -57,19 +82,19 @@ fn world_budget(rt: HostRuntime) -> Result<(), Fail> {
 fn nothing_goes_before_the_start(rt: HostRuntime) -> Result<(), Fail> {
     let mut world = World::new(rt.alloc());
     let before = [
-        (Event::Put(message_of(3)?), false),
-        (Event::Off, false),
-        (Event::Get, false),
-        (Event::Release, false),
-        (Event::Send(request_for(&[0, 0, 0])?), false),
-        (Event::SendDone, false),
-        (Event::Stop, false),
-        (Event::Take, false),
-        (Event::Start(plain()), true),
-        (Event::Start(plain()), false),
-        (Event::Put(message_of(3)?), false),
+        (Kind::Put(3), false),
+        (Kind::Off, false),
+        (Kind::Get, false),
+        (Kind::Release, false),
+        (Kind::Send, false),
+        (Kind::SendDone, false),
+        (Kind::Stop, false),
+        (Kind::Take, false),
+        (Kind::Start, true),
+        (Kind::Start, false),
+        (Kind::Put(3), false),
     ];
-    assert!(rt; are_allowed(rt.alloc(), &mut world, before)?);
+    assert!(rt; are_allowed(&mut world, &before)?);
     Ok(())
 }
 
@@ -77,24 +102,24 @@ fn nothing_goes_before_the_start(rt: HostRuntime) -> Result<(), Fail> {
 fn bus_off_and_a_stop_end_it(rt: HostRuntime) -> Result<(), Fail> {
     let mut world = World::new(rt.alloc());
     let off = [
-        (Event::Start(plain()), true),
-        (Event::Take, true),
-        (Event::Put(message_of(3)?), true),
-        (Event::Get, true),
-        (Event::Off, true),
-        (Event::Off, false),
-        (Event::Put(message_of(3)?), false),
-        (Event::Get, true),
-        (Event::Release, false),
+        (Kind::Start, true),
+        (Kind::Take, true),
+        (Kind::Put(3), true),
+        (Kind::Get, true),
+        (Kind::Off, true),
+        (Kind::Off, false),
+        (Kind::Put(3), false),
+        (Kind::Get, true),
+        (Kind::Release, false),
     ];
-    assert!(rt; are_allowed(rt.alloc(), &mut world, off)?);
+    assert!(rt; are_allowed(&mut world, &off)?);
     let stopped = [
-        (Event::Stop, true),
-        (Event::Stop, false),
-        (Event::Send(request_for(&[0, 0, 0])?), false),
-        (Event::Take, true),
-        (Event::Take, false),
+        (Kind::Stop, true),
+        (Kind::Stop, false),
+        (Kind::Send, false),
+        (Kind::Take, true),
+        (Kind::Take, false),
     ];
-    assert!(rt; are_allowed(rt.alloc(), &mut world, stopped)?);
+    assert!(rt; are_allowed(&mut world, &stopped)?);
     Ok(())
 }

@@ -1,7 +1,8 @@
 //! Each address, read and written, in reset mode and out of it.
 
+use super::controller::Controller;
 use super::given::{active, nothing_seen, two_seen};
-use sja_regs::{Port, RegFault, Register};
+use sja_regs::{RegFault, Register};
 use std::test::Fail;
 
 /// What a read of one address answers after power-on, and what a write.
@@ -39,7 +40,7 @@ fn wanted(addr: u8) -> (Answers, Answers) {
 }
 
 /// What an address answers on this port.
-fn answers(mut port: Port, addr: u8, value: u8) -> Answers {
+fn answers(mut port: Controller, addr: u8, value: u8) -> Answers {
     let read = port.read(addr, &nothing_seen());
     (read, port.write(addr, value))
 }
@@ -52,7 +53,7 @@ fn each_address_answers_in_both_versions(rt: HostRuntime) {
         let mode = u8::from(addr == 0);
         for version in [1, 2] {
             assert!(rt;
-                answers(Port::new(version), addr, mode) == in_reset,
+                answers(Controller::new(version), addr, mode) == in_reset,
                 "at {addr}"
             );
             assert!(rt;
@@ -66,24 +67,21 @@ fn each_address_answers_in_both_versions(rt: HostRuntime) {
 /// Each register with a value of its own, so that none stands in another's place.
 #[test]
 fn registers_of_reset_mode_are_read_as_they_were_written(rt: HostRuntime) -> Result<(), Fail> {
-    let mut port = Port::new(1);
+    let mut port = Controller::new(1);
     for addr in 16..=23 {
         port.write(addr, 0xa0 + addr)?;
     }
     port.write(4, 0x5a)?;
     port.write(13, 0x80)?;
     port.write(0, 0x09)?;
-    let seen = nothing_seen();
     for addr in 16..=23 {
-        assert_eq!(rt; port.read(addr, &seen), Ok(0xa0 + addr));
+        assert!(rt; port.shows(&[(addr, 0xa0 + addr)]));
     }
-    assert_eq!(rt; port.read(4, &seen), Ok(0x5a));
-    assert_eq!(rt; port.read(13, &seen), Ok(0x80));
-    assert_eq!(rt; port.read(0, &seen), Ok(0x09));
+    assert!(rt; port.shows(&[(4, 0x5a), (13, 0x80), (0, 0x09)]));
     let config = port.config();
     assert!(rt; config.filter.single && !config.self_test && !config.listen);
-    assert_eq!(rt; config.filter.acr, [0xb0, 0xb1, 0xb2, 0xb3]);
-    assert_eq!(rt; config.filter.amr, [0xb4, 0xb5, 0xb6, 0xb7]);
+    assert!(rt; config.filter.acr == [0xb0, 0xb1, 0xb2, 0xb3]);
+    assert!(rt; config.filter.amr == [0xb4, 0xb5, 0xb6, 0xb7]);
     Ok(())
 }
 
@@ -93,22 +91,20 @@ fn messages_are_seen_in_the_receive_buffer(rt: HostRuntime) -> Result<(), Fail> 
     let mut port = active(1);
     let seen = two_seen()?;
     let bytes = [0x02, 0x24, 0x60, 0x11, 0x22, 0, 0, 0, 0, 0, 0, 0, 0];
-    let mut addr = 16;
-    for byte in bytes {
-        assert_eq!(rt; port.read(addr, &seen), Ok(byte), "at {addr}");
-        addr += 1;
+    for (addr, byte) in (16..29u8).zip(bytes) {
+        assert!(rt; port.read(addr, &seen) == Ok(byte), "at {addr}");
     }
-    assert_eq!(rt; port.read(29, &seen), Ok(2));
-    assert_eq!(rt; port.read(2, &seen), Ok(0x3d));
+    assert!(rt; port.read(29, &seen) == Ok(2));
+    assert!(rt; port.read(2, &seen) == Ok(0x3d));
     port.enter_reset();
-    assert_eq!(rt; port.read(17, &seen), Ok(0x00));
+    assert!(rt; port.read(17, &seen) == Ok(0x00));
     Ok(())
 }
 
 #[test]
 fn an_address_is_a_register(rt: HostRuntime) {
-    assert_eq!(rt; Register::at(0, true), Some(Register::Mode));
-    assert_eq!(rt; Register::at(23, true), Some(Register::AcceptanceMask(3)));
-    assert_eq!(rt; Register::at(23, false), Some(Register::Buffer(7)));
-    assert_eq!(rt; Register::at(24, true), None);
+    assert!(rt; Register::at(0, true) == Some(Register::Mode));
+    assert!(rt; Register::at(23, true) == Some(Register::AcceptanceMask(3)));
+    assert!(rt; Register::at(23, false) == Some(Register::Buffer(7)));
+    assert!(rt; Register::at(24, true) == None);
 }

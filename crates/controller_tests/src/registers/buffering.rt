@@ -61,10 +61,8 @@ fn a_buffer_of_any_content_has_a_frame(rt: HostRuntime) -> Result<(), Fail> {
 fn the_frame_in_the_written_buffer_is_requested(rt: HostRuntime) -> Result<(), Fail> {
     for (bytes, want) in rows() {
         let mut port = active(1);
-        let mut addr = 16;
-        for byte in begun(bytes) {
+        for (addr, byte) in (16..29u8).zip(begun(bytes)) {
             port.write(addr, byte)?;
-            addr += 1;
         }
         let request = port.command(0x01)?;
         let frame = Message::from_bytes(want)?.frame();

@@ -1,12 +1,13 @@
 //! Calls on a new port of version 1, one after the other.
 
+use super::controller::Controller;
 use super::given::{nothing_seen, request_for_zeros, zeros};
 use sja_regs::{Port, RegFault};
 use std::test::Fail;
 
 #[test]
 fn a_new_port_is_in_reset_mode(rt: HostRuntime) {
-    let mut port = Port::new(1);
+    let mut port = Controller::new(1);
     let reads = [
         (0, Ok(0x01)),
         (2, Ok(0x3c)),
@@ -16,34 +17,34 @@ fn a_new_port_is_in_reset_mode(rt: HostRuntime) {
         (1, Err(RegFault::NoRegister)),
     ];
     for (addr, want) in reads {
-        assert_eq!(rt; port.read(addr, &nothing_seen()), want, "at {addr}");
+        assert!(rt; port.read(addr, &nothing_seen()) == want, "at {addr}");
     }
-    assert_eq!(rt; port.write(1, 0x00), Err(RegFault::UseTyped));
-    assert_eq!(rt; port.write(0, 0x00), Err(RegFault::UseTyped));
-    assert_eq!(rt; port.write(0, 0x03), Err(RegFault::NotInVersion));
-    assert_eq!(rt; port.command(0x01), Err(RegFault::ActiveOnly));
-    assert_eq!(rt; port.load(&zeros()), Err(RegFault::ActiveOnly));
+    assert!(rt; port.write(1, 0x00) == Err(RegFault::UseTyped));
+    assert!(rt; port.write(0, 0x00) == Err(RegFault::UseTyped));
+    assert!(rt; port.write(0, 0x03) == Err(RegFault::NotInVersion));
+    assert!(rt; port.command(0x01) == Err(RegFault::ActiveOnly));
+    assert!(rt; port.load(&zeros()) == Err(RegFault::ActiveOnly));
 }
 
 #[test]
 fn an_active_port_sends_and_aborts(rt: HostRuntime) -> Result<(), Fail> {
-    let mut port = Port::new(1);
+    let mut port = Controller::new(1);
     port.leave_reset();
-    assert_eq!(rt; port.write(0, 0x08), Err(RegFault::ResetOnly));
-    assert_eq!(rt; port.write(16, 0x00), Ok(()));
-    assert_eq!(rt; port.command(0x02), Ok(None));
-    assert_eq!(rt; port.command(0x10), Err(RegFault::NotInVersion));
-    assert_eq!(rt; port.command(0x04), Err(RegFault::UseTyped));
-    assert_eq!(rt; port.load(&zeros()), Ok(()));
-    assert_eq!(rt; port.plan_command(0x01), Ok(Some(request_for_zeros())));
-    assert_eq!(rt; port.command(0x01), Ok(Some(request_for_zeros())));
-    assert_eq!(rt; port.read(2, &nothing_seen()), Ok(0x30));
-    assert_eq!(rt; port.write(16, 0x00), Err(RegFault::Locked));
-    assert_eq!(rt; port.load(&zeros()), Err(RegFault::Locked));
-    assert_eq!(rt; port.plan_command(0x01), Err(RegFault::Locked));
-    assert_eq!(rt; port.command(0x01), Err(RegFault::Locked));
+    assert!(rt; port.write(0, 0x08) == Err(RegFault::ResetOnly));
+    assert!(rt; port.write(16, 0x00) == Ok(()));
+    assert!(rt; port.command(0x02) == Ok(None));
+    assert!(rt; port.command(0x10) == Err(RegFault::NotInVersion));
+    assert!(rt; port.command(0x04) == Err(RegFault::UseTyped));
+    assert!(rt; port.load(&zeros()) == Ok(()));
+    assert!(rt; port.plan_command(0x01) == Ok(Some(request_for_zeros())));
+    assert!(rt; port.command(0x01) == Ok(Some(request_for_zeros())));
+    assert!(rt; port.shows(&[(2, 0x30)]));
+    assert!(rt; port.write(16, 0x00) == Err(RegFault::Locked));
+    assert!(rt; port.load(&zeros()) == Err(RegFault::Locked));
+    assert!(rt; port.plan_command(0x01) == Err(RegFault::Locked));
+    assert!(rt; port.command(0x01) == Err(RegFault::Locked));
     assert!(rt; !port.orders().abort);
-    assert_eq!(rt; port.command(0x02), Ok(None));
+    assert!(rt; port.command(0x02) == Ok(None));
     assert!(rt; port.orders().abort);
     Ok(())
 }
@@ -51,24 +52,22 @@ fn an_active_port_sends_and_aborts(rt: HostRuntime) -> Result<(), Fail> {
 /// An abort stands only while a request is under way.
 #[test]
 fn an_abort_with_nothing_under_way_does_nothing(rt: HostRuntime) {
-    let mut port = Port::new(1);
+    let mut port = Controller::new(1);
     port.leave_reset();
-    assert_eq!(rt; port.command(0x02), Ok(None));
+    assert!(rt; port.command(0x02) == Ok(None));
     assert!(rt; !port.orders().abort);
 }
 
 #[test]
 fn entering_reset_mode_releases_the_transmit_buffer(rt: HostRuntime) -> Result<(), Fail> {
-    let mut port = Port::new(1);
+    let mut port = Controller::new(1);
     port.leave_reset();
     port.write(4, 0xff)?;
     port.command(0x01)?;
     port.command(0x02)?;
     port.enter_reset();
     assert!(rt; !port.orders().abort);
-    assert_eq!(rt; port.read(0, &nothing_seen()), Ok(0x01));
-    assert_eq!(rt; port.read(2, &nothing_seen()), Ok(0x34));
-    assert_eq!(rt; port.read(3, &nothing_seen()), Ok(0x00));
+    assert!(rt; port.shows(&[(0, 0x01), (2, 0x34), (3, 0x00)]));
     Ok(())
 }
 

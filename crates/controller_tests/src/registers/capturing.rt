@@ -1,6 +1,6 @@
 //! ALC and ECC.
 
-use super::given::{active, nothing_seen, quiet};
+use super::given::{active, quiet};
 use can_bits::Segment;
 use can_node::{Cause, Phase};
 use sja_regs::BusTurn;
@@ -20,8 +20,7 @@ fn two_captures_without_a_read_between(rt: HostRuntime) {
     let mut port = active(1);
     port.bus_turn(&lost_at(12, (Cause::Form, Segment::EndOfFrame)));
     port.bus_turn(&lost_at(3, (Cause::Bit, Segment::StartOfFrame)));
-    assert_eq!(rt; port.read(11, &nothing_seen()), Ok(12));
-    assert_eq!(rt; port.read(12, &nothing_seen()), Ok(0x7a));
+    assert!(rt; port.shows(&[(11, 12), (12, 0x7a)]));
 }
 
 /// A read allows the next capture, and the value stays until then. Each register has a read of its own.
@@ -29,14 +28,11 @@ fn two_captures_without_a_read_between(rt: HostRuntime) {
 fn two_captures_with_a_read_between(rt: HostRuntime) {
     let mut port = active(1);
     port.bus_turn(&lost_at(12, (Cause::Form, Segment::EndOfFrame)));
-    assert_eq!(rt; port.read(11, &nothing_seen()), Ok(12));
-    assert_eq!(rt; port.read(11, &nothing_seen()), Ok(12));
+    assert!(rt; port.shows(&[(11, 12), (11, 12)]));
     port.bus_turn(&lost_at(3, (Cause::Bit, Segment::StartOfFrame)));
-    assert_eq!(rt; port.read(11, &nothing_seen()), Ok(3));
-    assert_eq!(rt; port.read(12, &nothing_seen()), Ok(0x7a));
+    assert!(rt; port.shows(&[(11, 3), (12, 0x7a)]));
     port.bus_turn(&lost_at(4, (Cause::Bit, Segment::StartOfFrame)));
-    assert_eq!(rt; port.read(11, &nothing_seen()), Ok(4));
-    assert_eq!(rt; port.read(12, &nothing_seen()), Ok(0x23));
+    assert!(rt; port.shows(&[(11, 4), (12, 0x23)]));
 }
 
 /// A read in reset mode allows the next capture too, and the values stay over reset mode.
@@ -45,13 +41,12 @@ fn captures_stay_over_reset_mode(rt: HostRuntime) {
     let mut port = active(1);
     port.bus_turn(&lost_at(12, (Cause::Form, Segment::EndOfFrame)));
     port.enter_reset();
-    assert_eq!(rt; port.read(11, &nothing_seen()), Ok(12));
+    assert!(rt; port.shows(&[(11, 12)]));
     port.leave_reset();
     let mut turn = lost_at(3, (Cause::Bit, Segment::StartOfFrame));
     turn.activation = 2;
     port.bus_turn(&turn);
-    assert_eq!(rt; port.read(11, &nothing_seen()), Ok(3));
-    assert_eq!(rt; port.read(12, &nothing_seen()), Ok(0x7a));
+    assert!(rt; port.shows(&[(11, 3), (12, 0x7a)]));
 }
 
 /// Kind of error, role and segment.
@@ -73,6 +68,6 @@ fn the_error_code_says_kind_role_and_segment(rt: HostRuntime) {
         turn.events.fault = Some((cause, segment));
         turn.events.receiving = receiving;
         port.bus_turn(&turn);
-        assert_eq!(rt; port.read(12, &nothing_seen()), Ok(want));
+        assert!(rt; port.shows(&[(12, want)]));
     }
 }

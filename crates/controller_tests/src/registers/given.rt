@@ -1,8 +1,9 @@
 //! Ports to begin with, turns, and what is seen of messages.
 
+use super::controller::Controller;
 use can_frame::{Frame, Message};
 use can_node::{BitEvents, Phase, Request};
-use sja_regs::{BusTurn, Port, Seen};
+use sja_regs::{BusTurn, Seen};
 use std::test::Fail;
 
 /// No message at the driver's end.
@@ -37,14 +38,14 @@ pub fn request_for_zeros() -> Request {
 }
 
 /// A port in its first activation, with all registers as after power-on but for RM.
-pub fn active(version: u8) -> Port {
-    let mut port = Port::new(version);
+pub fn active(version: u8) -> Controller {
+    let mut port = Controller::new(version);
     port.leave_reset();
     port
 }
 
 /// A port in its first activation with a request under way.
-pub fn sending() -> Result<Port, Fail> {
+pub fn sending() -> Result<Controller, Fail> {
     let mut port = active(1);
     port.command(0x01)?;
     Ok(port)

@@ -1,9 +1,10 @@
 //! Interrupts, with their enable bits at 0 and at 1.
 
+use super::controller::Controller;
 use super::given::{nothing_seen, quiet, sending, two_seen};
 use can_bits::Segment;
 use can_node::{Cause, Outcome};
-use sja_regs::{BusTurn, Interrupts, Port};
+use sja_regs::{BusTurn, Interrupts};
 use std::test::Fail;
 
 /// A turn that is the cause of an interrupt on a port with a request under way, and the bit of it.
@@ -30,7 +31,7 @@ fn causes() -> [(BusTurn, u8); 8] {
 }
 
 /// A port with a request under way and these interrupts enabled.
-fn enabled(bits: u8) -> Result<Port, Fail> {
+fn enabled(bits: u8) -> Result<Controller, Fail> {
     let mut port = sending()?;
     port.write(4, bits)?;
     Ok(port)
@@ -38,12 +39,10 @@ fn enabled(bits: u8) -> Result<Port, Fail> {
 
 #[test]
 fn an_interrupt_comes_where_it_is_enabled(rt: HostRuntime) -> Result<(), Fail> {
-    let seen = nothing_seen();
     for (turn, bit) in causes() {
         let mut port = enabled(bit)?;
         port.bus_turn(&turn);
-        assert_eq!(rt; port.read(3, &seen), Ok(bit));
-        assert_eq!(rt; port.read(3, &seen), Ok(0), "after a read of {bit}");
+        assert!(rt; port.shows(&[(3, bit), (3, 0)]));
     }
     Ok(())
 }
@@ -56,20 +55,18 @@ fn an_interrupt_that_is_not_enabled_is_lost(rt: HostRuntime) -> Result<(), Fail>
         port.bus_turn(&turn);
         port.write(4, 0xff)?;
         let pending = port.read(3, &seen)?;
-        assert_eq!(rt; pending & bit, 0, "of {bit}");
+        assert!(rt; pending & bit == 0, "of {bit}");
     }
     Ok(())
 }
 
 #[test]
 fn a_pending_interrupt_stays_where_its_enable_bit_is_cleared(rt: HostRuntime) -> Result<(), Fail> {
-    let seen = nothing_seen();
     for (turn, bit) in causes() {
         let mut port = enabled(bit)?;
         port.bus_turn(&turn);
         port.write(4, 0x00)?;
-        assert_eq!(rt; port.read(3, &seen), Ok(bit));
-        assert_eq!(rt; port.read(3, &seen), Ok(0), "after a read of {bit}");
+        assert!(rt; port.shows(&[(3, bit), (3, 0)]));
     }
     Ok(())
 }
@@ -79,13 +76,13 @@ fn a_pending_interrupt_stays_where_its_enable_bit_is_cleared(rt: HostRuntime) ->
 fn the_receive_interrupt_stands_with_a_message(rt: HostRuntime) -> Result<(), Fail> {
     let mut port = enabled(0x01)?;
     let seen = two_seen()?;
-    assert_eq!(rt; port.read(3, &nothing_seen()), Ok(0x00));
-    assert_eq!(rt; port.read(3, &seen), Ok(0x01));
-    assert_eq!(rt; port.read(3, &seen), Ok(0x01));
+    assert!(rt; port.read(3, &nothing_seen()) == Ok(0x00));
+    assert!(rt; port.read(3, &seen) == Ok(0x01));
+    assert!(rt; port.read(3, &seen) == Ok(0x01));
     port.write(4, 0xfe)?;
-    assert_eq!(rt; port.read(3, &seen), Ok(0x00));
+    assert!(rt; port.read(3, &seen) == Ok(0x00));
     port.write(4, 0x01)?;
-    assert_eq!(rt; port.read(3, &seen), Ok(0x01));
+    assert!(rt; port.read(3, &seen) == Ok(0x01));
     Ok(())
 }
 
@@ -93,11 +90,11 @@ fn the_receive_interrupt_stands_with_a_message(rt: HostRuntime) -> Result<(), Fa
 #[test]
 fn the_wake_up_interrupt_never_comes(rt: HostRuntime) -> Result<(), Fail> {
     let mut port = enabled(0xff)?;
-    assert_eq!(rt; port.read(4, &nothing_seen()), Ok(0xff));
+    assert!(rt; port.shows(&[(4, 0xff)]));
     for (turn, _bit) in causes() {
         port.bus_turn(&turn);
         let pending = port.read(3, &nothing_seen())?;
-        assert_eq!(rt; pending & 0x10, 0);
+        assert!(rt; pending & 0x10 == 0);
     }
     Ok(())
 }
@@ -109,14 +106,13 @@ fn an_overrun_is_told_once_until_it_is_cleared(rt: HostRuntime) -> Result<(), Fa
     let mut turn = quiet();
     turn.overrun = true;
     port.bus_turn(&turn);
-    assert_eq!(rt; port.read(3, &nothing_seen()), Ok(0x08));
+    assert!(rt; port.shows(&[(3, 0x08)]));
     port.bus_turn(&turn);
-    assert_eq!(rt; port.read(3, &nothing_seen()), Ok(0x00));
-    assert_eq!(rt; port.read(2, &nothing_seen()), Ok(0x02));
+    assert!(rt; port.shows(&[(3, 0x00), (2, 0x02)]));
     port.command(0x08)?;
-    assert_eq!(rt; port.read(2, &nothing_seen()), Ok(0x00));
+    assert!(rt; port.shows(&[(2, 0x00)]));
     port.bus_turn(&turn);
-    assert_eq!(rt; port.read(3, &nothing_seen()), Ok(0x08));
+    assert!(rt; port.shows(&[(3, 0x08)]));
     Ok(())
 }
 
@@ -125,6 +121,6 @@ fn a_byte_says_which_interrupts_it_means(rt: HostRuntime) {
     let mut interrupts = Interrupts::none();
     interrupts.doi = true;
     interrupts.bei = true;
-    assert_eq!(rt; interrupts.byte(), 0x88);
-    assert_eq!(rt; Interrupts::of(0x88), interrupts);
+    assert!(rt; interrupts.byte() == 0x88);
+    assert!(rt; Interrupts::of(0x88) == interrupts);
 }

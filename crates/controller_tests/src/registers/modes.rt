@@ -1,23 +1,24 @@
 //! What version 2 has and version 1 hasn't: listen only mode, self test mode, self reception.
 
-use super::given::{active, nothing_seen, quiet, request_for_zeros, zeros};
+use super::controller::Controller;
+use super::given::{active, quiet, request_for_zeros, zeros};
 use can_node::Outcome;
-use sja_regs::{Command, Mode, Port, RegFault};
+use sja_regs::{Command, Mode, RegFault};
 use std::test::Fail;
 
 /// LOM is bit 1 of MOD, STM is bit 2. Bits 4 to 7 are ignored.
 #[test]
 fn both_modes_are_written_in_version_2_alone(rt: HostRuntime) {
     for value in [0x03, 0x05, 0x07, 0x0f, 0xff] {
-        assert_eq!(rt; Port::new(1).write(0, value), Err(RegFault::NotInVersion));
-        let mut port = Port::new(2);
-        assert_eq!(rt; port.write(0, value), Ok(()));
-        assert_eq!(rt; port.read(0, &nothing_seen()), Ok(value & 0x0f));
-        assert_eq!(rt; port.config().listen, value & 0x02 != 0);
-        assert_eq!(rt; port.config().self_test, value & 0x04 != 0);
-        assert_eq!(rt; port.config().filter.single, value & 0x08 != 0);
+        assert!(rt; Controller::new(1).write(0, value) == Err(RegFault::NotInVersion));
+        let mut port = Controller::new(2);
+        assert!(rt; port.write(0, value) == Ok(()));
+        assert!(rt; port.shows(&[(0, value & 0x0f)]));
+        assert!(rt; port.config().listen == (value & 0x02 != 0));
+        assert!(rt; port.config().self_test == (value & 0x04 != 0));
+        assert!(rt; port.config().filter.single == (value & 0x08 != 0));
     }
-    assert_eq!(rt; Port::new(1).write(0, 0xf9), Ok(()));
+    assert!(rt; Controller::new(1).write(0, 0xf9) == Ok(()));
 }
 
 /// Another RM comes first, then what the version doesn't have, then what is written in reset mode alone.
@@ -36,11 +37,11 @@ fn a_mode_is_refused_for_the_first_reason(rt: HostRuntime) {
     ];
     for (version, value, want) in rows {
         let mut port = active(version);
-        assert_eq!(rt; port.write(0, value), Err(want), "{value}");
-        assert_eq!(rt; port.read(0, &nothing_seen()), Ok(0x00));
-        assert_eq!(rt; port.write(0, 0xf0), Ok(()));
+        assert!(rt; port.write(0, value) == Err(want), "{value}");
+        assert!(rt; port.shows(&[(0, 0x00)]));
+        assert!(rt; port.write(0, 0xf0) == Ok(()));
     }
-    assert_eq!(rt; Port::new(1).write(0, 0x02), Err(RegFault::UseTyped));
+    assert!(rt; Controller::new(1).write(0, 0x02) == Err(RegFault::UseTyped));
 }
 
 /// SRR makes a request that the node receives itself; TR with SRR ignores SRR.
@@ -54,16 +55,16 @@ fn self_reception_is_requested_in_version_2_alone(rt: HostRuntime) -> Result<(),
         (0xf1, false, false),
     ];
     for (value, self_receive, single_shot) in rows {
-        assert_eq!(rt; active(1).command(value), Err(RegFault::NotInVersion));
+        assert!(rt; active(1).command(value) == Err(RegFault::NotInVersion));
         let mut request = request_for_zeros();
         request.self_receive = self_receive;
         request.single_shot = single_shot;
         let mut port = active(2);
         port.load(&zeros())?;
-        assert_eq!(rt; port.plan_command(value), Ok(Some(request.copy())));
-        assert_eq!(rt; port.command(value), Ok(Some(request)));
-        assert_eq!(rt; port.command(0x10), Err(RegFault::Locked));
-        assert_eq!(rt; port.read(2, &nothing_seen()), Ok(0x30));
+        assert!(rt; port.plan_command(value) == Ok(Some(request.copy())));
+        assert!(rt; port.command(value) == Ok(Some(request)));
+        assert!(rt; port.command(0x10) == Err(RegFault::Locked));
+        assert!(rt; port.shows(&[(2, 0x30)]));
     }
     Ok(())
 }
@@ -72,16 +73,16 @@ fn self_reception_is_requested_in_version_2_alone(rt: HostRuntime) -> Result<(),
 #[test]
 fn a_port_that_only_listens_sends_nothing(rt: HostRuntime) -> Result<(), Fail> {
     for mode in [0x03, 0x07] {
-        let mut port = Port::new(2);
+        let mut port = Controller::new(2);
         port.write(0, mode)?;
-        assert_eq!(rt; port.command(0x01), Err(RegFault::ActiveOnly));
+        assert!(rt; port.command(0x01) == Err(RegFault::ActiveOnly));
         port.leave_reset();
         for value in [0x01, 0x03, 0x10, 0x11, 0x19] {
-            assert_eq!(rt; port.command(value), Err(RegFault::ListenOnly));
+            assert!(rt; port.command(value) == Err(RegFault::ListenOnly));
         }
-        assert_eq!(rt; port.command(0x14), Err(RegFault::UseTyped));
-        assert_eq!(rt; port.command(0x02), Ok(None));
-        assert_eq!(rt; port.command(0x08), Ok(None));
+        assert!(rt; port.command(0x14) == Err(RegFault::UseTyped));
+        assert!(rt; port.command(0x02) == Ok(None));
+        assert!(rt; port.command(0x08) == Ok(None));
         assert!(rt; !port.orders().abort);
     }
     Ok(())
@@ -90,15 +91,15 @@ fn a_port_that_only_listens_sends_nothing(rt: HostRuntime) -> Result<(), Fail> {
 /// In self test mode a frame that no one acknowledges is sent: SR is 0c afterwards.
 #[test]
 fn a_port_in_self_test_mode_sends(rt: HostRuntime) -> Result<(), Fail> {
-    let mut port = Port::new(2);
+    let mut port = Controller::new(2);
     port.write(0, 0x05)?;
     port.leave_reset();
     port.load(&zeros())?;
-    assert_eq!(rt; port.command(0x01), Ok(Some(request_for_zeros())));
+    assert!(rt; port.command(0x01) == Ok(Some(request_for_zeros())));
     let mut turn = quiet();
     turn.events.ended = Some(Outcome::Sent);
     port.bus_turn(&turn);
-    assert_eq!(rt; port.read(2, &nothing_seen()), Ok(0x0c));
+    assert!(rt; port.shows(&[(2, 0x0c)]));
     Ok(())
 }
 
@@ -110,8 +111,8 @@ fn bytes_say_a_mode_and_a_command(rt: HostRuntime) {
         stm: true,
         afm: false,
     };
-    assert_eq!(rt; Mode::of(0xf5), mode);
-    assert_eq!(rt; mode.byte(), 0x05);
+    assert!(rt; Mode::of(0xf5) == mode);
+    assert!(rt; mode.byte() == 0x05);
     let command = Command {
         tr: false,
         at: true,
@@ -119,7 +120,7 @@ fn bytes_say_a_mode_and_a_command(rt: HostRuntime) {
         cdo: false,
         srr: true,
     };
-    assert_eq!(rt; Command::of(0xf2), command);
+    assert!(rt; Command::of(0xf2) == command);
     assert!(rt; command.requests());
     assert!(rt; !Command::of(0x0e).requests());
 }

@@ -1,9 +1,10 @@
 //! What a bit of the bus changes.
 
-use super::given::{active, nothing_seen, quiet, sending, two_seen};
+use super::controller::Controller;
+use super::given::{active, quiet, sending, two_seen};
 use can_bits::Segment;
 use can_node::{Cause, Outcome, Phase};
-use sja_regs::{BusTurn, Port, Status};
+use sja_regs::{BusTurn, Status};
 use std::test::Fail;
 
 /// RS is bit 4 of SR, TS is bit 5; TBS and TCS are 1.
@@ -24,10 +25,10 @@ fn receive_and_transmit_status_follow_phase_and_role(rt: HostRuntime) {
         let mut turn = quiet();
         turn.phase = phase;
         port.bus_turn(&turn);
-        assert_eq!(rt; port.read(2, &nothing_seen()), Ok(receiver));
+        assert!(rt; port.shows(&[(2, receiver)]));
         turn.events.receiving = false;
         port.bus_turn(&turn);
-        assert_eq!(rt; port.read(2, &nothing_seen()), Ok(transmitter));
+        assert!(rt; port.shows(&[(2, transmitter)]));
     }
 }
 
@@ -36,14 +37,12 @@ fn receive_and_transmit_status_follow_phase_and_role(rt: HostRuntime) {
 fn a_warning_limit_written_in_reset_mode_moves_the_error_status(
     rt: HostRuntime,
 ) -> Result<(), Fail> {
-    let mut port = Port::new(1);
-    let seen = nothing_seen();
+    let mut port = Controller::new(1);
     let rows = [(0x00, 0x7c, 0x04), (0x01, 0x3c, 0x04), (0x02, 0x3c, 0x00)];
     port.write(4, 0x04)?;
     for (limit, status, interrupt) in rows {
         port.write(13, limit)?;
-        assert_eq!(rt; port.read(2, &seen), Ok(status), "with {limit}");
-        assert_eq!(rt; port.read(3, &seen), Ok(interrupt), "with {limit}");
+        assert!(rt; port.shows(&[(2, status), (3, interrupt)]));
     }
     let mut turn = quiet();
     turn.rxerr = 0x32;
@@ -51,9 +50,9 @@ fn a_warning_limit_written_in_reset_mode_moves_the_error_status(
     port.write(13, 0x32)?;
     turn.phase = Phase::Reset;
     port.bus_turn(&turn);
-    assert_eq!(rt; port.read(2, &seen), Ok(0x7c));
+    assert!(rt; port.shows(&[(2, 0x7c)]));
     port.write(13, 0x33)?;
-    assert_eq!(rt; port.read(2, &seen), Ok(0x3c));
+    assert!(rt; port.shows(&[(2, 0x3c)]));
     Ok(())
 }
 
@@ -70,18 +69,13 @@ fn counted(txerr: u8, phase: Phase) -> BusTurn {
 #[test]
 fn a_single_shot_that_fails_leaves_tcs_at_0(rt: HostRuntime) -> Result<(), Fail> {
     let mut port = active(1);
-    let seen = nothing_seen();
     port.write(4, 0x02)?;
     port.command(0x03)?;
     let mut turn = counted(8, Phase::Flag);
     turn.events.fault = Some((Cause::Ack, Segment::AckSlot));
     turn.events.ended = Some(Outcome::Failed);
     port.bus_turn(&turn);
-    assert_eq!(rt; port.read(2, &seen), Ok(0x24));
-    assert_eq!(rt; port.read(3, &seen), Ok(0x02));
-    assert_eq!(rt; port.read(12, &seen), Ok(0xd9));
-    assert_eq!(rt; port.read(15, &seen), Ok(0x08));
-    assert_eq!(rt; port.read(14, &seen), Ok(0x00));
+    assert!(rt; port.shows(&[(2, 0x24), (3, 0x02), (12, 0xd9), (15, 0x08), (14, 0x00)]));
     Ok(())
 }
 
@@ -89,19 +83,16 @@ fn a_single_shot_that_fails_leaves_tcs_at_0(rt: HostRuntime) -> Result<(), Fail>
 #[test]
 fn bus_off_enters_reset_mode(rt: HostRuntime) -> Result<(), Fail> {
     let mut port = sending()?;
-    let seen = nothing_seen();
     port.write(4, 0xff)?;
     port.command(0x02)?;
     port.bus_turn(&counted(248, Phase::Idle));
-    assert_eq!(rt; port.read(3, &seen), Ok(0x24));
+    assert!(rt; port.shows(&[(3, 0x24)]));
     let mut turn = counted(127, Phase::Reset);
     turn.events.went_off = true;
     turn.events.fault = Some((Cause::Bit, Segment::StartOfFrame));
     port.bus_turn(&turn);
     let rows = [(0, 0x01), (2, 0xf4), (3, 0xa4), (12, 0x03), (15, 0x7f)];
-    for (addr, want) in rows {
-        assert_eq!(rt; port.read(addr, &seen), Ok(want), "at {addr}");
-    }
+    assert!(rt; port.shows(&rows));
     assert!(rt; !port.orders().abort);
     Ok(())
 }
@@ -110,7 +101,6 @@ fn bus_off_enters_reset_mode(rt: HostRuntime) -> Result<(), Fail> {
 #[test]
 fn bus_off_ends_with_an_error_warning_interrupt(rt: HostRuntime) -> Result<(), Fail> {
     let mut port = active(1);
-    let seen = nothing_seen();
     let mut turn = counted(127, Phase::Reset);
     turn.events.went_off = true;
     port.bus_turn(&turn);
@@ -119,14 +109,12 @@ fn bus_off_ends_with_an_error_warning_interrupt(rt: HostRuntime) -> Result<(), F
     turn = counted(127, Phase::Waiting);
     turn.activation = 2;
     port.bus_turn(&turn);
-    assert_eq!(rt; port.read(2, &seen), Ok(0xfc));
-    assert_eq!(rt; port.read(3, &seen), Ok(0x00));
+    assert!(rt; port.shows(&[(2, 0xfc), (3, 0x00)]));
     turn = counted(0, Phase::Idle);
     turn.activation = 2;
     turn.events.recovered = true;
     port.bus_turn(&turn);
-    assert_eq!(rt; port.read(2, &seen), Ok(0x0c));
-    assert_eq!(rt; port.read(3, &seen), Ok(0x04));
+    assert!(rt; port.shows(&[(2, 0x0c), (3, 0x04)]));
     Ok(())
 }
 
@@ -145,7 +133,6 @@ fn eventful(activation: u8) -> BusTurn {
 #[test]
 fn a_turn_of_an_activation_that_was_left_ends_no_request(rt: HostRuntime) -> Result<(), Fail> {
     let mut port = active(1);
-    let seen = nothing_seen();
     port.enter_reset();
     port.leave_reset();
     port.write(4, 0xff)?;
@@ -159,28 +146,21 @@ fn a_turn_of_an_activation_that_was_left_ends_no_request(rt: HostRuntime) -> Res
         (12, 0x00),
         (15, 0x80),
     ];
-    for (addr, want) in rows {
-        assert_eq!(rt; port.read(addr, &seen), Ok(want), "at {addr}");
-    }
+    assert!(rt; port.shows(&rows));
     port.bus_turn(&eventful(2));
     let rows = [(2, 0x6e), (3, 0xca), (11, 0x07), (12, 0x0a)];
-    for (addr, want) in rows {
-        assert_eq!(rt; port.read(addr, &seen), Ok(want), "at {addr}");
-    }
+    assert!(rt; port.shows(&rows));
     Ok(())
 }
 
 #[test]
 fn a_turn_into_reset_mode_brings_no_event(rt: HostRuntime) -> Result<(), Fail> {
     let mut port = active(1);
-    let seen = nothing_seen();
     port.write(4, 0xff)?;
     port.enter_reset();
     port.bus_turn(&eventful(1));
     let rows = [(0, 0x01), (2, 0x6c), (3, 0x24), (11, 0x00), (12, 0x00)];
-    for (addr, want) in rows {
-        assert_eq!(rt; port.read(addr, &seen), Ok(want), "at {addr}");
-    }
+    assert!(rt; port.shows(&rows));
     Ok(())
 }
 
@@ -195,12 +175,12 @@ fn an_abort_stands_until_the_request_ends(rt: HostRuntime) -> Result<(), Fail> {
     turn.aborted = true;
     port.bus_turn(&turn);
     assert!(rt; !port.orders().abort);
-    assert_eq!(rt; port.read(2, &nothing_seen()), Ok(0x04));
+    assert!(rt; port.shows(&[(2, 0x04)]));
     Ok(())
 }
 
 /// What every register that can be read shows.
-fn shown(port: &mut Port) -> Result<[u8; 10], Fail> {
+fn shown(port: &mut Controller) -> Result<[u8; 10], Fail> {
     let seen = two_seen()?;
     let mut values = [0; 10];
     let addresses = [0, 2, 4, 11, 12, 13, 14, 15, 29, 3];
@@ -218,8 +198,8 @@ fn a_quiet_turn_told_again_changes_nothing(rt: HostRuntime) -> Result<(), Fail> 
     shown(&mut port)?;
     let before = shown(&mut port)?;
     port.bus_turn(&counted(97, Phase::Frame));
-    assert_eq!(rt; shown(&mut port)?, before);
-    assert_eq!(rt; before, [0x00, 0x61, 0xff, 0, 0, 0x60, 0, 97, 2, 0x01]);
+    assert!(rt; shown(&mut port)? == before);
+    assert!(rt; before == [0x00, 0x61, 0xff, 0, 0, 0x60, 0, 97, 2, 0x01]);
     Ok(())
 }
 
@@ -235,5 +215,5 @@ fn status_bits_make_a_byte(rt: HostRuntime) {
         es: false,
         bs: true,
     };
-    assert_eq!(rt; status.byte(), 0x8f);
+    assert!(rt; status.byte() == 0x8f);
 }

@@ -3,10 +3,11 @@
 ghost use Rattle.sja_rings.specs.Ends.{SameBus, SameDriver};
 
 use super::given::Rings;
-use crate::links::given::{LINK, message_of, plain};
+use crate::links::given::{LINK, message_of};
 use sja_link::{BadCredit, BusEnd, BusLedger, DriverEnd, DriverLedger, ReleaseFault, Up, Verdict};
 use sja_rings::{RingBus, RingDriver};
 use std::test::Fail;
+use worked_frames::nodes::PLAIN;
 
 /// What is judged of a message of this length; nothing where the link is busy or of another number.
 fn judged(ledger: &mut BusLedger, bus: &mut RingBus, length: u8) -> Result<Option<Verdict>, Fail>
@@ -87,8 +88,8 @@ fn what_is_released_comes_back_as_credit(rt: HostRuntime) -> Result<(), Fail> {
     let mut rings = Rings::new(rt.alloc())?;
     let mut bus = BusLedger::new(LINK);
     let mut driver = DriverLedger::new(LINK);
-    assert!(rt; rings.give(Up::Start(plain())).is_ok());
-    assert!(rt; collected(&mut bus, &mut rings.bus) == Ok(Some(Up::Start(plain()))));
+    assert!(rt; rings.give(Up::Start(PLAIN)).is_ok());
+    assert!(rt; collected(&mut bus, &mut rings.bus) == Ok(Some(Up::Start(PLAIN))));
     assert!(rt; judged(&mut bus, &mut rings.bus, 13)? == Some(Verdict::Stored));
     assert!(rt; judged(&mut bus, &mut rings.bus, 5)? == Some(Verdict::Stored));
     assert!(rt; released(&mut driver, &mut rings.driver) == Ok(13));

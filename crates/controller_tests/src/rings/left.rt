@@ -1,16 +1,16 @@
 //! What is left on a link of two rings at its end.
 
 use super::given::{Rings, are_messages};
-use crate::links::given::plain;
 use sja_link::{Down, Up};
 use std::test::Fail;
+use worked_frames::nodes::PLAIN;
 
 /// Of three messages one was got, and a credit was given after the start was taken.
 #[test]
 fn settle_left(rt: HostRuntime) -> Result<(), Fail> {
     let mut rings = Rings::new(rt.alloc())?;
-    assert!(rt; rings.give(Up::Start(plain())).is_ok());
-    assert!(rt; rings.take() == Some(Up::Start(plain())));
+    assert!(rt; rings.give(Up::Start(PLAIN)).is_ok());
+    assert!(rt; rings.take() == Some(Up::Start(PLAIN)));
     assert!(rt; rings.puts(&[3, 4, 5])?);
     assert!(rt; rings.get().is_some());
     assert!(rt; rings.give(Up::Credit(3)).is_ok());
