@@ -1,13 +1,13 @@
 //! Bytes that are too long, no text or no TOML document, and bytes that are.
 
-use super::document::{fault_of, with_lines};
+use super::document::{ONES, document, fault_of};
 use sja_plan::{PlanFault, read_plan};
 use std::alloc::Global;
 use std::test::Fail;
 
 /// A plan of just so many bytes, with comment lines behind it.
 fn commented(alloc: Global, length: usize) -> Result<String, Fail> {
-    let mut text = with_lines(alloc, "")?;
+    let mut text = document(alloc, ONES, "{ steps = [] }", "", "")?;
     for _ in 0..length {
         if text.len() < length {
             text.push_str(if text.len() % 80 == 79 { "\n" } else { "#" })?;
@@ -24,8 +24,8 @@ fn a_plan_has_at_most_65536_bytes(rt: HostRuntime) -> Result<(), Fail> {
         (200_000, Some(PlanFault::TooLong)),
     ] {
         let text = commented(rt.alloc(), length)?;
-        assert_eq!(rt; text.len(), length);
-        assert_eq!(rt; fault_of(rt.alloc(), text.as_str()), want, "{length}");
+        assert!(rt; text.len() == length);
+        assert!(rt; fault_of(rt.alloc(), text.as_str()) == want, "{length}");
     }
     Ok(())
 }
@@ -42,9 +42,8 @@ fn bytes_that_are_no_utf_8_are_refused(rt: HostRuntime) {
         b"\xff\xfev\x00",
     ];
     for bytes in rows {
-        assert_eq!(rt;
-            read_plan(rt.alloc(), bytes).err(),
-            Some(PlanFault::NotText),
+        assert!(rt;
+            read_plan(rt.alloc(), bytes).err() == Some(PlanFault::NotText),
             "{bytes:?}"
         );
     }
@@ -75,7 +74,10 @@ const NO_DOCUMENTS: [&str; 18] = [
 #[test]
 fn a_text_that_is_no_document_is_refused(rt: HostRuntime) {
     for text in NO_DOCUMENTS {
-        assert_eq!(rt; fault_of(rt.alloc(), text), Some(PlanFault::Toml), "{text}");
+        assert!(rt;
+            fault_of(rt.alloc(), text) == Some(PlanFault::Toml),
+            "{text}"
+        );
     }
 }
 
@@ -90,6 +92,6 @@ fn a_document_may_have_a_byte_order_mark_and_other_line_ends(rt: HostRuntime) {
         "# \u{e9}\u{20ac}\u{1f600}\nversion = 1\nbits = 1\nnode = [{ steps = [] }]",
     ];
     for text in rows {
-        assert_eq!(rt; fault_of(rt.alloc(), text), None, "{text:?}");
+        assert!(rt; fault_of(rt.alloc(), text) == None, "{text:?}");
     }
 }

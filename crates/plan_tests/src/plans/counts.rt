@@ -1,6 +1,6 @@
 //! How many steps, turns and strikes there are: each at its limit and one past it.
 
-use super::document::{fault_of, list, with_lines, with_steps};
+use super::document::{ONES, document, fault_of, list, with_steps, with_strikes, with_turns};
 use sja_plan::PlanFault;
 use std::test::Fail;
 
@@ -15,9 +15,8 @@ fn a_node_has_at_most_1000_steps(rt: HostRuntime) -> Result<(), Fail> {
     for (step, count, want) in rows {
         let steps = list(rt.alloc(), step, count)?;
         let text = with_steps(rt.alloc(), steps.as_str())?;
-        assert_eq!(rt;
-            fault_of(rt.alloc(), text.as_str()),
-            want,
+        assert!(rt;
+            fault_of(rt.alloc(), text.as_str()) == want,
             "{count} of {step}"
         );
     }
@@ -29,8 +28,8 @@ fn each_node_may_have_1000_steps(rt: HostRuntime) -> Result<(), Fail> {
     let steps = list(rt.alloc(), "'stop'", 1000)?;
     let node = format!(in rt.alloc(); "{{ steps = [{steps}] }}")?;
     let nodes = list(rt.alloc(), node.as_str(), 8)?;
-    let text = format!(in rt.alloc(); "version = 1\nbits = 1\nnode = [{nodes}]")?;
-    assert_eq!(rt; fault_of(rt.alloc(), text.as_str()), None);
+    let text = document(rt.alloc(), ONES, nodes.as_str(), "", "")?;
+    assert!(rt; fault_of(rt.alloc(), text.as_str()) == None);
     Ok(())
 }
 
@@ -39,9 +38,11 @@ fn each_node_may_have_1000_steps(rt: HostRuntime) -> Result<(), Fail> {
 fn a_plan_has_at_most_10000_turns(rt: HostRuntime) -> Result<(), Fail> {
     for (count, want) in [(10_000, PlanFault::Turn(1)), (10_001, PlanFault::TurnCount)] {
         let turns = list(rt.alloc(), "''", count)?;
-        let line = format!(in rt.alloc(); "turns = [{turns}]")?;
-        let text = with_lines(rt.alloc(), line.as_str())?;
-        assert_eq!(rt; fault_of(rt.alloc(), text.as_str()), Some(want), "{count}");
+        let text = with_turns(rt.alloc(), turns.as_str())?;
+        assert!(rt;
+            fault_of(rt.alloc(), text.as_str()) == Some(want),
+            "{count}"
+        );
     }
     Ok(())
 }
@@ -50,9 +51,8 @@ fn a_plan_has_at_most_10000_turns(rt: HostRuntime) -> Result<(), Fail> {
 fn a_plan_has_at_most_1000_strikes(rt: HostRuntime) -> Result<(), Fail> {
     for (count, want) in [(1000, None), (1001, Some(PlanFault::StrikeCount))] {
         let strikes = list(rt.alloc(), "'0 1'", count)?;
-        let line = format!(in rt.alloc(); "faults = [{strikes}]")?;
-        let text = with_lines(rt.alloc(), line.as_str())?;
-        assert_eq!(rt; fault_of(rt.alloc(), text.as_str()), want, "{count}");
+        let text = with_strikes(rt.alloc(), strikes.as_str())?;
+        assert!(rt; fault_of(rt.alloc(), text.as_str()) == want, "{count}");
     }
     Ok(())
 }
@@ -85,9 +85,8 @@ fn a_strike_counts_as_often_as_it_strikes(rt: HostRuntime) -> Result<(), Fail> {
         ("'0 1 1  1001'", Some(PlanFault::Strike(1))),
     ];
     for (strikes, want) in rows {
-        let line = format!(in rt.alloc(); "faults = [{strikes}]")?;
-        let text = with_lines(rt.alloc(), line.as_str())?;
-        assert_eq!(rt; fault_of(rt.alloc(), text.as_str()), want, "{strikes}");
+        let text = with_strikes(rt.alloc(), strikes)?;
+        assert!(rt; fault_of(rt.alloc(), text.as_str()) == want, "{strikes}");
     }
     Ok(())
 }

@@ -10,14 +10,40 @@ pub fn fault_of(alloc: Global, text: &str) -> Option<PlanFault> {
     read_plan(alloc, text.as_bytes()).err()
 }
 
-/// Version 1, one bit and one node with these steps, which are written as TOML has them.
-pub fn with_steps(alloc: Global, steps: &str) -> Result<String, Fail> {
-    Ok(format!(in alloc; "version = 1\nbits = 1\nnode = [{{ steps = [{steps}] }}]\n")?)
+/// The numbers of a document: version 1 and one bit.
+pub const ONES: (&str, &str) = ("1", "1");
+
+/// Two nodes without steps.
+const TWO: &str = "{ steps = [] }, { steps = [] }";
+
+/// A document with this version and number of bits, and with these nodes, turns and strikes, all as TOML has them.
+pub fn document(
+    alloc: Global,
+    numbers: (&str, &str),
+    nodes: &str,
+    turns: &str,
+    strikes: &str,
+) -> Result<String, Fail> {
+    let (version, bits) = numbers;
+    Ok(format!(in alloc;
+        "version = {version}\nbits = {bits}\nnode = [{nodes}]\nturns = [{turns}]\nfaults = [{strikes}]"
+    )?)
 }
 
-/// The same with no steps, and with these lines before the node.
-pub fn with_lines(alloc: Global, lines: &str) -> Result<String, Fail> {
-    Ok(format!(in alloc; "version = 1\nbits = 1\n{lines}\nnode = [{{ steps = [] }}]\n")?)
+/// One of one node with these steps.
+pub fn with_steps(alloc: Global, steps: &str) -> Result<String, Fail> {
+    let node = format!(in alloc; "{{ steps = [{steps}] }}")?;
+    document(alloc, ONES, node.as_str(), "", "")
+}
+
+/// One of two nodes with these turns.
+pub fn with_turns(alloc: Global, turns: &str) -> Result<String, Fail> {
+    document(alloc, ONES, TWO, turns, "")
+}
+
+/// One of two nodes with these strikes.
+pub fn with_strikes(alloc: Global, strikes: &str) -> Result<String, Fail> {
+    document(alloc, ONES, TWO, "", strikes)
 }
 
 /// So many items, by turns of these, with a comma behind each.

@@ -45,7 +45,10 @@ const MISSHAPEN: [&str; 34] = [
 #[test]
 fn a_misshapen_document_is_refused_for_its_keys(rt: HostRuntime) -> Result<(), Fail> {
     for text in MISSHAPEN {
-        assert_eq!(rt; fault_of(rt.alloc(), text), Some(PlanFault::Key), "{text}");
+        assert!(rt;
+            fault_of(rt.alloc(), text) == Some(PlanFault::Key),
+            "{text}"
+        );
     }
     Ok(())
 }
@@ -62,7 +65,7 @@ const ALIKE: [&str; 5] = [
 #[test]
 fn the_same_keys_may_be_written_in_several_ways(rt: HostRuntime) -> Result<(), Fail> {
     for text in ALIKE {
-        assert_eq!(rt; fault_of(rt.alloc(), text), None, "{text}");
+        assert!(rt; fault_of(rt.alloc(), text) == None, "{text}");
     }
     Ok(())
 }

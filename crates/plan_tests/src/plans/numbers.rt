@@ -1,6 +1,6 @@
 //! The version and the numbers of bits and of nodes: each at its limit and one past it.
 
-use super::document::{fault_of, list};
+use super::document::{ONES, document, fault_of, list};
 use sja_plan::PlanFault;
 use std::test::Fail;
 
@@ -18,10 +18,8 @@ fn the_version_is_1_or_2(rt: HostRuntime) -> Result<(), Fail> {
         ("-9223372036854775808", Some(PlanFault::Version)),
     ];
     for (version, want) in rows {
-        let text = format!(in rt.alloc();
-            "version = {version}\nbits = 1\nnode = [{{ steps = [] }}]"
-        )?;
-        assert_eq!(rt; fault_of(rt.alloc(), text.as_str()), want, "{version}");
+        let text = document(rt.alloc(), (version, "1"), "{ steps = [] }", "", "")?;
+        assert!(rt; fault_of(rt.alloc(), text.as_str()) == want, "{version}");
     }
     Ok(())
 }
@@ -38,8 +36,8 @@ fn a_run_has_1_to_200000_bits(rt: HostRuntime) -> Result<(), Fail> {
         ("4294967297", Some(PlanFault::Bits)),
     ];
     for (bits, want) in rows {
-        let text = format!(in rt.alloc(); "version = 1\nbits = {bits}\nnode = [{{ steps = [] }}]")?;
-        assert_eq!(rt; fault_of(rt.alloc(), text.as_str()), want, "{bits}");
+        let text = document(rt.alloc(), ("1", bits), "{ steps = [] }", "", "")?;
+        assert!(rt; fault_of(rt.alloc(), text.as_str()) == want, "{bits}");
     }
     Ok(())
 }
@@ -55,8 +53,8 @@ fn a_plan_has_1_to_8_nodes(rt: HostRuntime) -> Result<(), Fail> {
     ];
     for (count, want) in rows {
         let nodes = list(rt.alloc(), "{ steps = [] }", count)?;
-        let text = format!(in rt.alloc(); "version = 1\nbits = 1\nnode = [{nodes}]")?;
-        assert_eq!(rt; fault_of(rt.alloc(), text.as_str()), want, "{count}");
+        let text = document(rt.alloc(), ONES, nodes.as_str(), "", "")?;
+        assert!(rt; fault_of(rt.alloc(), text.as_str()) == want, "{count}");
     }
     Ok(())
 }

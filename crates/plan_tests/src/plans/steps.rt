@@ -1,6 +1,6 @@
 //! The texts of steps.
 
-use super::document::{fault_of, reads_step, with_steps};
+use super::document::{ONES, document, fault_of, reads_step, with_steps};
 use can_frame::Message;
 use sja_plan::PlanFault;
 use sja_script::Step;
@@ -94,9 +94,8 @@ const NO_STEPS: [&str; 46] = [
 fn a_text_that_says_no_step_is_refused(rt: HostRuntime) -> Result<(), Fail> {
     for step in NO_STEPS {
         let document = with_steps(rt.alloc(), step)?;
-        assert_eq!(rt;
-            fault_of(rt.alloc(), document.as_str()),
-            Some(PlanFault::Step(0, 1)),
+        assert!(rt;
+            fault_of(rt.alloc(), document.as_str()) == Some(PlanFault::Step(0, 1)),
             "{step}"
         );
     }
@@ -126,9 +125,8 @@ fn a_load_of_no_message_is_refused(rt: HostRuntime) -> Result<(), Fail> {
     for text in rows {
         let quoted = format!(in rt.alloc(); "'{text}'")?;
         let document = with_steps(rt.alloc(), quoted.as_str())?;
-        assert_eq!(rt;
-            fault_of(rt.alloc(), document.as_str()),
-            Some(PlanFault::Step(0, 1)),
+        assert!(rt;
+            fault_of(rt.alloc(), document.as_str()) == Some(PlanFault::Step(0, 1)),
             "{text}"
         );
     }
@@ -139,28 +137,31 @@ fn a_load_of_no_message_is_refused(rt: HostRuntime) -> Result<(), Fail> {
 #[test]
 fn the_first_bad_step_is_told(rt: HostRuntime) -> Result<(), Fail> {
     let rows = [
-        ("[{ steps = ['jump'] }]", PlanFault::Step(0, 1)),
+        ("{ steps = ['jump'] }", PlanFault::Step(0, 1)),
         (
-            "[{ steps = ['start', 'stop', 'jump'] }]",
+            "{ steps = ['start', 'stop', 'jump'] }",
             PlanFault::Step(0, 3),
         ),
         (
-            "[{ steps = [] }, { steps = ['start', 'jump', 'leap'] }]",
+            "{ steps = [] }, { steps = ['start', 'jump', 'leap'] }",
             PlanFault::Step(1, 2),
         ),
         (
-            "[{ steps = ['start', 'jump'] }, { steps = ['leap'] }]",
+            "{ steps = ['start', 'jump'] }, { steps = ['leap'] }",
             PlanFault::Step(0, 2),
         ),
         (
-            "[{ steps = [] }, { steps = [] }, { steps = [] }, { steps = [] },
-              { steps = [] }, { steps = [] }, { steps = [] }, { steps = [''] }]",
+            "{ steps = [] }, { steps = [] }, { steps = [] }, { steps = [] },
+              { steps = [] }, { steps = [] }, { steps = [] }, { steps = [''] }",
             PlanFault::Step(7, 1),
         ),
     ];
     for (nodes, want) in rows {
-        let text = format!(in rt.alloc(); "version = 1\nbits = 1\nnode = {nodes}")?;
-        assert_eq!(rt; fault_of(rt.alloc(), text.as_str()), Some(want), "{nodes}");
+        let text = document(rt.alloc(), ONES, nodes, "", "")?;
+        assert!(rt;
+            fault_of(rt.alloc(), text.as_str()) == Some(want),
+            "{nodes}"
+        );
     }
     Ok(())
 }

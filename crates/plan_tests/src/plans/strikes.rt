@@ -1,27 +1,9 @@
 //! The texts of strikes.
 
-use super::document::fault_of;
+use super::document::{fault_of, with_strikes};
+use crate::scripts::strike;
 use sja_plan::{PlanFault, read_plan};
-use sja_script::Strike;
-use std::alloc::Global;
 use std::test::Fail;
-
-/// A plan of two nodes with these strikes.
-fn with_strikes(alloc: Global, strikes: &str) -> Result<String, Fail> {
-    Ok(format!(in alloc;
-        "version = 1\nbits = 1\nfaults = [{strikes}]\nnode = [{{ steps = [] }}, {{ steps = [] }}]"
-    )?)
-}
-
-/// A strike by its four numbers.
-fn strike(node: u8, bit: u32, every: u32, times: u32) -> Strike {
-    Strike {
-        node,
-        bit,
-        every,
-        times,
-    }
-}
 
 #[test]
 fn each_strike_is_read(rt: HostRuntime) -> Result<(), Fail> {
@@ -72,9 +54,8 @@ fn a_text_that_says_no_strike_is_refused(rt: HostRuntime) -> Result<(), Fail> {
     ];
     for strikes in rows {
         let text = with_strikes(rt.alloc(), strikes)?;
-        assert_eq!(rt;
-            fault_of(rt.alloc(), text.as_str()),
-            Some(PlanFault::Strike(1)),
+        assert!(rt;
+            fault_of(rt.alloc(), text.as_str()) == Some(PlanFault::Strike(1)),
             "{strikes}"
         );
     }
@@ -84,9 +65,6 @@ fn a_text_that_says_no_strike_is_refused(rt: HostRuntime) -> Result<(), Fail> {
 #[test]
 fn the_first_bad_strike_is_told(rt: HostRuntime) -> Result<(), Fail> {
     let text = with_strikes(rt.alloc(), "'0 1', '1 1 1 1', '2 1', '0'")?;
-    assert_eq!(rt;
-        fault_of(rt.alloc(), text.as_str()),
-        Some(PlanFault::Strike(3))
-    );
+    assert!(rt; fault_of(rt.alloc(), text.as_str()) == Some(PlanFault::Strike(3)));
     Ok(())
 }

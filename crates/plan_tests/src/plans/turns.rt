@@ -1,16 +1,8 @@
 //! The texts of turns.
 
-use super::document::fault_of;
+use super::document::{fault_of, with_turns};
 use sja_plan::{PlanFault, Turn, read_plan};
-use std::alloc::Global;
 use std::test::Fail;
-
-/// A plan of two nodes with these turns.
-fn with_turns(alloc: Global, turns: &str) -> Result<String, Fail> {
-    Ok(format!(in alloc;
-        "version = 1\nbits = 1\nturns = [{turns}]\nnode = [{{ steps = [] }}, {{ steps = [] }}]"
-    )?)
-}
 
 #[test]
 fn each_turn_is_read(rt: HostRuntime) -> Result<(), Fail> {
@@ -59,9 +51,8 @@ fn a_text_that_says_no_turn_is_refused(rt: HostRuntime) -> Result<(), Fail> {
     ];
     for turns in rows {
         let text = with_turns(rt.alloc(), turns)?;
-        assert_eq!(rt;
-            fault_of(rt.alloc(), text.as_str()),
-            Some(PlanFault::Turn(1)),
+        assert!(rt;
+            fault_of(rt.alloc(), text.as_str()) == Some(PlanFault::Turn(1)),
             "{turns}"
         );
     }
@@ -79,7 +70,10 @@ fn the_first_bad_turn_is_told(rt: HostRuntime) -> Result<(), Fail> {
     ];
     for (turns, want) in rows {
         let text = with_turns(rt.alloc(), turns)?;
-        assert_eq!(rt; fault_of(rt.alloc(), text.as_str()), Some(want), "{turns}");
+        assert!(rt;
+            fault_of(rt.alloc(), text.as_str()) == Some(want),
+            "{turns}"
+        );
     }
     Ok(())
 }
