@@ -1,6 +1,7 @@
 //! Buses: what comes of frames, strikes, stops and bus-off, and of drivers that give what they may not give.
 
 mod arbitration;
+mod asking;
 mod bits;
 mod bus_off;
 mod faults;
@@ -20,3 +21,4 @@ mod stretches;
 mod strikes;
 mod stuck;
 mod told;
+mod wired;

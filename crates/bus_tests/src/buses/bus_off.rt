@@ -17,7 +17,7 @@ const OFF: u32 = 750;
 fn begun(rig: &mut Rig) -> Result<(), Fail> {
     rig.start(0)?;
     rig.start(1)?;
-    if rig.send(1, &MESSAGE, TRANSMIT)?.is_err() || rig.rest()? != Ok(64) {
+    if rig.send(1, &MESSAGE, TRANSMIT)?.is_err() || rig.bus.rest()? != Ok(64) {
         return Err("no frame")?;
     }
     rig.stop(1)?;
@@ -31,9 +31,9 @@ fn begun(rig: &mut Rig) -> Result<(), Fail> {
 fn bus_off_is_told_after_the_messages(rt: HostRuntime) -> Result<(), Fail> {
     let mut rig = Rig::new(rt.alloc(), 1, 2, 2_000, &STARTS)?;
     begun(&mut rig)?;
-    assert!(rt; rig.bits(OFF - 64)?.is_ok());
+    assert!(rt; rig.bus.bits(OFF - 64)?.is_ok());
     assert!(rt; !rig.bus.at_rest());
-    assert!(rt; rig.bit()?.is_ok());
+    assert!(rt; rig.bus.bit()?.is_ok());
     assert!(rt; rig.bus.at_rest());
     assert!(rt; matches!(&rig.get(0, 1)?, Some(Down::Message(_))));
     assert!(rt; matches!(&rig.get(0, 1)?, Some(Down::Off)));
@@ -41,9 +41,9 @@ fn bus_off_is_told_after_the_messages(rt: HostRuntime) -> Result<(), Fail> {
     assert!(rt; rig.get(0, 2)?.is_none());
     let logs = rig.finish();
     assert!(rt; logs.len() == 2);
-    assert_eq!(rt; logs[0].txerr, 127);
-    assert_eq!(rt; logs[0].rxerr, 0);
-    assert_eq!(rt; verdicts_in(&logs[0].journal), (1, 0));
+    assert!(rt; logs[0].txerr == 127);
+    assert!(rt; logs[0].rxerr == 0);
+    assert!(rt; verdicts_in(&logs[0].journal) == (1, 0));
     assert!(rt; matches!(&logs[0].journal.entries().last(), Some(Entry::Off)));
     Ok(())
 }
@@ -52,21 +52,21 @@ fn bus_off_is_told_after_the_messages(rt: HostRuntime) -> Result<(), Fail> {
 fn after_bus_off_nothing_is_released_and_a_request_is_dropped(rt: HostRuntime) -> Result<(), Fail> {
     let mut rig = Rig::new(rt.alloc(), 1, 2, 3_000, &STARTS)?;
     begun(&mut rig)?;
-    assert!(rt; rig.bits(OFF + 1 - 64)?.is_ok());
-    assert_eq!(rt; rig.release(0)?, Err(ReleaseFault::Stopped));
-    assert_eq!(rt; rig.unread(0), 1);
-    assert_eq!(rt; rig.read(0, TXERR)?, Ok(127));
-    assert_eq!(rt; rig.read(0, RXERR)?, Ok(0));
-    assert_eq!(rt; rig.read(0, 0)?, Ok(0x01));
-    assert_eq!(rt; rig.read(0, STATUS)?, Ok(0xf4));
+    assert!(rt; rig.bus.bits(OFF + 1 - 64)?.is_ok());
+    assert!(rt; rig.release(0)? == Err(ReleaseFault::Stopped));
+    assert!(rt; rig.unread(0) == 1);
+    assert!(rt; rig.read(0, TXERR)? == Ok(127));
+    assert!(rt; rig.read(0, RXERR)? == Ok(0));
+    assert!(rt; rig.read(0, 0)? == Ok(0x01));
+    assert!(rt; rig.read(0, STATUS)? == Ok(0xf4));
     rig.stop(0)?;
     rig.start(0)?;
-    assert!(rt; rig.bits(1407)?.is_ok());
-    assert_eq!(rt; rig.read(0, TXERR)?, Ok(0));
-    assert_eq!(rt; rig.read(0, STATUS)?, Ok(0xb4));
-    assert!(rt; rig.bit()?.is_ok());
-    assert_eq!(rt; rig.read(0, TXERR)?, Ok(0));
-    assert_eq!(rt; rig.read(0, STATUS)?, Ok(0x04));
+    assert!(rt; rig.bus.bits(1407)?.is_ok());
+    assert!(rt; rig.read(0, TXERR)? == Ok(0));
+    assert!(rt; rig.read(0, STATUS)? == Ok(0xb4));
+    assert!(rt; rig.bus.bit()?.is_ok());
+    assert!(rt; rig.read(0, TXERR)? == Ok(0));
+    assert!(rt; rig.read(0, STATUS)? == Ok(0x04));
     assert!(rt; rig.bus.at_rest());
     Ok(())
 }

@@ -1,7 +1,7 @@
 //! What several tests of the bus begin with.
 
-use can_frame::{Filter, Message};
-use can_node::{Config, Request};
+use can_frame::Message;
+use can_node::Request;
 use sja_bus::NodeLog;
 use sja_link::{Entry, Journal};
 use sja_script::{FaultScript, Strike};
@@ -41,19 +41,6 @@ pub fn script_of(alloc: Global, rows: &[(u8, u32, u32, u32)]) -> Result<FaultScr
         })?;
     }
     Ok(FaultScript::of(strikes))
-}
-
-/// The configuration with which every frame is received.
-pub fn plain() -> Config {
-    Config {
-        filter: Filter {
-            single: true,
-            acr: [0; 4],
-            amr: [255; 4],
-        },
-        self_test: false,
-        listen: false,
-    }
 }
 
 /// A request for the frame of the message, to be tried again until it is sent.

@@ -1,9 +1,9 @@
 //! Links whose bus's ends do what no lawful link does, and a bus over them.
 
-ghost use Rattle.std.specs.Prelude.{◌≡◌, length};
+ghost use Rattle.std.specs.Prelude.{◌≡◌};
 
-use super::given::script_of;
-use sja_bus::{Bus, BusFault, NodeLog, SerialBoard, are_links_of};
+use super::wired::Wired;
+use sja_bus::BusFault;
 use sja_link::{BusEnd, Down, LinkId, Up};
 use std::alloc::Global;
 use std::test::Fail;
@@ -93,29 +93,27 @@ impl BusEnd for Lawless {
     ghost same_link = { λ a b p. p };
 }
 
-/// A bus of two nodes over such links, which show nothing at first.
-#[derive(Drop)]
-pub struct LawlessRig {
-    bus: Bus,
-    links: Vec<Lawless>,
-    board: SerialBoard,
-    ghost size: { length bus.journals ≡ 2 },
+/// A bus of two nodes after power-on over such links, which show nothing at first, for 1,000 bits, with these strikes.
+pub fn over_lawless_ends(
+    alloc: Global,
+    strikes: &[(u8, u32, u32, u32)],
+) -> Result<Wired<Lawless>, Fail> {
+    let mut links = Vec::new(alloc);
+    for node in 0..2 {
+        for activation in 1..=8 {
+            links.push(Lawless::silent(LinkId { node, activation }))?;
+        }
+    }
+    Wired::new(alloc, 1, 2, 1_000, strikes, links)
 }
 
-impl LawlessRig {
-    /// Two nodes after power-on, for 1,000 bits, with these strikes.
-    pub fn new(alloc: Global, strikes: &[(u8, u32, u32, u32)]) -> Result<LawlessRig, Fail> {
-        let mut links = Vec::new(alloc);
-        for node in 0..2 {
-            for activation in 1..=8 {
-                links.push(Lawless::silent(LinkId { node, activation }))?;
-            }
+impl Wired<Lawless> {
+    /// The end of a node's first link.
+    fn first_end(&mut self, node: u8) -> Result<&mut Lawless, Fail> {
+        match self.links.get_mut(8 * usize::from(node)) {
+            Some(link) => Ok(link),
+            None => Err("no such link")?,
         }
-        Ok(LawlessRig {
-            bus: Bus::new(alloc, 2, 1_000, script_of(alloc, strikes)?)?,
-            links,
-            board: SerialBoard::new(alloc, 2, 1)?,
-        })
     }
 
     /// The end of a node's first link shows these two items, and then the third without end.
@@ -125,81 +123,38 @@ impl LawlessRig {
         first: Option<Up>,
         second: Option<Up>,
         endless: Option<Up>,
-    ) -> bool {
-        match self.links.get_mut(8 * usize::from(node)) {
-            Some(link) => {
-                link.first = first;
-                link.second = second;
-                link.endless = endless;
-                true
-            }
-            None => false,
-        }
+    ) -> Result<(), Fail> {
+        let end = self.first_end(node)?;
+        end.first = first;
+        end.second = second;
+        end.endless = endless;
+        Ok(())
     }
 
     /// It waits with the third one until bus-off is put.
-    pub fn waits(&mut self, node: u8) -> bool {
-        match self.links.get_mut(8 * usize::from(node)) {
-            Some(link) => {
-                link.waits = true;
-                true
-            }
-            None => false,
-        }
+    pub fn waits(&mut self, node: u8) -> Result<(), Fail> {
+        self.first_end(node)?.waits = true;
+        Ok(())
     }
 
     /// It gives back so many puts.
-    pub fn gives_back(&mut self, node: u8, puts: u32) -> bool {
-        match self.links.get_mut(8 * usize::from(node)) {
-            Some(link) => {
-                link.back = puts;
-                true
-            }
-            None => false,
-        }
+    pub fn gives_back(&mut self, node: u8, puts: u32) -> Result<(), Fail> {
+        self.first_end(node)?.back = puts;
+        Ok(())
     }
 
     /// How many puts were tried at it.
-    pub fn tries(&self, node: u8) -> u32 {
-        match self.links.get(8 * usize::from(node)) {
-            Some(link) => link.tries,
-            None => 0,
-        }
-    }
-
-    /// One bit.
-    pub fn bit(&mut self) -> Result<Result<(), BusFault>, Fail> {
-        if !are_links_of(self.links.as_slice(), 2) || self.board.ports.len() < 2 {
-            return Err("not the bus's links and ports")?;
-        }
-        Ok(self.bus.bit(self.links.as_mut_slice(), &mut self.board))
-    }
-
-    /// Takes what the ends show.
-    pub fn gather(&mut self) -> Result<Result<(), BusFault>, Fail> {
-        if !are_links_of(self.links.as_slice(), 2) {
-            return Err("not the bus's links")?;
-        }
-        Ok(self.bus.gather(self.links.as_mut_slice()))
+    pub fn tries(&mut self, node: u8) -> Result<u32, Fail> {
+        Ok(self.first_end(node)?.tries)
     }
 
     /// Bits up to the first fault, at most so many: how many went well, and the fault.
-    pub fn bits(&mut self, most: u32) -> Result<(u32, Option<BusFault>), Fail> {
+    pub fn bits_until_fault(&mut self, most: u32) -> Result<(u32, Option<BusFault>), Fail> {
         for bits in 0..most {
             if let Err(fault) = self.bit()? {
                 return Ok((bits, Some(fault)));
             }
         }
         Ok((most, None))
-    }
-
-    /// What stands of each node at the end, by node.
-    pub fn finish(self) -> Vec<NodeLog> {
-        let LawlessRig {
-            bus,
-            links: _,
-            board: _,
-        } = self;
-        bus.finish()
     }
 }

@@ -1,18 +1,20 @@
 //! Ends that show what they may not show, and ends that give puts back: the fault, again at each call, and otherwise a
 //! message that is stored.
 
-use super::given::{bits_in, plain, request, verdicts_in};
-use super::lawless::LawlessRig;
+use super::given::{bits_in, request, verdicts_in};
+use super::lawless::{Lawless, over_lawless_ends};
+use super::wired::Wired;
 use sja_bus::BusFault;
 use sja_link::Up;
 use std::alloc::Global;
 use std::test::Fail;
+use worked_frames::nodes::PLAIN;
 
 /// What an end shows first, then, and without end after that; and the fault.
 type Row = (Option<Up>, Option<Up>, Option<Up>, BusFault);
 
 fn start() -> Option<Up> {
-    Some(Up::Start(plain()))
+    Some(Up::Start(PLAIN))
 }
 
 fn rows() -> Result<[Row; 9], Fail> {
@@ -49,12 +51,12 @@ fn rows() -> Result<[Row; 9], Fail> {
 fn an_end_that_shows_what_it_may_not_is_answered_always_again(rt: HostRuntime) -> Result<(), Fail> {
     for by_bit in [true, false] {
         for (first, second, endless, fault) in rows()? {
-            let mut rig = LawlessRig::new(rt.alloc(), &[])?;
-            assert!(rt; rig.shows(1, first, second, endless));
+            let mut rig = over_lawless_ends(rt.alloc(), &[])?;
+            rig.shows(1, first, second, endless)?;
             let answer = if by_bit { rig.bit()? } else { rig.gather()? };
-            assert_eq!(rt; answer, Err(fault));
-            assert_eq!(rt; rig.gather()?, Err(fault));
-            assert_eq!(rt; rig.bit()?, Err(fault));
+            assert!(rt; answer == Err(fault));
+            assert!(rt; rig.gather()? == Err(fault));
+            assert!(rt; rig.bit()? == Err(fault));
         }
     }
     Ok(())
@@ -62,39 +64,32 @@ fn an_end_that_shows_what_it_may_not_is_answered_always_again(rt: HostRuntime) -
 
 /// A bus on which node 1 is struck at each SOF that it sends, until it is off with the 698th bit. Its end
 /// shows this without end after its request.
-fn off_soon(alloc: Global, endless: Option<Up>) -> Result<LawlessRig, Fail> {
-    let mut rig = LawlessRig::new(alloc, &[(1, 11, 18, 16), (1, 307, 26, 16)])?;
-    if rig.shows(1, start(), Some(Up::Send(request()?)), endless) {
-        Ok(rig)
-    } else {
-        Err("no such link")?
-    }
+fn off_soon(alloc: Global, endless: Option<Up>) -> Result<Wired<Lawless>, Fail> {
+    let mut rig = over_lawless_ends(alloc, &[(1, 11, 18, 16), (1, 307, 26, 16)])?;
+    rig.shows(1, start(), Some(Up::Send(request()?)), endless)?;
+    Ok(rig)
 }
 
 /// The first request after bus-off may be on its way when the bus-off is put, and is dropped.
 #[test]
 fn requests_without_end_after_bus_off_are_out_of_order(rt: HostRuntime) -> Result<(), Fail> {
     let mut rig = off_soon(rt.alloc(), Some(Up::Send(request()?)))?;
-    assert!(rt; rig.waits(1));
-    assert_eq!(rt; rig.bits(1_000)?, (698, Some(BusFault::BadOrder(1))));
-    assert_eq!(rt; rig.bit()?, Err(BusFault::BadOrder(1)));
-    assert_eq!(rt; rig.gather()?, Err(BusFault::BadOrder(1)));
+    rig.waits(1)?;
+    assert!(rt; rig.bits_until_fault(1_000)? == (698, Some(BusFault::BadOrder(1))));
+    assert!(rt; rig.bit()? == Err(BusFault::BadOrder(1)));
+    assert!(rt; rig.gather()? == Err(BusFault::BadOrder(1)));
     let logs = rig.finish();
     assert!(rt; logs.len() == 2);
-    assert_eq!(rt; bits_in(&logs[1].journal), 698);
+    assert!(rt; bits_in(&logs[1].journal) == 698);
     Ok(())
 }
 
 /// A bus on which node 0 sends a frame to node 1, which has it with the 60th bit.
-fn sent_soon(alloc: Global) -> Result<LawlessRig, Fail> {
-    let mut rig = LawlessRig::new(alloc, &[])?;
-    if rig.shows(0, start(), Some(Up::Send(request()?)), None)
-        && rig.shows(1, start(), None, None)
-    {
-        Ok(rig)
-    } else {
-        Err("no such link")?
-    }
+fn sent_soon(alloc: Global) -> Result<Wired<Lawless>, Fail> {
+    let mut rig = over_lawless_ends(alloc, &[])?;
+    rig.shows(0, start(), Some(Up::Send(request()?)), None)?;
+    rig.shows(1, start(), None, None)?;
+    Ok(rig)
 }
 
 /// A put is tried a million times. How many bits go well, and the fault, where so many puts come back.
@@ -108,20 +103,20 @@ fn a_put_that_comes_back_is_tried_again_up_to_a_million_times(rt: HostRuntime) -
         (1_000_000, 1_000_000, stuck),
     ] {
         let mut rig = sent_soon(rt.alloc())?;
-        assert!(rt; rig.gives_back(1, back));
+        rig.gives_back(1, back)?;
         let bits = if fault.is_none() { 64 } else { 59 };
-        assert_eq!(rt; rig.bits(64)?, (bits, fault), "{back}");
-        assert_eq!(rt; rig.tries(1), tries);
+        assert!(rt; rig.bits_until_fault(64)? == (bits, fault), "{back}");
+        assert!(rt; rig.tries(1)? == tries);
         let logs = rig.finish();
         assert!(rt; logs.len() == 2);
         let stored = if fault.is_none() { 1 } else { 0 };
-        assert_eq!(rt; verdicts_in(&logs[1].journal), (stored, 0), "{back}");
+        assert!(rt; verdicts_in(&logs[1].journal) == (stored, 0), "{back}");
 
         let mut rig = off_soon(rt.alloc(), None)?;
-        assert!(rt; rig.gives_back(1, back));
+        rig.gives_back(1, back)?;
         let bits = if fault.is_none() { 1_000 } else { 697 };
-        assert_eq!(rt; rig.bits(1_000)?, (bits, fault), "{back}");
-        assert_eq!(rt; rig.tries(1), tries);
+        assert!(rt; rig.bits_until_fault(1_000)? == (bits, fault), "{back}");
+        assert!(rt; rig.tries(1)? == tries);
     }
     Ok(())
 }

@@ -1,32 +1,13 @@
 //! Bits one after another by one call, beside as many that are run by calls of their own.
 
-use super::given::{
-    ABORT, MESSAGE, RXERR, STATUS, TRANSMIT, TXERR, are_same_logs, bits_in, entries_in,
-};
+use super::asking::{alone, asked};
+use super::given::{ABORT, RXERR, STATUS, TRANSMIT, TXERR, are_same_logs, bits_in, entries_in};
 use super::rig::Rig;
 use sja_bus::BusFault;
-use std::alloc::Global;
 use std::test::Fail;
 
 /// The bits of the run: a frame, an idle bus, a strike on node 1 in bit 300, and an idle bus again.
 const BITS: u32 = 400;
-
-/// A bus of two nodes with these strikes, of which node 0 is started and has a request.
-fn alone(alloc: Global, bits: u32, strikes: &[(u8, u32, u32, u32)]) -> Result<Rig, Fail> {
-    let mut rig = Rig::new(alloc, 1, 2, bits, strikes)?;
-    rig.start(0)?;
-    if rig.send(0, &MESSAGE, TRANSMIT)?.is_err() {
-        return Err("no request")?;
-    }
-    Ok(rig)
-}
-
-/// The same, and node 1 is started too.
-fn asked(alloc: Global, bits: u32, strikes: &[(u8, u32, u32, u32)]) -> Result<Rig, Fail> {
-    let mut rig = alone(alloc, bits, strikes)?;
-    rig.start(1)?;
-    Ok(rig)
-}
 
 /// Whether both nodes of two buses show the same status and the same error counters.
 fn show_the_same(one: &mut Rig, other: &mut Rig) -> Result<bool, Fail> {
@@ -43,12 +24,12 @@ fn show_the_same(one: &mut Rig, other: &mut Rig) -> Result<bool, Fail> {
 #[test]
 fn bits_are_as_many_as_asked_for_or_as_are_left(rt: HostRuntime) -> Result<(), Fail> {
     let mut rig = Rig::new(rt.alloc(), 1, 8, 50, &[])?;
-    assert_eq!(rt; rig.several(0, false)?, Ok(0));
-    assert_eq!(rt; rig.several(20, false)?, Ok(20));
-    assert_eq!(rt; rig.several(31, false)?, Ok(30));
+    assert!(rt; rig.bus.several(0, false)? == Ok(0));
+    assert!(rt; rig.bus.several(20, false)? == Ok(20));
+    assert!(rt; rig.bus.several(31, false)? == Ok(30));
     // that they are spent is no error
-    assert_eq!(rt; rig.several(1, false)?, Ok(0));
-    assert_eq!(rt; rig.bit()?, Err(BusFault::BitsSpent));
+    assert!(rt; rig.bus.several(1, false)? == Ok(0));
+    assert!(rt; rig.bus.bit()? == Err(BusFault::BitsSpent));
     let logs = rig.finish();
     assert!(rt; logs.len() == 8 && bits_in(&logs[7].journal) == 50);
     Ok(())
@@ -58,14 +39,14 @@ fn bits_are_as_many_as_asked_for_or_as_are_left(rt: HostRuntime) -> Result<(), F
 fn bits_to_rest_end_where_every_node_rests(rt: HostRuntime) -> Result<(), Fail> {
     let mut rig = asked(rt.alloc(), BITS, &[])?;
     // nothing was taken yet
-    assert_eq!(rt; rig.several(BITS, true)?, Ok(0));
-    assert_eq!(rt; rig.gather()?, Ok(()));
+    assert!(rt; rig.bus.several(BITS, true)? == Ok(0));
+    assert!(rt; rig.bus.gather()? == Ok(()));
     // eleven recessive bits, and a frame of 53 bits with its intermission
-    assert_eq!(rt; rig.several(10, true)?, Ok(10));
-    assert_eq!(rt; rig.several(BITS, true)?, Ok(54));
+    assert!(rt; rig.bus.several(10, true)? == Ok(10));
+    assert!(rt; rig.bus.several(BITS, true)? == Ok(54));
     assert!(rt; rig.bus.at_rest());
-    assert_eq!(rt; rig.several(5, true)?, Ok(0));
-    assert_eq!(rt; rig.several(5, false)?, Ok(5));
+    assert!(rt; rig.bus.several(5, true)? == Ok(0));
+    assert!(rt; rig.bus.several(5, false)? == Ok(5));
     Ok(())
 }
 
@@ -76,10 +57,10 @@ fn bits_one_after_another_leave_what_single_bits_leave(rt: HostRuntime) -> Resul
         let mut rig = asked(rt.alloc(), BITS, &[(1, 300, 1, 1)])?;
         let mut single = asked(rt.alloc(), BITS, &[(1, 300, 1, 1)])?;
         for _ in 0..BITS / count {
-            assert_eq!(rt; rig.several(count, false)?, Ok(count));
+            assert!(rt; rig.bus.several(count, false)? == Ok(count));
         }
-        assert_eq!(rt; rig.several(BITS, false)?, Ok(BITS % count));
-        assert!(rt; single.bits(BITS)?.is_ok());
+        assert!(rt; rig.bus.several(BITS, false)? == Ok(BITS % count));
+        assert!(rt; single.bus.bits(BITS)?.is_ok());
         assert!(rt; show_the_same(&mut rig, &mut single)?);
         assert!(rt; rig.unread(1) == 1 && single.unread(1) == 1);
         let want = single.finish();
@@ -97,18 +78,18 @@ fn bits_one_after_another_leave_what_single_bits_leave(rt: HostRuntime) -> Resul
 fn bus_off_within_bits_is_told(rt: HostRuntime) -> Result<(), Fail> {
     // node 0 is struck at 32 starts of its frame from bit 11 on, as far apart as in `bus_off.rt`
     let strikes = [(0, 11, 18, 16), (0, 307, 26, 16)];
-    let mut rig = alone(rt.alloc(), 1_000, &strikes)?;
-    let mut single = alone(rt.alloc(), 1_000, &strikes)?;
-    assert_eq!(rt; rig.several(697, false)?, Ok(697));
+    let mut rig = alone(rt.alloc(), 2, 1_000, &strikes)?;
+    let mut single = alone(rt.alloc(), 2, 1_000, &strikes)?;
+    assert!(rt; rig.bus.several(697, false)? == Ok(697));
     assert!(rt; !rig.bus.at_rest());
-    assert_eq!(rt; rig.several(303, true)?, Ok(1));
-    assert_eq!(rt; rig.several(303, false)?, Ok(302));
-    assert!(rt; single.bits(1_000)?.is_ok());
+    assert!(rt; rig.bus.several(303, true)? == Ok(1));
+    assert!(rt; rig.bus.several(303, false)? == Ok(302));
+    assert!(rt; single.bus.bits(1_000)?.is_ok());
     assert!(rt; show_the_same(&mut rig, &mut single)?);
-    assert_eq!(rt; rig.read(0, TXERR)?, Ok(127));
-    assert_eq!(rt; rig.read(0, 0)?, Ok(0x01));
+    assert!(rt; rig.read(0, TXERR)? == Ok(127));
+    assert!(rt; rig.read(0, 0)? == Ok(0x01));
     let want = single.finish();
-    assert_eq!(rt; want.len(), 2);
+    assert!(rt; want.len() == 2);
     assert!(rt; are_same_logs(rig.finish().as_slice(), want.as_slice()));
     Ok(())
 }
@@ -118,12 +99,12 @@ fn an_abort_that_stands_while_bits_run_is_heeded(rt: HostRuntime) -> Result<(), 
     // the frame begins with bit 11; it is aborted after bit 19, and fails in bit 30
     let mut rig = asked(rt.alloc(), BITS, &[(0, 30, 1, 1)])?;
     let mut single = asked(rt.alloc(), BITS, &[(0, 30, 1, 1)])?;
-    assert_eq!(rt; rig.several(20, false)?, Ok(20));
-    assert!(rt; single.bits(20)?.is_ok());
+    assert!(rt; rig.bus.several(20, false)? == Ok(20));
+    assert!(rt; single.bus.bits(20)?.is_ok());
     assert!(rt; rig.command(0, ABORT)?.is_ok() && single.command(0, ABORT)?.is_ok());
-    assert_eq!(rt; rig.several(80, false)?, Ok(80));
+    assert!(rt; rig.bus.several(80, false)? == Ok(80));
     assert!(rt; rig.bus.at_rest());
-    assert!(rt; single.bits(80)?.is_ok());
+    assert!(rt; single.bus.bits(80)?.is_ok());
     assert!(rt; show_the_same(&mut rig, &mut single)?);
     let want = single.finish();
     assert!(rt; want.len() == 2 && want[0].txerr == 8);
@@ -133,22 +114,20 @@ fn an_abort_that_stands_while_bits_run_is_heeded(rt: HostRuntime) -> Result<(), 
 
 #[test]
 fn a_full_journal_ends_bits_after_the_last_that_fits(rt: HostRuntime) -> Result<(), Fail> {
-    let mut rig = Rig::new(rt.alloc(), 1, 1, 10_000, &[])?;
-    rig.start(0)?;
-    assert!(rt; rig.send(0, &MESSAGE, TRANSMIT)?.is_ok());
+    let mut rig = alone(rt.alloc(), 1, 10_000, &[])?;
     assert!(rt; rig.command(0, ABORT)?.is_ok());
-    assert_eq!(rt; rig.several(1, false)?, Ok(1));
+    assert!(rt; rig.bus.several(1, false)? == Ok(1));
     // a start, and a request, an abort and a bit each round: 22,099 of 22,100 entries
     for round in 1..7_366u32 {
         assert!(rt; rig.command(0, TRANSMIT)?.is_ok());
         assert!(rt; rig.command(0, ABORT)?.is_ok());
-        assert_eq!(rt; rig.several(1, false)?, Ok(1), "round {round}");
+        assert!(rt; rig.bus.several(1, false)? == Ok(1), "round {round}");
     }
-    assert_eq!(rt; rig.several(5, false)?, Err(BusFault::JournalFull(0)));
-    assert_eq!(rt; rig.several(5, false)?, Err(BusFault::JournalFull(0)));
-    assert_eq!(rt; rig.bit()?, Err(BusFault::JournalFull(0)));
+    assert!(rt; rig.bus.several(5, false)? == Err(BusFault::JournalFull(0)));
+    assert!(rt; rig.bus.several(5, false)? == Err(BusFault::JournalFull(0)));
+    assert!(rt; rig.bus.bit()? == Err(BusFault::JournalFull(0)));
     let logs = rig.finish();
     assert!(rt; logs.len() == 1 && entries_in(&logs[0].journal) == 22_100);
-    assert_eq!(rt; bits_in(&logs[0].journal), 7_367);
+    assert!(rt; bits_in(&logs[0].journal) == 7_367);
     Ok(())
 }

@@ -1,6 +1,6 @@
 //! Stops in a frame, and with a message on the way.
 
-use super::given::{MESSAGE, TRANSMIT};
+use super::asking::asked;
 use super::rig::Rig;
 use sja_link::{Down, Entry, Journal, Up};
 use std::alloc::Global;
@@ -23,18 +23,13 @@ fn stored_in(journal: &Journal) -> (u32, u32) {
 
 /// Node 0 sends a frame; node 1 is stopped after so many bits, and started again at once.
 fn stopped_after(alloc: Global, bits: u32) -> Result<Rig, Fail> {
-    let mut rig = Rig::new(alloc, 1, 2, 200, &[])?;
-    rig.start(0)?;
-    if rig.send(0, &MESSAGE, TRANSMIT)?.is_err() {
-        return Err("no request")?;
-    }
-    rig.start(1)?;
-    if rig.bits(bits)?.is_err() {
+    let mut rig = asked(alloc, 200, &[])?;
+    if rig.bus.bits(bits)?.is_err() {
         return Err("no bit")?;
     }
     rig.stop(1)?;
     rig.start(1)?;
-    match rig.rest()? {
+    match rig.bus.rest()? {
         Ok(_) => Ok(rig),
         Err(_) => Err("no rest")?,
     }
@@ -55,7 +50,7 @@ fn a_stop_after_each_bit_of_a_frame_leaves_it_to_one_activation_or_none(
         let rig = stopped_after(rt.alloc(), bits)?;
         let logs = rig.finish();
         assert!(rt; logs.len() == 2);
-        assert_eq!(rt; stored_in(&logs[1].journal), want, "after {bits} bits");
+        assert!(rt; stored_in(&logs[1].journal) == want, "after {bits} bits");
     }
     Ok(())
 }

@@ -1,24 +1,13 @@
 //! Bits that are run at once, beside as many that are run one by one.
 
-use super::given::{MESSAGE, TRANSMIT, are_same_logs};
+use super::asking::asked;
+use super::given::are_same_logs;
 use super::rig::Rig;
 use sja_bus::BusFault;
-use std::alloc::Global;
 use std::test::Fail;
 
 /// The bits of the run: a frame, an idle bus, a strike on node 1 in bit 300, and an idle bus again.
 const BITS: u32 = 400;
-
-/// A bus whose node 0 is to send a frame to node 1.
-fn asked(alloc: Global) -> Result<Rig, Fail> {
-    let mut rig = Rig::new(alloc, 1, 2, BITS, &[(1, 300, 1, 1)])?;
-    rig.start(0)?;
-    if rig.send(0, &MESSAGE, TRANSMIT)?.is_err() {
-        return Err("no request")?;
-    }
-    rig.start(1)?;
-    Ok(rig)
-}
 
 /// Runs all bits, as many at once as the bus can: how many those were each time, as far as there are four, and how
 /// often.
@@ -30,9 +19,9 @@ fn run_at_once(rig: &mut Rig) -> Result<([u32; 4], usize), Fail> {
         if run >= BITS {
             break;
         }
-        match rig.quiet_bits(BITS)? {
+        match rig.bus.quiet_bits(BITS)? {
             Ok(0) => {
-                if rig.bit()?.is_err() {
+                if rig.bus.bit()?.is_err() {
                     return Err("no bit")?;
                 }
                 run = run.saturating_add(1);
@@ -52,16 +41,17 @@ fn run_at_once(rig: &mut Rig) -> Result<([u32; 4], usize), Fail> {
 
 #[test]
 fn bits_at_once_leave_what_as_many_single_bits_leave(rt: HostRuntime) -> Result<(), Fail> {
-    let mut rig = asked(rt.alloc())?;
-    let mut single = asked(rt.alloc())?;
+    let strikes = [(1, 300, 1, 1)];
+    let mut rig = asked(rt.alloc(), BITS, &strikes)?;
+    let mut single = asked(rt.alloc(), BITS, &strikes)?;
     // both rest after 64 bits. Node 1 takes the struck bit for an SOF, and finds a stuff error in bit 306. Its flag,
     // from bit 307, is one for node 0 in bit 312, whose flag ends with bit 318; delimiter and intermission with 329
-    assert_eq!(rt; run_at_once(&mut rig)?, ([236, 70, 0, 0], 2));
-    assert!(rt; single.bits(BITS)?.is_ok());
-    assert_eq!(rt; rig.bit()?, Err(BusFault::BitsSpent));
-    assert_eq!(rt; rig.quiet_bits(BITS)?, Ok(0));
+    assert!(rt; run_at_once(&mut rig)? == ([236, 70, 0, 0], 2));
+    assert!(rt; single.bus.bits(BITS)?.is_ok());
+    assert!(rt; rig.bus.bit()? == Err(BusFault::BitsSpent));
+    assert!(rt; rig.bus.quiet_bits(BITS)? == Ok(0));
     let want = single.finish();
-    assert_eq!(rt; want.len(), 2);
+    assert!(rt; want.len() == 2);
     assert!(rt; are_same_logs(rig.finish().as_slice(), want.as_slice()));
     Ok(())
 }
@@ -69,28 +59,28 @@ fn bits_at_once_leave_what_as_many_single_bits_leave(rt: HostRuntime) -> Result<
 #[test]
 fn bits_at_once_are_at_most_those_asked_for_and_those_left(rt: HostRuntime) -> Result<(), Fail> {
     let mut rig = Rig::new(rt.alloc(), 1, 8, 50, &[])?;
-    assert_eq!(rt; rig.quiet_bits(0)?, Ok(0));
-    assert_eq!(rt; rig.quiet_bits(20)?, Ok(20));
-    assert_eq!(rt; rig.quiet_bits(31)?, Ok(30));
-    assert_eq!(rt; rig.quiet_bits(1)?, Ok(0));
-    assert_eq!(rt; rig.bit()?, Err(BusFault::BitsSpent));
+    assert!(rt; rig.bus.quiet_bits(0)? == Ok(0));
+    assert!(rt; rig.bus.quiet_bits(20)? == Ok(20));
+    assert!(rt; rig.bus.quiet_bits(31)? == Ok(30));
+    assert!(rt; rig.bus.quiet_bits(1)? == Ok(0));
+    assert!(rt; rig.bus.bit()? == Err(BusFault::BitsSpent));
     Ok(())
 }
 
 #[test]
 fn no_bits_are_run_at_once_that_a_driver_waits_for(rt: HostRuntime) -> Result<(), Fail> {
     let mut rig = Rig::new(rt.alloc(), 1, 2, 50, &[])?;
-    assert_eq!(rt; rig.quiet_bits(5)?, Ok(5));
+    assert!(rt; rig.bus.quiet_bits(5)? == Ok(5));
     rig.start(1)?;
-    assert_eq!(rt; rig.quiet_bits(5)?, Ok(0));
+    assert!(rt; rig.bus.quiet_bits(5)? == Ok(0));
     assert!(rt; rig.bus.started(1));
     // it waits for eleven recessive bits
-    assert!(rt; rig.bits(11)?.is_ok());
-    assert_eq!(rt; rig.quiet_bits(5)?, Ok(5));
+    assert!(rt; rig.bus.bits(11)?.is_ok());
+    assert!(rt; rig.bus.quiet_bits(5)? == Ok(5));
     rig.stop(1)?;
     // its stop is to be told first
-    assert_eq!(rt; rig.quiet_bits(5)?, Ok(0));
-    assert!(rt; rig.bit()?.is_ok());
-    assert_eq!(rt; rig.quiet_bits(50)?, Ok(28));
+    assert!(rt; rig.bus.quiet_bits(5)? == Ok(0));
+    assert!(rt; rig.bus.bit()?.is_ok());
+    assert!(rt; rig.bus.quiet_bits(50)? == Ok(28));
     Ok(())
 }

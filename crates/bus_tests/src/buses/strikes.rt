@@ -1,6 +1,6 @@
 //! Strikes that are named twice, and strikes on a node in reset.
 
-use super::given::{MESSAGE, TRANSMIT};
+use super::asking::sent;
 use super::rig::Rig;
 use can_bits::Level;
 use sja_link::{Entry, Journal};
@@ -9,24 +9,15 @@ use std::test::Fail;
 
 /// How many bits a frame of node 0 to node 1 takes until both are at rest, with these strikes.
 fn taken(alloc: Global, strikes: &[(u8, u32, u32, u32)]) -> Result<u32, Fail> {
-    let mut rig = Rig::new(alloc, 1, 2, 200, strikes)?;
-    rig.start(0)?;
-    if rig.send(0, &MESSAGE, TRANSMIT)?.is_err() {
-        return Err("no request")?;
-    }
-    rig.start(1)?;
-    match rig.rest()? {
-        Ok(bits) => Ok(bits),
-        Err(_) => Err("no bit")?,
-    }
+    Ok(sent(alloc, 200, strikes)?.1)
 }
 
 #[test]
 fn a_node_and_bit_named_twice_are_struck_once(rt: HostRuntime) -> Result<(), Fail> {
-    assert_eq!(rt; taken(rt.alloc(), &[])?, 64);
-    assert_eq!(rt; taken(rt.alloc(), &[(1, 60, 1, 1)])?, 79);
-    assert_eq!(rt; taken(rt.alloc(), &[(1, 60, 1, 1), (1, 60, 1, 1)])?, 79);
-    assert_eq!(rt; taken(rt.alloc(), &[(1, 60, 0, 2)])?, 79);
+    assert!(rt; taken(rt.alloc(), &[])? == 64);
+    assert!(rt; taken(rt.alloc(), &[(1, 60, 1, 1)])? == 79);
+    assert!(rt; taken(rt.alloc(), &[(1, 60, 1, 1), (1, 60, 1, 1)])? == 79);
+    assert!(rt; taken(rt.alloc(), &[(1, 60, 0, 2)])? == 79);
     Ok(())
 }
 
@@ -38,7 +29,7 @@ fn a_strike_of_no_node_and_one_past_the_end_are_never_met(rt: HostRuntime) -> Re
         (1, 200, 1, 1),
         (1, 4_294_967_295, 61, 2),
     ];
-    assert_eq!(rt; taken(rt.alloc(), &strikes)?, 64);
+    assert!(rt; taken(rt.alloc(), &strikes)? == 64);
     Ok(())
 }
 
@@ -63,8 +54,8 @@ fn dominant_bits(journal: &Journal) -> ([u32; 4], usize) {
 fn a_node_in_reset_is_struck_and_takes_no_heed(rt: HostRuntime) -> Result<(), Fail> {
     let mut rig = Rig::new(rt.alloc(), 1, 2, 100, &[(1, 3, 5, 3)])?;
     rig.start(0)?;
-    assert_eq!(rt; rig.rest()?, Ok(11));
-    assert!(rt; rig.bits(9)?.is_ok());
+    assert!(rt; rig.bus.rest()? == Ok(11));
+    assert!(rt; rig.bus.bits(9)?.is_ok());
     assert!(rt; rig.bus.at_rest());
     let logs = rig.finish();
     assert!(rt; logs.len() == 2);

@@ -1,0 +1,37 @@
+//! Buses of version 1 to begin with, on which node 0 is to send the message.
+
+use super::given::{MESSAGE, TRANSMIT};
+use super::rig::Rig;
+use std::alloc::Global;
+use std::test::Fail;
+
+/// A bus of so many nodes and bits, with these strikes, of which node 0 is started and has a request.
+pub fn alone(
+    alloc: Global,
+    nodes: u8,
+    bits: u32,
+    strikes: &[(u8, u32, u32, u32)],
+) -> Result<Rig, Fail> {
+    let mut rig = Rig::new(alloc, 1, nodes, bits, strikes)?;
+    rig.start(0)?;
+    match rig.send(0, &MESSAGE, TRANSMIT)? {
+        Ok(()) => Ok(rig),
+        Err(_) => Err("no request")?,
+    }
+}
+
+/// The same of two nodes, and node 1 is started too.
+pub fn asked(alloc: Global, bits: u32, strikes: &[(u8, u32, u32, u32)]) -> Result<Rig, Fail> {
+    let mut rig = alone(alloc, 2, bits, strikes)?;
+    rig.start(1)?;
+    Ok(rig)
+}
+
+/// The same, run until both nodes are at rest, and how many bits that took.
+pub fn sent(alloc: Global, bits: u32, strikes: &[(u8, u32, u32, u32)]) -> Result<(Rig, u32), Fail> {
+    let mut rig = asked(alloc, bits, strikes)?;
+    match rig.bus.rest()? {
+        Ok(bits) => Ok((rig, bits)),
+        Err(_) => Err("no bit")?,
+    }
+}

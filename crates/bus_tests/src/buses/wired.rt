@@ -1,0 +1,134 @@
+//! [`Wired`]: a bus with its links and its ports, in one thread.
+
+ghost use Rattle.std.specs.Prelude.{◌≡◌, length};
+
+use super::given::script_of;
+use sja_bus::{Bus, BusFault, NodeLog, SerialBoard, are_links_of};
+use sja_link::BusEnd;
+use std::alloc::Global;
+use std::test::Fail;
+
+/// More bits than any test needs to come to rest.
+const MANY: u32 = 20_000;
+
+/// A bus with its links and its ports, in one thread. A call fails where the links or the ports aren't those of the bus.
+#[derive(Drop)]
+pub struct Wired<E> {
+    bus: Bus,
+    pub links: Vec<E>,
+    pub board: SerialBoard,
+    nodes: u8,
+    ghost size: { length bus.journals ≡ nodes },
+}
+
+impl<E: BusEnd + Drop> Wired<E> {
+    /// So many nodes after power-on, for so many bits, with these strikes: each its node, first bit, distance and
+    /// number.
+    pub fn new(
+        alloc: Global,
+        version: u8,
+        nodes: u8,
+        bits: u32,
+        strikes: &[(u8, u32, u32, u32)],
+        links: Vec<E>,
+    ) -> Result<Wired<E>, Fail> {
+        if nodes == 0 || nodes > 8 || bits == 0 || bits > 200_000 {
+            return Err("no such bus")?;
+        }
+        Ok(Wired {
+            bus: Bus::new(alloc, nodes, bits, script_of(alloc, strikes)?)?,
+            links,
+            board: SerialBoard::new(alloc, nodes, version)?,
+            nodes,
+        })
+    }
+
+    /// Takes what the drivers gave.
+    pub fn gather(&mut self) -> Result<Result<(), BusFault>, Fail> {
+        if !are_links_of(self.links.as_slice(), self.nodes) {
+            return Err("not the bus's links")?;
+        }
+        Ok(self.bus.gather(self.links.as_mut_slice()))
+    }
+
+    /// One bit.
+    pub fn bit(&mut self) -> Result<Result<(), BusFault>, Fail> {
+        if !are_links_of(self.links.as_slice(), self.nodes)
+            || self.board.ports.len() < usize::from(self.nodes)
+        {
+            return Err("not the bus's links and ports")?;
+        }
+        Ok(self.bus.bit(self.links.as_mut_slice(), &mut self.board))
+    }
+
+    /// So many bits, each by a call of its own.
+    pub fn bits(&mut self, count: u32) -> Result<Result<(), BusFault>, Fail> {
+        for _ in 0..count {
+            if let Err(fault) = self.bit()? {
+                return Ok(Err(fault));
+            }
+        }
+        Ok(Ok(()))
+    }
+
+    /// So many bits, or as many as are left, one after another, with `to_rest` as long as some node works: how many.
+    pub fn several(&mut self, count: u32, to_rest: bool) -> Result<Result<u32, BusFault>, Fail> {
+        if !are_links_of(self.links.as_slice(), self.nodes)
+            || self.board.ports.len() < usize::from(self.nodes)
+        {
+            return Err("not the bus's links and ports")?;
+        }
+        let links = self.links.as_mut_slice();
+        Ok(self.bus.bits(links, &mut self.board, count, to_rest))
+    }
+
+    /// Up to so many bits at once, as far as every node is at rest: how many.
+    pub fn quiet_bits(&mut self, count: u32) -> Result<Result<u32, BusFault>, Fail> {
+        if !are_links_of(self.links.as_slice(), self.nodes)
+            || self.board.ports.len() < usize::from(self.nodes)
+        {
+            return Err("not the bus's links and ports")?;
+        }
+        Ok(
+            self.bus
+                .quiet_bits(self.links.as_mut_slice(), &self.board, count),
+        )
+    }
+
+    /// Whether every node is at rest.
+    pub fn at_rest(&self) -> bool {
+        self.bus.at_rest()
+    }
+
+    /// Whether a start of this node was taken.
+    pub fn started(&self, node: u8) -> bool {
+        self.bus.started(node)
+    }
+
+    /// Gathers, and runs bits until every node is at rest: how many.
+    pub fn rest(&mut self) -> Result<Result<u32, BusFault>, Fail> {
+        for bits in 0..MANY {
+            if let Err(fault) = self.gather()? {
+                return Ok(Err(fault));
+            }
+            if self.at_rest() {
+                return Ok(Ok(bits));
+            }
+            if let Err(fault) = self.bit()? {
+                return Ok(Err(fault));
+            }
+        }
+        Err("no rest")?
+    }
+
+    /// What stands of each node at the end, by node.
+    pub fn finish(self) -> Vec<NodeLog> {
+        let Wired {
+            bus,
+            links: _,
+            board: _,
+            nodes: _,
+        } = self;
+        bus.finish()
+    }
+}
