@@ -1,7 +1,7 @@
 //! Stations that start their frames together, and where they lose arbitration. Bits count from 0 with the start; the
 //! frames begin with bit 11.
 
-use crate::node::given::{asked, counts, plain, request_for, started};
+use crate::node::given::{asked, counts, request_for, started};
 use crate::node::station::Station;
 use crate::node::wire::{run, run_to_rest};
 use crate::worked::{ZEROS, frame_of};
@@ -9,6 +9,7 @@ use can_bits::Level;
 use can_node::{Phase, contend};
 use std::alloc::Global;
 use std::test::Fail;
+use worked_frames::nodes::PLAIN;
 
 /// ID.18 of the first is recessive and of the second dominant: level 13 of the line, with two stuff bits before it.
 #[test]
@@ -34,7 +35,7 @@ fn the_higher_identifier_loses_and_is_sent_later(rt: HostRuntime) -> Result<(), 
 /// its identifier.
 #[test]
 fn a_sender_takes_the_start_of_frame_of_another(rt: HostRuntime) -> Result<(), Fail> {
-    let mut stations = [Station::new(asked(&ZEROS)?), Station::new(started(plain()))];
+    let mut stations = [Station::new(asked(&ZEROS)?), Station::new(started(PLAIN))];
     run(&mut stations, 0..63, None);
     assert!(rt; stations[1].received == 1);
     assert!(rt; stations[1].node.request(request_for(&ZEROS)?) == Ok(()));

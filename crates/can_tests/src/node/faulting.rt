@@ -1,20 +1,21 @@
 //! Faults at one of several stations on a wire, and what the others make of them. Bits count from 0 with the start; the
 //! frame begins with bit 11.
 
-use super::given::{asked, counts, plain, started};
+use super::given::{asked, counts, started};
 use super::station::Station;
 use super::wire::{run, run_to_rest};
 use crate::worked::ZEROS;
 use can_bits::{Level, Segment};
 use can_node::{Cause, Phase};
 use std::test::Fail;
+use worked_frames::nodes::PLAIN;
 
 /// A sender and two receivers, of which one is struck in bit 50, the last one of the CRC sequence.
 fn check_struck(place: usize) -> Result<[Station; 3], Fail> {
     let mut stations = [
         Station::new(asked(&ZEROS)?),
-        Station::new(started(plain())),
-        Station::new(started(plain())),
+        Station::new(started(PLAIN)),
+        Station::new(started(PLAIN)),
     ];
     if !run_to_rest(&mut stations, Some((50, place))) {
         return Err(Fail::from("no rest"));
@@ -38,7 +39,7 @@ fn a_frame_that_one_receiver_refuses_is_sent_again(rt: HostRuntime) -> Result<()
 
 /// A sender and a receiver, of which one is struck in the last bit of the EOF.
 fn end_struck(place: usize) -> Result<[Station; 2], Fail> {
-    let mut stations = [Station::new(asked(&ZEROS)?), Station::new(started(plain()))];
+    let mut stations = [Station::new(asked(&ZEROS)?), Station::new(started(PLAIN))];
     if !run_to_rest(&mut stations, Some((60, place))) {
         return Err(Fail::from("no rest"));
     }
@@ -48,7 +49,7 @@ fn end_struck(place: usize) -> Result<[Station; 2], Fail> {
 /// The frame is received one bit before. The receiver answers the dominant level with an overload flag.
 #[test]
 fn a_receiver_struck_in_the_last_bit_receives_once(rt: HostRuntime) -> Result<(), Fail> {
-    let mut struck = [Station::new(asked(&ZEROS)?), Station::new(started(plain()))];
+    let mut struck = [Station::new(asked(&ZEROS)?), Station::new(started(PLAIN))];
     run(&mut struck, 0..61, Some((60, 1)));
     assert!(rt; struck[1].node.phase() == Phase::Flag);
     assert!(rt; struck[1].node.drive() == Level::Dominant);

@@ -2,22 +2,9 @@
 
 use crate::worked::frame_of;
 use can_bits::Level;
-use can_frame::Filter;
 use can_node::{BitEvents, Config, Node, Request};
 use std::test::Fail;
-
-/// The filter that passes every frame, and no special mode.
-pub fn plain() -> Config {
-    Config {
-        filter: Filter {
-            single: true,
-            acr: [0; 4],
-            amr: [255; 4],
-        },
-        self_test: false,
-        listen: false,
-    }
-}
+use worked_frames::nodes::PLAIN;
 
 /// A node that was started so.
 pub fn started(config: Config) -> Node {
@@ -29,7 +16,7 @@ pub fn started(config: Config) -> Node {
 /// A stop, and a start without a special mode. A node that is stopped may be stopped again.
 pub fn restart(node: &mut Node) {
     node.stop();
-    node.start(plain());
+    node.start(PLAIN);
 }
 
 /// A request for the frame of a message, to be tried again until it is sent.
@@ -43,7 +30,7 @@ pub fn request_for(message: &[u8]) -> Result<Request, Fail> {
 
 /// A started node that holds a request for the frame of a message.
 pub fn asked(message: &[u8]) -> Result<Node, Fail> {
-    let mut node = started(plain());
+    let mut node = started(PLAIN);
     node.request(request_for(message)?)?;
     Ok(node)
 }
@@ -52,7 +39,7 @@ pub fn asked(message: &[u8]) -> Result<Node, Fail> {
 pub fn asked_once(message: &[u8]) -> Result<Node, Fail> {
     let mut request = request_for(message)?;
     request.single_shot = true;
-    let mut node = started(plain());
+    let mut node = started(PLAIN);
     node.request(request)?;
     Ok(node)
 }

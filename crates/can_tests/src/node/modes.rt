@@ -1,19 +1,20 @@
 //! Self test, self reception and listen only. Bits count from 0 with the start; a frame that was requested before
 //! begins with bit 11 and ends with bit 60.
 
-use super::given::{asked, counts, echoes, plain, request_for, sees, started};
+use super::given::{asked, counts, echoes, request_for, sees, started};
 use super::station::Station;
 use super::wire::{Strike, run};
 use crate::worked::{ZEROS, frame_of};
 use can_bits::Level;
 use can_node::{Config, Node, Outcome, Phase};
 use std::test::Fail;
+use worked_frames::nodes::PLAIN;
 
 /// A node in self test mode, with a request.
 fn in_self_test(self_receive: bool) -> Result<Node, Fail> {
     let mut node = started(Config {
         self_test: true,
-        ..plain()
+        ..PLAIN
     });
     let mut request = request_for(&ZEROS)?;
     request.self_receive = self_receive;
@@ -25,7 +26,7 @@ fn in_self_test(self_receive: bool) -> Result<Node, Fail> {
 fn listening() -> Node {
     started(Config {
         listen: true,
-        ..plain()
+        ..PLAIN
     })
 }
 
@@ -52,9 +53,9 @@ fn a_node_may_receive_what_it_sends(rt: HostRuntime) -> Result<(), Fail> {
     let frame = frame_of(&ZEROS)?;
     let mut request = request_for(&ZEROS)?;
     request.self_receive = true;
-    let mut sender = started(plain());
+    let mut sender = started(PLAIN);
     sender.request(request)?;
-    let mut stations = [Station::new(sender), Station::new(started(plain()))];
+    let mut stations = [Station::new(sender), Station::new(started(PLAIN))];
     run(&mut stations, 0..60, None);
     assert!(rt; stations[0].received == 0 && stations[1].received == 1);
     run(&mut stations, 60..61, None);
@@ -66,7 +67,7 @@ fn a_node_may_receive_what_it_sends(rt: HostRuntime) -> Result<(), Fail> {
 fn rest_with_listener(strike: Option<Strike>) -> Result<([Station; 3], bool), Fail> {
     let mut stations = [
         Station::new(asked(&ZEROS)?),
-        Station::new(started(plain())),
+        Station::new(started(PLAIN)),
         Station::new(listening()),
     ];
     let mut silent = true;

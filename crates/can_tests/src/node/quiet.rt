@@ -2,9 +2,10 @@
 
 use super::given::is_quiet;
 use can_bits::Level;
-use can_frame::{Filter, Frame};
+use can_frame::Frame;
 use can_node::{Config, Node, Request};
 use std::test::Fail;
+use worked_frames::nodes::PLAIN;
 
 /// How many bits each pair sees.
 const BITS: u32 = 100_000;
@@ -52,13 +53,9 @@ impl Numbers {
     /// One of the four modes.
     fn config(&mut self) -> Config {
         Config {
-            filter: Filter {
-                single: true,
-                acr: [0; 4],
-                amr: [255; 4],
-            },
             self_test: self.once_in(2),
             listen: self.once_in(8),
+            ..PLAIN
         }
     }
 }

@@ -1,12 +1,13 @@
 //! What a node on a wire without others makes of the levels that it sees: a frame, and six dominant levels. Bits count
 //! from 0 with the start; the node waits for eleven recessive levels first.
 
-use super::given::{counts, plain, sees, started};
+use super::given::{counts, sees, started};
 use can_bits::{Level, Segment};
 use can_frame::Frame;
 use can_node::{Cause, Node, Phase};
 use std::ops::Range;
 use std::test::Fail;
+use worked_frames::nodes::PLAIN;
 
 /// The line of the standard frame with identifier 0 and no data. Its ACK slot is level 41.
 const LINE: &str = "00000100000100000100000100000100000100001111111111";
@@ -23,7 +24,7 @@ fn rests(node: &mut Node, phase: Phase, bits: Range<u32>) -> bool {
 #[test]
 fn a_frame_is_acknowledged_and_received(rt: HostRuntime) -> Result<(), Fail> {
     let frame = Frame::new(false, 0, false, 0, &[])?;
-    let mut node = started(plain());
+    let mut node = started(PLAIN);
     assert!(rt; rests(&mut node, Phase::Waiting, 0..11));
     assert!(rt; node.phase() == Phase::Idle);
     for (place, digit) in LINE.as_bytes().iter().enumerate() {
@@ -50,7 +51,7 @@ fn a_frame_is_acknowledged_and_received(rt: HostRuntime) -> Result<(), Fail> {
 /// After each of three frames only two bits of intermission come.
 #[test]
 fn a_frame_may_begin_with_the_third_bit_of_intermission(rt: HostRuntime) -> Result<(), Fail> {
-    let mut node = started(plain());
+    let mut node = started(PLAIN);
     assert!(rt; sees(&mut node, Level::Recessive, 11));
     let mut received = 0u32;
     for _ in 0..3u32 {
@@ -70,7 +71,7 @@ fn a_frame_may_begin_with_the_third_bit_of_intermission(rt: HostRuntime) -> Resu
 
 #[test]
 fn six_dominant_levels_are_a_stuff_error(rt: HostRuntime) -> Result<(), Fail> {
-    let mut node = started(plain());
+    let mut node = started(PLAIN);
     assert!(rt; sees(&mut node, Level::Recessive, 11));
     assert!(rt; sees(&mut node, Level::Dominant, 5));
     let events = node.sample(Level::Dominant);
@@ -92,7 +93,7 @@ fn six_dominant_levels_are_a_stuff_error(rt: HostRuntime) -> Result<(), Fail> {
 /// Its own flag is over with bit 22. Bit 23 shows that others' flags follow, and each eight of them cost more.
 #[test]
 fn dominant_levels_after_a_flag_are_counted(rt: HostRuntime) -> Result<(), Fail> {
-    let mut node = started(plain());
+    let mut node = started(PLAIN);
     assert!(rt; sees(&mut node, Level::Recessive, 11));
     for bit in 11..46u32 {
         node.sample(Level::Dominant);
@@ -114,7 +115,7 @@ fn dominant_levels_after_a_flag_are_counted(rt: HostRuntime) -> Result<(), Fail>
 
 /// A node that saw a stuff error and has sent its flag, with bit 22.
 fn flagged() -> Node {
-    let mut node = started(plain());
+    let mut node = started(PLAIN);
     for bit in 0..23u32 {
         node.sample(Level::of(bit < 11));
     }

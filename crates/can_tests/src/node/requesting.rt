@@ -1,15 +1,14 @@
 //! Requests: single shot, aborted, and given back. Bits count from 0 with the start; a frame that was requested before
 //! begins with bit 11, and its ACK slot is bit 52.
 
-use super::given::{
-    asked, asked_once, counts, echoes, is_quiet, plain, request_for, sees, started,
-};
+use super::given::{asked, asked_once, counts, echoes, is_quiet, request_for, sees, started};
 use super::station::Station;
 use super::wire::{run, run_to_rest};
 use crate::worked::{ZEROS, frame_of};
 use can_bits::{Level, Segment};
 use can_node::{Aborted, Cause, Node, Outcome, Phase};
 use std::test::Fail;
+use worked_frames::nodes::PLAIN;
 
 /// Whether a sender fails in the next bit, at its missing acknowledgement, and its request with it.
 fn fails_unanswered(node: &mut Node) -> bool {
@@ -95,7 +94,7 @@ fn an_abort_in_progress_marks_the_request(rt: HostRuntime) -> Result<(), Fail> {
 
 #[test]
 fn a_request_aborted_in_progress_may_be_sent(rt: HostRuntime) -> Result<(), Fail> {
-    let mut stations = [Station::new(asked(&ZEROS)?), Station::new(started(plain()))];
+    let mut stations = [Station::new(asked(&ZEROS)?), Station::new(started(PLAIN))];
     run(&mut stations, 0..20, None);
     assert!(rt; stations[0].node.abort() == Aborted::Marked);
     run(&mut stations, 20..200, None);
@@ -131,7 +130,7 @@ fn a_second_request_is_given_back(rt: HostRuntime) -> Result<(), Fail> {
     let first = frame_of(&ZEROS)?;
     let mut node = asked(&ZEROS)?;
     assert!(rt; node.request(request_for(&[0, 0, 0x20])?) == Err(request_for(&[0, 0, 0x20])?));
-    let mut stations = [Station::new(node), Station::new(started(plain()))];
+    let mut stations = [Station::new(node), Station::new(started(PLAIN))];
     assert!(rt; run_to_rest(&mut stations, None));
     assert!(rt; stations[1].received == 1 && stations[1].last == Some(first));
     assert!(rt; stations[0].node.request(request_for(&[0, 0, 0x20])?) == Ok(()));
@@ -143,7 +142,7 @@ fn a_request_in_reset_is_given_back(rt: HostRuntime) -> Result<(), Fail> {
     let mut node = Node::new();
     assert!(rt; node.request(request_for(&ZEROS)?) == Err(request_for(&ZEROS)?));
     assert!(rt; node.abort() == Aborted::Unchanged);
-    node.start(plain());
+    node.start(PLAIN);
     assert!(rt; sees(&mut node, Level::Recessive, 100) && node.at_rest());
     Ok(())
 }

@@ -1,13 +1,14 @@
 //! Stops and starts in the middle of a frame. Bits count from 0 with the first start; a frame that was requested before
 //! begins with bit 11.
 
-use super::given::{asked, counts, is_quiet, plain, request_for, restart, sees, started};
+use super::given::{asked, counts, is_quiet, request_for, restart, sees, started};
 use super::station::Station;
 use super::wire::run;
 use crate::worked::ZEROS;
 use can_bits::Level;
 use can_node::{Node, Phase};
 use std::test::Fail;
+use worked_frames::nodes::PLAIN;
 
 /// Whether the node in reset looks at no level, and drives recessive.
 fn looks_at_nothing(node: &mut Node) -> bool {
@@ -46,7 +47,7 @@ fn a_stop_in_a_frame_drops_the_request(rt: HostRuntime) -> Result<(), Fail> {
 /// frame that was broken off, and then the new frame.
 #[test]
 fn a_sender_stopped_in_a_frame_sends_another_later(rt: HostRuntime) -> Result<(), Fail> {
-    let mut stations = [Station::new(asked(&ZEROS)?), Station::new(started(plain()))];
+    let mut stations = [Station::new(asked(&ZEROS)?), Station::new(started(PLAIN))];
     run(&mut stations, 0..30, None);
     stations[0].node.stop();
     run(&mut stations, 30..50, None);
@@ -63,7 +64,7 @@ fn a_sender_stopped_in_a_frame_sends_another_later(rt: HostRuntime) -> Result<()
 /// The receiver stops after bit 29 and starts again at once: it acknowledges nothing before the second attempt.
 #[test]
 fn a_receiver_started_in_a_frame_takes_the_next(rt: HostRuntime) -> Result<(), Fail> {
-    let mut stations = [Station::new(asked(&ZEROS)?), Station::new(started(plain()))];
+    let mut stations = [Station::new(asked(&ZEROS)?), Station::new(started(PLAIN))];
     run(&mut stations, 0..30, None);
     restart(&mut stations[1].node);
     run(&mut stations, 30..61, None);
