@@ -1,13 +1,14 @@
 //! Parts of logs: messages, entries of journals, steps done, activations.
 
 use can_bits::Level;
-use can_frame::{Filter, Message};
-use can_node::{Config, Request};
+use can_frame::Message;
+use can_node::Request;
 use sja_link::{Entry, Journal, Up};
 use sja_report::ActivationLog;
 use sja_script::{Done, StepAnswer};
 use std::alloc::Global;
 use std::test::Fail;
+use worked_frames::nodes::PLAIN;
 
 /// The message of the standard data frame with this identifier, below 8, and no data.
 pub fn message(identifier: u8) -> Result<Message, Fail> {
@@ -16,15 +17,7 @@ pub fn message(identifier: u8) -> Result<Message, Fail> {
 
 /// A start whose filter passes all.
 pub fn start() -> Entry {
-    Entry::Up(Up::Start(Config {
-        filter: Filter {
-            single: true,
-            acr: [0; 4],
-            amr: [0xff; 4],
-        },
-        self_test: false,
-        listen: false,
-    }))
+    Entry::Up(Up::Start(PLAIN))
 }
 
 /// A request for the frame of a message.

@@ -2,13 +2,13 @@
 
 use Level::{Dominant, Recessive};
 use can_bits::Level;
-use can_frame::{Filter, Message};
-use can_node::Config;
+use can_frame::Message;
 use sja_link::{Entry, Journal, Up};
 use sja_report::{End, NodeRun, RunLog};
 use sja_wave::wave;
 use std::alloc::Global;
 use std::test::Fail;
+use worked_frames::nodes::PLAIN;
 use worked_frames::runs::{DECLARED, FIRST_VALUES};
 
 /// The wave of the two journals below after the declarations of the bus and of node 0.
@@ -60,19 +60,6 @@ $end
 1m1
 ";
 
-/// A start whose filter passes all.
-fn start() -> Entry {
-    Entry::Up(Up::Start(Config {
-        filter: Filter {
-            single: true,
-            acr: [0; 4],
-            amr: [0xff; 4],
-        },
-        self_test: false,
-        listen: false,
-    }))
-}
-
 /// A node with this journal.
 fn node(alloc: Global, journal: Journal) -> NodeRun {
     NodeRun::of(journal, 0, 0, Vec::new(alloc), Vec::new(alloc))
@@ -81,7 +68,7 @@ fn node(alloc: Global, journal: Journal) -> NodeRun {
 /// It is active from the first bit on, and is struck in the last two, after which it goes bus-off.
 fn struck(alloc: Global) -> Result<NodeRun, Fail> {
     let mut journal = Journal::new(alloc, 10)?;
-    let _ = journal.enter(start());
+    let _ = journal.enter(Entry::Up(Up::Start(PLAIN)));
     let _ = journal.enter(Entry::Bit(Dominant, Dominant));
     let _ = journal.enter(Entry::Bit(Recessive, Dominant));
     let _ = journal.enter(Entry::Stored(Message::default()));
@@ -97,7 +84,7 @@ fn struck(alloc: Global) -> Result<NodeRun, Fail> {
 fn stopped(alloc: Global) -> Result<NodeRun, Fail> {
     let mut journal = Journal::new(alloc, 10)?;
     let _ = journal.enter(Entry::Bit(Recessive, Dominant));
-    let _ = journal.enter(start());
+    let _ = journal.enter(Entry::Up(Up::Start(PLAIN)));
     let _ = journal.enter(Entry::Bit(Dominant, Dominant));
     let _ = journal.enter(Entry::Bit(Recessive, Recessive));
     let _ = journal.enter(Entry::Overrun(Message::default()));
@@ -126,7 +113,7 @@ fn five_bits_of_two_nodes_are_shown(rt: HostRuntime) -> Result<(), Fail> {
 fn a_run_without_bits_has_its_first_values(rt: HostRuntime) -> Result<(), Fail> {
     let alloc = rt.alloc();
     let mut journal = Journal::new(alloc, 10)?;
-    let _ = journal.enter(start());
+    let _ = journal.enter(Entry::Up(Up::Start(PLAIN)));
     let mut nodes = Vec::new(alloc);
     nodes.push(node(alloc, journal))?;
     let text = wave(alloc, &RunLog::of(1, 0, End::Turns, nodes))?;
