@@ -7,13 +7,16 @@ use sja_plan::read_plan;
 use sja_regs::Port;
 use sja_report::RunLog;
 use sja_rings::{RingBus, RingDriver, ring_pair};
-use sja_script::{Step, StepAnswer};
+use sja_script::{Refusal, Step, StepAnswer};
 use sja_threads::{Gate, Worked, run_threads, work};
 use std::alloc::Global;
 use std::sync::{Mutex, Wait};
 use std::test::Fail;
 use std::thread::Threads;
 use test_links::are_links_of_node;
+
+/// A driver starts, waits for a message, and stops.
+pub const WAITS: [Step; 3] = [Step::Start, Step::Await(1), Step::Stop];
 
 /// The most steps of a test's script.
 const MOST: usize = 100;
@@ -65,6 +68,18 @@ pub fn answers(worked: &Worked<RingDriver>, expected: &[StepAnswer]) -> Result<(
         }
     }
     Ok(())
+}
+
+/// Fails where it wasn't just the wait of [`WAITS`] that was refused, since the port is closed.
+pub fn gave_up(worked: &Worked<RingDriver>) -> Result<(), Fail> {
+    answers(
+        worked,
+        &[
+            StepAnswer::Done,
+            StepAnswer::Refused(Refusal::Closed),
+            StepAnswer::Done,
+        ],
+    )
 }
 
 /// So many gates that let every step go.

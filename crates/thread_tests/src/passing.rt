@@ -1,13 +1,13 @@
 //! A driver in a thread of its own, and the bus's ends in another.
 
 use super::gates::Open;
-use super::given::{answers, drive, pairs};
+use super::given::{WAITS, answers, drive, gave_up, pairs};
 use can_frame::Message;
 use sja_bus::Board;
 use sja_link::{BusEnd, Down, Up};
 use sja_regs::Port;
 use sja_rings::{RingBus, RingDriver};
-use sja_script::{Refusal, Step, StepAnswer};
+use sja_script::{Step, StepAnswer};
 use sja_threads::{LockBoard, Worked};
 use std::alloc::Global;
 use std::sync::{Mutex, Wait};
@@ -130,16 +130,7 @@ fn both_until_shut<R: Threads + Wait + Sync>(
 #[test]
 fn a_wait_is_given_up_once_the_board_closes_the_port(rt: HostRuntime) -> Result<(), Fail> {
     let ports = [Mutex::new(Port::new(1))];
-    let steps = [Step::Start, Step::Await(1), Step::Stop];
-    let (worked, passed) = both_until_shut(&rt, rt.alloc(), &ports, &steps)?;
+    let (worked, passed) = both_until_shut(&rt, rt.alloc(), &ports, &WAITS)?;
     assert!(rt; passed);
-    answers(
-        &worked,
-        &[
-            StepAnswer::Done,
-            StepAnswer::Refused(Refusal::Closed),
-            StepAnswer::Done,
-        ],
-    )?;
-    Ok(())
+    gave_up(&worked)
 }

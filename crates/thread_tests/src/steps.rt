@@ -1,9 +1,9 @@
 //! A driver whose links nobody is at the other end of.
 
 use super::gates::{HoldsOnce, Open, Patience};
-use super::given::{answers, drive, pairs};
+use super::given::{WAITS, answers, drive, gave_up, pairs};
 use sja_regs::Port;
-use sja_script::{Refusal, Step, StepAnswer};
+use sja_script::{Step, StepAnswer};
 use std::sync::Mutex;
 use std::test::Fail;
 
@@ -12,8 +12,7 @@ fn a_gate_that_quits_ends_the_script(rt: HostRuntime) -> Result<(), Fail> {
     let (_ends, links) = pairs(rt.alloc())?;
     let port = Mutex::new(Port::new(1));
     let gate = Patience { tries: 1_000 };
-    let steps = [Step::Start, Step::Await(1), Step::Stop];
-    let worked = drive(&rt, rt.alloc(), links, &port, &steps, gate)?;
+    let worked = drive(&rt, rt.alloc(), links, &port, &WAITS, gate)?;
     answers(&worked, &[StepAnswer::Done])?;
     assert!(rt; port.lock(&rt).orders().ended);
     assert_eq!(rt; worked.driver.activation(), 1);
@@ -51,17 +50,8 @@ fn a_wait_at_a_closed_port_is_given_up(rt: HostRuntime) -> Result<(), Fail> {
     let (_ends, links) = pairs(rt.alloc())?;
     let port = Mutex::new(Port::new(1));
     port.lock(&rt).close();
-    let steps = [Step::Start, Step::Await(1), Step::Stop];
-    let worked = drive(&rt, rt.alloc(), links, &port, &steps, Open)?;
-    answers(
-        &worked,
-        &[
-            StepAnswer::Done,
-            StepAnswer::Refused(Refusal::Closed),
-            StepAnswer::Done,
-        ],
-    )?;
-    Ok(())
+    let worked = drive(&rt, rt.alloc(), links, &port, &WAITS, Open)?;
+    gave_up(&worked)
 }
 
 #[test]
