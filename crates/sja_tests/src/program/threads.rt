@@ -1,6 +1,7 @@
 //! `run --threads`, and words that only look like it.
 
 use super::row::{Said, Want, said};
+use super::runs::given::with_steps;
 use sja_run::{Output, sja, sja_serial};
 use std::alloc::Global;
 use std::sync::Wait;
@@ -46,31 +47,8 @@ steps = ['start', 'await 3', 'release', 'release', 'release']
 steps = ['start', 'await 3', 'release', 'release', 'release']
 ";
 
-/// Its report after the end of its first line. The frames have 50, 45 and 45 levels, each with intermission after it,
-/// and before them come eleven bits.
-const THREE_REPORT: &str = "node 0 tec 0 rec 0 steps 10
-step 1 ok
-step 2 ok
-step 3 ok
-step 4 ok
-step 5 ok
-step 6 ok
-step 7 ok
-step 8 ok
-step 9 ok
-step 10 ok
-activation 1 stored 0 overrun 0 free 64
-node 1 tec 0 rec 0 steps 5
-step 1 ok
-step 2 ok
-step 3 3
-step 4 3
-step 5 3
-activation 1 stored 3 overrun 0 free 64
-released 00 00 00
-released 00 24 40
-released 00 24 60
-node 2 tec 0 rec 0 steps 5
+/// What its report says of each driver that waits, after the node's number.
+const THREE_RELEASED: &str = "tec 0 rec 0 steps 5
 step 1 ok
 step 2 ok
 step 3 3
@@ -81,6 +59,15 @@ released 00 00 00
 released 00 24 40
 released 00 24 60
 ";
+
+/// Its report after the end of its first line. The frames have 50, 45 and 45 levels, each with intermission after it, and
+/// before them come eleven bits.
+fn three_report(alloc: Global) -> Result<String, Fail> {
+    let tail = format!(in alloc;
+        "activation 1 stored 0 overrun 0 free 64\nnode 1 {THREE_RELEASED}node 2 {THREE_RELEASED}"
+    )?;
+    with_steps(alloc, "node 0 tec 0 rec 0 steps 10\n", 10, &tail)
+}
 
 /// A node that nobody acknowledges sends until the bits are spent.
 const ALONE: &str = "version = 1
@@ -143,7 +130,8 @@ fn a_plan_without_a_race_has_the_report_of_one_thread(rt: HostRuntime) -> Result
     let threads = printed(&rt, rt.alloc(), &["sja", "run", "--threads"], THREE)?;
     let serial = str::from_utf8(&serial)?.strip_prefix("sja version 1 bits 160 end turns\n");
     let threads = str::from_utf8(&threads)?.strip_prefix("sja version 1 bits 160 end rest\n");
-    assert!(rt; serial == Some(THREE_REPORT));
+    let report = three_report(rt.alloc())?;
+    assert!(rt; serial == Some(report.as_str()));
     assert!(rt; threads == serial);
     Ok(())
 }

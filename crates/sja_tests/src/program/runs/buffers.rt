@@ -1,6 +1,6 @@
 //! What is in the receive buffer: an overrun, and messages that are left unread.
 
-use super::given::reports;
+use super::given::{reports, with_steps};
 use std::alloc::Global;
 use std::test::Fail;
 
@@ -31,13 +31,11 @@ fn flooded_report(
     receiver: &str,
     unread: u32,
 ) -> Result<String, Fail> {
-    let mut report = format!(in alloc;
+    let head = format!(in alloc;
         "sja version 1 bits {bits} end turns\nnode 0 tec 0 rec 0 steps {steps}\n"
     )?;
-    for step in 1..=steps {
-        report.push_str(&format!(in alloc; "step {step} ok\n")?)?;
-    }
-    report.push_str("activation 1 stored 0 overrun 0 free 64\n")?;
+    let tail = "activation 1 stored 0 overrun 0 free 64\n";
+    let mut report = with_steps(alloc, &head, steps, tail)?;
     report.push_str(receiver)?;
     for _ in 0..unread {
         report.push_str("unread 00 00 00\n")?;
@@ -95,16 +93,12 @@ steps = [
 steps = ['start', 'window', 'stop', 'start', 'read 29']
 ";
 
-const STOPPED_REPORT: &str = "sja version 1 bits 171 end turns
+const STOPPED_HEAD: &str = "sja version 1 bits 171 end turns
 node 0 tec 0 rec 0 steps 7
-step 1 ok
-step 2 ok
-step 3 ok
-step 4 ok
-step 5 ok
-step 6 ok
-step 7 ok
-activation 1 stored 0 overrun 0 free 64
+";
+
+/// What follows the seven steps of node 0.
+const STOPPED_TAIL: &str = "activation 1 stored 0 overrun 0 free 64
 node 1 tec 0 rec 0 steps 5
 step 1 ok
 step 2 00 00 00
@@ -120,6 +114,8 @@ activation 2 stored 0 overrun 0 free 64
 
 /// What is unread as a controller is stopped isn't there in its next activation.
 #[test]
-fn a_stop_leaves_messages_unread(rt: HostRuntime) {
-    assert!(rt; reports(rt.alloc(), STOPPED, STOPPED_REPORT));
+fn a_stop_leaves_messages_unread(rt: HostRuntime) -> Result<(), Fail> {
+    let report = with_steps(rt.alloc(), STOPPED_HEAD, 7, STOPPED_TAIL)?;
+    assert!(rt; reports(rt.alloc(), STOPPED, &report));
+    Ok(())
 }

@@ -4,6 +4,7 @@ use sja_run::{Output, sja_serial};
 use std::alloc::Global;
 use std::io::Read;
 use std::str;
+use std::test::Fail;
 
 /// Two nodes: node 0 sends the frame with identifier 0, and node 1 leaves it unread.
 pub const SENT_ONCE: &str = "version = 1
@@ -27,6 +28,17 @@ step 1 ok
 activation 1 stored 1 overrun 0 free 61
 unread 00 00 00
 ";
+
+/// A text that goes on with the lines of so many steps that were done, and then so.
+pub fn with_steps(alloc: Global, head: &str, steps: u32, tail: &str) -> Result<String, Fail> {
+    let mut text = String::new(alloc);
+    text.push_str(head)?;
+    for step in 1..=steps {
+        text.push_str(&format!(in alloc; "step {step} ok\n")?)?;
+    }
+    text.push_str(tail)?;
+    Ok(text)
+}
 
 /// Whether `run` over this input answers this status, with these texts on the output and on the error output.
 fn answers<R: Read>(alloc: Global, input: &mut R, status: u8, written: &[u8], told: &[u8]) -> bool {

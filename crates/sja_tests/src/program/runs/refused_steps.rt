@@ -1,6 +1,7 @@
 //! Steps that are refused, with the name of each refusal.
 
-use super::given::reports;
+use super::given::{reports, with_steps};
+use std::test::Fail;
 
 const REFUSED: &str = "version = 1
 bits = 1
@@ -43,25 +44,12 @@ steps = [
 ]
 ";
 
-const NINE_STARTS_REPORT: &str = "sja version 1 bits 0 end turns
+const NINE_STARTS_HEAD: &str = "sja version 1 bits 0 end turns
 node 0 tec 0 rec 0 steps 17
-step 1 ok
-step 2 ok
-step 3 ok
-step 4 ok
-step 5 ok
-step 6 ok
-step 7 ok
-step 8 ok
-step 9 ok
-step 10 ok
-step 11 ok
-step 12 ok
-step 13 ok
-step 14 ok
-step 15 ok
-step 16 ok
-step 17 refused NoActivationLeft
+";
+
+/// What follows the sixteen steps that were done.
+const NINE_STARTS_TAIL: &str = "step 17 refused NoActivationLeft
 activation 1 stored 0 overrun 0 free 64
 activation 2 stored 0 overrun 0 free 64
 activation 3 stored 0 overrun 0 free 64
@@ -73,6 +61,8 @@ activation 8 stored 0 overrun 0 free 64
 ";
 
 #[test]
-fn a_controller_starts_at_most_eight_times(rt: HostRuntime) {
-    assert!(rt; reports(rt.alloc(), NINE_STARTS, NINE_STARTS_REPORT));
+fn a_controller_starts_at_most_eight_times(rt: HostRuntime) -> Result<(), Fail> {
+    let report = with_steps(rt.alloc(), NINE_STARTS_HEAD, 16, NINE_STARTS_TAIL)?;
+    assert!(rt; reports(rt.alloc(), NINE_STARTS, &report));
+    Ok(())
 }
