@@ -2,9 +2,10 @@
 //! others receive it; each node's bits are counted.
 
 use super::tally::Tally;
+use super::wire::EVERY_FRAME;
 use super::worked::long_frame;
 use can_bits::Level;
-use can_frame::{Filter, Frame};
+use can_frame::Frame;
 use can_node::{Config, Node, Outcome, Request};
 use std::alloc::Global;
 
@@ -31,13 +32,6 @@ struct Traffic {
     nodes: [Node; 3],
     tally: Tally,
 }
-
-/// The filter that passes every frame.
-const EVERY_FRAME: Filter = Filter {
-    single: true,
-    acr: [0; 4],
-    amr: [255; 4],
-};
 
 /// A started node.
 fn started() -> Node {

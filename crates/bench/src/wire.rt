@@ -7,7 +7,7 @@ use can_node::{Config, Node, Request};
 use std::alloc::Global;
 
 /// The filter that passes every frame.
-const EVERY_FRAME: Filter = Filter {
+pub const EVERY_FRAME: Filter = Filter {
     single: true,
     acr: [0; 4],
     amr: [255; 4],
