@@ -11,7 +11,8 @@ use std::test::Fail;
 /// More bits than any test needs to come to rest.
 const MANY: u32 = 20_000;
 
-/// A bus with its links and its ports, in one thread. A call fails where the links or the ports aren't those of the bus.
+/// A bus with its links and its ports, in one thread. A call fails where the links or the ports aren't those of the
+/// bus.
 #[derive(Drop)]
 pub struct Wired<E> {
     bus: Bus,

@@ -40,7 +40,8 @@ impl Controller {
         self.port.read(addr, seen)
     }
 
-    /// Whether reads of these registers, one after the other and with no message at the driver's end, answer these values.
+    /// Whether reads of these registers, one after the other and with no message at the driver's end,
+    /// answer these values.
     pub fn shows(&mut self, values: &[(u8, u8)]) -> bool {
         let seen = nothing_seen();
         for (addr, value) in values {

@@ -60,8 +60,8 @@ released 00 24 40
 released 00 24 60
 ";
 
-/// Its report after the end of its first line. The frames have 50, 45 and 45 levels, each with intermission after it, and
-/// before them come eleven bits.
+/// Its report after the end of its first line. The frames have 50, 45 and 45 levels, each with intermission after it,
+/// and before them come eleven bits.
 fn three_report(alloc: Global) -> Result<String, Fail> {
     let tail = format!(in alloc;
         "activation 1 stored 0 overrun 0 free 64\nnode 1 {THREE_RELEASED}node 2 {THREE_RELEASED}"
