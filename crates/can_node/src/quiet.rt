@@ -1,5 +1,5 @@
 //! The quick way of a bit: in most bits nothing happens that a node shows.
-ghost use Rattle.std.specs.Prelude.{◌≡◌, ◌==◌, ◌&&◌, ◌||◌, not};
+ghost use Rattle.std.specs.Prelude.{◌≡◌, ◌==◌, ◌&&◌, ◌||◌, not, nat_lt};
 ghost use Rattle.can_bits.specs.Fields.{is_recessive};
 
 use super::bus_integration::after_integration_bit;
@@ -64,7 +64,8 @@ impl Node {
         }
     }
 
-    /// A receiver's bit past the stuffed part, but for that of its own acknowledgement, and the sixth bit of EOF.
+    /// A receiver's bit past the stuffed part, but for its own acknowledgement where that counts or isn't seen, and the
+    /// sixth bit of EOF.
     #[inline(never)]
     fn receive_quietly(&mut self, level: Level) -> bool
         ensures quiet { self.old.stage ≡ StageInFrame → self.old.context.role ≡ Receiver → result ≡ true
@@ -72,7 +73,7 @@ impl Node {
         ensures shown { result ≡ true → ShowsSame self.old self.new }
         ensures same { result ≡ false → self.new ≡ self.old }
     {
-        if self.acknowledges() || self.shift.frame_is_next() {
+        if self.acknowledgement_tells(level) || self.shift.frame_is_next() {
             return false;
         }
         if self.shift.take_past(level) {
@@ -83,12 +84,14 @@ impl Node {
         }
     }
 
-    /// Whether the bit is the node's own acknowledgement, which may be counted.
+    /// Whether the bit is the node's own acknowledgement and something happens in it: it isn't seen, or REC is above 0
+    /// and steps down.
     #[inline(always)]
-    fn acknowledges(&self) -> bool
-        ensures { result ≡ false → self.now.next ≡ Level.Recessive }
+    fn acknowledgement_tells(&self, level: Level) -> bool
+        ensures { result ≡ (not (is_recessive self.now.next)
+            && (is_recessive level || nat_lt 0 self.now.context.counters.rec)) }
     {
-        !self.next.is_recessive()
+        !self.next.is_recessive() && (level.is_recessive() || self.context.counters.rec > 0)
     }
 
     /// A transmitter's bit past the stuffed part that is seen as driven, but for the last one, and the ACK slot where

@@ -1,9 +1,12 @@
 -- The quick way of a bit of a frame for its receiver.
-use Rattle.std.proofs.Common.{◌≡◌, None, List, [], ◌∷◌, ◌++◌, refl, ap, sym, subst, ◌∙◌}
+use Rattle.std.proofs.Common.{◌≡◌, ◌≢◌, ◌&&◌, ◌||◌, not, ℕ, false, nat_lt, None, List, [], ◌∷◌, ◌++◌}
+use Rattle.std.proofs.Common.{refl, ap, sym, subst, ◌∙◌, arith}
+use Rattle.std.proofs.lemmas.Bool.{ltb-false}
 use Rattle.can_bits.specs.declared.level.Level.{Level}
-use Rattle.can_bits.specs.declared.level.Level.TheVariants.{Recessive}
+use Rattle.can_bits.specs.declared.level.Level.TheVariants.{Dominant, Recessive}
 use Rattle.can_bits.specs.declared.shift.Shift.{Shift}
 use Rattle.can_frame.specs.Frame.{FrameValue}
+use Rattle.can_bits.specs.Fields.{is_recessive}
 use Rattle.can_bits.specs.Acknowledging.{IsAckDue}
 use Rattle.can_bits.specs.Reading.{IsPastPart}
 use Rattle.can_bits.specs.Shifts.{StandsFor}
@@ -14,10 +17,10 @@ use Rattle.can_node.specs.declared.stage.Stage.{Stage}
 use Rattle.can_node.specs.declared.stage.Stage.TheVariants.{InFrame as StageInFrame}
 use Rattle.can_node.specs.declared.after_bit.AfterBit.TheVariants.{InPiece}
 use Rattle.can_node.specs.declared.node.Node.{Node}
-use Rattle.can_node.specs.Bits.{Bit, seen_of}
+use Rattle.can_node.specs.Bits.{Bit, dominant_bit, seen_of}
 use Rattle.can_node.specs.Context.{ContextValue}
 use Rattle.can_node.specs.Pieces.{Place}
-use Rattle.can_node.specs.Counting.{at_bit, frame_bit, if_acknowledged}
+use Rattle.can_node.specs.Counting.{at_bit, frame_bit, if_acknowledged, rec_acknowledged}
 use Rattle.can_node.specs.Events.{lost_in, lost_as}
 use Rattle.can_node.specs.Frames.{Acknowledges}
 use Rattle.can_node.specs.Driving.{Drives, FrameDrives}
@@ -29,7 +32,7 @@ use Rattle.can_node.proofs.Machine.FrameDrives.{receiving_drives}
 use Rattle.can_node.proofs.Machine.FrameTurns.{frame_at, frame_drives, lost_at, place_of, receive_turn}
 use Rattle.can_node.proofs.Machine.Quiet.{GoesQuietly, IsQuiet}
 use Rattle.can_node.proofs.Reception.Acknowledging.{acknowledges_once, quiet}
-use Rattle.can_node.proofs.Reception.ReceiverBits.{goes_on, not_lost_driven}
+use Rattle.can_node.proofs.Reception.ReceiverBits.{goes_on, kept_if, not_lost_driven}
 
 -- within the stuffed part no acknowledgement is due
 pub inside_not_due : (l : List Level) (x : Level) → IsRightInside l x → IsAckDue l → ⊥
@@ -53,11 +56,31 @@ answers_at shift c now place bits x receiver reading drives =
     let P : Role → Type 0 = λ r. FrameDrives r now (frame_bits place bits) x in
     subst P receiver (frame_drives now place bits x reading.site drives)
 
--- a bit of a frame that its receiver drives recessive, and that the frame goes on with
+-- its acknowledgement, where that is seen and REC is 0, counts nothing; nor does any other bit of a frame
+uncounted : (driven seen : Level) (now : ContextValue) →
+    (not (is_recessive driven) && (is_recessive seen || nat_lt 0 now.rec)) ≡ false →
+    now ≡ if_acknowledged driven seen now
+uncounted Dominant Dominant now none =
+    let low = ltb-false 0 now.rec none in
+    let at_zero : now.rec ≡ 0 = omega (arith, low) in
+    let counts : now.rec ≡ rec_acknowledged now.rec =
+    subst (λ n. n ≡ rec_acknowledged n) (sym at_zero) refl in
+    ap (λ n. record now { rec = n }) counts
+uncounted Dominant Recessive now none = refl
+uncounted Recessive seen now none = refl
+
+-- and it is seen, where it is one
+seen_if : (driven seen : Level) (n : ℕ) → (not (is_recessive driven) && (is_recessive seen || nat_lt 0 n)) ≡ false →
+    record { driven = driven; seen = seen } ≢ dominant_bit Recessive
+seen_if Dominant Dominant n none = kept_if Dominant Dominant refl
+seen_if Dominant Recessive n none = absurd cc
+seen_if Recessive seen n none = kept_if Recessive seen refl
+
+-- a bit of a frame with which its receiver counts nothing, and that the frame goes on with
 pub receives_quietly : (old : Node) (shift : Shift) (next seen : Level) (c : ContextValue) (place : Place)
     (bits : List Bit) → old.stage ≡ StageInFrame →
-    old.context.role ≡ Receiver → old.next ≡ Recessive → At old.stage old.shift c (context_of old.context) place bits →
-    IsKept place c (context_of old.context) →
+    old.context.role ≡ Receiver → context_of old.context ≡ if_acknowledged old.next seen (context_of old.context) →
+    At old.stage old.shift c (context_of old.context) place bits → IsKept place c (context_of old.context) →
     Drives (context_of old.context) place bits old.next →
     ((l : List Level) → StandsFor old.shift l → StandsFor shift (l ++ seen ∷ [])) →
     ((c : ContextValue) (place : Place) (bits : List Bit) → StandsFor old.shift (seen_of (frame_bits place bits)) →
@@ -68,7 +91,7 @@ pub receives_quietly : (old : Node) (shift : Shift) (next seen : Level) (c : Con
     Acknowledges old.context.listen (seen_of (frame_bits place bits) ++ seen ∷ []) next) →
     GoesQuietly (record old { shift = shift; next = next }) c (context_of old.context) place bits
     (record { driven = old.next; seen = seen })
-receives_quietly old shift next seen c place bits stage receiver recessive at kept drives stands receives answers =
+receives_quietly old shift next seen c place bits stage receiver same at kept drives stands receives answers =
     let now = context_of old.context in
     let b : Bit = record { driven = old.next; seen = seen } in
     let l = seen_of (frame_bits place bits) in
@@ -77,7 +100,7 @@ receives_quietly old shift next seen c place bits stage receiver recessive at ke
     sym (lost_at now place bits b reading.site ∙ ap (λ r. lost_as r now l b) receiver) in
     let steps : now ≡ at_bit now place bits b =
     sym (frame_at now place bits b reading.site ∙ ap (λ r. frame_bit r now l b) receiver
-    ∙ ap (λ x. if_acknowledged x seen now) recessive) in
+    ∙ sym same) in
     let turn : At StageInFrame shift c (at_bit now place bits b) place (bits ++ b ∷ []) =
     receive_turn old.shift shift c now place bits old.next seen (InPiece StageInFrame) receiver reading kept drives
     stands
@@ -111,7 +134,8 @@ receives_inside old shift seen stage receiver right stands inside c place bits a
     (answers_at old.shift c now place bits old.next receiver reading drives)
     (quiet now.listen l (inside_not_due l seen (right l reading.stands))) in
     let Answers : Level → Type 0 = λ x. Acknowledges now.listen (l ++ seen ∷ []) x in
-    receives_quietly old shift old.next seen c place bits stage receiver recessive at kept drives stands
+    receives_quietly old shift old.next seen c place bits stage receiver
+    (sym (ap (λ x. if_acknowledged x seen now) recessive)) at kept drives stands
     (λ c place bits stood h answers.
     (let m = seen_of (frame_bits place bits) in
     let on = inside m stood in
@@ -123,22 +147,23 @@ receives_inside old shift seen stage receiver right stands inside c place bits a
 shows_none : (l : List Level) → ((f : FrameValue) × IsLineButFor 1 f l → ⊥) → ShowsFrame l None
 shows_none l none = record { some = tt; only = λ f but. absurd (none (f, but)) }
 
--- a right level past it that the node drives recessive, and that brings no frame
+-- a right level past it with which nothing is counted or lost, and that brings no frame
 pub receives_past : (old : Node) (shift : Shift) (next seen : Level) → old.stage ≡ StageInFrame →
-    old.context.role ≡ Receiver → old.next ≡ Recessive →
+    old.context.role ≡ Receiver →
+    (not (is_recessive old.next) && (is_recessive seen || nat_lt 0 old.context.counters.rec)) ≡ false →
     ((l : List Level) → StandsFor old.shift l → IsRightPast l seen) →
     ((l : List Level) → StandsFor old.shift l → StandsFor shift (l ++ seen ∷ [])) →
     ((l : List Level) → StandsFor old.shift l → IsReadable (l ++ seen ∷ []) →
     (f : FrameValue) × IsLineButFor 1 f (l ++ seen ∷ []) → ⊥) →
     ((l : List Level) → StandsFor shift l → Acknowledges old.context.listen l next) →
     IsQuiet old (record old { shift = shift; next = next }) seen
-receives_past old shift next seen stage receiver recessive right stands no_frame answers c place bits at kept body
-    drives =
+receives_past old shift next seen stage receiver none right stands no_frame answers c place bits at kept body drives =
     let b : Bit = record { driven = old.next; seen = seen } in
-    receives_quietly old shift next seen c place bits stage receiver recessive at kept drives stands
+    receives_quietly old shift next seen c place bits stage receiver
+    (uncounted old.next seen (context_of old.context) none) at kept drives stands
     (λ d place bits stood h acknowledges.
     (let l = seen_of (frame_bits place bits) in
     let on = (right l stood).right in
-    goes_on d place bits b h acknowledges (not_lost_driven b recessive) on
+    goes_on d place bits b h acknowledges (seen_if old.next seen old.context.counters.rec none) on
     (shows_none (l ++ seen ∷ []) (no_frame l stood on))))
     (λ stood. answers (seen_of (frame_bits place bits) ++ seen ∷ []) (stands (seen_of (frame_bits place bits)) stood))

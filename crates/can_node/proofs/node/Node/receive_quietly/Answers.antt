@@ -1,4 +1,4 @@
-use Rattle.std.proofs.Common.{refl}
+use Rattle.std.proofs.Common.{refl, sym, ◌∙◌}
 use Rattle.can_node.proofs.Machine.Quiet.{quietly}
 use Rattle.can_node.proofs.Machine.QuietReceiver.{receives_past}
 use Rattle.can_node.proofs.node.Node.receive_quietly.Goals as goal
@@ -10,7 +10,7 @@ returns-then-take_past-clause-quiet c = λ stage receiver goes.
     let taken = c.if-take_past.true in
     quietly old _ c.args.level refl refl
     (receives_past old c.take_past.new.self c.acknowledgement-self.result c.args.level stage receiver
-    (c.acknowledges.ensures c.if-acknowledges.false)
+    (sym c.acknowledgement_tells.ensures ∙ c.if-acknowledgement_tells.false)
     (λ l stood. (c.take_past.ensures.exactly l stood).0 taken)
     (c.take_past.ensures.takes taken)
     (λ l stood on shown.
