@@ -14,7 +14,6 @@ use Rattle.can_node.specs.Pieces.{Place, Piece}
 use Rattle.can_node.specs.Pieces.Place.{AtInterframeSpace}
 use Rattle.can_node.specs.Pieces.Piece.{Transmission}
 use Rattle.can_node.specs.Frames.{SentPart, GoesWell, Fails, Transmits}
-use Rattle.can_node.specs.Frames.Fails.{stuff_bit}
 use Rattle.can_node.specs.Frames.Transmits.{sending, failed, lost}
 use Rattle.can_node.proofs.Transmission.SentLines.{sent_part_once}
 use Rattle.can_node.proofs.Transmission.SentBits.{lost_not_well, fails_not_well}
