@@ -1,7 +1,9 @@
 //! One bit of a node in which something may happen.
 
 ghost use Rattle.std.specs.Prelude.{◌≡◌, ℕ, List, Some};
+ghost use Rattle.can_frame.specs.declared.filter.Filter.{Filter as Filtering};
 ghost use Rattle.sja_link.specs.Verdicts.{entry_of};
+ghost use Rattle.sja_bus.specs.declared.activity.Activity.TheVariants.{Running};
 ghost use Rattle.sja_bus.specs.Telling.{is_overrun as overruns};
 ghost use Rattle.sja_bus.specs.Inside.Seats.{Keeps};
 
@@ -11,7 +13,7 @@ use super::heard::Heard;
 use super::putting::{accept, put_off};
 use super::seat::Seat;
 use can_bits::Level;
-use can_frame::{Filter, Frame, Message};
+use can_frame::{Frame, Message};
 use sja_link::{BusEnd, Busy, Entry, Verdict};
 
 impl Seat {
@@ -102,14 +104,9 @@ impl Seat {
     }
 
     /// The bit of a node that runs, and the verdict on what was received with it.
-    fn hear<E: BusEnd>(
-        &mut self,
-        end: &mut E,
-        filter: Filter,
-        seen: Level,
-    ) -> Result<Heard, BusFault>
+    fn hear<E: BusEnd>(&mut self, end: &mut E, seen: Level) -> Result<Heard, BusFault>
         requires id { E.link end.old ≡ link_of self.old.ledger }
-        requires runs { self.old.activity ≡ Running filter }
+        requires runs { (f : Filtering) × (self.old.activity ≡ Running f) }
         requires ready { IsReady self.old }
         ensures same { E.same end.old end.new }
         ensures kept { (self.new.ended ≡ self.old.ended) × (self.new.activity ≡ self.old.activity)
@@ -127,7 +124,7 @@ impl Seat {
     {
         let driven = self.drives;
         let events = self.node.sample_fully(seen);
-        match passing(&filter, &events.received) {
+        match passing(&self.activity, &events.received) {
             None => {
                 self.enter_bit(driven, seen)?;
                 Ok(Heard {
@@ -143,13 +140,8 @@ impl Seat {
     }
 
     /// One bit of a node that runs.
-    pub(crate) fn run_bit<E: BusEnd>(
-        &mut self,
-        end: &mut E,
-        filter: Filter,
-        seen: Level,
-    ) -> Result<Heard, BusFault>
-        requires running { self.old.activity ≡ Running filter }
+    pub(crate) fn run_bit<E: BusEnd>(&mut self, end: &mut E, seen: Level) -> Result<Heard, BusFault>
+        requires running { (f : Filtering) × (self.old.activity ≡ Running f) }
         requires link { E.link end.old ≡ link_of self.old.ledger }
         requires ready { IsReady self.old }
         ensures room { self.new.journal.room ≡ self.old.journal.room }
@@ -166,7 +158,7 @@ impl Seat {
             Brings self.old.journal.entries self.old.drives seen heard self.new.journal.entries) }
         ensures broken { IfErr result (λ f. BreaksHere E.stands E.full end.old self.old self.new f) }
     {
-        let heard = self.hear(end, filter, seen)?;
+        let heard = self.hear(end, seen)?;
         if !heard.events.went_off {
             return Ok(heard);
         }
@@ -219,18 +211,19 @@ fn is_overrun(verdict: Verdict) -> bool
     }
 }
 
-/// The message of a received frame that passes.
-fn passing(filter: &Filter, received: &Option<Frame>) -> Option<Message>
-    ensures { Keeps filter.now received.now result }
+/// The message of a received frame that passes the filter of the activation that runs.
+fn passing(activity: &Activity, received: &Option<Frame>) -> Option<Message>
+    ensures { (f : Filtering) → activity.now ≡ Running f → Keeps f received.now result }
 {
-    match received {
-        None => None,
-        Some(frame) => {
-            if filter.passes(frame) {
-                Some(Message::of(frame))
-            } else {
-                None
-            }
-        }
+    let Some(frame) = received else {
+        return None;
+    };
+    let Activity::Running(filter) = activity else {
+        return None;
+    };
+    if filter.passes(frame) {
+        Some(Message::of(frame))
+    } else {
+        None
     }
 }

@@ -47,11 +47,11 @@ impl Seat {
             IsBrokenFor E.stands E.full (link_of self.old.ledger).node self.old.journal.room
             self.old.journal.entries self.new.journal.entries links.old base f) }
     {
-        let Activity::Running(filter) = self.activity else {
+        let Activity::Running(_) = self.activity else {
             return self.rest_bit(seen);
         };
         let here = base + self.ended as usize;
-        self.run_bit(&mut links[here], filter, seen)
+        self.run_bit(&mut links[here], seen)
     }
 
     /// One bit of the node in which something may happen, and its port is told of it.

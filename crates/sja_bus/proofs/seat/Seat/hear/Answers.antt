@@ -20,15 +20,15 @@ returns-in_ok-enter_bit-in-None-clause-mid g c =
     let new = c.sample_fully-events.new.self in
     let P : Activity → Type 0 = λ a. Reads was.node j was.ended a (free_in was.ledger) in
     let Q : Activity → Type 0 = λ a. Reads new (j ++ Bit x seen ∷ []) was.ended a (free_in was.ledger) in
-    let reads = subst P c.requires.runs c.requires.ready.sound.reads in
-    let at = runs_at (Running c.args.filter) was.node j was.ended (free_in was.ledger) refl reads in
+    let reads = subst P c.requires.runs.1 c.requires.ready.sound.reads in
+    let at = runs_at (Running c.requires.runs.0) was.node j was.ended (free_in was.ledger) refl reads in
     let o = c.enter_bit.ensures.others in
-    let follows = heard_quiet was.node new j x seen c.sample_fully-events.result c.args.filter (suc was.ended) c.requires.ready.drives c.sample_fully-events.ensures.samples at reads.active.1 c.in-None.ensures c.requires.ready.sound.follows in
-    let swapped = reads_quiet new new j (Bit x seen) was.ended (Running c.args.filter) (free_in was.ledger) (λ p. refl, refl, refl, refl) (λ r. r) (reads_swap was.node new j was.ended c.args.filter (free_in was.ledger) reads) in
+    let follows = heard_quiet was.node new j x seen c.sample_fully-events.result c.requires.runs.0 (suc was.ended) c.requires.ready.drives c.sample_fully-events.ensures.samples at reads.active.1 (c.in-None.ensures c.requires.runs.0 c.requires.runs.1) c.requires.ready.sound.follows in
+    let swapped = reads_quiet new new j (Bit x seen) was.ended (Running c.requires.runs.0) (free_in was.ledger) (λ p. refl, refl, refl, refl) (λ r. r) (reads_swap was.node new j was.ended c.requires.runs.0 (free_in was.ledger) reads) in
     record {
       follows = follows_by c.enter_bit.new.self new (j ++ Bit x seen ∷ []) c.sample_fully-events.result.went_off (ap (λ (s : Seat). s.node) o) c.in_ok-enter_bit-in-None.ensures.ok.0 follows;
       reads = reads_by c.enter_bit.new.self new (j ++ Bit x seen ∷ []) was.ended was.activity (free_in was.ledger) (ap (λ (s : Seat). s.node) o) c.in_ok-enter_bit-in-None.ensures.ok.0
-          (ap (λ (s : Seat). s.ended) o) (ap (λ (s : Seat). s.activity) o) (ap (λ (s : Seat). free_in s.ledger) o) (subst Q (sym c.requires.runs) swapped);
+          (ap (λ (s : Seat). s.ended) o) (ap (λ (s : Seat). s.activity) o) (ap (λ (s : Seat). free_in s.ledger) o) (subst Q (sym c.requires.runs.1) swapped);
     }
 
 pub returns-in_ok-enter_bit-in-None-clause-samples : goal.returns-in_ok-enter_bit-in-None-clause-samples
@@ -45,7 +45,7 @@ returns-in_ok-enter_bit-in-None-clause-off g c = λ went.
 pub returns-in_ok-enter_bit-in-None-clause-moves : goal.returns-in_ok-enter_bit-in-None-clause-moves
 returns-in_ok-enter_bit-in-None-clause-moves g c =
     let was = c.args.self.now in let j = was.journal.entries in let b = Bit c.args.self.now.drives c.args.seen in
-    let at = runs_at was.activity was.node j was.ended (free_in was.ledger) (ap open_in c.requires.runs) c.requires.ready.sound.reads in
+    let at = runs_at was.activity was.node j was.ended (free_in was.ledger) (ap open_in c.requires.runs.1) c.requires.ready.sound.reads in
     rw c.in_ok-enter_bit-in-None.ensures.ok.0 (moves_quiet g.E.BusEnd.stands c.args.end.now j b (suc was.ended) (stands_at j b (suc was.ended) (λ p. refl) at) (λ l. refl))
 
 pub returns-in_ok-enter_bit-in-None-clause-hears : goal.returns-in_ok-enter_bit-in-None-clause-hears
@@ -56,10 +56,10 @@ returns-in_ok-overrun-in-Some-clause-mid g c =
     let was = c.args.self.now in let j = was.journal.entries in let x = c.args.self.now.drives in let seen = c.args.seen in
     let new = c.sample_fully-events.new.self in
     let P : Activity → Type 0 = λ a. Reads was.node j was.ended a (free_in was.ledger) in
-    let reads = subst P c.requires.runs c.requires.ready.sound.reads in
-    let at = runs_at (Running c.args.filter) was.node j was.ended (free_in was.ledger) refl reads in
-    let follows = heard_judged was.node new j c.judge.new.self.journal.entries x seen c.sample_fully-events.result c.args.filter (suc was.ended) c.in-Some.message c.in_ok-overrun-in-Some.overrun c.requires.ready.drives c.sample_fully-events.ensures.samples at reads.active.1
-    c.in-Some.ensures c.in_ok-overrun-in-Some.ensures.judged c.requires.ready.sound.follows in
+    let reads = subst P c.requires.runs.1 c.requires.ready.sound.reads in
+    let at = runs_at (Running c.requires.runs.0) was.node j was.ended (free_in was.ledger) refl reads in
+    let follows = heard_judged was.node new j c.judge.new.self.journal.entries x seen c.sample_fully-events.result c.requires.runs.0 (suc was.ended) c.in-Some.message c.in_ok-overrun-in-Some.overrun c.requires.ready.drives c.sample_fully-events.ensures.samples at reads.active.1
+    (c.in-Some.ensures c.requires.runs.0 c.requires.runs.1) c.in_ok-overrun-in-Some.ensures.judged c.requires.ready.sound.follows in
     record {
       follows = follows_by c.judge.new.self new c.judge.new.self.journal.entries c.sample_fully-events.result.went_off c.judge.ensures.kept.0 refl follows;
       reads = c.in_ok-overrun-in-Some.ensures.reads;
