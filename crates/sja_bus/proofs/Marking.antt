@@ -1,15 +1,15 @@
 -- The nodes that are struck in each bit, marked strike by strike and time by time.
-use Rattle.std.proofs.Common.{◌≡◌, ◌⊎◌, ◌↔◌, ◌+◌, ◌*◌, ◌<◌, ◌≤◌, ℕ, List, [], ◌∷◌, ◌++◌, length, replicate, inl, inr, sym, ap, ◌∙◌, subst, arith}
+use Rattle.std.proofs.Common.{◌≡◌, ◌⊎◌, ◌↔◌, ◌+◌, ◌*◌, ◌<◌, ◌≤◌, ℕ, List, [], ◌∷◌, ◌++◌, length, replicate, take, drop, inl, inr, sym, ap, ◌∙◌, subst, arith}
 use Rattle.std.specs.Prelude.{slice_index_or, slice_set}
 use Rattle.std.specs.List.{Contains}
 use Rattle.std.proofs.lemmas.Bool.{cases_eq}
-use Rattle.std.proofs.lemmas.List.{get_or_default, get_or-set_other, length-replicate, get_or-replicate}
+use Rattle.std.proofs.lemmas.List.{get_or_default, get_or-set_other, get_or-take, get_or-drop, length-replicate, length-take-le, length-drop, get_or-replicate}
 use Rattle.std.proofs.lemmas.Grind.{get_or-set_at}
 use Rattle.std.proofs.lemmas.List.Elements.{at_from_Contains, Contains-push, Contains-push_cases, Contains-append_left}
 use Rattle.sja_script.specs.declared.strike.Strike.{Strike}
 use Rattle.sja_script.specs.Striking.{Hits, Strikes}
 use Rattle.sja_bus.specs.declared.struck_nodes.StruckNodes.{StruckNodes}
-use Rattle.sja_bus.specs.StrikesByBit.{IsAmong, IsMarked, AreStruck}
+use Rattle.sja_bus.specs.StrikesByBit.{IsAmong, IsMarked, AreStruck, AreStruckFrom}
 
 -- ---- the times of one strike
 
@@ -142,3 +142,16 @@ pub quiet_in : (script : List Strike) (bits : List StruckNodes) (from end : ℕ)
 quiet_in script bits from end struck long none bit node low high below hit =
     let d : StruckNodes = record { mask = 0 } in
     none bit node d low high ((struck bit node d (omega arith) below).1 hit)
+
+-- in some of these bits, from one on
+pub struck_from : (script : List Strike) (bits : List StruckNodes) (from most : ℕ) → AreStruck script bits →
+    from + most ≤ length bits → AreStruckFrom script from (take most (drop from bits))
+struck_from script bits from most struck within run node d few below =
+    let behind = length-drop from bits in
+    let long = length-take-le most (drop from bits) (omega (arith, within, behind)) in
+    let early : run < most = omega (arith, few, long) in
+    let at : slice_index_or (take most (drop from bits)) run d ≡ slice_index_or bits (from + run) d =
+    get_or-take most (drop from bits) run d early ∙ get_or-drop from bits run d in
+    let is = struck (from + run) node d (omega (arith, early, within)) below in
+    let A : StruckNodes → Type 0 = λ x. IsAmong node x in
+    (λ h. is.0 (subst A at h), λ h. subst A (sym at) (is.1 h))

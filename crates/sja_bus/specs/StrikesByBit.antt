@@ -1,5 +1,5 @@
 -- Which nodes are struck in each bit of a run (this project's own rule).
-use Rattle.std.specs.Prelude.{◌≡◌, ◌⊎◌, ◌↔◌, ◌<◌, ℕ, List, length, slice_index_or}
+use Rattle.std.specs.Prelude.{◌≡◌, ◌+◌, ◌⊎◌, ◌↔◌, ◌<◌, ℕ, List, length, slice_index_or}
 use Rattle.std.specs.Int.{bit_at}
 use Rattle.sja_script.specs.declared.strike.Strike.{Strike}
 use Rattle.sja_script.specs.Striking.{Hits, Strikes}
@@ -18,6 +18,11 @@ IsMarked strike old new = (bit node : ℕ) (d : StruckNodes) → bit < length ol
 abbrev pub AreStruck : List Strike → List StruckNodes → Type 0
 AreStruck script bits = (bit node : ℕ) (d : StruckNodes) → bit < length bits → node < 8 →
     IsAmong node (slice_index_or bits bit d) ↔ Strikes script bit node
+
+-- the same, where the first of these bits is this one
+abbrev pub AreStruckFrom : List Strike → ℕ → List StruckNodes → Type 0
+AreStruckFrom script from bits = (run node : ℕ) (d : StruckNodes) → run < length bits → node < 8 →
+    IsAmong node (slice_index_or bits run d) ↔ Strikes script (from + run) node
 
 -- a script, and of how many bits it is known whom it strikes
 pub record Scripted : Type 0 where

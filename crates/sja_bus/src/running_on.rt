@@ -76,20 +76,23 @@ pub(crate) fn on_all<E: BusEnd, B: Board>(
     ensures breaks { IfErr result (λ f. RowsStop E.BusEnd B.Board to_rest struck.now.script from most
         seats.old seats.new links.old links.new board.old board.new f) }
 {
-    let mut level = level_of(seats);
-    for run in 0..most {
-        if !goes_on(seats, struck.at(from + run), to_rest) {
-            return Ok(run);
+    let (marks, mut level) = (struck.part(from, most), level_of(seats));
+    for run in 0..marks.len() {
+        if !goes_on(seats, marks[run], to_rest) {
+            return Ok(run as u32);
         }
         match tick_all(seats, links, level, StruckNodes::none(), board) {
             Ok(end) => {
                 board.keeps_its_facts();
                 if end.told {
-                    return Ok(run + 1);
+                    return Ok(run as u32 + 1);
                 }
                 level = end.level;
             }
-            Err(fault) => return Err(BrokenOff { after: run, fault }),
+            Err(fault) => return Err(BrokenOff {
+                after: run as u32,
+                fault,
+            }),
         }
     }
     Ok(most)

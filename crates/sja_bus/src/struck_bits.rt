@@ -32,9 +32,9 @@ impl Model for StruckBits {
 }
 
 impl StruckBits {
-    ghost use Rattle.std.specs.Prelude.{◌≡◌, ◌+◌, ◌<◌, ◌≤◌, ◌⊎◌, ◌↔◌, ℕ, IfOk};
+    ghost use Rattle.std.specs.Prelude.{◌≡◌, ◌+◌, ◌<◌, ◌≤◌, ◌⊎◌, ◌↔◌, ℕ, IfOk, length};
     ghost use Rattle.sja_script.specs.Striking.{Strikes};
-    ghost use Rattle.sja_bus.specs.StrikesByBit.{IsAmong};
+    ghost use Rattle.sja_bus.specs.StrikesByBit.{IsAmong, AreStruckFrom};
 
     /// Whom this script strikes in each of so many bits.
     ///
@@ -61,6 +61,17 @@ impl StruckBits {
         ensures { (node : ℕ) → node < 8 → IsAmong node result ↔ Strikes self.now.script bit node }
     {
         self.bits[bit as usize]
+    }
+
+    /// The nodes that are struck in each of so many bits, from this one on.
+    #[inline(always)]
+    pub(crate) fn part(&self, from: u32, most: u32) -> &[StruckNodes]
+        requires { from + most ≤ self.now.bits }
+        ensures count { length result.now ≡ most }
+        ensures struck { AreStruckFrom self.now.script from result.now }
+    {
+        let first = from as usize;
+        &self.bits[first..first + most as usize]
     }
 
     /// How many bits, from this one on and at most `most`, strike no node.

@@ -1,4 +1,5 @@
 use Rattle.std.proofs.Common.{◌≡◌, ℕ, ◌+◌, ◌-◌, ◌<◌, false, true, length, rules, arith, refl, ap, ◌∙◌, subst}
+use Rattle.std.specs.Prelude.{slice_index_or}
 use Rattle.sja_bus.specs.Reasons.{room_for}
 use Rattle.sja_bus.specs.Several.{IsOneBit, WorksIf}
 use Rattle.sja_bus.specs.Inside.Rows.{IsBus}
@@ -53,12 +54,15 @@ returns-then-end-clause-runs g c =
     let E = g.E.BusEnd in
     let B = g.B.Board in let inv = c.loop-run.invariant in let a = c.loop-run.board in let z = c.tick_all.new.board in
     let goes : c.goes_on.result ≡ true = search rules in
-    let pass = passes B.orders_are (B.told a z) (B.kept a z) c.args.struck.now.script (c.args.from + c.loop-run.run) (length c.args.seats.now) c.none.result c.at.result c.loop-run.level c.args.board.now a c.loop-run.seats c.tick_all.new.seats
-    c.requires.seated.few c.loop-run.auto.seats c.tick_all.auto.seats inv.board c.requires.may.0 c.none.ensures (c.goes_on.ensures.none goes) c.at.ensures inv.level c.in-Ok.ensures.turns c.in-Ok.ensures.ready inv.bus in record {
+    let within : c.loop-run.run < length c.part-marks.result.now = search rules in
+    let count = c.part-marks.ensures.count in
+    let early : c.loop-run.run < c.args.most = omega (arith, within, count) in
+    let pass = passes B.orders_are (B.told a z) (B.kept a z) c.args.struck.now.script (c.args.from + c.loop-run.run) (length c.args.seats.now) c.none.result (slice_index_or c.part-marks.result.now c.loop-run.run _) c.loop-run.level c.args.board.now a c.loop-run.seats c.tick_all.new.seats
+    c.requires.seated.few c.loop-run.auto.seats c.tick_all.auto.seats inv.board c.requires.may.0 c.none.ensures (c.goes_on.ensures.none goes) (λ node few. c.part-marks.ensures.struck c.loop-run.run node _ within few) inv.level c.in-Ok.ensures.turns c.in-Ok.ensures.ready inv.bus in record {
       bus = pass.bus (c.args.from + (c.loop-run.run + 1)) (omega arith);
       bits = λ left enough.
           bits_on E.same E.stands B.ports B.facts B.orders_are B.told B.kept c.args.to_rest (moment_of c.args.struck.now.script c.args.from left c.args.seats.now c.args.links.now c.args.board.now)
-          c.args.struck.now.script c.args.from c.loop-run.run c.args.most left c.none.result c.loop-run.seats c.tick_all.new.seats c.loop-run.links c.tick_all.new.links a z (search rules) enough c.tick_all.auto.seats pass.few pass.at pass.row
+          c.args.struck.now.script c.args.from c.loop-run.run c.args.most left c.none.result c.loop-run.seats c.tick_all.new.seats c.loop-run.links c.tick_all.new.links a z early enough c.tick_all.auto.seats pass.few pass.at pass.row
           c.tick_all.ensures.sames c.tick_all.ensures.board c.in-Ok.ensures.goes inv.bus (pass.bus (c.args.from + (c.loop-run.run + 1)) (omega arith)) c.keeps_its_facts.ensures
           (λ yes. some_work c.loop-run.seats inv.bus.ready (c.goes_on.ensures.works goes yes)) (inv.bits left enough);
     }
@@ -68,8 +72,11 @@ loop-run-preserved g c =
     let E = g.E.BusEnd in
     let B = g.B.Board in let inv = c.loop-run.invariant in let a = c.loop-run.board in let z = c.tick_all.new.board in
     let goes : c.goes_on.result ≡ true = search rules in
-    let pass = passes B.orders_are (B.told a z) (B.kept a z) c.args.struck.now.script (c.args.from + c.loop-run.run) (length c.args.seats.now) c.none.result c.at.result c.loop-run.level c.args.board.now a c.loop-run.seats c.tick_all.new.seats
-    c.requires.seated.few c.loop-run.auto.seats c.tick_all.auto.seats inv.board c.requires.may.0 c.none.ensures (c.goes_on.ensures.none goes) c.at.ensures inv.level c.in-Ok.ensures.turns c.in-Ok.ensures.ready inv.bus in
+    let within : c.loop-run.run < length c.part-marks.result.now = search rules in
+    let count = c.part-marks.ensures.count in
+    let early : c.loop-run.run < c.args.most = omega (arith, within, count) in
+    let pass = passes B.orders_are (B.told a z) (B.kept a z) c.args.struck.now.script (c.args.from + c.loop-run.run) (length c.args.seats.now) c.none.result (slice_index_or c.part-marks.result.now c.loop-run.run _) c.loop-run.level c.args.board.now a c.loop-run.seats c.tick_all.new.seats
+    c.requires.seated.few c.loop-run.auto.seats c.tick_all.auto.seats inv.board c.requires.may.0 c.none.ensures (c.goes_on.ensures.none goes) (λ node few. c.part-marks.ensures.struck c.loop-run.run node _ within few) inv.level c.in-Ok.ensures.turns c.in-Ok.ensures.ready inv.bus in
     let untold : c.in-Ok.end.told ≡ false = search rules in record {
       level = c.in-Ok.ensures.level;
       board = c.in-Ok.ensures.untold untold ∙ inv.board;
@@ -79,7 +86,7 @@ loop-run-preserved g c =
       rooms = λ n h. c.in-Ok.ensures.rooms n (inv.rooms n h);
       bits = λ left enough.
           bits_on E.same E.stands B.ports B.facts B.orders_are B.told B.kept c.args.to_rest (moment_of c.args.struck.now.script c.args.from left c.args.seats.now c.args.links.now c.args.board.now)
-          c.args.struck.now.script c.args.from c.loop-run.run c.args.most left c.none.result c.loop-run.seats c.tick_all.new.seats c.loop-run.links c.tick_all.new.links a z (search rules) enough c.tick_all.auto.seats pass.few pass.at pass.row
+          c.args.struck.now.script c.args.from c.loop-run.run c.args.most left c.none.result c.loop-run.seats c.tick_all.new.seats c.loop-run.links c.tick_all.new.links a z early enough c.tick_all.auto.seats pass.few pass.at pass.row
           c.tick_all.ensures.sames c.tick_all.ensures.board c.in-Ok.ensures.goes inv.bus (pass.bus (c.args.from + (c.loop-run.run + 1)) (omega arith)) c.keeps_its_facts.ensures
           (λ yes. some_work c.loop-run.seats inv.bus.ready (c.goes_on.ensures.works goes yes)) (inv.bits left enough);
     }
@@ -90,7 +97,9 @@ returns-in-Err-clause-breaks g c = λ left later enough rooms journals run_is le
     let script = c.args.struck.now.script in let from = c.args.from in let run = c.loop-run.run in
     let was = c.loop-run.seats in let now = c.tick_all.new.seats in
     let a = c.loop-run.board in
-    let early : run < c.args.most = search rules in
+    let within : run < length c.part-marks.result.now = search rules in
+    let count = c.part-marks.ensures.count in
+    let early : run < c.args.most = omega (arith, within, count) in
     let goes : c.goes_on.result ≡ true = search rules in
     let none = none_still B.orders_are (length c.args.seats.now) c.args.board.now a was c.loop-run.auto.seats inv.board c.requires.may.0 in record {
       mid = moment_of script (from + run) (left - run) was c.loop-run.links a;
