@@ -2,13 +2,19 @@
 
 ghost use Rattle.std.specs.Prelude.{◌≡◌, ◌<◌, ◌++◌, false, string_bytes, OnOk};
 ghost use Rattle.std.specs.Fmt.{digit_glyph};
+ghost use Rattle.std.specs.Str.{IsAscii};
 ghost use Rattle.sja_report.specs.ReportWords.{byte_word, message_words, answer_words};
 ghost use Rattle.sja_report.specs.Inside.Spacing.{spaced, all_spaced};
 
+use arrayvec::ArrayVec;
 use can_frame::Message;
 use sja_script::StepAnswer;
 use std::alloc::AllocError;
 use std::fmt::Write;
+use std::str;
+
+/// How many characters the words of a message have at most: of 13 bytes each has two digits behind a space.
+const CHARACTERS: usize = 39;
 
 /// What a step answers.
 pub(crate) fn put_answer(text: &mut String, answer: &StepAnswer) -> Result<(), AllocError>
@@ -19,7 +25,7 @@ pub(crate) fn put_answer(text: &mut String, answer: &StepAnswer) -> Result<(), A
         StepAnswer::NoMessage => text.push_str(" none"),
         StepAnswer::Shown(message) => put_bytes(text, message),
         StepAnswer::Released(bytes) => write!(text, " {bytes}"),
-        StepAnswer::Value(value) => put_byte(text, *value),
+        StepAnswer::Value(value) => put_ascii(text, &word_of(*value)),
         StepAnswer::Refused(refusal) => write!(text, " refused {refusal}"),
     }
 }
@@ -28,31 +34,46 @@ pub(crate) fn put_answer(text: &mut String, answer: &StepAnswer) -> Result<(), A
 pub(crate) fn put_bytes(text: &mut String, message: &Message) -> Result<(), AllocError>
     ensures { OnOk result (string_bytes text.new ≡ string_bytes text.old ++ all_spaced (message_words message.now)) }
 {
+    let mut words = ArrayVec::<u8, CHARACTERS>::new();
+    prove!(message.len() <= 13);
     let bytes = message.bytes();
     for byte in bytes {
-        put_byte(text, *byte)?;
+        let [space, high, low] = word_of(*byte);
+        words.push(space);
+        words.push(high);
+        words.push(low);
     }
-    Ok(())
+    put_ascii(text, words.as_slice())
 }
 
-/// The two digits of a byte.
-fn put_byte(text: &mut String, byte: u8) -> Result<(), AllocError>
-    ensures { OnOk result (string_bytes text.new ≡ string_bytes text.old ++ spaced (byte_word byte)) }
+/// Characters, all of them ASCII.
+fn put_ascii(text: &mut String, characters: &[u8]) -> Result<(), AllocError>
+    requires { IsAscii characters.now }
+    ensures { OnOk result (string_bytes text.new ≡ string_bytes text.old ++ characters.now) }
 {
-    text.push(' ')?;
-    text.push(digit_of(byte / 16))?;
-    text.push(digit_of(byte % 16))
+    match str::from_utf8(characters) {
+        Ok(characters) => text.push_str(characters),
+        Err(_) => unreachable!(),
+    }
+}
+
+/// The two digits of a byte, behind a space.
+fn word_of(byte: u8) -> [u8; 3]
+    ensures word { result ≡ spaced (byte_word byte) }
+    ensures ascii { IsAscii result }
+{
+    [b' ', digit_of(byte / 16), digit_of(byte % 16)]
 }
 
 /// A hexadecimal digit, in lower case.
-fn digit_of(number: u8) -> char
+fn digit_of(number: u8) -> u8
     requires { number < 16 }
-    ensures { result ≡ digit_glyph false number }
+    ensures digit { result ≡ digit_glyph false number }
+    ensures ascii { result < 128 }
 {
-    let digit = if number < 10 {
+    if number < 10 {
         b'0' + number
     } else {
         b'a' - 10 + number
-    };
-    char::from(digit)
+    }
 }
