@@ -23,6 +23,7 @@ pub mod Dating
 pub mod Ported
 pub mod Gathered
 pub mod FirstSteps
+pub mod Done
 pub mod Turned
 pub mod Standing
 pub mod Room

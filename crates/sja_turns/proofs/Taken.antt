@@ -1,5 +1,6 @@
 -- The bus refuses nothing that a driver gives.
-use Rattle.std.proofs.Common.{◌≡◌, ◌≢◌, ℕ, ◌+◌, ◌*◌, ◌<◌, ◌≤◌, Bool, true, false, List, [], ◌∷◌, ◌++◌, length, sym, ap, ◌∙◌, subst, append-nil, arith, inl, inr}
+use Rattle.std.proofs.Common.{◌≡◌, ◌≢◌, ℕ, ◌+◌, ◌*◌, ◌<◌, ◌≤◌, Bool, true, false, List, [], ◌∷◌, ◌++◌, length, sym}
+use Rattle.std.proofs.Common.{ap, ◌∙◌, subst, append-nil, arith, inl, inr}
 use Rattle.std.specs.Prelude.{slice_index_or}
 use Rattle.std.proofs.lemmas.Bool.{cases_eq}
 use Rattle.sja_link.specs.declared.up.Up.{Up}
@@ -23,24 +24,23 @@ use Rattle.sja_driver.specs.declared.any_driver.AnyDriver.{AnyDriver}
 use Rattle.sja_driver.specs.declared.logged_driver.LoggedDriver.{LoggedDriver}
 use Rattle.sja_driver.specs.declared.tried.Tried.{Tried}
 use Rattle.sja_driver.specs.declared.work_log.WorkLog.{WorkLog}
-use Rattle.sja_driver.specs.Deeds.{Deed, opens_by, opened_by, is_active, given_in, deeds_of, Gives}
+use Rattle.sja_driver.specs.Deeds.{Deed, opens_by, opened_by, is_active, given_in, deeds_of}
 use Rattle.sja_driver.specs.Holding.{HoldsBy, place_after}
 use Rattle.sja_driver.specs.LoggedDrivers.{node_of, driver_of, log_of, ended_of, Steps}
-use Rattle.sja_driver.specs.Logs.{Traces, deeds_by}
-use Rattle.sja_driver.proofs.Giving.{gives_carried}
-use Rattle.sja_report.proofs.Stepping.{given_push, given_taken}
+use Rattle.sja_driver.specs.Logs.{deeds_by}
+use Rattle.sja_report.proofs.Stepping.{given_taken}
 use Rattle.sja_turns.specs.Nodes.{IsNode}
 use Rattle.sja_turns.specs.Serial.{SerialValue, steps_at, deeds_at, StandsAt}
-use Rattle.sja_report.proofs.Givings.{kind_of}
 use Rattle.sja_turns.proofs.Paid.{credit_lengths, credit_right}
 use Rattle.sja_turns.proofs.InOrder.{never_refused}
 use Rattle.sja_turns.proofs.Small.{no_item}
 use Rattle.sja_turns.proofs.Refused.{refused_is}
 use Rattle.sja_turns.proofs.Room.{has_room}
 use Rattle.sja_turns.proofs.Slices.{each_other}
-use Rattle.sja_turns.proofs.Taking.{waiting, no_wait}
-use Rattle.sja_turns.proofs.Trying.{shows_none, takes_none, Comes, comes}
-use Rattle.sja_turns.proofs.Turned.{at_most_one, is_read, opened_most, is_unmet}
+use Rattle.sja_turns.proofs.Taking.{no_wait}
+use Rattle.sja_turns.proofs.Trying.{shows_none, takes_none}
+use Rattle.sja_turns.proofs.Done.{at_most_one, is_read, opened_most, doing}
+use Rattle.sja_turns.proofs.Turned.{is_unmet}
 
 -- ---- a node whose driver gave nothing
 
@@ -78,33 +78,17 @@ module _ (version : ℕ) (steps : List Step) (j : List Entry) (deeds : List Deed
       Steps Lies shows_none takes_none was now links given base p q one (place_of j).bits true →
       RefusesItem Lies (room_for bits) j k given after base node f → ⊥
   done_taken k after node f st r =
-      let trace = h.traced.traces in
-      let c : Comes j deeds (log_of was) links base (node_of was) none lawful before p q one st.tried =
-      comes j deeds (log_of was) links base (node_of was) none lawful before p q one (driver_of was) (driver_of now)
-      (slice_index_or given (place_after base (ended_of was)) none) st.tried trace h.traced.lawful h.linked.holds
-      h.ported.unclosed st.met (st.acts none none) in
-      let d = c.deed in
-      let next = c.next in
-      let gives : Gives d.step d.answer d.gave =
-      subst (λ (l : List Up). Gives d.step d.answer l) (sym next.gave) (gives_carried p d.step d.answer) in
-      let kind = kind_of (is_active deeds) (opened_by deeds) d.step d.answer d.gave next.fits gives in
-      let b = opened_by deeds + opens_by d in
-      let trace_now : Traces (driver_of now) (log_of now) (deeds ++ d ∷ []) =
-      subst (λ (l : List Deed). Traces (driver_of now) (log_of now) (deeds ++ l)) c.only (st.goes.traces deeds trace) in
-      let holds_now : HoldsBy Lies (deeds ++ d ∷ []) (driver_of now) (log_of now) j given base =
-      subst (λ (l : List Deed). HoldsBy Lies (deeds ++ l) (driver_of now) (log_of now) j given base) c.only
-      (st.goes.holds deeds j trace h.linked.holds) in
-      let waits_now : (a : ℕ) → given_in (deeds_of (deeds ++ d ∷ []) a) ≡ taken_of (part j a) ++ waiting b d.gave a =
-      λ a. given_push deeds d a ∙ ap (λ (l : List Up). l ++ waiting b d.gave a) (before a) in
+      let y = doing version steps j deeds was now p q links given base one none h lawful st in
+      let c = y.is_next in let d = c.deed in let next = c.next in let b = opened_by deeds + opens_by d in
       let is = refused_is j k (deeds ++ d ∷ []) (driver_of now) (log_of now) given after base (room_for bits) node none
       f d.gave b
-      holds_now (at_most_one (is_active deeds) (opened_by deeds) d.step d.answer d.gave kind) waits_now r in
-      let read = is_read j deeds d h.linked.level most kind (λ e. no_item r.item (sym is.1 ∙ e)) in
+      y.holds (at_most_one (is_active deeds) (opened_by deeds) d.step d.answer d.gave y.kind) y.waits_now r in
+      let read = is_read j deeds d h.linked.level most y.kind (λ e. no_item r.item (sym is.1 ∙ e)) in
       let right : (n : ℕ) → d.gave ≡ Credit n ∷ [] → IsBadCredit j n → ⊥ = λ n gave bad.
-      credit_right j deeds d n (driver_of now) (log_of now) given base none lawful before trace.answered.gives trace_now
-      holds_now (credit_lengths p d.step d.answer n (sym next.gave ∙ gave)) (stops_of j) read.1 (sym read.0) bad.free
-      bad.is_free bad.bad in
-      never_refused version j deeds d p q next h.ported h.asked h.linked.level kind facts lawful right node
+      credit_right j deeds d n (driver_of now) (log_of now) given base none lawful before
+      h.traced.traces.answered.gives y.trace y.holds (credit_lengths p d.step d.answer n (sym next.gave ∙ gave))
+      (stops_of j) read.1 (sym read.0) bad.free bad.is_free bad.bad in
+      never_refused version j deeds d p q next h.ported h.asked h.linked.level y.kind facts lawful right node
       (room_for bits)
       r.item f is.1 fits (subst (λ (l : List Entry). IsRefusedFor node (room_for bits) l r.item f) is.0 r.why)
 

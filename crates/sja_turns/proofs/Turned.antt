@@ -1,12 +1,12 @@
 -- A node after a step of its driver and a taking of the bus, and a node whose driver did nothing.
-use Rattle.std.proofs.Common.{◌≡◌, ◌≢◌, ℕ, suc, ◌+◌, ◌<◌, ◌≤◌, Bool, true, false, List, [], ◌∷◌, ◌++◌, length, refl, sym, ap, ◌∙◌, subst, append-nil, arith}
+use Rattle.std.proofs.Common.{◌≡◌, ℕ, ◌+◌, ◌<◌, true, false, List, [], ◌∷◌, ◌++◌, length, refl, sym, ap, ◌∙◌, subst}
+use Rattle.std.proofs.Common.{append-nil, arith}
 use Rattle.std.specs.Prelude.{slice_index_or}
 use Rattle.std.proofs.lemmas.List.{length-append}
 use Rattle.sja_link.specs.declared.up.Up.{Up}
 use Rattle.sja_link.specs.declared.entry.Entry.{Entry}
 use Rattle.sja_link.specs.Accounts.{Account}
 use Rattle.sja_link.specs.Deques.{Deques, Lies}
-use Rattle.sja_link.specs.Looking.{one_if}
 use Rattle.sja_link.specs.Parts.{part}
 use Rattle.sja_link.specs.Carried.{taken_of}
 use Rattle.sja_link.specs.Places.{place_of}
@@ -16,23 +16,17 @@ use Rattle.sja_bus.specs.OneBit.{entries_of_items, HasItems}
 use Rattle.sja_regs.specs.declared.registers.Registers.{Registers}
 use Rattle.sja_regs.specs.Facts.{RegisterFacts}
 use Rattle.sja_script.specs.declared.step.Step.{Step}
-use Rattle.sja_script.specs.declared.step_answer.StepAnswer.{StepAnswer}
-use Rattle.sja_driver.specs.declared.any_driver.AnyDriver.{AnyDriver}
-use Rattle.sja_driver.specs.declared.any_driver.AnyDriver.TheVariants.{InReset, InActive}
 use Rattle.sja_driver.specs.declared.logged_driver.LoggedDriver.{LoggedDriver}
 use Rattle.sja_driver.specs.declared.tried.Tried.{Tried}
 use Rattle.sja_driver.specs.declared.tried.Tried.TheVariants.{Unmet, Answered, Released, Ended}
-use Rattle.sja_driver.specs.declared.work_log.WorkLog.{WorkLog}
 use Rattle.sja_driver.specs.Acting.{Acts}
-use Rattle.sja_driver.specs.AnyDrivers.{IsDriverOf}
-use Rattle.sja_driver.specs.Deeds.{Deed, opens_by, opened_by, is_active, given_in, deeds_of, Gives}
+use Rattle.sja_driver.specs.Deeds.{Deed, opens_by, opened_by, is_active}
 use Rattle.sja_driver.specs.Holding.{HoldsBy, place_after}
 use Rattle.sja_driver.specs.LoggedDrivers.{node_of, driver_of, log_of, ended_of, IsLawful, Steps}
 use Rattle.sja_driver.specs.Logs.{HasRoom, Traces, deeds_by}
 use Rattle.sja_driver.specs.Tries.{is_met}
-use Rattle.sja_driver.proofs.Giving.{gives_carried}
 use Rattle.sja_report.specs.InTime.{IsInTime}
-use Rattle.sja_report.proofs.Stepping.{given_push, given_taken}
+use Rattle.sja_report.proofs.Stepping.{given_taken}
 use Rattle.sja_turns.specs.Asking.{IsAsked}
 use Rattle.sja_turns.specs.Counted.{IsCounted}
 use Rattle.sja_turns.specs.Dated.{AreDone}
@@ -40,55 +34,14 @@ use Rattle.sja_turns.specs.Linking.{IsLevel}
 use Rattle.sja_turns.specs.Nodes.{IsNode}
 use Rattle.sja_turns.specs.Porting.{IsPorted}
 use Rattle.sja_turns.specs.Waiting.{HasToWait}
-use Rattle.sja_report.proofs.Givings.{Kind, kind_of}
-use Rattle.sja_report.proofs.Givings.Kind.{quiet, starts, credits, sends, stops}
-use Rattle.sja_turns.proofs.Taking.{waiting, no_wait, AtMostOne}
-use Rattle.sja_turns.proofs.Trying.{shows_none, takes_none, Comes, comes, waits}
+use Rattle.sja_turns.proofs.Taking.{no_wait}
+use Rattle.sja_turns.proofs.Trying.{shows_none, takes_none, waits}
 use Rattle.sja_turns.proofs.After.{enters, level_after, in_time_after}
 use Rattle.sja_turns.proofs.Dating.{done_after}
 use Rattle.sja_turns.proofs.Ported.{ported_after, asked_after, counted_after}
 use Rattle.sja_turns.proofs.FirstSteps.{first_more}
 use Rattle.sja_turns.proofs.Gathered.{items_are, linked_after}
-
--- ---- what a deed gives
-
-pub at_most_one : (active : Bool) (n : ℕ) (s : Step) (r : StepAnswer) (gave : List Up) → Kind active n s r gave →
-    AtMostOne gave
-at_most_one active n s r gave (quiet none o same) =
-    let e : length gave ≡ 0 = ap (λ l. length l) none in omega (arith, e)
-at_most_one active n s r gave (starts was few config is o same) =
-    let e : length gave ≡ 1 = ap (λ l. length l) is in omega (arith, e)
-at_most_one active n s r gave (credits was k is o same) =
-    let e : length gave ≡ 1 = ap (λ l. length l) is in omega (arith, e)
-at_most_one active n s r gave (sends was request is o same) =
-    let e : length gave ≡ 1 = ap (λ l. length l) is in omega (arith, e)
-at_most_one active n s r gave (stops was is o same) =
-    let e : length gave ≡ 1 = ap (λ l. length l) is in omega (arith, e)
-
--- it gives on the link that is read
-pub is_read : (j : List Entry) (deeds : List Deed) (d : Deed) → IsLevel j deeds → opened_by deeds ≤ 8 →
-    Kind (is_active deeds) (opened_by deeds) d.step d.answer d.gave → d.gave ≢ [] →
-    (opened_by deeds + opens_by d ≡ suc (stops_of j)) × (stops_of j < 8)
-is_read j deeds d level most (quiet none o same) some = absurd (some none)
-is_read j deeds d level most (starts was few config is o same) some =
-    let e = level.ended in let w : one_if (is_active deeds) ≡ 0 =
-    ap one_if was in (omega (arith, e, w, o), omega (arith, e, w, few))
-is_read j deeds d level most (credits was k is o same) some =
-    let e = level.ended in let w : one_if (is_active deeds) ≡ 1 =
-    ap one_if was in (omega (arith, e, w, o), omega (arith, e, w, most))
-is_read j deeds d level most (sends was request is o same) some =
-    let e = level.ended in let w : one_if (is_active deeds) ≡ 1 =
-    ap one_if was in (omega (arith, e, w, o), omega (arith, e, w, most))
-is_read j deeds d level most (stops was is o same) some =
-    let e = level.ended in let w : one_if (is_active deeds) ≡ 1 =
-    ap one_if was in (omega (arith, e, w, o), omega (arith, e, w, most))
-
-pub opened_most : (deeds : List Deed) (w : AnyDriver) (log : WorkLog) (node n : ℕ) → Traces w log deeds →
-    IsDriverOf node n w → opened_by deeds ≤ 8
-opened_most deeds (InReset d) log node n trace place =
-    let e = trace.opened in let s = place.1 in let l = place.2 in omega (arith, e, s, l)
-opened_most deeds (InActive d) log node n trace place =
-    let e = trace.opened in let s = ap (λ l. l.activation) place.0 in let l = place.1 in omega (arith, e, s, l)
+use Rattle.sja_turns.proofs.Done.{at_most_one, is_read, opened_most, doing}
 
 -- ---- a step and a taking
 
@@ -99,9 +52,6 @@ module _ (version : ℕ) (steps : List Step) (j k : List Entry) (deeds : List De
     (now_lawful : IsLawful now) (items : HasItems j k) (kept : (acc : ℕ → Account) → Kept Lies j given base acc →
     Kept Lies k after base acc)
     (dry : stops_of k < 8 → (slice_index_or after (base + stops_of k) none).up ≡ []) where
-  before : (a : ℕ) → given_in (deeds_of deeds a) ≡ taken_of (part j a)
-  before a = given_taken deeds j a (h.in_time.when a)
-
   -- the step was done
   pub record Stepped : Type 0 where
     pub deed : Deed
@@ -111,50 +61,35 @@ module _ (version : ℕ) (steps : List Step) (j k : List Entry) (deeds : List De
   pub stepped : Steps Lies shows_none takes_none was now links given base p q one (place_of j).bits true →
       ((m : ℕ) → HasRoom (m + 1) (log_of was) → HasRoom m (log_of now)) → Stepped
   stepped st room =
-      let trace = h.traced.traces in
-      let c : Comes j deeds (log_of was) links base (node_of was) none lawful before p q one st.tried =
-      comes j deeds (log_of was) links base (node_of was) none lawful before p q one (driver_of was) (driver_of now)
-      (slice_index_or given (place_after base (ended_of was)) none) st.tried trace h.traced.lawful h.linked.holds
-      h.ported.unclosed st.met (st.acts none none) in
-      let d = c.deed in
-      let next = c.next in
-      let gives : Gives d.step d.answer d.gave =
-      subst (λ (l : List Up). Gives d.step d.answer l) (sym next.gave) (gives_carried p d.step d.answer) in
-      let kind = kind_of (is_active deeds) (opened_by deeds) d.step d.answer d.gave next.fits gives in
-      let b = opened_by deeds + opens_by d in
-      let trace_now : Traces (driver_of now) (log_of now) (deeds ++ d ∷ []) =
-      subst (λ (l : List Deed). Traces (driver_of now) (log_of now) (deeds ++ l)) c.only
-      (st.goes.traces deeds trace) in
-      let holds_now : HoldsBy Lies (deeds ++ d ∷ []) (driver_of now) (log_of now) j given base =
-      subst (λ (l : List Deed). HoldsBy Lies (deeds ++ l) (driver_of now) (log_of now) j given base) c.only
-      (st.goes.holds deeds j trace h.linked.holds) in
-      let waits_now : (a : ℕ) → given_in (deeds_of (deeds ++ d ∷ []) a) ≡ taken_of (part j a) ++ waiting b d.gave a =
-      λ a. given_push deeds d a ∙ ap (λ (l : List Up). l ++ waiting b d.gave a) (before a) in
-      let most = opened_most deeds (driver_of was) (log_of was) (node_of was) (ended_of was) trace h.traced.lawful in
+      let y = doing version steps j deeds was now p q links given base one none h lawful st in
+      let c = y.is_next in let d = c.deed in let next = c.next in let b = opened_by deeds + opens_by d in
+      let most = opened_most deeds (driver_of was) (log_of was) (node_of was) (ended_of was) h.traced.traces
+      h.traced.lawful in
       let entered : k ≡ j ++ entries_of_items d.gave =
-      items_are j k (deeds ++ d ∷ []) (driver_of now) (log_of now) given after base none holds_now kept d.gave b
+      items_are j k (deeds ++ d ∷ []) (driver_of now) (log_of now) given after base none y.holds kept d.gave b
       items
-      (at_most_one (is_active deeds) (opened_by deeds) d.step d.answer d.gave kind) (is_read j deeds d h.linked.level
-      most kind) waits_now dry in
-      let e = enters j k deeds d entered h.linked.level kind in
-      let level = level_after j k deeds d entered h.linked.level kind in
+      (at_most_one (is_active deeds) (opened_by deeds) d.step d.answer d.gave y.kind) (is_read j deeds d h.linked.level
+      most y.kind) y.waits_now dry in
+      let e = enters j k deeds d entered h.linked.level y.kind in
+      let level = level_after j k deeds d entered h.linked.level y.kind in
       let in_time = in_time_after version j k deeds d p q e next h.ported h.in_time in record {
         deed = d;
         bits = next.now;
         node = record {
           traced = record {
             lawful = now_lawful;
-            traces = trace_now;
+            traces = y.trace;
             within = let n = length-append deeds (d ∷ []) in omega (arith, left, n);
             first = first_more steps deeds d one left (c.step_is ∙ is) h.traced.first;
             room = λ m l. room m (h.traced.room (m + 1) (let n = length-append deeds (d ∷ []) in omega (arith, l, n)));
           };
-          linked = linked_after j k (deeds ++ d ∷ []) (driver_of now) (log_of now) given after base none holds_now kept
+          linked = linked_after j k (deeds ++ d ∷ []) (driver_of now) (log_of now) given after base none y.holds kept
               now refl refl (λ a. given_taken (deeds ++ d ∷ []) k a (in_time.when a)) level;
-          ported = ported_after version j k deeds d p q e next h.ported h.linked.level level kind facts;
+          ported = ported_after version j k deeds d p q e next h.ported h.linked.level level y.kind facts;
           done = done_after j k deeds d e next.now h.done;
-          asked = asked_after version j k deeds d p q e next h.ported h.linked.level level kind facts h.asked lawful;
-          counted = counted_after version j k deeds d p q e next h.ported h.linked.level level kind facts h.counted
+          asked = asked_after version j k deeds d p q e next h.ported h.linked.level level y.kind facts h.asked
+              lawful;
+          counted = counted_after version j k deeds d p q e next h.ported h.linked.level level y.kind facts h.counted
               lawful;
           in_time = in_time;
         };

@@ -1,5 +1,6 @@
 -- No bit of a run breaks off: nothing waits to be taken, no journal is full, and no link gives back what is put there.
-use Rattle.std.proofs.Common.{◌≡◌, ℕ, suc, ◌+◌, ◌*◌, ◌<◌, ◌≤◌, Bool, true, false, List, [], ◌∷◌, ◌++◌, length, sym, ap, ◌∙◌, append_assoc, inl, inr, arith}
+use Rattle.std.proofs.Common.{◌≡◌, ℕ, suc, ◌+◌, ◌*◌, ◌<◌, ◌≤◌, Bool, true, false, List, [], ◌∷◌, ◌++◌, length, sym}
+use Rattle.std.proofs.Common.{ap, ◌∙◌, append_assoc, inl, inr, arith}
 use Rattle.std.specs.Prelude.{◌⊎◌, slice_index_or}
 use Rattle.std.proofs.lemmas.List.{length-append, length-replicate}
 use Rattle.can_bits.specs.declared.level.Level.TheVariants.{Recessive}
@@ -41,7 +42,7 @@ use Rattle.sja_turns.proofs.Dry.{none_beyond, none_taken, none_taken_own}
 use Rattle.sja_turns.proofs.FewLying.{few_lying}
 use Rattle.sja_turns.proofs.Own.{AreOwn}
 use Rattle.sja_turns.proofs.Room.{has_room}
-use Rattle.sja_turns.proofs.Turned.{opened_most}
+use Rattle.sja_turns.proofs.Done.{opened_most}
 use Rattle.sja_turns.proofs.Taking.{adds, none_back, some_none}
 
 abort_own : (changed : Bool) → AreOwn (abort_as changed)
