@@ -23,7 +23,7 @@ use Rattle.sja_report.specs.declared.end.End.{End}
 use Rattle.sja_report.specs.Moments.{record_at}
 use Rattle.sja_report.specs.Resting.{IsHolding}
 use Rattle.sja_report.specs.Turns.{Progress, with_steps, IsUnmet, IsStuck, DoesSteps, RunsTo}
-use Rattle.sja_report.specs.Turns.RunsTo.{bus, node}
+use Rattle.sja_report.specs.Turns.RunsTo.{node}
 use Rattle.sja_report.specs.Windows.{off_by, window_of}
 use Rattle.sja_turns.specs.Asking.{IsAsked}
 use Rattle.sja_turns.specs.Ending.{progress}

@@ -1,5 +1,6 @@
 -- The log of a run in one thread, by what its bus leaves and what drivers and links hold at the end.
-use Rattle.std.proofs.Common.{◌≡◌, ℕ, zero, suc, ◌+◌, ◌*◌, ◌<◌, List, [], ◌∷◌, ◌++◌, length, map, refl, sym, ap, ◌∙◌, subst, arith}
+use Rattle.std.proofs.Common.{◌≡◌, ℕ, zero, suc, ◌+◌, ◌*◌, ◌<◌, List, [], ◌∷◌, ◌++◌, length, map, refl, sym, ap}
+use Rattle.std.proofs.Common.{◌∙◌, subst, arith}
 use Rattle.std.specs.Prelude.{slice_index_or}
 use Rattle.sja_link.specs.declared.entry.Entry.{Entry}
 use Rattle.sja_link.specs.Accounts.{Account}
@@ -27,7 +28,8 @@ use Rattle.sja_turns.specs.Nodes.{IsNode}
 use Rattle.sja_turns.specs.Serial.{SerialValue, StandsAt, steps_at, deeds_at}
 use Rattle.sja_turns.specs.Finishing.{all_down, held_after, activation_after, IsNodeEnd, AreNodeEnds}
 use Rattle.sja_turns.specs.Ending.{IsLogOf}
-use Rattle.sja_turns.proofs.NodeEnds.{AreEnds, trace_of, settled_of, nodes_count, some_log, some_driver, node_end, journal_is, journals_in_log, run_of_ends}
+use Rattle.sja_turns.proofs.NodeEnds.{AreEnds, trace_of, settled_of, nodes_count, some_driver, node_end, journal_is}
+use Rattle.sja_turns.proofs.NodeEnds.{journals_in_log, run_of_ends}
 
 -- what lies downward on one of these links
 down_at : (links : List Deques) (k : ℕ) (d : Deques) →

@@ -1,5 +1,6 @@
 -- The log of a run, by what its bus leaves, its drivers, and what lay on their links.
-use Rattle.std.proofs.Common.{◌≡◌, ℕ, zero, suc, ◌+◌, ◌*◌, ◌<◌, ◌≤◌, List, [], ◌∷◌, length, map, refl, sym, ap, ap₂, ◌∙◌, subst, arith}
+use Rattle.std.proofs.Common.{◌≡◌, ℕ, suc, ◌+◌, ◌*◌, ◌<◌, ◌≤◌, List, [], ◌∷◌, length, map, refl, sym, ap, ap₂, ◌∙◌}
+use Rattle.std.proofs.Common.{subst, arith}
 use Rattle.std.specs.Prelude.{slice_index_or}
 use Rattle.std.proofs.lemmas.List.{length-map}
 use Rattle.sja_link.specs.declared.entry.Entry.{Entry}
@@ -39,7 +40,8 @@ same_by d [] [] e h = refl
 same_by d [] (y ∷ ys) e h = absurd (omega (arith, e))
 same_by d (x ∷ xs) [] e h = absurd (omega (arith, e))
 same_by d (x ∷ xs) (y ∷ ys) e h =
-    ap₂ (λ a b. a ∷ b) (h 0 (omega arith)) (same_by d xs ys (omega (arith, e)) (λ k less. h (suc k) (omega (arith, less))))
+    ap₂ (λ a b. a ∷ b) (h 0 (omega arith))
+    (same_by d xs ys (omega (arith, e)) (λ k less. h (suc k) (omega (arith, less))))
 
 -- a driver opened at most eight activations, and at most one after those that ended
 pub opened_few : (node ended : ℕ) (d : AnyDriver) → IsDriverOf node ended d →
