@@ -21,9 +21,9 @@ impl DriverEnd for Endless {
 
     ghost same = { λ a b. b.id ≡ a.id };
 
-    ghost full = { λ e. ⊤ };
+    ghost full = { λ e. ⊥ };
 
-    ghost dry = { λ e. ⊤ };
+    ghost dry = { λ e. ⊥ };
 
     fn id(&self) -> LinkId {
         self.id
