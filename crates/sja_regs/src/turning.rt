@@ -1,9 +1,11 @@
 //! What a bit of the bus changes.
 
-ghost use Rattle.std.specs.Prelude.{◌≡◌, not, is_some, true, false};
+ghost use Rattle.std.specs.Prelude.{◌≡◌, ◌↔◌, not, is_some, true, false};
 ghost use Rattle.sja_regs.specs.Interrupting.{pending_after};
-ghost use Rattle.sja_regs.specs.Turns.{is_live, is_sent, role_bit, bs_after, with_node, code_of_fault, after_turn};
+ghost use Rattle.sja_regs.specs.Turns.{is_live, is_sent, bs_after, code_of_fault, after_turn};
 ghost use Rattle.sja_regs.specs.Keeping.{OnlyEnabled, HasLeft, KeepsActivation, SaysTheSame};
+ghost use Rattle.sja_regs.specs.Machine.TurnParts.{with_role, with_counters, with_news, HasCounted};
+ghost use Rattle.sja_regs.specs.Machine.TurnParts.{BringsNoNews};
 ghost use Rattle.sja_regs.specs.Machine.TurnParts.{activity, with_captures, after_settling};
 
 use super::bus_turn::BusTurn;
@@ -19,23 +21,27 @@ impl Port {
     /// In reset mode, or where the turn is of an activation that was left, the driver's transmission and what was
     /// captured stay as they are: RM, TBS, TCS, DOS, ALC, ECC and the interrupts TI, DOI, ALI and BEI. A turn with no
     /// event that says what the port shows already changes nothing.
+    #[tactic(auto, using(crate::proofs::TurnLemmas::only_enabled, crate::proofs::TurnLemmas::nothing_else))]
     pub fn bus_turn(&mut self, turn: &BusTurn)
         ensures turn { self.new ≡ after_turn self.old turn.now }
         ensures enabled { OnlyEnabled self.old self.new }
         ensures kept { HasLeft self.old turn.now → KeepsActivation self.old self.new }
         ensures same { SaysTheSame self.old turn.now → self.new ≡ self.old }
     {
-        let before = self.registers.error_state();
-        let activity = self.activity(turn);
-        let live = self.is_live(turn);
         self.follow(turn);
-        let errors = before.causes(self.registers.error_state());
-        self.raise(Interrupts {
-            ei: errors.ei,
-            epi: errors.epi,
-            ..activity
-        });
-        if live {
+        self.count(turn);
+        if brings_news(turn) {
+            self.take_news(turn);
+        }
+    }
+
+    /// What the turn brought to its activation, where that is the present one and goes on.
+    fn take_news(&mut self, turn: &BusTurn)
+        ensures { self.new ≡ with_news self.old turn.now }
+    {
+        if self.is_live(turn) {
+            let activity = self.activity(turn);
+            self.raise(activity);
             self.capture(&turn.events);
             self.settle(turn);
         }
@@ -63,15 +69,15 @@ impl Port {
 
     /// Which of the activation's interrupts have a cause: TI, DOI, ALI and BEI.
     fn activity(&self, turn: &BusTurn) -> Interrupts
+        requires { is_live self.now turn.now ≡ true }
         ensures { result ≡ activity self.now turn.now }
     {
         let events = &turn.events;
-        let live = self.is_live(turn);
         Interrupts {
-            ti: live & (events.ended.is_some() | turn.aborted) & !self.registers.tbs,
-            doi: live & turn.overrun & !self.registers.dos & !events.went_off,
-            ali: live & events.lost.is_some(),
-            bei: live & events.fault.is_some(),
+            ti: (events.ended.is_some() | turn.aborted) & !self.registers.tbs,
+            doi: turn.overrun & !self.registers.dos & !events.went_off,
+            ali: events.lost.is_some(),
+            bei: events.fault.is_some(),
             ..Interrupts::none()
         }
     }
@@ -83,17 +89,46 @@ impl Port {
         events.went_off || (self.registers.bs && !events.recovered)
     }
 
-    /// RXERR, TXERR, RS, TS and BS, which are the node's in every turn.
+    /// RS and TS, which are the node's in every turn.
     fn follow(&mut self, turn: &BusTurn)
-        ensures { self.new ≡ with_node self.old turn.now }
+        ensures { self.new ≡ with_role self.old turn.now }
     {
+        let receiving = turn.events.receiving;
+        let (rs, ts) = match turn.phase {
+            Phase::Reset | Phase::Waiting => (true, true),
+            Phase::Frame | Phase::Flag | Phase::Delimiter => (receiving, !receiving),
+            Phase::Idle | Phase::Intermission | Phase::Suspension => (false, false),
+        };
+        self.registers.rs = rs;
+        self.registers.ts = ts;
+    }
+
+    /// RXERR, TXERR and BS, which are the node's in every turn, and the interrupts that hang on them.
+    fn count(&mut self, turn: &BusTurn)
+        ensures { self.new ≡ with_counters self.old turn.now }
+    {
+        if self.has_counted(turn) {
+            return;
+        }
+        let before = self.registers.error_state();
         let bs = self.bs_after(&turn.events);
         let registers = &mut self.registers;
         registers.rxerr = turn.rxerr;
         registers.txerr = turn.txerr;
-        registers.rs = role_bit(turn.phase, turn.events.receiving);
-        registers.ts = role_bit(turn.phase, !turn.events.receiving);
         registers.bs = bs;
+        let errors = before.causes(registers.error_state());
+        if errors.ei | errors.epi {
+            self.raise(errors);
+        }
+    }
+
+    /// Whether the counters stand already at what a turn says, and bus-off neither began nor ended.
+    fn has_counted(&self, turn: &BusTurn) -> bool
+        ensures { result ≡ true ↔ HasCounted self.now turn.now }
+    {
+        self.registers.rxerr == turn.rxerr
+            && self.registers.txerr == turn.txerr
+            && !(turn.events.went_off | turn.events.recovered)
     }
 
     /// ALC and ECC.
@@ -138,13 +173,13 @@ fn is_sent(ended: Option<Outcome>) -> bool
     matches!(ended, Some(Outcome::Sent))
 }
 
-/// RS or TS, where the node has its role or hasn't, and is here with its next bit.
-fn role_bit(phase: Phase, has_role: bool) -> bool
-    ensures { result ≡ role_bit phase has_role }
+/// Whether a turn brought something to its activation: the end of a request, a lost arbitration, a fault, an overrun or
+/// bus-off.
+fn brings_news(turn: &BusTurn) -> bool
+    ensures { result ≡ false ↔ BringsNoNews turn.now }
 {
-    match phase {
-        Phase::Reset | Phase::Waiting => true,
-        Phase::Frame | Phase::Flag | Phase::Delimiter => has_role,
-        Phase::Idle | Phase::Intermission | Phase::Suspension => false,
-    }
+    let events = &turn.events;
+    let ended = events.ended.is_some() | turn.aborted;
+    let captured = events.lost.is_some() | events.fault.is_some();
+    ended | captured | turn.overrun | events.went_off
 }

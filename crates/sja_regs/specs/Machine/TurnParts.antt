@@ -1,12 +1,45 @@
 -- What the parts of a turn's code do.
-use Rattle.std.specs.Prelude.{◌||◌, ◌&&◌, not, is_some}
+use Rattle.std.specs.Prelude.{◌≡◌, ◌||◌, ◌&&◌, not, is_some, false, None}
 use Rattle.can_node.specs.declared.bit_events.BitEvents.{BitEvents}
 use Rattle.sja_regs.specs.declared.bus_turn.BusTurn.{BusTurn}
 use Rattle.sja_regs.specs.declared.interrupts.Interrupts.{Interrupts}
 use Rattle.sja_regs.specs.declared.registers.Registers.{Registers}
 use Rattle.sja_regs.specs.Captures.{after_capture}
-use Rattle.sja_regs.specs.Interrupting.{no_interrupt}
-use Rattle.sja_regs.specs.Turns.{is_live, is_sent, ends, dos_after, code_of_fault}
+use Rattle.sja_regs.specs.Registers.{error_causes}
+use Rattle.sja_regs.specs.Interrupting.{no_interrupt, pending_after}
+use Rattle.sja_regs.specs.Turns.{is_live, is_sent, ends, goes_off, rs_told, ts_told, bs_after}
+use Rattle.sja_regs.specs.Turns.{dos_after, tbs_after, tcs_after, abort_after, with_node}
+use Rattle.sja_regs.specs.Turns.{code_of_fault, lost_in, fault_in}
+
+-- RS and TS
+abbrev pub with_role : Registers → BusTurn → Registers
+with_role p turn = record p { rs = rs_told turn; ts = ts_told turn }
+
+-- RXERR, TXERR and BS, and the interrupts that hang on them
+abbrev pub with_counters : Registers → BusTurn → Registers
+with_counters p turn =
+    record p {
+      rxerr = turn.rxerr;
+      txerr = turn.txerr;
+      bs = bs_after p turn.events;
+      pending = pending_after p.pending p.enabled (error_causes p (with_node p turn));
+    }
+
+-- the counters stand already at what the turn says, and bus-off neither began nor ended
+pub record HasCounted (p : Registers) (turn : BusTurn) : Type 0 where
+  pub rxerr : turn.rxerr ≡ p.rxerr
+  pub txerr : turn.txerr ≡ p.txerr
+  pub went_off : turn.events.went_off ≡ false
+  pub recovered : turn.events.recovered ≡ false
+
+-- the turn brought nothing to its activation
+pub record BringsNoNews (turn : BusTurn) : Type 0 where
+  pub ended : turn.events.ended ≡ None
+  pub lost : turn.events.lost ≡ None
+  pub fault : turn.events.fault ≡ None
+  pub went_off : turn.events.went_off ≡ false
+  pub aborted : turn.aborted ≡ false
+  pub overrun : turn.overrun ≡ false
 
 -- which of the activation's interrupts have a cause: all but EI and EPI
 abbrev pub activity : Registers → BusTurn → Interrupts
@@ -38,4 +71,20 @@ after_settling p turn =
       rs = turn.events.went_off || p.rs;
       ts = turn.events.went_off || p.ts;
       abort = not (ended || turn.events.went_off) && p.abort;
+    }
+
+-- what a turn brings to its activation, where that is the present one and goes on
+abbrev pub with_news : Registers → BusTurn → Registers
+with_news p turn =
+    record p {
+      mode = record p.mode { rm = goes_off p turn || p.mode.rm };
+      dos = dos_after p turn;
+      tbs = tbs_after p turn;
+      tcs = tcs_after p turn;
+      rs = goes_off p turn || p.rs;
+      ts = goes_off p turn || p.ts;
+      pending = pending_after p.pending p.enabled (activity p turn);
+      alc = after_capture p.alc (lost_in p turn);
+      ecc = after_capture p.ecc (fault_in p turn);
+      abort = abort_after p turn;
     }
