@@ -1,0 +1,14 @@
+use Rattle.std.proofs.Common.{◌≤◌, ◌-◌}
+use Rattle.sja_bus.specs.Several.{moment}
+use Rattle.sja_bus.specs.Inside.RunningOn.{IsSoFar}
+use Rattle.sja_bus.proofs.bus.Bus.run_through.Given as goal
+
+abbrev pub invariant-loop-run : goal.invariant-loop-run
+invariant-loop-run g l = record {
+  few : l.run ≤ l.count;
+  far : IsSoFar g.E.BusEnd g.B.Board l.to_rest (moment l.initial.self l.initial.links l.initial.board) l.run
+      (moment l.self l.links l.board);
+}
+
+abbrev pub decreases-loop-run : goal.decreases-loop-run
+decreases-loop-run g l = l.count - l.run
