@@ -15,8 +15,6 @@ use Rattle.sja_script.specs.declared.step_answer.StepAnswer.{StepAnswer}
 use Rattle.sja_script.specs.declared.step_answer.StepAnswer.TheVariants.{Done as DoneAnswer, Released as ReleasedAnswer}
 use Rattle.sja_driver.specs.declared.any_driver.AnyDriver.{AnyDriver}
 use Rattle.sja_driver.specs.declared.release.Release.{Release}
-use Rattle.sja_driver.specs.declared.tried.Tried.{Tried}
-use Rattle.sja_driver.specs.declared.tried.Tried.TheVariants.{Unmet, Answered, Released, Ended}
 use Rattle.sja_driver.specs.declared.work_log.WorkLog.{WorkLog}
 use Rattle.sja_driver.specs.Acting.{Acts, Does}
 use Rattle.sja_driver.specs.AnyDrivers.{IsDriverOf, held_of, off_of, opened_of, is_out}
@@ -24,6 +22,8 @@ use Rattle.sja_driver.specs.Carried.{carried}
 use Rattle.sja_driver.specs.Deeds.{Deed, opened, opens_by, opened_by, given_in, deeds_of, length_in, released_lengths}
 use Rattle.sja_driver.specs.Holding.{Holds, HoldsBy, Goes}
 use Rattle.sja_driver.specs.Logs.{Traces, leaves, done_in, releases_in, left_in, done_by, releases_by, left_by, deeds_by, released_of}
+use Rattle.sja_driver.specs.Tries.{Tried}
+use Rattle.sja_driver.specs.Tries.Tried.{Unmet, Answered, Released, Ended}
 use Rattle.sja_driver.proofs.Giving.{gives_carried}
 use Rattle.sja_driver.proofs.Going.{holds_deed, gave_of}
 use Rattle.sja_driver.proofs.Left.{leaves_last, leaves_before, leaves_else, leaves_more, released_same, released_one, released_none}

@@ -15,14 +15,14 @@ use Rattle.sja_script.specs.declared.step.Step.{Step}
 use Rattle.sja_driver.specs.declared.any_driver.AnyDriver.{AnyDriver}
 use Rattle.sja_driver.specs.declared.any_driver.AnyDriver.TheVariants.{InReset, InActive}
 use Rattle.sja_driver.specs.declared.release.Release.{Release}
-use Rattle.sja_driver.specs.declared.tried.Tried.{Tried}
-use Rattle.sja_driver.specs.declared.tried.Tried.TheVariants.{Unmet, Answered, Released, Ended}
 use Rattle.sja_driver.specs.declared.work_log.WorkLog.{WorkLog}
 use Rattle.sja_driver.specs.Acting.{Does}
 use Rattle.sja_driver.specs.Carried.{carried}
 use Rattle.sja_driver.specs.Deeds.{Deed, given_in, deeds_of}
 use Rattle.sja_driver.specs.Holding.{Holds, Goes}
 use Rattle.sja_driver.specs.Logs.{leaves, releases_in, left_in, deeds_by}
+use Rattle.sja_driver.specs.Tries.{Tried}
+use Rattle.sja_driver.specs.Tries.Tried.{Unmet, Answered, Released, Ended}
 use Rattle.sja_driver.proofs.Came.{Came, length_of, idle, forget, traces_unmet, goes_few}
 use Rattle.sja_driver.proofs.Each.{set_here, set_else}
 use Rattle.sja_driver.proofs.Giving.{gives_carried}

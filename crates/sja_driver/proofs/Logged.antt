@@ -8,15 +8,15 @@ use Rattle.sja_regs.specs.declared.registers.Registers.{Registers}
 use Rattle.sja_script.specs.declared.step.Step.{Step}
 use Rattle.sja_driver.specs.declared.any_driver.AnyDriver.{AnyDriver}
 use Rattle.sja_driver.specs.declared.logged_driver.LoggedDriver.{LoggedDriver}
-use Rattle.sja_driver.specs.declared.tried.Tried.{Tried}
-use Rattle.sja_driver.specs.declared.tried.Tried.TheVariants.{Unmet, Answered, Released, Ended}
 use Rattle.sja_driver.specs.declared.work_log.WorkLog.{WorkLog}
 use Rattle.sja_driver.specs.Acting.{Acts}
 use Rattle.sja_driver.specs.AnyDrivers.{IsDriverOf}
 use Rattle.sja_driver.specs.Holding.{place_after}
 use Rattle.sja_driver.specs.LoggedDrivers.{node_of, driver_of, log_of, ended_of, IsLawful, MayStep, StaysLawful, Steps}
-use Rattle.sja_driver.specs.Logs.{HasRoom, done_in, releases_in, left_in, done_room, release_room, left_room, done_by, releases_by, left_by}
-use Rattle.sja_driver.specs.Tries.{is_met, ended_by}
+use Rattle.sja_driver.specs.Inside.Entering.{Enters}
+use Rattle.sja_driver.specs.Logs.{HasRoom, done_in, releases_in, left_in, done_by, releases_by, left_by}
+use Rattle.sja_driver.specs.Tries.{Tried, is_met, ended_by}
+use Rattle.sja_driver.specs.Tries.Tried.{Unmet, Answered, Released, Ended}
 use Rattle.sja_driver.proofs.Each.{each_one, set_here, index_any}
 use Rattle.sja_driver.proofs.Goes.{goes_step}
 use Rattle.sja_driver.proofs.Stepping.{left_count}
@@ -49,23 +49,32 @@ none_unmet n (Released m) bits e = absurd cc
 none_unmet n (Ended ledger) bits e = absurd cc
 
 -- so the log has room after a try
-room_by : (was now : WorkLog) (k extra bits n : ℕ) (o : Tried) →
-    length (done_by o bits) ≤ extra → length (releases_by n o) ≤ extra →
-    done_in now ≡ done_in was ++ done_by o bits → releases_in now ≡ releases_in was ++ releases_by n o →
-    done_room now ≡ done_room was → release_room now ≡ release_room was → left_room now ≡ left_room was →
-    HasRoom (k + extra) was → HasRoom k now
-room_by was now k extra bits n o few few_released done released same same_releases same_left room =
+room_by : (was now : WorkLog) (k extra bits : ℕ) (o : Tried) (done : Bool) → length (done_by o bits) ≤ extra →
+    length (releases_by (length (left_in was)) o) ≤ extra → Enters was now o bits done → HasRoom (k + extra) was →
+    HasRoom k now
+room_by was now k extra bits o done few few_released enters room =
     let has = room.done in
     let has_releases = room.releases in
     let has_left = room.left in
+    let same = enters.done_room in
+    let same_releases = enters.release_room in
+    let same_left = enters.left_room in
+    let n = length (left_in was) in
     record {
-      done = omega (arith, has, few, same, ap length done, length-append (done_in was) (done_by o bits));
+      done = omega (
+        arith,
+        has,
+        few,
+        same,
+        ap length enters.entered,
+        length-append (done_in was) (done_by o bits),
+      );
       releases = omega (
         arith,
         has_releases,
         few_released,
         same_releases,
-        ap length released,
+        ap length enters.released,
         length-append (releases_in was) (releases_by n o),
       );
       left = omega (arith, has_left, same_left);
@@ -80,34 +89,31 @@ pub steps_of : {E : Type 0} (stands : E → Lists → Type 0) (dry full : E → 
     (links : List E) (base bits k : ℕ) (p q : Registers) (step : Step) (d0 new : E) (o : Tried) (done : Bool) →
     IsLawful was → base + 8 ≤ length links → k ≡ min (ended_of was) 7 →
     Acts stands dry full (slice_index_or links (base + k) d0) new p q step (driver_of was) (driver_of now) o →
-    done ≡ is_met o → done_in (log_of now) ≡ done_in (log_of was) ++ done_by o bits →
-    releases_in (log_of now) ≡ releases_in (log_of was) ++ releases_by (ended_of was) o →
-    left_in (log_of now) ≡ left_in (log_of was) ++ left_by o →
+    Enters (log_of was) (log_of now) o bits done →
     Steps stands dry full was now links (slice_set links (base + k) new) base p q step bits done
-steps_of {E} stands dry full was now links base bits k p q step d0 new o done lawful room is acts met logged releases
-    leaves =
+steps_of {E} stands dry full was now links base bits k p q step d0 new o done lawful room is acts enters =
     let links_now : List E = slice_set links (base + k) new in
     let few : k < 8 = let l = min_less (ended_of was) in omega (arith, is, l) in
     let inside : base + k < length links = omega (arith, few, room) in
     let at : base + k ≡ place_after base (ended_of was) = ap (λ i. base + i) is in
     record {
       tried = o;
-      met = met;
+      met = enters.met;
       acts = λ d e. subst (λ (i : ℕ). Acts stands dry full (slice_index_or links i d) (slice_index_or links_now i e) p q
           step (driver_of was) (driver_of now) o) at
           (rw (index_any links (base + k) d d0 inside, set_here links (base + k) new e inside) acts);
-      logged = logged;
-      releases = releases;
-      leaves = leaves;
+      logged = enters.entered;
+      releases = enters.released;
+      leaves = enters.left;
       goes = goes_step stands dry full (driver_of was) (driver_of now) (log_of was) (log_of now) links base
           (node_of was) bits p q step d0 new k o (λ l. is ∙ min_few (ended_of was) l) (record {
             few = few;
             room = room;
             own = lawful;
             acts = acts;
-            done = logged;
-            released = releases;
-            left = leaves;
+            done = enters.entered;
+            released = enters.released;
+            left = enters.left;
           });
     }
 
@@ -126,14 +132,10 @@ pub stays_lawful : {E : Type 0} (link : E → LinkId) (same : E → E → Type 0
     (base bits k : ℕ) (d0 new : E) (o : Tried) (done : Bool) →
     ((e : E) → same e e) → ((a b : E) → same a b → link b ≡ link a) → MayStep link was links base →
     k ≡ min (ended_of was) 7 → same (slice_index_or links (base + k) d0) new → node_of now ≡ node_of was →
-    done ≡ is_met o → done_in (log_of now) ≡ done_in (log_of was) ++ done_by o bits →
-    releases_in (log_of now) ≡ releases_in (log_of was) ++ releases_by (ended_of was) o →
-    left_in (log_of now) ≡ left_in (log_of was) ++ left_by o → done_room (log_of now) ≡ done_room (log_of was) →
-    release_room (log_of now) ≡ release_room (log_of was) → left_room (log_of now) ≡ left_room (log_of was) →
+    Enters (log_of was) (log_of now) o bits done →
     ((node n : ℕ) → IsDriverOf node n (driver_of was) → IsDriverOf node (n + ended_by o) (driver_of now)) →
     StaysLawful link same was now links (slice_set links (base + k) new) base done
-stays_lawful link same was now links base bits k d0 new o done refl_same same_link may is tried owner met logged
-    released leaves same_done same_releases same_left place =
+stays_lawful link same was now links base bits k d0 new o done refl_same same_link may is tried owner enters place =
     record {
       same = each_one same refl_same links (base + k) d0 new (inside base (ended_of was) k (length links) is may.eight)
           tried;
@@ -141,11 +143,11 @@ stays_lawful link same was now links base bits k d0 new o done refl_same same_li
       ids = search rules;
       node = owner;
       lawful = subst (λ (n : ℕ). IsDriverOf n (ended_of now) (driver_of now)) (sym owner)
-          (lawful_after was (driver_of now) (log_of now) o leaves place may.lawful);
-      room = λ n room. room_by (log_of was) (log_of now) n 1 bits (ended_of was) o (few_done o bits)
-          (few_releases (ended_of was) o) logged released same_done same_releases same_left room;
+          (lawful_after was (driver_of now) (log_of now) o enters.left place may.lawful);
+      room = λ n room. room_by (log_of was) (log_of now) n 1 bits o done (few_done o bits)
+          (few_releases (ended_of was) o) enters room;
       waits = λ waited n room.
-          let none = none_unmet (ended_of was) o bits (sym met ∙ waited) in
-          room_by (log_of was) (log_of now) n 0 bits (ended_of was) o (omega (arith, none.0)) (omega (arith, none.1))
-          logged released same_done same_releases same_left (subst (λ m. HasRoom m (log_of was)) (omega arith) room);
+          let none = none_unmet (ended_of was) o bits (sym enters.met ∙ waited) in
+          room_by (log_of was) (log_of now) n 0 bits o done (omega (arith, none.0)) (omega (arith, none.1)) enters
+          (subst (λ m. HasRoom m (log_of was)) (omega arith) room);
     }

@@ -14,11 +14,11 @@ use Rattle.sja_script.specs.declared.step_answer.StepAnswer.TheVariants.{Refused
 use Rattle.sja_driver.specs.declared.active.Active.{Active}
 use Rattle.sja_driver.specs.declared.any_driver.AnyDriver.TheVariants.{InActive}
 use Rattle.sja_driver.specs.declared.driver.Driver.{Driver}
-use Rattle.sja_driver.specs.declared.tried.Tried.TheVariants.{Unmet, Answered, Released}
 use Rattle.sja_driver.specs.Acting.{Acts, Does}
 use Rattle.sja_driver.specs.AnyDrivers.{IsDriverOf}
 use Rattle.sja_driver.specs.Carried.{Sees}
 use Rattle.sja_driver.specs.Drivers.{link_in, held_in, off_in}
+use Rattle.sja_driver.specs.Tries.Tried.{Unmet, Answered, Released}
 
 none_is_not : {A : Type 0} {x : A} → None ≡ Some x → ⊥
 none_is_not e = true≢false (sym (ap is_some e))

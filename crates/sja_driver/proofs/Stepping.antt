@@ -4,11 +4,10 @@ use Rattle.sja_link.specs.declared.link_id.LinkId.{LinkId}
 use Rattle.sja_link.specs.declared.driver_ledger.DriverLedger.{DriverLedger}
 use Rattle.sja_driver.specs.declared.any_driver.AnyDriver.{AnyDriver}
 use Rattle.sja_driver.specs.declared.any_driver.AnyDriver.TheVariants.{InReset, InActive}
-use Rattle.sja_driver.specs.declared.tried.Tried.{Tried}
-use Rattle.sja_driver.specs.declared.tried.Tried.TheVariants.{Unmet, Answered, Released, Ended}
 use Rattle.sja_driver.specs.AnyDrivers.{IsDriverOf, FitsEnd}
 use Rattle.sja_driver.specs.Logs.{left_by}
-use Rattle.sja_driver.specs.Tries.{ended_by}
+use Rattle.sja_driver.specs.Tries.{Tried, ended_by}
+use Rattle.sja_driver.specs.Tries.Tried.{Unmet, Answered, Released, Ended}
 
 -- the end of the next activation fits its driver
 pub fits_end : {E : Type 0} (link : E → LinkId) (e : E) (node n : ℕ) (driver : AnyDriver) → IsDriverOf node n driver →

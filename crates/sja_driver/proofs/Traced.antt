@@ -11,7 +11,6 @@ use Rattle.sja_script.specs.declared.step_answer.StepAnswer.TheVariants.{Done as
 use Rattle.sja_driver.specs.declared.any_driver.AnyDriver.{AnyDriver}
 use Rattle.sja_driver.specs.declared.any_driver.AnyDriver.TheVariants.{InReset, InActive}
 use Rattle.sja_driver.specs.declared.release.Release.{Release}
-use Rattle.sja_driver.specs.declared.tried.Tried.TheVariants.{Answered, Released, Ended}
 use Rattle.sja_driver.specs.declared.work_log.WorkLog.{WorkLog}
 use Rattle.sja_driver.specs.AnyDrivers.{IsDriverOf, held_of, off_of, opened_of, is_out}
 use Rattle.sja_driver.specs.Carried.{carried}
@@ -19,6 +18,7 @@ use Rattle.sja_driver.specs.Deeds.{Deed, opened, opens_by, opened_by, active_aft
 use Rattle.sja_driver.specs.Drivers.{started_in, link_in}
 use Rattle.sja_driver.specs.Logs.{Traces, done_in, releases_in, of_activation, released_of}
 use Rattle.sja_driver.specs.Tries.{IsOf, IsQuiet}
+use Rattle.sja_driver.specs.Tries.Tried.{Answered, Released, Ended}
 use Rattle.sja_driver.proofs.Each.{lengths_both}
 use Rattle.sja_driver.proofs.Sections.{active_push, opened_push}
 

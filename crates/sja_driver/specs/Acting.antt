@@ -12,13 +12,12 @@ use Rattle.sja_script.specs.declared.step.Step.TheVariants.{Start, Stop, Window,
 use Rattle.sja_script.specs.declared.step.Step.TheVariants.{Write, Load, Command, Await, Sent}
 use Rattle.sja_driver.specs.declared.any_driver.AnyDriver.{AnyDriver}
 use Rattle.sja_driver.specs.declared.any_driver.AnyDriver.TheVariants.{InReset, InActive}
-use Rattle.sja_driver.specs.declared.tried.Tried.{Tried}
 use Rattle.sja_driver.specs.AnyDrivers.{is_out, opened_of, held_of, off_of, seen_by, IsDriverOf}
 use Rattle.sja_driver.specs.Carried.{Sees, Tells}
 use Rattle.sja_driver.specs.Deeds.{FitsState}
 use Rattle.sja_driver.specs.Drivers.{started_in, held_in, off_in}
 use Rattle.sja_driver.specs.Giving.{IsGiven}
-use Rattle.sja_driver.specs.Tries.{IfAnswered, IfUnmet, IsOf, ended_by, released_by, gave_by, port_after}
+use Rattle.sja_driver.specs.Tries.{Tried, IfAnswered, IfUnmet, IsOf, ended_by, released_by, gave_by, port_after}
 use Rattle.sja_driver.specs.Tries.{held_after, off_after, window_after, opened_after, is_out_after, IsQuiet}
 
 -- with items got, and items given

@@ -10,3 +10,4 @@ pub mod Acting
 pub mod Logs
 pub mod Holding
 pub mod LoggedDrivers
+pub mod Inside

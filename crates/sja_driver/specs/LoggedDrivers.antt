@@ -6,13 +6,12 @@ use Rattle.sja_regs.specs.declared.registers.Registers.{Registers}
 use Rattle.sja_script.specs.declared.step.Step.{Step}
 use Rattle.sja_driver.specs.declared.any_driver.AnyDriver.{AnyDriver}
 use Rattle.sja_driver.specs.declared.logged_driver.LoggedDriver.{LoggedDriver}
-use Rattle.sja_driver.specs.declared.tried.Tried.{Tried}
 use Rattle.sja_driver.specs.declared.work_log.WorkLog.{WorkLog}
 use Rattle.sja_driver.specs.Acting.{Acts}
 use Rattle.sja_driver.specs.AnyDrivers.{IsDriverOf}
 use Rattle.sja_driver.specs.Holding.{EachRelated, Goes, Numbered, place_after}
 use Rattle.sja_driver.specs.Logs.{HasRoom, done_in, releases_in, left_in, done_by, releases_by, left_by, deeds_by}
-use Rattle.sja_driver.specs.Tries.{is_met}
+use Rattle.sja_driver.specs.Tries.{Tried, is_met}
 
 -- whose driver it is, the driver in its state, and the log
 abbrev pub node_of : LoggedDriver → ℕ

@@ -9,12 +9,11 @@ use Rattle.sja_script.specs.declared.done.Done.{Done}
 use Rattle.sja_script.specs.declared.step.Step.{Step}
 use Rattle.sja_driver.specs.declared.any_driver.AnyDriver.{AnyDriver}
 use Rattle.sja_driver.specs.declared.release.Release.{Release}
-use Rattle.sja_driver.specs.declared.tried.Tried.{Tried}
-use Rattle.sja_driver.specs.declared.tried.Tried.TheVariants.{Unmet, Answered, Released, Ended}
 use Rattle.sja_driver.specs.declared.work_log.WorkLog.{WorkLog}
 use Rattle.sja_driver.specs.AnyDrivers.{is_out, opened_of}
 use Rattle.sja_driver.specs.Deeds.{Deed, AreAnswered, opened_by, is_active, deeds_of, released_lengths, done_of}
-use Rattle.sja_driver.specs.Tries.{answers_of, gave_by}
+use Rattle.sja_driver.specs.Tries.{Tried, answers_of, gave_by}
+use Rattle.sja_driver.specs.Tries.Tried.{Unmet, Answered, Released, Ended}
 
 -- the steps done, the messages released, and the ledgers of the activations that ended, each oldest first
 abbrev pub done_in : WorkLog → List Done

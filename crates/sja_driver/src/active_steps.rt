@@ -5,11 +5,12 @@ ghost use Rattle.sja_regs.specs.declared.registers.Registers.{Registers};
 ghost use Rattle.sja_script.specs.declared.step.Step.TheVariants.{Window, Release, Load, Command, Await, Sent};
 ghost use Rattle.sja_driver.specs.Acting.{Acts};
 ghost use Rattle.sja_driver.specs.AnyDrivers.{FitsEnd};
+ghost use Rattle.sja_driver.specs.Tries.{tried_of};
 
 use super::answers::{done_answer, refusal_of, shows_released};
 use super::any_driver::AnyDriver;
+use super::attempt::{Attempt, passed, refused};
 use super::command_fault::CommandFault;
-use super::tried::{Tried, passed, refused};
 use can_frame::{Message, Seen};
 use sja_link::{DriverEnd, ReleaseFault, Stopped};
 use sja_regs::Port;
@@ -19,11 +20,11 @@ use sja_script::{Refusal, StepAnswer};
 const STATUS: u8 = 2;
 
 /// Looks at the window. No port is touched.
-pub(crate) fn window_step<E: DriverEnd>(driver: &mut AnyDriver, end: &mut E) -> Tried
+pub(crate) fn window_step<E: DriverEnd>(driver: &mut AnyDriver, end: &mut E) -> Attempt
     requires { FitsEnd E.link end.old driver.old }
     ensures same { E.same end.old end.new }
     ensures acts { (p : Registers) → Acts E.stands E.dry E.full end.old end.new p p Window driver.old driver.new
-        result }
+        (tried_of result) }
 {
     let AnyDriver::InActive(driver) = driver else {
         return refused(Refusal::WrongState);
@@ -33,15 +34,15 @@ pub(crate) fn window_step<E: DriverEnd>(driver: &mut AnyDriver, end: &mut E) -> 
         Ok(None) => StepAnswer::NoMessage,
         Err(Stopped) => StepAnswer::Refused(Refusal::Stopped),
     };
-    Tried::Answered(answer)
+    Attempt::Answered(answer)
 }
 
 /// Tries a release. No port is touched.
-pub(crate) fn release_step<E: DriverEnd>(driver: &mut AnyDriver, end: &mut E) -> Tried
+pub(crate) fn release_step<E: DriverEnd>(driver: &mut AnyDriver, end: &mut E) -> Attempt
     requires { FitsEnd E.link end.old driver.old }
     ensures same { E.same end.old end.new }
     ensures acts { (p : Registers) → Acts E.stands E.dry E.full end.old end.new p p Release driver.old driver.new
-        result }
+        (tried_of result) }
 {
     let AnyDriver::InActive(driver) = driver else {
         return refused(Refusal::WrongState);
@@ -54,8 +55,8 @@ pub(crate) fn release_step<E: DriverEnd>(driver: &mut AnyDriver, end: &mut E) ->
     };
     let message = first.copy();
     match driver.release(end) {
-        Ok(_) => Tried::Released(message),
-        Err(ReleaseFault::Busy) => Tried::Unmet,
+        Ok(_) => Attempt::Released(message),
+        Err(ReleaseFault::Busy) => Attempt::Unmet,
         Err(ReleaseFault::Stopped) => refused(Refusal::Stopped),
         Err(ReleaseFault::Empty) => refused(Refusal::Empty),
     }
@@ -66,13 +67,13 @@ pub(crate) fn load_step<E: DriverEnd>(
     driver: &AnyDriver,
     port: &mut Port,
     message: &Message,
-) -> Tried
+) -> Attempt
     ensures { (e : E) → Acts E.stands E.dry E.full e e port.old port.new (Load message.now) driver.now driver.now
-        result }
+        (tried_of result) }
 {
     match driver {
         AnyDriver::InReset(_) => refused(Refusal::WrongState),
-        AnyDriver::InActive(driver) => Tried::Answered(done_answer(driver.load(port, message))),
+        AnyDriver::InActive(driver) => Attempt::Answered(done_answer(driver.load(port, message))),
     }
 }
 
@@ -82,11 +83,11 @@ pub(crate) fn command_step<E: DriverEnd>(
     end: &mut E,
     port: &mut Port,
     value: u8,
-) -> Tried
+) -> Attempt
     requires { FitsEnd E.link end.old driver.old }
     ensures same { E.same end.old end.new }
     ensures acts { Acts E.stands E.dry E.full end.old end.new port.old port.new (Command value) driver.old
-        driver.new result }
+        driver.new (tried_of result) }
 {
     let AnyDriver::InActive(driver) = driver else {
         return refused(Refusal::WrongState);
@@ -94,7 +95,7 @@ pub(crate) fn command_step<E: DriverEnd>(
     match driver.command(end, port, value) {
         Ok(()) => passed(),
         Err(CommandFault::Reg(fault)) => refused(refusal_of(fault)),
-        Err(CommandFault::Busy) => Tried::Unmet,
+        Err(CommandFault::Busy) => Attempt::Unmet,
     }
 }
 
@@ -104,11 +105,11 @@ pub(crate) fn await_step<E: DriverEnd>(
     end: &mut E,
     port: &mut Port,
     count: u8,
-) -> Tried
+) -> Attempt
     requires { FitsEnd E.link end.old driver.old }
     ensures same { E.same end.old end.new }
     ensures acts { Acts E.stands E.dry E.full end.old end.new port.old port.new (Await count) driver.old
-        driver.new result }
+        driver.new (tried_of result) }
 {
     let AnyDriver::InActive(driver) = driver else {
         return refused(Refusal::WrongState);
@@ -124,14 +125,19 @@ pub(crate) fn await_step<E: DriverEnd>(
     if closed {
         return refused(Refusal::Closed);
     }
-    Tried::Unmet
+    Attempt::Unmet
 }
 
 /// Passes where the transmit buffer is released. With the bits spent it won't be.
-pub(crate) fn sent_step<E: DriverEnd>(driver: &mut AnyDriver, end: &mut E, port: &mut Port) -> Tried
+pub(crate) fn sent_step<E: DriverEnd>(
+    driver: &mut AnyDriver,
+    end: &mut E,
+    port: &mut Port,
+) -> Attempt
     requires { FitsEnd E.link end.old driver.old }
     ensures same { E.same end.old end.new }
-    ensures acts { Acts E.stands E.dry E.full end.old end.new port.old port.new Sent driver.old driver.new result }
+    ensures acts { Acts E.stands E.dry E.full end.old end.new port.old port.new Sent driver.old driver.new
+        (tried_of result) }
 {
     let AnyDriver::InActive(driver) = driver else {
         return refused(Refusal::WrongState);
@@ -144,7 +150,7 @@ pub(crate) fn sent_step<E: DriverEnd>(driver: &mut AnyDriver, end: &mut E, port:
     if closed {
         return refused(Refusal::Closed);
     }
-    Tried::Unmet
+    Attempt::Unmet
 }
 
 /// Whether the status register shows the transmit buffer released, whatever messages are seen.

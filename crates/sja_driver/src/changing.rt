@@ -3,12 +3,13 @@
 ghost use Rattle.sja_script.specs.declared.step.Step.TheVariants.{Start, Stop};
 ghost use Rattle.sja_driver.specs.Acting.{Acts};
 ghost use Rattle.sja_driver.specs.AnyDrivers.{FitsEnd};
+ghost use Rattle.sja_driver.specs.Tries.{tried_of, stopped_by};
 
 use super::any_driver::AnyDriver;
+use super::attempt::{Attempt, passed, refused};
 use super::driver::Driver;
 use super::start_fault::StartFault;
-use super::tried::{Tried, passed, refused};
-use sja_link::DriverEnd;
+use sja_link::{DriverEnd, DriverLedger};
 use sja_regs::Port;
 use sja_script::Refusal;
 use std::mem;
@@ -18,10 +19,11 @@ pub(crate) fn start_step<E: DriverEnd>(
     driver: &mut AnyDriver,
     end: &mut E,
     port: &mut Port,
-) -> Tried
+) -> Attempt
     requires { FitsEnd E.link end.old driver.old }
     ensures same { E.same end.old end.new }
-    ensures acts { Acts E.stands E.dry E.full end.old end.new port.old port.new Start driver.old driver.new result }
+    ensures acts { Acts E.stands E.dry E.full end.old end.new port.old port.new Start driver.old driver.new
+        (tried_of result) }
 {
     let AnyDriver::InReset(reset) = driver else {
         return refused(Refusal::WrongState);
@@ -33,25 +35,30 @@ pub(crate) fn start_step<E: DriverEnd>(
             AnyDriver::InReset(reset),
             refused(Refusal::NoActivationLeft),
         ),
-        Err((reset, StartFault::Busy)) => (AnyDriver::InReset(reset), Tried::Unmet),
+        Err((reset, StartFault::Busy)) => (AnyDriver::InReset(reset), Attempt::Unmet),
     };
     *driver = now;
     tried
 }
 
-/// Tries a stop. In reset it is refused.
-pub(crate) fn stop_step<E: DriverEnd>(driver: &mut AnyDriver, end: &mut E, port: &mut Port) -> Tried
+/// Tries a stop, and hands out the ledger of the activation that it ended. In reset it is refused.
+pub(crate) fn stop_step<E: DriverEnd>(
+    driver: &mut AnyDriver,
+    end: &mut E,
+    port: &mut Port,
+) -> Result<DriverLedger, Attempt>
     requires { FitsEnd E.link end.old driver.old }
     ensures same { E.same end.old end.new }
-    ensures acts { Acts E.stands E.dry E.full end.old end.new port.old port.new Stop driver.old driver.new result }
+    ensures acts { Acts E.stands E.dry E.full end.old end.new port.old port.new Stop driver.old driver.new
+        (stopped_by result) }
 {
-    let (now, tried) = match mem::replace(driver, AnyDriver::InReset(Driver::new(0))) {
-        AnyDriver::InReset(reset) => (AnyDriver::InReset(reset), refused(Refusal::WrongState)),
+    let (now, stopped) = match mem::replace(driver, AnyDriver::InReset(Driver::new(0))) {
+        AnyDriver::InReset(reset) => (AnyDriver::InReset(reset), Err(refused(Refusal::WrongState))),
         AnyDriver::InActive(active) => match active.close(end, port) {
-            Ok((reset, ledger)) => (AnyDriver::InReset(reset), Tried::Ended(ledger)),
-            Err(active) => (AnyDriver::InActive(active), Tried::Unmet),
+            Ok((reset, ledger)) => (AnyDriver::InReset(reset), Ok(ledger)),
+            Err(active) => (AnyDriver::InActive(active), Err(Attempt::Unmet)),
         },
     };
     *driver = now;
-    tried
+    stopped
 }

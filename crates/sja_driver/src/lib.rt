@@ -19,6 +19,7 @@ mod active;
 mod active_steps;
 mod answers;
 mod any_driver;
+mod attempt;
 mod changing;
 mod command_fault;
 mod driver;
@@ -28,7 +29,6 @@ mod register_steps;
 mod release;
 mod reset;
 mod start_fault;
-mod tried;
 mod work_log;
 
 pub use active::Active;

@@ -1,20 +1,21 @@
 //! One step of a script at the right link of a node's eight, with its answer and its place in the log.
 
-ghost use Rattle.std.specs.Prelude.{◌≡◌, min};
+ghost use Rattle.std.specs.Prelude.{◌≡◌, ◌≢◌, min};
 ghost use Rattle.sja_regs.specs.declared.registers.Registers.{Registers};
-ghost use Rattle.sja_script.specs.declared.step.Step.TheVariants.{Window, Release};
+ghost use Rattle.sja_script.specs.declared.step.Step.TheVariants.{Stop, Window, Release};
 ghost use Rattle.sja_driver.specs.Acting.{Acts};
 ghost use Rattle.sja_driver.specs.AnyDrivers.{FitsEnd};
 ghost use Rattle.sja_driver.specs.LoggedDrivers.{ended_of, MayStep, StaysLawful, Steps};
+ghost use Rattle.sja_driver.specs.Tries.{tried_of};
 
 use super::active_steps::{
     await_step, command_step, load_step, release_step, sent_step, window_step,
 };
 use super::any_driver::AnyDriver;
+use super::attempt::Attempt;
 use super::changing::{start_step, stop_step};
 use super::logged_driver::LoggedDriver;
 use super::register_steps::{read_step, write_step};
-use super::tried::Tried;
 use sja_link::DriverEnd;
 use sja_regs::Port;
 use sja_script::Step;
@@ -38,9 +39,12 @@ impl LoggedDriver {
         ensures steps { Steps E.stands E.dry E.full self.old self.new links.old links.new base port.old port.new
             step.now bits result }
     {
+        if matches!(step, Step::Stop) {
+            return self.step_stop(links, base, port, bits);
+        }
         let here = base + self.turn();
-        let tried = try_step(&mut self.driver, &mut links[here], port, step);
-        self.log.enter(tried, bits)
+        let attempt = try_step(&mut self.driver, &mut links[here], port, step);
+        self.log.enter(attempt, bits)
     }
 
     /// The step `Window`, as [`step`](LoggedDriver::step) does it, for a caller that holds no port: it sees none and
@@ -52,8 +56,8 @@ impl LoggedDriver {
             Window bits result }
     {
         let here = base + self.turn();
-        let tried = window_step(&mut self.driver, &mut links[here]);
-        self.log.enter(tried, bits)
+        let attempt = window_step(&mut self.driver, &mut links[here]);
+        self.log.enter(attempt, bits)
     }
 
     /// The step `Release`, as [`step`](LoggedDriver::step) does it, for a caller that holds no port: it sees none and
@@ -65,12 +69,30 @@ impl LoggedDriver {
             Release bits result }
     {
         let here = base + self.turn();
-        let tried = release_step(&mut self.driver, &mut links[here]);
-        self.log.enter(tried, bits)
+        let attempt = release_step(&mut self.driver, &mut links[here]);
+        self.log.enter(attempt, bits)
     }
 }
 
 impl LoggedDriver {
+    /// The step `Stop`, as [`step`](LoggedDriver::step) does it. It alone has a ledger to be logged, which is large.
+    fn step_stop<E: DriverEnd>(
+        &mut self,
+        links: &mut [E],
+        base: usize,
+        port: &mut Port,
+        bits: u32,
+    ) -> bool
+        requires { MayStep E.link self.old links.old base }
+        ensures stays { StaysLawful E.link E.same self.old self.new links.old links.new base result }
+        ensures steps { Steps E.stands E.dry E.full self.old self.new links.old links.new base port.old port.new
+            Stop bits result }
+    {
+        let here = base + self.turn();
+        let stopped = stop_step(&mut self.driver, &mut links[here], port);
+        self.log.enter_stop(stopped, bits)
+    }
+
     /// The place of the present activation's link among the node's eight, from 0: of the next one's in reset, and the
     /// last once eight were used.
     fn turn(&self) -> usize
@@ -80,20 +102,22 @@ impl LoggedDriver {
     }
 }
 
-/// Tries a step. Each has a function of its own, which takes the driver in either state.
+/// Tries a step other than a stop. Each has a function of its own, which takes the driver in either state.
 fn try_step<E: DriverEnd>(
     driver: &mut AnyDriver,
     end: &mut E,
     port: &mut Port,
     step: &Step,
-) -> Tried
-    requires { FitsEnd E.link end.old driver.old }
+) -> Attempt
+    requires fits { FitsEnd E.link end.old driver.old }
+    requires goes_on { step.now ≢ Stop }
     ensures same { E.same end.old end.new }
-    ensures acts { Acts E.stands E.dry E.full end.old end.new port.old port.new step.now driver.old driver.new result }
+    ensures acts { Acts E.stands E.dry E.full end.old end.new port.old port.new step.now driver.old driver.new
+        (tried_of result) }
 {
     match step {
         Step::Start => start_step(driver, end, port),
-        Step::Stop => stop_step(driver, end, port),
+        Step::Stop => unreachable!(),
         Step::Window => window_step(driver, end),
         Step::Release => release_step(driver, end),
         Step::Read(addr) => read_step(driver, end, port, *addr),

@@ -3,10 +3,11 @@
 ghost use Rattle.sja_script.specs.declared.step.Step.TheVariants.{Read, Write};
 ghost use Rattle.sja_driver.specs.Acting.{Acts};
 ghost use Rattle.sja_driver.specs.AnyDrivers.{FitsEnd};
+ghost use Rattle.sja_driver.specs.Tries.{tried_of};
 
 use super::answers::{done_answer, value_answer};
 use super::any_driver::AnyDriver;
-use super::tried::Tried;
+use super::attempt::Attempt;
 use sja_link::DriverEnd;
 use sja_regs::Port;
 
@@ -16,15 +17,17 @@ pub(crate) fn read_step<E: DriverEnd>(
     end: &mut E,
     port: &mut Port,
     addr: u8,
-) -> Tried
+) -> Attempt
     requires { FitsEnd E.link end.old driver.old }
     ensures same { E.same end.old end.new }
     ensures acts { Acts E.stands E.dry E.full end.old end.new port.old port.new (Read addr) driver.old driver.new
-        result }
+        (tried_of result) }
 {
     match driver {
-        AnyDriver::InReset(driver) => Tried::Answered(value_answer(driver.read(port, addr))),
-        AnyDriver::InActive(driver) => Tried::Answered(value_answer(driver.read(end, port, addr))),
+        AnyDriver::InReset(driver) => Attempt::Answered(value_answer(driver.read(port, addr))),
+        AnyDriver::InActive(driver) => Attempt::Answered(value_answer(driver.read(
+            end, port, addr,
+        ))),
     }
 }
 
@@ -34,14 +37,16 @@ pub(crate) fn write_step<E: DriverEnd>(
     port: &mut Port,
     addr: u8,
     value: u8,
-) -> Tried
+) -> Attempt
     ensures { (e : E) → Acts E.stands E.dry E.full e e port.old port.new (Write addr value) driver.now driver.now
-        result }
+        (tried_of result) }
 {
     match driver {
-        AnyDriver::InReset(driver) => Tried::Answered(done_answer(driver.write(port, addr, value))),
+        AnyDriver::InReset(driver) => Attempt::Answered(done_answer(driver.write(
+            port, addr, value,
+        ))),
         AnyDriver::InActive(driver) => {
-            Tried::Answered(done_answer(driver.write(port, addr, value)))
+            Attempt::Answered(done_answer(driver.write(port, addr, value)))
         }
     }
 }

@@ -2,12 +2,12 @@
 
 ghost use Rattle.std.specs.Prelude.{◌≡◌, ◌+◌, ◌<◌, ◌≤◌, ◌++◌, ℕ, suc, [], ◌∷◌, length, true, IfOk};
 ghost use Rattle.sja_driver.specs.Logs.{done_in, releases_in, left_in, done_room};
-ghost use Rattle.sja_driver.specs.Logs.{release_room, left_room, IsEmpty, HasRoom};
-ghost use Rattle.sja_driver.specs.Logs.{done_by, releases_by, left_by};
-ghost use Rattle.sja_driver.specs.Tries.{ended_by, is_met};
+ghost use Rattle.sja_driver.specs.Logs.{IsEmpty, HasRoom};
+ghost use Rattle.sja_driver.specs.Inside.Entering.{Enters};
+ghost use Rattle.sja_driver.specs.Tries.{tried_of, stopped_by, ended_by};
 
+use super::attempt::Attempt;
 use super::release::Release;
-use super::tried::Tried;
 use can_frame::OutOfMemory;
 use sja_link::DriverLedger;
 use sja_script::{Done, StepAnswer};
@@ -66,23 +66,17 @@ impl WorkLog {
         self.left.as_slice()
     }
 
-    /// Enters what came of a try of a step, after so many bits, and says whether the step is done.
-    pub(crate) fn enter(&mut self, tried: Tried, bits: u32) -> bool
+    /// Enters what came of a try of a step that ended no activation, after so many bits, and says whether the step is
+    /// done.
+    pub(crate) fn enter(&mut self, attempt: Attempt, bits: u32) -> bool
         requires room { HasRoom 1 self.old }
-        requires fits { length (left_in self.old) + ended_by tried ≤ 8 }
-        ensures met { result ≡ is_met tried }
-        ensures done { done_in self.new ≡ done_in self.old ++ done_by tried bits }
-        ensures released { releases_in self.new
-            ≡ releases_in self.old ++ releases_by (length (left_in self.old)) tried }
-        ensures left { left_in self.new ≡ left_in self.old ++ left_by tried }
-        ensures done_room { done_room self.new ≡ done_room self.old }
-        ensures release_room { release_room self.new ≡ release_room self.old }
-        ensures left_room { left_room self.new ≡ left_room self.old }
+        requires fits { length (left_in self.old) ≤ 8 }
+        ensures { Enters self.old self.new (tried_of attempt) bits result }
     {
-        match tried {
-            Tried::Unmet => false,
-            Tried::Answered(answer) => self.push(answer, bits),
-            Tried::Released(message) => {
+        match attempt {
+            Attempt::Unmet => false,
+            Attempt::Answered(answer) => self.push(answer, bits),
+            Attempt::Released(message) => {
                 let bytes = message.len() as u8;
                 let activation = self.left.len() as u8 + 1;
                 self.released.push_reserved(Release {
@@ -91,10 +85,21 @@ impl WorkLog {
                 });
                 self.push(StepAnswer::Released(bytes), bits)
             }
-            Tried::Ended(ledger) => {
+        }
+    }
+
+    /// Enters what came of a stop, in the same way: the ledger of the activation that it ended.
+    pub(crate) fn enter_stop(&mut self, stopped: Result<DriverLedger, Attempt>, bits: u32) -> bool
+        requires room { HasRoom 1 self.old }
+        requires fits { length (left_in self.old) + ended_by (stopped_by stopped) ≤ 8 }
+        ensures { Enters self.old self.new (stopped_by stopped) bits result }
+    {
+        match stopped {
+            Ok(ledger) => {
                 self.left.push_reserved(ledger);
                 self.push(StepAnswer::Done, bits)
             }
+            Err(attempt) => self.enter(attempt, bits),
         }
     }
 

@@ -8,14 +8,13 @@ use Rattle.sja_link.specs.Lists.{Lists}
 use Rattle.sja_regs.specs.declared.registers.Registers.{Registers}
 use Rattle.sja_script.specs.declared.step.Step.{Step}
 use Rattle.sja_driver.specs.declared.logged_driver.LoggedDriver.{LoggedDriver}
-use Rattle.sja_driver.specs.declared.tried.Tried.{Tried}
-use Rattle.sja_driver.specs.declared.tried.Tried.TheVariants.{Unmet, Answered, Released, Ended}
 use Rattle.sja_driver.specs.declared.work_log.WorkLog.{WorkLog}
 use Rattle.sja_driver.specs.Deeds.{Deed}
 use Rattle.sja_driver.specs.Holding.{EachRelated, HoldsBy}
 use Rattle.sja_driver.specs.LoggedDrivers.{driver_of, log_of, StaysLawful, Steps}
 use Rattle.sja_driver.specs.Logs.{HasRoom, Traces, deeds_by}
-use Rattle.sja_driver.specs.Tries.{is_met}
+use Rattle.sja_driver.specs.Tries.{Tried, is_met}
+use Rattle.sja_driver.specs.Tries.Tried.{Unmet, Answered, Released, Ended}
 use Rattle.sja_driver.proofs.Each.{each_refl}
 use Rattle.sja_threads.specs.Working.{MayWork, DoesSteps}
 

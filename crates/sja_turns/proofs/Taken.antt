@@ -22,12 +22,12 @@ use Rattle.sja_regs.specs.Facts.{RegisterFacts}
 use Rattle.sja_script.specs.declared.step.Step.{Step}
 use Rattle.sja_driver.specs.declared.any_driver.AnyDriver.{AnyDriver}
 use Rattle.sja_driver.specs.declared.logged_driver.LoggedDriver.{LoggedDriver}
-use Rattle.sja_driver.specs.declared.tried.Tried.{Tried}
 use Rattle.sja_driver.specs.declared.work_log.WorkLog.{WorkLog}
 use Rattle.sja_driver.specs.Deeds.{Deed, opens_by, opened_by, is_active, given_in, deeds_of}
 use Rattle.sja_driver.specs.Holding.{HoldsBy, place_after}
 use Rattle.sja_driver.specs.LoggedDrivers.{node_of, driver_of, log_of, ended_of, Steps}
 use Rattle.sja_driver.specs.Logs.{deeds_by}
+use Rattle.sja_driver.specs.Tries.{Tried}
 use Rattle.sja_report.proofs.Stepping.{given_taken}
 use Rattle.sja_turns.specs.Nodes.{IsNode}
 use Rattle.sja_turns.specs.Serial.{SerialValue, steps_at, deeds_at, StandsAt}

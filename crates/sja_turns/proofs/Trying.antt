@@ -21,8 +21,6 @@ use Rattle.sja_script.specs.declared.step_answer.StepAnswer.{StepAnswer}
 use Rattle.sja_script.specs.declared.step_answer.StepAnswer.TheVariants.{Done, Released as ReleasedAnswer, Refused}
 use Rattle.sja_driver.specs.declared.any_driver.AnyDriver.{AnyDriver}
 use Rattle.sja_driver.specs.declared.any_driver.AnyDriver.TheVariants.{InReset, InActive}
-use Rattle.sja_driver.specs.declared.tried.Tried.{Tried}
-use Rattle.sja_driver.specs.declared.tried.Tried.TheVariants.{Unmet, Answered, Released, Ended}
 use Rattle.sja_driver.specs.declared.work_log.WorkLog.{WorkLog}
 use Rattle.sja_driver.specs.Acting.{Acts, Looks, IfOut, IfLooking, Waits}
 use Rattle.sja_driver.specs.AnyDrivers.{is_out, opened_of, held_of, off_of, seen_by, IsDriverOf}
@@ -30,7 +28,8 @@ use Rattle.sja_driver.specs.Carried.{Sees, Tells, carried, ported}
 use Rattle.sja_driver.specs.Deeds.{Deed, opened_by, is_active, given_in, deeds_of, released_lengths, FitsState}
 use Rattle.sja_driver.specs.Holding.{HoldsBy, place_after}
 use Rattle.sja_driver.specs.Logs.{Traces, releases_in, left_in, released_of, leaves, deeds_by}
-use Rattle.sja_driver.specs.Tries.{is_met, off_after, window_after}
+use Rattle.sja_driver.specs.Tries.{Tried, is_met, off_after, window_after}
+use Rattle.sja_driver.specs.Tries.Tried.{Unmet, Answered, Released, Ended}
 use Rattle.sja_report.specs.Windows.{SeesIf}
 use Rattle.sja_turns.specs.Waiting.{HasToWait}
 use Rattle.sja_turns.proofs.Taking.{same_front}

@@ -17,14 +17,13 @@ use Rattle.sja_regs.specs.declared.registers.Registers.{Registers}
 use Rattle.sja_regs.specs.Facts.{RegisterFacts}
 use Rattle.sja_script.specs.declared.step.Step.{Step}
 use Rattle.sja_driver.specs.declared.logged_driver.LoggedDriver.{LoggedDriver}
-use Rattle.sja_driver.specs.declared.tried.Tried.{Tried}
-use Rattle.sja_driver.specs.declared.tried.Tried.TheVariants.{Unmet, Answered, Released, Ended}
 use Rattle.sja_driver.specs.Acting.{Acts}
 use Rattle.sja_driver.specs.Deeds.{Deed, opens_by, opened_by, is_active}
 use Rattle.sja_driver.specs.Holding.{HoldsBy, place_after}
 use Rattle.sja_driver.specs.LoggedDrivers.{node_of, driver_of, log_of, ended_of, IsLawful, Steps}
 use Rattle.sja_driver.specs.Logs.{HasRoom, Traces, deeds_by}
-use Rattle.sja_driver.specs.Tries.{is_met}
+use Rattle.sja_driver.specs.Tries.{Tried, is_met}
+use Rattle.sja_driver.specs.Tries.Tried.{Unmet, Answered, Released, Ended}
 use Rattle.sja_report.specs.InTime.{IsInTime}
 use Rattle.sja_report.proofs.Stepping.{given_taken}
 use Rattle.sja_turns.specs.Asking.{IsAsked}

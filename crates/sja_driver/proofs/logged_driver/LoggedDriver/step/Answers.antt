@@ -1,5 +1,5 @@
 use Rattle.std.proofs.Common.{refl}
-use Rattle.sja_driver.specs.LoggedDrivers.{ended_of}
+use Rattle.sja_driver.specs.Tries.{tried_of}
 use Rattle.sja_driver.proofs.Logged.{stays_lawful, steps_of}
 use Rattle.sja_driver.proofs.Stepping.{at_most}
 use Rattle.sja_driver.proofs.logged_driver.LoggedDriver.step.Goals as goal
@@ -8,25 +8,18 @@ pub returns-clause-stays : goal.returns-clause-stays
 returns-clause-stays g c =
     let e = g.E.DriverEnd in
     let laws = g.met.E.DriverEnd in
-    let entered = c.enter.ensures in
-    let tried = c.try_step-tried in
+    let tried = c.try_step-attempt in
     stays_lawful e.link e.same c.args.self.now _ c.args.links.now c.args.base c.args.bits c.turn.result
-    c.index-links-here.result _ tried.result c.enter.result laws.same_refl laws.same_link c.requires c.turn.ensures
-    tried.ensures.same refl entered.met entered.done entered.released entered.left entered.done_room
-    entered.release_room entered.left_room tried.ensures.acts.place
+    c.index-links-here.result _ (tried_of tried.result) c.enter.result laws.same_refl laws.same_link c.requires
+    c.turn.ensures tried.ensures.same refl c.enter.ensures tried.ensures.acts.place
 
 pub returns-clause-steps : goal.returns-clause-steps
 returns-clause-steps g c =
     let e = g.E.DriverEnd in
-    let entered = c.enter.ensures in
-    let tried = c.try_step-tried in
+    let tried = c.try_step-attempt in
     steps_of e.stands e.dry e.full c.args.self.now _ c.args.links.now c.args.base c.args.bits c.turn.result
-    c.args.port.now tried.new.port c.args.step.now c.index-links-here.result tried.new.end tried.result c.enter.result
-    c.requires.lawful c.requires.eight c.turn.ensures tried.ensures.acts entered.met entered.done entered.released
-    entered.left
+    c.args.port.now tried.new.port c.args.step.now c.index-links-here.result tried.new.end (tried_of tried.result)
+    c.enter.result c.requires.lawful c.requires.eight c.turn.ensures tried.ensures.acts c.enter.ensures
 
 pub enter-requires-clause-fits : goal.enter-requires-clause-fits
-enter-requires-clause-fits g c =
-    let place = c.try_step-tried.ensures.acts.place in
-    at_most c.args.self.now.node _ c.try_step-tried.new.driver
-    (place c.args.self.now.node (ended_of c.args.self.now) c.requires.lawful)
+enter-requires-clause-fits g c = at_most c.args.self.now.node _ c.args.self.now.driver c.requires.lawful

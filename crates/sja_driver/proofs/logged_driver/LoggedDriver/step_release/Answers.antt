@@ -1,7 +1,7 @@
 use Rattle.std.proofs.Common.{refl}
 use Rattle.sja_script.specs.declared.step.Step.TheVariants as step
 use Rattle.sja_regs.specs.Registers.{at_power_on}
-use Rattle.sja_driver.specs.LoggedDrivers.{ended_of}
+use Rattle.sja_driver.specs.Tries.{tried_of}
 use Rattle.sja_driver.proofs.Logged.{stays_lawful, steps_of}
 use Rattle.sja_driver.proofs.Stepping.{at_most}
 use Rattle.sja_driver.proofs.logged_driver.LoggedDriver.step_release.Goals as goal
@@ -10,24 +10,18 @@ pub returns-clause-stays : goal.returns-clause-stays
 returns-clause-stays g c =
     let e = g.E.DriverEnd in
     let laws = g.met.E.DriverEnd in
-    let entered = c.enter.ensures in
+    let release = c.release_step-attempt in
     stays_lawful e.link e.same c.args.self.now _ c.args.links.now c.args.base c.args.bits c.turn.result
-    c.index-links-here.result _ c.release_step-tried.result c.enter.result laws.same_refl laws.same_link c.requires
-    c.turn.ensures c.release_step-tried.ensures.same refl entered.met entered.done entered.released entered.left
-    entered.done_room entered.release_room entered.left_room
-    ((c.release_step-tried.ensures.acts (at_power_on 1)).place)
+    c.index-links-here.result _ (tried_of release.result) c.enter.result laws.same_refl laws.same_link c.requires
+    c.turn.ensures release.ensures.same refl c.enter.ensures ((release.ensures.acts (at_power_on 1)).place)
 
 pub returns-clause-steps : goal.returns-clause-steps
 returns-clause-steps g c = λ p.
     let e = g.E.DriverEnd in
-    let entered = c.enter.ensures in
+    let release = c.release_step-attempt in
     steps_of e.stands e.dry e.full c.args.self.now _ c.args.links.now c.args.base c.args.bits c.turn.result p p
-    step.Release c.index-links-here.result c.release_step-tried.new.end c.release_step-tried.result c.enter.result
-    c.requires.lawful c.requires.eight c.turn.ensures (c.release_step-tried.ensures.acts p) entered.met entered.done
-    entered.released entered.left
+    step.Release c.index-links-here.result release.new.end (tried_of release.result) c.enter.result c.requires.lawful
+    c.requires.eight c.turn.ensures (release.ensures.acts p) c.enter.ensures
 
 pub enter-requires-clause-fits : goal.enter-requires-clause-fits
-enter-requires-clause-fits g c =
-    let place = (c.release_step-tried.ensures.acts (at_power_on 1)).place in
-    at_most c.args.self.now.node _ c.release_step-tried.new.driver
-    (place c.args.self.now.node (ended_of c.args.self.now) c.requires.lawful)
+enter-requires-clause-fits g c = at_most c.args.self.now.node _ c.args.self.now.driver c.requires.lawful
