@@ -77,22 +77,19 @@ pub(crate) fn on_all<E: BusEnd, B: Board>(
         seats.old seats.new links.old links.new board.old board.new f) }
 {
     let (marks, mut level) = (struck.part(from, most), level_of(seats));
-    for run in 0..marks.len() {
-        if !goes_on(seats, marks[run], to_rest) {
-            return Ok(run as u32);
+    for run in 0..most {
+        if !goes_on(seats, marks[run as usize], to_rest) {
+            return Ok(run);
         }
         match tick_all(seats, links, level, StruckNodes::none(), board) {
             Ok(end) => {
                 board.keeps_its_facts();
                 if end.told {
-                    return Ok(run as u32 + 1);
+                    return Ok(run + 1);
                 }
                 level = end.level;
             }
-            Err(fault) => return Err(BrokenOff {
-                after: run as u32,
-                fault,
-            }),
+            Err(fault) => return Err(BrokenOff { after: run, fault }),
         }
     }
     Ok(most)

@@ -54,9 +54,9 @@ returns-then-end-clause-runs g c =
     let E = g.E.BusEnd in
     let B = g.B.Board in let inv = c.loop-run.invariant in let a = c.loop-run.board in let z = c.tick_all.new.board in
     let goes : c.goes_on.result ≡ true = search rules in
-    let within : c.loop-run.run < length c.part-marks.result.now = search rules in
+    let early : c.loop-run.run < c.args.most = search rules in
     let count = c.part-marks.ensures.count in
-    let early : c.loop-run.run < c.args.most = omega (arith, within, count) in
+    let within : c.loop-run.run < length c.part-marks.result.now = omega (arith, early, count) in
     let pass = passes B.orders_are (B.told a z) (B.kept a z) c.args.struck.now.script (c.args.from + c.loop-run.run) (length c.args.seats.now) c.none.result (slice_index_or c.part-marks.result.now c.loop-run.run _) c.loop-run.level c.args.board.now a c.loop-run.seats c.tick_all.new.seats
     c.requires.seated.few c.loop-run.auto.seats c.tick_all.auto.seats inv.board c.requires.may.0 c.none.ensures (c.goes_on.ensures.none goes) (λ node few. c.part-marks.ensures.struck c.loop-run.run node _ within few) inv.level c.in-Ok.ensures.turns c.in-Ok.ensures.ready inv.bus in record {
       bus = pass.bus (c.args.from + (c.loop-run.run + 1)) (omega arith);
@@ -72,9 +72,9 @@ loop-run-preserved g c =
     let E = g.E.BusEnd in
     let B = g.B.Board in let inv = c.loop-run.invariant in let a = c.loop-run.board in let z = c.tick_all.new.board in
     let goes : c.goes_on.result ≡ true = search rules in
-    let within : c.loop-run.run < length c.part-marks.result.now = search rules in
+    let early : c.loop-run.run < c.args.most = search rules in
     let count = c.part-marks.ensures.count in
-    let early : c.loop-run.run < c.args.most = omega (arith, within, count) in
+    let within : c.loop-run.run < length c.part-marks.result.now = omega (arith, early, count) in
     let pass = passes B.orders_are (B.told a z) (B.kept a z) c.args.struck.now.script (c.args.from + c.loop-run.run) (length c.args.seats.now) c.none.result (slice_index_or c.part-marks.result.now c.loop-run.run _) c.loop-run.level c.args.board.now a c.loop-run.seats c.tick_all.new.seats
     c.requires.seated.few c.loop-run.auto.seats c.tick_all.auto.seats inv.board c.requires.may.0 c.none.ensures (c.goes_on.ensures.none goes) (λ node few. c.part-marks.ensures.struck c.loop-run.run node _ within few) inv.level c.in-Ok.ensures.turns c.in-Ok.ensures.ready inv.bus in
     let untold : c.in-Ok.end.told ≡ false = search rules in record {
@@ -97,9 +97,7 @@ returns-in-Err-clause-breaks g c = λ left later enough rooms journals run_is le
     let script = c.args.struck.now.script in let from = c.args.from in let run = c.loop-run.run in
     let was = c.loop-run.seats in let now = c.tick_all.new.seats in
     let a = c.loop-run.board in
-    let within : run < length c.part-marks.result.now = search rules in
-    let count = c.part-marks.ensures.count in
-    let early : run < c.args.most = omega (arith, within, count) in
+    let early : run < c.args.most = search rules in
     let goes : c.goes_on.result ≡ true = search rules in
     let none = none_still B.orders_are (length c.args.seats.now) c.args.board.now a was c.loop-run.auto.seats inv.board c.requires.may.0 in record {
       mid = moment_of script (from + run) (left - run) was c.loop-run.links a;
