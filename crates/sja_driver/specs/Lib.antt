@@ -1,5 +1,6 @@
 pub mod Drivers
 pub mod Giving
+pub mod Calls
 pub mod Ports
 pub mod Answers
 pub mod Deeds

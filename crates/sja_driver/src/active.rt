@@ -1,29 +1,18 @@
-//! A driver out of reset.
+//! A driver out of reset: its stop, its look, its window and its release.
 
-ghost use Rattle.std.specs.Prelude.{◌≡◌, ℕ, List, ◌<◌, [], ◌∷◌, length, true, false, Ok, Err, OnOk, OnErr, IfOk, IfErr};
-ghost use Rattle.sja_link.specs.declared.up.Up.TheVariants.{Stop};
+ghost use Rattle.std.specs.Prelude.{◌≡◌, ℕ, List, [], length, true, false, Err, OnOk, OnErr, IfOk};
 ghost use Rattle.sja_link.specs.declared.release_fault.ReleaseFault.TheVariants.{Stopped as FaultStopped};
 ghost use Rattle.sja_link.specs.declared.release_fault.ReleaseFault.TheVariants.{Empty, Busy as ReleaseBusy};
 ghost use Rattle.sja_link.specs.DriverLedgers.{link_of, held_by, knows_off};
 ghost use Rattle.sja_link.specs.Looking.{Pulls, IsTaken, Releases, Refuses};
-ghost use Rattle.sja_link.specs.Showing.{seen_of};
-ghost use Rattle.sja_regs.specs.Addresses.{register_at};
-ghost use Rattle.sja_regs.specs.Commands.{command_of, requests, command_faults, after_command};
-ghost use Rattle.sja_regs.specs.Reading.{value_at, after_reading_at, or_no_register};
-ghost use Rattle.sja_regs.specs.Refusals.{first_fault, fault_of};
-ghost use Rattle.sja_regs.specs.Registers.{after_entering_reset};
-ghost use Rattle.sja_regs.specs.Writing.{write_faults_at, after_writing_at, load_faults, after_loading};
-ghost use Rattle.sja_driver.specs.declared.command_fault.CommandFault.TheVariants.{Busy};
+ghost use Rattle.sja_driver.specs.Calls.{Ends, TakesIn};
 ghost use Rattle.sja_driver.specs.Drivers.{node_in, started_in, link_in, held_in, off_in};
-ghost use Rattle.sja_driver.specs.Giving.{IsGiven};
-ghost use Rattle.sja_driver.specs.Ports.{sent_by, register_fault};
 
-use super::command_fault::CommandFault;
 use super::driver::Driver;
 use super::reset::Reset;
 use can_frame::Message;
 use sja_link::{DriverEnd, DriverLedger, LinkId, ReleaseFault, Stopped, Up};
-use sja_regs::{Port, RegFault};
+use sja_regs::Port;
 
 /// The state of a driver whose activation goes on: the ledger of its messages.
 #[derive(Debug, Drop)]
@@ -74,12 +63,7 @@ impl Driver<Active> {
         ensures same { E.same end.old end.new }
         ensures node { IfOk result (λ d. node_in d ≡ (link_in self).node) }
         ensures started { IfOk result (λ d. started_in d ≡ (link_in self).activation) }
-        ensures given { OnOk result (IsGiven E.stands end.old end.new (Stop ∷ [])) }
-        ensures port { OnOk result (port.new ≡ after_entering_reset port.old) }
-        ensures back { IfErr result (λ d. d ≡ self) }
-        ensures kept { OnErr result (IsGiven E.stands end.old end.new []) }
-        ensures unchanged { OnErr result (port.new ≡ port.old) }
-        ensures busy { OnErr result (E.full end.old) }
+        ensures ends { Ends E.stands E.full end.old end.new port.old port.new self result }
     {
         match self.close(end, port) {
             Ok((driver, _)) => Ok(driver),
@@ -98,12 +82,7 @@ impl Driver<Active> {
         ensures node { IfOk result (λ r. node_in (r.0) ≡ (link_in self).node) }
         ensures started { IfOk result (λ r. started_in (r.0) ≡ (link_in self).activation) }
         ensures ledger { IfOk result (λ r. r.1 ≡ self.state.ledger) }
-        ensures given { OnOk result (IsGiven E.stands end.old end.new (Stop ∷ [])) }
-        ensures port { OnOk result (port.new ≡ after_entering_reset port.old) }
-        ensures back { IfErr result (λ d. d ≡ self) }
-        ensures kept { OnErr result (IsGiven E.stands end.old end.new []) }
-        ensures unchanged { OnErr result (port.new ≡ port.old) }
-        ensures busy { OnErr result (E.full end.old) }
+        ensures ends { Ends E.stands E.full end.old end.new port.old port.new self result }
     {
         if end.give(Up::Stop).is_err() {
             return Err(self);
@@ -127,11 +106,8 @@ impl Driver<Active> {
     /// Error: [`Stopped`] where bus-off is known.
     pub fn look<E: DriverEnd>(&mut self, end: &mut E) -> Result<(), Stopped>
         requires { E.link end.old ≡ link_in self.old }
-        ensures link { link_in self.new ≡ link_in self.old }
         ensures same { E.same end.old end.new }
-        ensures got { Pulls E.stands end.old end.new (held_in self.old) (held_in self.new)
-            (off_in self.old) (off_in self.new) }
-        ensures all { IsTaken E.dry end.new (off_in self.new) (held_in self.new) }
+        ensures took { TakesIn E.stands E.dry end.old end.new self.old self.new }
         ensures on { OnOk result (off_in self.new ≡ false) }
         ensures stopped { OnErr result (off_in self.new ≡ true) }
     {
@@ -178,87 +154,5 @@ impl Driver<Active> {
             × Refuses E.stands E.dry E.full end.old (off_in self.new) (held_in self.new) }
     {
         self.state.ledger.release(end)
-    }
-
-    /// Takes in all that the link shows, and reads the register at an address.
-    ///
-    /// Error: [`RegFault::NoRegister`] where no register stands that can be read.
-    pub fn read<E: DriverEnd>(
-        &mut self,
-        end: &mut E,
-        port: &mut Port,
-        addr: u8,
-    ) -> Result<u8, RegFault>
-        requires { E.link end.old ≡ link_in self.old }
-        ensures link { link_in self.new ≡ link_in self.old }
-        ensures same { E.same end.old end.new }
-        ensures got { Pulls E.stands end.old end.new (held_in self.old) (held_in self.new)
-            (off_in self.old) (off_in self.new) }
-        ensures all { IsTaken E.dry end.new (off_in self.new) (held_in self.new) }
-        ensures value { result ≡ or_no_register (value_at port.old (seen_of (off_in self.new) (held_in self.new))
-            (register_at port.old.mode.rm addr)) }
-        ensures after { port.new ≡ after_reading_at port.old (register_at port.old.mode.rm addr) }
-    {
-        let _ = self.look(end);
-        let seen = self.state.ledger.seen();
-        port.read(addr, &seen)
-    }
-
-    /// Writes the register at an address.
-    ///
-    /// Errors: those of [`Port::write`]. A refusal changes nothing.
-    pub fn write(&self, port: &mut Port, addr: u8, value: u8) -> Result<(), RegFault>
-        ensures refused { fault_of result
-            ≡ first_fault (write_faults_at port.old (register_at port.old.mode.rm addr) value) }
-        ensures written { OnOk result (port.new ≡ after_writing_at port.old (register_at port.old.mode.rm addr) value) }
-        ensures unchanged { OnErr result (port.new ≡ port.old) }
-    {
-        port.write(addr, value)
-    }
-
-    /// Writes a message into the transmit buffer; the bytes after it are 0.
-    ///
-    /// Errors: those of [`Port::load`]. A refusal changes nothing.
-    pub fn load(&self, port: &mut Port, message: &Message) -> Result<(), RegFault>
-        ensures refused { fault_of result ≡ first_fault (load_faults port.old) }
-        ensures loaded { OnOk result (port.new ≡ after_loading port.old message.now) }
-        ensures unchanged { OnErr result (port.new ≡ port.old) }
-    {
-        port.load(message)
-    }
-
-    /// Does a command. The request that it makes of the transmit buffer, if it makes one, is given first.
-    ///
-    /// Errors, the first that holds: [`CommandFault::Reg`] with those of [`Port::command`]; [`CommandFault::Busy`]
-    /// where the end gave the request back. The port is then what it was.
-    pub fn command<E: DriverEnd>(
-        &mut self,
-        end: &mut E,
-        port: &mut Port,
-        value: u8,
-    ) -> Result<(), CommandFault>
-        requires { E.link end.old ≡ link_in self.old }
-        ensures ledger { self.new ≡ self.old }
-        ensures same { E.same end.old end.new }
-        ensures refused { register_fault result ≡ first_fault (command_faults port.old (command_of value)) }
-        ensures given { OnOk result (IsGiven E.stands end.old end.new (sent_by port.old (command_of value))) }
-        ensures kept { OnErr result (IsGiven E.stands end.old end.new []) }
-        ensures done { OnOk result (port.new ≡ after_command port.old (command_of value)) }
-        ensures unchanged { OnErr result (port.new ≡ port.old) }
-        ensures busy { result ≡ Err Busy → E.full end.old × (requests (command_of value) ≡ true) }
-    {
-        let request = match port.plan_command(value) {
-            Ok(request) => request,
-            Err(fault) => return Err(CommandFault::Reg(fault)),
-        };
-        if let Some(request) = request {
-            if end.give(Up::Send(request)).is_err() {
-                return Err(CommandFault::Busy);
-            }
-        }
-        match port.command(value) {
-            Ok(_) => Ok(()),
-            Err(fault) => Err(CommandFault::Reg(fault)),
-        }
     }
 }

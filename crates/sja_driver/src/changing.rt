@@ -21,9 +21,9 @@ pub(crate) fn start_step<E: DriverEnd>(
     port: &mut Port,
 ) -> Attempt
     requires { FitsEnd E.link end.old driver.old }
-    ensures same { E.same end.old end.new }
     ensures acts { Acts E.stands E.dry E.full end.old end.new port.old port.new Start driver.old driver.new
         (tried_of result) }
+    ensures same { E.same end.old end.new }
 {
     let AnyDriver::InReset(reset) = driver else {
         return refused(Refusal::WrongState);

@@ -16,6 +16,7 @@
 #![tactic(auto)]
 
 mod active;
+mod active_port;
 mod active_steps;
 mod answers;
 mod any_driver;

@@ -4,11 +4,10 @@ ghost use Rattle.std.specs.Prelude.{◌≡◌, ◌⊎◌, ◌<◌, ◌≤◌, []
 ghost use Rattle.sja_link.specs.declared.up.Up.TheVariants.{Start};
 ghost use Rattle.sja_regs.specs.Addresses.{register_at};
 ghost use Rattle.sja_regs.specs.Reading.{value_at, after_reading_at, or_no_register};
-ghost use Rattle.sja_regs.specs.Refusals.{first_fault, fault_of};
 ghost use Rattle.sja_regs.specs.Registers.{config_of};
-ghost use Rattle.sja_regs.specs.Writing.{write_faults_at, after_writing_at};
 ghost use Rattle.sja_driver.specs.declared.start_fault.StartFault.TheVariants.{NoActivationLeft, Busy};
 ghost use Rattle.sja_driver.specs.Drivers.{node_in, started_in, next_link, link_in, held_in, off_in, nothing_seen};
+ghost use Rattle.sja_driver.specs.Calls.{Writes};
 ghost use Rattle.sja_driver.specs.Giving.{IsGiven};
 ghost use Rattle.sja_driver.specs.Ports.{after_start};
 
@@ -124,10 +123,7 @@ impl Driver<Reset> {
     ///
     /// Errors: those of [`Port::write`]. A refusal changes nothing.
     pub fn write(&self, port: &mut Port, addr: u8, value: u8) -> Result<(), RegFault>
-        ensures refused { fault_of result
-            ≡ first_fault (write_faults_at port.old (register_at port.old.mode.rm addr) value) }
-        ensures written { OnOk result (port.new ≡ after_writing_at port.old (register_at port.old.mode.rm addr) value) }
-        ensures unchanged { OnErr result (port.new ≡ port.old) }
+        ensures { Writes port.old port.new addr value result }
     {
         port.write(addr, value)
     }

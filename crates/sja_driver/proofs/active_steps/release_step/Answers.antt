@@ -13,14 +13,14 @@ returns-in-Ok-clause-acts g c =
     let same : r.0 ≡ m = first_is (held_in c.look.new.self) _ _ (r.0) m s r.2.pulls.told in
     λ p. rw c.in-InActive.is
     (released_acts e.stands e.dry e.full _ _ _ c.in-InActive.driver c.look.new.self c.release.new.self m
-    (c.release.ensures.link ∙ c.look.ensures.link) c.in-Ok.ensures.on c.look.ensures.got (rw same at r.2) p)
+    (c.release.ensures.link ∙ c.look.ensures.took.link) c.in-Ok.ensures.on c.look.ensures.took.got (rw same at r.2) p)
 
 pub returns-in-Err-Busy-clause-acts : goal.returns-in-Err-Busy-clause-acts
 returns-in-Err-Busy-clause-acts g c =
     let e = g.E.DriverEnd in
     λ p. rw c.in-InActive.is
     (unmet_acts e.stands e.dry e.full _ _ _ c.in-InActive.driver c.look.new.self c.release.new.self
-    (c.release.ensures.link ∙ c.look.ensures.link) c.look.ensures.got c.in-Err-Busy.ensures.err
+    (c.release.ensures.link ∙ c.look.ensures.took.link) c.look.ensures.took.got c.in-Err-Busy.ensures.err
     (c.in-Err-Busy.ensures.busy (ap (λ x. Err x) c.in-Err-Busy.field-0-is)) p)
 
 pub returns-in-Err-Stopped-clause-acts : goal.returns-in-Err-Stopped-clause-acts
@@ -28,6 +28,6 @@ returns-in-Err-Stopped-clause-acts g c =
     let e = g.E.DriverEnd in
     λ p. rw (c.in-InActive.is, c.refused-in-Err-Stopped.ensures)
     (stopped_acts e.stands e.dry e.full _ _ _ c.in-InActive.driver c.look.new.self c.release.new.self
-    (c.release.ensures.link ∙ c.look.ensures.link)
-    (c.in-Err-Stopped.ensures.stopped (ap (λ x. Err x) c.in-Err-Stopped.field-0-is)) c.look.ensures.got
+    (c.release.ensures.link ∙ c.look.ensures.took.link)
+    (c.in-Err-Stopped.ensures.stopped (ap (λ x. Err x) c.in-Err-Stopped.field-0-is)) c.look.ensures.took.got
     c.in-Err-Stopped.ensures.err p)
