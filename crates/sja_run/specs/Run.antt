@@ -11,6 +11,10 @@ use Rattle.sja_run.specs.declared.refusal.Refusal.{Refusal}
 use Rattle.sja_run.specs.declared.refusal.Refusal.TheVariants as refusal
 use Rattle.sja_run.specs.Input.{IsRead, ReadsFew, BreaksOff}
 
+-- the bytes that were read are this plan
+abbrev pub HoldsPlan : Option (List ℕ) → Option (List ℕ) → PlanValue → Type 0
+HoldsPlan before after plan = (bytes : List ℕ) × IsRead before after bytes × IsPlanOf bytes plan
+
 -- the text is the report of such a run of the plan that these bytes are
 abbrev pub IsReportBy : (PlanValue → RunValue → Type 0) → List ℕ → List ℕ → Type 0
 IsReportBy Runs bytes text =

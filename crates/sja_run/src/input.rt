@@ -1,10 +1,11 @@
-//! The input, read up to a bound.
+//! The input, read up to a bound, and the plan that it is.
 
 ghost use Rattle.std.specs.Prelude.{◌≡◌, ◌<◌, ◌≤◌, ◌+◌, ℕ, List, Option, IfOk, IfErr, length};
 ghost use Rattle.std.specs.Io.KnownBytes.{Consumes, IsAtEnd};
-ghost use Rattle.sja_run.specs.Run.{RefusesRun};
+ghost use Rattle.sja_run.specs.Run.{HoldsPlan, RefusesRun};
 
 use super::refusal::Refusal;
+use sja_plan::{Plan, read_plan};
 use std::alloc::Global;
 use std::io::Read;
 
@@ -17,12 +18,24 @@ const MOST_READS: u32 = 131_074;
 /// For how many bytes a read has room at most.
 const ROOM: usize = 1_024;
 
+/// The plan that the bytes of the input are.
+///
+/// Errors: those of [`read_input`]; [`Refusal::Plan`] where they are no plan.
+pub fn plan_of_input<R: Read>(alloc: Global, input: &mut R) -> Result<Plan, Refusal>
+    ensures ok { IfOk result (HoldsPlan (R.remaining input.old) (R.remaining input.new)) }
+    ensures err { IfErr result (RefusesRun (R.remaining input.old) (R.remaining input.new)) }
+{
+    let bytes = read_input(alloc, input)?;
+    let plan = read_plan(alloc, bytes.as_slice())?;
+    Ok(plan)
+}
+
 /// The bytes of the input, up to its end or to 65,537 of them, which are too many for a plan. It makes at most 131,074
 /// reads (this project's own rule).
 ///
 /// Errors: [`Refusal::Read`] where a read fails, or where that many reads come neither to the end nor to 65,537 bytes;
 /// [`Refusal::OutOfMemory`].
-pub fn read_input<R: Read>(alloc: Global, input: &mut R) -> Result<Vec<u8>, Refusal>
+fn read_input<R: Read>(alloc: Global, input: &mut R) -> Result<Vec<u8>, Refusal>
     ensures taken { IfOk result (λ bytes. Consumes (R.remaining input.old) (R.remaining input.new) bytes.items) }
     ensures bound { IfOk result (λ bytes. length bytes.items ≤ 65537) }
     ensures whole { IfOk result (λ bytes. length bytes.items < 65537 → IsAtEnd (R.remaining input.new)) }

@@ -3,9 +3,8 @@
 ghost use Rattle.std.specs.Prelude.{IfOk, IfErr};
 ghost use Rattle.sja_run.specs.Run.{IsRunning, RefusesRun};
 
-use super::input::read_input;
+use super::input::plan_of_input;
 use super::refusal::Refusal;
-use sja_plan::read_plan;
 use sja_report::report;
 use sja_turns::run_serial;
 use std::alloc::Global;
@@ -16,8 +15,7 @@ pub fn reported<R: Read>(alloc: Global, input: &mut R) -> Result<Vec<u8>, Refusa
     ensures ok { IfOk result (λ text. IsRunning (R.remaining input.old) (R.remaining input.new) text.items) }
     ensures err { IfErr result (RefusesRun (R.remaining input.old) (R.remaining input.new)) }
 {
-    let bytes = read_input(alloc, input)?;
-    let plan = read_plan(alloc, bytes.as_slice())?;
+    let plan = plan_of_input(alloc, input)?;
     let log = run_serial(alloc, &plan)?;
     let text = report(alloc, &log)?;
     Ok(text.into_bytes())

@@ -3,10 +3,9 @@
 ghost use Rattle.std.specs.Prelude.{◌≡◌, IfOk, IfErr, vec_len};
 ghost use Rattle.sja_run.specs.ThreadedRun.{IsRunningThreads, RefusesThreads};
 
-use super::input::read_input;
+use super::input::plan_of_input;
 use super::refusal::Refusal;
 use super::tries::Tries;
-use sja_plan::read_plan;
 use sja_report::report;
 use sja_threads::run_threads;
 use std::alloc::{AllocError, Global};
@@ -24,8 +23,7 @@ pub fn reported_threads<T: Threads + Wait + Sync, R: Read>(
     ensures ok { IfOk result (λ text. IsRunningThreads (R.remaining input.old) (R.remaining input.new) text.items) }
     ensures err { IfErr result (RefusesThreads (R.remaining input.old) (R.remaining input.new)) }
 {
-    let bytes = read_input(alloc, input)?;
-    let plan = read_plan(alloc, bytes.as_slice())?;
+    let plan = plan_of_input(alloc, input)?;
     let gates = gates_of(alloc, plan.nodes())?;
     let log = run_threads(rt, alloc, &plan, gates)?;
     let text = report(alloc, &log)?;

@@ -4,9 +4,8 @@ ghost use Rattle.std.specs.Prelude.{IfOk, IfErr};
 ghost use Rattle.sja_run.specs.Run.{RefusesRun};
 ghost use Rattle.sja_run.specs.Wave.{IsWaving};
 
-use super::input::read_input;
+use super::input::plan_of_input;
 use super::refusal::Refusal;
-use sja_plan::read_plan;
 use sja_turns::run_serial;
 use sja_wave::wave;
 use std::alloc::Global;
@@ -17,8 +16,7 @@ pub fn waved<R: Read>(alloc: Global, input: &mut R) -> Result<Vec<u8>, Refusal>
     ensures ok { IfOk result (λ text. IsWaving (R.remaining input.old) (R.remaining input.new) text.items) }
     ensures err { IfErr result (RefusesRun (R.remaining input.old) (R.remaining input.new)) }
 {
-    let bytes = read_input(alloc, input)?;
-    let plan = read_plan(alloc, bytes.as_slice())?;
+    let plan = plan_of_input(alloc, input)?;
     let log = run_serial(alloc, &plan)?;
     let text = wave(alloc, &log)?;
     Ok(text.into_bytes())

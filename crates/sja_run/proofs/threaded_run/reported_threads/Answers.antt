@@ -1,13 +1,7 @@
-use Rattle.std.proofs.Common.{subst}
-use Rattle.std.proofs.lemmas.Result.{err_from_is_err_and}
-use Rattle.sja_plan.specs.Faults.{IsFirstFault}
+use Rattle.std.proofs.Common.{rules}
 use Rattle.sja_run.proofs.threaded_run.reported_threads.Goals as goal
 
--- the bytes that were read are no plan
-pub returns-in_err-plan-clause-err : goal.returns-in_err-plan-clause-err
-returns-in_err-plan-clause-err g c =
-    let told = err_from_is_err_and c.from_residual-in_err-plan.result c.from_residual-in_err-plan.ensures.1 in
-    let read = c.in_ok-bytes.ensures in
-    let fault =
-    subst (λ bytes. IsFirstFault bytes c.in_err-plan.field-0.0) c.as_slice.ensures.value c.in_err-plan.ensures.err in
-    rw (told.1, told.2) (c.in_ok-bytes.bytes.items, (read.taken, read.bound, read.whole), fault)
+-- the report is that of a run of the plan that was read
+pub returns-clause-ok : goal.returns-clause-ok
+returns-clause-ok g c = let read = c.in_ok-plan.ensures.ok in
+    (read.0, read.1, (c.in_ok-plan.plan, c.in_ok-log.log, read.2, c.in_ok-log.ensures.run, search rules))

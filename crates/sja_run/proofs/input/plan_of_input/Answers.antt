@@ -1,7 +1,7 @@
 use Rattle.std.proofs.Common.{subst}
 use Rattle.std.proofs.lemmas.Result.{err_from_is_err_and}
 use Rattle.sja_plan.specs.Faults.{IsFirstFault}
-use Rattle.sja_run.proofs.waving.waved.Goals as goal
+use Rattle.sja_run.proofs.input.plan_of_input.Goals as goal
 
 -- the bytes that were read are no plan
 pub returns-in_err-plan-clause-err : goal.returns-in_err-plan-clause-err
