@@ -40,6 +40,17 @@ pub fn with_steps(alloc: Global, head: &str, steps: u32, tail: &str) -> Result<S
     Ok(text)
 }
 
+/// What a report says of a driver that does so many steps and then releases the frame with identifier 0, after the
+/// node's number.
+pub fn released_after(alloc: Global, steps: u8) -> Result<String, Fail> {
+    let last = u32::from(steps) + 1;
+    let head = format!(in alloc; "tec 0 rec 0 steps {last}\n")?;
+    let tail = format!(in alloc;
+        "step {last} 3\nactivation 1 stored 1 overrun 0 free 64\nreleased 00 00 00\n"
+    )?;
+    with_steps(alloc, &head, u32::from(steps), &tail)
+}
+
 /// Whether `run` over this input answers this status, with these texts on the output and on the error output.
 fn answers<R: Read>(alloc: Global, input: &mut R, status: u8, written: &[u8], told: &[u8]) -> bool {
     let words = ["sja", "run"];

@@ -1,6 +1,7 @@
 //! Listen only, which version 2 has.
 
-use super::given::reports;
+use super::given::{released_after, reports, with_steps};
+use std::test::Fail;
 
 const NO_ANSWER: &str = "version = 2
 bits = 200
@@ -11,12 +12,12 @@ steps = ['start', 'load 000000', 'command 03']
 steps = ['write 0 03', 'start', 'command 01']
 ";
 
-const NO_ANSWER_REPORT: &str = "sja version 2 bits 76 end turns
+const NO_ANSWER_HEAD: &str = "sja version 2 bits 76 end turns
 node 0 tec 8 rec 0 steps 3
-step 1 ok
-step 2 ok
-step 3 ok
-activation 1 stored 0 overrun 0 free 64
+";
+
+/// What follows node 0's steps, which were all done.
+const NO_ANSWER_TAIL: &str = "activation 1 stored 0 overrun 0 free 64
 node 1 tec 0 rec 0 steps 3
 step 1 ok
 step 2 ok
@@ -25,8 +26,10 @@ activation 1 stored 0 overrun 0 free 64
 ";
 
 #[test]
-fn a_listening_node_neither_acknowledges_nor_sends(rt: HostRuntime) {
-    assert!(rt; reports(rt.alloc(), NO_ANSWER, NO_ANSWER_REPORT));
+fn a_listening_node_neither_acknowledges_nor_sends(rt: HostRuntime) -> Result<(), Fail> {
+    let report = with_steps(rt.alloc(), NO_ANSWER_HEAD, 3, NO_ANSWER_TAIL)?;
+    assert!(rt; reports(rt.alloc(), NO_ANSWER, &report));
+    Ok(())
 }
 
 const LISTENS: &str = "version = 2
@@ -40,26 +43,18 @@ steps = ['start', 'release']
 steps = ['write 0 03', 'start', 'release']
 ";
 
-const LISTENS_REPORT: &str = "sja version 2 bits 64 end turns
+const LISTENS_HEAD: &str = "sja version 2 bits 64 end turns
 node 0 tec 0 rec 0 steps 3
-step 1 ok
-step 2 ok
-step 3 ok
-activation 1 stored 0 overrun 0 free 64
-node 1 tec 0 rec 0 steps 2
-step 1 ok
-step 2 3
-activation 1 stored 1 overrun 0 free 64
-released 00 00 00
-node 2 tec 0 rec 0 steps 3
-step 1 ok
-step 2 ok
-step 3 3
-activation 1 stored 1 overrun 0 free 64
-released 00 00 00
 ";
 
 #[test]
-fn a_listening_node_receives_what_others_acknowledge(rt: HostRuntime) {
-    assert!(rt; reports(rt.alloc(), LISTENS, LISTENS_REPORT));
+fn a_listening_node_receives_what_others_acknowledge(rt: HostRuntime) -> Result<(), Fail> {
+    let one = released_after(rt.alloc(), 1)?;
+    let two = released_after(rt.alloc(), 2)?;
+    let tail = format!(in rt.alloc();
+        "activation 1 stored 0 overrun 0 free 64\nnode 1 {one}node 2 {two}"
+    )?;
+    let report = with_steps(rt.alloc(), LISTENS_HEAD, 3, &tail)?;
+    assert!(rt; reports(rt.alloc(), LISTENS, &report));
+    Ok(())
 }

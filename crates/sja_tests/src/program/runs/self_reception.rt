@@ -1,6 +1,7 @@
 //! Self test and self reception, which version 2 has.
 
-use super::given::reports;
+use super::given::{released_after, reports};
+use std::test::Fail;
 
 const SELF_RECEPTION: &str = "version = 2
 bits = 200
@@ -80,22 +81,13 @@ steps = ['start', 'load 000000', 'command 10', 'release']
 steps = ['start', 'release']
 ";
 
-const RECEIVED_BY_BOTH_REPORT: &str = "sja version 2 bits 64 end turns
-node 0 tec 0 rec 0 steps 4
-step 1 ok
-step 2 ok
-step 3 ok
-step 4 3
-activation 1 stored 1 overrun 0 free 64
-released 00 00 00
-node 1 tec 0 rec 0 steps 2
-step 1 ok
-step 2 3
-activation 1 stored 1 overrun 0 free 64
-released 00 00 00
-";
-
 #[test]
-fn a_self_received_frame_is_received_by_others_too(rt: HostRuntime) {
-    assert!(rt; reports(rt.alloc(), RECEIVED_BY_BOTH, RECEIVED_BY_BOTH_REPORT));
+fn a_self_received_frame_is_received_by_others_too(rt: HostRuntime) -> Result<(), Fail> {
+    let sender = released_after(rt.alloc(), 3)?;
+    let other = released_after(rt.alloc(), 1)?;
+    let report = format!(in rt.alloc();
+        "sja version 2 bits 64 end turns\nnode 0 {sender}node 1 {other}"
+    )?;
+    assert!(rt; reports(rt.alloc(), RECEIVED_BY_BOTH, &report));
+    Ok(())
 }
