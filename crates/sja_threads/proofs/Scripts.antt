@@ -5,38 +5,22 @@ use Rattle.std.proofs.lemmas.List.{length-map}
 use Rattle.std.specs.Prelude.{slice_index_or}
 use Rattle.sja_link.specs.declared.link_id.LinkId.{LinkId}
 use Rattle.sja_link.specs.declared.entry.Entry.{Entry}
-use Rattle.sja_link.specs.declared.driver_ledger.DriverLedger.{DriverLedger}
 use Rattle.sja_link.specs.Lists.{Lists}
 use Rattle.sja_script.specs.declared.step.Step.{Step}
 use Rattle.sja_driver.specs.declared.any_driver.AnyDriver.{AnyDriver}
-use Rattle.sja_driver.specs.declared.any_driver.AnyDriver.TheVariants.{InReset, InActive}
 use Rattle.sja_driver.specs.declared.logged_driver.LoggedDriver.{LoggedDriver}
-use Rattle.sja_driver.specs.declared.release.Release.{Release}
 use Rattle.sja_driver.specs.declared.work_log.WorkLog.{WorkLog}
-use Rattle.sja_driver.specs.AnyDrivers.{is_out, held_of, off_of}
+use Rattle.sja_driver.specs.AnyDrivers.{is_out}
 use Rattle.sja_driver.specs.Deeds.{Deed, done_of}
 use Rattle.sja_driver.specs.Holding.{HoldsBy, Numbered}
 use Rattle.sja_driver.specs.LoggedDrivers.{node_of, driver_of, log_of, IsLawful}
-use Rattle.sja_driver.specs.Logs.{HasRoom, IsEmpty, Traces, done_in, left_in, released_of, leaves}
+use Rattle.sja_driver.specs.Logs.{HasRoom, IsEmpty, Traces, done_in}
+use Rattle.sja_turns.proofs.Newly.{nothing_known, nothing_told}
 use Rattle.sja_threads.specs.declared.worked.Worked.{Worked}
 use Rattle.sja_threads.specs.Working.{MayWork, DoesSteps, AreUntouched, HasWorked}
 use Rattle.sja_threads.proofs.Works.{may_less}
 
 -- ---- before the first step
-
-nothing_held : (w : AnyDriver) → is_out w ≡ false → held_of w ≡ []
-nothing_held (InReset d) e = refl
-nothing_held (InActive d) e = absurd cc
-
-nothing_known : (w : AnyDriver) → is_out w ≡ false → off_of w ≡ false
-nothing_known (InReset d) e = refl
-nothing_known (InActive d) e = absurd cc
-
-no_leaves : (left : List DriverLedger) (held : List (List ℕ)) (a : ℕ) →
-    left ≡ [] → held ≡ [] → slice_index_or (leaves left held) a [] ≡ []
-no_leaves [] held zero l e = e
-no_leaves [] held (suc a) l e = refl
-no_leaves (x ∷ left) held a l e = absurd cc
 
 -- a driver that did nothing, at links on which nothing was got or given
 pub holds_new : {E : Type 0} (stands : E → Lists → Type 0) (driver : AnyDriver) (log : WorkLog)
@@ -45,9 +29,7 @@ pub holds_new : {E : Type 0} (stands : E → Lists → Type 0) (driver : AnyDriv
 holds_new stands driver log j links base empty reset untouched = record {
   got = λ a. [];
   kept = untouched;
-  told = λ a few. sym (ap (λ (r : List Release). released_of r (suc a)
-      ++ slice_index_or (leaves (left_in log) (held_of driver)) a []) empty.releases
-      ∙ no_leaves (left_in log) (held_of driver) a empty.left (nothing_held driver reset));
+  told = λ a few. sym (nothing_told driver log a empty reset);
   off_is = nothing_known driver reset;
   later = λ a less. refl;
 }

@@ -1,5 +1,6 @@
 -- A run before its first turn.
-use Rattle.std.proofs.Common.{◌≡◌, ℕ, zero, suc, ◌+◌, ◌*◌, ◌<◌, ◌≤◌, false, List, [], ◌∷◌, ◌++◌, length, refl, sym, ap, ◌∙◌, subst, arith, inl, inr}
+use Rattle.std.proofs.Common.{◌≡◌, ℕ, zero, suc, ◌+◌, ◌*◌, ◌<◌, ◌≤◌, false, List, [], ◌∷◌, ◌++◌, length, refl, sym}
+use Rattle.std.proofs.Common.{ap, ◌∙◌, subst, arith, inl, inr}
 use Rattle.std.specs.Prelude.{not, replicate, slice_index_or}
 use Rattle.std.proofs.lemmas.Bool.{cases_eq}
 use Rattle.sja_link.specs.declared.driver_ledger.DriverLedger.{DriverLedger}
@@ -22,7 +23,7 @@ use Rattle.sja_driver.specs.declared.work_log.WorkLog.{WorkLog}
 use Rattle.sja_driver.specs.AnyDrivers.{is_out, held_of, off_of}
 use Rattle.sja_driver.specs.Deeds.{Deed, given_in, deeds_of}
 use Rattle.sja_driver.specs.LoggedDrivers.{driver_of, log_of}
-use Rattle.sja_driver.specs.Logs.{HasRoom, left_in, released_of, leaves}
+use Rattle.sja_driver.specs.Logs.{HasRoom, IsEmpty, releases_in, left_in, released_of, leaves}
 use Rattle.sja_turns.specs.Beginning.{IsNewDriver, AreNew}
 use Rattle.sja_turns.specs.Nodes.{IsNode}
 use Rattle.sja_turns.proofs.Cuts.{none_held_first}
@@ -66,7 +67,7 @@ nothing_held : (w : AnyDriver) → is_out w ≡ false → held_of w ≡ []
 nothing_held (InReset d) e = refl
 nothing_held (InActive d) e = absurd cc
 
-nothing_known : (w : AnyDriver) → is_out w ≡ false → off_of w ≡ false
+pub nothing_known : (w : AnyDriver) → is_out w ≡ false → off_of w ≡ false
 nothing_known (InReset d) e = refl
 nothing_known (InActive d) e = absurd cc
 
@@ -75,6 +76,14 @@ no_leaves : (left : List DriverLedger) (held : List (List ℕ)) (a : ℕ) → le
 no_leaves [] held zero l e = e
 no_leaves [] held (suc a) l e = refl
 no_leaves (x ∷ left) held a l e = absurd cc
+
+-- a driver that did nothing released nothing, and has nothing to release
+pub nothing_told : (w : AnyDriver) (log : WorkLog) (a : ℕ) → IsEmpty log → is_out w ≡ false →
+    released_of (releases_in log) (suc a) ++ slice_index_or (leaves (left_in log) (held_of w)) a [] ≡ []
+nothing_told w log a empty reset =
+    ap (λ (r : List Release). released_of r (suc a) ++ slice_index_or (leaves (left_in log) (held_of w)) a [])
+    empty.releases
+    ∙ no_leaves (left_in log) (held_of w) a empty.left (nothing_held w reset)
 
 pub new_node : (version node : ℕ) (steps : List Step) (x : LoggedDriver) (links : List Deques) (base : ℕ) →
     IsNewDriver node (length steps) x →
@@ -96,10 +105,7 @@ new_node version node steps x links base new fresh = record {
         got = [];
         given = given_in (deeds_of [] (suc a));
       }))) (sym (fresh a d few)) (refl, refl);
-      told = λ a few. sym (ap (λ (r : List Release). released_of r (suc a) ++ slice_index_or
-          (leaves (left_in (log_of x)) (held_of (driver_of x))) a []) new.empty.releases
-          ∙ no_leaves (left_in (log_of x)) (held_of (driver_of x)) a new.empty.left
-          (nothing_held (driver_of x) new.reset));
+      told = λ a few. sym (nothing_told (driver_of x) (log_of x) a new.empty new.reset);
       off_is = nothing_known (driver_of x) new.reset;
       later = λ a less. refl;
     };
