@@ -26,12 +26,3 @@ pub fn asked(alloc: Global, bits: u32, strikes: &[(u8, u32, u32, u32)]) -> Resul
     rig.start(1)?;
     Ok(rig)
 }
-
-/// The same, run until both nodes are at rest, and how many bits that took.
-pub fn sent(alloc: Global, bits: u32, strikes: &[(u8, u32, u32, u32)]) -> Result<(Rig, u32), Fail> {
-    let mut rig = asked(alloc, bits, strikes)?;
-    match rig.bus.rest()? {
-        Ok(bits) => Ok((rig, bits)),
-        Err(_) => Err("no bit")?,
-    }
-}

@@ -1,40 +1,47 @@
 //! Bits that are spent, and nodes that have started.
 
-use super::given::bits_in;
+use super::bus_step::BusStep::{AtRest, BitFails, Bits, Gather, Started};
+use super::left::Left::{self, Nodes};
+use super::left::leaves;
 use super::rig::Rig;
-use sja_bus::BusFault;
+use super::step::Step::{Bus, Start, Stop};
+use sja_bus::BusFault::BitsSpent;
 use std::test::Fail;
 
 #[test]
 fn a_bit_past_the_last_one_changes_nothing(rt: HostRuntime) -> Result<(), Fail> {
     let mut rig = Rig::new(rt.alloc(), 1, 2, 12, &[])?;
-    rig.start(0)?;
-    assert!(rt; rig.bus.bits(12)?.is_ok());
-    rig.start(1)?;
-    assert!(rt; rig.bus.bit()? == Err(BusFault::BitsSpent));
-    assert!(rt; rig.bus.bit()? == Err(BusFault::BitsSpent));
-    assert!(rt; !rig.bus.started(1));
-    assert!(rt; rig.bus.gather()? == Ok(()));
-    assert!(rt; rig.bus.started(1));
-    assert!(rt; rig.bus.bit()? == Err(BusFault::BitsSpent));
-    let logs = rig.finish();
-    assert!(rt; logs.len() == 2);
-    assert!(rt; bits_in(&logs[0].journal) == 12);
-    assert!(rt; bits_in(&logs[1].journal) == 12);
-    Ok(())
+    rig.takes(&[
+        Start(0),
+        Bus(Bits(12)),
+        Start(1),
+        Bus(BitFails(BitsSpent)),
+        Bus(BitFails(BitsSpent)),
+        Bus(Started(1, false)),
+        Bus(Gather),
+        Bus(Started(1, true)),
+        Bus(BitFails(BitsSpent)),
+    ])?;
+    leaves(
+        rig.finish().as_slice(),
+        &[Nodes(2), Left::Bits(0, 12), Left::Bits(1, 12)],
+    )
 }
 
 #[test]
 fn a_node_has_started_once_its_start_was_taken(rt: HostRuntime) -> Result<(), Fail> {
-    let mut rig = Rig::new(rt.alloc(), 1, 8, 20, &[])?;
-    assert!(rt; rig.bus.at_rest());
-    rig.start(7)?;
-    assert!(rt; !rig.bus.started(7));
-    assert!(rt; rig.bus.gather()? == Ok(()));
-    assert!(rt; rig.bus.started(7) && !rig.bus.started(6) && !rig.bus.started(8));
-    assert!(rt; !rig.bus.at_rest());
-    rig.stop(7)?;
-    assert!(rt; rig.bus.gather()? == Ok(()));
-    assert!(rt; rig.bus.started(7) && rig.bus.at_rest());
-    Ok(())
+    Rig::new(rt.alloc(), 1, 8, 20, &[])?.takes(&[
+        Bus(AtRest(true)),
+        Start(7),
+        Bus(Started(7, false)),
+        Bus(Gather),
+        Bus(Started(7, true)),
+        Bus(Started(6, false)),
+        Bus(Started(8, false)),
+        Bus(AtRest(false)),
+        Stop(7),
+        Bus(Gather),
+        Bus(Started(7, true)),
+        Bus(AtRest(true)),
+    ])
 }

@@ -1,8 +1,11 @@
 //! Ends that show what they may not show, and ends that give puts back: the fault, again at each call, and otherwise a
 //! message that is stored.
 
-use super::given::{bits_in, request, verdicts_in};
+use super::bus_step::BusStep::{BitFails, GatherFails};
+use super::given::request;
 use super::lawless::{Lawless, over_lawless_ends};
+use super::left::Left::{Bits, Nodes, Verdicts};
+use super::left::leaves;
 use super::wired::Wired;
 use sja_bus::BusFault;
 use sja_link::Up;
@@ -53,10 +56,12 @@ fn an_end_that_shows_what_it_may_not_is_answered_always_again(rt: HostRuntime) -
         for (first, second, endless, fault) in rows()? {
             let mut rig = over_lawless_ends(rt.alloc(), &[])?;
             rig.shows(1, first, second, endless)?;
-            let answer = if by_bit { rig.bit()? } else { rig.gather()? };
-            assert!(rt; answer == Err(fault));
-            assert!(rt; rig.gather()? == Err(fault));
-            assert!(rt; rig.bit()? == Err(fault));
+            let first = if by_bit {
+                BitFails(fault)
+            } else {
+                GatherFails(fault)
+            };
+            rig.takes(&[first, GatherFails(fault), BitFails(fault)])?;
         }
     }
     Ok(())
@@ -76,12 +81,11 @@ fn requests_without_end_after_bus_off_are_out_of_order(rt: HostRuntime) -> Resul
     let mut rig = off_soon(rt.alloc(), Some(Up::Send(request()?)))?;
     rig.waits(1)?;
     assert!(rt; rig.bits_until_fault(1_000)? == (698, Some(BusFault::BadOrder(1))));
-    assert!(rt; rig.bit()? == Err(BusFault::BadOrder(1)));
-    assert!(rt; rig.gather()? == Err(BusFault::BadOrder(1)));
-    let logs = rig.finish();
-    assert!(rt; logs.len() == 2);
-    assert!(rt; bits_in(&logs[1].journal) == 698);
-    Ok(())
+    rig.takes(&[
+        BitFails(BusFault::BadOrder(1)),
+        GatherFails(BusFault::BadOrder(1)),
+    ])?;
+    leaves(rig.finish().as_slice(), &[Nodes(2), Bits(1, 698)])
 }
 
 /// A bus on which node 0 sends a frame to node 1, which has it with the 60th bit.
@@ -92,31 +96,37 @@ fn sent_soon(alloc: Global) -> Result<Wired<Lawless>, Fail> {
     Ok(rig)
 }
 
-/// A put is tried a million times. How many bits go well, and the fault, where so many puts come back.
+/// So many puts at node 1 come back. How many bits go well, up to so many; how many puts were tried; and the fault.
+fn with_puts_back(
+    rig: &mut Wired<Lawless>,
+    back: u32,
+    most: u32,
+) -> Result<(u32, u32, Option<BusFault>), Fail> {
+    rig.gives_back(1, back)?;
+    let (bits, fault) = rig.bits_until_fault(most)?;
+    Ok((bits, rig.tries(1)?, fault))
+}
+
+/// A put is tried a million times.
 #[test]
 fn a_put_that_comes_back_is_tried_again_up_to_a_million_times(rt: HostRuntime) -> Result<(), Fail> {
-    let stuck = Some(BusFault::Stuck(1));
-    for (back, tries, fault) in [
-        (0, 1, None),
-        (1, 2, None),
-        (999_999, 1_000_000, None),
-        (1_000_000, 1_000_000, stuck),
+    for (back, tries, fault, bits, stored, bits_to_off) in [
+        (0, 1, None, 64, 1, 1_000),
+        (1, 2, None, 64, 1, 1_000),
+        (999_999, 1_000_000, None, 64, 1, 1_000),
+        (1_000_000, 1_000_000, Some(BusFault::Stuck(1)), 59, 0, 697),
     ] {
         let mut rig = sent_soon(rt.alloc())?;
-        rig.gives_back(1, back)?;
-        let bits = if fault.is_none() { 64 } else { 59 };
-        assert!(rt; rig.bits_until_fault(64)? == (bits, fault), "{back}");
-        assert!(rt; rig.tries(1)? == tries);
-        let logs = rig.finish();
-        assert!(rt; logs.len() == 2);
-        let stored = if fault.is_none() { 1 } else { 0 };
-        assert!(rt; verdicts_in(&logs[1].journal) == (stored, 0), "{back}");
-
+        assert!(rt;
+            with_puts_back(&mut rig, back, 64)? == (bits, tries, fault),
+            "{back}"
+        );
+        leaves(rig.finish().as_slice(), &[Nodes(2), Verdicts(1, stored, 0)])?;
         let mut rig = off_soon(rt.alloc(), None)?;
-        rig.gives_back(1, back)?;
-        let bits = if fault.is_none() { 1_000 } else { 697 };
-        assert!(rt; rig.bits_until_fault(1_000)? == (bits, fault), "{back}");
-        assert!(rt; rig.tries(1)? == tries);
+        assert!(rt;
+            with_puts_back(&mut rig, back, 1_000)? == (bits_to_off, tries, fault),
+            "{back}"
+        );
     }
     Ok(())
 }

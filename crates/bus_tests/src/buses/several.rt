@@ -1,9 +1,17 @@
 //! Bits one after another by one call, beside as many that are run by calls of their own.
 
 use super::asking::{alone, asked};
-use super::given::{ABORT, RXERR, STATUS, TRANSMIT, TXERR, are_same_logs, bits_in, entries_in};
+use super::bus_step::BusStep::{
+    AtRest, BitFails, Bits, Gather, Several, SeveralFail, SeveralToRest,
+};
+use super::given::{ABORT, RXERR, STATUS, TRANSMIT, TXERR, are_same_logs};
+use super::left::Left::{self, Entries, Nodes, Rxerr, Txerr};
+use super::left::leaves;
 use super::rig::Rig;
-use sja_bus::BusFault;
+use super::step::Step::{self, Bus, Command, Read, Unread};
+use sja_bus::BusFault::{BitsSpent, JournalFull};
+use sja_bus::NodeLog;
+use std::alloc::Global;
 use std::test::Fail;
 
 /// The bits of the run: a frame, an idle bus, a strike on node 1 in bit 300, and an idle bus again.
@@ -21,55 +29,79 @@ fn show_the_same(one: &mut Rig, other: &mut Rig) -> Result<bool, Fail> {
     Ok(true)
 }
 
+/// What is left of two nodes by a bus that takes these steps, where another that takes those shows and leaves the same.
+fn left_by_both(
+    mut rig: Rig,
+    steps: &[Step],
+    mut single: Rig,
+    singles: &[Step],
+) -> Result<Vec<NodeLog>, Fail> {
+    rig.takes(steps)?;
+    single.takes(singles)?;
+    if !show_the_same(&mut rig, &mut single)? {
+        return Err("not what single bits show")?;
+    }
+    let want = single.finish();
+    if want.len() != 2 || !are_same_logs(rig.finish().as_slice(), want.as_slice()) {
+        return Err("not what single bits leave")?;
+    }
+    Ok(want)
+}
+
 #[test]
 fn bits_are_as_many_as_asked_for_or_as_are_left(rt: HostRuntime) -> Result<(), Fail> {
     let mut rig = Rig::new(rt.alloc(), 1, 8, 50, &[])?;
-    assert!(rt; rig.bus.several(0, false)? == Ok(0));
-    assert!(rt; rig.bus.several(20, false)? == Ok(20));
-    assert!(rt; rig.bus.several(31, false)? == Ok(30));
-    // that they are spent is no error
-    assert!(rt; rig.bus.several(1, false)? == Ok(0));
-    assert!(rt; rig.bus.bit()? == Err(BusFault::BitsSpent));
-    let logs = rig.finish();
-    assert!(rt; logs.len() == 8 && bits_in(&logs[7].journal) == 50);
-    Ok(())
+    rig.bus.takes(&[
+        Several(0, 0),
+        Several(20, 20),
+        Several(31, 30),
+        // that they are spent is no error
+        Several(1, 0),
+        BitFails(BitsSpent),
+    ])?;
+    leaves(rig.finish().as_slice(), &[Nodes(8), Left::Bits(7, 50)])
 }
 
 #[test]
 fn bits_to_rest_end_where_every_node_rests(rt: HostRuntime) -> Result<(), Fail> {
-    let mut rig = asked(rt.alloc(), BITS, &[])?;
-    // nothing was taken yet
-    assert!(rt; rig.bus.several(BITS, true)? == Ok(0));
-    assert!(rt; rig.bus.gather()? == Ok(()));
-    // eleven recessive bits, and a frame of 53 bits with its intermission
-    assert!(rt; rig.bus.several(10, true)? == Ok(10));
-    assert!(rt; rig.bus.several(BITS, true)? == Ok(54));
-    assert!(rt; rig.bus.at_rest());
-    assert!(rt; rig.bus.several(5, true)? == Ok(0));
-    assert!(rt; rig.bus.several(5, false)? == Ok(5));
-    Ok(())
+    asked(rt.alloc(), BITS, &[])?.bus.takes(&[
+        // nothing was taken yet
+        SeveralToRest(BITS, 0),
+        Gather,
+        // eleven recessive bits, and a frame of 53 bits with its intermission
+        SeveralToRest(10, 10),
+        SeveralToRest(BITS, 54),
+        AtRest(true),
+        SeveralToRest(5, 0),
+        Several(5, 5),
+    ])
+}
+
+/// A frame that is stored, and a strike on node 1, in so many calls for so many bits each and one for the others.
+fn left_by_calls(alloc: Global, calls: u32, bits: u32, others: u32) -> Result<Vec<NodeLog>, Fail> {
+    let strikes = [(1, 300, 1, 1)];
+    let mut rig = asked(alloc, BITS, &strikes)?;
+    for _ in 0..calls {
+        rig.bus.takes(&[Several(bits, bits)])?;
+    }
+    left_by_both(
+        rig,
+        &[
+            Bus(Several(BITS, others)),
+            Read(1, STATUS, 0x0d),
+            Unread(1, 1),
+        ],
+        asked(alloc, BITS, &strikes)?,
+        &[Bus(Bits(BITS)), Read(1, STATUS, 0x0d), Unread(1, 1)],
+    )
 }
 
 #[test]
 fn bits_one_after_another_leave_what_single_bits_leave(rt: HostRuntime) -> Result<(), Fail> {
-    // the frame is stored, and the strike is met within the bits of one call, or of several
-    for count in [BITS, 7, 1] {
-        let mut rig = asked(rt.alloc(), BITS, &[(1, 300, 1, 1)])?;
-        let mut single = asked(rt.alloc(), BITS, &[(1, 300, 1, 1)])?;
-        for _ in 0..BITS / count {
-            assert!(rt; rig.bus.several(count, false)? == Ok(count));
-        }
-        assert!(rt; rig.bus.several(BITS, false)? == Ok(BITS % count));
-        assert!(rt; single.bus.bits(BITS)?.is_ok());
-        assert!(rt; show_the_same(&mut rig, &mut single)?);
-        assert!(rt; rig.unread(1) == 1 && single.unread(1) == 1);
-        let want = single.finish();
+    for (calls, bits, others) in [(1, BITS, 0), (57, 7, 1), (400, 1, 0)] {
+        let logs = left_by_calls(rt.alloc(), calls, bits, others)?;
         // node 1 finds a stuff error, and a dominant bit after its flag; node 0 a stuff error
-        assert!(rt; want.len() == 2 && want[0].rxerr == 1 && want[1].rxerr == 9);
-        assert!(rt;
-            are_same_logs(rig.finish().as_slice(), want.as_slice()),
-            "count {count}"
-        );
+        leaves(logs.as_slice(), &[Rxerr(0, 1), Rxerr(1, 9)])?;
     }
     Ok(())
 }
@@ -78,56 +110,54 @@ fn bits_one_after_another_leave_what_single_bits_leave(rt: HostRuntime) -> Resul
 fn bus_off_within_bits_is_told(rt: HostRuntime) -> Result<(), Fail> {
     // node 0 is struck at 32 starts of its frame from bit 11 on, as far apart as in `bus_off.rt`
     let strikes = [(0, 11, 18, 16), (0, 307, 26, 16)];
-    let mut rig = alone(rt.alloc(), 2, 1_000, &strikes)?;
-    let mut single = alone(rt.alloc(), 2, 1_000, &strikes)?;
-    assert!(rt; rig.bus.several(697, false)? == Ok(697));
-    assert!(rt; !rig.bus.at_rest());
-    assert!(rt; rig.bus.several(303, true)? == Ok(1));
-    assert!(rt; rig.bus.several(303, false)? == Ok(302));
-    assert!(rt; single.bus.bits(1_000)?.is_ok());
-    assert!(rt; show_the_same(&mut rig, &mut single)?);
-    assert!(rt; rig.read(0, TXERR)? == Ok(127));
-    assert!(rt; rig.read(0, 0)? == Ok(0x01));
-    let want = single.finish();
-    assert!(rt; want.len() == 2);
-    assert!(rt; are_same_logs(rig.finish().as_slice(), want.as_slice()));
+    left_by_both(
+        alone(rt.alloc(), 2, 1_000, &strikes)?,
+        &[
+            Bus(Several(697, 697)),
+            Bus(AtRest(false)),
+            Bus(SeveralToRest(303, 1)),
+            Bus(Several(303, 302)),
+            Read(0, TXERR, 127),
+            Read(0, 0, 0x01),
+        ],
+        alone(rt.alloc(), 2, 1_000, &strikes)?,
+        &[Bus(Bits(1_000))],
+    )?;
     Ok(())
 }
 
 #[test]
 fn an_abort_that_stands_while_bits_run_is_heeded(rt: HostRuntime) -> Result<(), Fail> {
     // the frame begins with bit 11; it is aborted after bit 19, and fails in bit 30
-    let mut rig = asked(rt.alloc(), BITS, &[(0, 30, 1, 1)])?;
-    let mut single = asked(rt.alloc(), BITS, &[(0, 30, 1, 1)])?;
-    assert!(rt; rig.bus.several(20, false)? == Ok(20));
-    assert!(rt; single.bus.bits(20)?.is_ok());
-    assert!(rt; rig.command(0, ABORT)?.is_ok() && single.command(0, ABORT)?.is_ok());
-    assert!(rt; rig.bus.several(80, false)? == Ok(80));
-    assert!(rt; rig.bus.at_rest());
-    assert!(rt; single.bus.bits(80)?.is_ok());
-    assert!(rt; show_the_same(&mut rig, &mut single)?);
-    let want = single.finish();
-    assert!(rt; want.len() == 2 && want[0].txerr == 8);
-    assert!(rt; are_same_logs(rig.finish().as_slice(), want.as_slice()));
-    Ok(())
+    let logs = left_by_both(
+        asked(rt.alloc(), BITS, &[(0, 30, 1, 1)])?,
+        &[
+            Bus(Several(20, 20)),
+            Command(0, ABORT),
+            Bus(Several(80, 80)),
+            Bus(AtRest(true)),
+        ],
+        asked(rt.alloc(), BITS, &[(0, 30, 1, 1)])?,
+        &[Bus(Bits(20)), Command(0, ABORT), Bus(Bits(80))],
+    )?;
+    leaves(logs.as_slice(), &[Txerr(0, 8)])
 }
 
 #[test]
 fn a_full_journal_ends_bits_after_the_last_that_fits(rt: HostRuntime) -> Result<(), Fail> {
     let mut rig = alone(rt.alloc(), 1, 10_000, &[])?;
-    assert!(rt; rig.command(0, ABORT)?.is_ok());
-    assert!(rt; rig.bus.several(1, false)? == Ok(1));
+    rig.takes(&[Command(0, ABORT), Bus(Several(1, 1))])?;
     // a start, and a request, an abort and a bit each round: 22,099 of 22,100 entries
-    for round in 1..7_366u32 {
-        assert!(rt; rig.command(0, TRANSMIT)?.is_ok());
-        assert!(rt; rig.command(0, ABORT)?.is_ok());
-        assert!(rt; rig.bus.several(1, false)? == Ok(1), "round {round}");
+    for _ in 1..7_366 {
+        rig.takes(&[Command(0, TRANSMIT), Command(0, ABORT), Bus(Several(1, 1))])?;
     }
-    assert!(rt; rig.bus.several(5, false)? == Err(BusFault::JournalFull(0)));
-    assert!(rt; rig.bus.several(5, false)? == Err(BusFault::JournalFull(0)));
-    assert!(rt; rig.bus.bit()? == Err(BusFault::JournalFull(0)));
-    let logs = rig.finish();
-    assert!(rt; logs.len() == 1 && entries_in(&logs[0].journal) == 22_100);
-    assert!(rt; bits_in(&logs[0].journal) == 7_367);
-    Ok(())
+    rig.bus.takes(&[
+        SeveralFail(5, JournalFull(0)),
+        SeveralFail(5, JournalFull(0)),
+        BitFails(JournalFull(0)),
+    ])?;
+    leaves(
+        rig.finish().as_slice(),
+        &[Nodes(1), Entries(0, 22_100), Left::Bits(0, 7_367)],
+    )
 }

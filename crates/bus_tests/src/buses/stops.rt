@@ -1,8 +1,11 @@
 //! Stops in a frame, and with a message on the way.
 
 use super::asking::asked;
+use super::bus_step::BusStep::{Bits, Settle};
 use super::rig::Rig;
-use sja_link::{Down, Entry, Journal, Up};
+use super::step::Got::{Message, Nothing};
+use super::step::Step::{Bus, Get, Start, Stop};
+use sja_link::{Entry, Journal, Up};
 use std::alloc::Global;
 use std::test::Fail;
 
@@ -24,15 +27,8 @@ fn stored_in(journal: &Journal) -> (u32, u32) {
 /// Node 0 sends a frame; node 1 is stopped after so many bits, and started again at once.
 fn stopped_after(alloc: Global, bits: u32) -> Result<Rig, Fail> {
     let mut rig = asked(alloc, 200, &[])?;
-    if rig.bus.bits(bits)?.is_err() {
-        return Err("no bit")?;
-    }
-    rig.stop(1)?;
-    rig.start(1)?;
-    match rig.bus.rest()? {
-        Ok(_) => Ok(rig),
-        Err(_) => Err("no rest")?,
-    }
+    rig.takes(&[Bus(Bits(bits)), Stop(1), Start(1), Bus(Settle)])?;
+    Ok(rig)
 }
 
 #[test]
@@ -57,9 +53,9 @@ fn a_stop_after_each_bit_of_a_frame_leaves_it_to_one_activation_or_none(
 
 #[test]
 fn a_message_on_the_way_stays_on_the_link_of_its_activation(rt: HostRuntime) -> Result<(), Fail> {
-    let mut rig = stopped_after(rt.alloc(), 60)?;
-    assert!(rt; matches!(&rig.get(1, 1)?, Some(Down::Message(_))));
-    assert!(rt; rig.get(1, 1)?.is_none());
-    assert!(rt; rig.get(1, 2)?.is_none());
-    Ok(())
+    stopped_after(rt.alloc(), 60)?.takes(&[
+        Get(1, 1, Message),
+        Get(1, 1, Nothing),
+        Get(1, 2, Nothing),
+    ])
 }

@@ -1,8 +1,12 @@
 //! An end that gives every put back.
 
-use super::given::{are_same_logs, request, verdicts_in};
+use super::bus_step::BusStep::{BitFails, Bits, Several, SeveralFail};
+use super::given::{are_same_logs, request};
+use super::left::Left::{Nodes, Verdicts};
+use super::left::leaves;
 use super::wired::Wired;
-use sja_bus::{BusFault, serial_links};
+use sja_bus::BusFault::Stuck;
+use sja_bus::serial_links;
 use sja_link::{BusEnd, DequeLink, Down, DriverEnd, LinkId, Up};
 use std::alloc::Global;
 use std::test::Fail;
@@ -78,15 +82,8 @@ fn asked(alloc: Global) -> Result<Wired<Closed>, Fail> {
 #[test]
 fn a_put_that_comes_back_always_is_answered_and_always_again(rt: HostRuntime) -> Result<(), Fail> {
     let mut rig = asked(rt.alloc())?;
-    for _ in 0..59 {
-        assert!(rt; rig.bit()?.is_ok());
-    }
-    assert!(rt; rig.bit()? == Err(BusFault::Stuck(1)));
-    assert!(rt; rig.bit()? == Err(BusFault::Stuck(1)));
-    let logs = rig.finish();
-    assert!(rt; logs.len() == 2);
-    assert!(rt; verdicts_in(&logs[1].journal) == (0, 0));
-    Ok(())
+    rig.takes(&[Bits(59), BitFails(Stuck(1)), BitFails(Stuck(1))])?;
+    leaves(rig.finish().as_slice(), &[Nodes(2), Verdicts(1, 0, 0)])
 }
 
 #[test]
@@ -96,14 +93,13 @@ fn a_put_that_comes_back_within_bits_leaves_what_single_bits_leave(
     let mut rig = asked(rt.alloc())?;
     let mut single = asked(rt.alloc())?;
     // the frame ends with bit 59, as above
-    assert!(rt; rig.several(20, false)? == Ok(20));
-    assert!(rt; rig.several(80, false)? == Err(BusFault::Stuck(1)));
-    assert!(rt; rig.several(1, false)? == Err(BusFault::Stuck(1)));
-    assert!(rt; rig.bit()? == Err(BusFault::Stuck(1)));
-    for _ in 0..59 {
-        assert!(rt; single.bit()?.is_ok());
-    }
-    assert!(rt; single.bit()? == Err(BusFault::Stuck(1)));
+    rig.takes(&[
+        Several(20, 20),
+        SeveralFail(80, Stuck(1)),
+        SeveralFail(1, Stuck(1)),
+        BitFails(Stuck(1)),
+    ])?;
+    single.takes(&[Bits(59), BitFails(Stuck(1))])?;
     assert!(rt; are_same_logs(rig.finish().as_slice(), single.finish().as_slice()));
     Ok(())
 }

@@ -1,8 +1,12 @@
 //! What a port is told with the bit that brings it.
 
 use super::asking::alone;
-use super::given::{ABORT, MESSAGE, STATUS, TRANSMIT, verdicts_in};
+use super::bus_step::BusStep::{Bits, Gather, Settle};
+use super::given::{ABORT, MESSAGE, STATUS, TRANSMIT};
+use super::left::Left::{Nodes, Verdicts};
+use super::left::leaves;
 use super::rig::Rig;
+use super::step::Step::{Bus, Command, Read, Release, Send, Start};
 use std::test::Fail;
 
 /// The command that clears the data overrun status (SJA1000 data sheet, 6.4.4).
@@ -11,35 +15,32 @@ const CLEAR_OVERRUN: u8 = 0x08;
 #[test]
 fn an_overrun_is_told_and_stays_until_it_is_cleared(rt: HostRuntime) -> Result<(), Fail> {
     let mut rig = Rig::new(rt.alloc(), 1, 2, 2_000, &[])?;
-    rig.start(0)?;
-    rig.start(1)?;
+    rig.takes(&[Start(0), Start(1)])?;
     // 21 messages of 3 bytes fill 63 of the 64 bytes
     for _ in 0..21 {
-        assert!(rt; rig.send(0, &MESSAGE, TRANSMIT)?.is_ok());
-        assert!(rt; rig.bus.rest()?.is_ok());
+        rig.takes(&[Send(0, MESSAGE, TRANSMIT), Bus(Settle)])?;
     }
-    assert!(rt; rig.read(1, STATUS)? == Ok(0x0d));
-    assert!(rt; rig.send(0, &MESSAGE, TRANSMIT)?.is_ok());
-    assert!(rt; rig.bus.rest()?.is_ok());
-    assert!(rt; rig.read(1, STATUS)? == Ok(0x0f));
-    assert!(rt; rig.release(1)? == Ok(3));
-    assert!(rt; rig.read(1, STATUS)? == Ok(0x0f));
-    assert!(rt; rig.command(1, CLEAR_OVERRUN)?.is_ok());
-    assert!(rt; rig.read(1, STATUS)? == Ok(0x0d));
-    let logs = rig.finish();
-    assert!(rt; logs.len() == 2);
-    assert!(rt; verdicts_in(&logs[1].journal) == (21, 1));
-    Ok(())
+    rig.takes(&[
+        Read(1, STATUS, 0x0d),
+        Send(0, MESSAGE, TRANSMIT),
+        Bus(Settle),
+        Read(1, STATUS, 0x0f),
+        Release(1, 3),
+        Read(1, STATUS, 0x0f),
+        Command(1, CLEAR_OVERRUN),
+        Read(1, STATUS, 0x0d),
+    ])?;
+    leaves(rig.finish().as_slice(), &[Nodes(2), Verdicts(1, 21, 1)])
 }
 
 #[test]
 fn an_abort_that_drops_the_request_is_told_with_its_bit(rt: HostRuntime) -> Result<(), Fail> {
-    let mut rig = alone(rt.alloc(), 1, 100, &[])?;
-    assert!(rt; rig.command(0, ABORT)?.is_ok());
-    // TS and RS are 1 while the node waits; TBS and TCS are 0 with a request
-    assert!(rt; rig.bus.gather()? == Ok(()));
-    assert!(rt; rig.read(0, STATUS)? == Ok(0x30));
-    assert!(rt; rig.bus.bit()?.is_ok());
-    assert!(rt; rig.read(0, STATUS)? == Ok(0x34));
-    Ok(())
+    alone(rt.alloc(), 1, 100, &[])?.takes(&[
+        Command(0, ABORT),
+        // TS and RS are 1 while the node waits; TBS and TCS are 0 with a request
+        Bus(Gather),
+        Read(0, STATUS, 0x30),
+        Bus(Bits(1)),
+        Read(0, STATUS, 0x34),
+    ])
 }
