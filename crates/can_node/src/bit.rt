@@ -45,25 +45,19 @@ impl Node {
         let loses = lost.is_some();
         let after = self.after_bit(driven, level, loses);
         self.context.step_bit(self.stage, driven, level, loses);
-        let received = after.received();
         let sent = after.is_sent();
-        let fault = after.fault();
-        self.go_to(after);
+        self.go_to(&after);
         let receiving = !self.context.is_transmitter();
-        let recovered = recovers(off, self.context.counters.off);
-        let went_off = self.context.counters.tec >= BUS_OFF;
-        let ended = self.ended(held, sent);
+        let mut events = BitEvents::nothing(receiving);
+        events.lost = lost;
+        events.fault = after.fault();
+        events.recovered = recovers(off, self.context.counters.off);
+        events.went_off = self.context.counters.tec >= BUS_OFF;
+        events.ended = self.ended(held, sent);
+        events.received = after.received();
         self.go_off();
         self.next = self.next_level();
-        BitEvents {
-            received,
-            ended,
-            lost,
-            fault,
-            receiving,
-            went_off,
-            recovered,
-        }
+        events
     }
 
     /// What a bit makes of the piece under way, by the node's stage; arbitration is lost in it or not.

@@ -14,14 +14,14 @@ impl AfterBit {
     ghost use Rattle.can_node.specs.Machine.Turns.{step_of};
 
     /// The frame that is valid from this bit on: another node's, or an own one that was to be received too.
-    pub fn received(&self) -> Option<Frame>
-        ensures { result ≡ received_in (step_of self.now) }
+    pub fn received(self) -> Option<Frame>
+        ensures { result ≡ received_in (step_of self) }
     {
         match self {
-            AfterBit::Ended(Ending::Received(frame)) => Some(frame.copy()),
+            AfterBit::Ended(Ending::Received(frame)) => Some(frame),
             AfterBit::Ended(Ending::Sent(request)) => {
                 if request.self_receive {
-                    Some(request.frame.copy())
+                    Some(request.frame)
                 } else {
                     None
                 }

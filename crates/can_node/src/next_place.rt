@@ -33,21 +33,21 @@ impl Node {
     ghost use Rattle.can_node.specs.Machine.Turns.{next_of, piece_of, IsTurn, resulted, AtAfter, off_if};
 
     /// Stands in the piece under way, or at the place after it.
-    pub(crate) fn go_to(&mut self, after: AfterBit)
+    pub(crate) fn go_to(&mut self, after: &AfterBit)
         ensures body { self.new.body ≡ self.old.body }
         ensures context { self.old.context.counters.tec < 900
-            → context_of self.new.context ≡ resulted after (context_of self.old.context) }
+            → context_of self.new.context ≡ resulted after.now (context_of self.old.context) }
         ensures at { (c now : ContextValue) (place : Place) (bits : List Bit) (b : Bit)
             → self.old.context.counters.tec < 900
             → HasBody self.old.context self.old.body
-            → context_of self.old.context ≡ at_bit now place bits b → IsTurn self.old.shift c now place bits b after
-            → AtAfter after self.new.stage self.new.shift c (context_of self.new.context) place (bits ++ b ∷ []) }
+            → context_of self.old.context ≡ at_bit now place bits b → IsTurn self.old.shift c now place bits b after.now
+            → AtAfter after.now self.new.stage self.new.shift c (context_of self.new.context) place (bits ++ b ∷ []) }
     {
         match after {
-            AfterBit::InPiece(stage) => self.stage = stage,
+            AfterBit::InPiece(stage) => self.stage = *stage,
             AfterBit::Ended(ending) => {
-                self.context.end_piece(&ending);
-                self.begin_place(&ending);
+                self.context.end_piece(ending);
+                self.begin_place(ending);
             }
         }
     }
