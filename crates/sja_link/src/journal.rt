@@ -1,6 +1,6 @@
 //! The journal of a node.
 
-ghost use Rattle.std.specs.Prelude.{◌≡◌, ◌<◌, ◌≤◌, ◌+◌, ◌*◌, ◌^◌, [], ◌∷◌, ◌++◌};
+ghost use Rattle.std.specs.Prelude.{◌≡◌, ◌<◌, ◌≤◌, ◌+◌, ◌-◌, ◌*◌, ◌^◌, [], ◌∷◌, ◌++◌};
 ghost use Rattle.std.specs.Prelude.{length, true, false, IfOk, IfErr, OnOk, OnErr};
 ghost use Rattle.sja_link.specs.declared.entry.Entry.TheVariants.{Bit, Up as Item};
 ghost use Rattle.sja_link.specs.declared.up.Up.TheVariants.{Start, Credit, Send};
@@ -124,8 +124,25 @@ impl Journal {
         if self.is_full() {
             return Err(Full);
         }
-        self.push(Code::of_bit(driven, seen));
+        self.enter_bit_reserved(driven, seen);
         Ok(())
+    }
+
+    /// Adds a bit where an entry is free: the level that the node drove, and the one that it saw.
+    #[inline(always)]
+    pub fn enter_bit_reserved(&mut self, driven: Level, seen: Level)
+        requires free { length self.old.entries < self.old.room }
+        ensures room { self.new.room ≡ self.old.room }
+        ensures entries { self.new.entries ≡ self.old.entries ++ Bit driven seen ∷ [] }
+    {
+        self.push(Code::of_bit(driven, seen));
+    }
+
+    /// How many reserved entries are free.
+    pub fn free(&self) -> usize
+        ensures { result ≡ self.now.room - length self.now.entries }
+    {
+        self.room.saturating_sub(self.codes.len())
     }
 
     /// Whether the reserved entries are used.
