@@ -83,14 +83,6 @@ breaks_after stands full x y old mid new (BadCredit k bytes) node room ended few
 breaks_after stands full x y old mid new (BadOrder k) node room ended few same moves b = absurd b
 breaks_after stands full x y old mid new BitsSpent node room ended few same moves b = absurd b
 
--- its own entry found no room
-pub broken_full : {E : Type 0} (stands : E → Lists → Type 0) (full : E → Type 0) (old new : Seat) (links : List E) (base : ℕ) (f : BusFault) → IsFull old new f →
-    IsBrokenFor stands full (link_of old.ledger).node old.journal.room old.journal.entries new.journal.entries links base f
-broken_full stands full old new links base f h =
-    let F : BusFault → Type 0 = λ x. IsBrokenFor stands full (link_of old.ledger).node old.journal.room old.journal.entries new.journal.entries links base x in
-    let few : length new.journal.entries ≡ length old.journal.entries = ap length h.same in let full_now = h.full in
-    subst F (sym h.is) (refl, omega (arith, few, full_now), omega (arith, few))
-
 -- the same by all its links
 pub broken_link : {E : Type 0} (stands : E → Lists → Type 0) (full : E → Type 0) (old new : Seat) (links : List E) (base : ℕ) (d : E) (f : BusFault) → old.ended < 8 →
     BreaksHere stands full (slice_index_or links (base + old.ended) d) old new f →

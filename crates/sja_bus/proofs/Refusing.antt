@@ -1,5 +1,5 @@
 -- An item that was refused, by the links of its node and by those of all.
-use Rattle.std.proofs.Common.{◌≡◌, ℕ, suc, ◌+◌, ◌*◌, ◌<◌, ◌≤◌, List, [], ◌∷◌, ◌++◌, length, inl, inr, sym, ap, ◌∙◌, subst, arith}
+use Rattle.std.proofs.Common.{◌≡◌, ℕ, suc, ◌+◌, ◌-◌, ◌*◌, ◌<◌, ◌≤◌, List, [], ◌∷◌, ◌++◌, length, inl, inr, sym, ap, ◌∙◌, subst, arith}
 use Rattle.std.specs.Prelude.{slice_index_or, slice_set}
 use Rattle.std.proofs.Math.ListN.{length-set}
 use Rattle.std.proofs.lemmas.Bool.{cases_eq}
@@ -16,7 +16,7 @@ use Rattle.sja_bus.specs.OneBit.{HasItems}
 use Rattle.sja_bus.specs.Reasons.{IsRefusedFor, RefusesItem, IsNotTaken, room_for}
 use Rattle.sja_bus.specs.Inside.Seats.{IsSound}
 use Rattle.sja_bus.specs.Inside.Taking.{RefusesHere}
-use Rattle.sja_bus.specs.Inside.Refusing.{HaveRoom, SeatRefuses}
+use Rattle.sja_bus.specs.Inside.Refusing.{HaveRoom, AreFree, SeatRefuses}
 use Rattle.sja_bus.specs.Inside.Rows.{AreReady, GoesAll, Done, journals_of}
 use Rattle.sja_bus.proofs.Lists.{set_here, set_else}
 use Rattle.sja_bus.proofs.Many.{or_same}
@@ -94,6 +94,27 @@ rooms_one n seats k s new few same was m t near = elim (cases_eq k m) [
   | inr ne ↦
       let e : slice_index_or (slice_set seats k new) m t ≡ slice_index_or seats m t = set_else seats k m new t ne in
       ap (λ (x : Seat). x.journal.room) e ∙ was m t (rw length-set at near)
+]
+
+-- the free ones, where one entered one more than at the beginning, when each had one more
+pub free_one : (n k : ℕ) (x : Entry) (was seats : List Seat) (s new : Seat) → k < length seats → k < length was →
+    slice_index_or seats k s ≡ slice_index_or was k s →
+    new.journal.entries ≡ (slice_index_or seats k s).journal.entries ++ x ∷ [] →
+    new.journal.room ≡ (slice_index_or seats k s).journal.room → AreFree (suc n) was → AreFree n seats →
+    AreFree n (slice_set seats k new)
+free_one n k x was seats s new few first same more room before free m t near = elim (cases_eq k m) [
+  | inl eq ↦
+      let e : slice_index_or (slice_set seats k new) m t ≡ new = ap (λ i. slice_index_or (slice_set seats k new) i t) (sym eq) ∙ set_here seats k new t few in
+      let old = slice_index_or seats k s in
+      let P : Seat → Type 0 = λ y. n ≤ y.journal.room - length y.journal.entries in
+      let Q : Seat → Type 0 = λ y. suc n ≤ y.journal.room - length y.journal.entries in
+      let fits : Q old = subst Q (sym same) (before k s first) in
+      let long = ap (λ (l : List Entry). length l) more in let last = length-append old.journal.entries (x ∷ []) in
+      subst P (sym e) (omega (arith, fits, long, last, room))
+  | inr ne ↦
+      let e : slice_index_or (slice_set seats k new) m t ≡ slice_index_or seats m t = set_else seats k m new t ne in
+      let P : Seat → Type 0 = λ y. n ≤ y.journal.room - length y.journal.entries in
+      subst P (sym e) (free m t (rw length-set at near))
 ]
 
 pub rooms_push : (n : ℕ) (seats : List Seat) (x : Seat) → x.journal.room ≡ n → HaveRoom n seats → HaveRoom n (seats ++ x ∷ [])

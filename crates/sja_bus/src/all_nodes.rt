@@ -1,7 +1,7 @@
 //! What all nodes of a bus do in one bit, node after node.
 
 ghost use Rattle.std.specs.Prelude.{◌≡◌, ◌*◌, ◌<◌, ◌≤◌, ◌+◌, if◌then◌else◌, ℕ, List};
-ghost use Rattle.std.specs.Prelude.{false, [], ◌∷◌, length, IfOk, OnOk, IfErr, ◌⊎◌};
+ghost use Rattle.std.specs.Prelude.{suc, false, [], ◌∷◌, length, IfOk, OnOk, IfErr, ◌⊎◌};
 ghost use Rattle.sja_regs.specs.declared.bus_turn.BusTurn.{BusTurn as Turn};
 ghost use Rattle.can_bits.specs.Digits.{opposite};
 ghost use Rattle.sja_bus.specs.Wire.{wired};
@@ -12,7 +12,7 @@ ghost use Rattle.sja_bus.specs.Boards.{KeepsOthers};
 ghost use Rattle.sja_bus.specs.declared.seat.Seat.{Seat as Seated};
 ghost use Rattle.sja_bus.specs.Inside.Underway.{IsUnderway};
 ghost use Rattle.sja_bus.specs.Inside.Whole.{IsRowBit};
-ghost use Rattle.sja_bus.specs.Inside.Refusing.{HaveRoom, SeatRefuses, SeatFull, SeatBreaks, SeatStops};
+ghost use Rattle.sja_bus.specs.Inside.Refusing.{HaveRoom, AreFree, SeatRefuses, SeatFull, SeatBreaks, SeatStops};
 
 use super::board::Board;
 use super::bus_fault::BusFault;
@@ -153,6 +153,7 @@ pub(crate) fn tick_all<E: BusEnd, B: Board>(
 ) -> Result<RowEnd, BusFault>
     requires seated { AreSeated E.link seats.old links.old (B.ports board.old) }
     requires told { AreTold seats.old }
+    requires free { AreFree 1 seats.old }
     ensures sames { EachRelated E.same links.old links.new }
     ensures ready { OnOk result (AreReady seats.new) }
     ensures goes { OnOk result (GoesAll E.same E.stands seats.old seats.new links.old links.new) }
@@ -162,12 +163,13 @@ pub(crate) fn tick_all<E: BusEnd, B: Board>(
     ensures rooms { OnOk result ((n : ℕ) → HaveRoom n seats.old → HaveRoom n seats.new) }
     ensures level { IfOk result (λ end. end.level ≡ wired (driven_by seats.new)) }
     ensures untold { IfOk result (λ end. end.told ≡ false → board.new ≡ board.old) }
+    ensures free { IfOk result (λ end. end.told ≡ false → (n : ℕ) → AreFree (suc n) seats.old → AreFree n seats.new) }
     ensures broken { IfErr result (λ f. SeatBreaks E.stands E.full seats.old seats.new links.old f) }
 {
     let mut next = Level::Recessive;
     for k in 0..seats.len() {
         let sees = seen(level, struck.has(k));
-        if !seats[k].tick_quietly(sees)? {
+        if !seats[k].tick_quietly(sees) {
             tick_from(seats, links, level, struck, board, k)?;
             return Ok(RowEnd {
                 level: level_of(seats),

@@ -7,7 +7,7 @@ ghost use Rattle.sja_bus.specs.declared.seat.Seat.{Seat as Seated};
 ghost use Rattle.sja_bus.specs.StrikesByBit.{IsAmong};
 ghost use Rattle.sja_bus.specs.Boards.{KeepsOthers};
 ghost use Rattle.sja_bus.specs.Links.{EachRelated};
-ghost use Rattle.sja_bus.specs.Inside.Refusing.{HaveRoom};
+ghost use Rattle.sja_bus.specs.Inside.Refusing.{HaveRoom, AreFree};
 ghost use Rattle.sja_bus.specs.Inside.Rows.{AreReady, AreSeated, AreTold, IsBus};
 ghost use Rattle.sja_bus.specs.Inside.RunningOn.{NoneAborts, RowsRun, RowsStop};
 
@@ -51,8 +51,20 @@ fn goes_on(seats: &[Seat], struck: StruckNodes, to_rest: bool) -> bool
     !(to_rest && all_rest(seats))
 }
 
-/// Bits of all nodes from this one on, at most so many: as far as no node is struck, with `to_rest` as long as some
-/// node works, and up to the first in which a port is told something. Answers how many.
+/// For how many bits that are entered alone each journal has room, at most so many.
+fn room_of(seats: &[Seat], most: u32) -> u32
+    ensures most { result ≤ most }
+    ensures free { AreFree result seats.now }
+{
+    let mut free = most as usize;
+    for k in 0..seats.len() {
+        free = free.min(seats[k].journal.free());
+    }
+    free as u32
+}
+
+/// Bits of all nodes from this one on, at most so many: as far as no node is struck and each journal has room, with
+/// `to_rest` as long as some node works, and up to the first in which a port is told something. Answers how many.
 #[inline(never)]
 pub(crate) fn on_all<E: BusEnd, B: Board>(
     seats: &mut [Seat],
@@ -76,8 +88,9 @@ pub(crate) fn on_all<E: BusEnd, B: Board>(
     ensures breaks { IfErr result (λ f. RowsStop E.BusEnd B.Board to_rest struck.now.script from most
         seats.old seats.new links.old links.new board.old board.new f) }
 {
-    let (marks, mut level) = (struck.part(from, most), level_of(seats));
-    for run in 0..most {
+    let rows = room_of(seats, most);
+    let (marks, mut level) = (struck.part(from, rows), level_of(seats));
+    for run in 0..rows {
         if !goes_on(seats, marks[run as usize], to_rest) {
             return Ok(run);
         }
@@ -92,7 +105,7 @@ pub(crate) fn on_all<E: BusEnd, B: Board>(
             Err(fault) => return Err(BrokenOff { after: run, fault }),
         }
     }
-    Ok(most)
+    Ok(rows)
 }
 
 impl Bus {

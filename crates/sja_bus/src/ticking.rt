@@ -10,7 +10,7 @@ use can_bits::Level;
 use sja_link::BusEnd;
 
 impl Seat {
-    ghost use Rattle.std.specs.Prelude.{◌≡◌, ◌≢◌, ◌<◌, ◌≤◌, ◌+◌, ℕ, Ok, true, false, length, OnOk, IfOk, IfErr};
+    ghost use Rattle.std.specs.Prelude.{◌≡◌, ◌≢◌, ◌<◌, ◌≤◌, ◌+◌, ℕ, true, false, length, OnOk, IfOk, IfErr};
     ghost use Rattle.can_node.specs.Stands.{Samples};
     ghost use Rattle.sja_link.specs.BusLedgers.{link_of};
     ghost use Rattle.sja_bus.specs.Links.{Goes, EachRelated, AreOf};
@@ -19,7 +19,6 @@ impl Seat {
     ghost use Rattle.sja_bus.specs.declared.news.News.TheVariants.{Nothing};
     ghost use Rattle.sja_bus.specs.Inside.Turning.{Brings, IsQuietBit, Turns};
     ghost use Rattle.sja_bus.specs.Inside.Ticking.{CanTick, TickKeeps, Ticks};
-    ghost use Rattle.sja_bus.specs.Inside.Taking.{IsFull};
 
     /// One bit of the node in which something may happen.
     #[inline(always)]
@@ -77,25 +76,38 @@ impl Seat {
         Ok(())
     }
 
-    /// A bit of the node, which sees this level and whose port is told all, where nothing happens. Answers whether it
-    /// was one; else nothing changed.
+    /// A bit of the node, which sees this level and whose port is told all, where nothing happens and its journal has
+    /// room. Answers whether it was one; else nothing changed.
     #[inline(always)]
-    pub(crate) fn tick_quietly(&mut self, seen: Level) -> Result<bool, BusFault>
+    pub(crate) fn tick_quietly(&mut self, seen: Level) -> bool
         requires ready { IsReady self.old }
         requires told { self.old.news ≡ Nothing }
+        requires free { length self.old.journal.entries < self.old.journal.room }
         ensures node { (link_of self.new.ledger).node ≡ (link_of self.old.ledger).node }
         ensures room { self.new.journal.room ≡ self.old.journal.room }
-        ensures ready { OnOk result (IsReady self.new) }
-        ensures quiet { result ≡ Ok true → IsQuietBit seen self.old self.new }
-        ensures same { result ≡ Ok false → self.new ≡ self.old }
-        ensures full { IfErr result (λ f. IsFull self.old self.new f) }
+        ensures ready { IsReady self.new }
+        ensures quiet { result ≡ true → IsQuietBit seen self.old self.new }
+        ensures same { result ≡ false → self.new ≡ self.old }
     {
         if self.node.sample_quietly(seen) {
-            self.enter_bit(self.drives, seen)?;
+            self.journal.enter_bit_reserved(self.drives, seen);
             self.drives = self.node.drive();
-            return Ok(true);
+            return true;
         }
-        Ok(false)
+        false
+    }
+
+    /// Whether its port is told all, and its journal has room.
+    #[inline(always)]
+    fn may_tick_quietly(&self) -> bool
+        ensures told { result ≡ true → self.now.news ≡ Nothing }
+        ensures free { result ≡ true → length self.now.journal.entries < self.now.journal.room }
+    {
+        if let News::Nothing = self.news {
+            self.journal.free() > 0
+        } else {
+            false
+        }
     }
 
     /// One bit of the node, which sees this level. Its port is told of it, unless nothing happened and nothing is left
@@ -126,10 +138,8 @@ impl Seat {
             IsBrokenFor E.stands E.full (link_of self.old.ledger).node self.old.journal.room
             self.old.journal.entries self.new.journal.entries links.old base f) }
     {
-        if let News::Nothing = self.news {
-            if self.tick_quietly(seen)? {
-                return Ok(());
-            }
+        if self.may_tick_quietly() && self.tick_quietly(seen) {
+            return Ok(());
         }
         self.tick_fully(links, base, seen, board)
     }

@@ -1,5 +1,5 @@
 -- A controller of many whose item was refused.
-use Rattle.std.specs.Prelude.{◌≡◌, ◌*◌, ◌<◌, ℕ, List, length, slice_index_or}
+use Rattle.std.specs.Prelude.{◌≡◌, ◌-◌, ◌*◌, ◌<◌, ◌≤◌, ℕ, List, length, slice_index_or}
 use Rattle.sja_link.specs.Lists.{Lists}
 use Rattle.sja_regs.specs.declared.orders.Orders.{Orders}
 use Rattle.sja_bus.specs.declared.bus_fault.BusFault.{BusFault}
@@ -13,6 +13,11 @@ use Rattle.sja_bus.specs.Inside.Rows.{EachSeat, SeatOpens, GoesAll}
 -- each journal has so many reserved entries
 abbrev pub HaveRoom : ℕ → List Seat → Type 0
 HaveRoom n seats = (k : ℕ) (s : Seat) → k < length seats → (slice_index_or seats k s).journal.room ≡ n
+
+-- each journal has room for so many further entries
+abbrev pub AreFree : ℕ → List Seat → Type 0
+AreFree n seats = (k : ℕ) (s : Seat) → k < length seats →
+    n ≤ (slice_index_or seats k s).journal.room - length (slice_index_or seats k s).journal.entries
 
 -- an item of one of them was refused with this fault
 pub record SeatRefuses {E : Type 0} (stands : E → Lists → Type 0) (seats now : List Seat) (links after : List E)

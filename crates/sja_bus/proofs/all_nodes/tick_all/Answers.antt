@@ -9,11 +9,11 @@ use Rattle.sja_bus.specs.Wire.{wired}
 use Rattle.sja_bus.specs.Links.{EachRelated, Goes}
 use Rattle.sja_bus.specs.Inside.Rows.{SeatTurns, seen_by, driven_by}
 use Rattle.sja_bus.specs.Inside.Refusing.{SeatBreaks}
-use Rattle.sja_bus.proofs.Breaking.{breaks_seat, broken_full}
 use Rattle.sja_bus.proofs.Levels.{level_now}
 use Rattle.sja_bus.proofs.Lists.{err_is, set_here}
 use Rattle.sja_bus.proofs.Many.{done_all}
 use Rattle.sja_bus.proofs.Moving.{goes_quiet}
+use Rattle.sja_bus.proofs.Refusing.{free_one}
 use Rattle.sja_bus.proofs.Running.{seen_is}
 use Rattle.sja_bus.proofs.Turning.{quiet_turns}
 use Rattle.sja_bus.proofs.Underway.{underway_none, underway_one, underway_at}
@@ -25,6 +25,7 @@ loop-k-init g c =
       row = underway_none E.same E.stands g.met.E.BusEnd.same_refl B.ports B.told B.kept g.met.B.Board.kept_refl c.args.struck c.args.level c.args.seats.now c.args.links.now c.args.board.now c.requires.seated.ready;
       links = refl;
       board = refl;
+      free = λ n h m s here. let room = h m s here in omega (arith, room);
       level = refl;
     }
 
@@ -33,6 +34,7 @@ loop-k-preserved g c =
     let E = g.E.BusEnd in let B = g.B.Board in let met = g.met.B.Board in let k = c.loop-k.k in let inv = c.loop-k.invariant in
     let s = c.index-seats-k.result in let a = c.args.board.now in let links = c.args.links.now in
     let here : k < length c.loop-k.seats = search rules in
+    let was : k < length c.args.seats.now = search rules in
     let old = slice_index_or c.loop-k.seats k s in let new = c.tick_quietly.new.self in
     let quiet = c.tick_quietly.ensures.quiet (search rules) in
     let node = (link_of old.ledger).node in
@@ -43,7 +45,7 @@ loop-k-preserved g c =
       row = underway_one E.same E.stands g.met.E.BusEnd.same_trans B.ports B.told B.kept met.kept_trans met.told_first met.told_last c.args.struck c.args.level c.seen-sees.result c.args.seats.now c.loop-k.seats
           links links links a a a k s new here sees
           (record {
-            ready = c.in_ok-tick_quietly.ensures.ready;
+            ready = c.tick_quietly.ensures.ready;
             node = c.tick_quietly.ensures.node;
             room = c.tick_quietly.ensures.room;
             goes = goes;
@@ -53,6 +55,8 @@ loop-k-preserved g c =
           }) inv.row;
       links = inv.links;
       board = inv.board;
+      free = λ n h. free_one n k (Bit old.drives c.seen-sees.result) c.args.seats.now c.loop-k.seats s new here was
+          ((inv.row.done k s was).1 (omega arith)) quiet.whole c.tick_quietly.ensures.room h (inv.free n h);
       level = level_now c.loop-k.seats k new c.loop-k.next c.both-next.result here inv.level
           (c.both-next.ensures ∙ ap (λ (x : Seat). wired (c.loop-k.next ∷ x.drives ∷ []))
           (set_here c.loop-k.seats k new c.index-seats-k-in-loop-k.result here));
@@ -63,6 +67,13 @@ tick_quietly-requires-clause-told g c =
     let k = c.loop-k.k in let s = c.index-seats-k.result in
     let was : k < length c.args.seats.now = search rules in
     ap (λ (x : Seat). x.news) ((c.loop-k.invariant.row.done k s was).1 (omega arith)) ∙ c.requires.told k s was
+
+pub tick_quietly-requires-clause-free : goal.tick_quietly-requires-clause-free
+tick_quietly-requires-clause-free g c =
+    let k = c.loop-k.k in let s = c.index-seats-k.result in
+    let was : k < length c.args.seats.now = search rules in let room = c.requires.free k s was in
+    let P : Seat → Type 0 = λ x. length x.journal.entries < x.journal.room in
+    subst P (sym ((c.loop-k.invariant.row.done k s was).1 (omega arith))) (omega (arith, room))
 
 pub tick_from-requires : goal.tick_from-requires
 tick_from-requires g c =
@@ -114,41 +125,44 @@ pub returns-clause-untold : goal.returns-clause-untold
 returns-clause-untold g c =
     λ none. c.loop-k.invariant.board
 
-pub returns-then-not-branch-clause-sames : goal.returns-then-not-branch-clause-sames
-returns-then-not-branch-clause-sames g c =
+pub returns-clause-free : goal.returns-clause-free
+returns-clause-free g c = λ none. c.loop-k.invariant.free
+
+pub returns-then-not-tick_quietly-clause-sames : goal.returns-then-not-tick_quietly-clause-sames
+returns-then-not-tick_quietly-clause-sames g c =
     subst (λ x. EachRelated g.E.BusEnd.same x c.tick_from.new.links) c.loop-k.invariant.links c.tick_from.ensures.sames
 
-pub returns-then-not-branch-clause-board : goal.returns-then-not-branch-clause-board
-returns-then-not-branch-clause-board g c =
+pub returns-then-not-tick_quietly-clause-board : goal.returns-then-not-tick_quietly-clause-board
+returns-then-not-tick_quietly-clause-board g c =
     let b = c.loop-k.invariant.board in let few = c.loop-k.auto.seats in let set = length-set c.loop-k.seats c.loop-k.k c.tick_quietly.new.self in
     rw (sym b) (c.tick_from.ensures.board.0, λ m far. c.tick_from.ensures.board.1 m (omega (arith, far, few, set)))
 
-pub returns-then-not-branch-clause-ready : goal.returns-then-not-branch-clause-ready
-returns-then-not-branch-clause-ready g c =
+pub returns-then-not-tick_quietly-clause-ready : goal.returns-then-not-tick_quietly-clause-ready
+returns-then-not-tick_quietly-clause-ready g c =
     let E = g.E.BusEnd in let B = g.B.Board in let inv = c.loop-k.invariant in let k = c.loop-k.k in
     let same : slice_set c.loop-k.seats k c.tick_quietly.new.self ≡ c.loop-k.seats = ap (λ x. slice_set c.loop-k.seats k x) (c.tick_quietly.ensures.same (search rules)) ∙ set-get_or c.loop-k.seats k c.index-seats-k.result in
     let row = underway_at E.same E.stands B.ports B.told B.kept c.args.struck c.args.level c.args.seats.now c.loop-k.seats (slice_set c.loop-k.seats k c.tick_quietly.new.self) c.args.links.now c.loop-k.links c.args.board.now c.loop-k.board k same inv.links inv.board inv.row in
     let did = c.in_ok-tick_from.ensures.row c.args.seats.now c.args.links.now c.args.board.now row in
     did.2.ready
 
-pub returns-then-not-branch-clause-goes : goal.returns-then-not-branch-clause-goes
-returns-then-not-branch-clause-goes g c =
+pub returns-then-not-tick_quietly-clause-goes : goal.returns-then-not-tick_quietly-clause-goes
+returns-then-not-tick_quietly-clause-goes g c =
     let E = g.E.BusEnd in let B = g.B.Board in let inv = c.loop-k.invariant in let k = c.loop-k.k in
     let same : slice_set c.loop-k.seats k c.tick_quietly.new.self ≡ c.loop-k.seats = ap (λ x. slice_set c.loop-k.seats k x) (c.tick_quietly.ensures.same (search rules)) ∙ set-get_or c.loop-k.seats k c.index-seats-k.result in
     let row = underway_at E.same E.stands B.ports B.told B.kept c.args.struck c.args.level c.args.seats.now c.loop-k.seats (slice_set c.loop-k.seats k c.tick_quietly.new.self) c.args.links.now c.loop-k.links c.args.board.now c.loop-k.board k same inv.links inv.board inv.row in
     let did = c.in_ok-tick_from.ensures.row c.args.seats.now c.args.links.now c.args.board.now row in
     did.2.goes
 
-pub returns-then-not-branch-clause-rooms : goal.returns-then-not-branch-clause-rooms
-returns-then-not-branch-clause-rooms g c =
+pub returns-then-not-tick_quietly-clause-rooms : goal.returns-then-not-tick_quietly-clause-rooms
+returns-then-not-tick_quietly-clause-rooms g c =
     let E = g.E.BusEnd in let B = g.B.Board in let inv = c.loop-k.invariant in let k = c.loop-k.k in
     let same : slice_set c.loop-k.seats k c.tick_quietly.new.self ≡ c.loop-k.seats = ap (λ x. slice_set c.loop-k.seats k x) (c.tick_quietly.ensures.same (search rules)) ∙ set-get_or c.loop-k.seats k c.index-seats-k.result in
     let row = underway_at E.same E.stands B.ports B.told B.kept c.args.struck c.args.level c.args.seats.now c.loop-k.seats (slice_set c.loop-k.seats k c.tick_quietly.new.self) c.args.links.now c.loop-k.links c.args.board.now c.loop-k.board k same inv.links inv.board inv.row in
     let did = c.in_ok-tick_from.ensures.row c.args.seats.now c.args.links.now c.args.board.now row in
     did.2.rooms
 
-pub returns-then-not-branch-clause-turns : goal.returns-then-not-branch-clause-turns
-returns-then-not-branch-clause-turns g c =
+pub returns-then-not-tick_quietly-clause-turns : goal.returns-then-not-tick_quietly-clause-turns
+returns-then-not-tick_quietly-clause-turns g c =
     let E = g.E.BusEnd in let B = g.B.Board in let inv = c.loop-k.invariant in let k = c.loop-k.k in
     let same : slice_set c.loop-k.seats k c.tick_quietly.new.self ≡ c.loop-k.seats = ap (λ x. slice_set c.loop-k.seats k x) (c.tick_quietly.ensures.same (search rules)) ∙ set-get_or c.loop-k.seats k c.index-seats-k.result in
     let row = underway_at E.same E.stands B.ports B.told B.kept c.args.struck c.args.level c.args.seats.now c.loop-k.seats (slice_set c.loop-k.seats k c.tick_quietly.new.self) c.args.links.now c.loop-k.links c.args.board.now c.loop-k.board k same inv.links inv.board inv.row in
@@ -171,25 +185,6 @@ returns-in_err-tick_from-clause-broken g c =
     let same : slice_set c.loop-k.seats k c.tick_quietly.new.self ≡ c.loop-k.seats = ap (λ x. slice_set c.loop-k.seats k x) (c.tick_quietly.ensures.same (search rules)) ∙ set-get_or c.loop-k.seats k c.index-seats-k.result in
     let row = underway_at E.same E.stands B.ports B.told B.kept c.args.struck c.args.level c.args.seats.now c.loop-k.seats (slice_set c.loop-k.seats k c.tick_quietly.new.self) c.args.links.now c.loop-k.links c.args.board.now c.loop-k.board k same inv.links inv.board inv.row in
     let f = c.in_err-tick_from.field-0.0 in
-    let is : c.from_residual-in_err-tick_from.result ≡ Err f = search rules in
-    let P : _ → Type 0 = λ x. SeatBreaks E.stands E.full c.args.seats.now c.tick_from.new.seats c.args.links.now x in
-    err_is P c.from_residual-in_err-tick_from.result f is (c.in_err-tick_from.ensures.broken c.args.seats.now c.args.links.now c.args.board.now row)
-
-pub returns-in_err-tick_quietly-clause-sames : goal.returns-in_err-tick_quietly-clause-sames
-returns-in_err-tick_quietly-clause-sames g c =
-    rw c.loop-k.invariant.links c.loop-k.invariant.row.goes.sames
-
-pub returns-in_err-tick_quietly-clause-board : goal.returns-in_err-tick_quietly-clause-board
-returns-in_err-tick_quietly-clause-board g c =
-    rw c.loop-k.invariant.board (refl, λ m far. g.met.B.Board.kept_refl c.args.board.now m)
-
-pub returns-in_err-tick_quietly-clause-broken : goal.returns-in_err-tick_quietly-clause-broken
-returns-in_err-tick_quietly-clause-broken g c =
-    let E = g.E.BusEnd in let B = g.B.Board in let k = c.loop-k.k in let s = c.index-seats-k.result in let f = c.in_err-tick_quietly.field-0.0 in
-    let u = c.loop-k.invariant.row in let new = c.tick_quietly.new.self in let a = c.args.board.now in
-    let was : k < length c.args.seats.now = search rules in
     let is : c.from_residual.result ≡ Err f = search rules in
-    let P : _ → Type 0 = λ x. SeatBreaks E.stands E.full c.args.seats.now (slice_set c.loop-k.seats k new) c.args.links.now x in
-    err_is P c.from_residual.result f is
-    (breaks_seat E.same E.stands E.full (SeatTurns (B.told a a) (B.kept a a) c.args.struck c.args.level) c.args.seats.now c.loop-k.seats c.args.links.now c.args.links.now k s new f was u.count u.ready u.goes u.done
-    (broken_full E.stands E.full (slice_index_or c.loop-k.seats k s) new c.args.links.now (8 * k) f c.in_err-tick_quietly.ensures.full))
+    let P : _ → Type 0 = λ x. SeatBreaks E.stands E.full c.args.seats.now c.tick_from.new.seats c.args.links.now x in
+    err_is P c.from_residual.result f is (c.in_err-tick_from.ensures.broken c.args.seats.now c.args.links.now c.args.board.now row)
