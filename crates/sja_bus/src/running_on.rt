@@ -88,9 +88,8 @@ pub(crate) fn on_all<E: BusEnd, B: Board>(
     ensures breaks { IfErr result (λ f. RowsStop E.BusEnd B.Board to_rest struck.now.script from most
         seats.old seats.new links.old links.new board.old board.new f) }
 {
-    let rows = room_of(seats, most);
-    let (marks, mut level) = (struck.part(from, rows), level_of(seats));
-    for run in 0..rows {
+    let (marks, mut level) = (struck.part(from, room_of(seats, most)), level_of(seats));
+    for run in 0..marks.len() as u32 {
         if !goes_on(seats, marks[run as usize], to_rest) {
             return Ok(run);
         }
@@ -105,7 +104,7 @@ pub(crate) fn on_all<E: BusEnd, B: Board>(
             Err(fault) => return Err(BrokenOff { after: run, fault }),
         }
     }
-    Ok(rows)
+    Ok(marks.len() as u32)
 }
 
 impl Bus {

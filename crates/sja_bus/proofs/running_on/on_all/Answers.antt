@@ -20,7 +20,7 @@ loop-run-init g c =
       told = c.requires.may.1;
       sames = each_refl E.same g.met.E.BusEnd.same_refl c.args.links.now;
       rooms = λ n h. h;
-      free = λ k s here. let room = c.room_of-rows.ensures.free k s here in omega (arith, room);
+      free = λ k s here. let room = c.room_of.ensures.free k s here in let count = c.part-marks.ensures.count in omega (arith, room, count);
       bits = λ left enough. none_yet (IsOneBit E.same E.stands B.ports B.facts B.orders_are B.told B.kept) (WorksIf c.args.to_rest) script c.args.from left c.args.seats.now c.args.links.now c.args.board.now;
     }
 
@@ -38,7 +38,7 @@ tick_all-requires g c =
       };
       told = inv.told;
       free = λ k s here.
-          let run : c.loop-run.run < c.room_of-rows.result = search rules in let room = inv.free k s here in
+          let run : c.loop-run.run < length c.part-marks.result.now = search rules in let room = inv.free k s here in
           omega (arith, run, room);
     }
 
@@ -58,10 +58,9 @@ returns-then-end-clause-runs g c =
     let E = g.E.BusEnd in
     let B = g.B.Board in let inv = c.loop-run.invariant in let a = c.loop-run.board in let z = c.tick_all.new.board in
     let goes : c.goes_on.result ≡ true = search rules in
-    let few : c.loop-run.run < c.room_of-rows.result = search rules in
-    let count = c.part-marks.ensures.count in let all = c.room_of-rows.ensures.most in
-    let early : c.loop-run.run < c.args.most = omega (arith, few, all) in
-    let within : c.loop-run.run < length c.part-marks.result.now = omega (arith, few, count) in
+    let within : c.loop-run.run < length c.part-marks.result.now = search rules in
+    let count = c.part-marks.ensures.count in let all = c.room_of.ensures.most in
+    let early : c.loop-run.run < c.args.most = omega (arith, within, count, all) in
     let pass = passes B.orders_are (B.told a z) (B.kept a z) c.args.struck.now.script (c.args.from + c.loop-run.run) (length c.args.seats.now) c.none.result (slice_index_or c.part-marks.result.now c.loop-run.run _) c.loop-run.level c.args.board.now a c.loop-run.seats c.tick_all.new.seats
     c.requires.seated.few c.loop-run.auto.seats c.tick_all.auto.seats inv.board c.requires.may.0 c.none.ensures (c.goes_on.ensures.none goes) (λ node few. c.part-marks.ensures.struck c.loop-run.run node _ within few) inv.level c.in-Ok.ensures.turns c.in-Ok.ensures.ready inv.bus in record {
       bus = pass.bus (c.args.from + (c.loop-run.run + 1)) (omega arith);
@@ -77,10 +76,9 @@ loop-run-preserved g c =
     let E = g.E.BusEnd in
     let B = g.B.Board in let inv = c.loop-run.invariant in let a = c.loop-run.board in let z = c.tick_all.new.board in
     let goes : c.goes_on.result ≡ true = search rules in
-    let few : c.loop-run.run < c.room_of-rows.result = search rules in
-    let count = c.part-marks.ensures.count in let all = c.room_of-rows.ensures.most in
-    let early : c.loop-run.run < c.args.most = omega (arith, few, all) in
-    let within : c.loop-run.run < length c.part-marks.result.now = omega (arith, few, count) in
+    let within : c.loop-run.run < length c.part-marks.result.now = search rules in
+    let count = c.part-marks.ensures.count in let all = c.room_of.ensures.most in
+    let early : c.loop-run.run < c.args.most = omega (arith, within, count, all) in
     let pass = passes B.orders_are (B.told a z) (B.kept a z) c.args.struck.now.script (c.args.from + c.loop-run.run) (length c.args.seats.now) c.none.result (slice_index_or c.part-marks.result.now c.loop-run.run _) c.loop-run.level c.args.board.now a c.loop-run.seats c.tick_all.new.seats
     c.requires.seated.few c.loop-run.auto.seats c.tick_all.auto.seats inv.board c.requires.may.0 c.none.ensures (c.goes_on.ensures.none goes) (λ node few. c.part-marks.ensures.struck c.loop-run.run node _ within few) inv.level c.in-Ok.ensures.turns c.in-Ok.ensures.ready inv.bus in
     let untold : c.in-Ok.end.told ≡ false = search rules in record {
@@ -90,8 +88,8 @@ loop-run-preserved g c =
       told = λ k s few. (c.in-Ok.ensures.turns k s (let count = c.tick_all.auto.seats in omega (arith, few, count))).told;
       sames = each_trans E.same g.met.E.BusEnd.same_trans c.args.links.now c.loop-run.links c.tick_all.new.links inv.sames c.tick_all.ensures.sames;
       rooms = λ n h. c.in-Ok.ensures.rooms n (inv.rooms n h);
-      free = c.in-Ok.ensures.free untold (c.room_of-rows.result - (c.loop-run.run + 1))
-          (λ k s here. let room = inv.free k s here in omega (arith, few, room));
+      free = c.in-Ok.ensures.free untold (length c.part-marks.result.now - (c.loop-run.run + 1))
+          (λ k s here. let room = inv.free k s here in omega (arith, within, room));
       bits = λ left enough.
           bits_on E.same E.stands B.ports B.facts B.orders_are B.told B.kept c.args.to_rest (moment_of c.args.struck.now.script c.args.from left c.args.seats.now c.args.links.now c.args.board.now)
           c.args.struck.now.script c.args.from c.loop-run.run c.args.most left c.none.result c.loop-run.seats c.tick_all.new.seats c.loop-run.links c.tick_all.new.links a z early enough c.tick_all.auto.seats pass.few pass.at pass.row
@@ -105,9 +103,9 @@ returns-in-Err-clause-breaks g c = λ left later enough rooms journals run_is le
     let script = c.args.struck.now.script in let from = c.args.from in let run = c.loop-run.run in
     let was = c.loop-run.seats in let now = c.tick_all.new.seats in
     let a = c.loop-run.board in
-    let few : run < c.room_of-rows.result = search rules in
-    let all = c.room_of-rows.ensures.most in
-    let early : run < c.args.most = omega (arith, few, all) in
+    let within : run < length c.part-marks.result.now = search rules in
+    let count = c.part-marks.ensures.count in let all = c.room_of.ensures.most in
+    let early : run < c.args.most = omega (arith, within, count, all) in
     let goes : c.goes_on.result ≡ true = search rules in
     let none = none_still B.orders_are (length c.args.seats.now) c.args.board.now a was c.loop-run.auto.seats inv.board c.requires.may.0 in record {
       mid = moment_of script (from + run) (left - run) was c.loop-run.links a;

@@ -1,4 +1,4 @@
-use Rattle.std.proofs.Common.{◌≡◌, ℕ, ◌+◌, ◌-◌, ◌≤◌}
+use Rattle.std.proofs.Common.{◌≡◌, ℕ, ◌+◌, ◌-◌, ◌≤◌, length}
 use Rattle.sja_bus.specs.Links.{EachRelated}
 use Rattle.sja_bus.specs.Several.{AreBits, IsOneBit, WorksIf}
 use Rattle.sja_bus.specs.Wire.{wired}
@@ -16,7 +16,7 @@ invariant-loop-run g l = record {
   told : AreTold l.seats;
   sames : EachRelated g.E.BusEnd.same l.initial.links l.links;
   rooms : (n : ℕ) → HaveRoom n l.initial.seats → HaveRoom n l.seats;
-  free : AreFree (l.rows - l.run) l.seats;
+  free : AreFree (length l.marks - l.run) l.seats;
   bits : (left : ℕ) → l.most ≤ left →
       AreBits (IsOneBit g.E.BusEnd.same g.E.BusEnd.stands g.B.Board.ports g.B.Board.facts g.B.Board.orders_are g.B.Board.told g.B.Board.kept) (WorksIf l.to_rest)
       (moment_of l.struck.script l.from left l.initial.seats l.initial.links l.initial.board) l.run
