@@ -1,4 +1,4 @@
-use Rattle.std.proofs.Common.{◌≡◌, rules, refl}
+use Rattle.std.proofs.Common.{rules, refl}
 use Rattle.can_node.specs.Stands.{is_receiving}
 use Rattle.sja_bus.specs.declared.seat.Seat.{Seat}
 use Rattle.sja_bus.proofs.Quiet.{quiet_sound}
