@@ -10,10 +10,10 @@ use Rattle.sja_bus.specs.Boards.{KeepsOthers}
 use Rattle.sja_bus.specs.Buses.{BusValue}
 use Rattle.sja_bus.specs.Links.{EachRelated}
 use Rattle.sja_bus.specs.Reasons.{room_for}
-use Rattle.sja_bus.specs.Several.{moment}
+use Rattle.sja_bus.specs.Several.{moment, Keeps}
 use Rattle.sja_bus.specs.Inside.Refusing.{HaveRoom}
 use Rattle.sja_bus.specs.Inside.Rows.{journals_of, untold_of}
-use Rattle.sja_bus.specs.Inside.RunningOn.{bus_of, RowsRun, RowsStop, Keeps, IsSoFar, IsStopped}
+use Rattle.sja_bus.specs.Inside.RunningOn.{bus_of, RowsRun, RowsStop, IsSoFar, IsStopped}
 use Rattle.sja_bus.proofs.Running.{count_is}
 
 -- what contracts see of a bus with these seats

@@ -6,9 +6,9 @@ use Rattle.sja_regs.specs.declared.orders.Orders.{Orders}
 use Rattle.sja_bus.specs.declared.board.Board.{Ghosts as Ports}
 use Rattle.sja_bus.specs.declared.bus_fault.BusFault.{BusFault}
 use Rattle.sja_bus.specs.Boards.{KeepsOthers}
-use Rattle.sja_bus.specs.Several.{Moment, OneBit, AreBits, WorksIf, BreaksOff}
+use Rattle.sja_bus.specs.Several.{Moment, Keeps, OneBit, AreBits, WorksIf, BreaksOff}
 use Rattle.sja_bus.specs.Several.AreBits.{no_bit, one_more}
-use Rattle.sja_bus.specs.Inside.RunningOn.{AreFor, Keeps, IsSoFar}
+use Rattle.sja_bus.specs.Inside.RunningOn.{AreFor, IsSoFar}
 use Rattle.sja_bus.proofs.Lists.{each_refl, each_trans, each_length}
 use Rattle.sja_bus.proofs.Many.{numbered_kept}
 
@@ -60,6 +60,14 @@ module _ {E B : Type 0} (e : Ends E) (b : Ports B) where
         ports = omega (arith, nodes, ports, boards);
       }
 
+  pub keeps_refl : ((x : E) → e.same x x) → ((x : B) (k : ℕ) → b.kept x x k) → (m : Moment E B) → Keeps e b m m
+  keeps_refl same_refl kept_refl m = record {
+    sames = each_refl e.same same_refl m.links;
+    others = (refl, λ k far. kept_refl m.board k);
+    script = refl;
+    nodes = refl;
+  }
+
   pub keeps_trans : ((x y z : E) → e.same x y → e.same y z → e.same x z) →
       ((x y z : B) (k : ℕ) → b.kept x y k → b.kept y z k → b.kept x z k) → (was mid now : Moment E B) →
       Keeps e b was mid → Keeps e b mid now → Keeps e b was now
@@ -75,12 +83,7 @@ module _ {E B : Type 0} (e : Ends E) (b : Ports B) where
   pub none_yet : ((x : E) → e.same x x) → ((x : B) (k : ℕ) → b.kept x x k) → (to_rest : Bool) (m : Moment E B) →
       m.bus.fault ≡ None → IsSoFar e b to_rest m 0 m
   none_yet same_refl kept_refl to_rest m right = record {
-    keeps = record {
-      sames = each_refl e.same same_refl m.links;
-      others = (refl, λ k far. kept_refl m.board k);
-      script = refl;
-      nodes = refl;
-    };
+    keeps = keeps_refl same_refl kept_refl m;
     left = omega arith;
     right = right;
     bits = no_bit m;

@@ -34,6 +34,14 @@ pub record Moment (E B : Type 0) : Type 0 where
 abbrev pub moment : {E B : Type 0} → BusValue → List E → B → Moment E B
 moment bus links board = record { bus = bus; links = links; board = board }
 
+-- what bits keep, also one that didn't come to its end: which ends the links are, each port that is of no node of the
+-- bus, the script, and how many nodes there are
+pub record Keeps {E B : Type 0} (e : Ends E) (b : Ports B) (was now : Moment E B) : Type 0 where
+  pub sames : EachRelated e.same was.links now.links
+  pub others : KeepsOthers b.ports b.kept (length was.bus.journals) was.board now.board
+  pub script : now.bus.script ≡ was.bus.script
+  pub nodes : length now.bus.journals ≡ length was.bus.journals
+
 -- one bit, which went well: what a call of `bit` says, what holds of every bus after it, and what holds of every board
 pub record IsOneBit {E B : Type 0} (same : E → E → Type 0) (stands : E → Lists → Type 0) (ports : B → ℕ)
     (facts : B → Type 0) (orders_are : B → ℕ → Orders → Type 0) (told : B → B → ℕ → BusTurn → Type 0)

@@ -112,9 +112,8 @@ impl Bus {
     ghost use Rattle.sja_bus.specs.Several.{moment};
     ghost use Rattle.sja_bus.specs.Inside.RunningOn.{AreFor, IsSoFar, IsStopped};
 
-    /// Further bits, at most so many: none where an abort stands at some port, and else as far as no strike falls, with
-    /// `to_rest` as long as some node works, up to and with the first in which a port is told something. Answers how
-    /// many.
+    /// Further bits, at most so many: as far as no strike falls and no abort stands at any port, with `to_rest` as long
+    /// as some node works. They go on past a bit in which a port is told something. Answers how many.
     ///
     /// Nothing is taken from the links in them.
     ///
@@ -135,22 +134,27 @@ impl Bus {
         ensures stops { IfErr result (λ f. IsStopped E.BusEnd B.Board to_rest count
             (moment self.old links.old board.old) (moment self.new links.new board.new) f) }
     {
-        if !may_run_on(self.seats.as_slice(), board) {
-            return Ok(0);
-        }
-        let seats = self.seats.as_mut_slice();
-        match on_all(seats, links, board, &self.struck, self.run, count, to_rest) {
-            Ok(bits) => {
-                self.run += bits;
-                self.left -= bits;
-                Ok(bits)
+        let mut run = 0;
+        while run < count {
+            if !may_run_on(self.seats.as_slice(), board) {
+                return Ok(run);
             }
-            Err(broken) => {
-                self.run += broken.after;
-                self.left -= broken.after;
-                self.fault = Some(broken.fault);
-                Err(broken.fault)
+            let (seats, most) = (self.seats.as_mut_slice(), count - run);
+            match on_all(seats, links, board, &self.struck, self.run, most, to_rest) {
+                Ok(0) => return Ok(run),
+                Ok(bits) => {
+                    self.run += bits;
+                    self.left -= bits;
+                    run += bits;
+                }
+                Err(broken) => {
+                    self.run += broken.after;
+                    self.left -= broken.after;
+                    self.fault = Some(broken.fault);
+                    return Err(broken.fault);
+                }
             }
         }
+        Ok(run)
     }
 }

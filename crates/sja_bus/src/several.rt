@@ -8,11 +8,9 @@ use sja_link::BusEnd;
 impl Bus {
     ghost use Rattle.std.specs.Prelude.{◌≡◌, ◌+◌, ◌*◌, ◌≤◌, ◌⊎◌, None, Some, Err, true, length, OnOk, IfOk, IfErr};
     ghost use Rattle.sja_bus.specs.declared.bus_fault.BusFault.{BusFault as Fault};
-    ghost use Rattle.sja_bus.specs.Links.{EachRelated, Numbered};
-    ghost use Rattle.sja_bus.specs.Boards.{KeepsOthers};
+    ghost use Rattle.sja_bus.specs.Links.{Numbered};
     ghost use Rattle.sja_bus.specs.Buses.{IsStill};
-    ghost use Rattle.sja_bus.specs.Several.{AllRest, moment, RunsBits, StopsBits};
-    ghost use Rattle.sja_bus.specs.Inside.RunningOn.{AreFor, IsSoFar, IsStopped};
+    ghost use Rattle.sja_bus.specs.Several.{AllRest, moment, Keeps, RunsBits, StopsBits};
 
     /// So many bits, or as many as are left.
     ///
@@ -49,10 +47,8 @@ impl Bus {
         requires count { length links.old ≡ 8 * length self.old.journals }
         requires ids { Numbered E.link links.old }
         requires ports { length self.old.journals ≤ B.ports board.old }
-        ensures sames { EachRelated E.same links.old links.new }
-        ensures others { KeepsOthers B.ports B.kept (length self.old.journals) board.old board.new }
-        ensures script { self.new.script ≡ self.old.script }
-        ensures nodes { length self.new.journals ≡ length self.old.journals }
+        ensures keeps { Keeps E.BusEnd B.Board
+            (moment self.old links.old board.old) (moment self.new links.new board.new) }
         ensures most { IfOk result (λ n. n ≤ count) }
         ensures bits { IfOk result (λ n. RunsBits E.BusEnd B.Board to_rest
             (moment self.old links.old board.old) n (moment self.new links.new board.new)) }
@@ -75,38 +71,7 @@ impl Bus {
             self.keeps_its_laws();
             board.keeps_its_facts();
             run += 1;
-            run += self.run_through(links, board, most - run, to_rest)?;
-        }
-        Ok(run)
-    }
-
-    /// Further bits, at most so many, by one call of [`run_on`](Bus::run_on) after the other, up to one that runs none:
-    /// they go on past a bit in which a port is told something. Answers how many.
-    ///
-    /// Error: the one of `run_on`, and then the same always. The bits before it count.
-    fn run_through<E: BusEnd, B: Board>(
-        &mut self,
-        links: &mut [E],
-        board: &mut B,
-        count: u32,
-        to_rest: bool,
-    ) -> Result<u32, BusFault>
-        requires fit { AreFor E.link links.old (length self.old.journals) (B.ports board.old) }
-        requires right { self.old.fault ≡ None }
-        requires most { count ≤ self.old.left }
-        ensures most { IfOk result (λ n. n ≤ count) }
-        ensures runs { IfOk result (λ n. IsSoFar E.BusEnd B.Board to_rest
-            (moment self.old links.old board.old) n (moment self.new links.new board.new)) }
-        ensures stops { IfErr result (λ f. IsStopped E.BusEnd B.Board to_rest count
-            (moment self.old links.old board.old) (moment self.new links.new board.new) f) }
-    {
-        let mut run = 0;
-        while run < count {
-            let further = self.run_on(links, board, count - run, to_rest)?;
-            if further == 0 {
-                return Ok(run);
-            }
-            run += further;
+            run += self.run_on(links, board, most - run, to_rest)?;
         }
         Ok(run)
     }

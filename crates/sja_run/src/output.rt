@@ -52,6 +52,7 @@ impl<W: Write> Output<W> {
         }
         1
     }
+
     /// Writes the parser's own text for words that it turned away, and gives the exit status: 2, or 1 where a write
     /// failed.
     pub fn turn_away(&mut self, text: &[u8]) -> u8

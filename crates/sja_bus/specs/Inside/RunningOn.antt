@@ -8,11 +8,10 @@ use Rattle.sja_bus.specs.declared.board.Board.{Ghosts as Ports}
 use Rattle.sja_bus.specs.declared.broken_off.BrokenOff.{BrokenOff}
 use Rattle.sja_bus.specs.declared.bus_fault.BusFault.{BusFault}
 use Rattle.sja_bus.specs.declared.seat.Seat.{Seat}
-use Rattle.sja_bus.specs.Boards.{KeepsOthers}
 use Rattle.sja_bus.specs.Buses.{BusValue}
-use Rattle.sja_bus.specs.Links.{EachRelated, Numbered}
+use Rattle.sja_bus.specs.Links.{Numbered}
 use Rattle.sja_bus.specs.Reasons.{room_for}
-use Rattle.sja_bus.specs.Several.{Moment, RunsBits, StopsBits}
+use Rattle.sja_bus.specs.Several.{Moment, Keeps, RunsBits, StopsBits}
 use Rattle.sja_bus.specs.Inside.Refusing.{HaveRoom}
 use Rattle.sja_bus.specs.Inside.Rows.{IsBus, journals_of, untold_of}
 
@@ -60,13 +59,6 @@ pub record AreFor {E : Type 0} (link : E → LinkId) (links : List E) (nodes boa
   pub count : length links ≡ 8 * nodes
   pub ids : Numbered link links
   pub ports : nodes ≤ boards
-
--- what all bits keep, also one that didn't come to its end
-pub record Keeps {E B : Type 0} (e : Ends E) (b : Ports B) (was now : Moment E B) : Type 0 where
-  pub sames : EachRelated e.same was.links now.links
-  pub others : KeepsOthers b.ports b.kept (length was.bus.journals) was.board now.board
-  pub script : now.bus.script ≡ was.bus.script
-  pub nodes : length now.bus.journals ≡ length was.bus.journals
 
 -- so many bits, which went well
 pub record IsSoFar {E B : Type 0} (e : Ends E) (b : Ports B) (to_rest : Bool) (was : Moment E B) (n : ℕ)

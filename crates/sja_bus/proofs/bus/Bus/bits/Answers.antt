@@ -1,13 +1,13 @@
 use Rattle.std.proofs.Common.{◌≡◌, ◌+◌, ◌-◌, None, arith, rules}
 use Rattle.std.specs.Prelude.{Err}
 use Rattle.sja_bus.specs.declared.bus_fault.BusFault.{BusFault}
-use Rattle.sja_bus.specs.Several.{moment, OneBit, WorksIf, StopsBits}
-use Rattle.sja_bus.specs.Inside.RunningOn.{Keeps, IsSoFar}
-use Rattle.sja_bus.proofs.Lists.{each_refl, err_is}
+use Rattle.sja_bus.specs.Several.{moment, Keeps, OneBit, WorksIf, StopsBits}
+use Rattle.sja_bus.specs.Inside.RunningOn.{IsSoFar}
+use Rattle.sja_bus.proofs.Lists.{err_is}
 use Rattle.sja_bus.proofs.Many.{numbered_kept}
-use Rattle.sja_bus.proofs.SoFar.{none_yet, and_one, and_more, keeps_trans, still_for, breaks_later}
+use Rattle.sja_bus.proofs.SoFar.{keeps_refl, none_yet, and_one, and_more, keeps_trans, still_for, breaks_later}
 use Rattle.sja_bus.proofs.bus.Bus.bits.Goals as goal
-use Rattle.sja_bus.proofs.bus.Bus.bits.Goals.{After-bit, After-run_through, else-to_rest-via-then-to_rest+else-at_rest, else-to_rest-via-else-to_rest}
+use Rattle.sja_bus.proofs.bus.Bus.bits.Goals.{After-bit, After-run_on, else-to_rest-via-then-to_rest+else-at_rest, else-to_rest-via-else-to_rest}
 
 -- before a bit some node works, where that was asked for
 works : (g : _) (c : After-bit g) → WorksIf c.args.to_rest (moment c.loop-run.self c.loop-run.links c.loop-run.board)
@@ -27,7 +27,7 @@ kept g c = let did = c.bit.ensures in
     (record { sames = did.sames; others = did.others; script = did.script; nodes = did.nodes })
 
 -- one that did is one more
-one_more : (g : _) (c : After-run_through g) →
+one_more : (g : _) (c : After-run_on g) →
     WorksIf c.args.to_rest (moment c.loop-run.self c.loop-run.links c.loop-run.board) → IsSoFar g.E.BusEnd g.B.Board c.args.to_rest
     (moment c.args.self.now c.args.links.now c.args.board.now) (c.loop-run.run + 1)
     (moment c.bit.new.self c.bit.new.links c.bit.new.board)
@@ -54,19 +54,20 @@ one_more g c before =
     before one
 
 -- what they and further ones keep
-kept_on : (g : _) (c : After-run_through g) →
+kept_on : (g : _) (c : After-run_on g) →
     Keeps g.E.BusEnd g.B.Board (moment c.args.self.now c.args.links.now c.args.board.now)
     (moment c.bit.new.self c.bit.new.links c.bit.new.board) →
     Keeps g.E.BusEnd g.B.Board (moment c.bit.new.self c.bit.new.links c.bit.new.board)
-    (moment c.run_through.new.self c.run_through.new.links c.run_through.new.board) →
+    (moment c.run_on.new.self c.run_on.new.links c.run_on.new.board) →
     Keeps g.E.BusEnd g.B.Board (moment c.args.self.now c.args.links.now c.args.board.now)
-    (moment c.run_through.new.self c.run_through.new.links c.run_through.new.board)
+    (moment c.run_on.new.self c.run_on.new.links c.run_on.new.board)
 kept_on g c = keeps_trans g.E.BusEnd g.B.Board g.met.E.BusEnd.same_trans g.met.B.Board.kept_trans
     (moment c.args.self.now c.args.links.now c.args.board.now) (moment c.bit.new.self c.bit.new.links c.bit.new.board)
-    (moment c.run_through.new.self c.run_through.new.links c.run_through.new.board)
+    (moment c.run_on.new.self c.run_on.new.links c.run_on.new.board)
 
-pub returns-in_err-most-clause-sames : goal.returns-in_err-most-clause-sames
-returns-in_err-most-clause-sames g c = each_refl g.E.BusEnd.same g.met.E.BusEnd.same_refl c.args.links.now
+pub returns-in_err-most-clause-keeps : goal.returns-in_err-most-clause-keeps
+returns-in_err-most-clause-keeps g c = keeps_refl g.E.BusEnd g.B.Board g.met.E.BusEnd.same_refl
+    g.met.B.Board.kept_refl (moment c.args.self.now c.args.links.now c.args.board.now)
 
 pub loop-run-init : goal.loop-run-init
 loop-run-init g c = record {
@@ -80,11 +81,8 @@ bit-requires-clause-ids g c =
     numbered_kept g.E.BusEnd.link g.E.BusEnd.same g.met.E.BusEnd.same_link c.args.links.now c.loop-run.links
     c.loop-run.invariant.far.keeps.sames c.requires.ids
 
-pub returns-in_err-bit-clause-sames : goal.returns-in_err-bit-clause-sames
-returns-in_err-bit-clause-sames g c = (kept g (goal.at.returns-in_err-bit-clause-sames g c).After-bit).sames
-
-pub returns-in_err-bit-clause-others : goal.returns-in_err-bit-clause-others
-returns-in_err-bit-clause-others g c = (kept g (goal.at.returns-in_err-bit-clause-others g c).After-bit).others
+pub returns-in_err-bit-clause-keeps : goal.returns-in_err-bit-clause-keeps
+returns-in_err-bit-clause-keeps g c = kept g (goal.at.returns-in_err-bit-clause-keeps g c).After-bit
 
 pub returns-in_err-bit-clause-reason : goal.returns-in_err-bit-clause-reason
 returns-in_err-bit-clause-reason g c =
@@ -106,36 +104,31 @@ returns-in_err-bit-clause-reason g c =
       left_so_far = c.in_err-bit.ensures.unrun.1;
     })
 
-pub run_through-requires-clause-fit : goal.run_through-requires-clause-fit
-run_through-requires-clause-fit g c = let fit = c.requires in
+pub run_on-requires-clause-fit : goal.run_on-requires-clause-fit
+run_on-requires-clause-fit g c = let fit = c.requires in
     still_for g.E.BusEnd g.B.Board g.met.E.BusEnd.same_link
     (moment c.args.self.now c.args.links.now c.args.board.now) (moment c.bit.new.self c.bit.new.links c.bit.new.board)
-    (kept g (goal.at.run_through-requires-clause-fit g c).After-bit)
+    (kept g (goal.at.run_on-requires-clause-fit g c).After-bit)
     (record { count = fit.count; ids = fit.ids; ports = fit.ports })
 
-pub returns-in_err-run-clause-sames : goal.returns-in_err-run-clause-sames
-returns-in_err-run-clause-sames g c =
-    let at = goal.at.returns-in_err-run-clause-sames g c in
-    (kept_on g at.After-run_through (kept g at.After-bit) c.in_err-run.ensures.stops.keeps).sames
-
-pub returns-in_err-run-clause-others : goal.returns-in_err-run-clause-others
-returns-in_err-run-clause-others g c =
-    let at = goal.at.returns-in_err-run-clause-others g c in
-    (kept_on g at.After-run_through (kept g at.After-bit) c.in_err-run.ensures.stops.keeps).others
+pub returns-in_err-run-clause-keeps : goal.returns-in_err-run-clause-keeps
+returns-in_err-run-clause-keeps g c =
+    let at = goal.at.returns-in_err-run-clause-keeps g c in
+    kept_on g at.After-run_on (kept g at.After-bit) c.in_err-run.ensures.stops.keeps
 
 pub returns-in_err-run-clause-reason : goal.returns-in_err-run-clause-reason
 returns-in_err-run-clause-reason g c =
     let E = g.E.BusEnd in let B = g.B.Board in let to_rest = c.args.to_rest in let f = c.in_err-run.field-0.0 in
     let more = c.loop-run-test.true in let most = c.in_ok-most.ensures.count in
     let was = moment c.args.self.now c.args.links.now c.args.board.now in
-    let now = moment c.run_through.new.self c.run_through.new.links c.run_through.new.board in
+    let now = moment c.run_on.new.self c.run_on.new.links c.run_on.new.board in
     let at = goal.at.returns-in_err-run-clause-reason g c in
     let is : c.from_residual-in_err-run.result ≡ Err f = search rules in
     let P : BusFault → Type 0 = λ x. c.args.self.now.fault ≡ None → StopsBits E B to_rest c.args.count was now x in
     err_is P c.from_residual-in_err-run.result f is (λ _. breaks_later E.stands E.full B.orders_are (OneBit E B)
     (WorksIf to_rest) was (moment c.bit.new.self c.bit.new.links c.bit.new.board) now (c.loop-run.run + 1)
     (c.in_ok-most.most - (c.loop-run.run + 1)) c.args.count f (omega (arith, more, most))
-    (one_more g at.After-run_through (works g at.After-bit)).bits c.in_err-run.ensures.stops.reason)
+    (one_more g at.After-run_on (works g at.After-bit)).bits c.in_err-run.ensures.stops.reason)
 
 pub loop-run-preserved : goal.loop-run-preserved
 loop-run-preserved g c =
@@ -145,6 +138,6 @@ loop-run-preserved g c =
       far = and_more g.E.BusEnd g.B.Board g.met.E.BusEnd.same_trans g.met.B.Board.kept_trans c.args.to_rest
           (moment c.args.self.now c.args.links.now c.args.board.now)
           (moment c.bit.new.self c.bit.new.links c.bit.new.board)
-          (moment c.run_through.new.self c.run_through.new.links c.run_through.new.board) (c.loop-run.run + 1)
-          (one_more g at.After-run_through (works g at.After-bit)) c.in_ok-run.field-0 c.in_ok-run.ensures.runs;
+          (moment c.run_on.new.self c.run_on.new.links c.run_on.new.board) (c.loop-run.run + 1)
+          (one_more g at.After-run_on (works g at.After-bit)) c.in_ok-run.field-0 c.in_ok-run.ensures.runs;
     }
