@@ -152,22 +152,39 @@ follows_bit old new j x seen e drives samples none h =
       verdicts = subst (λ (l : List ReceivedFrame). HasVerdicts (j ++ Bit x seen ∷ []) l) (sym same) (bit_quiet j x seen (received h.found) h.verdicts);
     }
 
+-- a frame was received: it is the last that the node heard, in the same activation and by the same filter as before the bit
+record Hears (new : Node) (j : List Entry) (x seen : Level) (e : BitEvents) (f : FrameValue) (heard : List ReceivedFrame) : Type 0 where
+  found : List FinishedPiece
+  stands : StandsAt new (record_of (j ++ Bit x seen ∷ []) ++ off_left e.went_off) found
+  same : received found ≡ heard ++ heard_now (j ++ Bit x seen ∷ []) f ∷ []
+  place : (place_of (j ++ Bit x seen ∷ [])).activation ≡ (place_of j).activation
+  filter : filter_of (part (j ++ Bit x seen ∷ []) (place_of (j ++ Bit x seen ∷ [])).activation) ≡ filter_of (part j (place_of j).activation)
+
+hears : (old new : Node) (j : List Entry) (x seen : Level) (e : BitEvents) (f : FrameValue) → DrivesNext old x → Samples old new seen e → e.received ≡ Some f → (h : Follows old j) →
+    Hears new j x seen e f (received h.found)
+hears old new j x seen e f drives samples some h =
+    let k = j ++ Bit x seen ∷ [] in
+    let s = sees old new j x seen e drives samples h in
+    let place : (place_of k).activation ≡ (place_of j).activation = ap (λ p. p.activation) (place_push j (Bit x seen)) in record {
+      found = s.found;
+      stands = s.stands;
+      same = s.tells ∙ ap (λ o. received h.found ++ received_now o (count_now k)) some;
+      place = place;
+      filter = filter_push j (Bit x seen) (place_of k).activation (λ p. refl) ∙ ap (λ n. filter_of (part j n)) place;
+    }
+
 -- a frame was received, and doesn't pass
 pub follows_stopped : (old new : Node) (j : List Entry) (x seen : Level) (e : BitEvents) (f : FrameValue) → DrivesNext old x → Samples old new seen e → e.received ≡ Some f →
     (PassesAny (filter_of (part j (place_of j).activation)) f → ⊥) → Follows old j → FollowsBit new (j ++ Bit x seen ∷ []) e.went_off
 follows_stopped old new j x seen e f drives samples some stops h =
     let k = j ++ Bit x seen ∷ [] in
-    let s = sees old new j x seen e drives samples h in
-    let same : received s.found ≡ received h.found ++ heard_now k f ∷ [] = s.tells ∙ ap (λ o. received h.found ++ received_now o (count_now k)) some in
-    let place : (place_of k).activation ≡ (place_of j).activation = ap (λ p. p.activation) (place_push j (Bit x seen)) in
-    let filter : filter_of (part k (place_of k).activation) ≡ filter_of (part j (place_of j).activation) =
-    filter_push j (Bit x seen) (place_of k).activation (λ p. refl) ∙ ap (λ n. filter_of (part j n)) place in
+    let s = hears old new j x seen e f drives samples some h in
     let P : Option _ → Type 0 = λ o. PassesAny o f in
     record {
       found = s.found;
       stands = s.stands;
-      verdicts = subst (λ (l : List ReceivedFrame). HasVerdicts k l) (sym same)
-          (verdicts_passed_by k (received h.found) (heard_now k f) (λ passes. stops (subst P filter passes)) (bit_quiet j x seen (received h.found) h.verdicts));
+      verdicts = subst (λ (l : List ReceivedFrame). HasVerdicts k l) (sym s.same)
+          (verdicts_passed_by k (received h.found) (heard_now k f) (λ passes. stops (subst P s.filter passes)) (bit_quiet j x seen (received h.found) h.verdicts));
     }
 
 -- a frame was received that passes, and judged
@@ -176,19 +193,15 @@ pub follows_judged : (old new : Node) (j : List Entry) (x seen : Level) (e : Bit
     FollowsBit new ((j ++ Bit x seen ∷ []) ++ entry_of v (message f) ∷ []) e.went_off
 follows_judged old new j x seen e f v drives samples some passes due h =
     let k = j ++ Bit x seen ∷ [] in
-    let s = sees old new j x seen e drives samples h in
-    let same : received s.found ≡ received h.found ++ heard_now k f ∷ [] = s.tells ∙ ap (λ o. received h.found ++ received_now o (count_now k)) some in
-    let place : (place_of k).activation ≡ (place_of j).activation = ap (λ p. p.activation) (place_push j (Bit x seen)) in
-    let filter : filter_of (part k (place_of k).activation) ≡ filter_of (part j (place_of j).activation) =
-    filter_push j (Bit x seen) (place_of k).activation (λ p. refl) ∙ ap (λ n. filter_of (part j n)) place in
+    let s = hears old new j x seen e f drives samples some h in
     let P : Option _ → Type 0 = λ o. PassesAny o f in
     let R : List Event → Type 0 = λ r. StandsAt new (r ++ off_left e.went_off) s.found in
     record {
       found = s.found;
       stands = subst R (sym (record_push k (entry_of v (message f)) ∙ ap (λ l. record_of k ++ l) (silent (place_of k).off v (message f)) ∙ append-nil (record_of k))) s.stands;
-      verdicts = subst (λ (l : List ReceivedFrame). HasVerdicts (k ++ entry_of v (message f) ∷ []) l) (sym same)
-          (verdicts_judged k (received h.found) (heard_now k f) v refl refl (subst P (sym filter) passes)
-          (subst (λ (n : ℕ). IsDue (part k n) (entry_of v (message f))) (sym place) due) (bit_quiet j x seen (received h.found) h.verdicts));
+      verdicts = subst (λ (l : List ReceivedFrame). HasVerdicts (k ++ entry_of v (message f) ∷ []) l) (sym s.same)
+          (verdicts_judged k (received h.found) (heard_now k f) v refl refl (subst P (sym s.filter) passes)
+          (subst (λ (n : ℕ). IsDue (part k n) (entry_of v (message f))) (sym s.place) due) (bit_quiet j x seen (received h.found) h.verdicts));
     }
   where
     silent : (off : Bool) (w : Verdict) (m : List ℕ) → told off (entry_of w m) ≡ []
