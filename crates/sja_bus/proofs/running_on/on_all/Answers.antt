@@ -3,11 +3,32 @@ use Rattle.std.specs.Prelude.{slice_index_or}
 use Rattle.sja_bus.specs.Reasons.{room_for}
 use Rattle.sja_bus.specs.Several.{IsOneBit, WorksIf}
 use Rattle.sja_bus.specs.Inside.Rows.{IsBus}
-use Rattle.sja_bus.specs.Inside.RunningOn.{moment_of}
+use Rattle.sja_bus.specs.Inside.RunningOn.{moment_of, RowsRun}
 use Rattle.sja_bus.proofs.Lists.{each_refl, each_trans}
 use Rattle.sja_bus.proofs.Many.{numbered_kept}
 use Rattle.sja_bus.proofs.RunningOn.{passes, none_still, some_work, none_yet, bits_on, stops_on}
+use Rattle.sja_bus.proofs.running_on.on_all.Goals.{After-keeps_its_facts}
 use Rattle.sja_bus.proofs.running_on.on_all.Goals as goal
+
+-- the bits so far, and one more that went well
+runs_more : (g : _) (c : After-keeps_its_facts g) → RowsRun g.E.BusEnd g.B.Board c.args.to_rest c.args.struck.now.script c.args.from c.args.most
+    c.args.seats.now c.tick_all.new.seats c.args.links.now c.tick_all.new.links c.args.board.now c.tick_all.new.board (c.loop-run.run + 1)
+runs_more g c =
+    let E = g.E.BusEnd in
+    let B = g.B.Board in let inv = c.loop-run.invariant in let a = c.loop-run.board in let z = c.tick_all.new.board in
+    let goes : c.goes_on.result ≡ true = search rules in
+    let within : c.loop-run.run < length c.part-marks.result.now = search rules in
+    let count = c.part-marks.ensures.count in let all = c.room_of.ensures.most in
+    let early : c.loop-run.run < c.args.most = omega (arith, within, count, all) in
+    let pass = passes B.orders_are (B.told a z) (B.kept a z) c.args.struck.now.script (c.args.from + c.loop-run.run) (length c.args.seats.now) c.none.result (slice_index_or c.part-marks.result.now c.loop-run.run _) c.loop-run.level c.args.board.now a c.loop-run.seats c.tick_all.new.seats
+    c.requires.seated.few c.loop-run.auto.seats c.tick_all.auto.seats inv.board c.requires.may.0 c.none.ensures (c.goes_on.ensures.none goes) (λ node few. c.part-marks.ensures.struck c.loop-run.run node _ within few) inv.level c.in-Ok.ensures.turns c.in-Ok.ensures.ready inv.bus in record {
+      bus = pass.bus (c.args.from + (c.loop-run.run + 1)) (omega arith);
+      bits = λ left enough.
+          bits_on E.same E.stands B.ports B.facts B.orders_are B.told B.kept c.args.to_rest (moment_of c.args.struck.now.script c.args.from left c.args.seats.now c.args.links.now c.args.board.now)
+          c.args.struck.now.script c.args.from c.loop-run.run c.args.most left c.none.result c.loop-run.seats c.tick_all.new.seats c.loop-run.links c.tick_all.new.links a z early enough c.tick_all.auto.seats pass.few pass.at pass.row
+          c.tick_all.ensures.sames c.tick_all.ensures.board c.in-Ok.ensures.goes inv.bus (pass.bus (c.args.from + (c.loop-run.run + 1)) (omega arith)) c.keeps_its_facts.ensures
+          (λ yes. some_work c.loop-run.seats inv.bus.ready (c.goes_on.ensures.works goes yes)) (inv.bits left enough);
+    }
 
 pub loop-run-init : goal.loop-run-init
 loop-run-init g c =
@@ -54,47 +75,23 @@ pub returns-then-end-clause-rooms : goal.returns-then-end-clause-rooms
 returns-then-end-clause-rooms g c = λ n h. c.in-Ok.ensures.rooms n (c.loop-run.invariant.rooms n h)
 
 pub returns-then-end-clause-runs : goal.returns-then-end-clause-runs
-returns-then-end-clause-runs g c =
-    let E = g.E.BusEnd in
-    let B = g.B.Board in let inv = c.loop-run.invariant in let a = c.loop-run.board in let z = c.tick_all.new.board in
-    let goes : c.goes_on.result ≡ true = search rules in
-    let within : c.loop-run.run < length c.part-marks.result.now = search rules in
-    let count = c.part-marks.ensures.count in let all = c.room_of.ensures.most in
-    let early : c.loop-run.run < c.args.most = omega (arith, within, count, all) in
-    let pass = passes B.orders_are (B.told a z) (B.kept a z) c.args.struck.now.script (c.args.from + c.loop-run.run) (length c.args.seats.now) c.none.result (slice_index_or c.part-marks.result.now c.loop-run.run _) c.loop-run.level c.args.board.now a c.loop-run.seats c.tick_all.new.seats
-    c.requires.seated.few c.loop-run.auto.seats c.tick_all.auto.seats inv.board c.requires.may.0 c.none.ensures (c.goes_on.ensures.none goes) (λ node few. c.part-marks.ensures.struck c.loop-run.run node _ within few) inv.level c.in-Ok.ensures.turns c.in-Ok.ensures.ready inv.bus in record {
-      bus = pass.bus (c.args.from + (c.loop-run.run + 1)) (omega arith);
-      bits = λ left enough.
-          bits_on E.same E.stands B.ports B.facts B.orders_are B.told B.kept c.args.to_rest (moment_of c.args.struck.now.script c.args.from left c.args.seats.now c.args.links.now c.args.board.now)
-          c.args.struck.now.script c.args.from c.loop-run.run c.args.most left c.none.result c.loop-run.seats c.tick_all.new.seats c.loop-run.links c.tick_all.new.links a z early enough c.tick_all.auto.seats pass.few pass.at pass.row
-          c.tick_all.ensures.sames c.tick_all.ensures.board c.in-Ok.ensures.goes inv.bus (pass.bus (c.args.from + (c.loop-run.run + 1)) (omega arith)) c.keeps_its_facts.ensures
-          (λ yes. some_work c.loop-run.seats inv.bus.ready (c.goes_on.ensures.works goes yes)) (inv.bits left enough);
-    }
+returns-then-end-clause-runs g c = runs_more g (goal.at.returns-then-end-clause-runs g c).After-keeps_its_facts
 
 pub loop-run-preserved : goal.loop-run-preserved
 loop-run-preserved g c =
-    let E = g.E.BusEnd in
-    let B = g.B.Board in let inv = c.loop-run.invariant in let a = c.loop-run.board in let z = c.tick_all.new.board in
-    let goes : c.goes_on.result ≡ true = search rules in
+    let E = g.E.BusEnd in let inv = c.loop-run.invariant in
+    let more = runs_more g (goal.at.loop-run-preserved g c).After-keeps_its_facts in
     let within : c.loop-run.run < length c.part-marks.result.now = search rules in
-    let count = c.part-marks.ensures.count in let all = c.room_of.ensures.most in
-    let early : c.loop-run.run < c.args.most = omega (arith, within, count, all) in
-    let pass = passes B.orders_are (B.told a z) (B.kept a z) c.args.struck.now.script (c.args.from + c.loop-run.run) (length c.args.seats.now) c.none.result (slice_index_or c.part-marks.result.now c.loop-run.run _) c.loop-run.level c.args.board.now a c.loop-run.seats c.tick_all.new.seats
-    c.requires.seated.few c.loop-run.auto.seats c.tick_all.auto.seats inv.board c.requires.may.0 c.none.ensures (c.goes_on.ensures.none goes) (λ node few. c.part-marks.ensures.struck c.loop-run.run node _ within few) inv.level c.in-Ok.ensures.turns c.in-Ok.ensures.ready inv.bus in
     let untold : c.in-Ok.end.told ≡ false = search rules in record {
       level = c.in-Ok.ensures.level;
       board = c.in-Ok.ensures.untold untold ∙ inv.board;
-      bus = pass.bus (c.args.from + (c.loop-run.run + 1)) (omega arith);
+      bus = more.bus;
       told = λ k s few. (c.in-Ok.ensures.turns k s (let count = c.tick_all.auto.seats in omega (arith, few, count))).told;
       sames = each_trans E.same g.met.E.BusEnd.same_trans c.args.links.now c.loop-run.links c.tick_all.new.links inv.sames c.tick_all.ensures.sames;
       rooms = λ n h. c.in-Ok.ensures.rooms n (inv.rooms n h);
       free = c.in-Ok.ensures.free untold (length c.part-marks.result.now - (c.loop-run.run + 1))
           (λ k s here. let room = inv.free k s here in omega (arith, within, room));
-      bits = λ left enough.
-          bits_on E.same E.stands B.ports B.facts B.orders_are B.told B.kept c.args.to_rest (moment_of c.args.struck.now.script c.args.from left c.args.seats.now c.args.links.now c.args.board.now)
-          c.args.struck.now.script c.args.from c.loop-run.run c.args.most left c.none.result c.loop-run.seats c.tick_all.new.seats c.loop-run.links c.tick_all.new.links a z early enough c.tick_all.auto.seats pass.few pass.at pass.row
-          c.tick_all.ensures.sames c.tick_all.ensures.board c.in-Ok.ensures.goes inv.bus (pass.bus (c.args.from + (c.loop-run.run + 1)) (omega arith)) c.keeps_its_facts.ensures
-          (λ yes. some_work c.loop-run.seats inv.bus.ready (c.goes_on.ensures.works goes yes)) (inv.bits left enough);
+      bits = more.bits;
     }
 
 pub returns-in-Err-clause-breaks : goal.returns-in-Err-clause-breaks
