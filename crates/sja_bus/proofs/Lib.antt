@@ -1,4 +1,5 @@
 pub mod Lists
+pub mod Retrying
 pub mod Begun
 pub mod Steps
 pub mod OnBus
@@ -26,6 +27,7 @@ pub mod Running
 pub mod Underway
 pub mod Levels
 pub mod Journals
+pub mod WrittenBack
 pub mod Rests
 pub mod AtRest
 pub mod Stretches

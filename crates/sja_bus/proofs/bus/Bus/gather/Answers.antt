@@ -3,15 +3,16 @@ use Rattle.std.proofs.lemmas.Grind.{common_steps}
 use Rattle.std.specs.Prelude.{vec_capacity}
 use Rattle.sja_bus.specs.declared.seat.Seat.{Seat}
 use Rattle.sja_bus.specs.OneBit.{HasItems}
-use Rattle.sja_bus.specs.Buses.{BusValue, EachJournal, EachUntold, KeepsAll, AllDry}
-use Rattle.sja_bus.specs.Inside.Rows.{journals_of, untold_of, GoesAll, EachSeat, SeatTakes, SeatNews}
+use Rattle.sja_bus.specs.Buses.{BusValue, EachJournal, EachUntold, AllDry}
+use Rattle.sja_bus.specs.Inside.Rows.{journals_of, untold_of, EachSeat, SeatTakes, SeatNews}
 use Rattle.sja_bus.specs.Inside.Whole.{IsWhole}
 use Rattle.sja_bus.specs.Reasons.{room_for, IsNotTaken}
 use Rattle.sja_bus.specs.Inside.Refusing.{HaveRoom, SeatRefuses}
 use Rattle.sja_bus.proofs.Lists.{each_refl}
 use Rattle.sja_bus.proofs.Running.{wired_taken}
-use Rattle.sja_bus.proofs.Journals.{keeps_all, all_items, all_dry, all_untold, calm_taken}
+use Rattle.sja_bus.proofs.Journals.{all_items, all_dry, all_untold, calm_taken}
 use Rattle.sja_bus.proofs.Refusing.{not_taken}
+use Rattle.sja_bus.proofs.WrittenBack.{keeps_back}
 use Rattle.sja_bus.proofs.bus.Bus.gather.Goals as goal
 
 pub returns-in-Some-clause-sames : goal.returns-in-Some-clause-sames
@@ -47,17 +48,10 @@ invariant_of-self g c =
 
 pub returns-in-Ok-clause-kept : goal.returns-in-Ok-clause-kept
 returns-in-Ok-clause-kept g c =
-    let E = g.E.BusEnd in let b = c.self.inside in
-    let now = c.gather_all.new.seats in let was = b.seats.items in
-    let before = c.args.links.now in let after = c.gather_all.new.links in
-    let v : c.as_mut_slice.result.now ≡ was = c.as_mut_slice.ensures.value in
-    let len : length now ≡ length was = c.gather_all.auto.seats ∙ ap (λ (l : List Seat). length l) v in
-    let e : take b.seats.len (now ++ drop (length now) was) ≡ now = grind (arith, common_steps) in
-    let G : List Seat → Type 0 = λ l. GoesAll E.same E.stands l now before after in
-    let goes = keeps_all E.same E.stands was now before after len (subst G v c.in-Ok.ensures.goes) in
-    let P : BusValue → Type 0 = λ w. KeepsAll E.stands w.journals (journals_of now) before after in
-    let Q : List Seat → Type 0 = λ xs. KeepsAll E.stands c.args.self.now.journals (journals_of xs) before after in
-    subst Q (sym e) (subst P c.self.view_is goes)
+    let E = g.E.BusEnd in let seats = c.self.inside.seats in
+    let all : seats.len ≡ length seats.items = omega arith in
+    keeps_back E.same E.stands seats.items c.as_mut_slice.result.now c.gather_all.new.seats seats.len c.args.self.now.journals c.args.links.now
+    c.gather_all.new.links all c.as_mut_slice.ensures.value c.gather_all.auto.seats (ap (λ (w : BusValue). w.journals) c.self.view_is) c.in-Ok.ensures.goes
 
 pub returns-in-Ok-clause-items : goal.returns-in-Ok-clause-items
 returns-in-Ok-clause-items g c =
