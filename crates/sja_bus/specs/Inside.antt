@@ -10,4 +10,5 @@ pub mod Underway
 pub mod Whole
 pub mod Ending
 pub mod Idling
+pub mod AtOnce
 pub mod RunningOn

@@ -14,6 +14,7 @@ impl Bus {
     ghost use Rattle.sja_bus.specs.Buses.{EachJournal, EachUntold, KeepsAll, AllDry, AllTold};
     ghost use Rattle.sja_bus.specs.Reasons.{IsNotTaken};
     ghost use Rattle.sja_bus.specs.Stretches.{IsStretch, IsOutOfEntries, IsFullInStretch};
+    ghost use Rattle.sja_bus.specs.Inside.AtOnce.{RunsAtOnce};
 
     /// Runs bits at once as far as it can: nothing waits on any link.
     fn rest<B: Board>(&mut self, board: &B, count: u32) -> Result<u32, BusFault>
@@ -21,14 +22,7 @@ impl Bus {
         requires ports { length self.old.journals ≤ B.ports board.now }
         ensures script { self.new.script ≡ self.old.script }
         ensures nodes { length self.new.journals ≡ length self.old.journals }
-        ensures most { IfOk result (λ n. n ≤ count) }
-        ensures bits { IfOk result (λ n. (self.new.run ≡ self.old.run + n) × (self.new.left + n ≡ self.old.left)) }
-        ensures none { result ≡ Ok 0 → self.new ≡ self.old }
-        ensures stretch { IfOk result (λ n. n ≢ 0 → IsStretch (B.orders_are board.now) (B.told board.now board.now)
-            (B.kept board.now board.now) self.old.script self.old.run n self.old.untold
-            self.old.journals self.new.journals) }
-        ensures told { IfOk result (λ n. n ≢ 0 → AllTold (length self.old.journals) self.new.untold) }
-        ensures right { OnOk result (self.new.fault ≡ None) }
+        ensures runs { IfOk result (λ n. RunsAtOnce B.Board board.now count self.old self.new n) }
         ensures fault { IfErr result (λ f. self.new.fault ≡ Some f) }
         ensures reason { IfErr result (λ f.
             IsOutOfEntries (self.old.run + self.old.left) self.old.left self.old.journals self.new.journals f) }

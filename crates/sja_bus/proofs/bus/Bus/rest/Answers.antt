@@ -1,4 +1,4 @@
-use Rattle.std.proofs.Common.{◌≡◌, ◌+◌, ◌-◌, ◌≤◌, true, false, replicate, None, List, ◌++◌, length, take, drop, sym, ap, ◌∙◌, subst, arith, rules, ℕ}
+use Rattle.std.proofs.Common.{◌≡◌, ◌≢◌, ◌+◌, ◌-◌, ◌≤◌, true, false, replicate, None, List, ◌++◌, length, take, drop, sym, ap, ◌∙◌, subst, arith, rules, refl, ℕ}
 use Rattle.std.proofs.lemmas.Grind.{common_steps}
 use Rattle.std.specs.Prelude.{vec_capacity}
 use Rattle.sja_bus.specs.declared.seat.Seat.{Seat}
@@ -6,13 +6,14 @@ use Rattle.sja_bus.specs.Buses.{BusValue}
 use Rattle.sja_bus.specs.Stretches.{IsStretch, IsOutOfEntries}
 use Rattle.sja_bus.specs.Inside.Rows.{journals_of, untold_of, IsBus}
 use Rattle.sja_bus.specs.Inside.Whole.{IsWhole}
+use Rattle.sja_bus.specs.Inside.AtOnce.{RunsAtOnce}
 use Rattle.sja_bus.specs.Inside.Idling.{AreResting, IsFullBy, all_after}
 use Rattle.sja_bus.specs.Inside.Refusing.{HaveRoom}
 use Rattle.sja_bus.specs.Reasons.{room_for}
 use Rattle.sja_bus.proofs.Logs.{none_untold}
 use Rattle.sja_bus.proofs.Running.{count_is}
 use Rattle.sja_bus.proofs.Stretches.{after_untold, room_after, bus_after, stretch_after, out_of_entries}
-use Rattle.sja_bus.proofs.bus.Bus.rest.Goals.{After-rest_all}
+use Rattle.sja_bus.proofs.bus.Bus.rest.Goals.{After-rest_all, In-Ok}
 use Rattle.sja_bus.proofs.bus.Bus.rest.Goals as goal
 
 -- as many seats as before
@@ -35,14 +36,19 @@ rested g c =
     let R : List Seat → Type 0 = λ l. AreResting (g.B.Board.orders_are c.args.board.now) l in
     subst R c.as_slice.ensures.value (c.are_resting.ensures yes)
 
+-- each seat has that many recessive bits more
+grown : (g : _) (c : In-Ok g) → c.rest_all.new.seats ≡ all_after c.quiet_for-bits.result c.self.inside.seats.items
+grown g c =
+    let A : List Seat → Type 0 = λ l. c.rest_all.new.seats ≡ all_after c.quiet_for-bits.result l in
+    subst A c.as_mut_slice.ensures.value c.in-Ok.ensures.rested
+
 pub invariant_of-self : goal.invariant_of-self
 invariant_of-self g c =
     let at = (goal.at.invariant_of-self g c).After-rest_all in
     let b = c.self.inside in let n = c.quiet_for-bits.result in let inv = c.self.invariant.0 in
     let now = c.rest_all.new.seats in let was = b.seats.items in let board = c.args.board.now in
     let len = same_count g at in
-    let A : List Seat → Type 0 = λ l. now ≡ all_after n l in
-    let is : now ≡ all_after n was = subst A c.as_mut_slice.ensures.value c.in-Ok.ensures.rested in
+    let is = grown g (goal.at.invariant_of-self g c).In-Ok in
     let I : List Seat → Type 0 = λ l. IsBus b.struck.script (b.run + n) l in
     let H : List Seat → Type 0 = λ l. HaveRoom (room_for b.struck.bits) l in
     let few = inv.few in let logs = inv.logs in let bits = inv.bits in
@@ -61,39 +67,44 @@ invariant_of-self g c =
     let P : List Seat → Type 0 = λ xs. IsWhole b.struck (b.run + n) (b.left - n) b.fault xs (vec_capacity b.logs) in
     (subst P (sym (are_back g at)) l, c.self.invariant.1)
 
-pub returns-in-Ok-clause-stretch : goal.returns-in-Ok-clause-stretch
-returns-in-Ok-clause-stretch g c = λ ne.
-    let at = (goal.at.returns-in-Ok-clause-stretch g c).After-rest_all in
+pub returns-in-Ok-clause-runs : goal.returns-in-Ok-clause-runs
+returns-in-Ok-clause-runs g c =
+    let here = goal.at.returns-in-Ok-clause-runs g c in let at = here.After-rest_all in
     let b = c.self.inside in let n = c.quiet_for-bits.result in let inv = c.self.invariant.0 in
     let now = c.rest_all.new.seats in let was = b.seats.items in let board = c.args.board.now in
     let orders = g.B.Board.orders_are board in let told = g.B.Board.told board board in
-    let kept = g.B.Board.kept board board in let old = c.args.self.now in
-    let A : List Seat → Type 0 = λ l. now ≡ all_after n l in
-    let is : now ≡ all_after n was = subst A c.as_mut_slice.ensures.value c.in-Ok.ensures.rested in
+    let kept = g.B.Board.kept board board in
+    let is = grown g here.In-Ok in let rest = rested g at in
+    let some : n ≢ 0 = search rules in
+    let quiet = c.quiet_for-bits.ensures.most in let min = c.min.ensures in
     let h = stretch_after orders told kept (λ node. g.met.B.Board.kept_refl board node) was
-    (inv.bus (is_right g at)).ready (rested g at) b.struck.script b.run n inv.few c.quiet_for-bits.ensures.quiet in
+    (inv.bus (is_right g at)).ready rest b.struck.script b.run n inv.few c.quiet_for-bits.ensures.quiet in
     let N : List Seat → Type 0 = λ l.
     IsStretch orders told kept b.struck.script b.run n (untold_of was) (journals_of was) (journals_of l) in
-    let P : BusValue → Type 0 = λ x. IsStretch orders told kept x.script x.run n x.untold x.journals (journals_of now) in
-    let Q : List Seat → Type 0 = λ l.
-    IsStretch orders told kept old.script old.run n old.untold old.journals (journals_of l) in
-    subst Q (sym (are_back g at)) (subst P c.self.view_is (subst N (sym is) h))
-
-pub returns-in-Ok-clause-told : goal.returns-in-Ok-clause-told
-returns-in-Ok-clause-told g c = λ ne.
-    let at = (goal.at.returns-in-Ok-clause-told g c).After-rest_all in
-    let n = c.quiet_for-bits.result in let now = c.rest_all.new.seats in let was = c.self.inside.seats.items in
-    let rest = rested g at in
-    let A : List Seat → Type 0 = λ l. now ≡ all_after n l in
-    let is : now ≡ all_after n was = subst A c.as_mut_slice.ensures.value c.in-Ok.ensures.rested in
     let none : untold_of was ≡ replicate (length was) false =
     none_untold was (λ k s few. (rest.each k s few).none) in
-    let all : untold_of now ≡ replicate (length (journals_of was)) false =
-    ap (λ (l : List Seat). untold_of l) is ∙ after_untold n was ∙ none
-    ∙ ap (λ m. replicate m false) (sym (count_is was)) in
-    let P : BusValue → Type 0 = λ x. untold_of now ≡ replicate (length x.journals) false in
-    let Q : List Seat → Type 0 = λ l. untold_of l ≡ replicate (length c.args.self.now.journals) false in
-    subst Q (sym (are_back g at)) (subst P c.self.view_is all)
+    let V : ℕ → ℕ → List Seat → BusValue = λ run left l. record {
+      script = b.struck.script;
+      run = run;
+      left = left;
+      fault = b.fault;
+      journals = journals_of l;
+      untold = untold_of l;
+    } in
+    let r : RunsAtOnce g.B.Board board c.args.count (V b.run b.left was) (V (b.run + n) (b.left - n) now) n = record {
+      most = omega (arith, quiet, min);
+      bits = (refl, omega (arith, quiet, min));
+      none = λ zero. absurd (some zero);
+      stretch = λ ne. subst N (sym is) h;
+      told = λ ne. ap (λ (l : List Seat). untold_of l) is ∙ after_untold n was ∙ none
+          ∙ ap (λ m. replicate m false) (sym (count_is was));
+      right = is_right g at;
+    } in
+    let P : BusValue → Type 0 = λ x.
+    RunsAtOnce g.B.Board board c.args.count x (V (b.run + n) (b.left - n) now) n in
+    let Q : List Seat → Type 0 = λ l.
+    RunsAtOnce g.B.Board board c.args.count c.args.self.now (V (b.run + n) (b.left - n) l) n in
+    subst Q (sym (are_back g at)) (subst P c.self.view_is r)
 
 pub returns-in-Err-clause-reason : goal.returns-in-Err-clause-reason
 returns-in-Err-clause-reason g c =
