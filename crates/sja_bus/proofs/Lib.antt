@@ -10,6 +10,7 @@ pub mod Reading
 pub mod Judging
 pub mod Lawfuls
 pub mod Moving
+pub mod AtLinks
 pub mod Seating
 pub mod Bits
 pub mod Applying
@@ -23,6 +24,7 @@ pub mod Wires
 pub mod Many
 pub mod Refusing
 pub mod Breaking
+pub mod Rows
 pub mod Running
 pub mod Underway
 pub mod Levels

@@ -1,10 +1,10 @@
 -- How the code keeps a bus.
 pub mod Following
 pub mod Seats
+pub mod AtLinks
 pub mod Taking
 pub mod Refusing
 pub mod Turning
-pub mod Ticking
 pub mod Rows
 pub mod Underway
 pub mod Whole

@@ -9,26 +9,23 @@ use can_node::Aborted;
 use sja_link::{BusEnd, Entry};
 
 impl Seat {
-    ghost use Rattle.std.specs.Prelude.{◌≡◌, ◌<◌, ◌≤◌, ◌+◌, ℕ, [], ◌∷◌, ◌++◌, slice_index_or, length, OnOk, IfErr, ◌⊎◌};
+    ghost use Rattle.std.specs.Prelude.{◌≡◌, ◌<◌, ◌+◌, [], ◌∷◌, ◌++◌, slice_index_or, length, OnOk, IfErr, ◌⊎◌};
     ghost use Rattle.sja_link.specs.BusLedgers.{link_of, free_in};
     ghost use Rattle.sja_link.specs.declared.entry.Entry.TheVariants.{Abort as AbortEntry};
-    ghost use Rattle.sja_bus.specs.Links.{Goes, EachRelated, AreOf};
+    ghost use Rattle.sja_bus.specs.Links.{Goes};
     ghost use Rattle.sja_bus.specs.OneBit.{HasItems, Opens};
     ghost use Rattle.sja_bus.specs.Reasons.{RefusesItem};
     ghost use Rattle.sja_bus.specs.Inside.Following.{Follows, Reads};
     ghost use Rattle.sja_bus.specs.Inside.Seats.{IsSeat, IsReady};
+    ghost use Rattle.sja_bus.specs.Inside.AtLinks.{StandsAt, StaysAt};
     ghost use Rattle.sja_bus.specs.Inside.Taking.{Applies, IsFull, FullForAbort};
     ghost use Rattle.sja_bus.specs.Inside.Turning.{TakesNews, AbortsNews, OpensNews};
 
     /// Takes all that the links show, one link after the other.
     #[inline(always)]
     pub(crate) fn gather<E: BusEnd>(&mut self, links: &mut [E], base: usize) -> Result<(), BusFault>
-        requires room { base + 8 ≤ length links.old }
-        requires ids { AreOf E.link (link_of self.old.ledger).node links.old base }
-        requires ready { IsReady self.old }
-        ensures sames { EachRelated E.same links.old links.new }
-        ensures node { (link_of self.new.ledger).node ≡ (link_of self.old.ledger).node }
-        ensures room { self.new.journal.room ≡ self.old.journal.room }
+        requires at { StandsAt E.link self.old links.old base }
+        ensures stays { StaysAt E.same self.old self.new links.old links.new }
         ensures ready { OnOk result (IsReady self.new) }
         ensures goes { OnOk result
             (Goes E.same E.stands self.old.journal.entries self.new.journal.entries links.old links.new base) }
@@ -99,13 +96,9 @@ impl Seat {
         base: usize,
         board: &B,
     ) -> Result<(), BusFault>
-        requires room { base + 8 ≤ length links.old }
-        requires ids { AreOf E.link (link_of self.old.ledger).node links.old base }
-        requires ready { IsReady self.old }
+        requires at { StandsAt E.link self.old links.old base }
         requires port { (link_of self.old.ledger).node < B.ports board.now }
-        ensures sames { EachRelated E.same links.old links.new }
-        ensures node { (link_of self.new.ledger).node ≡ (link_of self.old.ledger).node }
-        ensures room { self.new.journal.room ≡ self.old.journal.room }
+        ensures stays { StaysAt E.same self.old self.new links.old links.new }
         ensures ready { OnOk result (IsReady self.new) }
         ensures goes { OnOk result
             (Goes E.same E.stands self.old.journal.entries self.new.journal.entries links.old links.new base) }

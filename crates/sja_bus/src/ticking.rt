@@ -10,15 +10,15 @@ use can_bits::Level;
 use sja_link::BusEnd;
 
 impl Seat {
-    ghost use Rattle.std.specs.Prelude.{◌≡◌, ◌≢◌, ◌<◌, ◌≤◌, ◌+◌, ℕ, true, false, length, OnOk, IfOk, IfErr};
+    ghost use Rattle.std.specs.Prelude.{◌≡◌, ◌≢◌, ◌<◌, ℕ, true, false, length, OnOk, IfOk, IfErr};
     ghost use Rattle.can_node.specs.Stands.{Samples};
     ghost use Rattle.sja_link.specs.BusLedgers.{link_of};
-    ghost use Rattle.sja_bus.specs.Links.{Goes, EachRelated, AreOf};
+    ghost use Rattle.sja_bus.specs.Links.{Goes};
     ghost use Rattle.sja_bus.specs.Reasons.{IsBrokenFor};
     ghost use Rattle.sja_bus.specs.Inside.Seats.{IsSound, IsSeat, IsReady};
+    ghost use Rattle.sja_bus.specs.Inside.AtLinks.{StandsAt, StaysAt};
     ghost use Rattle.sja_bus.specs.declared.news.News.TheVariants.{Nothing};
     ghost use Rattle.sja_bus.specs.Inside.Turning.{Brings, IsQuietBit, Turns};
-    ghost use Rattle.sja_bus.specs.Inside.Ticking.{CanTick, TickKeeps, Ticks};
 
     /// One bit of the node in which something may happen.
     #[inline(always)]
@@ -28,12 +28,8 @@ impl Seat {
         base: usize,
         seen: Level,
     ) -> Result<Heard, BusFault>
-        requires room { base + 8 ≤ length links.old }
-        requires ids { AreOf E.link (link_of self.old.ledger).node links.old base }
-        requires ready { IsReady self.old }
-        ensures sames { EachRelated E.same links.old links.new }
-        ensures node { (link_of self.new.ledger).node ≡ (link_of self.old.ledger).node }
-        ensures room { self.new.journal.room ≡ self.old.journal.room }
+        requires at { StandsAt E.link self.old links.old base }
+        ensures stays { StaysAt E.same self.old self.new links.old links.new }
         ensures sound { OnOk result (IsSound self.new) }
         ensures seat { OnOk result (IsSeat self.new) }
         ensures news { self.new.news ≡ self.old.news }
@@ -51,29 +47,6 @@ impl Seat {
         };
         let here = base + self.ended as usize;
         self.run_bit(&mut links[here], seen)
-    }
-
-    /// One bit of the node in which something may happen, and its port is told of it.
-    #[inline(never)]
-    fn tick_fully<E: BusEnd, B: Board>(
-        &mut self,
-        links: &mut [E],
-        base: usize,
-        seen: Level,
-        board: &mut B,
-    ) -> Result<(), BusFault>
-        requires can { CanTick E.BusEnd B.Board self.old links.old base board.old }
-        ensures keeps { TickKeeps E.BusEnd B.Board self.old self.new links.old links.new board.old board.new }
-        ensures ticks { OnOk result
-            (Ticks E.BusEnd B.Board seen self.old self.new links.old links.new base board.old board.new) }
-        ensures broken { IfErr result (λ f.
-            IsBrokenFor E.stands E.full (link_of self.old.ledger).node self.old.journal.room
-            self.old.journal.entries self.new.journal.entries links.old base f) }
-    {
-        let heard = self.full_bit(links, base, seen)?;
-        self.drives = self.node.drive();
-        self.tell(board, heard);
-        Ok(())
     }
 
     /// A bit of the node, which sees this level and whose port is told all, where nothing happens and its journal has
@@ -120,13 +93,9 @@ impl Seat {
         seen: Level,
         board: &mut B,
     ) -> Result<(), BusFault>
-        requires room { base + 8 ≤ length links.old }
-        requires ids { AreOf E.link (link_of self.old.ledger).node links.old base }
-        requires ready { IsReady self.old }
+        requires at { StandsAt E.link self.old links.old base }
         requires port { (link_of self.old.ledger).node < B.ports board.old }
-        ensures sames { EachRelated E.same links.old links.new }
-        ensures node { (link_of self.new.ledger).node ≡ (link_of self.old.ledger).node }
-        ensures room { self.new.journal.room ≡ self.old.journal.room }
+        ensures stays { StaysAt E.same self.old self.new links.old links.new }
         ensures ready { OnOk result (IsReady self.new) }
         ensures goes { OnOk result
             (Goes E.same E.stands self.old.journal.entries self.new.journal.entries links.old links.new base) }
@@ -141,6 +110,9 @@ impl Seat {
         if self.may_tick_quietly() && self.tick_quietly(seen) {
             return Ok(());
         }
-        self.tick_fully(links, base, seen, board)
+        let heard = self.full_bit(links, base, seen)?;
+        self.drives = self.node.drive();
+        self.tell(board, heard);
+        Ok(())
     }
 }

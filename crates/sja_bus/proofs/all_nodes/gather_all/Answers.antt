@@ -1,50 +1,32 @@
-use Rattle.std.proofs.Common.{◌≡◌, ℕ, suc, ◌<◌, length, rules, arith, sym, ap, ◌∙◌}
-use Rattle.sja_link.specs.declared.link_id.LinkId.{LinkId}
-use Rattle.std.specs.Prelude.{Err, slice_index_or, slice_set}
-use Rattle.sja_bus.specs.declared.seat.Seat.{Seat}
+use Rattle.std.proofs.Common.{◌≡◌, ◌<◌, length, rules}
+use Rattle.std.specs.Prelude.{Err, slice_set}
 use Rattle.sja_bus.specs.Inside.Rows.{SeatTakes, SeatNews}
 use Rattle.sja_bus.specs.Inside.Refusing.{SeatRefuses}
 use Rattle.sja_bus.proofs.Lists.{each_trans, err_is}
-use Rattle.sja_bus.proofs.Many.{or_same, goes_all_refl, goes_all_one, ready_one, numbered_at, dry_one, done_none, done_one, done_all}
-use Rattle.sja_bus.proofs.Refusing.{refuses_seat, rooms_one}
+use Rattle.sja_bus.proofs.Many.{done_all}
+use Rattle.sja_bus.proofs.Rows.{stands_at, taken_none, taken_one}
+use Rattle.sja_bus.proofs.Refusing.{refuses_seat}
 use Rattle.sja_bus.proofs.all_nodes.gather_all.Goals as goal
 
 pub loop-k-init : goal.loop-k-init
-loop-k-init g c = record {
-  ready = c.requires.ready;
-  dry = λ m s d l. absurd (omega arith);
-  goes = goes_all_refl g.E.BusEnd.same g.E.BusEnd.stands g.met.E.BusEnd.same_refl c.args.seats.now c.args.links.now;
-  rooms = λ n h. h;
-  done = done_none SeatTakes c.args.seats.now;
-  news = done_none SeatNews c.args.seats.now;
-}
+loop-k-init g c = taken_none g.E.BusEnd.same g.E.BusEnd.stands g.E.BusEnd.dry g.met.E.BusEnd.same_refl SeatTakes SeatNews c.args.seats.now c.args.links.now c.requires.ready
 
-pub gather-requires-clause-ids : goal.gather-requires-clause-ids
-gather-requires-clause-ids g c = λ a d few.
-    let E = g.E.BusEnd in let k = c.loop-k.k in
-    let here : k < length c.args.seats.now = search rules in
-    let i = numbered_at E.link E.same g.met.E.BusEnd.same_link c.args.links.now c.loop-k.links (length c.args.seats.now) k c.requires.count here c.loop-k.invariant.goes.sames c.requires.ids a d few in
-    let n = (c.loop-k.invariant.ready k c.index-seats-k.result (search rules)).own in
-    i ∙ sym (ap (λ (m : ℕ). let x : LinkId = record { node = m; activation = suc a } in x) n)
+pub gather-requires : goal.gather-requires
+gather-requires g c =
+    record {
+      at = stands_at g.E.BusEnd.link g.E.BusEnd.same g.met.E.BusEnd.same_link (length c.args.seats.now) c.loop-k.seats c.args.links.now c.loop-k.links c.loop-k.k c.index-seats-k.result
+          c.requires.count c.loop-k.auto.seats (search rules) c.loop-k.invariant.goes.sames c.requires.ids c.loop-k.invariant.ready;
+    }
 
 pub returns-in_err-gather-clause-sames : goal.returns-in_err-gather-clause-sames
-returns-in_err-gather-clause-sames g c = each_trans g.E.BusEnd.same g.met.E.BusEnd.same_trans c.args.links.now c.loop-k.links c.gather.new.links c.loop-k.invariant.goes.sames c.gather.ensures.sames
+returns-in_err-gather-clause-sames g c = each_trans g.E.BusEnd.same g.met.E.BusEnd.same_trans c.args.links.now c.loop-k.links c.gather.new.links c.loop-k.invariant.goes.sames c.gather.ensures.stays.sames
 
 pub loop-k-preserved : goal.loop-k-preserved
 loop-k-preserved g c =
-    let E = g.E.BusEnd in let k = c.loop-k.k in let did = c.in_ok-gather.ensures in
+    let E = g.E.BusEnd in let k = c.loop-k.k in let s = c.index-seats-k.result in let new = c.gather.new.self in let did = c.in_ok-gather.ensures in
     let here : k < length c.loop-k.seats = search rules in
-    let was : k < length c.args.seats.now = search rules in
-    let n = (c.loop-k.invariant.ready k c.index-seats-k.result here).own in
-    let at : (s : Seat) → slice_index_or c.loop-k.seats k s ≡ slice_index_or c.loop-k.seats k c.index-seats-k.result = λ s. or_same c.loop-k.seats k s c.index-seats-k.result here in
-    record {
-      ready = ready_one c.loop-k.seats k c.gather.new.self here c.loop-k.invariant.ready (record { ready = did.ready; own = did.node ∙ n });
-      dry = dry_one E.dry c.loop-k.seats c.loop-k.links c.gather.new.links k c.gather.new.self here did.goes.others did.dry c.loop-k.invariant.dry;
-      goes = goes_all_one E.same E.stands g.met.E.BusEnd.same_trans c.args.seats.now c.loop-k.seats c.args.links.now c.loop-k.links c.gather.new.links k c.index-seats-k.result c.gather.new.self here c.loop-k.auto.seats c.loop-k.invariant.goes did.goes;
-      rooms = λ n h. rooms_one n c.loop-k.seats k c.index-seats-k.result c.gather.new.self here c.gather.ensures.room (c.loop-k.invariant.rooms n h);
-      done = done_one SeatTakes k c.args.seats.now c.loop-k.seats c.index-seats-k.result c.gather.new.self was c.loop-k.auto.seats did.items c.loop-k.invariant.done;
-      news = done_one SeatNews k c.args.seats.now c.loop-k.seats c.index-seats-k.result c.gather.new.self was c.loop-k.auto.seats did.news c.loop-k.invariant.news;
-    }
+    taken_one E.same E.stands E.dry g.met.E.BusEnd.same_trans SeatTakes SeatNews c.args.seats.now c.loop-k.seats c.args.links.now c.loop-k.links c.gather.new.links k s new here c.loop-k.auto.seats
+    did.stays did.ready did.goes did.dry did.items did.news c.loop-k.invariant
 
 pub returns-clause-items : goal.returns-clause-items
 returns-clause-items g c = done_all SeatTakes c.loop-k.k c.args.seats.now c.loop-k.seats (search rules) c.loop-k.invariant.done

@@ -1,11 +1,11 @@
-use Rattle.std.proofs.Common.{◌≡◌, ℕ, suc, ◌<◌, length, rules, arith, refl, sym, ap, ◌∙◌}
+use Rattle.std.proofs.Common.{◌≡◌, ◌<◌, length, rules, arith, refl, ◌∙◌}
 use Rattle.std.specs.Prelude.{Err, slice_set}
-use Rattle.sja_link.specs.declared.link_id.LinkId.{LinkId}
 use Rattle.sja_bus.specs.Inside.Rows.{SeatTurns, seen_by}
 use Rattle.sja_bus.specs.Inside.Refusing.{SeatBreaks}
 use Rattle.sja_bus.proofs.Breaking.{breaks_seat}
 use Rattle.sja_bus.proofs.Lists.{each_refl, each_trans, err_is}
-use Rattle.sja_bus.proofs.Many.{numbered_at, ready_one}
+use Rattle.sja_bus.proofs.Many.{ready_one}
+use Rattle.sja_bus.proofs.Rows.{stands_at}
 use Rattle.sja_bus.proofs.Running.{seen_is}
 use Rattle.sja_bus.proofs.Underway.{underway_one}
 use Rattle.sja_bus.proofs.all_nodes.tick_from.Goals as goal
@@ -19,13 +19,11 @@ loop-k-init g c = record {
   row = λ before given was u. u;
 }
 
-pub tick-requires-clause-ids : goal.tick-requires-clause-ids
-tick-requires-clause-ids g c = λ a d few.
-    let E = g.E.BusEnd in let k = c.loop-k.k in
-    let here : k < length c.args.seats.now = search rules in
-    let i = numbered_at E.link E.same g.met.E.BusEnd.same_link c.args.links.now c.loop-k.links (length c.args.seats.now) k c.requires.seated.count here c.loop-k.invariant.sames c.requires.seated.ids a d few in
-    let n = (c.loop-k.invariant.ready k c.index-seats-k.result (search rules)).own in
-    i ∙ sym (ap (λ (m : ℕ). let x : LinkId = record { node = m; activation = suc a } in x) n)
+pub tick-requires-clause-at : goal.tick-requires-clause-at
+tick-requires-clause-at g c =
+    let h = c.requires.seated in let inv = c.loop-k.invariant in
+    stands_at g.E.BusEnd.link g.E.BusEnd.same g.met.E.BusEnd.same_link (length c.args.seats.now) c.loop-k.seats c.args.links.now c.loop-k.links c.loop-k.k c.index-seats-k.result h.count c.loop-k.auto.seats (search rules)
+    inv.sames h.ids inv.ready
 
 pub loop-k-preserved : goal.loop-k-preserved
 loop-k-preserved g c =
@@ -37,19 +35,19 @@ loop-k-preserved g c =
     let a = c.args.board.now in let b = c.loop-k.board in let z = c.tick.new.board in
     let sees : c.seen-sees.result ≡ seen_by c.args.struck c.args.level k = c.seen-sees.ensures ∙ seen_is c.has.result c.args.struck c.args.level k c.has.ensures in
     record {
-      ready = ready_one c.loop-k.seats k c.tick.new.self here c.loop-k.invariant.ready (record { ready = did.ready; own = did.node ∙ n });
-      sames = each_trans E.same g.met.E.BusEnd.same_trans c.args.links.now c.loop-k.links c.tick.new.links c.loop-k.invariant.sames c.tick.ensures.sames;
+      ready = ready_one c.loop-k.seats k c.tick.new.self here c.loop-k.invariant.ready (record { ready = did.ready; own = did.stays.node ∙ n });
+      sames = each_trans E.same g.met.E.BusEnd.same_trans c.args.links.now c.loop-k.links c.tick.new.links c.loop-k.invariant.sames c.tick.ensures.stays.sames;
       ports = did.ports ∙ c.loop-k.invariant.ports;
       others = λ m l. met.kept_trans a b z m (c.loop-k.invariant.others m l) (did.others m (λ e. omega (arith, e, n, l, was)));
       row = λ before given then u.
           underway_one E.same E.stands g.met.E.BusEnd.same_trans B.ports B.told B.kept met.kept_trans met.told_first met.told_last c.args.struck c.args.level c.seen-sees.result before c.loop-k.seats
           given c.loop-k.links c.tick.new.links then b z k c.index-seats-k.result c.tick.new.self here sees
-          (record { ready = did.ready; node = did.node; room = c.tick.ensures.room; goes = did.goes; ports_are = did.ports; others = did.others; turns = did.turns })
+          (record { ready = did.ready; node = did.stays.node; room = did.stays.room; goes = did.goes; ports_are = did.ports; others = did.others; turns = did.turns })
           (c.loop-k.invariant.row before given then u);
     }
 
 pub returns-in_err-tick-clause-sames : goal.returns-in_err-tick-clause-sames
-returns-in_err-tick-clause-sames g c = each_trans g.E.BusEnd.same g.met.E.BusEnd.same_trans c.args.links.now c.loop-k.links c.tick.new.links c.loop-k.invariant.sames c.tick.ensures.sames
+returns-in_err-tick-clause-sames g c = each_trans g.E.BusEnd.same g.met.E.BusEnd.same_trans c.args.links.now c.loop-k.links c.tick.new.links c.loop-k.invariant.sames c.tick.ensures.stays.sames
 
 pub returns-in_err-tick-clause-board : goal.returns-in_err-tick-clause-board
 returns-in_err-tick-clause-board g c =

@@ -1,14 +1,20 @@
 use Rattle.std.proofs.Common.{◌+◌, arith, refl, ap}
 use Rattle.sja_link.specs.declared.entry.Entry.TheVariants.{Bit}
+use Rattle.sja_link.specs.BusLedgers.{link_of}
 use Rattle.sja_bus.specs.Inside.Following.{open_in}
-use Rattle.sja_bus.proofs.Lists.{each_refl, each_one, ok_map, err_map}
+use Rattle.sja_bus.proofs.Lists.{each_refl, ok_map, err_map}
+use Rattle.sja_bus.proofs.AtLinks.{stays_one}
 use Rattle.sja_bus.proofs.Breaking.{broken_link}
 use Rattle.sja_bus.proofs.Moving.{goes_one, goes_quiet}
 use Rattle.sja_bus.proofs.Bits.{rest_brings}
 use Rattle.sja_bus.proofs.seat.Seat.full_bit.Goals as goal
 
-pub returns-in_default-clause-sames : goal.returns-in_default-clause-sames
-returns-in_default-clause-sames g c = each_refl g.E.BusEnd.same g.met.E.BusEnd.same_refl c.args.links.now
+pub returns-in_default-clause-stays : goal.returns-in_default-clause-stays
+returns-in_default-clause-stays g c = record {
+  sames = each_refl g.E.BusEnd.same g.met.E.BusEnd.same_refl c.args.links.now;
+  node = ap (λ l. (link_of l).node) c.rest_bit.ensures.kept.1;
+  room = c.rest_bit.ensures.room;
+}
 
 pub returns-in_default-clause-goes : goal.returns-in_default-clause-goes
 returns-in_default-clause-goes g c =
@@ -20,22 +26,23 @@ pub returns-in_default-clause-brings : goal.returns-in_default-clause-brings
 returns-in_default-clause-brings g c =
     rest_brings c.rest_bit.result c.args.self.now.journal.entries c.rest_bit.new.self.journal.entries c.args.self.now.drives c.args.seen c.rest_bit.ensures.entered c.rest_bit.ensures.quiet
 
-pub returns-clause-sames : goal.returns-clause-sames
-returns-clause-sames g c =
-    let few = c.requires.ready.seat.runs (ap open_in c.in-Running.is) in
-    each_one g.E.BusEnd.same g.met.E.BusEnd.same_refl c.args.links.now (c.args.base + c.args.self.now.ended) c.index-links-here.result c.run_bit.new.end (omega (arith, few, c.requires.room)) c.run_bit.ensures.same
+pub returns-clause-stays : goal.returns-clause-stays
+returns-clause-stays g c =
+    let few = c.requires.at.ready.seat.runs (ap open_in c.in-Running.is) in
+    stays_one g.E.BusEnd.same g.met.E.BusEnd.same_refl c.args.self.now c.run_bit.new.self c.args.links.now (c.args.base + c.args.self.now.ended) c.index-links-here.result c.run_bit.new.end (omega (arith, few, c.requires.at.room))
+    c.run_bit.ensures.same (ap (λ l. l.node) c.run_bit.ensures.id) c.run_bit.ensures.room
 
 pub returns-clause-goes : goal.returns-clause-goes
 returns-clause-goes g c =
-    let few = c.requires.ready.seat.runs (ap open_in c.in-Running.is) in
+    let few = c.requires.at.ready.seat.runs (ap open_in c.in-Running.is) in
     ok_map c.run_bit.result
     (λ m. goes_one g.E.BusEnd.same g.E.BusEnd.stands g.met.E.BusEnd.same_refl c.args.self.now.journal.entries c.run_bit.new.self.journal.entries c.args.links.now c.args.base c.args.self.now.ended c.index-links-here.result c.run_bit.new.end
-    few c.requires.room c.run_bit.ensures.same m)
+    few c.requires.at.room c.run_bit.ensures.same m)
     c.run_bit.ensures.moves
 
 pub returns-clause-broken : goal.returns-clause-broken
 returns-clause-broken g c =
-    let E = g.E.BusEnd in let few = c.requires.ready.seat.runs (ap open_in c.in-Running.is) in
+    let E = g.E.BusEnd in let few = c.requires.at.ready.seat.runs (ap open_in c.in-Running.is) in
     err_map c.run_bit.result
     (λ f b. broken_link E.stands E.full c.args.self.now c.run_bit.new.self c.args.links.now c.args.base c.index-links-here.result f few b)
     c.run_bit.ensures.broken

@@ -17,7 +17,7 @@ returns-then-ordered-clause-goes g c =
 pub returns-then-ordered-clause-opens : goal.returns-then-ordered-clause-opens
 returns-then-ordered-clause-opens g c =
     let P : ℕ → Type 0 = λ n. g.B.Board.orders_are c.args.board.now n c.orders-ordered.result in
-    let are = subst P (c.number.ensures ∙ c.gather.ensures.node) c.orders-ordered.ensures in
+    let are = subst P (c.number.ensures ∙ c.gather.ensures.stays.node) c.orders-ordered.ensures in
     let yes : c.orders-ordered.result.abort ≡ true = search rules in
     ok_map c.abort.result (λ a. record { taken = c.gather.new.self.journal.entries; items = c.in_ok-gather.ensures.items; aborts = a.aborts; orders = c.orders-ordered.result; are_orders = are; unasked = λ no. let e : true ≡ false = sym yes ∙ no in absurd cc; applied = λ ordered. a.is }) c.abort.ensures.aborts
 
@@ -25,7 +25,7 @@ pub returns-else-ordered-clause-opens : goal.returns-else-ordered-clause-opens
 returns-else-ordered-clause-opens g c =
     let k = c.gather.new.self.journal.entries in
     let P : ℕ → Type 0 = λ n. g.B.Board.orders_are c.args.board.now n c.orders-ordered.result in
-    let are = subst P (c.number.ensures ∙ c.gather.ensures.node) c.orders-ordered.ensures in
+    let are = subst P (c.number.ensures ∙ c.gather.ensures.stays.node) c.orders-ordered.ensures in
     let no : c.orders-ordered.result.abort ≡ false = search rules in
     record { taken = k; items = c.in_ok-gather.ensures.items; aborts = record { changed = false; whole = sym (append-nil k) }; orders = c.orders-ordered.result; are_orders = are; unasked = λ no. refl; applied = λ ordered. let e : true ≡ false = sym ordered ∙ no in absurd cc }
 
@@ -41,6 +41,6 @@ pub returns-then-ordered-clause-stops : goal.returns-then-ordered-clause-stops
 returns-then-ordered-clause-stops g c =
     let E = g.E.BusEnd in let mid = c.gather.new.self in
     err_map c.abort.result
-    (λ f full. inr (full_for_abort E.same E.stands c.args.self.now mid c.abort.new.self c.args.links.now c.gather.new.links c.args.base f c.gather.ensures.node c.gather.ensures.room
+    (λ f full. inr (full_for_abort E.same E.stands c.args.self.now mid c.abort.new.self c.args.links.now c.gather.new.links c.args.base f c.gather.ensures.stays.node c.gather.ensures.stays.room
     c.in_ok-gather.ensures.items c.in_ok-gather.ensures.goes full))
     c.abort.ensures.full
