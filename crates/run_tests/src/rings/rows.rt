@@ -7,6 +7,7 @@ use sja_plan::read_plan;
 use std::alloc::Global;
 use std::string::String;
 use std::test::Fail;
+use worked_frames::runs::{RECEIVER_STRUCK, TRANSMITTER_STRUCK};
 
 /// Runs the plan: how many bits, and what became of the messages of an activation.
 fn told_of(alloc: Global, text: &str, node: u8, activation: u8) -> Result<(u32, Told), Fail> {
@@ -72,27 +73,11 @@ fn the_message_that_finds_no_room_is_overrun_and_later_ones_are_stored(
     are(told.overrun.as_slice(), &[[0; 3]])
 }
 
-/// The last EOF bit of a frame is struck at this node.
-fn struck_plan(alloc: Global, node: u8) -> Result<String, Fail> {
-    Ok(format!(in alloc;
-        "version = 1
-bits = 200
-turns = [\"node 0 3\", \"node 1 1\", \"rest\", \"node 1 2\"]
-faults = [\"{node} 60\"]
-[[node]]
-steps = [\"start\", \"load 000000\", \"command 01\"]
-[[node]]
-steps = [\"start\", \"release\", \"release\"]
-"
-    )?)
-}
-
 #[test]
 fn a_frame_whose_last_bit_is_struck_at_the_receiver_is_released_once(
     rt: HostRuntime,
 ) -> Result<(), Fail> {
-    let text = struck_plan(rt.alloc(), 1)?;
-    let (bits, told) = told_of(rt.alloc(), text.as_str(), 1, 1)?;
+    let (bits, told) = told_of(rt.alloc(), RECEIVER_STRUCK, 1, 1)?;
     assert_eq!(rt; bits, 79);
     are(told.released.as_slice(), &[[0; 3]])?;
     are(told.unread.as_slice(), &[])?;
@@ -103,8 +88,7 @@ fn a_frame_whose_last_bit_is_struck_at_the_receiver_is_released_once(
 fn a_frame_whose_last_bit_is_struck_at_the_transmitter_is_released_twice(
     rt: HostRuntime,
 ) -> Result<(), Fail> {
-    let text = struck_plan(rt.alloc(), 0)?;
-    let (bits, told) = told_of(rt.alloc(), text.as_str(), 1, 1)?;
+    let (bits, told) = told_of(rt.alloc(), TRANSMITTER_STRUCK, 1, 1)?;
     assert_eq!(rt; bits, 132);
     are(told.released.as_slice(), &[[0; 3], [0; 3]])?;
     are(told.unread.as_slice(), &[])?;

@@ -3,21 +3,14 @@
 use super::given::ends;
 use std::alloc::Global;
 use std::test::Fail;
-use worked_frames::runs::{STORED_ONCE, STORED_TWICE};
+use worked_frames::runs::{RECEIVER_STRUCK, STORED_ONCE, STORED_TWICE, TRANSMITTER_STRUCK};
 
-/// Node 0 sends the frame with identifier 0, and node 1 releases twice after the rest. This node is struck at this bit.
-fn struck(alloc: Global, node: u32, bit: u32) -> Result<String, Fail> {
-    Ok(format!(in alloc;
-        "version = 1
-bits = 200
-turns = [\"node 0 3\", \"node 1 1\", \"rest\", \"node 1 2\"]
-faults = [\"{node} {bit}\"]
-[[node]]
-steps = [\"start\", \"load 000000\", \"command 01\"]
-[[node]]
-steps = [\"start\", \"release\", \"release\"]
-"
-    )?)
+/// A plan whose strike is at bit 60, with the strike at this bit.
+fn struck_at(alloc: Global, plan: &str, bit: u32) -> Result<String, Fail> {
+    let Some((before, after)) = plan.split_once(" 60") else {
+        return Err("no strike at bit 60")?;
+    };
+    Ok(format!(in alloc; "{before} {bit}{after}")?)
 }
 
 /// What a report says of node 1 after its error counters, which the struck bit decides.
@@ -37,9 +30,9 @@ fn a_frame_that_is_struck_at_any_bit_is_stored_once_but_for_two(
     let once = told_of_receiver(STORED_ONCE);
     let twice = told_of_receiver(STORED_TWICE);
     for bit in 11..=60u32 {
-        let plan = struck(rt.alloc(), 1, bit)?;
+        let plan = struck_at(rt.alloc(), RECEIVER_STRUCK, bit)?;
         assert!(rt; ends(rt.alloc(), &plan, once), "node 1 at bit {bit}");
-        let plan = struck(rt.alloc(), 0, bit)?;
+        let plan = struck_at(rt.alloc(), TRANSMITTER_STRUCK, bit)?;
         let end = if bit < 59 { once } else { twice };
         assert!(rt; ends(rt.alloc(), &plan, end), "node 0 at bit {bit}");
     }
