@@ -1,7 +1,7 @@
 //! Bus-off: what a driver still has, and what it has no more.
 
 use super::bus_step::BusStep::{AtRest, Bits, Rest};
-use super::given::{MESSAGE, RXERR, STATUS, TRANSMIT, TXERR};
+use super::given::{MESSAGE, RXERR, STATUS, StrikeRow, TRANSMIT, TXERR};
 use super::left::Left::{Nodes, Rxerr, Txerr, Verdicts};
 use super::left::leaves;
 use super::rig::Rig;
@@ -15,7 +15,7 @@ use std::test::Fail;
 /// Node 0 is struck at 32 starts of its frame from bit 64 on, 16 of them with an active error flag and 16 with a
 /// passive one: the flag, its delimiter and the intermission after a start take 17 bits, and with the passive flag the
 /// eight bits of suspension more.
-const STARTS: [(u8, u32, u32, u32); 2] = [(0, 64, 18, 16), (0, 360, 26, 16)];
+const STARTS: [StrikeRow; 2] = [(0, 64, 18, 16), (0, 360, 26, 16)];
 
 /// Node 0 has got a frame of node 1 with bit 64, and then goes bus-off in bit 750.
 const OFF: u32 = 750;

@@ -29,8 +29,11 @@ pub const RXERR: u8 = 14;
 /// The address of the transmit error counter.
 pub const TXERR: u8 = 15;
 
-/// The script of strikes, each by its node, first bit, distance and number.
-pub fn script_of(alloc: Global, rows: &[(u8, u32, u32, u32)]) -> Result<FaultScript, Fail> {
+/// A strike: its node, first bit, distance and number.
+pub type StrikeRow = (u8, u32, u32, u32);
+
+/// The script of these strikes.
+pub fn script_of(alloc: Global, rows: &[StrikeRow]) -> Result<FaultScript, Fail> {
     let mut strikes = Vec::with_capacity(alloc, rows.len())?;
     for (node, bit, every, times) in rows {
         strikes.push(Strike {

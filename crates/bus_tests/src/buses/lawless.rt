@@ -2,6 +2,7 @@
 
 ghost use Rattle.std.specs.Prelude.{◌≡◌};
 
+use super::given::{StrikeRow, script_of};
 use super::wired::Wired;
 use sja_bus::BusFault;
 use sja_link::{BusEnd, Down, LinkId, Up};
@@ -94,17 +95,14 @@ impl BusEnd for Lawless {
 }
 
 /// A bus of two nodes after power-on over such links, which show nothing at first, for 1,000 bits, with these strikes.
-pub fn over_lawless_ends(
-    alloc: Global,
-    strikes: &[(u8, u32, u32, u32)],
-) -> Result<Wired<Lawless>, Fail> {
+pub fn over_lawless_ends(alloc: Global, strikes: &[StrikeRow]) -> Result<Wired<Lawless>, Fail> {
     let mut links = Vec::new(alloc);
     for node in 0..2 {
         for activation in 1..=8 {
             links.push(Lawless::silent(LinkId { node, activation }))?;
         }
     }
-    Wired::new(alloc, 1, 2, 1_000, strikes, links)
+    Wired::new(alloc, 1, 2, 1_000, script_of(alloc, strikes)?, links)
 }
 
 impl Wired<Lawless> {

@@ -1,5 +1,6 @@
 //! [`Rig`]: a bus with its links, its ports and its drivers, in one thread.
 
+use super::given::{StrikeRow, script_of};
 use super::hand::Hand;
 use super::places::{link_at, place_of, port_at};
 use super::wired::Wired;
@@ -21,22 +22,22 @@ pub struct Rig {
 }
 
 impl Rig {
-    /// So many nodes after power-on, for so many bits, with these strikes: each its node, first bit, distance and
-    /// number.
+    /// So many nodes after power-on, for so many bits, with these strikes.
     pub fn new(
         alloc: Global,
         version: u8,
         nodes: u8,
         bits: u32,
-        strikes: &[(u8, u32, u32, u32)],
+        strikes: &[StrikeRow],
     ) -> Result<Rig, Fail> {
         let mut hands = Vec::with_capacity(alloc, usize::from(nodes))?;
         for node in 0..nodes {
             hands.push(Hand::new(node))?;
         }
         let links = serial_links(alloc, nodes)?;
+        let script = script_of(alloc, strikes)?;
         Ok(Rig {
-            bus: Wired::new(alloc, version, nodes, bits, strikes, links)?,
+            bus: Wired::new(alloc, version, nodes, bits, script, links)?,
             hands,
         })
     }

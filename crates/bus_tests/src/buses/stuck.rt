@@ -1,7 +1,7 @@
 //! An end that gives every put back.
 
 use super::bus_step::BusStep::{BitFails, Bits, Several, SeveralFail};
-use super::given::{are_same_logs, request};
+use super::given::{are_same_logs, request, script_of};
 use super::left::Left::{Nodes, Verdicts};
 use super::left::leaves;
 use super::wired::Wired;
@@ -56,7 +56,7 @@ fn over_closed_ends(alloc: Global) -> Result<Wired<Closed>, Fail> {
     for link in serial_links(alloc, 2)? {
         links.push(Closed(link))?;
     }
-    Wired::new(alloc, 1, 2, 100, &[], links)
+    Wired::new(alloc, 1, 2, 100, script_of(alloc, &[])?, links)
 }
 
 /// Gives an item on the link at this place. Whether it was taken.

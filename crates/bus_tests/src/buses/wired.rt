@@ -2,9 +2,9 @@
 
 ghost use Rattle.std.specs.Prelude.{◌≡◌, length};
 
-use super::given::script_of;
 use sja_bus::{Bus, BusFault, NodeLog, SerialBoard, are_links_of};
 use sja_link::BusEnd;
+use sja_script::FaultScript;
 use std::alloc::Global;
 use std::test::Fail;
 
@@ -23,21 +23,20 @@ pub struct Wired<E> {
 }
 
 impl<E: BusEnd + Drop> Wired<E> {
-    /// So many nodes after power-on, for so many bits, with these strikes: each its node, first bit, distance and
-    /// number.
+    /// So many nodes after power-on, for so many bits, struck by this script, over these links.
     pub fn new(
         alloc: Global,
         version: u8,
         nodes: u8,
         bits: u32,
-        strikes: &[(u8, u32, u32, u32)],
+        script: FaultScript,
         links: Vec<E>,
     ) -> Result<Wired<E>, Fail> {
         if nodes == 0 || nodes > 8 || bits == 0 || bits > 200_000 {
             return Err("no such bus")?;
         }
         Ok(Wired {
-            bus: Bus::new(alloc, nodes, bits, script_of(alloc, strikes)?)?,
+            bus: Bus::new(alloc, nodes, bits, script)?,
             links,
             board: SerialBoard::new(alloc, nodes, version)?,
             nodes,
