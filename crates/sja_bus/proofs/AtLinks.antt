@@ -4,7 +4,7 @@ use Rattle.std.specs.Prelude.{slice_index_or, slice_set}
 use Rattle.sja_link.specs.BusLedgers.{link_of}
 use Rattle.sja_bus.specs.declared.seat.Seat.{Seat}
 use Rattle.sja_bus.specs.Inside.AtLinks.{StaysAt}
-use Rattle.sja_bus.proofs.Lists.{each_refl, each_trans, each_one}
+use Rattle.sja_link.proofs.Related.{each_refl, each_trans, each_one}
 
 pub stays_refl : {E : Type 0} (same : E → E → Type 0) → ((x : E) → same x x) → (s : Seat) (links : List E) → StaysAt same s s links links
 stays_refl same r s links = record { sames = each_refl same r links; node = refl; room = refl }

@@ -1,7 +1,7 @@
 -- A bit that broke off, of one node and of all.
 use Rattle.std.proofs.Common.{◌≡◌, ℕ, suc, ◌+◌, ◌*◌, ◌<◌, ◌≤◌, Option, None, Some, List, [], ◌∷◌, ◌++◌, length, inl, inr, sym, ap, ◌∙◌, subst, arith}
 use Rattle.std.specs.Prelude.{◌⊎◌, slice_index_or, slice_set}
-use Rattle.std.proofs.lemmas.List.{length-append}
+use Rattle.std.proofs.lemmas.List.{length-append, get_or-set_same as set_here, get_or_default as or_same}
 use Rattle.can_bits.specs.declared.level.Level.{Level}
 use Rattle.sja_regs.specs.declared.orders.Orders.{Orders}
 use Rattle.sja_script.specs.declared.strike.Strike.{Strike}
@@ -25,8 +25,6 @@ use Rattle.sja_bus.specs.Inside.Refusing.{HaveRoom, SeatRefuses, SeatFull, SeatB
 use Rattle.sja_bus.specs.Inside.Rows.{AreReady, GoesAll, Done, journals_of, untold_of}
 use Rattle.sja_bus.specs.Buses.{BusValue}
 use Rattle.sja_bus.proofs.Refusing.{not_taken}
-use Rattle.sja_bus.proofs.Lists.{set_here}
-use Rattle.sja_bus.proofs.Many.{or_same}
 use Rattle.sja_bus.proofs.Running.{journal_is, count_is}
 
 -- ---- one node

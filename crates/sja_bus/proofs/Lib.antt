@@ -1,4 +1,4 @@
-pub mod Lists
+pub mod Results
 pub mod Retrying
 pub mod Begun
 pub mod Steps

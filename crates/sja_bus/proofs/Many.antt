@@ -1,23 +1,20 @@
 -- One node of many.
-use Rattle.std.proofs.Common.{◌≡◌, ℕ, zero, suc, ◌+◌, ◌*◌, ◌<◌, ◌≤◌, List, [], ◌∷◌, length, refl, sym, ap, ◌∙◌, subst, arith, inl, inr}
+use Rattle.std.proofs.Common.{◌≡◌, ℕ, suc, ◌+◌, ◌*◌, ◌<◌, ◌≤◌, List, length, refl, sym, ap, ◌∙◌, subst, arith, inl, inr}
 use Rattle.std.specs.Prelude.{slice_index_or, slice_set, ◌⊎◌}
 use Rattle.std.proofs.Math.ListN.{length-set}
 use Rattle.std.proofs.lemmas.Bool.{cases_eq}
+use Rattle.std.proofs.lemmas.Slice.Zip.{AllZip-long as each_length}
+use Rattle.std.proofs.lemmas.List.{get_or-set_same as set_here, get_or-set_other as set_else, get_or_default as or_same}
 use Rattle.sja_link.specs.declared.link_id.LinkId.{LinkId}
 use Rattle.sja_link.specs.declared.entry.Entry.{Entry}
 use Rattle.sja_link.specs.Lists.{Lists}
 use Rattle.sja_link.specs.Accounts.{Account}
+use Rattle.sja_link.specs.Related.{EachRelated}
+use Rattle.sja_link.proofs.Related.{each_refl, each_trans, each_at}
 use Rattle.sja_bus.specs.declared.seat.Seat.{Seat}
 use Rattle.sja_bus.proofs.Moving.{grows_refl, grows_trans}
-use Rattle.sja_bus.specs.Links.{Grows, Goes, Kept, EachRelated, Numbered}
+use Rattle.sja_bus.specs.Links.{Grows, Goes, Kept, Numbered}
 use Rattle.sja_bus.specs.Inside.Rows.{IsOf, AreReady, GoesAll, EachSeat, Done}
-use Rattle.sja_bus.proofs.Lists.{each_refl, each_trans, each_at, each_length, set_here, set_else}
-
--- inside a list the default isn't used
-pub or_same : {A : Type 0} (xs : List A) (i : ℕ) (d e : A) → i < length xs → slice_index_or xs i d ≡ slice_index_or xs i e
-or_same [] i d e h = absurd (omega arith)
-or_same (x ∷ xs) zero d e h = refl
-or_same (x ∷ xs) (suc i) d e h = or_same xs i d e (omega arith)
 
 -- links of another node are as they were
 pub kept_others : {E : Type 0} (stands : E → Lists → Type 0) (j : List Entry) (links after : List E) (k m : ℕ) (h : ℕ → Account) → (k ≡ m → ⊥) →
@@ -44,7 +41,7 @@ goes_all_one same stands t seats now links here then k s new few len p q = recor
         let moved : Kept stands new.journal.entries then (8 * m) h = subst (λ (n : ℕ). Kept stands new.journal.entries then (8 * n) h) eq (q.kept h this) in
         subst (λ (x : Seat). Kept stands x.journal.entries then (8 * m) h) (sym e1) moved
     | inr ne ↦
-        let e1 : slice_index_or (slice_set now k new) m e ≡ slice_index_or now m e = set_else now k m new e ne in
+        let e1 : slice_index_or (slice_set now k new) m e ≡ slice_index_or now m e = set_else now k m new e (λ x. ne (sym x)) in
         rw e1 (kept_others stands (slice_index_or now m e).journal.entries here then k m h ne q.others (p.kept m e h l was))
   ];
   grows = λ m e l. elim (cases_eq k m) [
@@ -54,7 +51,7 @@ goes_all_one same stands t seats now links here then k s new few len p q = recor
         let was : Grows (slice_index_or seats m e).journal.entries (slice_index_or now k s).journal.entries = subst (λ (x : Seat). Grows (slice_index_or seats m e).journal.entries x.journal.entries) at (p.grows m e l) in
         subst (λ (x : Seat). Grows (slice_index_or seats m e).journal.entries x.journal.entries) (sym e1) (grows_trans (slice_index_or seats m e).journal.entries (slice_index_or now k s).journal.entries new.journal.entries was q.grows)
     | inr ne ↦
-        let e1 : slice_index_or (slice_set now k new) m e ≡ slice_index_or now m e = set_else now k m new e ne in
+        let e1 : slice_index_or (slice_set now k new) m e ≡ slice_index_or now m e = set_else now k m new e (λ x. ne (sym x)) in
         subst (λ (x : Seat). Grows (slice_index_or seats m e).journal.entries x.journal.entries) (sym e1) (p.grows m e l)
   ];
 }
@@ -65,7 +62,7 @@ ready_one seats k new few was is m s l = elim (cases_eq k m) [
       let e1 : slice_index_or (slice_set seats k new) m s ≡ new = ap (λ n. slice_index_or (slice_set seats k new) n s) (sym eq) ∙ set_here seats k new s few in
       subst (λ (x : Seat). IsOf x m) (sym e1) (subst (λ (n : ℕ). IsOf new n) eq is)
   | inr ne ↦
-      let e1 : slice_index_or (slice_set seats k new) m s ≡ slice_index_or seats m s = set_else seats k m new s ne in
+      let e1 : slice_index_or (slice_set seats k new) m s ≡ slice_index_or seats m s = set_else seats k m new s (λ x. ne (sym x)) in
       subst (λ (x : Seat). IsOf x m) (sym e1) (was m s (rw length-set at l))
 ]
 
@@ -103,7 +100,7 @@ done_one R k before after s new few len does h m e l = elim (cases_eq k m) [
         (λ far. absurd (omega (arith, far, eq))),
       )
   | inr ne ↦
-      let e1 : slice_index_or (slice_set after k new) m e ≡ slice_index_or after m e = set_else after k m new e ne in
+      let e1 : slice_index_or (slice_set after k new) m e ≡ slice_index_or after m e = set_else after k m new e (λ x. ne (sym x)) in
       let P : Seat → Type 0 = λ x. R m (slice_index_or before m e) x in
       ((λ near. subst P (sym e1) ((h m e l).0 (omega (arith, near, ne)))), (λ far. e1 ∙ (h m e l).1 (omega (arith, far))))
 ]
@@ -128,7 +125,7 @@ dry_one {E} dry seats links after k new few others here was m s d l = elim (case
       let at = subst (λ (n : ℕ). (d : E) → new.ended < 8 → dry (slice_index_or after (8 * n + new.ended) d)) eq here in
       subst (λ (x : Seat). x.ended < 8 → dry (slice_index_or after (8 * m + x.ended) d)) (sym e1) (at d)
   | inr ne ↦
-      let e1 : slice_index_or (slice_set seats k new) m s ≡ slice_index_or seats m s = set_else seats k m new s ne in
+      let e1 : slice_index_or (slice_set seats k new) m s ≡ slice_index_or seats m s = set_else seats k m new s (λ x. ne (sym x)) in
       subst (λ (x : Seat). x.ended < 8 → dry (slice_index_or after (8 * m + x.ended) d)) (sym e1)
       (λ run. let far : (8 * m + (slice_index_or seats m s).ended < 8 * k) ⊎ (8 * k + 8 ≤ 8 * m + (slice_index_or seats m s).ended) = grind arith in
       rw (others (8 * m + (slice_index_or seats m s).ended) d far) (was m s d (omega arith) run))

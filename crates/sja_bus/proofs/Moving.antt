@@ -2,6 +2,7 @@
 use Rattle.std.proofs.Common.{◌≡◌, ℕ, suc, ◌+◌, ◌<◌, ◌≤◌, Bool, true, false, List, [], ◌∷◌, ◌++◌, length, refl, sym, ap, ◌∙◌, subst, append_assoc, append-nil, arith, inl, inr}
 use Rattle.std.specs.Prelude.{slice_index_or, slice_set}
 use Rattle.std.proofs.lemmas.Bool.{cases_eq}
+use Rattle.std.proofs.lemmas.List.{get_or-set_same as set_here, get_or-set_other as set_else}
 use Rattle.sja_link.specs.declared.entry.Entry.{Entry}
 use Rattle.sja_link.specs.declared.entry.Entry.TheVariants.{Abort}
 use Rattle.sja_link.specs.Lists.{Lists}
@@ -9,9 +10,9 @@ use Rattle.sja_link.specs.Places.{past, place_of}
 use Rattle.sja_link.specs.Parts.{part}
 use Rattle.sja_link.specs.Accounts.{Account, account, with_entry}
 use Rattle.sja_link.proofs.Entering.{account_here, account_else, part_else}
+use Rattle.sja_link.proofs.Related.{each_refl, each_trans, each_one}
 use Rattle.sja_bus.specs.Links.{Moves, Goes, Grows}
 use Rattle.sja_bus.specs.OneBit.{HasAbort, abort_as}
-use Rattle.sja_bus.proofs.Lists.{each_refl, each_trans, each_one, set_here, set_else}
 
 pub grows_refl : (j : List Entry) → Grows j j
 grows_refl j = ([], sym (append-nil j))

@@ -1,6 +1,7 @@
 -- A bus after bits in which nothing was taken, as contracts see it.
 use Rattle.std.proofs.Common.{◌≡◌, ℕ, ◌+◌, ◌-◌, ◌≤◌, Bool, Option, Some, None, List, length, refl, sym, ap, ◌∙◌, subst, arith}
 use Rattle.sja_link.specs.declared.bus_end.BusEnd.{Ghosts as Ends}
+use Rattle.sja_link.specs.Related.{EachRelated}
 use Rattle.sja_script.specs.declared.strike.Strike.{Strike}
 use Rattle.sja_bus.specs.declared.board.Board.{Ghosts as Ports}
 use Rattle.sja_bus.specs.declared.broken_off.BrokenOff.{BrokenOff}
@@ -8,7 +9,6 @@ use Rattle.sja_bus.specs.declared.bus_fault.BusFault.{BusFault}
 use Rattle.sja_bus.specs.declared.seat.Seat.{Seat}
 use Rattle.sja_bus.specs.Boards.{KeepsOthers}
 use Rattle.sja_bus.specs.Buses.{BusValue}
-use Rattle.sja_bus.specs.Links.{EachRelated}
 use Rattle.sja_bus.specs.Reasons.{room_for}
 use Rattle.sja_bus.specs.Several.{moment, Keeps}
 use Rattle.sja_bus.specs.Inside.Refusing.{HaveRoom}

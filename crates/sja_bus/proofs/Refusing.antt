@@ -3,7 +3,7 @@ use Rattle.std.proofs.Common.{◌≡◌, ℕ, suc, ◌+◌, ◌-◌, ◌*◌, �
 use Rattle.std.specs.Prelude.{slice_index_or, slice_set}
 use Rattle.std.proofs.Math.ListN.{length-set}
 use Rattle.std.proofs.lemmas.Bool.{cases_eq}
-use Rattle.std.proofs.lemmas.List.{length-append}
+use Rattle.std.proofs.lemmas.List.{length-append, get_or-set_same as set_here, get_or-set_other as set_else, get_or_default as or_same}
 use Rattle.sja_link.specs.declared.entry.Entry.{Entry}
 use Rattle.sja_link.specs.Lists.{Lists, with_taken}
 use Rattle.sja_link.specs.Accounts.{Account, account}
@@ -18,8 +18,6 @@ use Rattle.sja_bus.specs.Inside.Seats.{IsSound}
 use Rattle.sja_bus.specs.Inside.Taking.{RefusesHere}
 use Rattle.sja_bus.specs.Inside.Refusing.{HaveRoom, AreFree, SeatRefuses}
 use Rattle.sja_bus.specs.Inside.Rows.{AreReady, GoesAll, Done, journals_of}
-use Rattle.sja_bus.proofs.Lists.{set_here, set_else}
-use Rattle.sja_bus.proofs.Many.{or_same}
 use Rattle.sja_bus.proofs.Running.{journal_is, count_is}
 use Rattle.sja_bus.proofs.Wires.{index_before, index_last}
 
@@ -92,7 +90,7 @@ rooms_one n seats k s new few same was m t near = elim (cases_eq k m) [
       let e : slice_index_or (slice_set seats k new) m t ≡ new = ap (λ i. slice_index_or (slice_set seats k new) i t) (sym eq) ∙ set_here seats k new t few in
       ap (λ (x : Seat). x.journal.room) e ∙ same ∙ was k s few
   | inr ne ↦
-      let e : slice_index_or (slice_set seats k new) m t ≡ slice_index_or seats m t = set_else seats k m new t ne in
+      let e : slice_index_or (slice_set seats k new) m t ≡ slice_index_or seats m t = set_else seats k m new t (λ x. ne (sym x)) in
       ap (λ (x : Seat). x.journal.room) e ∙ was m t (rw length-set at near)
 ]
 
@@ -112,7 +110,7 @@ free_one n k x was seats s new few first same more room before free m t near = e
       let long = ap (λ (l : List Entry). length l) more in let last = length-append old.journal.entries (x ∷ []) in
       subst P (sym e) (omega (arith, fits, long, last, room))
   | inr ne ↦
-      let e : slice_index_or (slice_set seats k new) m t ≡ slice_index_or seats m t = set_else seats k m new t ne in
+      let e : slice_index_or (slice_set seats k new) m t ≡ slice_index_or seats m t = set_else seats k m new t (λ x. ne (sym x)) in
       let P : Seat → Type 0 = λ y. n ≤ y.journal.room - length y.journal.entries in
       subst P (sym e) (free m t (rw length-set at near))
 ]

@@ -4,12 +4,13 @@ use Rattle.std.specs.Prelude.{slice_index_or, slice_set}
 use Rattle.sja_link.specs.declared.link_id.LinkId.{LinkId}
 use Rattle.sja_link.specs.Lists.{Lists}
 use Rattle.sja_bus.specs.declared.seat.Seat.{Seat}
-use Rattle.sja_bus.specs.Links.{EachRelated, Goes, Numbered}
+use Rattle.sja_link.specs.Related.{EachRelated}
+use Rattle.sja_bus.specs.Links.{Goes, Numbered}
 use Rattle.sja_bus.specs.Inside.Seats.{IsReady}
 use Rattle.sja_bus.specs.Inside.AtLinks.{StandsAt, StaysAt}
 use Rattle.sja_bus.specs.Inside.Rows.{AreReady, GoesAll, Done}
 use Rattle.sja_bus.specs.Inside.Refusing.{HaveRoom}
-use Rattle.sja_bus.proofs.Lists.{each_length}
+use Rattle.std.proofs.lemmas.Slice.Zip.{AllZip-long as each_length}
 use Rattle.sja_bus.proofs.Many.{goes_all_refl, goes_all_one, ready_one, numbered_at, dry_one, done_none, done_one}
 use Rattle.sja_bus.proofs.Refusing.{rooms_one}
 

@@ -5,6 +5,7 @@ use Rattle.can_bits.specs.declared.level.Level.{Level}
 use Rattle.can_node.specs.Stands.{ShowsRest}
 use Rattle.sja_link.specs.declared.entry.Entry.{Entry}
 use Rattle.sja_link.specs.Lists.{Lists}
+use Rattle.sja_link.specs.Related.{EachRelated}
 use Rattle.sja_regs.specs.declared.orders.Orders.{Orders}
 use Rattle.sja_regs.specs.declared.bus_turn.BusTurn.{BusTurn}
 use Rattle.sja_script.specs.declared.strike.Strike.{Strike}
@@ -16,7 +17,6 @@ use Rattle.sja_bus.specs.StrikesByBit.{IsAmong}
 use Rattle.sja_bus.specs.Wire.{wired}
 use Rattle.sja_bus.specs.Boards.{KeepsOthers}
 use Rattle.sja_bus.specs.Buses.{BusValue}
-use Rattle.sja_bus.specs.Links.{EachRelated}
 use Rattle.sja_bus.specs.OneBit.{Opens}
 use Rattle.sja_bus.specs.Reasons.{room_for, StopsBit}
 use Rattle.sja_bus.specs.Several.{Moment, SomeWork, IsOneBit, AreBits, WorksIf}

@@ -1,7 +1,9 @@
 -- Bits one after another, as far as they came.
 use Rattle.std.proofs.Common.{◌≡◌, ℕ, suc, ◌+◌, ◌≤◌, Bool, None, length, refl, ◌∙◌, subst, arith}
+use Rattle.std.proofs.lemmas.Slice.Zip.{AllZip-long as each_length}
 use Rattle.sja_link.specs.Lists.{Lists}
 use Rattle.sja_link.specs.declared.bus_end.BusEnd.{Ghosts as Ends}
+use Rattle.sja_link.proofs.Related.{each_refl, each_trans}
 use Rattle.sja_regs.specs.declared.orders.Orders.{Orders}
 use Rattle.sja_bus.specs.declared.board.Board.{Ghosts as Ports}
 use Rattle.sja_bus.specs.declared.bus_fault.BusFault.{BusFault}
@@ -9,7 +11,6 @@ use Rattle.sja_bus.specs.Boards.{KeepsOthers}
 use Rattle.sja_bus.specs.Several.{Moment, Keeps, OneBit, AreBits, WorksIf, BreaksOff}
 use Rattle.sja_bus.specs.Several.AreBits.{no_bit, one_more}
 use Rattle.sja_bus.specs.Inside.RunningOn.{AreFor, IsSoFar}
-use Rattle.sja_bus.proofs.Lists.{each_refl, each_trans, each_length}
 use Rattle.sja_bus.proofs.Many.{numbered_kept}
 
 -- the ports from a number on are as they were, over two times

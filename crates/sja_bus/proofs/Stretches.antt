@@ -3,7 +3,7 @@ use Rattle.std.proofs.Common.{◌≡◌, ℕ, zero, suc, ◌+◌, ◌<◌, ◌�
 use Rattle.std.specs.Prelude.{slice_index_or, slice_set, ◌↔◌}
 use Rattle.std.specs.Int.{bit_at}
 use Rattle.std.proofs.lemmas.Bool.{ne_eqb}
-use Rattle.std.proofs.lemmas.List.{length-map}
+use Rattle.std.proofs.lemmas.List.{length-map, get_or-set_same as set_here, get_or_default as or_same}
 use Rattle.std.proofs.lemmas.Nat.Bits.{bit_at-zero}
 use Rattle.can_bits.specs.declared.level.Level.{Level}
 use Rattle.can_bits.specs.declared.level.Level.TheVariants.{Recessive}
@@ -28,8 +28,6 @@ use Rattle.sja_bus.specs.Inside.Rows.{IsOf, AreReady, Done, AreCalm, journals_of
 use Rattle.sja_bus.specs.Inside.Whole.{IsRowBit}
 use Rattle.sja_bus.specs.Inside.Idling.{AreResting, IsFullAfter, IsFullBy, after_bits, all_after}
 use Rattle.sja_bus.specs.Inside.Refusing.{HaveRoom}
-use Rattle.sja_bus.proofs.Lists.{set_here}
-use Rattle.sja_bus.proofs.Many.{or_same}
 use Rattle.sja_bus.proofs.Running.{journal_is, untold_is, count_is}
 use Rattle.sja_bus.proofs.Journals.{is_bit, wired_row}
 use Rattle.sja_bus.proofs.AtRest.{after_none, ready_after, turns_after, opens_after, news_none}

@@ -1,5 +1,5 @@
 -- What the links of a node stand for (this project's own rule).
-use Rattle.std.specs.Prelude.{◌≡◌, ◌+◌, ◌*◌, ◌<◌, ◌≤◌, ◌⊎◌, ℕ, suc, List, [], ◌∷◌, ◌++◌, length, slice_index_or}
+use Rattle.std.specs.Prelude.{◌≡◌, ◌+◌, ◌*◌, ◌<◌, ◌≤◌, ◌⊎◌, ℕ, suc, List, ◌++◌, length, slice_index_or}
 use Rattle.sja_link.specs.declared.up.Up.TheVariants.{Start, Credit, Send, Stop}
 use Rattle.sja_link.specs.declared.entry.Entry.{Entry}
 use Rattle.sja_link.specs.declared.entry.Entry.TheVariants.{Bit, Up as Item, Abort, Stored, Overrun, Off}
@@ -7,6 +7,7 @@ use Rattle.sja_link.specs.declared.link_id.LinkId.{LinkId}
 use Rattle.sja_link.specs.Gathering.{total}
 use Rattle.sja_link.specs.Lists.{Lists}
 use Rattle.sja_link.specs.Parts.{part}
+use Rattle.sja_link.specs.Related.{EachRelated}
 use Rattle.sja_link.specs.Accounts.{Account, account}
 
 -- how many links, and so activations, a node has
@@ -43,13 +44,6 @@ pub record Moves {E : Type 0} (stands : E → Lists → Type 0) (old new : E) (j
 abbrev pub Kept : {E : Type 0} → (E → Lists → Type 0) → List Entry → List E → ℕ → (ℕ → Account) → Type 0
 Kept {E} stands j links base h =
     (a : ℕ) (d : E) → a < per_node → stands (slice_index_or links (base + a) d) (account j (suc a) (h a))
-
--- each element is related to the one at its place
-abbrev pub EachRelated : {A B : Type 0} → (A → B → Type 0) → List A → List B → Type 0
-EachRelated R [] [] = Unit {0}
-EachRelated R [] (y ∷ ys) = ⊥
-EachRelated R (x ∷ xs) [] = ⊥
-EachRelated R (x ∷ xs) (y ∷ ys) = R x y × EachRelated R xs ys
 
 -- the links of a node moved with its journal; every other link is as it was
 pub record Goes {E : Type 0} (same : E → E → Type 0) (stands : E → Lists → Type 0) (j k : List Entry)

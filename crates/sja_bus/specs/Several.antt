@@ -4,6 +4,7 @@ use Rattle.sja_link.specs.declared.entry.Entry.{Entry}
 use Rattle.sja_link.specs.Lists.{Lists}
 use Rattle.sja_link.specs.Records.{record_of}
 use Rattle.sja_link.specs.declared.bus_end.BusEnd.{Ghosts as Ends}
+use Rattle.sja_link.specs.Related.{EachRelated}
 use Rattle.sja_regs.specs.declared.orders.Orders.{Orders}
 use Rattle.sja_regs.specs.declared.bus_turn.BusTurn.{BusTurn}
 use Rattle.sja_bus.specs.declared.board.Board.{Ghosts as Ports}
@@ -11,7 +12,6 @@ use Rattle.sja_bus.specs.declared.bus_fault.BusFault.{BusFault}
 use Rattle.sja_bus.specs.Boards.{KeepsOthers}
 use Rattle.sja_bus.specs.Buses.{BusValue, KeepsAll, AllTold, IsBit}
 use Rattle.sja_bus.specs.Lawful.{IsBusRun}
-use Rattle.sja_bus.specs.Links.{EachRelated}
 use Rattle.sja_bus.specs.Reasons.{StopsBit}
 use Rattle.sja_bus.specs.Resting.{RestsAs}
 use Rattle.sja_bus.specs.Wire.{journal_at}

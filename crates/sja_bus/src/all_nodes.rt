@@ -2,10 +2,11 @@
 
 ghost use Rattle.std.specs.Prelude.{◌≡◌, ◌*◌, ◌<◌, ◌≤◌, ◌+◌, if◌then◌else◌, ℕ, List};
 ghost use Rattle.std.specs.Prelude.{suc, false, [], ◌∷◌, length, IfOk, OnOk, IfErr, ◌⊎◌};
+ghost use Rattle.sja_link.specs.Related.{EachRelated};
 ghost use Rattle.sja_regs.specs.declared.bus_turn.BusTurn.{BusTurn as Turn};
 ghost use Rattle.can_bits.specs.Digits.{opposite};
 ghost use Rattle.sja_bus.specs.Wire.{wired};
-ghost use Rattle.sja_bus.specs.Links.{EachRelated, Numbered};
+ghost use Rattle.sja_bus.specs.Links.{Numbered};
 ghost use Rattle.sja_bus.specs.Inside.Rows.{AreReady, AreSeated, AreTold, EachSeat, SeatTakes, SeatNews};
 ghost use Rattle.sja_bus.specs.Inside.Rows.{SeatOpens, SeatOpensNews, SeatTurns, GoesAll, AllRead, driven_by};
 ghost use Rattle.sja_bus.specs.Boards.{KeepsOthers};

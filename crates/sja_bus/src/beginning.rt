@@ -1,7 +1,7 @@
 //! A controller at the beginning and at the end of a run.
 
 ghost use Rattle.std.specs.Prelude.{◌≡◌, ◌≤◌, [], vec_len, vec_capacity};
-ghost use Rattle.sja_bus.specs.Links.{EachRelated};
+ghost use Rattle.sja_link.specs.Related.{EachRelated};
 ghost use Rattle.sja_bus.specs.Inside.Ending.{IsLog};
 
 use super::activity::Activity;

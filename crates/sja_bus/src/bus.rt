@@ -59,10 +59,11 @@ impl Bus {
     ghost use Rattle.std.specs.Prelude.{true, false, length, map, slice_index_or, OnOk, IfOk, IfErr};
     ghost use Rattle.sja_bus.specs.declared.bus_fault.BusFault.{BusFault as Fault};
     ghost use Rattle.sja_bus.specs.declared.bus_fault.BusFault.TheVariants.{BitsSpent};
-    ghost use Rattle.sja_bus.specs.Links.{EachRelated, Numbered};
+    ghost use Rattle.sja_bus.specs.Links.{Numbered};
     ghost use Rattle.sja_bus.specs.OneBit.{HasItems};
     ghost use Rattle.sja_link.specs.Places.{place_of};
     ghost use Rattle.sja_link.specs.Records.{record_of};
+    ghost use Rattle.sja_link.specs.Related.{EachRelated};
     ghost use Rattle.sja_bus.specs.declared.node_log.NodeLog.{NodeLog as Log};
     ghost use Rattle.sja_bus.specs.Wire.{journal_at};
     ghost use Rattle.sja_bus.specs.Resting.{RestsAs};

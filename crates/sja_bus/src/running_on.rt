@@ -3,10 +3,10 @@
 ghost use Rattle.std.specs.Prelude.{◌≡◌, ◌+◌, ◌-◌, ◌<◌, ◌≤◌, ℕ, true, false, length};
 ghost use Rattle.std.specs.Prelude.{slice_index_or, IfOk, OnOk, IfErr, MatchResult};
 ghost use Rattle.can_node.specs.Stands.{ShowsRest};
+ghost use Rattle.sja_link.specs.Related.{EachRelated};
 ghost use Rattle.sja_bus.specs.declared.seat.Seat.{Seat as Seated};
 ghost use Rattle.sja_bus.specs.StrikesByBit.{IsAmong};
 ghost use Rattle.sja_bus.specs.Boards.{KeepsOthers};
-ghost use Rattle.sja_bus.specs.Links.{EachRelated};
 ghost use Rattle.sja_bus.specs.Inside.Refusing.{HaveRoom, AreFree};
 ghost use Rattle.sja_bus.specs.Inside.Rows.{AreReady, AreSeated, AreTold, IsBus};
 ghost use Rattle.sja_bus.specs.Inside.RunningOn.{NoneAborts, RowsRun, RowsStop};

@@ -8,8 +8,9 @@ use sja_link::BusEnd;
 
 impl Bus {
     ghost use Rattle.std.specs.Prelude.{◌≡◌, ◌≢◌, ◌+◌, ◌*◌, ◌≤◌, ◌⊎◌, None, Some, Ok, Err, length, OnOk, IfOk, IfErr};
+    ghost use Rattle.sja_link.specs.Related.{EachRelated};
     ghost use Rattle.sja_bus.specs.declared.bus_fault.BusFault.{BusFault as Fault};
-    ghost use Rattle.sja_bus.specs.Links.{EachRelated, Numbered};
+    ghost use Rattle.sja_bus.specs.Links.{Numbered};
     ghost use Rattle.sja_bus.specs.OneBit.{HasItems};
     ghost use Rattle.sja_bus.specs.Buses.{EachJournal, EachUntold, KeepsAll, AllDry, AllTold};
     ghost use Rattle.sja_bus.specs.Reasons.{IsNotTaken};

@@ -2,6 +2,7 @@
 use Rattle.std.proofs.Common.{◌≡◌, ◌+◌, ◌<◌, ◌≤◌, ℕ, suc, Bool, true, false, List, [], ◌∷◌, ◌++◌, length, refl, sym, ap, ◌∙◌, subst, append-nil, arith, inl, inr}
 use Rattle.std.specs.Prelude.{slice_index_or, slice_set}
 use Rattle.std.proofs.lemmas.Bool.{cases_eq, true≢false}
+use Rattle.std.proofs.lemmas.List.{get_or-set_same, get_or-set_other}
 use Rattle.sja_link.specs.declared.driver_ledger.DriverLedger.{DriverLedger}
 use Rattle.sja_link.specs.declared.down.Down.{Down}
 use Rattle.sja_link.specs.declared.down.Down.TheVariants.{Message, Off}
@@ -24,7 +25,6 @@ use Rattle.sja_driver.specs.Logs.{leaves, releases_in, left_in, deeds_by}
 use Rattle.sja_driver.specs.Tries.{Tried}
 use Rattle.sja_driver.specs.Tries.Tried.{Unmet, Answered, Released, Ended}
 use Rattle.sja_driver.proofs.Came.{Came, length_of, idle, forget, traces_unmet, goes_few}
-use Rattle.sja_driver.proofs.Each.{set_here, set_else}
 use Rattle.sja_driver.proofs.Giving.{gives_carried}
 use Rattle.sja_driver.proofs.Going.{gave_of}
 use Rattle.sja_driver.proofs.Left.{released_same}
@@ -73,11 +73,11 @@ holds_idle {E} stands t d rel rel' left n k off j links base d0 new few room ng 
       kept = λ a e l. rw (g (suc a)) (elim (cases_eq k a) [
         | inl q ↦ let at : slice_index_or links_now (base + a) e ≡ new =
             ap (λ m. slice_index_or links_now (base + m) e) (sym q)
-            ∙ set_here links (base + k) new e (omega (arith, few, room)) in
+            ∙ get_or-set_same links (base + k) new e (omega (arith, few, room)) in
             let moved = subst (λ (m : ℕ). stands new (lists m)) q (keeps (lists k) (h.kept k d0 few)) in
             subst (λ (x : E). stands x (lists a)) (sym at) moved
         | inr ne ↦ subst (λ (x : E). stands x (lists a))
-            (sym (set_else links (base + k) (base + a) new e (λ x. ne (omega (arith, x))))) (h.kept a e l)
+            (sym (get_or-set_other links (base + k) (base + a) new e (λ x. ne (omega (arith, x))))) (h.kept a e l)
       ]);
       told = λ a l. h.told a l
           ∙ ap (λ xs. xs ++ slice_index_or left a []) (sym (released_same rel rel' (suc a) same));

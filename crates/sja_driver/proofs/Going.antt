@@ -2,6 +2,7 @@
 use Rattle.std.proofs.Common.{◌≡◌, ◌+◌, ◌<◌, ◌≤◌, ℕ, suc, Bool, cond, List, [], ◌∷◌, ◌++◌, length, refl, sym, ap, ◌∙◌, subst, append_assoc, arith, inl, inr}
 use Rattle.std.specs.Prelude.{slice_index_or, slice_set, false, ◌⊎◌, ◌==◌, if◌then◌else◌}
 use Rattle.std.proofs.lemmas.Bool.{cases_eq, eq-eqb, ne_eqb}
+use Rattle.std.proofs.lemmas.List.{get_or-set_same, get_or-set_other}
 use Rattle.sja_link.specs.declared.down.Down.{Down}
 use Rattle.sja_link.specs.declared.up.Up.{Up}
 use Rattle.sja_link.specs.declared.entry.Entry.{Entry}
@@ -15,7 +16,6 @@ use Rattle.sja_driver.specs.Acting.{Does}
 use Rattle.sja_driver.specs.Deeds.{Deed, opens_by, opened_by, given_in, deeds_of}
 use Rattle.sja_driver.specs.Holding.{Holds}
 use Rattle.sja_driver.specs.Logs.{released_of}
-use Rattle.sja_driver.proofs.Each.{set_here, set_else}
 use Rattle.sja_driver.proofs.Sections.{deeds_here, deeds_else}
 
 abbrev pub gave_of : Deed → List Up
@@ -65,11 +65,11 @@ holds_deed {E} stands t rel rel' left left' j links base n n' d0 new held held' 
       kept = λ a e l. elim (cases_eq n a) [
         | inl q ↦ let at : slice_index_or links' (base + a) e ≡ new =
             ap (λ m. slice_index_or links' (base + m) e) (sym q)
-            ∙ set_here links (base + n) new e (omega (arith, few, room)) in
+            ∙ get_or-set_same links (base + n) new e (omega (arith, few, room)) in
             let moved = subst (λ (m : ℕ). stands new (lists' m)) q here in
             subst (λ (x : E). stands x (lists' a)) (sym at) moved
         | inr ne ↦ let at : slice_index_or links' (base + a) e ≡ slice_index_or links (base + a) e =
-            set_else links (base + n) (base + a) new e (λ x. ne (omega (arith, x))) in
+            get_or-set_other links (base + n) (base + a) new e (λ x. ne (omega (arith, x))) in
             let gs : got' a ≡ h.got a = else' a ne in
             let ga : given' (suc a) ≡ given_in (deeds_of t (suc a)) =
             deeds_else gave_of t d (suc a) (other d n a t ne gi) in

@@ -1,5 +1,4 @@
 pub mod Releasing
-pub mod Each
 pub mod Sections
 pub mod Stepping
 pub mod Giving

@@ -1,9 +1,10 @@
 -- The logged step: from a try at the present link, and what the log then has.
 use Rattle.std.proofs.Common.{rules, ◌≡◌, ◌+◌, ◌<◌, ◌≤◌, ℕ, Bool, false, List, ◌++◌, length, refl, sym, ap, ◌∙◌, subst, arith}
-use Rattle.std.proofs.lemmas.List.{length-append}
+use Rattle.std.proofs.lemmas.List.{length-append, get_or-set_same, get_or_default}
 use Rattle.std.specs.Prelude.{min, slice_index_or, slice_set}
 use Rattle.sja_link.specs.declared.link_id.LinkId.{LinkId}
 use Rattle.sja_link.specs.Lists.{Lists}
+use Rattle.sja_link.proofs.Related.{each_one}
 use Rattle.sja_regs.specs.declared.registers.Registers.{Registers}
 use Rattle.sja_script.specs.declared.step.Step.{Step}
 use Rattle.sja_driver.specs.declared.any_driver.AnyDriver.{AnyDriver}
@@ -17,7 +18,6 @@ use Rattle.sja_driver.specs.Inside.Entering.{Enters}
 use Rattle.sja_driver.specs.Logs.{HasRoom, done_in, releases_in, left_in, done_by, releases_by, left_by}
 use Rattle.sja_driver.specs.Tries.{Tried, is_met, ended_by}
 use Rattle.sja_driver.specs.Tries.Tried.{Unmet, Answered, Released, Ended}
-use Rattle.sja_driver.proofs.Each.{each_one, set_here, index_any}
 use Rattle.sja_driver.proofs.Goes.{goes_step}
 use Rattle.sja_driver.proofs.Stepping.{left_count}
 
@@ -101,7 +101,7 @@ steps_of {E} stands dry full was now links base bits k p q step d0 new o done la
       met = enters.met;
       acts = λ d e. subst (λ (i : ℕ). Acts stands dry full (slice_index_or links i d) (slice_index_or links_now i e) p q
           step (driver_of was) (driver_of now) o) at
-          (rw (index_any links (base + k) d d0 inside, set_here links (base + k) new e inside) acts);
+          (rw (get_or_default links (base + k) d d0 inside, get_or-set_same links (base + k) new e inside) acts);
       logged = enters.entered;
       releases = enters.released;
       leaves = enters.left;

@@ -1,6 +1,7 @@
 -- The trace of a driver with a deed more, and where that deed stands.
 use Rattle.std.proofs.Common.{◌≡◌, ◌+◌, ℕ, suc, false, List, [], ◌∷◌, ◌++◌, length, map, refl, sym, ap, ◌∙◌, arith, inl, inr}
 use Rattle.std.specs.Prelude.{◌⊎◌}
+use Rattle.std.proofs.lemmas.List.{map-append}
 use Rattle.sja_link.specs.declared.driver_ledger.DriverLedger.{DriverLedger}
 use Rattle.sja_link.proofs.Entering.{gathered_append}
 use Rattle.sja_link.proofs.Judging.{each_push}
@@ -19,7 +20,6 @@ use Rattle.sja_driver.specs.Drivers.{started_in, link_in}
 use Rattle.sja_driver.specs.Logs.{Traces, done_in, releases_in, of_activation, released_of}
 use Rattle.sja_driver.specs.Tries.{IsOf, IsQuiet}
 use Rattle.sja_driver.specs.Tries.Tried.{Answered, Released, Ended}
-use Rattle.sja_driver.proofs.Each.{lengths_both}
 use Rattle.sja_driver.proofs.Sections.{active_push, opened_push}
 
 abbrev pub lengths : List (List ℕ) → List ℕ
@@ -42,7 +42,7 @@ traces_deed was nxt log now t d more done rel released op out fits gives h = rec
   done = done_push t d ∙ ap (λ xs. xs ++ done_of d ∷ []) h.done ∙ sym done;
   released = λ a. ap (λ xs. lengths (released_of xs a)) rel
       ∙ ap lengths (gathered_append (of_activation a) (releases_in log) more)
-      ∙ lengths_both (released_of (releases_in log) a) (released_of more a)
+      ∙ map-append (λ (m : List ℕ). length m) (released_of (releases_in log) a) (released_of more a)
       ∙ ap (λ xs. xs ++ lengths (released_of more a)) (h.released a) ∙ sym (released a h.opened);
   opened = opened_push t d ∙ ap (λ n. n + opens_by d) h.opened ∙ sym op;
   out = active_push false t d ∙ ap (λ b. active_after b d.step d.answer) h.out ∙ sym out;

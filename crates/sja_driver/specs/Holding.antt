@@ -1,5 +1,5 @@
 -- What a node's links hold between its journal and its driver's deeds (this project's own rule).
-use Rattle.std.specs.Prelude.{◌≡◌, ◌+◌, ◌<◌, ◌++◌, ℕ, suc, min, Bool, false, List, [], ◌∷◌, length, slice_index_or}
+use Rattle.std.specs.Prelude.{◌≡◌, ◌+◌, ◌<◌, ◌++◌, ℕ, suc, min, Bool, false, List, [], length, slice_index_or}
 use Rattle.sja_link.specs.declared.link_id.LinkId.{LinkId}
 use Rattle.sja_link.specs.declared.down.Down.{Down}
 use Rattle.sja_link.specs.declared.entry.Entry.{Entry}
@@ -12,13 +12,6 @@ use Rattle.sja_driver.specs.declared.work_log.WorkLog.{WorkLog}
 use Rattle.sja_driver.specs.AnyDrivers.{held_of, off_of}
 use Rattle.sja_driver.specs.Deeds.{Deed, given_in, deeds_of}
 use Rattle.sja_driver.specs.Logs.{Traces, releases_in, left_in, released_of, leaves}
-
--- each element is related to the one at its place
-abbrev pub EachRelated : {A B : Type 0} → (A → B → Type 0) → List A → List B → Type 0
-EachRelated R [] [] = Unit {0}
-EachRelated R [] (y ∷ ys) = ⊥
-EachRelated R (x ∷ xs) [] = ⊥
-EachRelated R (x ∷ xs) (y ∷ ys) = R x y × EachRelated R xs ys
 
 -- the eight links of a node, from that place on
 abbrev pub Numbered : {E : Type 0} → (E → LinkId) → List E → ℕ → ℕ → Type 0

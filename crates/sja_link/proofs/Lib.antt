@@ -3,6 +3,7 @@ pub mod Freeing
 pub mod Judging
 pub mod Openings
 pub mod ListCounts
+pub mod Related
 pub mod WorldBudget
 pub mod LongMessages
 pub mod Worlds

@@ -1,6 +1,7 @@
 pub mod NodeWords
 pub mod Gathering
 pub mod Lists
+pub mod Related
 pub mod Deques
 pub mod Places
 pub mod Parts

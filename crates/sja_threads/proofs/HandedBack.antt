@@ -3,19 +3,19 @@ use Rattle.std.proofs.Common.{◌≡◌, ℕ, zero, suc, ◌+◌, ◌*◌, ◌<�
 use Rattle.std.proofs.Common.{◌∙◌, subst, arith}
 use Rattle.std.specs.Prelude.{slice_index_or}
 use Rattle.std.proofs.lemmas.List.{length-replicate}
+use Rattle.std.proofs.lemmas.Slice.Zip.{AllZip-long}
 use Rattle.sja_link.specs.declared.entry.Entry.{Entry}
 use Rattle.sja_link.specs.Accounts.{account}
 use Rattle.sja_link.specs.Lists.{nothing_yet}
 use Rattle.sja_link.specs.Parts.{part}
 use Rattle.sja_link.specs.Carried.{taken_of}
+use Rattle.sja_link.specs.Related.{EachRelated}
 use Rattle.sja_rings.specs.declared.ring_bus.RingBus.{RingBus}
 use Rattle.sja_rings.specs.declared.ring_driver.RingDriver.{RingDriver}
 use Rattle.sja_rings.specs.Ends.{BusLists, DriverLists, SameBus, SameDriver, OneLink}
 use Rattle.sja_plan.specs.Plan.{PlanValue}
 use Rattle.sja_driver.specs.Deeds.{Deed, AreDeeds}
-use Rattle.sja_driver.specs.Holding.{EachRelated}
 use Rattle.sja_bus.specs.Buses.{BusValue, new_bus}
-use Rattle.sja_bus.specs.Links.{EachRelated as EachLink}
 use Rattle.sja_bus.specs.Wire.{journal_at}
 use Rattle.sja_turns.specs.Serial.{steps_at, deeds_at}
 use Rattle.sja_threads.specs.declared.hand.Hand.{Hand}
@@ -25,8 +25,7 @@ use Rattle.sja_threads.specs.Ended.{IsOverAt, IsOverOf}
 use Rattle.sja_threads.specs.Inside.Making.{AreNewLinks, IsMade, AreMade}
 use Rattle.sja_threads.specs.Inside.Started.{Serves}
 use Rattle.sja_threads.specs.Inside.Underway.{IsUnderWay}
-use Rattle.sja_threads.proofs.Places.{each_place, link_place}
-use Rattle.sja_threads.proofs.Works.{each_length}
+use Rattle.sja_threads.proofs.Places.{each_place}
 
 -- ---- its beginning
 
@@ -140,7 +139,7 @@ all_done {G} quits plan (h ∷ hands) (w ∷ ws) p =
 module _ {G : Type 0} (quits : Bool) (plan : PlanValue) (hands : List (Hand G)) (ws : List (Worked RingDriver))
     (first links : List RingBus) (bus : BusValue) (many : length hands ≡ length plan.nodes)
     (long : length first ≡ 8 * length plan.nodes) (made : AreMade plan (length plan.nodes) hands first)
-    (sames : EachLink SameBus first links) (way : IsUnderWay plan bus links) where
+    (sames : EachRelated SameBus first links) (way : IsUnderWay plan bus links) where
   -- one node
   over_at : (node : ℕ) (h : Hand G) (w : Worked RingDriver) (deeds : List Deed) → node < length plan.nodes →
       IsMade plan node h first → (s : Serves quits plan h w) → deeds ≡ s.worked.deeds →
@@ -155,10 +154,10 @@ module _ {G : Type 0} (quits : Bool) (plan : PlanValue) (hands : List (Hand G)) 
     buses = λ h. way.kept node h few;
     pairs = λ a b d less. still_one (slice_index_or first (8 * node + a) b) (slice_index_or links (8 * node + a) b)
         (slice_index_or h.links.items a d) (slice_index_or w.links.items a d) (m.links.one a b d less)
-        (link_place SameBus first links (8 * node + a) b b sames (grind (arith, less, few, long)))
+        (each_place SameBus first links (8 * node + a) b b sames (grind (arith, less, few, long)))
         (each_place SameDriver h.links.items w.links.items a d d s.sames
         (let e = m.eight in omega (arith, less, e)));
-    eight = each_length SameDriver h.links.items w.links.items s.sames ∙ m.eight;
+    eight = AllZip-long SameDriver h.links.items w.links.items s.sames ∙ m.eight;
     within = way.within node few;
   }
     where
@@ -184,7 +183,7 @@ module _ {G : Type 0} (quits : Bool) (plan : PlanValue) (hands : List (Hand G)) 
           all_bits = way.all_bits;
           journals_count = way.journals;
           links_count = way.count;
-          workeds_count = each_length (Serves quits plan) hands ws served ∙ many;
+          workeds_count = AllZip-long (Serves quits plan) hands ws served ∙ many;
           deeds_count = done.count ∙ many;
           nodes = λ node w few.
               let p = done.places node (omega (arith, few, many)) in

@@ -3,8 +3,7 @@ use Rattle.std.proofs.Common.{◌≡◌, ℕ, zero, suc, ◌<◌, List, [], ◌�
 use Rattle.std.proofs.Common.{◌+◌, subst, arith}
 use Rattle.std.proofs.lemmas.List.{map-append}
 use Rattle.std.specs.Prelude.{slice_index_or}
-use Rattle.sja_bus.specs.Links.{EachRelated as EachLink}
-use Rattle.sja_driver.specs.Holding.{EachRelated}
+use Rattle.sja_link.specs.Related.{EachRelated}
 
 -- two of them, one after the other
 pub each_append : {A B : Type 0} (R : A → B → Type 0) (xs us : List A) (ys vs : List B) → EachRelated R xs ys →
@@ -21,14 +20,6 @@ each_place R [] ys i x y p few = absurd (omega (arith, few))
 each_place R (z ∷ xs) [] i x y p few = absurd p
 each_place R (z ∷ xs) (w ∷ ys) zero x y p few = p.0
 each_place R (z ∷ xs) (w ∷ ys) (suc i) x y p few = each_place R xs ys i x y p.1 (omega (arith, few))
-
--- the same of a bus's links
-pub link_place : {A B : Type 0} (R : A → B → Type 0) (xs : List A) (ys : List B) (i : ℕ) (x : A) (y : B) →
-    EachLink R xs ys → i < length xs → R (slice_index_or xs i x) (slice_index_or ys i y)
-link_place R [] ys i x y p few = absurd (omega (arith, few))
-link_place R (z ∷ xs) [] i x y p few = absurd p
-link_place R (z ∷ xs) (w ∷ ys) zero x y p few = p.0
-link_place R (z ∷ xs) (w ∷ ys) (suc i) x y p few = link_place R xs ys i x y p.1 (omega (arith, few))
 
 -- ---- the first so many
 

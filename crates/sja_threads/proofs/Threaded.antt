@@ -2,18 +2,17 @@
 use Rattle.std.proofs.Common.{◌≡◌, ℕ, ◌<◌, Bool, false, List, length, ◌*◌, sym, ap, ◌∙◌, subst, arith}
 use Rattle.std.specs.Prelude.{Result, Ok, Err, IfOk, slice_index_or}
 use Rattle.sja_link.specs.declared.entry.Entry.{Entry}
+use Rattle.sja_link.specs.Related.{EachRelated}
+use Rattle.sja_link.proofs.Related.{each_trans}
 use Rattle.sja_rings.specs.declared.ring_bus.RingBus.{RingBus}
 use Rattle.sja_rings.specs.declared.ring_driver.RingDriver.{RingDriver}
 use Rattle.sja_rings.specs.Ends.{SameBus}
 use Rattle.sja_plan.specs.Plan.{PlanValue}
 use Rattle.sja_script.specs.declared.done.Done.{Done as Step}
 use Rattle.sja_driver.specs.Deeds.{Deed}
-use Rattle.sja_driver.specs.Holding.{EachRelated as EachHand}
 use Rattle.sja_driver.specs.LoggedDrivers.{log_of}
 use Rattle.sja_driver.specs.Logs.{done_in}
 use Rattle.sja_bus.specs.Buses.{BusValue}
-use Rattle.sja_bus.specs.Links.{EachRelated}
-use Rattle.sja_bus.proofs.Lists.{each_trans}
 use Rattle.sja_report.specs.declared.end.End.{End}
 use Rattle.sja_report.specs.Log.{RunValue, journals_in}
 use Rattle.sja_report.specs.Runs.{IsRun}
@@ -36,7 +35,7 @@ use Rattle.sja_threads.proofs.Same.{bus_trans}
 pub ending : {G : Type 0} (quits : Bool) (plan : PlanValue) (hands : List (Hand G)) (first : List RingBus)
     (j : Joined) → length hands ≡ length plan.nodes → length first ≡ 8 * length plan.nodes →
     AreMade plan (length plan.nodes) hands first → HasRun plan j.run j.spent j.bus j.links.items →
-    EachRelated SameBus first j.links.items → EachHand (Serves quits plan) hands j.workeds.items → IsEnding quits plan j
+    EachRelated SameBus first j.links.items → EachRelated (Serves quits plan) hands j.workeds.items → IsEnding quits plan j
 ending {G} quits plan hands first j many long made run sames served = record {
   has_run = run;
   over = λ bus links same way. is_over quits plan hands j.workeds.items first links bus many long made

@@ -1,8 +1,10 @@
 -- The bus of a run in threads from one turn to the next.
 use Rattle.std.proofs.Common.{◌≡◌, ℕ, ◌+◌, ◌<◌, Bool, true, false, List, length, sym, ap, ◌∙◌, subst, arith}
 use Rattle.std.specs.Prelude.{None}
+use Rattle.std.proofs.lemmas.Slice.Zip.{AllZip-long}
 use Rattle.sja_link.specs.declared.entry.Entry.{Entry}
 use Rattle.sja_link.specs.Records.{record_of}
+use Rattle.sja_link.specs.Related.{EachRelated}
 use Rattle.sja_rings.specs.declared.ring_bus.RingBus.{RingBus}
 use Rattle.sja_rings.specs.Ends.{BusLists, SameBus, link_of_bus}
 use Rattle.sja_plan.specs.Plan.{PlanValue}
@@ -10,11 +12,9 @@ use Rattle.sja_regs.specs.declared.bus_turn.BusTurn.{BusTurn}
 use Rattle.sja_regs.specs.declared.orders.Orders.{Orders}
 use Rattle.sja_bus.specs.Buses.{BusValue, EachJournal, KeepsAll, IsBit}
 use Rattle.sja_bus.specs.Lawful.{IsBusRun}
-use Rattle.sja_bus.specs.Links.{EachRelated}
 use Rattle.sja_bus.specs.OneBit.{HasItems}
 use Rattle.sja_bus.specs.Resting.{RestsAs}
 use Rattle.sja_bus.specs.Wire.{journal_at}
-use Rattle.sja_bus.proofs.Lists.{each_length}
 use Rattle.sja_bus.proofs.Many.{numbered_kept}
 use Rattle.sja_threads.specs.Needed.{AllDue, AllRest}
 use Rattle.sja_threads.specs.declared.moving.Move.{Move}
@@ -39,7 +39,7 @@ module _ (plan : PlanValue) (old new : BusValue) (links after : List RingBus) (w
     script = script ∙ w.script;
     all_bits = all;
     journals = nodes ∙ w.journals;
-    count = each_length SameBus links after sames ∙ w.count;
+    count = AllZip-long SameBus links after sames ∙ w.count;
     ids = numbered_kept link_of_bus SameBus (λ a b p. p.0) links after sames w.ids;
     kept = λ node h less. kept node h (few node less) (w.kept node h less);
     within = within;

@@ -1,40 +1,23 @@
 -- Steps of a driver in a thread of its own, one after the other.
-use Rattle.std.proofs.Common.{◌≡◌, ◌≤◌, ◌+◌, ◌++◌, ℕ, suc, Bool, true, false, List, [], ◌∷◌}
+use Rattle.std.proofs.Common.{◌≡◌, ◌≤◌, ◌+◌, ◌++◌, ℕ, Bool, true, false, List, [], ◌∷◌}
 use Rattle.std.proofs.Common.{length, map, refl, sym, ap, ◌∙◌, subst, arith, append-nil, append_assoc}
 use Rattle.std.proofs.lemmas.List.{map-append}
+use Rattle.std.proofs.lemmas.Slice.Zip.{AllZip-long}
 use Rattle.std.specs.Prelude.{if◌then◌else◌}
 use Rattle.sja_link.specs.declared.link_id.LinkId.{LinkId}
 use Rattle.sja_link.specs.Lists.{Lists}
+use Rattle.sja_link.proofs.Related.{each_refl, each_trans}
 use Rattle.sja_regs.specs.declared.registers.Registers.{Registers}
 use Rattle.sja_script.specs.declared.step.Step.{Step}
 use Rattle.sja_driver.specs.declared.logged_driver.LoggedDriver.{LoggedDriver}
 use Rattle.sja_driver.specs.declared.work_log.WorkLog.{WorkLog}
 use Rattle.sja_driver.specs.Deeds.{Deed}
-use Rattle.sja_driver.specs.Holding.{EachRelated, HoldsBy}
+use Rattle.sja_driver.specs.Holding.{HoldsBy}
 use Rattle.sja_driver.specs.LoggedDrivers.{driver_of, log_of, StaysLawful, Steps}
 use Rattle.sja_driver.specs.Logs.{HasRoom, Traces, deeds_by}
 use Rattle.sja_driver.specs.Tries.{Tried, is_met}
 use Rattle.sja_driver.specs.Tries.Tried.{Unmet, Answered, Released, Ended}
-use Rattle.sja_driver.proofs.Each.{each_refl}
 use Rattle.sja_threads.specs.Working.{MayWork, DoesSteps}
-
--- being related carries over
-pub each_trans : {A : Type 0} (R : A → A → Type 0) → ((a b c : A) → R a b → R b c → R a c) → (xs ys zs : List A) →
-    EachRelated R xs ys → EachRelated R ys zs → EachRelated R xs zs
-each_trans R t [] [] [] p q = tt
-each_trans R t [] [] (z ∷ zs) p q = absurd q
-each_trans R t [] (y ∷ ys) zs p q = absurd p
-each_trans R t (x ∷ xs) [] zs p q = absurd p
-each_trans R t (x ∷ xs) (y ∷ ys) [] p q = absurd q
-each_trans R t (x ∷ xs) (y ∷ ys) (z ∷ zs) p q = (t x y z p.0 q.0, each_trans R t xs ys zs p.1 q.1)
-
--- related lists are equally long
-pub each_length : {A B : Type 0} (R : A → B → Type 0) (xs : List A) (ys : List B) →
-    EachRelated R xs ys → length ys ≡ length xs
-each_length R [] [] p = refl
-each_length R [] (y ∷ ys) p = absurd p
-each_length R (x ∷ xs) [] p = absurd p
-each_length R (x ∷ xs) (y ∷ ys) p = ap suc (each_length R xs ys p.1)
 
 -- room for fewer steps
 pub room_less : (k n : ℕ) (log : WorkLog) → k ≤ n → HasRoom n log → HasRoom k log
@@ -117,7 +100,7 @@ module _ {E : Type 0} (link : E → LinkId) (same : E → E → Type 0) (stands 
     able = λ n m. record {
       lawful = stays.lawful;
       room = room n m.room;
-      eight = let e = m.eight in let l = each_length same x y stays.same in omega (arith, e, l);
+      eight = let e = m.eight in let l = AllZip-long same x y stays.same in omega (arith, e, l);
       ids = stays.ids;
     };
   }

@@ -4,10 +4,11 @@ use Rattle.sja_link.specs.declared.link_id.LinkId.{LinkId}
 use Rattle.sja_link.specs.declared.entry.Entry.{Entry}
 use Rattle.sja_link.specs.Accounts.{account}
 use Rattle.sja_link.specs.Lists.{Lists}
+use Rattle.sja_link.specs.Related.{EachRelated}
 use Rattle.sja_script.specs.declared.step.Step.{Step}
 use Rattle.sja_driver.specs.declared.logged_driver.LoggedDriver.{LoggedDriver}
 use Rattle.sja_driver.specs.Deeds.{Deed, AreDeeds}
-use Rattle.sja_driver.specs.Holding.{EachRelated, Goes, HoldsBy, Numbered}
+use Rattle.sja_driver.specs.Holding.{Goes, HoldsBy, Numbered}
 use Rattle.sja_driver.specs.LoggedDrivers.{node_of, driver_of, log_of, IsLawful}
 use Rattle.sja_driver.specs.Logs.{HasRoom, Traces}
 use Rattle.sja_threads.specs.declared.worked.Worked.{Worked}

@@ -1,8 +1,8 @@
 //! The bus beside its drivers' threads, and after them.
 
 ghost use Rattle.std.specs.Prelude.{◌≡◌, ◌≤◌, length, IfOk};
+ghost use Rattle.sja_link.specs.Related.{EachRelated};
 ghost use Rattle.sja_rings.specs.Ends.{SameBus};
-ghost use Rattle.sja_bus.specs.Links.{EachRelated};
 ghost use Rattle.sja_threads.specs.Inside.Underway.{IsUnderWay, HasRun, IsRunOut};
 
 use super::lock_board::LockBoard;

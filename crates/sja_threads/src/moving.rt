@@ -1,8 +1,8 @@
 //! One turn of the bus.
 
 ghost use Rattle.std.specs.Prelude.{◌≡◌, length, Ok, IfOk};
+ghost use Rattle.sja_link.specs.Related.{EachRelated};
 ghost use Rattle.sja_rings.specs.Ends.{SameBus};
-ghost use Rattle.sja_bus.specs.Links.{EachRelated};
 ghost use Rattle.sja_threads.specs.declared.moving.Move.TheVariants.{Rests};
 ghost use Rattle.sja_threads.specs.Needed.{AllRest};
 ghost use Rattle.sja_threads.specs.Inside.Underway.{MayTurn, IsMoved};

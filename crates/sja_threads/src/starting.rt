@@ -1,7 +1,7 @@
 //! The threads of the drivers.
 
 ghost use Rattle.std.specs.Prelude.{◌≡◌, ◌≤◌, [], length, map, vec_len, vec_capacity, All, IfOk, IfErr};
-ghost use Rattle.sja_driver.specs.Holding.{EachRelated};
+ghost use Rattle.sja_link.specs.Related.{EachRelated};
 ghost use Rattle.sja_turns.specs.declared.run_fault.RunFault.TheVariants.{Thread};
 ghost use Rattle.sja_threads.specs.Inside.Started.{IsHand, Serves};
 ghost use Rattle.sja_threads.specs.Inside.Promised.{IsFor, IsKept};

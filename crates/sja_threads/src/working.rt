@@ -1,7 +1,8 @@
 //! The steps of a script, one after the other, each tried as the gate lets it.
 
 ghost use Rattle.std.specs.Prelude.{◌≡◌, ◌≤◌, [], ◌∷◌, true, false, length, take};
-ghost use Rattle.sja_driver.specs.Holding.{EachRelated, Numbered};
+ghost use Rattle.sja_link.specs.Related.{EachRelated};
+ghost use Rattle.sja_driver.specs.Holding.{Numbered};
 ghost use Rattle.sja_driver.specs.LoggedDrivers.{node_of, log_of};
 ghost use Rattle.sja_driver.specs.Logs.{HasRoom, IsEmpty, done_in};
 ghost use Rattle.sja_threads.specs.Working.{MayWork, DoesSteps, HasWorked};

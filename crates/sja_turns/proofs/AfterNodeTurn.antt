@@ -2,7 +2,7 @@
 use Rattle.std.proofs.Common.{◌≡◌, ℕ, zero, suc, ◌+◌, ◌<◌, Bool, true, false, not, List, [], ◌∷◌}
 use Rattle.std.proofs.Common.{◌++◌, length, map, take, refl, sym, ap, ◌∙◌, subst, arith, inl, inr}
 use Rattle.std.specs.Prelude.{set, slice_index, slice_index_or}
-use Rattle.std.proofs.lemmas.List.{length-append}
+use Rattle.std.proofs.lemmas.List.{length-append, get_or-set_same}
 use Rattle.sja_link.specs.NodeWords.{NodeEntry}
 use Rattle.sja_link.specs.declared.entry.Entry.{Entry}
 use Rattle.sja_link.specs.Places.{place_of}
@@ -18,7 +18,6 @@ use Rattle.sja_script.specs.declared.step.Step.{Step}
 use Rattle.sja_script.specs.declared.step.Step.TheVariants.{Start, Stop, Window, Release, Read}
 use Rattle.sja_script.specs.declared.step.Step.TheVariants.{Write, Load, Command, Await, Sent}
 use Rattle.sja_driver.specs.Deeds.{Deed, opened_by}
-use Rattle.sja_driver.proofs.Each.{set_here}
 use Rattle.sja_report.specs.declared.end.End.{End}
 use Rattle.sja_report.specs.Moments.{record_at}
 use Rattle.sja_report.specs.Resting.{IsHolding}
@@ -127,7 +126,7 @@ module _ (plan : PlanValue) (was now : SerialValue) (k count : ℕ) (deeds : Lis
       λ i. let p : Progress = record { bits = t.does.bits i; done = done i } in p
 
   here : deeds_at (with_deeds deeds k t.more) k ≡ deeds_at deeds k ++ t.more
-  here = set_here deeds k (deeds_at deeds k ++ t.more) [] there
+  here = get_or-set_same deeds k (deeds_at deeds k ++ t.more) [] there
 
   all_here : deeds_at all k ≡ (deeds_at deeds k ++ t.more) ++ (go.deeds_go k less).0
   all_here = (go.deeds_go k less).1 ∙ ap (λ l. l ++ (go.deeds_go k less).0) here

@@ -5,6 +5,7 @@ use Rattle.std.specs.Prelude.{◌≢◌, None, slice_index_or}
 use Rattle.sja_link.specs.declared.entry.Entry.{Entry}
 use Rattle.sja_link.specs.Accounts.{Account}
 use Rattle.sja_link.specs.Deques.{Deques, Lies}
+use Rattle.sja_link.specs.Related.{EachRelated}
 use Rattle.sja_regs.specs.declared.registers.Registers.{Registers}
 use Rattle.sja_regs.specs.Facts.{RegisterFacts}
 use Rattle.sja_regs.specs.Registers.{at_power_on}
@@ -12,7 +13,7 @@ use Rattle.sja_bus.specs.Boards.{HasOrders, WasTold, WasKept}
 use Rattle.sja_bus.specs.Buses.{EachJournal, KeepsAll}
 use Rattle.sja_bus.specs.Lawful.{IsBusRun}
 use Rattle.sja_bus.specs.OneBit.{HasItems}
-use Rattle.sja_bus.specs.Links.{per_node, EachRelated, Kept}
+use Rattle.sja_bus.specs.Links.{per_node, Kept}
 use Rattle.sja_bus.specs.Stretches.{with_recessive, IsStretch}
 use Rattle.sja_bus.specs.Wire.{journal_at}
 use Rattle.sja_bus.proofs.QuietBits.{lists_same}

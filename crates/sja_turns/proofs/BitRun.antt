@@ -1,10 +1,13 @@
 -- A run after a bit.
 use Rattle.std.proofs.Common.{◌≡◌, ℕ, ◌+◌, ◌*◌, ◌<◌, Bool, List, [], ◌∷◌, length, sym, ap, ◌∙◌, subst, arith, inl, inr}
 use Rattle.std.specs.Prelude.{None, slice_index_or}
+use Rattle.std.proofs.lemmas.Slice.Zip.{AllZip-long}
 use Rattle.can_bits.specs.declared.level.Level.{Level}
 use Rattle.can_bits.specs.declared.level.Level.TheVariants.{Recessive}
 use Rattle.sja_link.specs.declared.entry.Entry.{Entry}
 use Rattle.sja_link.specs.Deques.{Deques, Lies}
+use Rattle.sja_link.specs.Related.{EachRelated}
+use Rattle.sja_link.proofs.Related.{each_at}
 use Rattle.sja_regs.specs.declared.bus_turn.BusTurn.{BusTurn}
 use Rattle.sja_regs.specs.declared.orders.Orders.{Orders}
 use Rattle.sja_regs.specs.declared.registers.Registers.{Registers}
@@ -14,9 +17,8 @@ use Rattle.sja_regs.specs.Turns.{after_turn}
 use Rattle.sja_bus.specs.Boards.{HasOrders, WasTold, WasKept}
 use Rattle.sja_bus.specs.Buses.{KeepsAll, IsBit, IsNodeBit, untold_at}
 use Rattle.sja_bus.specs.Lawful.{IsBusRun}
-use Rattle.sja_bus.specs.Links.{per_node, EachRelated}
+use Rattle.sja_bus.specs.Links.{per_node}
 use Rattle.sja_bus.specs.Wire.{journal_at}
-use Rattle.sja_bus.proofs.Lists.{each_length, each_at}
 use Rattle.sja_script.specs.declared.strike.Strike.{Strike}
 use Rattle.sja_plan.specs.Plan.{PlanValue}
 use Rattle.sja_driver.specs.declared.logged_driver.LoggedDriver.{LoggedDriver}
@@ -79,7 +81,7 @@ module _ (plan : PlanValue) (r n : SerialValue) (deeds : List (List Deed)) (h : 
     (cuts : (m : ℕ) → m < length r.bus.journals → HasCut (journal_at r.bus.journals m))
     (facts : (m : ℕ) (d : Registers) → m < length r.ports → RegisterFacts (slice_index_or r.ports m d)) where
   many : length n.links ≡ length r.links
-  many = each_length (λ (a b : Deques). b.link ≡ a.link) r.links n.links sames
+  many = AllZip-long (λ (a b : Deques). b.link ≡ a.link) r.links n.links sames
 
   inside : (m : ℕ) → m < length plan.nodes → m < length r.bus.journals
   inside m less = let c = h.count.journals in omega (arith, c, less)

@@ -2,6 +2,7 @@
 use Rattle.std.proofs.Common.{◌≡◌, ℕ, zero, suc, ◌+◌, ◌<◌, true, false, Bool, List, [], ◌∷◌, ◌++◌, length, map, replicate, take, drop, refl, sym, ap, ◌∙◌, subst, append_assoc, append-nil, arith, inl, inr}
 use Rattle.std.specs.Prelude.{slice_index_or}
 use Rattle.std.proofs.lemmas.Bool.{cases_eq}
+use Rattle.std.proofs.lemmas.List.{get_or-set_same, get_or-set_other}
 use Rattle.sja_link.specs.declared.entry.Entry.{Entry}
 use Rattle.sja_bus.specs.Buses.{BusValue, new_bus}
 use Rattle.sja_bus.specs.Lawful.{IsBusRun}
@@ -10,7 +11,6 @@ use Rattle.sja_plan.specs.Plan.{PlanValue, NamesNode}
 use Rattle.sja_plan.specs.declared.turn.Turn.{Turn}
 use Rattle.sja_plan.specs.declared.turn.Turn.TheVariants.{Bus, Rest, Node}
 use Rattle.sja_driver.specs.Deeds.{Deed}
-use Rattle.sja_driver.proofs.Each.{set_here, set_else}
 use Rattle.sja_report.specs.declared.end.End.{End}
 use Rattle.sja_report.specs.declared.end.End.TheVariants.{Turns as TurnsDone, Bits as BitsSpent}
 use Rattle.sja_report.specs.Turns.{Progress, RunsTo}
@@ -183,7 +183,7 @@ module _ (plan : PlanValue) (turns : List Turn) (was now : SerialValue) (c : Has
       let g = go m few in
       elim (cases_eq k m) [
         | inl e ↦ here g e
-        | inr differ ↦ (g.0, g.1 ∙ ap (λ l. l ++ g.0) (set_else c.deeds k m (deeds_at c.deeds k ++ more) [] differ))
+        | inr differ ↦ (g.0, g.1 ∙ ap (λ l. l ++ g.0) (get_or-set_other c.deeds k m (deeds_at c.deeds k ++ more) [] (λ e. differ (sym e))))
       ]
     where
       inside : k < length c.deeds
@@ -194,7 +194,7 @@ module _ (plan : PlanValue) (turns : List Turn) (was now : SerialValue) (c : Has
       here g e = (
         more ++ g.0,
         g.1 ∙ ap (λ n. deeds_at (with_deeds c.deeds k more) n ++ g.0) (sym e)
-            ∙ ap (λ l. l ++ g.0) (set_here c.deeds k (deeds_at c.deeds k ++ more) [] inside)
+            ∙ ap (λ l. l ++ g.0) (get_or-set_same c.deeds k (deeds_at c.deeds k ++ more) [] inside)
             ∙ append_assoc (deeds_at c.deeds k) more g.0 ∙ ap (λ n. deeds_at c.deeds n ++ (more ++ g.0)) e,
       )
 

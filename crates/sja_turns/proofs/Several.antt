@@ -2,7 +2,7 @@
 use Rattle.std.proofs.Common.{◌≡◌, ℕ, zero, suc, ◌+◌, ◌-◌, ◌<◌, ◌≤◌, List, [], ◌∷◌, ◌++◌, length, refl, sym, ap, ◌∙◌, subst, append_assoc, append-nil, arith, inl, inr}
 use Rattle.std.specs.Prelude.{slice_index_or, slice_set}
 use Rattle.std.proofs.lemmas.Bool.{cases_lt}
-use Rattle.std.proofs.lemmas.List.{length-append, length-map, map-append}
+use Rattle.std.proofs.lemmas.List.{length-append, length-map, map-append, get_or-set_same}
 use Rattle.sja_link.specs.declared.entry.Entry.{Entry}
 use Rattle.sja_link.specs.declared.entry.Entry.TheVariants.{Up as Item}
 use Rattle.sja_bus.specs.OneBit.{entries_of_items}
@@ -13,7 +13,6 @@ use Rattle.sja_driver.specs.declared.logged_driver.LoggedDriver.{LoggedDriver}
 use Rattle.sja_driver.specs.Deeds.{Deed, done_of}
 use Rattle.sja_driver.specs.LoggedDrivers.{log_of}
 use Rattle.sja_driver.specs.Logs.{done_in}
-use Rattle.sja_driver.proofs.Each.{set_here}
 use Rattle.sja_turns.specs.Serial.{SerialValue, StandsAt, HasMore, Does, IsStuck, TakesTurn, with_deeds, deeds_at}
 use Rattle.sja_turns.proofs.Slices.{no_deeds}
 
@@ -26,7 +25,7 @@ pub deeds_twice : (deeds : List (List Deed)) (node : ℕ) (xs ys : List Deed) �
     with_deeds (with_deeds deeds node xs) node ys ≡ with_deeds deeds node (xs ++ ys)
 deeds_twice deeds node xs ys there =
     ap (λ l. slice_set (with_deeds deeds node xs) node (l ++ ys))
-    (set_here deeds node (deeds_at deeds node ++ xs) [] there)
+    (get_or-set_same deeds node (deeds_at deeds node ++ xs) [] there)
     ∙ set_twice deeds node (deeds_at deeds node ++ xs) ((deeds_at deeds node ++ xs) ++ ys)
     ∙ ap (slice_set deeds node) (append_assoc (deeds_at deeds node) xs ys)
 

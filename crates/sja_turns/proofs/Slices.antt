@@ -1,17 +1,16 @@
 -- Lists with an element set, and the places of links.
-use Rattle.std.proofs.Common.{◌≡◌, ◌≢◌, ℕ, zero, suc, ◌+◌, ◌*◌, ◌<◌, List, [], ◌∷◌, length}
-use Rattle.std.proofs.Common.{refl, sym, ap, ◌∙◌, subst, append-nil, arith, inl, inr}
+use Rattle.std.proofs.Common.{◌≡◌, ◌≢◌, ℕ, suc, ◌+◌, ◌*◌, ◌<◌, List, [], length}
+use Rattle.std.proofs.Common.{sym, ap, ◌∙◌, subst, append-nil, arith, inl, inr}
 use Rattle.std.specs.Prelude.{min, slice_index_or, slice_set}
 use Rattle.std.proofs.lemmas.Bool.{cases_eq}
+use Rattle.std.proofs.lemmas.List.{set-get_or, get_or-set_same, get_or-set_other}
 use Rattle.sja_link.specs.declared.entry.Entry.{Entry}
 use Rattle.sja_link.specs.Accounts.{account}
 use Rattle.sja_link.specs.Deques.{Deques, Lies}
-use Rattle.sja_bus.specs.Links.{EachRelated}
 use Rattle.sja_driver.specs.declared.logged_driver.LoggedDriver.{LoggedDriver}
 use Rattle.sja_driver.specs.Deeds.{Deed, given_in, deeds_of}
 use Rattle.sja_driver.specs.Holding.{HoldsBy, place_after}
 use Rattle.sja_driver.specs.LoggedDrivers.{driver_of, log_of}
-use Rattle.sja_driver.proofs.Each.{set_here, set_else}
 use Rattle.sja_turns.specs.Serial.{deeds_at, with_deeds}
 
 min_less : (n : ℕ) → min n 7 < 8
@@ -20,16 +19,6 @@ min_less n = grind arith
 -- places of two nodes' links differ
 pub apart : (m node a ended : ℕ) → (m ≡ node → ⊥) → a < 8 → 8 * m + a ≡ place_after (8 * node) ended → ⊥
 apart m node a ended differ few e = let l = min_less ended in omega (arith, differ, few, e, l)
-
-pub set_length : {A : Type 0} (xs : List A) (i : ℕ) (z : A) → length (slice_set xs i z) ≡ length xs
-set_length [] i z = refl
-set_length (x ∷ xs) zero z = refl
-set_length (x ∷ xs) (suc i) z = ap suc (set_length xs i z)
-
-set_same : {A : Type 0} (xs : List A) (i : ℕ) (d : A) → slice_set xs i (slice_index_or xs i d) ≡ xs
-set_same [] i d = refl
-set_same (x ∷ xs) zero d = refl
-set_same (x ∷ xs) (suc i) d = ap (λ l. x ∷ l) (set_same xs i d)
 
 -- what holds of three lists place by place, where one place of each is set anew
 pub each_set : {A B C : Type 0} (P : ℕ → A → B → C → Type 0) (xs : List A) (ys : List B) (zs : List C) (i : ℕ)
@@ -41,23 +30,15 @@ each_set P xs ys zs i x a y b z c p q r here others m = elim (cases_eq i m) [
   | inl e ↦
       subst (λ k. P k (slice_index_or (slice_set xs i x) k a) (slice_index_or (slice_set ys i y) k b)
       (slice_index_or (slice_set zs i z) k c)) e
-      (rw (set_here xs i x a p, set_here ys i y b q, set_here zs i z c r) here)
+      (rw (get_or-set_same xs i x a p, get_or-set_same ys i y b q, get_or-set_same zs i z c r) here)
   | inr differ ↦
-      rw (set_else xs i m x a differ, set_else ys i m y b differ, set_else zs i m z c differ)
-      (others m (λ e. differ (sym e)))
+      let other : m ≢ i = λ e. differ (sym e) in
+      rw (get_or-set_other xs i m x a other, get_or-set_other ys i m y b other, get_or-set_other zs i m z c other)
+      (others m other)
 ]
 
 pub no_deeds : (deeds : List (List Deed)) (node : ℕ) → with_deeds deeds node [] ≡ deeds
-no_deeds deeds node = ap (slice_set deeds node) (append-nil (deeds_at deeds node)) ∙ set_same deeds node []
-
-pub each_link : (old new : List Deques) → EachRelated (λ (a b : Deques). b.link ≡ a.link) old new →
-    (i : ℕ) (d : Deques) →
-    (slice_index_or new i d).link ≡ (slice_index_or old i d).link
-each_link [] [] r i d = refl
-each_link [] (y ∷ ys) r i d = elim r [ ]
-each_link (x ∷ xs) [] r i d = elim r [ ]
-each_link (x ∷ xs) (y ∷ ys) r zero d = r.0
-each_link (x ∷ xs) (y ∷ ys) r (suc i) d = each_link xs ys r.1 i d
+no_deeds deeds node = ap (slice_set deeds node) (append-nil (deeds_at deeds node)) ∙ set-get_or deeds node []
 
 -- what another node's links hold, of which none was changed
 pub each_other : (deeds : List Deed) (w : LoggedDriver) (j : List Entry) (links given : List Deques)

@@ -3,15 +3,18 @@ use Rattle.std.proofs.Common.{◌≡◌, ◌≢◌, ℕ, zero, suc, ◌+◌, ◌
 use Rattle.std.proofs.Common.{◌++◌, length, refl, sym, ap, ◌∙◌, subst, append-nil, arith, inl, inr}
 use Rattle.std.specs.Prelude.{Bool, None, slice_index_or, slice_set}
 use Rattle.std.proofs.lemmas.Bool.{cases_eq}
+use Rattle.std.proofs.lemmas.List.{get_or-set_same, get_or-set_other, get_or_default, length-set}
 use Rattle.sja_link.specs.declared.entry.Entry.{Entry}
 use Rattle.sja_link.specs.Accounts.{Account}
 use Rattle.sja_link.specs.Deques.{Deques, Lies}
 use Rattle.sja_bus.specs.Buses.{KeepsAll, EachJournal, AllDry}
-use Rattle.sja_bus.specs.Links.{per_node, stops_of, EachRelated}
+use Rattle.sja_bus.specs.Links.{per_node, stops_of}
 use Rattle.sja_bus.specs.OneBit.{HasItems}
 use Rattle.sja_bus.specs.Wire.{journal_at}
 use Rattle.sja_link.specs.Places.{place_of}
 use Rattle.sja_link.specs.Verdicts.{IsLawful as IsLawfulJournal}
+use Rattle.sja_link.specs.Related.{EachRelated}
+use Rattle.sja_link.proofs.Related.{each_at}
 use Rattle.sja_plan.specs.Plan.{PlanValue}
 use Rattle.sja_regs.specs.Facts.{RegisterFacts}
 use Rattle.sja_script.specs.declared.step.Step.{Step}
@@ -21,11 +24,10 @@ use Rattle.sja_driver.specs.Deeds.{Deed}
 use Rattle.sja_driver.specs.Holding.{HoldsBy, place_after, Numbered as NumberedAt}
 use Rattle.sja_driver.specs.LoggedDrivers.{node_of, driver_of, log_of, ended_of, IsLawful, Steps}
 use Rattle.sja_driver.specs.Logs.{HasRoom}
-use Rattle.sja_driver.proofs.Each.{set_here, set_else, index_any}
 use Rattle.sja_turns.specs.Nodes.{IsNode}
 use Rattle.sja_turns.specs.Serial.{SerialValue, steps_at, deeds_at, StandsAt, HasMore, with_deeds, Does, IsStuck}
 use Rattle.sja_turns.specs.Waiting.{HasToWait}
-use Rattle.sja_turns.proofs.Slices.{apart, set_length, each_set, each_link, each_other}
+use Rattle.sja_turns.proofs.Slices.{apart, each_set, each_other}
 use Rattle.sja_turns.proofs.Trying.{shows_none, takes_none}
 use Rattle.sja_turns.proofs.Turned.{idle, stepped, still_journal, same_port, still, waited}
 
@@ -87,12 +89,13 @@ module _ (plan : PlanValue) (r n : SerialValue) (deeds : List (List Deed)) (node
     bits = let b = h.bits in bits_are ∙ b ∙ sym run;
     count = record {
       journals = journals ∙ h.count.journals;
-      drivers = ap (λ l. length l) drivers_are ∙ set_length r.drivers node now ∙ h.count.drivers;
-      ports = ap (λ l. length l) ports_are ∙ set_length r.ports node q ∙ h.count.ports;
+      drivers = ap (λ l. length l) drivers_are ∙ length-set r.drivers node now ∙ h.count.drivers;
+      ports = ap (λ l. length l) ports_are ∙ length-set r.ports node q ∙ h.count.ports;
       links = many ∙ h.count.links;
     };
-    deeds_count = set_length deeds node (deeds_at deeds node ++ more) ∙ h.deeds_count;
-    ids = λ m a d few less. each_link given n.links sames (per_node * m + a) d
+    deeds_count = length-set deeds node (deeds_at deeds node ++ more) ∙ h.deeds_count;
+    ids = λ m a d few less. each_at (λ (x y : Deques). y.link ≡ x.link) (λ (x : Deques). x.link) (λ x y same. same)
+        given n.links (per_node * m + a) d sames
         ∙ given_ids m a d few (subst (λ (k : ℕ). per_node * m + a < k) many less);
     own = λ m d less. ap (λ l. node_of (slice_index_or l m d)) drivers_are ∙ owner m d less;
     nodes = λ m d p less. subst (λ (ds : List LoggedDriver). IsNode plan.version (steps_at plan m)
@@ -111,8 +114,8 @@ module _ (plan : PlanValue) (r n : SerialValue) (deeds : List (List Deed)) (node
           node_of (slice_index_or (slice_set r.drivers node now) m d) ≡ m
       owner m d less = elim (cases_eq node m) [
         | inl e ↦ subst (λ (x : ℕ). node_of (slice_index_or (slice_set r.drivers node now) x d) ≡ x) e
-            (ap node_of (set_here r.drivers node now d few) ∙ whose)
-        | inr differ ↦ ap node_of (set_else r.drivers node m now d differ) ∙ h.own m d less
+            (ap node_of (get_or-set_same r.drivers node now d few) ∙ whose)
+        | inr differ ↦ ap node_of (get_or-set_other r.drivers node m now d (λ e. differ (sym e))) ∙ h.own m d less
       ]
 
       each : (m : ℕ) (d : LoggedDriver) (p : Registers) → m < length plan.nodes →
@@ -209,10 +212,10 @@ module _ (plan : PlanValue) (r n : SerialValue) (deeds : List (List Deed)) (node
         inr (λ s x.
             let c = h.count.ports in
             let port_is : p ≡ slice_index_or n.ports node x =
-            sym port ∙ sym (set_here r.ports node q x (omega (arith, c, there)))
+            sym port ∙ sym (get_or-set_same r.ports node q x (omega (arith, c, there)))
             ∙ ap (λ l. slice_index_or l node x) (sym ports_are) in
             let step_is : one ≡ slice_index_or (steps_at plan node) (length ds) s =
-            is ∙ index_any (steps_at plan node) (length ds) one s left in
+            is ∙ get_or_default (steps_at plan node) (length ds) one s left in
             subst (λ (l : List Entry). HasToWait l ds (slice_index_or n.ports node x)
             (slice_index_or (steps_at plan node) (length ds) s)) (sym same)
             (subst (λ (g : Registers). HasToWait j ds g (slice_index_or (steps_at plan node) (length ds) s)) port_is

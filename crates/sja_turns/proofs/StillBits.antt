@@ -3,6 +3,7 @@ use Rattle.std.proofs.Common.{◌≡◌, ℕ, zero, suc, ◌+◌, ◌-◌, ◌*�
 use Rattle.std.proofs.Common.{◌∷◌, ◌++◌, length, refl, sym, ap, ◌∙◌, subst, append-nil, arith}
 use Rattle.std.specs.Prelude.{None, slice_index_or}
 use Rattle.std.proofs.lemmas.List.{length-map}
+use Rattle.std.proofs.lemmas.Slice.Zip.{AllZip-long}
 use Rattle.sja_link.specs.declared.entry.Entry.{Entry}
 use Rattle.sja_link.specs.declared.up.Up.{Up}
 use Rattle.sja_link.specs.Accounts.{Account, account}
@@ -10,15 +11,16 @@ use Rattle.sja_link.specs.Deques.{Deques, Lies}
 use Rattle.sja_link.specs.Lists.{Lists}
 use Rattle.sja_link.specs.Parts.{part}
 use Rattle.sja_link.specs.Carried.{taken_of}
+use Rattle.sja_link.specs.Related.{EachRelated}
+use Rattle.sja_link.proofs.Related.{each_at, each_refl}
 use Rattle.sja_regs.specs.declared.registers.Registers.{Registers}
 use Rattle.sja_regs.specs.Facts.{RegisterFacts}
 use Rattle.sja_bus.specs.Boards.{HasOrders, WasTold, WasKept}
 use Rattle.sja_bus.specs.Buses.{KeepsAll}
 use Rattle.sja_bus.specs.Lawful.{IsBusRun}
-use Rattle.sja_bus.specs.Links.{per_node, EachRelated, Kept}
+use Rattle.sja_bus.specs.Links.{per_node, Kept}
 use Rattle.sja_bus.specs.Stretches.{recessive_bits, with_recessive, IsStretch}
 use Rattle.sja_bus.specs.Wire.{journal_at}
-use Rattle.sja_bus.proofs.Lists.{each_at, each_length, each_refl}
 use Rattle.sja_bus.proofs.QuietBits.{longer_at, account_still}
 use Rattle.sja_plan.specs.Plan.{PlanValue}
 use Rattle.sja_driver.specs.declared.logged_driver.LoggedDriver.{LoggedDriver}
@@ -75,7 +77,7 @@ module _ (plan : PlanValue) (r : SerialValue) (deeds : List (List Deed)) (h : St
     (sames : EachRelated (λ (a b : Deques). b.link ≡ a.link) r.links links)
     (kept : KeepsAll Lies r.bus.journals r.bus.journals r.links links) where
   many : length links ≡ length r.links
-  many = each_length (λ (a b : Deques). b.link ≡ a.link) r.links links sames
+  many = AllZip-long (λ (a b : Deques). b.link ≡ a.link) r.links links sames
 
   module _ (m : ℕ) (d : LoggedDriver) (p : Registers) (less : m < length plan.nodes) where
     abbrev j : List Entry

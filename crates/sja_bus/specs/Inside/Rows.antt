@@ -9,6 +9,7 @@ use Rattle.sja_link.specs.declared.link_id.LinkId.{LinkId}
 use Rattle.sja_link.specs.Lists.{Lists}
 use Rattle.sja_link.specs.Accounts.{Account}
 use Rattle.sja_link.specs.BusLedgers.{link_of}
+use Rattle.sja_link.specs.Related.{EachRelated}
 use Rattle.sja_regs.specs.declared.orders.Orders.{Orders}
 use Rattle.sja_regs.specs.declared.bus_turn.BusTurn.{BusTurn}
 use Rattle.sja_script.specs.declared.strike.Strike.{Strike}
@@ -16,7 +17,7 @@ use Rattle.sja_bus.specs.declared.struck_nodes.StruckNodes.{StruckNodes}
 use Rattle.sja_bus.specs.declared.news.News.TheVariants.{Nothing, Dropped}
 use Rattle.sja_bus.specs.declared.seat.Seat.{Seat}
 use Rattle.sja_bus.specs.Wire.{IsWired}
-use Rattle.sja_bus.specs.Links.{per_node, EachRelated, Kept, Grows, Numbered}
+use Rattle.sja_bus.specs.Links.{per_node, Kept, Grows, Numbered}
 use Rattle.sja_bus.specs.OneBit.{HasItems, Opens}
 use Rattle.sja_bus.specs.Inside.Seats.{IsReady}
 use Rattle.sja_bus.specs.Inside.Turning.{is_untold, TakesNews, OpensNews, Turns}

@@ -1,9 +1,10 @@
 -- The threads of the drivers: what each begins with, and what it hands back.
 use Rattle.std.specs.Prelude.{◌≡◌, ◌<◌, ℕ, Bool, false, List, length}
+use Rattle.sja_link.specs.Related.{EachRelated}
 use Rattle.sja_rings.specs.declared.ring_driver.RingDriver.{RingDriver}
 use Rattle.sja_rings.specs.Ends.{DriverLists, SameDriver, link_of_driver}
 use Rattle.sja_plan.specs.Plan.{PlanValue}
-use Rattle.sja_driver.specs.Holding.{EachRelated, Numbered}
+use Rattle.sja_driver.specs.Holding.{Numbered}
 use Rattle.sja_driver.specs.LoggedDrivers.{log_of}
 use Rattle.sja_driver.specs.Logs.{HasRoom, IsEmpty, done_in}
 use Rattle.sja_turns.specs.Serial.{steps_at}

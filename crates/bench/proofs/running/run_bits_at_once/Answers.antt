@@ -1,6 +1,6 @@
 use Rattle.std.proofs.Common.{◌≡◌, ◌*◌, ℕ, length, arith, sym, ap, ◌∙◌}
+use Rattle.std.proofs.lemmas.Slice.Zip.{AllZip-long}
 use Rattle.sja_link.specs.Deques.{Deques}
-use Rattle.sja_bus.proofs.Lists.{each_length}
 use Rattle.sja_bus.proofs.Many.{numbered_kept}
 use Rattle.bench.proofs.running.run_bits_at_once.Goals as goal
 
@@ -8,7 +8,7 @@ pub bit-requires-clause-count : goal.bit-requires-clause-count
 bit-requires-clause-count c =
     let i = c.loop.invariant in let e = c.quiet_bits.ensures in
     let same : Deques → Deques → Type 0 = λ x y. y.link ≡ x.link in
-    each_length same c.loop.links c.quiet_bits.new.links e.sames ∙ i.1 ∙ ap (λ (n : ℕ). 8 * n) (sym e.nodes)
+    AllZip-long same c.loop.links c.quiet_bits.new.links e.sames ∙ i.1 ∙ ap (λ (n : ℕ). 8 * n) (sym e.nodes)
 
 pub bit-requires-clause-ids : goal.bit-requires-clause-ids
 bit-requires-clause-ids c =
@@ -24,8 +24,8 @@ loop-preserved c =
     let i = c.loop.invariant in let q = c.quiet_bits.ensures in let e = c.bit.ensures in
     let before = c.loop.links in let between = c.quiet_bits.new.links in let after = c.bit.new.links in
     let same : Deques → Deques → Type 0 = λ x y. y.link ≡ x.link in
-    let first : length between ≡ length before = each_length same before between q.sames in
-    let then : length after ≡ length between = each_length same between after e.sames in
+    let first : length between ≡ length before = AllZip-long same before between q.sames in
+    let then : length after ≡ length between = AllZip-long same between after e.sames in
     let rested = q.nodes in let nodes = e.nodes in let ports = e.others.0 in let few = i.3 in (
       nodes ∙ rested ∙ i.0,
       then ∙ first ∙ i.1 ∙ ap (λ (n : ℕ). 8 * n) (sym (nodes ∙ rested)),

@@ -1,10 +1,11 @@
 use Rattle.std.proofs.Common.{◌≡◌, refl, arith, rules, inr}
 use Rattle.std.specs.Prelude.{◌⊎◌, Err}
+use Rattle.sja_link.proofs.Related.{each_trans}
 use Rattle.sja_bus.specs.Inside.Refusing.{SeatRefuses, SeatFull, SeatStops}
-use Rattle.sja_bus.proofs.Lists.{each_trans, err_is}
 use Rattle.sja_bus.specs.Inside.Rows.{SeatTurns}
 use Rattle.sja_bus.proofs.Many.{goes_all_trans, numbered_kept, done_all}
 use Rattle.sja_bus.proofs.Underway.{underway_none}
+use Rattle.sja_bus.proofs.Results.{err_is}
 use Rattle.sja_bus.proofs.all_nodes.bit_all.Goals as goal
 
 pub tick_from-requires : goal.tick_from-requires

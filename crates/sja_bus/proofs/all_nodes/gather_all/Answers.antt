@@ -2,7 +2,8 @@ use Rattle.std.proofs.Common.{◌≡◌, ◌<◌, length, rules}
 use Rattle.std.specs.Prelude.{Err, slice_set}
 use Rattle.sja_bus.specs.Inside.Rows.{SeatTakes, SeatNews}
 use Rattle.sja_bus.specs.Inside.Refusing.{SeatRefuses}
-use Rattle.sja_bus.proofs.Lists.{each_trans, err_is}
+use Rattle.sja_link.proofs.Related.{each_trans}
+use Rattle.sja_bus.proofs.Results.{err_is}
 use Rattle.sja_bus.proofs.Many.{done_all}
 use Rattle.sja_bus.proofs.Rows.{stands_at, taken_none, taken_one}
 use Rattle.sja_bus.proofs.Refusing.{refuses_seat}

@@ -1,12 +1,13 @@
 use Rattle.std.proofs.Common.{◌≡◌, ℕ, ◌<◌, length, rules, subst, inl, inr}
 use Rattle.std.specs.Prelude.{◌⊎◌, Err, slice_index_or, slice_set}
+use Rattle.sja_link.proofs.Related.{each_trans}
 use Rattle.sja_bus.specs.Inside.Rows.{SeatOpens, SeatOpensNews}
-use Rattle.sja_bus.proofs.Lists.{each_trans, err_is}
 use Rattle.sja_bus.specs.Inside.Refusing.{SeatRefuses, SeatFull}
 use Rattle.sja_bus.proofs.Many.{done_all}
 use Rattle.sja_bus.proofs.Rows.{stands_at, taken_none, taken_one}
 use Rattle.sja_bus.proofs.Refusing.{refuses_seat}
 use Rattle.sja_bus.proofs.Breaking.{full_seat}
+use Rattle.sja_bus.proofs.Results.{err_is}
 use Rattle.sja_bus.proofs.all_nodes.open_all.Goals as goal
 
 pub loop-k-init : goal.loop-k-init

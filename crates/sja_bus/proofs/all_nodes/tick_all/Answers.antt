@@ -1,22 +1,23 @@
 use Rattle.std.proofs.Common.{◌≡◌, ◌*◌, ◌<◌, ◌≤◌, ◌∷◌, [], length, rules, arith, refl, sym, ap, ◌∙◌, subst}
 use Rattle.std.specs.Prelude.{Err, slice_index_or, slice_set}
 use Rattle.std.proofs.Math.ListN.{length-set}
-use Rattle.std.proofs.lemmas.List.{take_all, set-get_or}
+use Rattle.std.proofs.lemmas.List.{take_all, set-get_or, get_or-set_same as set_here}
 use Rattle.sja_link.specs.declared.entry.Entry.TheVariants.{Bit}
 use Rattle.sja_link.specs.BusLedgers.{link_of}
+use Rattle.sja_link.specs.Related.{EachRelated}
 use Rattle.sja_bus.specs.declared.seat.Seat.{Seat}
 use Rattle.sja_bus.specs.Wire.{wired}
-use Rattle.sja_bus.specs.Links.{EachRelated, Goes}
+use Rattle.sja_bus.specs.Links.{Goes}
 use Rattle.sja_bus.specs.Inside.Rows.{SeatTurns, seen_by, driven_by}
 use Rattle.sja_bus.specs.Inside.Refusing.{SeatBreaks}
 use Rattle.sja_bus.proofs.Levels.{level_now}
-use Rattle.sja_bus.proofs.Lists.{err_is, set_here}
 use Rattle.sja_bus.proofs.Many.{done_all}
 use Rattle.sja_bus.proofs.Moving.{goes_quiet}
 use Rattle.sja_bus.proofs.Refusing.{free_one}
 use Rattle.sja_bus.proofs.Running.{seen_is}
 use Rattle.sja_bus.proofs.Turning.{quiet_turns}
 use Rattle.sja_bus.proofs.Underway.{underway_none, underway_one, underway_at}
+use Rattle.sja_bus.proofs.Results.{err_is}
 use Rattle.sja_bus.proofs.all_nodes.tick_all.Goals as goal
 
 pub loop-k-init : goal.loop-k-init

@@ -3,7 +3,8 @@ use Rattle.std.specs.Prelude.{Err, slice_set}
 use Rattle.sja_bus.specs.Inside.Rows.{SeatTurns, seen_by}
 use Rattle.sja_bus.specs.Inside.Refusing.{SeatBreaks}
 use Rattle.sja_bus.proofs.Breaking.{breaks_seat}
-use Rattle.sja_bus.proofs.Lists.{each_refl, each_trans, err_is}
+use Rattle.sja_link.proofs.Related.{each_refl, each_trans}
+use Rattle.sja_bus.proofs.Results.{err_is}
 use Rattle.sja_bus.proofs.Many.{ready_one}
 use Rattle.sja_bus.proofs.Rows.{stands_at}
 use Rattle.sja_bus.proofs.Running.{seen_is}

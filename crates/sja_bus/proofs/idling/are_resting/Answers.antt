@@ -1,9 +1,9 @@
 use Rattle.std.proofs.Common.{◌≡◌, ℕ, ◌<◌, true, length, rules, sym, ap, subst, ◌∙◌, inl, inr}
 use Rattle.std.specs.Prelude.{slice_index_or}
+use Rattle.std.proofs.lemmas.List.{get_or_default as or_same}
 use Rattle.sja_link.specs.BusLedgers.{link_of}
 use Rattle.sja_bus.specs.declared.seat.Seat.{Seat}
 use Rattle.sja_bus.specs.Inside.Idling.{IsResting}
-use Rattle.sja_bus.proofs.Many.{or_same}
 use Rattle.sja_bus.proofs.Rests.{earlier_or_now}
 use Rattle.sja_bus.proofs.idling.are_resting.Goals as goal
 

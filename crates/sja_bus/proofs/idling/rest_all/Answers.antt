@@ -1,9 +1,9 @@
 use Rattle.std.proofs.Common.{◌≡◌, ◌<◌, length, rules}
 use Rattle.std.specs.Prelude.{Err, slice_set}
 use Rattle.sja_bus.specs.Inside.Idling.{after_bits, IsFullBy}
-use Rattle.sja_bus.proofs.Lists.{err_is}
 use Rattle.sja_bus.proofs.Many.{done_all}
 use Rattle.sja_bus.proofs.Stretches.{all_after_by, full_by}
+use Rattle.sja_bus.proofs.Results.{err_is}
 use Rattle.sja_bus.proofs.idling.rest_all.Goals as goal
 
 pub returns-clause-rested : goal.returns-clause-rested

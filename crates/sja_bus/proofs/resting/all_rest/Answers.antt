@@ -1,8 +1,8 @@
 use Rattle.std.proofs.Common.{◌≡◌, ℕ, ◌<◌, Bool, true, false, length, rules, arith, sym, subst, inl, inr}
 use Rattle.std.specs.Prelude.{slice_index_or}
+use Rattle.std.proofs.lemmas.List.{get_or_default as or_same}
 use Rattle.can_node.specs.Stands.{ShowsRest}
 use Rattle.sja_bus.specs.declared.seat.Seat.{Seat}
-use Rattle.sja_bus.proofs.Many.{or_same}
 use Rattle.sja_bus.proofs.Rests.{earlier_or_now}
 use Rattle.sja_bus.proofs.resting.all_rest.Goals as goal
 

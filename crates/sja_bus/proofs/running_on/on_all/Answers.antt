@@ -1,10 +1,10 @@
 use Rattle.std.proofs.Common.{◌≡◌, ℕ, ◌+◌, ◌-◌, ◌<◌, false, true, length, rules, arith, refl, ap, ◌∙◌, subst}
 use Rattle.std.specs.Prelude.{slice_index_or}
+use Rattle.sja_link.proofs.Related.{each_refl, each_trans}
 use Rattle.sja_bus.specs.Reasons.{room_for}
 use Rattle.sja_bus.specs.Several.{IsOneBit, WorksIf}
 use Rattle.sja_bus.specs.Inside.Rows.{IsBus}
 use Rattle.sja_bus.specs.Inside.RunningOn.{moment_of, RowsRun}
-use Rattle.sja_bus.proofs.Lists.{each_refl, each_trans}
 use Rattle.sja_bus.proofs.Many.{numbered_kept}
 use Rattle.sja_bus.proofs.RunningOn.{passes, none_still, some_work, none_yet, bits_on, stops_on}
 use Rattle.sja_bus.proofs.running_on.on_all.Goals.{After-keeps_its_facts}

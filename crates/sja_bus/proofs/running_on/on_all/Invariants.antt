@@ -1,5 +1,5 @@
 use Rattle.std.proofs.Common.{◌≡◌, ℕ, ◌+◌, ◌-◌, ◌≤◌, length}
-use Rattle.sja_bus.specs.Links.{EachRelated}
+use Rattle.sja_link.specs.Related.{EachRelated}
 use Rattle.sja_bus.specs.Several.{AreBits, IsOneBit, WorksIf}
 use Rattle.sja_bus.specs.Wire.{wired}
 use Rattle.sja_bus.specs.Inside.Refusing.{HaveRoom, AreFree}

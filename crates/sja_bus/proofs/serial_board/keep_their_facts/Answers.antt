@@ -1,9 +1,9 @@
 use Rattle.std.proofs.Common.{rules, ℕ, ◌<◌, length, sym, subst, arith, inl, inr}
 use Rattle.std.specs.Prelude.{slice_index_or}
 use Rattle.std.proofs.lemmas.Bool.{cases_eq}
+use Rattle.std.proofs.lemmas.List.{get_or_default as or_same}
 use Rattle.sja_regs.specs.declared.registers.Registers.{Registers}
 use Rattle.sja_regs.specs.Facts.{RegisterFacts}
-use Rattle.sja_bus.proofs.Many.{or_same}
 use Rattle.sja_bus.proofs.serial_board.keep_their_facts.Goals as goal
 
 pub loop-node-init : goal.loop-node-init

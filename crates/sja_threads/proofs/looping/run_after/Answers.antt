@@ -1,7 +1,7 @@
 use Rattle.std.proofs.Common.{length, arith}
+use Rattle.sja_link.specs.Related.{EachRelated}
+use Rattle.sja_link.proofs.Related.{each_refl, each_trans}
 use Rattle.sja_rings.specs.Ends.{SameBus}
-use Rattle.sja_bus.specs.Links.{EachRelated}
-use Rattle.sja_bus.proofs.Lists.{each_refl, each_trans}
 use Rattle.sja_threads.proofs.Same.{bus_refl, bus_trans}
 use Rattle.sja_threads.proofs.Underway.{may_go_on, ran_on}
 use Rattle.sja_threads.proofs.looping.run_after.Given.{Over}

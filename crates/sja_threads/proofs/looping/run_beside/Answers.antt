@@ -1,7 +1,7 @@
 use Rattle.std.proofs.Common.{rules, ◌≡◌, arith}
+use Rattle.sja_link.specs.Related.{EachRelated}
+use Rattle.sja_link.proofs.Related.{each_refl, each_trans}
 use Rattle.sja_rings.specs.Ends.{SameBus}
-use Rattle.sja_bus.specs.Links.{EachRelated}
-use Rattle.sja_bus.proofs.Lists.{each_refl, each_trans}
 use Rattle.sja_threads.specs.declared.moving.Move.TheVariants.{Ran}
 use Rattle.sja_threads.proofs.Same.{bus_refl, bus_trans}
 use Rattle.sja_threads.proofs.Underway.{ran_on}

@@ -1,6 +1,6 @@
 use Rattle.std.proofs.Common.{◌≤◌, length}
+use Rattle.sja_link.specs.Related.{EachRelated}
 use Rattle.sja_rings.specs.Ends.{SameBus}
-use Rattle.sja_bus.specs.Links.{EachRelated}
 use Rattle.sja_threads.specs.Inside.Underway.{HasRun}
 use Rattle.sja_threads.proofs.looping.run_beside.Given as goal
 

@@ -1,6 +1,6 @@
 use Rattle.std.proofs.Common.{◌+◌, ap, ◌∙◌}
+use Rattle.sja_link.proofs.Related.{each_refl}
 use Rattle.sja_rings.specs.Ends.{SameBus}
-use Rattle.sja_bus.proofs.Lists.{each_refl}
 use Rattle.sja_threads.proofs.Same.{bus_refl}
 use Rattle.sja_threads.proofs.Underway.{after_bit, all_rest}
 use Rattle.sja_threads.proofs.moving.bit_if_due.Goals as goal

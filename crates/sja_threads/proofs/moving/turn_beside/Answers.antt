@@ -1,6 +1,6 @@
 use Rattle.std.proofs.Common.{length}
+use Rattle.sja_link.proofs.Related.{each_trans}
 use Rattle.sja_rings.specs.Ends.{SameBus}
-use Rattle.sja_bus.proofs.Lists.{each_trans}
 use Rattle.sja_threads.specs.Inside.Underway.{MayTurn}
 use Rattle.sja_threads.proofs.Same.{bus_trans}
 use Rattle.sja_threads.proofs.Underway.{may_go_on, none_due}

@@ -1,16 +1,16 @@
 use Rattle.std.proofs.Common.{rules, ◌≡◌, List, length, map, vec_len, sym, ap, subst, arith}
 use Rattle.std.specs.Vec.{with_items}
 use Rattle.std.proofs.lemmas.List.{length-map, with_items_is}
+use Rattle.std.proofs.lemmas.Slice.Zip.{AllZip-long}
+use Rattle.sja_link.specs.Related.{EachRelated}
 use Rattle.sja_rings.specs.declared.ring_bus.RingBus.{RingBus}
 use Rattle.sja_rings.specs.Ends.{SameBus}
 use Rattle.sja_bus.specs.Buses.{BusValue}
-use Rattle.sja_bus.specs.Links.{EachRelated}
 use Rattle.sja_threads.specs.Inside.Promised.{IsFor}
 use Rattle.sja_threads.specs.Inside.Underway.{IsUnderWay, HasRun}
 use Rattle.sja_threads.proofs.HandedBack.{begins}
 use Rattle.sja_threads.proofs.Returned.{all_hands, all_kept}
 use Rattle.sja_threads.proofs.Threaded.{ending}
-use Rattle.sja_threads.proofs.Works.{each_length}
 use Rattle.sja_threads.proofs.running.run_in.Goals as goal
 
 pub start_all-requires-clause-hands : goal.start_all-requires-clause-hands
@@ -33,7 +33,7 @@ pub join_all-requires-clause-room : goal.join_all-requires-clause-room
 join_all-requires-clause-room g c =
     let hands = c.args.ready.hands.items in
     let children = c.in_ok-children.children.items in
-    let each = each_length (IsFor c.args.plan.now) hands (map (λ child. child.promise) children)
+    let each = AllZip-long (IsFor c.args.plan.now) hands (map (λ child. child.promise) children)
     c.in_ok-children.ensures.all in
     let all = length-map children (λ child. child.promise) in
     let many = c.requires.ready.hands in

@@ -1,8 +1,8 @@
 use Rattle.std.proofs.Common.{rules, ◌≡◌, ◌+◌, ◌<◌, List, length, sym, ap, ◌∙◌, subst, arith}
 use Rattle.std.specs.Prelude.{slice_index_or}
+use Rattle.std.proofs.lemmas.List.{get_or_default}
 use Rattle.sja_link.specs.declared.down.Down.{Down}
 use Rattle.sja_driver.specs.LoggedDrivers.{node_of, driver_of, ended_of}
-use Rattle.sja_driver.proofs.Each.{index_any}
 use Rattle.sja_report.specs.Log.{ActivationValue}
 use Rattle.sja_turns.specs.Finishing.{activation_after, AreActivations}
 use Rattle.sja_turns.proofs.NodeEnds.{opened_few}
@@ -24,7 +24,7 @@ loop-ended-preserved c =
     let made : x ≡ activation_after driver r n = c.in_ok-activation_log.ensures in
     let here : (l : List Down) → r ≡ slice_index_or lists (c.args.base + n) l = λ l.
     c.index-lists-base.is ∙ ap (λ m. slice_index_or lists (c.args.base + m) r) c.from-in-loop-ended.ensures
-    ∙ index_any lists (c.args.base + n) r l less in
+    ∙ get_or_default lists (c.args.base + n) r l less in
     record {
       room = search rules;
       all = inv.all;

@@ -1,9 +1,9 @@
 use Rattle.std.proofs.Common.{rules, ◌≡◌, ◌∷◌, ◌+◌, ◌*◌, ◌<◌, List, length, drop, sym, ◌∙◌, subst, arith}
 use Rattle.std.specs.Prelude.{slice_index_or}
 use Rattle.std.specs.Vec.Iter.{into_iter_items}
+use Rattle.std.proofs.lemmas.List.{get_or_default}
 use Rattle.sja_bus.specs.declared.node_log.NodeLog.{NodeLog}
 use Rattle.sja_driver.specs.declared.logged_driver.LoggedDriver.{LoggedDriver}
-use Rattle.sja_driver.proofs.Each.{index_any}
 use Rattle.sja_report.specs.Log.{NodeValue}
 use Rattle.sja_turns.specs.Finishing.{IsNodeEnd, AreNodeEnds}
 use Rattle.sja_turns.proofs.Logging.{nodes_push, next_of}
@@ -26,7 +26,7 @@ loop-log-preserved c =
     subst (λ (l : NodeLog). IsNodeEnd l (slice_index_or drivers n d) lists (8 * n) x) (sym
     (next_of logs left n c.in-Some.log g e).0)
     (subst (λ (v : LoggedDriver). IsNodeEnd c.in-Some.log v lists (8 * n) x) (c.index-drivers-node.is
-    ∙ index_any drivers n c.index-drivers-node.result d less) c.in_ok-node_run.ensures) in
+    ∙ get_or_default drivers n c.index-drivers-node.result d less) c.in_ok-node_run.ensures) in
     record {
       room = search rules;
       few = omega (arith, less);

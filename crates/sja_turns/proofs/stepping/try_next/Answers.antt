@@ -1,6 +1,6 @@
 use Rattle.std.proofs.Common.{rules, ◌≡◌, ◌<◌, ◌≤◌, List, [], ◌∷◌, length, true, false, refl, sym, ap, ◌∙◌, subst, arith}
 use Rattle.std.specs.Prelude.{slice_index_or, slice_set}
-use Rattle.std.proofs.lemmas.List.{length-map}
+use Rattle.std.proofs.lemmas.List.{length-map, get_or_default}
 use Rattle.sja_link.specs.Deques.{Deques}
 use Rattle.sja_link.proofs.Entering.{bits_counted}
 use Rattle.sja_regs.specs.declared.registers.Registers.{Registers}
@@ -8,7 +8,6 @@ use Rattle.sja_regs.specs.Facts.{RegisterFacts}
 use Rattle.sja_driver.specs.Deeds.{Deed, done_of}
 use Rattle.sja_driver.specs.LoggedDrivers.{node_of}
 use Rattle.sja_driver.specs.Logs.{done_in}
-use Rattle.sja_driver.proofs.Each.{index_any}
 use Rattle.sja_turns.specs.Serial.{run_now, steps_at, deeds_at, StandsAt, Does, IsStuck}
 use Rattle.sja_turns.proofs.Standing.{next_tried}
 use Rattle.sja_turns.proofs.Taken.{gather_takes}
@@ -44,7 +43,7 @@ unreachable-requires c =
     ∙ sym h.bits in
     let few : node < length c.args.ports.now = let e = h.count.ports in omega (arith, e, there) in
     let facts : RegisterFacts p = subst (λ (x : Registers). RegisterFacts x)
-    (index_any c.args.ports.now node c.index-ports-node.result c.index-ports-node-2.result few)
+    (get_or_default c.args.ports.now node c.index-ports-node.result c.index-ports-node-2.result few)
     c.keeps_its_facts.ensures in
     let many : length (steps_at c.args.plan.now node) ≤ 1000 = c.limits.ensures.steps node [] there in
     let left = c.requires.left deeds h in
@@ -87,7 +86,7 @@ returns c =
     ∙ ap (λ m. slice_index_or (steps_at c.args.plan.now node) m c.index-steps-at.result) many_done in
     let few : node < length c.args.ports.now = let e = h.count.ports in omega (arith, e, there) in
     let facts : RegisterFacts p = subst (λ (x : Registers). RegisterFacts x)
-    (index_any c.args.ports.now node c.index-ports-node.result c.index-ports-node-2.result few)
+    (get_or_default c.args.ports.now node c.index-ports-node.result c.index-ports-node-2.result few)
     c.keeps_its_facts.ensures in
     next_tried c.args.plan.now r n deeds node h there c.step-done.new.links was c.step-done.new.self
     c.step-done.new.port no_link refl refl refl

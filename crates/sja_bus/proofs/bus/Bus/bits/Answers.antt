@@ -1,9 +1,10 @@
 use Rattle.std.proofs.Common.{◌≡◌, ◌+◌, ◌-◌, None, arith, rules}
 use Rattle.std.specs.Prelude.{Err}
+use Rattle.sja_link.proofs.Related.{each_refl}
 use Rattle.sja_bus.specs.declared.bus_fault.BusFault.{BusFault}
 use Rattle.sja_bus.specs.Several.{moment, Keeps, OneBit, WorksIf, StopsBits}
 use Rattle.sja_bus.specs.Inside.RunningOn.{IsSoFar}
-use Rattle.sja_bus.proofs.Lists.{err_is}
+use Rattle.sja_bus.proofs.Results.{err_is}
 use Rattle.sja_bus.proofs.Many.{numbered_kept}
 use Rattle.sja_bus.proofs.SoFar.{keeps_refl, none_yet, and_one, and_more, keeps_trans, still_for, breaks_later}
 use Rattle.sja_bus.proofs.bus.Bus.bits.Goals as goal

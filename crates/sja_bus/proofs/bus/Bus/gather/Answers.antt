@@ -1,6 +1,7 @@
 use Rattle.std.proofs.Common.{◌≡◌, List, ◌++◌, length, take, drop, sym, ap, ◌∙◌, subst, arith, ◌+◌, ℕ, None}
 use Rattle.std.proofs.lemmas.Grind.{common_steps}
 use Rattle.std.specs.Prelude.{vec_capacity}
+use Rattle.sja_link.proofs.Related.{each_refl}
 use Rattle.sja_bus.specs.declared.seat.Seat.{Seat}
 use Rattle.sja_bus.specs.OneBit.{HasItems}
 use Rattle.sja_bus.specs.Buses.{BusValue, EachJournal, EachUntold, AllDry}
@@ -8,7 +9,6 @@ use Rattle.sja_bus.specs.Inside.Rows.{journals_of, untold_of, EachSeat, SeatTake
 use Rattle.sja_bus.specs.Inside.Whole.{IsWhole}
 use Rattle.sja_bus.specs.Reasons.{room_for, IsNotTaken}
 use Rattle.sja_bus.specs.Inside.Refusing.{HaveRoom, SeatRefuses}
-use Rattle.sja_bus.proofs.Lists.{each_refl}
 use Rattle.sja_bus.proofs.Running.{wired_taken}
 use Rattle.sja_bus.proofs.Journals.{all_items, all_dry, all_untold, calm_taken}
 use Rattle.sja_bus.proofs.Refusing.{not_taken}

@@ -5,13 +5,13 @@ use Rattle.sja_link.specs.BusLedgers.{free_in}
 use Rattle.sja_bus.specs.declared.activity.Activity.{Activity}
 use Rattle.sja_bus.specs.declared.activity.Activity.TheVariants.{Running}
 use Rattle.sja_bus.specs.Inside.Following.{Reads}
-use Rattle.sja_bus.proofs.Lists.{ok_map}
 use Rattle.sja_bus.proofs.Applying.{applied_running, applied_resting, applies_none, applies_one}
 use Rattle.sja_bus.proofs.Steps.{follows_abort}
 use Rattle.sja_bus.specs.declared.news.News.TheVariants.{Changed, Dropped as DroppedNews}
 use Rattle.sja_bus.proofs.Aborting.{marked_leaves, dropped_leaves}
 use Rattle.sja_bus.proofs.Turning.{aborts_none, aborts_one}
 use Rattle.sja_bus.proofs.Reading.{reads_swap, reads_quiet}
+use Rattle.sja_bus.proofs.Results.{ok_map}
 use Rattle.sja_bus.proofs.seat.Seat.abort.Goals as goal
 
 pub enter_abort-requires-clause-follows : goal.enter_abort-requires-clause-follows

@@ -3,11 +3,11 @@ use Rattle.sja_link.specs.declared.entry.Entry.TheVariants.{Off}
 use Rattle.sja_link.specs.BusLedgers.{free_in}
 use Rattle.sja_bus.specs.declared.activity.Activity.{Activity}
 use Rattle.sja_bus.specs.Inside.Following.{Reads, open_in}
-use Rattle.sja_bus.proofs.Lists.{ok_map}
 use Rattle.sja_bus.proofs.Steps.{follows_off}
 use Rattle.sja_bus.proofs.Parted.{stands_at}
 use Rattle.sja_bus.proofs.Reading.{reads_off, runs_at}
 use Rattle.sja_bus.proofs.Moving.{moves_push}
+use Rattle.sja_bus.proofs.Results.{ok_map}
 use Rattle.sja_bus.proofs.seat.Seat.go_off.Goals as goal
 
 pub returns-in-Ok-clause-sound : goal.returns-in-Ok-clause-sound

@@ -1,8 +1,8 @@
 use Rattle.std.proofs.Common.{append-nil, ◌≡◌, ℕ, true, false, rules, refl, sym, ◌∙◌, subst, inr}
-use Rattle.sja_bus.proofs.Lists.{ok_map, err_map}
 use Rattle.sja_bus.proofs.Breaking.{full_for_abort}
 use Rattle.sja_bus.proofs.Moving.{goes_trans, goes_aborted}
 use Rattle.sja_bus.proofs.Turning.{aborts_none, takes_then}
+use Rattle.sja_bus.proofs.Results.{ok_map, err_map}
 use Rattle.sja_bus.proofs.seat.Seat.open_bit.Goals as goal
 
 pub returns-then-ordered-clause-goes : goal.returns-then-ordered-clause-goes

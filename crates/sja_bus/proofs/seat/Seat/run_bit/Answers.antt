@@ -5,10 +5,10 @@ use Rattle.sja_bus.specs.Links.{Moves}
 use Rattle.sja_bus.specs.Inside.Seats.{IsMid}
 use Rattle.sja_bus.specs.Inside.Taking.{BreaksHere}
 use Rattle.sja_bus.proofs.Moving.{moves_trans}
-use Rattle.sja_bus.proofs.Lists.{err_is}
 use Rattle.sja_bus.proofs.Breaking.{verdict_few, breaks_after}
 use Rattle.sja_bus.proofs.Steps.{follows_on}
 use Rattle.sja_bus.proofs.Bits.{has_on, has_off}
+use Rattle.sja_bus.proofs.Results.{err_is}
 use Rattle.sja_bus.proofs.seat.Seat.run_bit.Goals as goal
 
 pub returns-then-not-heard-clause-sound : goal.returns-then-not-heard-clause-sound
