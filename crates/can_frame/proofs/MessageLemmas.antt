@@ -3,7 +3,7 @@ use Rattle.std.proofs.Common.{◌≡◌, ◌==◌, ◌+◌, ◌*◌, ◌/◌, �
 use Rattle.std.proofs.Common.{true, false, List, [], ◌∷◌, length, get_or, refl, arith}
 use Rattle.std.proofs.lemmas.Bool.{eqb-true, eqb-false}
 use Rattle.std.proofs.lemmas.List.Elements.{All-from_get_or}
-use Rattle.can_frame.specs.Frame.{data_count}
+use Rattle.can_frame.specs.Frame.{IsFrame, id_limit, data_count}
 use Rattle.can_frame.specs.Message.{bit, IsMessage}
 use Rattle.can_frame.specs.Layout.{said_ext, said_rtr, said_dlc, head_count, spare_of}
 use Rattle.can_frame.specs.Layout.{second_rtr_of, IsSized, UnusedAreZero, RtrAgrees}
@@ -13,6 +13,17 @@ bit-is_one : (x : ℕ) → x < 2 → bit (x == 1) ≡ x
 bit-is_one zero h = refl
 bit-is_one (suc zero) h = refl
 bit-is_one (suc (suc x)) h = absurd (omega arith)
+
+-- a frame with these values, whose identifier and DLC are small enough
+is_frame : (ext : Bool) (id : ℕ) (rtr : Bool) (dlc : ℕ) (rest : List ℕ) → id < id_limit ext → dlc < 16 →
+    length rest ≡ data_count rtr dlc → ((i : ℕ) → get_or rest i 0 < 256) →
+    IsFrame (record { ext = ext; id = id; rtr = rtr; dlc = dlc; bytes = rest })
+is_frame ext id rtr dlc rest few small count fit = record {
+  id = few;
+  dlc = small;
+  count = count;
+  bytes = All-from_get_or (λ x. x < 256) rest 0 (λ i _. fit i);
+}
 
 -- bytes in the layout of a standard frame
 standard : (a b c : ℕ) (rest : List ℕ) → a < 256 → b < 256 → c < 256 → ((i : ℕ) → get_or rest i 0 < 256) →
@@ -24,12 +35,7 @@ standard a b c rest ha hb hc hrest short count unused spare agrees =
     let second : b ≡ (8 * b + c / 32) / 8 = omega arith in
     let third : c ≡ 32 * ((8 * b + c / 32) % 8) + 16 * bit (a / 64 % 2 == 1) = omega (arith, agrees) in (
       record { ext = false; id = 8 * b + c / 32; rtr = a / 64 % 2 == 1; dlc = a % 16; bytes = rest },
-      record {
-        id = omega arith;
-        dlc = omega arith;
-        count = count;
-        bytes = All-from_get_or (λ x. x < 256) rest 0 (λ i _. hrest i);
-      },
+      is_frame false (8 * b + c / 32) (a / 64 % 2 == 1) (a % 16) rest (omega arith) (omega arith) count hrest,
       cc,
     )
 
@@ -53,12 +59,8 @@ extended a b c d e rest ha hb hc hd he hrest long count unused spare agrees =
         dlc = a % 16;
         bytes = rest;
       },
-      record {
-        id = omega arith;
-        dlc = omega arith;
-        count = count;
-        bytes = All-from_get_or (λ x. x < 256) rest 0 (λ i _. hrest i);
-      },
+      is_frame true (2097152 * b + 8192 * c + 32 * d + e / 8) (a / 64 % 2 == 1) (a % 16) rest (omega arith)
+          (omega arith) count hrest,
       cc,
     )
 
