@@ -114,8 +114,8 @@ own_step InterframeSpaceBroken c = c
 abbrev pub error_flag : ContextValue → FlagKind
 error_flag c = if is_passive c then PassiveError else ActiveError
 
--- the flag that follows a piece: after a fault an error flag (part A section 6.2), else an overload flag (section
--- 3.1.4)
+-- the flag that follows a piece: after a fault an error flag, with which an error frame begins (part A sections 3.1.3
+-- and 6.2), else an overload flag, with which an overload frame begins (section 3.1.4)
 abbrev pub flag_after : Piece → ContextValue → FlagKind
 flag_after (Fault site cause segment) c = error_flag c
 flag_after Integration c = Overload

@@ -20,7 +20,7 @@ pub data Place : Type 0 where
   AfterSof : Place
   -- before the seventh bit of EOF of a received frame (part A section 4)
   AtLastEofBit : Place
-  -- an error flag or overload flag is due (part A sections 3.1.3 and 3.1.4)
+  -- an error frame or overload frame begins: its flag is due (part A sections 3.1.3 and 3.1.4)
   AtFlag : Place
   -- after such a flag (the same)
   AtDelimiter : Place

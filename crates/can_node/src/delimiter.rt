@@ -1,4 +1,5 @@
-//! Error delimiters and overload delimiters: what comes after a flag (Bosch CAN 2.0 part A sections 3.1.3 and 3.1.4).
+//! Error delimiters and overload delimiters: what ends an error frame or overload frame after its flag (Bosch CAN 2.0
+//! part A sections 3.1.3 and 3.1.4).
 ghost use Rattle.std.specs.Prelude.{◌≡◌, ◌==◌, ◌&&◌, List};
 ghost use Rattle.can_node.specs.Bits.{Bit, recessive_bit};
 ghost use Rattle.can_node.specs.Context.{ContextValue};

@@ -1,7 +1,7 @@
-//! What an overload flag answers.
+//! What leads to an overload frame.
 
-/// The conditions that lead to an overload flag (Bosch CAN 2.0 part A section 3.1.4; the last bit of a delimiter and of
-/// EOF are ISO 11898-1's). A receiver's own need for a delay isn't modelled.
+/// The conditions that lead to an overload frame, which begins with an overload flag (Bosch CAN 2.0 part A section
+/// 3.1.4; the last bit of a delimiter and of EOF are ISO 11898-1's). A receiver's own need for a delay isn't modelled.
 #[derive(Clone, Copy, Debug)]
 pub enum OverloadCondition {
     /// A dominant level at the first or second bit of intermission.
