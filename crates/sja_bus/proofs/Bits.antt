@@ -23,15 +23,15 @@ use Rattle.sja_link.proofs.Entering.{gathered_push, gathered_append}
 use Rattle.sja_bus.specs.OneBit.{IsRead, AreRead, HasItems, HasAbort, abort_as, entries_of_items, judged_as, off_as, HasBit, AreInOrder}
 use Rattle.sja_bus.specs.OutOfOrder.{IsOutOfOrder}
 use Rattle.sja_bus.specs.Inside.Following.{Follows, FollowsBit}
-use Rattle.sja_bus.specs.declared.heard.Heard.{Heard}
-use Rattle.sja_bus.specs.Inside.Turning.{Hears, Brings}
+use Rattle.sja_bus.specs.declared.brought.Brought.{Brought}
+use Rattle.sja_bus.specs.Inside.Turning.{BringsVerdict, Brings}
 use Rattle.sja_bus.specs.Inside.Seats.{Keeps, IsJudged}
 use Rattle.sja_bus.proofs.Steps.{follows_bit, follows_stopped, follows_judged}
 
 -- nothing is to be judged
-pub heard_quiet : (old new : Node) (j : List Entry) (x seen : Level) (e : BitEvents) (filter : Filter) (a : ℕ) → DrivesNext old x → Samples old new seen e → (place_of j).activation ≡ a →
+pub received_quiet : (old new : Node) (j : List Entry) (x seen : Level) (e : BitEvents) (filter : Filter) (a : ℕ) → DrivesNext old x → Samples old new seen e → (place_of j).activation ≡ a →
     filter_of (part j a) ≡ Some filter → Keeps filter e.received None → Follows old j → FollowsBit new (j ++ Bit x seen ∷ []) e.went_off
-heard_quiet old new j x seen e filter a drives samples at is keeps h = go e.received refl keeps
+received_quiet old new j x seen e filter a drives samples at is keeps h = go e.received refl keeps
   where
     go : (o : Option FrameValue) → e.received ≡ o → Keeps filter o None → FollowsBit new (j ++ Bit x seen ∷ []) e.went_off
     go None same k = follows_bit old new j x seen e drives samples same h
@@ -40,9 +40,9 @@ heard_quiet old new j x seen e filter a drives samples at is keeps h = go e.rece
         follows_stopped old new j x seen e f drives samples same (λ passes. k (subst P (ap (λ n. filter_of (part j n)) at ∙ is) passes)) h
 
 -- a message was judged
-pub heard_judged : (old new : Node) (j after : List Entry) (x seen : Level) (e : BitEvents) (filter : Filter) (a : ℕ) (m : List ℕ) (overrun : Bool) → DrivesNext old x → Samples old new seen e → (place_of j).activation ≡ a →
+pub received_judged : (old new : Node) (j after : List Entry) (x seen : Level) (e : BitEvents) (filter : Filter) (a : ℕ) (m : List ℕ) (overrun : Bool) → DrivesNext old x → Samples old new seen e → (place_of j).activation ≡ a →
     filter_of (part j a) ≡ Some filter → Keeps filter e.received (Some m) → IsJudged j x seen a m overrun after → Follows old j → FollowsBit new after e.went_off
-heard_judged old new j after x seen e filter a m overrun drives samples at is keeps judged h = go e.received refl keeps
+received_judged old new j after x seen e filter a m overrun drives samples at is keeps judged h = go e.received refl keeps
   where
     go : (o : Option FrameValue) → e.received ≡ o → Keeps filter o (Some m) → FollowsBit new after e.went_off
     go None same k = absurd cc
@@ -83,31 +83,31 @@ pub bits_items : (j k : List Entry) → HasItems j k → bits_of k ≡ bits_of j
 bits_items j k h = ap bits_of h.whole ∙ bits_none j (entries_of_items h.items) (items_no_bit h.items)
 
 -- a bit alone, with a verdict, and with bus-off after that
-pub has_alone : (j after : List Entry) (x seen : Level) → after ≡ j ++ Bit x seen ∷ [] → Hears j x seen false after
+pub has_alone : (j after : List Entry) (x seen : Level) → after ≡ j ++ Bit x seen ∷ [] → BringsVerdict j x seen false after
 has_alone j after x seen e = record { verdict = record { verdict = None; whole = e ∙ sym (append-nil (j ++ Bit x seen ∷ [])) }; overrun_is = refl }
 
-pub has_judged : (j after : List Entry) (x seen : Level) (a : ℕ) (m : List ℕ) (overrun : Bool) → IsJudged j x seen a m overrun after → Hears j x seen overrun after
+pub has_judged : (j after : List Entry) (x seen : Level) (a : ℕ) (m : List ℕ) (overrun : Bool) → IsJudged j x seen a m overrun after → BringsVerdict j x seen overrun after
 has_judged j after x seen a m overrun judged = record { verdict = record { verdict = Some (judged.verdict, m); whole = judged.whole }; overrun_is = judged.overrun_is }
 
-pub has_on : (j after : List Entry) (x seen : Level) (heard : Heard) → heard.events.went_off ≡ false → Hears j x seen heard.overrun after → Brings j x seen heard after
-has_on j after x seen heard on h = record {
+pub has_on : (j after : List Entry) (x seen : Level) (brought : Brought) → brought.events.went_off ≡ false → BringsVerdict j x seen brought.overrun after → Brings j x seen brought after
+has_on j after x seen brought on h = record {
   bit = record { verdict = h.verdict.verdict; off = false; whole = h.verdict.whole ∙ sym (append-nil ((j ++ Bit x seen ∷ []) ++ judged_as h.verdict.verdict)) };
   off = on;
   overrun = h.overrun_is;
 }
 
-pub has_off : (j k after : List Entry) (x seen : Level) (heard : Heard) → heard.events.went_off ≡ true → after ≡ k ++ Off ∷ [] → Hears j x seen heard.overrun k → Brings j x seen heard after
-has_off j k after x seen heard off e h = record {
+pub has_off : (j k after : List Entry) (x seen : Level) (brought : Brought) → brought.events.went_off ≡ true → after ≡ k ++ Off ∷ [] → BringsVerdict j x seen brought.overrun k → Brings j x seen brought after
+has_off j k after x seen brought off e h = record {
   bit = record { verdict = h.verdict.verdict; off = true; whole = e ∙ ap (λ l. l ++ Off ∷ []) h.verdict.whole };
   off = off;
   overrun = h.overrun_is;
 }
 
 -- one of a node in reset
-pub rest_brings : {X : Type 0} (r : Result Heard X) (j after : List Entry) (x seen : Level) → OnOk r (after ≡ j ++ Bit x seen ∷ []) →
-    IfOk r (λ heard. (heard.events.went_off ≡ false) × (heard.overrun ≡ false)) → IfOk r (λ heard. Brings j x seen heard after)
-rest_brings (Ok heard) j after x seen e h =
-    let P : Bool → Type 0 = λ o. Hears j x seen o after in has_on j after x seen heard h.0 (subst P (sym h.1) (has_alone j after x seen e))
+pub rest_brings : {X : Type 0} (r : Result Brought X) (j after : List Entry) (x seen : Level) → OnOk r (after ≡ j ++ Bit x seen ∷ []) →
+    IfOk r (λ brought. (brought.events.went_off ≡ false) × (brought.overrun ≡ false)) → IfOk r (λ brought. Brings j x seen brought after)
+rest_brings (Ok brought) j after x seen e h =
+    let P : Bool → Type 0 = λ o. BringsVerdict j x seen o after in has_on j after x seen brought h.0 (subst P (sym h.1) (has_alone j after x seen e))
 rest_brings (Err fault) j after x seen e h = tt
 
 -- items one after another

@@ -72,7 +72,7 @@ breaks_after stands full x y old mid new (Stuck k) node room ended few same move
     stood = λ h was.
         let P : ℕ → Type 0 = λ n. stands y (account mid.journal.entries (suc n) h) → stands b.1.last (account new.journal.entries (suc n) h) in
         subst P ended (b.1.stood h) (moves.here h was);
-    heard = b.1.heard;
+    frames = b.1.frames;
     verdicts = b.1.verdicts;
     on = subst (λ (n : ℕ). HasOff (part new.journal.entries (suc n)) → ⊥) ended b.1.on;
   },
@@ -94,7 +94,7 @@ broken_link stands full old new links base d (Stuck k) few b = (
     end = b.1.last;
     is_full = b.1.is_full;
     stood = λ h was. b.1.stood (h old.ended) (was old.ended d few);
-    heard = b.1.heard;
+    frames = b.1.frames;
     verdicts = b.1.verdicts;
     on = b.1.on;
   },
@@ -116,7 +116,7 @@ broken_from stands full node room before j links here base (Stuck k) back b = (
     end = b.1.end;
     is_full = b.1.is_full;
     stood = λ h was. b.1.stood h (back h was);
-    heard = b.1.heard;
+    frames = b.1.frames;
     verdicts = b.1.verdicts;
     on = b.1.on;
   },

@@ -7,7 +7,7 @@ use Rattle.sja_bus.specs.declared.seat.Seat.{Seat}
 use Rattle.sja_link.specs.Related.{EachRelated}
 use Rattle.sja_bus.specs.Links.{Goes, Numbered}
 use Rattle.sja_bus.specs.Inside.Seats.{IsReady}
-use Rattle.sja_bus.specs.Inside.AtLinks.{StandsAt, StaysAt}
+use Rattle.sja_bus.specs.Inside.AtLinks.{HasLinks, KeepsLinks}
 use Rattle.sja_bus.specs.Inside.Rows.{AreReady, GoesAll, Done}
 use Rattle.sja_bus.specs.Inside.Refusing.{HaveRoom}
 use Rattle.std.proofs.lemmas.Slice.Zip.{AllZip-long as each_length}
@@ -15,9 +15,9 @@ use Rattle.sja_bus.proofs.Many.{goes_all_refl, goes_all_one, ready_one, numbered
 use Rattle.sja_bus.proofs.Refusing.{rooms_one}
 
 -- each is ready and stands at its links, as long as every link is the same one still
-pub stands_at : {E : Type 0} (link : E → LinkId) (same : E → E → Type 0) → ((x y : E) → same x y → link y ≡ link x) → (n : ℕ) (seats : List Seat) (given links : List E) (k : ℕ) (s : Seat) →
-    length given ≡ 8 * n → length seats ≡ n → k < n → EachRelated same given links → Numbered link given → AreReady seats → StandsAt link (slice_index_or seats k s) links (8 * k)
-stands_at link same same_link n seats given links k s count many here sames ids ready =
+pub has_links : {E : Type 0} (link : E → LinkId) (same : E → E → Type 0) → ((x y : E) → same x y → link y ≡ link x) → (n : ℕ) (seats : List Seat) (given links : List E) (k : ℕ) (s : Seat) →
+    length given ≡ 8 * n → length seats ≡ n → k < n → EachRelated same given links → Numbered link given → AreReady seats → HasLinks link (slice_index_or seats k s) links (8 * k)
+has_links link same same_link n seats given links k s count many here sames ids ready =
     let is = ready k s (omega (arith, here, many)) in let long = each_length same given links sames in record {
       room = omega (arith, here, count, long);
       ids = λ a d few. numbered_at link same same_link given links n k count here sames ids a d few ∙ sym (ap (λ (m : ℕ). let x : LinkId = record { node = m; activation = suc a } in x) is.own);
@@ -48,7 +48,7 @@ taken_none same stands dry same_refl Does Tells seats links ready = record {
 
 -- one more took what its links show
 pub taken_one : {E : Type 0} (same : E → E → Type 0) (stands : E → Lists → Type 0) (dry : E → Type 0) → ((x y z : E) → same x y → same y z → same x z) → (Does Tells : ℕ → Seat → Seat → Type 0) (before seats : List Seat) (given links after : List E)
-    (k : ℕ) (s new : Seat) → k < length seats → length seats ≡ length before → StaysAt same (slice_index_or seats k s) new links after → IsReady new →
+    (k : ℕ) (s new : Seat) → k < length seats → length seats ≡ length before → KeepsLinks same (slice_index_or seats k s) new links after → IsReady new →
     Goes same stands (slice_index_or seats k s).journal.entries new.journal.entries links after (8 * k) → ((d : E) → new.ended < 8 → dry (slice_index_or after (8 * k + new.ended) d)) →
     Does k (slice_index_or seats k s) new → Tells k (slice_index_or seats k s) new → HaveTaken same stands dry Does Tells before given k seats links →
     HaveTaken same stands dry Does Tells before given (k + 1) (slice_set seats k new) after

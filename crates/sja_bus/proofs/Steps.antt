@@ -102,14 +102,14 @@ follows_abort old new j Dropped changed aborts h = entered old new j Abort Abort
 -- ---- a bit
 
 -- a frame that a bit at the end of this journal finished
-abbrev pub heard_now : List Entry → FrameValue → ReceivedFrame
-heard_now j f = record { frame = f; activation = (place_of j).activation; bits = (place_of j).bits }
+abbrev pub frame_now : List Entry → FrameValue → ReceivedFrame
+frame_now j f = record { frame = f; activation = (place_of j).activation; bits = (place_of j).bits }
 
--- the node with the bit, and what it heard by then
-pub record Sees (new : Node) (j : List Entry) (x seen : Level) (e : BitEvents) (heard : List ReceivedFrame) : Type 0 where
+-- the node with the bit, and what it frames by then
+pub record Sees (new : Node) (j : List Entry) (x seen : Level) (e : BitEvents) (frames : List ReceivedFrame) : Type 0 where
   pub found : List FinishedPiece
   pub stands : StandsAt new (record_of (j ++ Bit x seen ∷ []) ++ off_left e.went_off) found
-  pub tells : received found ≡ heard ++ received_now e.received (record { starts = (place_of (j ++ Bit x seen ∷ [])).activation; bits = (place_of (j ++ Bit x seen ∷ [])).bits })
+  pub tells : received found ≡ frames ++ received_now e.received (record { starts = (place_of (j ++ Bit x seen ∷ [])).activation; bits = (place_of (j ++ Bit x seen ∷ [])).bits })
 
 pub entries_split : (r : List Event) (b : Levels) (went : Bool) → r ++ (if went then Took b ∷ WentOff ∷ [] else Took b ∷ []) ≡ (r ++ Took b ∷ []) ++ off_left went
 entries_split r b true = sym (append_assoc r (Took b ∷ []) (WentOff ∷ []))
@@ -134,8 +134,8 @@ sees old new j x seen e drives samples h =
     }
 
 -- the verdicts after the bit's entry alone
-bit_quiet : (j : List Entry) (x seen : Level) (heard : List ReceivedFrame) → HasVerdicts j heard → HasVerdicts (j ++ Bit x seen ∷ []) heard
-bit_quiet j x seen heard h = verdicts_quiet j (Bit x seen) heard (λ p. refl) (λ n. refl) (λ b. (tt, tt)) h
+bit_quiet : (j : List Entry) (x seen : Level) (frames : List ReceivedFrame) → HasVerdicts j frames → HasVerdicts (j ++ Bit x seen ∷ []) frames
+bit_quiet j x seen frames h = verdicts_quiet j (Bit x seen) frames (λ p. refl) (λ n. refl) (λ b. (tt, tt)) h
 
 abbrev count_now : List Entry → Count
 count_now j = record { starts = (place_of j).activation; bits = (place_of j).bits }
@@ -152,17 +152,17 @@ follows_bit old new j x seen e drives samples none h =
       verdicts = subst (λ (l : List ReceivedFrame). HasVerdicts (j ++ Bit x seen ∷ []) l) (sym same) (bit_quiet j x seen (received h.found) h.verdicts);
     }
 
--- a frame was received: it is the last that the node heard, in the same activation and by the same filter as before the bit
-record Hears (new : Node) (j : List Entry) (x seen : Level) (e : BitEvents) (f : FrameValue) (heard : List ReceivedFrame) : Type 0 where
+-- a frame was received: it is the last that the node frames, in the same activation and by the same filter as before the bit
+record SeesFrame (new : Node) (j : List Entry) (x seen : Level) (e : BitEvents) (f : FrameValue) (frames : List ReceivedFrame) : Type 0 where
   found : List FinishedPiece
   stands : StandsAt new (record_of (j ++ Bit x seen ∷ []) ++ off_left e.went_off) found
-  same : received found ≡ heard ++ heard_now (j ++ Bit x seen ∷ []) f ∷ []
+  same : received found ≡ frames ++ frame_now (j ++ Bit x seen ∷ []) f ∷ []
   place : (place_of (j ++ Bit x seen ∷ [])).activation ≡ (place_of j).activation
   filter : filter_of (part (j ++ Bit x seen ∷ []) (place_of (j ++ Bit x seen ∷ [])).activation) ≡ filter_of (part j (place_of j).activation)
 
-hears : (old new : Node) (j : List Entry) (x seen : Level) (e : BitEvents) (f : FrameValue) → DrivesNext old x → Samples old new seen e → e.received ≡ Some f → (h : Follows old j) →
-    Hears new j x seen e f (received h.found)
-hears old new j x seen e f drives samples some h =
+sees_frame : (old new : Node) (j : List Entry) (x seen : Level) (e : BitEvents) (f : FrameValue) → DrivesNext old x → Samples old new seen e → e.received ≡ Some f → (h : Follows old j) →
+    SeesFrame new j x seen e f (received h.found)
+sees_frame old new j x seen e f drives samples some h =
     let k = j ++ Bit x seen ∷ [] in
     let s = sees old new j x seen e drives samples h in
     let place : (place_of k).activation ≡ (place_of j).activation = ap (λ p. p.activation) (place_push j (Bit x seen)) in record {
@@ -178,13 +178,13 @@ pub follows_stopped : (old new : Node) (j : List Entry) (x seen : Level) (e : Bi
     (PassesAny (filter_of (part j (place_of j).activation)) f → ⊥) → Follows old j → FollowsBit new (j ++ Bit x seen ∷ []) e.went_off
 follows_stopped old new j x seen e f drives samples some stops h =
     let k = j ++ Bit x seen ∷ [] in
-    let s = hears old new j x seen e f drives samples some h in
+    let s = sees_frame old new j x seen e f drives samples some h in
     let P : Option _ → Type 0 = λ o. PassesAny o f in
     record {
       found = s.found;
       stands = s.stands;
       verdicts = subst (λ (l : List ReceivedFrame). HasVerdicts k l) (sym s.same)
-          (verdicts_passed_by k (received h.found) (heard_now k f) (λ passes. stops (subst P s.filter passes)) (bit_quiet j x seen (received h.found) h.verdicts));
+          (verdicts_passed_by k (received h.found) (frame_now k f) (λ passes. stops (subst P s.filter passes)) (bit_quiet j x seen (received h.found) h.verdicts));
     }
 
 -- a frame was received that passes, and judged
@@ -193,14 +193,14 @@ pub follows_judged : (old new : Node) (j : List Entry) (x seen : Level) (e : Bit
     FollowsBit new ((j ++ Bit x seen ∷ []) ++ entry_of v (message f) ∷ []) e.went_off
 follows_judged old new j x seen e f v drives samples some passes due h =
     let k = j ++ Bit x seen ∷ [] in
-    let s = hears old new j x seen e f drives samples some h in
+    let s = sees_frame old new j x seen e f drives samples some h in
     let P : Option _ → Type 0 = λ o. PassesAny o f in
     let R : List Event → Type 0 = λ r. StandsAt new (r ++ off_left e.went_off) s.found in
     record {
       found = s.found;
       stands = subst R (sym (record_push k (entry_of v (message f)) ∙ ap (λ l. record_of k ++ l) (silent (place_of k).off v (message f)) ∙ append-nil (record_of k))) s.stands;
       verdicts = subst (λ (l : List ReceivedFrame). HasVerdicts (k ++ entry_of v (message f) ∷ []) l) (sym s.same)
-          (verdicts_judged k (received h.found) (heard_now k f) v refl refl (subst P (sym s.filter) passes)
+          (verdicts_judged k (received h.found) (frame_now k f) v refl refl (subst P (sym s.filter) passes)
           (subst (λ (n : ℕ). IsDue (part k n) (entry_of v (message f))) (sym s.place) due) (bit_quiet j x seen (received h.found) h.verdicts));
     }
   where

@@ -28,7 +28,7 @@ use Rattle.sja_bus.specs.declared.news.News.{News}
 use Rattle.sja_bus.specs.declared.news.News.TheVariants.{Nothing, Changed, Dropped}
 use Rattle.sja_bus.specs.declared.seat.Seat.{Seat}
 use Rattle.sja_bus.specs.Inside.Following.{Follows, off_left}
-use Rattle.sja_bus.specs.declared.heard.Heard.{Heard}
+use Rattle.sja_bus.specs.declared.brought.Brought.{Brought}
 use Rattle.sja_bus.specs.Inside.Following.{open_in}
 use Rattle.sja_bus.specs.Inside.Seats.{IsReady}
 use Rattle.sja_bus.specs.Inside.Turning.{IsQuietBit, Drops, TakesNews, AbortsNews, OpensNews, Brings, TurnOf, Turns, is_dropped}
@@ -216,15 +216,15 @@ quiet_turns was_told was_kept seen old new kept ready quiet =
     }
 
 -- the port is told the turn of the bit
-pub full_turns : (was_told : BusTurn → Type 0) (was_kept : Type 0) (seen : Level) (old s : Seat) (heard : Heard) (turn : BusTurn) → was_told turn → IsReady old → s.news ≡ old.news →
-    Samples old.node s.node seen heard.events → Brings old.journal.entries old.drives seen heard s.journal.entries →
-    (place_of s.journal.entries).activation ≡ s.ended + open_in s.activity → TurnOf s heard.events heard.overrun turn →
+pub full_turns : (was_told : BusTurn → Type 0) (was_kept : Type 0) (seen : Level) (old s : Seat) (brought : Brought) (turn : BusTurn) → was_told turn → IsReady old → s.news ≡ old.news →
+    Samples old.node s.node seen brought.events → Brings old.journal.entries old.drives seen brought s.journal.entries →
+    (place_of s.journal.entries).activation ≡ s.ended + open_in s.activity → TurnOf s brought.events brought.overrun turn →
     Turns was_told was_kept seen old (record s { news = Nothing })
-full_turns was_told was_kept seen old s heard turn told ready news samples brings begun t = record {
+full_turns was_told was_kept seen old s brought turn told ready news samples brings begun t = record {
   bit = brings.bit;
   turn = turn;
   is_turn = λ changed drops.
-      turn_is old.node s.node old.journal.entries s.journal.entries old.drives seen heard.events brings.bit changed (is_dropped old.news) turn ready.drives samples ready.sound.follows brings.off
+      turn_is old.node s.node old.journal.entries s.journal.entries old.drives seen brought.events brings.bit changed (is_dropped old.news) turn ready.drives samples ready.sound.follows brings.off
       t.events_are (t.activation ∙ sym begun) t.counters t.phase (t.overrun_is ∙ brings.overrun) (t.aborted ∙ ap is_dropped news) drops;
   port = inl told;
   told = refl;

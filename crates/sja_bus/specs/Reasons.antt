@@ -53,8 +53,8 @@ pub record GivesBack {E : Type 0} (stands : E → Lists → Type 0) (full : E �
   pub end : E
   pub is_full : full end
   pub stood : (h : ℕ → Account) → Kept stands before links base h → stands end (account j (suc place) (h place))
-  pub heard : List ReceivedFrame
-  pub verdicts : HasVerdicts j heard
+  pub frames : List ReceivedFrame
+  pub verdicts : HasVerdicts j frames
   pub on : HasOff (part j (suc place)) → ⊥
 
 -- with this fault the bit of a node broke off, which had so many reserved entries and this journal before: the reserved

@@ -17,15 +17,15 @@ impl Seat {
     ghost use Rattle.sja_bus.specs.Reasons.{RefusesItem};
     ghost use Rattle.sja_bus.specs.Inside.Following.{Follows, Reads};
     ghost use Rattle.sja_bus.specs.Inside.Seats.{IsSeat, IsReady};
-    ghost use Rattle.sja_bus.specs.Inside.AtLinks.{StandsAt, StaysAt};
+    ghost use Rattle.sja_bus.specs.Inside.AtLinks.{HasLinks, KeepsLinks};
     ghost use Rattle.sja_bus.specs.Inside.Taking.{Applies, IsFull, FullForAbort};
     ghost use Rattle.sja_bus.specs.Inside.Turning.{TakesNews, AbortsNews, OpensNews};
 
     /// Takes all that the links show, one link after the other.
     #[inline(always)]
     pub(crate) fn gather<E: BusEnd>(&mut self, links: &mut [E], base: usize) -> Result<(), BusFault>
-        requires at { StandsAt E.link self.old links.old base }
-        ensures stays { StaysAt E.same self.old self.new links.old links.new }
+        requires at { HasLinks E.link self.old links.old base }
+        ensures stays { KeepsLinks E.same self.old self.new links.old links.new }
         ensures ready { OnOk result (IsReady self.new) }
         ensures goes { OnOk result
             (Goes E.same E.stands self.old.journal.entries self.new.journal.entries links.old links.new base) }
@@ -96,9 +96,9 @@ impl Seat {
         base: usize,
         board: &B,
     ) -> Result<(), BusFault>
-        requires at { StandsAt E.link self.old links.old base }
+        requires at { HasLinks E.link self.old links.old base }
         requires port { (link_of self.old.ledger).node < B.ports board.now }
-        ensures stays { StaysAt E.same self.old self.new links.old links.new }
+        ensures stays { KeepsLinks E.same self.old self.new links.old links.new }
         ensures ready { OnOk result (IsReady self.new) }
         ensures goes { OnOk result
             (Goes E.same E.stands self.old.journal.entries self.new.journal.entries links.old links.new base) }

@@ -2,7 +2,7 @@
 
 use super::activity::Activity;
 use super::board::Board;
-use super::heard::Heard;
+use super::brought::Brought;
 use super::news::News;
 use super::seat::Seat;
 use sja_regs::BusTurn;
@@ -38,26 +38,26 @@ impl Seat {
     }
 
     /// What a bit brought, and how the node is after it.
-    fn turn_of(&self, heard: Heard) -> BusTurn
+    fn turn_of(&self, brought: Brought) -> BusTurn
         requires seat { IsSeat self.now }
         requires follows { IsSound self.now }
-        ensures { TurnOf self.now heard.events heard.overrun result }
+        ensures { TurnOf self.now brought.events brought.overrun result }
     {
         let counters = self.node.counters();
         BusTurn {
             activation: self.activation(),
-            events: heard.events,
+            events: brought.events,
             txerr: counters.tec.min(255) as u8,
             rxerr: counters.rec,
             phase: self.node.phase(),
             aborted: self.has_dropped(),
-            overrun: heard.overrun,
+            overrun: brought.overrun,
         }
     }
 
     /// Tells the port what a bit brought: nothing is left to be told.
     #[inline(always)]
-    pub(crate) fn tell<B: Board>(&mut self, board: &mut B, heard: Heard)
+    pub(crate) fn tell<B: Board>(&mut self, board: &mut B, brought: Brought)
         requires seat { IsSeat self.old }
         requires sound { IsSound self.old }
         requires port { (link_of self.old.ledger).node < B.ports board.old }
@@ -65,9 +65,9 @@ impl Seat {
         ensures ports { B.ports board.new ≡ B.ports board.old }
         ensures others { (k : ℕ) → k ≢ (link_of self.old.ledger).node → B.kept board.old board.new k }
         ensures told { (turn : Turn) × B.told board.old board.new (link_of self.old.ledger).node turn
-            × TurnOf self.old heard.events heard.overrun turn }
+            × TurnOf self.old brought.events brought.overrun turn }
     {
-        let turn = self.turn_of(heard);
+        let turn = self.turn_of(brought);
         board.bus_turn(self.number(), &turn);
         self.news = News::Nothing;
     }

@@ -2,8 +2,8 @@
 
 use super::activity::Activity;
 use super::board::Board;
+use super::brought::Brought;
 use super::bus_fault::BusFault;
-use super::heard::Heard;
 use super::news::News;
 use super::seat::Seat;
 use can_bits::Level;
@@ -16,7 +16,7 @@ impl Seat {
     ghost use Rattle.sja_bus.specs.Links.{Goes};
     ghost use Rattle.sja_bus.specs.Reasons.{IsBrokenFor};
     ghost use Rattle.sja_bus.specs.Inside.Seats.{IsSound, IsSeat, IsReady};
-    ghost use Rattle.sja_bus.specs.Inside.AtLinks.{StandsAt, StaysAt};
+    ghost use Rattle.sja_bus.specs.Inside.AtLinks.{HasLinks, KeepsLinks};
     ghost use Rattle.sja_bus.specs.declared.news.News.TheVariants.{Nothing};
     ghost use Rattle.sja_bus.specs.Inside.Turning.{Brings, IsQuietBit, Turns};
 
@@ -27,17 +27,17 @@ impl Seat {
         links: &mut [E],
         base: usize,
         seen: Level,
-    ) -> Result<Heard, BusFault>
-        requires at { StandsAt E.link self.old links.old base }
-        ensures stays { StaysAt E.same self.old self.new links.old links.new }
+    ) -> Result<Brought, BusFault>
+        requires at { HasLinks E.link self.old links.old base }
+        ensures stays { KeepsLinks E.same self.old self.new links.old links.new }
         ensures sound { OnOk result (IsSound self.new) }
         ensures seat { OnOk result (IsSeat self.new) }
         ensures news { self.new.news ≡ self.old.news }
-        ensures samples { IfOk result (λ heard. Samples self.old.node self.new.node seen heard.events) }
+        ensures samples { IfOk result (λ brought. Samples self.old.node self.new.node seen brought.events) }
         ensures goes { OnOk result
             (Goes E.same E.stands self.old.journal.entries self.new.journal.entries links.old links.new base) }
-        ensures brings { IfOk result (λ heard.
-            Brings self.old.journal.entries self.old.drives seen heard self.new.journal.entries) }
+        ensures brings { IfOk result (λ brought.
+            Brings self.old.journal.entries self.old.drives seen brought self.new.journal.entries) }
         ensures broken { IfErr result (λ f.
             IsBrokenFor E.stands E.full (link_of self.old.ledger).node self.old.journal.room
             self.old.journal.entries self.new.journal.entries links.old base f) }
@@ -93,9 +93,9 @@ impl Seat {
         seen: Level,
         board: &mut B,
     ) -> Result<(), BusFault>
-        requires at { StandsAt E.link self.old links.old base }
+        requires at { HasLinks E.link self.old links.old base }
         requires port { (link_of self.old.ledger).node < B.ports board.old }
-        ensures stays { StaysAt E.same self.old self.new links.old links.new }
+        ensures stays { KeepsLinks E.same self.old self.new links.old links.new }
         ensures ready { OnOk result (IsReady self.new) }
         ensures goes { OnOk result
             (Goes E.same E.stands self.old.journal.entries self.new.journal.entries links.old links.new base) }
@@ -110,9 +110,9 @@ impl Seat {
         if self.may_tick_quietly() && self.tick_quietly(seen) {
             return Ok(());
         }
-        let heard = self.full_bit(links, base, seen)?;
+        let brought = self.full_bit(links, base, seen)?;
         self.drives = self.node.drive();
-        self.tell(board, heard);
+        self.tell(board, brought);
         Ok(())
     }
 }

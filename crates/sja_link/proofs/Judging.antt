@@ -92,9 +92,9 @@ filter_push j e a s = elim (cases_eq (past (place_of j) e).activation a) [
 ]
 
 -- the same frames are kept where the filter is the same
-picks_by : (j k : List Entry) (a : ℕ) (heard : List ReceivedFrame) (out : List Judged) → filter_of (part k a) ≡ filter_of (part j a) →
-    Picks (IsKept a (filter_of (part j a))) IsOn heard out → Picks (IsKept a (filter_of (part k a))) IsOn heard out
-picks_by j k a heard out e h = let P : Option Filter → Type 0 = λ f. Picks (IsKept a f) IsOn heard out in subst P (sym e) h
+picks_by : (j k : List Entry) (a : ℕ) (frames : List ReceivedFrame) (out : List Judged) → filter_of (part k a) ≡ filter_of (part j a) →
+    Picks (IsKept a (filter_of (part j a))) IsOn frames out → Picks (IsKept a (filter_of (part k a))) IsOn frames out
+picks_by j k a frames out e h = let P : Option Filter → Type 0 = λ f. Picks (IsKept a f) IsOn frames out in subst P (sym e) h
 
 -- ---- the verdicts of a journal with an entry more
 
@@ -106,43 +106,43 @@ due_push j e d was a = elim (cases_eq (past (place_of j) e).activation a) [
 ]
 
 -- an entry that is no verdict, and begins no activation
-pub verdicts_quiet : (j : List Entry) (e : Entry) (heard : List ReceivedFrame) → StaysIn e → ((n : ℕ) → judged_after n e ≡ []) → ((before : List Entry) → IsDue before e) →
-    HasVerdicts j heard → HasVerdicts (j ++ e ∷ []) heard
-verdicts_quiet j e heard stays none due h = record {
+pub verdicts_quiet : (j : List Entry) (e : Entry) (frames : List ReceivedFrame) → StaysIn e → ((n : ℕ) → judged_after n e ≡ []) → ((before : List Entry) → IsDue before e) →
+    HasVerdicts j frames → HasVerdicts (j ++ e ∷ []) frames
+verdicts_quiet j e frames stays none due h = record {
   are = λ a.
-      let P : List Judged → Type 0 = λ l. Picks (IsKept a (filter_of (part (j ++ e ∷ []) a))) IsOn heard l in
-      subst P (sym (of_part_none judged_at j e a (none (place_of j).bits))) (picks_by j (j ++ e ∷ []) a heard (judged_in j a) (filter_push j e a stays) (h.are a));
+      let P : List Judged → Type 0 = λ l. Picks (IsKept a (filter_of (part (j ++ e ∷ []) a))) IsOn frames l in
+      subst P (sym (of_part_none judged_at j e a (none (place_of j).bits))) (picks_by j (j ++ e ∷ []) a frames (judged_in j a) (filter_push j e a stays) (h.are a));
   due = due_push j e (due (part j (past (place_of j) e).activation)) h.due;
 }
 
--- a frame was heard in an activation that has begun
+-- a frame was received in an activation that has begun
 abbrev pub HasBegun : ℕ → List ReceivedFrame → Type 0
 HasBegun k [] = Unit {0}
-HasBegun k (h ∷ heard) = (h.activation ≤ k) × HasBegun k heard
+HasBegun k (h ∷ frames) = (h.activation ≤ k) × HasBegun k frames
 
-none_yet_kept : (j : List Entry) (k a : ℕ) (heard : List ReceivedFrame) → k < a → HasBegun k heard → None_of (IsKept a (filter_of (part j a))) heard
+none_yet_kept : (j : List Entry) (k a : ℕ) (frames : List ReceivedFrame) → k < a → HasBegun k frames → None_of (IsKept a (filter_of (part j a))) frames
 none_yet_kept j k a [] few begun = no_more
-none_yet_kept j k a (h ∷ heard) few begun =
-    not_this h (λ kept. let x = kept.activation in let y = begun.0 in omega (arith, x, y, few)) (none_yet_kept j k a heard few begun.1)
+none_yet_kept j k a (h ∷ frames) few begun =
+    not_this h (λ kept. let x = kept.activation in let y = begun.0 in omega (arith, x, y, few)) (none_yet_kept j k a frames few begun.1)
 
 -- a start
-pub verdicts_start : (j : List Entry) (config : Config) (heard : List ReceivedFrame) → HasBegun (place_of j).activation heard →
-    HasVerdicts j heard → HasVerdicts (j ++ Item (Start config) ∷ []) heard
-verdicts_start j config heard begun h = let e : Entry = Item (Start config) in record {
+pub verdicts_start : (j : List Entry) (config : Config) (frames : List ReceivedFrame) → HasBegun (place_of j).activation frames →
+    HasVerdicts j frames → HasVerdicts (j ++ Item (Start config) ∷ []) frames
+verdicts_start j config frames begun h = let e : Entry = Item (Start config) in record {
   are = λ a.
-      let P : List Judged → Type 0 = λ l. Picks (IsKept a (filter_of (part (j ++ e ∷ []) a))) IsOn heard l in
+      let P : List Judged → Type 0 = λ l. Picks (IsKept a (filter_of (part (j ++ e ∷ []) a))) IsOn frames l in
       let same : judged_in (j ++ e ∷ []) a ≡ judged_in j a = of_part_none judged_at j e a refl in
       elim (cases_eq ((place_of j).activation + 1) a) [
-        | inl q ↦ subst P (sym (same ∙ of_part_later judged_at j a (omega (arith, q)))) (picks_none (none_yet_kept (j ++ e ∷ []) (place_of j).activation a heard (omega (arith, q)) begun))
-        | inr n ↦ subst P (sym same) (picks_by j (j ++ e ∷ []) a heard (judged_in j a) (ap filter_of (part_else j e a n)) (h.are a))
+        | inl q ↦ subst P (sym (same ∙ of_part_later judged_at j a (omega (arith, q)))) (picks_none (none_yet_kept (j ++ e ∷ []) (place_of j).activation a frames (omega (arith, q)) begun))
+        | inr n ↦ subst P (sym same) (picks_by j (j ++ e ∷ []) a frames (judged_in j a) (ap filter_of (part_else j e a n)) (h.are a))
       ];
   due = due_push j e (tt, tt) h.due;
 }
 
--- a frame more was heard, and doesn't pass
-pub verdicts_passed_by : (j : List Entry) (heard : List ReceivedFrame) (x : ReceivedFrame) → (PassesAny (filter_of (part j x.activation)) x.frame → ⊥) →
-    HasVerdicts j heard → HasVerdicts j (heard ++ x ∷ [])
-verdicts_passed_by j heard x stops h = record {
+-- a frame more was received, and doesn't pass
+pub verdicts_passed_by : (j : List Entry) (frames : List ReceivedFrame) (x : ReceivedFrame) → (PassesAny (filter_of (part j x.activation)) x.frame → ⊥) →
+    HasVerdicts j frames → HasVerdicts j (frames ++ x ∷ [])
+verdicts_passed_by j frames x stops h = record {
   are = λ a. leaves_push x (λ kept. stops (subst (λ (n : ℕ). PassesAny (filter_of (part j n)) x.frame) (sym kept.activation) kept.passes)) (h.are a);
   due = h.due;
 }
@@ -151,17 +151,17 @@ abbrev is_overrun : Verdict → Bool
 is_overrun ToStore = false
 is_overrun ToLose = true
 
--- a frame more was heard, and judged
-pub verdicts_judged : (j : List Entry) (heard : List ReceivedFrame) (x : ReceivedFrame) (v : Verdict) → x.activation ≡ (place_of j).activation → x.bits ≡ (place_of j).bits →
+-- a frame more was received, and judged
+pub verdicts_judged : (j : List Entry) (frames : List ReceivedFrame) (x : ReceivedFrame) (v : Verdict) → x.activation ≡ (place_of j).activation → x.bits ≡ (place_of j).bits →
     PassesAny (filter_of (part j x.activation)) x.frame → IsDue (part j x.activation) (entry_of v (message x.frame)) →
-    HasVerdicts j heard → HasVerdicts (j ++ entry_of v (message x.frame) ∷ []) (heard ++ x ∷ [])
-verdicts_judged j heard x v here now passes due h =
+    HasVerdicts j frames → HasVerdicts (j ++ entry_of v (message x.frame) ∷ []) (frames ++ x ∷ [])
+verdicts_judged j frames x v here now passes due h =
     let e = entry_of v (message x.frame) in
     let stays = verdict_stays v (message x.frame) in
     let same : (past (place_of j) e).activation ≡ x.activation = stays (place_of j) ∙ sym here in record {
       are = λ a.
-          let P : List Judged → Type 0 = λ l. Picks (IsKept a (filter_of (part (j ++ e ∷ []) a))) IsOn (heard ++ x ∷ []) l in
-          let was = picks_by j (j ++ e ∷ []) a heard (judged_in j a) (filter_push j e a stays) (h.are a) in
+          let P : List Judged → Type 0 = λ l. Picks (IsKept a (filter_of (part (j ++ e ∷ []) a))) IsOn (frames ++ x ∷ []) l in
+          let was = picks_by j (j ++ e ∷ []) a frames (judged_in j a) (filter_push j e a stays) (h.are a) in
           elim (cases_eq x.activation a) [
             | inl q ↦
                 let filter : filter_of (part (j ++ e ∷ []) a) ≡ filter_of (part j x.activation) = filter_push j e a stays ∙ ap (λ n. filter_of (part j n)) (sym q) in

@@ -48,7 +48,7 @@ headline_of found j a act verdicts some begun settled =
       config = o.config;
       rest = o.rest;
       opens = o.opens;
-      heard = subst P (filter_opens (part j a) o) (verdicts.are a);
+      judged = subst P (filter_opens (part j a) o) (verdicts.are a);
       due = verdicts.due a;
       told = told_by j a act settled;
     }

@@ -12,7 +12,7 @@ use Rattle.sja_link.specs.Picking.Picks.{nothing, picked, left}
 use Rattle.sja_link.specs.Records.{record_of}
 use Rattle.sja_link.specs.Verdicts.{IsOn, IsLawful}
 use Rattle.sja_link.proofs.Judging.{kept_stored}
-use Rattle.sja_turns.proofs.Heard.{AreFrames, all_frames}
+use Rattle.sja_turns.proofs.FramesReceived.{AreFrames, all_frames}
 
 -- each of them is
 abbrev pub AreMessages : List (List ℕ) → Type 0
@@ -25,12 +25,12 @@ real_kept true m ms is h = h
 real_kept false m ms is h = (is, h)
 
 -- a verdict is on the message of a frame
-judged_real : {P : ReceivedFrame → Type 0} (heard : List ReceivedFrame) (vs : List Judged) → Picks P IsOn heard vs →
-    AreFrames heard → AreMessages (kept vs)
-judged_real heard vs nothing are = tt
-judged_real heard vs (picked {ys = ys} x y p on more) are =
+judged_real : {P : ReceivedFrame → Type 0} (frames : List ReceivedFrame) (vs : List Judged) → Picks P IsOn frames vs →
+    AreFrames frames → AreMessages (kept vs)
+judged_real frames vs nothing are = tt
+judged_real frames vs (picked {ys = ys} x y p on more) are =
     real_kept y.overrun y.bytes (kept ys) (x.frame, are.0, on.bytes) (judged_real _ ys more are.1)
-judged_real heard vs (left x p more) are = judged_real _ vs more are.1
+judged_real frames vs (left x p more) are = judged_real _ vs more are.1
 
 pub stored_real : (j : List Entry) (a : ℕ) → IsLawful j → AreMessages (stored_of (part j a))
 stored_real j a lawful =

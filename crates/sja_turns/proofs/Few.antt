@@ -27,7 +27,7 @@ use Rattle.sja_script.specs.declared.step_answer.StepAnswer.{StepAnswer}
 use Rattle.sja_script.specs.declared.step_answer.StepAnswer.TheVariants.{Done, Released}
 use Rattle.sja_driver.specs.Deeds.{Deed, opens_by, Gives, GivesSend, length_in, given_in, released_lengths, section_from, deeds_of}
 use Rattle.sja_regs.specs.Commands.{command_of, requests}
-use Rattle.sja_turns.proofs.Heard.{AreFrames, all_frames, message_fits}
+use Rattle.sja_turns.proofs.FramesReceived.{AreFrames, all_frames, message_fits}
 
 abbrev pub bytes : List (List ℕ) → ℕ
 bytes = total (λ (m : List ℕ). length m)
@@ -56,14 +56,14 @@ fit_kept : (b : Bool) (m : List ℕ) (ms : List (List ℕ)) → (3 ≤ length m)
 fit_kept true m ms l h = h
 fit_kept false m ms l h = (l, h)
 
-judged_fit : {P : ReceivedFrame → Type 0} (heard : List ReceivedFrame) (vs : List Judged) → Picks P IsOn heard vs →
-    AreFrames heard → AllFit (kept vs)
-judged_fit heard vs nothing are = tt
-judged_fit heard vs (picked {ys = ys} x y p on more) are =
+judged_fit : {P : ReceivedFrame → Type 0} (frames : List ReceivedFrame) (vs : List Judged) → Picks P IsOn frames vs →
+    AreFrames frames → AllFit (kept vs)
+judged_fit frames vs nothing are = tt
+judged_fit frames vs (picked {ys = ys} x y p on more) are =
     fit_kept y.overrun y.bytes (kept ys)
     (subst (λ (l : List ℕ). (3 ≤ length l) × (length l ≤ 13)) (sym on.bytes) (message_fits x.frame are.0))
     (judged_fit _ ys more are.1)
-judged_fit heard vs (left x p more) are = judged_fit _ vs more are.1
+judged_fit frames vs (left x p more) are = judged_fit _ vs more are.1
 
 pub stored_fit : (j : List Entry) (a : ℕ) → IsLawful j → AllFit (stored_of (part j a))
 stored_fit j a lawful =

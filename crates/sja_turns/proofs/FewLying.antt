@@ -52,20 +52,20 @@ long_kept : (b : Bool) (m : List ℕ) (ms : List (List ℕ)) → 3 ≤ length m 
 long_kept true m ms l h = h
 long_kept false m ms l h = (l, h)
 
-judged_long : {P : ReceivedFrame → Type 0} (heard : List ReceivedFrame) (vs : List Judged) → Picks P IsOn heard vs →
+judged_long : {P : ReceivedFrame → Type 0} (frames : List ReceivedFrame) (vs : List Judged) → Picks P IsOn frames vs →
     AllLong (kept vs)
-judged_long heard vs nothing = tt
-judged_long heard vs (picked {ys = ys} x y p on more) =
+judged_long frames vs nothing = tt
+judged_long frames vs (picked {ys = ys} x y p on more) =
     long_kept y.overrun y.bytes (kept ys)
     (subst (λ (l : List ℕ). 3 ≤ length l) (sym on.bytes)
     (head_long x.frame.ext x.frame.id x.frame.rtr x.frame.dlc x.frame.bytes))
     (judged_long _ ys more)
-judged_long heard vs (left x p more) = judged_long _ vs more
+judged_long frames vs (left x p more) = judged_long _ vs more
 
-stored_long : (j : List Entry) (a : ℕ) (heard : List ReceivedFrame) → HasVerdicts j heard →
+stored_long : (j : List Entry) (a : ℕ) (frames : List ReceivedFrame) → HasVerdicts j frames →
     AllLong (stored_of (part j a))
-stored_long j a heard v =
-    subst (λ (l : List (List ℕ)). AllLong l) (kept_stored j a) (judged_long heard (judged_in j a) (v.are a))
+stored_long j a frames v =
+    subst (λ (l : List (List ℕ)). AllLong l) (kept_stored j a) (judged_long frames (judged_in j a) (v.are a))
 
 -- ---- with no bus-off each item that was put is a message
 
@@ -99,19 +99,19 @@ all_messages p got down on put =
 
 -- ---- all together: what was put and isn't released fits in 64 bytes
 
-pub few_lying : (j : List Entry) (a : ℕ) (heard : List ReceivedFrame) (deeds : List Deed) (got down : List Down)
-    (up : List Up) (released window : List (List ℕ)) → HasVerdicts j heard → (HasOff (part j a) → ⊥) →
+pub few_lying : (j : List Entry) (a : ℕ) (frames : List ReceivedFrame) (deeds : List Deed) (got down : List Down)
+    (up : List Up) (released window : List (List ℕ)) → HasVerdicts j frames → (HasOff (part j a) → ⊥) →
     put_of (part j a) ≡ got ++ down → Holds got released window →
     given_in (deeds_of deeds a) ≡ taken_of (part j a) ++ up →
     EachAfter (λ b (d : Deed). Gives d.step d.answer d.gave) [] deeds →
     released_lengths (deeds_of deeds a) ≡ map (λ (m : List ℕ). length m) released → length down ≤ 21
-few_lying j a heard deeds got down up released window verdicts on put holds given gives lengths =
+few_lying j a frames deeds got down up released window verdicts on put holds given gives lengths =
     let driver : Account = record { got = got; given = [] } in
     let all : released ++ (window ++ messages down) ≡ stored_of (part j a) =
     told_stored j a driver down released window put holds in
     let long : AllLong (messages down) = long_back window (messages down)
     (long_back released (window ++ messages down) (subst (λ (l : List (List ℕ)). AllLong l) (sym all)
-    (stored_long j a heard verdicts))) in
+    (stored_long j a frames verdicts))) in
     let room = room_all [] (part j a) (verdicts.due a) (omega arith) in
     let stored = bytes_stored (part j a) ∙ ap bytes (sym all) ∙ total_append (λ (m : List ℕ). length m) released
     (window ++ messages down) in

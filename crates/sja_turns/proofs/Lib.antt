@@ -1,7 +1,7 @@
 pub mod Small
 pub mod Slices
 pub mod Cuts
-pub mod Heard
+pub mod FramesReceived
 pub mod Taking
 pub mod Looks
 pub mod Ports

@@ -112,7 +112,7 @@ module _ (plan : PlanValue) (r : SerialValue) (deeds : List (List Deed)) (h : St
     not_stuck opened j between kept b =
         let ds = deeds_at deeds m in let d = slice_index_or r.drivers m driver in
         let lies : Lies b.end (account j (suc b.place) (acc b.place)) = b.stood acc kept in
-        let few = few_lying j (suc b.place) b.heard ds (node.linked.holds.got b.place) b.end.down b.end.up
+        let few = few_lying j (suc b.place) b.frames ds (node.linked.holds.got b.place) b.end.down b.end.up
         (released_of (releases_in (log_of d)) (suc b.place))
         (slice_index_or (leaves (left_in (log_of d)) (held_of (driver_of d))) b.place []) b.verdicts b.on lies.0
         (node.linked.holds.told b.place b.few) lies.1 node.traced.traces.answered.gives

@@ -4,8 +4,8 @@ use Rattle.sja_bus.specs.declared.board.Board.{Ghosts as Ports}
 use Rattle.sja_bus.specs.Buses.{BusValue, AllTold}
 use Rattle.sja_bus.specs.Stretches.{IsStretch}
 
--- so many bits of a bus with these ports, at most this count, which went well. Where they are none the bus is as it was;
--- else they are a stretch, after which nothing is untold of any node
+-- so many bits of a bus with these ports, at most this count, which went well. Where there are none the bus is as it
+-- was; else they are a stretch, after which nothing is untold of any node
 pub record RunsAtOnce {B : Type 0} (b : Ports B) (board : B) (count : ℕ) (was now : BusValue) (n : ℕ) : Type 0 where
   pub most : n ≤ count
   pub bits : (now.run ≡ was.run + n) × (now.left + n ≡ was.left)

@@ -60,8 +60,8 @@ pub record GaveBack {E : Type 0} (stands : E → Lists → Type 0) (full : E →
   pub last : E
   pub is_full : full last
   pub stood : (h : Account) → stands end (account before a h) → stands last (account j a h)
-  pub heard : List ReceivedFrame
-  pub verdicts : HasVerdicts j heard
+  pub frames : List ReceivedFrame
+  pub verdicts : HasVerdicts j frames
   pub on : HasOff (part j a) → ⊥
 
 -- with this fault the bit of a node broke off

@@ -10,7 +10,7 @@ use Rattle.sja_link.specs.declared.entry.Entry.{Entry}
 use Rattle.sja_link.specs.declared.entry.Entry.TheVariants.{Bit}
 use Rattle.sja_link.specs.Records.{record_of}
 use Rattle.sja_regs.specs.declared.bus_turn.BusTurn.{BusTurn}
-use Rattle.sja_bus.specs.declared.heard.Heard.{Heard}
+use Rattle.sja_bus.specs.declared.brought.Brought.{Brought}
 use Rattle.sja_bus.specs.declared.news.News.{News}
 use Rattle.sja_bus.specs.declared.news.News.TheVariants.{Nothing, Changed, Dropped}
 use Rattle.sja_bus.specs.declared.seat.Seat.{Seat}
@@ -56,14 +56,14 @@ pub record OpensNews (old new : Seat) : Type 0 where
 
 -- the journal has a bit more with what the bit brought: whether the message found no room, and whether the node went
 -- bus-off
-pub record Hears (j : List Entry) (driven seen : Level) (overrun : Bool) (k : List Entry) : Type 0 where
+pub record BringsVerdict (j : List Entry) (driven seen : Level) (overrun : Bool) (k : List Entry) : Type 0 where
   pub verdict : HasVerdict j driven seen k
   pub overrun_is : overrun ≡ is_overrun verdict.verdict
 
-pub record Brings (j : List Entry) (driven seen : Level) (heard : Heard) (k : List Entry) : Type 0 where
+pub record Brings (j : List Entry) (driven seen : Level) (brought : Brought) (k : List Entry) : Type 0 where
   pub bit : HasBit j driven seen k
-  pub off : heard.events.went_off ≡ bit.off
-  pub overrun : heard.overrun ≡ is_overrun bit.verdict
+  pub off : brought.events.went_off ≡ bit.off
+  pub overrun : brought.overrun ≡ is_overrun bit.verdict
 
 -- one bit of a seat with which nothing happened, and nothing was or is to be told
 pub record IsQuietBit (seen : Level) (old new : Seat) : Type 0 where

@@ -4,7 +4,7 @@ use Rattle.sja_link.proofs.Related.{each_trans}
 use Rattle.sja_bus.specs.Inside.Rows.{SeatOpens, SeatOpensNews}
 use Rattle.sja_bus.specs.Inside.Refusing.{SeatRefuses, SeatFull}
 use Rattle.sja_bus.proofs.Many.{done_all}
-use Rattle.sja_bus.proofs.Rows.{stands_at, taken_none, taken_one}
+use Rattle.sja_bus.proofs.Rows.{has_links, taken_none, taken_one}
 use Rattle.sja_bus.proofs.Refusing.{refuses_seat}
 use Rattle.sja_bus.proofs.Breaking.{full_seat}
 use Rattle.sja_bus.proofs.Results.{err_is}
@@ -15,7 +15,7 @@ loop-k-init g c = taken_none g.E.BusEnd.same g.E.BusEnd.stands g.E.BusEnd.dry g.
 
 pub open_bit-requires-clause-at : goal.open_bit-requires-clause-at
 open_bit-requires-clause-at g c =
-    stands_at g.E.BusEnd.link g.E.BusEnd.same g.met.E.BusEnd.same_link (length c.args.seats.now) c.loop-k.seats c.args.links.now c.loop-k.links c.loop-k.k c.index-seats-k.result
+    has_links g.E.BusEnd.link g.E.BusEnd.same g.met.E.BusEnd.same_link (length c.args.seats.now) c.loop-k.seats c.args.links.now c.loop-k.links c.loop-k.k c.index-seats-k.result
     c.requires.count c.loop-k.auto.seats (search rules) c.loop-k.invariant.goes.sames c.requires.ids c.loop-k.invariant.ready
 
 pub returns-in_err-open_bit-clause-sames : goal.returns-in_err-open_bit-clause-sames

@@ -6,7 +6,7 @@ use Rattle.sja_bus.proofs.Breaking.{breaks_seat}
 use Rattle.sja_link.proofs.Related.{each_refl, each_trans}
 use Rattle.sja_bus.proofs.Results.{err_is}
 use Rattle.sja_bus.proofs.Many.{ready_one}
-use Rattle.sja_bus.proofs.Rows.{stands_at}
+use Rattle.sja_bus.proofs.Rows.{has_links}
 use Rattle.sja_bus.proofs.Running.{seen_is}
 use Rattle.sja_bus.proofs.Underway.{underway_one}
 use Rattle.sja_bus.proofs.all_nodes.tick_from.Goals as goal
@@ -23,7 +23,7 @@ loop-k-init g c = record {
 pub tick-requires-clause-at : goal.tick-requires-clause-at
 tick-requires-clause-at g c =
     let h = c.requires.seated in let inv = c.loop-k.invariant in
-    stands_at g.E.BusEnd.link g.E.BusEnd.same g.met.E.BusEnd.same_link (length c.args.seats.now) c.loop-k.seats c.args.links.now c.loop-k.links c.loop-k.k c.index-seats-k.result h.count c.loop-k.auto.seats (search rules)
+    has_links g.E.BusEnd.link g.E.BusEnd.same g.met.E.BusEnd.same_link (length c.args.seats.now) c.loop-k.seats c.args.links.now c.loop-k.links c.loop-k.k c.index-seats-k.result h.count c.loop-k.auto.seats (search rules)
     inv.sames h.ids inv.ready
 
 pub loop-k-preserved : goal.loop-k-preserved

@@ -11,43 +11,43 @@ use Rattle.sja_bus.proofs.Bits.{has_on, has_off}
 use Rattle.sja_bus.proofs.Results.{err_is}
 use Rattle.sja_bus.proofs.seat.Seat.run_bit.Goals as goal
 
-pub returns-then-not-heard-clause-sound : goal.returns-then-not-heard-clause-sound
-returns-then-not-heard-clause-sound g c =
-    let off : c.in_ok-heard.heard.events.went_off ≡ false = search rules in
-    let mid = c.in_ok-heard.ensures.mid in
-    let now = c.hear.new.self in
+pub returns-then-not-brought-clause-sound : goal.returns-then-not-brought-clause-sound
+returns-then-not-brought-clause-sound g c =
+    let off : c.in_ok-brought.brought.events.went_off ≡ false = search rules in
+    let mid = c.in_ok-brought.ensures.mid in
+    let now = c.receive_bit.new.self in
     let P : Bool → Type 0 = λ w. FollowsBit now.node now.journal.entries w in
     record { follows = follows_on now.node now.journal.entries (subst P off mid.follows); reads = mid.reads }
 
-pub returns-then-not-heard-clause-brings : goal.returns-then-not-heard-clause-brings
-returns-then-not-heard-clause-brings g c =
-    let off : c.in_ok-heard.heard.events.went_off ≡ false = search rules in
-    has_on c.args.self.now.journal.entries c.hear.new.self.journal.entries c.args.self.now.drives c.args.seen c.in_ok-heard.heard off c.in_ok-heard.ensures.hears
+pub returns-then-not-brought-clause-brings : goal.returns-then-not-brought-clause-brings
+returns-then-not-brought-clause-brings g c =
+    let off : c.in_ok-brought.brought.events.went_off ≡ false = search rules in
+    has_on c.args.self.now.journal.entries c.receive_bit.new.self.journal.entries c.args.self.now.drives c.args.seen c.in_ok-brought.brought off c.in_ok-brought.ensures.verdict
 
 pub returns-clause-brings : goal.returns-clause-brings
 returns-clause-brings g c =
-    let off : c.in_ok-heard.heard.events.went_off ≡ true = search rules in
-    has_off c.args.self.now.journal.entries c.hear.new.self.journal.entries c.go_off.new.self.journal.entries c.args.self.now.drives c.args.seen c.in_ok-heard.heard off c.in_ok-go_off.ensures.entered c.in_ok-heard.ensures.hears
+    let off : c.in_ok-brought.brought.events.went_off ≡ true = search rules in
+    has_off c.args.self.now.journal.entries c.receive_bit.new.self.journal.entries c.go_off.new.self.journal.entries c.args.self.now.drives c.args.seen c.in_ok-brought.brought off c.in_ok-go_off.ensures.entered c.in_ok-brought.ensures.verdict
 
 pub returns-in_err-go_off-clause-broken : goal.returns-in_err-go_off-clause-broken
 returns-in_err-go_off-clause-broken g c =
-    let E = g.E.BusEnd in let was = c.args.self.now in let mid = c.hear.new.self in let new = c.go_off.new.self in let f = c.in_err-go_off.field-0.0 in
-    let heard = c.in_ok-heard.ensures in let kept = heard.kept in
+    let E = g.E.BusEnd in let was = c.args.self.now in let mid = c.receive_bit.new.self in let new = c.go_off.new.self in let f = c.in_err-go_off.field-0.0 in
+    let brought = c.in_ok-brought.ensures in let kept = brought.kept in
     let is : c.from_residual-in_err-go_off.result ≡ Err f = search rules in
     let P : _ → Type 0 = λ x. BreaksHere E.stands E.full c.args.end.now was new x in
     err_is P c.from_residual-in_err-go_off.result f is
-    (breaks_after E.stands E.full c.args.end.now c.hear.new.end was mid new f (ap (λ l. l.node) kept.2) heard.room kept.0
-    (verdict_few was.journal.entries mid.journal.entries c.args.self.now.drives c.args.seen heard.hears.verdict) c.in_err-go_off.ensures.unentered heard.moves c.in_err-go_off.ensures.broken)
+    (breaks_after E.stands E.full c.args.end.now c.receive_bit.new.end was mid new f (ap (λ l. l.node) kept.2) brought.room kept.0
+    (verdict_few was.journal.entries mid.journal.entries c.args.self.now.drives c.args.seen brought.verdict.verdict) c.in_err-go_off.ensures.unentered brought.moves c.in_err-go_off.ensures.broken)
 
 pub go_off-requires-clause-mid : goal.go_off-requires-clause-mid
 go_off-requires-clause-mid g c =
-    let off : c.in_ok-heard.heard.events.went_off ≡ true = search rules in
-    let P : Bool → Type 0 = λ w. IsMid c.hear.new.self w in subst P off c.in_ok-heard.ensures.mid
+    let off : c.in_ok-brought.brought.events.went_off ≡ true = search rules in
+    let P : Bool → Type 0 = λ w. IsMid c.receive_bit.new.self w in subst P off c.in_ok-brought.ensures.mid
 
 pub returns-clause-moves : goal.returns-clause-moves
 returns-clause-moves g c =
     let stands = g.E.BusEnd.stands in let j = c.args.self.now.journal.entries in
-    let mid = c.hear.new.self.journal.entries in let new = c.go_off.new.self.journal.entries in
-    let heard = c.in_ok-heard.ensures in
-    let M : ℕ → Type 0 = λ n. Moves stands c.hear.new.end c.go_off.new.end mid new (suc n) in
-    moves_trans stands c.args.end.now c.hear.new.end c.go_off.new.end j mid new (suc c.args.self.now.ended) heard.moves (subst M heard.kept.0 c.in_ok-go_off.ensures.moves)
+    let mid = c.receive_bit.new.self.journal.entries in let new = c.go_off.new.self.journal.entries in
+    let brought = c.in_ok-brought.ensures in
+    let M : ℕ → Type 0 = λ n. Moves stands c.receive_bit.new.end c.go_off.new.end mid new (suc n) in
+    moves_trans stands c.args.end.now c.receive_bit.new.end c.go_off.new.end j mid new (suc c.args.self.now.ended) brought.moves (subst M brought.kept.0 c.in_ok-go_off.ensures.moves)

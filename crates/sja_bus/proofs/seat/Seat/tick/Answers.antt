@@ -31,7 +31,7 @@ returns-then-tick_quietly-clause-turns g c =
 -- where it didn't tick quietly nothing changed, and in the other way its bit is a full one
 pub returns-clause-ready : goal.returns-clause-ready
 returns-clause-ready g c =
-    let did = c.in_ok-heard.ensures in
+    let did = c.in_ok-brought.ensures in
     rw c.tell.ensures.seat (record {
       sound = record { follows = did.sound.follows; reads = did.sound.reads };
       seat = record { own = did.seat.own; few = did.seat.few; runs = did.seat.runs };
@@ -46,10 +46,10 @@ returns-clause-turns g c =
       | else-may_tick_quietly-via-else-may_tick_quietly w ↦ w.self-is
     ] in
     let mid : Seat = record c.full_bit.new.self { drives = c.drive-self.result } in
-    let did = c.in_ok-heard.ensures in let turn = c.tell.ensures.told in
+    let did = c.in_ok-brought.ensures in let turn = c.tell.ensures.told in
     let T : ℕ → Type 0 = λ n. B.told a z n turn.0 in
     let P : Seat → Type 0 = λ x. Turns (B.told a z (link_of x.ledger).node) (B.kept a z (link_of x.ledger).node) c.args.seen x c.tell.new.self in
     let Q : Seat → Type 0 = λ x. Turns (B.told a z (link_of s.ledger).node) (B.kept a z (link_of s.ledger).node) c.args.seen s x in
     subst P is (subst Q (sym c.tell.ensures.seat)
-    (full_turns (B.told a z (link_of s.ledger).node) (B.kept a z (link_of s.ledger).node) c.args.seen s mid c.in_ok-heard.heard turn.0 (subst T c.full_bit.ensures.stays.node turn.1)
+    (full_turns (B.told a z (link_of s.ledger).node) (B.kept a z (link_of s.ledger).node) c.args.seen s mid c.in_ok-brought.brought turn.0 (subst T c.full_bit.ensures.stays.node turn.1)
     (subst IsReady (sym is) c.requires.at.ready) did.news did.samples did.brings did.sound.reads.begun turn.2))

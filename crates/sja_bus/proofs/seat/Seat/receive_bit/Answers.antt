@@ -8,11 +8,11 @@ use Rattle.sja_bus.specs.Inside.Following.{Reads, open_in}
 use Rattle.can_node.specs.declared.node.Node.{Node}
 use Rattle.can_node.specs.Stands.{InReset, Samples}
 use Rattle.sja_bus.proofs.Seating.{reads_by, follows_by}
-use Rattle.sja_bus.proofs.Bits.{heard_quiet, heard_judged, has_alone, has_judged}
+use Rattle.sja_bus.proofs.Bits.{received_quiet, received_judged, has_alone, has_judged}
 use Rattle.sja_bus.proofs.Parted.{stands_at}
 use Rattle.sja_bus.proofs.Reading.{reads_quiet, reads_swap, runs_at}
 use Rattle.sja_bus.proofs.Moving.{moves_quiet}
-use Rattle.sja_bus.proofs.seat.Seat.hear.Goals as goal
+use Rattle.sja_bus.proofs.seat.Seat.receive_bit.Goals as goal
 
 pub returns-in_ok-enter_bit-in-None-clause-mid : goal.returns-in_ok-enter_bit-in-None-clause-mid
 returns-in_ok-enter_bit-in-None-clause-mid g c =
@@ -23,7 +23,7 @@ returns-in_ok-enter_bit-in-None-clause-mid g c =
     let reads = subst P c.requires.runs.1 c.requires.ready.sound.reads in
     let at = runs_at (Running c.requires.runs.0) was.node j was.ended (free_in was.ledger) refl reads in
     let o = c.enter_bit.ensures.others in
-    let follows = heard_quiet was.node new j x seen c.sample_fully-events.result c.requires.runs.0 (suc was.ended) c.requires.ready.drives c.sample_fully-events.ensures.samples at reads.active.1 (c.in-None.ensures c.requires.runs.0 c.requires.runs.1) c.requires.ready.sound.follows in
+    let follows = received_quiet was.node new j x seen c.sample_fully-events.result c.requires.runs.0 (suc was.ended) c.requires.ready.drives c.sample_fully-events.ensures.samples at reads.active.1 (c.in-None.ensures c.requires.runs.0 c.requires.runs.1) c.requires.ready.sound.follows in
     let swapped = reads_quiet new new j (Bit x seen) was.ended (Running c.requires.runs.0) (free_in was.ledger) (λ p. refl, refl, refl, refl) (λ r. r) (reads_swap was.node new j was.ended c.requires.runs.0 (free_in was.ledger) reads) in
     record {
       follows = follows_by c.enter_bit.new.self new (j ++ Bit x seen ∷ []) c.sample_fully-events.result.went_off (ap (λ (s : Seat). s.node) o) c.in_ok-enter_bit-in-None.ensures.ok.0 follows;
@@ -48,8 +48,8 @@ returns-in_ok-enter_bit-in-None-clause-moves g c =
     let at = runs_at was.activity was.node j was.ended (free_in was.ledger) (ap open_in c.requires.runs.1) c.requires.ready.sound.reads in
     rw c.in_ok-enter_bit-in-None.ensures.ok.0 (moves_quiet g.E.BusEnd.stands c.args.end.now j b (suc was.ended) (stands_at j b (suc was.ended) (λ p. refl) at) (λ l. refl))
 
-pub returns-in_ok-enter_bit-in-None-clause-hears : goal.returns-in_ok-enter_bit-in-None-clause-hears
-returns-in_ok-enter_bit-in-None-clause-hears g c = has_alone c.args.self.now.journal.entries c.enter_bit.new.self.journal.entries c.args.self.now.drives c.args.seen c.in_ok-enter_bit-in-None.ensures.ok.0
+pub returns-in_ok-enter_bit-in-None-clause-verdict : goal.returns-in_ok-enter_bit-in-None-clause-verdict
+returns-in_ok-enter_bit-in-None-clause-verdict g c = has_alone c.args.self.now.journal.entries c.enter_bit.new.self.journal.entries c.args.self.now.drives c.args.seen c.in_ok-enter_bit-in-None.ensures.ok.0
 
 pub returns-in_ok-overrun-in-Some-clause-mid : goal.returns-in_ok-overrun-in-Some-clause-mid
 returns-in_ok-overrun-in-Some-clause-mid g c =
@@ -58,7 +58,7 @@ returns-in_ok-overrun-in-Some-clause-mid g c =
     let P : Activity → Type 0 = λ a. Reads was.node j was.ended a (free_in was.ledger) in
     let reads = subst P c.requires.runs.1 c.requires.ready.sound.reads in
     let at = runs_at (Running c.requires.runs.0) was.node j was.ended (free_in was.ledger) refl reads in
-    let follows = heard_judged was.node new j c.judge.new.self.journal.entries x seen c.sample_fully-events.result c.requires.runs.0 (suc was.ended) c.in-Some.message c.in_ok-overrun-in-Some.overrun c.requires.ready.drives c.sample_fully-events.ensures.samples at reads.active.1
+    let follows = received_judged was.node new j c.judge.new.self.journal.entries x seen c.sample_fully-events.result c.requires.runs.0 (suc was.ended) c.in-Some.message c.in_ok-overrun-in-Some.overrun c.requires.ready.drives c.sample_fully-events.ensures.samples at reads.active.1
     (c.in-Some.ensures c.requires.runs.0 c.requires.runs.1) c.in_ok-overrun-in-Some.ensures.judged c.requires.ready.sound.follows in
     record {
       follows = follows_by c.judge.new.self new c.judge.new.self.journal.entries c.sample_fully-events.result.went_off c.judge.ensures.kept.0 refl follows;
@@ -76,6 +76,6 @@ returns-in_ok-overrun-in-Some-clause-off g c = λ went.
     let P : Node → Type 0 = λ n. InReset n in
     subst P (sym c.judge.ensures.kept.0) (c.sample_fully-events.ensures.off (search rules))
 
-pub returns-in_ok-overrun-in-Some-clause-hears : goal.returns-in_ok-overrun-in-Some-clause-hears
-returns-in_ok-overrun-in-Some-clause-hears g c =
+pub returns-in_ok-overrun-in-Some-clause-verdict : goal.returns-in_ok-overrun-in-Some-clause-verdict
+returns-in_ok-overrun-in-Some-clause-verdict g c =
     has_judged c.args.self.now.journal.entries c.judge.new.self.journal.entries c.args.self.now.drives c.args.seen (suc c.args.self.now.ended) c.in-Some.message c.in_ok-overrun-in-Some.overrun c.in_ok-overrun-in-Some.ensures.judged

@@ -8,8 +8,8 @@ ghost use Rattle.sja_bus.specs.Telling.{is_overrun as overruns};
 ghost use Rattle.sja_bus.specs.Inside.Seats.{Keeps};
 
 use super::activity::Activity;
+use super::brought::Brought;
 use super::bus_fault::BusFault;
-use super::heard::Heard;
 use super::putting::{accept, put_off};
 use super::seat::Seat;
 use can_bits::Level;
@@ -29,7 +29,7 @@ impl Seat {
     ghost use Rattle.sja_bus.specs.declared.activity.Activity.TheVariants.{Running};
     ghost use Rattle.sja_bus.specs.Links.{Moves};
     ghost use Rattle.sja_bus.specs.Inside.Following.{Reads, open_in};
-    ghost use Rattle.sja_bus.specs.Inside.Turning.{Hears, Brings};
+    ghost use Rattle.sja_bus.specs.Inside.Turning.{BringsVerdict, Brings};
     ghost use Rattle.sja_bus.specs.Inside.Seats.{IsSound, IsSeat, IsReady, IsJudged, IsMid};
     ghost use Rattle.sja_bus.specs.Inside.Taking.{BreaksHere, IsFull};
 
@@ -45,7 +45,7 @@ impl Seat {
         requires runs { open_in self.old.activity ≡ 1 }
         requires reads { Reads self.old.node self.old.journal.entries self.old.ended self.old.activity
             (free_in self.old.ledger) }
-        requires verdicts { (heard : List ReceivedFrame) × HasVerdicts self.old.journal.entries heard }
+        requires verdicts { (frames : List ReceivedFrame) × HasVerdicts self.old.journal.entries frames }
         requires on { HasOff (part self.old.journal.entries (suc self.old.ended)) → ⊥ }
         requires seat { IsSeat self.old }
         ensures same { E.same end.old end.new }
@@ -104,7 +104,7 @@ impl Seat {
     }
 
     /// The bit of a node that runs, and the verdict on what was received with it.
-    fn hear<E: BusEnd>(&mut self, end: &mut E, seen: Level) -> Result<Heard, BusFault>
+    fn receive_bit<E: BusEnd>(&mut self, end: &mut E, seen: Level) -> Result<Brought, BusFault>
         requires id { E.link end.old ≡ link_of self.old.ledger }
         requires runs { (f : Filtering) × (self.old.activity ≡ Running f) }
         requires ready { IsReady self.old }
@@ -113,13 +113,13 @@ impl Seat {
             × (link_of self.new.ledger ≡ link_of self.old.ledger) }
         ensures room { self.new.journal.room ≡ self.old.journal.room }
         ensures news { self.new.news ≡ self.old.news }
-        ensures mid { IfOk result (λ heard. IsMid self.new heard.events.went_off) }
-        ensures off { IfOk result (λ heard. heard.events.went_off ≡ true → InReset self.new.node) }
-        ensures samples { IfOk result (λ heard. Samples self.old.node self.new.node seen heard.events) }
+        ensures mid { IfOk result (λ brought. IsMid self.new brought.events.went_off) }
+        ensures off { IfOk result (λ brought. brought.events.went_off ≡ true → InReset self.new.node) }
+        ensures samples { IfOk result (λ brought. Samples self.old.node self.new.node seen brought.events) }
         ensures moves { OnOk result
             (Moves E.stands end.old end.new self.old.journal.entries self.new.journal.entries (suc self.old.ended)) }
-        ensures hears { IfOk result (λ heard.
-            Hears self.old.journal.entries self.old.drives seen heard.overrun self.new.journal.entries) }
+        ensures verdict { IfOk result (λ brought.
+            BringsVerdict self.old.journal.entries self.old.drives seen brought.overrun self.new.journal.entries) }
         ensures broken { IfErr result (λ f. BreaksHere E.stands E.full end.old self.old self.new f) }
     {
         let driven = self.drives;
@@ -127,20 +127,24 @@ impl Seat {
         match passing(&self.activity, &events.received) {
             None => {
                 self.enter_bit(driven, seen)?;
-                Ok(Heard {
+                Ok(Brought {
                     events,
                     overrun: false,
                 })
             }
             Some(message) => {
                 let overrun = self.judge(end, driven, seen, message)?;
-                Ok(Heard { events, overrun })
+                Ok(Brought { events, overrun })
             }
         }
     }
 
     /// One bit of a node that runs.
-    pub(crate) fn run_bit<E: BusEnd>(&mut self, end: &mut E, seen: Level) -> Result<Heard, BusFault>
+    pub(crate) fn run_bit<E: BusEnd>(
+        &mut self,
+        end: &mut E,
+        seen: Level,
+    ) -> Result<Brought, BusFault>
         requires running { (f : Filtering) × (self.old.activity ≡ Running f) }
         requires link { E.link end.old ≡ link_of self.old.ledger }
         requires ready { IsReady self.old }
@@ -151,23 +155,23 @@ impl Seat {
         ensures same { E.same end.old end.new }
         ensures sound { OnOk result (IsSound self.new) }
         ensures seat { OnOk result (IsSeat self.new) }
-        ensures samples { IfOk result (λ heard. Samples self.old.node self.new.node seen heard.events) }
+        ensures samples { IfOk result (λ brought. Samples self.old.node self.new.node seen brought.events) }
         ensures moves { OnOk result
             (Moves E.stands end.old end.new self.old.journal.entries self.new.journal.entries (suc self.old.ended)) }
-        ensures brings { IfOk result (λ heard.
-            Brings self.old.journal.entries self.old.drives seen heard self.new.journal.entries) }
+        ensures brings { IfOk result (λ brought.
+            Brings self.old.journal.entries self.old.drives seen brought self.new.journal.entries) }
         ensures broken { IfErr result (λ f. BreaksHere E.stands E.full end.old self.old self.new f) }
     {
-        let heard = self.hear(end, seen)?;
-        if !heard.events.went_off {
-            return Ok(heard);
+        let brought = self.receive_bit(end, seen)?;
+        if !brought.events.went_off {
+            return Ok(brought);
         }
         self.go_off(end)?;
-        Ok(heard)
+        Ok(brought)
     }
 
     /// One bit of a node in reset: it looks at no level.
-    pub(crate) fn rest_bit(&mut self, seen: Level) -> Result<Heard, BusFault>
+    pub(crate) fn rest_bit(&mut self, seen: Level) -> Result<Brought, BusFault>
         requires rests { InReset self.old.node }
         requires ready { IsReady self.old }
         ensures room { self.new.journal.room ≡ self.old.journal.room }
@@ -175,16 +179,16 @@ impl Seat {
         ensures news { self.new.news ≡ self.old.news }
         ensures sound { OnOk result (IsSound self.new) }
         ensures seat { OnOk result (IsSeat self.new) }
-        ensures samples { IfOk result (λ heard. Samples self.old.node self.new.node seen heard.events) }
+        ensures samples { IfOk result (λ brought. Samples self.old.node self.new.node seen brought.events) }
         ensures entered { OnOk result
             (self.new.journal.entries ≡ self.old.journal.entries ++ Bit self.old.drives seen ∷ []) }
-        ensures quiet { IfOk result (λ heard. (heard.events.went_off ≡ false) × (heard.overrun ≡ false)) }
+        ensures quiet { IfOk result (λ brought. (brought.events.went_off ≡ false) × (brought.overrun ≡ false)) }
         ensures full { IfErr result (λ f. IsFull self.old self.new f) }
     {
         let driven = self.drives;
         let events = self.node.sample(seen);
         self.enter(Entry::Bit(driven, seen))?;
-        Ok(Heard {
+        Ok(Brought {
             events,
             overrun: false,
         })

@@ -4,7 +4,7 @@ use can_node::BitEvents;
 
 /// What a bit brought to a node, and what came of the frame that was received with it.
 #[derive(Debug, Drop)]
-pub(crate) struct Heard {
+pub(crate) struct Brought {
     pub(crate) events: BitEvents,
     /// The frame found no room.
     pub(crate) overrun: bool,

@@ -20,33 +20,33 @@ use Rattle.can_node.specs.Cut.Move.{piece, sent, aborted, started, stopped, off_
 use Rattle.can_node.specs.Cut.From.{here, on}
 use Rattle.can_node.proofs.OneCut.Longer.{received_both}
 
-abbrev IsHeard : Option FrameValue → Type 0
-IsHeard None = Unit {0}
-IsHeard (Some f) = IsFrame f
+abbrev AnyIsFrame : Option FrameValue → Type 0
+AnyIsFrame None = Unit {0}
+AnyIsFrame (Some f) = IsFrame f
 
-heard_by : {listen : Bool} {l : List Level} {bits : List Bit} {p : Piece} {next : Place} →
+frame_by : {listen : Bool} {l : List Level} {bits : List Bit} {p : Piece} {next : Place} →
     Receives listen l bits p next →
-    IsHeard (received_by p)
-heard_by (reception h) = h.line.is_part.frame
-heard_by (broken h) = tt
+    AnyIsFrame (received_by p)
+frame_by (reception h) = h.line.is_part.frame
+frame_by (broken h) = tt
 
-own_heard : (b : Bool) (f : FrameValue) → IsFrame f → IsHeard (if b then Some f else None)
-own_heard true f h = h
-own_heard false f h = tt
+own_frame : (b : Bool) (f : FrameValue) → IsFrame f → AnyIsFrame (if b then Some f else None)
+own_frame true f h = h
+own_frame false f h = tt
 
 sent_by : {self_test : Bool} {request : Request} {bits : List Bit} {p : Piece} {next : Place} →
-    Transmits self_test request bits p next → IsHeard (received_by p)
-sent_by {request = request} (sending h) = own_heard request.self_receive request.frame h.is_part.is_part.frame
+    Transmits self_test request bits p next → AnyIsFrame (received_by p)
+sent_by {request = request} (sending h) = own_frame request.self_receive request.frame h.is_part.is_part.frame
 sent_by (failed h) = tt
-sent_by (lost h) = heard_by h.goes_on
+sent_by (lost h) = frame_by h.goes_on
 
 by_row : {c : ContextValue} {place next : Place} {bits : List Bit} {p : Piece} → Row c place bits p next →
-    IsHeard (received_by p)
+    AnyIsFrame (received_by p)
 by_row (integration h) = tt
 by_row (idle h) = tt
-by_row (other none h) = heard_by h
+by_row (other none h) = frame_by h
 by_row (own some h) = sent_by h
-by_row (other_begun none h) = heard_by h
+by_row (other_begun none h) = frame_by h
 by_row (own_begun some h) = sent_by h
 by_row last_eof_bit = tt
 by_row last_eof_bit_overload = tt
@@ -71,7 +71,7 @@ frames_both : (xs ys : List ReceivedFrame) → AreFrames xs → AreFrames ys →
 frames_both [] ys a b = b
 frames_both (x ∷ xs) ys a b = (a.0, frames_both xs ys a.1 b)
 
-frames_if : (f : Option FrameValue) (x : FinishedPiece) → IsHeard f → AreFrames (received_if f x [])
+frames_if : (f : Option FrameValue) (x : FinishedPiece) → AnyIsFrame f → AreFrames (received_if f x [])
 frames_if None x h = tt
 frames_if (Some f) x h = (h, tt)
 
@@ -85,16 +85,16 @@ by_move k (stopped slice opened stays) = tt
 by_move k (off_within slice before last whole stays is unfinished full) = tt
 by_move k (off_after {p = p} slice before last whole stays is row full) = frames_if (received_by p) _ (by_row row)
 
-from_heard : {k : Count} {c end : ContextValue} {place last : Place} {entries rest : List Entry}
+frames_from : {k : Count} {c end : ContextValue} {place last : Place} {entries rest : List Entry}
     {found : List FinishedPiece} → From k c place entries found end last rest → AreFrames (received found)
-from_heard (here opened stays) = tt
-from_heard {k = k} (on {entries = first} {ps = ps} {qs = qs} move from) =
+frames_from (here opened stays) = tt
+frames_from {k = k} (on {entries = first} {ps = ps} {qs = qs} move from) =
     subst (λ (l : List ReceivedFrame). AreFrames l) (sym (received_both (tagged (counted k first) ps) qs))
     (frames_both (received (tagged (counted k first) ps)) (received qs) (by_move (counted k first) move)
-    (from_heard from))
+    (frames_from from))
 
 pub all_frames : (entries : List Entry) (found : List FinishedPiece) → IsCut entries found → AreFrames (received found)
-all_frames entries found cut = from_heard cut.from
+all_frames entries found cut = frames_from cut.from
 
 -- ---- so a message has 3 to 13 bytes
 
