@@ -1,6 +1,6 @@
 //! [`Filter`]: the acceptance filter, a function for each mode and format.
 
-ghost use Rattle.std.specs.Prelude.{◌≡◌, ◌<◌, ◌/◌, ◌^◌, ◌↔◌, ◌⊎◌, IsTrue, slice_index};
+ghost use Rattle.std.specs.Prelude.{◌≡◌, ◌<◌, ◌/◌, ◌^◌, ◌↔◌, ◌⊎◌, IsTrue, slice_index, slice_get};
 ghost use Rattle.can_frame.specs.Message.{bit};
 ghost use Rattle.can_frame.specs.Filter.{Matches, MatchesStandardHead, MatchesExtendedHead, Passes};
 ghost use Rattle.can_frame.specs.Filter.{PassesSingleStandard, PassesSingleExtended};
@@ -76,10 +76,9 @@ impl Filter {
     fn passes_single_standard(&self, frame: &Frame) -> bool
         ensures { IsTrue result ↔ PassesSingleStandard self.now.acr self.now.amr frame.now }
     {
-        let data = frame.bytes();
         let head = standard_head_matches(self.register(0), self.register(1), frame);
-        let first = self.register(2).matches_byte(data.get(0).copied());
-        let second = self.register(3).matches_byte(data.get(1).copied());
+        let first = self.register(2).matches_byte(data_byte(frame, 0));
+        let second = self.register(3).matches_byte(data_byte(frame, 1));
         head && first && second
     }
 
@@ -112,8 +111,7 @@ impl Filter {
             ⊎ PassesSecondStandard self.now.acr self.now.amr frame.now) }
     {
         let head = standard_head_matches(self.register(0), self.register(1), frame);
-        let byte = frame.bytes().get(0).copied();
-        let halves = halves_match(self.register(1), self.register(3), byte);
+        let halves = halves_match(self.register(1), self.register(3), data_byte(frame, 0));
         let second = standard_head_matches(self.register(2), self.register(3), frame);
         (head && halves) || second
     }
@@ -127,6 +125,13 @@ impl Filter {
         let second = extended_head_matches(self.register(2), self.register(3), frame);
         first || second
     }
+}
+
+/// The data byte at this place from 0, where the frame has it.
+fn data_byte(frame: &Frame, place: usize) -> Option<u8>
+    ensures { result ≡ slice_get frame.now.bytes place }
+{
+    frame.bytes().get(place).copied()
 }
 
 /// Whether two registers match a standard frame's identifier and RTR: ID.28-21; ID.20-18 in bits 7 to 5, RTR in bit 4.
