@@ -3,8 +3,8 @@
 ghost use Rattle.std.specs.Prelude.{◌≡◌, IfOk, codes, false};
 ghost use Rattle.clap.specs.Words.{app_of, rule_of};
 ghost use Rattle.clap.specs.declared.builder.command.Command.TheViews.{out-Command};
-ghost use Rattle.sja_words.specs.CommandLine.{text_rule, text_app, filter_app, arbitrate_app, line_app};
-ghost use Rattle.sja_words.specs.CommandLine.{frame_app, flag_rule, run_app, wave_app, sja_app};
+ghost use Rattle.sja_words.specs.CommandLine.{text_rule, text_app, filter_app, arbitrate_app};
+ghost use Rattle.sja_words.specs.CommandLine.{empty_app, line_app, frame_app, flag_rule, run_app, wave_app, sja_app};
 
 use super::task::MOST_MESSAGES;
 use clap::{Arg, ArgAction, Command};
@@ -61,14 +61,22 @@ fn arbitrate_command<'a>(alloc: Global) -> Result<Command<'a>, AllocError>
         .arg(text_argument(alloc, "MESSAGE").num_args(1..=MOST_MESSAGES))
 }
 
+/// The program, of which one command has to be given, before it has any.
+fn empty_command<'a>(alloc: Global) -> Command<'a>
+    ensures app { app_of result ≡ empty_app }
+    ensures local { (out-Command result).has_globals ≡ false }
+{
+    Command::new(alloc, "sja")
+        .about("A model of SJA1000 CAN controllers on one bus")
+        .subcommand_required(true)
+}
+
 /// The commands over one line.
 fn line_command<'a>(alloc: Global) -> Result<Command<'a>, AllocError>
     ensures app { IfOk result (λ command. app_of command ≡ line_app) }
     ensures local { IfOk result (λ command. (out-Command command).has_globals ≡ false) }
 {
-    Command::new(alloc, "sja")
-        .about("A model of SJA1000 CAN controllers on one bus")
-        .subcommand_required(true)
+    empty_command(alloc)
         .subcommand(encode_command(alloc)?)?
         .subcommand(decode_command(alloc)?)
 }
