@@ -6,7 +6,7 @@
 //! reserved before.
 //!
 //! `specs/Headline.antt` says of such a log what the project promises of every run. The tests stand in
-//! `crates/report_tests`.
+//! `crates/run_tests`.
 #![tactic(auto)]
 
 mod activation_log;

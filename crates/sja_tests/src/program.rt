@@ -1,5 +1,6 @@
 //! Tests of `sja_words` and `sja_run`: words, and what the program writes and answers.
 
+mod answer;
 mod arbitrate;
 mod cut_words;
 mod decode;

@@ -16,7 +16,7 @@
 //! what the bus left of each node, its driver, and what lay on its links ([`Lying`]).
 //!
 //! `SerialRun::new`, `SerialRun::finish`, `script_of`, `Lying::of` and `node_runs` alone take memory.
-//! The tests stand in `crates/turns_tests`.
+//! The tests stand in `crates/run_tests`.
 #![tactic(auto)]
 
 mod beginning;

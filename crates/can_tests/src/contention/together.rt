@@ -1,7 +1,7 @@
 //! Stations that start their frames together, and where they lose arbitration. Bits count from 0 with the start; the
 //! frames begin with bit 11.
 
-use crate::node::given::{asked, counts, request_for, started};
+use crate::node::given::{asked, counts, give, request_for, started};
 use crate::node::station::Station;
 use crate::node::wire::{run, run_to_rest};
 use crate::worked::{ZEROS, frame_of};
@@ -38,7 +38,7 @@ fn a_sender_takes_the_start_of_frame_of_another(rt: HostRuntime) -> Result<(), F
     let mut stations = [Station::new(asked(&ZEROS)?), Station::new(started(PLAIN))];
     run(&mut stations, 0..63, None);
     assert!(rt; stations[1].received == 1);
-    assert!(rt; stations[1].node.request(request_for(&ZEROS)?) == Ok(()));
+    give(&mut stations[1].node, request_for(&ZEROS)?)?;
     for station in stations.iter_mut() {
         station.sample(63, Level::Dominant);
     }

@@ -1,7 +1,7 @@
 //! The error counters of a sender without others: error passive, bus-off and recovery. Bits count from 0 with the
 //! start.
 
-use super::given::{asked, counts, restart};
+use super::given::{asked, counts, restart, sample, stop};
 use crate::worked::ZEROS;
 use can_bits::Level;
 use can_node::{BitEvents, Node, Phase, State};
@@ -10,7 +10,7 @@ use std::test::Fail;
 /// The bit of a node that sees what it drives, or the other level where it is struck.
 fn bit_of(node: &mut Node, struck: bool) -> BitEvents {
     let level = node.drive();
-    node.sample(if struck { level.opposite() } else { level })
+    sample(node, if struck { level.opposite() } else { level })
 }
 
 /// So many bits in which the node sees what it drives.
@@ -81,7 +81,7 @@ fn recovers(node: &mut Node) -> bool {
     let mut right = counts(node, 127, 0);
     for level in 1..1409u32 {
         right = right && node.drive().is_recessive() && node.phase() == Phase::Waiting;
-        let events = node.sample(Level::Recessive);
+        let events = sample(node, Level::Recessive);
         right = right && events.recovered == (level == 1408);
         right = right && u32::from(node.counters().tec) == left(level);
         right = right && node.counters().off == (level < 1408);
@@ -104,10 +104,10 @@ fn a_start_in_the_middle_of_recovery_begins_it_anew(rt: HostRuntime) -> Result<(
     let mut node = gone_off()?;
     restart(&mut node);
     for _ in 0..700u32 {
-        node.sample(Level::Recessive);
+        sample(&mut node, Level::Recessive);
     }
     assert!(rt; counts(&node, 64, 0));
-    node.stop();
+    stop(&mut node);
     assert!(rt; counts(&node, 64, 0) && node.counters().off);
     restart(&mut node);
     assert!(rt; recovers(&mut node));

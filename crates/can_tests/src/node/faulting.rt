@@ -1,7 +1,7 @@
 //! Faults at one of several stations on a wire, and what the others make of them. Bits count from 0 with the start; the
 //! frame begins with bit 11.
 
-use super::given::{asked, counts, started};
+use super::given::{asked, counts, echoes, sample, started};
 use super::station::Station;
 use super::wire::{run, run_to_rest};
 use crate::worked::ZEROS;
@@ -73,13 +73,10 @@ fn a_sender_struck_in_the_last_bit_is_received_twice(rt: HostRuntime) -> Result<
 #[test]
 fn a_stuff_bit_overdriven_in_the_identifier_costs_nothing(rt: HostRuntime) -> Result<(), Fail> {
     let mut node = asked(&ZEROS)?;
-    for _ in 0..16u32 {
-        let level = node.drive();
-        node.sample(level);
-    }
+    assert!(rt; echoes(&mut node, 16));
     let level = node.drive();
     assert!(rt; level.is_recessive());
-    let events = node.sample(level.opposite());
+    let events = sample(&mut node, level.opposite());
     assert!(rt; events.fault == Some((Cause::Stuff, Segment::Id28To21)));
     assert!(rt; !events.receiving && events.lost.is_none());
     assert!(rt; counts(&node, 0, 0));

@@ -2,9 +2,37 @@
 
 use crate::worked::frame_of;
 use can_bits::Level;
-use can_node::{BitEvents, Config, Node, Request};
+use can_node::{Aborted, BitEvents, Config, Node, Request};
 use std::test::Fail;
 use worked_frames::nodes::PLAIN;
+
+// What these calls of a node promise stays out of the proofs of the tests.
+
+/// Gives a node a request, which it takes.
+pub fn give(node: &mut Node, request: Request) -> Result<(), Fail> {
+    node.request(request)?;
+    Ok(())
+}
+
+/// Whether a node gives a request for the frame of a message back.
+pub fn gives_back(node: &mut Node, message: &[u8]) -> Result<bool, Fail> {
+    Ok(node.request(request_for(message)?) == Err(request_for(message)?))
+}
+
+/// What an order to abort comes to.
+pub fn abort(node: &mut Node) -> Aborted {
+    node.abort()
+}
+
+/// A bit in which the node sees this level.
+pub fn sample(node: &mut Node, level: Level) -> BitEvents {
+    node.sample(level)
+}
+
+/// Stops a node.
+pub fn stop(node: &mut Node) {
+    node.stop();
+}
 
 /// A node that was started so.
 pub fn started(config: Config) -> Node {
@@ -31,7 +59,7 @@ pub fn request_for(message: &[u8]) -> Result<Request, Fail> {
 /// A started node that holds a request for the frame of a message.
 pub fn asked(message: &[u8]) -> Result<Node, Fail> {
     let mut node = started(PLAIN);
-    node.request(request_for(message)?)?;
+    give(&mut node, request_for(message)?)?;
     Ok(node)
 }
 
@@ -40,7 +68,7 @@ pub fn asked_once(message: &[u8]) -> Result<Node, Fail> {
     let mut request = request_for(message)?;
     request.single_shot = true;
     let mut node = started(PLAIN);
-    node.request(request)?;
+    give(&mut node, request)?;
     Ok(node)
 }
 
@@ -65,7 +93,7 @@ pub fn sees(node: &mut Node, level: Level, bits: u32) -> bool {
     let mut quiet = true;
     for _ in 0..bits {
         quiet = quiet && node.drive().is_recessive();
-        let events = node.sample(level);
+        let events = sample(node, level);
         quiet = quiet && is_quiet(&events);
     }
     quiet
@@ -76,7 +104,7 @@ pub fn echoes(node: &mut Node, bits: u32) -> bool {
     let mut quiet = true;
     for _ in 0..bits {
         let level = node.drive();
-        let events = node.sample(level);
+        let events = sample(node, level);
         quiet = quiet && is_quiet(&events);
     }
     quiet

@@ -1,9 +1,9 @@
 //! Self test, self reception and listen only. Bits count from 0 with the start; a frame that was requested before
 //! begins with bit 11 and ends with bit 60.
 
-use super::given::{asked, counts, echoes, request_for, sees, started};
+use super::given::{asked, counts, echoes, give, request_for, sample, sees, started};
 use super::station::Station;
-use super::wire::{Strike, run};
+use super::wire::{Strike, all_rest, run};
 use crate::worked::{ZEROS, frame_of};
 use can_bits::Level;
 use can_node::{Config, Node, Outcome, Phase};
@@ -18,7 +18,7 @@ fn in_self_test(self_receive: bool) -> Result<Node, Fail> {
     });
     let mut request = request_for(&ZEROS)?;
     request.self_receive = self_receive;
-    node.request(request)?;
+    give(&mut node, request)?;
     Ok(node)
 }
 
@@ -37,7 +37,7 @@ fn a_node_in_self_test_sends_to_itself(rt: HostRuntime) -> Result<(), Fail> {
     for self_receive in [false, true] {
         let mut node = in_self_test(self_receive)?;
         assert!(rt; echoes(&mut node, 60));
-        let events = node.sample(Level::Recessive);
+        let events = sample(&mut node, Level::Recessive);
         assert!(rt; events.ended == Some(Outcome::Sent));
         assert!(rt; events.received.is_some() == self_receive && events.fault.is_none());
         assert!(rt; !self_receive || events.received == Some(frame.copy()));
@@ -54,7 +54,7 @@ fn a_node_may_receive_what_it_sends(rt: HostRuntime) -> Result<(), Fail> {
     let mut request = request_for(&ZEROS)?;
     request.self_receive = true;
     let mut sender = started(PLAIN);
-    sender.request(request)?;
+    give(&mut sender, request)?;
     let mut stations = [Station::new(sender), Station::new(started(PLAIN))];
     run(&mut stations, 0..60, None);
     assert!(rt; stations[0].received == 0 && stations[1].received == 1);
@@ -75,7 +75,7 @@ fn rest_with_listener(strike: Option<Strike>) -> Result<([Station; 3], bool), Fa
         silent = silent && stations[2].node.drive().is_recessive();
         run(&mut stations, bit..bit + 1, strike);
     }
-    let rests = stations.iter().all(|station| station.node.at_rest());
+    let rests = all_rest(&stations);
     Ok((stations, silent && rests))
 }
 
@@ -114,7 +114,7 @@ fn a_listener_acknowledges_nothing(rt: HostRuntime) -> Result<(), Fail> {
 #[test]
 fn a_listener_sends_nothing(rt: HostRuntime) -> Result<(), Fail> {
     let mut node = listening();
-    node.request(request_for(&ZEROS)?)?;
+    give(&mut node, request_for(&ZEROS)?)?;
     assert!(rt; sees(&mut node, Level::Recessive, 100));
     assert!(rt; node.phase() == Phase::Idle && !node.at_rest());
     Ok(())

@@ -1,7 +1,7 @@
 //! What a node on a wire without others makes of the levels that it sees: a frame, and six dominant levels. Bits count
 //! from 0 with the start; the node waits for eleven recessive levels first.
 
-use super::given::{counts, sees, started};
+use super::given::{counts, sample, sees, started};
 use can_bits::{Level, Segment};
 use can_frame::Frame;
 use can_node::{Cause, Node, Phase};
@@ -34,7 +34,7 @@ fn a_frame_is_acknowledged_and_received(rt: HostRuntime) -> Result<(), Fail> {
             "at level {place}"
         );
         let sent = Level::of(*digit == b'1');
-        let events = node.sample(if place == 41 { driven } else { sent });
+        let events = sample(&mut node, if place == 41 { driven } else { sent });
         assert!(rt;
             events.received.is_some() == (place == 48),
             "at level {place}"
@@ -57,7 +57,7 @@ fn a_frame_may_begin_with_the_third_bit_of_intermission(rt: HostRuntime) -> Resu
     for _ in 0..3u32 {
         for digit in LINE.as_bytes() {
             let acknowledged = node.drive() == Level::Dominant;
-            let events = node.sample(Level::of(*digit == b'1' && !acknowledged));
+            let events = sample(&mut node, Level::of(*digit == b'1' && !acknowledged));
             assert!(rt; events.fault.is_none());
             if events.received.is_some() {
                 received = received.wrapping_add(1);
@@ -74,13 +74,13 @@ fn six_dominant_levels_are_a_stuff_error(rt: HostRuntime) -> Result<(), Fail> {
     let mut node = started(PLAIN);
     assert!(rt; sees(&mut node, Level::Recessive, 11));
     assert!(rt; sees(&mut node, Level::Dominant, 5));
-    let events = node.sample(Level::Dominant);
+    let events = sample(&mut node, Level::Dominant);
     assert!(rt; events.fault == Some((Cause::Stuff, Segment::Id28To21)));
     assert!(rt; events.receiving && counts(&node, 0, 1));
     for bit in 17..23u32 {
         assert!(rt; node.phase() == Phase::Flag, "at bit {bit}");
         assert!(rt; node.drive() == Level::Dominant, "at bit {bit}");
-        let events = node.sample(Level::Dominant);
+        let events = sample(&mut node, Level::Dominant);
         assert!(rt; events.fault.is_none(), "at bit {bit}");
     }
     assert!(rt; rests(&mut node, Phase::Delimiter, 23..31));
@@ -96,7 +96,7 @@ fn dominant_levels_after_a_flag_are_counted(rt: HostRuntime) -> Result<(), Fail>
     let mut node = started(PLAIN);
     assert!(rt; sees(&mut node, Level::Recessive, 11));
     for bit in 11..46u32 {
-        node.sample(Level::Dominant);
+        sample(&mut node, Level::Dominant);
         let receive = match bit {
             0..=15 => 0,
             16..=22 => 1,
@@ -117,7 +117,7 @@ fn dominant_levels_after_a_flag_are_counted(rt: HostRuntime) -> Result<(), Fail>
 fn flagged() -> Node {
     let mut node = started(PLAIN);
     for bit in 0..23u32 {
-        node.sample(Level::of(bit < 11));
+        sample(&mut node, Level::of(bit < 11));
     }
     node
 }
@@ -138,7 +138,7 @@ fn a_dominant_level_after_a_flag_is_judged_by_its_place(rt: HostRuntime) -> Resu
     for (levels, fault, phase, receive) in rows {
         let mut node = flagged();
         assert!(rt; sees(&mut node, Level::Recessive, levels), "after {levels}");
-        let events = node.sample(Level::Dominant);
+        let events = sample(&mut node, Level::Dominant);
         assert!(rt;
             events.fault == fault && node.phase() == phase,
             "after {levels}"

@@ -1,7 +1,10 @@
 //! Requests: single shot, aborted, and given back. Bits count from 0 with the start; a frame that was requested before
 //! begins with bit 11, and its ACK slot is bit 52.
 
-use super::given::{asked, asked_once, counts, echoes, is_quiet, request_for, sees, started};
+use super::given::{
+    abort, asked, asked_once, counts, echoes, give, gives_back, is_quiet, request_for, sample,
+    sees, started,
+};
 use super::station::Station;
 use super::wire::{run, run_to_rest};
 use crate::worked::{ZEROS, frame_of};
@@ -13,7 +16,7 @@ use worked_frames::nodes::PLAIN;
 /// Whether a sender fails in the next bit, at its missing acknowledgement, and its request with it.
 fn fails_unanswered(node: &mut Node) -> bool {
     let level = node.drive();
-    let events = node.sample(level);
+    let events = sample(node, level);
     events.fault == Some((Cause::Ack, Segment::AckSlot)) && events.ended == Some(Outcome::Failed)
 }
 
@@ -55,7 +58,7 @@ fn a_request_that_is_not_to_be_tried_once_is_repeated(rt: HostRuntime) -> Result
     let mut node = asked(&ZEROS)?;
     assert!(rt; echoes(&mut node, 52));
     let level = node.drive();
-    let events = node.sample(level);
+    let events = sample(&mut node, level);
     assert!(rt; events.fault == Some((Cause::Ack, Segment::AckSlot)) && events.ended.is_none());
     assert!(rt; echoes(&mut node, 6) && sees(&mut node, Level::Recessive, 11));
     assert!(rt; node.phase() == Phase::Idle && node.drive() == Level::Dominant);
@@ -70,8 +73,8 @@ fn an_abort_before_the_start_of_frame_drops_the_request(rt: HostRuntime) -> Resu
             sees(&mut node, Level::Recessive, bits),
             "after {bits} bits"
         );
-        assert!(rt; node.abort() == Aborted::Dropped, "after {bits} bits");
-        assert!(rt; node.abort() == Aborted::Unchanged, "after {bits} bits");
+        assert!(rt; abort(&mut node) == Aborted::Dropped, "after {bits} bits");
+        assert!(rt; abort(&mut node) == Aborted::Unchanged, "after {bits} bits");
         assert!(rt; sees(&mut node, Level::Recessive, 100), "after {bits} bits");
         assert!(rt; node.at_rest(), "after {bits} bits");
     }
@@ -83,8 +86,8 @@ fn an_abort_before_the_start_of_frame_drops_the_request(rt: HostRuntime) -> Resu
 fn an_abort_in_progress_marks_the_request(rt: HostRuntime) -> Result<(), Fail> {
     let mut node = asked(&ZEROS)?;
     assert!(rt; echoes(&mut node, 20));
-    assert!(rt; node.abort() == Aborted::Marked);
-    assert!(rt; node.abort() == Aborted::Unchanged);
+    assert!(rt; abort(&mut node) == Aborted::Marked);
+    assert!(rt; abort(&mut node) == Aborted::Unchanged);
     assert!(rt; echoes(&mut node, 32));
     assert!(rt; fails_unanswered(&mut node));
     assert!(rt; counts(&node, 8, 0));
@@ -96,7 +99,7 @@ fn an_abort_in_progress_marks_the_request(rt: HostRuntime) -> Result<(), Fail> {
 fn a_request_aborted_in_progress_may_be_sent(rt: HostRuntime) -> Result<(), Fail> {
     let mut stations = [Station::new(asked(&ZEROS)?), Station::new(started(PLAIN))];
     run(&mut stations, 0..20, None);
-    assert!(rt; stations[0].node.abort() == Aborted::Marked);
+    assert!(rt; abort(&mut stations[0].node) == Aborted::Marked);
     run(&mut stations, 20..200, None);
     assert!(rt; stations[0].sent == Some(60) && stations[0].failed == 0);
     assert!(rt; stations[1].received == 1);
@@ -109,8 +112,8 @@ fn an_abort_between_two_attempts_drops_the_request(rt: HostRuntime) -> Result<()
     let mut node = asked(&ZEROS)?;
     assert!(rt; echoes(&mut node, 52));
     let level = node.drive();
-    assert!(rt; !is_quiet(&node.sample(level)));
-    assert!(rt; node.abort() == Aborted::Dropped);
+    assert!(rt; !is_quiet(&sample(&mut node, level)));
+    assert!(rt; abort(&mut node) == Aborted::Dropped);
     assert!(rt; sends_no_more(&mut node, 100));
     Ok(())
 }
@@ -119,7 +122,7 @@ fn an_abort_between_two_attempts_drops_the_request(rt: HostRuntime) -> Result<()
 fn an_abort_of_a_request_to_be_tried_once_changes_nothing(rt: HostRuntime) -> Result<(), Fail> {
     let mut node = asked_once(&ZEROS)?;
     assert!(rt; echoes(&mut node, 20));
-    assert!(rt; node.abort() == Aborted::Unchanged);
+    assert!(rt; abort(&mut node) == Aborted::Unchanged);
     assert!(rt; echoes(&mut node, 32));
     assert!(rt; fails_unanswered(&mut node));
     Ok(())
@@ -129,11 +132,11 @@ fn an_abort_of_a_request_to_be_tried_once_changes_nothing(rt: HostRuntime) -> Re
 fn a_second_request_is_given_back(rt: HostRuntime) -> Result<(), Fail> {
     let first = frame_of(&ZEROS)?;
     let mut node = asked(&ZEROS)?;
-    assert!(rt; node.request(request_for(&[0, 0, 0x20])?) == Err(request_for(&[0, 0, 0x20])?));
+    assert!(rt; gives_back(&mut node, &[0, 0, 0x20])?);
     let mut stations = [Station::new(node), Station::new(started(PLAIN))];
     assert!(rt; run_to_rest(&mut stations, None));
     assert!(rt; stations[1].received == 1 && stations[1].last == Some(first));
-    assert!(rt; stations[0].node.request(request_for(&[0, 0, 0x20])?) == Ok(()));
+    give(&mut stations[0].node, request_for(&[0, 0, 0x20])?)?;
     Ok(())
 }
 

@@ -1,7 +1,7 @@
 //! Stops and starts in the middle of a frame. Bits count from 0 with the first start; a frame that was requested before
 //! begins with bit 11.
 
-use super::given::{asked, counts, is_quiet, request_for, restart, sees, started};
+use super::given::{asked, counts, echoes, give, request_for, restart, sees, started, stop};
 use super::station::Station;
 use super::wire::run;
 use crate::worked::ZEROS;
@@ -27,12 +27,9 @@ fn a_node_in_reset_looks_at_no_level(rt: HostRuntime) -> Result<(), Fail> {
 #[test]
 fn a_stop_in_a_frame_drops_the_request(rt: HostRuntime) -> Result<(), Fail> {
     let mut node = asked(&ZEROS)?;
-    for _ in 0..30u32 {
-        let level = node.drive();
-        assert!(rt; is_quiet(&node.sample(level)));
-    }
+    assert!(rt; echoes(&mut node, 30));
     assert!(rt; node.phase() == Phase::Frame);
-    node.stop();
+    stop(&mut node);
     assert!(rt; node.phase() == Phase::Reset && node.at_rest());
     assert!(rt; looks_at_nothing(&mut node));
     restart(&mut node);
@@ -49,11 +46,11 @@ fn a_stop_in_a_frame_drops_the_request(rt: HostRuntime) -> Result<(), Fail> {
 fn a_sender_stopped_in_a_frame_sends_another_later(rt: HostRuntime) -> Result<(), Fail> {
     let mut stations = [Station::new(asked(&ZEROS)?), Station::new(started(PLAIN))];
     run(&mut stations, 0..30, None);
-    stations[0].node.stop();
+    stop(&mut stations[0].node);
     run(&mut stations, 30..50, None);
     assert!(rt; counts(&stations[1].node, 0, 1));
     restart(&mut stations[0].node);
-    assert!(rt; stations[0].node.request(request_for(&[0, 0, 0x20])?) == Ok(()));
+    give(&mut stations[0].node, request_for(&[0, 0, 0x20])?)?;
     run(&mut stations, 50..250, None);
     assert!(rt; stations[0].sent.is_some() && stations[0].node.at_rest());
     assert!(rt; stations[1].received == 1 && stations[1].node.at_rest());

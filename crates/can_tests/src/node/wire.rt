@@ -32,10 +32,20 @@ pub fn run(stations: &mut [Station], bits: Range<u32>, strike: Option<Strike>) {
     }
 }
 
+/// Whether all stations are at rest.
+pub fn all_rest(stations: &[Station]) -> bool {
+    for station in stations {
+        if !station.node.at_rest() {
+            return false;
+        }
+    }
+    true
+}
+
 /// The bits from 0 until all stations are at rest. Whether they came to rest.
 pub fn run_to_rest(stations: &mut [Station], strike: Option<Strike>) -> bool {
     for bit in 0..MANY {
-        if stations.iter().all(|station| station.node.at_rest()) {
+        if all_rest(stations) {
             return true;
         }
         run(stations, bit..bit + 1, strike);

@@ -1,6 +1,6 @@
 //! A link with both its ledgers, and messages by their length.
 
-use can_frame::Message;
+use can_frame::{Message, Seen};
 use can_node::Request;
 use sja_link::{BusEnd, BusLedger, DequeLink, Down, DriverEnd, DriverLedger, LinkId, Up, Verdict};
 use std::alloc::Global;
@@ -50,6 +50,31 @@ impl Linked {
     /// Gives on the link as it is, past the ledger.
     pub fn give(&mut self, item: Up) -> bool {
         self.link.give(item).is_ok()
+    }
+
+    /// What the bus takes off the link, past the ledger.
+    pub fn take(&mut self) -> Option<Up> {
+        self.link.take()
+    }
+
+    /// What the driver gets off the link, past the ledger.
+    pub fn get(&mut self) -> Option<Down> {
+        self.link.get()
+    }
+
+    /// How many bytes are free.
+    pub fn free(&self) -> u8 {
+        self.bus.free()
+    }
+
+    /// The messages that the driver hasn't released.
+    pub fn unread(&self) -> &[Message] {
+        self.driver.unread()
+    }
+
+    /// What is at the driver's end.
+    pub fn seen(&self) -> Seen {
+        self.driver.seen()
     }
 
     /// What is judged of a message of this length; nothing where the link is busy.

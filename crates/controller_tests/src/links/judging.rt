@@ -27,7 +27,7 @@ fn the_bytes_decide_and_not_the_messages(rt: HostRuntime) -> Result<(), Fail> {
         (3, Verdict::Overrun),
     ];
     assert!(rt; four_are_stored(&mut linked)? && linked.are_judged(&wanted)?);
-    assert!(rt; linked.bus.free() == 1);
+    assert!(rt; linked.free() == 1);
     Ok(())
 }
 
@@ -36,7 +36,7 @@ fn a_message_may_fill_the_buffer_exactly(rt: HostRuntime) -> Result<(), Fail> {
     let mut linked = Linked::new(rt.alloc())?;
     assert!(rt; four_are_stored(&mut linked)?);
     assert!(rt; linked.are_judged(&[(12, Verdict::Stored)])?);
-    assert!(rt; linked.bus.free() == 0);
+    assert!(rt; linked.free() == 0);
     Ok(())
 }
 
@@ -47,7 +47,7 @@ fn a_link_without_room_is_busy(rt: HostRuntime) -> Result<(), Fail> {
         assert!(rt; linked.put(Down::Message(message_of(3)?)));
     }
     assert!(rt; linked.accept(3)?.is_none());
-    assert!(rt; linked.bus.free() == 64);
+    assert!(rt; linked.free() == 64);
     Ok(())
 }
 
@@ -55,16 +55,16 @@ fn a_link_without_room_is_busy(rt: HostRuntime) -> Result<(), Fail> {
 fn a_credit_gives_its_bytes_back(rt: HostRuntime) -> Result<(), Fail> {
     let mut linked = Linked::new(rt.alloc())?;
     assert!(rt; linked.are_judged(&[(13, Verdict::Stored), (5, Verdict::Stored)])?);
-    assert!(rt; linked.bus.free() == 46);
+    assert!(rt; linked.free() == 46);
     assert!(rt; linked.give(Up::Start(PLAIN)) && linked.give(Up::Credit(13)));
     assert!(rt; linked.give(Up::Send(request_for(&[0, 0, 0])?)) && linked.give(Up::Credit(5)));
     assert!(rt; collected(&mut linked) == Ok(Some(Up::Start(PLAIN))));
-    assert!(rt; linked.bus.free() == 46);
+    assert!(rt; linked.free() == 46);
     assert!(rt; collected(&mut linked) == Ok(Some(Up::Credit(13))));
-    assert!(rt; linked.bus.free() == 59);
+    assert!(rt; linked.free() == 59);
     assert!(rt; collected(&mut linked) == Ok(Some(Up::Send(request_for(&[0, 0, 0])?))));
     assert!(rt; collected(&mut linked) == Ok(Some(Up::Credit(5))));
-    assert!(rt; linked.bus.free() == 64);
+    assert!(rt; linked.free() == 64);
     assert!(rt; collected(&mut linked) == Ok(None));
     Ok(())
 }
@@ -75,19 +75,19 @@ fn a_credit_that_cannot_be_right_is_refused(rt: HostRuntime) -> Result<(), Fail>
     assert!(rt; linked.give(Up::Start(PLAIN)) && linked.give(Up::Credit(1)));
     assert!(rt; collected(&mut linked) == Ok(Some(Up::Start(PLAIN))));
     assert!(rt; collected(&mut linked) == Err(BadCredit(1)));
-    assert!(rt; linked.bus.free() == 64);
+    assert!(rt; linked.free() == 64);
     assert!(rt; linked.are_judged(&[(13, Verdict::Stored), (13, Verdict::Stored)])?);
     for bytes in [0, 2, 14, 255] {
         assert!(rt; linked.give(Up::Credit(bytes)));
         assert!(rt; collected(&mut linked) == Err(BadCredit(bytes)));
-        assert!(rt; linked.bus.free() == 38);
+        assert!(rt; linked.free() == 38);
     }
     assert!(rt; linked.give(Up::Credit(13)) && linked.give(Up::Credit(13)));
     assert!(rt; linked.give(Up::Credit(3)));
     assert!(rt; collected(&mut linked) == Ok(Some(Up::Credit(13))));
     assert!(rt; collected(&mut linked) == Ok(Some(Up::Credit(13))));
     assert!(rt; collected(&mut linked) == Err(BadCredit(3)));
-    assert!(rt; linked.bus.free() == 64);
+    assert!(rt; linked.free() == 64);
     Ok(())
 }
 
@@ -98,8 +98,8 @@ fn bus_off_follows_the_messages(rt: HostRuntime) -> Result<(), Fail> {
     if BusEnd::id(&linked.link) == linked.bus.id() {
         assert!(rt; linked.bus.off(&mut linked.link).is_ok());
     }
-    assert!(rt; linked.bus.free() == 61);
-    assert!(rt; linked.link.get() == Some(Down::Message(message_of(3)?)));
-    assert!(rt; linked.link.get() == Some(Down::Off));
+    assert!(rt; linked.free() == 61);
+    assert!(rt; linked.get() == Some(Down::Message(message_of(3)?)));
+    assert!(rt; linked.get() == Some(Down::Off));
     Ok(())
 }

@@ -11,7 +11,7 @@ fn twenty_two_items_lie_there_downward(rt: HostRuntime) -> Result<(), Fail> {
         assert!(rt; linked.put(Down::Message(message_of(3)?)));
     }
     assert!(rt; !linked.put(Down::Off));
-    assert!(rt; linked.link.get() == Some(Down::Message(message_of(3)?)));
+    assert!(rt; linked.get() == Some(Down::Message(message_of(3)?)));
     assert!(rt; linked.put(Down::Off));
     Ok(())
 }
@@ -23,7 +23,7 @@ fn an_item_that_does_not_fit_comes_back(rt: HostRuntime) -> Result<(), Fail> {
         assert!(rt; linked.give(Up::Stop));
     }
     assert!(rt; linked.link.give(Up::Credit(7)) == Err(Up::Credit(7)));
-    assert!(rt; linked.link.take() == Some(Up::Stop));
+    assert!(rt; linked.take() == Some(Up::Stop));
     assert!(rt; linked.give(Up::Credit(7)));
     Ok(())
 }
@@ -31,12 +31,12 @@ fn an_item_that_does_not_fit_comes_back(rt: HostRuntime) -> Result<(), Fail> {
 #[test]
 fn items_come_out_as_they_went_in(rt: HostRuntime) -> Result<(), Fail> {
     let mut linked = Linked::new(rt.alloc())?;
-    assert!(rt; linked.link.get().is_none() && linked.link.take().is_none());
+    assert!(rt; linked.get().is_none() && linked.take().is_none());
     assert!(rt; linked.give(Up::Credit(3)) && linked.give(Up::Stop.copy()));
     assert!(rt; linked.put(Down::Message(message_of(5)?).copy()) && linked.put(Down::Off));
-    assert!(rt; linked.link.take() == Some(Up::Credit(3)) && linked.link.take() == Some(Up::Stop));
-    assert!(rt; linked.link.get() == Some(Down::Message(message_of(5)?)));
-    assert!(rt; linked.link.get() == Some(Down::Off) && linked.link.get().is_none());
+    assert!(rt; linked.take() == Some(Up::Credit(3)) && linked.take() == Some(Up::Stop));
+    assert!(rt; linked.get() == Some(Down::Message(message_of(5)?)));
+    assert!(rt; linked.get() == Some(Down::Off) && linked.get().is_none());
     Ok(())
 }
 

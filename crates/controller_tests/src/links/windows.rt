@@ -41,7 +41,7 @@ fn the_window_shows_the_first_message_and_gives_no_credit(rt: HostRuntime) -> Re
     assert!(rt; puts(&mut linked, &[5, 3])?);
     assert!(rt; shown(&mut linked) == Ok(Some(message_of(5)?)));
     assert!(rt; shown(&mut linked) == Ok(Some(message_of(5)?)));
-    assert!(rt; linked.link.take().is_none());
+    assert!(rt; linked.take().is_none());
     Ok(())
 }
 
@@ -51,10 +51,10 @@ fn a_release_gives_the_credit_of_the_first_message(rt: HostRuntime) -> Result<()
     assert!(rt; released(&mut linked) == Err(ReleaseFault::Empty));
     assert!(rt; puts(&mut linked, &[5, 13, 3])?);
     assert!(rt; released(&mut linked) == Ok(5) && released(&mut linked) == Ok(13));
-    assert!(rt; linked.link.take() == Some(Up::Credit(5)));
-    assert!(rt; linked.link.take() == Some(Up::Credit(13)));
-    assert!(rt; linked.link.take().is_none());
-    assert!(rt; linked.driver.unread() == [message_of(3)?].as_slice());
+    assert!(rt; linked.take() == Some(Up::Credit(5)));
+    assert!(rt; linked.take() == Some(Up::Credit(13)));
+    assert!(rt; linked.take().is_none());
+    assert!(rt; linked.unread() == [message_of(3)?].as_slice());
     Ok(())
 }
 
@@ -64,15 +64,15 @@ fn a_look_takes_in_all_that_the_link_shows(rt: HostRuntime) -> Result<(), Fail> 
     assert!(rt; puts(&mut linked, &[3; 22])?);
     assert!(rt; linked.driver.first().is_none());
     assert!(rt; shown(&mut linked) == Ok(Some(message_of(3)?)));
-    assert!(rt; linked.link.get().is_none());
-    let seen = linked.driver.seen();
+    assert!(rt; linked.get().is_none());
+    let seen = linked.seen();
     assert!(rt;
         seen == Seen {
             first: Some(message_of(3)?),
             count: 22
         }
     );
-    assert!(rt; linked.driver.unread().len() == 22);
+    assert!(rt; linked.unread().len() == 22);
     Ok(())
 }
 
@@ -83,14 +83,14 @@ fn after_bus_off_the_window_is_gone(rt: HostRuntime) -> Result<(), Fail> {
     assert!(rt; shown(&mut linked) == Err(Stopped));
     assert!(rt; released(&mut linked) == Err(ReleaseFault::Stopped));
     assert!(rt;
-        linked.driver.seen()
+        linked.seen()
             == Seen {
                 first: None,
                 count: 0
             }
     );
-    assert!(rt; linked.driver.unread() == [message_of(3)?, message_of(5)?].as_slice());
-    assert!(rt; linked.link.take().is_none());
+    assert!(rt; linked.unread() == [message_of(3)?, message_of(5)?].as_slice());
+    assert!(rt; linked.take().is_none());
     Ok(())
 }
 
@@ -102,8 +102,8 @@ fn a_credit_that_came_back_releases_nothing(rt: HostRuntime) -> Result<(), Fail>
         assert!(rt; linked.give(Up::Stop));
     }
     assert!(rt; released(&mut linked) == Err(ReleaseFault::Busy));
-    assert!(rt; linked.driver.unread() == [message_of(3)?].as_slice());
-    assert!(rt; linked.link.take() == Some(Up::Stop));
+    assert!(rt; linked.unread() == [message_of(3)?].as_slice());
+    assert!(rt; linked.take() == Some(Up::Stop));
     assert!(rt; released(&mut linked) == Ok(3));
     Ok(())
 }

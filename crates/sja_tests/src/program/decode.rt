@@ -1,7 +1,7 @@
 //! `decode LINE`.
 
+use super::answer::answer_to;
 use super::row::{Row, Said, Want, gives};
-use sja_run::{Output, sja_serial};
 use std::alloc::Global;
 use std::str;
 use std::test::Fail;
@@ -95,12 +95,10 @@ fn decode_answers_every_beginning_of_a_line(rt: HostRuntime) -> Result<(), Fail>
 /// Whether these words give status 0 and one line on the output, or status 1 and one line on the error output.
 pub fn gives_one_line(alloc: Global, words: &[&str]) -> bool {
     let mut input: &[u8] = &[];
-    let mut out = Output::new(Vec::new(alloc));
-    let mut err = Output::new(Vec::new(alloc));
-    let status = sja_serial(alloc, words, &mut input, &mut out, &mut err);
-    let written = out.writer.as_slice();
-    let told = err.writer.as_slice();
-    match status {
+    let answer = answer_to(alloc, words, &mut input);
+    let written = answer.written.as_slice();
+    let told = answer.told.as_slice();
+    match answer.status {
         Some(0) => is_one_line(written) && told.is_empty(),
         Some(1) => is_one_line(told) && written.is_empty(),
         _ => false,

@@ -1,7 +1,8 @@
 //! Writers that take a byte at a time, and fail at each of them: status 1, and nothing after the failed write.
 
+use super::answer::call;
 use super::runs::given::{SENT_ONCE, SENT_ONCE_REPORT};
-use sja_run::{Output, sja_serial};
+use sja_run::Output;
 use std::alloc::Global;
 use std::io::{ErrorKind, Result, Write};
 use worked_frames::{ZEROS_RECEIVED, ZEROS_SENT};
@@ -60,7 +61,7 @@ fn written(
     let mut input = plan.as_bytes();
     let mut out = Output::new(Narrow::new(writes, is_full));
     let mut err = Output::new(Narrow::new(writes, is_full));
-    let status = sja_serial(alloc, words, &mut input, &mut out, &mut err);
+    let status = call(alloc, words, &mut input, &mut out, &mut err);
     let refused = out.writer.refused.saturating_add(err.writer.refused);
     (status, out.writer.taken, err.writer.taken, refused)
 }

@@ -1,6 +1,7 @@
 //! A write that fails: status 1, whichever write it is, and nothing on the other writer.
 
-use sja_run::{Output, sja_serial};
+use super::answer::call;
+use sja_run::Output;
 use std::alloc::Global;
 use std::io::{ErrorKind, Result, Write};
 
@@ -42,25 +43,25 @@ fn status(
         left: err_writes,
         taken: 0,
     });
-    let answer = sja_serial(alloc, words, &mut input, &mut out, &mut err);
+    let answer = call(alloc, words, &mut input, &mut out, &mut err);
     (answer, out.writer.taken, err.writer.taken)
 }
 
 #[test]
 fn each_write_may_fail(rt: HostRuntime) {
     let encode = ["sja", "encode", "000000"].as_slice();
-    assert_eq!(rt; status(rt.alloc(), encode, 0, 9), (Some(1), 0, 0));
-    assert_eq!(rt; status(rt.alloc(), encode, 1, 0), (Some(0), 51, 0));
+    assert!(rt; status(rt.alloc(), encode, 0, 9) == (Some(1), 0, 0));
+    assert!(rt; status(rt.alloc(), encode, 1, 0) == (Some(0), 51, 0));
 
     // a refusal is written as `sja: `, its text and a line feed
     let refused = ["sja", "encode", "000"].as_slice();
     for (writes, bytes) in [(0, 0), (1, 5), (2, 20), (3, 21)] {
-        assert_eq!(rt; status(rt.alloc(), refused, 0, writes), (Some(1), 0, bytes));
+        assert!(rt; status(rt.alloc(), refused, 0, writes) == (Some(1), 0, bytes));
     }
 
     let unparsed = ["sja", "encode"].as_slice();
-    assert_eq!(rt; status(rt.alloc(), unparsed, 0, 0), (Some(1), 0, 0));
+    assert!(rt; status(rt.alloc(), unparsed, 0, 0) == (Some(1), 0, 0));
     let (answer, written, _) = status(rt.alloc(), unparsed, 0, 1);
-    assert_eq!(rt; answer, Some(2));
-    assert_eq!(rt; written, 0);
+    assert!(rt; answer == Some(2));
+    assert!(rt; written == 0);
 }

@@ -2,7 +2,8 @@
 //!
 //! It takes no memory of its own, so that each allocation can be made to fail under it.
 
-use sja_run::{Output, sja_serial};
+use super::answer::call;
+use sja_run::Output;
 use std::alloc::Global;
 
 /// Whether these words give this text and status 0, or the line and status 1.
@@ -12,7 +13,7 @@ fn gives_or_tells(alloc: Global, words: &[&str], text: &[u8]) -> bool {
     let mut told = [0u8; 64];
     let mut out = Output::new(written.as_mut_slice());
     let mut err = Output::new(told.as_mut_slice());
-    let status = sja_serial(alloc, words, &mut input, &mut out, &mut err);
+    let status = call(alloc, words, &mut input, &mut out, &mut err);
     let out_count = 64 - out.writer.len().min(64);
     let err_count = 64 - err.writer.len().min(64);
     let line = b"sja: out of memory\n".as_slice();

@@ -1,6 +1,6 @@
 //! A row of a table: words, and what the program writes and answers.
 
-use sja_run::{Output, sja_serial};
+use super::answer::answer_to;
 use std::alloc::Global;
 
 /// What the program gives for a row's words.
@@ -34,18 +34,17 @@ pub fn said(alloc: Global, text: &str, want: Want) -> bool {
 pub fn gives(alloc: Global, words: &[&str], want: Want) -> bool {
     let input: &[u8] = b"unread";
     let mut rest = input;
-    let mut out = Output::new(Vec::new(alloc));
-    let mut err = Output::new(Vec::new(alloc));
-    let status = sja_serial(alloc, words, &mut rest, &mut out, &mut err);
-    let written = out.writer.as_slice();
-    let told = err.writer.as_slice();
+    let answer = answer_to(alloc, words, &mut rest);
+    let status = answer.status;
+    let written = answer.written.as_slice();
+    let told = answer.told.as_slice();
     let shown = match want {
         Want::Text(text) => status == Some(0) && written == text.as_bytes() && told.is_empty(),
         Want::Line(line) => status == Some(0) && is_line(written, line) && told.is_empty(),
         Want::Refusal(line) => status == Some(1) && written.is_empty() && told == line.as_bytes(),
         Want::Usage => status == Some(2) && written.is_empty() && !told.is_empty(),
     };
-    shown && rest == input && !out.failed && !err.failed
+    shown && rest == input && !answer.failed
 }
 
 /// Whether a text is this line with a line feed after it.

@@ -1,8 +1,9 @@
 //! `run --threads`, and words that only look like it.
 
+use super::answer::answer_to;
 use super::row::{Said, Want, said};
 use super::runs::given::{released_after, with_steps};
-use sja_run::{Output, sja, sja_serial};
+use sja_run::{Output, sja};
 use std::alloc::Global;
 use std::sync::Wait;
 use std::test::Fail;
@@ -99,13 +100,11 @@ fn printed<R: Threads + Wait + Sync>(
 fn a_run_in_threads_is_left_to_another_call(rt: HostRuntime) {
     let words = ["sja", "run", "--threads"];
     let mut input: &[u8] = b"unread";
-    let mut out = Output::new(Vec::new(rt.alloc()));
-    let mut err = Output::new(Vec::new(rt.alloc()));
-    let status = sja_serial(rt.alloc(), words.as_slice(), &mut input, &mut out, &mut err);
-    assert!(rt; status.is_none());
+    let answer = answer_to(rt.alloc(), words.as_slice(), &mut input);
+    assert!(rt; answer.status.is_none());
     assert!(rt; input == b"unread".as_slice());
-    assert!(rt; out.writer.is_empty() && err.writer.is_empty());
-    assert!(rt; !out.failed && !err.failed);
+    assert!(rt; answer.written.is_empty() && answer.told.is_empty());
+    assert!(rt; !answer.failed);
 }
 
 #[test]

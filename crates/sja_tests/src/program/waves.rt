@@ -2,8 +2,8 @@
 //!
 //! The waveforms are worked out by hand from the levels of the frames and the format of value change dumps.
 
+use super::answer::answer_to;
 use super::row::{Said, Want, said};
-use sja_run::{Output, sja_serial};
 use std::alloc::Global;
 use std::test::Fail;
 use worked_frames::runs::{DECLARED, FIRST_VALUES};
@@ -52,11 +52,9 @@ const CHANGES: [(&str, usize); 8] = [
 fn waved(alloc: Global, plan: &str) -> Option<Vec<u8>> {
     let words = ["sja", "wave"];
     let mut input = plan.as_bytes();
-    let mut out = Output::new(Vec::new(alloc));
-    let mut err = Output::new(Vec::new(alloc));
-    let status = sja_serial(alloc, words.as_slice(), &mut input, &mut out, &mut err);
-    if status == Some(0) && err.writer.is_empty() && input.is_empty() {
-        Some(out.writer)
+    let answer = answer_to(alloc, words.as_slice(), &mut input);
+    if answer.status == Some(0) && answer.told.is_empty() && input.is_empty() {
+        Some(answer.written)
     } else {
         None
     }
@@ -105,9 +103,7 @@ fn wave_refuses_as_run_does(rt: HostRuntime) {
     }
     let words = ["sja", "wave"];
     let mut input = "version = 3".as_bytes();
-    let mut out = Output::new(Vec::new(rt.alloc()));
-    let mut err = Output::new(Vec::new(rt.alloc()));
-    let status = sja_serial(rt.alloc(), words.as_slice(), &mut input, &mut out, &mut err);
-    assert!(rt; status == Some(1) && out.writer.is_empty());
-    assert!(rt; err.writer.as_slice() == b"sja: plan fault 4 Key\n".as_slice());
+    let answer = answer_to(rt.alloc(), words.as_slice(), &mut input);
+    assert!(rt; answer.status == Some(1) && answer.written.is_empty());
+    assert!(rt; answer.told.as_slice() == b"sja: plan fault 4 Key\n".as_slice());
 }

@@ -1,6 +1,6 @@
 //! `run` over an input, and what the program gives.
 
-use sja_run::{Output, sja_serial};
+use crate::program::answer::answer_to;
 use std::alloc::Global;
 use std::io::Read;
 use std::str;
@@ -54,10 +54,10 @@ pub fn released_after(alloc: Global, steps: u8) -> Result<String, Fail> {
 /// Whether `run` over this input answers this status, with these texts on the output and on the error output.
 fn answers<R: Read>(alloc: Global, input: &mut R, status: u8, written: &[u8], told: &[u8]) -> bool {
     let words = ["sja", "run"];
-    let mut out = Output::new(Vec::new(alloc));
-    let mut err = Output::new(Vec::new(alloc));
-    let answer = sja_serial(alloc, words.as_slice(), input, &mut out, &mut err);
-    answer == Some(status) && out.writer.as_slice() == written && err.writer.as_slice() == told
+    let answer = answer_to(alloc, words.as_slice(), input);
+    answer.status == Some(status)
+        && answer.written.as_slice() == written
+        && answer.told.as_slice() == told
 }
 
 /// Whether `run` over this input prints this report.
@@ -80,14 +80,12 @@ pub fn reports(alloc: Global, plan: &str, report: &str) -> bool {
 pub fn ends(alloc: Global, plan: &str, end: &str) -> bool {
     let words = ["sja", "run"];
     let mut input = plan.as_bytes();
-    let mut out = Output::new(Vec::new(alloc));
-    let mut err = Output::new(Vec::new(alloc));
-    let answer = sja_serial(alloc, words.as_slice(), &mut input, &mut out, &mut err);
-    let (Some(0), Ok(report)) = (answer, str::from_utf8(&out.writer)) else {
+    let answer = answer_to(alloc, words.as_slice(), &mut input);
+    let (Some(0), Ok(report)) = (answer.status, str::from_utf8(&answer.written)) else {
         return false;
     };
     let first = report.lines().next().unwrap_or("");
-    first.ends_with(" end turns") && report.ends_with(end) && err.writer.is_empty()
+    first.ends_with(" end turns") && report.ends_with(end) && answer.told.is_empty()
 }
 
 /// Whether this plan is refused with this line.
@@ -101,13 +99,11 @@ pub fn refuses_plan(alloc: Global, plan: &str, line: &str) -> bool {
 pub fn answered(alloc: Global, bytes: &[u8]) -> bool {
     let words = ["sja", "run"];
     let mut input = bytes;
-    let mut out = Output::new(Vec::new(alloc));
-    let mut err = Output::new(Vec::new(alloc));
-    let answer = sja_serial(alloc, words.as_slice(), &mut input, &mut out, &mut err);
-    let told = err.writer.as_slice();
-    match answer {
-        Some(0) => !out.writer.is_empty() && told.is_empty(),
-        Some(1) => out.writer.is_empty() && is_one_line(told),
+    let answer = answer_to(alloc, words.as_slice(), &mut input);
+    let told = answer.told.as_slice();
+    match answer.status {
+        Some(0) => !answer.written.is_empty() && told.is_empty(),
+        Some(1) => answer.written.is_empty() && is_one_line(told),
         _ => false,
     }
 }

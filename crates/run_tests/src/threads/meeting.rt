@@ -100,8 +100,8 @@ fn two_gates_meet(rt: HostRuntime) -> Result<(), Fail> {
     let gates = two_gates(rt.alloc(), first, first)?;
     let log = run(&rt, rt.alloc(), EXCHANGING, gates)?;
     assert!(rt; log.end() == End::Rest);
-    assert_eq!(rt; counts(&log, 0)?, (6, 1, 0));
-    assert_eq!(rt; counts(&log, 1)?, (6, 1, 0));
+    assert!(rt; counts(&log, 0)? == (6, 1, 0));
+    assert!(rt; counts(&log, 1)? == (6, 1, 0));
     Ok(())
 }
 
@@ -116,9 +116,9 @@ fn credits_come_back(rt: HostRuntime) -> Result<(), Fail> {
     let gates = two_gates(rt.alloc(), first, NONE)?;
     let log = run(&rt, rt.alloc(), plan.as_str(), gates)?;
     assert!(rt; log.end() == End::Rest);
-    assert_eq!(rt; log.bits(), 11 + 22 * 53);
-    assert_eq!(rt; counts(&log, 0)?, (67, 0, 0));
-    assert_eq!(rt; counts(&log, 1)?, (24, 21, 1));
+    assert!(rt; log.bits() == 11 + 22 * 53);
+    assert!(rt; counts(&log, 0)? == (67, 0, 0));
+    assert!(rt; counts(&log, 1)? == (24, 21, 1));
     let line = "activation 1 stored 22 overrun 0 free 61";
     assert!(rt; tells(rt.alloc(), &log, line)?);
     Ok(())
@@ -132,9 +132,9 @@ fn a_full_buffer_is_emptied_again_and_again(rt: HostRuntime) -> Result<(), Fail>
     let gates = two_gates(rt.alloc(), [(17, 8), (32, 14), (47, 20)], NONE)?;
     let log = run(&rt, rt.alloc(), plan.as_str(), gates)?;
     assert!(rt; log.end() == End::Rest);
-    assert_eq!(rt; log.bits(), 11 + 4 * (4 * 150 + 140));
-    assert_eq!(rt; counts(&log, 0)?, (61, 0, 0));
-    assert_eq!(rt; counts(&log, 1)?, (25, 20, 0));
+    assert!(rt; log.bits() == 11 + 4 * (4 * 150 + 140));
+    assert!(rt; counts(&log, 0)? == (61, 0, 0));
+    assert!(rt; counts(&log, 1)? == (25, 20, 0));
     let line = "activation 1 stored 20 overrun 0 free 64";
     assert!(rt; tells(rt.alloc(), &log, line)?);
     Ok(())

@@ -1,7 +1,7 @@
 use Rattle.std.proofs.Common.{◌≡◌, ◌+◌, ◌≤◌, ℕ, length, ◌∙◌, sym, subst, arith, rules}
 use Rattle.sja_link.specs.Deques.{Deques}
 use Rattle.sja_driver.specs.Holding.{Numbered}
-use Rattle.driver_tests.proofs.drivers.given.scripted.Goals as goal
+use Rattle.controller_tests.proofs.drivers.given.scripted.Goals as goal
 
 pub tried-requires : goal.tried-requires
 tried-requires c =

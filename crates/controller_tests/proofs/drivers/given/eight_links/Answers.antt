@@ -1,7 +1,7 @@
 use Rattle.std.proofs.Common.{◌≡◌}
 use Rattle.sja_link.specs.Deques.{Deques}
-use Rattle.driver_tests.proofs.Scripting.{numbered_eight}
-use Rattle.driver_tests.proofs.drivers.given.eight_links.Goals as goal
+use Rattle.controller_tests.proofs.Scripting.{numbered_eight}
+use Rattle.controller_tests.proofs.drivers.given.eight_links.Goals as goal
 
 pub returns : goal.returns
 returns c = numbered_eight (λ (s : Deques). s.link) 1 _ _ _ _ _ _ _ _ c.in_ok-first.ensures c.in_ok-link_of.ensures

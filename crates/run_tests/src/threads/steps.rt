@@ -15,8 +15,8 @@ fn a_gate_that_quits_ends_the_script(rt: HostRuntime) -> Result<(), Fail> {
     let worked = drive(&rt, rt.alloc(), links, &port, &WAITS, gate)?;
     answers(&worked, &[StepAnswer::Done])?;
     assert!(rt; port.lock(&rt).orders().ended);
-    assert_eq!(rt; worked.driver.activation(), 1);
-    assert_eq!(rt; worked.links.len(), 8);
+    assert!(rt; worked.driver.activation() == 1);
+    assert!(rt; worked.links.len() == 8);
     Ok(())
 }
 
@@ -41,7 +41,7 @@ fn steps_are_counted_from_1(rt: HostRuntime) -> Result<(), Fail> {
     let steps = [Step::Start, Step::Window, Step::Stop];
     let worked = drive(&rt, rt.alloc(), links, &port, &steps, HoldsOnce { last: 2 })?;
     answers(&worked, &[StepAnswer::Done, StepAnswer::NoMessage])?;
-    assert_eq!(rt; worked.driver.activation(), 1);
+    assert!(rt; worked.driver.activation() == 1);
     Ok(())
 }
 
@@ -61,6 +61,6 @@ fn a_script_without_steps_only_ends(rt: HostRuntime) -> Result<(), Fail> {
     let worked = drive(&rt, rt.alloc(), links, &port, &[], Open)?;
     answers(&worked, &[])?;
     assert!(rt; port.lock(&rt).orders().ended);
-    assert_eq!(rt; worked.driver.activation(), 0);
+    assert!(rt; worked.driver.activation() == 0);
     Ok(())
 }

@@ -81,7 +81,7 @@ fn a_message_goes_from_thread_to_thread(rt: HostRuntime) -> Result<(), Fail> {
         ],
     )?;
     let released = worked.driver.log().released();
-    assert_eq!(rt; released.len(), 1);
+    assert!(rt; released.len() == 1);
     assert!(rt; port.lock(&rt).orders().ended);
     Ok(())
 }

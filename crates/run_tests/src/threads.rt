@@ -1,0 +1,8 @@
+//! Drivers in threads of their own, and a bus whose ports stand behind their locks, over links of two rings.
+
+mod gates;
+mod given;
+mod meeting;
+mod passing;
+mod runs;
+mod steps;
