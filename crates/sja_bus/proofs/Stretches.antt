@@ -1,8 +1,8 @@
 -- Bits in which every node is at rest.
-use Rattle.std.proofs.Common.{◌≡◌, ℕ, zero, suc, ◌+◌, ◌<◌, ◌≤◌, Bool, false, cond, List, [], ◌∷◌, ◌++◌, length, refl, sym, ap, ◌∙◌, subst, arith}
-use Rattle.std.specs.Prelude.{slice_index_or, slice_set, ◌↔◌}
+use Rattle.std.proofs.Common.{◌≡◌, ℕ, zero, suc, ◌+◌, ◌<◌, ◌≤◌, Bool, false, cond, List, [], ◌∷◌, ◌++◌, length, min, refl, sym, ap, ◌∙◌, subst, arith, inl, inr}
+use Rattle.std.specs.Prelude.{slice_index_or, slice_set, ◌↔◌, ◌⊎◌}
 use Rattle.std.specs.Int.{bit_at}
-use Rattle.std.proofs.lemmas.Bool.{ne_eqb}
+use Rattle.std.proofs.lemmas.Bool.{ne_eqb, cases_eq}
 use Rattle.std.proofs.lemmas.List.{length-map, get_or-set_same as set_here, get_or_default as or_same}
 use Rattle.std.proofs.lemmas.Nat.Bits.{bit_at-zero}
 use Rattle.can_bits.specs.declared.level.Level.{Level}
@@ -21,8 +21,9 @@ use Rattle.sja_bus.specs.Wire.{wired, IsWired}
 use Rattle.sja_bus.specs.Reasons.{room_for}
 use Rattle.sja_bus.specs.declared.bus_fault.BusFault.{BusFault}
 use Rattle.sja_bus.specs.declared.bus_fault.BusFault.TheVariants.{JournalFull}
-use Rattle.sja_bus.specs.Buses.{untold_at, IsBit}
-use Rattle.sja_bus.specs.Stretches.{recessive_bits, with_recessive, IsStretch, IsOutOfEntries}
+use Rattle.sja_bus.specs.Buses.{BusValue, untold_at, IsBit}
+use Rattle.sja_bus.specs.Stretches.{recessive_bits, with_recessive, IsStretch, EndsStretch, IsOutOfEntries}
+use Rattle.sja_bus.specs.Stretches.EndsStretch.{asked_for, spent, struck}
 use Rattle.sja_bus.specs.Inside.Turning.{is_untold, Turns}
 use Rattle.sja_bus.specs.Inside.Rows.{IsOf, AreReady, Done, AreCalm, journals_of, untold_of, driven_by, seen_by, IsBus, SeatOpens, SeatOpensNews, SeatTurns}
 use Rattle.sja_bus.specs.Inside.Whole.{IsRowBit}
@@ -173,6 +174,24 @@ module _ (orders_are : ℕ → Orders → Type 0) (was_told : ℕ → BusTurn �
         told_by (s ∷ xs) e node few =
             let cs = count_is seats in let near : node < length seats = omega (arith, few, cs) in
             untold_is seats node s near ∙ ap is_untold (rest.each node s near).none
+
+-- ---- why they aren't more
+
+-- as many as strike no node, of those that were asked for and are left
+pub ends_quiet : (count n most bits : ℕ) (was now : BusValue) → now.script ≡ was.script → now.run ≡ was.run + n → now.left + n ≡ was.left →
+    was.run + was.left ≡ bits → most ≡ min count was.left →
+    (n ≡ most) ⊎ (was.run + n ≡ bits) ⊎ ((node : ℕ) × (node < 8) × Strikes was.script (was.run + n) node) → EndsStretch count n now
+ends_quiet count n most bits was now script run left whole least longest = elim longest [
+  | inl all ↦ elim (cases_eq n count) [
+    | inl same ↦ asked_for same
+    | inr other ↦ spent (omega (arith, all, least, left, other))
+  ]
+  | inr more ↦ elim more [
+    | inl end ↦ spent (omega (arith, end, whole, left))
+    | inr hit ↦ struck hit.0 hit.1
+        (subst (λ (l : List Strike). Strikes l now.run hit.0) (sym script) (subst (λ (r : ℕ). Strikes was.script r hit.0) (sym run) hit.2))
+  ]
+]
 
 -- ---- no entry was free
 

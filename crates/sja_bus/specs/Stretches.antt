@@ -1,18 +1,21 @@
 -- Bits that are run at once, in each of which every node is at rest (this project's own rule).
-use Rattle.std.specs.Prelude.{◌≡◌, ◌+◌, ◌<◌, ◌≤◌, ℕ, suc, Bool, false, List, ◌++◌, length, map, replicate}
+use Rattle.std.specs.Prelude.{◌≡◌, ◌+◌, ◌<◌, ◌≤◌, ℕ, suc, Bool, true, false, List, ◌++◌, length, map, replicate}
 use Rattle.can_bits.specs.declared.level.Level.TheVariants.{Recessive}
 use Rattle.sja_link.specs.declared.entry.Entry.{Entry}
 use Rattle.sja_link.specs.declared.entry.Entry.TheVariants.{Bit}
 use Rattle.sja_link.specs.Lists.{Lists}
+use Rattle.sja_link.specs.Records.{record_of}
 use Rattle.sja_script.specs.declared.strike.Strike.{Strike}
+use Rattle.sja_script.specs.Striking.{Strikes}
 use Rattle.sja_regs.specs.declared.orders.Orders.{Orders}
 use Rattle.sja_regs.specs.declared.bus_turn.BusTurn.{BusTurn}
 use Rattle.sja_bus.specs.declared.bus_fault.BusFault.{BusFault}
 use Rattle.sja_bus.specs.declared.bus_fault.BusFault.TheVariants.{JournalFull}
 use Rattle.sja_bus.specs.Wire.{journal_at}
 use Rattle.sja_bus.specs.OneBit.{HasItems}
-use Rattle.sja_bus.specs.Buses.{EachJournal, KeepsAll, untold_at, IsBit}
+use Rattle.sja_bus.specs.Buses.{BusValue, EachJournal, KeepsAll, untold_at, IsBit}
 use Rattle.sja_bus.specs.Reasons.{room_for}
+use Rattle.sja_bus.specs.Resting.{RestsAs}
 
 -- the entries of so many bits that were driven and seen recessive
 abbrev pub recessive_bits : ℕ → List Entry
@@ -31,6 +34,17 @@ pub record IsStretch (orders_are : ℕ → Orders → Type 0) (was_told : ℕ �
   pub bits : (i : ℕ) → i < count →
       IsBit orders_are was_told was_kept script (run + i) untold (with_recessive i before)
       (with_recessive (suc i) before)
+
+-- why so many bits were run at once, of so many that were asked for, and no more of them, where this is the bus after
+-- them: no more were asked for, or are left; or the script strikes one of eight nodes in the next bit; or of a node
+-- something is untold, or it isn't at rest
+pub data EndsStretch (count n : ℕ) (now : BusValue) : Type 0 where
+  asked_for : n ≡ count → EndsStretch count n now
+  spent : now.left ≡ 0 → EndsStretch count n now
+  struck : (node : ℕ) → node < 8 → Strikes now.script now.run node → EndsStretch count n now
+  untold : (node : ℕ) → node < length now.journals → untold_at now.untold node ≡ true → EndsStretch count n now
+  busy : (node : ℕ) → node < length now.journals → RestsAs (record_of (journal_at now.journals node)) false →
+      EndsStretch count n now
 
 -- with this fault the reserved entries of a node's journal, for a run of so many bits, are used: it has fewer recessive
 -- bits more than there are left, and nothing else

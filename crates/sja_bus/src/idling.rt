@@ -1,7 +1,7 @@
 //! Bits in which every node of a bus is at rest.
 
-ghost use Rattle.std.specs.Prelude.{◌≡◌, ◌≤◌, true, length, OnOk, IfErr};
-ghost use Rattle.sja_bus.specs.Inside.Idling.{AreResting, all_after, IsFullBy};
+ghost use Rattle.std.specs.Prelude.{◌≡◌, ◌≤◌, true, false, length, OnOk, IfErr};
+ghost use Rattle.sja_bus.specs.Inside.Idling.{AreResting, IsOneAwake, all_after, IsFullBy};
 ghost use Rattle.sja_bus.specs.Inside.Rows.{AreReady};
 
 use super::board::Board;
@@ -11,15 +11,18 @@ use super::seat::Seat;
 use can_bits::Level;
 
 impl Seat {
-    ghost use Rattle.std.specs.Prelude.{◌≡◌, true, OnOk, IfErr};
-    ghost use Rattle.sja_bus.specs.Inside.Idling.{IsResting, IsFullAfter, after_bits};
+    ghost use Rattle.std.specs.Prelude.{◌≡◌, true, false, OnOk, IfErr};
+    ghost use Rattle.sja_bus.specs.Inside.Idling.{IsResting, IsAwake, IsFullAfter, after_bits};
+    ghost use Rattle.sja_bus.specs.Inside.Seats.{IsReady};
 
     /// Whether the node is at rest, and its port is told all.
     fn is_resting(&self) -> bool
-        ensures { result ≡ true → IsResting self.now }
+        requires { IsReady self.now }
+        ensures yes { result ≡ true → IsResting self.now }
+        ensures no { result ≡ false → IsAwake self.now }
     {
         match self.news {
-            News::Nothing => self.drives.is_recessive() && self.node.at_rest(),
+            News::Nothing => self.node.at_rest(),
             _ => false,
         }
     }
@@ -41,7 +44,8 @@ impl Seat {
 pub(crate) fn are_resting<B: Board>(seats: &[Seat], board: &B) -> bool
     requires ready { AreReady seats.now }
     requires ports { length seats.now ≤ B.ports board.now }
-    ensures { result ≡ true → AreResting (B.orders_are board.now) seats.now }
+    ensures yes { result ≡ true → AreResting (B.orders_are board.now) seats.now }
+    ensures no { result ≡ false → IsOneAwake seats.now }
 {
     for k in 0..seats.len() {
         if !seats[k].is_resting() {

@@ -14,7 +14,7 @@ impl Bus {
     ghost use Rattle.sja_bus.specs.OneBit.{HasItems};
     ghost use Rattle.sja_bus.specs.Buses.{EachJournal, EachUntold, KeepsAll, AllDry, AllTold};
     ghost use Rattle.sja_bus.specs.Reasons.{IsNotTaken};
-    ghost use Rattle.sja_bus.specs.Stretches.{IsStretch, IsOutOfEntries, IsFullInStretch};
+    ghost use Rattle.sja_bus.specs.Stretches.{IsStretch, EndsStretch, IsOutOfEntries, IsFullInStretch};
     ghost use Rattle.sja_bus.specs.Inside.AtOnce.{RunsAtOnce};
 
     /// Runs bits at once as far as it can: nothing waits on any link.
@@ -24,6 +24,7 @@ impl Bus {
         ensures script { self.new.script ≡ self.old.script }
         ensures nodes { length self.new.journals ≡ length self.old.journals }
         ensures runs { IfOk result (λ n. RunsAtOnce B.Board board.now count self.old self.new n) }
+        ensures longest { IfOk result (λ n. EndsStretch count n self.new) }
         ensures fault { IfErr result (λ f. self.new.fault ≡ Some f) }
         ensures reason { IfErr result (λ f.
             IsOutOfEntries (self.old.run + self.old.left) self.old.left self.old.journals self.new.journals f) }
@@ -75,6 +76,7 @@ impl Bus {
         ensures stretch { IfOk result (λ n. n ≢ 0 → IsStretch (B.orders_are board.now) (B.told board.now board.now)
             (B.kept board.now board.now) self.old.script self.old.run n self.old.untold
             self.old.journals self.new.journals) }
+        ensures longest { IfOk result (λ n. EndsStretch count n self.new) }
         ensures told { IfOk result (λ n. n ≢ 0 → AllTold (length self.old.journals) self.new.untold) }
         ensures right { OnOk result (self.new.fault ≡ None) }
         ensures fault { IfErr result (λ f. self.new.fault ≡ Some f) }

@@ -1,5 +1,5 @@
 -- Controllers at rest, and bits in which they stay so.
-use Rattle.std.specs.Prelude.{◌≡◌, ◌≤◌, ◌<◌, ℕ, true, List, ◌++◌, length, map, slice_index_or}
+use Rattle.std.specs.Prelude.{◌≡◌, ◌≢◌, ◌⊎◌, ◌≤◌, ◌<◌, ℕ, true, false, List, ◌++◌, length, map, slice_index_or}
 use Rattle.can_bits.specs.declared.level.Level.TheVariants.{Recessive}
 use Rattle.can_node.specs.Stands.{ShowsRest}
 use Rattle.sja_link.specs.BusLedgers.{link_of}
@@ -16,10 +16,18 @@ pub record IsResting (s : Seat) : Type 0 where
   pub drives : s.drives ≡ Recessive
   pub rests : ShowsRest s.node true
 
--- each of them is, and its port has orders
+-- something is to be told of the node, or it isn't at rest
+abbrev pub IsAwake : Seat → Type 0
+IsAwake s = (s.news ≢ Nothing) ⊎ ShowsRest s.node false
+
+-- each of them is at rest, with nothing to be told, and its port has orders
 pub record AreResting (orders_are : ℕ → Orders → Type 0) (seats : List Seat) : Type 0 where
   pub each : (k : ℕ) (s : Seat) → k < length seats → IsResting (slice_index_or seats k s)
   pub orders : (k : ℕ) → k < length seats → (o : Orders) × orders_are k o
+
+-- one of them isn't
+abbrev pub IsOneAwake : List Seat → Type 0
+IsOneAwake seats = (k : ℕ) × (k < length seats) × ((s : Seat) → IsAwake (slice_index_or seats k s))
 
 -- a seat after so many recessive bits that changed nothing but its journal, and all of them
 abbrev pub after_bits : ℕ → Seat → Seat

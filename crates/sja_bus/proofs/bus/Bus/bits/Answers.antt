@@ -1,6 +1,5 @@
 use Rattle.std.proofs.Common.{◌≡◌, ◌+◌, ◌-◌, None, arith, rules}
 use Rattle.std.specs.Prelude.{Err}
-use Rattle.sja_link.proofs.Related.{each_refl}
 use Rattle.sja_bus.specs.declared.bus_fault.BusFault.{BusFault}
 use Rattle.sja_bus.specs.Several.{moment, Keeps, OneBit, WorksIf, StopsBits}
 use Rattle.sja_bus.specs.Inside.RunningOn.{IsSoFar}

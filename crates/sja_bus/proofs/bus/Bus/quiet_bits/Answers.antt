@@ -41,6 +41,9 @@ returns-clause-told g c =
     let T : ℕ → Type 0 = λ nodes. AllTold nodes c.rest.new.self.untold in
     each_count c.rest.result (λ n h ne. subst T c.gather.ensures.nodes (h.told ne)) c.rest.ensures.runs
 
+pub returns-clause-longest : goal.returns-clause-longest
+returns-clause-longest g c = c.rest.ensures.longest
+
 pub returns-clause-right : goal.returns-clause-right
 returns-clause-right g c = each_count c.rest.result (λ n h. h.right) c.rest.ensures.runs
 

@@ -1,19 +1,21 @@
-use Rattle.std.proofs.Common.{◌≡◌, ◌≢◌, ◌+◌, ◌-◌, ◌≤◌, true, false, replicate, None, List, ◌++◌, length, take, drop, sym, ap, ◌∙◌, subst, arith, rules, refl, ℕ}
+use Rattle.std.proofs.Common.{◌≡◌, ◌≢◌, ◌+◌, ◌-◌, ◌<◌, ◌≤◌, true, false, replicate, None, List, ◌++◌, length, take, drop, sym, ap, ◌∙◌, subst, arith, rules, refl, ℕ}
 use Rattle.std.proofs.lemmas.Grind.{common_steps}
-use Rattle.std.specs.Prelude.{vec_capacity}
+use Rattle.std.specs.Prelude.{◌⊎◌, vec_capacity}
 use Rattle.sja_bus.specs.declared.seat.Seat.{Seat}
 use Rattle.sja_bus.specs.Buses.{BusValue}
-use Rattle.sja_bus.specs.Stretches.{IsStretch, IsOutOfEntries}
+use Rattle.sja_script.specs.Striking.{Strikes}
+use Rattle.sja_bus.specs.Stretches.{IsStretch, EndsStretch, IsOutOfEntries}
 use Rattle.sja_bus.specs.Inside.Rows.{journals_of, untold_of, IsBus}
 use Rattle.sja_bus.specs.Inside.Whole.{IsWhole}
 use Rattle.sja_bus.specs.Inside.AtOnce.{RunsAtOnce}
-use Rattle.sja_bus.specs.Inside.Idling.{AreResting, IsFullBy, all_after}
+use Rattle.sja_bus.specs.Inside.Idling.{AreResting, IsOneAwake, IsFullBy, all_after}
 use Rattle.sja_bus.specs.Inside.Refusing.{HaveRoom}
 use Rattle.sja_bus.specs.Reasons.{room_for}
 use Rattle.sja_bus.proofs.Logs.{none_untold}
 use Rattle.sja_bus.proofs.Running.{count_is}
-use Rattle.sja_bus.proofs.Stretches.{after_untold, room_after, bus_after, stretch_after, out_of_entries}
-use Rattle.sja_bus.proofs.bus.Bus.rest.Goals.{After-rest_all, In-Ok}
+use Rattle.sja_bus.proofs.Rests.{ends_awake}
+use Rattle.sja_bus.proofs.Stretches.{after_untold, room_after, bus_after, stretch_after, ends_quiet, out_of_entries}
+use Rattle.sja_bus.proofs.bus.Bus.rest.Goals.{After-rest_all, In-Ok, then-bits-eq0-via-then-bits-eq0, then-bits-eq0-via-else-bits-eq0+then-not-are_resting}
 use Rattle.sja_bus.proofs.bus.Bus.rest.Goals as goal
 
 -- as many seats as before
@@ -34,7 +36,7 @@ rested : (g : _) (c : After-rest_all g) → AreResting (g.B.Board.orders_are c.a
 rested g c =
     let yes : c.are_resting.result ≡ true = search rules in
     let R : List Seat → Type 0 = λ l. AreResting (g.B.Board.orders_are c.args.board.now) l in
-    subst R c.as_slice.ensures.value (c.are_resting.ensures yes)
+    subst R c.as_slice.ensures.value (c.are_resting.ensures.yes yes)
 
 -- each seat has that many recessive bits more
 grown : (g : _) (c : In-Ok g) → c.rest_all.new.seats ≡ all_after c.quiet_for-bits.result c.self.inside.seats.items
@@ -105,6 +107,48 @@ returns-in-Ok-clause-runs g c =
     let Q : List Seat → Type 0 = λ l.
     RunsAtOnce g.B.Board board c.args.count c.args.self.now (V (b.run + n) (b.left - n) l) n in
     subst Q (sym (are_back g at)) (subst P c.self.view_is r)
+
+pub returns-then-bits-eq0-clause-longest : goal.returns-then-bits-eq0-clause-longest
+returns-then-bits-eq0-clause-longest g c =
+    let b = c.self.inside in let inv = c.self.invariant.0 in let count = c.args.count in let was = b.seats.items in
+    let right : b.fault ≡ None = ap (λ (w : BusValue). w.fault) c.self.view_is ∙ c.requires.right in
+    let v : BusValue = record {
+      script = b.struck.script;
+      run = b.run;
+      left = b.left;
+      fault = b.fault;
+      journals = journals_of was;
+      untold = untold_of was;
+    } in
+    let h : EndsStretch count 0 v = elim c.then-bits-eq0.branch [
+      | then-bits-eq0-via-then-bits-eq0 w ↦
+          let zero : c.quiet_for-bits.result ≡ 0 = search rules in
+          let L : ℕ → Type 0 = λ n. (n ≡ c.min.result) ⊎ (b.run + n ≡ b.struck.bits)
+          ⊎ ((node : ℕ) × (node < 8) × Strikes b.struck.script (b.run + n) node) in
+          let none : b.run ≡ b.run + 0 = omega arith in let all : b.left + 0 ≡ b.left = omega arith in
+          ends_quiet count 0 c.min.result b.struck.bits v v refl none all inv.bits c.min.ensures
+          (subst L zero c.quiet_for-bits.ensures.longest)
+      | then-bits-eq0-via-else-bits-eq0+then-not-are_resting w ↦
+          let no : w.are_resting.result ≡ false = search rules in
+          ends_awake count 0 v was refl refl (inv.bus right).ready
+          (subst (λ (l : List Seat). IsOneAwake l) w.as_slice.ensures.value (w.are_resting.ensures.no no))
+    ] in
+    subst (λ (x : BusValue). EndsStretch count 0 x) c.self.view_is h
+
+pub returns-in-Ok-clause-longest : goal.returns-in-Ok-clause-longest
+returns-in-Ok-clause-longest g c =
+    let b = c.self.inside in let n = c.quiet_for-bits.result in let was = b.seats.items in
+    let quiet = c.quiet_for-bits.ensures.most in let min = c.min.ensures in
+    let v : ℕ → ℕ → List Seat → BusValue = λ run left l. record {
+      script = b.struck.script;
+      run = run;
+      left = left;
+      fault = b.fault;
+      journals = journals_of l;
+      untold = untold_of l;
+    } in
+    ends_quiet c.args.count n c.min.result b.struck.bits (v b.run b.left was) (v (b.run + n) (b.left - n) _) refl refl
+    (omega (arith, quiet, min)) c.self.invariant.0.bits min c.quiet_for-bits.ensures.longest
 
 pub returns-in-Err-clause-reason : goal.returns-in-Err-clause-reason
 returns-in-Err-clause-reason g c =

@@ -1,7 +1,7 @@
 use Rattle.std.proofs.Common.{◌≡◌, suc, ◌+◌, ◌<◌, ◌≤◌, length, rules, arith, refl, sym, ap, ◌∙◌, inl}
 use Rattle.std.specs.Prelude.{Err, slice_set}
 use Rattle.sja_link.specs.BusLedgers.{link_of}
-use Rattle.sja_link.proofs.Related.{each_at, each_trans, each_one}
+use Rattle.sja_link.proofs.Related.{each_at}
 use Rattle.sja_bus.specs.Reasons.{RefusesItem}
 use Rattle.sja_bus.proofs.Results.{err_is}
 use Rattle.sja_bus.proofs.AtLinks.{stays_refl, stays_trans, stays_one}

@@ -1,13 +1,16 @@
-use Rattle.std.proofs.Common.{Bool, sym, ◌∙◌, subst}
-use Rattle.can_bits.proofs.Values.{recessive_by}
+use Rattle.std.proofs.Common.{Bool, true, subst, inr}
 use Rattle.can_node.specs.Stands.{ShowsRest}
+use Rattle.sja_bus.proofs.Rests.{rest_recessive}
 use Rattle.sja_bus.proofs.seat.Seat.is_resting.Goals as goal
 
-pub returns-then-is_recessive : goal.returns-then-is_recessive
-returns-then-is_recessive c = λ rests.
-    let s = c.args.self.now in
-    let P : Bool → Type 0 = λ b. ShowsRest s.node b in record {
+pub returns-in-Nothing-clause-yes : goal.returns-in-Nothing-clause-yes
+returns-in-Nothing-clause-yes c = λ yes.
+    let s = c.args.self.now in let here = c.requires in
+    let rests : ShowsRest s.node true = subst (λ (b : Bool). ShowsRest s.node b) yes c.at_rest.ensures in record {
       none = c.in-Nothing.is;
-      drives = recessive_by s.drives (sym c.is_recessive.ensures ∙ c.if-is_recessive.true);
-      rests = subst P rests c.at_rest.ensures;
+      drives = rest_recessive s.node s.journal.entries s.drives here.sound.follows rests here.drives;
+      rests = rests;
     }
+
+pub returns-in-Nothing-clause-no : goal.returns-in-Nothing-clause-no
+returns-in-Nothing-clause-no c = λ no. inr (subst (λ (b : Bool). ShowsRest c.args.self.now.node b) no c.at_rest.ensures)
