@@ -12,6 +12,7 @@ use Rattle.sja_bus.specs.Inside.Idling.{AreResting, IsOneAwake, IsFullBy, all_af
 use Rattle.sja_bus.specs.Inside.Refusing.{HaveRoom}
 use Rattle.sja_bus.specs.Reasons.{room_for}
 use Rattle.sja_bus.proofs.Logs.{none_untold}
+use Rattle.sja_bus.proofs.RanOn.{bus_with}
 use Rattle.sja_bus.proofs.Running.{count_is}
 use Rattle.sja_bus.proofs.Rests.{ends_awake}
 use Rattle.sja_bus.proofs.Stretches.{after_untold, room_after, bus_after, stretch_after, ends_quiet, out_of_entries}
@@ -85,14 +86,7 @@ returns-in-Ok-clause-runs g c =
     IsStretch orders told kept b.struck.script b.run n (untold_of was) (journals_of was) (journals_of l) in
     let none : untold_of was ≡ replicate (length was) false =
     none_untold was (λ k s few. (rest.each k s few).none) in
-    let V : ℕ → ℕ → List Seat → BusValue = λ run left l. record {
-      script = b.struck.script;
-      run = run;
-      left = left;
-      fault = b.fault;
-      journals = journals_of l;
-      untold = untold_of l;
-    } in
+    let V : ℕ → ℕ → List Seat → BusValue = λ run left l. bus_with b.struck.script run left b.fault l in
     let r : RunsAtOnce g.B.Board board c.args.count (V b.run b.left was) (V (b.run + n) (b.left - n) now) n = record {
       most = omega (arith, quiet, min);
       bits = (refl, omega (arith, quiet, min));
@@ -112,14 +106,7 @@ pub returns-then-bits-eq0-clause-longest : goal.returns-then-bits-eq0-clause-lon
 returns-then-bits-eq0-clause-longest g c =
     let b = c.self.inside in let inv = c.self.invariant.0 in let count = c.args.count in let was = b.seats.items in
     let right : b.fault ≡ None = ap (λ (w : BusValue). w.fault) c.self.view_is ∙ c.requires.right in
-    let v : BusValue = record {
-      script = b.struck.script;
-      run = b.run;
-      left = b.left;
-      fault = b.fault;
-      journals = journals_of was;
-      untold = untold_of was;
-    } in
+    let v : BusValue = bus_with b.struck.script b.run b.left b.fault was in
     let h : EndsStretch count 0 v = elim c.then-bits-eq0.branch [
       | then-bits-eq0-via-then-bits-eq0 w ↦
           let zero : c.quiet_for-bits.result ≡ 0 = search rules in
@@ -139,14 +126,7 @@ pub returns-in-Ok-clause-longest : goal.returns-in-Ok-clause-longest
 returns-in-Ok-clause-longest g c =
     let b = c.self.inside in let n = c.quiet_for-bits.result in let was = b.seats.items in
     let quiet = c.quiet_for-bits.ensures.most in let min = c.min.ensures in
-    let v : ℕ → ℕ → List Seat → BusValue = λ run left l. record {
-      script = b.struck.script;
-      run = run;
-      left = left;
-      fault = b.fault;
-      journals = journals_of l;
-      untold = untold_of l;
-    } in
+    let v : ℕ → ℕ → List Seat → BusValue = λ run left l. bus_with b.struck.script run left b.fault l in
     ends_quiet c.args.count n c.min.result b.struck.bits (v b.run b.left was) (v (b.run + n) (b.left - n) _) refl refl
     (omega (arith, quiet, min)) c.self.invariant.0.bits min c.quiet_for-bits.ensures.longest
 
