@@ -11,7 +11,7 @@ use Rattle.sja_regs.specs.declared.register.Register.TheVariants.{AcceptanceMask
 use Rattle.sja_regs.specs.declared.reg_fault.RegFault.{RegFault}
 use Rattle.sja_regs.specs.declared.reg_fault.RegFault.TheVariants.{ResetOnly}
 use Rattle.sja_regs.specs.declared.registers.Registers.{Registers}
-use Rattle.sja_regs.specs.Registers.{error_causes, after_leaving_reset}
+use Rattle.sja_regs.specs.Registers.{error_causes, after_leaving_reset, after_entering_reset}
 use Rattle.sja_regs.specs.Interrupting.{no_interrupt}
 use Rattle.sja_regs.specs.Captures.{after_capture}
 use Rattle.sja_regs.specs.Refusals.{first_fault}
@@ -19,7 +19,7 @@ use Rattle.sja_regs.specs.Reading.{after_reading}
 use Rattle.sja_regs.specs.Writing.{write_faults, after_writing, load_faults, after_loading}
 use Rattle.sja_regs.specs.Commands.{requests, command_faults, after_command}
 use Rattle.sja_regs.specs.Calls.{Call, Turn, Read, Write, Load, Give, LeaveReset}
-use Rattle.sja_regs.specs.Calls.{EnterReset, Close, Finish, unless_refused, after_call}
+use Rattle.sja_regs.specs.Calls.{EnterReset, Restore, Close, Finish, unless_refused, after_call}
 use Rattle.sja_regs.specs.Histories.{IsNoRequest, lost_by, fault_by, either, both, causes_by, releases}
 
 -- a refused call keeps what a call keeps that is done
@@ -98,6 +98,8 @@ alc_by p (Load m) h = unless_keeps (λ q. q.alc) (first_fault (load_faults p)) p
 alc_by p (Give c) h = unless_keeps (λ q. q.alc) (first_fault (command_faults p c)) p (after_command p c) refl
 alc_by p LeaveReset h = leaving_keeps (λ q. q.alc) p.mode.rm p (after_leaving_reset p) refl
 alc_by p EnterReset h = refl
+alc_by p (Restore s) h =
+    leaving_keeps (λ q. q.alc) (s.mode.rm && not p.mode.rm) p (after_entering_reset p) refl
 alc_by p Close h = refl
 alc_by p Finish h = refl
 
@@ -113,6 +115,8 @@ ecc_by p (Load m) h = unless_keeps (λ q. q.ecc) (first_fault (load_faults p)) p
 ecc_by p (Give c) h = unless_keeps (λ q. q.ecc) (first_fault (command_faults p c)) p (after_command p c) refl
 ecc_by p LeaveReset h = leaving_keeps (λ q. q.ecc) p.mode.rm p (after_leaving_reset p) refl
 ecc_by p EnterReset h = refl
+ecc_by p (Restore s) h =
+    leaving_keeps (λ q. q.ecc) (s.mode.rm && not p.mode.rm) p (after_entering_reset p) refl
 ecc_by p Close h = refl
 ecc_by p Finish h = refl
 
@@ -156,6 +160,8 @@ pending_by p (Load m) h = unless_keeps (λ q. q.pending) (first_fault (load_faul
 pending_by p (Give c) h = unless_keeps (λ q. q.pending) (first_fault (command_faults p c)) p (after_command p c) refl
 pending_by p LeaveReset h = leaving_keeps (λ q. q.pending) p.mode.rm p (after_leaving_reset p) refl
 pending_by p EnterReset h = refl
+pending_by p (Restore s) h =
+    leaving_keeps (λ q. q.pending) (s.mode.rm && not p.mode.rm) p (after_entering_reset p) refl
 pending_by p Close h = refl
 pending_by p Finish h = refl
 
@@ -164,6 +170,12 @@ stays : (b request : Bool) → request ≡ false → (b && not request) ≡ b
 stays true false h = refl
 stays false false h = refl
 stays b true h = absurd cc
+
+-- the buffer is released where reset mode is entered
+released_if : (enters : Bool) (p : Registers) →
+    (if enters then after_entering_reset p else p).tbs ≡ (enters || p.tbs)
+released_if true p = refl
+released_if false p = refl
 
 -- TBS is 1 where the call releases the transmit buffer
 pub tbs_by : (p : Registers) (call : Call) → IsNoRequest call → (after_call p call).tbs ≡ (releases p call || p.tbs)
@@ -177,5 +189,6 @@ tbs_by p (Give c) h =
     unless_keeps (λ q. q.tbs) (first_fault (command_faults p c)) p (after_command p c) (stays p.tbs (requests c) h)
 tbs_by p LeaveReset h = leaving_keeps (λ q. q.tbs) p.mode.rm p (after_leaving_reset p) refl
 tbs_by p EnterReset h = refl
+tbs_by p (Restore s) h = released_if (s.mode.rm && not p.mode.rm) p
 tbs_by p Close h = refl
 tbs_by p Finish h = refl

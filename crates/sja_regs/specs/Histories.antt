@@ -1,5 +1,5 @@
 -- What stands in a register after several calls, or after a write.
-use Rattle.std.specs.Prelude.{◌≢◌, ◌≡◌, ◌||◌, ◌&&◌, ◌%◌, ℕ, Bool, true, false}
+use Rattle.std.specs.Prelude.{◌≢◌, ◌≡◌, ◌||◌, ◌&&◌, ◌%◌, not, ℕ, Bool, true, false}
 use Rattle.std.specs.Prelude.{if◌then◌else◌, Option, Some, None, List, [], ◌∷◌, All}
 use Rattle.sja_regs.specs.declared.interrupts.Interrupts.{Interrupts}
 use Rattle.sja_regs.specs.declared.register.Register.{Register}
@@ -10,7 +10,7 @@ use Rattle.sja_regs.specs.Registers.{error_causes}
 use Rattle.sja_regs.specs.Interrupting.{no_interrupt}
 use Rattle.sja_regs.specs.Commands.{requests}
 use Rattle.sja_regs.specs.Turns.{ends, goes_off, lost_in, fault_in, causes}
-use Rattle.sja_regs.specs.Calls.{Call, Turn, Read, Write, Give, EnterReset, after_call}
+use Rattle.sja_regs.specs.Calls.{Call, Turn, Read, Write, Give, EnterReset, Restore, after_call}
 
 -- none of these calls reads the register
 abbrev pub IsUnread : Register → List Call → Type 0
@@ -96,6 +96,7 @@ enabled_causes p (call ∷ calls) = either (both (causes_by p call) p.enabled) (
 abbrev pub releases : Registers → Call → Bool
 releases p (Turn turn) = ends p turn || goes_off p turn
 releases p EnterReset = true
+releases p (Restore settings) = settings.mode.rm && not p.mode.rm
 releases p other = false
 
 -- one of these calls does

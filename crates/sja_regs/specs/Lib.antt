@@ -7,6 +7,7 @@ pub mod ErrorStates
 pub mod Captures
 pub mod Registers
 pub mod Facts
+pub mod DriverSettings
 pub mod Refusals
 pub mod Reading
 pub mod Writing

@@ -13,6 +13,7 @@ mod bus_turn;
 mod capture;
 mod command;
 mod commanding;
+mod driver_settings;
 mod error_code;
 mod error_state;
 mod interrupts;
@@ -32,6 +33,7 @@ mod writing;
 pub use bus_turn::BusTurn;
 pub use can_frame::Seen;
 pub use command::Command;
+pub use driver_settings::DriverSettings;
 pub use interrupts::Interrupts;
 pub use laws::{
     alc_keeps_the_first_loss, ecc_keeps_the_first_fault, ir_keeps_what_was_raised,

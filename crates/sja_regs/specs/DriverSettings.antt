@@ -1,0 +1,44 @@
+-- What the driver alone sets of a port's registers (this project's own rule): a turn of the bus asks for none of it, and
+-- changes none of it but RM, at bus-off.
+use Rattle.std.specs.Prelude.{◌≡◌, ◌||◌, ◌&&◌, not, ℕ, true, if◌then◌else◌, List}
+use Rattle.sja_regs.specs.declared.mode.Mode.{Mode}
+use Rattle.sja_regs.specs.declared.registers.Registers.{Registers}
+use Rattle.sja_regs.specs.Registers.{after_entering_reset}
+
+-- the version of the model, MOD, the acceptance codes and masks, and the transmit buffer
+pub record SettingsValue : Type 0 where
+  pub version : ℕ
+  pub mode : Mode
+  pub acr : List ℕ
+  pub amr : List ℕ
+  pub buffer : List ℕ
+
+-- those of these registers
+abbrev pub settings_in : Registers → SettingsValue
+settings_in p = record { version = p.version; mode = p.mode; acr = p.acr; amr = p.amr; buffer = p.buffer }
+
+-- these registers have these settings; reset mode may have been entered since
+pub record HasSettings (p : Registers) (s : SettingsValue) : Type 0 where
+  pub version : p.version ≡ s.version
+  pub listen_only : p.mode.lom ≡ s.mode.lom
+  pub self_test : p.mode.stm ≡ s.mode.stm
+  pub filter_mode : p.mode.afm ≡ s.mode.afm
+  pub reset : s.mode.rm ≡ true → p.mode.rm ≡ true
+  pub acr : p.acr ≡ s.acr
+  pub amr : p.amr ≡ s.amr
+  pub buffer : p.buffer ≡ s.buffer
+
+-- reset mode is entered where these settings have it and the registers don't
+abbrev pub with_reset : Registers → SettingsValue → Registers
+with_reset p s = if s.mode.rm && not p.mode.rm then after_entering_reset p else p
+
+-- the registers with these settings
+abbrev pub with_settings : Registers → SettingsValue → Registers
+with_settings p s =
+    record (with_reset p s) {
+      version = s.version;
+      mode = record s.mode { rm = s.mode.rm || p.mode.rm };
+      acr = s.acr;
+      amr = s.amr;
+      buffer = s.buffer;
+    }
