@@ -8,7 +8,8 @@ use Rattle.sja_link.specs.Records.{record_of}
 use Rattle.sja_bus.specs.Links.{Grows}
 use Rattle.sja_bus.specs.Resting.{RestsAs}
 use Rattle.sja_bus.specs.Wire.{journal_at}
-use Rattle.sja_threads.specs.Needed.{WorksAt, AllDue}
+use Rattle.sja_threads.specs.Needed.{WorksAt, IsDue, AllDue}
+use Rattle.sja_threads.specs.Inside.Underway.{StayDue}
 
 works_grows : (j k : List Entry) (bits : ℕ) → Grows j k → WorksAt j bits → WorksAt k bits
 works_grows j k bits g w = record {
@@ -23,14 +24,32 @@ works_grows j k bits g w = record {
 abbrev pub AllGrow : List (List Entry) → List (List Entry) → Type 0
 AllGrow old new = (node : ℕ) → node < length old → Grows (journal_at old node) (journal_at new node)
 
+pub due_stays : (old new : List (List Entry)) → length new ≡ length old → AllGrow old new → StayDue old new
+due_stays old new count grow i w = (
+  w.0,
+  (let few = w.1 in omega (arith, few, count)),
+  works_grows (journal_at old w.0) (journal_at new w.0) i (grow w.0 w.1) w.2,
+)
+
 pub due_kept : (bits : ℕ) (old new : List (List Entry)) → length new ≡ length old → AllGrow old new →
     AllDue bits old → AllDue bits new
-due_kept bits old new count grow due i less =
-    let w = due i less in (
-      w.0,
-      (let few = w.1 in omega (arith, few, count)),
-      works_grows (journal_at old w.0) (journal_at new w.0) i (grow w.0 w.1) w.2,
-    )
+due_kept bits old new count grow due i less = due_stays old new count grow i (due i less)
+
+-- where a node isn't at rest after so many bits one more is due
+pub due_now : (bits : ℕ) (journals : List (List Entry)) (node : ℕ) → node < length journals →
+    length (bits_of (journal_at journals node)) ≡ bits → RestsAs (record_of (journal_at journals node)) false →
+    IsDue bits journals
+due_now bits journals node few many busy = (
+  node,
+  few,
+  record {
+    before = journal_at journals node;
+    after = [];
+    whole = sym (append-nil (journal_at journals node));
+    many = many;
+    works = (busy.found, busy.cut, busy.is);
+  },
+)
 
 earlier_or_last : (i n : ℕ) → i < n + 1 → (i < n) ⊎ (i ≡ n)
 earlier_or_last i n h = grind arith
@@ -41,14 +60,5 @@ pub due_more : (bits : ℕ) (old new : List (List Entry)) (node : ℕ) → lengt
     RestsAs (record_of (journal_at old node)) false → AllDue bits old → AllDue (bits + 1) new
 due_more bits old new node count grow few many busy due i less = elim (earlier_or_last i bits less) [
   | inl before ↦ due_kept bits old new count grow due i before
-  | inr last ↦
-      let j = journal_at old node in
-      let here : WorksAt j i = record {
-        before = j;
-        after = [];
-        whole = sym (append-nil j);
-        many = many ∙ sym last;
-        works = (busy.found, busy.cut, busy.is);
-      } in
-      (node, omega (arith, few, count), works_grows j (journal_at new node) i (grow node few) here)
+  | inr last ↦ due_stays old new count grow i (due_now i old node few (many ∙ sym last) busy)
 ]

@@ -13,6 +13,8 @@ use Rattle.sja_link.specs.Related.{EachRelated}
 use Rattle.sja_rings.specs.declared.ring_bus.RingBus.{RingBus}
 use Rattle.sja_rings.specs.declared.ring_driver.RingDriver.{RingDriver}
 use Rattle.sja_rings.specs.Ends.{BusLists, DriverLists, SameBus, SameDriver, OneLink}
+use Rattle.sja_regs.specs.DriverSettings.{settings_in}
+use Rattle.sja_regs.specs.Registers.{at_power_on}
 use Rattle.sja_plan.specs.Plan.{PlanValue}
 use Rattle.sja_driver.specs.Deeds.{Deed, AreDeeds}
 use Rattle.sja_bus.specs.Buses.{BusValue, new_bus}
@@ -143,12 +145,13 @@ module _ {G : Type 0} (quits : Bool) (plan : PlanValue) (hands : List (Hand G)) 
   -- one node
   over_at : (node : ℕ) (h : Hand G) (w : Worked RingDriver) (deeds : List Deed) → node < length plan.nodes →
       IsMade plan node h first → (s : Serves quits plan h w) → deeds ≡ s.worked.deeds →
-      IsOverAt (steps_at plan node) node (journal_at bus.journals node) deeds w links (8 * node)
+      IsOverAt (settings_in (at_power_on plan.version)) (steps_at plan node) node (journal_at bus.journals node) deeds w links (8 * node)
   over_at node h w deeds few m s is = record {
     own = s.worked.own ∙ m.own;
     lawful = s.worked.lawful;
     deeds_are = subst (λ (n : ℕ). AreDeeds (steps_at plan n) deeds) m.own
         (subst (λ (l : List Deed). AreDeeds (steps_at plan h.node) l) (sym is) s.worked.deeds_are);
+    leads = rw is s.worked.leads;
     traces = rw is s.worked.traces;
     drivers = rw is (s.worked.holds j untouched);
     buses = λ h. way.kept node h few;
@@ -187,7 +190,7 @@ module _ {G : Type 0} (quits : Bool) (plan : PlanValue) (hands : List (Hand G)) 
           deeds_count = done.count ∙ many;
           nodes = λ node w few.
               let p = done.places node (omega (arith, few, many)) in
-              subst (λ (x : Worked RingDriver). IsOverAt (steps_at plan node) node (journal_at bus.journals node)
+              subst (λ (x : Worked RingDriver). IsOverAt (settings_in (at_power_on plan.version)) (steps_at plan node) node (journal_at bus.journals node)
               (deeds_at done.deeds node) x links (8 * node)) (sym (p.worked_is w))
               (over_at node p.hand p.worked (deeds_at done.deeds node) few
               (subst (λ (x : Hand G). IsMade plan node x first) (p.hand_is p.hand) (made node p.hand few))

@@ -1,5 +1,6 @@
 pub mod Works
 pub mod Scripts
+pub mod InReset
 -- the bus beside its drivers
 pub mod Places
 pub mod Same
@@ -27,3 +28,4 @@ pub mod Outside
 pub mod NodeOver
 pub mod LinksOver
 pub mod Over
+pub mod Stopped

@@ -12,6 +12,7 @@ use Rattle.sja_link.specs.Parts.{part}
 use Rattle.sja_rings.specs.declared.ring_bus.RingBus.{RingBus}
 use Rattle.sja_rings.specs.declared.ring_driver.RingDriver.{RingDriver}
 use Rattle.sja_rings.specs.Ends.{DriverLists}
+use Rattle.sja_regs.specs.DriverSettings.{SettingsValue}
 use Rattle.sja_script.specs.declared.step.Step.{Step}
 use Rattle.sja_driver.specs.Deeds.{Deed, opened_by, given_in, deeds_of}
 use Rattle.sja_driver.specs.LoggedDrivers.{node_of, driver_of, log_of, ended_of}
@@ -25,8 +26,8 @@ use Rattle.sja_threads.specs.Ended.{IsOverAt}
 use Rattle.sja_threads.specs.Settling.{IsLeftOn}
 use Rattle.sja_threads.proofs.Outside.{given_outside}
 
-module _ (steps : List Step) (node : ℕ) (j : List Entry) (deeds : List Deed) (w : Worked RingDriver)
-    (links : List RingBus) (base : ℕ) (h : IsOverAt steps node j deeds w links base) (lying : List (List Down))
+module _ (set : SettingsValue) (steps : List Step) (node : ℕ) (j : List Entry) (deeds : List Deed) (w : Worked RingDriver)
+    (links : List RingBus) (base : ℕ) (h : IsOverAt set steps node j deeds w links base) (lying : List (List Down))
     (bus : RingBus) (end : RingDriver)
     (left : (a : ℕ) → a < 8 → IsLeftOn (slice_index_or links (base + a) bus) (slice_index_or w.links.items a end)
     (slice_index_or lying (base + a) [])) where

@@ -12,6 +12,8 @@ use Rattle.sja_bus.specs.Buses.{BusValue}
 use Rattle.sja_bus.specs.Lawful.{CountersAre, IsBusRun}
 use Rattle.sja_bus.specs.Orderly.{AreOrderly}
 use Rattle.sja_bus.specs.Wire.{journal_at}
+use Rattle.sja_regs.specs.DriverSettings.{settings_in}
+use Rattle.sja_regs.specs.Registers.{at_power_on}
 use Rattle.sja_plan.specs.Plan.{PlanValue}
 use Rattle.sja_driver.specs.declared.logged_driver.LoggedDriver.{LoggedDriver}
 use Rattle.sja_driver.specs.Deeds.{Deed}
@@ -74,7 +76,7 @@ module _ (plan : PlanValue) (bus : BusValue) (links : List RingBus) (workeds : L
     abbrev handed : Worked RingDriver
     handed = slice_index_or workeds k some
 
-    over : IsOverAt (steps_at plan k) k (journal_at bus.journals k) (deeds_at deeds k) handed links (8 * k)
+    over : IsOverAt (settings_in (at_power_on plan.version)) (steps_at plan k) k (journal_at bus.journals k) (deeds_at deeds k) handed links (8 * k)
     over = h.nodes k some in_plan
 
     some_bus : RingBus
@@ -118,13 +120,13 @@ module _ (plan : PlanValue) (bus : BusValue) (links : List RingBus) (workeds : L
     trace_there : IsTrace (steps_at plan k) there (deeds_at deeds k)
     trace_there = trace_of journal (deeds_at deeds k) handed.driver lying (8 * k) _ there end_there same
         (steps_at plan k) over.deeds_are over.traces
-        (given_all (steps_at plan k) k journal (deeds_at deeds k) handed links (8 * k) over lying some_bus some_end
+        (given_all (settings_in (at_power_on plan.version)) (steps_at plan k) k journal (deeds_at deeds k) handed links (8 * k) over lying some_bus some_end
         left_there)
 
     settled_there : AreSettled there
     settled_there = settled_of journal (deeds_at deeds k) handed.driver lying (8 * k) _ there end_there same
         over.lawful
-        (settled_all (steps_at plan k) k journal (deeds_at deeds k) handed links (8 * k) over lying some_bus some_end
+        (settled_all (settings_in (at_power_on plan.version)) (steps_at plan k) k journal (deeds_at deeds k) handed links (8 * k) over lying some_bus some_end
         left_there)
 
     bus_there : IsBusRun bus.script bus.run bus.journals

@@ -6,6 +6,7 @@ use Rattle.std.specs.Prelude.{slice_index_or}
 use Rattle.sja_link.specs.declared.link_id.LinkId.{LinkId}
 use Rattle.sja_link.specs.declared.entry.Entry.{Entry}
 use Rattle.sja_link.specs.Lists.{Lists}
+use Rattle.sja_regs.specs.DriverSettings.{SettingsValue}
 use Rattle.sja_script.specs.declared.step.Step.{Step}
 use Rattle.sja_driver.specs.declared.any_driver.AnyDriver.{AnyDriver}
 use Rattle.sja_driver.specs.declared.logged_driver.LoggedDriver.{LoggedDriver}
@@ -17,6 +18,7 @@ use Rattle.sja_driver.specs.LoggedDrivers.{node_of, driver_of, log_of, IsLawful}
 use Rattle.sja_driver.specs.Logs.{HasRoom, IsEmpty, Traces, done_in}
 use Rattle.sja_turns.proofs.Newly.{nothing_known, nothing_told}
 use Rattle.sja_threads.specs.declared.worked.Worked.{Worked}
+use Rattle.sja_threads.specs.Setting.LeadTo.{nothing_done}
 use Rattle.sja_threads.specs.Working.{MayWork, DoesSteps, AreUntouched, HasWorked}
 use Rattle.sja_threads.proofs.Works.{may_less}
 
@@ -80,16 +82,18 @@ may_first {E} link first links given node steps log own logs lawful these room e
 
 -- what a driver hands back that did a front of its steps
 pub worked_of : {E : Type 0} (link : E → LinkId) (same : E → E → Type 0) (stands : E → Lists → Type 0) (node : ℕ)
-    (steps : List Step) (n : ℕ) (first : LoggedDriver) (log : WorkLog) (links given gone : List E) (w : Worked E) →
+    (steps : List Step) (n : ℕ) (first : LoggedDriver) (set last : SettingsValue) (log : WorkLog)
+    (links given gone : List E) (w : Worked E) →
     node_of first ≡ node → log_of first ≡ log → IsEmpty log → is_out (driver_of first) ≡ false →
     Traces (driver_of first) (log_of first) [] → given ≡ links → w.links.items ≡ gone →
     MayWork link first given (length steps) →
-    DoesSteps link same stands first w.driver given gone (take n steps) → HasWorked stands node steps links w
-worked_of {E} link same stands node steps n first log links given gone w own logs empty reset none these those may
+    DoesSteps link same stands first w.driver set last given gone (take n steps) →
+    HasWorked stands set node steps links w
+worked_of {E} link same stands node steps n first set last log links given gone w own logs empty reset none these those may
     does =
-    let d : DoesSteps link same stands first w.driver links w.links.items (take n steps) =
-    subst (λ (l : List E). DoesSteps link same stands first w.driver links l (take n steps)) (sym those)
-    (subst (λ (l : List E). DoesSteps link same stands first w.driver l gone (take n steps)) these does) in
+    let d : DoesSteps link same stands first w.driver set last links w.links.items (take n steps) =
+    subst (λ (l : List E). DoesSteps link same stands first w.driver set last links l (take n steps)) (sym those)
+    (subst (λ (l : List E). DoesSteps link same stands first w.driver set last l gone (take n steps)) these does) in
     let nothing : IsEmpty (log_of first) = subst (λ (l : WorkLog). IsEmpty l) (sym logs) empty in
     let t = d.goes.traces [] none in
     let many : length d.deeds ≡ length (take n steps) =
@@ -103,6 +107,7 @@ worked_of {E} link same stands node steps n first log links given gone w own log
         states = t.answered.states;
         gives = t.answered.gives;
       };
+      leads = (last, d.leads set [] none nothing_done);
       traces = t;
       holds = λ j u. d.goes.holds [] j none
           (holds_new stands (driver_of first) (log_of first) j links 0 nothing reset u);
@@ -110,10 +115,10 @@ worked_of {E} link same stands node steps n first log links given gone w own log
 
 -- all steps, where as many were done as there are
 pub all_done : {E : Type 0} (link : E → LinkId) (same : E → E → Type 0) (stands : E → Lists → Type 0)
-    (steps : List Step) (n : ℕ) (first last : LoggedDriver) (links links_now : List E) →
-    Traces (driver_of first) (log_of first) [] → DoesSteps link same stands first last links links_now (take n steps) →
+    (steps : List Step) (n : ℕ) (first last : LoggedDriver) (set set_now : SettingsValue) (links links_now : List E) →
+    Traces (driver_of first) (log_of first) [] → DoesSteps link same stands first last set set_now links links_now (take n steps) →
     n ≡ length steps → length (done_in (log_of last)) ≡ length steps
-all_done link same stands steps n first last links links_now none d all =
+all_done link same stands steps n first last set set_now links links_now none d all =
     let t = d.goes.traces [] none in
     sym (ap (λ l. length l) t.done) ∙ length-map d.deeds done_of ∙ sym (length-map d.deeds (λ (x : Deed). x.step))
     ∙ ap (λ l. length l) d.are ∙ take_few n steps (omega (arith, all)) ∙ all

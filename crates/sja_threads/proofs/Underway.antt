@@ -1,6 +1,6 @@
 -- The bus of a run in threads from one turn to the next.
-use Rattle.std.proofs.Common.{◌≡◌, ℕ, ◌+◌, ◌<◌, Bool, true, false, List, length, sym, ap, ◌∙◌, subst, arith}
-use Rattle.std.specs.Prelude.{None}
+use Rattle.std.proofs.Common.{◌≡◌, ℕ, ◌+◌, ◌<◌, ◌≤◌, Bool, true, false, List, length, refl, sym, ap, ◌∙◌, subst, arith, inr}
+use Rattle.std.specs.Prelude.{None, Result, Ok, Err, OnOk}
 use Rattle.std.proofs.lemmas.Slice.Zip.{AllZip-long}
 use Rattle.sja_link.specs.declared.entry.Entry.{Entry}
 use Rattle.sja_link.specs.Records.{record_of}
@@ -16,11 +16,12 @@ use Rattle.sja_bus.specs.OneBit.{HasItems}
 use Rattle.sja_bus.specs.Resting.{RestsAs}
 use Rattle.sja_bus.specs.Wire.{journal_at}
 use Rattle.sja_bus.proofs.Many.{numbered_kept}
-use Rattle.sja_threads.specs.Needed.{AllDue, AllRest}
+use Rattle.sja_threads.specs.Needed.{IsDue, AllDue, AllRest}
 use Rattle.sja_threads.specs.declared.moving.Move.{Move}
-use Rattle.sja_threads.specs.declared.moving.Move.TheVariants.{Ran, Rests}
-use Rattle.sja_threads.specs.Inside.Underway.{TakesWithin, IsUnderWay, MayTurn, IsMoved, HasRun, ran_by}
-use Rattle.sja_threads.proofs.Due.{due_kept, due_more}
+use Rattle.sja_threads.specs.declared.moving.Move.TheVariants.{Ran, Rests, Spent}
+use Rattle.sja_report.specs.declared.end.End.TheVariants.{Bits as BitsSpent}
+use Rattle.sja_threads.specs.Inside.Underway.{IsRunOut, TakesWithin, IsUnderWay, MayTurn, IsMoved, HasRun, StayDue, ran_by}
+use Rattle.sja_threads.proofs.Due.{due_stays, due_kept, due_more, due_now}
 use Rattle.sja_threads.proofs.Within.{within_items, items_grow, within_bit, bit_grows}
 
 module _ (plan : PlanValue) (old new : BusValue) (links after : List RingBus) (w : IsUnderWay plan old links)
@@ -70,6 +71,29 @@ module _ (plan : PlanValue) (old new : BusValue) (links after : List RingBus) (w
       (λ node less. bit_grows _ _ _ _ (journal_at old.journals node) (journal_at new.journals node) _ _
       (bit.nodes node less)) busy.1 (laws.wired.count busy.0 busy.1) busy.2 w.due))
 
+  -- bits that were due stay so
+  pub due_gather : EachJournal HasItems old.journals new.journals → StayDue old.journals new.journals
+  due_gather items = due_stays old.journals new.journals nodes
+      (λ node less. items_grow (journal_at old.journals node) (journal_at new.journals node) (items node less))
+
+  pub due_bit : (orders_are : ℕ → Orders → Type 0) (was_told : ℕ → BusTurn → Type 0) (was_kept : ℕ → Type 0) →
+      IsBit orders_are was_told was_kept old.script old.run old.untold old.journals new.journals →
+      StayDue old.journals new.journals
+  due_bit orders_are was_told was_kept bit = due_stays old.journals new.journals nodes
+      (λ node less. bit_grows _ _ _ _ (journal_at old.journals node) (journal_at new.journals node) _ _
+      (bit.nodes node less))
+
+-- the bits are spent, and a node isn't at rest
+pub spent_now : (plan : PlanValue) (run : ℕ) (bus : BusValue) (links : List RingBus) → IsUnderWay plan bus links →
+    bus.run ≡ run → plan.bits ≤ run → IsBusRun bus.script bus.run bus.journals →
+    (node : ℕ) × (node < length bus.journals) × RestsAs (record_of (journal_at bus.journals node)) false →
+    (run ≡ plan.bits) × IsDue plan.bits bus.journals
+spent_now plan run bus links w same many laws busy =
+    let all = w.all_bits in let last : run ≡ plan.bits = omega (arith, all, same, many) in (
+      last,
+      due_now plan.bits bus.journals busy.0 busy.1 (laws.wired.count busy.0 busy.1 ∙ same ∙ last) busy.2,
+    )
+
 -- where each node is at rest, it is so by a cut
 pub all_rest : (journals : List (List Entry)) →
     ((node : ℕ) → node < length journals → RestsAs (record_of (journal_at journals node)) true) → AllRest journals
@@ -99,12 +123,53 @@ none_due plan run ports bus links m = record {
 }
 
 -- a bit was run in it
-pub ran_on : (plan : PlanValue) (run : ℕ) (spent : Bool) (move : Move) (bus : BusValue) (links : List RingBus) →
-    (spent ≡ true → run ≡ plan.bits) → move ≡ Ran → IsMoved plan run move bus links →
+pub ran_on : (plan : PlanValue) (run : ℕ) (spent : Bool) (was : List (List Entry)) (move : Move) (bus : BusValue)
+    (links : List RingBus) →
+    (spent ≡ true → (run ≡ plan.bits) × IsDue plan.bits was) → move ≡ Ran → IsMoved plan run move bus links →
     HasRun plan (run + 1) spent bus links
-ran_on plan run spent move bus links all is m =
+ran_on plan run spent was move bus links all is m =
     let bits : bus.run ≡ run + 1 = m.bits ∙ ap (λ (x : Move). run + ran_by x) is in record {
       way = m.way;
       bits = bits;
-      all = λ e. let last = all e in let sum = m.way.all_bits in absurd (omega (arith, last, sum, bits));
+      all = λ e. let last = (all e).0 in let sum = m.way.all_bits in absurd (omega (arith, last, sum, bits));
     }
+
+-- it isn't so that nothing was due where the bits were spent before and none is run
+pub still_spent : (plan : PlanValue) (run : ℕ) (spent : Bool) (was : List (List Entry)) (move : Move) (bus : BusValue)
+    (links : List RingBus) → (spent ≡ true → (run ≡ plan.bits) × IsDue plan.bits was) → StayDue was bus.journals →
+    (move ≡ Ran → ⊥) → IsMoved plan run move bus links → HasRun plan run spent bus links
+still_spent plan run spent was move bus links all stay idle m = record {
+  way = m.way;
+  bits = m.bits ∙ none move idle;
+  all = λ e. ((all e).0, stay plan.bits (all e).1);
+}
+  where
+    none : (x : Move) → (x ≡ Ran → ⊥) → run + ran_by x ≡ run
+    none Ran h = absurd (h refl)
+    none Rests h = omega arith
+    none Spent h = omega arith
+
+-- the bits are spent now
+pub now_spent : (plan : PlanValue) (run : ℕ) (move : Move) (bus : BusValue) (links : List RingBus) → move ≡ Spent →
+    IsMoved plan run move bus links → HasRun plan run true bus links
+now_spent plan run move bus links is m = record {
+  way = m.way;
+  bits = let b = m.bits ∙ ap (λ (x : Move). run + ran_by x) is in omega (arith, b);
+  all = λ e. m.spent is;
+}
+
+-- bits that were due through two calls, the second of which went well
+pub due_through : {X : Type 0} (a b c : List (List Entry)) (r : Result Move X) → StayDue a b → OnOk r (StayDue b c) →
+    OnOk r (StayDue a c)
+due_through a b c (Ok move) p q = λ bits due. q bits (p bits due)
+due_through a b c (Err x) p q = tt
+
+-- at the end of a run no bit is run, and they were spent before
+pub out_spent : (plan : PlanValue) (run : ℕ) (was : List (List Entry)) (bus : BusValue) (links : List RingBus) →
+    (run ≡ plan.bits) × IsDue plan.bits was → StayDue was bus.journals → (move : Move) → move ≡ Rests →
+    IsMoved plan run move bus links → IsRunOut plan run BitsSpent bus links
+out_spent plan run was bus links all stay move is m = record {
+  way = m.way;
+  bits = let b = m.bits ∙ ap (λ (x : Move). run + ran_by x) is in omega (arith, b);
+  ends = inr (refl, all.0, stay plan.bits all.1);
+}

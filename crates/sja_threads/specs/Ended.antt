@@ -7,6 +7,8 @@ use Rattle.sja_link.specs.Carried.{taken_of}
 use Rattle.sja_rings.specs.declared.ring_bus.RingBus.{RingBus}
 use Rattle.sja_rings.specs.declared.ring_driver.RingDriver.{RingDriver}
 use Rattle.sja_rings.specs.Ends.{BusLists, DriverLists, OneLink}
+use Rattle.sja_regs.specs.DriverSettings.{SettingsValue, settings_in}
+use Rattle.sja_regs.specs.Registers.{at_power_on}
 use Rattle.sja_script.specs.declared.step.Step.{Step}
 use Rattle.sja_plan.specs.Plan.{PlanValue}
 use Rattle.sja_driver.specs.Deeds.{Deed, AreDeeds}
@@ -18,15 +20,17 @@ use Rattle.sja_bus.specs.Links.{Kept}
 use Rattle.sja_bus.specs.Wire.{journal_at}
 use Rattle.sja_turns.specs.Serial.{steps_at, deeds_at}
 use Rattle.sja_threads.specs.declared.worked.Worked.{Worked}
+use Rattle.sja_threads.specs.Setting.{LeadTo}
 
--- of one node, when its driver and the bus have ended: its journal, what its driver handed back, and the bus's ends of
--- its eight links, from this place on
-pub record IsOverAt (steps : List Step) (node : ℕ) (j : List Entry) (deeds : List Deed) (w : Worked RingDriver)
+-- of one node, when its driver and the bus have ended: what its driver had set first, its journal, what its driver
+-- handed back, and the bus's ends of its eight links, from this place on
+pub record IsOverAt (set : SettingsValue) (steps : List Step) (node : ℕ) (j : List Entry) (deeds : List Deed) (w : Worked RingDriver)
     (links : List RingBus) (base : ℕ) : Type 0 where
   -- its driver did these deeds, of these steps
   pub own : node_of w.driver ≡ node
   pub lawful : IsLawful w.driver
   pub deeds_are : AreDeeds steps deeds
+  pub leads : (last : SettingsValue) × LeadTo set deeds last
   pub traces : Traces (driver_of w.driver) (log_of w.driver) deeds
   -- the driver's ends stand beside the journal for these deeds, and the bus's for the parts of the journal, whatever
   -- the driver got and gave
@@ -51,7 +55,7 @@ pub record IsOver (plan : PlanValue) (bus : BusValue) (links : List RingBus) (wo
   pub workeds_count : length workeds ≡ length plan.nodes
   pub deeds_count : length deeds ≡ length plan.nodes
   pub nodes : (node : ℕ) (w : Worked RingDriver) → node < length plan.nodes →
-      IsOverAt (steps_at plan node) node (journal_at bus.journals node) (deeds_at deeds node)
+      IsOverAt (settings_in (at_power_on plan.version)) (steps_at plan node) node (journal_at bus.journals node) (deeds_at deeds node)
       (slice_index_or workeds node w) links (8 * node)
 
 -- there are such deeds

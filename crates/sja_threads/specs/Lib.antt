@@ -1,7 +1,9 @@
 -- ---- one driver
+pub mod Setting
 pub mod Working
 -- ---- a whole run
 pub mod Needed
+pub mod Stopping
 pub mod Threads
 pub mod Ended
 pub mod Linked

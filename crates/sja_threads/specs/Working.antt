@@ -1,10 +1,11 @@
 -- What a driver in a thread of its own did (this project's own rule).
-use Rattle.std.specs.Prelude.{◌≡◌, ◌≤◌, ◌<◌, ◌+◌, ℕ, suc, List, [], length, map, slice_index_or}
+use Rattle.std.specs.Prelude.{◌≡◌, ◌≤◌, ◌<◌, ◌+◌, ◌++◌, ℕ, suc, List, [], length, map, slice_index_or}
 use Rattle.sja_link.specs.declared.link_id.LinkId.{LinkId}
 use Rattle.sja_link.specs.declared.entry.Entry.{Entry}
 use Rattle.sja_link.specs.Accounts.{account}
 use Rattle.sja_link.specs.Lists.{Lists}
 use Rattle.sja_link.specs.Related.{EachRelated}
+use Rattle.sja_regs.specs.DriverSettings.{SettingsValue}
 use Rattle.sja_script.specs.declared.step.Step.{Step}
 use Rattle.sja_driver.specs.declared.logged_driver.LoggedDriver.{LoggedDriver}
 use Rattle.sja_driver.specs.Deeds.{Deed, AreDeeds}
@@ -12,6 +13,7 @@ use Rattle.sja_driver.specs.Holding.{Goes, HoldsBy, Numbered}
 use Rattle.sja_driver.specs.LoggedDrivers.{node_of, driver_of, log_of, IsLawful}
 use Rattle.sja_driver.specs.Logs.{HasRoom, Traces}
 use Rattle.sja_threads.specs.declared.worked.Worked.{Worked}
+use Rattle.sja_threads.specs.Setting.{LeadTo}
 
 -- a driver may do so many steps more: its log has room for them, and its ends are those of its node's eight links
 pub record MayWork {E : Type 0} (link : E → LinkId) (driver : LoggedDriver) (links : List E) (steps : ℕ) : Type 0 where
@@ -21,13 +23,15 @@ pub record MayWork {E : Type 0} (link : E → LinkId) (driver : LoggedDriver) (l
   pub ids : Numbered link links 0 (node_of driver)
 
 -- a driver did these steps, each once and in this order: there are deeds of them, and with these its log and its ends
--- went on, for all deeds before and for all journals; its ends are the same ones, and it may do as many more as it had
--- left
+-- went on, for all deeds before and for all journals, and so did what it has set; its ends are the same ones, and it
+-- may do as many more as it had left
 pub record DoesSteps {E : Type 0} (link : E → LinkId) (same : E → E → Type 0) (stands : E → Lists → Type 0)
-    (was now : LoggedDriver) (links links_now : List E) (steps : List Step) : Type 0 where
+    (was now : LoggedDriver) (set set_now : SettingsValue) (links links_now : List E) (steps : List Step) : Type 0 where
   pub deeds : List Deed
   pub are : map (λ (d : Deed). d.step) deeds ≡ steps
   pub goes : Goes stands (driver_of was) (driver_of now) (log_of was) (log_of now) links links_now 0 deeds
+  pub leads : (first : SettingsValue) (before : List Deed) → Traces (driver_of was) (log_of was) before →
+      LeadTo first before set → LeadTo first (before ++ deeds) set_now
   pub sames : EachRelated same links links_now
   pub node : node_of now ≡ node_of was
   pub able : (n : ℕ) → MayWork link was links (length steps + n) → MayWork link now links_now n
@@ -37,15 +41,16 @@ abbrev pub AreUntouched : {E : Type 0} → (E → Lists → Type 0) → List Ent
 AreUntouched {E} stands j links base = (a : ℕ) (d : E) → a < 8 →
     stands (slice_index_or links (base + a) d) (account j (suc a) (record { got = []; given = [] }))
 
--- what the driver of a node hands back that followed a script with these ends: it is lawful, its deeds are a front of
--- the script's steps, each answered as its state has it, its log is theirs, and, whatever the journal of the node is,
--- its ends stand beside it for these deeds
-pub record HasWorked {E : Type 0} (stands : E → Lists → Type 0) (node : ℕ) (steps : List Step) (links : List E)
-    (w : Worked E) : Type 0 where
+-- what the driver of a node hands back that followed a script with these ends, and had set this before: it is lawful,
+-- its deeds are a front of the script's steps, each answered as its state and what was set before it have it, its log
+-- is theirs, and, whatever the journal of the node is, its ends stand beside it for these deeds
+pub record HasWorked {E : Type 0} (stands : E → Lists → Type 0) (set : SettingsValue) (node : ℕ) (steps : List Step)
+    (links : List E) (w : Worked E) : Type 0 where
   pub deeds : List Deed
   pub own : node_of w.driver ≡ node
   pub lawful : IsLawful w.driver
   pub deeds_are : AreDeeds steps deeds
+  pub leads : (last : SettingsValue) × LeadTo set deeds last
   pub traces : Traces (driver_of w.driver) (log_of w.driver) deeds
   pub holds : (j : List Entry) → AreUntouched stands j links 0 →
       HoldsBy stands deeds (driver_of w.driver) (log_of w.driver) j w.links.items 0

@@ -7,9 +7,9 @@
 //! drivers stand in threads.
 //!
 //! Contracts say which steps were done, `HasWorked` of `specs/Working.antt`: for every journal, so whatever the bus
-//! does meanwhile; and of a whole run what every run has, by which events each link carried what it did, and when its
-//! bits were due, `IsThreadedRun` of `specs/Threads.antt`. No clause says that a wait ends, or how a port stands behind
-//! its lock.
+//! does meanwhile, and with what the steps before have set; and of a whole run what every run has, by which events each
+//! link carried what it did, and when its bits were due, `IsThreadedRun` of `specs/Threads.antt`. No clause says that a
+//! wait ends, or how a port stands behind its lock.
 //!
 //! `run_threads` alone takes memory, none of it for a bit. The tests stand in `crates/run_tests`.
 #![tactic(auto)]
@@ -20,6 +20,7 @@ mod gate;
 mod hand;
 mod joined;
 mod keeps;
+mod laws;
 mod lock_board;
 mod looping;
 mod making;
@@ -35,6 +36,7 @@ mod worked;
 mod working;
 
 pub use gate::Gate;
+pub use laws::a_driver_in_reset_finds_reset_mode;
 pub use lock_board::LockBoard;
 pub use pass::Pass;
 pub use running::run_threads;

@@ -1,8 +1,9 @@
 //! The bus beside its drivers' threads, and after them.
 
-ghost use Rattle.std.specs.Prelude.{◌≡◌, ◌≤◌, length, IfOk};
+ghost use Rattle.std.specs.Prelude.{◌≡◌, ◌≤◌, length, IfOk, IfErr};
 ghost use Rattle.sja_link.specs.Related.{EachRelated};
 ghost use Rattle.sja_rings.specs.Ends.{SameBus};
+ghost use Rattle.sja_threads.specs.Stopping.{StopsFor};
 ghost use Rattle.sja_threads.specs.Inside.Underway.{IsUnderWay, HasRun, IsRunOut};
 
 use super::lock_board::LockBoard;
@@ -35,6 +36,7 @@ pub(crate) fn run_beside<R: Wait>(
     requires ports { length plan.now.nodes ≤ length ports.now }
     ensures sames { EachRelated SameBus links.old links.new }
     ensures run { IfOk result (λ r. HasRun plan.now r.0 r.1 bus.new links.new) }
+    ensures fault { IfErr result (StopsFor plan.now) }
 {
     plan.limits();
     let parker = Parker::new();
@@ -81,10 +83,12 @@ pub(crate) fn run_after<R: Wait>(
     requires ports { length plan.now.nodes ≤ length ports.now }
     ensures sames { EachRelated SameBus links.old links.new }
     ensures out { IfOk result (λ r. IsRunOut plan.now r.0 r.1 bus.new links.new) }
+    ensures fault { IfErr result (StopsFor plan.now) }
 {
     plan.limits();
     let mut board = LockBoard { rt, ports };
     for now in run..=plan.bits() {
+        bus.keeps_its_laws();
         bus.gather(links)?;
         match bit_if_due(plan, bus, links, &mut board, now)? {
             Move::Ran => {}

@@ -1,11 +1,12 @@
 //! One turn of the bus.
 
-ghost use Rattle.std.specs.Prelude.{◌≡◌, length, Ok, IfOk};
+ghost use Rattle.std.specs.Prelude.{◌≡◌, length, Ok, IfOk, IfErr, OnOk};
 ghost use Rattle.sja_link.specs.Related.{EachRelated};
 ghost use Rattle.sja_rings.specs.Ends.{SameBus};
 ghost use Rattle.sja_threads.specs.declared.moving.Move.TheVariants.{Rests};
 ghost use Rattle.sja_threads.specs.Needed.{AllRest};
-ghost use Rattle.sja_threads.specs.Inside.Underway.{MayTurn, IsMoved};
+ghost use Rattle.sja_threads.specs.Stopping.{StopsFor};
+ghost use Rattle.sja_threads.specs.Inside.Underway.{MayTurn, IsMoved, StayDue};
 
 use super::lock_board::LockBoard;
 use super::watching::all_begun;
@@ -39,15 +40,17 @@ pub(crate) fn bit_if_due<R: Wait>(
     ensures sames { EachRelated SameBus links.old links.new }
     ensures ports { length board.new.ports.now ≡ length board.old.ports.now }
     ensures moved { IfOk result (λ move. IsMoved plan.now run move bus.new links.new) }
+    ensures due { OnOk result (StayDue bus.old.journals bus.new.journals) }
+    ensures fault { IfErr result (StopsFor plan.now) }
     ensures rests { result ≡ Ok Rests → AllRest bus.new.journals }
 {
     if bus.at_rest() {
         return Ok(Move::Rests);
     }
+    bus.keeps_its_laws();
     if run >= plan.bits() {
         return Ok(Move::Spent);
     }
-    bus.keeps_its_laws();
     bus.bit(links, board)?;
     Ok(Move::Ran)
 }
@@ -68,7 +71,10 @@ pub(crate) fn turn_beside<R: Wait>(
     ensures sames { EachRelated SameBus links.old links.new }
     ensures ports { length board.new.ports.now ≡ length board.old.ports.now }
     ensures moved { IfOk result (λ move. IsMoved plan.now run move bus.new links.new) }
+    ensures due { OnOk result (StayDue bus.old.journals bus.new.journals) }
+    ensures fault { IfErr result (StopsFor plan.now) }
 {
+    bus.keeps_its_laws();
     bus.gather(links)?;
     if !all_begun(bus, ended) {
         return Ok(Move::Rests);

@@ -4,6 +4,7 @@ ghost use Rattle.std.specs.Prelude.{◌≡◌, ◌≢◌, ◌≤◌, ◌<◌, �
 ghost use Rattle.sja_report.specs.Headline.{IsAccount};
 ghost use Rattle.sja_report.specs.Log.{NodeValue};
 ghost use Rattle.sja_turns.specs.declared.run_fault.RunFault.TheVariants.{GateCount};
+ghost use Rattle.sja_threads.specs.Stopping.{IsFaultOf};
 ghost use Rattle.sja_threads.specs.Threads.{IsThreadedRun};
 ghost use Rattle.sja_threads.specs.Inside.Joined.{IsEnding};
 ghost use Rattle.sja_threads.specs.Inside.Making.{IsReady};
@@ -39,7 +40,7 @@ fn run_in<'s, E, G: Gate + 's, R: Threads + Wait + Sync>(
     requires ready { IsReady plan.now ready }
     requires ports { length ports.now ≡ length plan.now.nodes }
     ensures ending { IfOk result (IsEnding G.QUITS plan.now) }
-    ensures fault { IfErr result (λ f. f ≢ GateCount) }
+    ensures fault { IfErr result (IsFaultOf plan.now) }
 {
     let Ready {
         mut bus,
@@ -57,7 +58,7 @@ fn run_in<'s, E, G: Gate + 's, R: Threads + Wait + Sync>(
             run,
             spent,
         }),
-        Err(fault) => Err(RunFault::Bus(fault)),
+        Err(stop) => Err(RunFault::Bus(stop)),
     }
 }
 
@@ -74,7 +75,7 @@ fn run_drivers<G: Gate, R: Threads + Wait + Sync>(
     requires ready { IsReady plan.now ready }
     requires ports { length ports.now ≡ length plan.now.nodes }
     ensures ending { IfOk result (IsEnding G.QUITS plan.now) }
-    ensures fault { IfErr result (λ f. f ≢ GateCount) }
+    ensures fault { IfErr result (IsFaultOf plan.now) }
 {
     thread::scope(
         thread::scope_env(),
@@ -83,7 +84,7 @@ fn run_drivers<G: Gate, R: Threads + Wait + Sync>(
             requires ready { IsReady plan.now ready }
             requires ports { length ports.now ≡ length plan.now.nodes }
             ensures ending { IfOk result (IsEnding G.QUITS plan.entry.now) }
-            ensures fault { IfErr result (λ f. f ≢ GateCount) }
+            ensures fault { IfErr result (IsFaultOf plan.entry.now) }
         {
             let joined = run_in(scope, rt, plan, ready, ports);
             if joined.is_err() {
@@ -109,7 +110,7 @@ fn end_run<G: Gate, R: Wait>(
     requires ending { IsEnding G.QUITS plan.now joined }
     requires ports { length plan.now.nodes ≤ length ports.now }
     ensures run { IfOk result (λ log. IsThreadedRun plan.now log G.QUITS) }
-    ensures fault { IfErr result (λ f. f ≢ GateCount) }
+    ensures fault { IfErr result (IsFaultOf plan.now) }
 {
     let Joined {
         mut bus,
@@ -155,6 +156,7 @@ pub fn run_threads<G: Gate, R: Threads + Wait + Sync>(
         IsAccount (slice_index_or log.nodes k d)) }
     ensures gates { (vec_len gates ≢ length plan.now.nodes) → result ≡ Err GateCount }
     ensures only { result ≡ Err GateCount → vec_len gates ≢ length plan.now.nodes }
+    ensures fault { (vec_len gates ≡ length plan.now.nodes) → IfErr result (IsFaultOf plan.now) }
 {
     if gates.len() != plan.nodes() {
         return Err(RunFault::GateCount);

@@ -10,9 +10,9 @@ use super::gate::Gate;
 use super::hand::Hand;
 use super::keeps::{Child, Keeps};
 use super::worked::Worked;
-use super::working::work;
+use super::working::work_from;
 use sja_plan::Plan;
-use sja_regs::Port;
+use sja_regs::{DriverSettings, Port};
 use sja_rings::RingDriver;
 use sja_turns::RunFault;
 use std::marker::PhantomData;
@@ -20,7 +20,8 @@ use std::snapshot::Snapshot;
 use std::sync::{Mutex, Wait};
 use std::thread::{Scope, Threads};
 
-/// The part of a driver, in its own thread.
+/// The part of a driver, in its own thread. It begins with what is set after power-on, in the plan's version of the
+/// rules.
 fn serve<G: Gate>(
     rt: &impl Wait,
     plan: &Plan,
@@ -36,9 +37,10 @@ fn serve<G: Gate>(
         log,
         gate,
     } = hand;
-    work(
+    work_from(
         rt,
         node,
+        DriverSettings::at_power_on(plan.version()),
         links,
         port,
         plan.steps(usize::from(node)),

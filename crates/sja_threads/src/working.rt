@@ -5,6 +5,7 @@ ghost use Rattle.sja_link.specs.Related.{EachRelated};
 ghost use Rattle.sja_driver.specs.Holding.{Numbered};
 ghost use Rattle.sja_driver.specs.LoggedDrivers.{node_of, log_of};
 ghost use Rattle.sja_driver.specs.Logs.{HasRoom, IsEmpty, done_in};
+ghost use Rattle.sja_regs.specs.DriverSettings.{SettingsValue};
 ghost use Rattle.sja_threads.specs.Working.{MayWork, DoesSteps, HasWorked};
 
 use super::gate::Gate;
@@ -13,32 +14,54 @@ use super::waiting::wait_to_try;
 use super::worked::Worked;
 use sja_driver::{LoggedDriver, WorkLog};
 use sja_link::DriverEnd;
-use sja_regs::Port;
+use sja_regs::{DriverSettings, Port};
 use sja_script::Step;
 use std::sync::{Mutex, Wait};
 use std::thread::Parker;
 
-/// Tries a step, and says whether it is done. The port is held over the try, but not over a window's or a release's,
-/// which see none.
-fn try_step<D: DriverEnd>(
+/// Tries a step at the port, which is held over the try, and says whether it is done. What the driver has set is the
+/// driver's own: it goes into the port before the try, and what the step sets comes out of it.
+fn try_at_port<D: DriverEnd>(
     rt: &impl Wait,
     driver: &mut LoggedDriver,
+    set: &mut DriverSettings,
     links: &mut [D],
     port: &Mutex<Port>,
     step: &Step,
 ) -> bool
     requires { MayWork D.link driver.old links.old 1 }
     ensures done { result ≡ true →
-        DoesSteps D.link D.same D.stands driver.old driver.new links.old links.new (step.now ∷ []) }
-    ensures waits { result ≡ false → DoesSteps D.link D.same D.stands driver.old driver.new links.old links.new [] }
+        DoesSteps D.link D.same D.stands driver.old driver.new set.old set.new links.old links.new (step.now ∷ []) }
+    ensures waits { result ≡ false → DoesSteps D.link D.same D.stands driver.old driver.new set.old set.new links.old links.new [] }
+{
+    let mut held = port.lock(rt);
+    held.restore(set);
+    if !driver.step(links, 0, &mut held, step, 0) {
+        return false;
+    }
+    *set = held.settings();
+    true
+}
+
+/// Tries a step, and says whether it is done. The port is held over the try, but not over a window's or a release's,
+/// which see none.
+fn try_step<D: DriverEnd>(
+    rt: &impl Wait,
+    driver: &mut LoggedDriver,
+    set: &mut DriverSettings,
+    links: &mut [D],
+    port: &Mutex<Port>,
+    step: &Step,
+) -> bool
+    requires { MayWork D.link driver.old links.old 1 }
+    ensures done { result ≡ true →
+        DoesSteps D.link D.same D.stands driver.old driver.new set.old set.new links.old links.new (step.now ∷ []) }
+    ensures waits { result ≡ false → DoesSteps D.link D.same D.stands driver.old driver.new set.old set.new links.old links.new [] }
 {
     match step {
         Step::Window => driver.step_window(links, 0, 0),
         Step::Release => driver.step_release(links, 0, 0),
-        _ => {
-            let mut held = port.lock(rt);
-            driver.step(links, 0, &mut held, step, 0)
-        }
+        _ => try_at_port(rt, driver, set, links, port, step),
     }
 }
 
@@ -46,6 +69,7 @@ fn try_step<D: DriverEnd>(
 fn try_if<D: DriverEnd>(
     rt: &impl Wait,
     driver: &mut LoggedDriver,
+    set: &mut DriverSettings,
     links: &mut [D],
     port: &Mutex<Port>,
     step: &Step,
@@ -53,11 +77,11 @@ fn try_if<D: DriverEnd>(
 ) -> bool
     requires { MayWork D.link driver.old links.old 1 }
     ensures done { result ≡ true →
-        DoesSteps D.link D.same D.stands driver.old driver.new links.old links.new (step.now ∷ []) }
-    ensures waits { result ≡ false → DoesSteps D.link D.same D.stands driver.old driver.new links.old links.new [] }
+        DoesSteps D.link D.same D.stands driver.old driver.new set.old set.new links.old links.new (step.now ∷ []) }
+    ensures waits { result ≡ false → DoesSteps D.link D.same D.stands driver.old driver.new set.old set.new links.old links.new [] }
 {
     match pass {
-        Pass::Go => try_step(rt, driver, links, port, step),
+        Pass::Go => try_step(rt, driver, set, links, port, step),
         _ => false,
     }
 }
@@ -66,6 +90,7 @@ fn try_if<D: DriverEnd>(
 fn do_step<D: DriverEnd, G: Gate>(
     rt: &impl Wait,
     driver: &mut LoggedDriver,
+    set: &mut DriverSettings,
     links: &mut [D],
     port: &Mutex<Port>,
     step: &Step,
@@ -75,8 +100,8 @@ fn do_step<D: DriverEnd, G: Gate>(
 ) -> bool
     requires { MayWork D.link driver.old links.old 1 }
     ensures done { result ≡ true →
-        DoesSteps D.link D.same D.stands driver.old driver.new links.old links.new (step.now ∷ []) }
-    ensures quits { result ≡ false → DoesSteps D.link D.same D.stands driver.old driver.new links.old links.new [] }
+        DoesSteps D.link D.same D.stands driver.old driver.new set.old set.new links.old links.new (step.now ∷ []) }
+    ensures quits { result ≡ false → DoesSteps D.link D.same D.stands driver.old driver.new set.old set.new links.old links.new [] }
     ensures never { G.QUITS ≡ false → result ≡ true }
 {
     let parker = Parker::new();
@@ -86,7 +111,7 @@ fn do_step<D: DriverEnd, G: Gate>(
         if pass == Pass::Quit {
             return false;
         }
-        if try_if(rt, driver, links, port, step, pass) {
+        if try_if(rt, driver, set, links, port, step, pass) {
             return true;
         }
         wait_to_try(rt, &parker, tries);
@@ -99,6 +124,7 @@ fn do_step<D: DriverEnd, G: Gate>(
 fn do_steps<D: DriverEnd, G: Gate>(
     rt: &impl Wait,
     driver: &mut LoggedDriver,
+    set: &mut DriverSettings,
     links: &mut [D],
     port: &Mutex<Port>,
     steps: &[Step],
@@ -106,19 +132,55 @@ fn do_steps<D: DriverEnd, G: Gate>(
     gate: &G,
 ) -> usize
     requires { MayWork D.link driver.old links.old (length steps.now) }
-    ensures done { DoesSteps D.link D.same D.stands driver.old driver.new links.old links.new
+    ensures done { DoesSteps D.link D.same D.stands driver.old driver.new set.old set.new links.old links.new
         (take result steps.now) }
     ensures few { result ≤ length steps.now }
     ensures all { G.QUITS ≡ false → result ≡ length steps.now }
 {
     let mut number = 1u16;
     for k in 0..steps.len() {
-        if !do_step(rt, driver, links, port, &steps[k], node, number, gate) {
+        if !do_step(rt, driver, set, links, port, &steps[k], node, number, gate) {
             return k;
         }
         number = number.saturating_add(1);
     }
     steps.len()
+}
+
+/// The part of a node's driver in a thread of its own, which has set so much at its port before ([`work`]).
+pub(crate) fn work_from<D: DriverEnd + Drop, G: Gate>(
+    rt: &impl Wait,
+    node: u8,
+    set: DriverSettings,
+    links: Vec<D>,
+    port: &Mutex<Port>,
+    steps: &[Step],
+    gate: G,
+    log: WorkLog,
+) -> Worked<D>
+    requires empty { IsEmpty log }
+    requires room { HasRoom (length steps.now) log }
+    requires eight { 8 ≤ length links.items }
+    requires ids { Numbered D.link links.items 0 node }
+    ensures same { EachRelated D.same links.items result.links.items }
+    ensures worked { HasWorked D.stands set node steps.now links.items result }
+    ensures done { G.QUITS ≡ false → length (done_in (log_of result.driver)) ≡ length steps.now }
+{
+    let mut driver = LoggedDriver::new(node, log);
+    let mut links = links;
+    let mut set = set;
+    do_steps(
+        rt,
+        &mut driver,
+        &mut set,
+        links.as_mut_slice(),
+        port,
+        steps,
+        node,
+        &gate,
+    );
+    port.lock(rt).finish();
+    Worked { links, driver }
 }
 
 /// The part of a node's driver in a thread of its own (this project's own rule): the steps of its script, one after the
@@ -127,7 +189,9 @@ fn do_steps<D: DriverEnd, G: Gate>(
 /// an open activation stays open.
 ///
 /// `links` are the driver's ends of the node's eight links, by activation. The port's lock is held over a try, but not
-/// over one of `Window` or `Release`. The log is empty, with room for all steps; no step takes memory.
+/// over one of `Window` or `Release`. The driver begins with what it finds set at the port, and from then on what it
+/// sets is its own: mode bits, acceptance filter, transmit buffer and version. The log is empty, with room for all
+/// steps; no step takes memory.
 pub fn work<D: DriverEnd + Drop, G: Gate>(
     rt: &impl Wait,
     node: u8,
@@ -142,20 +206,9 @@ pub fn work<D: DriverEnd + Drop, G: Gate>(
     requires eight { 8 ≤ length links.items }
     requires ids { Numbered D.link links.items 0 node }
     ensures same { EachRelated D.same links.items result.links.items }
-    ensures worked { HasWorked D.stands node steps.now links.items result }
+    ensures worked { (set : SettingsValue) × HasWorked D.stands set node steps.now links.items result }
     ensures done { G.QUITS ≡ false → length (done_in (log_of result.driver)) ≡ length steps.now }
 {
-    let mut driver = LoggedDriver::new(node, log);
-    let mut links = links;
-    do_steps(
-        rt,
-        &mut driver,
-        links.as_mut_slice(),
-        port,
-        steps,
-        node,
-        &gate,
-    );
-    port.lock(rt).finish();
-    Worked { links, driver }
+    let set = port.lock(rt).settings();
+    work_from(rt, node, set, links, port, steps, gate, log)
 }

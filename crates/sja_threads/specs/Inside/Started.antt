@@ -3,6 +3,8 @@ use Rattle.std.specs.Prelude.{◌≡◌, ◌<◌, ℕ, Bool, false, List, length
 use Rattle.sja_link.specs.Related.{EachRelated}
 use Rattle.sja_rings.specs.declared.ring_driver.RingDriver.{RingDriver}
 use Rattle.sja_rings.specs.Ends.{DriverLists, SameDriver, link_of_driver}
+use Rattle.sja_regs.specs.DriverSettings.{settings_in}
+use Rattle.sja_regs.specs.Registers.{at_power_on}
 use Rattle.sja_plan.specs.Plan.{PlanValue}
 use Rattle.sja_driver.specs.Holding.{Numbered}
 use Rattle.sja_driver.specs.LoggedDrivers.{log_of}
@@ -24,7 +26,7 @@ pub record IsHand {G : Type 0} (plan : PlanValue) (h : Hand G) : Type 0 where
 pub record HandsBack (quits : Bool) (plan : PlanValue) (node : ℕ) (links : List RingDriver) (w : Worked RingDriver) :
     Type 0 where
   pub sames : EachRelated SameDriver links w.links.items
-  pub worked : HasWorked DriverLists node (steps_at plan node) links w
+  pub worked : HasWorked DriverLists (settings_in (at_power_on plan.version)) node (steps_at plan node) links w
   pub done : quits ≡ false → length (done_in (log_of w.driver)) ≡ length (steps_at plan node)
 
 -- the same of what a thread began with

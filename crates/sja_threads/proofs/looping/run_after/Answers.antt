@@ -1,9 +1,9 @@
-use Rattle.std.proofs.Common.{length, arith}
+use Rattle.std.proofs.Common.{rules, length, arith}
 use Rattle.sja_link.specs.Related.{EachRelated}
 use Rattle.sja_link.proofs.Related.{each_refl, each_trans}
 use Rattle.sja_rings.specs.Ends.{SameBus}
 use Rattle.sja_threads.proofs.Same.{bus_refl, bus_trans}
-use Rattle.sja_threads.proofs.Underway.{may_go_on, ran_on}
+use Rattle.sja_threads.proofs.Underway.{may_go_on, ran_on, due_gather, out_spent}
 use Rattle.sja_threads.proofs.looping.run_after.Given.{Over}
 use Rattle.sja_threads.proofs.looping.run_after.Goals.{After-bit_if_due}
 use Rattle.sja_threads.proofs.looping.run_after.Goals as goal
@@ -49,8 +49,19 @@ returns-in_default-2-clause-sames g c = run_sames g (goal.at.returns-in_default-
 
 pub loop-now-preserved : goal.loop-now-preserved
 loop-now-preserved g c = record {
-  run = ran_on c.args.plan.now c.loop-now.now c.args.spent _ _ _ c.loop-now.invariant.run.all c.in-Ran.is
+  run = ran_on c.args.plan.now c.loop-now.now c.args.spent _ _ _ _ c.loop-now.invariant.run.all c.in-Ran.is
       c.in_ok-bit_if_due.ensures.moved;
   sames = run_sames g (goal.at.loop-now-preserved g c).After-bit_if_due;
   ports = let was = c.loop-now.invariant.ports in let same = c.bit_if_due.ensures.ports in omega (arith, was, same);
 }
+
+pub returns-in_default-clause-out : goal.returns-in_default-clause-out
+returns-in_default-clause-out g c =
+    let r = c.loop-now.invariant.run in
+    let e = c.gather.ensures in
+    let o = c.in_ok-gather.ensures in
+    let d = due_gather c.args.plan.now c.loop-now.bus c.gather.new.self c.loop-now.links c.gather.new.links r.way o.right
+    e.script e.nodes e.sames o.kept o.items in
+    out_spent c.args.plan.now c.loop-now.now c.loop-now.bus.journals c.bit_if_due.new.bus c.bit_if_due.new.links
+    (r.all (search rules)) (λ bits due. c.in_ok-bit_if_due.ensures.due bits (d bits due)) _ c.in-Rests.is
+    c.in_ok-bit_if_due.ensures.moved

@@ -33,7 +33,7 @@ returns-then-all_ended-clause-sames g c =
 pub loop-preserved-then-eq : goal.loop-preserved-then-eq
 loop-preserved-then-eq g c =
     let is : c.in_ok-moved.moved ≡ Ran = search rules in record {
-      run = ran_on c.args.plan.now c.loop.run c.loop.spent _ _ _ c.loop.invariant.run.all is
+      run = ran_on c.args.plan.now c.loop.run c.loop.spent _ _ _ _ c.loop.invariant.run.all is
           c.in_ok-moved.ensures.moved;
       sames = turned_sames g (goal.at.loop-preserved-then-eq g c).After-turn_beside;
       ports = let was = c.loop.invariant.ports in let same = c.turn_beside.ensures.ports in omega (arith, was, same);

@@ -5,5 +5,6 @@ use Rattle.sja_threads.proofs.working.do_steps.Given as goal
 abbrev pub invariant-loop-k : goal.invariant-loop-k
 invariant-loop-k g l = record {
   done : let E = g.D.DriverEnd in
-      DoesSteps E.link E.same E.stands l.initial.driver l.driver l.initial.links l.links (take l.k l.steps);
+      DoesSteps E.link E.same E.stands l.initial.driver l.driver l.initial.set l.set l.initial.links l.links
+      (take l.k l.steps);
 }

@@ -1,0 +1,38 @@
+-- The port of a driver that is in reset.
+use Rattle.std.proofs.Common.{◌≡◌, ℕ, Bool, true, false, List, ◌∷◌, [], ◌++◌, refl, sym, ◌∙◌, ap, arith}
+use Rattle.std.specs.Prelude.{◌||◌, not}
+use Rattle.sja_link.specs.Showing.{seen_of}
+use Rattle.sja_regs.specs.declared.registers.Registers.{Registers}
+use Rattle.sja_regs.specs.DriverSettings.{SettingsValue}
+use Rattle.sja_script.specs.declared.step.Step.{Step}
+use Rattle.sja_script.specs.declared.step.Step.TheVariants.{Start, Stop, Window, Release, Read}
+use Rattle.sja_script.specs.declared.step.Step.TheVariants.{Write, Load, Command, Await, Sent}
+use Rattle.sja_script.specs.declared.step_answer.StepAnswer.{StepAnswer}
+use Rattle.sja_script.specs.declared.step_answer.StepAnswer.TheVariants.{Done}
+use Rattle.sja_driver.specs.Carried.{ported}
+use Rattle.sja_driver.specs.Deeds.{Deed, opened, active_after, is_active}
+use Rattle.sja_driver.proofs.Sections.{active_push}
+use Rattle.sja_turns.proofs.Modes.{rm_step}
+use Rattle.sja_threads.specs.Setting.{LeadTo}
+use Rattle.sja_threads.specs.Setting.LeadTo.{nothing_done, step_done}
+
+-- a step after which a driver is in reset opened no activation
+none_opened : (active : Bool) (step : Step) (answer : StepAnswer) → active_after active step answer ≡ false →
+    opened step answer ≡ 0
+none_opened active Start Done e = absurd cc
+none_opened active step answer e = refl
+
+-- where the registers are in reset mode for a driver in reset, they are after its step too
+after_step : (b : Bool) (p : Registers) (step : Step) (answer : StepAnswer) → (b ≡ false → p.mode.rm ≡ true) →
+    p.mode.rm ≡ (not b || p.mode.rm)
+after_step true p step answer h = refl
+after_step false p step answer h = h refl
+
+pub reset_kept : (first : SettingsValue) (deeds : List Deed) (s : SettingsValue) → LeadTo first deeds s →
+    first.mode.rm ≡ true → is_active deeds ≡ false → s.mode.rm ≡ true
+reset_kept first deeds s nothing_done rm out = rm
+reset_kept first deeds s (step_done before d was p l has done) rm out =
+    let ends : active_after (is_active before) d.step d.answer ≡ false = sym (active_push false before d) ∙ out in
+    (rm_step p d.step d.answer (is_active before) (is_active before) (seen_of done.off done.window) p.mode.rm done.tells
+    (after_step (is_active before) p d.step d.answer (λ e. has.reset (reset_kept first before was l rm e)))).0
+    (none_opened (is_active before) d.step d.answer ends) ∙ ap (λ (b : Bool). not b || p.mode.rm) ends

@@ -1,0 +1,27 @@
+-- What the steps of a driver in a thread of its own answer by, and what they set (this project's own rule). The bus goes
+-- on meanwhile, so status, interrupts, captures and counters may be any at each step; what the driver alone sets is
+-- what its steps have set.
+use Rattle.std.specs.Prelude.{◌≡◌, ◌++◌, ℕ, Bool, true, List, [], ◌∷◌}
+use Rattle.sja_link.specs.Showing.{seen_of}
+use Rattle.sja_regs.specs.declared.registers.Registers.{Registers}
+use Rattle.sja_regs.specs.DriverSettings.{SettingsValue, settings_in, HasSettings}
+use Rattle.sja_driver.specs.Carried.{Sees, Tells, carried, ported}
+use Rattle.sja_driver.specs.Deeds.{Deed, is_active}
+
+-- a step of a driver that is out of reset or isn't was done at these registers: it answers by them and by some window,
+-- gives what it gives by them, and counts no bits
+pub record IsDoneAt (active : Bool) (p : Registers) (d : Deed) : Type 0 where
+  pub window : List (List ℕ)
+  pub off : Bool
+  pub tells : Tells d.step active p (seen_of off window) d.answer
+  pub sees : active ≡ true → Sees d.step off window d.answer
+  pub gave : d.gave ≡ carried p d.step d.answer
+  pub bits : d.bits ≡ 0
+
+-- from settings of the driver its deeds lead to others: each step is done at registers that have the settings which
+-- the steps before it have left, and leaves what it leaves
+pub data LeadTo (first : SettingsValue) : List Deed → SettingsValue → Type 0 where
+  nothing_done : LeadTo first [] first
+  step_done : (deeds : List Deed) (d : Deed) (s : SettingsValue) (p : Registers) → LeadTo first deeds s →
+      HasSettings p s → IsDoneAt (is_active deeds) p d →
+      LeadTo first (deeds ++ d ∷ []) (settings_in (ported p d.step d.answer))
