@@ -19,10 +19,10 @@ holds_pull {held = held} got released p h =
     ∙ ap (λ l. released ++ l) (sym p.told)
 
 -- the first is released
-pub holds_release : {E : Type 0} {stands : E → Lists → Type 0} {dry : E → Type 0} {old new : E} {held now_held : List (List ℕ)}
-    {off now_off : Bool} {m : List ℕ} (got : List Down) (released : List (List ℕ)) →
-    (p : Releases stands dry old new held now_held off now_off m) → Holds got released held →
-    Holds (got ++ p.pulls.got) (released ++ m ∷ []) now_held
+pub holds_release : {E : Type 0} {alike : E → E → Type 0} {stands : E → Lists → Type 0} {dry : E → Type 0}
+    {old new : E} {held now_held : List (List ℕ)} {off now_off : Bool} {m : List ℕ} (got : List Down)
+    (released : List (List ℕ)) → (p : Releases alike stands dry old new held now_held off now_off m) →
+    Holds got released held → Holds (got ++ p.pulls.got) (released ++ m ∷ []) now_held
 holds_release {now_held = now_held} {m = m} got released p h =
     holds_pull got released p.pulls h ∙ sym (append_assoc released (m ∷ []) now_held)
 

@@ -32,18 +32,21 @@ one_if false = 0
 abbrev pub IsTaken : {E : Type 0} → (E → Type 0) → E → Bool → List (List ℕ) → Type 0
 IsTaken dry end off held = (off ≡ true) ⊎ ((22 ≤ length held) ⊎ dry end)
 
--- all that the end showed was taken in, and then the first message held was released: its credit was given
-pub record Releases {E : Type 0} (stands : E → Lists → Type 0) (dry : E → Type 0) (old new : E)
-    (held now_held : List (List ℕ)) (off now_off : Bool) (m : List ℕ) : Type 0 where
+-- all that the end showed was taken in, and then, at the same end, the first message held was released: its credit was
+-- given
+pub record Releases {E : Type 0} (alike : E → E → Type 0) (stands : E → Lists → Type 0) (dry : E → Type 0)
+    (old new : E) (held now_held : List (List ℕ)) (off now_off : Bool) (m : List ℕ) : Type 0 where
   pub at : E
+  pub same : alike old at
   pub pulls : Pulls stands old at held (m ∷ now_held) off now_off
   pub all : IsTaken dry at now_off (m ∷ now_held)
   pub given : (l : Lists) → stands at l → stands new (with_given l (Credit (length m)))
 
--- all that the end showed was taken in, and then a credit came back from it
-pub record Refuses {E : Type 0} (stands : E → Lists → Type 0) (dry full : E → Type 0) (old : E) (now_off : Bool)
-    (now_held : List (List ℕ)) : Type 0 where
+-- all that the end showed was taken in, and then, at the same end, a credit came back
+pub record Refuses {E : Type 0} (alike : E → E → Type 0) (stands : E → Lists → Type 0) (dry full : E → Type 0)
+    (old : E) (now_off : Bool) (now_held : List (List ℕ)) : Type 0 where
   pub at : E
+  pub same : alike old at
   pub got : List Down
   pub lists : (l : Lists) → stands old l → stands at (with_gots l got)
   pub all : IsTaken dry at now_off now_held

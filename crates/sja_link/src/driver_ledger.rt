@@ -107,7 +107,7 @@ impl DriverLedger {
         requires { E.link end.old ≡ link_of self.old }
         ensures id { link_of self.new ≡ link_of self.old }
         ensures same { E.same end.old end.new }
-        ensures ok { IfOk result (λ n. (m : List ℕ) × (length m ≡ n) × Releases E.stands E.dry end.old end.new
+        ensures ok { IfOk result (λ n. (m : List ℕ) × (length m ≡ n) × Releases E.same E.stands E.dry end.old end.new
             (held_by self.old) (held_by self.new) (knows_off self.old) (knows_off self.new) m) }
         ensures on { OnOk result (knows_off self.new ≡ false) }
         ensures err { OnErr result (Pulls E.stands end.old end.new (held_by self.old) (held_by self.new)
@@ -116,7 +116,7 @@ impl DriverLedger {
         ensures empty { result ≡ Err Empty → (knows_off self.new ≡ false) × (held_by self.new ≡ [])
             × E.dry end.new }
         ensures busy { result ≡ Err Busy → (knows_off self.new ≡ false)
-            × Refuses E.stands E.dry E.full end.old (knows_off self.new) (held_by self.new) }
+            × Refuses E.same E.stands E.dry E.full end.old (knows_off self.new) (held_by self.new) }
     {
         self.pull(end);
         if self.off {
