@@ -32,13 +32,13 @@ use Rattle.sja_driver.proofs.Stepping.{left_count}
 use Rattle.sja_driver.proofs.Traced.{lengths, traces_deed, stands_answered, stands_released, stands_ended, ended_off}
 
 -- a try at the link of that place came to o, and the log has what it adds
-pub record Came {E : Type 0} (stands : E → Lists → Type 0) (dry full : E → Type 0) (was nxt : AnyDriver)
-    (log now : WorkLog) (links : List E) (base node bits : ℕ) (p q : Registers) (step : Step) (d0 new : E) (k : ℕ)
-    (o : Tried) : Type 0 where
+pub record Came {E : Type 0} (alike : E → E → Type 0) (stands : E → Lists → Type 0) (dry full : E → Type 0)
+    (was nxt : AnyDriver) (log now : WorkLog) (links : List E) (base node bits : ℕ) (p q : Registers) (step : Step)
+    (d0 new : E) (k : ℕ) (o : Tried) : Type 0 where
   pub few : k < 8
   pub room : base + 8 ≤ length links
   pub own : IsDriverOf node (length (left_in log)) was
-  pub acts : Acts stands dry full (slice_index_or links (base + k) d0) new p q step was nxt o
+  pub acts : Acts alike stands dry full (slice_index_or links (base + k) d0) new p q step was nxt o
   pub done : done_in now ≡ done_in log ++ done_by o bits
   pub released : releases_in now ≡ releases_in log ++ releases_by (length (left_in log)) o
   pub left : left_in now ≡ left_in log ++ left_by o
@@ -79,8 +79,8 @@ traces_unmet was nxt log now t done released opens out h =
       answered = h.answered;
     })
 
-module _ {E : Type 0} (stands : E → Lists → Type 0) (dry full : E → Type 0) (was nxt : AnyDriver) (log now : WorkLog)
-    (links : List E) (base node bits : ℕ) (p q : Registers) (step : Step) (d0 new : E) where
+module _ {E : Type 0} (alike : E → E → Type 0) (stands : E → Lists → Type 0) (dry full : E → Type 0)
+    (was nxt : AnyDriver) (log now : WorkLog) (links : List E) (base node bits : ℕ) (p q : Registers) (step : Step) (d0 new : E) where
   abbrev n : ℕ
   n = length (left_in log)
 
@@ -88,7 +88,7 @@ module _ {E : Type 0} (stands : E → Lists → Type 0) (dry full : E → Type 0
   links_now = slice_set links (base + n) new
 
   abbrev CameTo : Tried → Type 0
-  CameTo o = Came stands dry full was nxt log now links base node bits p q step d0 new n o
+  CameTo o = Came alike stands dry full was nxt log now links base node bits p q step d0 new n o
 
   abbrev GoesBy : Tried → Type 0
   GoesBy o = Goes stands was nxt log now links links_now base (deeds_by p step o bits)

@@ -87,8 +87,8 @@ holds_idle {E} stands t d rel rel' left n k off j links base d0 new few room ng 
 
 -- ---- all eight activations used
 
-module _ {E : Type 0} (stands : E → Lists → Type 0) (dry full : E → Type 0) (log now : WorkLog) (links : List E)
-    (base node bits k : ℕ) (p q : Registers) (step : Step) (d0 new : E) where
+module _ {E : Type 0} (alike : E → E → Type 0) (stands : E → Lists → Type 0) (dry full : E → Type 0)
+    (log now : WorkLog) (links : List E) (base node bits k : ℕ) (p q : Registers) (step : Step) (d0 new : E) where
   abbrev spent : ℕ
   spent = length (left_in log)
 
@@ -96,7 +96,7 @@ module _ {E : Type 0} (stands : E → Lists → Type 0) (dry full : E → Type 0
   links_after = slice_set links (base + k) new
 
   abbrev Comes : AnyDriver → AnyDriver → Tried → Type 0
-  Comes was nxt o = Came stands dry full was nxt log now links base node bits p q step d0 new k o
+  Comes was nxt o = Came alike stands dry full was nxt log now links base node bits p q step d0 new k o
 
   abbrev GoesOn : AnyDriver → AnyDriver → Tried → Type 0
   GoesOn was nxt o = Goes stands was nxt log now links links_after base (deeds_by p step o bits)
@@ -134,18 +134,18 @@ module _ {E : Type 0} (stands : E → Lists → Type 0) (dry full : E → Type 0
       }
 
 -- a step over a node's links: at that of the present activation, and at any where all eight were used
-pub goes_step : {E : Type 0} (stands : E → Lists → Type 0) (dry full : E → Type 0) (was nxt : AnyDriver)
-    (log now : WorkLog) (links : List E) (base node bits : ℕ) (p q : Registers) (step : Step) (d0 new : E) (k : ℕ)
-    (o : Tried) → (length (left_in log) < 8 → k ≡ length (left_in log)) →
-    Came stands dry full was nxt log now links base node bits p q step d0 new k o →
+pub goes_step : {E : Type 0} (alike : E → E → Type 0) (stands : E → Lists → Type 0) (dry full : E → Type 0)
+    (was nxt : AnyDriver) (log now : WorkLog) (links : List E) (base node bits : ℕ) (p q : Registers) (step : Step)
+    (d0 new : E) (k : ℕ) (o : Tried) → (length (left_in log) < 8 → k ≡ length (left_in log)) →
+    Came alike stands dry full was nxt log now links base node bits p q step d0 new k o →
     Goes stands was nxt log now links (slice_set links (base + k) new) base (deeds_by p step o bits)
-goes_step {E} stands dry full was nxt log now links base node bits p q step d0 new k o here c =
+goes_step {E} alike stands dry full was nxt log now links base node bits p q step d0 new k o here c =
     let n = length (left_in log) in
     elim (cases_eq n 8) [
-      | inl e ↦ goes_spent stands dry full log now links base node bits k p q step d0 new was nxt o e c
+      | inl e ↦ goes_spent alike stands dry full log now links base node bits k p q step d0 new was nxt o e c
       | inr ne ↦ let eq = here (below n (at_most node n was c.own) ne) in
           subst (λ (m : ℕ). Goes stands was nxt log now links (slice_set links (base + m) new) base
           (deeds_by p step o bits)) (sym eq)
-          (goes_few stands dry full was nxt log now links base node bits p q step d0 new o
-          (subst (λ (m : ℕ). Came stands dry full was nxt log now links base node bits p q step d0 new m o) eq c))
+          (goes_few alike stands dry full was nxt log now links base node bits p q step d0 new o
+          (subst (λ (m : ℕ). Came alike stands dry full was nxt log now links base node bits p q step d0 new m o) eq c))
     ]

@@ -85,13 +85,13 @@ pub inside : (base ended k n : ℕ) → k ≡ min ended 7 → base + 8 ≤ n →
 inside base ended k n is room = let l = min_less ended in omega (arith, is, l, room)
 
 -- a try at the present link is a logged step
-pub steps_of : {E : Type 0} (stands : E → Lists → Type 0) (dry full : E → Type 0) (was now : LoggedDriver)
-    (links : List E) (base bits k : ℕ) (p q : Registers) (step : Step) (d0 new : E) (o : Tried) (done : Bool) →
-    IsLawful was → base + 8 ≤ length links → k ≡ min (ended_of was) 7 →
-    Acts stands dry full (slice_index_or links (base + k) d0) new p q step (driver_of was) (driver_of now) o →
+pub steps_of : {E : Type 0} (alike : E → E → Type 0) (stands : E → Lists → Type 0) (dry full : E → Type 0)
+    (was now : LoggedDriver) (links : List E) (base bits k : ℕ) (p q : Registers) (step : Step) (d0 new : E) (o : Tried)
+    (done : Bool) → IsLawful was → base + 8 ≤ length links → k ≡ min (ended_of was) 7 →
+    Acts alike stands dry full (slice_index_or links (base + k) d0) new p q step (driver_of was) (driver_of now) o →
     Enters (log_of was) (log_of now) o bits done →
-    Steps stands dry full was now links (slice_set links (base + k) new) base p q step bits done
-steps_of {E} stands dry full was now links base bits k p q step d0 new o done lawful room is acts enters =
+    Steps alike stands dry full was now links (slice_set links (base + k) new) base p q step bits done
+steps_of {E} alike stands dry full was now links base bits k p q step d0 new o done lawful room is acts enters =
     let links_now : List E = slice_set links (base + k) new in
     let few : k < 8 = let l = min_less (ended_of was) in omega (arith, is, l) in
     let inside : base + k < length links = omega (arith, few, room) in
@@ -99,13 +99,13 @@ steps_of {E} stands dry full was now links base bits k p q step d0 new o done la
     record {
       tried = o;
       met = enters.met;
-      acts = λ d e. subst (λ (i : ℕ). Acts stands dry full (slice_index_or links i d) (slice_index_or links_now i e) p q
-          step (driver_of was) (driver_of now) o) at
+      acts = λ d e. subst (λ (i : ℕ). Acts alike stands dry full (slice_index_or links i d)
+          (slice_index_or links_now i e) p q step (driver_of was) (driver_of now) o) at
           (rw (get_or_default links (base + k) d d0 inside, get_or-set_same links (base + k) new e inside) acts);
       logged = enters.entered;
       releases = enters.released;
       leaves = enters.left;
-      goes = goes_step stands dry full (driver_of was) (driver_of now) (log_of was) (log_of now) links base
+      goes = goes_step alike stands dry full (driver_of was) (driver_of now) (log_of was) (log_of now) links base
           (node_of was) bits p q step d0 new k o (λ l. is ∙ min_few (ended_of was) l) (record {
             few = few;
             room = room;

@@ -30,20 +30,24 @@ first_is [] now_held more m x s e = elim (none_is_not s) [ ]
 first_is (y ∷ held) now_held more m x s e = ap (λ w. unwrap_or (slice_get w 0) []) e ∙ ap (λ w. unwrap_or w []) s
 
 -- a look before a release, or before one that the end refuses
-pub release_after : {E : Type 0} (stands : E → Lists → Type 0) (dry : E → Type 0) (a b c : E) (h i j : List (List ℕ))
-    (x y z : Bool) (m : List ℕ) → Pulls stands a b h i x y → Releases stands dry b c i j y z m →
-    Releases stands dry a c h j x z m
-release_after stands dry a b c h i j x y z m p r = record {
+pub release_after : {E : Type 0} (alike : E → E → Type 0) (stands : E → Lists → Type 0) (dry : E → Type 0) (a b c : E)
+    (h i j : List (List ℕ)) (x y z : Bool) (m : List ℕ) → ((e f g : E) → alike e f → alike f g → alike e g) →
+    alike a b → Pulls stands a b h i x y → Releases alike stands dry b c i j y z m →
+    Releases alike stands dry a c h j x z m
+release_after alike stands dry a b c h i j x y z m carries same p r = record {
   at = r.at;
+  same = carries a b r.at same r.same;
   pulls = pulls_trans stands a b r.at h i (m ∷ j) x y z p r.pulls;
   all = r.all;
   given = r.given;
 }
 
-refuse_after : {E : Type 0} (stands : E → Lists → Type 0) (dry full : E → Type 0) (a b : E) (h i j : List (List ℕ))
-    (x y z : Bool) → Pulls stands a b h i x y → Refuses stands dry full b z j → Refuses stands dry full a z j
-refuse_after stands dry full a b h i j x y z p r = record {
+refuse_after : {E : Type 0} (alike : E → E → Type 0) (stands : E → Lists → Type 0) (dry full : E → Type 0) (a b : E)
+    (h i j : List (List ℕ)) (x y z : Bool) → ((e f g : E) → alike e f → alike f g → alike e g) → alike a b →
+    Pulls stands a b h i x y → Refuses alike stands dry full b z j → Refuses alike stands dry full a z j
+refuse_after alike stands dry full a b h i j x y z carries same p r = record {
   at = r.at;
+  same = carries a b r.at same r.same;
   got = p.got ++ r.got;
   lists = λ l s. subst (λ (xs : List Down). stands r.at (record l { got = xs })) (append_assoc l.got p.got r.got)
       (r.lists (with_gots l p.got) (p.lists l s));
@@ -69,15 +73,16 @@ stays : (d e : Driver Active) → link_in e ≡ link_in d → (node n : ℕ) →
 stays d e same node n h =
     subst (λ (k : ℕ). IsDriverOf node k (InActive e)) (sym (add-zero n)) (same ∙ h.0, h.1)
 
-module _ {E : Type 0} (stands : E → Lists → Type 0) (dry full : E → Type 0) (old mid new : E)
-    (d b e : Driver Active) where
+module _ {E : Type 0} (alike : E → E → Type 0) (stands : E → Lists → Type 0) (dry full : E → Type 0)
+    (old mid new : E) (d b e : Driver Active) (carries : (e f g : E) → alike e f → alike f g → alike e g)
+    (looked : alike old mid) where
   pub released_acts : (m : List ℕ) → link_in e ≡ link_in d → off_in e ≡ false →
       Pulls stands old mid (held_in d) (held_in b) (off_in d) (off_in b) →
-      Releases stands dry mid new (held_in b) (held_in e) (off_in b) (off_in e) m →
-      (p : Registers) → Acts stands dry full old new p p Release (InActive d) (InActive e) (Released m)
+      Releases alike stands dry mid new (held_in b) (held_in e) (off_in b) (off_in e) m →
+      (p : Registers) → Acts alike stands dry full old new p p Release (InActive d) (InActive e) (Released m)
   released_acts m same on look release p =
-      let r = release_after stands dry old mid new (held_in d) (held_in b) (held_in e) (off_in d) (off_in b) (off_in e)
-      m look release in
+      let r = release_after alike stands dry old mid new (held_in d) (held_in b) (held_in e) (off_in d) (off_in b)
+      (off_in e) m carries looked look release in
       record {
         does = record {
           got = r.pulls.got;
@@ -90,7 +95,7 @@ module _ {E : Type 0} (stands : E → Lists → Type 0) (dry full : E → Type 0
         fits = tt;
         sees = subst (λ (x : Bool). Sees Release x (m ∷ held_in e) (ReleasedAnswer (length m))) (sym on) refl;
         tells = tt;
-        looks = record { at = r.at; pulls = r.pulls; all = r.all };
+        looks = record { at = r.at; same = r.same; pulls = r.pulls; all = r.all };
         waits = tt;
         kind = refl;
         out = refl;
@@ -101,8 +106,8 @@ module _ {E : Type 0} (stands : E → Lists → Type 0) (dry full : E → Type 0
 
   pub unmet_acts : link_in e ≡ link_in d → Pulls stands old mid (held_in d) (held_in b) (off_in d) (off_in b) →
       Pulls stands mid new (held_in b) (held_in e) (off_in b) (off_in e) →
-      (off_in e ≡ false) × Refuses stands dry full mid (off_in e) (held_in e) →
-      (p : Registers) → Acts stands dry full old new p p Release (InActive d) (InActive e) Unmet
+      (off_in e ≡ false) × Refuses alike stands dry full mid (off_in e) (held_in e) →
+      (p : Registers) → Acts alike stands dry full old new p p Release (InActive d) (InActive e) Unmet
   unmet_acts same look more refuses p = record {
     does = does_pull stands old new (held_in d) (held_in e) (off_in d) (off_in e)
         (pulls_trans stands old mid new (held_in d) (held_in b) (held_in e) (off_in d) (off_in b) (off_in e) look more);
@@ -114,8 +119,8 @@ module _ {E : Type 0} (stands : E → Lists → Type 0) (dry full : E → Type 0
     looks = tt;
     waits = (
       refuses.0,
-      refuse_after stands dry full old mid (held_in d) (held_in b) (held_in e) (off_in d) (off_in b) (off_in e) look
-          (refuses.1),
+      refuse_after alike stands dry full old mid (held_in d) (held_in b) (held_in e) (off_in d) (off_in b) (off_in e)
+          carries looked look (refuses.1),
     );
     kind = tt;
     out = refl;
@@ -124,11 +129,12 @@ module _ {E : Type 0} (stands : E → Lists → Type 0) (dry full : E → Type 0
     quiet = tt;
   }
 
-  pub stopped_acts : link_in e ≡ link_in d → off_in e ≡ true →
+  pub stopped_acts : alike mid new → link_in e ≡ link_in d → off_in e ≡ true →
       Pulls stands old mid (held_in d) (held_in b) (off_in d) (off_in b) →
       Pulls stands mid new (held_in b) (held_in e) (off_in b) (off_in e) →
-      (p : Registers) → Acts stands dry full old new p p Release (InActive d) (InActive e) (Answered (Refused Stopped))
-  stopped_acts same off look more p =
+      (p : Registers) → Acts alike stands dry full old new p p Release (InActive d) (InActive e)
+      (Answered (Refused Stopped))
+  stopped_acts alike_now same off look more p =
       let pulls = pulls_trans stands old mid new (held_in d) (held_in b) (held_in e) (off_in d) (off_in b) (off_in e)
       look more in
       record {
@@ -138,7 +144,7 @@ module _ {E : Type 0} (stands : E → Lists → Type 0) (dry full : E → Type 0
         fits = tt;
         sees = subst (λ (x : Bool). Sees Release x (held_in e) (Refused Stopped)) (sym off) refl;
         tells = tt;
-        looks = record { at = new; pulls = pulls; all = inl off };
+        looks = record { at = new; same = carries old mid new looked alike_now; pulls = pulls; all = inl off };
         waits = tt;
         kind = refl;
         out = refl;

@@ -33,10 +33,11 @@ pub record Does {E : Type 0} (stands : E → Lists → Type 0) (old new : E) (he
   pub told : released ++ now_held ≡ held ++ messages got
   pub off_is : now_off ≡ off_among off got
 
--- all that the end showed was taken in, and by then these were the messages got and not released
-pub record Looks {E : Type 0} (stands : E → Lists → Type 0) (dry : E → Type 0) (old : E)
+-- all that the end showed was taken in, and then, at the same end, these were the messages got and not released
+pub record Looks {E : Type 0} (alike : E → E → Type 0) (stands : E → Lists → Type 0) (dry : E → Type 0) (old : E)
     (held window : List (List ℕ)) (off now_off : Bool) : Type 0 where
   pub at : E
+  pub same : alike old at
   pub pulls : Pulls stands old at held window off now_off
   pub all : IsTaken dry at now_off window
 
@@ -67,23 +68,23 @@ IfTakingNothing other P = Unit {0}
 -- known and a message is held: the end gave its item back. A command that the port doesn't refuse: the end gave its
 -- request back. A wait: all that the end showed was taken in, the bits aren't spent, and fewer messages are at the
 -- driver's end than it waits for, or TBS is 0. No other step is ever tried again, and in reset none but the start
-abbrev pub Waits : {E : Type 0} → (E → Lists → Type 0) → (E → Type 0) → (E → Type 0) → E → Registers → Step →
-    AnyDriver → AnyDriver → Type 0
-Waits stands dry full old p Start (InReset was) now = (started_in was < 8) × full old
-Waits stands dry full old p Stop (InActive was) now = full old
-Waits stands dry full old p Release (InActive was) now = (off_of now ≡ false)
-    × Refuses stands dry full old (off_of now) (held_of now)
-Waits stands dry full old p (Command value) (InActive was) now = full old × (requests (command_of value) ≡ true)
+abbrev pub Waits : {E : Type 0} → (E → E → Type 0) → (E → Lists → Type 0) → (E → Type 0) → (E → Type 0) → E →
+    Registers → Step → AnyDriver → AnyDriver → Type 0
+Waits alike stands dry full old p Start (InReset was) now = (started_in was < 8) × full old
+Waits alike stands dry full old p Stop (InActive was) now = full old
+Waits alike stands dry full old p Release (InActive was) now = (off_of now ≡ false)
+    × Refuses alike stands dry full old (off_of now) (held_of now)
+Waits alike stands dry full old p (Command value) (InActive was) now = full old × (requests (command_of value) ≡ true)
     × (first_fault (command_faults p (command_of value)) ≡ None)
-Waits stands dry full old p (Await count) (InActive was) now = (p.closed ≡ false) × (off_of now ≡ false)
-    × (length (held_of now) < count) × Looks stands dry old (held_in was) (held_of now) (off_in was) (off_of now)
-Waits stands dry full old p Sent (InActive was) now = (p.closed ≡ false) × (p.tbs ≡ false)
-    × Looks stands dry old (held_in was) (held_of now) (off_in was) (off_of now)
-Waits stands dry full old p other was now = ⊥
+Waits alike stands dry full old p (Await count) (InActive was) now = (p.closed ≡ false) × (off_of now ≡ false)
+    × (length (held_of now) < count) × Looks alike stands dry old (held_in was) (held_of now) (off_in was) (off_of now)
+Waits alike stands dry full old p Sent (InActive was) now = (p.closed ≡ false) × (p.tbs ≡ false)
+    × Looks alike stands dry old (held_in was) (held_of now) (off_in was) (off_of now)
+Waits alike stands dry full old p other was now = ⊥
 
 -- a driver tried a step at its end, and at a port whose registers it found as p and left as q
-pub record Acts {E : Type 0} (stands : E → Lists → Type 0) (dry full : E → Type 0) (old new : E) (p q : Registers)
-    (step : Step) (was now : AnyDriver) (o : Tried) : Type 0 where
+pub record Acts {E : Type 0} (alike : E → E → Type 0) (stands : E → Lists → Type 0) (dry full : E → Type 0)
+    (old new : E) (p q : Registers) (step : Step) (was now : AnyDriver) (o : Tried) : Type 0 where
   -- what was got, given, released and held
   pub does : Does stands old new (held_of was) (held_after now o) (off_of was) (off_after now o) (released_by o)
       (gave_by p step o)
@@ -97,9 +98,9 @@ pub record Acts {E : Type 0} (stands : E → Lists → Type 0) (dry full : E →
   pub tells : IfAnswered o (Tells step (is_out was) p (seen_by now))
   -- that window is all that the link showed
   pub looks : IfOut was (IfLooking step (IfAnswered o (λ answer.
-      Looks stands dry old (held_of was) (window_after now o) (off_of was) (off_after now o))))
+      Looks alike stands dry old (held_of was) (window_after now o) (off_of was) (off_after now o))))
   -- why there is no answer
-  pub waits : IfUnmet o (Waits stands dry full old p step was now)
+  pub waits : IfUnmet o (Waits alike stands dry full old p step was now)
   -- the driver after it
   pub kind : IsOf step o
   pub out : is_out now ≡ is_out_after (is_out was) step o

@@ -54,13 +54,14 @@ pub record StaysLawful {E : Type 0} (link : E → LinkId) (alike : E → E → T
 
 -- a step was tried at the link of the present activation, and at a port whose registers were p and are q then; it is
 -- done or isn't
-pub record Steps {E : Type 0} (stands : E → Lists → Type 0) (dry full : E → Type 0) (was now : LoggedDriver)
-    (links links_now : List E) (base : ℕ) (p q : Registers) (step : Step) (bits : ℕ) (done : Bool) : Type 0 where
+pub record Steps {E : Type 0} (alike : E → E → Type 0) (stands : E → Lists → Type 0) (dry full : E → Type 0)
+    (was now : LoggedDriver) (links links_now : List E) (base : ℕ) (p q : Registers) (step : Step) (bits : ℕ)
+    (done : Bool) : Type 0 where
   -- what came of it
   pub tried : Tried
   pub met : done ≡ is_met tried
   -- at that link and at the port
-  pub acts : (d e : E) → Acts stands dry full (slice_index_or links (place_after base (ended_of was)) d)
+  pub acts : (d e : E) → Acts alike stands dry full (slice_index_or links (place_after base (ended_of was)) d)
       (slice_index_or links_now (place_after base (ended_of was)) e) p q step (driver_of was) (driver_of now) tried
   -- what the log has more
   pub logged : done_in (log_of now) ≡ done_in (log_of was) ++ done_by tried bits

@@ -143,7 +143,7 @@ impl Driver<Active> {
         requires { E.link end.old ≡ link_in self.old }
         ensures link { link_in self.new ≡ link_in self.old }
         ensures same { E.same end.old end.new }
-        ensures ok { IfOk result (λ n. (m : List ℕ) × (length m ≡ n) × Releases E.stands E.dry end.old end.new
+        ensures ok { IfOk result (λ n. (m : List ℕ) × (length m ≡ n) × Releases E.same E.stands E.dry end.old end.new
             (held_in self.old) (held_in self.new) (off_in self.old) (off_in self.new) m) }
         ensures on { OnOk result (off_in self.new ≡ false) }
         ensures err { OnErr result (Pulls E.stands end.old end.new (held_in self.old) (held_in self.new)
@@ -151,7 +151,7 @@ impl Driver<Active> {
         ensures stopped { result ≡ Err FaultStopped → off_in self.new ≡ true }
         ensures empty { result ≡ Err Empty → (off_in self.new ≡ false) × (held_in self.new ≡ []) × E.dry end.new }
         ensures busy { result ≡ Err ReleaseBusy → (off_in self.new ≡ false)
-            × Refuses E.stands E.dry E.full end.old (off_in self.new) (held_in self.new) }
+            × Refuses E.same E.stands E.dry E.full end.old (off_in self.new) (held_in self.new) }
     {
         self.state.ledger.release(end)
     }

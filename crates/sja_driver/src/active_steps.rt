@@ -23,7 +23,7 @@ const STATUS: u8 = 2;
 pub(crate) fn window_step<E: DriverEnd>(driver: &mut AnyDriver, end: &mut E) -> Attempt
     requires { FitsEnd E.link end.old driver.old }
     ensures same { E.same end.old end.new }
-    ensures acts { (p : Registers) → Acts E.stands E.dry E.full end.old end.new p p Window driver.old driver.new
+    ensures acts { (p : Registers) → Acts E.same E.stands E.dry E.full end.old end.new p p Window driver.old driver.new
         (tried_of result) }
 {
     let AnyDriver::InActive(driver) = driver else {
@@ -41,7 +41,7 @@ pub(crate) fn window_step<E: DriverEnd>(driver: &mut AnyDriver, end: &mut E) -> 
 pub(crate) fn release_step<E: DriverEnd>(driver: &mut AnyDriver, end: &mut E) -> Attempt
     requires { FitsEnd E.link end.old driver.old }
     ensures same { E.same end.old end.new }
-    ensures acts { (p : Registers) → Acts E.stands E.dry E.full end.old end.new p p Release driver.old driver.new
+    ensures acts { (p : Registers) → Acts E.same E.stands E.dry E.full end.old end.new p p Release driver.old driver.new
         (tried_of result) }
 {
     let AnyDriver::InActive(driver) = driver else {
@@ -68,7 +68,7 @@ pub(crate) fn load_step<E: DriverEnd>(
     port: &mut Port,
     message: &Message,
 ) -> Attempt
-    ensures { (e : E) → Acts E.stands E.dry E.full e e port.old port.new (Load message.now) driver.now driver.now
+    ensures { (e : E) → Acts E.same E.stands E.dry E.full e e port.old port.new (Load message.now) driver.now driver.now
         (tried_of result) }
 {
     match driver {
@@ -86,7 +86,7 @@ pub(crate) fn command_step<E: DriverEnd>(
 ) -> Attempt
     requires { FitsEnd E.link end.old driver.old }
     ensures same { E.same end.old end.new }
-    ensures acts { Acts E.stands E.dry E.full end.old end.new port.old port.new (Command value) driver.old
+    ensures acts { Acts E.same E.stands E.dry E.full end.old end.new port.old port.new (Command value) driver.old
         driver.new (tried_of result) }
 {
     let AnyDriver::InActive(driver) = driver else {
@@ -108,7 +108,7 @@ pub(crate) fn await_step<E: DriverEnd>(
 ) -> Attempt
     requires { FitsEnd E.link end.old driver.old }
     ensures same { E.same end.old end.new }
-    ensures acts { Acts E.stands E.dry E.full end.old end.new port.old port.new (Await count) driver.old
+    ensures acts { Acts E.same E.stands E.dry E.full end.old end.new port.old port.new (Await count) driver.old
         driver.new (tried_of result) }
 {
     let AnyDriver::InActive(driver) = driver else {
@@ -136,7 +136,7 @@ pub(crate) fn sent_step<E: DriverEnd>(
 ) -> Attempt
     requires { FitsEnd E.link end.old driver.old }
     ensures same { E.same end.old end.new }
-    ensures acts { Acts E.stands E.dry E.full end.old end.new port.old port.new Sent driver.old driver.new
+    ensures acts { Acts E.same E.stands E.dry E.full end.old end.new port.old port.new Sent driver.old driver.new
         (tried_of result) }
 {
     let AnyDriver::InActive(driver) = driver else {

@@ -21,7 +21,7 @@ pub(crate) fn start_step<E: DriverEnd>(
     port: &mut Port,
 ) -> Attempt
     requires { FitsEnd E.link end.old driver.old }
-    ensures acts { Acts E.stands E.dry E.full end.old end.new port.old port.new Start driver.old driver.new
+    ensures acts { Acts E.same E.stands E.dry E.full end.old end.new port.old port.new Start driver.old driver.new
         (tried_of result) }
     ensures same { E.same end.old end.new }
 {
@@ -49,7 +49,7 @@ pub(crate) fn stop_step<E: DriverEnd>(
 ) -> Result<DriverLedger, Attempt>
     requires { FitsEnd E.link end.old driver.old }
     ensures same { E.same end.old end.new }
-    ensures acts { Acts E.stands E.dry E.full end.old end.new port.old port.new Stop driver.old driver.new
+    ensures acts { Acts E.same E.stands E.dry E.full end.old end.new port.old port.new Stop driver.old driver.new
         (stopped_by result) }
 {
     let (now, stopped) = match mem::replace(driver, AnyDriver::InReset(Driver::new(0))) {

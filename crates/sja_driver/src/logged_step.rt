@@ -36,7 +36,7 @@ impl LoggedDriver {
     ) -> bool
         requires { MayStep E.link self.old links.old base }
         ensures stays { StaysLawful E.link E.same self.old self.new links.old links.new base result }
-        ensures steps { Steps E.stands E.dry E.full self.old self.new links.old links.new base port.old port.new
+        ensures steps { Steps E.same E.stands E.dry E.full self.old self.new links.old links.new base port.old port.new
             step.now bits result }
     {
         if matches!(step, Step::Stop) {
@@ -52,8 +52,8 @@ impl LoggedDriver {
     pub fn step_window<E: DriverEnd>(&mut self, links: &mut [E], base: usize, bits: u32) -> bool
         requires { MayStep E.link self.old links.old base }
         ensures stays { StaysLawful E.link E.same self.old self.new links.old links.new base result }
-        ensures steps { (p : Registers) → Steps E.stands E.dry E.full self.old self.new links.old links.new base p p
-            Window bits result }
+        ensures steps { (p : Registers) → Steps E.same E.stands E.dry E.full self.old self.new links.old links.new base
+            p p Window bits result }
     {
         let here = base + self.turn();
         let attempt = window_step(&mut self.driver, &mut links[here]);
@@ -65,8 +65,8 @@ impl LoggedDriver {
     pub fn step_release<E: DriverEnd>(&mut self, links: &mut [E], base: usize, bits: u32) -> bool
         requires { MayStep E.link self.old links.old base }
         ensures stays { StaysLawful E.link E.same self.old self.new links.old links.new base result }
-        ensures steps { (p : Registers) → Steps E.stands E.dry E.full self.old self.new links.old links.new base p p
-            Release bits result }
+        ensures steps { (p : Registers) → Steps E.same E.stands E.dry E.full self.old self.new links.old links.new base
+            p p Release bits result }
     {
         let here = base + self.turn();
         let attempt = release_step(&mut self.driver, &mut links[here]);
@@ -85,7 +85,7 @@ impl LoggedDriver {
     ) -> bool
         requires { MayStep E.link self.old links.old base }
         ensures stays { StaysLawful E.link E.same self.old self.new links.old links.new base result }
-        ensures steps { Steps E.stands E.dry E.full self.old self.new links.old links.new base port.old port.new
+        ensures steps { Steps E.same E.stands E.dry E.full self.old self.new links.old links.new base port.old port.new
             Stop bits result }
     {
         let here = base + self.turn();
@@ -112,7 +112,7 @@ fn try_step<E: DriverEnd>(
     requires fits { FitsEnd E.link end.old driver.old }
     requires goes_on { step.now ≢ Stop }
     ensures same { E.same end.old end.new }
-    ensures acts { Acts E.stands E.dry E.full end.old end.new port.old port.new step.now driver.old driver.new
+    ensures acts { Acts E.same E.stands E.dry E.full end.old end.new port.old port.new step.now driver.old driver.new
         (tried_of result) }
 {
     match step {

@@ -20,7 +20,7 @@ pub(crate) fn read_step<E: DriverEnd>(
 ) -> Attempt
     requires { FitsEnd E.link end.old driver.old }
     ensures same { E.same end.old end.new }
-    ensures acts { Acts E.stands E.dry E.full end.old end.new port.old port.new (Read addr) driver.old driver.new
+    ensures acts { Acts E.same E.stands E.dry E.full end.old end.new port.old port.new (Read addr) driver.old driver.new
         (tried_of result) }
 {
     match driver {
@@ -38,7 +38,7 @@ pub(crate) fn write_step<E: DriverEnd>(
     addr: u8,
     value: u8,
 ) -> Attempt
-    ensures { (e : E) → Acts E.stands E.dry E.full e e port.old port.new (Write addr value) driver.now driver.now
+    ensures { (e : E) → Acts E.same E.stands E.dry E.full e e port.old port.new (Write addr value) driver.now driver.now
         (tried_of result) }
 {
     match driver {

@@ -17,7 +17,7 @@ pub returns-clause-steps : goal.returns-clause-steps
 returns-clause-steps g c =
     let e = g.E.DriverEnd in
     let tried = c.try_step-attempt in
-    steps_of e.stands e.dry e.full c.args.self.now _ c.args.links.now c.args.base c.args.bits c.turn.result
+    steps_of e.same e.stands e.dry e.full c.args.self.now _ c.args.links.now c.args.base c.args.bits c.turn.result
     c.args.port.now tried.new.port c.args.step.now c.index-links-here.result tried.new.end (tried_of tried.result)
     c.enter.result c.requires.lawful c.requires.eight c.turn.ensures tried.ensures.acts c.enter.ensures
 

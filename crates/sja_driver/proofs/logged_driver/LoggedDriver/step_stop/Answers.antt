@@ -19,7 +19,7 @@ pub returns-clause-steps : goal.returns-clause-steps
 returns-clause-steps g c =
     let e = g.E.DriverEnd in
     let stopped = c.stop_step-stopped in
-    steps_of e.stands e.dry e.full c.args.self.now _ c.args.links.now c.args.base c.args.bits c.turn.result
+    steps_of e.same e.stands e.dry e.full c.args.self.now _ c.args.links.now c.args.base c.args.bits c.turn.result
     c.args.port.now stopped.new.port step.Stop c.index-links-here.result stopped.new.end (stopped_by stopped.result)
     c.enter_stop.result c.requires.lawful c.requires.eight c.turn.ensures stopped.ensures.acts c.enter_stop.ensures
 

@@ -19,7 +19,7 @@ pub returns-clause-steps : goal.returns-clause-steps
 returns-clause-steps g c = λ p.
     let e = g.E.DriverEnd in
     let window = c.window_step-attempt in
-    steps_of e.stands e.dry e.full c.args.self.now _ c.args.links.now c.args.base c.args.bits c.turn.result p p
+    steps_of e.same e.stands e.dry e.full c.args.self.now _ c.args.links.now c.args.base c.args.bits c.turn.result p p
     step.Window c.index-links-here.result window.new.end (tried_of window.result) c.enter.result c.requires.lawful
     c.requires.eight c.turn.ensures (window.ensures.acts p) c.enter.ensures
 
