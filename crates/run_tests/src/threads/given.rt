@@ -1,16 +1,17 @@
 //! What the tests begin with: the ends of a node's links and a driver at them, and whole runs.
 
-use super::gates::Open;
+use super::gates::{Meeting, Open};
 use sja_driver::WorkLog;
 use sja_link::LinkId;
 use sja_plan::read_plan;
 use sja_regs::Port;
 use sja_report::RunLog;
 use sja_rings::{RingBus, RingDriver, ring_pair};
-use sja_script::{Refusal, Step, StepAnswer};
+use sja_script::{Done, Refusal, Step, StepAnswer};
 use sja_threads::{Gate, Worked, run_threads, work};
 use std::alloc::Global;
-use std::sync::{Mutex, Wait};
+use std::sync::atomic::AtomicU64;
+use std::sync::{Arc, Mutex, Wait};
 use std::test::Fail;
 use std::thread::Threads;
 use test_links::are_links_of_node;
@@ -57,7 +58,11 @@ pub fn drive<G: Gate>(
 
 /// Fails where these aren't the answers of the steps that were done.
 pub fn answers(worked: &Worked<RingDriver>, expected: &[StepAnswer]) -> Result<(), Fail> {
-    let done = worked.driver.log().done();
+    are_answers(worked.driver.log().done(), expected)
+}
+
+/// Fails where these aren't the answers of these steps.
+pub fn are_answers(done: &[Done], expected: &[StepAnswer]) -> Result<(), Fail> {
     if done.len() != expected.len() {
         return Err("another number of steps")?;
     }
@@ -88,6 +93,29 @@ pub fn open_gates(alloc: Global, nodes: usize) -> Result<Vec<Open>, Fail> {
     for _ in 0..nodes {
         gates.push(Open)?;
     }
+    Ok(gates)
+}
+
+/// The gates of two drivers: which steps of the first are held, and which of the second,
+/// each up to a step of the other.
+pub fn two_gates(
+    alloc: Global,
+    first: [(u16, u64); 3],
+    second: [(u16, u64); 3],
+) -> Result<Vec<Meeting>, Fail> {
+    let one = Arc::new(alloc, AtomicU64::new(0))?;
+    let other = Arc::new(alloc, AtomicU64::new(0))?;
+    let mut gates = Vec::new(alloc);
+    gates.push(Meeting {
+        own: Arc::try_clone(&one)?,
+        other: Arc::try_clone(&other)?,
+        held: first,
+    })?;
+    gates.push(Meeting {
+        own: other,
+        other: one,
+        held: second,
+    })?;
     Ok(gates)
 }
 

@@ -1,11 +1,8 @@
 //! Drivers that wait for each other.
 
-use super::gates::Meeting;
-use super::given::{counts, run};
+use super::given::{counts, run, two_gates};
 use sja_report::{End, RunLog, report};
 use std::alloc::Global;
-use std::sync::Arc;
-use std::sync::atomic::AtomicU64;
 use std::test::Fail;
 
 /// Both nodes send, and then wait for the other's frame.
@@ -16,29 +13,6 @@ steps = [\"start\", \"load 002460\", \"command 01\", \"sent\", \"await 1\", \"re
 [[node]]
 steps = [\"start\", \"load 002440\", \"command 01\", \"sent\", \"await 1\", \"release\"]
 ";
-
-/// The gates of two drivers: which steps of the first are held, and which of the second,
-/// each up to a step of the other.
-fn two_gates(
-    alloc: Global,
-    first: [(u16, u64); 3],
-    second: [(u16, u64); 3],
-) -> Result<Vec<Meeting>, Fail> {
-    let one = Arc::new(alloc, AtomicU64::new(0))?;
-    let other = Arc::new(alloc, AtomicU64::new(0))?;
-    let mut gates = Vec::new(alloc);
-    gates.push(Meeting {
-        own: Arc::try_clone(&one)?,
-        other: Arc::try_clone(&other)?,
-        held: first,
-    })?;
-    gates.push(Meeting {
-        own: other,
-        other: one,
-        held: second,
-    })?;
-    Ok(gates)
-}
 
 /// No step of a driver is held.
 const NONE: [(u16, u64); 3] = [(0, 0); 3];
