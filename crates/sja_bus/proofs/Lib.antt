@@ -30,6 +30,7 @@ pub mod Underway
 pub mod Levels
 pub mod Journals
 pub mod WrittenBack
+pub mod TakenBefore
 pub mod Rests
 pub mod AtRest
 pub mod Stretches

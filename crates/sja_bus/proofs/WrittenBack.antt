@@ -9,7 +9,7 @@ use Rattle.sja_bus.specs.Inside.Rows.{journals_of, GoesAll}
 use Rattle.sja_bus.proofs.Journals.{keeps_all}
 
 -- as many as there were are those that were written
-are_back : (was now : List Seat) (n : ℕ) → n ≡ length was → length now ≡ length was →
+pub are_back : (was now : List Seat) (n : ℕ) → n ≡ length was → length now ≡ length was →
     take n (now ++ drop (length now) was) ≡ now
 are_back was now n all len = grind (arith, common_steps)
 

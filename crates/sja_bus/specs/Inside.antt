@@ -6,6 +6,7 @@ pub mod Taking
 pub mod Refusing
 pub mod Turning
 pub mod Rows
+pub mod RowTakes
 pub mod Underway
 pub mod Whole
 pub mod Ending

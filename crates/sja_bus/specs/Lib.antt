@@ -17,6 +17,7 @@ pub mod NewLinks
 pub mod Boards
 -- ---- all nodes of a bus
 pub mod Buses
+pub mod TakingAll
 -- ---- why a bus stops
 pub mod Reasons
 -- ---- bits that are run at once, and one after another

@@ -13,6 +13,7 @@ ghost use Rattle.sja_bus.specs.Boards.{KeepsOthers};
 ghost use Rattle.sja_bus.specs.declared.seat.Seat.{Seat as Seated};
 ghost use Rattle.sja_bus.specs.Inside.Underway.{IsUnderway};
 ghost use Rattle.sja_bus.specs.Inside.Whole.{IsRowBit};
+ghost use Rattle.sja_bus.specs.Inside.RowTakes.{RowTakesAll};
 ghost use Rattle.sja_bus.specs.Inside.Refusing.{HaveRoom, AreFree, SeatRefuses, SeatFull, SeatBreaks, SeatStops};
 
 use super::board::Board;
@@ -201,6 +202,7 @@ pub(crate) fn bit_all<E: BusEnd, B: Board>(
     ensures ready { OnOk result (AreReady seats.new) }
     ensures bit { OnOk result (IsRowBit (B.orders_are board.old)
         (B.told board.old board.new) (B.kept board.old board.new) struck seats.old seats.new) }
+    ensures takes { OnOk result (RowTakesAll E.BusEnd seats.old seats.new links.old) }
     ensures rooms { OnOk result ((n : ℕ) → HaveRoom n seats.old → HaveRoom n seats.new) }
     ensures stops { IfErr result (λ f. (SeatRefuses E.stands seats.old seats.new links.old links.new f
         ⊎ SeatFull E.stands seats.old seats.new links.old links.new f)

@@ -72,6 +72,7 @@ impl Bus {
     ghost use Rattle.sja_bus.specs.Buses.{new_bus, EachUntold, AllTold, IsStill};
     ghost use Rattle.sja_bus.specs.Reasons.{IsNotTaken, StopsBit};
     ghost use Rattle.sja_bus.specs.Boards.{KeepsOthers};
+    ghost use Rattle.sja_bus.specs.TakingAll.{TakesAll};
 
     /// A bus of so many nodes, 1 to 8, for a run of so many bits, 1 to 200,000. All its room is reserved here.
     ///
@@ -170,6 +171,7 @@ impl Bus {
         ensures bits { OnOk result ((self.new.run ≡ self.old.run + 1) × (self.new.left + 1 ≡ self.old.left)) }
         ensures unrun { IfErr result (λ f. (self.new.run ≡ self.old.run) × (self.new.left ≡ self.old.left)) }
         ensures kept { OnOk result (KeepsAll E.stands self.old.journals self.new.journals links.old links.new) }
+        ensures takes { OnOk result (TakesAll E.BusEnd self.old.journals self.new.journals links.old) }
         ensures bit { OnOk result (IsBitOf B.Board board.old board.new self.old self.new.journals) }
         ensures told { OnOk result (AllTold (length self.old.journals) self.new.untold) }
         ensures right { OnOk result (self.new.fault ≡ None) }

@@ -5,6 +5,7 @@ use Rattle.sja_bus.specs.Inside.Refusing.{SeatRefuses, SeatFull, SeatStops}
 use Rattle.sja_bus.specs.Inside.Rows.{SeatTurns}
 use Rattle.sja_bus.proofs.Many.{goes_all_trans, numbered_kept, done_all}
 use Rattle.sja_bus.proofs.Underway.{underway_none}
+use Rattle.sja_bus.proofs.TakenBefore.{row_takes}
 use Rattle.sja_bus.proofs.Results.{err_is}
 use Rattle.sja_bus.proofs.all_nodes.bit_all.Goals as goal
 
@@ -96,3 +97,16 @@ returns-in_err-tick_from-clause-stops g c =
       rooms = did.rooms;
       breaks = c.in_err-tick_from.ensures.broken seats c.open_all.new.links c.args.board.now row;
     }))
+
+pub returns-clause-takes : goal.returns-clause-takes
+returns-clause-takes g c =
+    let E = g.E.BusEnd in let B = g.B.Board in let seats = c.open_all.new.seats in
+    let opening = c.in_ok-open_all.ensures in let level = c.level_of-level.result in
+    let told = B.told c.args.board.now c.tick_from.new.board in let kept = B.kept c.args.board.now c.tick_from.new.board in
+    let row = underway_none E.same E.stands g.met.E.BusEnd.same_refl B.ports B.told B.kept g.met.B.Board.kept_refl c.args.struck level seats c.open_all.new.links c.args.board.now opening.ready in
+    let did = c.in_ok-tick_from.ensures.row seats c.open_all.new.links c.args.board.now row in
+    let u = did.2 in let all = did.1 in let count = u.count in
+    row_takes E (B.orders_are c.args.board.now) told kept c.args.struck level c.args.seats.now seats c.tick_from.new.seats
+    c.args.links.now c.open_all.new.links c.open_all.auto.seats count opening.ready u.ready opening.opens
+    (done_all (SeatTurns told kept c.args.struck level) did.0 seats c.tick_from.new.seats (omega (arith, all, count)) u.done)
+    opening.goes opening.dry

@@ -13,6 +13,7 @@ use Rattle.sja_bus.proofs.Journals.{wired_row, is_bit, all_told}
 use Rattle.sja_bus.proofs.Logs.{calm_by, none_untold}
 use Rattle.sja_bus.proofs.Running.{count_is}
 use Rattle.sja_bus.proofs.WrittenBack.{keeps_back}
+use Rattle.sja_bus.proofs.TakenBefore.{takes_back}
 use Rattle.sja_bus.proofs.Breaking.{stops_bit}
 use Rattle.sja_bus.proofs.Results.{err_is}
 use Rattle.sja_bus.proofs.bus.Bus.bit.Goals as goal
@@ -114,3 +115,11 @@ returns-in-Err-clause-reason g c = λ none.
     let S : List Seat → Type 0 = λ l. (SeatRefuses E.stands l now before after f ⊎ SeatFull E.stands l now before after f) ⊎ SeatStops E.stands E.full O E.same l now before f in
     let reason = stops_bit E.same E.stands E.full O b.struck.script b.run b.left b.struck.bits b.fault was now before after f (new now) refl inv.bits len rooms (subst S v c.in-Err.ensures.stops) in
     subst Q (sym e) (subst P c.self.view_is reason)
+
+pub returns-in-Ok-clause-takes : goal.returns-in-Ok-clause-takes
+returns-in-Ok-clause-takes g c =
+    let seats = c.self.inside.seats in
+    let all : seats.len ≡ length seats.items = omega arith in
+    takes_back g.E.BusEnd seats.items c.as_mut_slice.result.now c.bit_all.new.seats seats.len c.args.self.now.journals
+    c.args.links.now all c.as_mut_slice.ensures.value c.bit_all.auto.seats c.in-Ok.ensures.ready
+    (ap (λ (w : BusValue). w.journals) c.self.view_is) c.in-Ok.ensures.takes
