@@ -10,10 +10,10 @@ use Rattle.sja_bus.specs.declared.seat.Seat.{Seat}
 use Rattle.sja_bus.specs.Boards.{KeepsOthers}
 use Rattle.sja_bus.specs.Buses.{BusValue}
 use Rattle.sja_bus.specs.Reasons.{room_for}
-use Rattle.sja_bus.specs.Several.{moment, Keeps}
+use Rattle.sja_bus.specs.Moment.{moment, Keeps}
 use Rattle.sja_bus.specs.Inside.Refusing.{HaveRoom}
 use Rattle.sja_bus.specs.Inside.Rows.{journals_of, untold_of}
-use Rattle.sja_bus.specs.Inside.RunningOn.{bus_of, RowsRun, RowsStop, IsSoFar, IsStopped}
+use Rattle.sja_bus.specs.Inside.RunningOn.{bus_of, AnyBit, RowsRun, RowsStop, IsSoFar, IsStopped}
 use Rattle.sja_bus.proofs.Running.{count_is}
 
 -- what contracts see of a bus with these seats
@@ -56,10 +56,10 @@ module _ {E B : Type 0} (e : Ends E) (b : Ports B) (to_rest : Bool) (script : Li
   -- so many
   pub ran : (n : ℕ) (new : BusValue) → n ≤ count → count ≤ left → bus_of script (run + n) (left - n) now ≡ new →
       RowsRun e b to_rest script run count was now links after board told n →
-      IsSoFar e b to_rest (moment old links board) n (moment new after told)
+      IsSoFar e b (AnyBit e b) to_rest (moment old links board) n (moment new after told)
   ran n new few enough end runs =
-      let P : BusValue → Type 0 = λ w. IsSoFar e b to_rest (moment w links board) n (moment new after told) in
-      let Q : BusValue → Type 0 = λ w. IsSoFar e b to_rest (moment (bus_of script run left was) links board) n
+      let P : BusValue → Type 0 = λ w. IsSoFar e b (AnyBit e b) to_rest (moment w links board) n (moment new after told) in
+      let Q : BusValue → Type 0 = λ w. IsSoFar e b (AnyBit e b) to_rest (moment (bus_of script run left was) links board) n
       (moment w after told) in
       let O : BusValue → Type 0 = λ w. Keeps e b (moment w links board)
       (moment (bus_of script (run + n) (left - n) now) after told) in

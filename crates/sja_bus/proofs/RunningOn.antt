@@ -4,12 +4,14 @@ use Rattle.std.specs.Prelude.{slice_index_or, ◌↔◌}
 use Rattle.can_bits.specs.declared.level.Level.{Level}
 use Rattle.can_node.specs.Stands.{ShowsRest}
 use Rattle.sja_link.specs.declared.entry.Entry.{Entry}
+use Rattle.sja_link.specs.declared.bus_end.BusEnd.{Ghosts as Ends}
 use Rattle.sja_link.specs.Lists.{Lists}
 use Rattle.sja_link.specs.Related.{EachRelated}
 use Rattle.sja_regs.specs.declared.orders.Orders.{Orders}
 use Rattle.sja_regs.specs.declared.bus_turn.BusTurn.{BusTurn}
 use Rattle.sja_script.specs.declared.strike.Strike.{Strike}
 use Rattle.sja_script.specs.Striking.{Strikes}
+use Rattle.sja_bus.specs.declared.board.Board.{Ghosts as Ports}
 use Rattle.sja_bus.specs.declared.bus_fault.BusFault.{BusFault}
 use Rattle.sja_bus.specs.declared.struck_nodes.StruckNodes.{StruckNodes}
 use Rattle.sja_bus.specs.declared.seat.Seat.{Seat}
@@ -19,11 +21,12 @@ use Rattle.sja_bus.specs.Boards.{KeepsOthers}
 use Rattle.sja_bus.specs.Buses.{BusValue}
 use Rattle.sja_bus.specs.OneBit.{Opens}
 use Rattle.sja_bus.specs.Reasons.{room_for, StopsBit}
-use Rattle.sja_bus.specs.Several.{Moment, SomeWork, IsOneBit, AreBits, WorksIf}
+use Rattle.sja_bus.specs.Moment.{Moment, OneBit}
+use Rattle.sja_bus.specs.Several.{SomeWork, AreBits, WorksIf}
 use Rattle.sja_bus.specs.Several.AreBits.{no_bit, one_more}
 use Rattle.sja_bus.specs.Inside.Refusing.{HaveRoom, SeatBreaks}
 use Rattle.sja_bus.specs.Inside.Rows.{AreReady, EachSeat, SeatTurns, GoesAll, IsBus, driven_by, journals_of}
-use Rattle.sja_bus.specs.Inside.RunningOn.{NoneAborts, moment_of, bus_of}
+use Rattle.sja_bus.specs.Inside.RunningOn.{NoneAborts, moment_of, bus_of, AnyBit}
 use Rattle.sja_bus.specs.Inside.Whole.{IsRowBit}
 use Rattle.sja_bus.proofs.AtRest.{news_none}
 use Rattle.sja_bus.proofs.Bits.{items_none}
@@ -115,32 +118,39 @@ some_work seats ready which =
     (which.0, few, rests_at seats false which.0 ready few which.2)
 
 -- by the bus, its links and its ports
-pub one_bit : {E B : Type 0} (same : E → E → Type 0) (stands : E → Lists → Type 0) (ports : B → ℕ) (facts : B → Type 0) (orders_are : B → ℕ → Orders → Type 0) (told : B → B → ℕ → BusTurn → Type 0) (kept : B → B → ℕ → Type 0)
-    (script : List Strike) (n next left less : ℕ) (struck : StruckNodes) (seats after : List Seat) (links links_after : List E) (board now : B) → next ≡ n + 1 → less + 1 ≡ left → length after ≡ length seats → length seats ≤ 8 →
-    ((node : ℕ) → node < 8 → IsAmong node struck ↔ Strikes script n node) → IsRowBit (orders_are board) (told board now) (kept board now) struck seats after →
-    EachRelated same links links_after → KeepsOthers ports kept (length seats) board now → GoesAll same stands seats after links links_after → IsBus script n seats → IsBus script next after → facts now →
-    IsOneBit same stands ports facts orders_are told kept (moment_of script n left seats links board) (moment_of script next less after links_after now)
-one_bit same stands ports facts orders_are told kept script n next left less struck seats after links links_after board now is_next is_less len few at row sames others goes bus bus_after are =
+pub one_bit : {E B : Type 0} (e : Ends E) (b : Ports B) (script : List Strike) (n next left less : ℕ)
+    (struck : StruckNodes) (seats after : List Seat) (links links_after : List E) (board now : B) → next ≡ n + 1 →
+    less + 1 ≡ left → length after ≡ length seats → length seats ≤ 8 →
+    ((node : ℕ) → node < 8 → IsAmong node struck ↔ Strikes script n node) →
+    IsRowBit (b.orders_are board) (b.told board now) (b.kept board now) struck seats after →
+    EachRelated e.same links links_after → KeepsOthers b.ports b.kept (length seats) board now →
+    GoesAll e.same e.stands seats after links links_after → IsBus script n seats → IsBus script next after →
+    b.facts now → OneBit e b (moment_of script n left seats links board) (moment_of script next less after links_after now)
+one_bit e b script n next left less struck seats after links links_after board now is_next is_less len few at row sames
+    others goes bus bus_after are =
     let nodes : length after ≡ length (journals_of seats) = len ∙ sym (count_is seats) in
-    let K : ℕ → Type 0 = λ m. KeepsOthers ports kept m board now in record {
-      sames = sames;
-      others = subst K (sym (count_is seats)) others;
-      script = refl;
-      nodes = count_is after ∙ nodes;
+    let K : ℕ → Type 0 = λ m. KeepsOthers b.ports b.kept m board now in
+    let told = b.told board now in let kept = b.kept board now in record {
+      keeps = record {
+        sames = sames;
+        others = subst K (sym (count_is seats)) others;
+        script = refl;
+        nodes = count_is after ∙ nodes;
+      };
       run = is_next;
       left = is_less;
-      keeps = keeps_all same stands seats after links links_after len goes;
-      bit = is_bit (orders_are board) (told board now) (kept board now) script n struck seats after len few at bus.calm row;
-      all_told = none_untold after (all_told (told board now) (kept board now) struck seats after len row) ∙ ap (λ m. replicate m false) nodes;
+      kept = keeps_all e.same e.stands seats after links links_after len goes;
+      bit = is_bit (b.orders_are board) told kept script n struck seats after len few at bus.calm row;
+      told = none_untold after (all_told told kept struck seats after len row) ∙ ap (λ m. replicate m false) nodes;
       right = refl;
       lawful = bus_run script next after bus_after;
-      are_facts = are;
+      facts = are;
     }
 
 -- ---- several
 
 -- none so far
-pub none_yet : {E B : Type 0} (One : Moment E B → Moment E B → Type 0) (Before : Moment E B → Type 0) (script : List Strike) (from left : ℕ) (seats : List Seat) (links : List E) (board : B) →
+pub none_yet : {E B : Type 0} (One : ℕ → Moment E B → Moment E B → Type 0) (Before : Moment E B → Type 0) (script : List Strike) (from left : ℕ) (seats : List Seat) (links : List E) (board : B) →
     AreBits One Before (moment_of script from left seats links board) 0 (moment_of script (from + 0) (left - 0) seats links board)
 none_yet One Before script from left seats links board =
     let f : from ≡ from + 0 = omega arith in let l : left ≡ left - 0 = omega arith in
@@ -149,26 +159,31 @@ none_yet One Before script from left seats links board =
     subst Q l (subst P f (no_bit (moment_of script from left seats links board)))
 
 -- one more
-pub more_bits : {E B : Type 0} (One : Moment E B → Moment E B → Type 0) (Before : Moment E B → Type 0) (was mid now : Moment E B) (n next : ℕ) → next ≡ n + 1 →
-    AreBits One Before was n mid → Before mid → One mid now → AreBits One Before was next now
+pub more_bits : {E B : Type 0} (One : ℕ → Moment E B → Moment E B → Type 0) (Before : Moment E B → Type 0) (was mid now : Moment E B) (n next : ℕ) → next ≡ n + 1 →
+    AreBits One Before was n mid → Before mid → One n mid now → AreBits One Before was next now
 more_bits One Before was mid now n next is bits before one =
     let e : suc n ≡ next = omega (arith, is) in
     let P : ℕ → Type 0 = λ k. AreBits One Before was k now in
     subst P e (one_more was mid now n bits before one)
 
 -- after one bit more
-pub bits_on : {E B : Type 0} (same : E → E → Type 0) (stands : E → Lists → Type 0) (ports : B → ℕ) (facts : B → Type 0) (orders_are : B → ℕ → Orders → Type 0) (told : B → B → ℕ → BusTurn → Type 0) (kept : B → B → ℕ → Type 0)
-    (to_rest : Bool) (was : Moment E B) (script : List Strike) (from run most left : ℕ) (struck : StruckNodes) (seats after : List Seat) (links links_after : List E) (board now : B) → run < most → most ≤ left →
-    length after ≡ length seats → length seats ≤ 8 → ((node : ℕ) → node < 8 → IsAmong node struck ↔ Strikes script (from + run) node) → IsRowBit (orders_are board) (told board now) (kept board now) struck seats after →
-    EachRelated same links links_after → KeepsOthers ports kept (length seats) board now → GoesAll same stands seats after links links_after → IsBus script (from + run) seats → IsBus script (from + (run + 1)) after → facts now →
-    (to_rest ≡ true → SomeWork (journals_of seats)) →
-    AreBits (IsOneBit same stands ports facts orders_are told kept) (WorksIf to_rest) was run (moment_of script (from + run) (left - run) seats links board) →
-    AreBits (IsOneBit same stands ports facts orders_are told kept) (WorksIf to_rest) was (run + 1) (moment_of script (from + (run + 1)) (left - (run + 1)) after links_after now)
-bits_on same stands ports facts orders_are told kept to_rest was script from run most left struck seats after links links_after board now early enough len few at row sames others goes bus bus_after are works bits =
-    more_bits (IsOneBit same stands ports facts orders_are told kept) (WorksIf to_rest) was (moment_of script (from + run) (left - run) seats links board)
+pub bits_on : {E B : Type 0} (e : Ends E) (b : Ports B) (to_rest : Bool) (was : Moment E B) (script : List Strike)
+    (from run most left : ℕ) (struck : StruckNodes) (seats after : List Seat) (links links_after : List E)
+    (board now : B) → run < most → most ≤ left → length after ≡ length seats → length seats ≤ 8 →
+    ((node : ℕ) → node < 8 → IsAmong node struck ↔ Strikes script (from + run) node) →
+    IsRowBit (b.orders_are board) (b.told board now) (b.kept board now) struck seats after →
+    EachRelated e.same links links_after → KeepsOthers b.ports b.kept (length seats) board now →
+    GoesAll e.same e.stands seats after links links_after → IsBus script (from + run) seats →
+    IsBus script (from + (run + 1)) after → b.facts now → (to_rest ≡ true → SomeWork (journals_of seats)) →
+    AreBits (AnyBit e b) (WorksIf to_rest) was run (moment_of script (from + run) (left - run) seats links board) →
+    AreBits (AnyBit e b) (WorksIf to_rest) was (run + 1)
+    (moment_of script (from + (run + 1)) (left - (run + 1)) after links_after now)
+bits_on e b to_rest was script from run most left struck seats after links links_after board now early enough len few at
+    row sames others goes bus bus_after are works bits =
+    more_bits (AnyBit e b) (WorksIf to_rest) was (moment_of script (from + run) (left - run) seats links board)
     (moment_of script (from + (run + 1)) (left - (run + 1)) after links_after now) run (run + 1) refl bits works
-    (one_bit same stands ports facts orders_are told kept script (from + run) (from + (run + 1)) (left - run) (left - (run + 1)) struck seats after links links_after board now (omega arith) (omega (arith, early, enough))
-    len few at row sames others goes bus bus_after are)
+    (one_bit e b script (from + run) (from + (run + 1)) (left - run) (left - (run + 1)) struck seats after links
+    links_after board now (omega arith) (omega (arith, early, enough)) len few at row sames others goes bus bus_after are)
 
 -- the bit of one broke off
 pub stops_on : {E : Type 0} (same : E → E → Type 0) (stands : E → Lists → Type 0) (full : E → Type 0) (orders_are : ℕ → Orders → Type 0) (script : List Strike) (run left bits : ℕ)

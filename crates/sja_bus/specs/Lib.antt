@@ -18,6 +18,7 @@ pub mod Boards
 -- ---- all nodes of a bus
 pub mod Buses
 pub mod TakingAll
+pub mod Moment
 -- ---- why a bus stops
 pub mod Reasons
 -- ---- bits that are run at once, and one after another

@@ -68,11 +68,11 @@ impl Bus {
     ghost use Rattle.sja_bus.specs.Wire.{journal_at};
     ghost use Rattle.sja_bus.specs.Resting.{RestsAs};
     ghost use Rattle.sja_bus.specs.Lawful.{IsBusRun, CountersAre};
-    ghost use Rattle.sja_bus.specs.Buses.{EachJournal, KeepsAll, AllDry, IsBitOf};
-    ghost use Rattle.sja_bus.specs.Buses.{new_bus, EachUntold, AllTold, IsStill};
+    ghost use Rattle.sja_bus.specs.Buses.{EachJournal, KeepsAll, AllDry};
+    ghost use Rattle.sja_bus.specs.Buses.{new_bus, EachUntold, IsStill};
     ghost use Rattle.sja_bus.specs.Reasons.{IsNotTaken, StopsBit};
-    ghost use Rattle.sja_bus.specs.Boards.{KeepsOthers};
     ghost use Rattle.sja_bus.specs.TakingAll.{TakesAll};
+    ghost use Rattle.sja_bus.specs.Moment.{moment, Keeps, OneBit};
 
     /// A bus of so many nodes, 1 to 8, for a run of so many bits, 1 to 200,000. All its room is reserved here.
     ///
@@ -150,9 +150,10 @@ impl Bus {
         }
     }
 
-    /// One bit. Of each node in order all that its links show is taken, and then an abort that stands is applied; all
-    /// nodes drive; all see the level, or the other one where the script strikes them; each received frame that passes
-    /// is judged and put; each port is told the turn of the bit, unless there is nothing to tell.
+    /// One bit. Of each node in order all that its links show is taken, until the one that is read shows nothing, and
+    /// then an abort that stands is applied; all nodes drive; all see the level, or the other one where the script
+    /// strikes them; each received frame that passes is judged and put; each port is told the turn of the bit, unless
+    /// there is nothing to tell.
     ///
     /// Error: [`BusFault::BitsSpent`] where no bit is left; nothing changed. After any other fault the same always. A
     /// bit that doesn't come to its end isn't counted.
@@ -164,17 +165,12 @@ impl Bus {
         requires count { length links.old ≡ 8 * length self.old.journals }
         requires ids { Numbered E.link links.old }
         requires ports { length self.old.journals ≤ B.ports board.old }
-        ensures sames { EachRelated E.same links.old links.new }
-        ensures others { KeepsOthers B.ports B.kept (length self.old.journals) board.old board.new }
-        ensures script { self.new.script ≡ self.old.script }
-        ensures nodes { length self.new.journals ≡ length self.old.journals }
-        ensures bits { OnOk result ((self.new.run ≡ self.old.run + 1) × (self.new.left + 1 ≡ self.old.left)) }
-        ensures unrun { IfErr result (λ f. (self.new.run ≡ self.old.run) × (self.new.left ≡ self.old.left)) }
-        ensures kept { OnOk result (KeepsAll E.stands self.old.journals self.new.journals links.old links.new) }
+        ensures keeps { Keeps E.BusEnd B.Board
+            (moment self.old links.old board.old) (moment self.new links.new board.new) }
+        ensures bit { OnOk result (OneBit E.BusEnd B.Board
+            (moment self.old links.old board.old) (moment self.new links.new board.new)) }
         ensures takes { OnOk result (TakesAll E.BusEnd self.old.journals self.new.journals links.old) }
-        ensures bit { OnOk result (IsBitOf B.Board board.old board.new self.old self.new.journals) }
-        ensures told { OnOk result (AllTold (length self.old.journals) self.new.untold) }
-        ensures right { OnOk result (self.new.fault ≡ None) }
+        ensures unrun { IfErr result (λ f. (self.new.run ≡ self.old.run) × (self.new.left ≡ self.old.left)) }
         ensures fault { IfErr result (λ f. (f ≡ BitsSpent) ⊎ (self.new.fault ≡ Some f)) }
         ensures reason { IfErr result (λ f. self.old.fault ≡ None →
             StopsBit E.stands E.full (B.orders_are board.old) self.old self.new links.old links.new f) }
@@ -189,6 +185,8 @@ impl Bus {
             Ok(()) => {
                 self.run += 1;
                 self.left -= 1;
+                self.keeps_its_laws();
+                board.keeps_its_facts();
                 Ok(())
             }
             Err(fault) => {

@@ -109,8 +109,8 @@ pub(crate) fn on_all<E: BusEnd, B: Board>(
 
 impl Bus {
     ghost use Rattle.std.specs.Prelude.{◌≡◌, ◌≤◌, None, length, IfOk, IfErr};
-    ghost use Rattle.sja_bus.specs.Several.{moment};
-    ghost use Rattle.sja_bus.specs.Inside.RunningOn.{AreFor, IsSoFar, IsStopped};
+    ghost use Rattle.sja_bus.specs.Moment.{moment};
+    ghost use Rattle.sja_bus.specs.Inside.RunningOn.{AreFor, AnyBit, IsSoFar, IsStopped};
 
     /// Further bits, at most so many: as far as no strike falls and no abort stands at any port, with `to_rest` as long
     /// as some node works. They go on past a bit in which a port is told something. Answers how many.
@@ -129,7 +129,7 @@ impl Bus {
         requires right { self.old.fault ≡ None }
         requires most { count ≤ self.old.left }
         ensures most { IfOk result (λ n. n ≤ count) }
-        ensures runs { IfOk result (λ n. IsSoFar E.BusEnd B.Board to_rest
+        ensures runs { IfOk result (λ n. IsSoFar E.BusEnd B.Board (AnyBit E.BusEnd B.Board) to_rest
             (moment self.old links.old board.old) n (moment self.new links.new board.new)) }
         ensures stops { IfErr result (λ f. IsStopped E.BusEnd B.Board to_rest count
             (moment self.old links.old board.old) (moment self.new links.new board.new) f) }

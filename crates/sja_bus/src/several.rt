@@ -10,7 +10,8 @@ impl Bus {
     ghost use Rattle.sja_bus.specs.declared.bus_fault.BusFault.{BusFault as Fault};
     ghost use Rattle.sja_bus.specs.Links.{Numbered};
     ghost use Rattle.sja_bus.specs.Buses.{IsStill};
-    ghost use Rattle.sja_bus.specs.Several.{AllRest, moment, Keeps, RunsBits, StopsBits};
+    ghost use Rattle.sja_bus.specs.Moment.{moment, Keeps};
+    ghost use Rattle.sja_bus.specs.Several.{AllRest, RunsBits, StopsBits};
 
     /// So many bits, or as many as are left.
     ///
@@ -68,8 +69,6 @@ impl Bus {
                 return Ok(run);
             }
             self.bit(links, board)?;
-            self.keeps_its_laws();
-            board.keeps_its_facts();
             run += 1;
             run += self.run_on(links, board, most - run, to_rest)?;
         }

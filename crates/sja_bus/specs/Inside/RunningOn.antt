@@ -11,7 +11,8 @@ use Rattle.sja_bus.specs.declared.seat.Seat.{Seat}
 use Rattle.sja_bus.specs.Buses.{BusValue}
 use Rattle.sja_bus.specs.Links.{Numbered}
 use Rattle.sja_bus.specs.Reasons.{room_for}
-use Rattle.sja_bus.specs.Several.{Moment, Keeps, RunsBits, StopsBits}
+use Rattle.sja_bus.specs.Moment.{Moment, Keeps, OneBit}
+use Rattle.sja_bus.specs.Several.{AreBits, WorksIf, BreaksOff}
 use Rattle.sja_bus.specs.Inside.Refusing.{HaveRoom}
 use Rattle.sja_bus.specs.Inside.Rows.{IsBus, journals_of, untold_of}
 
@@ -36,12 +37,16 @@ abbrev pub moment_of : {E B : Type 0} → List Strike → ℕ → ℕ → List S
 moment_of script run left seats links board =
     record { bus = bus_of script run left seats; links = links; board = board }
 
+-- a bit of whatever number, of which it isn't asked what was taken before it
+abbrev pub AnyBit : {E B : Type 0} → Ends E → Ports B → ℕ → Moment E B → Moment E B → Type 0
+AnyBit e b n = OneBit e b
+
 -- so many of these bits, however many are left that are enough, and the bus after them
 pub record RowsRun {E B : Type 0} (e : Ends E) (b : Ports B) (to_rest : Bool) (script : List Strike) (from most : ℕ)
     (was now : List Seat) (links after : List E) (board told : B) (n : ℕ) : Type 0 where
   pub bus : IsBus script (from + n) now
-  pub bits : (left : ℕ) → most ≤ left → RunsBits e b to_rest (moment_of script from left was links board) n
-      (moment_of script (from + n) (left - n) now after told)
+  pub bits : (left : ℕ) → most ≤ left → AreBits (AnyBit e b) (WorksIf to_rest)
+      (moment_of script from left was links board) n (moment_of script (from + n) (left - n) now after told)
 
 -- fewer than so many, and then one that broke off: so for every bus that counts just the bits before it
 abbrev pub RowsStop : {E B : Type 0} → Ends E → Ports B → Bool → List Strike → ℕ → ℕ → List Seat → List Seat → List E →
@@ -49,8 +54,8 @@ abbrev pub RowsStop : {E B : Type 0} → Ends E → Ports B → Bool → List St
 RowsStop e b to_rest script from most was now links after board told f =
     (left : ℕ) (bus : BusValue) → most ≤ left → HaveRoom (room_for (from + left)) was →
     bus.journals ≡ journals_of now → bus.run ≡ from + f.after → bus.left ≡ left - f.after →
-    StopsBits e b to_rest most (moment_of script from left was links board)
-    (record { bus = bus; links = after; board = told }) f.fault
+    BreaksOff e.stands e.full b.orders_are (AnyBit e b) (WorksIf to_rest) most
+    (moment_of script from left was links board) (record { bus = bus; links = after; board = told }) f.fault
 
 -- ---- by the bus
 
@@ -60,17 +65,17 @@ pub record AreFor {E : Type 0} (link : E → LinkId) (links : List E) (nodes boa
   pub ids : Numbered link links
   pub ports : nodes ≤ boards
 
--- so many bits, which went well
-pub record IsSoFar {E B : Type 0} (e : Ends E) (b : Ports B) (to_rest : Bool) (was : Moment E B) (n : ℕ)
-    (now : Moment E B) : Type 0 where
+-- so many such bits, which went well
+pub record IsSoFar {E B : Type 0} (e : Ends E) (b : Ports B) (One : ℕ → Moment E B → Moment E B → Type 0)
+    (to_rest : Bool) (was : Moment E B) (n : ℕ) (now : Moment E B) : Type 0 where
   pub keeps : Keeps e b was now
   pub left : now.bus.left + n ≡ was.bus.left
   pub right : now.bus.fault ≡ None
-  pub bits : RunsBits e b to_rest was n now
+  pub bits : AreBits One (WorksIf to_rest) was n now
 
 -- fewer than so many bits, and then one that didn't come to its end
 pub record IsStopped {E B : Type 0} (e : Ends E) (b : Ports B) (to_rest : Bool) (count : ℕ) (was now : Moment E B)
     (f : BusFault) : Type 0 where
   pub keeps : Keeps e b was now
   pub fault : now.bus.fault ≡ Some f
-  pub reason : StopsBits e b to_rest count was now f
+  pub reason : BreaksOff e.stands e.full b.orders_are (AnyBit e b) (WorksIf to_rest) count was now f

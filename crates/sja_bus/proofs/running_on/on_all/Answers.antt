@@ -2,9 +2,9 @@ use Rattle.std.proofs.Common.{◌≡◌, ℕ, ◌+◌, ◌-◌, ◌<◌, false, 
 use Rattle.std.specs.Prelude.{slice_index_or}
 use Rattle.sja_link.proofs.Related.{each_refl, each_trans}
 use Rattle.sja_bus.specs.Reasons.{room_for}
-use Rattle.sja_bus.specs.Several.{IsOneBit, WorksIf}
+use Rattle.sja_bus.specs.Several.{WorksIf}
 use Rattle.sja_bus.specs.Inside.Rows.{IsBus}
-use Rattle.sja_bus.specs.Inside.RunningOn.{moment_of, RowsRun}
+use Rattle.sja_bus.specs.Inside.RunningOn.{moment_of, AnyBit, RowsRun}
 use Rattle.sja_bus.proofs.Many.{numbered_kept}
 use Rattle.sja_bus.proofs.RunningOn.{passes, none_still, some_work, none_yet, bits_on, stops_on}
 use Rattle.sja_bus.proofs.running_on.on_all.Goals.{After-keeps_its_facts}
@@ -24,7 +24,7 @@ runs_more g c =
     c.requires.seated.few c.loop-run.auto.seats c.tick_all.auto.seats inv.board c.requires.may.0 c.none.ensures (c.goes_on.ensures.none goes) (λ node few. c.part-marks.ensures.struck c.loop-run.run node _ within few) inv.level c.in-Ok.ensures.turns c.in-Ok.ensures.ready inv.bus in record {
       bus = pass.bus (c.args.from + (c.loop-run.run + 1)) (omega arith);
       bits = λ left enough.
-          bits_on E.same E.stands B.ports B.facts B.orders_are B.told B.kept c.args.to_rest (moment_of c.args.struck.now.script c.args.from left c.args.seats.now c.args.links.now c.args.board.now)
+          bits_on E B c.args.to_rest (moment_of c.args.struck.now.script c.args.from left c.args.seats.now c.args.links.now c.args.board.now)
           c.args.struck.now.script c.args.from c.loop-run.run c.args.most left c.none.result c.loop-run.seats c.tick_all.new.seats c.loop-run.links c.tick_all.new.links a z early enough c.tick_all.auto.seats pass.few pass.at pass.row
           c.tick_all.ensures.sames c.tick_all.ensures.board c.in-Ok.ensures.goes inv.bus (pass.bus (c.args.from + (c.loop-run.run + 1)) (omega arith)) c.keeps_its_facts.ensures
           (λ yes. some_work c.loop-run.seats inv.bus.ready (c.goes_on.ensures.works goes yes)) (inv.bits left enough);
@@ -42,7 +42,7 @@ loop-run-init g c =
       sames = each_refl E.same g.met.E.BusEnd.same_refl c.args.links.now;
       rooms = λ n h. h;
       free = λ k s here. let room = c.room_of.ensures.free k s here in let count = c.part-marks.ensures.count in omega (arith, room, count);
-      bits = λ left enough. none_yet (IsOneBit E.same E.stands B.ports B.facts B.orders_are B.told B.kept) (WorksIf c.args.to_rest) script c.args.from left c.args.seats.now c.args.links.now c.args.board.now;
+      bits = λ left enough. none_yet (AnyBit E B) (WorksIf c.args.to_rest) script c.args.from left c.args.seats.now c.args.links.now c.args.board.now;
     }
 
 pub tick_all-requires : goal.tick_all-requires

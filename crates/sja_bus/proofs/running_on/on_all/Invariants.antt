@@ -1,10 +1,10 @@
 use Rattle.std.proofs.Common.{◌≡◌, ℕ, ◌+◌, ◌-◌, ◌≤◌, length}
 use Rattle.sja_link.specs.Related.{EachRelated}
-use Rattle.sja_bus.specs.Several.{AreBits, IsOneBit, WorksIf}
+use Rattle.sja_bus.specs.Several.{AreBits, WorksIf}
 use Rattle.sja_bus.specs.Wire.{wired}
 use Rattle.sja_bus.specs.Inside.Refusing.{HaveRoom, AreFree}
 use Rattle.sja_bus.specs.Inside.Rows.{AreTold, IsBus, driven_by}
-use Rattle.sja_bus.specs.Inside.RunningOn.{moment_of}
+use Rattle.sja_bus.specs.Inside.RunningOn.{moment_of, AnyBit}
 use Rattle.sja_bus.proofs.running_on.on_all.Given as goal
 
 -- the bits so far, in none of which a port was told anything
@@ -18,7 +18,7 @@ invariant-loop-run g l = record {
   rooms : (n : ℕ) → HaveRoom n l.initial.seats → HaveRoom n l.seats;
   free : AreFree (length l.marks - l.run) l.seats;
   bits : (left : ℕ) → l.most ≤ left →
-      AreBits (IsOneBit g.E.BusEnd.same g.E.BusEnd.stands g.B.Board.ports g.B.Board.facts g.B.Board.orders_are g.B.Board.told g.B.Board.kept) (WorksIf l.to_rest)
+      AreBits (AnyBit g.E.BusEnd g.B.Board) (WorksIf l.to_rest)
       (moment_of l.struck.script l.from left l.initial.seats l.initial.links l.initial.board) l.run
       (moment_of l.struck.script (l.from + l.run) (left - l.run) l.seats l.links l.board);
 }

@@ -12,17 +12,19 @@ use Rattle.sja_bus.specs.Inside.Refusing.{HaveRoom, SeatRefuses, SeatFull, SeatS
 use Rattle.sja_bus.proofs.Journals.{wired_row, is_bit, all_told}
 use Rattle.sja_bus.proofs.Logs.{calm_by, none_untold}
 use Rattle.sja_bus.proofs.Running.{count_is}
-use Rattle.sja_bus.proofs.WrittenBack.{keeps_back}
+use Rattle.sja_bus.proofs.WrittenBack.{keeps_back, keeps_still}
 use Rattle.sja_bus.proofs.TakenBefore.{takes_back}
 use Rattle.sja_bus.proofs.Breaking.{stops_bit}
 use Rattle.sja_bus.proofs.Results.{err_is}
 use Rattle.sja_bus.proofs.bus.Bus.bit.Goals as goal
 
-pub returns-in_err-goes_on-clause-sames : goal.returns-in_err-goes_on-clause-sames
-returns-in_err-goes_on-clause-sames g c = each_refl g.E.BusEnd.same g.met.E.BusEnd.same_refl c.args.links.now
-
-pub returns-in_err-goes_on-clause-others : goal.returns-in_err-goes_on-clause-others
-returns-in_err-goes_on-clause-others g c = (refl, λ k far. g.met.B.Board.kept_refl c.args.board.now k)
+pub returns-in_err-goes_on-clause-keeps : goal.returns-in_err-goes_on-clause-keeps
+returns-in_err-goes_on-clause-keeps g c = record {
+  sames = each_refl g.E.BusEnd.same g.met.E.BusEnd.same_refl c.args.links.now;
+  others = (refl, λ k far. g.met.B.Board.kept_refl c.args.board.now k);
+  script = refl;
+  nodes = refl;
+}
 
 pub invariant_of-self : goal.invariant_of-self
 invariant_of-self g c =
@@ -52,44 +54,66 @@ invariant_of-self g c =
     let P : List Seat → Type 0 = λ xs. IsWhole b.struck (b.run + 1) (b.left - 1) b.fault xs (vec_capacity b.logs) in
     (subst P (sym e) l, c.self.invariant.1)
 
-pub returns-in-Ok-clause-kept : goal.returns-in-Ok-clause-kept
-returns-in-Ok-clause-kept g c =
-    let E = g.E.BusEnd in let seats = c.self.inside.seats in
+pub returns-in-Ok-clause-keeps : goal.returns-in-Ok-clause-keeps
+returns-in-Ok-clause-keeps g c =
+    let seats = c.self.inside.seats in
     let all : seats.len ≡ length seats.items = omega arith in
-    keeps_back E.same E.stands seats.items c.as_mut_slice.result.now c.bit_all.new.seats seats.len c.args.self.now.journals c.args.links.now
-    c.bit_all.new.links all c.as_mut_slice.ensures.value c.bit_all.auto.seats (ap (λ (w : BusValue). w.journals) c.self.view_is) c.in-Ok.ensures.goes
+    keeps_still g.E.BusEnd g.B.Board seats.items c.as_mut_slice.result.now c.bit_all.new.seats seats.len
+    c.args.self.now _ c.args.links.now c.bit_all.new.links c.args.board.now c.bit_all.new.board all
+    c.as_mut_slice.ensures.value c.bit_all.auto.seats (ap (λ (w : BusValue). w.journals) c.self.view_is)
+    (ap (λ (w : BusValue). w.script) c.self.view_is) refl c.bit_all.ensures.sames c.bit_all.ensures.board
+
+pub returns-in-Err-clause-keeps : goal.returns-in-Err-clause-keeps
+returns-in-Err-clause-keeps g c =
+    let seats = c.self.inside.seats in
+    let all : seats.len ≡ length seats.items = omega arith in
+    keeps_still g.E.BusEnd g.B.Board seats.items c.as_mut_slice.result.now c.bit_all.new.seats seats.len
+    c.args.self.now _ c.args.links.now c.bit_all.new.links c.args.board.now c.bit_all.new.board all
+    c.as_mut_slice.ensures.value c.bit_all.auto.seats (ap (λ (w : BusValue). w.journals) c.self.view_is)
+    (ap (λ (w : BusValue). w.script) c.self.view_is) refl c.bit_all.ensures.sames c.bit_all.ensures.board
 
 pub returns-in-Ok-clause-bit : goal.returns-in-Ok-clause-bit
-returns-in-Ok-clause-bit g c =
-    let b = c.self.inside in let inv = c.self.invariant.0 in let few = inv.few in
-    let now = c.bit_all.new.seats in let was = b.seats.items in
-    let v : c.as_mut_slice.result.now ≡ was = c.as_mut_slice.ensures.value in
-    let len : length now ≡ length was = c.bit_all.auto.seats ∙ ap (λ (l : List Seat). length l) v in
-    let e : take b.seats.len (now ++ drop (length now) was) ≡ now = grind (arith, common_steps) in
-    let T : List Seat → Type 0 = λ l. IsRowBit (g.B.Board.orders_are c.args.board.now) (g.B.Board.told c.args.board.now c.bit_all.new.board) (g.B.Board.kept c.args.board.now c.bit_all.new.board) c.at-struck.result l now in
-    let row : IsRowBit (g.B.Board.orders_are c.args.board.now) (g.B.Board.told c.args.board.now c.bit_all.new.board) (g.B.Board.kept c.args.board.now c.bit_all.new.board) c.at-struck.result was now = subst T v c.in-Ok.ensures.bit in
-    let orders = g.B.Board.orders_are c.args.board.now in
-    let told = g.B.Board.told c.args.board.now c.bit_all.new.board in let kept = g.B.Board.kept c.args.board.now c.bit_all.new.board in
-    let P : BusValue → Type 0 = λ w. IsBit orders told kept w.script w.run w.untold w.journals (journals_of now) in
-    let Q : List Seat → Type 0 = λ xs. IsBit orders told kept c.args.self.now.script c.args.self.now.run c.args.self.now.untold c.args.self.now.journals (journals_of xs) in
-    let F : BusValue → Type 0 = λ w. (w.fault ≡ None) × (w.left ≢ 0) in
-    let right : b.fault ≡ None = (subst F (sym c.self.view_is) c.in_ok-goes_on.ensures.ok).0 in
-    subst Q (sym e) (subst P c.self.view_is (is_bit orders told kept b.struck.script b.run c.at-struck.result was now len few c.at-struck.ensures (inv.bus right).calm row))
-
-pub returns-in-Ok-clause-told : goal.returns-in-Ok-clause-told
-returns-in-Ok-clause-told g c =
-    let b = c.self.inside in
-    let now = c.bit_all.new.seats in let was = b.seats.items in
-    let v : c.as_mut_slice.result.now ≡ was = c.as_mut_slice.ensures.value in
-    let len : length now ≡ length was = c.bit_all.auto.seats ∙ ap (λ (l : List Seat). length l) v in
-    let e : take b.seats.len (now ++ drop (length now) was) ≡ now = grind (arith, common_steps) in
-    let told = g.B.Board.told c.args.board.now c.bit_all.new.board in let kept = g.B.Board.kept c.args.board.now c.bit_all.new.board in
-    let T : List Seat → Type 0 = λ l. IsRowBit (g.B.Board.orders_are c.args.board.now) told kept c.at-struck.result l now in
-    let row = subst T v c.in-Ok.ensures.bit in
-    let none : untold_of now ≡ replicate (length was) false = none_untold now (all_told told kept c.at-struck.result was now len row) ∙ ap (λ n. replicate n false) len in
-    let P : BusValue → Type 0 = λ w. untold_of now ≡ replicate (length w.journals) false in
-    let Q : List Seat → Type 0 = λ xs. untold_of xs ≡ replicate (length c.args.self.now.journals) false in
-    subst Q (sym e) (subst P c.self.view_is (none ∙ ap (λ n. replicate n false) (sym (count_is was))))
+returns-in-Ok-clause-bit g c = record {
+  keeps = returns-in-Ok-clause-keeps g c;
+  run = search rules;
+  left = search rules;
+  kept =
+      let E = g.E.BusEnd in let seats = c.self.inside.seats in
+      let all : seats.len ≡ length seats.items = omega arith in
+      keeps_back E.same E.stands seats.items c.as_mut_slice.result.now c.bit_all.new.seats seats.len c.args.self.now.journals c.args.links.now
+      c.bit_all.new.links all c.as_mut_slice.ensures.value c.bit_all.auto.seats (ap (λ (w : BusValue). w.journals) c.self.view_is) c.in-Ok.ensures.goes;
+  bit =
+      let b = c.self.inside in let inv = c.self.invariant.0 in let few = inv.few in
+      let now = c.bit_all.new.seats in let was = b.seats.items in
+      let v : c.as_mut_slice.result.now ≡ was = c.as_mut_slice.ensures.value in
+      let len : length now ≡ length was = c.bit_all.auto.seats ∙ ap (λ (l : List Seat). length l) v in
+      let e : take b.seats.len (now ++ drop (length now) was) ≡ now = grind (arith, common_steps) in
+      let T : List Seat → Type 0 = λ l. IsRowBit (g.B.Board.orders_are c.args.board.now) (g.B.Board.told c.args.board.now c.bit_all.new.board) (g.B.Board.kept c.args.board.now c.bit_all.new.board) c.at-struck.result l now in
+      let row : IsRowBit (g.B.Board.orders_are c.args.board.now) (g.B.Board.told c.args.board.now c.bit_all.new.board) (g.B.Board.kept c.args.board.now c.bit_all.new.board) c.at-struck.result was now = subst T v c.in-Ok.ensures.bit in
+      let orders = g.B.Board.orders_are c.args.board.now in
+      let told = g.B.Board.told c.args.board.now c.bit_all.new.board in let kept = g.B.Board.kept c.args.board.now c.bit_all.new.board in
+      let P : BusValue → Type 0 = λ w. IsBit orders told kept w.script w.run w.untold w.journals (journals_of now) in
+      let Q : List Seat → Type 0 = λ xs. IsBit orders told kept c.args.self.now.script c.args.self.now.run c.args.self.now.untold c.args.self.now.journals (journals_of xs) in
+      let F : BusValue → Type 0 = λ w. (w.fault ≡ None) × (w.left ≢ 0) in
+      let right : b.fault ≡ None = (subst F (sym c.self.view_is) c.in_ok-goes_on.ensures.ok).0 in
+      subst Q (sym e) (subst P c.self.view_is (is_bit orders told kept b.struck.script b.run c.at-struck.result was now len few c.at-struck.ensures (inv.bus right).calm row));
+  told =
+      let b = c.self.inside in
+      let now = c.bit_all.new.seats in let was = b.seats.items in
+      let v : c.as_mut_slice.result.now ≡ was = c.as_mut_slice.ensures.value in
+      let len : length now ≡ length was = c.bit_all.auto.seats ∙ ap (λ (l : List Seat). length l) v in
+      let e : take b.seats.len (now ++ drop (length now) was) ≡ now = grind (arith, common_steps) in
+      let told = g.B.Board.told c.args.board.now c.bit_all.new.board in let kept = g.B.Board.kept c.args.board.now c.bit_all.new.board in
+      let T : List Seat → Type 0 = λ l. IsRowBit (g.B.Board.orders_are c.args.board.now) told kept c.at-struck.result l now in
+      let row = subst T v c.in-Ok.ensures.bit in
+      let none : untold_of now ≡ replicate (length was) false = none_untold now (all_told told kept c.at-struck.result was now len row) ∙ ap (λ n. replicate n false) len in
+      let P : BusValue → Type 0 = λ w. untold_of now ≡ replicate (length w.journals) false in
+      let Q : List Seat → Type 0 = λ xs. untold_of xs ≡ replicate (length c.args.self.now.journals) false in
+      subst Q (sym e) (subst P c.self.view_is (none ∙ ap (λ n. replicate n false) (sym (count_is was))));
+  right = search rules;
+  lawful = c.keeps_its_laws.ensures (search rules);
+  facts = c.keeps_its_facts.ensures;
+}
 
 pub returns-in_err-goes_on-clause-reason : goal.returns-in_err-goes_on-clause-reason
 returns-in_err-goes_on-clause-reason g c =

@@ -1,8 +1,9 @@
-use Rattle.std.proofs.Common.{◌≡◌, ◌+◌, ◌-◌, None, arith, rules}
+use Rattle.std.proofs.Common.{◌≡◌, ℕ, ◌+◌, ◌-◌, None, arith, rules}
 use Rattle.std.specs.Prelude.{Err}
 use Rattle.sja_bus.specs.declared.bus_fault.BusFault.{BusFault}
-use Rattle.sja_bus.specs.Several.{moment, Keeps, OneBit, WorksIf, StopsBits}
-use Rattle.sja_bus.specs.Inside.RunningOn.{IsSoFar}
+use Rattle.sja_bus.specs.Moment.{Moment, moment, Keeps}
+use Rattle.sja_bus.specs.Several.{BitInOrder, WorksIf, StopsBits}
+use Rattle.sja_bus.specs.Inside.RunningOn.{AnyBit, IsSoFar}
 use Rattle.sja_bus.proofs.Results.{err_is}
 use Rattle.sja_bus.proofs.Many.{numbered_kept}
 use Rattle.sja_bus.proofs.SoFar.{keeps_refl, none_yet, and_one, and_more, keeps_trans, still_for, breaks_later}
@@ -19,39 +20,30 @@ works g c = λ yes. elim c.else-to_rest.branch [
 -- what the bits so far keep, and a bit that came to its end or didn't
 kept : (g : _) (c : After-bit g) → Keeps g.E.BusEnd g.B.Board
     (moment c.args.self.now c.args.links.now c.args.board.now) (moment c.bit.new.self c.bit.new.links c.bit.new.board)
-kept g c = let did = c.bit.ensures in
+kept g c =
     keeps_trans g.E.BusEnd g.B.Board g.met.E.BusEnd.same_trans g.met.B.Board.kept_trans
     (moment c.args.self.now c.args.links.now c.args.board.now)
     (moment c.loop-run.self c.loop-run.links c.loop-run.board)
     (moment c.bit.new.self c.bit.new.links c.bit.new.board) c.loop-run.invariant.far.keeps
-    (record { sames = did.sames; others = did.others; script = did.script; nodes = did.nodes })
+    c.bit.ensures.keeps
 
 -- one that did is one more
 one_more : (g : _) (c : After-run_on g) →
-    WorksIf c.args.to_rest (moment c.loop-run.self c.loop-run.links c.loop-run.board) → IsSoFar g.E.BusEnd g.B.Board c.args.to_rest
-    (moment c.args.self.now c.args.links.now c.args.board.now) (c.loop-run.run + 1)
-    (moment c.bit.new.self c.bit.new.links c.bit.new.board)
+    WorksIf c.args.to_rest (moment c.loop-run.self c.loop-run.links c.loop-run.board) → IsSoFar g.E.BusEnd g.B.Board
+    (BitInOrder g.E.BusEnd g.B.Board) c.args.to_rest (moment c.args.self.now c.args.links.now c.args.board.now)
+    (c.loop-run.run + 1) (moment c.bit.new.self c.bit.new.links c.bit.new.board)
 one_more g c before =
-    let did = c.bit.ensures in let ok = c.in_ok-bit.ensures in
-    let mid = moment c.loop-run.self c.loop-run.links c.loop-run.board in
-    let next = moment c.bit.new.self c.bit.new.links c.bit.new.board in
-    let one : OneBit g.E.BusEnd g.B.Board mid next = record {
-      sames = did.sames;
-      others = did.others;
-      script = did.script;
-      nodes = did.nodes;
-      run = ok.bits.0;
-      left = ok.bits.1;
-      keeps = ok.kept;
-      bit = ok.bit;
-      all_told = ok.told;
-      right = ok.right;
-      lawful = c.keeps_its_laws.ensures ok.right;
-      are_facts = c.keeps_its_facts.ensures;
-    } in
-    and_one g.E.BusEnd g.B.Board g.met.E.BusEnd.same_trans g.met.B.Board.kept_trans c.args.to_rest
-    (moment c.args.self.now c.args.links.now c.args.board.now) mid next c.loop-run.run c.loop-run.invariant.far
-    before one
+    let ok = c.in_ok-bit.ensures in
+    and_one g.E.BusEnd g.B.Board (BitInOrder g.E.BusEnd g.B.Board) g.met.E.BusEnd.same_trans
+    g.met.B.Board.kept_trans c.args.to_rest (moment c.args.self.now c.args.links.now c.args.board.now)
+    (moment c.loop-run.self c.loop-run.links c.loop-run.board)
+    (moment c.bit.new.self c.bit.new.links c.bit.new.board) c.loop-run.run c.loop-run.invariant.far before ok.bit
+    (record { bit = ok.bit; takes = λ first. ok.takes })
+
+-- a bit after the first one is in order
+later : (g : _) (c : After-run_on g) (k : ℕ) (x y : Moment _ _) → AnyBit g.E.BusEnd g.B.Board k x y →
+    BitInOrder g.E.BusEnd g.B.Board ((c.loop-run.run + 1) + k) x y
+later g c k x y one = record { bit = one; takes = λ first. absurd (omega (arith, first)) }
 
 -- what they and further ones keep
 kept_on : (g : _) (c : After-run_on g) →
@@ -72,7 +64,7 @@ returns-in_err-most-clause-keeps g c = keeps_refl g.E.BusEnd g.B.Board g.met.E.B
 pub loop-run-init : goal.loop-run-init
 loop-run-init g c = record {
   few = omega arith;
-  far = none_yet g.E.BusEnd g.B.Board g.met.E.BusEnd.same_refl g.met.B.Board.kept_refl c.args.to_rest
+  far = none_yet g.E.BusEnd g.B.Board (BitInOrder g.E.BusEnd g.B.Board) g.met.E.BusEnd.same_refl g.met.B.Board.kept_refl c.args.to_rest
       (moment c.args.self.now c.args.links.now c.args.board.now) c.in_ok-most.ensures.right;
 }
 
@@ -125,19 +117,20 @@ returns-in_err-run-clause-reason g c =
     let at = goal.at.returns-in_err-run-clause-reason g c in
     let is : c.from_residual-in_err-run.result ≡ Err f = search rules in
     let P : BusFault → Type 0 = λ x. c.args.self.now.fault ≡ None → StopsBits E B to_rest c.args.count was now x in
-    err_is P c.from_residual-in_err-run.result f is (λ _. breaks_later E.stands E.full B.orders_are (OneBit E B)
-    (WorksIf to_rest) was (moment c.bit.new.self c.bit.new.links c.bit.new.board) now (c.loop-run.run + 1)
+    err_is P c.from_residual-in_err-run.result f is (λ _. breaks_later E.stands E.full B.orders_are (BitInOrder E B)
+    (AnyBit E B) (WorksIf to_rest) was (moment c.bit.new.self c.bit.new.links c.bit.new.board) now (c.loop-run.run + 1)
     (c.in_ok-most.most - (c.loop-run.run + 1)) c.args.count f (omega (arith, more, most))
-    (one_more g at.After-run_on (works g at.After-bit)).bits c.in_err-run.ensures.stops.reason)
+    (later g at.After-run_on) (one_more g at.After-run_on (works g at.After-bit)).bits c.in_err-run.ensures.stops.reason)
 
 pub loop-run-preserved : goal.loop-run-preserved
 loop-run-preserved g c =
     let at = goal.at.loop-run-preserved g c in
     let more = c.loop-run-test.true in let most = c.in_ok-run.ensures.most in record {
       few = omega (arith, more, most);
-      far = and_more g.E.BusEnd g.B.Board g.met.E.BusEnd.same_trans g.met.B.Board.kept_trans c.args.to_rest
+      far = and_more g.E.BusEnd g.B.Board (BitInOrder g.E.BusEnd g.B.Board) g.met.E.BusEnd.same_trans g.met.B.Board.kept_trans c.args.to_rest
           (moment c.args.self.now c.args.links.now c.args.board.now)
           (moment c.bit.new.self c.bit.new.links c.bit.new.board)
           (moment c.run_on.new.self c.run_on.new.links c.run_on.new.board) (c.loop-run.run + 1)
-          (one_more g at.After-run_on (works g at.After-bit)) c.in_ok-run.field-0 c.in_ok-run.ensures.runs;
+          (one_more g at.After-run_on (works g at.After-bit)) (AnyBit g.E.BusEnd g.B.Board) c.in_ok-run.field-0
+          (later g at.After-run_on) c.in_ok-run.ensures.runs;
     }

@@ -3,11 +3,12 @@ use Rattle.std.proofs.lemmas.Grind.{common_steps}
 use Rattle.std.specs.Prelude.{vec_capacity}
 use Rattle.sja_bus.specs.declared.seat.Seat.{Seat}
 use Rattle.sja_bus.specs.Buses.{BusValue}
-use Rattle.sja_bus.specs.Several.{moment, OneBit, WorksIf}
+use Rattle.sja_bus.specs.Moment.{moment}
+use Rattle.sja_bus.specs.Several.{WorksIf}
 use Rattle.sja_bus.specs.Reasons.{room_for}
 use Rattle.sja_bus.specs.Inside.Refusing.{HaveRoom}
 use Rattle.sja_bus.specs.Inside.Rows.{AreSeated, IsBus, journals_of}
-use Rattle.sja_bus.specs.Inside.RunningOn.{bus_of, RowsRun, IsSoFar}
+use Rattle.sja_bus.specs.Inside.RunningOn.{bus_of, AnyBit, RowsRun, IsSoFar}
 use Rattle.sja_bus.specs.Inside.Whole.{IsWhole}
 use Rattle.sja_bus.proofs.RanOn.{bus_with, bus_is, ran, stopped}
 use Rattle.sja_bus.proofs.Running.{count_is}
@@ -76,7 +77,8 @@ more : (g : _) (c : After-on_all g) (n run left far : ℕ) (bus : BusValue) → 
     RowsRun g.E.BusEnd g.B.Board c.args.to_rest c.loop-run.self-inside.struck.script c.loop-run.self-inside.run
     (c.args.count - c.loop-run.run) c.as_mut_slice-seats.result.now c.on_all.new.seats c.loop-run.links
     c.on_all.new.links c.loop-run.board c.on_all.new.board n →
-    IsSoFar g.E.BusEnd g.B.Board c.args.to_rest (moment c.args.self.now c.args.links.now c.args.board.now) far
+    IsSoFar g.E.BusEnd g.B.Board (AnyBit g.E.BusEnd g.B.Board) c.args.to_rest
+    (moment c.args.self.now c.args.links.now c.args.board.now) far
     (moment bus c.on_all.new.links c.on_all.new.board)
 more g c n run left far bus most run_is left_is far_is end runs =
     let E = g.E.BusEnd in let B = g.B.Board in let b = c.loop-run.self-inside in let now = c.on_all.new.seats in
@@ -85,9 +87,9 @@ more g c n run left far bus most run_is left_is far_is end runs =
     let new = moment bus c.on_all.new.links c.on_all.new.board in
     let P : ℕ → Type 0 = λ x. bus_of b.struck.script x left now ≡ bus in
     let Q : ℕ → Type 0 = λ x. bus_of b.struck.script (b.run + n) x now ≡ bus in
-    let R : ℕ → Type 0 = λ x. IsSoFar E B c.args.to_rest was x new in
-    subst R (sym far_is) (and_more E B g.met.E.BusEnd.same_trans g.met.B.Board.kept_trans c.args.to_rest was mid new
-    c.loop-run.run c.loop-run.invariant.far n
+    let R : ℕ → Type 0 = λ x. IsSoFar E B (AnyBit E B) c.args.to_rest was x new in
+    subst R (sym far_is) (and_more E B (AnyBit E B) g.met.E.BusEnd.same_trans g.met.B.Board.kept_trans c.args.to_rest was mid new
+    c.loop-run.run c.loop-run.invariant.far (AnyBit E B) n (λ k x y one. one)
     (ran E B c.args.to_rest b.struck.script b.run b.left c.as_mut_slice-seats.result.now now c.loop-run.links
     c.on_all.new.links c.loop-run.board c.on_all.new.board (c.args.count - c.loop-run.run) c.on_all.auto.seats
     c.on_all.ensures.sames c.on_all.ensures.others mid.bus (begins g c) n bus most (enough_left g c)
@@ -96,12 +98,12 @@ more g c n run left far bus most run_is left_is far_is end runs =
 pub loop-run-init : goal.loop-run-init
 loop-run-init g c =
     let b = c.self.inside in let was = bus_with b.struck.script b.run b.left b.fault b.seats.items in
-    let P : BusValue → Type 0 = λ w. IsSoFar g.E.BusEnd g.B.Board c.args.to_rest
+    let P : BusValue → Type 0 = λ w. IsSoFar g.E.BusEnd g.B.Board (AnyBit g.E.BusEnd g.B.Board) c.args.to_rest
     (moment w c.args.links.now c.args.board.now) 0 (moment was c.args.links.now c.args.board.now) in record {
       few = omega arith;
       whole = c.self.invariant.0;
       empty = c.self.invariant.1;
-      far = subst P c.self.view_is (none_yet g.E.BusEnd g.B.Board g.met.E.BusEnd.same_refl g.met.B.Board.kept_refl
+      far = subst P c.self.view_is (none_yet g.E.BusEnd g.B.Board (AnyBit g.E.BusEnd g.B.Board) g.met.E.BusEnd.same_refl g.met.B.Board.kept_refl
           c.args.to_rest (moment was c.args.links.now c.args.board.now)
           (ap (λ (w : BusValue). w.fault) c.self.view_is ∙ c.requires.right));
     }
@@ -171,6 +173,7 @@ returns-in-Err-clause-stops g c =
     (ap (λ (l : List Seat). journals_of l) (are_back g at)) c.in-Err.ensures.breaks in record {
       keeps = keeps_trans E B g.met.E.BusEnd.same_trans g.met.B.Board.kept_trans was mid _ inv.far.keeps stops.keeps;
       fault = stops.fault;
-      reason = breaks_later E.stands E.full B.orders_are (OneBit E B) (WorksIf c.args.to_rest) was mid _
-          c.loop-run.run most c.args.count c.in-Err.broken.fault (omega (arith, early)) inv.far.bits stops.reason;
+      reason = breaks_later E.stands E.full B.orders_are (AnyBit E B) (AnyBit E B) (WorksIf c.args.to_rest) was mid _
+          c.loop-run.run most c.args.count c.in-Err.broken.fault (omega (arith, early)) (λ k x y one. one) inv.far.bits
+          stops.reason;
     }

@@ -1,0 +1,40 @@
+-- A bus with its links and its ports, before a bit and after it (this project's own rule).
+use Rattle.std.specs.Prelude.{◌≡◌, ◌+◌, List, length, None}
+use Rattle.sja_link.specs.declared.bus_end.BusEnd.{Ghosts as Ends}
+use Rattle.sja_link.specs.Related.{EachRelated}
+use Rattle.sja_bus.specs.declared.board.Board.{Ghosts as Ports}
+use Rattle.sja_bus.specs.Boards.{KeepsOthers}
+use Rattle.sja_bus.specs.Buses.{BusValue, KeepsAll, AllTold, IsBitOf}
+use Rattle.sja_bus.specs.Lawful.{IsBusRun}
+
+-- a bus with its links and its ports, between two bits
+pub record Moment (E B : Type 0) : Type 0 where
+  pub bus : BusValue
+  pub links : List E
+  pub board : B
+
+-- this bus with these links and ports
+abbrev pub moment : {E B : Type 0} → BusValue → List E → B → Moment E B
+moment bus links board = record { bus = bus; links = links; board = board }
+
+-- what bits keep, also one that didn't come to its end: which ends the links are, each port that is of no node of the
+-- bus, the script, and how many nodes there are
+pub record Keeps {E B : Type 0} (e : Ends E) (b : Ports B) (was now : Moment E B) : Type 0 where
+  pub sames : EachRelated e.same was.links now.links
+  pub others : KeepsOthers b.ports b.kept (length was.bus.journals) was.board now.board
+  pub script : now.bus.script ≡ was.bus.script
+  pub nodes : length now.bus.journals ≡ length was.bus.journals
+
+-- one bit, which went well: it keeps what every bit keeps, and it is counted; the links stand for the journals still;
+-- all nodes had the bit, and nothing is untold of any; there is no fault; and what holds of every bus and of every board
+-- holds after it
+pub record OneBit {E B : Type 0} (e : Ends E) (b : Ports B) (was now : Moment E B) : Type 0 where
+  pub keeps : Keeps e b was now
+  pub run : now.bus.run ≡ was.bus.run + 1
+  pub left : now.bus.left + 1 ≡ was.bus.left
+  pub kept : KeepsAll e.stands was.bus.journals now.bus.journals was.links now.links
+  pub bit : IsBitOf b was.board now.board was.bus now.bus.journals
+  pub told : AllTold (length was.bus.journals) now.bus.untold
+  pub right : now.bus.fault ≡ None
+  pub lawful : IsBusRun now.bus.script now.bus.run now.bus.journals
+  pub facts : b.facts now.board
