@@ -1,12 +1,10 @@
 -- A bit that broke off, of one node and of all.
-use Rattle.std.proofs.Common.{◌≡◌, ℕ, suc, ◌+◌, ◌*◌, ◌<◌, ◌≤◌, Option, None, Some, List, [], ◌∷◌, ◌++◌, length, inl, inr, sym, ap, ◌∙◌, subst, arith}
+use Rattle.std.proofs.Common.{◌≡◌, ℕ, suc, true, ◌+◌, ◌*◌, ◌<◌, ◌≤◌, Option, List, [], ◌∷◌, length, inl, inr, refl, sym, ap, ◌∙◌, subst, arith}
 use Rattle.std.specs.Prelude.{◌⊎◌, slice_index_or, slice_set}
-use Rattle.std.proofs.lemmas.List.{length-append, get_or-set_same as set_here, get_or_default as or_same}
-use Rattle.can_bits.specs.declared.level.Level.{Level}
+use Rattle.std.proofs.lemmas.List.{get_or-set_same as set_here, get_or_default as or_same}
 use Rattle.sja_regs.specs.declared.orders.Orders.{Orders}
 use Rattle.sja_script.specs.declared.strike.Strike.{Strike}
 use Rattle.sja_link.specs.declared.entry.Entry.{Entry}
-use Rattle.sja_link.specs.declared.entry.Entry.TheVariants.{Bit}
 use Rattle.sja_link.specs.Lists.{Lists}
 use Rattle.sja_link.specs.Accounts.{Account, account}
 use Rattle.sja_link.specs.Parts.{part}
@@ -17,10 +15,12 @@ use Rattle.sja_bus.specs.declared.seat.Seat.{Seat}
 use Rattle.sja_bus.specs.Wire.{journal_at}
 use Rattle.sja_bus.specs.Links.{Kept, Goes, Moves}
 use Rattle.sja_bus.specs.OutOfOrder.{HasOff}
-use Rattle.sja_bus.specs.OneBit.{HasItems, HasVerdict, Opens, judged_as}
+use Rattle.sja_bus.specs.Aborting.{IsApplied}
+use Rattle.sja_bus.specs.OneBit.{HasItems, Opens}
+use Rattle.sja_bus.specs.OutOfRoom.{IsOutOfRoom}
 use Rattle.sja_bus.specs.Reasons.{IsBrokenFor, IsNotTaken, IsNotAborted, IsBrokenOff, StopsBit, room_for}
 use Rattle.sja_bus.specs.Reasons.StopsBit.{not_taken as not_taken_bit, not_aborted as not_aborted_bit, broken_off as broken_off_bit}
-use Rattle.sja_bus.specs.Inside.Taking.{BreaksHere, IsFull, FullForAbort}
+use Rattle.sja_bus.specs.Inside.Taking.{BreaksHere, BreaksBy, IsFull, FullForAbort}
 use Rattle.sja_bus.specs.Inside.Refusing.{HaveRoom, SeatRefuses, SeatFull, SeatBreaks, SeatStops}
 use Rattle.sja_bus.specs.Inside.Rows.{AreReady, GoesAll, Done, journals_of, untold_of}
 use Rattle.sja_bus.specs.Buses.{BusValue}
@@ -32,39 +32,39 @@ use Rattle.sja_bus.proofs.Running.{journal_is, count_is}
 -- an abort's entry found no room, after items were taken
 pub full_for_abort : {E : Type 0} (same : E → E → Type 0) (stands : E → Lists → Type 0) (old mid new : Seat) (links after : List E) (base : ℕ) (f : BusFault) →
     (link_of mid.ledger).node ≡ (link_of old.ledger).node → mid.journal.room ≡ old.journal.room → HasItems old.journal.entries mid.journal.entries →
-    Goes same stands old.journal.entries mid.journal.entries links after base → IsFull mid new f → FullForAbort stands old new links after base f
-full_for_abort same stands old mid new links after base f node room items goes full =
+    Goes same stands old.journal.entries mid.journal.entries links after base → (has_orders : Orders → Type 0) (orders : Orders) → has_orders orders → orders.abort ≡ true →
+    IsApplied mid.journal.entries true → IsFull mid new f → FullForAbort stands has_orders old new links after base f
+full_for_abort same stands old mid new links after base f node room items goes has_orders orders are ordered due full =
     let n : length new.journal.entries ≡ length mid.journal.entries = ap (λ (l : List Entry). length l) full.same in
     let no = full.full in
     let P : List Entry → Type 0 = λ l. HasItems old.journal.entries l in record {
       is = full.is ∙ ap (λ k. JournalFull k) node;
       items = subst P (sym full.same) items;
+      orders = orders;
+      are_orders = are;
+      ordered = ordered;
+      due = let D : List Entry → Type 0 = λ l. IsApplied l true in subst D (sym full.same) due;
       full = omega (arith, n, no, room);
       kept = λ h was. let Q : List Entry → Type 0 = λ l. Kept stands l after base h in subst Q (sym full.same) (goes.kept h was);
     }
 
--- a bit and a verdict are at most two entries
-pub verdict_few : (j k : List Entry) (x seen : Level) → HasVerdict j x seen k → length k ≤ length j + 2
-verdict_few j k x seen h =
-    let a = length-append (j ++ Bit x seen ∷ []) (judged_as h.verdict) in
-    let b = length-append j (Bit x seen ∷ []) in
-    let c : length k ≡ length ((j ++ Bit x seen ∷ []) ++ judged_as h.verdict) = ap (λ (l : List Entry). length l) h.whole in
-    let d = one h.verdict in omega (arith, a, b, c, d)
-  where
-    one : (v : Option _) → length (judged_as v) ≤ 1
-    one None = omega arith
-    one (Some w) = omega arith
+-- an entry found no room, of which more is said so
+pub breaks_by : {E P Q : Type 0} (stands : E → Lists → Type 0) (full : E → Type 0) (end : E) (old new : Seat) (f : BusFault) → (P → Q) →
+    BreaksBy P stands full end old new f → BreaksBy Q stands full end old new f
+breaks_by stands full end old new (JournalFull k) more b = (b.0, more b.1)
+breaks_by stands full end old new (Stuck k) more b = b
+breaks_by stands full end old new (BadCredit k bytes) more b = absurd b
+breaks_by stands full end old new (BadOrder k) more b = absurd b
+breaks_by stands full end old new BitsSpent more b = absurd b
 
 -- it broke off as bus-off was to be told
 pub breaks_after : {E : Type 0} (stands : E → Lists → Type 0) (full : E → Type 0) (x y : E) (old mid new : Seat) (f : BusFault) →
-    (link_of mid.ledger).node ≡ (link_of old.ledger).node → mid.journal.room ≡ old.journal.room → mid.ended ≡ old.ended →
-    length mid.journal.entries ≤ length old.journal.entries + 2 → new.journal.entries ≡ mid.journal.entries →
+    (link_of mid.ledger).node ≡ (link_of old.ledger).node → mid.ended ≡ old.ended →
+    (mid.journal.room ≤ length mid.journal.entries → IsOutOfRoom old.journal.room old.journal.entries new.journal.entries) →
     Moves stands x y old.journal.entries mid.journal.entries (suc old.ended) →
-    BreaksHere stands full y mid new f → BreaksHere stands full x old new f
-breaks_after stands full x y old mid new (JournalFull k) node room ended few same moves b =
-    let n : length new.journal.entries ≡ length mid.journal.entries = ap (λ (l : List Entry). length l) same in
-    let no = b.1 in (b.0 ∙ node, omega (arith, no, room), omega (arith, n, few))
-breaks_after stands full x y old mid new (Stuck k) node room ended few same moves b = (
+    BreaksBy (mid.journal.room ≤ length mid.journal.entries) stands full y mid new f → BreaksHere stands full x old new f
+breaks_after stands full x y old mid new (JournalFull k) node ended short moves b = (b.0 ∙ node, short b.1)
+breaks_after stands full x y old mid new (Stuck k) node ended short moves b = (
   b.0 ∙ node,
   record {
     last = b.1.last;
@@ -72,14 +72,16 @@ breaks_after stands full x y old mid new (Stuck k) node room ended few same move
     stood = λ h was.
         let P : ℕ → Type 0 = λ n. stands y (account mid.journal.entries (suc n) h) → stands b.1.last (account new.journal.entries (suc n) h) in
         subst P ended (b.1.stood h) (moves.here h was);
-    frames = b.1.frames;
+    off = b.1.off;
+    found = b.1.found;
+    cut = b.1.cut;
     verdicts = b.1.verdicts;
     on = subst (λ (n : ℕ). HasOff (part new.journal.entries (suc n)) → ⊥) ended b.1.on;
   },
 )
-breaks_after stands full x y old mid new (BadCredit k bytes) node room ended few same moves b = absurd b
-breaks_after stands full x y old mid new (BadOrder k) node room ended few same moves b = absurd b
-breaks_after stands full x y old mid new BitsSpent node room ended few same moves b = absurd b
+breaks_after stands full x y old mid new (BadCredit k bytes) node ended short moves b = absurd b
+breaks_after stands full x y old mid new (BadOrder k) node ended short moves b = absurd b
+breaks_after stands full x y old mid new BitsSpent node ended short moves b = absurd b
 
 -- the same by all its links
 pub broken_link : {E : Type 0} (stands : E → Lists → Type 0) (full : E → Type 0) (old new : Seat) (links : List E) (base : ℕ) (d : E) (f : BusFault) → old.ended < 8 →
@@ -94,7 +96,9 @@ broken_link stands full old new links base d (Stuck k) few b = (
     end = b.1.last;
     is_full = b.1.is_full;
     stood = λ h was. b.1.stood (h old.ended) (was old.ended d few);
-    frames = b.1.frames;
+    off = b.1.off;
+    found = b.1.found;
+    cut = b.1.cut;
     verdicts = b.1.verdicts;
     on = b.1.on;
   },
@@ -102,6 +106,13 @@ broken_link stands full old new links base d (Stuck k) few b = (
 broken_link stands full old new links base d (BadCredit k bytes) few b = absurd b
 broken_link stands full old new links base d (BadOrder k) few b = absurd b
 broken_link stands full old new links base d BitsSpent few b = absurd b
+
+-- the entries of a bit found no room
+pub broken_short : {E : Type 0} (stands : E → Lists → Type 0) (full : E → Type 0) (node room : ℕ) (before j : List Entry) (links : List E) (base : ℕ) (f : BusFault) →
+    f ≡ JournalFull node → IsOutOfRoom room before j → IsBrokenFor stands full node room before j links base f
+broken_short stands full node room before j links base f is short =
+    let P : BusFault → Type 0 = λ x. IsBrokenFor stands full node room before j links base x in
+    subst P (sym is) (refl, short)
 
 -- the links stood for the journal before also where they were earlier
 broken_from : {E : Type 0} (stands : E → Lists → Type 0) (full : E → Type 0) (node room : ℕ) (before j : List Entry) (links here : List E) (base : ℕ) (f : BusFault) →
@@ -116,7 +127,9 @@ broken_from stands full node room before j links here base (Stuck k) back b = (
     end = b.1.end;
     is_full = b.1.is_full;
     stood = λ h was. b.1.stood h (back h was);
-    frames = b.1.frames;
+    off = b.1.off;
+    found = b.1.found;
+    cut = b.1.cut;
     verdicts = b.1.verdicts;
     on = b.1.on;
   },
@@ -127,10 +140,11 @@ broken_from stands full node room before j links here base BitsSpent back b = ab
 
 -- ---- one of many, after those before it had their turn
 
-pub full_seat : {E : Type 0} (same : E → E → Type 0) (stands : E → Lists → Type 0) (R : ℕ → Seat → Seat → Type 0) (seats now : List Seat) (links here after : List E) (k : ℕ) (s new : Seat) (f : BusFault) →
+pub full_seat : {E : Type 0} (same : E → E → Type 0) (stands : E → Lists → Type 0) (orders_are : ℕ → Orders → Type 0) (R : ℕ → Seat → Seat → Type 0) (seats now : List Seat) (links here after : List E) (k : ℕ) (s new : Seat) (f : BusFault) →
     k < length seats → length now ≡ length seats → AreReady now → GoesAll same stands seats now links here → Done R k seats now →
-    FullForAbort stands (slice_index_or now k s) new here after (8 * k) f → SeatFull stands seats (slice_set now k new) links after f
-full_seat {E} same stands R seats now links here after k s new f few len ready goes done r =
+    FullForAbort stands (orders_are (link_of (slice_index_or now k s).ledger).node) (slice_index_or now k s) new here after (8 * k) f →
+    SeatFull stands orders_are seats (slice_set now k new) links after f
+full_seat {E} same stands orders_are R seats now links here after k s new f few len ready goes done r =
     let near : k < length now = omega (arith, few, len) in
     let own = (ready k s near).own in record {
       node = k;
@@ -139,12 +153,17 @@ full_seat {E} same stands R seats now links here after k s new f few len ready g
       full = λ t.
           let same_seat : slice_index_or now k s ≡ slice_index_or seats k t = or_same now k s t near ∙ (done k t few).1 (omega arith) in
           let this : slice_index_or now k t ≡ slice_index_or seats k t = (done k t few).1 (omega arith) in
-          let P : Seat → Type 0 = λ x. FullForAbort stands x new here after (8 * k) f in
-          let Q : Seat → Type 0 = λ x. FullForAbort stands (slice_index_or seats k t) x links after (8 * k) f in
-          let q : FullForAbort stands (slice_index_or seats k t) new here after (8 * k) f = subst P same_seat r in
+          let P : Seat → Type 0 = λ x. FullForAbort stands (orders_are k) x new here after (8 * k) f in
+          let Q : Seat → Type 0 = λ x. FullForAbort stands (orders_are k) (slice_index_or seats k t) x links after (8 * k) f in
+          let O : ℕ → Type 0 = λ n. FullForAbort stands (orders_are n) (slice_index_or now k s) new here after (8 * k) f in
+          let q : FullForAbort stands (orders_are k) (slice_index_or seats k t) new here after (8 * k) f = subst P same_seat (subst O own r) in
           subst Q (sym (set_here now k new t near)) (record {
             is = q.is;
             items = q.items;
+            orders = q.orders;
+            are_orders = q.are_orders;
+            ordered = q.ordered;
+            due = q.due;
             full = q.full;
             kept = λ h was. q.kept h (subst (λ (x : Seat). Kept stands x.journal.entries here (8 * k) h) this (goes.kept k t h few was));
           });
@@ -174,10 +193,10 @@ breaks_seat {E} same stands full R seats now links here k s new f few len ready 
 
 -- ---- by the journals of all
 
-pub not_aborted : {E : Type 0} (stands : E → Lists → Type 0) (bits : ℕ) (seats after : List Seat) (links links_after : List E) (f : BusFault) → length after ≡ length seats →
-    HaveRoom (room_for bits) seats → SeatFull stands seats after links links_after f → IsNotAborted stands bits (journals_of seats) (journals_of after) links links_after f
-not_aborted stands bits [] after links links_after f len rooms r = let none = r.few in absurd (omega (arith, none))
-not_aborted stands bits (s ∷ seats) after links links_after f len rooms r =
+pub not_aborted : {E : Type 0} (stands : E → Lists → Type 0) (orders_are : ℕ → Orders → Type 0) (bits : ℕ) (seats after : List Seat) (links links_after : List E) (f : BusFault) → length after ≡ length seats →
+    HaveRoom (room_for bits) seats → SeatFull stands orders_are seats after links links_after f → IsNotAborted stands orders_are bits (journals_of seats) (journals_of after) links links_after f
+not_aborted stands orders_are bits [] after links links_after f len rooms r = let none = r.few in absurd (omega (arith, none))
+not_aborted stands orders_are bits (s ∷ seats) after links links_after f len rooms r =
     let all = s ∷ seats in let cb = count_is all in let k = r.node in let few = r.few in
     let full = r.full s in let room = rooms k s few in let no = full.full in
     let was = journal_is all k s few in let now = journal_is after k s (omega (arith, few, len)) in
@@ -188,6 +207,10 @@ not_aborted stands bits (s ∷ seats) after links links_after f len rooms r =
       few = omega (arith, few, cb);
       is = r.is;
       items = subst P (sym was) (subst Q (sym now) full.items);
+      orders = full.orders;
+      are_orders = full.are_orders;
+      ordered = full.ordered;
+      due = let D : List Entry → Type 0 = λ j. IsApplied j true in subst D (sym now) full.due;
       full = omega (arith, n, room, no);
       kept = λ h kept.
           let K : List Entry → Type 0 = λ j. Kept stands j links (8 * k) h in
@@ -219,7 +242,7 @@ broken_off stands full orders_are same bits (s ∷ seats) after links f len room
 -- and of the bus
 pub stops_bit : {E : Type 0} (same : E → E → Type 0) (stands : E → Lists → Type 0) (full : E → Type 0) (orders_are : ℕ → Orders → Type 0) (script : List Strike) (run left bits : ℕ) (fault : Option BusFault)
     (seats after : List Seat) (links links_after : List E) (f : BusFault) (now : BusValue) → now.journals ≡ journals_of after → run + left ≡ bits → length after ≡ length seats → HaveRoom (room_for bits) seats →
-    (SeatRefuses stands seats after links links_after f ⊎ SeatFull stands seats after links links_after f) ⊎ SeatStops stands full orders_are same seats after links f →
+    (SeatRefuses stands seats after links links_after f ⊎ SeatFull stands orders_are seats after links links_after f) ⊎ SeatStops stands full orders_are same seats after links f →
     StopsBit stands full orders_are (record { script = script; run = run; left = left; fault = fault; journals = journals_of seats; untold = untold_of seats }) now links links_after f
 stops_bit {E} same stands full orders_are script run left bits fault seats after links links_after f now journals all len rooms r = elim r [
   | inl opening ↦ elim opening [
@@ -228,9 +251,9 @@ stops_bit {E} same stands full orders_are script run left bits fault seats after
         let J : List (List Entry) → Type 0 = λ l. IsNotTaken stands (run + left) (journals_of seats) l links links_after f in
         not_taken_bit (subst J (sym journals) (subst N (sym all) (not_taken stands bits seats after links links_after f len rooms refused)))
     | inr aborting ↦
-        let N : ℕ → Type 0 = λ n. IsNotAborted stands n (journals_of seats) (journals_of after) links links_after f in
-        let J : List (List Entry) → Type 0 = λ l. IsNotAborted stands (run + left) (journals_of seats) l links links_after f in
-        not_aborted_bit (subst J (sym journals) (subst N (sym all) (not_aborted stands bits seats after links links_after f len rooms aborting)))
+        let N : ℕ → Type 0 = λ n. IsNotAborted stands orders_are n (journals_of seats) (journals_of after) links links_after f in
+        let J : List (List Entry) → Type 0 = λ l. IsNotAborted stands orders_are (run + left) (journals_of seats) l links links_after f in
+        not_aborted_bit (subst J (sym journals) (subst N (sym all) (not_aborted stands orders_are bits seats after links links_after f len rooms aborting)))
   ]
   | inr breaking ↦
       let N : ℕ → Type 0 = λ n. IsBrokenOff stands full orders_are n (journals_of seats) (journals_of after) links f in

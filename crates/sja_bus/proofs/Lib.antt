@@ -15,6 +15,7 @@ pub mod Seating
 pub mod Bits
 pub mod Applying
 pub mod Takings
+pub mod OutOfRoom
 pub mod Aborting
 pub mod Turning
 pub mod Quiet

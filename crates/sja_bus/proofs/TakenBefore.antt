@@ -9,8 +9,7 @@ use Rattle.sja_link.specs.declared.verdict.Verdict.{Verdict}
 use Rattle.sja_link.specs.declared.verdict.Verdict.TheVariants.{Stored as ToStore, Overrun as ToLose}
 use Rattle.sja_link.specs.declared.entry.Entry.{Entry}
 use Rattle.sja_link.specs.declared.entry.Entry.TheVariants.{Bit, Up as Item, Abort, Stored, Overrun, Off}
-use Rattle.sja_link.specs.Lists.{Lists}
-use Rattle.sja_link.specs.Accounts.{Account, account}
+use Rattle.sja_link.specs.Accounts.{account}
 use Rattle.sja_link.specs.Gathering.{gathered}
 use Rattle.sja_link.specs.Parts.{part}
 use Rattle.sja_link.specs.Places.{past, place_of}
@@ -24,7 +23,7 @@ use Rattle.sja_bus.specs.declared.seat.Seat.{Seat}
 use Rattle.sja_bus.specs.Wire.{journal_at}
 use Rattle.sja_bus.specs.Links.{Kept, stops_in, stops_of}
 use Rattle.sja_bus.specs.OneBit.{HasBit, Opens, judged_as, off_as, abort_as, entries_of_items}
-use Rattle.sja_bus.specs.TakingAll.{HasTaken, TakesAll, taken_by}
+use Rattle.sja_bus.specs.TakingAll.{HasTaken, TakesAll}
 use Rattle.sja_bus.specs.Inside.Rows.{AreReady, EachSeat, SeatOpens, SeatTurns, GoesAll, AllRead, journals_of}
 use Rattle.sja_bus.specs.Inside.RowTakes.{RowTakesAll}
 use Rattle.sja_bus.proofs.Journals.{all_dry}

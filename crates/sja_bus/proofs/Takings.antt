@@ -1,6 +1,6 @@
 -- An item that the bus takes, or doesn't.
 use Rattle.std.proofs.Common.{◌≡◌, ℕ, suc, ◌<◌, ◌≤◌, true, false, List, [], ◌∷◌, ◌++◌, length, inl, inr, refl, sym, ap, ◌∙◌, subst, arith}
-use Rattle.std.specs.Prelude.{Result, Ok, Err, OnOk}
+use Rattle.std.specs.Prelude.{Result, Ok, Err, OnOk, IfErr}
 use Rattle.can_node.specs.declared.node.Node.{Node}
 use Rattle.can_node.specs.declared.request.Request.{Request}
 use Rattle.can_node.specs.Context.{ContextValue, is_held}
@@ -11,20 +11,25 @@ use Rattle.can_node.specs.Stands.{Requests}
 use Rattle.sja_link.specs.declared.up.Up.{Up}
 use Rattle.sja_link.specs.declared.up.Up.TheVariants.{Credit}
 use Rattle.sja_link.specs.declared.entry.Entry.{Entry}
-use Rattle.sja_link.specs.Free.{IsFree}
+use Rattle.sja_link.specs.Free.{IsFree, credit_in, bytes_in}
+use Rattle.sja_link.specs.BusLedgers.{link_of}
 use Rattle.sja_link.specs.Parts.{part, entry_at}
 use Rattle.sja_link.specs.Records.{record_of}
+use Rattle.sja_link.specs.Written.{Written}
 use Rattle.sja_link.proofs.Entering.{of_part_later}
+use Rattle.sja_link.proofs.Freeing.{total_push}
 use Rattle.sja_bus.specs.declared.activity.Activity.{Activity}
 use Rattle.sja_bus.specs.declared.activity.Activity.TheVariants.{Between, Running, Off, OffAndAsked}
 use Rattle.sja_link.specs.declared.entry.Entry.TheVariants.{Up as Item}
 use Rattle.sja_link.specs.Places.{past, place_of}
+use Rattle.sja_bus.specs.declared.bus_fault.BusFault.{BusFault}
+use Rattle.sja_bus.specs.declared.bus_fault.BusFault.TheVariants.{JournalFull}
 use Rattle.sja_bus.specs.declared.seat.Seat.{Seat}
-use Rattle.sja_bus.specs.OutOfOrder.{HasAskedOff, IsOutOfOrder, IsAskedWrongly}
+use Rattle.sja_bus.specs.OutOfOrder.{HasAskedOff, IsOutOfOrder, IsAskedWrongly, MayCome}
 use Rattle.sja_bus.specs.OutOfOrder.IsAskedWrongly.{outside, while_held, again_off}
 use Rattle.sja_bus.specs.Inside.Following.{Follows, Reads, open_in, is_on}
 use Rattle.sja_bus.specs.Inside.Seats.{IsSound, IsSeat, Pays}
-use Rattle.sja_bus.specs.Inside.Taking.{Takes}
+use Rattle.sja_bus.specs.Inside.Taking.{Takes, Refuses, IsFull}
 use Rattle.sja_bus.proofs.Lawfuls.{now_once}
 use Rattle.sja_bus.proofs.OnBus.{cut_away}
 use Rattle.sja_bus.proofs.Seating.{open_by}
@@ -70,7 +75,42 @@ dropped_right node j ended free h (outside between) = let b = h.begun in let s =
 dropped_right node j ended free h (while_held opened on held) = let e : true ≡ false = sym h.active.0 ∙ on in cc
 dropped_right node j ended free h (again_off opened off asked) = let P : ℕ → Type 0 = λ n. HasAskedOff (part j (suc n)) in h.active.3 (subst P h.stopped asked)
 
+-- a credit that the ledger counted is good: it is of 3 to 13 bytes, and no more than 64 are free with it
+pub credit_good : (activity : Activity) (node : Node) (j : List Entry) (ended free left n : ℕ) → left ≤ 64 → 3 ≤ n →
+    n ≤ 13 → Pays free left (Item (Credit n)) → Reads node j ended activity free → MayCome j (Credit n)
+credit_good activity node j ended free left n few some most pays h = record {
+  in_order = λ never. never;
+  good = λ bytes is bad.
+      let same : n ≡ bytes = cc in
+      let p = part j (suc ended) in
+      let paid = pays p h.free_is in let c = total_push credit_in p (Item (Credit n)) in
+      let b = total_push bytes_in p (Item (Credit n)) in let was = h.free_is in
+      let P : ℕ → Type 0 = λ k. IsFree (part j (suc k)) bad.free in
+      let free_then : IsFree p bad.free = subst P h.stopped bad.is_free in
+      elim bad.bad [
+        | inl short ↦ omega (arith, short, same, some)
+        | inr (inl long) ↦ omega (arith, long, same, most)
+        | inr (inr much) ↦ omega (arith, much, same, few, paid, c, b, free_then)
+      ];
+}
+
+-- an item of another kind
+pub may_come : (j : List Entry) (item : Up) → (IsOutOfOrder j item → ⊥) → ((bytes : ℕ) → item ≡ Credit bytes → ⊥) →
+    MayCome j item
+may_come j item due other = record { in_order = due; good = λ bytes is bad. other bytes is }
+
 -- ---- one that isn't
+
+-- its entry found no room, where it may come there
+pub refused_full : {A : Type 0} (r : Result A BusFault) (old mid new : Seat) (item : Up) →
+    (link_of mid.ledger).node ≡ (link_of old.ledger).node → mid.journal ≡ old.journal → MayCome old.journal.entries item →
+    IfErr r (λ f. IsFull mid new f) → IfErr r (λ f. Refuses old new item f)
+refused_full (Ok a) old mid new item node journal due full = tt
+refused_full (Err f) old mid new item node journal due full =
+    let P : BusFault → Type 0 = λ x. Refuses old new item x in
+    let R : Written → Type 0 = λ w. w.room ≤ length w.entries in
+    subst P (sym (full.is ∙ ap (λ k. JournalFull k) node))
+    (full.same ∙ ap (λ (w : Written). w.entries) journal, (refl, subst R journal full.full, due))
 
 -- a node that is on the bus gave a request back: by every cut it holds one
 pub held_by : (old new : Node) (j : List Entry) (request back : Request) → is_on false (record_of j) ≡ true → Follows old j → Requests old new request (Err back) →

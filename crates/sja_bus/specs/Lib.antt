@@ -10,6 +10,7 @@ pub mod Opening
 pub mod OutOfOrder
 pub mod Aborting
 pub mod OneBit
+pub mod OutOfRoom
 pub mod Telling
 -- ---- the links and ports of the nodes
 pub mod Links

@@ -16,14 +16,15 @@ pub record IsRunning (before : List Entry) : Type 0 where
   pub running : total is_stop (taken_of before) ≡ 0
 
 -- whether an entry may come after these in the part of an activation: a start is its first item, a stop its last;
--- bus-off is the last that is put; a message that is stored has room; and no credit is of bytes that weren't stored
+-- bus-off is the last that is put; a message that is stored has room; and a credit is of the 3 to 13 bytes of a message,
+-- and of none that weren't stored
 abbrev pub IsOrderly : List Entry → Entry → Type 0
 IsOrderly before (Stored m) =
     IsRunning before × (total is_off (put_of before) ≡ 0) × (length m ≤ free_of before)
 IsOrderly before Off = IsRunning before × (total is_off (put_of before) ≡ 0)
 IsOrderly before (Item (Start config)) = taken_of before ≡ []
 IsOrderly before (Item (Credit n)) =
-    IsRunning before × (3 ≤ n) × (total credit_in before + n ≤ total bytes_in before)
+    IsRunning before × (3 ≤ n) × (n ≤ 13) × (total credit_in before + n ≤ total bytes_in before)
 IsOrderly before (Item (Send request)) = IsRunning before
 IsOrderly before (Item Stop) = IsRunning before
 IsOrderly before (Bit driven seen) = Unit {0}

@@ -54,3 +54,8 @@ IsOutOfOrder j (Start config) = IsOpen j
 IsOutOfOrder j (Send request) = IsAskedWrongly j
 IsOutOfOrder j Stop = IsBetween j
 IsOutOfOrder j (Credit bytes) = ⊥
+
+-- the item may come here: it isn't out of order, and is no bad credit
+pub record MayCome (j : List Entry) (item : Up) : Type 0 where
+  pub in_order : IsOutOfOrder j item → ⊥
+  pub good : (bytes : ℕ) → item ≡ Credit bytes → IsBadCredit j bytes → ⊥

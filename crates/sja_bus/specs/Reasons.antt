@@ -1,29 +1,33 @@
 -- Why a bus doesn't go on: what each fault says of its node (this project's own rule).
-use Rattle.std.specs.Prelude.{◌≡◌, ◌+◌, ◌*◌, ◌<◌, ◌≤◌, ℕ, suc, List, length, slice_index_or}
-use Rattle.sja_link.specs.NodeWords.{ReceivedFrame}
+use Rattle.std.specs.Prelude.{◌≡◌, ◌+◌, ◌*◌, ◌<◌, ◌≤◌, ℕ, suc, true, Bool, List, ◌++◌, length, slice_index_or}
+use Rattle.sja_link.specs.NodeWords.{FinishedPiece, IsCut, received}
 use Rattle.sja_link.specs.declared.up.Up.{Up}
 use Rattle.sja_link.specs.declared.up.Up.TheVariants.{Credit}
 use Rattle.sja_link.specs.declared.entry.Entry.{Entry}
 use Rattle.sja_link.specs.Lists.{Lists, with_taken}
 use Rattle.sja_link.specs.Accounts.{Account, account}
 use Rattle.sja_link.specs.Parts.{part}
+use Rattle.sja_link.specs.Records.{record_of}
 use Rattle.sja_link.specs.Verdicts.{HasVerdicts}
 use Rattle.sja_regs.specs.declared.orders.Orders.{Orders}
 use Rattle.sja_bus.specs.declared.bus_fault.BusFault.{BusFault}
 use Rattle.sja_bus.specs.declared.bus_fault.BusFault.TheVariants.{BitsSpent, BadCredit, Stuck, BadOrder, JournalFull}
 use Rattle.sja_bus.specs.Wire.{journal_at}
 use Rattle.sja_bus.specs.Links.{per_node, Kept, stops_of}
-use Rattle.sja_bus.specs.OneBit.{HasItems, Opens}
-use Rattle.sja_bus.specs.OutOfOrder.{read_in, IsBadCredit, IsOutOfOrder, HasOff}
+use Rattle.sja_bus.specs.Aborting.{IsApplied}
+use Rattle.sja_bus.specs.OneBit.{HasItems, Opens, off_as}
+use Rattle.sja_bus.specs.OutOfOrder.{read_in, IsBadCredit, IsOutOfOrder, MayCome, HasOff}
+use Rattle.sja_bus.specs.OutOfRoom.{IsOutOfRoom}
 use Rattle.sja_bus.specs.Buses.{BusValue}
 
 -- ---- a node whose item was refused
 
--- with this fault a node with so many reserved entries didn't enter this item after its journal
+-- with this fault a node with so many reserved entries didn't enter this item after its journal: it is a bad credit, or
+-- out of order; or it may come there, and the reserved entries are used
 abbrev pub IsRefusedFor : ℕ → ℕ → List Entry → Up → BusFault → Type 0
 IsRefusedFor node room j item (BadCredit k bytes) = (k ≡ node) × (item ≡ Credit bytes) × IsBadCredit j bytes
 IsRefusedFor node room j item (BadOrder k) = (k ≡ node) × IsOutOfOrder j item
-IsRefusedFor node room j item (JournalFull k) = (k ≡ node) × (room ≤ length j)
+IsRefusedFor node room j item (JournalFull k) = (k ≡ node) × (room ≤ length j) × MayCome j item
 IsRefusedFor node room j item (Stuck k) = ⊥
 IsRefusedFor node room j item BitsSpent = ⊥
 
@@ -45,7 +49,8 @@ pub record RefusesItem {E : Type 0} (stands : E → Lists → Type 0) (room : �
 
 -- the end of one of its links had no room for a message or for bus-off: whatever its driver got and gave, where its
 -- links stood for its journal before, that end stood for it then. The journal's verdicts are right beside the frames
--- that its node received, and in the link's activation no bus-off was entered
+-- that its node received by the cut of its record, with bus-off after it where that is what was given back; and in the
+-- link's activation no bus-off was entered
 pub record GivesBack {E : Type 0} (stands : E → Lists → Type 0) (full : E → Type 0) (before j : List Entry)
     (links : List E) (base : ℕ) : Type 0 where
   pub place : ℕ
@@ -53,16 +58,17 @@ pub record GivesBack {E : Type 0} (stands : E → Lists → Type 0) (full : E �
   pub end : E
   pub is_full : full end
   pub stood : (h : ℕ → Account) → Kept stands before links base h → stands end (account j (suc place) (h place))
-  pub frames : List ReceivedFrame
-  pub verdicts : HasVerdicts j frames
+  pub off : Bool
+  pub found : List FinishedPiece
+  pub cut : IsCut (record_of (j ++ off_as off)) found
+  pub verdicts : HasVerdicts j (received found)
   pub on : HasOff (part j (suc place)) → ⊥
 
--- with this fault the bit of a node broke off, which had so many reserved entries and this journal before: the reserved
--- entries are used, and at most the bit and a verdict were entered; or a put was given back
+-- with this fault the bit of a node broke off, which had so many reserved entries and this journal before: they didn't
+-- hold the entries of the bit; or a put was given back
 abbrev pub IsBrokenFor : {E : Type 0} → (E → Lists → Type 0) → (E → Type 0) → ℕ → ℕ → List Entry → List Entry →
     List E → ℕ → BusFault → Type 0
-IsBrokenFor stands full node room before j links base (JournalFull k) =
-    (k ≡ node) × (room ≤ length j) × (length j ≤ length before + 2)
+IsBrokenFor stands full node room before j links base (JournalFull k) = (k ≡ node) × IsOutOfRoom room before j
 IsBrokenFor stands full node room before j links base (Stuck k) = (k ≡ node) × GivesBack stands full before j links base
 IsBrokenFor stands full node room before j links base (BadCredit k bytes) = ⊥
 IsBrokenFor stands full node room before j links base (BadOrder k) = ⊥
@@ -82,13 +88,18 @@ pub record IsNotTaken {E : Type 0} (stands : E → Lists → Type 0) (bits : ℕ
   pub refuses : RefusesItem stands (room_for bits) (journal_at before node) (journal_at now node) links after
       (per_node * node) node f
 
--- items of one of its nodes were taken, and then the entry of an abort found no room
-pub record IsNotAborted {E : Type 0} (stands : E → Lists → Type 0) (bits : ℕ) (before now : List (List Entry))
-    (links after : List E) (f : BusFault) : Type 0 where
+-- items of one of its nodes were taken, and then its port ordered an abort that changes the node, and the reserved
+-- entries are used
+pub record IsNotAborted {E : Type 0} (stands : E → Lists → Type 0) (orders_are : ℕ → Orders → Type 0) (bits : ℕ)
+    (before now : List (List Entry)) (links after : List E) (f : BusFault) : Type 0 where
   pub node : ℕ
   pub few : node < length before
   pub is : f ≡ JournalFull node
   pub items : HasItems (journal_at before node) (journal_at now node)
+  pub orders : Orders
+  pub are_orders : orders_are node orders
+  pub ordered : orders.abort ≡ true
+  pub due : IsApplied (journal_at now node) true
   pub full : room_for bits ≤ length (journal_at now node)
   pub kept : (h : ℕ → Account) → Kept stands (journal_at before node) links (per_node * node) h →
       Kept stands (journal_at now node) after (per_node * node) h
@@ -111,7 +122,7 @@ pub data StopsBit {E : Type 0} (stands : E → Lists → Type 0) (full : E → T
   spent : f ≡ BitsSpent → before.left ≡ 0 → StopsBit stands full orders_are before now links after f
   not_taken : IsNotTaken stands (before.run + before.left) before.journals now.journals links after f →
       StopsBit stands full orders_are before now links after f
-  not_aborted : IsNotAborted stands (before.run + before.left) before.journals now.journals links after f →
+  not_aborted : IsNotAborted stands orders_are (before.run + before.left) before.journals now.journals links after f →
       StopsBit stands full orders_are before now links after f
   broken_off : IsBrokenOff stands full orders_are (before.run + before.left) before.journals now.journals links f →
       StopsBit stands full orders_are before now links after f

@@ -63,7 +63,7 @@ pub(crate) fn open_all<E: BusEnd, B: Board>(
     ensures dry { OnOk result (AllRead E.dry seats.new links.new) }
     ensures rooms { OnOk result ((n : ℕ) → HaveRoom n seats.old → HaveRoom n seats.new) }
     ensures stops { IfErr result (λ f. SeatRefuses E.stands seats.old seats.new links.old links.new f
-        ⊎ SeatFull E.stands seats.old seats.new links.old links.new f) }
+        ⊎ SeatFull E.stands (B.orders_are board.now) seats.old seats.new links.old links.new f) }
 {
     for k in 0..seats.len() {
         seats[k].open_bit(links, LINKS * k, board)?;
@@ -205,7 +205,7 @@ pub(crate) fn bit_all<E: BusEnd, B: Board>(
     ensures takes { OnOk result (RowTakesAll E.BusEnd seats.old seats.new links.old) }
     ensures rooms { OnOk result ((n : ℕ) → HaveRoom n seats.old → HaveRoom n seats.new) }
     ensures stops { IfErr result (λ f. (SeatRefuses E.stands seats.old seats.new links.old links.new f
-        ⊎ SeatFull E.stands seats.old seats.new links.old links.new f)
+        ⊎ SeatFull E.stands (B.orders_are board.old) seats.old seats.new links.old links.new f)
         ⊎ SeatStops E.stands E.full (B.orders_are board.old) E.same seats.old seats.new links.old f) }
 {
     open_all(seats, links, board)?;

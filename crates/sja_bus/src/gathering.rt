@@ -9,10 +9,11 @@ use can_node::Aborted;
 use sja_link::{BusEnd, Entry};
 
 impl Seat {
-    ghost use Rattle.std.specs.Prelude.{◌≡◌, ◌<◌, ◌+◌, [], ◌∷◌, ◌++◌, slice_index_or, length, OnOk, IfErr, ◌⊎◌};
+    ghost use Rattle.std.specs.Prelude.{◌≡◌, ◌<◌, ◌+◌, [], ◌∷◌, ◌++◌, slice_index_or, true, length, OnOk, OnErr, IfErr, ◌⊎◌};
     ghost use Rattle.sja_link.specs.BusLedgers.{link_of, free_in};
     ghost use Rattle.sja_link.specs.declared.entry.Entry.TheVariants.{Abort as AbortEntry};
     ghost use Rattle.sja_bus.specs.Links.{Goes};
+    ghost use Rattle.sja_bus.specs.Aborting.{IsApplied};
     ghost use Rattle.sja_bus.specs.OneBit.{HasItems, Opens};
     ghost use Rattle.sja_bus.specs.Reasons.{RefusesItem};
     ghost use Rattle.sja_bus.specs.Inside.Following.{Follows, Reads};
@@ -77,6 +78,7 @@ impl Seat {
         ensures aborts { OnOk result (Applies self.old.journal.entries self.new.journal.entries) }
         ensures news { OnOk result (AbortsNews self.old self.new) }
         ensures full { IfErr result (λ f. IsFull self.old self.new f) }
+        ensures due { OnErr result (IsApplied self.old.journal.entries true) }
     {
         let Activity::Running(_) = self.activity else {
             return Ok(());
@@ -109,7 +111,8 @@ impl Seat {
             ((d : E) → self.new.ended < 8 → E.dry (slice_index_or links.new (base + self.new.ended) d)) }
         ensures stops { IfErr result (λ f. RefusesItem E.stands self.old.journal.room self.old.journal.entries
             self.new.journal.entries links.old links.new base (link_of self.old.ledger).node f
-            ⊎ FullForAbort E.stands self.old self.new links.old links.new base f) }
+            ⊎ FullForAbort E.stands (B.orders_are board.now (link_of self.old.ledger).node) self.old self.new
+            links.old links.new base f) }
     {
         self.gather(links, base)?;
         let ordered = board.orders(self.number()).abort;

@@ -17,13 +17,12 @@ use can_frame::{Frame, Message};
 use sja_link::{BusEnd, Busy, Entry, Verdict};
 
 impl Seat {
-    ghost use Rattle.std.specs.Prelude.{◌≡◌, ◌<◌, ℕ, suc, List, Ok, [], ◌∷◌, ◌++◌, OnOk, IfOk, IfErr, true, false};
+    ghost use Rattle.std.specs.Prelude.{◌≡◌, ◌<◌, ◌≤◌, ℕ, suc, List, Ok, [], ◌∷◌, ◌++◌, length, OnOk, IfOk, IfErr, true, false};
     ghost use Rattle.can_frame.specs.declared.filter.Filter.{Filter as Filtering};
     ghost use Rattle.can_node.specs.Stands.{InReset, Samples};
     ghost use Rattle.sja_link.specs.declared.entry.Entry.TheVariants.{Bit, Off as OffEntry};
-    ghost use Rattle.sja_link.specs.NodeWords.{ReceivedFrame};
     ghost use Rattle.sja_link.specs.Parts.{part};
-    ghost use Rattle.sja_link.specs.Verdicts.{HasVerdicts};
+    ghost use Rattle.sja_link.specs.Verdicts.{IsLawful};
     ghost use Rattle.sja_bus.specs.OutOfOrder.{HasOff};
     ghost use Rattle.sja_link.specs.BusLedgers.{link_of, free_in};
     ghost use Rattle.sja_bus.specs.declared.activity.Activity.TheVariants.{Running};
@@ -31,7 +30,7 @@ impl Seat {
     ghost use Rattle.sja_bus.specs.Inside.Following.{Reads, open_in};
     ghost use Rattle.sja_bus.specs.Inside.Turning.{BringsVerdict, Brings};
     ghost use Rattle.sja_bus.specs.Inside.Seats.{IsSound, IsSeat, IsReady, IsJudged, IsMid};
-    ghost use Rattle.sja_bus.specs.Inside.Taking.{BreaksHere, IsFull};
+    ghost use Rattle.sja_bus.specs.Inside.Taking.{BreaksHere, BreaksBy, IsJudgedShort, IsBitShort};
 
     /// Judges a message, and writes the bit and the verdict. Whether the message found no room.
     fn judge<E: BusEnd>(
@@ -45,7 +44,7 @@ impl Seat {
         requires runs { open_in self.old.activity ≡ 1 }
         requires reads { Reads self.old.node self.old.journal.entries self.old.ended self.old.activity
             (free_in self.old.ledger) }
-        requires verdicts { (frames : List ReceivedFrame) × HasVerdicts self.old.journal.entries frames }
+        requires lawful { IsLawful self.old.journal.entries }
         requires on { HasOff (part self.old.journal.entries (suc self.old.ended)) → ⊥ }
         requires seat { IsSeat self.old }
         ensures same { E.same end.old end.new }
@@ -60,7 +59,9 @@ impl Seat {
             (Reads self.new.node self.new.journal.entries self.new.ended self.new.activity (free_in self.new.ledger)) }
         ensures moves { OnOk result
             (Moves E.stands end.old end.new self.old.journal.entries self.new.journal.entries (suc self.old.ended)) }
-        ensures broken { IfErr result (λ f. BreaksHere E.stands E.full end.old self.old self.new f) }
+        ensures broken { IfErr result (λ f. BreaksBy (IsJudgedShort self.old.journal.room self.old.journal.entries
+            driven seen (suc self.old.ended) message self.new.journal.entries)
+            E.stands E.full end.old self.old self.new f) }
     {
         match accept(&mut self.ledger, end, &message) {
             Ok(verdict) => {
@@ -91,7 +92,8 @@ impl Seat {
         ensures moves { OnOk result
             (Moves E.stands end.old end.new self.old.journal.entries self.new.journal.entries (suc self.old.ended)) }
         ensures entered { OnOk result (self.new.journal.entries ≡ self.old.journal.entries ++ OffEntry ∷ []) }
-        ensures broken { IfErr result (λ f. BreaksHere E.stands E.full end.old self.old self.new f) }
+        ensures broken { IfErr result (λ f. BreaksBy (self.old.journal.room ≤ length self.old.journal.entries)
+            E.stands E.full end.old self.old self.new f) }
         ensures unentered { IfErr result (λ f. self.new.journal.entries ≡ self.old.journal.entries) }
     {
         match put_off(&mut self.ledger, end) {
@@ -183,7 +185,7 @@ impl Seat {
         ensures entered { OnOk result
             (self.new.journal.entries ≡ self.old.journal.entries ++ Bit self.old.drives seen ∷ []) }
         ensures quiet { IfOk result (λ brought. (brought.events.went_off ≡ false) × (brought.overrun ≡ false)) }
-        ensures full { IfErr result (λ f. IsFull self.old self.new f) }
+        ensures short { IfErr result (λ f. IsBitShort self.old self.new f) }
     {
         let driven = self.drives;
         let events = self.node.sample(seen);

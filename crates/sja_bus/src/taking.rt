@@ -44,7 +44,7 @@ impl Seat {
         requires owed { IsOwed self.old (Item (Credit bytes)) }
         requires seat { IsSeat self.old }
         requires more { self.old.ended < 8 }
-        requires some { 3 ≤ bytes }
+        requires some { (3 ≤ bytes) × (bytes ≤ 13) }
         ensures node { (link_of self.new.ledger).node ≡ (link_of self.old.ledger).node }
         ensures room { self.new.journal.room ≡ self.old.journal.room }
         ensures takes { OnOk result (Takes self.old self.new (Credit bytes)) }
@@ -105,7 +105,7 @@ impl Seat {
         requires owed { IsOwed self.old (Item item) }
         requires seat { IsSeat self.old }
         requires more { self.old.ended < 8 }
-        requires some { (bytes : ℕ) → item ≡ Credit bytes → 3 ≤ bytes }
+        requires some { (bytes : ℕ) → item ≡ Credit bytes → (3 ≤ bytes) × (bytes ≤ 13) }
         ensures node { (link_of self.new.ledger).node ≡ (link_of self.old.ledger).node }
         ensures room { self.new.journal.room ≡ self.old.journal.room }
         ensures takes { OnOk result (Takes self.old self.new item) }

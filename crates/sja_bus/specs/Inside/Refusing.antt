@@ -29,13 +29,13 @@ pub record SeatRefuses {E : Type 0} (stands : E → Lists → Type 0) (seats now
       (per_node * node) node f
 
 -- the entry of an abort found no room in the journal of one
-pub record SeatFull {E : Type 0} (stands : E → Lists → Type 0) (seats now : List Seat) (links after : List E)
-    (f : BusFault) : Type 0 where
+pub record SeatFull {E : Type 0} (stands : E → Lists → Type 0) (orders_are : ℕ → Orders → Type 0)
+    (seats now : List Seat) (links after : List E) (f : BusFault) : Type 0 where
   pub node : ℕ
   pub few : node < length seats
   pub is : f ≡ JournalFull node
-  pub full : (s : Seat) → FullForAbort stands (slice_index_or seats node s) (slice_index_or now node s) links after
-      (per_node * node) f
+  pub full : (s : Seat) → FullForAbort stands (orders_are node) (slice_index_or seats node s)
+      (slice_index_or now node s) links after (per_node * node) f
 
 -- the bit of one of them broke off
 pub record SeatBreaks {E : Type 0} (stands : E → Lists → Type 0) (full : E → Type 0) (seats now : List Seat)

@@ -1,6 +1,7 @@
 -- An item that the bus takes, and an abort that it applies.
-use Rattle.std.specs.Prelude.{◌≡◌, ◌<◌, ◌≤◌, ◌+◌, ℕ, suc, List, [], ◌∷◌, ◌++◌, length}
-use Rattle.sja_link.specs.NodeWords.{ReceivedFrame}
+use Rattle.std.specs.Prelude.{◌≡◌, ◌<◌, ◌≤◌, ℕ, suc, true, Bool, List, [], ◌∷◌, ◌++◌, length}
+use Rattle.can_bits.specs.declared.level.Level.{Level}
+use Rattle.sja_link.specs.NodeWords.{FinishedPiece, IsCut, received}
 use Rattle.sja_link.specs.declared.up.Up.{Up}
 use Rattle.sja_link.specs.declared.entry.Entry.{Entry}
 use Rattle.sja_link.specs.declared.entry.Entry.TheVariants.{Up as Item}
@@ -8,17 +9,20 @@ use Rattle.sja_link.specs.Places.{past, place_of}
 use Rattle.sja_link.specs.Lists.{Lists, with_taken}
 use Rattle.sja_link.specs.Accounts.{Account, account}
 use Rattle.sja_link.specs.Parts.{part}
+use Rattle.sja_link.specs.Records.{record_of}
 use Rattle.sja_link.specs.Verdicts.{HasVerdicts}
+use Rattle.sja_regs.specs.declared.orders.Orders.{Orders}
 use Rattle.sja_link.specs.BusLedgers.{link_of}
 use Rattle.sja_bus.specs.declared.bus_fault.BusFault.{BusFault}
 use Rattle.sja_bus.specs.declared.bus_fault.BusFault.TheVariants.{BitsSpent, BadCredit, Stuck, BadOrder, JournalFull}
 use Rattle.sja_bus.specs.declared.seat.Seat.{Seat}
-use Rattle.sja_bus.specs.Links.{Kept}
+use Rattle.sja_bus.specs.Links.{Kept, Grows}
 use Rattle.sja_bus.specs.Reasons.{IsRefusedFor}
 use Rattle.sja_bus.specs.OutOfOrder.{IsOutOfOrder, HasOff}
 use Rattle.sja_bus.specs.Aborting.{IsApplied}
-use Rattle.sja_bus.specs.OneBit.{HasItems, HasAbort}
-use Rattle.sja_bus.specs.Inside.Seats.{IsSound, IsSeat}
+use Rattle.sja_bus.specs.OneBit.{HasItems, HasAbort, off_as}
+use Rattle.sja_bus.specs.OutOfRoom.{IsOutOfRoom}
+use Rattle.sja_bus.specs.Inside.Seats.{IsSound, IsSeat, IsJudged}
 
 -- it may come there, was entered, and belongs to the activation that was read
 pub record Takes (old new : Seat) (item : Up) : Type 0 where
@@ -54,36 +58,62 @@ pub record IsGivenBack {E : Type 0} (stands : E → Lists → Type 0) (full : E 
   pub stood : (l : Lists) → stands end l → stands last l
 
 -- an end that gave an item back, as it was then: full, and it stood for the journal. The journal's verdicts are right
--- beside the frames that its node received, and in the activation no bus-off was entered
+-- beside the frames that its node received, by the cut of its record, with bus-off after it where that was given back;
+-- and in the activation no bus-off was entered
 pub record GaveBack {E : Type 0} (stands : E → Lists → Type 0) (full : E → Type 0) (end : E) (before j : List Entry)
     (a : ℕ) : Type 0 where
   pub last : E
   pub is_full : full last
   pub stood : (h : Account) → stands end (account before a h) → stands last (account j a h)
-  pub frames : List ReceivedFrame
-  pub verdicts : HasVerdicts j frames
+  pub off : Bool
+  pub found : List FinishedPiece
+  pub cut : IsCut (record_of (j ++ off_as off)) found
+  pub verdicts : HasVerdicts j (received found)
   pub on : HasOff (part j a) → ⊥
 
--- with this fault the bit of a node broke off
-abbrev pub BreaksHere : {E : Type 0} → (E → Lists → Type 0) → (E → Type 0) → E → Seat → Seat → BusFault → Type 0
-BreaksHere stands full end old new (JournalFull k) = (k ≡ (link_of old.ledger).node)
-    × (old.journal.room ≤ length new.journal.entries) × (length new.journal.entries ≤ length old.journal.entries + 2)
-BreaksHere stands full end old new (Stuck k) = (k ≡ (link_of old.ledger).node)
+-- with this fault a part of a node's bit broke off: an entry found no room, and then this holds; or a put was given back
+abbrev pub BreaksBy : {E : Type 0} → Type 0 → (E → Lists → Type 0) → (E → Type 0) → E → Seat → Seat → BusFault → Type 0
+BreaksBy Unheld stands full end old new (JournalFull k) = (k ≡ (link_of old.ledger).node) × Unheld
+BreaksBy Unheld stands full end old new (Stuck k) = (k ≡ (link_of old.ledger).node)
     × GaveBack stands full end old.journal.entries new.journal.entries (suc old.ended)
-BreaksHere stands full end old new (BadCredit k bytes) = ⊥
-BreaksHere stands full end old new (BadOrder k) = ⊥
-BreaksHere stands full end old new BitsSpent = ⊥
+BreaksBy Unheld stands full end old new (BadCredit k bytes) = ⊥
+BreaksBy Unheld stands full end old new (BadOrder k) = ⊥
+BreaksBy Unheld stands full end old new BitsSpent = ⊥
+
+-- the whole bit
+abbrev pub BreaksHere : {E : Type 0} → (E → Lists → Type 0) → (E → Type 0) → E → Seat → Seat → BusFault → Type 0
+BreaksHere stands full end old new =
+    BreaksBy (IsOutOfRoom old.journal.room old.journal.entries new.journal.entries) stands full end old new
+
+-- a bit and the verdict on this message, of which the first or the second entry found no room
+pub record IsJudgedShort (room : ℕ) (j : List Entry) (driven seen : Level) (a : ℕ) (m : List ℕ) (now : List Entry) :
+    Type 0 where
+  pub used : room ≤ length now
+  pub grows : Grows j now
+  pub overrun : Bool
+  pub due : Entry
+  pub later : List Entry
+  pub judged : IsJudged j driven seen a m overrun (now ++ due ∷ later)
+
+-- with this fault the entry of a bit, in which nothing else happens, found no room
+abbrev pub IsBitShort : Seat → Seat → BusFault → Type 0
+IsBitShort old new f = (f ≡ JournalFull (link_of old.ledger).node)
+    × IsOutOfRoom old.journal.room old.journal.entries new.journal.entries
 
 -- an abort was applied, and entered where it changed the node
 pub record Applies (j k : List Entry) : Type 0 where
   pub aborts : HasAbort j k
   pub is : IsApplied j aborts.changed
 
--- items were taken, and then the entry of an abort found no room
-pub record FullForAbort {E : Type 0} (stands : E → Lists → Type 0) (old new : Seat) (links after : List E) (base : ℕ)
-    (f : BusFault) : Type 0 where
+-- items were taken, and then an abort was ordered that changes the node, and its entry found no room
+pub record FullForAbort {E : Type 0} (stands : E → Lists → Type 0) (has_orders : Orders → Type 0) (old new : Seat)
+    (links after : List E) (base : ℕ) (f : BusFault) : Type 0 where
   pub is : f ≡ JournalFull (link_of old.ledger).node
   pub items : HasItems old.journal.entries new.journal.entries
+  pub orders : Orders
+  pub are_orders : has_orders orders
+  pub ordered : orders.abort ≡ true
+  pub due : IsApplied new.journal.entries true
   pub full : old.journal.room ≤ length new.journal.entries
   pub kept : (h : ℕ → Account) → Kept stands old.journal.entries links base h →
       Kept stands new.journal.entries after base h

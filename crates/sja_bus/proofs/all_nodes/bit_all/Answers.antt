@@ -86,7 +86,7 @@ returns-in_err-tick_from-clause-stops g c =
     let was = c.args.seats.now in let now = c.tick_from.new.seats in
     let is : c.from_residual-in_err-tick_from.result ≡ Err f = search rules in
     let P : _ → Type 0 = λ x. (SeatRefuses E.stands was now c.args.links.now c.tick_from.new.links x
-    ⊎ SeatFull E.stands was now c.args.links.now c.tick_from.new.links x) ⊎ SeatStops E.stands E.full O E.same was now c.args.links.now x in
+    ⊎ SeatFull E.stands O was now c.args.links.now c.tick_from.new.links x) ⊎ SeatStops E.stands E.full O E.same was now c.args.links.now x in
     err_is P c.from_residual-in_err-tick_from.result f is
     (inr (record {
       opened = c.open_all.new.seats;

@@ -48,8 +48,8 @@ returns-in_err-open_bit-clause-stops g c =
     let O = SeatOpens (g.B.Board.orders_are c.args.board.now) in
     let is : c.from_residual.result ≡ Err f = search rules in
     let P : _ → Type 0 = λ x. SeatRefuses E.stands before (slice_set c.loop-k.seats k new) c.args.links.now c.open_bit.new.links x
-    ⊎ SeatFull E.stands before (slice_set c.loop-k.seats k new) c.args.links.now c.open_bit.new.links x in
+    ⊎ SeatFull E.stands (g.B.Board.orders_are c.args.board.now) before (slice_set c.loop-k.seats k new) c.args.links.now c.open_bit.new.links x in
     err_is P c.from_residual.result f is (elim c.in_err-open_bit.ensures.stops [
       | inl refused ↦ inl (refuses_seat E.same E.stands O before c.loop-k.seats c.args.links.now c.loop-k.links c.open_bit.new.links k s new f was c.loop-k.auto.seats inv.ready inv.goes inv.done refused)
-      | inr full ↦ inr (full_seat E.same E.stands O before c.loop-k.seats c.args.links.now c.loop-k.links c.open_bit.new.links k s new f was c.loop-k.auto.seats inv.ready inv.goes inv.done full)
+      | inr full ↦ inr (full_seat E.same E.stands (g.B.Board.orders_are c.args.board.now) O before c.loop-k.seats c.args.links.now c.loop-k.links c.open_bit.new.links k s new f was c.loop-k.auto.seats inv.ready inv.goes inv.done full)
     ])

@@ -136,7 +136,7 @@ returns-in-Err-clause-reason g c = λ none.
     let new : List Seat → BusValue = λ xs. record { script = b.struck.script; run = b.run; left = b.left; fault = Some f; journals = journals_of xs; untold = untold_of xs } in
     let P : BusValue → Type 0 = λ w. StopsBit E.stands E.full O w (new now) before after f in
     let Q : List Seat → Type 0 = λ xs. StopsBit E.stands E.full O old (new xs) before after f in
-    let S : List Seat → Type 0 = λ l. (SeatRefuses E.stands l now before after f ⊎ SeatFull E.stands l now before after f) ⊎ SeatStops E.stands E.full O E.same l now before f in
+    let S : List Seat → Type 0 = λ l. (SeatRefuses E.stands l now before after f ⊎ SeatFull E.stands O l now before after f) ⊎ SeatStops E.stands E.full O E.same l now before f in
     let reason = stops_bit E.same E.stands E.full O b.struck.script b.run b.left b.struck.bits b.fault was now before after f (new now) refl inv.bits len rooms (subst S v c.in-Err.ensures.stops) in
     subst Q (sym e) (subst P c.self.view_is reason)
 

@@ -11,7 +11,7 @@ use Rattle.sja_bus.specs.declared.news.News.TheVariants.{Changed, Dropped as Dro
 use Rattle.sja_bus.proofs.Aborting.{marked_leaves, dropped_leaves}
 use Rattle.sja_bus.proofs.Turning.{aborts_none, aborts_one}
 use Rattle.sja_bus.proofs.Reading.{reads_swap, reads_quiet}
-use Rattle.sja_bus.proofs.Results.{ok_map}
+use Rattle.sja_bus.proofs.Results.{ok_map, err_on}
 use Rattle.sja_bus.proofs.seat.Seat.abort.Goals as goal
 
 pub enter_abort-requires-clause-follows : goal.enter_abort-requires-clause-follows
@@ -77,3 +77,17 @@ pub returns-in-Dropped-clause-news : goal.returns-in-Dropped-clause-news
 returns-in-Dropped-clause-news c =
     let was = c.args.self.now in let drops = dropped_leaves was.node c.abort.new.self was.journal.entries c.in-Dropped.ensures c.requires.ready.sound.follows in
     ok_map c.enter_abort-in-Dropped.result (λ e. aborts_one was c.enter_abort-in-Dropped.new.self DroppedNews c.enter_abort-in-Dropped.ensures.news (λ n. cc) e drops) c.enter_abort-in-Dropped.ensures.entered
+
+pub returns-in-Marked-clause-due : goal.returns-in-Marked-clause-due
+returns-in-Marked-clause-due c =
+    let was = c.args.self.now in
+    err_on c.enter_abort.result (applied_running was.node c.abort.new.self was.journal.entries was.ended
+    (free_in was.ledger) was.activity c.in-Running.field-0 Marked c.in-Marked.ensures
+    c.requires.ready.sound.follows c.in-Running.is c.requires.ready.sound.reads)
+
+pub returns-in-Dropped-clause-due : goal.returns-in-Dropped-clause-due
+returns-in-Dropped-clause-due c =
+    let was = c.args.self.now in
+    err_on c.enter_abort-in-Dropped.result (applied_running was.node c.abort.new.self was.journal.entries was.ended
+    (free_in was.ledger) was.activity c.in-Running.field-0 Dropped c.in-Dropped.ensures
+    c.requires.ready.sound.follows c.in-Running.is c.requires.ready.sound.reads)

@@ -7,7 +7,8 @@ use Rattle.sja_bus.specs.declared.activity.Activity.TheVariants.{Running, Off, O
 use Rattle.sja_bus.specs.Inside.Following.{Reads}
 use Rattle.sja_bus.proofs.Steps.{follows_send, follows_drop}
 use Rattle.sja_bus.proofs.Reading.{reads_ask, reads_drop, here_in}
-use Rattle.sja_bus.proofs.Takings.{seat_entered, takes_entered, held_wrongly, taken_right, dropped_right}
+use Rattle.sja_bus.specs.declared.seat.Seat.{Seat}
+use Rattle.sja_bus.proofs.Takings.{seat_entered, takes_entered, held_wrongly, taken_right, dropped_right, may_come, refused_full}
 use Rattle.sja_bus.proofs.seat.Seat.ask.Goals as goal
 
 pub returns-in-Ok-clause-takes : goal.returns-in-Ok-clause-takes
@@ -43,3 +44,25 @@ returns-in-Err-clause-refused c =
     let P : Activity → Type 0 = λ a. Reads was.node j was.ended a owed.free in
     let reads = subst P c.in-Running.is owed.reads in
     (refl, (c.number.ensures, held_wrongly was.node c.request.new.self j was.ended owed.free c.in-Running.field-0 c.copy.result c.in-Err.field-0 owed.follows c.in-Err.ensures reads))
+
+pub returns-in-Ok-clause-refused : goal.returns-in-Ok-clause-refused
+returns-in-Ok-clause-refused c =
+    let was = c.args.self.now in let j = was.journal.entries in let owed = c.requires.owed in
+    let P : Activity → Type 0 = λ a. Reads was.node j was.ended a owed.free in
+    let reads = subst P c.in-Running.is owed.reads in
+    let took = rw c.copy.ensures at c.in-Ok.ensures in
+    let due = taken_right was.node c.request.new.self j was.ended owed.free c.in-Running.field-0 c.args.request owed.follows
+    took reads in
+    let mid : Seat = record was { node = c.request.new.self } in
+    refused_full c.enter.result was mid c.enter.new.self (Send c.args.request) refl refl
+    (may_come j (Send c.args.request) due (λ bytes is. cc)) c.enter.ensures.full
+
+pub returns-in-Off-clause-refused : goal.returns-in-Off-clause-refused
+returns-in-Off-clause-refused c =
+    let was = c.args.self.now in let j = was.journal.entries in let owed = c.requires.owed in
+    let P : Activity → Type 0 = λ a. Reads was.node j was.ended a owed.free in
+    let reads = subst P c.in-Off.is owed.reads in
+    let mid : Seat = record was { activity = OffAndAsked } in
+    refused_full c.enter-in-Off.result was mid c.enter-in-Off.new.self (Send c.args.request) refl refl
+    (may_come j (Send c.args.request) (dropped_right was.node j was.ended owed.free reads) (λ bytes is. cc))
+    c.enter-in-Off.ensures.full

@@ -1,4 +1,4 @@
-use Rattle.std.proofs.Common.{arith, subst}
+use Rattle.std.proofs.Common.{arith, refl, subst}
 use Rattle.sja_link.specs.declared.up.Up.TheVariants.{Start}
 use Rattle.sja_link.specs.BusLedgers.{free_in}
 use Rattle.sja_bus.specs.declared.activity.Activity.{Activity}
@@ -6,7 +6,8 @@ use Rattle.sja_bus.specs.declared.activity.Activity.TheVariants.{Running}
 use Rattle.sja_bus.specs.Inside.Following.{Reads}
 use Rattle.sja_bus.proofs.Steps.{follows_start}
 use Rattle.sja_bus.proofs.Reading.{reads_start}
-use Rattle.sja_bus.proofs.Takings.{seat_entered, takes_entered}
+use Rattle.sja_bus.specs.declared.seat.Seat.{Seat}
+use Rattle.sja_bus.proofs.Takings.{seat_entered, takes_entered, may_come, refused_full}
 use Rattle.sja_bus.proofs.seat.Seat.begin.Goals as goal
 
 pub returns-clause-takes : goal.returns-clause-takes
@@ -24,3 +25,13 @@ returns-clause-takes c =
     (record { own = seat.own; few = seat.few; runs = λ o. c.requires.more }))
     (omega (arith, begun))
     c.enter.ensures.ok
+
+pub returns-clause-refused : goal.returns-clause-refused
+returns-clause-refused c =
+    let was = c.args.self.now in let owed = c.requires.owed in
+    let P : Activity → Type 0 = λ a. Reads was.node was.journal.entries was.ended a owed.free in
+    let reads = subst P c.in-Between.is owed.reads in let begun = reads.begun in let stopped = reads.stopped in
+    let mid : Seat = record was { node = c.start.new.self; activity = Running c.args.config.filter } in
+    refused_full c.enter.result was mid c.enter.new.self (Start c.args.config) refl refl
+    (may_come was.journal.entries (Start c.args.config) (λ opened. omega (arith, begun, stopped, opened)) (λ bytes is. cc))
+    c.enter.ensures.full

@@ -1,13 +1,15 @@
-use Rattle.std.proofs.Common.{◌≡◌, ℕ, suc, ◌+◌, [], ◌∷◌, ◌++◌, refl, arith, ap, ◌∙◌, subst}
+use Rattle.std.proofs.Common.{◌≡◌, ℕ, suc, ◌+◌, [], ◌∷◌, ◌++◌, refl, arith, ap, ◌∙◌, subst, rules}
 use Rattle.sja_link.specs.declared.up.Up.TheVariants.{Stop}
 use Rattle.sja_link.specs.declared.entry.Entry.TheVariants.{Up as Item}
 use Rattle.sja_link.specs.declared.link_id.LinkId.{LinkId}
+use Rattle.sja_link.specs.BusLedgers.{link_of}
 use Rattle.sja_bus.specs.declared.activity.Activity.TheVariants.{Between}
 use Rattle.sja_bus.specs.Inside.Following.{Reads}
 use Rattle.sja_bus.proofs.Seating.{open_else}
 use Rattle.sja_bus.proofs.Steps.{follows_stop}
 use Rattle.sja_bus.proofs.Reading.{reads_stop, here_in}
-use Rattle.sja_bus.proofs.Takings.{seat_entered, takes_entered}
+use Rattle.sja_bus.specs.declared.seat.Seat.{Seat}
+use Rattle.sja_bus.proofs.Takings.{seat_entered, takes_entered, may_come, refused_full}
 use Rattle.sja_bus.proofs.seat.Seat.end.Goals as goal
 
 pub returns-clause-takes : goal.returns-clause-takes
@@ -29,3 +31,18 @@ returns-clause-takes c =
     }))
     (here_in was.activity was.node j was.ended owed.free (Item Stop) (λ p. refl) runs owed.reads)
     c.enter.ensures.ok
+
+pub returns-clause-refused : goal.returns-clause-refused
+returns-clause-refused c =
+    let was = c.args.self.now in let j = was.journal.entries in let reads = c.requires.owed.reads in
+    let runs = open_else was.activity c.in_default.not-Between in
+    let begun = reads.begun in let stopped = reads.stopped in
+    let mid : Seat = record was {
+      node = c.stop.new.self;
+      activity = Between;
+      ended = was.ended + 1;
+      ledger = c.new-self.result;
+    } in
+    let node : (link_of c.new-self.result).node ≡ (link_of was.ledger).node = search rules in
+    refused_full c.enter.result was mid c.enter.new.self Stop node refl
+    (may_come j Stop (λ between. omega (arith, begun, stopped, runs, between)) (λ bytes is. cc)) c.enter.ensures.full

@@ -5,7 +5,7 @@ use Rattle.sja_bus.specs.Inside.Following.{open_in}
 use Rattle.sja_link.proofs.Related.{each_refl}
 use Rattle.sja_bus.proofs.Results.{ok_map, err_map}
 use Rattle.sja_bus.proofs.AtLinks.{stays_one}
-use Rattle.sja_bus.proofs.Breaking.{broken_link}
+use Rattle.sja_bus.proofs.Breaking.{broken_link, broken_short}
 use Rattle.sja_bus.proofs.Moving.{goes_one, goes_quiet}
 use Rattle.sja_bus.proofs.Bits.{rest_brings}
 use Rattle.sja_bus.proofs.seat.Seat.full_bit.Goals as goal
@@ -47,3 +47,11 @@ returns-clause-broken g c =
     err_map c.run_bit.result
     (λ f b. broken_link E.stands E.full c.args.self.now c.run_bit.new.self c.args.links.now c.args.base c.index-links-here.result f few b)
     c.run_bit.ensures.broken
+
+pub returns-in_default-clause-broken : goal.returns-in_default-clause-broken
+returns-in_default-clause-broken g c =
+    let E = g.E.BusEnd in let was = c.args.self.now in let new = c.rest_bit.new.self in
+    err_map c.rest_bit.result
+    (λ f short. broken_short E.stands E.full (link_of was.ledger).node was.journal.room was.journal.entries
+    new.journal.entries c.args.links.now c.args.base f short.0 short.1)
+    c.rest_bit.ensures.short

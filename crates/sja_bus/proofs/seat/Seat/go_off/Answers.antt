@@ -1,6 +1,10 @@
-use Rattle.std.proofs.Common.{suc, refl, ap, subst}
+use Rattle.std.proofs.Common.{◌≡◌, suc, true, List, refl, sym, ap, subst, rules}
+use Rattle.can_node.specs.Record.{Entry as Event}
+use Rattle.can_node.specs.Cut.{IsCut}
 use Rattle.sja_link.specs.declared.entry.Entry.TheVariants.{Off}
-use Rattle.sja_link.specs.BusLedgers.{free_in}
+use Rattle.sja_link.specs.BusLedgers.{link_of, free_in}
+use Rattle.sja_link.specs.Accounts.{account}
+use Rattle.sja_link.proofs.Entering.{record_push}
 use Rattle.sja_bus.specs.declared.activity.Activity.{Activity}
 use Rattle.sja_bus.specs.Inside.Following.{Reads, open_in}
 use Rattle.sja_bus.proofs.Steps.{follows_off}
@@ -24,3 +28,24 @@ returns-in-Ok-clause-moves g c =
     let was = c.args.self.now in let j = was.journal.entries in let mid = c.requires.mid in
     let at = stands_at j Off (suc was.ended) (λ p. refl) (runs_at was.activity was.node j was.ended (free_in was.ledger) (ap open_in c.requires.runs.1) mid.reads) in
     ok_map c.enter.result (λ e. rw e.0 (moves_push g.E.BusEnd.stands c.args.end.now c.put_off.new.end j Off (suc was.ended) at c.in-Ok.ensures.puts)) c.enter.ensures.ok
+
+pub returns-in-Err-clause-broken : goal.returns-in-Err-clause-broken
+returns-in-Err-clause-broken g c =
+    let was = c.args.self.now in let j = was.journal.entries in let mid = c.requires.mid in
+    let back = c.in-Err.ensures.back in let follows = mid.follows in
+    let number : c.number.result ≡ (link_of was.ledger).node = search rules in
+    let P : Activity → Type 0 = λ a. Reads was.node j was.ended a (free_in was.ledger) in
+    let C : List Event → Type 0 = λ r. IsCut r follows.found in
+    let reads = subst P c.requires.runs.1 mid.reads in (
+      number,
+      record {
+        last = back.last;
+        is_full = back.is_full;
+        stood = λ h stood. back.stood (account j (suc was.ended) h) stood;
+        off = true;
+        found = follows.found;
+        cut = subst C (sym (record_push j Off)) follows.stands.cut;
+        verdicts = follows.verdicts;
+        on = reads.active.3;
+      },
+    )

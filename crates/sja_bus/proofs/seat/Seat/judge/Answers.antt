@@ -1,16 +1,22 @@
-use Rattle.std.proofs.Common.{◌≡◌, suc, List, [], ◌∷◌, ◌++◌, refl, ap, ◌∙◌}
+use Rattle.std.proofs.Common.{◌≡◌, ◌≤◌, ℕ, suc, List, [], ◌∷◌, ◌++◌, length, refl, sym, ap, ◌∙◌, subst, rules}
+use Rattle.std.specs.Prelude.{Err}
 use Rattle.sja_link.specs.declared.entry.Entry.{Entry}
 use Rattle.sja_link.specs.declared.entry.Entry.TheVariants.{Bit}
-use Rattle.sja_link.specs.BusLedgers.{free_in}
+use Rattle.sja_link.specs.declared.link_id.LinkId.{LinkId}
+use Rattle.sja_link.specs.BusLedgers.{link_of, free_in}
 use Rattle.sja_link.specs.Parts.{part}
 use Rattle.sja_link.specs.Verdicts.{entry_of}
+use Rattle.sja_bus.specs.declared.bus_fault.BusFault.TheVariants.{JournalFull}
 use Rattle.sja_bus.specs.declared.seat.Seat.{Seat}
+use Rattle.sja_bus.specs.Inside.Taking.{BreaksBy, IsJudgedShort}
 use Rattle.sja_bus.proofs.Seating.{reads_by}
 use Rattle.sja_bus.proofs.Parted.{stays_of, stands_at, place_same, off_less}
 use Rattle.sja_bus.proofs.Reading.{reads_quiet, reads_here, runs_at, reads_running}
 use Rattle.sja_bus.proofs.Judging.{due_now, verdict_stays, verdict_no_stop, verdict_orderly}
 use Rattle.sja_bus.proofs.Orders.{no_off_put}
 use Rattle.sja_bus.proofs.Moving.{moves_push, moves_quiet, moves_trans}
+use Rattle.sja_bus.proofs.OutOfRoom.{bit_unjudged, verdict_unjudged}
+use Rattle.sja_bus.proofs.Results.{err_is}
 use Rattle.sja_bus.proofs.seat.Seat.judge.Goals as goal
 
 pub returns-in_ok-enter-in-Ok-2-clause-judged : goal.returns-in_ok-enter-in-Ok-2-clause-judged
@@ -55,3 +61,43 @@ returns-in_ok-enter-in-Ok-2-clause-moves g c =
     let two = moves_push g.E.BusEnd.stands c.args.end.now c.accept.new.end k (entry_of v m) (suc was.ended) (stands_at k (entry_of v m) (suc was.ended) (stays_of (entry_of v m) (verdict_stays v m)) then) c.in-Ok.ensures.puts in
     let whole : c.enter-in-Ok.new.self.journal.entries ≡ k ++ entry_of v m ∷ [] = c.in_ok-enter-in-Ok-2.ensures.ok.0 ∙ ap (λ (l : List Entry). l ++ c.verdict_entry.result ∷ []) first ∙ ap (λ x. k ++ x ∷ []) c.verdict_entry.ensures in
     rw whole (moves_trans g.E.BusEnd.stands c.args.end.now c.args.end.now c.accept.new.end j k (k ++ entry_of v m ∷ []) (suc was.ended) one two)
+
+pub returns-in_err-enter-in-Ok-clause-broken : goal.returns-in_err-enter-in-Ok-clause-broken
+returns-in_err-enter-in-Ok-clause-broken g c =
+    let E = g.E.BusEnd in let was = c.args.self.now in let j = was.journal.entries in let new = c.enter.new.self in
+    let x = c.args.driven in let seen = c.args.seen in let v = c.in-Ok.verdict in let m = c.args.message in
+    let room = was.journal.room in let a = suc was.ended in
+    let at = runs_at was.activity was.node j was.ended (free_in was.ledger) c.requires.runs c.requires.reads in
+    let due = due_now j x seen a v m (free_in was.ledger) at c.requires.reads.free_is
+    (λ p f. (c.in-Ok.ensures.judged p f).0) in
+    let f = c.in_err-enter-in-Ok.field-0.0 in let full = c.in_err-enter-in-Ok.ensures.full in
+    let is : c.from_residual.result ≡ Err f = search rules in
+    let Q : _ → Type 0 = λ y. BreaksBy (IsJudgedShort room j x seen a m new.journal.entries) E.stands E.full
+    c.args.end.now was new y in
+    let node = ap (λ (l : LinkId). l.node) c.in-Ok.ensures.id in
+    err_is Q c.from_residual.result f is (subst Q (sym (full.is ∙ ap (λ k. JournalFull k) node))
+    (refl, bit_unjudged room j new.journal.entries x seen a v m full.same full.full due))
+
+pub returns-in_err-enter-in-Ok-2-clause-broken : goal.returns-in_err-enter-in-Ok-2-clause-broken
+returns-in_err-enter-in-Ok-2-clause-broken g c =
+    let E = g.E.BusEnd in let was = c.args.self.now in let j = was.journal.entries in let new = c.enter-in-Ok.new.self in
+    let x = c.args.driven in let seen = c.args.seen in let v = c.in-Ok.verdict in let m = c.args.message in
+    let room = was.journal.room in let a = suc was.ended in
+    let at = runs_at was.activity was.node j was.ended (free_in was.ledger) c.requires.runs c.requires.reads in
+    let due = due_now j x seen a v m (free_in was.ledger) at c.requires.reads.free_is
+    (λ p f. (c.in-Ok.ensures.judged p f).0) in
+    let f = c.in_err-enter-in-Ok-2.field-0.0 in let full = c.in_err-enter-in-Ok-2.ensures.full in
+    let mid = c.enter.new.self in let first = c.in_ok-enter-in-Ok.ensures in
+    let is : c.from_residual-in_err-enter-in-Ok-2.result ≡ Err f = search rules in
+    let Q : _ → Type 0 = λ y. BreaksBy (IsJudgedShort room j x seen a m new.journal.entries) E.stands E.full
+    c.args.end.now was new y in
+    let R : ℕ → Type 0 = λ n. n ≤ length mid.journal.entries in
+    let S : List Entry → Type 0 = λ l. room ≤ length l in
+    let node : (link_of mid.ledger).node ≡ (link_of was.ledger).node
+    = ap (λ (s : Seat). (link_of s.ledger).node) first.others ∙ ap (λ (l : LinkId). l.node) c.in-Ok.ensures.id in
+    err_is Q c.from_residual-in_err-enter-in-Ok-2.result f is
+    (subst Q (sym (full.is ∙ ap (λ k. JournalFull k) node)) (
+      refl,
+      verdict_unjudged room j new.journal.entries x seen a v m (full.same ∙ first.ok.0)
+          (subst S first.ok.0 (subst R first.room full.full)) due,
+    ))

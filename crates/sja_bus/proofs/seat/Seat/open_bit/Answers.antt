@@ -2,7 +2,8 @@ use Rattle.std.proofs.Common.{append-nil, ◌≡◌, ℕ, true, false, rules, re
 use Rattle.sja_bus.proofs.Breaking.{full_for_abort}
 use Rattle.sja_bus.proofs.Moving.{goes_trans, goes_aborted}
 use Rattle.sja_bus.proofs.Turning.{aborts_none, takes_then}
-use Rattle.sja_bus.proofs.Results.{ok_map, err_map}
+use Rattle.sja_link.specs.BusLedgers.{link_of}
+use Rattle.sja_bus.proofs.Results.{ok_map, err_both}
 use Rattle.sja_bus.proofs.seat.Seat.open_bit.Goals as goal
 
 pub returns-then-ordered-clause-goes : goal.returns-then-ordered-clause-goes
@@ -40,7 +41,12 @@ returns-else-ordered-clause-news g c =
 pub returns-then-ordered-clause-stops : goal.returns-then-ordered-clause-stops
 returns-then-ordered-clause-stops g c =
     let E = g.E.BusEnd in let mid = c.gather.new.self in
-    err_map c.abort.result
-    (λ f full. inr (full_for_abort E.same E.stands c.args.self.now mid c.abort.new.self c.args.links.now c.gather.new.links c.args.base f c.gather.ensures.stays.node c.gather.ensures.stays.room
-    c.in_ok-gather.ensures.items c.in_ok-gather.ensures.goes full))
-    c.abort.ensures.full
+    let O : ℕ → Type 0 = λ n. g.B.Board.orders_are c.args.board.now n c.orders-ordered.result in
+    let are = subst O (c.number.ensures ∙ c.gather.ensures.stays.node) c.orders-ordered.ensures in
+    let yes : c.orders-ordered.result.abort ≡ true = search rules in
+    err_both c.abort.result
+    (λ due f full. inr (full_for_abort E.same E.stands c.args.self.now mid c.abort.new.self c.args.links.now c.gather.new.links c.args.base f c.gather.ensures.stays.node c.gather.ensures.stays.room
+    c.in_ok-gather.ensures.items c.in_ok-gather.ensures.goes
+    (g.B.Board.orders_are c.args.board.now (link_of c.args.self.now.ledger).node) c.orders-ordered.result are
+    yes due full))
+    c.abort.ensures.due c.abort.ensures.full

@@ -1,4 +1,4 @@
-use Rattle.std.proofs.Common.{suc, [], ◌∷◌, ◌++◌, rules, refl, sym, ap, subst}
+use Rattle.std.proofs.Common.{◌≡◌, suc, [], ◌∷◌, ◌++◌, rules, refl, sym, ap, subst}
 use Rattle.sja_link.specs.declared.entry.Entry.TheVariants.{Bit}
 use Rattle.sja_link.specs.BusLedgers.{free_in}
 use Rattle.sja_bus.specs.declared.activity.Activity.{Activity}
@@ -12,6 +12,12 @@ use Rattle.sja_bus.proofs.Bits.{received_quiet, received_judged, has_alone, has_
 use Rattle.sja_bus.proofs.Parted.{stands_at}
 use Rattle.sja_bus.proofs.Reading.{reads_quiet, reads_swap, runs_at}
 use Rattle.sja_bus.proofs.Moving.{moves_quiet}
+use Rattle.std.specs.Prelude.{Err}
+use Rattle.sja_bus.specs.Inside.Taking.{BreaksHere, IsJudgedShort}
+use Rattle.sja_bus.proofs.Breaking.{breaks_by}
+use Rattle.sja_bus.proofs.Lawfuls.{lawful_of}
+use Rattle.sja_bus.proofs.OutOfRoom.{bit_short, judged_short}
+use Rattle.sja_bus.proofs.Results.{err_is}
 use Rattle.sja_bus.proofs.seat.Seat.receive_bit.Goals as goal
 
 pub returns-in_ok-enter_bit-in-None-clause-mid : goal.returns-in_ok-enter_bit-in-None-clause-mid
@@ -79,3 +85,48 @@ returns-in_ok-overrun-in-Some-clause-off g c = λ went.
 pub returns-in_ok-overrun-in-Some-clause-verdict : goal.returns-in_ok-overrun-in-Some-clause-verdict
 returns-in_ok-overrun-in-Some-clause-verdict g c =
     has_judged c.args.self.now.journal.entries c.judge.new.self.journal.entries c.args.self.now.drives c.args.seen (suc c.args.self.now.ended) c.in-Some.message c.in_ok-overrun-in-Some.overrun c.in_ok-overrun-in-Some.ensures.judged
+
+pub returns-in_err-enter_bit-in-None-clause-broken : goal.returns-in_err-enter_bit-in-None-clause-broken
+returns-in_err-enter_bit-in-None-clause-broken g c =
+    let E = g.E.BusEnd in let was = c.args.self.now in let j = was.journal.entries in let seen = c.args.seen in
+    let new = c.sample_fully-events.new.self in let events = c.sample_fully-events.result in
+    let filter = c.requires.runs.0 in let ready = c.requires.ready in
+    let P : Activity → Type 0 = λ a. Reads was.node j was.ended a (free_in was.ledger) in
+    let reads = subst P c.requires.runs.1 ready.sound.reads in
+    let at = runs_at (Running filter) was.node j was.ended (free_in was.ledger) refl reads in
+    let follows = received_quiet was.node new j was.drives seen events filter (suc was.ended) ready.drives
+    c.sample_fully-events.ensures.samples at reads.active.1 (c.in-None.ensures filter c.requires.runs.1) ready.sound.follows in
+    let f = c.in_err-enter_bit-in-None.field-0.0 in let full = c.in_err-enter_bit-in-None.ensures.full in
+    let is : c.from_residual.result ≡ Err f = search rules in
+    let Q : _ → Type 0 = λ x. BreaksHere E.stands E.full c.args.end.now was c.enter_bit.new.self x in
+    err_is Q c.from_residual.result f is
+    (subst Q (sym full.is) (
+      refl,
+      bit_short new was.journal.room j c.enter_bit.new.self.journal.entries was.drives seen
+          events.went_off full.same full.full follows,
+    ))
+
+pub returns-in_err-overrun-in-Some-clause-broken : goal.returns-in_err-overrun-in-Some-clause-broken
+returns-in_err-overrun-in-Some-clause-broken g c =
+    let E = g.E.BusEnd in let was = c.args.self.now in let j = was.journal.entries in let seen = c.args.seen in
+    let new = c.sample_fully-events.new.self in let events = c.sample_fully-events.result in
+    let filter = c.requires.runs.0 in let ready = c.requires.ready in let a = suc was.ended in
+    let P : Activity → Type 0 = λ a. Reads was.node j was.ended a (free_in was.ledger) in
+    let reads = subst P c.requires.runs.1 ready.sound.reads in
+    let at = runs_at (Running filter) was.node j was.ended (free_in was.ledger) refl reads in
+    let f = c.in_err-overrun-in-Some.field-0.0 in let message = c.in-Some.message in
+    let now = c.judge.new.self.journal.entries in
+    let is : c.from_residual-in_err-overrun-in-Some.result ≡ Err f = search rules in
+    let Q : _ → Type 0 = λ x. BreaksHere E.stands E.full c.args.end.now was c.judge.new.self x in
+    err_is Q c.from_residual-in_err-overrun-in-Some.result f is
+    (breaks_by E.stands E.full c.args.end.now was c.judge.new.self f
+    (λ (short : IsJudgedShort was.journal.room j was.drives seen a message now).
+    judged_short new was.journal.room j now was.drives seen a message events.went_off short
+    (received_judged was.node new j (now ++ short.due ∷ short.later) was.drives seen events filter a message short.overrun
+    ready.drives c.sample_fully-events.ensures.samples at reads.active.1
+    (c.in-Some.ensures filter c.requires.runs.1) short.judged ready.sound.follows))
+    c.in_err-overrun-in-Some.ensures.broken)
+
+pub judge-requires-clause-lawful : goal.judge-requires-clause-lawful
+judge-requires-clause-lawful g c =
+    lawful_of c.args.self.now.node c.args.self.now.journal.entries c.requires.ready.sound.follows

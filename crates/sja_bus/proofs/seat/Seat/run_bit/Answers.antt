@@ -1,11 +1,12 @@
-use Rattle.std.proofs.Common.{◌≡◌, ℕ, suc, Bool, true, false, rules, subst, ap}
+use Rattle.std.proofs.Common.{◌≡◌, ◌≤◌, ℕ, suc, length, Bool, true, false, rules, subst, ap}
 use Rattle.std.specs.Prelude.{Err}
 use Rattle.sja_bus.specs.Inside.Following.{FollowsBit}
 use Rattle.sja_bus.specs.Links.{Moves}
 use Rattle.sja_bus.specs.Inside.Seats.{IsMid}
 use Rattle.sja_bus.specs.Inside.Taking.{BreaksHere}
 use Rattle.sja_bus.proofs.Moving.{moves_trans}
-use Rattle.sja_bus.proofs.Breaking.{verdict_few, breaks_after}
+use Rattle.sja_bus.proofs.Breaking.{breaks_after}
+use Rattle.sja_bus.proofs.OutOfRoom.{off_short}
 use Rattle.sja_bus.proofs.Steps.{follows_on}
 use Rattle.sja_bus.proofs.Bits.{has_on, has_off}
 use Rattle.sja_bus.proofs.Results.{err_is}
@@ -35,9 +36,15 @@ returns-in_err-go_off-clause-broken g c =
     let brought = c.in_ok-brought.ensures in let kept = brought.kept in
     let is : c.from_residual-in_err-go_off.result ≡ Err f = search rules in
     let P : _ → Type 0 = λ x. BreaksHere E.stands E.full c.args.end.now was new x in
+    let R : ℕ → Type 0 = λ n. n ≤ length mid.journal.entries in
+    let W : Bool → Type 0 = λ w. FollowsBit mid.node mid.journal.entries w in
+    let off : c.in_ok-brought.brought.events.went_off ≡ true = search rules in
     err_is P c.from_residual-in_err-go_off.result f is
-    (breaks_after E.stands E.full c.args.end.now c.receive_bit.new.end was mid new f (ap (λ l. l.node) kept.2) brought.room kept.0
-    (verdict_few was.journal.entries mid.journal.entries c.args.self.now.drives c.args.seen brought.verdict.verdict) c.in_err-go_off.ensures.unentered brought.moves c.in_err-go_off.ensures.broken)
+    (breaks_after E.stands E.full c.args.end.now c.receive_bit.new.end was mid new f (ap (λ l. l.node) kept.2) kept.0
+    (λ used. off_short mid.node was.journal.room was.journal.entries mid.journal.entries new.journal.entries was.drives
+    c.args.seen brought.verdict.verdict c.in_err-go_off.ensures.unentered (subst R brought.room used)
+    (subst W off brought.mid.follows))
+    brought.moves c.in_err-go_off.ensures.broken)
 
 pub go_off-requires-clause-mid : goal.go_off-requires-clause-mid
 go_off-requires-clause-mid g c =
