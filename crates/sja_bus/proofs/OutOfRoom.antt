@@ -1,5 +1,6 @@
 -- A bit whose entries the reserved ones of a journal don't hold.
-use Rattle.std.proofs.Common.{◌≡◌, ◌≤◌, ℕ, Bool, true, false, None, Some, List, [], ◌∷◌, ◌++◌, length, refl, sym, ap, ◌∙◌, subst, append_assoc, append-nil}
+use Rattle.std.proofs.Common.{◌≡◌, arith, Option, ◌+◌, ◌≤◌, ℕ, Bool, true, false, None, Some, List, [], ◌∷◌, ◌++◌, length, refl, sym, ap, ◌∙◌, subst, append_assoc, append-nil}
+use Rattle.std.proofs.lemmas.List.{length-append}
 use Rattle.can_bits.specs.declared.level.Level.{Level}
 use Rattle.can_node.specs.declared.node.Node.{Node}
 use Rattle.sja_link.specs.declared.entry.Entry.{Entry}
@@ -115,3 +116,20 @@ off_short node room j mid k x seen has same used follows =
       bit = record { verdict = has.verdict; off = true; whole = ap (λ l. l ++ Off ∷ []) has.whole };
       lawful = bit_lawful node mid true follows;
     })
+
+-- at most the bit and a verdict were entered
+pub short_few : (room : ℕ) (j k : List Entry) → IsOutOfRoom room j k → length k ≤ length j + 2
+short_few room j k h =
+    let x = Bit h.driven h.seen in let v = judged_as h.bit.verdict in let off = off_as h.bit.off in
+    let whole = ap (λ (l : List Entry). length l) h.bit.whole in
+    let a = length-append k (h.due ∷ h.later) in let b = length-append ((j ++ x ∷ []) ++ v) off in
+    let c = length-append (j ++ x ∷ []) v in let d = length-append j (x ∷ []) in
+    let few = one_verdict h.bit.verdict in let last = one_off h.bit.off in omega (arith, whole, a, b, c, d, few, last)
+  where
+    one_verdict : (v : Option _) → length (judged_as v) ≤ 1
+    one_verdict None = omega arith
+    one_verdict (Some w) = omega arith
+
+    one_off : (off : Bool) → length (off_as off) ≤ 1
+    one_off true = omega arith
+    one_off false = omega arith
