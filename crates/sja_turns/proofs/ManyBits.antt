@@ -1,15 +1,18 @@
 -- Bits that a bus ran one after another: each of them is a bit of the run.
-use Rattle.std.proofs.Common.{◌≡◌, ℕ, ◌+◌, ◌-◌, ◌<◌, ◌≤◌, true, List, length, refl, sym, ◌∙◌, subst, arith, inl, inr}
+use Rattle.std.proofs.Common.{◌≡◌, ℕ, ◌+◌, ◌-◌, ◌<◌, ◌≤◌, true, List, [], length, refl, sym, ◌∙◌, subst, arith, inl, inr}
 use Rattle.std.specs.Prelude.{◌⊎◌, None, min, slice_index_or}
 use Rattle.std.proofs.lemmas.Bool.{cases_lt}
+use Rattle.sja_link.specs.declared.bus_end.BusEnd.{Ghosts as Ends}
 use Rattle.sja_link.specs.Deques.{Deques, Lies}
 use Rattle.sja_regs.specs.declared.registers.Registers.{Registers}
 use Rattle.sja_regs.specs.Facts.{RegisterFacts}
+use Rattle.sja_bus.specs.declared.board.Board.{Ghosts as Ports}
 use Rattle.sja_bus.specs.declared.bus_fault.BusFault.{BusFault}
 use Rattle.sja_bus.specs.declared.serial_board.SerialBoard.{SerialBoard}
-use Rattle.sja_bus.specs.Boards.{HasOrders, WasTold, WasKept}
+use Rattle.sja_bus.specs.Boards.{HasOrders, ShowsTurn, WasTold, WasClosed, WasKept}
 use Rattle.sja_bus.specs.Lawful.{IsBusRun}
-use Rattle.sja_bus.specs.Several.{AllRest as AllAtRest, Moment, IsOneBit, AreBits, WorksIf, BreaksOff}
+use Rattle.sja_bus.specs.Moment.{Moment, OneBit}
+use Rattle.sja_bus.specs.Several.{AllRest as AllAtRest, BitInOrder, AreBits, WorksIf, BreaksOff}
 use Rattle.sja_bus.specs.Several.AreBits.{no_bit as none_run, one_more as one_run}
 use Rattle.sja_plan.specs.Plan.{PlanValue, IsInLimits}
 use Rattle.sja_driver.specs.declared.logged_driver.LoggedDriver.{LoggedDriver}
@@ -31,12 +34,30 @@ abbrev pub PortFacts : SerialBoard → Type 0
 PortFacts b = (node : ℕ) (d : Registers) → node < length b.ports.items → RegisterFacts
     (slice_index_or b.ports.items node d)
 
--- one bit of it
-abbrev pub OneBit : SerialMoment → SerialMoment → Type 0
-OneBit = IsOneBit (λ (a b : Deques). b.link ≡ a.link) Lies (λ (b : SerialBoard). length b.ports.items) PortFacts
-    (λ (b : SerialBoard). HasOrders b.ports.items)
-    (λ (a b : SerialBoard). WasTold a.ports.items b.ports.items)
-    (λ (a b : SerialBoard). WasKept a.ports.items b.ports.items)
+-- the ends of its links, and its ports
+abbrev pub ends : Ends Deques
+ends = record {
+  link = λ (s : Deques). s.link;
+  stands = Lies;
+  same = λ (a b : Deques). b.link ≡ a.link;
+  full = λ (s : Deques). length s.down ≡ 22;
+  dry = λ (s : Deques). s.up ≡ [];
+}
+
+abbrev pub ports : Ports SerialBoard
+ports = record {
+  ports = λ (b : SerialBoard). length b.ports.items;
+  orders_are = λ (b : SerialBoard). HasOrders b.ports.items;
+  shows = λ (b : SerialBoard). ShowsTurn b.ports.items;
+  told = λ (a b : SerialBoard). WasTold a.ports.items b.ports.items;
+  shut = λ (a b : SerialBoard). WasClosed a.ports.items b.ports.items;
+  kept = λ (a b : SerialBoard). WasKept a.ports.items b.ports.items;
+  facts = PortFacts;
+}
+
+-- the bit of this number of one call
+abbrev pub NthBit : ℕ → SerialMoment → SerialMoment → Type 0
+NthBit = BitInOrder ends ports
 
 -- the run with these drivers at that moment
 abbrev pub run_then : List LoggedDriver → SerialMoment → SerialValue
@@ -49,34 +70,34 @@ module _ (plan : PlanValue) (deeds : List (List Deed)) (drivers : List LoggedDri
     pub lawful : IsBusRun m.bus.script m.bus.run m.bus.journals
     pub facts : PortFacts m.board
 
-  one_bit : (was now : SerialMoment) → IsThere was → OneBit was now →
+  one_bit : (was now : SerialMoment) → IsThere was → OneBit ends ports was now →
       TakesBit plan deeds (run_then drivers was) (run_then drivers now)
   one_bit was now t b =
-      takes_bit plan (run_then drivers was) (run_then drivers now) deeds t.stands b.right b.script b.run b.left b.nodes
-      refl b.run b.others.0 b.keeps b.sames b.bit (cuts_of t.lawful) t.facts
+      takes_bit plan (run_then drivers was) (run_then drivers now) deeds t.stands b.right b.keeps.script b.run b.left
+      b.keeps.nodes refl b.run b.keeps.others.0 b.kept b.keeps.sames b.bit (cuts_of t.lawful) t.facts
 
   module _ (Before : SerialMoment → Type 0) where
-    there_still : (was now : SerialMoment) (n : ℕ) → AreBits OneBit Before was n now → IsThere was → IsThere now
+    there_still : (was now : SerialMoment) (n : ℕ) → AreBits NthBit Before was n now → IsThere was → IsThere now
     there_still was now n (none_run _) t = t
     there_still was now n (one_run _ mid _ k bits before one) t = record {
-      stands = (one_bit mid now (there_still was mid k bits t) one).stands;
-      lawful = one.lawful;
-      facts = one.are_facts;
+      stands = (one_bit mid now (there_still was mid k bits t) one.bit).stands;
+      lawful = one.bit.lawful;
+      facts = one.bit.facts;
     }
 
   -- each of them is a bit of the run, before which some node works
-  pub takes_bits : (was now : SerialMoment) (n : ℕ) → AreBits OneBit (WorksIf true) was n now → IsThere was →
+  pub takes_bits : (was now : SerialMoment) (n : ℕ) → AreBits NthBit (WorksIf true) was n now → IsThere was →
       TakesBits plan deeds (SomeWorks plan) (run_then drivers was) n (run_then drivers now)
   takes_bits was now n (none_run _) t = no_bit (run_then drivers was)
   takes_bits was now n (one_run _ mid _ k bits before one) t =
       let m = there_still (WorksIf true) was mid k bits t in
       one_more (run_then drivers was) (run_then drivers mid) (run_then drivers now) k (takes_bits was mid k bits t)
-      (some_works plan (run_then drivers mid) deeds m.stands (before refl)) (one_bit mid now m one)
+      (some_works plan (run_then drivers mid) deeds m.stands (before refl)) (one_bit mid now m one.bit)
 
   -- none of them broke off, where no more were asked for than are left
   pub never_breaks : (was now : SerialMoment) (count : ℕ) (f : BusFault) → IsThere was → IsInLimits plan →
       was.bus.run + count ≤ plan.bits →
-      BreaksOff Lies (λ (s : Deques). length s.down ≡ 22) (λ (b : SerialBoard). HasOrders b.ports.items) OneBit
+      BreaksOff Lies (λ (s : Deques). length s.down ≡ 22) (λ (b : SerialBoard). HasOrders b.ports.items) NthBit
       (WorksIf true) count was now f → ⊥
   never_breaks was now count f t limits few b =
       let m = there_still (WorksIf true) was b.mid b.run b.bits t in
@@ -110,7 +131,7 @@ module _ (plan : PlanValue) (drivers : List LoggedDriver) (was : SerialMoment) (
   -- none of its bits broke off
   pub no_break : (now : SerialMoment) (f : BusFault) → IsInLimits plan →
       (was.bus.fault ≡ None → BreaksOff Lies (λ (s : Deques). length s.down ≡ 22)
-      (λ (b : SerialBoard). HasOrders b.ports.items) OneBit (WorksIf true) most was now f) → ⊥
+      (λ (b : SerialBoard). HasOrders b.ports.items) NthBit (WorksIf true) most was now f) → ⊥
   no_break now f limits breaks =
       let e = bits_are in let w = within in let t = there run.0 run.1 in
       never_breaks plan run.0 drivers was now most f t limits (omega (arith, e, w, most_is)) (breaks t.stands.right)
@@ -118,7 +139,7 @@ module _ (plan : PlanValue) (drivers : List LoggedDriver) (was : SerialMoment) (
   -- it is that of another moment after so many of them
   module _ (now : SerialMoment) (n : SerialValue) (many : ℕ)
       (n_is : run_now now.bus drivers now.board.ports.items now.links (bits + many) ≡ n)
-      (are : AreBits OneBit (WorksIf true) was many now) where
+      (are : AreBits NthBit (WorksIf true) was many now) where
     bits_now : now.bus.run ≡ bits + many
     bits_now = let e = bits_are in let b = bits_run plan run.0 (SomeWorks plan) (run_then drivers was)
         (run_then drivers now) many (takes_bits plan run.0 drivers was now many are (there run.0 run.1)) in

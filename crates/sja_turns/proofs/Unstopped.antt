@@ -5,6 +5,7 @@ use Rattle.std.specs.Prelude.{◌⊎◌, slice_index_or}
 use Rattle.std.proofs.lemmas.List.{length-append, length-replicate}
 use Rattle.can_bits.specs.declared.level.Level.TheVariants.{Recessive}
 use Rattle.std.proofs.lemmas.List.Elements.{All-get_or}
+use Rattle.sja_link.specs.NodeWords.{received}
 use Rattle.sja_link.specs.declared.up.Up.{Up}
 use Rattle.sja_link.specs.declared.entry.Entry.{Entry}
 use Rattle.sja_link.specs.declared.entry.Entry.TheVariants.{Bit}
@@ -22,6 +23,7 @@ use Rattle.sja_bus.specs.Buses.{BusValue}
 use Rattle.sja_bus.specs.Lawful.{IsBusRun}
 use Rattle.sja_bus.specs.Links.{Kept, stops_of}
 use Rattle.sja_bus.specs.OneBit.{HasItems, abort_as}
+use Rattle.sja_bus.proofs.OutOfRoom.{short_few}
 use Rattle.sja_bus.specs.Reasons.{GivesBack, IsNotTaken, IsNotAborted, IsBrokenOff, IsBrokenFor, StopsBit, room_for}
 use Rattle.sja_bus.specs.Reasons.StopsBit.{spent, not_taken, not_aborted, broken_off}
 use Rattle.sja_bus.specs.Stretches.{recessive_bits, IsFullInStretch}
@@ -112,7 +114,7 @@ module _ (plan : PlanValue) (r : SerialValue) (deeds : List (List Deed)) (h : St
     not_stuck opened j between kept b =
         let ds = deeds_at deeds m in let d = slice_index_or r.drivers m driver in
         let lies : Lies b.end (account j (suc b.place) (acc b.place)) = b.stood acc kept in
-        let few = few_lying j (suc b.place) b.frames ds (node.linked.holds.got b.place) b.end.down b.end.up
+        let few = few_lying j (suc b.place) (received b.found) ds (node.linked.holds.got b.place) b.end.down b.end.up
         (released_of (releases_in (log_of d)) (suc b.place))
         (slice_index_or (leaves (left_in (log_of d)) (held_of (driver_of d))) b.place []) b.verdicts b.on lies.0
         (node.linked.holds.told b.place b.few) lies.1 node.traced.traces.answered.gives
@@ -132,9 +134,9 @@ module _ (plan : PlanValue) (r : SerialValue) (deeds : List (List Deed)) (h : St
       (slice_index_or after (8 * x.node + stops_of t) no_link).up x.refuses.few
       (x.refuses.shown (acc x.node x.few) no_link (kept_before x.node x.few)).1
 
-  no_abort : (now : BusValue) (after : List Deques) (f : BusFault) →
-      IsNotAborted Lies (r.bus.run + r.bus.left) r.bus.journals now.journals r.links after f → ⊥
-  no_abort now after f x =
+  no_abort : (orders_are : ℕ → Orders → Type 0) (now : BusValue) (after : List Deques) (f : BusFault) →
+      IsNotAborted Lies orders_are (r.bus.run + r.bus.left) r.bus.journals now.journals r.links after f → ⊥
+  no_abort orders_are now after f x =
       let j = journal_at r.bus.journals x.node in
       let t = journal_at now.journals x.node in
       let same : t ≡ j = none_taken j t x.items (given x.node x.few) (before x.node x.few)
@@ -149,7 +151,8 @@ module _ (plan : PlanValue) (r : SerialValue) (deeds : List (List Deed)) (h : St
       IsBrokenFor Lies (λ (s : Deques). length s.down ≡ 22) node (room_for (r.bus.run + r.bus.left)) opened j between
       (8 * node) f → ⊥
   never_broken node few opened j between (JournalFull k) short kept b =
-      let n = b.2 in not_full node few j (omega (arith, short, n)) b.1
+      let n = short_few (room_for (r.bus.run + r.bus.left)) opened j b.1 in
+      not_full node few j (omega (arith, short, n)) b.1.used
   never_broken node few opened j between (Stuck k) short kept b = not_stuck node few opened j between kept b.1
   never_broken node few opened j between (BadCredit k bytes) short kept b = b
   never_broken node few opened j between (BadOrder k) short kept b = b
@@ -177,7 +180,7 @@ module _ (plan : PlanValue) (r : SerialValue) (deeds : List (List Deed)) (h : St
   never_stops orders_are now after f (spent is none) =
       let a = h.all_bits in let b = h.bits in omega (arith, none, a, b, left)
   never_stops orders_are now after f (not_taken x) = no_item now after f x
-  never_stops orders_are now after f (not_aborted x) = no_abort now after f x
+  never_stops orders_are now after f (not_aborted x) = no_abort orders_are now after f x
   never_stops orders_are now after f (broken_off x) = not_broken orders_are now f x
 
   -- ---- bits that are run at once

@@ -19,9 +19,9 @@ returns c = λ deeds h.
     c.args.self.now c.as_mut_slice.ensures.value c.self.view_is in
     let stood : StandsAt c.args.plan.now r deeds = subst (λ (x : SerialValue). StandsAt c.args.plan.now x deeds)
     (sym was) h in
-    let t : TakesBit c.args.plan.now deeds r n = takes_bit c.args.plan.now r n deeds stood c.in-Ok.ensures.right
-    c.bit.ensures.script c.in-Ok.ensures.bits.0 c.in-Ok.ensures.bits.1 c.bit.ensures.nodes refl refl
-    c.bit.ensures.others.0 c.in-Ok.ensures.kept c.bit.ensures.sames c.in-Ok.ensures.bit
+    let b = c.in-Ok.ensures.bit in
+    let t : TakesBit c.args.plan.now deeds r n = takes_bit c.args.plan.now r n deeds stood b.right b.keeps.script b.run
+    b.left b.keeps.nodes refl refl b.keeps.others.0 b.kept b.keeps.sames b.bit
     (cuts_of (c.keeps_its_laws.ensures stood.right)) c.keeps_its_facts.ensures in
     let l : (with_items c.self.inside.links c.bit.new.links).items ≡ c.bit.new.links = with_items_is
     c.self.inside.links c.bit.new.links (omega (arith, c.bit.auto.links, c.as_mut_slice.ensures.len)) in

@@ -2,7 +2,7 @@ use Rattle.std.proofs.Common.{◌≡◌, ℕ, ◌+◌, ◌-◌, ap, sym, ◌∙�
 use Rattle.std.specs.Prelude.{min}
 use Rattle.std.proofs.lemmas.List.{with_items_is}
 use Rattle.std.specs.Vec.{with_items}
-use Rattle.sja_bus.specs.Several.{moment}
+use Rattle.sja_bus.specs.Moment.{moment}
 use Rattle.sja_turns.specs.Serial.{run_now}
 use Rattle.sja_turns.proofs.Borrowed.{run_is}
 use Rattle.sja_turns.proofs.ManyBits.{SerialMoment, no_break, busy_bits, busy_whole}
