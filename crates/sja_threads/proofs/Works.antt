@@ -191,7 +191,7 @@ module _ {E : Type 0} (link : E → LinkId) (same : E → E → Type 0) (stands 
   does_try : (full dry : E → Type 0) (a b : LoggedDriver) (s v : SettingsValue) (x y : List E) (p q : Registers)
       (which : Step) (done : Bool) (steps : List Step) → E → HasSettings p s → (done ≡ true → v ≡ settings_in q) →
       (done ≡ false → v ≡ s) → (if done then which ∷ [] else []) ≡ steps →
-      StaysLawful link same a b x y 0 done → Steps stands dry full a b x y 0 p q which 0 done →
+      StaysLawful link same a b x y 0 done → Steps same stands dry full a b x y 0 p q which 0 done →
       ((n : ℕ) → HasRoom (length steps + n) (log_of a) → HasRoom n (log_of b)) →
       DoesSteps link same stands a b s v x y steps
   does_try full dry a b s v x y p q which done steps e has met unmet same_steps stays st room = record {
@@ -214,7 +214,7 @@ module _ {E : Type 0} (link : E → LinkId) (same : E → E → Type 0) (stands 
   pub does_done : (full dry : E → Type 0) (a b : LoggedDriver) (s v : SettingsValue) (x y : List E) (p q : Registers)
       (which : Step) (done : Bool) → E → HasSettings p s → (done ≡ true → v ≡ settings_in q) →
       (done ≡ false → v ≡ s) → done ≡ true → StaysLawful link same a b x y 0 done →
-      Steps stands dry full a b x y 0 p q which 0 done → DoesSteps link same stands a b s v x y (which ∷ [])
+      Steps same stands dry full a b x y 0 p q which 0 done → DoesSteps link same stands a b s v x y (which ∷ [])
   does_done full dry a b s v x y p q which done e has left kept met stays st =
       does_try full dry a b s v x y p q which done (which ∷ []) e has left kept
       (ap (λ (m : Bool). if m then which ∷ [] else []) met) stays st
@@ -224,7 +224,7 @@ module _ {E : Type 0} (link : E → LinkId) (same : E → E → Type 0) (stands 
   pub does_wait : (full dry : E → Type 0) (a b : LoggedDriver) (s v : SettingsValue) (x y : List E) (p q : Registers)
       (which : Step) (done : Bool) → E → HasSettings p s → (done ≡ true → v ≡ settings_in q) →
       (done ≡ false → v ≡ s) → done ≡ false → StaysLawful link same a b x y 0 done →
-      Steps stands dry full a b x y 0 p q which 0 done → DoesSteps link same stands a b s v x y []
+      Steps same stands dry full a b x y 0 p q which 0 done → DoesSteps link same stands a b s v x y []
   does_wait full dry a b s v x y p q which done e has left kept unmet stays st =
       does_try full dry a b s v x y p q which done [] e has left kept
       (ap (λ (m : Bool). if m then which ∷ [] else []) unmet) stays st

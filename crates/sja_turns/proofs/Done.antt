@@ -30,7 +30,7 @@ use Rattle.sja_turns.specs.Nodes.{IsNode}
 use Rattle.sja_report.proofs.Givings.{Kind, kind_of}
 use Rattle.sja_report.proofs.Givings.Kind.{quiet, starts, credits, sends, stops}
 use Rattle.sja_turns.proofs.Taking.{waiting, AtMostOne}
-use Rattle.sja_turns.proofs.Trying.{shows_none, takes_none, Comes, comes}
+use Rattle.sja_turns.proofs.Trying.{alike, shows_none, takes_none, Comes, comes}
 
 -- ---- what a deed gives
 
@@ -77,7 +77,7 @@ opened_most deeds (InActive d) log node n trace place =
 module _ (version : ℕ) (steps : List Step) (j : List Entry) (deeds : List Deed) (was now : LoggedDriver)
     (p q : Registers) (links given : List Deques) (base : ℕ) (one : Step) (none : Deques)
     (h : IsNode version steps j deeds was p links base) (lawful : IsLawfulJournal j)
-    (st : Steps Lies shows_none takes_none was now links given base p q one (place_of j).bits true) where
+    (st : Steps alike Lies shows_none takes_none was now links given base p q one (place_of j).bits true) where
   pub all_taken : (a : ℕ) → given_in (deeds_of deeds a) ≡ taken_of (part j a)
   all_taken a = given_taken deeds j a (h.in_time.when a)
 

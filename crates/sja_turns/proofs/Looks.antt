@@ -31,13 +31,14 @@ pub record IsShown (j : List Entry) (deeds : List Deed) (off : Bool) (window : L
 
 -- a look at the link of the present activation, where what is held is what was got and not released, and it is less
 -- than what a link carries
-pub is_shown : (j : List Entry) (deeds : List Deed) (old : Deques) (got : List Down) (given : List _)
+pub is_shown : {alike : Deques → Deques → Type 0} (j : List Entry) (deeds : List Deed) (old : Deques) (got : List Down)
+    (given : List _)
     (released held window : List (List ℕ)) (off now_off : Bool) →
     Lies old (account j (opened_by deeds) (record { got = got; given = given })) → Holds got released held →
     off ≡ off_among false got →
     released_lengths (deeds_of deeds (opened_by deeds)) ≡ map (λ (m : List ℕ). length m) released →
     ((all down : List Down) → put_of (part j (opened_by deeds)) ≡ all ++ down → Holds all released window →
-    length window ≤ 21) → Looks Lies (λ (s : Deques). s.down ≡ []) old held window off now_off →
+    length window ≤ 21) → Looks alike Lies (λ (s : Deques). s.down ≡ []) old held window off now_off →
     IsShown j deeds now_off window
 is_shown j deeds old got given released held window off now_off lies holds known lengths few look =
     let p = look.pulls in

@@ -28,7 +28,7 @@ use Rattle.sja_turns.specs.Nodes.{IsNode}
 use Rattle.sja_turns.specs.Serial.{SerialValue, steps_at, deeds_at, StandsAt, HasMore, with_deeds, Does, IsStuck}
 use Rattle.sja_turns.specs.Waiting.{HasToWait}
 use Rattle.sja_turns.proofs.Slices.{apart, each_set, each_other}
-use Rattle.sja_turns.proofs.Trying.{shows_none, takes_none}
+use Rattle.sja_turns.proofs.Trying.{alike, shows_none, takes_none}
 use Rattle.sja_turns.proofs.Turned.{idle, stepped, still_journal, same_port, still, waited}
 
 module _ (plan : PlanValue) (r n : SerialValue) (deeds : List (List Deed)) (node : ℕ) (h : StandsAt plan r deeds)
@@ -147,13 +147,15 @@ module _ (plan : PlanValue) (r n : SerialValue) (deeds : List (List Deed)) (node
       IsLawfulJournal (journal_at r.bus.journals node) →
       RegisterFacts p → length (deeds_at deeds node) < length (steps_at plan node) →
       one ≡ slice_index_or (steps_at plan node) (length (deeds_at deeds node)) one → IsLawful now →
-      (place_of (journal_at r.bus.journals node)).bits ≡ r.bits → Steps Lies shows_none takes_none was now r.links given
+      (place_of (journal_at r.bus.journals node)).bits ≡ r.bits →
+      Steps alike Lies shows_none takes_none was now r.links given
       (8 * node) p q one r.bits true → ((m : ℕ) → HasRoom (m + 1) (log_of was) → HasRoom m (log_of now)) →
       (d : Deed) × Does plan r n node deeds (d ∷ [])
   next_done p one w lawful facts left is now_lawful place st room =
-      let at : Steps Lies shows_none takes_none was now r.links given (8 * node) p q one
+      let at : Steps alike Lies shows_none takes_none was now r.links given (8 * node) p q one
       (place_of (journal_at r.bus.journals node)).bits true =
-      subst (λ (b : ℕ). Steps Lies shows_none takes_none was now r.links given (8 * node) p q one b true) (sym place)
+      subst (λ (b : ℕ).
+      Steps alike Lies shows_none takes_none was now r.links given (8 * node) p q one b true) (sym place)
       st in
       let s = stepped plan.version (steps_at plan node) (journal_at r.bus.journals node)
       (journal_at n.bus.journals node) (deeds_at deeds node) was now p q r.links given n.links (8 * node) one none w
@@ -179,13 +181,15 @@ module _ (plan : PlanValue) (r n : SerialValue) (deeds : List (List Deed)) (node
       IsLawfulJournal (journal_at r.bus.journals node) →
       length (deeds_at deeds node) < length (steps_at plan node) → one ≡ slice_index_or (steps_at plan node)
       (length (deeds_at deeds node)) one → IsLawful now →
-      (place_of (journal_at r.bus.journals node)).bits ≡ r.bits → Steps Lies shows_none takes_none was now r.links given
+      (place_of (journal_at r.bus.journals node)).bits ≡ r.bits →
+      Steps alike Lies shows_none takes_none was now r.links given
       (8 * node) p q one r.bits false → ((m : ℕ) → HasRoom m (log_of was) → HasRoom m (log_of now)) →
       Does plan r n node deeds [] × IsStuck plan n deeds node
   next_waits p one w lawful left is now_lawful place st room =
-      let at : Steps Lies shows_none takes_none was now r.links given (8 * node) p q one
+      let at : Steps alike Lies shows_none takes_none was now r.links given (8 * node) p q one
       (place_of (journal_at r.bus.journals node)).bits false =
-      subst (λ (b : ℕ). Steps Lies shows_none takes_none was now r.links given (8 * node) p q one b false) (sym place)
+      subst (λ (b : ℕ).
+      Steps alike Lies shows_none takes_none was now r.links given (8 * node) p q one b false) (sym place)
       st in
       let j = journal_at r.bus.journals node in let k = journal_at n.bus.journals node in let ds =
       deeds_at deeds node in
@@ -230,7 +234,7 @@ module _ (plan : PlanValue) (r n : SerialValue) (deeds : List (List Deed)) (node
       length (deeds_at deeds node) < length (steps_at plan node) →
       one ≡ slice_index_or (steps_at plan node) (length (deeds_at deeds node)) one → IsLawful now →
       (place_of (journal_at r.bus.journals node)).bits ≡ r.bits →
-      Steps Lies shows_none takes_none was now r.links given (8 * node) p q one r.bits b →
+      Steps alike Lies shows_none takes_none was now r.links given (8 * node) p q one r.bits b →
       ((m : ℕ) → HasRoom (m + 1) (log_of was) → HasRoom m (log_of now)) →
       (b ≡ false → (m : ℕ) → HasRoom m (log_of was) → HasRoom m (log_of now)) →
       (b ≡ true → (d : Deed) × Does plan r n node deeds (d ∷ []))

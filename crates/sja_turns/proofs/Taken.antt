@@ -38,7 +38,7 @@ use Rattle.sja_turns.proofs.Refused.{refused_is}
 use Rattle.sja_turns.proofs.Room.{has_room}
 use Rattle.sja_turns.proofs.Slices.{each_other}
 use Rattle.sja_turns.proofs.Taking.{no_wait}
-use Rattle.sja_turns.proofs.Trying.{shows_none, takes_none}
+use Rattle.sja_turns.proofs.Trying.{alike, shows_none, takes_none}
 use Rattle.sja_turns.proofs.Done.{at_most_one, is_read, opened_most, doing}
 use Rattle.sja_turns.proofs.Turned.{is_unmet}
 
@@ -75,7 +75,7 @@ module _ (version : ℕ) (steps : List Step) (j : List Entry) (deeds : List Deed
 
   -- the step was done
   pub done_taken : (k : List Entry) (after : List Deques) (node : ℕ) (f : BusFault) →
-      Steps Lies shows_none takes_none was now links given base p q one (place_of j).bits true →
+      Steps alike Lies shows_none takes_none was now links given base p q one (place_of j).bits true →
       RefusesItem Lies (room_for bits) j k given after base node f → ⊥
   done_taken k after node f st r =
       let y = doing version steps j deeds was now p q links given base one none h lawful st in
@@ -94,7 +94,7 @@ module _ (version : ℕ) (steps : List Step) (j : List Entry) (deeds : List Deed
 
   -- it waits
   pub waits_taken : (k : List Entry) (after : List Deques) (node : ℕ) (f : BusFault) →
-      Steps Lies shows_none takes_none was now links given base p q one (place_of j).bits false →
+      Steps alike Lies shows_none takes_none was now links given base p q one (place_of j).bits false →
       RefusesItem Lies (room_for bits) j k given after base node f → ⊥
   waits_taken k after node f st r =
       let unmet = is_unmet st.tried st.met in
@@ -117,7 +117,7 @@ pub gather_takes : (plan : PlanValue) (r : SerialValue) (deeds : List (List Deed
     (8 * node) →
     IsLawfulJournal (journal_at r.bus.journals node) → RegisterFacts p → length (deeds_at deeds node) ≤ 1000 →
     (place_of (journal_at r.bus.journals node)).bits ≡ r.bits →
-    Steps Lies shows_none takes_none was now r.links given (8 * node) p q one r.bits b →
+    Steps alike Lies shows_none takes_none was now r.links given (8 * node) p q one r.bits b →
     ((i : ℕ) (d : Deques) → i ≢ place_after (8 * node) (ended_of was) → slice_index_or given i d ≡ slice_index_or
     r.links i d) →
     IsNotTaken Lies (r.bus.run + r.bus.left) r.bus.journals journals given after f → ⊥
@@ -129,7 +129,7 @@ gather_takes plan r deeds node was now p q given after journals one none f b h w
           let P : ℕ → Type 0 = λ x. RefusesItem Lies (room_for (r.bus.run + r.bus.left)) (journal_at r.bus.journals x)
           (journal_at journals x) given after (8 * x) x f in
           let refuses = subst P e r_not.refuses in
-          here b (subst (λ (n : ℕ). Steps Lies shows_none takes_none was now r.links given (8 * node) p q one n b)
+          here b (subst (λ (n : ℕ). Steps alike Lies shows_none takes_none was now r.links given (8 * node) p q one n b)
           (sym place) st) refuses
       | inr differ ↦
           let x = slice_index_or r.drivers m now in
@@ -149,7 +149,8 @@ gather_takes plan r deeds node was now p q given after journals one none f b h w
     run : (place_of j).bits ≤ r.bus.run + r.bus.left
     run = let e = h.bits in omega (arith, e, place)
 
-    here : (x : Bool) → Steps Lies shows_none takes_none was now r.links given (8 * node) p q one (place_of j).bits x →
+    here : (x : Bool) →
+        Steps alike Lies shows_none takes_none was now r.links given (8 * node) p q one (place_of j).bits x →
         RefusesItem Lies (room_for (r.bus.run + r.bus.left)) j (journal_at journals node) given after (8 * node) node
         f → ⊥
     here true s refuses =

@@ -38,6 +38,10 @@ use Rattle.sja_turns.proofs.Few.{few_held}
 use Rattle.sja_turns.proofs.Patience.{never_closed}
 use Rattle.sja_turns.proofs.SawPut.{sees_shown, if_looking}
 
+-- two states of one link
+abbrev pub alike : Deques → Deques → Type 0
+alike a b = b.link ≡ a.link
+
 -- an end that shows nothing downward, and one that takes no item
 abbrev pub shows_none : Deques → Type 0
 shows_none s = s.down ≡ []
@@ -77,7 +81,7 @@ module _ (j : List Entry) (deeds : List Deed) (log : WorkLog) (links : List Dequ
     (given : (a : ℕ) → given_in (deeds_of deeds a) ≡ taken_of (part j a)) where
   pub looked : (w : AnyDriver) → is_out w ≡ true → Traces w log deeds → IsDriverOf node (length (left_in log)) w →
       HoldsBy Lies deeds w log j links base →
-      (window : List (List ℕ)) (off : Bool) → Looks Lies shows_none
+      (window : List (List ℕ)) (off : Bool) → Looks alike Lies shows_none
       (slice_index_or links (place_after base (length (left_in log))) none) (held_of w) window (off_of w) off →
       IsShown j deeds off window
   looked (InReset d) out trace place h window off look = absurd cc
@@ -116,7 +120,7 @@ module _ (j : List Entry) (deeds : List Deed) (log : WorkLog) (links : List Dequ
       (window : List (List ℕ)) (seen : Seen) → Traces w log deeds → IsDriverOf node (length (left_in log)) w →
       HoldsBy Lies deeds w log j links base → p.closed ≡ false → FitsState (is_out w) (opened_of w) one answer →
       IfOut w (Sees one off window answer) → Tells one (is_out w) p seen answer →
-      IfOut w (IfLooking one (Looks Lies shows_none
+      IfOut w (IfLooking one (Looks alike Lies shows_none
       (slice_index_or links (place_after base (length (left_in log))) none) (held_of w) window (off_of w) off)) →
       q ≡ ported p one answer →
       IsNext j deeds p q (record { step = one; answer = answer; bits = (place_of j).bits; gave = carried p one answer })
@@ -157,7 +161,7 @@ module _ (j : List Entry) (deeds : List Deed) (log : WorkLog) (links : List Dequ
 
   pub comes : (p q : Registers) (one : Step) (w now : AnyDriver) (new : Deques) (o : Tried) → Traces w log deeds →
       IsDriverOf node (length (left_in log)) w → HoldsBy Lies deeds w log j links base →
-      p.closed ≡ false → true ≡ is_met o → Acts Lies shows_none takes_none
+      p.closed ≡ false → true ≡ is_met o → Acts alike Lies shows_none takes_none
       (slice_index_or links (place_after base (length (left_in log))) none) new p q one w now o → Comes p q one o
   comes p q one w now new Unmet trace place h unclosed met acts = absurd cc
   comes p q one w now new (Answered a) trace place h unclosed met acts = record {
@@ -196,7 +200,8 @@ module _ (j : List Entry) (deeds : List Deed) (log : WorkLog) (links : List Dequ
   pub waits : (p : Registers) (one : Step) (w now : AnyDriver) → Traces w log deeds →
       IsDriverOf node (length (left_in log)) w → HoldsBy Lies deeds w log j links base →
       ((a : ℕ) (d : Deques) → a < 8 → (slice_index_or links (base + a) d).up ≡ []) →
-      Waits Lies shows_none takes_none (slice_index_or links (place_after base (length (left_in log))) none) p one w
+      Waits alike Lies shows_none takes_none (slice_index_or links (place_after base (length (left_in log))) none) p one
+      w
       now → HasToWait j deeds p one
   waits p (Await count) (InActive was) now trace place h empty (closed, on, few, look) =
       let shown = looked (InActive was) refl trace place h (held_of now) (off_of now) look in

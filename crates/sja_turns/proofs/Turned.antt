@@ -34,7 +34,7 @@ use Rattle.sja_turns.specs.Nodes.{IsNode}
 use Rattle.sja_turns.specs.Porting.{IsPorted}
 use Rattle.sja_turns.specs.Waiting.{HasToWait}
 use Rattle.sja_turns.proofs.Taking.{no_wait}
-use Rattle.sja_turns.proofs.Trying.{shows_none, takes_none, waits}
+use Rattle.sja_turns.proofs.Trying.{alike, shows_none, takes_none, waits}
 use Rattle.sja_turns.proofs.After.{enters, level_after, in_time_after}
 use Rattle.sja_turns.proofs.Dating.{done_after}
 use Rattle.sja_turns.proofs.Ported.{ported_after, asked_after, counted_after}
@@ -57,7 +57,7 @@ module _ (version : ℕ) (steps : List Step) (j k : List Entry) (deeds : List De
     pub bits : deed.bits ≡ (place_of j).bits
     pub node : IsNode version steps k (deeds ++ deed ∷ []) now q after base
 
-  pub stepped : Steps Lies shows_none takes_none was now links given base p q one (place_of j).bits true →
+  pub stepped : Steps alike Lies shows_none takes_none was now links given base p q one (place_of j).bits true →
       ((m : ℕ) → HasRoom (m + 1) (log_of was) → HasRoom m (log_of now)) → Stepped
   stepped st room =
       let y = doing version steps j deeds was now p q links given base one none h lawful st in
@@ -150,14 +150,15 @@ module _ (version : ℕ) (steps : List Step) (j k : List Entry) (deeds : List De
     (items : HasItems j k)
     (kept : (acc : ℕ → Account) → Kept Lies j given base acc → Kept Lies k after base acc)
     (dry : stops_of k < 8 → (slice_index_or after (base + stops_of k) none).up ≡ [])
-    (st : Steps Lies shows_none takes_none was now links given base p q one (place_of j).bits false)
+    (st : Steps alike Lies shows_none takes_none was now links given base p q one (place_of j).bits false)
     (room : (m : ℕ) → HasRoom m (log_of was) → HasRoom m (log_of now)) where
   unmet : st.tried ≡ Unmet
   unmet = is_unmet st.tried st.met
 
-  acts : Acts Lies shows_none takes_none (slice_index_or links (place_after base (ended_of was)) none)
+  acts : Acts alike Lies shows_none takes_none (slice_index_or links (place_after base (ended_of was)) none)
       (slice_index_or given (place_after base (ended_of was)) none) p q one (driver_of was) (driver_of now) Unmet
-  acts = subst (λ (o : Tried). Acts Lies shows_none takes_none (slice_index_or links (place_after base (ended_of was))
+  acts = subst (λ (o : Tried).
+      Acts alike Lies shows_none takes_none (slice_index_or links (place_after base (ended_of was))
       none) (slice_index_or given (place_after base (ended_of was)) none) p q one (driver_of was) (driver_of now) o)
       unmet (st.acts none none)
 
