@@ -44,8 +44,9 @@ run_of plan log deeds version count bus counters traces settled = record {
         account = account_of node (lawful k d less) (begun_by node (slice_index_or deeds k []) (slice_index_or plan.nodes k []) (traces k d less)) (settled k d less);
         counters = counters k d less;
         trace = traces k d less;
+        settled = settled k d less;
       };
-  wire = bus.wired;
+  bus = bus;
 }
   where
     lawful : (k : ℕ) (d : NodeValue) → k < length log.nodes → IsLawful (slice_index_or log.nodes k d).journal

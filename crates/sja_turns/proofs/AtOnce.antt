@@ -10,7 +10,7 @@ use Rattle.sja_regs.specs.declared.registers.Registers.{Registers}
 use Rattle.sja_regs.specs.Facts.{RegisterFacts}
 use Rattle.sja_regs.specs.Registers.{at_power_on}
 use Rattle.sja_bus.specs.Boards.{HasOrders, WasTold, WasKept}
-use Rattle.sja_bus.specs.Buses.{EachJournal, KeepsAll}
+use Rattle.sja_bus.specs.Buses.{EachJournal, KeepsAll, EachUntold, untold_at}
 use Rattle.sja_bus.specs.Lawful.{IsBusRun}
 use Rattle.sja_bus.specs.OneBit.{HasItems}
 use Rattle.sja_bus.specs.Links.{per_node, Kept}
@@ -25,6 +25,7 @@ use Rattle.sja_turns.specs.Serial.{SerialValue, StandsAt, run_now, deeds_at}
 use Rattle.sja_turns.proofs.BitRun.{some_of, no_link}
 use Rattle.sja_turns.proofs.Dry.{none_taken}
 use Rattle.sja_turns.proofs.GoingOn.{stands_bits}
+use Rattle.sja_turns.proofs.Standing.{none_untold}
 use Rattle.sja_turns.proofs.StillBits.{with_none, keeps_still, run_at, stands_still, all_at_once}
 
 module _ (plan : PlanValue) (r n : SerialValue) (deeds : List (List Deed)) (h : StandsAt plan r deeds)
@@ -60,19 +61,23 @@ module _ (plan : PlanValue) (r n : SerialValue) (deeds : List (List Deed)) (h : 
   pub takes_at_once : (most count : ℕ) → count ≤ most → n.bus.run ≡ r.bus.run + count →
       n.bus.left + count ≡ r.bus.left → n.bits ≡ r.bits + count →
       (count ≡ 0 → EachJournal HasItems r.bus.journals n.bus.journals) →
+      (count ≡ 0 → EachUntold r.bus.untold n.bus.untold r.bus.journals n.bus.journals) →
       (count ≢ 0 → IsStretch (HasOrders r.ports) (WasTold r.ports r.ports)
       (WasKept r.ports r.ports) r.bus.script r.bus.run count r.bus.untold r.bus.journals n.bus.journals) →
       TakesAtOnce plan deeds r n most count
-  takes_at_once most zero within run left bits items stretch =
+  takes_at_once most zero within run left bits items untold stretch =
       let same = none_came (items refl) in record {
         within = within;
         stands = stands_still plan r deeds h n.links sames
-            (kept_back 0 (same ∙ sym (with_none r.bus.journals))) n right script (omega (arith, run))
+            (kept_back 0 (same ∙ sym (with_none r.bus.journals))) n (λ m less e.
+            let c = h.count.journals in let few : m < length r.bus.journals = omega (arith, c, less) in
+            (none_untold (untold_at r.bus.untold m) (untold_at n.bus.untold m) (journal_at r.bus.journals m)
+            (journal_at n.bus.journals m) (items refl m few) (untold refl m few) e).0) right script (omega (arith, run))
             (omega (arith, left)) (omega (arith, bits)) same drivers ports refl;
         none = λ zero. (omega (arith, bits), same);
         some = λ ne. absurd (ne refl);
       }
-  takes_at_once most (suc k) within run left bits items stretch =
+  takes_at_once most (suc k) within run left bits items untold stretch =
       let s = stretch (λ z. absurd (omega (arith, z))) in
       let less : r.bus.left - suc k ≡ n.bus.left = omega (arith, left) in
       let all = all_at_once plan r deeds h n.links sames (kept_back (suc k) s.grown) (suc k) n.bus.journals

@@ -14,14 +14,18 @@ use Rattle.sja_regs.specs.declared.orders.Orders.{Orders}
 use Rattle.sja_regs.specs.declared.registers.Registers.{Registers}
 use Rattle.sja_regs.specs.Facts.{RegisterFacts}
 use Rattle.sja_regs.specs.Turns.{after_turn}
+use Rattle.sja_bus.specs.Aborting.{IsApplied}
 use Rattle.sja_bus.specs.Buses.{IsNodeBit}
 use Rattle.sja_bus.specs.Links.{Kept, stops_of}
 use Rattle.sja_bus.specs.OneBit.{HasBit, abort_as}
+use Rattle.sja_bus.specs.Telling.{IsTurn}
 use Rattle.sja_script.specs.declared.step.Step.{Step}
 use Rattle.sja_driver.specs.declared.logged_driver.LoggedDriver.{LoggedDriver}
 use Rattle.sja_driver.specs.Deeds.{Deed, opened_by, given_in, deeds_of}
 use Rattle.sja_report.specs.Aborting.{IsCommanded, AbortIsDue, sends_taken}
 use Rattle.sja_report.specs.InTime.{IsInTime}
+use Rattle.sja_report.specs.Registering.{IsPortBit}
+use Rattle.sja_report.specs.Registering.LeadTo.{bit}
 use Rattle.sja_report.specs.Timing.{taken_when}
 use Rattle.sja_report.specs.Windows.{put_by, off_by}
 use Rattle.sja_report.proofs.Stepping.{given_taken}
@@ -29,12 +33,14 @@ use Rattle.sja_turns.specs.Bits.{HasOneBit}
 use Rattle.sja_turns.specs.Linking.{IsLinked, IsLevel}
 use Rattle.sja_turns.specs.Nodes.{IsNode}
 use Rattle.sja_turns.specs.Porting.{IsPorted}
+use Rattle.sja_turns.specs.Shown.{ShowsRecord}
 use Rattle.sja_turns.proofs.Adding.{added, added_own, bit_whole, added_bits, added_put, added_due, added_off}
 use Rattle.sja_turns.proofs.BitAsked.{HasCut, bit_asked}
 use Rattle.sja_turns.proofs.BitCounted.{bit_counted}
 use Rattle.sja_turns.proofs.BitPort.{ported_bit}
 use Rattle.sja_turns.proofs.Dry.{none_taken_own}
 use Rattle.sja_turns.proofs.Later.{SameBy, done_more, all_see, all_carry, settings_by_then}
+use Rattle.sja_turns.proofs.Shown.{as_told, shows_told}
 use Rattle.sja_turns.proofs.Own.{AreOwn, own_activation, own_stopped, own_sends, own_when, own_taken}
 use Rattle.sja_turns.proofs.Taking.{same_front}
 
@@ -162,16 +168,50 @@ module _ (version : ℕ) (steps : List Step) (j k : List Entry) (deeds : List De
     patient = h.in_time.patient;
   }
 
-  -- its record had a cut, and its port's registers were as they always are
-  pub after_one_bit : HasCut j → RegisterFacts p → IsNode version steps k deeds driver q after base
-  after_one_bit lawful facts = record {
-    traced = h.traced;
-    linked = linked;
-    ported = ported;
-    asked = bit_asked untold j k driven seen p q b none_taken (λ t e. e) (λ e. e) lawful facts
-        (h.ported.activation ∙ sym h.linked.level.begun) h.asked;
-    counted = bit_counted untold j k driven seen deeds p q b none_taken (λ o e. ap (λ (x : Orders). x.abort) e)
-        (λ t e. e) (λ e. e) lawful h.counted;
-    done = done_more (place_of j).bits (place_of k).bits deeds more h.done;
-    in_time = in_time;
-  }
+  -- where nothing was untold its port has shown what the record says
+  module _ (shown : untold ≡ false → ShowsRecord j p) where
+    told : q ≡ after_turn p b.turn
+    told = as_told untold j b.opened p q b.turn b.port shown
+
+    -- the port shows it after the bit, whatever is untold
+    pub shows : ShowsRecord k q
+    shows = shows_told changed b.opened k driven seen b.bit b.turn b.is_turn p q told
+
+    -- an abort that stands is applied as the bit begins
+    abort_is : p.abort ≡ b.opens.orders.abort
+    abort_is = sym (ap (λ (o : Orders). o.abort) b.opens.are_orders)
+
+    -- the bit and its turn, after the journal as it was
+    came : (x : HasBit (j ++ abort_as changed) driven seen k)
+        × IsTurn changed (j ++ abort_as changed) driven seen k x b.turn
+    came = subst (λ (l : List Entry). (x : HasBit l driven seen k) × IsTurn changed l driven seen k x b.turn) opened_is
+        (b.bit, b.is_turn)
+
+    port_bit : IsPortBit p q j k
+    port_bit = record {
+      changed = changed;
+      applied = λ stands. subst (λ (l : List Entry). IsApplied l changed) none_taken
+          (b.opens.applied (sym abort_is ∙ stands));
+      unasked = λ none. b.opens.unasked (sym abort_is ∙ none);
+      driven = driven;
+      seen = seen;
+      bit = came.0;
+      turn = b.turn;
+      is_turn = came.1;
+      told = told;
+    }
+
+    -- its record had a cut, and its port's registers were as they always are
+    pub after_one_bit : HasCut j → RegisterFacts p → IsNode version steps k deeds driver q after base
+    after_one_bit lawful facts = record {
+      traced = h.traced;
+      linked = linked;
+      ported = ported;
+      asked = bit_asked untold j k driven seen p q b none_taken (λ t e. e) (λ e. e) lawful facts
+          (h.ported.activation ∙ sym h.linked.level.begun) h.asked;
+      counted = bit_counted untold j k driven seen deeds p q b none_taken (λ o e. ap (λ (x : Orders). x.abort) e)
+          (λ t e. e) (λ e. e) lawful h.counted;
+      done = done_more (place_of j).bits (place_of k).bits deeds more h.done;
+      in_time = in_time;
+      registers = bit j k deeds p q h.registers port_bit;
+    }

@@ -27,8 +27,9 @@ use Rattle.sja_driver.specs.LoggedDrivers.{node_of}
 use Rattle.sja_turns.specs.Bits.{HasOneBit, TakesBit}
 use Rattle.sja_turns.specs.Nodes.{IsNode}
 use Rattle.sja_turns.specs.Serial.{SerialValue, StandsAt, steps_at, deeds_at}
+use Rattle.sja_turns.specs.Shown.{ShowsRecord}
 use Rattle.sja_turns.proofs.BitAsked.{HasCut}
-use Rattle.sja_turns.proofs.Bit.{BitOf, after_one_bit, one_bit}
+use Rattle.sja_turns.proofs.Bit.{BitOf, after_one_bit, one_bit, shows}
 
 -- each journal of a lawful bus has a cut
 pub cuts_of : {script : List Strike} {run : ℕ} {journals : List (List Entry)} → IsBusRun script run journals →
@@ -109,7 +110,17 @@ module _ (plan : PlanValue) (r n : SerialValue) (deeds : List (List Deed)) (h : 
         (deeds_at deeds m) (slice_index_or r.drivers m d) (slice_index_or r.ports m p) (slice_index_or n.ports m p)
         r.links n.links (8 * m) no_link (untold_at r.bus.untold m) (slice_index_or bit.driven m Recessive)
         (bit.seen m) (h.nodes m d p less) here (λ acc. kept m acc (inside m less))
-        (cuts m (inside m less)) (facts m p (let c = h.count.ports in omega (arith, c, less)))
+        (h.shown m p less) (cuts m (inside m less)) (facts m p (let c = h.count.ports in omega (arith, c, less)))
+
+    shows_now : ShowsRecord (journal_at n.bus.journals m) (slice_index_or n.ports m p)
+    shows_now =
+        shows plan.version (steps_at plan m) (journal_at r.bus.journals m) (journal_at n.bus.journals m)
+        (deeds_at deeds m) (slice_index_or r.drivers m d) (slice_index_or r.ports m p) (slice_index_or n.ports m p)
+        r.links n.links (8 * m) no_link (untold_at r.bus.untold m) (slice_index_or bit.driven m Recessive)
+        (bit.seen m) (h.nodes m d p less) here (λ acc. kept m acc (inside m less)) (h.shown m p less)
+
+  driver_at : (m : ℕ) → m < length plan.nodes → LoggedDriver
+  driver_at m less = some_of r.drivers m (let c = h.count.drivers in omega (arith, c, less))
 
   stands_now : StandsAt plan n deeds
   stands_now = record {
@@ -132,12 +143,12 @@ module _ (plan : PlanValue) (r n : SerialValue) (deeds : List (List Deed)) (h : 
         (journal_at n.bus.journals m) (deeds_at deeds m) (slice_index_or l m d) (slice_index_or n.ports m p) n.links
         (8 * m)) (sym drivers_are)
         (node_now m d p less);
+    shown = λ m p less told. shows_now m (driver_at m less) p less;
   }
 
   pub takes_bit : TakesBit plan deeds r n
   takes_bit = record {
     stands = stands_now;
     bits = bits_are;
-    nodes = λ m less. one m (some_of r.drivers m (let c = h.count.drivers in omega (arith, c, less)))
-        (at_power_on plan.version) less;
+    nodes = λ m less. one m (driver_at m less) (at_power_on plan.version) less;
   }

@@ -5,6 +5,7 @@ use Rattle.std.proofs.lemmas.List.{same_from_push}
 use Rattle.can_bits.specs.declared.level.Level.{Level}
 use Rattle.can_bits.proofs.Lists.{last_of}
 use Rattle.can_node.specs.declared.config.Config.{Config}
+use Rattle.can_node.specs.declared.phase.Phase.TheVariants.{Reset}
 use Rattle.can_node.specs.declared.request.Request.{Request}
 use Rattle.can_node.specs.Bits.{Bit, recessive_bits}
 use Rattle.can_node.specs.Context.{ContextValue, fresh, is_held}
@@ -18,7 +19,8 @@ use Rattle.can_node.specs.Cut.{IsOpenAt, Move, From, IsCut}
 use Rattle.can_node.specs.Cut.IsOpenAt.{nothing}
 use Rattle.can_node.specs.Cut.Move.{piece, sent, aborted, started, stopped, off_within, off_after}
 use Rattle.can_node.specs.Cut.From.{here, on}
-use Rattle.can_node.specs.NextBit.{now_in}
+use Rattle.can_node.specs.Driving.{phase_at}
+use Rattle.can_node.specs.NextBit.{now_in, open_bits, phase_in}
 use Rattle.can_node.proofs.Machine.Along.{along_both}
 use Rattle.can_node.proofs.OneCut.CutOnce.{move_or_open}
 use Rattle.can_node.proofs.OneCut.Entries.{open_part, outer_not_within}
@@ -36,6 +38,21 @@ now_empty {c = c} {place = place} (here opened stays) e = ap (along c place []) 
 now_empty {c = c} {place = place} (on {next = next} {site = site} {entries = first} {more = more} {ps = ps} move from)
     e =
     absurd (move_or_open c next place site first [] more ps move nothing (sym e))
+
+-- by every cut of the empty record the context is that of a new node
+pub now_first : (found : List FinishedPiece) (cut : IsCut [] found) → now_in cut ≡ fresh
+now_first found cut = now_empty cut.from refl
+
+place_empty : {k : Count} {c end : ContextValue} {place last : Place} {entries rest : List Entry}
+    {found : List FinishedPiece} → From k c place entries found end last rest → entries ≡ [] → last ≡ place
+place_empty (here opened stays) e = refl
+place_empty {c = c} {place = place} (on {next = next} {site = site} {entries = first} {more = more} {ps = ps} move from)
+    e =
+    absurd (move_or_open c next place site first [] more ps move nothing (sym e))
+
+-- and the node is in reset
+pub reset_first : (found : List FinishedPiece) (cut : IsCut [] found) → phase_in cut ≡ Reset
+reset_first found cut = ap (λ (s : Place). phase_at s (open_bits cut)) (place_empty cut.from refl)
 
 -- no request is held by any cut of the empty record
 pub none_held_first : (found : List FinishedPiece) (cut : IsCut [] found) → is_held (now_in cut).held ≡ false

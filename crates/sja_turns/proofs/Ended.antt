@@ -19,6 +19,7 @@ use Rattle.sja_driver.specs.LoggedDrivers.{log_of}
 use Rattle.sja_driver.specs.Logs.{releases_in, released_of}
 use Rattle.sja_report.specs.declared.end.End.{End}
 use Rattle.sja_report.specs.InTime.{IsInTime}
+use Rattle.sja_report.specs.Registering.{LeadTo}
 use Rattle.sja_report.specs.Log.{NodeValue, RunValue}
 use Rattle.sja_report.specs.Runs.{IsTrace}
 use Rattle.sja_report.specs.Settling.{IsSettled, AreSettled}
@@ -119,6 +120,10 @@ module _ (plan : PlanValue) (r : SerialValue) (deeds : List (List Deed)) (end : 
     in_time_there : IsInTime plan.version (slice_index_or log.nodes k n).journal (deeds_at deeds k)
     in_time_there = subst (λ (j : List Entry). IsInTime plan.version j (deeds_at deeds k)) (sym same) node_is.in_time
 
+    registers_there : (p : Registers) × LeadTo plan.version (slice_index_or log.nodes k n).journal (deeds_at deeds k) p
+    registers_there = (slice_index_or r.ports k (at_power_on 1), subst (λ (j : List Entry). LeadTo plan.version j
+        (deeds_at deeds k) (slice_index_or r.ports k (at_power_on 1))) (sym same) node_is.registers)
+
   pub log_of_run : IsLogOf plan r deeds end log
   log_of_run = record {
     run = run_of_ends plan log logs r.bus.journals r.drivers (all_down r.links) are deeds r.bus.script r.bus.run version
@@ -127,4 +132,5 @@ module _ (plan : PlanValue) (r : SerialValue) (deeds : List (List Deed)) (end : 
     ends = ends;
     journals = journals_in_log plan log logs r.bus.journals r.drivers (all_down r.links) are;
     in_time = in_time_there;
+    registers = registers_there;
   }

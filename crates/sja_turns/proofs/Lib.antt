@@ -10,6 +10,7 @@ pub mod Patience
 pub mod Effects
 pub mod Activations
 pub mod Few
+pub mod Seeing
 pub mod SawPut
 pub mod Trying
 pub mod Items
@@ -24,6 +25,10 @@ pub mod Ported
 pub mod Gathered
 pub mod FirstSteps
 pub mod Done
+-- what a port shows
+pub mod OneMore
+pub mod OnceOff
+pub mod Shown
 pub mod Turned
 pub mod Standing
 pub mod Room
@@ -33,8 +38,6 @@ pub mod InOrder
 pub mod Taken
 pub mod Several
 pub mod Newly
-pub mod OneMore
-pub mod OnceOff
 pub mod Requests
 pub mod BitAsked
 pub mod BitCounted

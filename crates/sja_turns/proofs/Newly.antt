@@ -24,10 +24,13 @@ use Rattle.sja_driver.specs.AnyDrivers.{is_out, held_of, off_of}
 use Rattle.sja_driver.specs.Deeds.{Deed, given_in, deeds_of}
 use Rattle.sja_driver.specs.LoggedDrivers.{driver_of, log_of}
 use Rattle.sja_driver.specs.Logs.{HasRoom, IsEmpty, releases_in, left_in, released_of, leaves}
+use Rattle.sja_report.specs.Registering.LeadTo.{power_on}
 use Rattle.sja_turns.specs.Beginning.{IsNewDriver, AreNew}
 use Rattle.sja_turns.specs.Nodes.{IsNode}
-use Rattle.sja_turns.proofs.Cuts.{none_held_first}
 use Rattle.sja_turns.specs.Serial.{run_now, StandsAt, steps_at, deeds_at}
+use Rattle.sja_turns.specs.Shown.{ShowsRecord}
+use Rattle.sja_turns.proofs.Cuts.{none_held_first}
+use Rattle.sja_turns.proofs.Shown.{shows_first}
 
 pub push_here : {A : Type 0} (xs : List A) (x d : A) → slice_index_or (xs ++ x ∷ []) (length xs) d ≡ x
 push_here [] x d = refl
@@ -128,6 +131,7 @@ new_node version node steps x links base new fresh = record {
   };
   done = tt;
   in_time = record { when = λ a. refl; sees = tt; carries = tt; aborts = tt; patient = tt };
+  registers = power_on;
 }
 
 index_all : {A : Type 0} (n : ℕ) (x d : A) (k : ℕ) → k < n → slice_index_or (replicate n x) k d ≡ x
@@ -183,4 +187,12 @@ stands_new plan bus drivers ports links nodes bits script count script_is bits_i
           (8 * node)) (sym deeds)
           (subst (λ (r : Registers). IsNode plan.version (steps_at plan node) [] [] x r links (8 * node))
           (sym port) is));
+      shown = λ node p less told.
+          let few : node < nodes = omega (arith, less, count) in
+          let journal : journal_at bus.journals node ≡ [] = ap (λ (b : BusValue). journal_at b.journals node) bus_is
+          ∙ index_all nodes [] [] node few in
+          let port : slice_index_or ports node p ≡ at_power_on plan.version = ap
+          (λ l. slice_index_or l node p) ports_are ∙ index_all nodes (at_power_on plan.version) p node few in
+          subst (λ (j : List Entry). ShowsRecord j (slice_index_or ports node p)) (sym journal)
+          (subst (λ (r : Registers). ShowsRecord [] r) (sym port) (shows_first plan.version));
     }

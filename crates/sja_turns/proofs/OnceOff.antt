@@ -1,8 +1,9 @@
--- Bus-off in a node's record: it drops the request, and comes once in an activation at most.
+-- Bus-off in a node's record: it drops the request, leaves the node in reset, and comes once in an activation at most.
 use Rattle.std.proofs.Common.{◌≡◌, ◌≤◌, ◌+◌, ℕ, Bool, true, false, None, List, [], ◌∷◌, ◌++◌, inl, inr, refl, sym, ap, ◌∙◌, subst, append_assoc, arith}
 use Rattle.std.specs.Prelude.{if◌then◌else◌}
 use Rattle.std.proofs.lemmas.List.{append-nil, same_from_push}
 use Rattle.can_bits.proofs.Lists.{last_of}
+use Rattle.can_node.specs.declared.phase.Phase.TheVariants.{Reset}
 use Rattle.can_node.specs.Bits.{Bit}
 use Rattle.can_node.specs.Context.{ContextValue, fresh}
 use Rattle.can_node.specs.Pieces.{Place, Piece}
@@ -15,7 +16,8 @@ use Rattle.can_node.specs.FinishedPieces.{FinishedPiece, Count, counted, counted
 use Rattle.can_node.specs.Table.{Row}
 use Rattle.can_node.specs.Cut.{From, IsCut}
 use Rattle.can_node.specs.Cut.From.{here, on}
-use Rattle.can_node.specs.NextBit.{now_in}
+use Rattle.can_node.specs.Driving.{phase_at}
+use Rattle.can_node.specs.NextBit.{now_in, open_bits, phase_in}
 use Rattle.can_node.proofs.OneCut.Entries.{open_part, outer_not_within}
 use Rattle.can_node.proofs.OneCut.Entries.IsOuter.{off}
 use Rattle.can_node.proofs.OneCut.GoOn.{counted_both, no_rest_piece}
@@ -216,3 +218,25 @@ pub off_once : (entries : List Entry) (found : List FinishedPiece) → IsCut ent
 off_once entries found h =
     let r = right_from none_yet false fresh h.context AtReset h.place entries h.rest found (λ no. cc) h.from in omega
     (arith, r)
+
+-- ---- where it leaves the node
+
+reset_from : (k : Count) (b : Bool) (c end : ContextValue) (place last : Place) (entries rest : List Entry)
+    (found : List FinishedPiece) → (b ≡ true → place ≡ AtReset) →
+    From k c place entries found end last rest → is_off b entries ≡ true → last ≡ AtReset
+reset_from k b c end place last entries rest found at (here opened stays) is =
+    (right_quiet k b entries place (quiet_inner k b entries (open_part opened).inner) at).reset is
+reset_from k b c end place last entries rest found at
+    (on {next = next} {site = site} {entries = first} {more = more} {ps = ps} {qs = later} move from) is =
+    let w = right_way k b first c next place site ps at (way_of move) in
+    reset_from (counted k first) (is_off b first) next end site last more rest later w.reset from
+    (sym (is_off_both b first more) ∙ is)
+
+-- right after bus-off the node is in reset
+pub off_resets : (before all : List Entry) (found : List FinishedPiece) (cut : IsCut all found) →
+    all ≡ before ++ BusOff ∷ [] → phase_in cut ≡ Reset
+off_resets before all found cut e =
+    let off : is_off false all ≡ true = ap (λ (l : List Entry). is_off false l) e
+    ∙ is_off_both false before (BusOff ∷ []) in
+    ap (λ (s : Place). phase_at s (open_bits cut))
+    (reset_from none_yet false fresh cut.context AtReset cut.place all cut.rest found (λ no. refl) cut.from off)

@@ -19,6 +19,7 @@ use Rattle.sja_driver.specs.Deeds.{Deed, opens_by, opened_by, active_after, is_a
 use Rattle.sja_driver.proofs.Sections.{active_push, opened_push}
 use Rattle.sja_report.specs.Aborting.{IsCommanded}
 use Rattle.sja_report.specs.Settings.{settings_of, after_setting}
+use Rattle.sja_report.specs.Registering.{seen_now}
 use Rattle.sja_report.specs.Windows.{off_by}
 use Rattle.sja_turns.specs.Alike.{AreAlike}
 use Rattle.sja_turns.specs.Asking.{IsAsked}
@@ -65,7 +66,7 @@ module _ (version : ℕ) (j k : List Entry) (deeds : List Deed) (d : Deed) (p q 
       off_same j k (same_put j k deeds d e) (place_of k).bits (opened_by (deeds ++ d ∷ []))
       ∙ ap (λ (b : ℕ). off_by b j (opened_by (deeds ++ d ∷ []))) (same_bits j k deeds d e)
       ∙ ap (λ (a : ℕ). off_by (place_of j).bits j a) n in
-      (rm_step p d.step d.answer (is_active deeds) (is_active deeds) next.seen
+      (rm_step p d.step d.answer (is_active deeds) (is_active deeds) (seen_now (is_active deeds) j deeds)
       (off_by (place_of j).bits j (opened_by deeds)) next.tells h.reset).0 o
       ∙ ap (λ (b : Bool). not b || off_by (place_of j).bits j (opened_by deeds)) (sym (active_push false deeds d))
       ∙ ap (λ (b : Bool). not (is_active (deeds ++ d ∷ [])) || b) (sym off)
@@ -79,7 +80,7 @@ module _ (version : ℕ) (j k : List Entry) (deeds : List Deed) (d : Deed) (p q 
       let off : off_by (place_of k).bits k (opened_by (deeds ++ d ∷ [])) ≡ false =
       off_same j k (same_put j k deeds d e) (place_of k).bits (opened_by (deeds ++ d ∷ []))
       ∙ ap (off_among false) (of_part_later _ j (opened_by (deeds ++ d ∷ [])) later) in
-      (rm_step p d.step d.answer (is_active deeds) (is_active deeds) next.seen
+      (rm_step p d.step d.answer (is_active deeds) (is_active deeds) (seen_now (is_active deeds) j deeds)
       (off_by (place_of j).bits j (opened_by deeds)) next.tells h.reset).1 o
       ∙ sym (ap (λ (b : Bool). not b || off_by (place_of k).bits k (opened_by (deeds ++ d ∷ [])))
       (active_push false deeds d ∙ act) ∙ off)
@@ -100,7 +101,8 @@ module _ (version : ℕ) (j k : List Entry) (deeds : List Deed) (d : Deed) (p q 
         | inl was ↦
             let c = h.commanded was in
             let none : total is_send d.gave ≡ 0 = ap (total is_send) next.gave
-            ∙ busy_sends_none p (opened_by deeds) d.step d.answer (is_active deeds) next.seen next.fits next.tells
+            ∙ busy_sends_none p (opened_by deeds) d.step d.answer (is_active deeds)
+            (seen_now (is_active deeds) j deeds) next.fits next.tells
             (facts.abort was) in
             let l = c.later in let b = c.by_then in record {
               early = c.early;
@@ -158,11 +160,11 @@ module _ (version : ℕ) (j k : List Entry) (deeds : List Deed) (d : Deed) (p q 
       let some : total is_send d.gave ≡ 1 = ap (total is_send) gave in
       let same = ap (total is_send) next.gave in (
         not_true p.mode.rm (λ e.
-            let none = reset_sends_none p (opened_by deeds) d.step d.answer (is_active deeds) next.seen next.fits
-            next.tells e in omega (arith, some, same, none)),
+            let none = reset_sends_none p (opened_by deeds) d.step d.answer (is_active deeds)
+            (seen_now (is_active deeds) j deeds) next.fits next.tells e in omega (arith, some, same, none)),
         not_false p.tbs (λ e.
-            let none = busy_sends_none p (opened_by deeds) d.step d.answer (is_active deeds) next.seen next.fits
-            next.tells e in omega (arith, some, same, none)),
+            let none = busy_sends_none p (opened_by deeds) d.step d.answer (is_active deeds)
+            (seen_now (is_active deeds) j deeds) next.fits next.tells e in omega (arith, some, same, none)),
       )
 
   -- and bus-off doesn't stand

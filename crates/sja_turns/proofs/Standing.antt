@@ -5,11 +5,13 @@ use Rattle.std.specs.Prelude.{Bool, None, slice_index_or, slice_set}
 use Rattle.std.proofs.lemmas.Bool.{cases_eq}
 use Rattle.std.proofs.lemmas.List.{get_or-set_same, get_or-set_other, get_or_default, length-set}
 use Rattle.sja_link.specs.declared.entry.Entry.{Entry}
+use Rattle.sja_link.specs.declared.up.Up.{Up}
 use Rattle.sja_link.specs.Accounts.{Account}
 use Rattle.sja_link.specs.Deques.{Deques, Lies}
-use Rattle.sja_bus.specs.Buses.{KeepsAll, EachJournal, AllDry}
+use Rattle.sja_bus.specs.Buses.{KeepsAll, EachJournal, AllDry, EachUntold, untold_at}
 use Rattle.sja_bus.specs.Links.{per_node, stops_of}
-use Rattle.sja_bus.specs.OneBit.{HasItems}
+use Rattle.sja_bus.specs.OneBit.{HasItems, entries_of_items}
+use Rattle.sja_bus.specs.Telling.{IsUntold}
 use Rattle.sja_bus.specs.Wire.{journal_at}
 use Rattle.sja_link.specs.Places.{place_of}
 use Rattle.sja_link.specs.Verdicts.{IsLawful as IsLawfulJournal}
@@ -26,10 +28,27 @@ use Rattle.sja_driver.specs.LoggedDrivers.{node_of, driver_of, log_of, ended_of,
 use Rattle.sja_driver.specs.Logs.{HasRoom}
 use Rattle.sja_turns.specs.Nodes.{IsNode}
 use Rattle.sja_turns.specs.Serial.{SerialValue, steps_at, deeds_at, StandsAt, HasMore, with_deeds, Does, IsStuck}
+use Rattle.sja_turns.specs.Shown.{ShowsRecord}
 use Rattle.sja_turns.specs.Waiting.{HasToWait}
 use Rattle.sja_turns.proofs.Slices.{apart, each_set, each_other}
 use Rattle.sja_turns.proofs.Trying.{alike, shows_none, takes_none}
-use Rattle.sja_turns.proofs.Turned.{idle, stepped, still_journal, same_port, still, waited}
+use Rattle.sja_turns.proofs.Turned.{none_entered, idle, stepped, still_journal, same_port, still, waited}
+
+-- nothing is untold after a taking: so nothing was before it, and no item was taken
+pub none_untold : (before now : Bool) (j k : List Entry) → HasItems j k → IsUntold before now j k → now ≡ false →
+    (before ≡ false) × (k ≡ j)
+none_untold before now j k items untold told = (over before refl, by items.items items.whole)
+  where
+    over : (b : Bool) → b ≡ before → before ≡ false
+    over true e = let no = sym (untold.stays (sym e)) ∙ told in absurd cc
+    over false e = sym e
+
+    longer : (u : Up) (l : List Up) → k ≡ j ++ entries_of_items (u ∷ l) → k ≡ j → ⊥
+    longer u l e same = let none = none_entered j k (u ∷ l) e same in cc
+
+    by : (l : List Up) → k ≡ j ++ entries_of_items l → k ≡ j
+    by [] e = e ∙ append-nil j
+    by (u ∷ l) e = let no = sym (untold.takes (longer u l e)) ∙ told in absurd cc
 
 module _ (plan : PlanValue) (r n : SerialValue) (deeds : List (List Deed)) (node : ℕ) (h : StandsAt plan r deeds)
     (there : node < length plan.nodes) (given : List Deques) (was now : LoggedDriver) (q : Registers) (none : Deques)
@@ -38,7 +57,8 @@ module _ (plan : PlanValue) (r n : SerialValue) (deeds : List (List Deed)) (node
     (right : n.bus.fault ≡ None) (run : n.bus.run ≡ r.bus.run) (script : n.bus.script ≡ r.bus.script)
     (left_is : n.bus.left ≡ r.bus.left) (journals : length n.bus.journals ≡ length r.bus.journals)
     (kept : KeepsAll Lies r.bus.journals n.bus.journals given n.links) (items : EachJournal HasItems r.bus.journals
-    n.bus.journals) (dry : AllDry (λ (s : Deques). s.up ≡ []) n.bus.journals n.links)
+    n.bus.journals) (untold : EachUntold r.bus.untold n.bus.untold r.bus.journals n.bus.journals)
+    (dry : AllDry (λ (s : Deques). s.up ≡ []) n.bus.journals n.links)
     (sames : EachRelated (λ (a b : Deques). b.link ≡ a.link) given n.links) (many : length n.links ≡ length r.links)
     (others : (i : ℕ) (d : Deques) → i ≢ place_after (8 * node) (ended_of was) →
     slice_index_or given i d ≡ slice_index_or r.links i d)
@@ -81,8 +101,11 @@ module _ (plan : PlanValue) (r n : SerialValue) (deeds : List (List Deed)) (node
 
   -- the run stands at the deeds that are had more
   pub stands_after : (more : List Deed) → IsNode plan.version (steps_at plan node) (journal_at n.bus.journals node)
-      (deeds_at deeds node ++ more) now q n.links (8 * node) → StandsAt plan n (with_deeds deeds node more)
-  stands_after more node_after = record {
+      (deeds_at deeds node ++ more) now q n.links (8 * node) → ((p : Registers) →
+      journal_at n.bus.journals node ≡ journal_at r.bus.journals node →
+      ShowsRecord (journal_at r.bus.journals node) (slice_index_or r.ports node p) →
+      ShowsRecord (journal_at n.bus.journals node) q) → StandsAt plan n (with_deeds deeds node more)
+  stands_after more node_after shows = record {
     right = right;
     script = script ∙ h.script;
     all_bits = let a = h.all_bits in omega (arith, a, run, left_is);
@@ -105,8 +128,30 @@ module _ (plan : PlanValue) (r n : SerialValue) (deeds : List (List Deed)) (node
         (deeds_at (with_deeds deeds node more) m) (slice_index_or (slice_set r.drivers node now) m d)
         (slice_index_or ps m p) n.links (8 * m)) (sym ports_are)
         (each m d p less));
+    shown = λ m p less told. subst (λ (ps : List Registers). ShowsRecord (journal_at n.bus.journals m)
+        (slice_index_or ps m p)) (sym ports_are) (shown_at m p less told);
   }
     where
+      -- a port of which nothing is untold shows what it has shown
+      shown_at : (m : ℕ) (p : Registers) → m < length plan.nodes → untold_at n.bus.untold m ≡ false →
+          ShowsRecord (journal_at n.bus.journals m) (slice_index_or (slice_set r.ports node q) m p)
+      shown_at m p less told =
+          let c = h.count.journals in let within : m < length r.bus.journals = omega (arith, c, less) in
+          let none = none_untold (untold_at r.bus.untold m) (untold_at n.bus.untold m) (journal_at r.bus.journals m)
+          (journal_at n.bus.journals m) (items m within) (untold m within) told in
+          let was = h.shown m p less none.0 in elim (cases_eq node m) [
+            | inl e ↦
+                let P : ℕ → Type 0 = λ x. journal_at n.bus.journals x ≡ journal_at r.bus.journals x →
+                ShowsRecord (journal_at r.bus.journals x) (slice_index_or r.ports x p) →
+                ShowsRecord (journal_at n.bus.journals x) (slice_index_or (slice_set r.ports node q) x p) in
+                let k = h.count.ports in
+                subst P e (λ same port. subst (λ (g : Registers). ShowsRecord (journal_at n.bus.journals node) g)
+                (sym (get_or-set_same r.ports node q p (omega (arith, k, there)))) (shows p same port)) none.1 was
+            | inr differ ↦ subst (λ (g : Registers). ShowsRecord (journal_at n.bus.journals m) g)
+                (sym (get_or-set_other r.ports node m q p (λ e. differ (sym e))))
+                (subst (λ (l : List Entry). ShowsRecord l (slice_index_or r.ports m p)) (sym none.1) was)
+          ]
+
       few : node < length r.drivers
       few = let c = h.count.drivers in omega (arith, c, there)
 
@@ -142,8 +187,9 @@ module _ (plan : PlanValue) (r n : SerialValue) (deeds : List (List Deed)) (node
       record { items = its.items; whole = its.whole }
 
   -- the step was done
-  pub next_done : (p : Registers) (one : Step) → IsNode plan.version (steps_at plan node)
-      (journal_at r.bus.journals node) (deeds_at deeds node) was p r.links (8 * node) →
+  pub next_done : (p : Registers) (one : Step) → ((x : Registers) → slice_index_or r.ports node x ≡ p) →
+      IsNode plan.version (steps_at plan node) (journal_at r.bus.journals node) (deeds_at deeds node) was p r.links
+      (8 * node) →
       IsLawfulJournal (journal_at r.bus.journals node) →
       RegisterFacts p → length (deeds_at deeds node) < length (steps_at plan node) →
       one ≡ slice_index_or (steps_at plan node) (length (deeds_at deeds node)) one → IsLawful now →
@@ -151,7 +197,7 @@ module _ (plan : PlanValue) (r n : SerialValue) (deeds : List (List Deed)) (node
       Steps alike Lies shows_none takes_none was now r.links given
       (8 * node) p q one r.bits true → ((m : ℕ) → HasRoom (m + 1) (log_of was) → HasRoom m (log_of now)) →
       (d : Deed) × Does plan r n node deeds (d ∷ [])
-  next_done p one w lawful facts left is now_lawful place st room =
+  next_done p one port w lawful facts left is now_lawful place st room =
       let at : Steps alike Lies shows_none takes_none was now r.links given (8 * node) p q one
       (place_of (journal_at r.bus.journals node)).bits true =
       subst (λ (b : ℕ).
@@ -163,7 +209,8 @@ module _ (plan : PlanValue) (r n : SerialValue) (deeds : List (List Deed)) (node
       (items node inside) (λ acc. kept node acc inside) (λ few. dry node none now_inside few) at room in (
         s.deed,
         record {
-          stands = stands_after (s.deed ∷ []) s.node;
+          stands = stands_after (s.deed ∷ []) s.node (λ x same shown. s.shows same
+              (subst (λ (g : Registers). ShowsRecord (journal_at r.bus.journals node) g) (port x) shown));
           at_once =
               λ i d less. only s.deed i d (s.bits ∙ place) less;
           bits = bits_are;
@@ -176,8 +223,9 @@ module _ (plan : PlanValue) (r n : SerialValue) (deeds : List (List Deed)) (node
       only x (suc i) d e less = absurd (omega (arith, less))
 
   -- the step has to wait
-  pub next_waits : (p : Registers) (one : Step) → IsNode plan.version (steps_at plan node)
-      (journal_at r.bus.journals node) (deeds_at deeds node) was p r.links (8 * node) →
+  pub next_waits : (p : Registers) (one : Step) → ((x : Registers) → slice_index_or r.ports node x ≡ p) →
+      IsNode plan.version (steps_at plan node) (journal_at r.bus.journals node) (deeds_at deeds node) was p r.links
+      (8 * node) →
       IsLawfulJournal (journal_at r.bus.journals node) →
       length (deeds_at deeds node) < length (steps_at plan node) → one ≡ slice_index_or (steps_at plan node)
       (length (deeds_at deeds node)) one → IsLawful now →
@@ -185,7 +233,7 @@ module _ (plan : PlanValue) (r n : SerialValue) (deeds : List (List Deed)) (node
       Steps alike Lies shows_none takes_none was now r.links given
       (8 * node) p q one r.bits false → ((m : ℕ) → HasRoom m (log_of was) → HasRoom m (log_of now)) →
       Does plan r n node deeds [] × IsStuck plan n deeds node
-  next_waits p one w lawful left is now_lawful place st room =
+  next_waits p one port_was w lawful left is now_lawful place st room =
       let at : Steps alike Lies shows_none takes_none was now r.links given (8 * node) p q one
       (place_of (journal_at r.bus.journals node)).bits false =
       subst (λ (b : ℕ).
@@ -208,7 +256,9 @@ module _ (plan : PlanValue) (r n : SerialValue) (deeds : List (List Deed)) (node
       subst (λ (l : List Deed). IsNode plan.version (steps_at plan node) k l now q n.links (8 * node))
       (sym (append-nil ds)) after in (
         record {
-          stands = stands_after [] more;
+          stands = stands_after [] more (λ x same_now shown. subst (λ (g : Registers). ShowsRecord k g)
+              (port_was x ∙ sym port) (subst (λ (l : List Entry). ShowsRecord l (slice_index_or r.ports node x))
+              (sym same_now) shown));
           at_once = λ i d less. absurd (omega (arith, less));
           bits = bits_are;
           items = more_items;
@@ -227,7 +277,7 @@ module _ (plan : PlanValue) (r n : SerialValue) (deeds : List (List Deed)) (node
       )
 
   -- either of both
-  pub next_tried : (p : Registers) (one : Step) (b : Bool) →
+  pub next_tried : (p : Registers) (one : Step) (b : Bool) → ((x : Registers) → slice_index_or r.ports node x ≡ p) →
       IsNode plan.version (steps_at plan node) (journal_at r.bus.journals node) (deeds_at deeds node) was p r.links
       (8 * node) →
       IsLawfulJournal (journal_at r.bus.journals node) → RegisterFacts p →
@@ -239,7 +289,7 @@ module _ (plan : PlanValue) (r n : SerialValue) (deeds : List (List Deed)) (node
       (b ≡ false → (m : ℕ) → HasRoom m (log_of was) → HasRoom m (log_of now)) →
       (b ≡ true → (d : Deed) × Does plan r n node deeds (d ∷ []))
       × (b ≡ false → Does plan r n node deeds [] × IsStuck plan n deeds node)
-  next_tried p one true w lawful facts left is now_lawful place st room still_room =
-      (λ e. next_done p one w lawful facts left is now_lawful place st room, λ e. absurd cc)
-  next_tried p one false w lawful facts left is now_lawful place st room still_room =
-      (λ e. absurd cc, λ e. next_waits p one w lawful left is now_lawful place st (still_room refl))
+  next_tried p one true port w lawful facts left is now_lawful place st room still_room =
+      (λ e. next_done p one port w lawful facts left is now_lawful place st room, λ e. absurd cc)
+  next_tried p one false port w lawful facts left is now_lawful place st room still_room =
+      (λ e. absurd cc, λ e. next_waits p one port w lawful left is now_lawful place st (still_room refl))

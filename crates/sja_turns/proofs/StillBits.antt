@@ -1,7 +1,7 @@
 -- Recessive bits that are run at once while nothing is taken: each of them is a bit of the run.
 use Rattle.std.proofs.Common.{◌≡◌, ℕ, zero, suc, ◌+◌, ◌-◌, ◌*◌, ◌<◌, ◌≤◌, Bool, List, []}
 use Rattle.std.proofs.Common.{◌∷◌, ◌++◌, length, refl, sym, ap, ◌∙◌, subst, append-nil, arith}
-use Rattle.std.specs.Prelude.{None, slice_index_or}
+use Rattle.std.specs.Prelude.{None, false, slice_index_or}
 use Rattle.std.proofs.lemmas.List.{length-map}
 use Rattle.std.proofs.lemmas.Slice.Zip.{AllZip-long}
 use Rattle.sja_link.specs.declared.entry.Entry.{Entry}
@@ -16,7 +16,7 @@ use Rattle.sja_link.proofs.Related.{each_at, each_refl}
 use Rattle.sja_regs.specs.declared.registers.Registers.{Registers}
 use Rattle.sja_regs.specs.Facts.{RegisterFacts}
 use Rattle.sja_bus.specs.Boards.{HasOrders, WasTold, WasKept}
-use Rattle.sja_bus.specs.Buses.{KeepsAll}
+use Rattle.sja_bus.specs.Buses.{KeepsAll, untold_at}
 use Rattle.sja_bus.specs.Lawful.{IsBusRun}
 use Rattle.sja_bus.specs.Links.{per_node, Kept}
 use Rattle.sja_bus.specs.Stretches.{recessive_bits, with_recessive, IsStretch}
@@ -32,6 +32,7 @@ use Rattle.sja_turns.specs.Bits.TakesBits.{no_bit, one_more}
 use Rattle.sja_turns.specs.Linking.{IsLinked}
 use Rattle.sja_turns.specs.Nodes.{IsNode}
 use Rattle.sja_turns.specs.Serial.{SerialValue, StandsAt, run_now, steps_at, deeds_at}
+use Rattle.sja_turns.specs.Shown.{ShowsRecord}
 use Rattle.sja_turns.proofs.BitAsked.{HasCut}
 use Rattle.sja_turns.proofs.BitRun.{cuts_of, takes_bit}
 use Rattle.sja_turns.proofs.Taking.{same_front}
@@ -120,14 +121,16 @@ module _ (plan : PlanValue) (r : SerialValue) (deeds : List (List Deed)) (h : St
       counted = was.counted;
       done = was.done;
       in_time = was.in_time;
+      registers = was.registers;
     }
 
-  -- it stands where it stood, whatever is untold
-  pub stands_still : (n : SerialValue) → n.bus.fault ≡ None → n.bus.script ≡ r.bus.script → n.bus.run ≡ r.bus.run →
+  -- it stands where it stood, where nothing more is told
+  pub stands_still : (n : SerialValue) → ((m : ℕ) → m < length plan.nodes → untold_at n.bus.untold m ≡ false →
+      untold_at r.bus.untold m ≡ false) → n.bus.fault ≡ None → n.bus.script ≡ r.bus.script → n.bus.run ≡ r.bus.run →
       n.bus.left ≡ r.bus.left → n.bits ≡ r.bits → n.bus.journals ≡ r.bus.journals → n.drivers ≡ r.drivers →
       n.ports ≡ r.ports → n.links ≡ links →
       StandsAt plan n deeds
-  stands_still n right script run left bits journals drivers ports links_are = record {
+  stands_still n told right script run left bits journals drivers ports links_are = record {
     right = right;
     script = script ∙ h.script;
     all_bits = let a = h.all_bits in omega (arith, a, run, left);
@@ -156,6 +159,10 @@ module _ (plan : PlanValue) (r : SerialValue) (deeds : List (List Deed)) (h : St
         (subst (λ (l : List (List Entry)). IsNode plan.version (steps_at plan m) (journal_at l m) (deeds_at deeds m)
         (slice_index_or r.drivers m d) (slice_index_or r.ports m p) links (8 * m)) (sym journals)
         (node_still m d p less))));
+    shown = λ m p less none.
+        subst (λ (l : List Registers). ShowsRecord (journal_at n.bus.journals m) (slice_index_or l m p)) (sym ports)
+        (subst (λ (l : List (List Entry)). ShowsRecord (journal_at l m) (slice_index_or r.ports m p)) (sym journals)
+        (h.shown m p less (told m less none)));
   }
 
   -- ---- the bits
@@ -182,8 +189,8 @@ module _ (plan : PlanValue) (r : SerialValue) (deeds : List (List Deed)) (h : St
         let says = ((stretch.bits i (omega (arith, early))).nodes m (omega (arith, near, c))).is_turn.says in
         record { found = says.found; cut = says.cut }
 
-    first : (untold : List Bool) → StandsAt plan (at untold 0) deeds
-    first untold = stands_still (at untold 0) h.right refl (omega arith) (omega arith) (omega arith)
+    first : StandsAt plan (at r.bus.untold 0) deeds
+    first = stands_still (at r.bus.untold 0) (λ m less e. e) h.right refl (omega arith) (omega arith) (omega arith)
         (with_none r.bus.journals) refl refl refl
 
     takes : (untold : List Bool) (i : ℕ) → i < count → StandsAt plan (at r.bus.untold i) deeds →
@@ -197,15 +204,14 @@ module _ (plan : PlanValue) (r : SerialValue) (deeds : List (List Deed)) (h : St
         (each_refl (λ (x y : Deques). y.link ≡ x.link) (λ x. refl) links) (stretch.bits i early)
         (cuts i (omega (arith, early))) facts
 
-    stands : (untold : List Bool) (i : ℕ) → i ≤ count → StandsAt plan (at untold i) deeds
-    stands untold zero early = first untold
-    stands untold (suc i) early = (takes untold i (omega (arith, early))
-        (stands r.bus.untold i (omega (arith, early)))).stands
+    stands : (i : ℕ) → i ≤ count → StandsAt plan (at r.bus.untold i) deeds
+    stands zero early = first
+    stands (suc i) early = (takes r.bus.untold i (omega (arith, early)) (stands i (omega (arith, early)))).stands
 
     -- one of them, where other things were untold
     one : (before untold : List Bool) (i : ℕ) → i < count → TakesBit plan deeds (at before i) (at untold (suc i))
     one before untold i early =
-        let t = takes untold i early (stands r.bus.untold i (omega (arith, early))) in
+        let t = takes untold i early (stands i (omega (arith, early))) in
         record { stands = t.stands; bits = t.bits; nodes = t.nodes }
 
     -- the first, from the run as it was

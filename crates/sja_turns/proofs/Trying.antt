@@ -26,12 +26,15 @@ use Rattle.sja_driver.specs.Acting.{Acts, Looks, IfOut, IfLooking, Waits}
 use Rattle.sja_driver.specs.AnyDrivers.{is_out, opened_of, held_of, off_of, seen_by, IsDriverOf}
 use Rattle.sja_driver.specs.Carried.{Sees, Tells, carried, ported}
 use Rattle.sja_driver.specs.Deeds.{Deed, opened_by, is_active, given_in, deeds_of, released_lengths, FitsState}
+use Rattle.sja_driver.specs.Drivers.{nothing_seen}
 use Rattle.sja_driver.specs.Holding.{HoldsBy, place_after}
 use Rattle.sja_driver.specs.Logs.{Traces, releases_in, left_in, released_of, leaves, deeds_by}
 use Rattle.sja_driver.specs.Tries.{Tried, is_met, off_after, window_after}
 use Rattle.sja_driver.specs.Tries.Tried.{Unmet, Answered, Released, Ended}
+use Rattle.sja_report.specs.Registering.{seen_now}
 use Rattle.sja_report.specs.Windows.{SeesIf}
 use Rattle.sja_turns.specs.Waiting.{HasToWait}
+use Rattle.sja_turns.proofs.Seeing.{seen_as, seen_by_now, tells_seen, seen_shown, no_release, no_stop}
 use Rattle.sja_turns.proofs.Taking.{same_front}
 use Rattle.sja_turns.proofs.Looks.{IsShown, is_shown}
 use Rattle.sja_turns.proofs.Few.{few_held}
@@ -55,8 +58,7 @@ pub record IsNext (j : List Entry) (deeds : List Deed) (p q : Registers) (d : De
   pub fits : FitsState (is_active deeds) (opened_by deeds) d.step d.answer
   pub gave : d.gave ≡ carried p d.step d.answer
   pub sees : SeesIf (is_active deeds) j deeds d
-  pub seen : Seen
-  pub tells : Tells d.step (is_active deeds) p seen d.answer
+  pub tells : Tells d.step (is_active deeds) p (seen_now (is_active deeds) j deeds) d.answer
   pub patient : d.answer ≢ Refused Closed
   pub left : q ≡ ported p d.step d.answer
 
@@ -69,10 +71,6 @@ min_few n few = grind arith
 
 min_less : (n : ℕ) → min n 7 < 8
 min_less n = grind arith
-
-tells_by : (one : Step) (answer : StepAnswer) (b c : Bool) (p : Registers) (seen : Seen) → b ≡ c →
-    Tells one c p seen answer → Tells one b p seen answer
-tells_by one answer b c p seen e h = subst (λ (x : Bool). Tells one x p seen answer) (sym e) h
 
 -- ---- a driver that took in what its link showed knows what was put
 
@@ -123,21 +121,22 @@ module _ (j : List Entry) (deeds : List Deed) (log : WorkLog) (links : List Dequ
       IfOut w (IfLooking one (Looks alike Lies shows_none
       (slice_index_or links (place_after base (length (left_in log))) none) (held_of w) window (off_of w) off)) →
       q ≡ ported p one answer →
+      ((a : ℕ) → one ≡ Read a → seen ≡ seen_as (is_out w) off window) →
       IsNext j deeds p q (record { step = one; answer = answer; bits = (place_of j).bits; gave = carried p one answer })
-  next_one p q one answer (InReset d) off window seen trace place h unclosed fits sees tells looks left = record {
+  next_one p q one answer (InReset d) off window seen trace place h unclosed fits sees tells looks left so = record {
     now = refl;
     fits = fits_by one answer (InReset d) trace fits;
     gave = refl;
     sees = let P : Bool → Type 0 = λ b. SeesIf b j deeds
         (record { step = one; answer = answer; bits = (place_of j).bits; gave = carried p one answer }) in
         subst P (sym trace.out) tt;
-    seen = seen;
-    tells = tells_by one answer _ _ p seen trace.out tells;
+    tells = let T : Bool → Type 0 = λ b. Tells one b p (seen_now b j deeds) answer in
+        subst T (sym trace.out) (tells_seen one answer false p seen nothing_seen (λ a e. sym (so a e)) tells);
     patient = never_closed false (opened_of (InReset d)) one answer off window p seen fits
         (λ e. absurd cc) tells unclosed;
     left = left;
   }
-  next_one p q one answer (InActive d) off window seen trace place h unclosed fits sees tells looks left = record {
+  next_one p q one answer (InActive d) off window seen trace place h unclosed fits sees tells looks left so = record {
     now = refl;
     fits = fits_by one answer (InActive d) trace fits;
     gave = refl;
@@ -146,8 +145,10 @@ module _ (j : List Entry) (deeds : List Deed) (log : WorkLog) (links : List Dequ
         (record { step = one; answer = answer; bits = (place_of j).bits; gave = carried p one answer }) in
         subst P (sym trace.out) (sees_shown j deeds one answer off window sees
         (if_looking one _ _ (looked (InActive d) refl trace place h window off) looks));
-    seen = seen;
-    tells = tells_by one answer _ _ p seen trace.out tells;
+    tells = let T : Bool → Type 0 = λ b. Tells one b p (seen_now b j deeds) answer in
+        subst T (sym trace.out) (tells_seen one answer true p seen (seen_now true j deeds) (λ a e.
+        seen_shown j deeds one a off window e (if_looking one _ _ (looked (InActive d) refl trace place h window off)
+        looks) ∙ sym (so a e)) tells);
     patient = never_closed true (opened_of (InActive d)) one answer off window p seen fits (λ e. sees) tells unclosed;
     left = left;
   }
@@ -167,7 +168,8 @@ module _ (j : List Entry) (deeds : List Deed) (log : WorkLog) (links : List Dequ
   comes p q one w now new (Answered a) trace place h unclosed met acts = record {
     deed = record { step = one; answer = a; bits = (place_of j).bits; gave = carried p one a };
     next = next_one p q one a w (off_after now (Answered a)) (window_after now (Answered a))
-        (seen_by now) trace place h unclosed acts.fits acts.sees acts.tells acts.looks acts.port;
+        (seen_by now) trace place h unclosed acts.fits acts.sees acts.tells acts.looks acts.port
+        (λ x e. seen_by_now w now one a x e acts.out);
     step_is = refl;
     only = refl;
   }
@@ -180,14 +182,16 @@ module _ (j : List Entry) (deeds : List Deed) (log : WorkLog) (links : List Dequ
           (ReleasedAnswer (length m));
     };
     next = next_one p q one (ReleasedAnswer (length m)) w (off_after now (Released m)) (window_after now (Released m))
-        (seen_by now) trace place h unclosed acts.fits acts.sees acts.tells acts.looks acts.port;
+        (seen_by now) trace place h unclosed acts.fits acts.sees acts.tells acts.looks acts.port
+        (λ x e. absurd (no_release x (sym e ∙ acts.kind)));
     step_is = refl;
     only = refl;
   }
   comes p q one w now new (Ended l) trace place h unclosed met acts = record {
     deed = record { step = one; answer = Done; bits = (place_of j).bits; gave = carried p one Done };
     next = next_one p q one Done w (off_after now (Ended l)) (window_after now (Ended l))
-        (seen_by now) trace place h unclosed acts.fits acts.sees acts.tells acts.looks acts.port;
+        (seen_by now) trace place h unclosed acts.fits acts.sees acts.tells acts.looks acts.port
+        (λ x e. absurd (no_stop x (sym e ∙ acts.kind)));
     step_is = refl;
     only = refl;
   }

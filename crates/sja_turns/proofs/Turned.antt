@@ -25,6 +25,8 @@ use Rattle.sja_driver.specs.Logs.{HasRoom, Traces, deeds_by}
 use Rattle.sja_driver.specs.Tries.{Tried, is_met}
 use Rattle.sja_driver.specs.Tries.Tried.{Unmet, Answered, Released, Ended}
 use Rattle.sja_report.specs.InTime.{IsInTime}
+use Rattle.sja_report.specs.Registering.{LeadTo}
+use Rattle.sja_report.specs.Registering.LeadTo.{step}
 use Rattle.sja_report.proofs.Stepping.{given_taken}
 use Rattle.sja_turns.specs.Asking.{IsAsked}
 use Rattle.sja_turns.specs.Counted.{IsCounted}
@@ -32,6 +34,7 @@ use Rattle.sja_turns.specs.Dated.{AreDone}
 use Rattle.sja_turns.specs.Linking.{IsLevel}
 use Rattle.sja_turns.specs.Nodes.{IsNode}
 use Rattle.sja_turns.specs.Porting.{IsPorted}
+use Rattle.sja_turns.specs.Shown.{ShowsRecord}
 use Rattle.sja_turns.specs.Waiting.{HasToWait}
 use Rattle.sja_turns.proofs.Taking.{no_wait}
 use Rattle.sja_turns.proofs.Trying.{alike, shows_none, takes_none, waits}
@@ -41,8 +44,16 @@ use Rattle.sja_turns.proofs.Ported.{ported_after, asked_after, counted_after}
 use Rattle.sja_turns.proofs.FirstSteps.{first_more}
 use Rattle.sja_turns.proofs.Gathered.{items_are, linked_after}
 use Rattle.sja_turns.proofs.Done.{at_most_one, is_read, opened_most, doing}
+use Rattle.sja_turns.proofs.Shown.{shows_on}
 
 -- ---- a step and a taking
+
+-- where a journal has no entry more no item was taken
+pub none_entered : (j k : List Entry) (items : List Up) → k ≡ j ++ entries_of_items items → k ≡ j → items ≡ []
+none_entered j k [] e same = refl
+none_entered j k (u ∷ items) e same =
+    let long = ap (λ (l : List Entry). length l) (sym same ∙ e) in
+    let both = length-append j (entries_of_items (u ∷ items)) in absurd (omega (arith, long, both))
 
 module _ (version : ℕ) (steps : List Step) (j k : List Entry) (deeds : List Deed) (was now : LoggedDriver)
     (p q : Registers) (links given after : List Deques) (base : ℕ) (one : Step) (none : Deques)
@@ -56,6 +67,8 @@ module _ (version : ℕ) (steps : List Step) (j k : List Entry) (deeds : List De
     pub deed : Deed
     pub bits : deed.bits ≡ (place_of j).bits
     pub node : IsNode version steps k (deeds ++ deed ∷ []) now q after base
+    -- where nothing was taken the port shows what it has shown
+    pub shows : k ≡ j → ShowsRecord j p → ShowsRecord k q
 
   pub stepped : Steps alike Lies shows_none takes_none was now links given base p q one (place_of j).bits true →
       ((m : ℕ) → HasRoom (m + 1) (log_of was) → HasRoom m (log_of now)) → Stepped
@@ -91,7 +104,12 @@ module _ (version : ℕ) (steps : List Step) (j k : List Entry) (deeds : List De
           counted = counted_after version j k deeds d p q e next h.ported h.linked.level level y.kind facts h.counted
               lawful;
           in_time = in_time;
+          registers = step j k deeds d p q h.registers next.now next.tells next.gave entered next.left;
         };
+        shows = λ same shown.
+            let none = none_entered j k d.gave entered same in
+            subst (λ (l : List Entry). ShowsRecord l q) (sym same)
+            (shows_on j p q d.step d.answer (sym next.gave ∙ none) next.left shown);
       }
 
 -- ---- a taking where no deed was done
@@ -134,6 +152,8 @@ module _ (version : ℕ) (steps : List Step) (j k : List Entry) (deeds : List De
         counted = subst (λ (r : Registers). IsCounted k deeds r) (sym port)
             (subst (λ (l : List Entry). IsCounted l deeds p) (sym same_journal) h.counted);
         in_time = in_time;
+        registers = subst (λ (r : Registers). LeadTo version k deeds r) (sym port) (subst (λ (l : List Entry).
+            LeadTo version l deeds p) (sym same_journal) h.registers);
       }
 
 -- ---- a step that waits

@@ -42,6 +42,7 @@ module _ (plan : PlanValue) (r : SerialValue) (end : End) (log : RunValue) (t : 
         deeds = t.deeds;
         run = l.run;
         in_time = l.in_time;
+        registers = l.registers;
         turns = subst (λ (js : List (List Entry)). RunsTo
             (let a : Acts = record { plan = plan; journals = js; deeds = t.deeds } in a) first plan.turns last
             log.end) (sym l.journals)

@@ -8,13 +8,14 @@ use Rattle.sja_driver.specs.Deeds.{Deed}
 use Rattle.sja_report.specs.declared.end.End.{End}
 use Rattle.sja_report.specs.InTime.{IsInTime}
 use Rattle.sja_report.specs.Log.{NodeValue, RunValue, journals_in}
+use Rattle.sja_report.specs.Registering.{HaveRegisters}
 use Rattle.sja_report.specs.Runs.{IsRun}
 use Rattle.sja_report.specs.Turns.{Progress, RunsTo}
 use Rattle.sja_turns.specs.Bits.{TakesBusTurn, TakesRest}
 use Rattle.sja_turns.specs.Serial.{SerialValue, StandsAt, TakesTurn}
 
 -- the log of a run of this plan that stands at these deeds and ends so: what is promised of every run, its bits and
--- journals are the run's, and its drivers are in time
+-- journals are the run's, its drivers are in time, and its ports have registers
 pub record IsLogOf (plan : PlanValue) (r : SerialValue) (deeds : List (List Deed)) (end : End) (log : RunValue) :
     Type 0 where
   pub run : IsRun plan log deeds
@@ -23,6 +24,7 @@ pub record IsLogOf (plan : PlanValue) (r : SerialValue) (deeds : List (List Deed
   pub journals : journals_in log ≡ r.bus.journals
   pub in_time : (k : ℕ) (d : NodeValue) → k < length log.nodes →
       IsInTime plan.version (slice_index_or log.nodes k d).journal (slice_index_or deeds k [])
+  pub registers : HaveRegisters plan log deeds
 
 -- how far a run has come that stands at these deeds
 abbrev pub progress : SerialValue → List (List Deed) → Progress

@@ -4,6 +4,7 @@ pub mod Tracing
 pub mod Linking
 pub mod Porting
 pub mod Asking
+pub mod Shown
 pub mod Counted
 pub mod Dated
 pub mod Nodes

@@ -8,6 +8,7 @@ use Rattle.sja_script.specs.declared.step.Step.{Step}
 use Rattle.sja_driver.specs.declared.logged_driver.LoggedDriver.{LoggedDriver}
 use Rattle.sja_driver.specs.Deeds.{Deed}
 use Rattle.sja_report.specs.InTime.{IsInTime}
+use Rattle.sja_report.specs.Registering.{LeadTo}
 use Rattle.sja_turns.specs.Tracing.{IsTraced}
 use Rattle.sja_turns.specs.Linking.{IsLinked}
 use Rattle.sja_turns.specs.Porting.{IsPorted}
@@ -16,7 +17,8 @@ use Rattle.sja_turns.specs.Counted.{IsCounted}
 use Rattle.sja_turns.specs.Dated.{AreDone}
 
 -- its driver did these deeds, of these steps; its links and its port are beside them and its journal; the journal has
--- no more entries than they allow; no deed is later than its last bit; and all was in time
+-- no more entries than they allow; no deed is later than its last bit; all was in time; and from power-on entries and
+-- deeds have led to the registers of its port
 pub record IsNode (version : ℕ) (steps : List Step) (j : List Entry) (deeds : List Deed) (driver : LoggedDriver)
     (port : Registers) (links : List Deques) (base : ℕ) : Type 0 where
   pub traced : IsTraced steps deeds driver
@@ -26,3 +28,4 @@ pub record IsNode (version : ℕ) (steps : List Step) (j : List Entry) (deeds : 
   pub counted : IsCounted j deeds port
   pub done : AreDone (place_of j).bits deeds
   pub in_time : IsInTime version j deeds
+  pub registers : LeadTo version j deeds port

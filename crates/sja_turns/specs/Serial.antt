@@ -1,9 +1,10 @@
 -- A run in one thread, between two turns (this project's own rule).
-use Rattle.std.specs.Prelude.{◌≡◌, ◌+◌, ◌*◌, ◌<◌, ◌≤◌, ◌++◌, ◌⊎◌, ℕ, None, List, [], length, slice_index_or, slice_set}
+use Rattle.std.specs.Prelude.{◌≡◌, ◌+◌, ◌*◌, ◌<◌, ◌≤◌, ◌++◌, ◌⊎◌, ℕ, false, None, List, []}
+use Rattle.std.specs.Prelude.{length, slice_index_or, slice_set}
 use Rattle.sja_link.specs.declared.up.Up.{Up}
 use Rattle.sja_link.specs.declared.entry.Entry.{Entry}
 use Rattle.sja_link.specs.Deques.{Deques}
-use Rattle.sja_bus.specs.Buses.{BusValue}
+use Rattle.sja_bus.specs.Buses.{BusValue, untold_at}
 use Rattle.sja_bus.specs.Links.{Numbered}
 use Rattle.sja_bus.specs.OneBit.{entries_of_items}
 use Rattle.sja_bus.specs.Wire.{journal_at}
@@ -14,6 +15,7 @@ use Rattle.sja_driver.specs.declared.logged_driver.LoggedDriver.{LoggedDriver}
 use Rattle.sja_driver.specs.Deeds.{Deed}
 use Rattle.sja_driver.specs.LoggedDrivers.{node_of}
 use Rattle.sja_turns.specs.Nodes.{IsNode}
+use Rattle.sja_turns.specs.Shown.{ShowsRecord}
 use Rattle.sja_turns.specs.Waiting.{HasToWait}
 
 -- what a contract sees of a run: its bus, the drivers, their ports and their links by node, and the bits that were run
@@ -60,6 +62,9 @@ pub record StandsAt (plan : PlanValue) (r : SerialValue) (deeds : List (List Dee
   pub nodes : (node : ℕ) (d : LoggedDriver) (p : Registers) → node < length plan.nodes →
       IsNode plan.version (steps_at plan node) (journal_at r.bus.journals node) (deeds_at deeds node)
       (slice_index_or r.drivers node d) (slice_index_or r.ports node p) r.links (8 * node)
+  -- where nothing is untold of a node its port shows what the node's record says
+  pub shown : (node : ℕ) (p : Registers) → node < length plan.nodes → untold_at r.bus.untold node ≡ false →
+      ShowsRecord (journal_at r.bus.journals node) (slice_index_or r.ports node p)
 
 -- there are such deeds
 abbrev pub IsRunOf : PlanValue → SerialValue → Type 0

@@ -57,6 +57,8 @@ fn take_turns(run: &mut SerialRun, plan: &Plan) -> End
 /// exactly where it is longer than 64 less the bytes stored and not yet collected back. What each node saw in each bit
 /// is what all drove together, or the other level where the plan's faults strike it. Each item was taken after just the
 /// bits before its step, each step saw all that had been put by then, and bits and steps follow the turns of the plan.
+/// Each step is answered by the registers that the steps and bits before it have left, from power-on in the plan's
+/// version: in each bit an abort that stands is applied, and the port is told what the bit brought.
 ///
 /// Error: [`RunFault::Memory`] where memory was refused.
 pub fn run_serial(alloc: Global, plan: &Plan) -> Result<RunLog, RunFault>

@@ -91,9 +91,11 @@ returns c =
     next_tried c.args.plan.now r n deeds node h there c.step-done.new.links was c.step-done.new.self
     c.step-done.new.port no_link refl refl refl
     c.in-Ok.ensures.right c.gather.ensures.bits.0 c.gather.ensures.script c.gather.ensures.bits.1 c.gather.ensures.nodes
-    c.in-Ok.ensures.kept c.in-Ok.ensures.items c.in-Ok.ensures.dry c.gather.ensures.sames many
+    c.in-Ok.ensures.kept c.in-Ok.ensures.items c.in-Ok.ensures.untold c.in-Ok.ensures.dry c.gather.ensures.sames many
     c.step-done.ensures.stays.others c.step-done.ensures.stays.ids whose
-    p c.index-steps-at.result c.step-done.result w (laws.lawful node inside) facts (c.requires.left deeds h) is
+    p c.index-steps-at.result c.step-done.result
+    (λ x. get_or_default c.args.ports.now node x c.index-ports-node-2.result few) w (laws.lawful node inside) facts
+    (c.requires.left deeds h) is
     c.step-done.ensures.stays.lawful place c.step-done.ensures.steps c.step-done.ensures.stays.room
     c.step-done.ensures.stays.waits in
     record { done = λ yes deeds h. (both deeds h).0 yes; waits = λ no deeds h. (both deeds h).1 no }

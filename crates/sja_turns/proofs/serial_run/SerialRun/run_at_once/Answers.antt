@@ -24,7 +24,8 @@ returns c = λ deeds h.
     let q = c.quiet_bits.ensures in let ok = c.in-Ok.ensures in
     let t : TakesAtOnce c.args.plan.now deeds r n most many = takes_at_once c.args.plan.now r n deeds stood ok.right
     q.script q.nodes refl refl q.sames ok.kept (c.keeps_its_laws.ensures stood.right) c.keeps_its_facts.ensures
-    most many ok.most ok.bits.0 ok.bits.1 refl (λ zero. q.items (is ∙ ap (λ (x : ℕ). Ok x) zero)) ok.stretch in
+    most many ok.most ok.bits.0 ok.bits.1 refl (λ zero. q.items (is ∙ ap (λ (x : ℕ). Ok x) zero))
+    (λ zero. q.untold (is ∙ ap (λ (x : ℕ). Ok x) zero)) ok.stretch in
     let l : (with_items c.self.inside.links c.quiet_bits.new.links).items ≡ c.quiet_bits.new.links = with_items_is
     c.self.inside.links c.quiet_bits.new.links (omega (arith, c.quiet_bits.auto.links, c.as_mut_slice.ensures.len)) in
     let after : n ≡ run_now c.quiet_bits.new.self drivers ports
