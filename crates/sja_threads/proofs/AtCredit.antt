@@ -74,7 +74,7 @@ module _ (p : List Entry) (got down : List Down) (held : List (List ℕ)) (all :
       let stored = sym (bytes_put q) ∙ ap (λ (l : List Down). bytes_of (messages l)) h.put_is
       ∙ ap bytes_of (messages_both h.gone h.waits)
       ∙ total_append (λ (x : List ℕ). length x) (messages h.gone) (messages h.waits) in
-      let big = o.1 in let fits = o.2 in
+      let big = o.1 in let fits = o.3 in
       let x = next_message h.waits h.todo (put_of es) down m (f.others ++ held) h.last
       (omega (arith, big, fits, paid, stored)) told (left_is q (Item (Credit n) ∷ es) h whole) in
       let gone = h.gone ++ Message m ∷ [] in

@@ -30,12 +30,12 @@ returns-then-run-bits-clause-moved g c =
 pub returns-clause-moved : goal.returns-clause-moved
 returns-clause-moved g c =
     let w = c.requires.way in
-    let e = c.bit.ensures in
-    let o = c.in_ok-bit.ensures in record {
+    let o = c.in_ok-bit.ensures.bit in
+    let e = o.keeps in record {
       way = after_bit c.args.plan.now c.args.bus.now c.bit.new.self c.args.links.now c.bit.new.links w o.right e.script
-          e.nodes e.sames o.kept _ _ _ o.bits (c.keeps_its_laws.ensures w.right)
+          e.nodes e.sames o.kept _ _ _ (o.run, o.left) (c.keeps_its_laws.ensures w.right)
           (c.at_rest.ensures.busy w.right c.if-at_rest.false) o.bit;
-      bits = o.bits.0 ∙ ap (λ n. n + 1) c.requires.run_is;
+      bits = o.run ∙ ap (λ n. n + 1) c.requires.run_is;
       spent = λ same. absurd cc;
     }
 
