@@ -1,5 +1,5 @@
--- What the driver alone sets of a port's registers (this project's own rule): a turn of the bus asks for none of it, and
--- changes none of it but RM, at bus-off.
+-- What the driver alone sets of a port's registers (this project's own rule): a turn of the bus asks for none of it,
+-- and changes none of it but RM, at bus-off.
 use Rattle.std.specs.Prelude.{◌≡◌, ◌||◌, ◌&&◌, not, ℕ, true, if◌then◌else◌, List}
 use Rattle.sja_regs.specs.declared.mode.Mode.{Mode}
 use Rattle.sja_regs.specs.declared.registers.Registers.{Registers}

@@ -1,11 +1,13 @@
 -- Whatever becomes of a request, few bytes are read for it.
-use Rattle.std.proofs.Common.{◌≡◌, ◌≢◌, ◌≤◌, ◌+◌, ◌⊎◌, ◌++◌, List, ℕ, [], Option, length, length-append, sym, subst}
+use Rattle.std.proofs.Common.{◌≡◌, ◌≤◌, ◌+◌, ◌⊎◌, ◌++◌, List, ℕ, [], Option, length, length-append, sym, subst}
 use Rattle.std.proofs.Common.{arith, inl, inr, false}
 use Rattle.std.specs.Io.KnownBytes.{Consumes}
 use Rattle.std.proofs.KnownBytes.{Consumes-nil, Consumes-trans}
+use Rattle.sja_plan.specs.Plan.{PlanValue}
 use Rattle.sja_words.specs.Words.{Request, ParsesAs, run, wave}
 use Rattle.sja_turns.specs.declared.run_fault.RunFault.{RunFault}
-use Rattle.sja_turns.specs.declared.run_fault.RunFault.TheVariants.{Memory, GateCount}
+use Rattle.sja_turns.specs.declared.run_fault.RunFault.TheVariants.{Memory}
+use Rattle.sja_threads.specs.Stopping.{IsFaultOf}
 use Rattle.sja_run.specs.declared.refusal.Refusal.{Refusal}
 use Rattle.sja_run.specs.declared.refusal.Refusal.TheVariants as refusal
 use Rattle.sja_run.specs.Answer.{AsksForRun, IsPrinted, IsRefused}
@@ -37,7 +39,7 @@ pub few_running_threads : (before after : Option (List ℕ)) (text : List ℕ) �
 few_running_threads before after text runs = (runs.0, runs.1.0, runs.1.1)
 
 -- there is none
-few_refused : (May : RunFault → Type 0) (before after : Option (List ℕ)) (r : Refusal) → RefusesBy May before after r → ReadsFew before after
+few_refused : (May : PlanValue → RunFault → Type 0) (before after : Option (List ℕ)) (r : Refusal) → RefusesBy May before after r → ReadsFew before after
 few_refused May before after refusal.OutOfMemory h = h
 few_refused May before after refusal.Read h = (h.0, h.1, omega arith)
 few_refused May before after (refusal.Plan fault) h = (h.0, h.1.0, h.1.1)
@@ -48,14 +50,15 @@ few_refused May before after (refusal.Layout fault) h = absurd h
 few_refused May before after (refusal.Line fault) h = absurd h
 
 pub few_refused_threads : (before after : Option (List ℕ)) (r : Refusal) → RefusesThreads before after r → ReadsFew before after
-few_refused_threads before after r h = few_refused (λ fault. fault ≢ GateCount) before after r h
+few_refused_threads before after r h = few_refused IsFaultOf before after r h
 
 -- what is refused before any run is refused of each
 pub refused_threads : (before after : Option (List ℕ)) (r : Refusal) → RefusesRun before after r → RefusesThreads before after r
 refused_threads before after refusal.OutOfMemory h = h
 refused_threads before after refusal.Read h = h
 refused_threads before after (refusal.Plan fault) h = h
-refused_threads before after (refusal.Run fault) h = (h.0, h.1, h.2, h.3, λ other. cc (h.4))
+refused_threads before after (refusal.Run fault) h =
+    (h.0, h.1, h.2, h.3, subst (λ (f : RunFault). IsFaultOf h.1 f) (sym h.4) tt)
 refused_threads before after refusal.NotHexadecimal h = absurd h
 refused_threads before after refusal.NotALine h = absurd h
 refused_threads before after (refusal.Layout fault) h = absurd h

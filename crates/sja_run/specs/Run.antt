@@ -26,13 +26,13 @@ IsRunning before after text = (bytes : List ℕ) × IsRead before after bytes ×
 
 -- why there is no report. Memory may be refused at any time, and a read may fail. Else the bytes that were read have
 -- this first fault, or they are a plan, and its run had one of these faults
-abbrev pub RefusesBy : (RunFault → Type 0) → Option (List ℕ) → Option (List ℕ) → Refusal → Type 0
+abbrev pub RefusesBy : (PlanValue → RunFault → Type 0) → Option (List ℕ) → Option (List ℕ) → Refusal → Type 0
 RefusesBy May before after refusal.OutOfMemory = ReadsFew before after
 RefusesBy May before after refusal.Read = BreaksOff before after
 RefusesBy May before after (refusal.Plan fault) =
     (bytes : List ℕ) × IsRead before after bytes × IsFirstFault bytes fault
 RefusesBy May before after (refusal.Run fault) =
-    (bytes : List ℕ) × (plan : PlanValue) × IsRead before after bytes × IsPlanOf bytes plan × May fault
+    (bytes : List ℕ) × (plan : PlanValue) × IsRead before after bytes × IsPlanOf bytes plan × May plan fault
 RefusesBy May before after refusal.NotHexadecimal = ⊥
 RefusesBy May before after refusal.NotALine = ⊥
 RefusesBy May before after (refusal.Layout fault) = ⊥
@@ -40,4 +40,4 @@ RefusesBy May before after (refusal.Line fault) = ⊥
 
 -- in one thread: in the run memory was refused
 abbrev pub RefusesRun : Option (List ℕ) → Option (List ℕ) → Refusal → Type 0
-RefusesRun = RefusesBy (λ fault. fault ≡ Memory)
+RefusesRun = RefusesBy (λ plan fault. fault ≡ Memory)

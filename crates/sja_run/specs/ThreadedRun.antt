@@ -1,6 +1,6 @@
 -- What `run --threads` prints and refuses, by what the input held before and holds after (this project's own rule).
-use Rattle.std.specs.Prelude.{◌≢◌, ℕ, true, List, Option}
-use Rattle.sja_turns.specs.declared.run_fault.RunFault.TheVariants.{GateCount}
+use Rattle.std.specs.Prelude.{ℕ, true, List, Option}
+use Rattle.sja_threads.specs.Stopping.{IsFaultOf}
 use Rattle.sja_threads.specs.Threads.{IsThreadedRun}
 use Rattle.sja_run.specs.declared.refusal.Refusal.{Refusal}
 use Rattle.sja_run.specs.Run.{IsReportBy, RefusesBy}
@@ -11,6 +11,7 @@ abbrev pub IsRunningThreads : Option (List ℕ) → Option (List ℕ) → List �
 IsRunningThreads before after text =
     (bytes : List ℕ) × IsRead before after bytes × IsReportBy (λ plan log. IsThreadedRun plan log true) bytes text
 
--- why there is no report: as for a run in one thread, but its run may have any fault; there is a gate for each node
+-- why there is no report: as for a run in one thread, but its run may have any fault that a run in threads of that plan
+-- has; there is a gate for each node
 abbrev pub RefusesThreads : Option (List ℕ) → Option (List ℕ) → Refusal → Type 0
-RefusesThreads = RefusesBy (λ fault. fault ≢ GateCount)
+RefusesThreads = RefusesBy IsFaultOf

@@ -145,7 +145,8 @@ module _ {G : Type 0} (quits : Bool) (plan : PlanValue) (hands : List (Hand G)) 
   -- one node
   over_at : (node : ℕ) (h : Hand G) (w : Worked RingDriver) (deeds : List Deed) → node < length plan.nodes →
       IsMade plan node h first → (s : Serves quits plan h w) → deeds ≡ s.worked.deeds →
-      IsOverAt (settings_in (at_power_on plan.version)) (steps_at plan node) node (journal_at bus.journals node) deeds w links (8 * node)
+      IsOverAt (settings_in (at_power_on plan.version)) (steps_at plan node) node (journal_at bus.journals node) deeds w
+      links (8 * node)
   over_at node h w deeds few m s is = record {
     own = s.worked.own ∙ m.own;
     lawful = s.worked.lawful;
@@ -190,7 +191,8 @@ module _ {G : Type 0} (quits : Bool) (plan : PlanValue) (hands : List (Hand G)) 
           deeds_count = done.count ∙ many;
           nodes = λ node w few.
               let p = done.places node (omega (arith, few, many)) in
-              subst (λ (x : Worked RingDriver). IsOverAt (settings_in (at_power_on plan.version)) (steps_at plan node) node (journal_at bus.journals node)
+              subst (λ (x : Worked RingDriver). IsOverAt (settings_in (at_power_on plan.version)) (steps_at plan node)
+              node (journal_at bus.journals node)
               (deeds_at done.deeds node) x links (8 * node)) (sym (p.worked_is w))
               (over_at node p.hand p.worked (deeds_at done.deeds node) few
               (subst (λ (x : Hand G). IsMade plan node x first) (p.hand_is p.hand) (made node p.hand few))

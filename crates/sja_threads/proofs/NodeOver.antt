@@ -26,7 +26,8 @@ use Rattle.sja_threads.specs.Ended.{IsOverAt}
 use Rattle.sja_threads.specs.Settling.{IsLeftOn}
 use Rattle.sja_threads.proofs.Outside.{given_outside}
 
-module _ (set : SettingsValue) (steps : List Step) (node : ℕ) (j : List Entry) (deeds : List Deed) (w : Worked RingDriver)
+module _ (set : SettingsValue) (steps : List Step) (node : ℕ) (j : List Entry) (deeds : List Deed) (w : Worked
+    RingDriver)
     (links : List RingBus) (base : ℕ) (h : IsOverAt set steps node j deeds w links base) (lying : List (List Down))
     (bus : RingBus) (end : RingDriver)
     (left : (a : ℕ) → a < 8 → IsLeftOn (slice_index_or links (base + a) bus) (slice_index_or w.links.items a end)

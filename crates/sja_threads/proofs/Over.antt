@@ -76,7 +76,8 @@ module _ (plan : PlanValue) (bus : BusValue) (links : List RingBus) (workeds : L
     abbrev handed : Worked RingDriver
     handed = slice_index_or workeds k some
 
-    over : IsOverAt (settings_in (at_power_on plan.version)) (steps_at plan k) k (journal_at bus.journals k) (deeds_at deeds k) handed links (8 * k)
+    over : IsOverAt (settings_in (at_power_on plan.version)) (steps_at plan k) k (journal_at bus.journals k) (deeds_at
+        deeds k) handed links (8 * k)
     over = h.nodes k some in_plan
 
     some_bus : RingBus
@@ -120,13 +121,15 @@ module _ (plan : PlanValue) (bus : BusValue) (links : List RingBus) (workeds : L
     trace_there : IsTrace (steps_at plan k) there (deeds_at deeds k)
     trace_there = trace_of journal (deeds_at deeds k) handed.driver lying (8 * k) _ there end_there same
         (steps_at plan k) over.deeds_are over.traces
-        (given_all (settings_in (at_power_on plan.version)) (steps_at plan k) k journal (deeds_at deeds k) handed links (8 * k) over lying some_bus some_end
+        (given_all (settings_in (at_power_on plan.version)) (steps_at plan k) k journal (deeds_at deeds k) handed links
+        (8 * k) over lying some_bus some_end
         left_there)
 
     settled_there : AreSettled there
     settled_there = settled_of journal (deeds_at deeds k) handed.driver lying (8 * k) _ there end_there same
         over.lawful
-        (settled_all (settings_in (at_power_on plan.version)) (steps_at plan k) k journal (deeds_at deeds k) handed links (8 * k) over lying some_bus some_end
+        (settled_all (settings_in (at_power_on plan.version)) (steps_at plan k) k journal (deeds_at deeds k) handed
+        links (8 * k) over lying some_bus some_end
         left_there)
 
     bus_there : IsBusRun bus.script bus.run bus.journals

@@ -89,7 +89,8 @@ pub worked_of : {E : Type 0} (link : E → LinkId) (same : E → E → Type 0) (
     MayWork link first given (length steps) →
     DoesSteps link same stands first w.driver set last given gone (take n steps) →
     HasWorked stands set node steps links w
-worked_of {E} link same stands node steps n first set last log links given gone w own logs empty reset none these those may
+worked_of {E} link same stands node steps n first set last log links given gone w own logs empty reset none these those
+    may
     does =
     let d : DoesSteps link same stands first w.driver set last links w.links.items (take n steps) =
     subst (λ (l : List E). DoesSteps link same stands first w.driver set last links l (take n steps)) (sym those)
@@ -116,7 +117,8 @@ worked_of {E} link same stands node steps n first set last log links given gone 
 -- all steps, where as many were done as there are
 pub all_done : {E : Type 0} (link : E → LinkId) (same : E → E → Type 0) (stands : E → Lists → Type 0)
     (steps : List Step) (n : ℕ) (first last : LoggedDriver) (set set_now : SettingsValue) (links links_now : List E) →
-    Traces (driver_of first) (log_of first) [] → DoesSteps link same stands first last set set_now links links_now (take n steps) →
+    Traces (driver_of first) (log_of first) [] → DoesSteps link same stands first last set set_now links links_now (take
+    n steps) →
     n ≡ length steps → length (done_in (log_of last)) ≡ length steps
 all_done link same stands steps n first last set set_now links links_now none d all =
     let t = d.goes.traces [] none in

@@ -22,7 +22,8 @@ use Rattle.sja_threads.specs.Inside.Underway.{IsUnderWay}
 taken_not_spent : {E : Type 0} (stands : E → Lists → Type 0) (bits : ℕ) (before now : List (List Entry))
     (links after : List E) (f : BusFault) → IsNotTaken stands bits before now links after f → f ≢ BitsSpent
 taken_not_spent stands bits before now links after f n e =
-    subst (λ (x : BusFault). IsRefusedFor n.node (room_for bits) (journal_at now n.node) n.refuses.item x) e n.refuses.why
+    subst (λ (x : BusFault). IsRefusedFor n.node (room_for bits) (journal_at now n.node) n.refuses.item x) e
+    n.refuses.why
 
 no_full : (node : ℕ) → BitsSpent ≡ JournalFull node → ⊥
 no_full node e = cc

@@ -35,7 +35,8 @@ use Rattle.sja_threads.proofs.Same.{bus_trans}
 pub ending : {G : Type 0} (quits : Bool) (plan : PlanValue) (hands : List (Hand G)) (first : List RingBus)
     (j : Joined) → length hands ≡ length plan.nodes → length first ≡ 8 * length plan.nodes →
     AreMade plan (length plan.nodes) hands first → HasRun plan j.run j.spent j.bus j.links.items →
-    EachRelated SameBus first j.links.items → EachRelated (Serves quits plan) hands j.workeds.items → IsEnding quits plan j
+    EachRelated SameBus first j.links.items → EachRelated (Serves quits plan) hands j.workeds.items → IsEnding quits
+    plan j
 ending {G} quits plan hands first j many long made run sames served = record {
   has_run = run;
   over = λ bus links same way. is_over quits plan hands j.workeds.items first links bus many long made

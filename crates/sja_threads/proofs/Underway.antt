@@ -1,5 +1,6 @@
 -- The bus of a run in threads from one turn to the next.
-use Rattle.std.proofs.Common.{◌≡◌, ℕ, ◌+◌, ◌<◌, ◌≤◌, Bool, true, false, List, length, refl, sym, ap, ◌∙◌, subst, arith, inr}
+use Rattle.std.proofs.Common.{◌≡◌, ℕ, ◌+◌, ◌<◌, ◌≤◌, Bool, true, false, List, length, refl, sym, ap, ◌∙◌, subst, arith}
+use Rattle.std.proofs.Common.{inr}
 use Rattle.std.specs.Prelude.{None, Result, Ok, Err, OnOk}
 use Rattle.std.proofs.lemmas.Slice.Zip.{AllZip-long}
 use Rattle.sja_link.specs.declared.entry.Entry.{Entry}
@@ -20,7 +21,8 @@ use Rattle.sja_threads.specs.Needed.{IsDue, AllDue, AllRest}
 use Rattle.sja_threads.specs.declared.moving.Move.{Move}
 use Rattle.sja_threads.specs.declared.moving.Move.TheVariants.{Ran, Rests, Spent}
 use Rattle.sja_report.specs.declared.end.End.TheVariants.{Bits as BitsSpent}
-use Rattle.sja_threads.specs.Inside.Underway.{IsRunOut, TakesWithin, IsUnderWay, MayTurn, IsMoved, HasRun, StayDue, ran_by}
+use Rattle.sja_threads.specs.Inside.Underway.{IsRunOut, TakesWithin, IsUnderWay, MayTurn, IsMoved, HasRun, StayDue}
+use Rattle.sja_threads.specs.Inside.Underway.{ran_by}
 use Rattle.sja_threads.proofs.Due.{due_stays, due_kept, due_more, due_now}
 use Rattle.sja_threads.proofs.Within.{within_items, items_grow, within_bit, bit_grows}
 

@@ -69,15 +69,16 @@ abbrev pub TryLeads : Registers → Step → Tried → ℕ → SettingsValue →
 TryLeads p which o bits set set_now before = (first : SettingsValue) → LeadTo first before set →
     LeadTo first (before ++ deeds_by p which o bits) set_now
 
-leads_try : {E : Type 0} (stands : E → Lists → Type 0) (dry full : E → Type 0) (e f : E) (p q : Registers)
+leads_try : {E : Type 0} (same : E → E → Type 0) (stands : E → Lists → Type 0) (dry full : E → Type 0) (e f : E) (p q :
+    Registers)
     (which : Step) (was now : AnyDriver) (o : Tried) (bits : ℕ) (set set_now : SettingsValue) → bits ≡ 0 →
     HasSettings p set → (is_met o ≡ true → set_now ≡ settings_in q) → (is_met o ≡ false → set_now ≡ set) →
-    Acts stands dry full e f p q which was now o → (before : List Deed) → is_active before ≡ is_out was →
+    Acts same stands dry full e f p q which was now o → (before : List Deed) → is_active before ≡ is_out was →
     TryLeads p which o bits set set_now before
-leads_try stands dry full e f p q which was now Unmet bits set set_now none has met unmet a before out first l =
+leads_try same stands dry full e f p q which was now Unmet bits set set_now none has met unmet a before out first l =
     subst (λ (s : SettingsValue). LeadTo first (before ++ []) s) (sym (unmet refl))
     (subst (λ (x : List Deed). LeadTo first x set) (sym (append-nil before)) l)
-leads_try stands dry full e f p q which was now (Answered answer) bits set set_now none has met unmet a before out
+leads_try same stands dry full e f p q which was now (Answered answer) bits set set_now none has met unmet a before out
     first l =
     subst (λ (s : SettingsValue). LeadTo first (before ++ deeds_by p which (Answered answer) bits) s)
     (sym (met refl ∙ ap settings_in a.port))
@@ -90,7 +91,8 @@ leads_try stands dry full e f p q which was now (Answered answer) bits set set_n
       gave = refl;
       bits = none;
     }))
-leads_try stands dry full e f p q which was now (Released m) bits set set_now none has met unmet a before out first l =
+leads_try same stands dry full e f p q which was now (Released m) bits set set_now none has met unmet a before out first
+    l =
     subst (λ (s : SettingsValue). LeadTo first (before ++ deeds_by p which (Released m) bits) s)
     (sym (met refl ∙ ap settings_in a.port))
     (step_done before _ set p l has (record {
@@ -103,14 +105,15 @@ leads_try stands dry full e f p q which was now (Released m) bits set set_now no
       gave = refl;
       bits = none;
     }))
-leads_try stands dry full e f p q which was now (Ended ledger) bits set set_now none has met unmet a before out
+leads_try same stands dry full e f p q which was now (Ended ledger) bits set set_now none has met unmet a before out
     first l =
     subst (λ (s : SettingsValue). LeadTo first (before ++ deeds_by p which (Ended ledger) bits) s)
     (sym (met refl ∙ ap settings_in a.port))
     (step_done before _ set p l has (record {
       window = held_by ledger;
       off = knows_off ledger;
-      tells = subst (λ (s : Step). Tells s (is_active before) p (seen_of (knows_off ledger) (held_by ledger)) DoneAnswer)
+      tells = subst (λ (s : Step). Tells s (is_active before) p (seen_of (knows_off ledger) (held_by ledger))
+          DoneAnswer)
           (sym a.kind) tt;
       sees = λ active. if_out was (Sees which (knows_off ledger) (held_by ledger) DoneAnswer) a.sees
           (sym out ∙ active);
@@ -198,7 +201,9 @@ module _ {E : Type 0} (link : E → LinkId) (same : E → E → Type 0) (stands 
     deeds = deeds_by p which st.tried 0;
     are = steps_of p which st.tried 0 ∙ ap (λ (m : Bool). if m then which ∷ [] else []) (sym st.met) ∙ same_steps;
     goes = st.goes;
-    leads = λ first before w. leads_try stands dry full _ _ p q which (driver_of a) (driver_of b) st.tried 0 s v refl has
+    leads = λ first before w. leads_try same stands dry full _ _ p q which (driver_of a) (driver_of b) st.tried 0 s v
+        refl
+        has
         (λ m. met (st.met ∙ m)) (λ m. unmet (st.met ∙ m)) (st.acts e e) before w.out first;
     sames = stays.same;
     node = stays.node;

@@ -24,8 +24,8 @@ use Rattle.sja_threads.specs.Setting.{LeadTo}
 
 -- of one node, when its driver and the bus have ended: what its driver had set first, its journal, what its driver
 -- handed back, and the bus's ends of its eight links, from this place on
-pub record IsOverAt (set : SettingsValue) (steps : List Step) (node : ℕ) (j : List Entry) (deeds : List Deed) (w : Worked RingDriver)
-    (links : List RingBus) (base : ℕ) : Type 0 where
+pub record IsOverAt (set : SettingsValue) (steps : List Step) (node : ℕ) (j : List Entry) (deeds : List Deed)
+    (w : Worked RingDriver) (links : List RingBus) (base : ℕ) : Type 0 where
   -- its driver did these deeds, of these steps
   pub own : node_of w.driver ≡ node
   pub lawful : IsLawful w.driver
@@ -55,7 +55,8 @@ pub record IsOver (plan : PlanValue) (bus : BusValue) (links : List RingBus) (wo
   pub workeds_count : length workeds ≡ length plan.nodes
   pub deeds_count : length deeds ≡ length plan.nodes
   pub nodes : (node : ℕ) (w : Worked RingDriver) → node < length plan.nodes →
-      IsOverAt (settings_in (at_power_on plan.version)) (steps_at plan node) node (journal_at bus.journals node) (deeds_at deeds node)
+      IsOverAt (settings_in (at_power_on plan.version)) (steps_at plan node) node (journal_at bus.journals node)
+      (deeds_at deeds node)
       (slice_index_or workeds node w) links (8 * node)
 
 -- there are such deeds

@@ -17,8 +17,8 @@ pub record WorksAt (j : List Entry) (bits : ℕ) : Type 0 where
   pub many : length (bits_of before) ≡ bits
   pub works : IsWorking (record_of before)
 
--- after so many bits one more was due: there is such a place in some node's journal, after the entry of the last of them
--- and before that of the next one
+-- after so many bits one more was due: there is such a place in some node's journal, after the entry of the last of
+-- them and before that of the next one
 abbrev pub IsDue : ℕ → List (List Entry) → Type 0
 IsDue bits journals = (node : ℕ) × (node < length journals) × WorksAt (journal_at journals node) bits
 

@@ -1,6 +1,6 @@
--- What the steps of a driver in a thread of its own answer by, and what they set (this project's own rule). The bus goes
--- on meanwhile, so status, interrupts, captures and counters may be any at each step; what the driver alone sets is
--- what its steps have set.
+-- What the steps of a driver in a thread of its own answer by, and what they set (this project's own rule). The bus
+-- goes on meanwhile, so status, interrupts, captures and counters may be any at each step; what the driver alone sets
+-- is what its steps have set.
 use Rattle.std.specs.Prelude.{◌≡◌, ◌++◌, ℕ, Bool, true, List, [], ◌∷◌}
 use Rattle.sja_link.specs.Showing.{seen_of}
 use Rattle.sja_regs.specs.declared.registers.Registers.{Registers}

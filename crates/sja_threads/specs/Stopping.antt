@@ -20,8 +20,8 @@ HasNoPlace b = places_down b ≡ 0
 abbrev pub any_orders : ℕ → Orders → Type 0
 any_orders node orders = Unit {0}
 
--- the bus of a run of this plan, without a fault so far, stopped with this one: it didn't take an item of a driver, or a
--- bit didn't come to its end; it isn't that the bits were spent
+-- the bus of a run of this plan, without a fault so far, stopped with this one: it didn't take an item of a driver, or
+-- a bit didn't come to its end; it isn't that the bits were spent
 pub record StopsFor (plan : PlanValue) (f : BusFault) : Type 0 where
   pub was : BusValue
   pub now : BusValue

@@ -13,8 +13,8 @@ use Rattle.sja_threads.specs.Needed.{IsNeeded}
 use Rattle.sja_threads.specs.Setting.{LeadTo}
 
 -- of its drivers there are deeds by which it is what every run is; each step of a driver is done with what the steps
--- before it have set, from power-on; some order of events leads to what the link of each activation carried; each of its
--- bits was due, and it ended duly; and where no gate quits every driver did all its steps
+-- before it have set, from power-on; some order of events leads to what the link of each activation carried; each of
+-- its bits was due, and it ended duly; and where no gate quits every driver did all its steps
 pub record IsThreadedRun (plan : PlanValue) (log : RunValue) (quits : Bool) : Type 0 where
   pub deeds : List (List Deed)
   pub run : IsRun plan log deeds

@@ -32,7 +32,8 @@ fn try_at_port<D: DriverEnd>(
     requires { MayWork D.link driver.old links.old 1 }
     ensures done { result ≡ true →
         DoesSteps D.link D.same D.stands driver.old driver.new set.old set.new links.old links.new (step.now ∷ []) }
-    ensures waits { result ≡ false → DoesSteps D.link D.same D.stands driver.old driver.new set.old set.new links.old links.new [] }
+    ensures waits { result ≡ false →
+        DoesSteps D.link D.same D.stands driver.old driver.new set.old set.new links.old links.new [] }
 {
     let mut held = port.lock(rt);
     held.restore(set);
@@ -56,7 +57,8 @@ fn try_step<D: DriverEnd>(
     requires { MayWork D.link driver.old links.old 1 }
     ensures done { result ≡ true →
         DoesSteps D.link D.same D.stands driver.old driver.new set.old set.new links.old links.new (step.now ∷ []) }
-    ensures waits { result ≡ false → DoesSteps D.link D.same D.stands driver.old driver.new set.old set.new links.old links.new [] }
+    ensures waits { result ≡ false →
+        DoesSteps D.link D.same D.stands driver.old driver.new set.old set.new links.old links.new [] }
 {
     match step {
         Step::Window => driver.step_window(links, 0, 0),
@@ -78,7 +80,8 @@ fn try_if<D: DriverEnd>(
     requires { MayWork D.link driver.old links.old 1 }
     ensures done { result ≡ true →
         DoesSteps D.link D.same D.stands driver.old driver.new set.old set.new links.old links.new (step.now ∷ []) }
-    ensures waits { result ≡ false → DoesSteps D.link D.same D.stands driver.old driver.new set.old set.new links.old links.new [] }
+    ensures waits { result ≡ false →
+        DoesSteps D.link D.same D.stands driver.old driver.new set.old set.new links.old links.new [] }
 {
     match pass {
         Pass::Go => try_step(rt, driver, set, links, port, step),
@@ -101,7 +104,8 @@ fn do_step<D: DriverEnd, G: Gate>(
     requires { MayWork D.link driver.old links.old 1 }
     ensures done { result ≡ true →
         DoesSteps D.link D.same D.stands driver.old driver.new set.old set.new links.old links.new (step.now ∷ []) }
-    ensures quits { result ≡ false → DoesSteps D.link D.same D.stands driver.old driver.new set.old set.new links.old links.new [] }
+    ensures quits { result ≡ false →
+        DoesSteps D.link D.same D.stands driver.old driver.new set.old set.new links.old links.new [] }
     ensures never { G.QUITS ≡ false → result ≡ true }
 {
     let parker = Parker::new();

@@ -21,7 +21,7 @@ bit-requires-clause-ports c =
 
 pub loop-preserved : goal.loop-preserved
 loop-preserved c =
-    let i = c.loop.invariant in let q = c.quiet_bits.ensures in let e = c.bit.ensures in
+    let i = c.loop.invariant in let q = c.quiet_bits.ensures in let e = c.bit.ensures.keeps in
     let before = c.loop.links in let between = c.quiet_bits.new.links in let after = c.bit.new.links in
     let same : Deques → Deques → Type 0 = λ x y. y.link ≡ x.link in
     let first : length between ≡ length before = AllZip-long same before between q.sames in

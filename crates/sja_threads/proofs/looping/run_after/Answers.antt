@@ -60,7 +60,8 @@ returns-in_default-clause-out g c =
     let r = c.loop-now.invariant.run in
     let e = c.gather.ensures in
     let o = c.in_ok-gather.ensures in
-    let d = due_gather c.args.plan.now c.loop-now.bus c.gather.new.self c.loop-now.links c.gather.new.links r.way o.right
+    let d = due_gather c.args.plan.now c.loop-now.bus c.gather.new.self c.loop-now.links c.gather.new.links r.way
+    o.right
     e.script e.nodes e.sames o.kept o.items in
     out_spent c.args.plan.now c.loop-now.now c.loop-now.bus.journals c.bit_if_due.new.bus c.bit_if_due.new.links
     (r.all (search rules)) (λ bits due. c.in_ok-bit_if_due.ensures.due bits (d bits due)) _ c.in-Rests.is

@@ -42,8 +42,8 @@ returns-clause-moved g c =
 pub returns-clause-due : goal.returns-clause-due
 returns-clause-due g c =
     let w = c.requires.way in let e = c.bit.ensures in let o = c.in_ok-bit.ensures in
-    due_bit c.args.plan.now c.args.bus.now c.bit.new.self c.args.links.now c.bit.new.links w o.right e.script e.nodes
-    e.sames o.kept _ _ _ o.bit
+    due_bit c.args.plan.now c.args.bus.now c.bit.new.self c.args.links.now c.bit.new.links w o.bit.right e.keeps.script
+    e.keeps.nodes e.keeps.sames o.bit.kept _ _ _ o.bit.bit
 
 pub returns-in_err-bit-clause-fault : goal.returns-in_err-bit-clause-fault
 returns-in_err-bit-clause-fault g c =

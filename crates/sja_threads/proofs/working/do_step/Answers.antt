@@ -13,7 +13,8 @@ try_if-requires g c = c.loop.invariant.none.able 1 c.requires
 pub returns-then-try_if-clause-done : goal.returns-then-try_if-clause-done
 returns-then-try_if-clause-done g c = λ met. let E = g.D.DriverEnd in
     does_more E.link E.same E.stands g.met.D.DriverEnd.same_trans c.args.driver.now c.loop.driver c.try_if.new.driver
-    c.args.set.now c.loop.set c.try_if.new.set c.args.links.now c.loop.links c.try_if.new.links [] (c.args.step.now ∷ [])
+    c.args.set.now c.loop.set c.try_if.new.set c.args.links.now c.loop.links c.try_if.new.links [] (c.args.step.now ∷
+    [])
     c.loop.invariant.none (c.try_if.ensures.done c.if-try_if.true)
 
 pub loop-preserved : goal.loop-preserved

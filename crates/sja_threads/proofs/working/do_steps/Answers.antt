@@ -23,7 +23,8 @@ do_step-requires-after_bounds g c κs within = let E = g.D.DriverEnd in
 pub returns-then-not-do_step-clause-done : goal.returns-then-not-do_step-clause-done
 returns-then-not-do_step-clause-done g c = let E = g.D.DriverEnd in
     does_no_more E.link E.same E.stands g.met.D.DriverEnd.same_trans c.args.driver.now c.loop-k.driver
-    c.do_step.new.driver c.args.set.now c.loop-k.set c.do_step.new.set c.args.links.now c.loop-k.links c.do_step.new.links (take c.loop-k.k c.args.steps.now)
+    c.do_step.new.driver c.args.set.now c.loop-k.set c.do_step.new.set c.args.links.now c.loop-k.links
+    c.do_step.new.links (take c.loop-k.k c.args.steps.now)
     c.loop-k.invariant.done (c.do_step.ensures.quits c.if-not-do_step.true)
 
 pub loop-k-preserved : goal.loop-k-preserved
@@ -34,7 +35,8 @@ loop-k-preserved g c = let E = g.D.DriverEnd in
           c.args.set.now c.do_step.new.set c.args.links.now c.do_step.new.links l)
           (take_next c.loop-k.k c.args.steps.now s s (omega (arith, few)) c.index-steps-k.is)
           (does_more E.link E.same E.stands g.met.D.DriverEnd.same_trans c.args.driver.now c.loop-k.driver
-          c.do_step.new.driver c.args.set.now c.loop-k.set c.do_step.new.set c.args.links.now c.loop-k.links c.do_step.new.links
+          c.do_step.new.driver c.args.set.now c.loop-k.set c.do_step.new.set c.args.links.now c.loop-k.links
+          c.do_step.new.links
           (take c.loop-k.k c.args.steps.now) (s ∷ [])
           c.loop-k.invariant.done (c.do_step.ensures.done c.if-not-do_step.false));
     }

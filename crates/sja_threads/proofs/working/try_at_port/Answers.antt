@@ -19,4 +19,5 @@ returns-clause-done g c = λ met. let E = g.D.DriverEnd in let s = c.step in
     s.new.links c.deref_mut-2.result.now s.new.port c.args.step.now s.result
     (any_of c.args.links.now c.requires.eight)
     (subst (λ (p : Registers). HasSettings p set) (sym c.deref_mut-2.ensures.value) c.restore.ensures.has)
-    (λ e. c.settings.ensures ∙ ap settings_in c.deref.ensures) (λ e. absurd (let x : true ≡ false = sym yes ∙ e in cc)) yes s.ensures.stays s.ensures.steps
+    (λ e. c.settings.ensures ∙ ap settings_in c.deref.ensures) (λ e. absurd (let x : true ≡ false = sym yes ∙ e in cc))
+    yes s.ensures.stays s.ensures.steps

@@ -21,5 +21,6 @@ returns-clause-worked g c = let E = g.D.DriverEnd in let first = c.new-driver in
 pub returns-clause-done : goal.returns-clause-done
 returns-clause-done g c = λ never. let E = g.D.DriverEnd in
     all_done E.link E.same E.stands c.args.steps.now c.do_steps.result c.new-driver.result c.do_steps.new.driver
-    c.args.set c.do_steps.new.set c.as_mut_slice.result.now c.do_steps.new.links c.new-driver.ensures.traces c.do_steps.ensures.done
+    c.args.set c.do_steps.new.set c.as_mut_slice.result.now c.do_steps.new.links c.new-driver.ensures.traces
+    c.do_steps.ensures.done
     (c.do_steps.ensures.all never)
