@@ -7,5 +7,7 @@ pub mod Givings
 pub mod Ordering
 pub mod Windows
 pub mod Moments
+pub mod Fronts
+pub mod AbortsFirst
 pub mod Turning
 pub mod Logs

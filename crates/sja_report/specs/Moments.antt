@@ -1,8 +1,11 @@
 -- A journal at an earlier moment of its run (this project's own rule).
-use Rattle.std.specs.Prelude.{ℕ, zero, suc, List, [], ◌∷◌, length}
+use Rattle.std.specs.Prelude.{◌≡◌, ◌≤◌, ℕ, zero, suc, List, [], ◌∷◌, ◌++◌, length}
+use Rattle.can_bits.specs.declared.level.Level.{Level}
 use Rattle.sja_link.specs.NodeWords.{NodeEntry}
 use Rattle.sja_link.specs.declared.entry.Entry.{Entry}
 use Rattle.sja_link.specs.declared.entry.Entry.TheVariants.{Bit, Up as Item, Abort, Stored, Overrun, Off}
+use Rattle.sja_link.specs.Carried.{bits_of, taken_of}
+use Rattle.sja_link.specs.Picking.{EachAfter}
 use Rattle.sja_link.specs.Records.{record_of}
 use Rattle.sja_driver.specs.Deeds.{Deed, given_in}
 
@@ -23,3 +26,29 @@ at_moment bits items (Off ∷ j) = Off ∷ at_moment bits items j
 -- the node's record after so many bits, when all that these deeds gave was taken
 abbrev pub record_at : List Entry → List Deed → ℕ → List NodeEntry
 record_at j before bits = record_of (at_moment bits (length (given_in before)) j)
+
+-- ---- the same, as a front of the journal
+
+-- an entry is later than so many bits and items, if these came before it: a bit, or an abort before one, where all these
+-- bits have come; an item, where all these items have; a verdict and bus-off never
+abbrev pub IsLater : ℕ → ℕ → List Entry → Entry → Type 0
+IsLater bits items before (Bit driven seen) = bits ≤ length (bits_of before)
+IsLater bits items before Abort = bits ≤ length (bits_of before)
+IsLater bits items before (Item item) = items ≤ length (taken_of before)
+IsLater bits items before (Stored m) = ⊥
+IsLater bits items before (Overrun m) = ⊥
+IsLater bits items before Off = ⊥
+
+-- a front of a journal, up to its first later entry, if it has one
+pub record IsFront (bits items : ℕ) (j front : List Entry) : Type 0 where
+  pub rest : List Entry
+  pub whole : j ≡ front ++ rest
+  pub early : EachAfter (λ before e. ¬ IsLater bits items before e) [] front
+  pub ends : (e : Entry) (more : List Entry) → rest ≡ e ∷ more → IsLater bits items front e
+
+-- the next entry is a bit
+pub record BeginsWithBit (j : List Entry) : Type 0 where
+  pub driven : Level
+  pub seen : Level
+  pub rest : List Entry
+  pub whole : j ≡ Bit driven seen ∷ rest

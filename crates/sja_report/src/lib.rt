@@ -23,8 +23,8 @@ mod words;
 pub use activation_log::ActivationLog;
 pub use end::End;
 pub use laws::{
-    a_bus_with_traced_drivers_is_a_run, a_log_says_what_was_got_and_given,
-    a_settled_node_has_the_headline,
+    a_bus_with_traced_drivers_is_a_run, a_log_says_what_was_got_and_given, a_moment_is_a_front,
+    a_settled_node_has_the_headline, an_abort_stands_right_before_a_bit,
 };
 pub use node_run::NodeRun;
 pub use reporting::report;
