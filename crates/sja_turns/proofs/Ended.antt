@@ -121,8 +121,11 @@ module _ (plan : PlanValue) (r : SerialValue) (deeds : List (List Deed)) (end : 
     in_time_there = subst (λ (j : List Entry). IsInTime plan.version j (deeds_at deeds k)) (sym same) node_is.in_time
 
     registers_there : (p : Registers) × LeadTo plan.version (slice_index_or log.nodes k n).journal (deeds_at deeds k) p
-    registers_there = (slice_index_or r.ports k (at_power_on 1), subst (λ (j : List Entry). LeadTo plan.version j
-        (deeds_at deeds k) (slice_index_or r.ports k (at_power_on 1))) (sym same) node_is.registers)
+    registers_there = (
+      slice_index_or r.ports k (at_power_on 1),
+      subst (λ (j : List Entry). LeadTo plan.version j
+          (deeds_at deeds k) (slice_index_or r.ports k (at_power_on 1))) (sym same) node_is.registers,
+    )
 
   pub log_of_run : IsLogOf plan r deeds end log
   log_of_run = record {

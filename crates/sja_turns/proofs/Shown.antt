@@ -141,7 +141,7 @@ pub as_told : (untold : Bool) (j opened : List Entry) (p q : Registers) (turn : 
     (q ≡ after_turn p turn) ⊎ IsPassedOver (q ≡ p) untold j opened turn → (untold ≡ false → ShowsRecord j p) →
     q ≡ after_turn p turn
 as_told untold j opened p q turn port shown =
-    elim port [ | inl told ↦ told | inr over ↦ passed_over untold j opened p q turn over shown ]
+    elim port [ inl told ↦ told | inr over ↦ passed_over untold j opened p q turn over shown ]
 
 -- ---- after a step that gave nothing
 
