@@ -35,11 +35,13 @@ few_waving : (before after : Option (List ℕ)) (text : List ℕ) → IsWaving b
 few_waving before after text waves = (waves.0, waves.1.0, waves.1.1)
 
 -- there is a report of a run in threads
-pub few_running_threads : (before after : Option (List ℕ)) (text : List ℕ) → IsRunningThreads before after text → ReadsFew before after
+pub few_running_threads : (before after : Option (List ℕ)) (text : List ℕ) → IsRunningThreads before after text →
+    ReadsFew before after
 few_running_threads before after text runs = (runs.0, runs.1.0, runs.1.1)
 
 -- there is none
-few_refused : (May : PlanValue → RunFault → Type 0) (before after : Option (List ℕ)) (r : Refusal) → RefusesBy May before after r → ReadsFew before after
+few_refused : (May : PlanValue → RunFault → Type 0) (before after : Option (List ℕ)) (r : Refusal) → RefusesBy May
+    before after r → ReadsFew before after
 few_refused May before after refusal.OutOfMemory h = h
 few_refused May before after refusal.Read h = (h.0, h.1, omega arith)
 few_refused May before after (refusal.Plan fault) h = (h.0, h.1.0, h.1.1)
@@ -49,11 +51,13 @@ few_refused May before after refusal.NotALine h = absurd h
 few_refused May before after (refusal.Layout fault) h = absurd h
 few_refused May before after (refusal.Line fault) h = absurd h
 
-pub few_refused_threads : (before after : Option (List ℕ)) (r : Refusal) → RefusesThreads before after r → ReadsFew before after
+pub few_refused_threads : (before after : Option (List ℕ)) (r : Refusal) → RefusesThreads before after r → ReadsFew
+    before after
 few_refused_threads before after r h = few_refused IsFaultOf before after r h
 
 -- what is refused before any run is refused of each
-pub refused_threads : (before after : Option (List ℕ)) (r : Refusal) → RefusesRun before after r → RefusesThreads before after r
+pub refused_threads : (before after : Option (List ℕ)) (r : Refusal) → RefusesRun before after r → RefusesThreads before
+    after r
 refused_threads before after refusal.OutOfMemory h = h
 refused_threads before after refusal.Read h = h
 refused_threads before after (refusal.Plan fault) h = h
@@ -77,9 +81,9 @@ few_printed r before after text (inr same) printed = subst (ReadsFew before) (sy
 pub few_turned_down : (r : Request) (before after : Option (List ℕ)) (why : Refusal) → AsksForRun r ⊎ (after ≡ before) →
     IsRefused r before after why → ReadsFew before after
 few_turned_down r before after why (inl (inl is)) refused =
-    few_refused (λ fault. fault ≡ Memory) before after why (subst (λ q. IsRefused q before after why) is refused)
+    few_refused (λ plan fault. fault ≡ Memory) before after why (subst (λ q. IsRefused q before after why) is refused)
 few_turned_down r before after why (inl (inr is)) refused =
-    few_refused (λ fault. fault ≡ Memory) before after why (subst (λ q. IsRefused q before after why) is refused)
+    few_refused (λ plan fault. fault ≡ Memory) before after why (subst (λ q. IsRefused q before after why) is refused)
 few_turned_down r before after why (inr same) refused = subst (ReadsFew before) (sym same) (unread before)
 
 -- words that ask for no run leave the input as it is
