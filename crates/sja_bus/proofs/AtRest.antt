@@ -31,7 +31,7 @@ use Rattle.sja_regs.specs.declared.orders.Orders.{Orders}
 use Rattle.sja_regs.specs.declared.bus_turn.BusTurn.{BusTurn}
 use Rattle.sja_bus.specs.declared.seat.Seat.{Seat}
 use Rattle.sja_bus.specs.Aborting.{changes, IsApplied}
-use Rattle.sja_bus.specs.OneBit.{HasAbort, Opens}
+use Rattle.sja_bus.specs.OneBit.{MayHaveAbort, Opens}
 use Rattle.sja_bus.specs.Stretches.{recessive_bits}
 use Rattle.sja_bus.specs.Inside.Following.{Follows}
 use Rattle.sja_bus.specs.Inside.Seats.{IsSound, IsReady}
@@ -167,7 +167,7 @@ turns_after was_told was_kept n s kept ready rest =
     })
 
 -- nothing is taken before it, and no abort changes the node
-abbrev no_abort : (j : List Entry) → HasAbort j j
+abbrev no_abort : (j : List Entry) → MayHaveAbort j j
 no_abort j = record { changed = false; whole = sym (append-nil j) }
 
 pub opens_after : (has_orders : Orders → Type 0) (n : ℕ) (s : Seat) (o : Orders) → has_orders o → IsReady s → IsResting s →

@@ -20,7 +20,7 @@ use Rattle.sja_link.specs.Verdicts.{filter_of, PassesAny, IsDue, entry_of}
 use Rattle.sja_link.specs.Gathering.{total}
 use Rattle.sja_link.proofs.Freeing.{total_append}
 use Rattle.sja_link.proofs.Entering.{gathered_push, gathered_append}
-use Rattle.sja_bus.specs.OneBit.{IsRead, AreRead, HasItems, HasAbort, abort_as, entries_of_items, judged_as, off_as, HasBit, AreInOrder}
+use Rattle.sja_bus.specs.OneBit.{IsRead, AreRead, MayHaveItems, MayHaveAbort, abort_as, entries_of_items, judged_as, off_as, HasBit, AreInOrder}
 use Rattle.sja_bus.specs.OutOfOrder.{IsOutOfOrder}
 use Rattle.sja_bus.specs.Inside.Following.{Follows, FollowsBit}
 use Rattle.sja_bus.specs.declared.brought.Brought.{Brought}
@@ -79,7 +79,7 @@ bits_has j k x seen h =
     ap bits_of h.whole ∙ bits_none ((j ++ Bit x seen ∷ []) ++ judged_as h.verdict) (off_as h.off) (off_no_bit h.off)
     ∙ bits_none (j ++ Bit x seen ∷ []) (judged_as h.verdict) (judged_no_bit h.verdict) ∙ bits_bit j x seen
 
-pub bits_items : (j k : List Entry) → HasItems j k → bits_of k ≡ bits_of j
+pub bits_items : (j k : List Entry) → MayHaveItems j k → bits_of k ≡ bits_of j
 bits_items j k h = ap bits_of h.whole ∙ bits_none j (entries_of_items h.items) (items_no_bit h.items)
 
 -- a bit alone, with a verdict, and with bus-off after that
@@ -111,7 +111,7 @@ rest_brings (Ok brought) j after x seen e h =
 rest_brings (Err fault) j after x seen e h = tt
 
 -- items one after another
-pub items_none : (j : List Entry) → HasItems j j
+pub items_none : (j : List Entry) → MayHaveItems j j
 items_none j = record { items = []; whole = sym (append-nil j); read = tt; in_order = tt }
 
 items_end : (items : List Up) (u : Up) → entries_of_items (items ++ u ∷ []) ≡ entries_of_items items ++ Item u ∷ []
@@ -130,7 +130,7 @@ order_end j (v ∷ items) u due h = (
   order_end (j ++ Item v ∷ []) items u (subst (λ (l : List Entry). IsOutOfOrder l u → ⊥) (sym (append_assoc j (Item v ∷ []) (entries_of_items items))) due) h.1,
 )
 
-pub items_push : (j k after : List Entry) (u : Up) → after ≡ k ++ Item u ∷ [] → IsRead k u → (IsOutOfOrder k u → ⊥) → HasItems j k → HasItems j after
+pub items_push : (j k after : List Entry) (u : Up) → after ≡ k ++ Item u ∷ [] → IsRead k u → (IsOutOfOrder k u → ⊥) → MayHaveItems j k → MayHaveItems j after
 items_push j k after u e r due h = record {
   in_order = order_end j h.items u (subst (λ (l : List Entry). IsOutOfOrder l u → ⊥) h.whole due) h.in_order;
   items = h.items ++ u ∷ [];
@@ -142,7 +142,7 @@ abort_no_bit : (changed : Bool) → bits_of (abort_as changed) ≡ []
 abort_no_bit true = refl
 abort_no_bit false = refl
 
-pub bits_abort : (j k : List Entry) → HasAbort j k → bits_of k ≡ bits_of j
+pub bits_abort : (j k : List Entry) → MayHaveAbort j k → bits_of k ≡ bits_of j
 bits_abort j k h = ap bits_of h.whole ∙ bits_none j (abort_as h.changed) (abort_no_bit h.changed)
 
 -- ---- of two ways to say what was taken and aborted both say whether an abort changed the node
@@ -173,12 +173,12 @@ number_once true false e = absurd (omega (arith, e))
 number_once false true e = absurd (omega (arith, e))
 number_once false false e = refl
 
-aborts_added : (j t k : List Entry) → HasItems j t → (h : HasAbort t k) → total aborts_in k ≡ total aborts_in j + as_number h.changed
+aborts_added : (j t k : List Entry) → MayHaveItems j t → (h : MayHaveAbort t k) → total aborts_in k ≡ total aborts_in j + as_number h.changed
 aborts_added j t k items h =
     let a = ap (total aborts_in) h.whole ∙ total_append aborts_in t (abort_as h.changed) in
     let b = ap (total aborts_in) items.whole ∙ total_append aborts_in j (entries_of_items items.items) in
     let c = items_abort_none items.items in let d = abort_number h.changed in omega (arith, a, b, c, d)
 
-pub changed_once : (j t u k : List Entry) → HasItems j t → (h : HasAbort t k) → HasItems j u → (g : HasAbort u k) → h.changed ≡ g.changed
+pub changed_once : (j t u k : List Entry) → MayHaveItems j t → (h : MayHaveAbort t k) → MayHaveItems j u → (g : MayHaveAbort u k) → h.changed ≡ g.changed
 changed_once j t u k items h others g =
     let a = aborts_added j t k items h in let b = aborts_added j u k others g in number_once h.changed g.changed (omega (arith, a, b))

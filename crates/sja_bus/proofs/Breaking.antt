@@ -16,9 +16,9 @@ use Rattle.sja_bus.specs.Wire.{journal_at}
 use Rattle.sja_bus.specs.Links.{Kept, Goes, Moves}
 use Rattle.sja_bus.specs.OutOfOrder.{HasOff}
 use Rattle.sja_bus.specs.Aborting.{IsApplied}
-use Rattle.sja_bus.specs.OneBit.{HasItems, Opens}
+use Rattle.sja_bus.specs.OneBit.{MayHaveItems, Opens}
 use Rattle.sja_bus.specs.OutOfRoom.{IsOutOfRoom}
-use Rattle.sja_bus.specs.Reasons.{IsBrokenFor, IsNotTaken, IsNotAborted, IsBrokenOff, StopsBit, room_for}
+use Rattle.sja_bus.specs.Reasons.{IsBrokenFor, IsTakenAndRefused, IsNotAborted, IsBrokenOff, StopsBit, room_for}
 use Rattle.sja_bus.specs.Reasons.StopsBit.{not_taken as not_taken_bit, not_aborted as not_aborted_bit, broken_off as broken_off_bit}
 use Rattle.sja_bus.specs.Inside.Taking.{BreaksHere, BreaksBy, IsFull, FullForAbort}
 use Rattle.sja_bus.specs.Inside.Refusing.{HaveRoom, SeatRefuses, SeatFull, SeatBreaks, SeatStops}
@@ -31,13 +31,13 @@ use Rattle.sja_bus.proofs.Running.{journal_is, count_is}
 
 -- an abort's entry found no room, after items were taken
 pub full_for_abort : {E : Type 0} (same : E → E → Type 0) (stands : E → Lists → Type 0) (old mid new : Seat) (links after : List E) (base : ℕ) (f : BusFault) →
-    (link_of mid.ledger).node ≡ (link_of old.ledger).node → mid.journal.room ≡ old.journal.room → HasItems old.journal.entries mid.journal.entries →
+    (link_of mid.ledger).node ≡ (link_of old.ledger).node → mid.journal.room ≡ old.journal.room → MayHaveItems old.journal.entries mid.journal.entries →
     Goes same stands old.journal.entries mid.journal.entries links after base → (has_orders : Orders → Type 0) (orders : Orders) → has_orders orders → orders.abort ≡ true →
     IsApplied mid.journal.entries true → IsFull mid new f → FullForAbort stands has_orders old new links after base f
 full_for_abort same stands old mid new links after base f node room items goes has_orders orders are ordered due full =
     let n : length new.journal.entries ≡ length mid.journal.entries = ap (λ (l : List Entry). length l) full.same in
     let no = full.full in
-    let P : List Entry → Type 0 = λ l. HasItems old.journal.entries l in record {
+    let P : List Entry → Type 0 = λ l. MayHaveItems old.journal.entries l in record {
       is = full.is ∙ ap (λ k. JournalFull k) node;
       items = subst P (sym full.same) items;
       orders = orders;
@@ -201,8 +201,8 @@ not_aborted stands orders_are bits (s ∷ seats) after links links_after f len r
     let full = r.full s in let room = rooms k s few in let no = full.full in
     let was = journal_is all k s few in let now = journal_is after k s (omega (arith, few, len)) in
     let n : length (journal_at (journals_of after) k) ≡ length (slice_index_or after k s).journal.entries = ap (λ (l : List Entry). length l) now in
-    let P : List Entry → Type 0 = λ j. HasItems j (journal_at (journals_of after) k) in
-    let Q : List Entry → Type 0 = λ j. HasItems (slice_index_or all k s).journal.entries j in record {
+    let P : List Entry → Type 0 = λ j. MayHaveItems j (journal_at (journals_of after) k) in
+    let Q : List Entry → Type 0 = λ j. MayHaveItems (slice_index_or all k s).journal.entries j in record {
       node = k;
       few = omega (arith, few, cb);
       is = r.is;
@@ -247,8 +247,8 @@ pub stops_bit : {E : Type 0} (same : E → E → Type 0) (stands : E → Lists �
 stops_bit {E} same stands full orders_are script run left bits fault seats after links links_after f now journals all len rooms r = elim r [
   | inl opening ↦ elim opening [
     | inl refused ↦
-        let N : ℕ → Type 0 = λ n. IsNotTaken stands n (journals_of seats) (journals_of after) links links_after f in
-        let J : List (List Entry) → Type 0 = λ l. IsNotTaken stands (run + left) (journals_of seats) l links links_after f in
+        let N : ℕ → Type 0 = λ n. IsTakenAndRefused stands n (journals_of seats) (journals_of after) links links_after f in
+        let J : List (List Entry) → Type 0 = λ l. IsTakenAndRefused stands (run + left) (journals_of seats) l links links_after f in
         not_taken_bit (subst J (sym journals) (subst N (sym all) (not_taken stands bits seats after links links_after f len rooms refused)))
     | inr aborting ↦
         let N : ℕ → Type 0 = λ n. IsNotAborted stands orders_are n (journals_of seats) (journals_of after) links links_after f in

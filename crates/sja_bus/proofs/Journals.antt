@@ -15,7 +15,7 @@ use Rattle.sja_bus.specs.declared.seat.Seat.{Seat}
 use Rattle.sja_bus.specs.StrikesByBit.{IsAmong}
 use Rattle.sja_bus.specs.Wire.{wired, journal_at, IsWired}
 use Rattle.sja_bus.specs.Links.{Kept, stops_of}
-use Rattle.sja_bus.specs.OneBit.{HasItems, Opens}
+use Rattle.sja_bus.specs.OneBit.{MayHaveItems, Opens}
 use Rattle.sja_bus.specs.Telling.{SaysAlone, IsPassedOver, IsUntold}
 use Rattle.sja_bus.specs.Buses.{EachJournal, EachUntold, KeepsAll, AllDry, untold_at, IsNodeBit, IsBit}
 use Rattle.sja_bus.specs.declared.news.News.TheVariants.{Nothing, Changed, Dropped}
@@ -35,13 +35,13 @@ keeps_all same stands (s ∷ seats) after links links_after len goes = λ node h
     let Q : List Entry → Type 0 = λ j. Kept stands j links_after (8 * node) h in
     subst Q (sym (journal_is after node s (omega (arith, near, len)))) (goes.kept node s h near (subst P (journal_is all node s near) kept))
 
-pub all_items : (seats after : List Seat) → length after ≡ length seats → EachSeat SeatTakes seats after → EachJournal HasItems (journals_of seats) (journals_of after)
+pub all_items : (seats after : List Seat) → length after ≡ length seats → EachSeat SeatTakes seats after → EachJournal MayHaveItems (journals_of seats) (journals_of after)
 all_items [] after len takes = λ node few. absurd (omega arith)
 all_items (s ∷ seats) after len takes = λ node few.
     let all = s ∷ seats in let cb = count_is all in
     let near : node < length all = omega (arith, few, cb) in
-    let P : List Entry → Type 0 = λ j. HasItems j (journal_at (journals_of after) node) in
-    let Q : List Entry → Type 0 = λ k. HasItems (slice_index_or all node s).journal.entries k in
+    let P : List Entry → Type 0 = λ j. MayHaveItems j (journal_at (journals_of after) node) in
+    let Q : List Entry → Type 0 = λ k. MayHaveItems (slice_index_or all node s).journal.entries k in
     subst P (sym (journal_is all node s near)) (subst Q (sym (journal_is after node s (omega (arith, near, len)))) (takes node s near))
 
 -- whether something is untold of each, after items were taken

@@ -12,7 +12,7 @@ use Rattle.sja_link.specs.Accounts.{Account, account, with_entry}
 use Rattle.sja_link.proofs.Entering.{account_here, account_else, part_else}
 use Rattle.sja_link.proofs.Related.{each_refl, each_trans, each_one}
 use Rattle.sja_bus.specs.Links.{Moves, Goes, Grows}
-use Rattle.sja_bus.specs.OneBit.{HasAbort, abort_as}
+use Rattle.sja_bus.specs.OneBit.{MayHaveAbort, abort_as}
 
 pub grows_refl : (j : List Entry) → Grows j j
 grows_refl j = ([], sym (append-nil j))
@@ -89,7 +89,7 @@ pub moves_none : {E : Type 0} (stands : E → Lists → Type 0) (x y : E) (j : L
 moves_none stands x y j a f = record { here = λ h. f (account j a h); others = λ b ne. refl; grows = grows_refl j }
 
 -- an abort, or none
-pub goes_aborted : {E : Type 0} (same : E → E → Type 0) (stands : E → Lists → Type 0) → ((x : E) → same x x) → (j k : List Entry) (links : List E) (base : ℕ) → HasAbort j k → Goes same stands j k links links base
+pub goes_aborted : {E : Type 0} (same : E → E → Type 0) (stands : E → Lists → Type 0) → ((x : E) → same x x) → (j k : List Entry) (links : List E) (base : ℕ) → MayHaveAbort j k → Goes same stands j k links links base
 goes_aborted {E} same stands r j k links base h = go h.changed h.whole
   where
     go : (changed : Bool) → k ≡ j ++ abort_as changed → Goes same stands j k links links base

@@ -8,7 +8,7 @@ use Rattle.sja_link.specs.declared.entry.Entry.TheVariants.{Bit, Off}
 use Rattle.sja_link.specs.declared.verdict.Verdict.{Verdict}
 use Rattle.sja_link.specs.Parts.{part}
 use Rattle.sja_link.specs.Verdicts.{IsDue, IsLawful, entry_of}
-use Rattle.sja_bus.specs.OneBit.{HasVerdict, judged_as, off_as}
+use Rattle.sja_bus.specs.OneBit.{MayHaveVerdict, judged_as, off_as}
 use Rattle.sja_bus.specs.OutOfRoom.{IsOutOfRoom}
 use Rattle.sja_bus.specs.Telling.{is_overrun}
 use Rattle.sja_bus.specs.Inside.Following.{FollowsBit}
@@ -102,7 +102,7 @@ judged_short node room j k x seen a m went short follows =
     }
 
 -- bus-off does, after the bit and its verdict
-pub off_short : (node : Node) (room : ℕ) (j mid k : List Entry) (x seen : Level) → HasVerdict j x seen mid → k ≡ mid →
+pub off_short : (node : Node) (room : ℕ) (j mid k : List Entry) (x seen : Level) → MayHaveVerdict j x seen mid → k ≡ mid →
     room ≤ length mid → FollowsBit node mid true → IsOutOfRoom room j k
 off_short node room j mid k x seen has same used follows =
     let P : List Entry → Type 0 = λ l. IsOutOfRoom room j l in

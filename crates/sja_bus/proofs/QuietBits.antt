@@ -15,7 +15,7 @@ use Rattle.sja_script.specs.declared.strike.Strike.{Strike}
 use Rattle.sja_bus.specs.Wire.{journal_at}
 use Rattle.sja_bus.specs.Links.{Kept, stops_in, stops_of}
 use Rattle.sja_bus.specs.declared.bus_fault.BusFault.{BusFault}
-use Rattle.sja_bus.specs.OneBit.{HasItems, entries_of_items}
+use Rattle.sja_bus.specs.OneBit.{MayHaveItems, entries_of_items}
 use Rattle.sja_bus.specs.Telling.{IsUntold}
 use Rattle.sja_bus.specs.Buses.{EachJournal, EachUntold, KeepsAll, AllDry, untold_at, IsNodeBit, IsBit}
 use Rattle.sja_bus.specs.Stretches.{recessive_bits, with_recessive, IsStretch}
@@ -34,7 +34,7 @@ lists_same d (x ∷ xs) (y ∷ ys) len each =
     ap (λ z. z ∷ ys) first ∙ ap (λ l. x ∷ l) (lists_same d xs ys (omega (arith, len)) (λ i few. each (suc i) (omega (arith, few))))
 
 -- nothing was taken where nothing is untold
-none_taken : (j k : List Entry) (before now : Bool) → HasItems j k → IsUntold before now j k → now ≡ false → k ≡ j
+none_taken : (j k : List Entry) (before now : Bool) → MayHaveItems j k → IsUntold before now j k → now ≡ false → k ≡ j
 none_taken j k before now h u e = go h.items h.whole
   where
     go : (items : List Up) → k ≡ j ++ entries_of_items items → k ≡ j
@@ -66,7 +66,7 @@ bit_untold orders_are was_told was_kept script n untold another before after sam
 
 -- after items of which none was taken
 pub stretch_taken : (orders_are : ℕ → Orders → Type 0) (was_told : ℕ → BusTurn → Type 0) (was_kept : ℕ → Type 0) (script : List Strike) (run count : ℕ) (untold now : List Bool) (before mid after : List (List Entry)) →
-    length mid ≡ length before → EachJournal HasItems before mid → EachUntold untold now before mid →
+    length mid ≡ length before → EachJournal MayHaveItems before mid → EachUntold untold now before mid →
     IsStretch orders_are was_told was_kept script run count now mid after → IsStretch orders_are was_told was_kept script run count untold before after
 stretch_taken orders_are was_told was_kept script run count untold now before mid after len items news h =
     let same : mid ≡ before =
@@ -148,7 +148,7 @@ dry_rest orders_are was_told was_kept dry script run untold (Err f) mid after li
 
 pub stretch_rest : (orders_are : ℕ → Orders → Type 0) (was_told : ℕ → BusTurn → Type 0) (was_kept : ℕ → Type 0) (script script_now : List Strike) (run run_now : ℕ) (r : Result ℕ BusFault)
     (untold now : List Bool) (before mid after : List (List Entry)) → script_now ≡ script → run_now ≡ run → length mid ≡ length before →
-    EachJournal HasItems before mid → EachUntold untold now before mid →
+    EachJournal MayHaveItems before mid → EachUntold untold now before mid →
     IfOk r (λ n. n ≢ 0 → IsStretch orders_are was_told was_kept script_now run_now n now mid after) →
     IfOk r (λ n. n ≢ 0 → IsStretch orders_are was_told was_kept script run n untold before after)
 stretch_rest orders_are was_told was_kept script script_now run run_now (Ok n) untold now before mid after same_script same_run len items news h = λ ne.

@@ -12,8 +12,8 @@ use Rattle.sja_bus.specs.declared.bus_fault.BusFault.{BusFault}
 use Rattle.sja_bus.specs.declared.seat.Seat.{Seat}
 use Rattle.sja_bus.specs.Wire.{journal_at}
 use Rattle.sja_bus.specs.Links.{Kept, Goes}
-use Rattle.sja_bus.specs.OneBit.{HasItems}
-use Rattle.sja_bus.specs.Reasons.{IsRefusedFor, RefusesItem, IsNotTaken, room_for}
+use Rattle.sja_bus.specs.OneBit.{MayHaveItems}
+use Rattle.sja_bus.specs.Reasons.{IsRefusedFor, RefusesItem, IsTakenAndRefused, room_for}
 use Rattle.sja_bus.specs.Inside.Seats.{IsSound}
 use Rattle.sja_bus.specs.Inside.Taking.{RefusesHere}
 use Rattle.sja_bus.specs.Inside.Refusing.{HaveRoom, AreFree, SeatRefuses}
@@ -24,7 +24,7 @@ use Rattle.sja_bus.proofs.Wires.{index_before, index_last}
 -- an item that the link of the activation read showed, after other items
 pub refuses_link : {E : Type 0} (same : E → E → Type 0) (stands : E → Lists → Type 0) (before : List Entry) (old new : Seat) (links here : List E) (base room node : ℕ) (d z : E) (f : BusFault) →
     old.ended < 8 → base + 8 ≤ length here → IsSound old → (link_of old.ledger).node ≡ node → old.journal.room ≡ room →
-    HasItems before old.journal.entries → Goes same stands before old.journal.entries links here base →
+    MayHaveItems before old.journal.entries → Goes same stands before old.journal.entries links here base →
     RefusesHere stands (slice_index_or here (base + old.ended) d) z old new f →
     RefusesItem stands room before new.journal.entries links (slice_set here (base + old.ended) z) base node f
 refuses_link {E} same stands before old new links here base room node d z f few long sound own reserved items goes r =
@@ -125,7 +125,7 @@ rooms_push n seats x is was k s few = elim (cases_eq k (length seats)) [
 
 -- the same by the journals of all
 pub not_taken : {E : Type 0} (stands : E → Lists → Type 0) (bits : ℕ) (seats after : List Seat) (links links_after : List E) (f : BusFault) → length after ≡ length seats →
-    HaveRoom (room_for bits) seats → SeatRefuses stands seats after links links_after f → IsNotTaken stands bits (journals_of seats) (journals_of after) links links_after f
+    HaveRoom (room_for bits) seats → SeatRefuses stands seats after links links_after f → IsTakenAndRefused stands bits (journals_of seats) (journals_of after) links links_after f
 not_taken stands bits [] after links links_after f len rooms r = let none = r.few in absurd (omega (arith, none))
 not_taken stands bits (s ∷ seats) after links links_after f len rooms r =
     let all = s ∷ seats in let cb = count_is all in let k = r.node in let few = r.few in

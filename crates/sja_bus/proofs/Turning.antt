@@ -22,7 +22,7 @@ use Rattle.sja_link.specs.Places.{place_of}
 use Rattle.sja_link.specs.Records.{record_of}
 use Rattle.sja_link.proofs.Entering.{record_push, place_push}
 use Rattle.sja_regs.specs.declared.bus_turn.BusTurn.{BusTurn}
-use Rattle.sja_bus.specs.OneBit.{HasItems, HasBit, judged_as, off_as}
+use Rattle.sja_bus.specs.OneBit.{MayHaveItems, HasBit, judged_as, off_as}
 use Rattle.sja_bus.specs.Telling.{SaysAlone, IsTurn, is_overrun}
 use Rattle.sja_bus.specs.declared.news.News.{News}
 use Rattle.sja_bus.specs.declared.news.News.TheVariants.{Nothing, Changed, Dropped}
@@ -182,7 +182,7 @@ aborts_one old new news is some whole drops =
       drops = λ ne. subst Q (sym whole) (subst P (sym is) drops);
     }
 
-pub takes_then : (old mid new : Seat) → TakesNews old mid → HasItems old.journal.entries mid.journal.entries → AbortsNews mid new → OpensNews old new
+pub takes_then : (old mid new : Seat) → TakesNews old mid → MayHaveItems old.journal.entries mid.journal.entries → AbortsNews mid new → OpensNews old new
 takes_then old mid new takes items h = record {
   taken = mid.journal.entries;
   items = items;

@@ -32,7 +32,7 @@ AreInOrder j [] = Unit {0}
 AreInOrder j (u ∷ items) = (IsOutOfOrder j u → ⊥) × AreInOrder (j ++ Item u ∷ []) items
 
 -- the journal has these items more, each of the activation whose link is read, and none out of order
-pub record HasItems (j k : List Entry) : Type 0 where
+pub record MayHaveItems (j k : List Entry) : Type 0 where
   pub items : List Up
   pub whole : k ≡ j ++ entries_of_items items
   pub read : AreRead j items
@@ -44,7 +44,7 @@ abort_as true = Abort ∷ []
 abort_as false = []
 
 -- the journal has such an abort more, or is what it was
-pub record HasAbort (j k : List Entry) : Type 0 where
+pub record MayHaveAbort (j k : List Entry) : Type 0 where
   pub changed : Bool
   pub whole : k ≡ j ++ abort_as changed
 
@@ -52,8 +52,8 @@ pub record HasAbort (j k : List Entry) : Type 0 where
 -- abort changes the node there
 pub record Opens (has_orders : Orders → Type 0) (j k : List Entry) : Type 0 where
   pub taken : List Entry
-  pub items : HasItems j taken
-  pub aborts : HasAbort taken k
+  pub items : MayHaveItems j taken
+  pub aborts : MayHaveAbort taken k
   pub orders : Orders
   pub are_orders : has_orders orders
   pub unasked : orders.abort ≡ false → aborts.changed ≡ false
@@ -70,7 +70,7 @@ off_as true = Off ∷ []
 off_as false = []
 
 -- the journal has a bit more, and then what came of a frame that was received with it
-pub record HasVerdict (j : List Entry) (driven seen : Level) (k : List Entry) : Type 0 where
+pub record MayHaveVerdict (j : List Entry) (driven seen : Level) (k : List Entry) : Type 0 where
   pub verdict : Option (Verdict × List ℕ)
   pub whole : k ≡ (j ++ Bit driven seen ∷ []) ++ judged_as verdict
 

@@ -15,7 +15,7 @@ use Rattle.sja_bus.specs.declared.bus_fault.BusFault.TheVariants.{BitsSpent, Bad
 use Rattle.sja_bus.specs.Wire.{journal_at}
 use Rattle.sja_bus.specs.Links.{per_node, Kept, stops_of}
 use Rattle.sja_bus.specs.Aborting.{IsApplied}
-use Rattle.sja_bus.specs.OneBit.{HasItems, Opens, off_as}
+use Rattle.sja_bus.specs.OneBit.{MayHaveItems, Opens, off_as}
 use Rattle.sja_bus.specs.OutOfOrder.{read_in, IsBadCredit, IsOutOfOrder, MayCome, HasOff}
 use Rattle.sja_bus.specs.OutOfRoom.{IsOutOfRoom}
 use Rattle.sja_bus.specs.Buses.{BusValue}
@@ -38,7 +38,7 @@ pub record RefusesItem {E : Type 0} (stands : E → Lists → Type 0) (room : �
     (links after : List E) (base node : ℕ) (f : BusFault) : Type 0 where
   pub item : Up
   pub why : IsRefusedFor node room j item f
-  pub items : HasItems before j
+  pub items : MayHaveItems before j
   pub few : stops_of j < per_node
   pub shown : (h : ℕ → Account) (d : E) → Kept stands before links base h →
       stands (slice_index_or after (base + stops_of j) d) (with_taken (account j (read_in j) (h (stops_of j))) item)
@@ -81,7 +81,7 @@ abbrev pub room_for : ℕ → ℕ
 room_for bits = 2 * bits + 2100
 
 -- the fault is of one of its nodes, whose item was refused
-pub record IsNotTaken {E : Type 0} (stands : E → Lists → Type 0) (bits : ℕ) (before now : List (List Entry))
+pub record IsTakenAndRefused {E : Type 0} (stands : E → Lists → Type 0) (bits : ℕ) (before now : List (List Entry))
     (links after : List E) (f : BusFault) : Type 0 where
   pub node : ℕ
   pub few : node < length before
@@ -95,7 +95,7 @@ pub record IsNotAborted {E : Type 0} (stands : E → Lists → Type 0) (orders_a
   pub node : ℕ
   pub few : node < length before
   pub is : f ≡ JournalFull node
-  pub items : HasItems (journal_at before node) (journal_at now node)
+  pub items : MayHaveItems (journal_at before node) (journal_at now node)
   pub orders : Orders
   pub are_orders : orders_are node orders
   pub ordered : orders.abort ≡ true
@@ -120,7 +120,7 @@ pub record IsBrokenOff {E : Type 0} (stands : E → Lists → Type 0) (full : E 
 pub data StopsBit {E : Type 0} (stands : E → Lists → Type 0) (full : E → Type 0) (orders_are : ℕ → Orders → Type 0)
     (before now : BusValue) (links after : List E) (f : BusFault) : Type 0 where
   spent : f ≡ BitsSpent → before.left ≡ 0 → StopsBit stands full orders_are before now links after f
-  not_taken : IsNotTaken stands (before.run + before.left) before.journals now.journals links after f →
+  not_taken : IsTakenAndRefused stands (before.run + before.left) before.journals now.journals links after f →
       StopsBit stands full orders_are before now links after f
   not_aborted : IsNotAborted stands orders_are (before.run + before.left) before.journals now.journals links after f →
       StopsBit stands full orders_are before now links after f

@@ -12,7 +12,7 @@ use Rattle.sja_regs.specs.declared.bus_turn.BusTurn.{BusTurn}
 use Rattle.sja_bus.specs.declared.bus_fault.BusFault.{BusFault}
 use Rattle.sja_bus.specs.declared.bus_fault.BusFault.TheVariants.{JournalFull}
 use Rattle.sja_bus.specs.Wire.{journal_at}
-use Rattle.sja_bus.specs.OneBit.{HasItems}
+use Rattle.sja_bus.specs.OneBit.{MayHaveItems}
 use Rattle.sja_bus.specs.Buses.{BusValue, EachJournal, KeepsAll, untold_at, IsBit}
 use Rattle.sja_bus.specs.Reasons.{room_for}
 use Rattle.sja_bus.specs.Resting.{RestsAs}
@@ -62,6 +62,6 @@ pub record IsFullInStretch {E : Type 0} (stands : E → Lists → Type 0) (bits 
     (links after : List E) (f : BusFault) : Type 0 where
   pub taken : List (List Entry)
   pub count : length taken ≡ length before
-  pub items : EachJournal HasItems before taken
+  pub items : EachJournal MayHaveItems before taken
   pub kept : KeepsAll stands before taken links after
   pub out : IsOutOfEntries bits left taken now f

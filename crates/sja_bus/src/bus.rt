@@ -60,7 +60,7 @@ impl Bus {
     ghost use Rattle.sja_bus.specs.declared.bus_fault.BusFault.{BusFault as Fault};
     ghost use Rattle.sja_bus.specs.declared.bus_fault.BusFault.TheVariants.{BitsSpent};
     ghost use Rattle.sja_bus.specs.Links.{Numbered};
-    ghost use Rattle.sja_bus.specs.OneBit.{HasItems};
+    ghost use Rattle.sja_bus.specs.OneBit.{MayHaveItems};
     ghost use Rattle.sja_link.specs.Places.{place_of};
     ghost use Rattle.sja_link.specs.Records.{record_of};
     ghost use Rattle.sja_link.specs.Related.{EachRelated};
@@ -70,7 +70,7 @@ impl Bus {
     ghost use Rattle.sja_bus.specs.Lawful.{IsBusRun, CountersAre};
     ghost use Rattle.sja_bus.specs.Buses.{EachJournal, KeepsAll, AllDry};
     ghost use Rattle.sja_bus.specs.Buses.{new_bus, EachUntold, IsStill};
-    ghost use Rattle.sja_bus.specs.Reasons.{IsNotTaken, StopsBit};
+    ghost use Rattle.sja_bus.specs.Reasons.{IsTakenAndRefused, StopsBit};
     ghost use Rattle.sja_bus.specs.TakingAll.{TakesAll};
     ghost use Rattle.sja_bus.specs.Moment.{moment, Keeps, OneBit};
 
@@ -111,12 +111,12 @@ impl Bus {
         ensures bits { (self.new.run ≡ self.old.run) × (self.new.left ≡ self.old.left) }
         ensures nodes { length self.new.journals ≡ length self.old.journals }
         ensures kept { OnOk result (KeepsAll E.stands self.old.journals self.new.journals links.old links.new) }
-        ensures items { OnOk result (EachJournal HasItems self.old.journals self.new.journals) }
+        ensures items { OnOk result (EachJournal MayHaveItems self.old.journals self.new.journals) }
         ensures untold { OnOk result (EachUntold self.old.untold self.new.untold self.old.journals self.new.journals) }
         ensures dry { OnOk result (AllDry E.dry self.new.journals links.new) }
         ensures right { OnOk result (self.new.fault ≡ None) }
         ensures fault { IfErr result (λ f. self.new.fault ≡ Some f) }
-        ensures reason { IfErr result (λ f. self.old.fault ≡ None → IsNotTaken E.stands (self.old.run + self.old.left)
+        ensures reason { IfErr result (λ f. self.old.fault ≡ None → IsTakenAndRefused E.stands (self.old.run + self.old.left)
             self.old.journals self.new.journals links.old links.new f) }
         ensures stays { (f : Fault) → self.old.fault ≡ Some f →
             (result ≡ Err f) × (self.new ≡ self.old) × (links.new ≡ links.old) }

@@ -14,7 +14,7 @@ impl Seat {
     ghost use Rattle.sja_link.specs.declared.entry.Entry.TheVariants.{Abort as AbortEntry};
     ghost use Rattle.sja_bus.specs.Links.{Goes};
     ghost use Rattle.sja_bus.specs.Aborting.{IsApplied};
-    ghost use Rattle.sja_bus.specs.OneBit.{HasItems, Opens};
+    ghost use Rattle.sja_bus.specs.OneBit.{MayHaveItems, Opens};
     ghost use Rattle.sja_bus.specs.Reasons.{RefusesItem};
     ghost use Rattle.sja_bus.specs.Inside.Following.{Follows, Reads};
     ghost use Rattle.sja_bus.specs.Inside.Seats.{IsSeat, IsReady};
@@ -30,7 +30,7 @@ impl Seat {
         ensures ready { OnOk result (IsReady self.new) }
         ensures goes { OnOk result
             (Goes E.same E.stands self.old.journal.entries self.new.journal.entries links.old links.new base) }
-        ensures items { OnOk result (HasItems self.old.journal.entries self.new.journal.entries) }
+        ensures items { OnOk result (MayHaveItems self.old.journal.entries self.new.journal.entries) }
         ensures news { OnOk result (TakesNews self.old self.new) }
         ensures dry { OnOk result
             ((d : E) → self.new.ended < 8 → E.dry (slice_index_or links.new (base + self.new.ended) d)) }

@@ -11,9 +11,9 @@ impl Bus {
     ghost use Rattle.sja_link.specs.Related.{EachRelated};
     ghost use Rattle.sja_bus.specs.declared.bus_fault.BusFault.{BusFault as Fault};
     ghost use Rattle.sja_bus.specs.Links.{Numbered};
-    ghost use Rattle.sja_bus.specs.OneBit.{HasItems};
+    ghost use Rattle.sja_bus.specs.OneBit.{MayHaveItems};
     ghost use Rattle.sja_bus.specs.Buses.{EachJournal, EachUntold, KeepsAll, AllDry, AllTold};
-    ghost use Rattle.sja_bus.specs.Reasons.{IsNotTaken};
+    ghost use Rattle.sja_bus.specs.Reasons.{IsTakenAndRefused};
     ghost use Rattle.sja_bus.specs.Stretches.{IsStretch, EndsStretch, IsOutOfEntries, IsFullInStretch};
     ghost use Rattle.sja_bus.specs.Inside.AtOnce.{RunsAtOnce};
 
@@ -70,7 +70,7 @@ impl Bus {
         ensures bits { IfOk result (λ n. (self.new.run ≡ self.old.run + n) × (self.new.left + n ≡ self.old.left)) }
         ensures kept { OnOk result (KeepsAll E.stands self.old.journals self.new.journals links.old links.new) }
         ensures dry { OnOk result (AllDry E.dry self.new.journals links.new) }
-        ensures items { result ≡ Ok 0 → EachJournal HasItems self.old.journals self.new.journals }
+        ensures items { result ≡ Ok 0 → EachJournal MayHaveItems self.old.journals self.new.journals }
         ensures untold { result ≡ Ok 0 →
             EachUntold self.old.untold self.new.untold self.old.journals self.new.journals }
         ensures stretch { IfOk result (λ n. n ≢ 0 → IsStretch (B.orders_are board.now) (B.told board.now board.now)
@@ -81,7 +81,7 @@ impl Bus {
         ensures right { OnOk result (self.new.fault ≡ None) }
         ensures fault { IfErr result (λ f. self.new.fault ≡ Some f) }
         ensures reason { IfErr result (λ f. self.old.fault ≡ None →
-            IsNotTaken E.stands (self.old.run + self.old.left) self.old.journals self.new.journals links.old links.new f
+            IsTakenAndRefused E.stands (self.old.run + self.old.left) self.old.journals self.new.journals links.old links.new f
             ⊎ IsFullInStretch E.stands (self.old.run + self.old.left) self.old.left self.old.journals self.new.journals
             links.old links.new f) }
         ensures stays { (f : Fault) → self.old.fault ≡ Some f →

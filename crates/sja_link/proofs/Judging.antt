@@ -17,7 +17,7 @@ use Rattle.sja_link.specs.Parts.{part, in_part, of_part, entry_at}
 use Rattle.sja_link.specs.Carried.{stored_in, stored_of, put_of}
 use Rattle.sja_link.specs.Lists.{messages}
 use Rattle.sja_link.specs.Judged.{Judged, judged_after, judged_at, judged_in, kept_in, kept}
-use Rattle.sja_link.specs.Verdicts.{filter_of, PassesAny, IsKept, IsOn, IsDue, HasVerdicts, entry_of}
+use Rattle.sja_link.specs.Verdicts.{filter_of, PassesAny, IsAccepted, IsOn, IsDue, HasVerdicts, entry_of}
 use Rattle.sja_link.specs.Picking.{Picks, EachAfter}
 use Rattle.sja_link.specs.Picking.Picks.{nothing, picked, left}
 use Rattle.sja_link.proofs.Entering.{gathered_append, of_part_here, of_part_else, of_part_none, of_part_later, part_here, part_else}
@@ -93,8 +93,8 @@ filter_push j e a s = elim (cases_eq (past (place_of j) e).activation a) [
 
 -- the same frames are kept where the filter is the same
 picks_by : (j k : List Entry) (a : ℕ) (frames : List ReceivedFrame) (out : List Judged) → filter_of (part k a) ≡ filter_of (part j a) →
-    Picks (IsKept a (filter_of (part j a))) IsOn frames out → Picks (IsKept a (filter_of (part k a))) IsOn frames out
-picks_by j k a frames out e h = let P : Option Filter → Type 0 = λ f. Picks (IsKept a f) IsOn frames out in subst P (sym e) h
+    Picks (IsAccepted a (filter_of (part j a))) IsOn frames out → Picks (IsAccepted a (filter_of (part k a))) IsOn frames out
+picks_by j k a frames out e h = let P : Option Filter → Type 0 = λ f. Picks (IsAccepted a f) IsOn frames out in subst P (sym e) h
 
 -- ---- the verdicts of a journal with an entry more
 
@@ -110,7 +110,7 @@ pub verdicts_quiet : (j : List Entry) (e : Entry) (frames : List ReceivedFrame) 
     HasVerdicts j frames → HasVerdicts (j ++ e ∷ []) frames
 verdicts_quiet j e frames stays none due h = record {
   are = λ a.
-      let P : List Judged → Type 0 = λ l. Picks (IsKept a (filter_of (part (j ++ e ∷ []) a))) IsOn frames l in
+      let P : List Judged → Type 0 = λ l. Picks (IsAccepted a (filter_of (part (j ++ e ∷ []) a))) IsOn frames l in
       subst P (sym (of_part_none judged_at j e a (none (place_of j).bits))) (picks_by j (j ++ e ∷ []) a frames (judged_in j a) (filter_push j e a stays) (h.are a));
   due = due_push j e (due (part j (past (place_of j) e).activation)) h.due;
 }
@@ -120,20 +120,20 @@ abbrev pub HasBegun : ℕ → List ReceivedFrame → Type 0
 HasBegun k [] = Unit {0}
 HasBegun k (h ∷ frames) = (h.activation ≤ k) × HasBegun k frames
 
-none_yet_kept : (j : List Entry) (k a : ℕ) (frames : List ReceivedFrame) → k < a → HasBegun k frames → None_of (IsKept a (filter_of (part j a))) frames
-none_yet_kept j k a [] few begun = no_more
-none_yet_kept j k a (h ∷ frames) few begun =
-    not_this h (λ kept. let x = kept.activation in let y = begun.0 in omega (arith, x, y, few)) (none_yet_kept j k a frames few begun.1)
+none_yet_accepted : (j : List Entry) (k a : ℕ) (frames : List ReceivedFrame) → k < a → HasBegun k frames → None_of (IsAccepted a (filter_of (part j a))) frames
+none_yet_accepted j k a [] few begun = no_more
+none_yet_accepted j k a (h ∷ frames) few begun =
+    not_this h (λ kept. let x = kept.activation in let y = begun.0 in omega (arith, x, y, few)) (none_yet_accepted j k a frames few begun.1)
 
 -- a start
 pub verdicts_start : (j : List Entry) (config : Config) (frames : List ReceivedFrame) → HasBegun (place_of j).activation frames →
     HasVerdicts j frames → HasVerdicts (j ++ Item (Start config) ∷ []) frames
 verdicts_start j config frames begun h = let e : Entry = Item (Start config) in record {
   are = λ a.
-      let P : List Judged → Type 0 = λ l. Picks (IsKept a (filter_of (part (j ++ e ∷ []) a))) IsOn frames l in
+      let P : List Judged → Type 0 = λ l. Picks (IsAccepted a (filter_of (part (j ++ e ∷ []) a))) IsOn frames l in
       let same : judged_in (j ++ e ∷ []) a ≡ judged_in j a = of_part_none judged_at j e a refl in
       elim (cases_eq ((place_of j).activation + 1) a) [
-        | inl q ↦ subst P (sym (same ∙ of_part_later judged_at j a (omega (arith, q)))) (picks_none (none_yet_kept (j ++ e ∷ []) (place_of j).activation a frames (omega (arith, q)) begun))
+        | inl q ↦ subst P (sym (same ∙ of_part_later judged_at j a (omega (arith, q)))) (picks_none (none_yet_accepted (j ++ e ∷ []) (place_of j).activation a frames (omega (arith, q)) begun))
         | inr n ↦ subst P (sym same) (picks_by j (j ++ e ∷ []) a frames (judged_in j a) (ap filter_of (part_else j e a n)) (h.are a))
       ];
   due = due_push j e (tt, tt) h.due;
@@ -160,13 +160,13 @@ verdicts_judged j frames x v here now passes due h =
     let stays = verdict_stays v (message x.frame) in
     let same : (past (place_of j) e).activation ≡ x.activation = stays (place_of j) ∙ sym here in record {
       are = λ a.
-          let P : List Judged → Type 0 = λ l. Picks (IsKept a (filter_of (part (j ++ e ∷ []) a))) IsOn (frames ++ x ∷ []) l in
+          let P : List Judged → Type 0 = λ l. Picks (IsAccepted a (filter_of (part (j ++ e ∷ []) a))) IsOn (frames ++ x ∷ []) l in
           let was = picks_by j (j ++ e ∷ []) a frames (judged_in j a) (filter_push j e a stays) (h.are a) in
           elim (cases_eq x.activation a) [
             | inl q ↦
                 let filter : filter_of (part (j ++ e ∷ []) a) ≡ filter_of (part j x.activation) = filter_push j e a stays ∙ ap (λ n. filter_of (part j n)) (sym q) in
                 let F : Option Filter → Type 0 = λ f. PassesAny f x.frame in
-                let kept : IsKept a (filter_of (part (j ++ e ∷ []) a)) x = record { activation = q; passes = subst F (sym filter) passes } in
+                let kept : IsAccepted a (filter_of (part (j ++ e ∷ []) a)) x = record { activation = q; passes = subst F (sym filter) passes } in
                 let out : judged_in (j ++ e ∷ []) a ≡ judged_in j a ++ (record { bits = (place_of j).bits; bytes = message x.frame; overrun = is_overrun v }) ∷ [] =
                 of_part_here judged_at j e a (same ∙ q) ∙ ap (λ l. judged_in j a ++ l) (verdict_judged v (message x.frame) (place_of j).bits) in
                 subst P (sym out) (picks_push x _ kept (record { bits = sym now; bytes = refl }) was)

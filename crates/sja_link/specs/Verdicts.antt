@@ -27,7 +27,7 @@ PassesAny None f = ⊥
 PassesAny (Some filter) f = Passes filter f
 
 -- a frame that was received in this activation, and passes this filter
-pub record IsKept (a : ℕ) (filter : Option Filter) (h : ReceivedFrame) : Type 0 where
+pub record IsAccepted (a : ℕ) (filter : Option Filter) (h : ReceivedFrame) : Type 0 where
   pub activation : h.activation ≡ a
   pub passes : PassesAny filter h.frame
 
@@ -67,7 +67,7 @@ IsDue before e = IsPrompt before e × IsFair before e
 -- the verdicts of each part are those of the frames received in it that pass its filter, each right after the last bit
 -- of its reception, and a message is stored exactly where it fits
 pub record HasVerdicts (j : List Entry) (frames : List ReceivedFrame) : Type 0 where
-  pub are : (a : ℕ) → Picks (IsKept a (filter_of (part j a))) IsOn frames (judged_in j a)
+  pub are : (a : ℕ) → Picks (IsAccepted a (filter_of (part j a))) IsOn frames (judged_in j a)
   pub due : (a : ℕ) → EachAfter IsDue [] (part j a)
 
 -- the journal's record has a cut, and by every cut of it the verdicts are right

@@ -1,7 +1,5 @@
 -- The headline, by what bus, link and driver keep.
 use Rattle.std.proofs.Common.{◌≡◌, ℕ, ◌+◌, ◌-◌, ◌<◌, ◌≤◌, Option, List, ◌∷◌, ◌++◌, length, refl, sym, ap, ◌∙◌, subst, arith}
-use Rattle.std.proofs.lemmas.List.{length-append}
-use Rattle.std.proofs.Math.Seq.{take-append_seam}
 use Rattle.std.specs.Prelude.{take, slice_index_or}
 use Rattle.can_frame.specs.declared.filter.Filter.{Filter}
 use Rattle.sja_link.specs.NodeWords.{FinishedPiece, received}
@@ -12,11 +10,11 @@ use Rattle.sja_link.specs.Carried.{put_of, taken_of}
 use Rattle.sja_link.specs.Accounts.{Account}
 use Rattle.sja_link.specs.Judged.{judged_in, kept}
 use Rattle.sja_link.specs.Picking.{Picks}
-use Rattle.sja_link.specs.Verdicts.{IsKept, IsOn, HasVerdicts, IsLawful}
+use Rattle.sja_link.specs.Verdicts.{IsAccepted, IsOn, HasVerdicts, IsLawful}
 use Rattle.sja_link.proofs.Judging.{kept_stored}
 use Rattle.sja_link.proofs.Holding.{told_stored}
 use Rattle.sja_link.proofs.Openings.{part_opens, filter_opens}
-use Rattle.sja_report.specs.Log.{ActivationValue, NodeValue, account_in}
+use Rattle.sja_report.specs.Log.{ActivationValue, NodeValue}
 use Rattle.sja_report.specs.Settling.{IsSettled, AreSettled}
 use Rattle.sja_report.specs.Headline.{Headline, IsAccount}
 
@@ -25,26 +23,12 @@ pub told_by : (j : List Entry) (a : ℕ) (act : ActivationValue) → IsSettled j
 told_by j a act h =
     ap (λ l. act.released ++ l) h.unread ∙ told_stored j a h.driver h.down act.released h.held h.put h.holds ∙ sym (kept_stored j a)
 
-take_front : {A : Type 0} (a b : List A) (n : ℕ) → n ≡ length b → take (length (a ++ b) - n) (a ++ b) ≡ a
-take_front a b n e =
-    let h = length-append a b in
-    let m : length (a ++ b) - n ≡ length a = omega (arith, h, e) in
-    ap (λ k. take k (a ++ b)) m ∙ take-append_seam a b
-
--- the account that the log says is the driver's
-pub account_by : (j : List Entry) (a : ℕ) (act : ActivationValue) (h : IsSettled j a act) → account_in (part j a) act ≡ h.driver
-account_by j a act h =
-    let got : take (length (put_of (part j a)) - act.left) (put_of (part j a)) ≡ h.driver.got =
-    ap (λ l. take (length l - act.left) l) h.put ∙ take_front h.driver.got h.down act.left h.left in
-    ap (λ l. let k : Account = record { got = l; given = taken_of (part j a) } in k) got
-    ∙ ap (λ l. let k : Account = record { got = h.driver.got; given = l } in k) (sym h.given)
-
 -- the headline of an activation that has begun
 pub headline_of : (found : List FinishedPiece) (j : List Entry) (a : ℕ) (act : ActivationValue) → HasVerdicts j (received found) → 1 ≤ a →
     a ≤ (place_of j).activation → IsSettled j a act → Headline found j a act
 headline_of found j a act verdicts some begun settled =
     let o = part_opens j a some begun in
-    let P : Option Filter → Type 0 = λ f. Picks (IsKept a f) IsOn (received found) (judged_in j a) in record {
+    let P : Option Filter → Type 0 = λ f. Picks (IsAccepted a f) IsOn (received found) (judged_in j a) in record {
       config = o.config;
       rest = o.rest;
       opens = o.opens;

@@ -1,6 +1,8 @@
 pub mod Texts
 pub mod Sums
 pub mod Accounts
+pub mod Waiting
+pub mod Orders
 pub mod Timings
 pub mod Stepping
 pub mod Givings

@@ -11,8 +11,9 @@ use Rattle.sja_link.specs.declared.entry.Entry.{Entry}
 use Rattle.sja_link.specs.Picking.{EachAfter}
 use Rattle.sja_link.proofs.Freeing.{total_push}
 use Rattle.sja_driver.specs.Deeds.{Deed, opened, opens_by, opened_by, active_after, is_active, FitsState, Gives, given_in, deeds_of}
-use Rattle.sja_report.specs.Orders.{HasStop, StopsLast, GivesInOrder, TakesInOrder}
-use Rattle.sja_report.specs.Timing.{WaitsInTime, given_when}
+use Rattle.sja_report.proofs.Orders.{HasStop, StopsLast, GivesInOrder, TakesInOrder}
+use Rattle.sja_report.specs.Timing.{given_when}
+use Rattle.sja_report.proofs.Waiting.{WaitsInTime}
 use Rattle.sja_report.proofs.Givings.{Kind, kind_of}
 use Rattle.sja_report.proofs.Givings.Kind.{quiet, starts, credits, sends, stops}
 use Rattle.sja_report.proofs.Timings.{no_stop_push, nothing_waits}

@@ -16,7 +16,8 @@ use Rattle.sja_script.specs.declared.step.Step.TheVariants.{Start, Stop, Window,
 use Rattle.sja_script.specs.declared.step_answer.StepAnswer.{StepAnswer}
 use Rattle.sja_script.specs.declared.step_answer.StepAnswer.TheVariants.{Done as DoneAnswer, NoMessage, Shown, Released, Value, Refused}
 use Rattle.sja_driver.specs.Deeds.{Deed, opened, opens_by, opened_by, Gives, given_in, section_from, deeds_of}
-use Rattle.sja_report.specs.Timing.{Timed, timed, given_when, taken_when, WaitsInTime}
+use Rattle.sja_report.specs.Timing.{Timed, timed, given_when, taken_when}
+use Rattle.sja_report.proofs.Waiting.{WaitsInTime}
 
 -- ---- a deed more
 

@@ -19,8 +19,9 @@ use Rattle.sja_link.specs.Picking.{EachAfter}
 use Rattle.sja_link.proofs.Entering.{place_push, of_part_here, of_part_else, of_part_none, part_here, part_else, gathered_push}
 use Rattle.sja_link.proofs.Judging.{each_push}
 use Rattle.sja_driver.specs.Deeds.{Deed}
-use Rattle.sja_report.specs.Timing.{Timed, timed, taken_when, WaitsInTime}
-use Rattle.sja_report.specs.Orders.{HasStop, GivesInOrder, TakesInOrder}
+use Rattle.sja_report.specs.Timing.{Timed, timed, taken_when}
+use Rattle.sja_report.proofs.Waiting.{WaitsInTime}
+use Rattle.sja_report.proofs.Orders.{HasStop, GivesInOrder, TakesInOrder}
 use Rattle.sja_report.specs.Windows.{put_by}
 use Rattle.sja_report.specs.Aborting.{IsCommanded, AbortIsDue}
 

@@ -20,7 +20,7 @@ use Rattle.sja_report.proofs.Timings.{put_now}
 
 -- at the end: what is left unread is what is held, and what lies there
 pub settled_by : (j : List Entry) (a : ℕ) (driver : Account) (link : Deques) (released held : List (List ℕ)) → Lies link (account j a driver) → link.up ≡ [] → Holds driver.got released held →
-    IsSettled j a (record { released = released; unread = held ++ messages link.down; left = length link.down })
+    IsSettled j a (record { released = released; unread = held ++ messages link.down })
 settled_by j a driver link released held lies empty got = record {
   driver = driver;
   down = link.down;
@@ -29,13 +29,12 @@ settled_by j a driver link released held lies empty got = record {
   given = lies.1 ∙ ap (λ l. taken_of (part j a) ++ l) empty ∙ append-nil (taken_of (part j a));
   holds = got;
   unread = refl;
-  left = refl;
 }
 
 -- and so of every activation of a node whose links kept to its journal
 pub settled_kept : (j : List Entry) (links : List Deques) (base : ℕ) (h : ℕ → Account) (d : Deques) → Kept Lies j links base h → (a : ℕ) (released held : List (List ℕ)) → a < per_node →
     let link = slice_index_or links (base + a) d in link.up ≡ [] → Holds (h a).got released held →
-    IsSettled j (a + 1) (record { released = released; unread = held ++ messages link.down; left = length link.down })
+    IsSettled j (a + 1) (record { released = released; unread = held ++ messages link.down })
 settled_kept j links base h d kept a released held few empty got =
     let link = slice_index_or links (base + a) d in
     let e : suc a ≡ a + 1 = omega arith in

@@ -12,7 +12,7 @@ use Rattle.sja_link.specs.Parts.{part}
 use Rattle.sja_link.specs.Records.{record_of}
 use Rattle.sja_link.specs.Judged.{judged_in, kept}
 use Rattle.sja_link.specs.Picking.{Picks, EachAfter}
-use Rattle.sja_link.specs.Verdicts.{IsKept, IsOn, IsDue}
+use Rattle.sja_link.specs.Verdicts.{IsAccepted, IsOn, IsDue}
 use Rattle.sja_report.specs.Log.{ActivationValue, NodeValue}
 
 -- of activation a of a node with journal j, by these pieces of the node's record
@@ -23,7 +23,7 @@ pub record Headline (found : List FinishedPiece) (j : List Entry) (a : ℕ) (act
   pub opens : part j a ≡ Item (Start config) ∷ rest
   -- of the frames that were validly received, those of this activation that its filter passes were judged, in order and
   -- each once: each verdict is on the frame's message, after just the bits up to the one that made the frame valid
-  pub judged : Picks (IsKept a (Some config.filter)) IsOn (received found) (judged_in j a)
+  pub judged : Picks (IsAccepted a (Some config.filter)) IsOn (received found) (judged_in j a)
   -- each verdict stands right after a bit, and marks a message overrun exactly where it is longer than 64 less the
   -- bytes stored and not yet collected back
   pub due : EachAfter IsDue [] (part j a)

@@ -15,7 +15,6 @@ pub mod Resting
 pub mod Moments
 pub mod Turns
 pub mod Registering
-pub mod Orders
 pub mod Runs
 -- ---- how the writer of a report counts and writes: definitions of private contracts alone
 pub mod Inside

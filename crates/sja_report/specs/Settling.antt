@@ -22,7 +22,6 @@ pub record IsSettled (j : List Entry) (a : ℕ) (act : ActivationValue) : Type 0
   pub holds : Holds driver.got act.released held
   -- what it left unread is what it holds and what lies there
   pub unread : act.unread ≡ held ++ messages down
-  pub left : act.left ≡ length down
 
 -- each activation of a node
 abbrev pub AreSettled : NodeValue → Type 0

@@ -1,9 +1,8 @@
 -- When items are given and taken (this project's own rule).
-use Rattle.std.specs.Prelude.{◌≡◌, ◌++◌, ℕ, List, map}
+use Rattle.std.specs.Prelude.{ℕ, List, map}
 use Rattle.sja_link.specs.declared.up.Up.{Up}
 use Rattle.sja_link.specs.declared.entry.Entry.{Entry}
 use Rattle.sja_link.specs.Gathering.{gathered}
-use Rattle.sja_link.specs.Places.{place_of}
 use Rattle.sja_link.specs.Parts.{of_part}
 use Rattle.sja_link.specs.Carried.{taken_in}
 use Rattle.sja_driver.specs.Deeds.{Deed, deeds_of}
@@ -23,7 +22,3 @@ taken_when = of_part (λ q. map (timed q.before.bits) (taken_in q.entry))
 -- the items given in an activation, each with the number of bits before its step
 abbrev pub given_when : List Deed → ℕ → List Timed
 given_when deeds a = gathered (λ (d : Deed). map (timed d.bits) d.gave) (deeds_of deeds a)
-
--- of one activation: what was given is what was taken and what waits, which was given after the last bit
-abbrev pub WaitsInTime : List Timed → List Entry → ℕ → List Up → Type 0
-WaitsInTime given j a up = given ≡ taken_when j a ++ map (timed (place_of j).bits) up

@@ -4,12 +4,11 @@ use can_frame::Message;
 use std::marker::Model;
 
 /// What became of one activation at the driver's end of its link (this project's own rule). Contracts see it as these
-/// three values.
+/// two lists.
 #[derive(Debug, Drop)]
 pub struct ActivationLog {
     released: Vec<Message>,
     unread: Vec<Message>,
-    left: usize,
 }
 
 impl Model for ActivationLog {
@@ -17,22 +16,18 @@ impl Model for ActivationLog {
 
     ghost Value = { ActivationValue };
 
-    ghost view = { λ a. record { released = a.released.items; unread = a.unread.items; left = a.left } };
+    ghost view = { λ a. record { released = a.released.items; unread = a.unread.items } };
 }
 
 impl ActivationLog {
     ghost use Rattle.std.specs.Prelude.{◌≡◌};
 
-    /// The log of an activation: the messages that its driver released, those that it left unread, which are those that
-    /// it held and then those on the link, and how many items the driver never took from the link, bus-off counted.
-    pub fn of(released: Vec<Message>, unread: Vec<Message>, left: usize) -> ActivationLog
-        ensures { result ≡ record { released = released.items; unread = unread.items; left = left } }
+    /// The log of an activation: the messages that its driver released, and those that it left unread, which are those
+    /// that it held and then those on the link.
+    pub fn of(released: Vec<Message>, unread: Vec<Message>) -> ActivationLog
+        ensures { result ≡ record { released = released.items; unread = unread.items } }
     {
-        ActivationLog {
-            released,
-            unread,
-            left,
-        }
+        ActivationLog { released, unread }
     }
 
     /// The messages that the driver released, in order.
@@ -47,12 +42,5 @@ impl ActivationLog {
         ensures { result.now ≡ self.now.unread }
     {
         self.unread.as_slice()
-    }
-
-    /// How many items that the bus put it never took from the link.
-    pub fn left(&self) -> usize
-        ensures { result ≡ self.now.left }
-    {
-        self.left
     }
 }

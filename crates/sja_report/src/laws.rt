@@ -10,7 +10,7 @@ ghost use Rattle.sja_plan.specs.Plan.{PlanValue};
 ghost use Rattle.sja_regs.specs.declared.registers.Registers.{Registers};
 ghost use Rattle.sja_driver.specs.Deeds.{Deed};
 ghost use Rattle.sja_bus.specs.Lawful.{CountersAre, IsBusRun};
-ghost use Rattle.sja_report.specs.Log.{ActivationValue, NodeValue, RunValue, account_in, journals_in};
+ghost use Rattle.sja_report.specs.Log.{ActivationValue, NodeValue, RunValue, journals_in};
 ghost use Rattle.sja_report.specs.Settling.{IsSettled, AreSettled};
 ghost use Rattle.sja_report.specs.Headline.{IsAccount};
 ghost use Rattle.sja_report.specs.Moments.{at_moment, IsFront, BeginsWithBit};
@@ -26,13 +26,6 @@ pub fn a_settled_node_has_the_headline()
         ((a : ℕ) (d : ActivationValue) → a < length node.activations →
         IsSettled node.journal (a + 1) (slice_index_or node.activations a d)) →
         IsAccount node }
-{}
-
-/// A law: of an activation that is settled the log says what its driver got and gave.
-#[tactic(auto, using(crate::proofs::Accounts::account_by))]
-pub fn a_log_says_what_was_got_and_given()
-    ensures { (j : List Entry) (a : ℕ) (act : ActivationValue) (settled : IsSettled j a act) →
-        account_in (part j a) act ≡ settled.driver }
 {}
 
 /// A law: what the bus promises of all journals, with the trace of each driver and with activations that are settled,

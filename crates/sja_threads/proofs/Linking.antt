@@ -20,10 +20,9 @@ use Rattle.sja_script.specs.declared.step_answer.StepAnswer.{StepAnswer}
 use Rattle.sja_script.specs.declared.step_answer.StepAnswer.TheVariants.{Done, Released}
 use Rattle.sja_driver.specs.Deeds.{Deed, opens_by, Gives, GivesSend, length_in, given_in, released_lengths}
 use Rattle.sja_driver.specs.Deeds.{section_from}
-use Rattle.sja_report.specs.Log.{ActivationValue, NodeValue, lists_in}
+use Rattle.sja_report.specs.Log.{ActivationValue, NodeValue}
 use Rattle.sja_report.specs.Runs.{IsTrace}
-use Rattle.sja_report.specs.Settling.{IsSettled, AreSettled}
-use Rattle.sja_report.proofs.Accounts.{account_by}
+use Rattle.sja_report.specs.Settling.{IsSettled}
 use Rattle.sja_bus.specs.Orderly.{IsOrderly, AreOrderly}
 use Rattle.sja_threads.specs.Linked.{IsLinked, AreLinked}
 use Rattle.sja_threads.proofs.Real.{AreMessages, stored_real}
@@ -75,17 +74,16 @@ lists_by j a driver given =
 
 linked_one : (j : List Entry) (a : ℕ) (act : ActivationValue) (h : IsSettled j a act) →
     credits_of (taken_of (part j a)) ≡ map (λ (m : List ℕ). length m) act.released →
-    EachAfter IsOrderly [] (part j a) → AreMessages (stored_of (part j a)) → IsLinked (part j a) (lists_in j a act)
+    EachAfter IsOrderly [] (part j a) → AreMessages (stored_of (part j a)) → IsLinked (part j a) (account j a h.driver)
 linked_one j a act h credits orderly real =
-    subst (λ (x : Account). IsLinked (part j a) (account j a x)) (sym (account_by j a act h))
-    (subst (λ (l : List Up). IsLinked (part j a) (lists_by j a h.driver l)) (sym h.given)
-    (linked_part (part j a) h.driver.got h.down act.released h.held orderly real h.put h.holds credits))
+    subst (λ (l : List Up). IsLinked (part j a) (lists_by j a h.driver l)) (sym h.given)
+    (linked_part (part j a) h.driver.got h.down act.released h.held orderly real h.put h.holds credits)
 
 -- of each activation of a node whose driver's trace this is
 pub linked_by : (steps : List Step) (deeds : List Deed) (node : NodeValue) → IsTrace steps node deeds →
-    AreSettled node → IsLawful node.journal → AreOrderly node.journal → AreLinked node
-linked_by steps deeds node trace settled lawful orderly a d less =
-    linked_one node.journal (a + 1) (slice_index_or node.activations a d) (settled a d less)
+    IsLawful node.journal → AreOrderly node.journal → AreLinked node
+linked_by steps deeds node trace lawful orderly a d less settled =
+    linked_one node.journal (a + 1) (slice_index_or node.activations a d) settled
     (ap credits_of (sym (trace.given (a + 1))) ∙ credits_in 0 [] deeds (a + 1) trace.deeds_are.gives
     ∙ trace.released a d less) (orderly (a + 1))
     (stored_real node.journal (a + 1) lawful)

@@ -64,7 +64,6 @@ module _ (set : SettingsValue) (steps : List Step) (node : ℕ) (j : List Entry)
   ended_with a n = record {
     released = released_of (releases_in (log_of w.driver)) n;
     unread = held_after w.driver a ++ messages (slice_index_or lying (base + a) []);
-    left = length (slice_index_or lying (base + a) []);
   }
 
   pub settled_all : (a : ℕ) → a < 8 →
@@ -81,5 +80,4 @@ module _ (set : SettingsValue) (steps : List Step) (node : ℕ) (j : List Entry)
         given = link.1;
         holds = h.drivers.told a few;
         unread = refl;
-        left = refl;
       })

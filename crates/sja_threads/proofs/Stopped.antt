@@ -11,7 +11,7 @@ use Rattle.sja_bus.specs.declared.bus_fault.BusFault.{BusFault}
 use Rattle.sja_bus.specs.declared.bus_fault.BusFault.TheVariants.{BitsSpent, JournalFull}
 use Rattle.sja_bus.specs.Buses.{BusValue}
 use Rattle.sja_bus.specs.Lawful.{IsBusRun}
-use Rattle.sja_bus.specs.Reasons.{IsRefusedFor, IsBrokenFor, IsNotTaken, StopsBit, room_for}
+use Rattle.sja_bus.specs.Reasons.{IsRefusedFor, IsBrokenFor, IsTakenAndRefused, StopsBit, room_for}
 use Rattle.sja_bus.specs.Links.{per_node}
 use Rattle.sja_bus.specs.Wire.{journal_at}
 use Rattle.sja_bus.specs.Reasons.StopsBit.{spent, not_taken, not_aborted, broken_off}
@@ -20,7 +20,7 @@ use Rattle.sja_threads.specs.Inside.Underway.{IsUnderWay}
 
 -- an item that wasn't taken is no want of bits
 taken_not_spent : {E : Type 0} (stands : E → Lists → Type 0) (bits : ℕ) (before now : List (List Entry))
-    (links after : List E) (f : BusFault) → IsNotTaken stands bits before now links after f → f ≢ BitsSpent
+    (links after : List E) (f : BusFault) → IsTakenAndRefused stands bits before now links after f → f ≢ BitsSpent
 taken_not_spent stands bits before now links after f n e =
     subst (λ (x : BusFault). IsRefusedFor n.node (room_for bits) (journal_at now n.node) n.refuses.item x) e
     n.refuses.why
@@ -42,7 +42,7 @@ bit_not_spent stands full orders_are before now links after f some (broken_off n
 
 module _ (plan : PlanValue) (was now : BusValue) (links after : List RingBus) (f : BusFault)
     (w : IsUnderWay plan was links) (laws : IsBusRun was.script was.run was.journals) where
-  stops_for : IsNotTaken BusLists plan.bits was.journals now.journals links after f
+  stops_for : IsTakenAndRefused BusLists plan.bits was.journals now.journals links after f
       ⊎ StopsBit BusLists HasNoPlace any_orders was now links after f → f ≢ BitsSpent → StopsFor plan f
   stops_for why unspent = record {
     was = was;
@@ -59,9 +59,9 @@ module _ (plan : PlanValue) (was now : BusValue) (links after : List RingBus) (f
   }
 
   -- an item wasn't taken
-  pub stops_taking : IsNotTaken BusLists (was.run + was.left) was.journals now.journals links after f → StopsFor plan f
+  pub stops_taking : IsTakenAndRefused BusLists (was.run + was.left) was.journals now.journals links after f → StopsFor plan f
   stops_taking n = stops_for
-      (inl (subst (λ (bits : ℕ). IsNotTaken BusLists bits was.journals now.journals links after f) w.all_bits n))
+      (inl (subst (λ (bits : ℕ). IsTakenAndRefused BusLists bits was.journals now.journals links after f) w.all_bits n))
       (taken_not_spent BusLists (was.run + was.left) was.journals now.journals links after f n)
 
   -- a bit didn't come to its end, where bits were left

@@ -13,7 +13,7 @@ use Rattle.sja_regs.specs.declared.bus_turn.BusTurn.{BusTurn}
 use Rattle.sja_regs.specs.declared.orders.Orders.{Orders}
 use Rattle.sja_bus.specs.Buses.{BusValue, EachJournal, KeepsAll, IsBit}
 use Rattle.sja_bus.specs.Lawful.{IsBusRun}
-use Rattle.sja_bus.specs.OneBit.{HasItems}
+use Rattle.sja_bus.specs.OneBit.{MayHaveItems}
 use Rattle.sja_bus.specs.Resting.{RestsAs}
 use Rattle.sja_bus.specs.Wire.{journal_at}
 use Rattle.sja_bus.proofs.Many.{numbered_kept}
@@ -50,7 +50,7 @@ module _ (plan : PlanValue) (old new : BusValue) (links after : List RingBus) (w
   }
 
   -- items were taken
-  pub after_gather : (new.run ≡ old.run) × (new.left ≡ old.left) → EachJournal HasItems old.journals new.journals →
+  pub after_gather : (new.run ≡ old.run) × (new.left ≡ old.left) → EachJournal MayHaveItems old.journals new.journals →
       IsUnderWay plan new after
   after_gather bits items = goes_on
       (let all = w.all_bits in let run = bits.0 in let left = bits.1 in omega (arith, all, run, left))
@@ -74,7 +74,7 @@ module _ (plan : PlanValue) (old new : BusValue) (links after : List RingBus) (w
       (bit.nodes node less)) busy.1 (laws.wired.count busy.0 busy.1) busy.2 w.due))
 
   -- bits that were due stay so
-  pub due_gather : EachJournal HasItems old.journals new.journals → StayDue old.journals new.journals
+  pub due_gather : EachJournal MayHaveItems old.journals new.journals → StayDue old.journals new.journals
   due_gather items = due_stays old.journals new.journals nodes
       (λ node less. items_grow (journal_at old.journals node) (journal_at new.journals node) (items node less))
 
@@ -108,7 +108,7 @@ pub may_go_on : (plan : PlanValue) (run ports : ℕ) (old new : BusValue) (links
     MayTurn plan run old links ports → new.fault ≡ None → new.script ≡ old.script →
     length new.journals ≡ length old.journals → EachRelated SameBus links after →
     KeepsAll BusLists old.journals new.journals links after → (new.run ≡ old.run) × (new.left ≡ old.left) →
-    EachJournal HasItems old.journals new.journals → MayTurn plan run new after ports
+    EachJournal MayHaveItems old.journals new.journals → MayTurn plan run new after ports
 may_go_on plan run ports old new links after m right script nodes sames kept bits items = record {
   way = after_gather plan old new links after m.way right script nodes sames kept bits items;
   run_is = bits.0 ∙ m.run_is;

@@ -14,7 +14,7 @@ use Rattle.sja_regs.specs.declared.bus_turn.BusTurn.{BusTurn}
 use Rattle.sja_regs.specs.declared.orders.Orders.{Orders}
 use Rattle.sja_bus.specs.Buses.{IsNodeBit}
 use Rattle.sja_bus.specs.Links.{stops_of, Grows}
-use Rattle.sja_bus.specs.OneBit.{AreRead, HasItems, abort_as, entries_of_items}
+use Rattle.sja_bus.specs.OneBit.{AreRead, MayHaveItems, abort_as, entries_of_items}
 use Rattle.sja_turns.proofs.Adding.{added, added_own, bit_whole}
 use Rattle.sja_turns.proofs.Own.{own_taken}
 use Rattle.sja_turns.proofs.Taking.{adds, taken_adds}
@@ -35,12 +35,12 @@ none_added j (u ∷ us) a r far =
     (ne_eqb activation a (far_off activation (stops_of j) a r.0.activation r.0.left far))
     ∙ none_added (j ++ Item u ∷ []) us a r.1 far
 
-pub within_items : (j k : List Entry) → HasItems j k → TakesWithin j → TakesWithin k
+pub within_items : (j k : List Entry) → MayHaveItems j k → TakesWithin j → TakesWithin k
 within_items j k h w a far =
     ap (λ (l : List Entry). taken_of (part l a)) h.whole ∙ taken_adds j h.items a
     ∙ ap (λ (l : List Up). l ++ adds j h.items a) (w a far) ∙ none_added j h.items a h.read far
 
-pub items_grow : (j k : List Entry) → HasItems j k → Grows j k
+pub items_grow : (j k : List Entry) → MayHaveItems j k → Grows j k
 items_grow j k h = (entries_of_items h.items, h.whole)
 
 module _ (orders_are : Orders → Type 0) (was_told : BusTurn → Type 0) (was_kept : Type 0) (untold : Bool)

@@ -6,10 +6,12 @@ use Rattle.sja_link.specs.declared.event.Event.{Event}
 use Rattle.sja_link.specs.declared.event.Event.TheVariants.{Start, Put, Off, Get, Release, Send, SendDone, Stop, Take}
 use Rattle.sja_link.specs.Gathering.{gathered}
 use Rattle.sja_link.specs.Lists.{Lists}
+use Rattle.sja_link.specs.Accounts.{account}
 use Rattle.sja_link.specs.Parts.{part}
 use Rattle.sja_link.specs.World.{WorldValue}
 use Rattle.sja_link.specs.WorldEvents.{Reached}
-use Rattle.sja_report.specs.Log.{ActivationValue, NodeValue, lists_in}
+use Rattle.sja_report.specs.Log.{ActivationValue, NodeValue}
+use Rattle.sja_report.specs.Settling.{IsSettled}
 
 -- what an event is of the bus
 abbrev pub bus_event : Event → List Event
@@ -40,7 +42,8 @@ pub record IsLinked (p : List Entry) (lists : Lists) : Type 0 where
   pub ends : world.lists ≡ lists
   pub order : gathered bus_event events ≡ gathered event_in p
 
--- of each activation of a node some order of events leads to the four lists of its link
+-- of each activation of a node some order of events leads to the four lists of its link, however its log is settled
 abbrev pub AreLinked : NodeValue → Type 0
 AreLinked node = (a : ℕ) (d : ActivationValue) → a < length node.activations →
-    IsLinked (part node.journal (a + 1)) (lists_in node.journal (a + 1) (slice_index_or node.activations a d))
+    (settled : IsSettled node.journal (a + 1) (slice_index_or node.activations a d)) →
+    IsLinked (part node.journal (a + 1)) (account node.journal (a + 1) settled.driver)

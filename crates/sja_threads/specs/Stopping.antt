@@ -8,7 +8,7 @@ use Rattle.sja_bus.specs.declared.bus_fault.BusFault.{BusFault}
 use Rattle.sja_bus.specs.declared.bus_fault.BusFault.TheVariants.{BitsSpent}
 use Rattle.sja_bus.specs.Buses.{BusValue}
 use Rattle.sja_bus.specs.Lawful.{IsBusRun}
-use Rattle.sja_bus.specs.Reasons.{IsNotTaken, StopsBit}
+use Rattle.sja_bus.specs.Reasons.{IsTakenAndRefused, StopsBit}
 use Rattle.sja_turns.specs.declared.run_fault.RunFault.{RunFault}
 use Rattle.sja_turns.specs.declared.run_fault.RunFault.TheVariants.{Memory, GateCount, Bus, Thread, Unsettled}
 
@@ -32,7 +32,7 @@ pub record StopsFor (plan : PlanValue) (f : BusFault) : Type 0 where
   pub nodes : length was.journals ≡ length plan.nodes
   pub right : was.fault ≡ None
   pub lawful : IsBusRun was.script was.run was.journals
-  pub why : IsNotTaken BusLists plan.bits was.journals now.journals links after f
+  pub why : IsTakenAndRefused BusLists plan.bits was.journals now.journals links after f
       ⊎ StopsBit BusLists HasNoPlace any_orders was now links after f
   pub not_spent : f ≢ BitsSpent
 

@@ -12,7 +12,7 @@ use Rattle.sja_regs.specs.Registers.{at_power_on}
 use Rattle.sja_bus.specs.Boards.{HasOrders, WasTold, WasKept}
 use Rattle.sja_bus.specs.Buses.{EachJournal, KeepsAll, EachUntold, untold_at}
 use Rattle.sja_bus.specs.Lawful.{IsBusRun}
-use Rattle.sja_bus.specs.OneBit.{HasItems}
+use Rattle.sja_bus.specs.OneBit.{MayHaveItems}
 use Rattle.sja_bus.specs.Links.{per_node, Kept}
 use Rattle.sja_bus.specs.Stretches.{with_recessive, IsStretch}
 use Rattle.sja_bus.specs.Wire.{journal_at}
@@ -37,7 +37,7 @@ module _ (plan : PlanValue) (r n : SerialValue) (deeds : List (List Deed)) (h : 
     (was : IsBusRun r.bus.script r.bus.run r.bus.journals)
     (facts : (m : ℕ) (d : Registers) → m < length r.ports → RegisterFacts (slice_index_or r.ports m d)) where
   -- no item waited
-  none_came : EachJournal HasItems r.bus.journals n.bus.journals → n.bus.journals ≡ r.bus.journals
+  none_came : EachJournal MayHaveItems r.bus.journals n.bus.journals → n.bus.journals ≡ r.bus.journals
   none_came items = lists_same [] r.bus.journals n.bus.journals journals (λ m few.
       let c = h.count.journals in let less : m < length plan.nodes = omega (arith, c, few) in
       let d = some_of r.drivers m (let k = h.count.drivers in omega (arith, k, less)) in
@@ -60,7 +60,7 @@ module _ (plan : PlanValue) (r n : SerialValue) (deeds : List (List Deed)) (h : 
 
   pub takes_at_once : (most count : ℕ) → count ≤ most → n.bus.run ≡ r.bus.run + count →
       n.bus.left + count ≡ r.bus.left → n.bits ≡ r.bits + count →
-      (count ≡ 0 → EachJournal HasItems r.bus.journals n.bus.journals) →
+      (count ≡ 0 → EachJournal MayHaveItems r.bus.journals n.bus.journals) →
       (count ≡ 0 → EachUntold r.bus.untold n.bus.untold r.bus.journals n.bus.journals) →
       (count ≢ 0 → IsStretch (HasOrders r.ports) (WasTold r.ports r.ports)
       (WasKept r.ports r.ports) r.bus.script r.bus.run count r.bus.untold r.bus.journals n.bus.journals) →

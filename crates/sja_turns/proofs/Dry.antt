@@ -4,7 +4,7 @@ use Rattle.sja_link.specs.declared.up.Up.{Up}
 use Rattle.sja_link.specs.declared.entry.Entry.{Entry}
 use Rattle.sja_link.specs.Parts.{part}
 use Rattle.sja_link.specs.Carried.{taken_of}
-use Rattle.sja_bus.specs.OneBit.{entries_of_items, HasItems}
+use Rattle.sja_bus.specs.OneBit.{entries_of_items, MayHaveItems}
 use Rattle.sja_turns.proofs.Own.{AreOwn, own_taken}
 use Rattle.sja_turns.proofs.Taking.{adds, taken_adds, no_adds, none_front, same_front}
 
@@ -12,7 +12,7 @@ none_more : (xs ys : List Up) → xs ≡ xs ++ ys → ys ≡ []
 none_more xs ys e = sym (same_front xs [] ys (append-nil xs ∙ e))
 
 -- what each activation has of these items, and what follows
-module _ (j t : List Entry) (items : HasItems j t) (given : ℕ → List Up)
+module _ (j t : List Entry) (items : MayHaveItems j t) (given : ℕ → List Up)
     (before : (a : ℕ) → a < 8 → given a ≡ taken_of (part j (suc a))) where
   taken_now : (a : ℕ) → taken_of (part t (suc a)) ≡ taken_of (part j (suc a)) ++ adds j items.items (suc a)
   taken_now a = ap (λ (l : List Entry). taken_of (part l (suc a))) items.whole ∙ taken_adds j items.items (suc a)

@@ -8,7 +8,7 @@ use Rattle.sja_link.specs.Deques.{Deques, Lies}
 use Rattle.sja_link.specs.Parts.{part}
 use Rattle.sja_link.specs.Carried.{taken_of}
 use Rattle.sja_bus.specs.Links.{stops_of, Kept}
-use Rattle.sja_bus.specs.OneBit.{entries_of_items, HasItems}
+use Rattle.sja_bus.specs.OneBit.{entries_of_items, MayHaveItems}
 use Rattle.sja_driver.specs.declared.any_driver.AnyDriver.{AnyDriver}
 use Rattle.sja_driver.specs.declared.logged_driver.LoggedDriver.{LoggedDriver}
 use Rattle.sja_driver.specs.declared.work_log.WorkLog.{WorkLog}
@@ -29,7 +29,7 @@ module _ (j k : List Entry) (deeds : List Deed) (driver : AnyDriver) (log : Work
   lies_after = kept (λ a. record { got = holds.got a; given = given_in (deeds_of deeds (suc a)) }) holds.kept
 
   -- just what waited was taken
-  pub items_are : (gave : List Up) (b : ℕ) (items : HasItems j k) → AtMostOne gave →
+  pub items_are : (gave : List Up) (b : ℕ) (items : MayHaveItems j k) → AtMostOne gave →
       (gave ≢ [] → (b ≡ suc (stops_of j)) × (stops_of j < 8)) →
       ((a : ℕ) → given_in (deeds_of deeds a) ≡ taken_of (part j a) ++ waiting b gave a) →
       (stops_of k < 8 → (slice_index_or after (base + stops_of k) none).up ≡ []) → k ≡ j ++ entries_of_items gave

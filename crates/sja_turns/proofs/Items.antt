@@ -23,7 +23,8 @@ use Rattle.sja_driver.specs.Carried.{Sees}
 use Rattle.sja_driver.specs.Deeds.{Deed, opens_by, opened_by, active_after, active_from, is_active, deeds_of, released_lengths}
 use Rattle.sja_report.specs.Aborting.{sends_taken}
 use Rattle.sja_report.specs.Settings.{Standing, after_setting, after_deed, settings_of}
-use Rattle.sja_report.specs.Timing.{given_when, taken_when, WaitsInTime}
+use Rattle.sja_report.specs.Timing.{given_when, taken_when}
+use Rattle.sja_report.proofs.Waiting.{WaitsInTime}
 use Rattle.sja_report.specs.Windows.{put_by, off_by, window_of, SeesIf}
 use Rattle.sja_report.proofs.Stepping.{stands_in, timely_deed}
 use Rattle.sja_report.proofs.Timings.{timely_take, timely_quiet, all_timely}

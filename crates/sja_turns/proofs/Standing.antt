@@ -10,7 +10,7 @@ use Rattle.sja_link.specs.Accounts.{Account}
 use Rattle.sja_link.specs.Deques.{Deques, Lies}
 use Rattle.sja_bus.specs.Buses.{KeepsAll, EachJournal, AllDry, EachUntold, untold_at}
 use Rattle.sja_bus.specs.Links.{per_node, stops_of}
-use Rattle.sja_bus.specs.OneBit.{HasItems, entries_of_items}
+use Rattle.sja_bus.specs.OneBit.{MayHaveItems, entries_of_items}
 use Rattle.sja_bus.specs.Telling.{IsUntold}
 use Rattle.sja_bus.specs.Wire.{journal_at}
 use Rattle.sja_link.specs.Places.{place_of}
@@ -35,7 +35,7 @@ use Rattle.sja_turns.proofs.Trying.{alike, shows_none, takes_none}
 use Rattle.sja_turns.proofs.Turned.{none_entered, idle, stepped, still_journal, same_port, still, waited}
 
 -- nothing is untold after a taking: so nothing was before it, and no item was taken
-pub none_untold : (before now : Bool) (j k : List Entry) → HasItems j k → IsUntold before now j k → now ≡ false →
+pub none_untold : (before now : Bool) (j k : List Entry) → MayHaveItems j k → IsUntold before now j k → now ≡ false →
     (before ≡ false) × (k ≡ j)
 none_untold before now j k items untold told = (over before refl, by items.items items.whole)
   where
@@ -56,7 +56,7 @@ module _ (plan : PlanValue) (r n : SerialValue) (deeds : List (List Deed)) (node
     (bits_are : n.bits ≡ r.bits)
     (right : n.bus.fault ≡ None) (run : n.bus.run ≡ r.bus.run) (script : n.bus.script ≡ r.bus.script)
     (left_is : n.bus.left ≡ r.bus.left) (journals : length n.bus.journals ≡ length r.bus.journals)
-    (kept : KeepsAll Lies r.bus.journals n.bus.journals given n.links) (items : EachJournal HasItems r.bus.journals
+    (kept : KeepsAll Lies r.bus.journals n.bus.journals given n.links) (items : EachJournal MayHaveItems r.bus.journals
     n.bus.journals) (untold : EachUntold r.bus.untold n.bus.untold r.bus.journals n.bus.journals)
     (dry : AllDry (λ (s : Deques). s.up ≡ []) n.bus.journals n.links)
     (sames : EachRelated (λ (a b : Deques). b.link ≡ a.link) given n.links) (many : length n.links ≡ length r.links)

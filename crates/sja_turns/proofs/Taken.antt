@@ -14,7 +14,7 @@ use Rattle.sja_link.specs.Verdicts.{IsLawful as IsLawfulJournal}
 use Rattle.sja_bus.specs.declared.bus_fault.BusFault.{BusFault}
 use Rattle.sja_bus.specs.Links.{stops_of}
 use Rattle.sja_bus.specs.OutOfOrder.{IsBadCredit}
-use Rattle.sja_bus.specs.Reasons.{IsRefusedFor, RefusesItem, IsNotTaken, room_for}
+use Rattle.sja_bus.specs.Reasons.{IsRefusedFor, RefusesItem, IsTakenAndRefused, room_for}
 use Rattle.sja_bus.specs.Wire.{journal_at}
 use Rattle.sja_plan.specs.Plan.{PlanValue}
 use Rattle.sja_regs.specs.declared.registers.Registers.{Registers}
@@ -120,7 +120,7 @@ pub gather_takes : (plan : PlanValue) (r : SerialValue) (deeds : List (List Deed
     Steps alike Lies shows_none takes_none was now r.links given (8 * node) p q one r.bits b →
     ((i : ℕ) (d : Deques) → i ≢ place_after (8 * node) (ended_of was) → slice_index_or given i d ≡ slice_index_or
     r.links i d) →
-    IsNotTaken Lies (r.bus.run + r.bus.left) r.bus.journals journals given after f → ⊥
+    IsTakenAndRefused Lies (r.bus.run + r.bus.left) r.bus.journals journals given after f → ⊥
 gather_takes plan r deeds node was now p q given after journals one none f b h w lawful facts short place st others
     r_not =
     let m = r_not.node in

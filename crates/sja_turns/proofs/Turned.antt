@@ -12,7 +12,7 @@ use Rattle.sja_link.specs.Carried.{taken_of}
 use Rattle.sja_link.specs.Places.{place_of}
 use Rattle.sja_link.specs.Verdicts.{IsLawful as IsLawfulJournal}
 use Rattle.sja_bus.specs.Links.{stops_of, Kept}
-use Rattle.sja_bus.specs.OneBit.{entries_of_items, HasItems}
+use Rattle.sja_bus.specs.OneBit.{entries_of_items, MayHaveItems}
 use Rattle.sja_regs.specs.declared.registers.Registers.{Registers}
 use Rattle.sja_regs.specs.Facts.{RegisterFacts}
 use Rattle.sja_script.specs.declared.step.Step.{Step}
@@ -59,7 +59,7 @@ module _ (version : ℕ) (steps : List Step) (j k : List Entry) (deeds : List De
     (p q : Registers) (links given after : List Deques) (base : ℕ) (one : Step) (none : Deques)
     (h : IsNode version steps j deeds was p links base) (lawful : IsLawfulJournal j) (facts : RegisterFacts p)
     (left : length deeds < length steps) (is : one ≡ slice_index_or steps (length deeds) one)
-    (now_lawful : IsLawful now) (items : HasItems j k) (kept : (acc : ℕ → Account) → Kept Lies j given base acc →
+    (now_lawful : IsLawful now) (items : MayHaveItems j k) (kept : (acc : ℕ → Account) → Kept Lies j given base acc →
     Kept Lies k after base acc)
     (dry : stops_of k < 8 → (slice_index_or after (base + stops_of k) none).up ≡ []) where
   -- the step was done
@@ -118,7 +118,7 @@ module _ (version : ℕ) (steps : List Step) (j k : List Entry) (deeds : List De
     (p q : Registers) (links given after : List Deques) (base : ℕ) (none : Deques)
     (h : IsNode version steps j deeds was p links base) (now_lawful : IsLawful now) (trace : Traces (driver_of now)
     (log_of now) deeds) (holds : HoldsBy Lies deeds (driver_of now) (log_of now) j given base)
-    (room : (m : ℕ) → HasRoom m (log_of was) → HasRoom m (log_of now)) (port : q ≡ p) (items : HasItems j k)
+    (room : (m : ℕ) → HasRoom m (log_of was) → HasRoom m (log_of now)) (port : q ≡ p) (items : MayHaveItems j k)
     (kept : (acc : ℕ → Account) → Kept Lies j given base acc → Kept Lies k after base acc)
     (dry : stops_of k < 8 → (slice_index_or after (base + stops_of k) none).up ≡ []) where
   pub same_journal : k ≡ j
@@ -167,7 +167,7 @@ is_unmet (Ended l) e = absurd cc
 module _ (version : ℕ) (steps : List Step) (j k : List Entry) (deeds : List Deed) (was now : LoggedDriver)
     (p q : Registers) (links given after : List Deques) (base : ℕ) (one : Step) (none : Deques)
     (h : IsNode version steps j deeds was p links base) (lawful : IsLawfulJournal j) (now_lawful : IsLawful now)
-    (items : HasItems j k)
+    (items : MayHaveItems j k)
     (kept : (acc : ℕ → Account) → Kept Lies j given base acc → Kept Lies k after base acc)
     (dry : stops_of k < 8 → (slice_index_or after (base + stops_of k) none).up ≡ [])
     (st : Steps alike Lies shows_none takes_none was now links given base p q one (place_of j).bits false)

@@ -22,9 +22,9 @@ use Rattle.sja_bus.specs.declared.bus_fault.BusFault.TheVariants.{BitsSpent, Bad
 use Rattle.sja_bus.specs.Buses.{BusValue}
 use Rattle.sja_bus.specs.Lawful.{IsBusRun}
 use Rattle.sja_bus.specs.Links.{Kept, stops_of}
-use Rattle.sja_bus.specs.OneBit.{HasItems, abort_as}
+use Rattle.sja_bus.specs.OneBit.{MayHaveItems, abort_as}
 use Rattle.sja_bus.proofs.OutOfRoom.{short_few}
-use Rattle.sja_bus.specs.Reasons.{GivesBack, IsNotTaken, IsNotAborted, IsBrokenOff, IsBrokenFor, StopsBit, room_for}
+use Rattle.sja_bus.specs.Reasons.{GivesBack, IsTakenAndRefused, IsNotAborted, IsBrokenOff, IsBrokenFor, StopsBit, room_for}
 use Rattle.sja_bus.specs.Reasons.StopsBit.{spent, not_taken, not_aborted, broken_off}
 use Rattle.sja_bus.specs.Stretches.{recessive_bits, IsFullInStretch}
 use Rattle.sja_bus.specs.Wire.{journal_at}
@@ -100,7 +100,7 @@ module _ (plan : PlanValue) (r : SerialValue) (deeds : List (List Deed)) (h : St
     room = let has = entries in let a = h.all_bits in let b = h.bits in omega (arith, has, a, b, left)
 
     -- an item that was refused would wait
-    nothing_shown : (t : List Entry) (items : HasItems (journal_at r.bus.journals m) t) (item : Up) (up : List Up) →
+    nothing_shown : (t : List Entry) (items : MayHaveItems (journal_at r.bus.journals m) t) (item : Up) (up : List Up) →
         stops_of t < 8 →
         given (stops_of t) ≡ (taken_of (part t (suc (stops_of t))) ++ item ∷ []) ++ up → ⊥
     nothing_shown t items item up small shown =
@@ -127,7 +127,7 @@ module _ (plan : PlanValue) (r : SerialValue) (deeds : List (List Deed)) (h : St
     not_full t short full = let x = room in let e = all_bits in omega (arith, x, e, short, full)
 
   no_item : (now : BusValue) (after : List Deques) (f : BusFault) →
-      IsNotTaken Lies (r.bus.run + r.bus.left) r.bus.journals now.journals r.links after f → ⊥
+      IsTakenAndRefused Lies (r.bus.run + r.bus.left) r.bus.journals now.journals r.links after f → ⊥
   no_item now after f x =
       let t = journal_at now.journals x.node in
       nothing_shown x.node x.few t x.refuses.items x.refuses.item
@@ -203,7 +203,7 @@ module _ (plan : PlanValue) (r : SerialValue) (deeds : List (List Deed)) (h : St
       omega (arith, l, grown, bits, has, early, full)
 
   pub never_refused : (now : BusValue) (after : List Deques) (f : BusFault) →
-      IsNotTaken Lies (r.bus.run + r.bus.left) r.bus.journals now.journals r.links after f
+      IsTakenAndRefused Lies (r.bus.run + r.bus.left) r.bus.journals now.journals r.links after f
       ⊎ IsFullInStretch Lies (r.bus.run + r.bus.left) r.bus.left r.bus.journals now.journals r.links after f → ⊥
   never_refused now after f (inl x) = no_item now after f x
   never_refused now after f (inr x) = never_full now after f x

@@ -23,7 +23,6 @@ abbrev pub activation_after : LoggedDriver → List Down → ℕ → ActivationV
 activation_after driver down a = record {
   released = released_of (releases_in (log_of driver)) (a + 1);
   unread = held_after driver a ++ messages down;
-  left = length down;
 }
 
 -- the logs of the first so many activations; what lies on their links begins at this place

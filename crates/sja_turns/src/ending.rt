@@ -82,7 +82,7 @@ fn activation_log(
 {
     let released = released_in(alloc, driver.log().released(), ended + 1)?;
     let unread = unread_on(alloc, held_in(driver, usize::from(ended)), lying)?;
-    Ok(ActivationLog::of(released, unread, lying.items().len()))
+    Ok(ActivationLog::of(released, unread))
 }
 
 /// What became of each activation that a driver started; what lay on its eight links begins at this place.

@@ -68,8 +68,7 @@ pub fn answered(done: &mut Vec<Done>, bits: u32, answer: StepAnswer) -> Result<(
 
 /// An activation of which these messages were released and these left unread on the link.
 pub fn activation(released: Vec<Message>, unread: Vec<Message>) -> ActivationLog {
-    let left = unread.len();
-    ActivationLog::of(released, unread, left)
+    ActivationLog::of(released, unread)
 }
 
 /// An activation in which nothing came.

@@ -138,8 +138,8 @@ fn an_activation_without_a_start_has_nothing_stored(rt: HostRuntime) -> Result<(
 fn an_activation_gives_back_its_parts(rt: HostRuntime) -> Result<(), Fail> {
     let alloc = rt.alloc();
     let unread = one(alloc, message(5)?)?;
-    let log = ActivationLog::of(several(alloc, &Message::default(), 2)?, unread, 3);
-    assert!(rt; log.released().len() == 2 && log.unread().len() == 1 && log.left() == 3);
+    let log = ActivationLog::of(several(alloc, &Message::default(), 2)?, unread);
+    assert!(rt; log.released().len() == 2 && log.unread().len() == 1);
     Ok(())
 }
 

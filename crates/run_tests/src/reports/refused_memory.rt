@@ -20,7 +20,7 @@ fn one_lost(alloc: Global) -> Result<RunLog, OutOfMemory> {
     let _ = journal.enter(start());
     let _ = journal.enter(Entry::Overrun(Message::default()));
     let mut activations = Vec::with_capacity(alloc, 1)?;
-    activations.push_reserved(ActivationLog::of(Vec::new(alloc), Vec::new(alloc), 0));
+    activations.push_reserved(ActivationLog::of(Vec::new(alloc), Vec::new(alloc)));
     let mut nodes = Vec::with_capacity(alloc, 1)?;
     nodes.push_reserved(NodeRun::of(journal, 0, 0, Vec::new(alloc), activations));
     Ok(RunLog::of(1, 20, End::Turns, nodes))

@@ -18,7 +18,7 @@ use Rattle.sja_bus.specs.declared.news.News.TheVariants.{Nothing, Dropped}
 use Rattle.sja_bus.specs.declared.seat.Seat.{Seat}
 use Rattle.sja_bus.specs.Wire.{IsWired}
 use Rattle.sja_bus.specs.Links.{per_node, Kept, Grows, Numbered}
-use Rattle.sja_bus.specs.OneBit.{HasItems, Opens}
+use Rattle.sja_bus.specs.OneBit.{MayHaveItems, Opens}
 use Rattle.sja_bus.specs.Inside.Seats.{IsReady}
 use Rattle.sja_bus.specs.Inside.Turning.{is_untold, TakesNews, OpensNews, Turns}
 
@@ -61,7 +61,7 @@ Done R k before after =
     × ((k ≤ m) → slice_index_or after m s ≡ slice_index_or before m s)
 
 abbrev pub SeatTakes : ℕ → Seat → Seat → Type 0
-SeatTakes m old new = HasItems old.journal.entries new.journal.entries
+SeatTakes m old new = MayHaveItems old.journal.entries new.journal.entries
 
 abbrev pub SeatOpens : (ℕ → Orders → Type 0) → ℕ → Seat → Seat → Type 0
 SeatOpens orders_are m old new = Opens (orders_are m) old.journal.entries new.journal.entries

@@ -20,7 +20,7 @@ use Rattle.sja_bus.specs.Links.{Kept, Grows}
 use Rattle.sja_bus.specs.Reasons.{IsRefusedFor}
 use Rattle.sja_bus.specs.OutOfOrder.{IsOutOfOrder, HasOff}
 use Rattle.sja_bus.specs.Aborting.{IsApplied}
-use Rattle.sja_bus.specs.OneBit.{HasItems, HasAbort, off_as}
+use Rattle.sja_bus.specs.OneBit.{MayHaveItems, MayHaveAbort, off_as}
 use Rattle.sja_bus.specs.OutOfRoom.{IsOutOfRoom}
 use Rattle.sja_bus.specs.Inside.Seats.{IsSound, IsSeat, IsJudged}
 
@@ -102,14 +102,14 @@ IsBitShort old new f = (f ≡ JournalFull (link_of old.ledger).node)
 
 -- an abort was applied, and entered where it changed the node
 pub record Applies (j k : List Entry) : Type 0 where
-  pub aborts : HasAbort j k
+  pub aborts : MayHaveAbort j k
   pub is : IsApplied j aborts.changed
 
 -- items were taken, and then an abort was ordered that changes the node, and its entry found no room
 pub record FullForAbort {E : Type 0} (stands : E → Lists → Type 0) (has_orders : Orders → Type 0) (old new : Seat)
     (links after : List E) (base : ℕ) (f : BusFault) : Type 0 where
   pub is : f ≡ JournalFull (link_of old.ledger).node
-  pub items : HasItems old.journal.entries new.journal.entries
+  pub items : MayHaveItems old.journal.entries new.journal.entries
   pub orders : Orders
   pub are_orders : has_orders orders
   pub ordered : orders.abort ≡ true

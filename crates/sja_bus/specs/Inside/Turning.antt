@@ -14,7 +14,7 @@ use Rattle.sja_bus.specs.declared.brought.Brought.{Brought}
 use Rattle.sja_bus.specs.declared.news.News.{News}
 use Rattle.sja_bus.specs.declared.news.News.TheVariants.{Nothing, Changed, Dropped}
 use Rattle.sja_bus.specs.declared.seat.Seat.{Seat}
-use Rattle.sja_bus.specs.OneBit.{HasItems, HasAbort, HasVerdict, HasBit}
+use Rattle.sja_bus.specs.OneBit.{MayHaveItems, MayHaveAbort, MayHaveVerdict, HasBit}
 use Rattle.sja_bus.specs.Telling.{IsTurn, SaysAlone, is_overrun}
 use Rattle.sja_bus.specs.Inside.Following.{open_in}
 
@@ -42,22 +42,22 @@ Drops changed j dropped = (found : List FinishedPiece) (cut : IsCut (record_of j
 
 -- an abort is to be told where it changed the node, and that the request was dropped where none is left
 pub record AbortsNews (old new : Seat) : Type 0 where
-  pub aborts : HasAbort old.journal.entries new.journal.entries
+  pub aborts : MayHaveAbort old.journal.entries new.journal.entries
   pub still : new.news ≡ Nothing → (old.news ≡ Nothing) × (new.journal.entries ≡ old.journal.entries)
   pub drops : old.news ≢ Dropped → Drops aborts.changed new.journal.entries (is_dropped new.news)
 
 -- the same after items were taken
 pub record OpensNews (old new : Seat) : Type 0 where
   pub taken : List Entry
-  pub items : HasItems old.journal.entries taken
-  pub aborts : HasAbort taken new.journal.entries
+  pub items : MayHaveItems old.journal.entries taken
+  pub aborts : MayHaveAbort taken new.journal.entries
   pub still : new.news ≡ Nothing → (old.news ≡ Nothing) × (new.journal.entries ≡ old.journal.entries)
   pub drops : old.news ≢ Dropped → Drops aborts.changed new.journal.entries (is_dropped new.news)
 
 -- the journal has a bit more with what the bit brought: whether the message found no room, and whether the node went
 -- bus-off
 pub record BringsVerdict (j : List Entry) (driven seen : Level) (overrun : Bool) (k : List Entry) : Type 0 where
-  pub verdict : HasVerdict j driven seen k
+  pub verdict : MayHaveVerdict j driven seen k
   pub overrun_is : overrun ≡ is_overrun verdict.verdict
 
 pub record Brings (j : List Entry) (driven seen : Level) (brought : Brought) (k : List Entry) : Type 0 where

@@ -3,11 +3,11 @@ use Rattle.std.proofs.lemmas.Grind.{common_steps}
 use Rattle.std.specs.Prelude.{vec_capacity}
 use Rattle.sja_link.proofs.Related.{each_refl}
 use Rattle.sja_bus.specs.declared.seat.Seat.{Seat}
-use Rattle.sja_bus.specs.OneBit.{HasItems}
+use Rattle.sja_bus.specs.OneBit.{MayHaveItems}
 use Rattle.sja_bus.specs.Buses.{BusValue, EachJournal, EachUntold, AllDry}
 use Rattle.sja_bus.specs.Inside.Rows.{journals_of, untold_of, EachSeat, SeatTakes, SeatNews}
 use Rattle.sja_bus.specs.Inside.Whole.{IsWhole}
-use Rattle.sja_bus.specs.Reasons.{room_for, IsNotTaken}
+use Rattle.sja_bus.specs.Reasons.{room_for, IsTakenAndRefused}
 use Rattle.sja_bus.specs.Inside.Refusing.{HaveRoom, SeatRefuses}
 use Rattle.sja_bus.proofs.Running.{wired_taken}
 use Rattle.sja_bus.proofs.Journals.{all_items, all_dry, all_untold, calm_taken}
@@ -61,8 +61,8 @@ returns-in-Ok-clause-items g c =
     let len : length now ≡ length was = c.gather_all.auto.seats ∙ ap (λ (l : List Seat). length l) v in
     let e : take b.seats.len (now ++ drop (length now) was) ≡ now = grind (arith, common_steps) in
     let T : List Seat → Type 0 = λ l. EachSeat SeatTakes l now in
-    let P : BusValue → Type 0 = λ w. EachJournal HasItems w.journals (journals_of now) in
-    let Q : List Seat → Type 0 = λ xs. EachJournal HasItems c.args.self.now.journals (journals_of xs) in
+    let P : BusValue → Type 0 = λ w. EachJournal MayHaveItems w.journals (journals_of now) in
+    let Q : List Seat → Type 0 = λ xs. EachJournal MayHaveItems c.args.self.now.journals (journals_of xs) in
     subst Q (sym e) (subst P c.self.view_is (all_items was now len (subst T v c.in-Ok.ensures.items)))
 
 pub returns-in-Ok-clause-dry : goal.returns-in-Ok-clause-dry
@@ -85,10 +85,10 @@ returns-in-Err-clause-reason g c = λ none.
     let e : take b.seats.len (now ++ drop (length now) was) ≡ now = grind (arith, common_steps) in
     let S : List Seat → Type 0 = λ l. SeatRefuses E.stands l now before after f in
     let right : b.fault ≡ None = ap (λ (w : BusValue). w.fault) c.self.view_is ∙ none in
-    let N : ℕ → Type 0 = λ n. IsNotTaken E.stands n (journals_of was) (journals_of now) before after f in
+    let N : ℕ → Type 0 = λ n. IsTakenAndRefused E.stands n (journals_of was) (journals_of now) before after f in
     let reason = subst N (sym inv.bits) (not_taken E.stands b.struck.bits was now before after f len (inv.rooms right) (subst S v c.in-Err.ensures.refused)) in
-    let P : BusValue → Type 0 = λ w. IsNotTaken E.stands (w.run + w.left) w.journals (journals_of now) before after f in
-    let Q : List Seat → Type 0 = λ xs. IsNotTaken E.stands (c.args.self.now.run + c.args.self.now.left) c.args.self.now.journals (journals_of xs) before after f in
+    let P : BusValue → Type 0 = λ w. IsTakenAndRefused E.stands (w.run + w.left) w.journals (journals_of now) before after f in
+    let Q : List Seat → Type 0 = λ xs. IsTakenAndRefused E.stands (c.args.self.now.run + c.args.self.now.left) c.args.self.now.journals (journals_of xs) before after f in
     subst Q (sym e) (subst P c.self.view_is reason)
 
 pub returns-in-Ok-clause-untold : goal.returns-in-Ok-clause-untold

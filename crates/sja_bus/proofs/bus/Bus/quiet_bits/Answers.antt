@@ -1,7 +1,7 @@
 use Rattle.std.proofs.Common.{◌≡◌, ◌≢◌, ap, ◌+◌, ◌∙◌, ℕ, refl, sym, subst, inr}
 use Rattle.std.specs.Prelude.{Result, Ok, Err, IfOk}
 use Rattle.sja_bus.specs.declared.bus_fault.BusFault.{BusFault}
-use Rattle.sja_bus.specs.OneBit.{HasItems}
+use Rattle.sja_bus.specs.OneBit.{MayHaveItems}
 use Rattle.sja_bus.specs.Buses.{BusValue, AllTold, EachJournal, EachUntold}
 use Rattle.sja_bus.specs.Stretches.{IsStretch, IsOutOfEntries}
 use Rattle.sja_bus.specs.Inside.AtOnce.{RunsAtOnce}
@@ -49,7 +49,7 @@ returns-clause-right g c = each_count c.rest.result (λ n h. h.right) c.rest.ens
 
 pub returns-clause-items : goal.returns-clause-items
 returns-clause-items g c = λ zero.
-    let P : BusValue → Type 0 = λ x. EachJournal HasItems c.args.self.now.journals x.journals in
+    let P : BusValue → Type 0 = λ x. EachJournal MayHaveItems c.args.self.now.journals x.journals in
     subst P (sym (none g (goal.at.returns-clause-items g c).After-rest zero)) c.in_ok-gather.ensures.items
 
 pub returns-clause-untold : goal.returns-clause-untold

@@ -1,6 +1,6 @@
 use Rattle.std.proofs.Common.{◌-◌, length}
 use Rattle.sja_bus.specs.Links.{Goes}
-use Rattle.sja_bus.specs.OneBit.{HasItems}
+use Rattle.sja_bus.specs.OneBit.{MayHaveItems}
 use Rattle.sja_bus.specs.Inside.Seats.{IsReady}
 use Rattle.sja_bus.specs.Inside.AtLinks.{KeepsLinks}
 use Rattle.sja_bus.specs.Inside.Turning.{TakesNews}
@@ -11,7 +11,7 @@ invariant-loop-self g l = record {
   ready : IsReady l.self;
   stays : KeepsLinks g.E.BusEnd.same l.initial.self l.self l.initial.links l.links;
   goes : Goes g.E.BusEnd.same g.E.BusEnd.stands l.initial.self.journal.entries l.self.journal.entries l.initial.links l.links l.base;
-  items : HasItems l.initial.self.journal.entries l.self.journal.entries;
+  items : MayHaveItems l.initial.self.journal.entries l.self.journal.entries;
   news : TakesNews l.initial.self l.self;
 }
 
