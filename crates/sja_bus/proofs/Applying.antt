@@ -15,7 +15,7 @@ use Rattle.sja_link.specs.declared.entry.Entry.TheVariants.{Abort}
 use Rattle.sja_link.specs.Records.{record_of}
 use Rattle.sja_bus.specs.declared.activity.Activity.{Activity}
 use Rattle.sja_bus.specs.declared.activity.Activity.TheVariants.{Between, Running, Off, OffAndAsked}
-use Rattle.sja_bus.specs.Aborting.{abort_in, changes, IsApplied}
+use Rattle.sja_wire.specs.Aborting.{abort_in, changes, IsApplied}
 use Rattle.sja_bus.specs.Inside.Following.{Follows, Reads}
 use Rattle.sja_bus.specs.Inside.Taking.{Applies}
 use Rattle.sja_bus.proofs.Lawfuls.{now_once}

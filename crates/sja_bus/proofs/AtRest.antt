@@ -30,8 +30,8 @@ use Rattle.sja_link.specs.Written.{Written}
 use Rattle.sja_regs.specs.declared.orders.Orders.{Orders}
 use Rattle.sja_regs.specs.declared.bus_turn.BusTurn.{BusTurn}
 use Rattle.sja_bus.specs.declared.seat.Seat.{Seat}
-use Rattle.sja_bus.specs.Aborting.{changes, IsApplied}
-use Rattle.sja_bus.specs.OneBit.{MayHaveAbort, Opens}
+use Rattle.sja_wire.specs.Aborting.{changes, IsApplied}
+use Rattle.sja_wire.specs.OneBit.{MayHaveAbort, Opens}
 use Rattle.sja_bus.specs.Stretches.{recessive_bits}
 use Rattle.sja_bus.specs.Inside.Following.{Follows}
 use Rattle.sja_bus.specs.Inside.Seats.{IsSound, IsReady}

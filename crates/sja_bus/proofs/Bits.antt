@@ -20,8 +20,8 @@ use Rattle.sja_link.specs.Verdicts.{filter_of, PassesAny, IsDue, entry_of}
 use Rattle.sja_link.specs.Gathering.{total}
 use Rattle.sja_link.proofs.Freeing.{total_append}
 use Rattle.sja_link.proofs.Entering.{gathered_push, gathered_append}
-use Rattle.sja_bus.specs.OneBit.{IsRead, AreRead, MayHaveItems, MayHaveAbort, abort_as, entries_of_items, judged_as, off_as, HasBit, AreInOrder}
-use Rattle.sja_bus.specs.OutOfOrder.{IsOutOfOrder}
+use Rattle.sja_wire.specs.OneBit.{IsRead, AreRead, MayHaveItems, MayHaveAbort, abort_as, entries_of_items, judged_as, off_as, HasBit, AreInOrder}
+use Rattle.sja_wire.specs.OutOfOrder.{IsOutOfOrder}
 use Rattle.sja_bus.specs.Inside.Following.{Follows, FollowsBit}
 use Rattle.sja_bus.specs.declared.brought.Brought.{Brought}
 use Rattle.sja_bus.specs.Inside.Turning.{BringsVerdict, Brings}

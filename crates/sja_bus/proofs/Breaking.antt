@@ -9,14 +9,14 @@ use Rattle.sja_link.specs.Lists.{Lists}
 use Rattle.sja_link.specs.Accounts.{Account, account}
 use Rattle.sja_link.specs.Parts.{part}
 use Rattle.sja_link.specs.BusLedgers.{link_of}
-use Rattle.sja_bus.specs.declared.bus_fault.BusFault.{BusFault}
-use Rattle.sja_bus.specs.declared.bus_fault.BusFault.TheVariants.{BitsSpent, BadCredit, Stuck, BadOrder, JournalFull}
+use Rattle.sja_wire.specs.declared.bus_fault.BusFault.{BusFault}
+use Rattle.sja_wire.specs.declared.bus_fault.BusFault.TheVariants.{BitsSpent, BadCredit, Stuck, BadOrder, JournalFull}
 use Rattle.sja_bus.specs.declared.seat.Seat.{Seat}
-use Rattle.sja_bus.specs.Wire.{journal_at}
-use Rattle.sja_bus.specs.Links.{Kept, Goes, Moves}
-use Rattle.sja_bus.specs.OutOfOrder.{HasOff}
-use Rattle.sja_bus.specs.Aborting.{IsApplied}
-use Rattle.sja_bus.specs.OneBit.{MayHaveItems, Opens}
+use Rattle.sja_wire.specs.Wire.{journal_at}
+use Rattle.sja_wire.specs.Links.{Kept, Goes, Moves}
+use Rattle.sja_wire.specs.OutOfOrder.{HasOff}
+use Rattle.sja_wire.specs.Aborting.{IsApplied}
+use Rattle.sja_wire.specs.OneBit.{MayHaveItems, Opens}
 use Rattle.sja_bus.specs.OutOfRoom.{IsOutOfRoom}
 use Rattle.sja_bus.specs.Reasons.{IsBrokenFor, IsTakenAndRefused, IsNotAborted, IsBrokenOff, StopsBit, room_for}
 use Rattle.sja_bus.specs.Reasons.StopsBit.{not_taken as not_taken_bit, not_aborted as not_aborted_bit, broken_off as broken_off_bit}

@@ -13,10 +13,10 @@ use Rattle.sja_script.specs.Striking.{Strikes}
 use Rattle.sja_bus.specs.declared.struck_nodes.StruckNodes.{StruckNodes}
 use Rattle.sja_bus.specs.declared.seat.Seat.{Seat}
 use Rattle.sja_bus.specs.StrikesByBit.{IsAmong}
-use Rattle.sja_bus.specs.Wire.{wired, journal_at, IsWired}
-use Rattle.sja_bus.specs.Links.{Kept, stops_of}
-use Rattle.sja_bus.specs.OneBit.{MayHaveItems, Opens}
-use Rattle.sja_bus.specs.Telling.{SaysAlone, IsPassedOver, IsUntold}
+use Rattle.sja_wire.specs.Wire.{wired, journal_at, IsWired}
+use Rattle.sja_wire.specs.Links.{Kept, stops_of}
+use Rattle.sja_wire.specs.OneBit.{MayHaveItems, Opens}
+use Rattle.sja_wire.specs.Telling.{SaysAlone, IsPassedOver, IsUntold}
 use Rattle.sja_bus.specs.Buses.{EachJournal, EachUntold, KeepsAll, AllDry, untold_at, IsNodeBit, IsBit}
 use Rattle.sja_bus.specs.declared.news.News.TheVariants.{Nothing, Changed, Dropped}
 use Rattle.sja_bus.specs.Inside.Turning.{is_untold, is_dropped, TakesNews, OpensNews, Drops, Turns}

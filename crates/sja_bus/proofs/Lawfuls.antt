@@ -14,7 +14,7 @@ use Rattle.sja_link.specs.declared.entry.Entry.{Entry}
 use Rattle.sja_link.specs.Records.{record_of}
 use Rattle.sja_link.specs.Verdicts.{HasVerdicts, IsLawful}
 use Rattle.sja_bus.specs.Inside.Following.{Follows}
-use Rattle.sja_bus.specs.Lawful.{CountersAre}
+use Rattle.sja_wire.specs.Lawful.{CountersAre}
 
 pub lawful_of : (node : Node) (j : List Entry) → Follows node j → IsLawful j
 lawful_of node j h = record {

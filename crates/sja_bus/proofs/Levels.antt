@@ -5,7 +5,7 @@ use Rattle.std.proofs.lemmas.List.{map-append, take_more_set}
 use Rattle.can_bits.specs.declared.level.Level.{Level}
 use Rattle.can_bits.specs.declared.level.Level.TheVariants.{Dominant, Recessive}
 use Rattle.sja_bus.specs.declared.seat.Seat.{Seat}
-use Rattle.sja_bus.specs.Wire.{wired}
+use Rattle.sja_wire.specs.Wire.{wired}
 use Rattle.sja_bus.specs.Inside.Rows.{driven_by}
 
 wired_first : (x : Level) (levels : List Level) → x ≡ Dominant → wired (x ∷ levels) ≡ Dominant

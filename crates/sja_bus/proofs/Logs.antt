@@ -6,8 +6,8 @@ use Rattle.sja_link.specs.declared.entry.Entry.{Entry}
 use Rattle.sja_link.specs.Related.{EachRelated}
 use Rattle.sja_script.specs.declared.strike.Strike.{Strike}
 use Rattle.sja_bus.specs.declared.seat.Seat.{Seat}
-use Rattle.sja_bus.specs.declared.node_log.NodeLog.{NodeLog}
-use Rattle.sja_bus.specs.Lawful.{CountersAre}
+use Rattle.sja_wire.specs.declared.node_log.NodeLog.{NodeLog}
+use Rattle.sja_wire.specs.Lawful.{CountersAre}
 use Rattle.sja_bus.specs.Inside.Following.{Follows}
 use Rattle.sja_bus.specs.Inside.Ending.{IsLog}
 use Rattle.sja_bus.specs.declared.news.News.TheVariants.{Nothing, Dropped}

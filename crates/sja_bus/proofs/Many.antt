@@ -13,7 +13,7 @@ use Rattle.sja_link.specs.Related.{EachRelated}
 use Rattle.sja_link.proofs.Related.{each_refl, each_trans, each_at}
 use Rattle.sja_bus.specs.declared.seat.Seat.{Seat}
 use Rattle.sja_bus.proofs.Moving.{grows_refl, grows_trans}
-use Rattle.sja_bus.specs.Links.{Grows, Goes, Kept, Numbered}
+use Rattle.sja_wire.specs.Links.{Grows, Goes, Kept, Numbered}
 use Rattle.sja_bus.specs.Inside.Rows.{IsOf, AreReady, GoesAll, EachSeat, Done}
 
 -- links of another node are as they were

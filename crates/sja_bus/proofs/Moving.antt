@@ -11,8 +11,8 @@ use Rattle.sja_link.specs.Parts.{part}
 use Rattle.sja_link.specs.Accounts.{Account, account, with_entry}
 use Rattle.sja_link.proofs.Entering.{account_here, account_else, part_else}
 use Rattle.sja_link.proofs.Related.{each_refl, each_trans, each_one}
-use Rattle.sja_bus.specs.Links.{Moves, Goes, Grows}
-use Rattle.sja_bus.specs.OneBit.{MayHaveAbort, abort_as}
+use Rattle.sja_wire.specs.Links.{Moves, Goes, Grows}
+use Rattle.sja_wire.specs.OneBit.{MayHaveAbort, abort_as}
 
 pub grows_refl : (j : List Entry) → Grows j j
 grows_refl j = ([], sym (append-nil j))

@@ -15,9 +15,9 @@ use Rattle.sja_link.proofs.Entering.{gathered_push, part_here, part_else}
 use Rattle.sja_link.proofs.Freeing.{total_append, total_push}
 use Rattle.sja_link.proofs.Judging.{each_push}
 use Rattle.sja_link.proofs.Openings.{part_opens}
-use Rattle.sja_bus.specs.Links.{stops_in}
-use Rattle.sja_bus.specs.OutOfOrder.{HasOff}
-use Rattle.sja_bus.specs.Orderly.{IsRunning, IsOrderly, AreOrderly}
+use Rattle.sja_wire.specs.Links.{stops_in}
+use Rattle.sja_wire.specs.OutOfOrder.{HasOff}
+use Rattle.sja_wire.specs.Orderly.{IsRunning, IsOrderly, AreOrderly}
 
 -- an entry more of this activation
 pub orderly_here : (j : List Entry) (e : Entry) (a : ℕ) → AreOrderly j → (past (place_of j) e).activation ≡ a →

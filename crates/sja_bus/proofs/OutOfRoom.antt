@@ -8,9 +8,9 @@ use Rattle.sja_link.specs.declared.entry.Entry.TheVariants.{Bit, Off}
 use Rattle.sja_link.specs.declared.verdict.Verdict.{Verdict}
 use Rattle.sja_link.specs.Parts.{part}
 use Rattle.sja_link.specs.Verdicts.{IsDue, IsLawful, entry_of}
-use Rattle.sja_bus.specs.OneBit.{MayHaveVerdict, judged_as, off_as}
+use Rattle.sja_wire.specs.OneBit.{MayHaveVerdict, judged_as, off_as}
 use Rattle.sja_bus.specs.OutOfRoom.{IsOutOfRoom}
-use Rattle.sja_bus.specs.Telling.{is_overrun}
+use Rattle.sja_wire.specs.Telling.{is_overrun}
 use Rattle.sja_bus.specs.Inside.Following.{FollowsBit}
 use Rattle.sja_bus.specs.Inside.Taking.{IsJudgedShort}
 use Rattle.sja_bus.proofs.Lawfuls.{lawful_of}

@@ -16,8 +16,8 @@ use Rattle.sja_link.proofs.Freeing.{free_push, total_push}
 use Rattle.sja_link.proofs.Judging.{StaysIn, filter_push}
 use Rattle.sja_bus.specs.declared.activity.Activity.{Activity}
 use Rattle.sja_bus.specs.declared.activity.Activity.TheVariants.{Between, Running, Off as IsOff, OffAndAsked}
-use Rattle.sja_bus.specs.Links.{stops_in, stops_of}
-use Rattle.sja_bus.specs.OutOfOrder.{HasOff, HasAskedOff}
+use Rattle.sja_wire.specs.Links.{stops_in, stops_of}
+use Rattle.sja_wire.specs.OutOfOrder.{HasOff, HasAskedOff}
 use Rattle.sja_bus.specs.Inside.Following.{is_on, IsActive}
 use Rattle.sja_bus.proofs.Orders.{acts_in}
 use Rattle.sja_bus.proofs.OnBus.{on_both}

@@ -12,11 +12,11 @@ use Rattle.sja_link.proofs.Freeing.{total_push}
 use Rattle.sja_regs.specs.declared.orders.Orders.{Orders}
 use Rattle.sja_regs.specs.declared.bus_turn.BusTurn.{BusTurn}
 use Rattle.sja_script.specs.declared.strike.Strike.{Strike}
-use Rattle.sja_bus.specs.Wire.{journal_at}
-use Rattle.sja_bus.specs.Links.{Kept, stops_in, stops_of}
-use Rattle.sja_bus.specs.declared.bus_fault.BusFault.{BusFault}
-use Rattle.sja_bus.specs.OneBit.{MayHaveItems, entries_of_items}
-use Rattle.sja_bus.specs.Telling.{IsUntold}
+use Rattle.sja_wire.specs.Wire.{journal_at}
+use Rattle.sja_wire.specs.Links.{Kept, stops_in, stops_of}
+use Rattle.sja_wire.specs.declared.bus_fault.BusFault.{BusFault}
+use Rattle.sja_wire.specs.OneBit.{MayHaveItems, entries_of_items}
+use Rattle.sja_wire.specs.Telling.{IsUntold}
 use Rattle.sja_bus.specs.Buses.{EachJournal, EachUntold, KeepsAll, AllDry, untold_at, IsNodeBit, IsBit}
 use Rattle.sja_bus.specs.Stretches.{recessive_bits, with_recessive, IsStretch}
 use Rattle.sja_bus.proofs.Moving.{account_quiet}

@@ -5,7 +5,7 @@ use Rattle.sja_link.specs.Related.{EachRelated}
 use Rattle.sja_script.specs.declared.strike.Strike.{Strike}
 use Rattle.sja_bus.specs.declared.board.Board.{Ghosts as Ports}
 use Rattle.sja_bus.specs.declared.broken_off.BrokenOff.{BrokenOff}
-use Rattle.sja_bus.specs.declared.bus_fault.BusFault.{BusFault}
+use Rattle.sja_wire.specs.declared.bus_fault.BusFault.{BusFault}
 use Rattle.sja_bus.specs.declared.seat.Seat.{Seat}
 use Rattle.sja_bus.specs.Boards.{KeepsOthers}
 use Rattle.sja_bus.specs.Buses.{BusValue}

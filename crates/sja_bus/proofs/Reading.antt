@@ -22,11 +22,11 @@ use Rattle.sja_link.proofs.Freeing.{total_push}
 use Rattle.sja_link.proofs.Judging.{StaysIn, filter_push}
 use Rattle.sja_bus.specs.declared.activity.Activity.{Activity}
 use Rattle.sja_bus.specs.declared.activity.Activity.TheVariants.{Between, Running, Off as IsOff, OffAndAsked}
-use Rattle.sja_bus.specs.Links.{stops_in}
+use Rattle.sja_wire.specs.Links.{stops_in}
 use Rattle.sja_bus.specs.Inside.Seats.{Pays}
-use Rattle.sja_bus.specs.OutOfOrder.{HasOff, HasAskedOff}
+use Rattle.sja_wire.specs.OutOfOrder.{HasOff, HasAskedOff}
 use Rattle.sja_bus.specs.Inside.Following.{open_in, is_on, IsActive, Reads}
-use Rattle.sja_bus.specs.Orderly.{IsRunning, IsOrderly}
+use Rattle.sja_wire.specs.Orderly.{IsRunning, IsOrderly}
 use Rattle.sja_bus.proofs.Orders.{orderly_here, acts_in, quiet_orderly, stopless_with, runs_now, no_off_put}
 use Rattle.sja_bus.proofs.OnBus.{on_both}
 use Rattle.sja_bus.proofs.AskingOff.{off_before, off_of_asked, none_off}

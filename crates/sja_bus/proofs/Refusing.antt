@@ -8,11 +8,11 @@ use Rattle.sja_link.specs.declared.entry.Entry.{Entry}
 use Rattle.sja_link.specs.Lists.{Lists, with_taken}
 use Rattle.sja_link.specs.Accounts.{Account, account}
 use Rattle.sja_link.specs.BusLedgers.{link_of}
-use Rattle.sja_bus.specs.declared.bus_fault.BusFault.{BusFault}
+use Rattle.sja_wire.specs.declared.bus_fault.BusFault.{BusFault}
 use Rattle.sja_bus.specs.declared.seat.Seat.{Seat}
-use Rattle.sja_bus.specs.Wire.{journal_at}
-use Rattle.sja_bus.specs.Links.{Kept, Goes}
-use Rattle.sja_bus.specs.OneBit.{MayHaveItems}
+use Rattle.sja_wire.specs.Wire.{journal_at}
+use Rattle.sja_wire.specs.Links.{Kept, Goes}
+use Rattle.sja_wire.specs.OneBit.{MayHaveItems}
 use Rattle.sja_bus.specs.Reasons.{IsRefusedFor, RefusesItem, IsTakenAndRefused, room_for}
 use Rattle.sja_bus.specs.Inside.Seats.{IsSound}
 use Rattle.sja_bus.specs.Inside.Taking.{RefusesHere}

@@ -24,7 +24,7 @@ use Rattle.sja_link.specs.Records.{record_of}
 use Rattle.sja_bus.specs.declared.news.News.{News}
 use Rattle.sja_bus.specs.declared.news.News.TheVariants.{Nothing, Changed, Dropped}
 use Rattle.sja_bus.specs.declared.seat.Seat.{Seat}
-use Rattle.sja_bus.specs.Wire.{journal_at}
+use Rattle.sja_wire.specs.Wire.{journal_at}
 use Rattle.sja_bus.specs.Buses.{BusValue, untold_at}
 use Rattle.sja_bus.specs.Resting.{RestsAs}
 use Rattle.sja_bus.specs.Stretches.{EndsStretch}

@@ -6,7 +6,7 @@ use Rattle.sja_link.specs.declared.bus_end.BusEnd.{Ghosts as Ends}
 use Rattle.sja_link.proofs.Related.{each_refl, each_trans}
 use Rattle.sja_regs.specs.declared.orders.Orders.{Orders}
 use Rattle.sja_bus.specs.declared.board.Board.{Ghosts as Ports}
-use Rattle.sja_bus.specs.declared.bus_fault.BusFault.{BusFault}
+use Rattle.sja_wire.specs.declared.bus_fault.BusFault.{BusFault}
 use Rattle.sja_bus.specs.Boards.{KeepsOthers}
 use Rattle.sja_bus.specs.Moment.{Moment, Keeps, OneBit}
 use Rattle.sja_bus.specs.Several.{AreBits, WorksIf, BreaksOff}

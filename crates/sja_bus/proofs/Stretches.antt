@@ -17,10 +17,10 @@ use Rattle.sja_bus.specs.declared.struck_nodes.StruckNodes.{StruckNodes}
 use Rattle.sja_bus.specs.declared.news.News.TheVariants.{Nothing, Dropped}
 use Rattle.sja_bus.specs.declared.seat.Seat.{Seat}
 use Rattle.sja_bus.specs.StrikesByBit.{IsAmong}
-use Rattle.sja_bus.specs.Wire.{wired, IsWired}
+use Rattle.sja_wire.specs.Wire.{wired, IsWired}
 use Rattle.sja_bus.specs.Reasons.{room_for}
-use Rattle.sja_bus.specs.declared.bus_fault.BusFault.{BusFault}
-use Rattle.sja_bus.specs.declared.bus_fault.BusFault.TheVariants.{JournalFull}
+use Rattle.sja_wire.specs.declared.bus_fault.BusFault.{BusFault}
+use Rattle.sja_wire.specs.declared.bus_fault.BusFault.TheVariants.{JournalFull}
 use Rattle.sja_bus.specs.Buses.{BusValue, untold_at, IsBit}
 use Rattle.sja_bus.specs.Stretches.{recessive_bits, with_recessive, IsStretch, EndsStretch, IsOutOfEntries}
 use Rattle.sja_bus.specs.Stretches.EndsStretch.{asked_for, spent, struck}

@@ -20,9 +20,9 @@ use Rattle.sja_regs.specs.declared.orders.Orders.{Orders}
 use Rattle.sja_regs.specs.declared.bus_turn.BusTurn.{BusTurn}
 use Rattle.sja_bus.specs.declared.struck_nodes.StruckNodes.{StruckNodes}
 use Rattle.sja_bus.specs.declared.seat.Seat.{Seat}
-use Rattle.sja_bus.specs.Wire.{journal_at}
-use Rattle.sja_bus.specs.Links.{Kept, stops_in, stops_of}
-use Rattle.sja_bus.specs.OneBit.{HasBit, Opens, judged_as, off_as, abort_as, entries_of_items}
+use Rattle.sja_wire.specs.Wire.{journal_at}
+use Rattle.sja_wire.specs.Links.{Kept, stops_in, stops_of}
+use Rattle.sja_wire.specs.OneBit.{HasBit, Opens, judged_as, off_as, abort_as, entries_of_items}
 use Rattle.sja_bus.specs.TakingAll.{HasTaken, TakesAll}
 use Rattle.sja_bus.specs.Inside.Rows.{AreReady, EachSeat, SeatOpens, SeatTurns, GoesAll, AllRead, journals_of}
 use Rattle.sja_bus.specs.Inside.RowTakes.{RowTakesAll}

@@ -22,11 +22,11 @@ use Rattle.sja_bus.specs.declared.activity.Activity.{Activity}
 use Rattle.sja_bus.specs.declared.activity.Activity.TheVariants.{Between, Running, Off, OffAndAsked}
 use Rattle.sja_link.specs.declared.entry.Entry.TheVariants.{Up as Item}
 use Rattle.sja_link.specs.Places.{past, place_of}
-use Rattle.sja_bus.specs.declared.bus_fault.BusFault.{BusFault}
-use Rattle.sja_bus.specs.declared.bus_fault.BusFault.TheVariants.{JournalFull}
+use Rattle.sja_wire.specs.declared.bus_fault.BusFault.{BusFault}
+use Rattle.sja_wire.specs.declared.bus_fault.BusFault.TheVariants.{JournalFull}
 use Rattle.sja_bus.specs.declared.seat.Seat.{Seat}
-use Rattle.sja_bus.specs.OutOfOrder.{HasAskedOff, IsOutOfOrder, IsAskedWrongly, MayCome}
-use Rattle.sja_bus.specs.OutOfOrder.IsAskedWrongly.{outside, while_held, again_off}
+use Rattle.sja_wire.specs.OutOfOrder.{HasAskedOff, IsOutOfOrder, IsAskedWrongly, MayCome}
+use Rattle.sja_wire.specs.OutOfOrder.IsAskedWrongly.{outside, while_held, again_off}
 use Rattle.sja_bus.specs.Inside.Following.{Follows, Reads, open_in, is_on}
 use Rattle.sja_bus.specs.Inside.Seats.{IsSound, IsSeat, Pays}
 use Rattle.sja_bus.specs.Inside.Taking.{Takes, Refuses, IsFull}

@@ -22,8 +22,8 @@ use Rattle.sja_link.specs.Places.{place_of}
 use Rattle.sja_link.specs.Records.{record_of}
 use Rattle.sja_link.proofs.Entering.{record_push, place_push}
 use Rattle.sja_regs.specs.declared.bus_turn.BusTurn.{BusTurn}
-use Rattle.sja_bus.specs.OneBit.{MayHaveItems, HasBit, judged_as, off_as}
-use Rattle.sja_bus.specs.Telling.{SaysAlone, IsTurn, is_overrun}
+use Rattle.sja_wire.specs.OneBit.{MayHaveItems, HasBit, judged_as, off_as}
+use Rattle.sja_wire.specs.Telling.{SaysAlone, IsTurn, is_overrun}
 use Rattle.sja_bus.specs.declared.news.News.{News}
 use Rattle.sja_bus.specs.declared.news.News.TheVariants.{Nothing, Changed, Dropped}
 use Rattle.sja_bus.specs.declared.seat.Seat.{Seat}

@@ -10,7 +10,7 @@ use Rattle.sja_link.specs.declared.entry.Entry.{Entry}
 use Rattle.sja_link.specs.Carried.{bits_of}
 use Rattle.sja_script.specs.declared.strike.Strike.{Strike}
 use Rattle.sja_script.specs.Striking.{Strikes}
-use Rattle.sja_bus.specs.Wire.{wired, IsSeen, journal_at, bit_at, driven_at, IsWired}
+use Rattle.sja_wire.specs.Wire.{wired, IsSeen, journal_at, bit_at, driven_at, IsWired}
 
 -- ---- lists by their places
 

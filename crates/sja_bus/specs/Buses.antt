@@ -11,11 +11,11 @@ use Rattle.sja_script.specs.Striking.{Strikes}
 use Rattle.sja_regs.specs.declared.orders.Orders.{Orders}
 use Rattle.sja_regs.specs.declared.bus_turn.BusTurn.{BusTurn}
 use Rattle.sja_bus.specs.declared.board.Board.{Ghosts as Ports}
-use Rattle.sja_bus.specs.declared.bus_fault.BusFault.{BusFault}
-use Rattle.sja_bus.specs.Wire.{wired, IsSeen, journal_at}
-use Rattle.sja_bus.specs.Links.{per_node, Kept, stops_of}
-use Rattle.sja_bus.specs.OneBit.{Opens, HasBit}
-use Rattle.sja_bus.specs.Telling.{IsTurn, IsPassedOver, IsUntold}
+use Rattle.sja_wire.specs.declared.bus_fault.BusFault.{BusFault}
+use Rattle.sja_wire.specs.Wire.{wired, IsSeen, journal_at}
+use Rattle.sja_wire.specs.Links.{per_node, Kept, stops_of}
+use Rattle.sja_wire.specs.OneBit.{Opens, HasBit}
+use Rattle.sja_wire.specs.Telling.{IsTurn, IsPassedOver, IsUntold}
 
 -- what a contract sees of a bus: its script, the bits that were run and those that are left, the fault that it answers
 -- always, the journals of its nodes, and by node whether something was taken or an abort changed the node since its

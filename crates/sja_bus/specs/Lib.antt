@@ -1,19 +1,10 @@
--- ---- the wire, and what strikes it
+-- ---- what strikes the wire
 pub mod StrikesByBit
-pub mod Wire
 -- ---- what holds of every bus
-pub mod Orderly
-pub mod Lawful
 pub mod Resting
--- ---- what a bit adds to a journal, and what a port is told of it
-pub mod Opening
-pub mod OutOfOrder
-pub mod Aborting
-pub mod OneBit
+-- ---- where a journal is full
 pub mod OutOfRoom
-pub mod Telling
 -- ---- the links and ports of the nodes
-pub mod Links
 pub mod NewLinks
 pub mod Boards
 -- ---- all nodes of a bus

@@ -5,7 +5,7 @@ use Rattle.sja_link.specs.Related.{EachRelated}
 use Rattle.sja_bus.specs.declared.board.Board.{Ghosts as Ports}
 use Rattle.sja_bus.specs.Boards.{KeepsOthers}
 use Rattle.sja_bus.specs.Buses.{BusValue, KeepsAll, AllTold, IsBitOf}
-use Rattle.sja_bus.specs.Lawful.{IsBusRun}
+use Rattle.sja_wire.specs.Lawful.{IsBusRun}
 
 -- a bus with its links and its ports, between two bits
 pub record Moment (E B : Type 0) : Type 0 where

@@ -9,10 +9,10 @@ use Rattle.sja_script.specs.declared.strike.Strike.{Strike}
 use Rattle.sja_script.specs.Striking.{Strikes}
 use Rattle.sja_regs.specs.declared.orders.Orders.{Orders}
 use Rattle.sja_regs.specs.declared.bus_turn.BusTurn.{BusTurn}
-use Rattle.sja_bus.specs.declared.bus_fault.BusFault.{BusFault}
-use Rattle.sja_bus.specs.declared.bus_fault.BusFault.TheVariants.{JournalFull}
-use Rattle.sja_bus.specs.Wire.{journal_at}
-use Rattle.sja_bus.specs.OneBit.{MayHaveItems}
+use Rattle.sja_wire.specs.declared.bus_fault.BusFault.{BusFault}
+use Rattle.sja_wire.specs.declared.bus_fault.BusFault.TheVariants.{JournalFull}
+use Rattle.sja_wire.specs.Wire.{journal_at}
+use Rattle.sja_wire.specs.OneBit.{MayHaveItems}
 use Rattle.sja_bus.specs.Buses.{BusValue, EachJournal, KeepsAll, untold_at, IsBit}
 use Rattle.sja_bus.specs.Reasons.{room_for}
 use Rattle.sja_bus.specs.Resting.{RestsAs}

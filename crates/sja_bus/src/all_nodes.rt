@@ -5,8 +5,8 @@ ghost use Rattle.std.specs.Prelude.{suc, false, [], ◌∷◌, length, IfOk, OnO
 ghost use Rattle.sja_link.specs.Related.{EachRelated};
 ghost use Rattle.sja_regs.specs.declared.bus_turn.BusTurn.{BusTurn as Turn};
 ghost use Rattle.can_bits.specs.Digits.{opposite};
-ghost use Rattle.sja_bus.specs.Wire.{wired};
-ghost use Rattle.sja_bus.specs.Links.{Numbered};
+ghost use Rattle.sja_wire.specs.Wire.{wired};
+ghost use Rattle.sja_wire.specs.Links.{Numbered};
 ghost use Rattle.sja_bus.specs.Inside.Rows.{AreReady, AreSeated, AreTold, EachSeat, SeatTakes, SeatNews};
 ghost use Rattle.sja_bus.specs.Inside.Rows.{SeatOpens, SeatOpensNews, SeatTurns, GoesAll, AllRead, driven_by};
 ghost use Rattle.sja_bus.specs.Boards.{KeepsOthers};
@@ -17,12 +17,12 @@ ghost use Rattle.sja_bus.specs.Inside.RowTakes.{RowTakesAll};
 ghost use Rattle.sja_bus.specs.Inside.Refusing.{HaveRoom, AreFree, SeatRefuses, SeatFull, SeatBreaks, SeatStops};
 
 use super::board::Board;
-use super::bus_fault::BusFault;
 use super::row_end::RowEnd;
 use super::seat::{LINKS, Seat};
 use super::struck_nodes::StruckNodes;
 use can_bits::Level;
 use sja_link::BusEnd;
+use sja_wire::BusFault;
 
 /// Takes all that the links show.
 pub(crate) fn gather_all<E: BusEnd>(seats: &mut [Seat], links: &mut [E]) -> Result<(), BusFault>

@@ -6,11 +6,11 @@ ghost use Rattle.sja_bus.specs.Inside.Ending.{IsLog};
 
 use super::activity::Activity;
 use super::news::News;
-use super::node_log::NodeLog;
 use super::seat::Seat;
 use can_frame::OutOfMemory;
 use can_node::Node;
 use sja_link::{BusLedger, Journal, LinkId};
+use sja_wire::NodeLog;
 use std::alloc::Global;
 
 impl Seat {

@@ -1,6 +1,6 @@
 //! A bit of a bus that broke off.
 
-use super::bus_fault::BusFault;
+use sja_wire::BusFault;
 
 /// A bit that broke off, after others.
 #[derive(Debug, Drop)]

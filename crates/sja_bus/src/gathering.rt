@@ -2,19 +2,19 @@
 
 use super::activity::Activity;
 use super::board::Board;
-use super::bus_fault::BusFault;
 use super::news::News;
 use super::seat::Seat;
 use can_node::Aborted;
 use sja_link::{BusEnd, Entry};
+use sja_wire::BusFault;
 
 impl Seat {
     ghost use Rattle.std.specs.Prelude.{◌≡◌, ◌<◌, ◌+◌, [], ◌∷◌, ◌++◌, slice_index_or, true, length, OnOk, OnErr, IfErr, ◌⊎◌};
     ghost use Rattle.sja_link.specs.BusLedgers.{link_of, free_in};
     ghost use Rattle.sja_link.specs.declared.entry.Entry.TheVariants.{Abort as AbortEntry};
-    ghost use Rattle.sja_bus.specs.Links.{Goes};
-    ghost use Rattle.sja_bus.specs.Aborting.{IsApplied};
-    ghost use Rattle.sja_bus.specs.OneBit.{MayHaveItems, Opens};
+    ghost use Rattle.sja_wire.specs.Links.{Goes};
+    ghost use Rattle.sja_wire.specs.Aborting.{IsApplied};
+    ghost use Rattle.sja_wire.specs.OneBit.{MayHaveItems, Opens};
     ghost use Rattle.sja_bus.specs.Reasons.{RefusesItem};
     ghost use Rattle.sja_bus.specs.Inside.Following.{Follows, Reads};
     ghost use Rattle.sja_bus.specs.Inside.Seats.{IsSeat, IsReady};

@@ -5,10 +5,10 @@ ghost use Rattle.sja_bus.specs.Inside.Idling.{AreResting, IsOneAwake, all_after,
 ghost use Rattle.sja_bus.specs.Inside.Rows.{AreReady};
 
 use super::board::Board;
-use super::bus_fault::BusFault;
 use super::news::News;
 use super::seat::Seat;
 use can_bits::Level;
+use sja_wire::BusFault;
 
 impl Seat {
     ghost use Rattle.std.specs.Prelude.{◌≡◌, true, false, OnOk, IfErr};

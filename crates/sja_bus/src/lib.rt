@@ -18,13 +18,11 @@ mod board_laws;
 mod broken_off;
 mod brought;
 mod bus;
-mod bus_fault;
 mod gathering;
 mod idling;
 mod link_numbers;
 mod new_links;
 mod news;
-mod node_log;
 mod putting;
 mod resting;
 mod row_end;
@@ -45,8 +43,7 @@ pub use board_laws::{
     a_port_kept_that_shows_the_turn_was_told_it, a_port_shows_a_turn_that_says_the_same,
 };
 pub use bus::Bus;
-pub use bus_fault::BusFault;
 pub use link_numbers::are_links_of;
 pub use new_links::serial_links;
-pub use node_log::NodeLog;
 pub use serial_board::SerialBoard;
+pub use sja_wire::{BusFault, NodeLog};

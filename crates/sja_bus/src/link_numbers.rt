@@ -1,7 +1,7 @@
 //! Whether links are those of a bus.
 
 ghost use Rattle.std.specs.Prelude.{◌≡◌, ◌*◌, ◌<◌, ◌/◌, ◌%◌, suc, true, false, length};
-ghost use Rattle.sja_bus.specs.Links.{Numbered};
+ghost use Rattle.sja_wire.specs.Links.{Numbered};
 
 use sja_link::{BusEnd, LinkId};
 

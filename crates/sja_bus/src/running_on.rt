@@ -16,12 +16,12 @@ use super::all_told::are_told;
 use super::board::Board;
 use super::broken_off::BrokenOff;
 use super::bus::Bus;
-use super::bus_fault::BusFault;
 use super::resting::all_rest;
 use super::seat::Seat;
 use super::struck_bits::StruckBits;
 use super::struck_nodes::StruckNodes;
 use sja_link::BusEnd;
+use sja_wire::BusFault;
 
 /// Whether no port wants an abort, and the ports are told all.
 fn may_run_on<B: Board>(seats: &[Seat], board: &B) -> bool

@@ -4,17 +4,17 @@ ghost use Rattle.std.specs.Prelude.{◌≡◌, ℕ, List, Some};
 ghost use Rattle.can_frame.specs.declared.filter.Filter.{Filter as Filtering};
 ghost use Rattle.sja_link.specs.Verdicts.{entry_of};
 ghost use Rattle.sja_bus.specs.declared.activity.Activity.TheVariants.{Running};
-ghost use Rattle.sja_bus.specs.Telling.{is_overrun as overruns};
+ghost use Rattle.sja_wire.specs.Telling.{is_overrun as overruns};
 ghost use Rattle.sja_bus.specs.Inside.Seats.{Keeps};
 
 use super::activity::Activity;
 use super::brought::Brought;
-use super::bus_fault::BusFault;
 use super::putting::{accept, put_off};
 use super::seat::Seat;
 use can_bits::Level;
 use can_frame::{Frame, Message};
 use sja_link::{BusEnd, Busy, Entry, Verdict};
+use sja_wire::BusFault;
 
 impl Seat {
     ghost use Rattle.std.specs.Prelude.{◌≡◌, ◌<◌, ◌≤◌, ℕ, suc, List, Ok, [], ◌∷◌, ◌++◌, length, OnOk, IfOk, IfErr, true, false};
@@ -23,10 +23,10 @@ impl Seat {
     ghost use Rattle.sja_link.specs.declared.entry.Entry.TheVariants.{Bit, Off as OffEntry};
     ghost use Rattle.sja_link.specs.Parts.{part};
     ghost use Rattle.sja_link.specs.Verdicts.{IsLawful};
-    ghost use Rattle.sja_bus.specs.OutOfOrder.{HasOff};
+    ghost use Rattle.sja_wire.specs.OutOfOrder.{HasOff};
     ghost use Rattle.sja_link.specs.BusLedgers.{link_of, free_in};
     ghost use Rattle.sja_bus.specs.declared.activity.Activity.TheVariants.{Running};
-    ghost use Rattle.sja_bus.specs.Links.{Moves};
+    ghost use Rattle.sja_wire.specs.Links.{Moves};
     ghost use Rattle.sja_bus.specs.Inside.Following.{Reads, open_in};
     ghost use Rattle.sja_bus.specs.Inside.Turning.{BringsVerdict, Brings};
     ghost use Rattle.sja_bus.specs.Inside.Seats.{IsSound, IsSeat, IsReady, IsJudged, IsMid};

@@ -3,11 +3,11 @@
 ghost use Rattle.std.specs.Prelude.{◌≡◌};
 
 use super::activity::Activity;
-use super::bus_fault::BusFault;
 use super::news::News;
 use can_bits::Level;
 use can_node::Node;
 use sja_link::{BusLedger, Entry, Journal};
+use sja_wire::BusFault;
 
 /// How many links, and so activations, a node has.
 pub(crate) const LINKS: usize = 8;

@@ -2,13 +2,13 @@
 
 use super::board::Board;
 use super::bus::Bus;
-use super::bus_fault::BusFault;
 use sja_link::BusEnd;
+use sja_wire::BusFault;
 
 impl Bus {
     ghost use Rattle.std.specs.Prelude.{◌≡◌, ◌+◌, ◌*◌, ◌≤◌, ◌⊎◌, None, Some, Err, true, length, OnOk, IfOk, IfErr};
-    ghost use Rattle.sja_bus.specs.declared.bus_fault.BusFault.{BusFault as Fault};
-    ghost use Rattle.sja_bus.specs.Links.{Numbered};
+    ghost use Rattle.sja_wire.specs.declared.bus_fault.BusFault.{BusFault as Fault};
+    ghost use Rattle.sja_wire.specs.Links.{Numbered};
     ghost use Rattle.sja_bus.specs.Buses.{IsStill};
     ghost use Rattle.sja_bus.specs.Moment.{moment, Keeps};
     ghost use Rattle.sja_bus.specs.Several.{AllRest, RunsBits, StopsBits};

@@ -2,16 +2,16 @@
 
 use super::board::Board;
 use super::bus::Bus;
-use super::bus_fault::BusFault;
 use super::idling::{are_resting, rest_all};
 use sja_link::BusEnd;
+use sja_wire::BusFault;
 
 impl Bus {
     ghost use Rattle.std.specs.Prelude.{◌≡◌, ◌≢◌, ◌+◌, ◌*◌, ◌≤◌, ◌⊎◌, None, Some, Ok, Err, length, OnOk, IfOk, IfErr};
     ghost use Rattle.sja_link.specs.Related.{EachRelated};
-    ghost use Rattle.sja_bus.specs.declared.bus_fault.BusFault.{BusFault as Fault};
-    ghost use Rattle.sja_bus.specs.Links.{Numbered};
-    ghost use Rattle.sja_bus.specs.OneBit.{MayHaveItems};
+    ghost use Rattle.sja_wire.specs.declared.bus_fault.BusFault.{BusFault as Fault};
+    ghost use Rattle.sja_wire.specs.Links.{Numbered};
+    ghost use Rattle.sja_wire.specs.OneBit.{MayHaveItems};
     ghost use Rattle.sja_bus.specs.Buses.{EachJournal, EachUntold, KeepsAll, AllDry, AllTold};
     ghost use Rattle.sja_bus.specs.Reasons.{IsTakenAndRefused};
     ghost use Rattle.sja_bus.specs.Stretches.{IsStretch, EndsStretch, IsOutOfEntries, IsFullInStretch};

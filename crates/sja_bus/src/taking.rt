@@ -1,11 +1,11 @@
 //! What the bus does with an item that it took.
 
 use super::activity::Activity;
-use super::bus_fault::BusFault;
 use super::news::News;
 use super::seat::Seat;
 use can_node::{Config, Request};
 use sja_link::{BadCredit, BusEnd, BusLedger, Entry, LinkId, Up};
+use sja_wire::BusFault;
 
 impl Seat {
     ghost use Rattle.std.specs.Prelude.{◌≡◌, ◌<◌, ◌≤◌, ◌+◌, ℕ, suc, Ok, [], ◌∷◌};
@@ -15,9 +15,9 @@ impl Seat {
     ghost use Rattle.sja_link.specs.declared.up.Up.{Up as Given};
     ghost use Rattle.sja_link.specs.Places.{past, place_of};
     ghost use Rattle.sja_link.specs.BusLedgers.{link_of, free_in};
-    ghost use Rattle.sja_bus.specs.Links.{Moves};
+    ghost use Rattle.sja_wire.specs.Links.{Moves};
     ghost use Rattle.sja_bus.specs.declared.news.News.TheVariants.{Changed};
-    ghost use Rattle.sja_bus.specs.OutOfOrder.{IsOutOfOrder};
+    ghost use Rattle.sja_wire.specs.OutOfOrder.{IsOutOfOrder};
     ghost use Rattle.sja_bus.specs.Inside.Seats.{IsOwed, IsSeat, IsReady};
     ghost use Rattle.sja_bus.specs.Inside.Taking.{Takes, Refuses, RefusesHere};
 

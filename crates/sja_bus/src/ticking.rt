@@ -3,17 +3,17 @@
 use super::activity::Activity;
 use super::board::Board;
 use super::brought::Brought;
-use super::bus_fault::BusFault;
 use super::news::News;
 use super::seat::Seat;
 use can_bits::Level;
 use sja_link::BusEnd;
+use sja_wire::BusFault;
 
 impl Seat {
     ghost use Rattle.std.specs.Prelude.{◌≡◌, ◌≢◌, ◌<◌, ℕ, true, false, length, OnOk, IfOk, IfErr};
     ghost use Rattle.can_node.specs.Stands.{Samples};
     ghost use Rattle.sja_link.specs.BusLedgers.{link_of};
-    ghost use Rattle.sja_bus.specs.Links.{Goes};
+    ghost use Rattle.sja_wire.specs.Links.{Goes};
     ghost use Rattle.sja_bus.specs.Reasons.{IsBrokenFor};
     ghost use Rattle.sja_bus.specs.Inside.Seats.{IsSound, IsSeat, IsReady};
     ghost use Rattle.sja_bus.specs.Inside.AtLinks.{HasLinks, KeepsLinks};

@@ -8,3 +8,6 @@ pub mod Traced
 pub mod Came
 pub mod Goes
 pub mod Logged
+pub mod NothingDone
+pub mod Modes
+pub mod Few

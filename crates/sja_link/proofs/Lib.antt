@@ -1,3 +1,5 @@
+pub mod Small
+pub mod Pushed
 pub mod Entering
 pub mod Freeing
 pub mod Judging
@@ -14,3 +16,4 @@ pub mod Keeping
 pub mod Holding
 pub mod Skipping
 pub mod Blocks
+pub mod FramesReceived

@@ -1,5 +1,5 @@
 -- What a plan says, and the limits that every plan keeps (this project's own rule).
-use Rattle.std.specs.Prelude.{◌<◌, ◌≤◌, ℕ, List, length, All}
+use Rattle.std.specs.Prelude.{◌<◌, ◌≤◌, ℕ, List, [], length, slice_index_or, All}
 use Rattle.std.specs.List.{sum_by}
 use Rattle.sja_script.specs.declared.step.Step.{Step}
 use Rattle.sja_script.specs.declared.strike.Strike.{Strike}
@@ -13,6 +13,10 @@ pub record PlanValue : Type 0 where
   pub nodes : List (List Step)
   pub turns : List Turn
   pub strikes : List Strike
+
+-- the steps of a node
+abbrev pub steps_at : PlanValue → ℕ → List Step
+steps_at plan node = slice_index_or plan.nodes node []
 
 -- a turn of a node is one of so many
 abbrev pub NamesNode : ℕ → Turn → Type 0

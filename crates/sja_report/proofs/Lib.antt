@@ -1,15 +1,2 @@
 pub mod Texts
 pub mod Sums
-pub mod Accounts
-pub mod Waiting
-pub mod Orders
-pub mod Timings
-pub mod Stepping
-pub mod Givings
-pub mod Ordering
-pub mod Windows
-pub mod Moments
-pub mod Fronts
-pub mod AbortsFirst
-pub mod Turning
-pub mod Logs

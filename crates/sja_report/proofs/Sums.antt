@@ -10,7 +10,7 @@ use Rattle.sja_link.specs.Places.{Place, first_place, past, placed_from}
 use Rattle.sja_link.specs.Parts.{in_part, entry_at, part}
 use Rattle.sja_link.specs.Carried.{overrun_of}
 use Rattle.sja_link.specs.Between.{between_bits}
-use Rattle.sja_report.specs.Log.{ActivationValue}
+use Rattle.sja_log.specs.Log.{ActivationValue}
 use Rattle.sja_report.specs.ReportLines.{lines_text, numbered, activation_lines}
 use Rattle.sja_report.specs.Inside.Tallies.{TallyValue, tally_of, no_tally, with_entry, opens, tallied, activation_lines_of, tallied_lines}
 

@@ -5,8 +5,8 @@ use Rattle.sja_script.specs.Refusals.{refusal_name}
 use Rattle.sja_script.specs.declared.step_answer.StepAnswer.{StepAnswer}
 use Rattle.sja_script.specs.declared.step_answer.StepAnswer.TheVariants.{Done as IsDone, NoMessage}
 use Rattle.sja_script.specs.declared.step_answer.StepAnswer.TheVariants.{Shown, Released, Value, Refused}
-use Rattle.sja_report.specs.declared.end.End.{End}
-use Rattle.sja_report.specs.declared.end.End.TheVariants.{Turns, Rest, Bits}
+use Rattle.sja_log.specs.declared.end.End.{End}
+use Rattle.sja_log.specs.declared.end.End.TheVariants.{Turns, Rest, Bits}
 
 -- why a run ended
 abbrev pub end_word : End → List ℕ

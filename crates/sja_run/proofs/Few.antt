@@ -5,8 +5,8 @@ use Rattle.std.specs.Io.KnownBytes.{Consumes}
 use Rattle.std.proofs.KnownBytes.{Consumes-nil, Consumes-trans}
 use Rattle.sja_plan.specs.Plan.{PlanValue}
 use Rattle.sja_words.specs.Words.{Request, ParsesAs, run, wave}
-use Rattle.sja_turns.specs.declared.run_fault.RunFault.{RunFault}
-use Rattle.sja_turns.specs.declared.run_fault.RunFault.TheVariants.{Memory}
+use Rattle.sja_log.specs.declared.run_fault.RunFault.{RunFault}
+use Rattle.sja_log.specs.declared.run_fault.RunFault.TheVariants.{Memory}
 use Rattle.sja_threads.specs.Stopping.{IsFaultOf}
 use Rattle.sja_run.specs.declared.refusal.Refusal.{Refusal}
 use Rattle.sja_run.specs.declared.refusal.Refusal.TheVariants as refusal

@@ -6,8 +6,8 @@ use Rattle.can_bits.specs.declared.line_fault.LineFault.{LineFault}
 use Rattle.can_bits.specs.declared.line_fault.LineFault.TheVariants.{Stuff, Form, Crc, NoAck, Truncated, Trailing}
 use Rattle.sja_plan.specs.declared.plan_fault.PlanFault.{PlanFault}
 use Rattle.sja_plan.specs.declared.plan_fault.PlanFault.TheVariants as plan
-use Rattle.sja_turns.specs.declared.run_fault.RunFault.{RunFault}
-use Rattle.sja_turns.specs.declared.run_fault.RunFault.TheVariants as run
+use Rattle.sja_log.specs.declared.run_fault.RunFault.{RunFault}
+use Rattle.sja_log.specs.declared.run_fault.RunFault.TheVariants as run
 use Rattle.sja_run.specs.declared.refusal.Refusal.{Refusal}
 use Rattle.sja_run.specs.declared.refusal.Refusal.TheVariants as refusal
 

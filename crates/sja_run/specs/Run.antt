@@ -2,11 +2,11 @@
 use Rattle.std.specs.Prelude.{◌≡◌, ℕ, List, Option}
 use Rattle.sja_plan.specs.Plan.{PlanValue}
 use Rattle.sja_plan.specs.Faults.{IsPlanOf, IsFirstFault}
-use Rattle.sja_report.specs.Log.{RunValue}
+use Rattle.sja_log.specs.Log.{RunValue}
 use Rattle.sja_report.specs.ReportLines.{report_text}
-use Rattle.sja_report.specs.Runs.{IsSerialRun}
-use Rattle.sja_turns.specs.declared.run_fault.RunFault.{RunFault}
-use Rattle.sja_turns.specs.declared.run_fault.RunFault.TheVariants.{Memory}
+use Rattle.sja_log.specs.Runs.{IsSerialRun}
+use Rattle.sja_log.specs.declared.run_fault.RunFault.{RunFault}
+use Rattle.sja_log.specs.declared.run_fault.RunFault.TheVariants.{Memory}
 use Rattle.sja_run.specs.declared.refusal.Refusal.{Refusal}
 use Rattle.sja_run.specs.declared.refusal.Refusal.TheVariants as refusal
 use Rattle.sja_run.specs.Input.{IsRead, ReadsFew, BreaksOff}

@@ -3,8 +3,8 @@
 use Rattle.std.specs.Prelude.{◌≡◌, ℕ, List, Option}
 use Rattle.sja_plan.specs.Plan.{PlanValue}
 use Rattle.sja_plan.specs.Faults.{IsPlanOf}
-use Rattle.sja_report.specs.Log.{RunValue}
-use Rattle.sja_report.specs.Runs.{IsSerialRun}
+use Rattle.sja_log.specs.Log.{RunValue}
+use Rattle.sja_log.specs.Runs.{IsSerialRun}
 use Rattle.sja_wave.specs.WaveText.{wave_text}
 use Rattle.sja_run.specs.Input.{IsRead}
 

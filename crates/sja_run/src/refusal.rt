@@ -6,8 +6,8 @@ ghost use Rattle.sja_run.specs.Refusal.{layout_fault_text, run_fault_text};
 use super::plan_fault_text::PlanFaultText;
 use can_bits::LineFault;
 use can_frame::{LayoutFault, OutOfMemory};
+use sja_log::RunFault;
 use sja_plan::PlanFault;
-use sja_turns::RunFault;
 use std::alloc::AllocError;
 use std::fmt;
 

@@ -8,7 +8,7 @@ use Rattle.sja_link.specs.Carried.{put_of, taken_in, taken_of}
 use Rattle.sja_link.specs.Gathering.{total}
 use Rattle.sja_link.specs.Picking.{EachAfter}
 use Rattle.sja_link.specs.World.{is_stop}
-use Rattle.sja_bus.specs.Orderly.{IsRunning, IsOrderly}
+use Rattle.sja_wire.specs.Orderly.{IsRunning, IsOrderly}
 use Rattle.sja_threads.specs.Linked.{IsLinked}
 use Rattle.sja_threads.proofs.Events.{world}
 use Rattle.sja_threads.proofs.Orders.{Order, with_quiet, taken_same, next_whole}

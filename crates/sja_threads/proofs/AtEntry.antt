@@ -17,12 +17,12 @@ use Rattle.sja_link.specs.World.{is_off, credits_of, free}
 use Rattle.sja_link.proofs.Entering.{gathered_push}
 use Rattle.sja_link.proofs.Freeing.{total_append}
 use Rattle.sja_link.proofs.ListCounts.{credits_both}
-use Rattle.sja_bus.specs.Orderly.{IsOrderly}
+use Rattle.sja_wire.specs.Orderly.{IsOrderly}
 use Rattle.sja_threads.specs.Linked.{event_in}
 use Rattle.sja_threads.proofs.Events.{world, comes_act}
 use Rattle.sja_threads.proofs.NextItem.{bytes_put, IsOffLast, off_last_push}
 use Rattle.sja_threads.proofs.Orders.{Order, with_put, with_quiet, put_same, taken_same}
-use Rattle.sja_turns.proofs.Few.{credits_taken}
+use Rattle.sja_driver.proofs.Few.{credits_taken}
 
 -- where the driver stands right after these entries: it got just the messages whose credits were taken; of what it
 -- gets still these are released

@@ -5,9 +5,9 @@ use Rattle.std.specs.Prelude.{◌⊎◌}
 use Rattle.sja_link.specs.declared.entry.Entry.{Entry}
 use Rattle.sja_link.specs.Carried.{bits_of}
 use Rattle.sja_link.specs.Records.{record_of}
-use Rattle.sja_bus.specs.Links.{Grows}
+use Rattle.sja_wire.specs.Links.{Grows}
 use Rattle.sja_bus.specs.Resting.{RestsAs}
-use Rattle.sja_bus.specs.Wire.{journal_at}
+use Rattle.sja_wire.specs.Wire.{journal_at}
 use Rattle.sja_threads.specs.Needed.{WorksAt, IsDue, AllDue}
 use Rattle.sja_threads.specs.Inside.Underway.{StayDue}
 

@@ -14,7 +14,7 @@ use Rattle.sja_link.specs.Picking.{EachAfter}
 use Rattle.sja_link.specs.World.{is_stop, credits_of}
 use Rattle.sja_link.proofs.Entering.{gathered_push}
 use Rattle.sja_link.proofs.Freeing.{total_append, total_push}
-use Rattle.sja_bus.specs.Orderly.{IsOrderly}
+use Rattle.sja_wire.specs.Orderly.{IsOrderly}
 use Rattle.sja_threads.specs.Linked.{event_in, IsLinked}
 use Rattle.sja_threads.proofs.Events.{comes_first, comes_start, comes_stop, comes_send}
 use Rattle.sja_threads.proofs.Orders.{with_taken, next_whole}

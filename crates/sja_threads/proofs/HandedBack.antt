@@ -18,8 +18,9 @@ use Rattle.sja_regs.specs.Registers.{at_power_on}
 use Rattle.sja_plan.specs.Plan.{PlanValue}
 use Rattle.sja_driver.specs.Deeds.{Deed, AreDeeds}
 use Rattle.sja_bus.specs.Buses.{BusValue, new_bus}
-use Rattle.sja_bus.specs.Wire.{journal_at}
-use Rattle.sja_turns.specs.Serial.{steps_at, deeds_at}
+use Rattle.sja_wire.specs.Wire.{journal_at}
+use Rattle.sja_driver.specs.Deeds.{deeds_at}
+use Rattle.sja_plan.specs.Plan.{steps_at}
 use Rattle.sja_threads.specs.declared.hand.Hand.{Hand}
 use Rattle.sja_threads.specs.declared.worked.Worked.{Worked}
 use Rattle.sja_threads.specs.Working.{AreUntouched}

@@ -12,7 +12,7 @@ use Rattle.sja_script.specs.declared.step_answer.StepAnswer.TheVariants.{Done}
 use Rattle.sja_driver.specs.Carried.{ported}
 use Rattle.sja_driver.specs.Deeds.{Deed, opened, active_after, is_active}
 use Rattle.sja_driver.proofs.Sections.{active_push}
-use Rattle.sja_turns.proofs.Modes.{rm_step}
+use Rattle.sja_driver.proofs.Modes.{rm_step}
 use Rattle.sja_threads.specs.Setting.{LeadTo}
 use Rattle.sja_threads.specs.Setting.LeadTo.{nothing_done, step_done}
 

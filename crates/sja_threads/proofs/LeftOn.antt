@@ -8,7 +8,7 @@ use Rattle.sja_link.specs.declared.down.Down.{Down}
 use Rattle.sja_link.specs.Gathering.{gathered}
 use Rattle.sja_rings.specs.declared.ring_bus.RingBus.{RingBus}
 use Rattle.sja_rings.specs.declared.ring_driver.RingDriver.{RingDriver}
-use Rattle.sja_turns.proofs.Newly.{push_here, push_front}
+use Rattle.sja_link.proofs.Pushed.{push_here, push_front}
 use Rattle.sja_threads.specs.Settling.{IsLeftOn, AreLeftOn}
 
 -- a list that is gone through has no more elements

@@ -20,10 +20,10 @@ use Rattle.sja_script.specs.declared.step_answer.StepAnswer.{StepAnswer}
 use Rattle.sja_script.specs.declared.step_answer.StepAnswer.TheVariants.{Done, Released}
 use Rattle.sja_driver.specs.Deeds.{Deed, opens_by, Gives, GivesSend, length_in, given_in, released_lengths}
 use Rattle.sja_driver.specs.Deeds.{section_from}
-use Rattle.sja_report.specs.Log.{ActivationValue, NodeValue}
-use Rattle.sja_report.specs.Runs.{IsTrace}
-use Rattle.sja_report.specs.Settling.{IsSettled}
-use Rattle.sja_bus.specs.Orderly.{IsOrderly, AreOrderly}
+use Rattle.sja_log.specs.Log.{ActivationValue, NodeValue}
+use Rattle.sja_log.specs.Runs.{IsTrace}
+use Rattle.sja_log.specs.Settling.{IsSettled}
+use Rattle.sja_wire.specs.Orderly.{IsOrderly, AreOrderly}
 use Rattle.sja_threads.specs.Linked.{IsLinked, AreLinked}
 use Rattle.sja_threads.proofs.Real.{AreMessages, stored_real}
 use Rattle.sja_threads.proofs.EventsInPart.{linked_part}

@@ -11,8 +11,8 @@ use Rattle.sja_plan.specs.Plan.{PlanValue}
 use Rattle.sja_driver.specs.declared.logged_driver.LoggedDriver.{LoggedDriver}
 use Rattle.sja_driver.specs.Deeds.{Deed}
 use Rattle.sja_driver.specs.LoggedDrivers.{IsLawful}
-use Rattle.sja_report.proofs.Logs.{index_map}
-use Rattle.sja_turns.proofs.NodeEnds.{any_of}
+use Rattle.sja_log.proofs.Logs.{index_map}
+use Rattle.sja_log.proofs.NodeEnds.{any_of}
 use Rattle.sja_threads.specs.declared.worked.Worked.{Worked}
 use Rattle.sja_threads.specs.Ended.{IsOver}
 use Rattle.sja_threads.specs.Settling.{all_drivers, all_ends}

@@ -11,7 +11,7 @@ use Rattle.sja_link.specs.Gathering.{total}
 use Rattle.sja_link.specs.Lists.{messages}
 use Rattle.sja_link.specs.World.{is_off, bytes_of, credits_of}
 use Rattle.sja_link.proofs.Judging.{put_stored}
-use Rattle.sja_turns.proofs.Few.{bytes_stored}
+use Rattle.sja_driver.proofs.Few.{bytes_stored}
 
 -- ---- bytes
 

@@ -17,10 +17,10 @@ use Rattle.sja_script.specs.declared.step.Step.{Step}
 use Rattle.sja_driver.specs.Deeds.{Deed, opened_by, given_in, deeds_of}
 use Rattle.sja_driver.specs.LoggedDrivers.{node_of, driver_of, log_of, ended_of}
 use Rattle.sja_driver.specs.Logs.{releases_in, released_of}
-use Rattle.sja_report.specs.Log.{ActivationValue}
-use Rattle.sja_report.specs.Settling.{IsSettled}
-use Rattle.sja_turns.specs.Finishing.{held_after, activation_after}
-use Rattle.sja_turns.proofs.NodeEnds.{opened_few}
+use Rattle.sja_log.specs.Log.{ActivationValue}
+use Rattle.sja_log.specs.Settling.{IsSettled}
+use Rattle.sja_log.specs.Finishing.{held_after, activation_after}
+use Rattle.sja_log.proofs.NodeEnds.{opened_few}
 use Rattle.sja_threads.specs.declared.worked.Worked.{Worked}
 use Rattle.sja_threads.specs.Ended.{IsOverAt}
 use Rattle.sja_threads.specs.Settling.{IsLeftOn}

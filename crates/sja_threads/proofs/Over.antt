@@ -7,11 +7,11 @@ use Rattle.sja_link.specs.declared.down.Down.{Down}
 use Rattle.sja_link.specs.Verdicts.{IsLawful as IsLawfulJournal}
 use Rattle.sja_rings.specs.declared.ring_bus.RingBus.{RingBus}
 use Rattle.sja_rings.specs.declared.ring_driver.RingDriver.{RingDriver}
-use Rattle.sja_bus.specs.declared.node_log.NodeLog.{NodeLog}
+use Rattle.sja_wire.specs.declared.node_log.NodeLog.{NodeLog}
 use Rattle.sja_bus.specs.Buses.{BusValue}
-use Rattle.sja_bus.specs.Lawful.{CountersAre, IsBusRun}
-use Rattle.sja_bus.specs.Orderly.{AreOrderly}
-use Rattle.sja_bus.specs.Wire.{journal_at}
+use Rattle.sja_wire.specs.Lawful.{CountersAre, IsBusRun}
+use Rattle.sja_wire.specs.Orderly.{AreOrderly}
+use Rattle.sja_wire.specs.Wire.{journal_at}
 use Rattle.sja_regs.specs.DriverSettings.{settings_in}
 use Rattle.sja_regs.specs.Registers.{at_power_on}
 use Rattle.sja_plan.specs.Plan.{PlanValue}
@@ -19,15 +19,16 @@ use Rattle.sja_driver.specs.declared.logged_driver.LoggedDriver.{LoggedDriver}
 use Rattle.sja_driver.specs.Deeds.{Deed}
 use Rattle.sja_driver.specs.LoggedDrivers.{log_of}
 use Rattle.sja_driver.specs.Logs.{done_in}
-use Rattle.sja_report.specs.declared.end.End.{End}
-use Rattle.sja_report.specs.Log.{NodeValue, RunValue}
-use Rattle.sja_report.specs.Runs.{IsTrace, IsRun}
-use Rattle.sja_report.specs.Settling.{AreSettled}
-use Rattle.sja_report.proofs.Logs.{index_map}
-use Rattle.sja_turns.specs.Serial.{steps_at, deeds_at}
-use Rattle.sja_turns.specs.Finishing.{IsNodeEnd, AreNodeEnds}
-use Rattle.sja_turns.proofs.NodeEnds.{AreEnds, any_of, trace_of, settled_of, nodes_count, some_log, some_driver}
-use Rattle.sja_turns.proofs.NodeEnds.{node_end, journal_is, journals_in_log, run_of_ends}
+use Rattle.sja_log.specs.declared.end.End.{End}
+use Rattle.sja_log.specs.Log.{NodeValue, RunValue}
+use Rattle.sja_log.specs.Runs.{IsTrace, IsRun}
+use Rattle.sja_log.specs.Settling.{AreSettled}
+use Rattle.sja_log.proofs.Logs.{index_map}
+use Rattle.sja_driver.specs.Deeds.{deeds_at}
+use Rattle.sja_plan.specs.Plan.{steps_at}
+use Rattle.sja_log.specs.Finishing.{IsNodeEnd, AreNodeEnds}
+use Rattle.sja_log.proofs.NodeEnds.{AreEnds, any_of, trace_of, settled_of, nodes_count, some_log, some_driver}
+use Rattle.sja_log.proofs.NodeEnds.{node_end, journal_is, journals_in_log, run_of_ends}
 use Rattle.sja_threads.specs.declared.worked.Worked.{Worked}
 use Rattle.sja_threads.specs.Ended.{IsOverAt, IsOver}
 use Rattle.sja_threads.specs.Settling.{all_drivers, all_ends, IsLeftOn, AreLeftOn, IsLogOf}

@@ -13,7 +13,7 @@ use Rattle.sja_rings.specs.Ends.{BusLists, DriverLists, OneLink, link_of_bus}
 use Rattle.sja_plan.specs.Plan.{PlanValue}
 use Rattle.sja_script.specs.declared.step.Step.{Step}
 use Rattle.sja_driver.specs.Logs.{HasRoom, IsEmpty}
-use Rattle.sja_turns.specs.Serial.{steps_at}
+use Rattle.sja_plan.specs.Plan.{steps_at}
 use Rattle.sja_threads.specs.declared.hand.Hand.{Hand}
 use Rattle.sja_threads.specs.Inside.Making.{IsNewBus, IsNewDriver, AreNewLinks, IsMade, AreMade}
 

@@ -9,7 +9,7 @@ use Rattle.sja_rings.specs.Ends.{link_of_driver}
 use Rattle.sja_plan.specs.Plan.{PlanValue}
 use Rattle.sja_driver.specs.Holding.{Numbered}
 use Rattle.sja_driver.specs.Logs.{HasRoom}
-use Rattle.sja_turns.specs.Serial.{steps_at}
+use Rattle.sja_plan.specs.Plan.{steps_at}
 use Rattle.sja_threads.specs.declared.hand.Hand.{Hand}
 use Rattle.sja_threads.specs.declared.keeps.Keeps.{Keeps}
 use Rattle.sja_threads.specs.declared.worked.Worked.{Worked}

@@ -16,7 +16,7 @@ use Rattle.sja_driver.specs.Deeds.{Deed, done_of}
 use Rattle.sja_driver.specs.Holding.{HoldsBy, Numbered}
 use Rattle.sja_driver.specs.LoggedDrivers.{node_of, driver_of, log_of, IsLawful}
 use Rattle.sja_driver.specs.Logs.{HasRoom, IsEmpty, Traces, done_in}
-use Rattle.sja_turns.proofs.Newly.{nothing_known, nothing_told}
+use Rattle.sja_driver.proofs.NothingDone.{nothing_known, nothing_told}
 use Rattle.sja_threads.specs.declared.worked.Worked.{Worked}
 use Rattle.sja_threads.specs.Setting.LeadTo.{nothing_done}
 use Rattle.sja_threads.specs.Working.{MayWork, DoesSteps, AreUntouched, HasWorked}

@@ -13,10 +13,10 @@ use Rattle.sja_driver.specs.Deeds.{Deed}
 use Rattle.sja_driver.specs.LoggedDrivers.{log_of}
 use Rattle.sja_driver.specs.Logs.{done_in}
 use Rattle.sja_bus.specs.Buses.{BusValue}
-use Rattle.sja_report.specs.declared.end.End.{End}
-use Rattle.sja_report.specs.Log.{RunValue, journals_in}
-use Rattle.sja_report.specs.Runs.{IsRun}
-use Rattle.sja_turns.specs.Serial.{steps_at}
+use Rattle.sja_log.specs.declared.end.End.{End}
+use Rattle.sja_log.specs.Log.{RunValue, journals_in}
+use Rattle.sja_log.specs.Runs.{IsRun}
+use Rattle.sja_plan.specs.Plan.{steps_at}
 use Rattle.sja_threads.specs.declared.hand.Hand.{Hand}
 use Rattle.sja_threads.specs.declared.joined.Joined.{Joined}
 use Rattle.sja_threads.specs.declared.worked.Worked.{Worked}

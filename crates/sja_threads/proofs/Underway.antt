@@ -12,15 +12,15 @@ use Rattle.sja_plan.specs.Plan.{PlanValue}
 use Rattle.sja_regs.specs.declared.bus_turn.BusTurn.{BusTurn}
 use Rattle.sja_regs.specs.declared.orders.Orders.{Orders}
 use Rattle.sja_bus.specs.Buses.{BusValue, EachJournal, KeepsAll, IsBit}
-use Rattle.sja_bus.specs.Lawful.{IsBusRun}
-use Rattle.sja_bus.specs.OneBit.{MayHaveItems}
+use Rattle.sja_wire.specs.Lawful.{IsBusRun}
+use Rattle.sja_wire.specs.OneBit.{MayHaveItems}
 use Rattle.sja_bus.specs.Resting.{RestsAs}
-use Rattle.sja_bus.specs.Wire.{journal_at}
+use Rattle.sja_wire.specs.Wire.{journal_at}
 use Rattle.sja_bus.proofs.Many.{numbered_kept}
 use Rattle.sja_threads.specs.Needed.{IsDue, AllDue, AllRest}
 use Rattle.sja_threads.specs.declared.moving.Move.{Move}
 use Rattle.sja_threads.specs.declared.moving.Move.TheVariants.{Ran, Rests, Spent}
-use Rattle.sja_report.specs.declared.end.End.TheVariants.{Bits as BitsSpent}
+use Rattle.sja_log.specs.declared.end.End.TheVariants.{Bits as BitsSpent}
 use Rattle.sja_threads.specs.Inside.Underway.{IsRunOut, TakesWithin, IsUnderWay, MayTurn, IsMoved, HasRun, StayDue}
 use Rattle.sja_threads.specs.Inside.Underway.{ran_by}
 use Rattle.sja_threads.proofs.Due.{due_stays, due_kept, due_more, due_now}

@@ -10,8 +10,8 @@ use Rattle.sja_link.specs.Accounts.{account}
 use Rattle.sja_link.specs.Parts.{part}
 use Rattle.sja_link.specs.World.{WorldValue}
 use Rattle.sja_link.specs.WorldEvents.{Reached}
-use Rattle.sja_report.specs.Log.{ActivationValue, NodeValue}
-use Rattle.sja_report.specs.Settling.{IsSettled}
+use Rattle.sja_log.specs.Log.{ActivationValue, NodeValue}
+use Rattle.sja_log.specs.Settling.{IsSettled}
 
 -- what an event is of the bus
 abbrev pub bus_event : Event → List Event

@@ -3,11 +3,11 @@ use Rattle.std.specs.Prelude.{◌≡◌, ◌<◌, ◌⊎◌, ◌++◌, ℕ, List
 use Rattle.sja_link.specs.declared.entry.Entry.{Entry}
 use Rattle.sja_link.specs.Carried.{bits_of}
 use Rattle.sja_link.specs.Records.{record_of}
-use Rattle.sja_bus.specs.Wire.{journal_at}
-use Rattle.sja_report.specs.declared.end.End.{End}
-use Rattle.sja_report.specs.declared.end.End.TheVariants.{Rest, Bits}
-use Rattle.sja_report.specs.Log.{RunValue, journals_in}
-use Rattle.sja_report.specs.Resting.{IsAtRest, IsWorking}
+use Rattle.sja_wire.specs.Wire.{journal_at}
+use Rattle.sja_log.specs.declared.end.End.{End}
+use Rattle.sja_log.specs.declared.end.End.TheVariants.{Rest, Bits}
+use Rattle.sja_log.specs.Log.{RunValue, journals_in}
+use Rattle.sja_log.specs.Resting.{IsAtRest, IsWorking}
 
 -- a place in a journal with just so many bits before it, at which the node is started and not at rest
 pub record WorksAt (j : List Entry) (bits : ℕ) : Type 0 where

@@ -5,9 +5,10 @@ use Rattle.sja_regs.specs.DriverSettings.{SettingsValue, settings_in}
 use Rattle.sja_regs.specs.Registers.{at_power_on}
 use Rattle.sja_plan.specs.Plan.{PlanValue}
 use Rattle.sja_driver.specs.Deeds.{Deed}
-use Rattle.sja_report.specs.Log.{NodeValue, RunValue}
-use Rattle.sja_report.specs.Runs.{IsRun}
-use Rattle.sja_turns.specs.Serial.{steps_at, deeds_at}
+use Rattle.sja_log.specs.Log.{NodeValue, RunValue}
+use Rattle.sja_log.specs.Runs.{IsRun}
+use Rattle.sja_driver.specs.Deeds.{deeds_at}
+use Rattle.sja_plan.specs.Plan.{steps_at}
 use Rattle.sja_threads.specs.Linked.{AreLinked}
 use Rattle.sja_threads.specs.Needed.{IsNeeded}
 use Rattle.sja_threads.specs.Setting.{LeadTo}

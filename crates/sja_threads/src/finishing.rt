@@ -2,8 +2,8 @@
 
 ghost use Rattle.std.specs.Prelude.{◌≡◌, ◌⊎◌, List, IfOk, IfErr};
 ghost use Rattle.sja_driver.specs.Deeds.{Deed};
-ghost use Rattle.sja_report.specs.Runs.{IsRun};
-ghost use Rattle.sja_turns.specs.declared.run_fault.RunFault.TheVariants.{Memory, Unsettled};
+ghost use Rattle.sja_log.specs.Runs.{IsRun};
+ghost use Rattle.sja_log.specs.declared.run_fault.RunFault.TheVariants.{Memory, Unsettled};
 ghost use Rattle.sja_threads.specs.Ended.{IsOver, IsOverOf};
 ghost use Rattle.sja_threads.specs.Settling.{IsLogOf};
 
@@ -11,10 +11,9 @@ use super::apart::Apart;
 use super::settling::settle_all;
 use super::worked::Worked;
 use sja_bus::Bus;
+use sja_log::{End, RunFault, RunLog, node_runs};
 use sja_plan::Plan;
-use sja_report::{End, RunLog};
 use sja_rings::{RingBus, RingDriver};
-use sja_turns::{RunFault, node_runs};
 use std::alloc::Global;
 
 /// The log of a run that is over, and ends so: of each node its journal, its error counters, the steps done, and of

@@ -7,9 +7,9 @@ use super::making::hands_of;
 use super::worked::Worked;
 use can_frame::OutOfMemory;
 use sja_bus::Bus;
+use sja_log::script_of;
 use sja_plan::Plan;
 use sja_rings::{RingBus, RingDriver};
-use sja_turns::script_of;
 use std::alloc::Global;
 
 /// All that a run in threads begins with beside the ports (this project's own rule): the bus and its ends of all links,

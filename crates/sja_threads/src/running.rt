@@ -1,9 +1,9 @@
 //! Whole runs with each driver in a thread of its own.
 
 ghost use Rattle.std.specs.Prelude.{◌≡◌, ◌≢◌, ◌≤◌, ◌<◌, ℕ, length, slice_index_or, vec_len, Err, IfOk, IfErr};
-ghost use Rattle.sja_report.specs.Headline.{IsAccount};
-ghost use Rattle.sja_report.specs.Log.{NodeValue};
-ghost use Rattle.sja_turns.specs.declared.run_fault.RunFault.TheVariants.{GateCount};
+ghost use Rattle.sja_log.specs.Headline.{IsAccount};
+ghost use Rattle.sja_log.specs.Log.{NodeValue};
+ghost use Rattle.sja_log.specs.declared.run_fault.RunFault.TheVariants.{GateCount};
 ghost use Rattle.sja_threads.specs.Stopping.{IsFaultOf};
 ghost use Rattle.sja_threads.specs.Threads.{IsThreadedRun};
 ghost use Rattle.sja_threads.specs.Inside.Joined.{IsEnding};
@@ -17,10 +17,9 @@ use super::making::ports_of;
 use super::ready::Ready;
 use super::starting::{join_all, start_all};
 use super::watching::close_all;
+use sja_log::{RunFault, RunLog};
 use sja_plan::Plan;
 use sja_regs::Port;
-use sja_report::RunLog;
-use sja_turns::RunFault;
 use std::alloc::Global;
 use std::sync::{Mutex, Wait};
 use std::thread;

@@ -4,11 +4,11 @@ ghost use Rattle.std.specs.Prelude.{◌≡◌, ◌⊎◌, ◌<◌, ℕ, length, 
 ghost use Rattle.sja_rings.specs.declared.ring_bus.RingBus.{RingBus as Bus};
 ghost use Rattle.sja_rings.specs.declared.ring_driver.RingDriver.{RingDriver as Driver};
 ghost use Rattle.sja_rings.specs.Ends.{OneLink};
-ghost use Rattle.sja_turns.specs.declared.run_fault.RunFault.TheVariants.{Memory, Unsettled};
+ghost use Rattle.sja_log.specs.declared.run_fault.RunFault.TheVariants.{Memory, Unsettled};
 ghost use Rattle.sja_threads.specs.Settling.{IsLeftOn, AreLeftOn};
 
+use sja_log::{Lying, RunFault};
 use sja_rings::{RingBus, RingDriver, end_bus, end_driver, settle};
-use sja_turns::{Lying, RunFault};
 use std::alloc::Global;
 
 /// Ends both ends of a link, and gives what lies there downward: all that was put and not got. Nothing lies there

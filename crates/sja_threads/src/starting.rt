@@ -2,7 +2,7 @@
 
 ghost use Rattle.std.specs.Prelude.{◌≡◌, ◌≤◌, [], length, map, vec_len, vec_capacity, All, IfOk, IfErr};
 ghost use Rattle.sja_link.specs.Related.{EachRelated};
-ghost use Rattle.sja_turns.specs.declared.run_fault.RunFault.TheVariants.{Thread};
+ghost use Rattle.sja_log.specs.declared.run_fault.RunFault.TheVariants.{Thread};
 ghost use Rattle.sja_threads.specs.Inside.Started.{IsHand, Serves};
 ghost use Rattle.sja_threads.specs.Inside.Promised.{IsFor, IsKept};
 
@@ -11,10 +11,10 @@ use super::hand::Hand;
 use super::keeps::{Child, Keeps};
 use super::worked::Worked;
 use super::working::work_from;
+use sja_log::RunFault;
 use sja_plan::Plan;
 use sja_regs::{DriverSettings, Port};
 use sja_rings::RingDriver;
-use sja_turns::RunFault;
 use std::marker::PhantomData;
 use std::snapshot::Snapshot;
 use std::sync::{Mutex, Wait};

@@ -12,24 +12,24 @@ use Rattle.sja_link.specs.World.{is_send}
 use Rattle.sja_link.proofs.Entering.{place_push}
 use Rattle.sja_link.proofs.Freeing.{total_push}
 use Rattle.sja_link.proofs.Judging.{each_push}
-use Rattle.sja_bus.specs.Links.{stops_in}
-use Rattle.sja_bus.specs.OneBit.{entries_of_items}
+use Rattle.sja_wire.specs.Links.{stops_in}
+use Rattle.sja_wire.specs.OneBit.{entries_of_items}
 use Rattle.sja_regs.specs.declared.registers.Registers.{Registers}
 use Rattle.sja_script.specs.declared.refusal.Refusal.TheVariants.{Closed}
 use Rattle.sja_script.specs.declared.step_answer.StepAnswer.TheVariants.{Refused}
 use Rattle.sja_driver.specs.Carried.{carried}
 use Rattle.sja_driver.specs.Deeds.{Deed, opens_by, opened_by, active_after, is_active}
 use Rattle.sja_driver.proofs.Sections.{active_push, opened_push}
-use Rattle.sja_report.specs.Aborting.{AbortIsDue, sends_given}
-use Rattle.sja_report.specs.InTime.{IsInTime}
-use Rattle.sja_report.specs.Settings.{settings_of}
-use Rattle.sja_report.specs.Timing.{given_when, taken_when}
-use Rattle.sja_report.specs.Windows.{put_by, SeesIf}
-use Rattle.sja_report.proofs.Timings.{aborts_on, aborts_push}
+use Rattle.sja_log.specs.Aborting.{AbortIsDue, sends_given}
+use Rattle.sja_log.specs.InTime.{IsInTime}
+use Rattle.sja_log.specs.Settings.{settings_of}
+use Rattle.sja_log.specs.Timing.{given_when, taken_when}
+use Rattle.sja_log.specs.Windows.{put_by, SeesIf}
+use Rattle.sja_log.proofs.Timings.{aborts_on, aborts_push}
 use Rattle.sja_turns.specs.Linking.{IsLevel}
 use Rattle.sja_turns.specs.Porting.{IsPorted}
-use Rattle.sja_report.proofs.Givings.{Kind}
-use Rattle.sja_report.proofs.Givings.Kind.{quiet, starts, credits, sends, stops}
+use Rattle.sja_log.proofs.Givings.{Kind}
+use Rattle.sja_log.proofs.Givings.Kind.{quiet, starts, credits, sends, stops}
 use Rattle.sja_turns.proofs.Items.{bits_same, stops_push, sends_push, put_item, SamePut, sees_same, each_map, settings_same, when_item, when_none}
 use Rattle.sja_turns.proofs.Ports.{carried_alike}
 use Rattle.sja_turns.proofs.Trying.{IsNext}

@@ -6,21 +6,22 @@ use Rattle.std.proofs.lemmas.Bool.{cases_lt, false≢true}
 use Rattle.sja_link.specs.NodeWords.{NodeEntry}
 use Rattle.sja_link.specs.declared.entry.Entry.{Entry}
 use Rattle.sja_link.specs.Records.{record_of}
-use Rattle.sja_bus.specs.Wire.{journal_at}
+use Rattle.sja_wire.specs.Wire.{journal_at}
 use Rattle.sja_plan.specs.Plan.{PlanValue}
 use Rattle.sja_plan.specs.declared.turn.Turn.{Turn}
 use Rattle.sja_plan.specs.declared.turn.Turn.TheVariants.{Bus, Rest}
 use Rattle.sja_driver.specs.Deeds.{Deed}
-use Rattle.sja_report.specs.declared.end.End.{End}
-use Rattle.sja_report.specs.declared.end.End.TheVariants.{Bits as BitsSpent}
-use Rattle.sja_report.specs.Moments.{record_at}
-use Rattle.sja_report.specs.Resting.{IsAtRest}
-use Rattle.sja_report.specs.Turns.{Progress, with_bits, AllAtRest, RunsTo}
-use Rattle.sja_report.specs.Turns.RunsTo.{bus, bus_spent, rest, rest_spent}
+use Rattle.sja_log.specs.declared.end.End.{End}
+use Rattle.sja_log.specs.declared.end.End.TheVariants.{Bits as BitsSpent}
+use Rattle.sja_log.specs.Moments.{record_at}
+use Rattle.sja_log.specs.Resting.{IsAtRest}
+use Rattle.sja_log.specs.Turns.{Progress, with_bits, AllAtRest, RunsTo}
+use Rattle.sja_log.specs.Turns.RunsTo.{bus, bus_spent, rest, rest_spent}
 use Rattle.sja_turns.specs.Bits.{TakesBits, SomeWorks, TakesBusTurn, TakesRest}
 use Rattle.sja_turns.specs.Bits.TakesBits.{no_bit, one_more}
 use Rattle.sja_turns.specs.Ending.{progress}
-use Rattle.sja_turns.specs.Serial.{SerialValue, StandsAt, deeds_at}
+use Rattle.sja_turns.specs.Serial.{SerialValue, StandsAt}
+use Rattle.sja_driver.specs.Deeds.{deeds_at}
 use Rattle.sja_turns.proofs.GoingOn.{acts_of, GoesOn, ArePresent, deeds_then, record_then}
 use Rattle.sja_turns.proofs.GoingOn.{back_bit, present_bits, bits_run, stands_bits}
 

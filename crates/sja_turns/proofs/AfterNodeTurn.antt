@@ -7,8 +7,8 @@ use Rattle.sja_link.specs.NodeWords.{NodeEntry}
 use Rattle.sja_link.specs.declared.entry.Entry.{Entry}
 use Rattle.sja_link.specs.Places.{place_of}
 use Rattle.sja_link.proofs.Entering.{bits_counted}
-use Rattle.sja_bus.specs.Lawful.{IsBusRun}
-use Rattle.sja_bus.specs.Wire.{journal_at}
+use Rattle.sja_wire.specs.Lawful.{IsBusRun}
+use Rattle.sja_wire.specs.Wire.{journal_at}
 use Rattle.sja_plan.specs.Plan.{PlanValue}
 use Rattle.sja_plan.specs.declared.turn.Turn.{Turn}
 use Rattle.sja_plan.specs.declared.turn.Turn.TheVariants.{Node}
@@ -18,15 +18,17 @@ use Rattle.sja_script.specs.declared.step.Step.{Step}
 use Rattle.sja_script.specs.declared.step.Step.TheVariants.{Start, Stop, Window, Release, Read}
 use Rattle.sja_script.specs.declared.step.Step.TheVariants.{Write, Load, Command, Await, Sent}
 use Rattle.sja_driver.specs.Deeds.{Deed, opened_by}
-use Rattle.sja_report.specs.declared.end.End.{End}
-use Rattle.sja_report.specs.Moments.{record_at}
-use Rattle.sja_report.specs.Resting.{IsHolding}
-use Rattle.sja_report.specs.Turns.{Progress, with_steps, IsUnmet, IsStuck, DoesSteps, RunsTo}
-use Rattle.sja_report.specs.Turns.RunsTo.{node}
-use Rattle.sja_report.specs.Windows.{off_by, window_of}
+use Rattle.sja_log.specs.declared.end.End.{End}
+use Rattle.sja_log.specs.Moments.{record_at}
+use Rattle.sja_log.specs.Resting.{IsHolding}
+use Rattle.sja_log.specs.Turns.{Progress, with_steps, IsUnmet, IsStuck, DoesSteps, RunsTo}
+use Rattle.sja_log.specs.Turns.RunsTo.{node}
+use Rattle.sja_log.specs.Windows.{off_by, window_of}
 use Rattle.sja_turns.specs.Asking.{IsAsked}
 use Rattle.sja_turns.specs.Ending.{progress}
-use Rattle.sja_turns.specs.Serial.{SerialValue, StandsAt, deeds_at, steps_at}
+use Rattle.sja_turns.specs.Serial.{SerialValue, StandsAt}
+use Rattle.sja_driver.specs.Deeds.{deeds_at}
+use Rattle.sja_plan.specs.Plan.{steps_at}
 use Rattle.sja_turns.specs.Serial.{with_deeds, TakesTurn, IsStuck as IsStuckNow}
 use Rattle.sja_turns.specs.Waiting.{HasToWait}
 use Rattle.sja_turns.proofs.GoingOn.{acts_of, GoesOn, ArePresent, length_at, lengths_set}

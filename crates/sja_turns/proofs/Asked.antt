@@ -21,8 +21,8 @@ use Rattle.sja_link.specs.Records.{told, record_of}
 use Rattle.sja_link.specs.Verdicts.{IsLawful}
 use Rattle.sja_link.proofs.Entering.{record_push, gathered_append}
 use Rattle.sja_link.proofs.Pullings.{off_both}
-use Rattle.sja_report.specs.Windows.{off_by}
-use Rattle.sja_report.proofs.Timings.{put_now}
+use Rattle.sja_log.specs.Windows.{off_by}
+use Rattle.sja_log.proofs.Timings.{put_now}
 use Rattle.sja_regs.specs.declared.registers.Registers.{Registers}
 use Rattle.sja_turns.specs.Asking.{IsAsked}
 use Rattle.sja_turns.proofs.Cuts.{sent_holds, stopped_holds, started_holds}

@@ -11,17 +11,18 @@ use Rattle.sja_regs.specs.Facts.{RegisterFacts}
 use Rattle.sja_regs.specs.Registers.{at_power_on}
 use Rattle.sja_bus.specs.Boards.{HasOrders, WasTold, WasKept}
 use Rattle.sja_bus.specs.Buses.{EachJournal, KeepsAll, EachUntold, untold_at}
-use Rattle.sja_bus.specs.Lawful.{IsBusRun}
-use Rattle.sja_bus.specs.OneBit.{MayHaveItems}
-use Rattle.sja_bus.specs.Links.{per_node, Kept}
+use Rattle.sja_wire.specs.Lawful.{IsBusRun}
+use Rattle.sja_wire.specs.OneBit.{MayHaveItems}
+use Rattle.sja_wire.specs.Links.{per_node, Kept}
 use Rattle.sja_bus.specs.Stretches.{with_recessive, IsStretch}
-use Rattle.sja_bus.specs.Wire.{journal_at}
+use Rattle.sja_wire.specs.Wire.{journal_at}
 use Rattle.sja_bus.proofs.QuietBits.{lists_same}
 use Rattle.sja_plan.specs.Plan.{PlanValue}
 use Rattle.sja_driver.specs.Deeds.{Deed, given_in, deeds_of}
-use Rattle.sja_report.proofs.Stepping.{given_taken}
+use Rattle.sja_log.proofs.Stepping.{given_taken}
 use Rattle.sja_turns.specs.Bits.{TakesBits, TakesAtOnce}
-use Rattle.sja_turns.specs.Serial.{SerialValue, StandsAt, run_now, deeds_at}
+use Rattle.sja_turns.specs.Serial.{SerialValue, StandsAt, run_now}
+use Rattle.sja_driver.specs.Deeds.{deeds_at}
 use Rattle.sja_turns.proofs.BitRun.{some_of, no_link}
 use Rattle.sja_turns.proofs.Dry.{none_taken}
 use Rattle.sja_turns.proofs.GoingOn.{stands_bits}

@@ -14,35 +14,35 @@ use Rattle.sja_regs.specs.declared.orders.Orders.{Orders}
 use Rattle.sja_regs.specs.declared.registers.Registers.{Registers}
 use Rattle.sja_regs.specs.Facts.{RegisterFacts}
 use Rattle.sja_regs.specs.Turns.{after_turn}
-use Rattle.sja_bus.specs.Aborting.{IsApplied}
+use Rattle.sja_wire.specs.Aborting.{IsApplied}
 use Rattle.sja_bus.specs.Buses.{IsNodeBit}
-use Rattle.sja_bus.specs.Links.{Kept, stops_of}
-use Rattle.sja_bus.specs.OneBit.{HasBit, abort_as}
-use Rattle.sja_bus.specs.Telling.{IsTurn}
+use Rattle.sja_wire.specs.Links.{Kept, stops_of}
+use Rattle.sja_wire.specs.OneBit.{HasBit, abort_as}
+use Rattle.sja_wire.specs.Telling.{IsTurn}
 use Rattle.sja_script.specs.declared.step.Step.{Step}
 use Rattle.sja_driver.specs.declared.logged_driver.LoggedDriver.{LoggedDriver}
 use Rattle.sja_driver.specs.Deeds.{Deed, opened_by, given_in, deeds_of}
-use Rattle.sja_report.specs.Aborting.{IsCommanded, AbortIsDue, sends_taken}
-use Rattle.sja_report.specs.InTime.{IsInTime}
-use Rattle.sja_report.specs.Registering.{IsPortBit}
-use Rattle.sja_report.specs.Registering.LeadTo.{bit}
-use Rattle.sja_report.specs.Timing.{taken_when}
-use Rattle.sja_report.specs.Windows.{put_by, off_by}
-use Rattle.sja_report.proofs.Stepping.{given_taken}
+use Rattle.sja_log.specs.Aborting.{IsCommanded, AbortIsDue, sends_taken}
+use Rattle.sja_log.specs.InTime.{IsInTime}
+use Rattle.sja_log.specs.Registering.{IsPortBit}
+use Rattle.sja_log.specs.Registering.LeadTo.{bit}
+use Rattle.sja_log.specs.Timing.{taken_when}
+use Rattle.sja_log.specs.Windows.{put_by, off_by}
+use Rattle.sja_log.proofs.Stepping.{given_taken}
 use Rattle.sja_turns.specs.Bits.{HasOneBit}
 use Rattle.sja_turns.specs.Linking.{IsLinked, IsLevel}
 use Rattle.sja_turns.specs.Nodes.{IsNode}
 use Rattle.sja_turns.specs.Porting.{IsPorted}
 use Rattle.sja_turns.specs.Shown.{ShowsRecord}
-use Rattle.sja_turns.proofs.Adding.{added, added_own, bit_whole, added_bits, added_put, added_due, added_off}
+use Rattle.sja_log.proofs.Adding.{added, added_own, bit_whole, added_bits, added_put, added_due, added_off}
 use Rattle.sja_turns.proofs.BitAsked.{HasCut, bit_asked}
 use Rattle.sja_turns.proofs.BitCounted.{bit_counted}
 use Rattle.sja_turns.proofs.BitPort.{ported_bit}
 use Rattle.sja_turns.proofs.Dry.{none_taken_own}
-use Rattle.sja_turns.proofs.Later.{SameBy, done_more, all_see, all_carry, settings_by_then}
+use Rattle.sja_log.proofs.Later.{SameBy, done_more, all_see, all_carry, settings_by_then}
 use Rattle.sja_turns.proofs.Shown.{as_told, shows_told}
-use Rattle.sja_turns.proofs.Own.{AreOwn, own_activation, own_stopped, own_sends, own_when, own_taken}
-use Rattle.sja_turns.proofs.Taking.{same_front}
+use Rattle.sja_log.proofs.Own.{AreOwn, own_activation, own_stopped, own_sends, own_when, own_taken}
+use Rattle.sja_wire.proofs.Taking.{same_front}
 
 none_more : (xs ys : List Up) → xs ≡ xs ++ ys → ys ≡ []
 none_more xs ys e = sym (same_front xs [] ys (append-nil xs ∙ e))

@@ -30,8 +30,8 @@ use Rattle.sja_regs.specs.Facts.{RegisterFacts}
 use Rattle.sja_regs.specs.Turns.{is_live, after_turn}
 use Rattle.sja_bus.specs.Boards.{HasOrders, WasTold, WasKept}
 use Rattle.sja_bus.specs.Buses.{IsNodeBit}
-use Rattle.sja_bus.specs.OneBit.{HasBit, abort_as, judged_as, off_as}
-use Rattle.sja_bus.specs.Telling.{IsTurn}
+use Rattle.sja_wire.specs.OneBit.{HasBit, abort_as, judged_as, off_as}
+use Rattle.sja_wire.specs.Telling.{IsTurn}
 use Rattle.sja_bus.specs.Inside.Following.{off_left}
 use Rattle.sja_bus.proofs.Turning.{record_bit}
 use Rattle.sja_turns.specs.Asking.{IsAsked}

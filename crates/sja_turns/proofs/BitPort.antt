@@ -9,12 +9,12 @@ use Rattle.sja_link.specs.Places.{place_of}
 use Rattle.sja_regs.specs.declared.bus_turn.BusTurn.{BusTurn}
 use Rattle.sja_regs.specs.declared.registers.Registers.{Registers}
 use Rattle.sja_regs.specs.Turns.{after_turn}
-use Rattle.sja_bus.specs.OneBit.{HasBit}
-use Rattle.sja_bus.specs.Telling.{IsTurn, IsPassedOver}
+use Rattle.sja_wire.specs.OneBit.{HasBit}
+use Rattle.sja_wire.specs.Telling.{IsTurn, IsPassedOver}
 use Rattle.sja_driver.specs.Deeds.{Deed, opened_by, is_active}
-use Rattle.sja_report.specs.Aborting.{sends_taken}
-use Rattle.sja_report.specs.Settings.{settings_of}
-use Rattle.sja_report.specs.Windows.{off_by}
+use Rattle.sja_log.specs.Aborting.{sends_taken}
+use Rattle.sja_log.specs.Settings.{settings_of}
+use Rattle.sja_log.specs.Windows.{off_by}
 use Rattle.sja_turns.specs.Alike.{AreAlike}
 use Rattle.sja_turns.specs.Porting.{IsPorted}
 

@@ -16,9 +16,9 @@ use Rattle.sja_regs.specs.Registers.{at_power_on}
 use Rattle.sja_regs.specs.Turns.{after_turn}
 use Rattle.sja_bus.specs.Boards.{HasOrders, WasTold, WasKept}
 use Rattle.sja_bus.specs.Buses.{KeepsAll, IsBit, IsNodeBit, untold_at}
-use Rattle.sja_bus.specs.Lawful.{IsBusRun}
-use Rattle.sja_bus.specs.Links.{per_node}
-use Rattle.sja_bus.specs.Wire.{journal_at}
+use Rattle.sja_wire.specs.Lawful.{IsBusRun}
+use Rattle.sja_wire.specs.Links.{per_node}
+use Rattle.sja_wire.specs.Wire.{journal_at}
 use Rattle.sja_script.specs.declared.strike.Strike.{Strike}
 use Rattle.sja_plan.specs.Plan.{PlanValue}
 use Rattle.sja_driver.specs.declared.logged_driver.LoggedDriver.{LoggedDriver}
@@ -26,7 +26,9 @@ use Rattle.sja_driver.specs.Deeds.{Deed}
 use Rattle.sja_driver.specs.LoggedDrivers.{node_of}
 use Rattle.sja_turns.specs.Bits.{HasOneBit, TakesBit}
 use Rattle.sja_turns.specs.Nodes.{IsNode}
-use Rattle.sja_turns.specs.Serial.{SerialValue, StandsAt, steps_at, deeds_at}
+use Rattle.sja_turns.specs.Serial.{SerialValue, StandsAt}
+use Rattle.sja_driver.specs.Deeds.{deeds_at}
+use Rattle.sja_plan.specs.Plan.{steps_at}
 use Rattle.sja_turns.specs.Shown.{ShowsRecord}
 use Rattle.sja_turns.proofs.BitAsked.{HasCut}
 use Rattle.sja_turns.proofs.Bit.{BitOf, after_one_bit, one_bit, shows}

@@ -5,19 +5,20 @@ use Rattle.std.proofs.lemmas.Bool.{cases_eq}
 use Rattle.std.proofs.lemmas.List.{get_or-set_same, get_or-set_other}
 use Rattle.sja_link.specs.declared.entry.Entry.{Entry}
 use Rattle.sja_bus.specs.Buses.{BusValue, new_bus}
-use Rattle.sja_bus.specs.Lawful.{IsBusRun}
-use Rattle.sja_bus.specs.Wire.{journal_at}
+use Rattle.sja_wire.specs.Lawful.{IsBusRun}
+use Rattle.sja_wire.specs.Wire.{journal_at}
 use Rattle.sja_plan.specs.Plan.{PlanValue, NamesNode}
 use Rattle.sja_plan.specs.declared.turn.Turn.{Turn}
 use Rattle.sja_plan.specs.declared.turn.Turn.TheVariants.{Bus, Rest, Node}
 use Rattle.sja_driver.specs.Deeds.{Deed}
-use Rattle.sja_report.specs.declared.end.End.{End}
-use Rattle.sja_report.specs.declared.end.End.TheVariants.{Turns as TurnsDone, Bits as BitsSpent}
-use Rattle.sja_report.specs.Turns.{Progress, RunsTo}
-use Rattle.sja_report.specs.Turns.RunsTo.{all_done}
+use Rattle.sja_log.specs.declared.end.End.{End}
+use Rattle.sja_log.specs.declared.end.End.TheVariants.{Turns as TurnsDone, Bits as BitsSpent}
+use Rattle.sja_log.specs.Turns.{Progress, RunsTo}
+use Rattle.sja_log.specs.Turns.RunsTo.{all_done}
 use Rattle.sja_turns.specs.Bits.{TakesBusTurn, TakesRest}
 use Rattle.sja_turns.specs.Ending.{progress, TakesTurns, TakesOne}
-use Rattle.sja_turns.specs.Serial.{SerialValue, StandsAt, TakesTurn, deeds_at, with_deeds}
+use Rattle.sja_turns.specs.Serial.{SerialValue, StandsAt, TakesTurn, with_deeds}
+use Rattle.sja_driver.specs.Deeds.{deeds_at}
 use Rattle.sja_turns.proofs.Onward.{extends_none, extends_items, bits_items, aborts_items}
 use Rattle.sja_turns.proofs.GoingOn.{acts_of, GoesOn, IsPresent, ArePresent, present_bits, back_bits, stands_bits}
 use Rattle.sja_turns.proofs.AfterBusTurn.{bus_whole, bus_short, rest_whole, rest_short}

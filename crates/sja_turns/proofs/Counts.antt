@@ -9,7 +9,7 @@ use Rattle.sja_link.specs.Places.{Place, first_place, past, Placed, placed_from}
 use Rattle.sja_link.specs.Parts.{in_part}
 use Rattle.sja_link.specs.Carried.{taken_in, taken_of}
 use Rattle.sja_driver.specs.Deeds.{Deed, opens_by, given_in, section_from}
-use Rattle.sja_report.specs.Timing.{Timed, timed, given_when, taken_when}
+use Rattle.sja_log.specs.Timing.{Timed, timed, given_when, taken_when}
 
 -- ---- weights with labels
 

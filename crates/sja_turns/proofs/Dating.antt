@@ -3,9 +3,9 @@ use Rattle.std.proofs.Common.{◌≡◌, List, [], ◌∷◌, ◌++◌, sym, sub
 use Rattle.sja_link.specs.declared.entry.Entry.{Entry}
 use Rattle.sja_link.specs.Places.{place_of}
 use Rattle.sja_driver.specs.Deeds.{Deed}
-use Rattle.sja_turns.specs.Dated.{AreDone}
+use Rattle.sja_log.specs.Dated.{AreDone}
 use Rattle.sja_turns.proofs.After.{Enters, same_bits}
-use Rattle.sja_turns.proofs.Later.{done_push}
+use Rattle.sja_log.proofs.Later.{done_push}
 
 -- a deed more, done now, and what it gave was taken
 pub done_after : (j k : List Entry) (deeds : List Deed) (d : Deed) → Enters j k deeds d → d.bits ≡ (place_of j).bits →

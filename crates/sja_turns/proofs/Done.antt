@@ -10,7 +10,7 @@ use Rattle.sja_link.specs.Parts.{part}
 use Rattle.sja_link.specs.Carried.{taken_of}
 use Rattle.sja_link.specs.Places.{place_of}
 use Rattle.sja_link.specs.Verdicts.{IsLawful as IsLawfulJournal}
-use Rattle.sja_bus.specs.Links.{stops_of}
+use Rattle.sja_wire.specs.Links.{stops_of}
 use Rattle.sja_regs.specs.declared.registers.Registers.{Registers}
 use Rattle.sja_script.specs.declared.step.Step.{Step}
 use Rattle.sja_script.specs.declared.step_answer.StepAnswer.{StepAnswer}
@@ -24,12 +24,12 @@ use Rattle.sja_driver.specs.Holding.{HoldsBy, place_after}
 use Rattle.sja_driver.specs.LoggedDrivers.{node_of, driver_of, log_of, ended_of, Steps}
 use Rattle.sja_driver.specs.Logs.{Traces}
 use Rattle.sja_driver.proofs.Giving.{gives_carried}
-use Rattle.sja_report.proofs.Stepping.{given_push, given_taken}
+use Rattle.sja_log.proofs.Stepping.{given_push, given_taken}
 use Rattle.sja_turns.specs.Linking.{IsLevel}
 use Rattle.sja_turns.specs.Nodes.{IsNode}
-use Rattle.sja_report.proofs.Givings.{Kind, kind_of}
-use Rattle.sja_report.proofs.Givings.Kind.{quiet, starts, credits, sends, stops}
-use Rattle.sja_turns.proofs.Taking.{waiting, AtMostOne}
+use Rattle.sja_log.proofs.Givings.{Kind, kind_of}
+use Rattle.sja_log.proofs.Givings.Kind.{quiet, starts, credits, sends, stops}
+use Rattle.sja_wire.proofs.Taking.{waiting, AtMostOne}
 use Rattle.sja_turns.proofs.Trying.{alike, shows_none, takes_none, Comes, comes}
 
 -- ---- what a deed gives

@@ -4,9 +4,9 @@ use Rattle.sja_link.specs.declared.up.Up.{Up}
 use Rattle.sja_link.specs.declared.entry.Entry.{Entry}
 use Rattle.sja_link.specs.Parts.{part}
 use Rattle.sja_link.specs.Carried.{taken_of}
-use Rattle.sja_bus.specs.OneBit.{entries_of_items, MayHaveItems}
-use Rattle.sja_turns.proofs.Own.{AreOwn, own_taken}
-use Rattle.sja_turns.proofs.Taking.{adds, taken_adds, no_adds, none_front, same_front}
+use Rattle.sja_wire.specs.OneBit.{entries_of_items, MayHaveItems}
+use Rattle.sja_log.proofs.Own.{AreOwn, own_taken}
+use Rattle.sja_wire.proofs.Taking.{adds, taken_adds, no_adds, none_front, same_front}
 
 none_more : (xs ys : List Up) → xs ≡ xs ++ ys → ys ≡ []
 none_more xs ys e = sym (same_front xs [] ys (append-nil xs ∙ e))

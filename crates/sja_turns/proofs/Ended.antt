@@ -6,9 +6,9 @@ use Rattle.sja_link.specs.declared.entry.Entry.{Entry}
 use Rattle.sja_link.specs.Accounts.{Account}
 use Rattle.sja_link.specs.declared.down.Down.{Down}
 use Rattle.sja_link.specs.Deques.{Deques}
-use Rattle.sja_bus.specs.declared.node_log.NodeLog.{NodeLog}
-use Rattle.sja_bus.specs.Lawful.{CountersAre, IsBusRun}
-use Rattle.sja_bus.specs.Wire.{journal_at}
+use Rattle.sja_wire.specs.declared.node_log.NodeLog.{NodeLog}
+use Rattle.sja_wire.specs.Lawful.{CountersAre, IsBusRun}
+use Rattle.sja_wire.specs.Wire.{journal_at}
 use Rattle.sja_plan.specs.Plan.{PlanValue}
 use Rattle.sja_regs.specs.declared.registers.Registers.{Registers}
 use Rattle.sja_regs.specs.Registers.{at_power_on}
@@ -17,20 +17,22 @@ use Rattle.sja_driver.specs.declared.logged_driver.LoggedDriver.{LoggedDriver}
 use Rattle.sja_driver.specs.Deeds.{Deed, given_in, deeds_of}
 use Rattle.sja_driver.specs.LoggedDrivers.{log_of}
 use Rattle.sja_driver.specs.Logs.{releases_in, released_of}
-use Rattle.sja_report.specs.declared.end.End.{End}
-use Rattle.sja_report.specs.InTime.{IsInTime}
-use Rattle.sja_report.specs.Registering.{LeadTo}
-use Rattle.sja_report.specs.Log.{NodeValue, RunValue}
-use Rattle.sja_report.specs.Runs.{IsTrace}
-use Rattle.sja_report.specs.Settling.{IsSettled, AreSettled}
-use Rattle.sja_report.proofs.Stepping.{given_taken}
-use Rattle.sja_report.proofs.Windows.{settled_kept}
+use Rattle.sja_log.specs.declared.end.End.{End}
+use Rattle.sja_log.specs.InTime.{IsInTime}
+use Rattle.sja_log.specs.Registering.{LeadTo}
+use Rattle.sja_log.specs.Log.{NodeValue, RunValue}
+use Rattle.sja_log.specs.Runs.{IsTrace}
+use Rattle.sja_log.specs.Settling.{IsSettled, AreSettled}
+use Rattle.sja_log.proofs.Stepping.{given_taken}
+use Rattle.sja_log.proofs.Windows.{settled_kept}
 use Rattle.sja_turns.specs.Nodes.{IsNode}
-use Rattle.sja_turns.specs.Serial.{SerialValue, StandsAt, steps_at, deeds_at}
-use Rattle.sja_turns.specs.Finishing.{all_down, held_after, activation_after, IsNodeEnd, AreNodeEnds}
+use Rattle.sja_turns.specs.Serial.{SerialValue, StandsAt}
+use Rattle.sja_driver.specs.Deeds.{deeds_at}
+use Rattle.sja_plan.specs.Plan.{steps_at}
+use Rattle.sja_log.specs.Finishing.{all_down, held_after, activation_after, IsNodeEnd, AreNodeEnds}
 use Rattle.sja_turns.specs.Ending.{IsLogOf}
-use Rattle.sja_turns.proofs.NodeEnds.{AreEnds, trace_of, settled_of, nodes_count, some_driver, node_end, journal_is}
-use Rattle.sja_turns.proofs.NodeEnds.{journals_in_log, run_of_ends}
+use Rattle.sja_log.proofs.NodeEnds.{AreEnds, trace_of, settled_of, nodes_count, some_driver, node_end, journal_is}
+use Rattle.sja_log.proofs.NodeEnds.{journals_in_log, run_of_ends}
 
 -- what lies downward on one of these links
 down_at : (links : List Deques) (k : ℕ) (d : Deques) →

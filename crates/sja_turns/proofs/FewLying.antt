@@ -24,9 +24,9 @@ use Rattle.sja_link.proofs.Freeing.{total_append}
 use Rattle.sja_link.proofs.Holding.{told_stored}
 use Rattle.sja_link.proofs.Judging.{kept_stored}
 use Rattle.sja_link.proofs.ListCounts.{messages_both}
-use Rattle.sja_bus.specs.OutOfOrder.{HasOff}
+use Rattle.sja_wire.specs.OutOfOrder.{HasOff}
 use Rattle.sja_driver.specs.Deeds.{Deed, Gives, given_in, released_lengths, deeds_of}
-use Rattle.sja_turns.proofs.Few.{bytes, all_of, room_all, bytes_stored, credits_taken, credits_section, bytes_lengths}
+use Rattle.sja_driver.proofs.Few.{bytes, all_of, room_all, bytes_stored, credits_taken, credits_section, bytes_lengths}
 
 -- ---- a message has at least 3 bytes, whatever frame it is of
 

@@ -7,8 +7,8 @@ use Rattle.sja_link.specs.Accounts.{Account, account}
 use Rattle.sja_link.specs.Deques.{Deques, Lies}
 use Rattle.sja_link.specs.Parts.{part}
 use Rattle.sja_link.specs.Carried.{taken_of}
-use Rattle.sja_bus.specs.Links.{stops_of, Kept}
-use Rattle.sja_bus.specs.OneBit.{entries_of_items, MayHaveItems}
+use Rattle.sja_wire.specs.Links.{stops_of, Kept}
+use Rattle.sja_wire.specs.OneBit.{entries_of_items, MayHaveItems}
 use Rattle.sja_driver.specs.declared.any_driver.AnyDriver.{AnyDriver}
 use Rattle.sja_driver.specs.declared.logged_driver.LoggedDriver.{LoggedDriver}
 use Rattle.sja_driver.specs.declared.work_log.WorkLog.{WorkLog}
@@ -16,7 +16,7 @@ use Rattle.sja_driver.specs.Deeds.{Deed, given_in, deeds_of}
 use Rattle.sja_driver.specs.Holding.{HoldsBy}
 use Rattle.sja_driver.specs.LoggedDrivers.{driver_of, log_of}
 use Rattle.sja_turns.specs.Linking.{IsLevel, IsLinked}
-use Rattle.sja_turns.proofs.Taking.{waiting, adds, taken_adds, AtMostOne, same_front, just_taken}
+use Rattle.sja_wire.proofs.Taking.{waiting, adds, taken_adds, AtMostOne, same_front, just_taken}
 
 none_more : {A : Type 0} (xs ys : List A) → xs ≡ xs ++ ys → ys ≡ []
 none_more xs ys e = sym (same_front xs [] ys (append-nil xs ∙ e))

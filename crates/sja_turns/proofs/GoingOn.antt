@@ -6,21 +6,22 @@ use Rattle.sja_link.specs.declared.entry.Entry.{Entry}
 use Rattle.sja_link.specs.Carried.{bits_of}
 use Rattle.sja_link.specs.Records.{record_of}
 use Rattle.sja_link.proofs.Entering.{bits_counted}
-use Rattle.sja_bus.specs.Wire.{journal_at}
+use Rattle.sja_wire.specs.Wire.{journal_at}
 use Rattle.sja_plan.specs.Plan.{PlanValue}
 use Rattle.sja_regs.specs.Registers.{at_power_on}
 use Rattle.sja_driver.specs.declared.logged_driver.LoggedDriver.{LoggedDriver}
 use Rattle.sja_driver.specs.Deeds.{Deed, given_in, opened_by}
-use Rattle.sja_report.specs.Turns.{Acts}
-use Rattle.sja_report.specs.Moments.{record_at}
-use Rattle.sja_report.specs.Windows.{put_by, off_by, window_of}
+use Rattle.sja_log.specs.Turns.{Acts}
+use Rattle.sja_log.specs.Moments.{record_at}
+use Rattle.sja_log.specs.Windows.{put_by, off_by, window_of}
 use Rattle.sja_link.specs.Looking.{off_among}
-use Rattle.sja_report.proofs.Moments.{HasBitsAfterAborts}
-use Rattle.sja_report.proofs.Windows.{window_later}
-use Rattle.sja_report.specs.InTime.{IsInTime}
+use Rattle.sja_log.proofs.Moments.{HasBitsAfterAborts}
+use Rattle.sja_log.proofs.Windows.{window_later}
+use Rattle.sja_log.specs.InTime.{IsInTime}
 use Rattle.sja_turns.specs.Bits.{TakesBit, TakesBits}
 use Rattle.sja_turns.specs.Bits.TakesBits.{no_bit, one_more}
-use Rattle.sja_turns.specs.Serial.{SerialValue, StandsAt, deeds_at}
+use Rattle.sja_turns.specs.Serial.{SerialValue, StandsAt}
+use Rattle.sja_driver.specs.Deeds.{deeds_at}
 use Rattle.sja_turns.proofs.Counts.{as_many}
 use Rattle.sja_turns.proofs.Onward.{Extends, moment_then, put_then, extends_bit, bits_bit, aborts_bit}
 

@@ -8,13 +8,13 @@ use Rattle.sja_link.specs.declared.entry.Entry.{Entry}
 use Rattle.sja_link.specs.Looking.{one_if}
 use Rattle.sja_link.specs.Places.{place_of}
 use Rattle.sja_link.specs.Verdicts.{IsLawful as IsLawfulJournal}
-use Rattle.sja_bus.specs.declared.bus_fault.BusFault.{BusFault}
-use Rattle.sja_bus.specs.declared.bus_fault.BusFault.TheVariants.{BitsSpent, BadCredit, Stuck, BadOrder, JournalFull}
-use Rattle.sja_bus.specs.Links.{stops_of}
-use Rattle.sja_bus.specs.OneBit.{entries_of_items}
-use Rattle.sja_bus.specs.Opening.{IsOpen, IsBetween}
-use Rattle.sja_bus.specs.OutOfOrder.{IsBadCredit, IsOutOfOrder, IsAskedWrongly}
-use Rattle.sja_bus.specs.OutOfOrder.IsAskedWrongly.{outside, while_held, again_off}
+use Rattle.sja_wire.specs.declared.bus_fault.BusFault.{BusFault}
+use Rattle.sja_wire.specs.declared.bus_fault.BusFault.TheVariants.{BitsSpent, BadCredit, Stuck, BadOrder, JournalFull}
+use Rattle.sja_wire.specs.Links.{stops_of}
+use Rattle.sja_wire.specs.OneBit.{entries_of_items}
+use Rattle.sja_wire.specs.Opening.{IsOpen, IsBetween}
+use Rattle.sja_wire.specs.OutOfOrder.{IsBadCredit, IsOutOfOrder, IsAskedWrongly}
+use Rattle.sja_wire.specs.OutOfOrder.IsAskedWrongly.{outside, while_held, again_off}
 use Rattle.sja_bus.specs.Reasons.{IsRefusedFor}
 use Rattle.sja_regs.specs.declared.registers.Registers.{Registers}
 use Rattle.sja_regs.specs.Facts.{RegisterFacts}
@@ -22,11 +22,11 @@ use Rattle.sja_driver.specs.Deeds.{Deed, opened_by, is_active}
 use Rattle.sja_turns.specs.Asking.{IsAsked}
 use Rattle.sja_turns.specs.Linking.{IsLevel}
 use Rattle.sja_turns.specs.Porting.{IsPorted}
-use Rattle.sja_report.proofs.Givings.{Kind}
-use Rattle.sja_report.proofs.Givings.Kind.{quiet, starts, credits, sends, stops}
+use Rattle.sja_log.proofs.Givings.{Kind}
+use Rattle.sja_log.proofs.Givings.Kind.{quiet, starts, credits, sends, stops}
 use Rattle.sja_turns.proofs.After.{enters, level_after}
 use Rattle.sja_turns.proofs.Ported.{was_on, on_bus}
-use Rattle.sja_turns.proofs.Small.{no_item, one_item, neither}
+use Rattle.sja_link.proofs.Small.{no_item, one_item, neither}
 use Rattle.sja_turns.proofs.Trying.{IsNext}
 
 module _ (version : ℕ) (j : List Entry) (deeds : List Deed) (d : Deed) (p q : Registers) (next : IsNext j deeds p q d)

@@ -18,17 +18,17 @@ use Rattle.sja_link.specs.Carried.{taken_in}
 use Rattle.sja_link.specs.World.{is_send}
 use Rattle.sja_link.proofs.Entering.{place_push}
 use Rattle.sja_link.proofs.Freeing.{total_push}
-use Rattle.sja_bus.specs.Links.{stops_in, stops_of}
+use Rattle.sja_wire.specs.Links.{stops_in, stops_of}
 use Rattle.sja_driver.specs.Carried.{Sees}
 use Rattle.sja_driver.specs.Deeds.{Deed, opens_by, opened_by, active_after, active_from, is_active, deeds_of, released_lengths}
-use Rattle.sja_report.specs.Aborting.{sends_taken}
-use Rattle.sja_report.specs.Settings.{Standing, after_setting, after_deed, settings_of}
-use Rattle.sja_report.specs.Timing.{given_when, taken_when}
-use Rattle.sja_report.proofs.Waiting.{WaitsInTime}
-use Rattle.sja_report.specs.Windows.{put_by, off_by, window_of, SeesIf}
-use Rattle.sja_report.proofs.Stepping.{stands_in, timely_deed}
-use Rattle.sja_report.proofs.Timings.{timely_take, timely_quiet, all_timely}
-use Rattle.sja_report.proofs.Windows.{put_quiet}
+use Rattle.sja_log.specs.Aborting.{sends_taken}
+use Rattle.sja_log.specs.Settings.{Standing, after_setting, after_deed, settings_of}
+use Rattle.sja_log.specs.Timing.{given_when, taken_when}
+use Rattle.sja_log.proofs.Waiting.{WaitsInTime}
+use Rattle.sja_log.specs.Windows.{put_by, off_by, window_of, SeesIf}
+use Rattle.sja_log.proofs.Stepping.{stands_in, timely_deed}
+use Rattle.sja_log.proofs.Timings.{timely_take, timely_quiet, all_timely}
+use Rattle.sja_log.proofs.Windows.{put_quiet}
 use Rattle.sja_regs.specs.Registers.{at_power_on}
 
 -- ---- places

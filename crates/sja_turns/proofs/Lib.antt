@@ -1,15 +1,10 @@
-pub mod Small
 pub mod Slices
 pub mod Cuts
-pub mod FramesReceived
-pub mod Taking
 pub mod Looks
 pub mod Ports
-pub mod Modes
 pub mod Patience
 pub mod Effects
 pub mod Activations
-pub mod Few
 pub mod Seeing
 pub mod SawPut
 pub mod Trying
@@ -17,9 +12,6 @@ pub mod Items
 pub mod Asked
 pub mod Counting
 pub mod After
--- a deed more, and a bit more, beside what was put
-pub mod Own
-pub mod Later
 pub mod Dating
 pub mod Ported
 pub mod Gathered
@@ -43,7 +35,6 @@ pub mod BitAsked
 pub mod BitCounted
 -- a bit
 pub mod Dry
-pub mod Adding
 pub mod BitPort
 pub mod Bit
 pub mod BitRun
@@ -62,7 +53,5 @@ pub mod AfterBusTurn
 pub mod AfterNodeTurn
 pub mod Coming
 pub mod OffLinks
-pub mod NodeEnds
 pub mod Ended
 pub mod Whole
-pub mod Logging

@@ -14,9 +14,9 @@ use Rattle.sja_link.proofs.Pullings.{off_both}
 use Rattle.sja_link.proofs.ListCounts.{messages_both}
 use Rattle.sja_driver.specs.Acting.{Looks}
 use Rattle.sja_driver.specs.Deeds.{Deed, opened_by, released_lengths, deeds_of}
-use Rattle.sja_report.specs.Windows.{off_by, window_of}
-use Rattle.sja_report.proofs.Windows.{window_now, off_now}
-use Rattle.sja_report.proofs.Timings.{put_now}
+use Rattle.sja_log.specs.Windows.{off_by, window_of}
+use Rattle.sja_log.proofs.Windows.{window_now, off_now}
+use Rattle.sja_log.proofs.Timings.{put_now}
 
 -- bus-off stays known
 off_stays : (xs : List Down) → off_among true xs ≡ true

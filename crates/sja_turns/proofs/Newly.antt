@@ -9,7 +9,7 @@ use Rattle.sja_link.specs.Deques.{Deques, Lies}
 use Rattle.sja_link.specs.declared.entry.Entry.{Entry}
 use Rattle.sja_bus.specs.Buses.{BusValue, new_bus}
 use Rattle.sja_bus.specs.NewLinks.{AreNewLinks, new_link}
-use Rattle.sja_bus.specs.Wire.{journal_at}
+use Rattle.sja_wire.specs.Wire.{journal_at}
 use Rattle.sja_plan.specs.Plan.{PlanValue}
 use Rattle.sja_regs.specs.declared.registers.Registers.{Registers}
 use Rattle.sja_regs.specs.Registers.{at_power_on}
@@ -24,23 +24,17 @@ use Rattle.sja_driver.specs.AnyDrivers.{is_out, held_of, off_of}
 use Rattle.sja_driver.specs.Deeds.{Deed, given_in, deeds_of}
 use Rattle.sja_driver.specs.LoggedDrivers.{driver_of, log_of}
 use Rattle.sja_driver.specs.Logs.{HasRoom, IsEmpty, releases_in, left_in, released_of, leaves}
-use Rattle.sja_report.specs.Registering.LeadTo.{power_on}
+use Rattle.sja_log.specs.Registering.LeadTo.{power_on}
 use Rattle.sja_turns.specs.Beginning.{IsNewDriver, AreNew}
 use Rattle.sja_turns.specs.Nodes.{IsNode}
-use Rattle.sja_turns.specs.Serial.{run_now, StandsAt, steps_at, deeds_at}
+use Rattle.sja_turns.specs.Serial.{run_now, StandsAt}
+use Rattle.sja_driver.specs.Deeds.{deeds_at}
+use Rattle.sja_plan.specs.Plan.{steps_at}
 use Rattle.sja_turns.specs.Shown.{ShowsRecord}
+use Rattle.sja_link.proofs.Pushed.{push_here, push_front}
+use Rattle.sja_driver.proofs.NothingDone.{nothing_known, nothing_told}
 use Rattle.sja_turns.proofs.Cuts.{none_held_first}
 use Rattle.sja_turns.proofs.Shown.{shows_first}
-
-pub push_here : {A : Type 0} (xs : List A) (x d : A) → slice_index_or (xs ++ x ∷ []) (length xs) d ≡ x
-push_here [] x d = refl
-push_here (y ∷ xs) x d = push_here xs x d
-
-pub push_front : {A : Type 0} (xs : List A) (x d : A) (i : ℕ) → i < length xs →
-    slice_index_or (xs ++ x ∷ []) i d ≡ slice_index_or xs i d
-push_front [] x d i less = absurd (omega arith)
-push_front (y ∷ xs) x d zero less = refl
-push_front (y ∷ xs) x d (suc i) less = push_front xs x d i (omega arith)
 
 -- one driver more
 pub new_push : (plan : PlanValue) (n : ℕ) (ds : List LoggedDriver) (x : LoggedDriver) → length ds ≡ n →
@@ -65,28 +59,6 @@ room_less k n log less h =
       releases = omega (arith, b, less);
       left = h.left;
     }
-
-nothing_held : (w : AnyDriver) → is_out w ≡ false → held_of w ≡ []
-nothing_held (InReset d) e = refl
-nothing_held (InActive d) e = absurd cc
-
-pub nothing_known : (w : AnyDriver) → is_out w ≡ false → off_of w ≡ false
-nothing_known (InReset d) e = refl
-nothing_known (InActive d) e = absurd cc
-
-no_leaves : (left : List DriverLedger) (held : List (List ℕ)) (a : ℕ) → left ≡ [] → held ≡ [] →
-    slice_index_or (leaves left held) a [] ≡ []
-no_leaves [] held zero l e = e
-no_leaves [] held (suc a) l e = refl
-no_leaves (x ∷ left) held a l e = absurd cc
-
--- a driver that did nothing released nothing, and has nothing to release
-pub nothing_told : (w : AnyDriver) (log : WorkLog) (a : ℕ) → IsEmpty log → is_out w ≡ false →
-    released_of (releases_in log) (suc a) ++ slice_index_or (leaves (left_in log) (held_of w)) a [] ≡ []
-nothing_told w log a empty reset =
-    ap (λ (r : List Release). released_of r (suc a) ++ slice_index_or (leaves (left_in log) (held_of w)) a [])
-    empty.releases
-    ∙ no_leaves (left_in log) (held_of w) a empty.left (nothing_held w reset)
 
 pub new_node : (version node : ℕ) (steps : List Step) (x : LoggedDriver) (links : List Deques) (base : ℕ) →
     IsNewDriver node (length steps) x →

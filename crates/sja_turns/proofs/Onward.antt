@@ -18,10 +18,10 @@ use Rattle.sja_link.specs.Parts.{in_part}
 use Rattle.sja_link.specs.Carried.{bits_of, taken_of, put_in}
 use Rattle.sja_link.specs.Verdicts.{entry_of}
 use Rattle.sja_link.proofs.Entering.{gathered_append}
-use Rattle.sja_bus.specs.OneBit.{entries_of_items, abort_as, judged_as, off_as}
-use Rattle.sja_report.specs.Moments.{at_moment}
-use Rattle.sja_report.specs.Windows.{put_by}
-use Rattle.sja_report.proofs.Moments.{HasBitsAfterAborts, at_moment-now}
+use Rattle.sja_wire.specs.OneBit.{entries_of_items, abort_as, judged_as, off_as}
+use Rattle.sja_log.specs.Moments.{at_moment}
+use Rattle.sja_log.specs.Windows.{put_by}
+use Rattle.sja_log.proofs.Moments.{HasBitsAfterAborts, at_moment-now}
 use Rattle.sja_turns.specs.Bits.{HasOneBit}
 use Rattle.sja_turns.specs.Serial.{HasMore}
 

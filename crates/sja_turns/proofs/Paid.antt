@@ -30,7 +30,7 @@ use Rattle.sja_driver.specs.Deeds.{Deed, opens_by, opened_by, Gives, length_in, 
 use Rattle.sja_driver.specs.Holding.{HoldsBy}
 use Rattle.sja_driver.specs.Logs.{Traces, releases_in, left_in, released_of, leaves}
 use Rattle.sja_driver.proofs.Sections.{deeds_here}
-use Rattle.sja_turns.proofs.Few.{bytes, all_of, bytes_stored, credits_taken, credits_section, bytes_lengths, AllFit, fit_front, stored_fit}
+use Rattle.sja_driver.proofs.Few.{bytes, all_of, bytes_stored, credits_taken, credits_section, bytes_lengths, AllFit, fit_front, stored_fit}
 
 -- the last of these lengths is that of a message
 last_fits : (ms : List (List ℕ)) (ls : List ℕ) (n : ℕ) → map (λ (m : List ℕ). length m) ms ≡ ls ++ n ∷ [] → AllFit ms →

@@ -17,10 +17,10 @@ use Rattle.sja_regs.specs.Facts.{RegisterFacts}
 use Rattle.sja_driver.specs.Carried.{ported, asks_abort}
 use Rattle.sja_driver.specs.Deeds.{Deed, opens_by, opened_by, active_after, is_active}
 use Rattle.sja_driver.proofs.Sections.{active_push, opened_push}
-use Rattle.sja_report.specs.Aborting.{IsCommanded}
-use Rattle.sja_report.specs.Settings.{settings_of, after_setting}
-use Rattle.sja_report.specs.Registering.{seen_now}
-use Rattle.sja_report.specs.Windows.{off_by}
+use Rattle.sja_log.specs.Aborting.{IsCommanded}
+use Rattle.sja_log.specs.Settings.{settings_of, after_setting}
+use Rattle.sja_log.specs.Registering.{seen_now}
+use Rattle.sja_log.specs.Windows.{off_by}
 use Rattle.sja_turns.specs.Alike.{AreAlike}
 use Rattle.sja_turns.specs.Asking.{IsAsked}
 use Rattle.sja_turns.specs.Counted.{IsCounted}
@@ -32,12 +32,12 @@ use Rattle.sja_turns.proofs.After.Enters.{nothing, item}
 use Rattle.sja_turns.proofs.Asked.{off_known, asked_same, asked_start, asked_credit, asked_send, asked_stop}
 use Rattle.sja_turns.proofs.Counting.{counted_none, counted_item, counted_credit}
 use Rattle.sja_turns.proofs.Effects.{tbs_by, tbs_step, stop_drops, busy_sends_none, abort_gives_none, reset_sends_none}
-use Rattle.sja_report.proofs.Givings.{Kind, opened_from}
-use Rattle.sja_report.proofs.Givings.Kind.{quiet, starts, credits, sends, stops}
+use Rattle.sja_log.proofs.Givings.{Kind, opened_from}
+use Rattle.sja_log.proofs.Givings.Kind.{quiet, starts, credits, sends, stops}
 use Rattle.sja_turns.proofs.Items.{off_same, settings_same, settings_push}
-use Rattle.sja_turns.proofs.Modes.{rm_step, closed_step, abort_step}
+use Rattle.sja_driver.proofs.Modes.{rm_step, closed_step, abort_step}
 use Rattle.sja_turns.proofs.Ports.{alike_step}
-use Rattle.sja_turns.proofs.Small.{not_true, not_false, neither, or_true, no_item, one_item}
+use Rattle.sja_link.proofs.Small.{not_true, not_false, neither, or_true, no_item, one_item}
 use Rattle.sja_turns.proofs.Trying.{IsNext}
 
 module _ (version : ℕ) (j k : List Entry) (deeds : List Deed) (d : Deed) (p q : Registers) (e : Enters j k deeds d)

@@ -22,7 +22,7 @@ use Rattle.sja_script.specs.declared.step_answer.StepAnswer.TheVariants.{Done, N
 use Rattle.sja_script.specs.declared.step_answer.StepAnswer.TheVariants.{Refused}
 use Rattle.sja_driver.specs.Carried.{carried, ported}
 use Rattle.sja_driver.specs.Ports.{send_of}
-use Rattle.sja_report.specs.Settings.{after_setting}
+use Rattle.sja_log.specs.Settings.{after_setting}
 use Rattle.sja_turns.specs.Alike.{AreAlike}
 
 -- ---- the same settings

@@ -9,15 +9,15 @@ use Rattle.sja_link.specs.Accounts.{Account}
 use Rattle.sja_link.specs.Deques.{Deques, Lies}
 use Rattle.sja_link.specs.Parts.{part}
 use Rattle.sja_link.specs.Carried.{taken_of}
-use Rattle.sja_bus.specs.declared.bus_fault.BusFault.{BusFault}
-use Rattle.sja_bus.specs.Links.{stops_of}
-use Rattle.sja_bus.specs.OneBit.{entries_of_items, AreRead}
+use Rattle.sja_wire.specs.declared.bus_fault.BusFault.{BusFault}
+use Rattle.sja_wire.specs.Links.{stops_of}
+use Rattle.sja_wire.specs.OneBit.{entries_of_items, AreRead}
 use Rattle.sja_bus.specs.Reasons.{RefusesItem}
 use Rattle.sja_driver.specs.declared.any_driver.AnyDriver.{AnyDriver}
 use Rattle.sja_driver.specs.declared.work_log.WorkLog.{WorkLog}
 use Rattle.sja_driver.specs.Deeds.{Deed, given_in, deeds_of}
 use Rattle.sja_driver.specs.Holding.{HoldsBy}
-use Rattle.sja_turns.proofs.Taking.{waiting, adds, taken_adds, AtMostOne, same_front, none_front, none_back, some_none, adds_first, one_is}
+use Rattle.sja_wire.proofs.Taking.{waiting, adds, taken_adds, AtMostOne, same_front, none_front, none_back, some_none, adds_first, one_is}
 
 -- nothing waits elsewhere
 none_waits : (b s : ℕ) (gave : List Up) → (b ≡ suc s → ⊥) → waiting b gave (suc s) ≡ []

@@ -16,8 +16,8 @@ use Rattle.sja_driver.specs.AnyDrivers.{is_out, held_of, off_of, seen_by}
 use Rattle.sja_driver.specs.Carried.{Tells}
 use Rattle.sja_driver.specs.Deeds.{Deed, active_after, opened_by}
 use Rattle.sja_driver.specs.Drivers.{nothing_seen}
-use Rattle.sja_report.specs.Registering.{seen_now}
-use Rattle.sja_report.specs.Windows.{off_by, window_of}
+use Rattle.sja_log.specs.Registering.{seen_now}
+use Rattle.sja_log.specs.Windows.{off_by, window_of}
 use Rattle.sja_turns.proofs.Looks.{IsShown}
 
 -- out of reset by what is known of bus-off and by the window, in reset nothing

@@ -28,8 +28,8 @@ use Rattle.sja_regs.specs.Reading.{after_reading_at}
 use Rattle.sja_regs.specs.Registers.{at_power_on}
 use Rattle.sja_regs.specs.Turns.{is_live, goes_off, role_bit, rs_told, ts_told, after_turn}
 use Rattle.sja_regs.specs.Writing.{after_writing_at}
-use Rattle.sja_bus.specs.OneBit.{HasBit}
-use Rattle.sja_bus.specs.Telling.{Says, IsTurn, IsPassedOver}
+use Rattle.sja_wire.specs.OneBit.{HasBit}
+use Rattle.sja_wire.specs.Telling.{Says, IsTurn, IsPassedOver}
 use Rattle.sja_bus.specs.Inside.Following.{off_left}
 use Rattle.sja_bus.proofs.Boards.{says_same}
 use Rattle.sja_bus.proofs.Turning.{record_bit}

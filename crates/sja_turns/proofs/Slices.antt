@@ -11,7 +11,8 @@ use Rattle.sja_driver.specs.declared.logged_driver.LoggedDriver.{LoggedDriver}
 use Rattle.sja_driver.specs.Deeds.{Deed, given_in, deeds_of}
 use Rattle.sja_driver.specs.Holding.{HoldsBy, place_after}
 use Rattle.sja_driver.specs.LoggedDrivers.{driver_of, log_of}
-use Rattle.sja_turns.specs.Serial.{deeds_at, with_deeds}
+use Rattle.sja_turns.specs.Serial.{with_deeds}
+use Rattle.sja_driver.specs.Deeds.{deeds_at}
 
 min_less : (n : ℕ) → min n 7 < 8
 min_less n = grind arith

@@ -9,10 +9,10 @@ use Rattle.sja_link.specs.declared.up.Up.{Up}
 use Rattle.sja_link.specs.Accounts.{Account}
 use Rattle.sja_link.specs.Deques.{Deques, Lies}
 use Rattle.sja_bus.specs.Buses.{KeepsAll, EachJournal, AllDry, EachUntold, untold_at}
-use Rattle.sja_bus.specs.Links.{per_node, stops_of}
-use Rattle.sja_bus.specs.OneBit.{MayHaveItems, entries_of_items}
-use Rattle.sja_bus.specs.Telling.{IsUntold}
-use Rattle.sja_bus.specs.Wire.{journal_at}
+use Rattle.sja_wire.specs.Links.{per_node, stops_of}
+use Rattle.sja_wire.specs.OneBit.{MayHaveItems, entries_of_items}
+use Rattle.sja_wire.specs.Telling.{IsUntold}
+use Rattle.sja_wire.specs.Wire.{journal_at}
 use Rattle.sja_link.specs.Places.{place_of}
 use Rattle.sja_link.specs.Verdicts.{IsLawful as IsLawfulJournal}
 use Rattle.sja_link.specs.Related.{EachRelated}
@@ -27,7 +27,9 @@ use Rattle.sja_driver.specs.Holding.{HoldsBy, place_after, Numbered as NumberedA
 use Rattle.sja_driver.specs.LoggedDrivers.{node_of, driver_of, log_of, ended_of, IsLawful, Steps}
 use Rattle.sja_driver.specs.Logs.{HasRoom}
 use Rattle.sja_turns.specs.Nodes.{IsNode}
-use Rattle.sja_turns.specs.Serial.{SerialValue, steps_at, deeds_at, StandsAt, HasMore, with_deeds, Does, IsStuck}
+use Rattle.sja_turns.specs.Serial.{SerialValue, StandsAt, HasMore, with_deeds, Does, IsStuck}
+use Rattle.sja_driver.specs.Deeds.{deeds_at}
+use Rattle.sja_plan.specs.Plan.{steps_at}
 use Rattle.sja_turns.specs.Shown.{ShowsRecord}
 use Rattle.sja_turns.specs.Waiting.{HasToWait}
 use Rattle.sja_turns.proofs.Slices.{apart, each_set, each_other}

@@ -17,25 +17,27 @@ use Rattle.sja_regs.specs.declared.registers.Registers.{Registers}
 use Rattle.sja_regs.specs.Facts.{RegisterFacts}
 use Rattle.sja_bus.specs.Boards.{HasOrders, WasTold, WasKept}
 use Rattle.sja_bus.specs.Buses.{KeepsAll, untold_at}
-use Rattle.sja_bus.specs.Lawful.{IsBusRun}
-use Rattle.sja_bus.specs.Links.{per_node, Kept}
+use Rattle.sja_wire.specs.Lawful.{IsBusRun}
+use Rattle.sja_wire.specs.Links.{per_node, Kept}
 use Rattle.sja_bus.specs.Stretches.{recessive_bits, with_recessive, IsStretch}
-use Rattle.sja_bus.specs.Wire.{journal_at}
+use Rattle.sja_wire.specs.Wire.{journal_at}
 use Rattle.sja_bus.proofs.QuietBits.{longer_at, account_still}
 use Rattle.sja_plan.specs.Plan.{PlanValue}
 use Rattle.sja_driver.specs.declared.logged_driver.LoggedDriver.{LoggedDriver}
 use Rattle.sja_driver.specs.Deeds.{Deed, given_in, deeds_of}
 use Rattle.sja_driver.specs.LoggedDrivers.{node_of}
-use Rattle.sja_report.proofs.Stepping.{given_taken}
+use Rattle.sja_log.proofs.Stepping.{given_taken}
 use Rattle.sja_turns.specs.Bits.{HasOneBit, TakesBit, TakesBits}
 use Rattle.sja_turns.specs.Bits.TakesBits.{no_bit, one_more}
 use Rattle.sja_turns.specs.Linking.{IsLinked}
 use Rattle.sja_turns.specs.Nodes.{IsNode}
-use Rattle.sja_turns.specs.Serial.{SerialValue, StandsAt, run_now, steps_at, deeds_at}
+use Rattle.sja_turns.specs.Serial.{SerialValue, StandsAt, run_now}
+use Rattle.sja_driver.specs.Deeds.{deeds_at}
+use Rattle.sja_plan.specs.Plan.{steps_at}
 use Rattle.sja_turns.specs.Shown.{ShowsRecord}
 use Rattle.sja_turns.proofs.BitAsked.{HasCut}
 use Rattle.sja_turns.proofs.BitRun.{cuts_of, takes_bit}
-use Rattle.sja_turns.proofs.Taking.{same_front}
+use Rattle.sja_wire.proofs.Taking.{same_front}
 
 -- ---- recessive bits and what the links stand for
 

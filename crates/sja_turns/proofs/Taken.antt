@@ -11,11 +11,11 @@ use Rattle.sja_link.specs.Parts.{part}
 use Rattle.sja_link.specs.Carried.{taken_of}
 use Rattle.sja_link.specs.Places.{place_of}
 use Rattle.sja_link.specs.Verdicts.{IsLawful as IsLawfulJournal}
-use Rattle.sja_bus.specs.declared.bus_fault.BusFault.{BusFault}
-use Rattle.sja_bus.specs.Links.{stops_of}
-use Rattle.sja_bus.specs.OutOfOrder.{IsBadCredit}
+use Rattle.sja_wire.specs.declared.bus_fault.BusFault.{BusFault}
+use Rattle.sja_wire.specs.Links.{stops_of}
+use Rattle.sja_wire.specs.OutOfOrder.{IsBadCredit}
 use Rattle.sja_bus.specs.Reasons.{IsRefusedFor, RefusesItem, IsTakenAndRefused, room_for}
-use Rattle.sja_bus.specs.Wire.{journal_at}
+use Rattle.sja_wire.specs.Wire.{journal_at}
 use Rattle.sja_plan.specs.Plan.{PlanValue}
 use Rattle.sja_regs.specs.declared.registers.Registers.{Registers}
 use Rattle.sja_regs.specs.Facts.{RegisterFacts}
@@ -28,16 +28,18 @@ use Rattle.sja_driver.specs.Holding.{HoldsBy, place_after}
 use Rattle.sja_driver.specs.LoggedDrivers.{node_of, driver_of, log_of, ended_of, Steps}
 use Rattle.sja_driver.specs.Logs.{deeds_by}
 use Rattle.sja_driver.specs.Tries.{Tried}
-use Rattle.sja_report.proofs.Stepping.{given_taken}
+use Rattle.sja_log.proofs.Stepping.{given_taken}
 use Rattle.sja_turns.specs.Nodes.{IsNode}
-use Rattle.sja_turns.specs.Serial.{SerialValue, steps_at, deeds_at, StandsAt}
+use Rattle.sja_turns.specs.Serial.{SerialValue, StandsAt}
+use Rattle.sja_driver.specs.Deeds.{deeds_at}
+use Rattle.sja_plan.specs.Plan.{steps_at}
 use Rattle.sja_turns.proofs.Paid.{credit_lengths, credit_right}
 use Rattle.sja_turns.proofs.InOrder.{never_refused}
-use Rattle.sja_turns.proofs.Small.{no_item}
+use Rattle.sja_link.proofs.Small.{no_item}
 use Rattle.sja_turns.proofs.Refused.{refused_is}
 use Rattle.sja_turns.proofs.Room.{has_room}
 use Rattle.sja_turns.proofs.Slices.{each_other}
-use Rattle.sja_turns.proofs.Taking.{no_wait}
+use Rattle.sja_wire.proofs.Taking.{no_wait}
 use Rattle.sja_turns.proofs.Trying.{alike, shows_none, takes_none}
 use Rattle.sja_turns.proofs.Done.{at_most_one, is_read, opened_most, doing}
 use Rattle.sja_turns.proofs.Turned.{is_unmet}

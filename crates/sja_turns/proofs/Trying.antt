@@ -31,13 +31,13 @@ use Rattle.sja_driver.specs.Holding.{HoldsBy, place_after}
 use Rattle.sja_driver.specs.Logs.{Traces, releases_in, left_in, released_of, leaves, deeds_by}
 use Rattle.sja_driver.specs.Tries.{Tried, is_met, off_after, window_after}
 use Rattle.sja_driver.specs.Tries.Tried.{Unmet, Answered, Released, Ended}
-use Rattle.sja_report.specs.Registering.{seen_now}
-use Rattle.sja_report.specs.Windows.{SeesIf}
+use Rattle.sja_log.specs.Registering.{seen_now}
+use Rattle.sja_log.specs.Windows.{SeesIf}
 use Rattle.sja_turns.specs.Waiting.{HasToWait}
 use Rattle.sja_turns.proofs.Seeing.{seen_as, seen_by_now, tells_seen, seen_shown, no_release, no_stop}
-use Rattle.sja_turns.proofs.Taking.{same_front}
+use Rattle.sja_wire.proofs.Taking.{same_front}
 use Rattle.sja_turns.proofs.Looks.{IsShown, is_shown}
-use Rattle.sja_turns.proofs.Few.{few_held}
+use Rattle.sja_driver.proofs.Few.{few_held}
 use Rattle.sja_turns.proofs.Patience.{never_closed}
 use Rattle.sja_turns.proofs.SawPut.{sees_shown, if_looking}
 

@@ -11,8 +11,8 @@ use Rattle.sja_link.specs.Parts.{part}
 use Rattle.sja_link.specs.Carried.{taken_of}
 use Rattle.sja_link.specs.Places.{place_of}
 use Rattle.sja_link.specs.Verdicts.{IsLawful as IsLawfulJournal}
-use Rattle.sja_bus.specs.Links.{stops_of, Kept}
-use Rattle.sja_bus.specs.OneBit.{entries_of_items, MayHaveItems}
+use Rattle.sja_wire.specs.Links.{stops_of, Kept}
+use Rattle.sja_wire.specs.OneBit.{entries_of_items, MayHaveItems}
 use Rattle.sja_regs.specs.declared.registers.Registers.{Registers}
 use Rattle.sja_regs.specs.Facts.{RegisterFacts}
 use Rattle.sja_script.specs.declared.step.Step.{Step}
@@ -24,19 +24,19 @@ use Rattle.sja_driver.specs.LoggedDrivers.{node_of, driver_of, log_of, ended_of,
 use Rattle.sja_driver.specs.Logs.{HasRoom, Traces, deeds_by}
 use Rattle.sja_driver.specs.Tries.{Tried, is_met}
 use Rattle.sja_driver.specs.Tries.Tried.{Unmet, Answered, Released, Ended}
-use Rattle.sja_report.specs.InTime.{IsInTime}
-use Rattle.sja_report.specs.Registering.{LeadTo}
-use Rattle.sja_report.specs.Registering.LeadTo.{step}
-use Rattle.sja_report.proofs.Stepping.{given_taken}
+use Rattle.sja_log.specs.InTime.{IsInTime}
+use Rattle.sja_log.specs.Registering.{LeadTo}
+use Rattle.sja_log.specs.Registering.LeadTo.{step}
+use Rattle.sja_log.proofs.Stepping.{given_taken}
 use Rattle.sja_turns.specs.Asking.{IsAsked}
 use Rattle.sja_turns.specs.Counted.{IsCounted}
-use Rattle.sja_turns.specs.Dated.{AreDone}
+use Rattle.sja_log.specs.Dated.{AreDone}
 use Rattle.sja_turns.specs.Linking.{IsLevel}
 use Rattle.sja_turns.specs.Nodes.{IsNode}
 use Rattle.sja_turns.specs.Porting.{IsPorted}
 use Rattle.sja_turns.specs.Shown.{ShowsRecord}
 use Rattle.sja_turns.specs.Waiting.{HasToWait}
-use Rattle.sja_turns.proofs.Taking.{no_wait}
+use Rattle.sja_wire.proofs.Taking.{no_wait}
 use Rattle.sja_turns.proofs.Trying.{alike, shows_none, takes_none, waits}
 use Rattle.sja_turns.proofs.After.{enters, level_after, in_time_after}
 use Rattle.sja_turns.proofs.Dating.{done_after}

@@ -17,17 +17,17 @@ use Rattle.sja_link.specs.Places.{place_of}
 use Rattle.sja_link.proofs.Entering.{bits_counted}
 use Rattle.sja_regs.specs.declared.orders.Orders.{Orders}
 use Rattle.sja_regs.specs.Registers.{at_power_on}
-use Rattle.sja_bus.specs.declared.bus_fault.BusFault.{BusFault}
-use Rattle.sja_bus.specs.declared.bus_fault.BusFault.TheVariants.{BitsSpent, BadCredit, Stuck, BadOrder, JournalFull}
+use Rattle.sja_wire.specs.declared.bus_fault.BusFault.{BusFault}
+use Rattle.sja_wire.specs.declared.bus_fault.BusFault.TheVariants.{BitsSpent, BadCredit, Stuck, BadOrder, JournalFull}
 use Rattle.sja_bus.specs.Buses.{BusValue}
-use Rattle.sja_bus.specs.Lawful.{IsBusRun}
-use Rattle.sja_bus.specs.Links.{Kept, stops_of}
-use Rattle.sja_bus.specs.OneBit.{MayHaveItems, abort_as}
+use Rattle.sja_wire.specs.Lawful.{IsBusRun}
+use Rattle.sja_wire.specs.Links.{Kept, stops_of}
+use Rattle.sja_wire.specs.OneBit.{MayHaveItems, abort_as}
 use Rattle.sja_bus.proofs.OutOfRoom.{short_few}
 use Rattle.sja_bus.specs.Reasons.{GivesBack, IsTakenAndRefused, IsNotAborted, IsBrokenOff, IsBrokenFor, StopsBit, room_for}
 use Rattle.sja_bus.specs.Reasons.StopsBit.{spent, not_taken, not_aborted, broken_off}
 use Rattle.sja_bus.specs.Stretches.{recessive_bits, IsFullInStretch}
-use Rattle.sja_bus.specs.Wire.{journal_at}
+use Rattle.sja_wire.specs.Wire.{journal_at}
 use Rattle.sja_plan.specs.Plan.{PlanValue, IsInLimits}
 use Rattle.sja_driver.specs.declared.logged_driver.LoggedDriver.{LoggedDriver}
 use Rattle.sja_script.specs.declared.step.Step.{Step}
@@ -35,17 +35,19 @@ use Rattle.sja_driver.specs.Deeds.{Deed, given_in, deeds_of}
 use Rattle.sja_driver.specs.AnyDrivers.{held_of}
 use Rattle.sja_driver.specs.LoggedDrivers.{node_of, driver_of, log_of, ended_of}
 use Rattle.sja_driver.specs.Logs.{left_in, leaves, released_of, releases_in}
-use Rattle.sja_report.proofs.Stepping.{given_taken}
+use Rattle.sja_log.proofs.Stepping.{given_taken}
 use Rattle.sja_turns.specs.Nodes.{IsNode}
-use Rattle.sja_turns.specs.Serial.{SerialValue, StandsAt, steps_at, deeds_at}
-use Rattle.sja_turns.proofs.Adding.{one_abort}
+use Rattle.sja_turns.specs.Serial.{SerialValue, StandsAt}
+use Rattle.sja_driver.specs.Deeds.{deeds_at}
+use Rattle.sja_plan.specs.Plan.{steps_at}
+use Rattle.sja_log.proofs.Adding.{one_abort}
 use Rattle.sja_turns.proofs.BitRun.{some_of, no_link}
 use Rattle.sja_turns.proofs.Dry.{none_beyond, none_taken, none_taken_own}
 use Rattle.sja_turns.proofs.FewLying.{few_lying}
-use Rattle.sja_turns.proofs.Own.{AreOwn}
+use Rattle.sja_log.proofs.Own.{AreOwn}
 use Rattle.sja_turns.proofs.Room.{has_room}
 use Rattle.sja_turns.proofs.Done.{opened_most}
-use Rattle.sja_turns.proofs.Taking.{adds, none_back, some_none}
+use Rattle.sja_wire.proofs.Taking.{adds, none_back, some_none}
 
 abort_own : (changed : Bool) → AreOwn (abort_as changed)
 abort_own true = (tt, tt)

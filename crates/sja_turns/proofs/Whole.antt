@@ -5,14 +5,15 @@ use Rattle.std.proofs.lemmas.List.{length-map}
 use Rattle.sja_link.specs.declared.entry.Entry.{Entry}
 use Rattle.sja_plan.specs.Plan.{PlanValue}
 use Rattle.sja_driver.specs.Deeds.{Deed, done_of}
-use Rattle.sja_report.specs.declared.end.End.{End}
-use Rattle.sja_report.specs.Log.{NodeValue, RunValue}
-use Rattle.sja_report.specs.Runs.{IsSerialRun}
-use Rattle.sja_report.specs.Turns.{Acts, Progress, RunsTo}
-use Rattle.sja_report.proofs.Logs.{index_map}
-use Rattle.sja_turns.specs.Serial.{SerialValue, deeds_at}
+use Rattle.sja_log.specs.declared.end.End.{End}
+use Rattle.sja_log.specs.Log.{NodeValue, RunValue}
+use Rattle.sja_log.specs.Runs.{IsSerialRun}
+use Rattle.sja_log.specs.Turns.{Acts, Progress, RunsTo}
+use Rattle.sja_log.proofs.Logs.{index_map}
+use Rattle.sja_turns.specs.Serial.{SerialValue}
+use Rattle.sja_driver.specs.Deeds.{deeds_at}
 use Rattle.sja_turns.specs.Ending.{IsLogOf, TakesTurns, progress}
-use Rattle.sja_turns.proofs.NodeEnds.{any_of, same_by}
+use Rattle.sja_log.proofs.NodeEnds.{any_of, same_by}
 
 module _ (plan : PlanValue) (r : SerialValue) (end : End) (log : RunValue) (t : TakesTurns plan r end)
     (l : IsLogOf plan r t.deeds end log) where

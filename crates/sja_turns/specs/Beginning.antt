@@ -5,7 +5,7 @@ use Rattle.sja_driver.specs.declared.logged_driver.LoggedDriver.{LoggedDriver}
 use Rattle.sja_driver.specs.AnyDrivers.{is_out}
 use Rattle.sja_driver.specs.LoggedDrivers.{node_of, driver_of, log_of, IsLawful}
 use Rattle.sja_driver.specs.Logs.{IsEmpty, HasRoom, Traces}
-use Rattle.sja_turns.specs.Serial.{steps_at}
+use Rattle.sja_plan.specs.Plan.{steps_at}
 
 -- the driver of this node, in reset, that did nothing and has room for so many steps
 pub record IsNewDriver (node steps : ℕ) (d : LoggedDriver) : Type 0 where

@@ -1,16 +1,16 @@
 -- The log of a run in one thread, as it stands when it ends (this project's own rule).
 use Rattle.std.specs.Prelude.{◌≡◌, ◌<◌, ℕ, Bool, true, List, [], length, map, replicate, slice_index_or}
-use Rattle.sja_bus.specs.Lawful.{IsBusRun}
+use Rattle.sja_wire.specs.Lawful.{IsBusRun}
 use Rattle.sja_plan.specs.Plan.{PlanValue}
 use Rattle.sja_plan.specs.declared.turn.Turn.{Turn}
 use Rattle.sja_plan.specs.declared.turn.Turn.TheVariants.{Bus, Rest, Node}
 use Rattle.sja_driver.specs.Deeds.{Deed}
-use Rattle.sja_report.specs.declared.end.End.{End}
-use Rattle.sja_report.specs.InTime.{IsInTime}
-use Rattle.sja_report.specs.Log.{NodeValue, RunValue, journals_in}
-use Rattle.sja_report.specs.Registering.{HaveRegisters}
-use Rattle.sja_report.specs.Runs.{IsRun}
-use Rattle.sja_report.specs.Turns.{Progress, RunsTo}
+use Rattle.sja_log.specs.declared.end.End.{End}
+use Rattle.sja_log.specs.InTime.{IsInTime}
+use Rattle.sja_log.specs.Log.{NodeValue, RunValue, journals_in}
+use Rattle.sja_log.specs.Registering.{HaveRegisters}
+use Rattle.sja_log.specs.Runs.{IsRun}
+use Rattle.sja_log.specs.Turns.{Progress, RunsTo}
 use Rattle.sja_turns.specs.Bits.{TakesBusTurn, TakesRest}
 use Rattle.sja_turns.specs.Serial.{SerialValue, StandsAt, TakesTurn}
 

@@ -6,7 +6,6 @@ pub mod Porting
 pub mod Asking
 pub mod Shown
 pub mod Counted
-pub mod Dated
 pub mod Nodes
 -- ---- what a turn of a node does
 pub mod Waiting
@@ -16,5 +15,4 @@ pub mod Bits
 pub mod Serial
 pub mod Beginning
 -- ---- its end
-pub mod Finishing
 pub mod Ending

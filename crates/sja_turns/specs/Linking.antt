@@ -4,12 +4,12 @@ use Rattle.sja_link.specs.declared.entry.Entry.{Entry}
 use Rattle.sja_link.specs.Deques.{Deques, Lies}
 use Rattle.sja_link.specs.Looking.{one_if}
 use Rattle.sja_link.specs.Places.{place_of}
-use Rattle.sja_bus.specs.Links.{per_node, stops_of}
+use Rattle.sja_wire.specs.Links.{per_node, stops_of}
 use Rattle.sja_driver.specs.declared.logged_driver.LoggedDriver.{LoggedDriver}
 use Rattle.sja_driver.specs.Deeds.{Deed, opened_by, is_active}
 use Rattle.sja_driver.specs.Holding.{HoldsBy}
 use Rattle.sja_driver.specs.LoggedDrivers.{driver_of, log_of}
-use Rattle.sja_report.specs.Aborting.{sends_given, sends_taken}
+use Rattle.sja_log.specs.Aborting.{sends_given, sends_taken}
 
 -- the journal has begun as many activations as the driver, and ended as many; and as many requests were taken as given
 pub record IsLevel (j : List Entry) (deeds : List Deed) : Type 0 where

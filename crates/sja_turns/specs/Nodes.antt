@@ -7,14 +7,14 @@ use Rattle.sja_regs.specs.declared.registers.Registers.{Registers}
 use Rattle.sja_script.specs.declared.step.Step.{Step}
 use Rattle.sja_driver.specs.declared.logged_driver.LoggedDriver.{LoggedDriver}
 use Rattle.sja_driver.specs.Deeds.{Deed}
-use Rattle.sja_report.specs.InTime.{IsInTime}
-use Rattle.sja_report.specs.Registering.{LeadTo}
+use Rattle.sja_log.specs.InTime.{IsInTime}
+use Rattle.sja_log.specs.Registering.{LeadTo}
 use Rattle.sja_turns.specs.Tracing.{IsTraced}
 use Rattle.sja_turns.specs.Linking.{IsLinked}
 use Rattle.sja_turns.specs.Porting.{IsPorted}
 use Rattle.sja_turns.specs.Asking.{IsAsked}
 use Rattle.sja_turns.specs.Counted.{IsCounted}
-use Rattle.sja_turns.specs.Dated.{AreDone}
+use Rattle.sja_log.specs.Dated.{AreDone}
 
 -- its driver did these deeds, of these steps; its links and its port are beside them and its journal; the journal has
 -- no more entries than they allow; no deed is later than its last bit; all was in time; and from power-on entries and

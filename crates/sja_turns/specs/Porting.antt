@@ -4,9 +4,9 @@ use Rattle.sja_link.specs.declared.entry.Entry.{Entry}
 use Rattle.sja_link.specs.Places.{place_of}
 use Rattle.sja_regs.specs.declared.registers.Registers.{Registers}
 use Rattle.sja_driver.specs.Deeds.{Deed, opened_by, is_active}
-use Rattle.sja_report.specs.Windows.{off_by}
-use Rattle.sja_report.specs.Settings.{settings_of}
-use Rattle.sja_report.specs.Aborting.{IsCommanded}
+use Rattle.sja_log.specs.Windows.{off_by}
+use Rattle.sja_log.specs.Settings.{settings_of}
+use Rattle.sja_log.specs.Aborting.{IsCommanded}
 use Rattle.sja_turns.specs.Alike.{AreAlike}
 
 -- the controller is in reset mode where its driver isn't active, and from bus-off on

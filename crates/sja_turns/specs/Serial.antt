@@ -5,14 +5,14 @@ use Rattle.sja_link.specs.declared.up.Up.{Up}
 use Rattle.sja_link.specs.declared.entry.Entry.{Entry}
 use Rattle.sja_link.specs.Deques.{Deques}
 use Rattle.sja_bus.specs.Buses.{BusValue, untold_at}
-use Rattle.sja_bus.specs.Links.{Numbered}
-use Rattle.sja_bus.specs.OneBit.{entries_of_items}
-use Rattle.sja_bus.specs.Wire.{journal_at}
-use Rattle.sja_plan.specs.Plan.{PlanValue}
+use Rattle.sja_wire.specs.Links.{Numbered}
+use Rattle.sja_wire.specs.OneBit.{entries_of_items}
+use Rattle.sja_wire.specs.Wire.{journal_at}
+use Rattle.sja_plan.specs.Plan.{PlanValue, steps_at}
 use Rattle.sja_regs.specs.declared.registers.Registers.{Registers}
 use Rattle.sja_script.specs.declared.step.Step.{Step}
 use Rattle.sja_driver.specs.declared.logged_driver.LoggedDriver.{LoggedDriver}
-use Rattle.sja_driver.specs.Deeds.{Deed}
+use Rattle.sja_driver.specs.Deeds.{Deed, deeds_at}
 use Rattle.sja_driver.specs.LoggedDrivers.{node_of}
 use Rattle.sja_turns.specs.Nodes.{IsNode}
 use Rattle.sja_turns.specs.Shown.{ShowsRecord}
@@ -41,13 +41,6 @@ pub record HasNodes (nodes : ℕ) (r : SerialValue) : Type 0 where
   pub drivers : length r.drivers ≡ nodes
   pub ports : length r.ports ≡ nodes
   pub links : length r.links ≡ 8 * nodes
-
--- the steps of a node in the plan, and its deeds
-abbrev pub steps_at : PlanValue → ℕ → List Step
-steps_at plan node = slice_index_or plan.nodes node []
-
-abbrev pub deeds_at : List (List Deed) → ℕ → List Deed
-deeds_at deeds node = slice_index_or deeds node []
 
 -- the run of a plan stands where its drivers did these deeds, a list for each node
 pub record StandsAt (plan : PlanValue) (r : SerialValue) (deeds : List (List Deed)) : Type 0 where

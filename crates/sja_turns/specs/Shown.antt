@@ -4,7 +4,7 @@ use Rattle.sja_link.specs.declared.entry.Entry.{Entry}
 use Rattle.sja_regs.specs.declared.bus_turn.BusTurn.{BusTurn}
 use Rattle.sja_regs.specs.declared.registers.Registers.{Registers}
 use Rattle.sja_regs.specs.Turns.{rs_told, ts_told}
-use Rattle.sja_bus.specs.Telling.{Says}
+use Rattle.sja_wire.specs.Telling.{Says}
 
 -- the port shows what stands at the end of the record: whatever turn says that has the port's error counters, RS and TS
 pub record ShowsRecord (j : List Entry) (p : Registers) : Type 0 where

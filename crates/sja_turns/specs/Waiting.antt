@@ -6,7 +6,7 @@ use Rattle.sja_regs.specs.declared.registers.Registers.{Registers}
 use Rattle.sja_script.specs.declared.step.Step.{Step}
 use Rattle.sja_script.specs.declared.step.Step.TheVariants.{Await, Sent}
 use Rattle.sja_driver.specs.Deeds.{Deed, is_active, opened_by}
-use Rattle.sja_report.specs.Windows.{off_by, window_of}
+use Rattle.sja_log.specs.Windows.{off_by, window_of}
 
 -- too few messages have come, or the transmit buffer isn't released; no other step waits
 abbrev pub HasToWait : List Entry → List Deed → Registers → Step → Type 0

@@ -6,7 +6,6 @@ ghost use Rattle.sja_turns.specs.Beginning.{AreNew};
 use can_frame::OutOfMemory;
 use sja_driver::{LoggedDriver, WorkLog};
 use sja_plan::Plan;
-use sja_script::FaultScript;
 use std::alloc::Global;
 
 /// The drivers of all nodes, each with an empty log that has room for all its steps.
@@ -25,18 +24,4 @@ pub(crate) fn new_drivers(alloc: Global, plan: &Plan) -> Result<Vec<LoggedDriver
         drivers.push_reserved(LoggedDriver::new(node as u8, log));
     }
     Ok(drivers)
-}
-
-/// The strikes of the plan, as a bus takes them.
-///
-/// Error: [`OutOfMemory`] where memory was refused.
-pub fn script_of(alloc: Global, plan: &Plan) -> Result<FaultScript, OutOfMemory>
-    ensures { IfOk result (λ script. script ≡ plan.now.strikes) }
-{
-    let given = plan.strikes();
-    let mut strikes = Vec::with_capacity(alloc, given.len())?;
-    for strike in given {
-        strikes.push_reserved(*strike);
-    }
-    Ok(FaultScript::of(strikes))
 }

@@ -8,7 +8,7 @@ impl SerialRun {
     ghost use Rattle.std.specs.Prelude.{◌≡◌, ◌<◌, ◌≤◌, ◌⊎◌, ℕ, None, true, false, List, length};
     ghost use Rattle.sja_link.specs.Records.{record_of};
     ghost use Rattle.sja_bus.specs.Resting.{RestsAs};
-    ghost use Rattle.sja_bus.specs.Wire.{journal_at};
+    ghost use Rattle.sja_wire.specs.Wire.{journal_at};
     ghost use Rattle.sja_driver.specs.Deeds.{Deed};
     ghost use Rattle.sja_turns.specs.Bits.{TakesBit, TakesBits, TakesAtOnce, AllRest};
     ghost use Rattle.sja_turns.specs.Bits.{SomeWorks, TakesBusTurn, TakesRest};

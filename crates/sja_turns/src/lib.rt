@@ -10,29 +10,19 @@
 //!
 //! Contracts say at which deeds of the drivers a run stands, `StandsAt` of `specs/Serial.antt`: of each node its driver
 //! did these deeds, of the steps that the plan has for it; its links carried what its journal and its deeds say; its
-//! port is as its writes and loads have set it; and all was in time, as `IsInTime` of sja_report has it.
+//! port is as its writes and loads have set it; and all was in time, as `IsInTime` of sja_log has it.
 //!
-//! A run in threads begins with the same strikes ([`script_of`]), and ends with the same log: [`node_runs`] makes it of
-//! what the bus left of each node, its driver, and what lay on its links ([`Lying`]).
-//!
-//! `SerialRun::new`, `SerialRun::finish`, `script_of`, `Lying::of` and `node_runs` alone take memory.
+//! `SerialRun::new` and `SerialRun::finish` alone take memory.
 //! The tests stand in `crates/run_tests`.
 #![tactic(auto)]
 
 mod beginning;
 mod bit_turns;
-mod copying;
-mod ending;
 mod finishing;
 mod off_links;
-mod run_fault;
 mod running;
 mod serial_run;
 mod stepping;
 
-pub use beginning::script_of;
-pub use finishing::node_runs;
-pub use off_links::Lying;
-pub use run_fault::RunFault;
 pub use running::run_serial;
 pub use serial_run::SerialRun;

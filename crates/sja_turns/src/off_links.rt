@@ -1,66 +1,12 @@
-//! What lies on the links at the end of a run.
+//! What lies on the links at the end of a run in one thread.
 
 ghost use Rattle.std.specs.Prelude.{◌≡◌, IfOk};
-ghost use Rattle.sja_turns.specs.Finishing.{all_down};
+ghost use Rattle.sja_log.specs.Finishing.{all_down};
 
 use can_frame::OutOfMemory;
-use sja_link::{DequeLink, Down, DriverEnd};
+use sja_link::DequeLink;
+use sja_log::Lying;
 use std::alloc::Global;
-use std::marker::Model;
-
-/// The items that lay on a link downward at the end of a run, in order (this project's own rule). Contracts see it as
-/// the list of them.
-#[derive(Debug, Drop)]
-pub struct Lying {
-    items: Vec<Down>,
-}
-
-impl Model for Lying {
-    ghost use Rattle.std.specs.Prelude.{List};
-    ghost use Rattle.sja_link.specs.declared.down.Down.{Down as Item};
-
-    ghost Value = { List Item };
-
-    ghost view = { λ s. s.items.items };
-}
-
-impl Lying {
-    ghost use Rattle.std.specs.Prelude.{◌≡◌, IfOk};
-
-    /// These items.
-    ///
-    /// Error: [`OutOfMemory`] where memory was refused.
-    pub fn of(alloc: Global, down: &[Down]) -> Result<Lying, OutOfMemory>
-        ensures { IfOk result (λ lying. lying ≡ down.now) }
-    {
-        let mut items = Vec::with_capacity(alloc, down.len())?;
-        for item in down {
-            items.push_reserved(item.copy());
-        }
-        Ok(Lying { items })
-    }
-
-    /// What lies on a link, which is taken off it.
-    ///
-    /// Error: [`OutOfMemory`] where memory was refused.
-    fn on(alloc: Global, link: DequeLink) -> Result<Lying, OutOfMemory>
-        ensures { IfOk result (λ lying. lying ≡ link.down) }
-    {
-        let mut end = link;
-        let mut items = Vec::new(alloc);
-        while let Some(item) = end.get() {
-            items.push(item)?;
-        }
-        Ok(Lying { items })
-    }
-
-    /// The items.
-    pub fn items(&self) -> &[Down]
-        ensures { result.now ≡ self.now }
-    {
-        self.items.as_slice()
-    }
-}
 
 /// What lies on each of these links.
 ///

@@ -4,17 +4,17 @@ ghost use Rattle.std.specs.Prelude.{◌≡◌, ◌<◌, ℕ, List, [], length, r
 ghost use Rattle.sja_bus.specs.Buses.{new_bus};
 ghost use Rattle.sja_driver.specs.Deeds.{Deed};
 ghost use Rattle.sja_plan.specs.Plan.{NamesNode};
-ghost use Rattle.sja_report.specs.Headline.{IsAccount};
-ghost use Rattle.sja_report.specs.Log.{NodeValue};
-ghost use Rattle.sja_report.specs.Runs.{IsSerialRun};
-ghost use Rattle.sja_turns.specs.declared.run_fault.RunFault.TheVariants.{Memory};
+ghost use Rattle.sja_log.specs.Headline.{IsAccount};
+ghost use Rattle.sja_log.specs.Log.{NodeValue};
+ghost use Rattle.sja_log.specs.Runs.{IsSerialRun};
+ghost use Rattle.sja_log.specs.declared.run_fault.RunFault.TheVariants.{Memory};
 ghost use Rattle.sja_turns.specs.Ending.{TakesTurns, TakesOne};
 ghost use Rattle.sja_turns.specs.Serial.{StandsAt, IsRunOf};
 
 use super::run_fault::RunFault;
 use super::serial_run::SerialRun;
+use sja_log::{End, RunLog};
 use sja_plan::{Plan, Turn};
-use sja_report::{End, RunLog};
 use std::alloc::Global;
 
 /// Takes one turn. It says whether all of it was taken; else the bits are spent.

@@ -39,7 +39,7 @@ impl Model for SerialRun {
 
 impl SerialRun {
     ghost use Rattle.std.specs.Prelude.{◌≡◌, ◌<◌, List, [], None, length, replicate, IfOk};
-    ghost use Rattle.sja_bus.specs.Lawful.{IsBusRun};
+    ghost use Rattle.sja_wire.specs.Lawful.{IsBusRun};
     ghost use Rattle.sja_bus.specs.Buses.{new_bus};
     ghost use Rattle.sja_driver.specs.Deeds.{Deed};
     ghost use Rattle.sja_turns.specs.Serial.{StandsAt, IsRunOf, TakesTurn};

@@ -3,7 +3,9 @@
 ghost use Rattle.std.specs.Prelude.{◌≡◌, ◌<◌, ◌≤◌, ◌⊎◌, ℕ, List, [], ◌∷◌, length, true, false, slice_index_or};
 ghost use Rattle.sja_driver.specs.Deeds.{Deed};
 ghost use Rattle.sja_turns.specs.Serial.{SerialValue, StandsAt, IsRunOf, IsStuck};
-ghost use Rattle.sja_turns.specs.Serial.{Does, TakesTurn, run_now, steps_at, deeds_at};
+ghost use Rattle.sja_turns.specs.Serial.{Does, TakesTurn, run_now};
+ghost use Rattle.sja_driver.specs.Deeds.{deeds_at};
+ghost use Rattle.sja_plan.specs.Plan.{steps_at};
 
 use sja_bus::Bus;
 use sja_driver::LoggedDriver;

@@ -4,7 +4,7 @@ use Rattle.std.proofs.Common.{refl, sym, ap, ap₂, ◌∙◌, arith, append_ass
 use Rattle.std.proofs.Math.ListN.{drop_of_length-le}
 use Rattle.can_bits.specs.declared.level.Level.{Level}
 use Rattle.can_bits.specs.declared.level.Level.TheVariants.{Dominant, Recessive}
-use Rattle.sja_bus.specs.Wire.{wired}
+use Rattle.sja_wire.specs.Wire.{wired}
 use Rattle.sja_wave.specs.declared.cursor.Cursor.{Cursor}
 use Rattle.sja_wave.specs.Inside.Cursors.{advanced}
 use Rattle.sja_wave.proofs.Texts.{rest_is}

@@ -10,7 +10,7 @@ use Rattle.sja_link.specs.declared.entry.Entry.{Entry}
 use Rattle.sja_link.specs.declared.entry.Entry.TheVariants.{Bit, Up as Item, Abort, Stored, Overrun, Off}
 use Rattle.sja_link.specs.Gathering.{gathered}
 use Rattle.sja_link.specs.Carried.{bit_in, stored_in, overrun_in, stored_of, overrun_of}
-use Rattle.sja_report.specs.Log.{NodeValue}
+use Rattle.sja_log.specs.Log.{NodeValue}
 use Rattle.sja_wave.specs.declared.cursor.Cursor.{Cursor}
 use Rattle.sja_wave.specs.declared.signals.Signals.{Signals}
 use Rattle.sja_wave.specs.Through.{through}

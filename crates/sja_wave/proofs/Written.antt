@@ -6,8 +6,8 @@ use Rattle.can_bits.specs.declared.level.Level.{Level}
 use Rattle.can_bits.specs.Fields.{is_recessive}
 use Rattle.sja_link.proofs.Entering.{gathered_append}
 use Rattle.sja_link.specs.Gathering.{gathered}
-use Rattle.sja_bus.specs.Wire.{wired}
-use Rattle.sja_report.specs.Log.{NodeValue, RunValue}
+use Rattle.sja_wire.specs.Wire.{wired}
+use Rattle.sja_log.specs.Log.{NodeValue, RunValue}
 use Rattle.sja_report.specs.ReportLines.{numbered}
 use Rattle.sja_wave.specs.declared.cursor.Cursor.{Cursor}
 use Rattle.sja_wave.specs.Signals.{last_bit, shows_driven, shows_seen, shows_active}

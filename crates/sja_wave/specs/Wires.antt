@@ -2,8 +2,8 @@
 use Rattle.std.specs.Prelude.{ℕ, suc, Bool, List, [], ◌∷◌, ◌++◌, map, codes, decimal}
 use Rattle.can_bits.specs.Fields.{is_recessive}
 use Rattle.sja_link.specs.declared.entry.Entry.{Entry}
-use Rattle.sja_bus.specs.Wire.{wired}
-use Rattle.sja_report.specs.Log.{NodeValue, RunValue}
+use Rattle.sja_wire.specs.Wire.{wired}
+use Rattle.sja_log.specs.Log.{NodeValue, RunValue}
 use Rattle.sja_report.specs.ReportLines.{numbered}
 use Rattle.sja_wave.specs.Through.{through}
 use Rattle.sja_wave.specs.Signals.{last_bit, shows_driven, shows_seen, shows_active}

@@ -2,13 +2,13 @@
 
 ghost use Rattle.std.specs.Prelude.{◌≡◌, [], ◌∷◌, map, IfOk};
 ghost use Rattle.can_bits.specs.Fields.{is_recessive};
-ghost use Rattle.sja_bus.specs.Wire.{wired};
+ghost use Rattle.sja_wire.specs.Wire.{wired};
 ghost use Rattle.sja_wave.specs.Inside.Cursors.{advanced, cursor_at};
 ghost use Rattle.sja_wave.specs.Inside.Changes.{driven_before, driven_now};
 
 use super::cursor::Cursor;
 use can_bits::Level;
-use sja_report::NodeRun;
+use sja_log::NodeRun;
 use std::alloc::{AllocError, Global};
 
 /// A cursor for each node, at the first bit.

@@ -2,10 +2,10 @@
 
 ghost use Rattle.std.specs.Prelude.{◌≡◌, ◌∷◌, [], ◌++◌, codes, decimal, string_bytes, OnOk};
 ghost use Rattle.sja_report.specs.ReportLines.{numbered};
-ghost use Rattle.sja_report.specs.Log.{NodeValue};
+ghost use Rattle.sja_log.specs.Log.{NodeValue};
 ghost use Rattle.sja_wave.specs.WaveText.{declarations, node_scope, scope_line};
 
-use sja_report::NodeRun;
+use sja_log::NodeRun;
 use std::alloc::AllocError;
 use std::fmt::Write;
 

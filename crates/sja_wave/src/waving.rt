@@ -11,7 +11,7 @@ use super::cursors::{advance_all, cursors_of};
 use super::declarations::put_declarations;
 use super::values::put_values;
 use can_frame::OutOfMemory;
-use sja_report::RunLog;
+use sja_log::RunLog;
 use std::alloc::{AllocError, Global};
 use std::fmt::Write;
 

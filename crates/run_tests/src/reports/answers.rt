@@ -3,7 +3,8 @@
 use super::given::{answered, two};
 use can_frame::Message;
 use sja_link::Journal;
-use sja_report::{End, NodeRun, RunLog, report};
+use sja_log::{End, NodeRun, RunLog};
+use sja_report::report;
 use sja_script::{Done, Refusal, StepAnswer};
 use std::alloc::Global;
 use std::test::Fail;

@@ -4,7 +4,7 @@ use can_bits::Level;
 use can_frame::Message;
 use can_node::Request;
 use sja_link::{Entry, Journal, Up};
-use sja_report::ActivationLog;
+use sja_log::ActivationLog;
 use sja_script::{Done, StepAnswer};
 use std::alloc::Global;
 use std::test::Fail;

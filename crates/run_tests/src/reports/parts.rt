@@ -3,7 +3,8 @@
 use super::given::{activation, enter, message, one, quiet, several, start, two};
 use can_frame::Message;
 use sja_link::{Entry, Journal, Up};
-use sja_report::{ActivationLog, End, NodeRun, RunLog, report};
+use sja_log::{ActivationLog, End, NodeRun, RunLog};
+use sja_report::report;
 use std::alloc::Global;
 use std::test::Fail;
 

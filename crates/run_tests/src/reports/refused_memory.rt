@@ -5,7 +5,8 @@
 use super::given::start;
 use can_frame::{Message, OutOfMemory};
 use sja_link::{Entry, Journal};
-use sja_report::{ActivationLog, End, NodeRun, RunLog, report};
+use sja_log::{ActivationLog, End, NodeRun, RunLog};
+use sja_report::report;
 use std::alloc::Global;
 
 const WHOLE: &str = "sja version 1 bits 20 end turns

@@ -2,7 +2,7 @@
 
 use super::given::{are_answers, counts, run, two_gates};
 use can_frame::Message;
-use sja_report::{End, RunLog};
+use sja_log::{End, RunLog};
 use sja_script::StepAnswer;
 use std::test::Fail;
 use worked_frames::TWO_BYTES;

@@ -3,9 +3,9 @@
 use super::gates::{Meeting, Open};
 use sja_driver::WorkLog;
 use sja_link::LinkId;
+use sja_log::RunLog;
 use sja_plan::read_plan;
 use sja_regs::Port;
-use sja_report::RunLog;
 use sja_rings::{RingBus, RingDriver, ring_pair};
 use sja_script::{Done, Refusal, Step, StepAnswer};
 use sja_threads::{Gate, Worked, run_threads, work};

@@ -1,7 +1,8 @@
 //! Drivers that wait for each other.
 
 use super::given::{counts, run, two_gates};
-use sja_report::{End, RunLog, report};
+use sja_log::{End, RunLog};
+use sja_report::report;
 use std::alloc::Global;
 use std::test::Fail;
 

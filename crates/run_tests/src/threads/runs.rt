@@ -2,10 +2,9 @@
 
 use super::gates::Patience;
 use super::given::{counts, open_gates, run};
+use sja_log::{End, RunFault};
 use sja_plan::read_plan;
-use sja_report::End;
 use sja_threads::run_threads;
-use sja_turns::RunFault;
 use std::test::Fail;
 
 /// Node 0 sends a frame of two bytes, and node 1 awaits and releases it.

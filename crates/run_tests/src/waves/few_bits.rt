@@ -4,7 +4,7 @@ use Level::{Dominant, Recessive};
 use can_bits::Level;
 use can_frame::Message;
 use sja_link::{Entry, Journal, Up};
-use sja_report::{End, NodeRun, RunLog};
+use sja_log::{End, NodeRun, RunLog};
 use sja_wave::wave;
 use std::alloc::Global;
 use std::test::Fail;

@@ -1,8 +1,8 @@
 -- What is left of a seat at the end of a run.
 use Rattle.std.specs.Prelude.{◌≡◌}
 use Rattle.sja_bus.specs.declared.seat.Seat.{Seat}
-use Rattle.sja_bus.specs.declared.node_log.NodeLog.{NodeLog}
-use Rattle.sja_bus.specs.Lawful.{CountersAre}
+use Rattle.sja_wire.specs.declared.node_log.NodeLog.{NodeLog}
+use Rattle.sja_wire.specs.Lawful.{CountersAre}
 use Rattle.sja_bus.specs.Inside.Following.{Follows}
 
 -- its journal, and where its node follows the journal the error counters at its end

@@ -13,9 +13,9 @@ use Rattle.sja_link.specs.Gathering.{total}
 use Rattle.sja_link.specs.Carried.{taken_of}
 use Rattle.sja_link.specs.World.{is_stop}
 use Rattle.sja_link.specs.Verdicts.{filter_of, HasVerdicts}
-use Rattle.sja_bus.specs.Links.{stops_of}
-use Rattle.sja_bus.specs.OutOfOrder.{HasOff, HasAskedOff}
-use Rattle.sja_bus.specs.Orderly.{AreOrderly}
+use Rattle.sja_wire.specs.Links.{stops_of}
+use Rattle.sja_wire.specs.OutOfOrder.{HasOff, HasAskedOff}
+use Rattle.sja_wire.specs.Orderly.{AreOrderly}
 use Rattle.sja_bus.specs.declared.activity.Activity.{Activity}
 use Rattle.sja_bus.specs.declared.activity.Activity.TheVariants.{Between, Running, Off, OffAndAsked}
 

@@ -4,8 +4,8 @@ use Rattle.can_bits.specs.declared.level.Level.TheVariants.{Recessive}
 use Rattle.can_node.specs.Stands.{ShowsRest}
 use Rattle.sja_link.specs.BusLedgers.{link_of}
 use Rattle.sja_regs.specs.declared.orders.Orders.{Orders}
-use Rattle.sja_bus.specs.declared.bus_fault.BusFault.{BusFault}
-use Rattle.sja_bus.specs.declared.bus_fault.BusFault.TheVariants.{JournalFull}
+use Rattle.sja_wire.specs.declared.bus_fault.BusFault.{BusFault}
+use Rattle.sja_wire.specs.declared.bus_fault.BusFault.TheVariants.{JournalFull}
 use Rattle.sja_bus.specs.declared.news.News.TheVariants.{Nothing}
 use Rattle.sja_bus.specs.declared.seat.Seat.{Seat}
 use Rattle.sja_bus.specs.Stretches.{recessive_bits}

@@ -16,9 +16,9 @@ use Rattle.sja_script.specs.declared.strike.Strike.{Strike}
 use Rattle.sja_bus.specs.declared.struck_nodes.StruckNodes.{StruckNodes}
 use Rattle.sja_bus.specs.declared.news.News.TheVariants.{Nothing, Dropped}
 use Rattle.sja_bus.specs.declared.seat.Seat.{Seat}
-use Rattle.sja_bus.specs.Wire.{IsWired}
-use Rattle.sja_bus.specs.Links.{per_node, Kept, Grows, Numbered}
-use Rattle.sja_bus.specs.OneBit.{MayHaveItems, Opens}
+use Rattle.sja_wire.specs.Wire.{IsWired}
+use Rattle.sja_wire.specs.Links.{per_node, Kept, Grows, Numbered}
+use Rattle.sja_wire.specs.OneBit.{MayHaveItems, Opens}
 use Rattle.sja_bus.specs.Inside.Seats.{IsReady}
 use Rattle.sja_bus.specs.Inside.Turning.{is_untold, TakesNews, OpensNews, Turns}
 

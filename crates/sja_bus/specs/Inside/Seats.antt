@@ -13,7 +13,7 @@ use Rattle.sja_link.specs.Parts.{part}
 use Rattle.sja_link.specs.Free.{IsFree}
 use Rattle.sja_link.specs.Verdicts.{IsDue, entry_of}
 use Rattle.sja_link.specs.BusLedgers.{link_of, free_in}
-use Rattle.sja_bus.specs.Telling.{is_overrun}
+use Rattle.sja_wire.specs.Telling.{is_overrun}
 use Rattle.sja_bus.specs.declared.seat.Seat.{Seat}
 use Rattle.sja_bus.specs.Inside.Following.{Follows, FollowsBit, Reads, open_in}
 

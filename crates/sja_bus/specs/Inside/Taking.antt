@@ -13,14 +13,14 @@ use Rattle.sja_link.specs.Records.{record_of}
 use Rattle.sja_link.specs.Verdicts.{HasVerdicts}
 use Rattle.sja_regs.specs.declared.orders.Orders.{Orders}
 use Rattle.sja_link.specs.BusLedgers.{link_of}
-use Rattle.sja_bus.specs.declared.bus_fault.BusFault.{BusFault}
-use Rattle.sja_bus.specs.declared.bus_fault.BusFault.TheVariants.{BitsSpent, BadCredit, Stuck, BadOrder, JournalFull}
+use Rattle.sja_wire.specs.declared.bus_fault.BusFault.{BusFault}
+use Rattle.sja_wire.specs.declared.bus_fault.BusFault.TheVariants.{BitsSpent, BadCredit, Stuck, BadOrder, JournalFull}
 use Rattle.sja_bus.specs.declared.seat.Seat.{Seat}
-use Rattle.sja_bus.specs.Links.{Kept, Grows}
+use Rattle.sja_wire.specs.Links.{Kept, Grows}
 use Rattle.sja_bus.specs.Reasons.{IsRefusedFor}
-use Rattle.sja_bus.specs.OutOfOrder.{IsOutOfOrder, HasOff}
-use Rattle.sja_bus.specs.Aborting.{IsApplied}
-use Rattle.sja_bus.specs.OneBit.{MayHaveItems, MayHaveAbort, off_as}
+use Rattle.sja_wire.specs.OutOfOrder.{IsOutOfOrder, HasOff}
+use Rattle.sja_wire.specs.Aborting.{IsApplied}
+use Rattle.sja_wire.specs.OneBit.{MayHaveItems, MayHaveAbort, off_as}
 use Rattle.sja_bus.specs.OutOfRoom.{IsOutOfRoom}
 use Rattle.sja_bus.specs.Inside.Seats.{IsSound, IsSeat, IsJudged}
 

@@ -14,8 +14,8 @@ use Rattle.sja_bus.specs.declared.brought.Brought.{Brought}
 use Rattle.sja_bus.specs.declared.news.News.{News}
 use Rattle.sja_bus.specs.declared.news.News.TheVariants.{Nothing, Changed, Dropped}
 use Rattle.sja_bus.specs.declared.seat.Seat.{Seat}
-use Rattle.sja_bus.specs.OneBit.{MayHaveItems, MayHaveAbort, MayHaveVerdict, HasBit}
-use Rattle.sja_bus.specs.Telling.{IsTurn, SaysAlone, is_overrun}
+use Rattle.sja_wire.specs.OneBit.{MayHaveItems, MayHaveAbort, MayHaveVerdict, HasBit}
+use Rattle.sja_wire.specs.Telling.{IsTurn, SaysAlone, is_overrun}
 use Rattle.sja_bus.specs.Inside.Following.{open_in}
 
 -- whether something is to be told, and whether it is that a request was dropped

@@ -3,11 +3,11 @@ use Rattle.std.specs.Prelude.{◌≡◌, ◌+◌, ◌≤◌, ℕ, Option, None, 
 use Rattle.can_bits.specs.declared.level.Level.{Level}
 use Rattle.sja_regs.specs.declared.orders.Orders.{Orders}
 use Rattle.sja_regs.specs.declared.bus_turn.BusTurn.{BusTurn}
-use Rattle.sja_bus.specs.declared.bus_fault.BusFault.{BusFault}
+use Rattle.sja_wire.specs.declared.bus_fault.BusFault.{BusFault}
 use Rattle.sja_bus.specs.declared.struck_nodes.StruckNodes.{StruckNodes}
 use Rattle.sja_bus.specs.declared.seat.Seat.{Seat}
 use Rattle.sja_bus.specs.StrikesByBit.{Scripted}
-use Rattle.sja_bus.specs.Wire.{wired}
+use Rattle.sja_wire.specs.Wire.{wired}
 use Rattle.sja_bus.specs.Reasons.{room_for}
 use Rattle.sja_bus.specs.Inside.Refusing.{HaveRoom}
 use Rattle.sja_bus.specs.Inside.Rows.{IsBus, EachSeat, SeatOpens, driven_by, SeatOpensNews, SeatTurns}

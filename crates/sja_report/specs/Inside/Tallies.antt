@@ -8,7 +8,7 @@ use Rattle.sja_link.specs.Gathering.{total}
 use Rattle.sja_link.specs.Carried.{stored_of, overrun_of}
 use Rattle.sja_link.specs.Free.{bytes_in, credit_in}
 use Rattle.sja_report.specs.declared.tally.Tally.{Tally}
-use Rattle.sja_report.specs.Log.{ActivationValue}
+use Rattle.sja_log.specs.Log.{ActivationValue}
 use Rattle.sja_report.specs.ReportLines.{counts_line, message_lines}
 
 -- how many messages were stored, those that were overrun, the bytes stored and the bytes given back

@@ -8,7 +8,7 @@ use Rattle.sja_plan.specs.Plan.{PlanValue}
 use Rattle.sja_bus.specs.Buses.{BusValue}
 use Rattle.sja_driver.specs.LoggedDrivers.{log_of}
 use Rattle.sja_driver.specs.Logs.{done_in}
-use Rattle.sja_turns.specs.Serial.{steps_at}
+use Rattle.sja_plan.specs.Plan.{steps_at}
 use Rattle.sja_threads.specs.declared.joined.Joined.{Joined}
 use Rattle.sja_threads.specs.declared.worked.Worked.{Worked}
 use Rattle.sja_threads.specs.Ended.{IsOverOf}

@@ -7,7 +7,7 @@ use Rattle.sja_rings.specs.Ends.{BusLists, DriverLists, OneLink, link_of_bus, li
 use Rattle.sja_plan.specs.Plan.{PlanValue}
 use Rattle.sja_driver.specs.Logs.{HasRoom, IsEmpty}
 use Rattle.sja_bus.specs.Buses.{new_bus}
-use Rattle.sja_turns.specs.Serial.{steps_at}
+use Rattle.sja_plan.specs.Plan.{steps_at}
 use Rattle.sja_threads.specs.declared.hand.Hand.{Hand}
 use Rattle.sja_threads.specs.declared.ready.Ready.{Ready}
 

@@ -8,9 +8,9 @@ use Rattle.sja_rings.specs.declared.ring_bus.RingBus.{RingBus}
 use Rattle.sja_rings.specs.Ends.{BusLists, link_of_bus}
 use Rattle.sja_plan.specs.Plan.{PlanValue}
 use Rattle.sja_bus.specs.Buses.{BusValue}
-use Rattle.sja_bus.specs.Links.{Kept, Numbered}
-use Rattle.sja_bus.specs.Wire.{journal_at}
-use Rattle.sja_report.specs.declared.end.End.{End}
+use Rattle.sja_wire.specs.Links.{Kept, Numbered}
+use Rattle.sja_wire.specs.Wire.{journal_at}
+use Rattle.sja_log.specs.declared.end.End.{End}
 use Rattle.sja_threads.specs.declared.moving.Move.{Move}
 use Rattle.sja_threads.specs.declared.moving.Move.TheVariants.{Ran, Rests, Spent}
 use Rattle.sja_threads.specs.Needed.{IsDue, AllDue, EndsDuly}

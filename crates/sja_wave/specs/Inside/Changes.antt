@@ -4,7 +4,7 @@ use Rattle.can_bits.specs.declared.level.Level.{Level}
 use Rattle.can_bits.specs.Fields.{is_recessive}
 use Rattle.sja_wave.specs.declared.signals.Signals.{Signals}
 use Rattle.sja_wave.specs.declared.cursor.Cursor.{Cursor}
-use Rattle.sja_bus.specs.Wire.{wired}
+use Rattle.sja_wire.specs.Wire.{wired}
 use Rattle.sja_report.specs.ReportLines.{numbered}
 use Rattle.sja_wave.specs.WaveText.{line, value_line, change}
 

@@ -3,7 +3,7 @@ use Rattle.std.specs.Prelude.{ℕ, zero, suc, Bool, true, false, not, List, [], 
 use Rattle.sja_link.specs.declared.up.Up.TheVariants.{Start, Credit, Send, Stop}
 use Rattle.sja_link.specs.declared.entry.Entry.{Entry}
 use Rattle.sja_link.specs.declared.entry.Entry.TheVariants.{Bit, Up as Item, Abort, Stored, Overrun, Off}
-use Rattle.sja_report.specs.Log.{NodeValue}
+use Rattle.sja_log.specs.Log.{NodeValue}
 use Rattle.sja_wave.specs.declared.signals.Signals.{Signals}
 use Rattle.sja_wave.specs.declared.cursor.Cursor.{Cursor}
 use Rattle.sja_wave.specs.Through.{through}

@@ -1,5 +1,5 @@
 use Rattle.std.proofs.Common.{◌≡◌, suc, ◌+◌, drop, arith, sym, ap, ◌∙◌}
-use Rattle.sja_bus.specs.Wire.{wired}
+use Rattle.sja_wire.specs.Wire.{wired}
 use Rattle.sja_bus.specs.Inside.Rows.{driven_by}
 use Rattle.sja_bus.proofs.Levels.{dominant_here, recessive_here, none_left, not_dominant}
 use Rattle.sja_bus.proofs.all_nodes.level_of.Goals as goal

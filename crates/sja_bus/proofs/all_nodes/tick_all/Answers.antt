@@ -6,8 +6,8 @@ use Rattle.sja_link.specs.declared.entry.Entry.TheVariants.{Bit}
 use Rattle.sja_link.specs.BusLedgers.{link_of}
 use Rattle.sja_link.specs.Related.{EachRelated}
 use Rattle.sja_bus.specs.declared.seat.Seat.{Seat}
-use Rattle.sja_bus.specs.Wire.{wired}
-use Rattle.sja_bus.specs.Links.{Goes}
+use Rattle.sja_wire.specs.Wire.{wired}
+use Rattle.sja_wire.specs.Links.{Goes}
 use Rattle.sja_bus.specs.Inside.Rows.{SeatTurns, seen_by, driven_by}
 use Rattle.sja_bus.specs.Inside.Refusing.{SeatBreaks}
 use Rattle.sja_bus.proofs.Levels.{level_now}

@@ -1,5 +1,5 @@
 use Rattle.std.proofs.Common.{◌≡◌, ℕ, suc, take}
-use Rattle.sja_bus.specs.Wire.{wired}
+use Rattle.sja_wire.specs.Wire.{wired}
 use Rattle.sja_bus.specs.Inside.Refusing.{AreFree}
 use Rattle.sja_bus.specs.Inside.Rows.{driven_by}
 use Rattle.sja_bus.specs.Inside.Underway.{IsUnderway}

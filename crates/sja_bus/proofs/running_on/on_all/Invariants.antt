@@ -1,7 +1,7 @@
 use Rattle.std.proofs.Common.{◌≡◌, ℕ, ◌+◌, ◌-◌, ◌≤◌, length}
 use Rattle.sja_link.specs.Related.{EachRelated}
 use Rattle.sja_bus.specs.Several.{AreBits, WorksIf}
-use Rattle.sja_bus.specs.Wire.{wired}
+use Rattle.sja_wire.specs.Wire.{wired}
 use Rattle.sja_bus.specs.Inside.Refusing.{HaveRoom, AreFree}
 use Rattle.sja_bus.specs.Inside.Rows.{AreTold, IsBus, driven_by}
 use Rattle.sja_bus.specs.Inside.RunningOn.{moment_of, AnyBit}

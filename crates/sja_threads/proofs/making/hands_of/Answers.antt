@@ -1,5 +1,5 @@
 use Rattle.std.proofs.Common.{rules, ◌+◌, ℕ, refl, sym, ap, ◌∙◌, subst, arith}
-use Rattle.sja_turns.specs.Serial.{steps_at}
+use Rattle.sja_plan.specs.Plan.{steps_at}
 use Rattle.sja_threads.specs.Inside.Making.{AreMade}
 use Rattle.sja_threads.proofs.Pairs.{made_of, made_push}
 use Rattle.sja_threads.proofs.making.hands_of.Goals as goal

@@ -6,7 +6,7 @@ use Rattle.sja_link.specs.declared.down.Down.{Down}
 use Rattle.sja_rings.specs.declared.ring_bus.RingBus.{RingBus}
 use Rattle.sja_rings.specs.declared.ring_driver.RingDriver.{RingDriver}
 use Rattle.sja_rings.specs.Ends.{OneLink}
-use Rattle.sja_turns.proofs.Logging.{next_of}
+use Rattle.sja_log.proofs.Logging.{next_of}
 use Rattle.sja_threads.specs.Settling.{IsLeftOn, AreLeftOn}
 use Rattle.sja_threads.proofs.LeftOn.{none_beyond, left_push}
 use Rattle.sja_threads.proofs.settling.settle_all.Goals as goal

@@ -4,7 +4,7 @@ use Rattle.sja_driver.specs.declared.work_log.WorkLog.{WorkLog}
 use Rattle.sja_script.specs.declared.step.Step.{Step}
 use Rattle.sja_driver.specs.Logs.{IsEmpty, HasRoom}
 use Rattle.sja_turns.specs.Beginning.{IsNewDriver, AreNew}
-use Rattle.sja_turns.specs.Serial.{steps_at}
+use Rattle.sja_plan.specs.Plan.{steps_at}
 use Rattle.sja_turns.proofs.Newly.{new_push}
 use Rattle.sja_turns.proofs.beginning.new_drivers.Goals as goal
 

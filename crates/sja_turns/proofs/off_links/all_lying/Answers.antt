@@ -1,7 +1,7 @@
 use Rattle.std.proofs.Common.{◌≡◌, ◌++◌, List, subst, sym}
 use Rattle.std.specs.Vec.Iter.{into_iter_items}
 use Rattle.sja_link.specs.declared.down.Down.{Down}
-use Rattle.sja_turns.specs.Finishing.{all_down}
+use Rattle.sja_log.specs.Finishing.{all_down}
 use Rattle.sja_turns.proofs.OffLinks.{down_next, gathers_more}
 use Rattle.sja_turns.proofs.off_links.all_lying.Goals as goal
 

@@ -1,4 +1,4 @@
-use Rattle.sja_report.specs.Runs.{IsSerialRun}
+use Rattle.sja_log.specs.Runs.{IsSerialRun}
 use Rattle.sja_turns.proofs.Whole.{serial_of}
 use Rattle.sja_turns.proofs.running.run_serial.Goals as goal
 

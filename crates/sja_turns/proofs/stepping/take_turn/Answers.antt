@@ -1,7 +1,9 @@
 use Rattle.std.proofs.Common.{rules, ◌≡◌, ◌<◌, length, true, false, ap, ◌∙◌, arith, inl}
 use Rattle.sja_regs.specs.Registers.{at_power_on}
 use Rattle.sja_driver.specs.Logs.{done_in}
-use Rattle.sja_turns.specs.Serial.{run_now, with_deeds, deeds_at, steps_at}
+use Rattle.sja_turns.specs.Serial.{run_now, with_deeds}
+use Rattle.sja_driver.specs.Deeds.{deeds_at}
+use Rattle.sja_plan.specs.Plan.{steps_at}
 use Rattle.sja_turns.proofs.Several.{so_far_none, so_far_one, turn_stuck, turn_waits, turn_done, done_count}
 use Rattle.sja_turns.proofs.stepping.take_turn.Goals as goal
 

@@ -8,7 +8,9 @@ use Rattle.sja_regs.specs.Facts.{RegisterFacts}
 use Rattle.sja_driver.specs.Deeds.{Deed, done_of}
 use Rattle.sja_driver.specs.LoggedDrivers.{node_of}
 use Rattle.sja_driver.specs.Logs.{done_in}
-use Rattle.sja_turns.specs.Serial.{run_now, steps_at, deeds_at, StandsAt, Does, IsStuck}
+use Rattle.sja_turns.specs.Serial.{run_now, StandsAt, Does, IsStuck}
+use Rattle.sja_driver.specs.Deeds.{deeds_at}
+use Rattle.sja_plan.specs.Plan.{steps_at}
 use Rattle.sja_turns.proofs.Standing.{next_tried}
 use Rattle.sja_turns.proofs.Taken.{gather_takes}
 use Rattle.sja_turns.proofs.stepping.try_next.Goals as goal

@@ -1,5 +1,5 @@
 use Rattle.std.proofs.Common.{◌≡◌, ◌∷◌, drop}
-use Rattle.sja_bus.specs.Wire.{wired}
+use Rattle.sja_wire.specs.Wire.{wired}
 use Rattle.sja_wave.specs.Inside.Changes.{driven_now}
 use Rattle.sja_wave.proofs.cursors.bus_now.Given as goal
 

@@ -4,7 +4,7 @@ use Rattle.can_node.specs.Stands.{ShowsRest}
 use Rattle.sja_link.specs.Records.{record_of}
 use Rattle.sja_bus.specs.declared.seat.Seat.{Seat}
 use Rattle.sja_bus.specs.Buses.{BusValue}
-use Rattle.sja_bus.specs.Wire.{journal_at}
+use Rattle.sja_wire.specs.Wire.{journal_at}
 use Rattle.sja_bus.specs.Resting.{RestsAs}
 use Rattle.sja_bus.specs.Inside.Rows.{journals_of}
 use Rattle.sja_bus.proofs.Running.{count_is}

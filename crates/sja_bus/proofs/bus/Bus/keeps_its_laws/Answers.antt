@@ -1,5 +1,5 @@
 use Rattle.std.proofs.Common.{◌≡◌, None, subst}
-use Rattle.sja_bus.specs.Lawful.{IsBusRun}
+use Rattle.sja_wire.specs.Lawful.{IsBusRun}
 use Rattle.sja_bus.specs.Buses.{BusValue}
 use Rattle.sja_bus.proofs.Running.{bus_run}
 use Rattle.sja_bus.proofs.bus.Bus.keeps_its_laws.Goals as goal

@@ -1,5 +1,5 @@
 use Rattle.std.proofs.Common.{rules, ◌≡◌, Err, suc, subst}
-use Rattle.sja_bus.specs.declared.bus_fault.BusFault.{BusFault}
+use Rattle.sja_wire.specs.declared.bus_fault.BusFault.{BusFault}
 use Rattle.sja_link.specs.declared.link_id.LinkId.{LinkId}
 use Rattle.sja_bus.specs.Reasons.{IsRefusedFor}
 use Rattle.sja_bus.specs.Inside.Taking.{RefusesHere}

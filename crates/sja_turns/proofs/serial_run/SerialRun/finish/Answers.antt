@@ -5,8 +5,8 @@ use Rattle.sja_regs.specs.Registers.{at_power_on}
 use Rattle.sja_driver.specs.declared.logged_driver.LoggedDriver.{LoggedDriver}
 use Rattle.sja_driver.specs.Deeds.{Deed}
 use Rattle.sja_driver.specs.LoggedDrivers.{IsLawful}
-use Rattle.sja_report.specs.Log.{NodeValue, RunValue}
-use Rattle.sja_turns.specs.Finishing.{all_down, AreNodeEnds}
+use Rattle.sja_log.specs.Log.{NodeValue, RunValue}
+use Rattle.sja_log.specs.Finishing.{all_down, AreNodeEnds}
 use Rattle.sja_turns.specs.Ending.{IsLogOf}
 use Rattle.sja_turns.specs.Serial.{SerialValue, StandsAt, run_now}
 use Rattle.sja_turns.proofs.Ended.{log_of_run}

@@ -1,0 +1,20 @@
+pub mod Accounts
+pub mod Waiting
+pub mod Orders
+pub mod Timings
+pub mod Stepping
+pub mod Givings
+pub mod Ordering
+pub mod Windows
+pub mod Moments
+pub mod Fronts
+pub mod AbortsFirst
+pub mod Turning
+pub mod Logs
+-- a deed more, and a bit more, beside what was put
+pub mod Own
+pub mod Later
+pub mod Adding
+-- the end of a run
+pub mod Logging
+pub mod NodeEnds

@@ -1,0 +1,37 @@
+use Rattle.std.proofs.Common.{rules, ◌≡◌, ◌∷◌, ◌+◌, ◌*◌, ◌<◌, List, length, drop, sym, ◌∙◌, subst, arith}
+use Rattle.std.specs.Prelude.{slice_index_or}
+use Rattle.std.specs.Vec.Iter.{into_iter_items}
+use Rattle.std.proofs.lemmas.List.{get_or_default}
+use Rattle.sja_wire.specs.declared.node_log.NodeLog.{NodeLog}
+use Rattle.sja_driver.specs.declared.logged_driver.LoggedDriver.{LoggedDriver}
+use Rattle.sja_log.specs.Log.{NodeValue}
+use Rattle.sja_log.specs.Finishing.{IsNodeEnd, AreNodeEnds}
+use Rattle.sja_log.proofs.Logging.{nodes_push, next_of}
+use Rattle.sja_log.proofs.node_runs.node_runs.Goals as goal
+
+pub loop-log-preserved : goal.loop-log-preserved
+loop-log-preserved c =
+    let inv = c.loop-log.invariant in
+    let logs = c.args.logs.items in
+    let drivers = c.args.drivers.now in
+    let lists = c.args.lists.now in
+    let n = c.loop-log.node in
+    let left = into_iter_items c.next.new.self in
+    let e : drop n logs ≡ c.in-Some.log ∷ left = sym inv.rest ∙ c.in-Some.ensures.steps.0 in
+    let next = next_of logs left n c.in-Some.log c.in-Some.log e in
+    let x = c.in_ok-node_run.field-0 in
+    let less : n < length drivers = let there = next.2 in let many = c.requires.drivers in omega (arith, there, many) in
+    let is : (g : NodeLog) (d : LoggedDriver) → IsNodeEnd (slice_index_or logs n g) (slice_index_or drivers n d) lists
+    (8 * n) x = λ g d.
+    subst (λ (l : NodeLog). IsNodeEnd l (slice_index_or drivers n d) lists (8 * n) x) (sym
+    (next_of logs left n c.in-Some.log g e).0)
+    (subst (λ (v : LoggedDriver). IsNodeEnd c.in-Some.log v lists (8 * n) x) (c.index-drivers-node.is
+    ∙ get_or_default drivers n c.index-drivers-node.result d less) c.in_ok-node_run.ensures) in
+    record {
+      room = search rules;
+      few = omega (arith, less);
+      rest = sym next.1;
+      each = subst (λ (l : List NodeValue). AreNodeEnds logs drivers lists (n + 1) l)
+          (sym c.push_reserved.ensures.items)
+          (nodes_push logs drivers lists n c.loop-log.runs.items x inv.each is);
+    }

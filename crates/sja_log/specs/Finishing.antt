@@ -1,0 +1,49 @@
+-- What the log of a run is made of (this project's own rule).
+use Rattle.std.specs.Prelude.{◌≡◌, ◌+◌, ◌*◌, ◌<◌, ◌++◌, ℕ, List, [], length, map, slice_index_or}
+use Rattle.sja_link.specs.declared.down.Down.{Down}
+use Rattle.sja_link.specs.Deques.{Deques}
+use Rattle.sja_link.specs.Lists.{messages}
+use Rattle.sja_wire.specs.declared.node_log.NodeLog.{NodeLog}
+use Rattle.sja_driver.specs.declared.logged_driver.LoggedDriver.{LoggedDriver}
+use Rattle.sja_driver.specs.AnyDrivers.{held_of, opened_of}
+use Rattle.sja_driver.specs.LoggedDrivers.{driver_of, log_of}
+use Rattle.sja_driver.specs.Logs.{done_in, releases_in, left_in, released_of, leaves}
+use Rattle.sja_log.specs.Log.{ActivationValue, NodeValue}
+
+-- what lies downward on each of these links
+abbrev pub all_down : List Deques → List (List Down)
+all_down links = map (λ (s : Deques). s.down) links
+
+-- the messages that a driver holds, or held at the end, in the activation after so many
+abbrev pub held_after : LoggedDriver → ℕ → List (List ℕ)
+held_after driver a = slice_index_or (leaves (left_in (log_of driver)) (held_of (driver_of driver))) a []
+
+-- the log of that activation, on whose link this lies
+abbrev pub activation_after : LoggedDriver → List Down → ℕ → ActivationValue
+activation_after driver down a = record {
+  released = released_of (releases_in (log_of driver)) (a + 1);
+  unread = held_after driver a ++ messages down;
+}
+
+-- the logs of the first so many activations; what lies on their links begins at this place
+pub record AreActivations (driver : LoggedDriver) (lying : List (List Down)) (base count : ℕ)
+    (logs : List ActivationValue) : Type 0 where
+  pub count_is : length logs ≡ count
+  pub each : (a : ℕ) (d : ActivationValue) (l : List Down) → a < count →
+      slice_index_or logs a d ≡ activation_after driver (slice_index_or lying (base + a) l) a
+
+-- the log of a node
+pub record IsNodeEnd (log : NodeLog) (driver : LoggedDriver) (lying : List (List Down)) (base : ℕ) (node : NodeValue) :
+    Type 0 where
+  pub journal : node.journal ≡ log.journal.entries
+  pub txerr : node.txerr ≡ log.txerr
+  pub rxerr : node.rxerr ≡ log.rxerr
+  pub done : node.done ≡ done_in (log_of driver)
+  pub activations : AreActivations driver lying base (opened_of (driver_of driver)) node.activations
+
+-- the logs of the first so many nodes
+pub record AreNodeEnds (logs : List NodeLog) (drivers : List LoggedDriver) (lying : List (List Down)) (count : ℕ)
+    (nodes : List NodeValue) : Type 0 where
+  pub count_is : length nodes ≡ count
+  pub each : (k : ℕ) (g : NodeLog) (d : LoggedDriver) (n : NodeValue) → k < count →
+      IsNodeEnd (slice_index_or logs k g) (slice_index_or drivers k d) lying (8 * k) (slice_index_or nodes k n)

@@ -1,0 +1,61 @@
+-- The registers of a node's port through a run in one thread (this project's own rule).
+use Rattle.std.specs.Prelude.{◌≡◌, ◌<◌, ℕ, Bool, true, false, List, [], ◌∷◌, ◌++◌, length, slice_index_or}
+use Rattle.can_bits.specs.declared.level.Level.{Level}
+use Rattle.can_frame.specs.declared.seen.Seen.{Seen}
+use Rattle.sja_link.specs.declared.entry.Entry.{Entry}
+use Rattle.sja_link.specs.Places.{place_of}
+use Rattle.sja_link.specs.Showing.{seen_of}
+use Rattle.sja_regs.specs.declared.bus_turn.BusTurn.{BusTurn}
+use Rattle.sja_regs.specs.declared.registers.Registers.{Registers}
+use Rattle.sja_regs.specs.Registers.{at_power_on}
+use Rattle.sja_regs.specs.Turns.{after_turn}
+use Rattle.sja_wire.specs.Aborting.{IsApplied}
+use Rattle.sja_wire.specs.OneBit.{HasBit, abort_as, entries_of_items}
+use Rattle.sja_wire.specs.Telling.{IsTurn}
+use Rattle.sja_driver.specs.Carried.{Tells, carried, ported}
+use Rattle.sja_driver.specs.Deeds.{Deed, opened_by, is_active}
+use Rattle.sja_driver.specs.Drivers.{nothing_seen}
+use Rattle.sja_plan.specs.Plan.{PlanValue}
+use Rattle.sja_log.specs.Log.{NodeValue, RunValue}
+use Rattle.sja_log.specs.Windows.{off_by, window_of}
+
+-- what a read of the registers sees of the messages after these entries and deeds: out of reset what was put by then in
+-- the activation and not released, in reset nothing
+abbrev pub seen_now : Bool → List Entry → List Deed → Seen
+seen_now true j deeds =
+    let bits = (place_of j).bits in seen_of (off_by bits j (opened_by deeds)) (window_of j deeds bits)
+seen_now false j deeds = nothing_seen
+
+-- one bit of a node whose port had registers p before it and has q after it: an abort that stands there is applied, and
+-- the port is told what the bit brought
+pub record IsPortBit (p q : Registers) (j k : List Entry) : Type 0 where
+  -- an abort that stands changes the node as an abort does there; without one it isn't changed
+  pub changed : Bool
+  pub applied : p.abort ≡ true → IsApplied j changed
+  pub unasked : p.abort ≡ false → changed ≡ false
+  -- the node drove and saw these levels
+  pub driven : Level
+  pub seen : Level
+  pub bit : HasBit (j ++ abort_as changed) driven seen k
+  -- and this turn of the bus is what that brought
+  pub turn : BusTurn
+  pub is_turn : IsTurn changed (j ++ abort_as changed) driven seen k bit turn
+  pub told : q ≡ after_turn p turn
+
+-- from power-on in this version of the model these entries and deeds lead to these registers
+pub data LeadTo (version : ℕ) : List Entry → List Deed → Registers → Type 0 where
+  power_on : LeadTo version [] [] (at_power_on version)
+  -- a step is answered by the registers before it, and by what it sees; by them it gives, which is taken at once, and
+  -- leaves other registers
+  step : (j k : List Entry) (deeds : List Deed) (d : Deed) (p q : Registers) → LeadTo version j deeds p →
+      d.bits ≡ (place_of j).bits → Tells d.step (is_active deeds) p (seen_now (is_active deeds) j deeds) d.answer →
+      d.gave ≡ carried p d.step d.answer → k ≡ j ++ entries_of_items d.gave → q ≡ ported p d.step d.answer →
+      LeadTo version k (deeds ++ d ∷ []) q
+  bit : (j k : List Entry) (deeds : List Deed) (p q : Registers) → LeadTo version j deeds p → IsPortBit p q j k →
+      LeadTo version k deeds q
+
+-- of each node the entries and deeds lead to some registers: so each step was answered by those that the steps and bits
+-- before it left
+abbrev pub HaveRegisters : PlanValue → RunValue → List (List Deed) → Type 0
+HaveRegisters plan log deeds = (k : ℕ) (d : NodeValue) → k < length log.nodes →
+    (p : Registers) × LeadTo plan.version (slice_index_or log.nodes k d).journal (slice_index_or deeds k []) p

@@ -1,0 +1,97 @@
+-- How the bits and steps of a run in one thread follow the turns of its plan (this project's own rule).
+use Rattle.std.specs.Prelude.{◌≡◌, ◌+◌, ◌<◌, ◌≤◌, ◌⊎◌, ℕ, true, false, List, []}
+use Rattle.std.specs.Prelude.{◌∷◌, length, take, set, slice_index, slice_index_or}
+use Rattle.sja_link.specs.declared.entry.Entry.{Entry}
+use Rattle.sja_script.specs.declared.step.Step.{Step}
+use Rattle.sja_script.specs.declared.step.Step.TheVariants.{Await, Sent}
+use Rattle.sja_plan.specs.declared.turn.Turn.{Turn}
+use Rattle.sja_plan.specs.declared.turn.Turn.TheVariants.{Bus, Rest, Node}
+use Rattle.sja_plan.specs.Plan.{PlanValue}
+use Rattle.sja_driver.specs.Deeds.{Deed, is_active, opened_by}
+use Rattle.sja_log.specs.declared.end.End.{End}
+use Rattle.sja_log.specs.declared.end.End.TheVariants.{Turns as TurnsDone, Bits as BitsSpent}
+use Rattle.sja_log.specs.Windows.{off_by, window_of}
+use Rattle.sja_log.specs.Resting.{IsHolding, IsAtRest}
+use Rattle.sja_log.specs.Moments.{record_at}
+
+-- ---- a run, and how far it has come
+
+-- a run of a plan: the journal and the deeds of each node
+pub record Acts : Type 0 where
+  pub plan : PlanValue
+  pub journals : List (List Entry)
+  pub deeds : List (List Deed)
+
+-- the bits run, and how many steps of each driver are done
+pub record Progress : Type 0 where
+  pub bits : ℕ
+  pub done : List ℕ
+
+abbrev pub steps_of : Acts → ℕ → List Step
+steps_of r k = slice_index_or r.plan.nodes k []
+
+abbrev pub journal_of : Acts → ℕ → List Entry
+journal_of r k = slice_index_or r.journals k []
+
+abbrev pub all_deeds : Acts → ℕ → List Deed
+all_deeds r k = slice_index_or r.deeds k []
+
+-- how many steps of a driver are done, and its deeds so far
+abbrev pub steps_done : Progress → ℕ → ℕ
+steps_done p k = slice_index p.done k
+
+abbrev pub deeds_by : Acts → Progress → ℕ → List Deed
+deeds_by r p k = take (steps_done p k) (all_deeds r k)
+
+abbrev pub with_steps : Progress → ℕ → ℕ → Progress
+with_steps p k m = record p { done = set p.done k (steps_done p k + m) }
+
+abbrev pub with_bits : Progress → ℕ → Progress
+with_bits p n = record p { bits = p.bits + n }
+
+-- every controller is at rest after so many bits, when all that was given was taken
+abbrev pub AllAtRest : Acts → Progress → ℕ → Type 0
+AllAtRest r p bits = (k : ℕ) → k < length r.plan.nodes → IsAtRest (record_at (journal_of r k) (deeds_by r p k) bits)
+
+-- ---- steps
+
+-- a step that waits has to wait on: too few messages have come, or the transmit buffer isn't released
+abbrev pub IsUnmet : List Entry → List Deed → ℕ → Step → Type 0
+IsUnmet j before bits (Await count) =
+    (is_active before ≡ true) × (off_by bits j (opened_by before) ≡ false) × (length (window_of j before bits) < count)
+IsUnmet j before bits Sent = (is_active before ≡ true) × IsHolding (record_at j before bits)
+IsUnmet j before bits other = ⊥
+
+-- the driver has no step left, or its next one has to wait
+pub record IsStuck (r : Acts) (p : Progress) (k : ℕ) : Type 0 where
+  pub why : (length (steps_of r k) ≤ steps_done p k)
+      ⊎ ((d : Step) →
+      IsUnmet (journal_of r k) (deeds_by r p k) p.bits (slice_index_or (steps_of r k) (steps_done p k) d))
+
+-- m steps of node k are done now, of the n that are asked for: all of them, or up to where the driver is stuck
+pub record DoesSteps (r : Acts) (p : Progress) (k n m : ℕ) : Type 0 where
+  pub most : m ≤ n
+  pub exist : steps_done p k + m ≤ length (all_deeds r k)
+  pub now : (i : ℕ) (d : Deed) → i < m → (slice_index_or (all_deeds r k) (steps_done p k + i) d).bits ≡ p.bits
+  pub stuck : m < n → IsStuck r (with_steps p k m) k
+
+-- ---- turns
+
+-- from one point of a run the turns lead to another, and end so
+pub data RunsTo (r : Acts) : Progress → List Turn → Progress → End → Type 0 where
+  all_done : (p : Progress) → RunsTo r p [] p TurnsDone
+  -- `bus N` runs N bits; where fewer are left the run ends with them
+  bus : (p q : Progress) (n : ℕ) (turns : List Turn) (end : End) → p.bits + n ≤ r.plan.bits →
+      RunsTo r (with_bits p n) turns q end → RunsTo r p (Bus n ∷ turns) q end
+  bus_spent : (p : Progress) (n : ℕ) (turns : List Turn) → r.plan.bits < p.bits + n →
+      RunsTo r p (Bus n ∷ turns) (record p { bits = r.plan.bits }) BitsSpent
+  -- `rest` runs bits up to the first taking that leaves every controller at rest; where none does the bits are spent
+  rest : (p q : Progress) (n : ℕ) (turns : List Turn) (end : End) → p.bits + n ≤ r.plan.bits →
+      ((i : ℕ) → i < n → ¬ AllAtRest r p (p.bits + i)) → AllAtRest r p (p.bits + n) →
+      RunsTo r (with_bits p n) turns q end → RunsTo r p (Rest ∷ turns) q end
+  rest_spent : (p : Progress) (turns : List Turn) →
+      ((bits : ℕ) → p.bits ≤ bits → bits ≤ r.plan.bits → ¬ AllAtRest r p bits) →
+      RunsTo r p (Rest ∷ turns) (record p { bits = r.plan.bits }) BitsSpent
+  -- `node K N` does N steps of driver K; past its last step there are none, and one that has to wait ends the turn
+  node : (p q : Progress) (k n m : ℕ) (turns : List Turn) (end : End) → DoesSteps r p k n m →
+      RunsTo r (with_steps p k m) turns q end → RunsTo r p (Node k n ∷ turns) q end

@@ -1,0 +1,36 @@
+//! The log of a run, and what is promised of it.
+//!
+//! A [`RunLog`] has what a run did: how it ended, and of each node its journal, its error counters, the steps that its
+//! driver did, and of each activation the messages that were released and those that were left unread.
+//! `specs/Headline.antt` says of such a log what the project promises of every run, and `specs/Runs.antt` what it
+//! promises of a run in one thread beside that.
+//!
+//! [`node_runs`] makes the nodes of a log of what the bus left of each node, its driver, and what lay on its links
+//! ([`Lying`]); [`script_of`] has the strikes of a plan as a bus takes them. These and `Lying::of` and `Lying::on` alone
+//! take memory. A [`RunFault`] says why a run has no log. The tests stand in `crates/run_tests`.
+#![tactic(auto)]
+
+mod activation_log;
+mod copying;
+mod end;
+mod ending;
+mod laws;
+mod lying;
+mod node_run;
+mod node_runs;
+mod run_fault;
+mod run_log;
+mod strikes;
+
+pub use activation_log::ActivationLog;
+pub use end::End;
+pub use laws::{
+    a_bus_with_traced_drivers_is_a_run, a_moment_is_a_front, a_settled_node_has_the_headline,
+    an_abort_stands_right_before_a_bit,
+};
+pub use lying::Lying;
+pub use node_run::NodeRun;
+pub use node_runs::node_runs;
+pub use run_fault::RunFault;
+pub use run_log::RunLog;
+pub use strikes::script_of;

@@ -1,0 +1,41 @@
+//! What became of all nodes of a run.
+
+ghost use Rattle.std.specs.Prelude.{◌≡◌, ◌*◌, ◌<◌, ℕ, length, IfOk, slice_index_or, vec_len};
+ghost use Rattle.sja_driver.specs.declared.logged_driver.LoggedDriver.{LoggedDriver as Logged};
+ghost use Rattle.sja_driver.specs.LoggedDrivers.{IsLawful};
+ghost use Rattle.sja_log.specs.Finishing.{AreNodeEnds};
+
+use super::ending::node_run;
+use super::lying::Lying;
+use super::node_run::NodeRun;
+use can_frame::OutOfMemory;
+use sja_driver::LoggedDriver;
+use sja_wire::NodeLog;
+use std::alloc::Global;
+
+/// How many links, and so activations, a node has.
+const LINKS: usize = 8;
+
+/// What became of each node, by what the bus left of it, its driver, and what lay downward on its links at the end of
+/// the run, of all that was put there: eight links a node, by node and activation (this project's own rule).
+///
+/// Error: [`OutOfMemory`] where memory was refused.
+pub fn node_runs(
+    alloc: Global,
+    logs: Vec<NodeLog>,
+    drivers: &[LoggedDriver],
+    lists: &[Lying],
+) -> Result<Vec<NodeRun>, OutOfMemory>
+    requires drivers { length drivers.now ≡ vec_len logs }
+    requires lists { length lists.now ≡ 8 * vec_len logs }
+    requires lawful { (k : ℕ) (d : Logged) → k < length drivers.now → IsLawful (slice_index_or drivers.now k d) }
+    ensures { IfOk result (λ runs. AreNodeEnds logs.items drivers.now lists.now (length drivers.now) runs.items) }
+{
+    let mut runs = Vec::with_capacity(alloc, drivers.len())?;
+    let mut node = 0;
+    for log in logs {
+        runs.push_reserved(node_run(alloc, log, &drivers[node], lists, LINKS * node)?);
+        node += 1;
+    }
+    Ok(runs)
+}
