@@ -8,8 +8,8 @@ use Rattle.sja_words.specs.Words.{Request, ParsesAs, run, wave}
 use Rattle.sja_log.specs.declared.run_fault.RunFault.{RunFault}
 use Rattle.sja_log.specs.declared.run_fault.RunFault.TheVariants.{Memory}
 use Rattle.sja_threads.specs.Stopping.{IsFaultOf}
-use Rattle.sja_run.specs.declared.refusal.Refusal.{Refusal}
-use Rattle.sja_run.specs.declared.refusal.Refusal.TheVariants as refusal
+use Rattle.sja_texts.specs.declared.refusal.Refusal.{Refusal}
+use Rattle.sja_texts.specs.declared.refusal.Refusal.TheVariants as refusal
 use Rattle.sja_run.specs.Answer.{AsksForRun, IsPrinted, IsRefused}
 use Rattle.sja_run.specs.Input.{ReadsFew}
 use Rattle.sja_run.specs.Run.{IsRunning, RefusesBy, RefusesRun}

@@ -1,5 +1,3 @@
-pub mod Symbols
 pub mod Few
 pub mod Memory
 pub mod Requests
-pub mod Spelled

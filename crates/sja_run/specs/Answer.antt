@@ -2,14 +2,14 @@
 use Rattle.std.specs.Prelude.{◌≡◌, ◌⊎◌, ℕ, Bool, true, false, List, Option, Some, None}
 use Rattle.std.specs.Io.KnownBytes.{Appends, Keeps}
 use Rattle.sja_words.specs.Words.{Request, encode, decode, filter, arbitrate, run, wave}
-use Rattle.sja_run.specs.declared.refusal.Refusal.{Refusal}
-use Rattle.sja_run.specs.declared.refusal.Refusal.TheVariants as refusal
-use Rattle.sja_run.specs.Arbitrate.{IsArbitration, RefusesMessages}
-use Rattle.sja_run.specs.Decode.{IsDecoding, RefusesLine}
-use Rattle.sja_run.specs.Encode.{IsEncoding}
-use Rattle.sja_run.specs.Filter.{IsFiltering, RefusesFilter}
-use Rattle.sja_run.specs.Message.{RefusesMessage}
-use Rattle.sja_run.specs.Refusal.{refusal_line}
+use Rattle.sja_texts.specs.declared.refusal.Refusal.{Refusal}
+use Rattle.sja_texts.specs.declared.refusal.Refusal.TheVariants as refusal
+use Rattle.sja_texts.specs.Arbitrate.{IsArbitration, RefusesMessages}
+use Rattle.sja_texts.specs.Decode.{IsDecoding, RefusesLine}
+use Rattle.sja_texts.specs.Encode.{IsEncoding}
+use Rattle.sja_texts.specs.Filter.{IsFiltering, RefusesFilter}
+use Rattle.sja_texts.specs.Message.{RefusesMessage}
+use Rattle.sja_texts.specs.Refusal.{refusal_line}
 use Rattle.sja_run.specs.Run.{IsRunning, RefusesRun}
 use Rattle.sja_run.specs.ThreadedRun.{IsRunningThreads, RefusesThreads}
 use Rattle.sja_run.specs.Wave.{IsWaving}

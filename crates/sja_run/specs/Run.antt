@@ -7,8 +7,8 @@ use Rattle.sja_report.specs.ReportLines.{report_text}
 use Rattle.sja_log.specs.Runs.{IsSerialRun}
 use Rattle.sja_log.specs.declared.run_fault.RunFault.{RunFault}
 use Rattle.sja_log.specs.declared.run_fault.RunFault.TheVariants.{Memory}
-use Rattle.sja_run.specs.declared.refusal.Refusal.{Refusal}
-use Rattle.sja_run.specs.declared.refusal.Refusal.TheVariants as refusal
+use Rattle.sja_texts.specs.declared.refusal.Refusal.{Refusal}
+use Rattle.sja_texts.specs.declared.refusal.Refusal.TheVariants as refusal
 use Rattle.sja_run.specs.Input.{IsRead, ReadsFew, BreaksOff}
 
 -- the bytes that were read are this plan

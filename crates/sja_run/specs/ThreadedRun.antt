@@ -2,7 +2,7 @@
 use Rattle.std.specs.Prelude.{ℕ, true, List, Option}
 use Rattle.sja_threads.specs.Stopping.{IsFaultOf}
 use Rattle.sja_threads.specs.Threads.{IsThreadedRun}
-use Rattle.sja_run.specs.declared.refusal.Refusal.{Refusal}
+use Rattle.sja_texts.specs.declared.refusal.Refusal.{Refusal}
 use Rattle.sja_run.specs.Run.{IsReportBy, RefusesBy}
 use Rattle.sja_run.specs.Input.{IsRead}
 

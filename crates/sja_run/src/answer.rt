@@ -4,13 +4,9 @@ ghost use Rattle.std.specs.Prelude.{◌≡◌, ◌⊎◌, IfOk, IfErr, true};
 ghost use Rattle.sja_words.specs.Words.{request_of, run};
 ghost use Rattle.sja_run.specs.Answer.{AsksForRun, IsPrinted, IsRefused};
 
-use super::arbitrate::arbitrated;
-use super::decode::decoded;
-use super::encode::encoded;
-use super::filter::filtered;
-use super::refusal::Refusal;
 use super::run::reported;
 use super::waving::waved;
+use sja_texts::{Refusal, arbitrated, decoded, encoded, filtered};
 use sja_words::Task;
 use std::alloc::Global;
 use std::io::Read;

@@ -4,8 +4,8 @@ ghost use Rattle.std.specs.Prelude.{◌≡◌, ◌<◌, ◌≤◌, ◌+◌, ℕ,
 ghost use Rattle.std.specs.Io.KnownBytes.{Consumes, IsAtEnd};
 ghost use Rattle.sja_run.specs.Run.{HoldsPlan, RefusesRun};
 
-use super::refusal::Refusal;
 use sja_plan::{Plan, read_plan};
+use sja_texts::Refusal;
 use std::alloc::Global;
 use std::io::Read;
 

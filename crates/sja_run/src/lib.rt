@@ -5,24 +5,15 @@
 //! What the words ask for is a [`Task`], from the crate `sja_words`. For `run` it reads a [`Plan`] from its input
 //! ([`read_plan`]), runs it in one thread ([`run_serial`]) and writes the report of the run's log ([`report`]); these
 //! calls are those of `sja_plan`, `sja_turns` and `sja_report`. For `wave` it writes the run's waveform ([`wave`]),
-//! that of `sja_wave`.
+//! that of `sja_wave`. The texts of the other commands, and of each refusal, are those of `sja_texts`.
 //!
 //! Its tests stand in `crates/sja_tests/src/program`.
 #![tactic(auto)]
 
 mod answer;
-mod arbitrate;
-mod bytes_text;
-mod decode;
-mod encode;
-mod filter;
 mod input;
-mod line_text;
-mod message;
 mod output;
-mod plan_fault_text;
 mod program;
-mod refusal;
 mod run;
 mod serial;
 mod threaded_run;
@@ -31,11 +22,11 @@ mod waving;
 
 pub use output::Output;
 pub use program::sja;
-pub use refusal::Refusal;
 pub use serial::sja_serial;
 pub use sja_log::{ActivationLog, End, NodeRun, RunFault, RunLog};
 pub use sja_plan::{Plan, PlanFault, Turn, read_plan};
 pub use sja_report::report;
+pub use sja_texts::Refusal;
 pub use sja_threads::run_threads;
 pub use sja_turns::run_serial;
 pub use sja_wave::wave;

@@ -2,9 +2,9 @@
 
 ghost use Rattle.std.specs.Prelude.{◌≡◌, false, true};
 ghost use Rattle.std.specs.Io.KnownBytes.{Appends};
-ghost use Rattle.sja_run.specs.Refusal.{refusal_line};
+ghost use Rattle.sja_texts.specs.Refusal.{refusal_line};
 
-use super::refusal::Refusal;
+use sja_texts::Refusal;
 use std::io::Write;
 
 /// A writer, and whether a write to it has failed.

@@ -4,8 +4,8 @@ ghost use Rattle.std.specs.Prelude.{IfOk, IfErr};
 ghost use Rattle.sja_run.specs.Run.{IsRunning, RefusesRun};
 
 use super::input::plan_of_input;
-use super::refusal::Refusal;
 use sja_report::report;
+use sja_texts::Refusal;
 use sja_turns::run_serial;
 use std::alloc::Global;
 use std::io::Read;

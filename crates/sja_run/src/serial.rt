@@ -7,7 +7,7 @@ ghost use Rattle.sja_run.specs.Input.{ReadsFew};
 
 use super::answer::printed;
 use super::output::Output;
-use super::refusal::Refusal;
+use sja_texts::Refusal;
 use sja_words::{Task, WordsFault, parse};
 use std::alloc::Global;
 use std::convert::AsStr;

@@ -4,9 +4,9 @@ ghost use Rattle.std.specs.Prelude.{◌≡◌, IfOk, IfErr, vec_len};
 ghost use Rattle.sja_run.specs.ThreadedRun.{IsRunningThreads, RefusesThreads};
 
 use super::input::plan_of_input;
-use super::refusal::Refusal;
 use super::tries::Tries;
 use sja_report::report;
+use sja_texts::Refusal;
 use sja_threads::run_threads;
 use std::alloc::{AllocError, Global};
 use std::io::Read;

@@ -5,7 +5,7 @@ ghost use Rattle.sja_run.specs.Run.{RefusesRun};
 ghost use Rattle.sja_run.specs.Wave.{IsWaving};
 
 use super::input::plan_of_input;
-use super::refusal::Refusal;
+use sja_texts::Refusal;
 use sja_turns::run_serial;
 use sja_wave::wave;
 use std::alloc::Global;

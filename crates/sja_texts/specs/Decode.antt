@@ -1,0 +1,32 @@
+-- What `decode` prints and refuses.
+use Rattle.std.specs.Prelude.{◌≡◌, ℕ, List, map}
+use Rattle.can_bits.specs.declared.level.Level.{Level}
+use Rattle.can_bits.specs.Reading.{IsReceived, IsFirstFault}
+use Rattle.can_frame.specs.Frame.{FrameValue}
+use Rattle.can_frame.specs.Message.{message}
+use Rattle.sja_texts.specs.declared.refusal.Refusal.{Refusal}
+use Rattle.sja_texts.specs.declared.refusal.Refusal.TheVariants.{OutOfMemory, NotHexadecimal, NotALine, Read}
+use Rattle.sja_texts.specs.declared.refusal.Refusal.TheVariants.{Layout, Line, Plan, Run}
+use Rattle.sja_texts.specs.BytesText.{bytes_text}
+use Rattle.sja_texts.specs.LineText.{symbol}
+
+-- the digits 0 and 1 of a text are these levels
+abbrev pub ReadsAsLevels : List ℕ → List Level → Type 0
+ReadsAsLevels digits levels = digits ≡ map symbol levels
+
+-- the text is the message of the frame whose acknowledged line the digits are
+abbrev pub IsDecoding : List ℕ → List ℕ → Type 0
+IsDecoding digits text =
+    (f : FrameValue) × (l : List Level) × ReadsAsLevels digits l × IsReceived f l × (text ≡ bytes_text (message f))
+
+-- why the digits are no received line: memory may be refused at any time; else they are no levels, or levels with this
+-- first fault
+abbrev pub RefusesLine : List ℕ → Refusal → Type 0
+RefusesLine digits OutOfMemory = Unit {0}
+RefusesLine digits NotALine = (l : List Level) → ¬ ReadsAsLevels digits l
+RefusesLine digits (Line fault) = (l : List Level) × ReadsAsLevels digits l × IsFirstFault l fault
+RefusesLine digits NotHexadecimal = ⊥
+RefusesLine digits Read = ⊥
+RefusesLine digits (Layout fault) = ⊥
+RefusesLine digits (Plan fault) = ⊥
+RefusesLine digits (Run fault) = ⊥

@@ -1,0 +1,55 @@
+//! `filter MODE ACR AMR MESSAGE`: whether an acceptance filter passes the message's frame.
+
+ghost use Rattle.std.specs.Prelude.{IfOk, IfErr};
+ghost use Rattle.can_frame.specs.Filter.{Passes};
+ghost use Rattle.sja_texts.specs.Filter.{IsFiltering, IsVerdict, ReadsAsRegisters, RefusesFilter};
+ghost use Rattle.sja_texts.specs.Filter.{RefusesRegisters};
+
+use super::message::message_of;
+use super::refusal::Refusal;
+use can_frame::{Filter, Frame};
+use std::alloc::Global;
+
+/// `pass` or `stop`, for a filter of this mode with the registers and the message that these digits spell. The digits
+/// are judged from left to right.
+pub fn filtered(
+    alloc: Global,
+    single: bool,
+    acr: &str,
+    amr: &str,
+    digits: &str,
+) -> Result<Vec<u8>, Refusal>
+    ensures ok { IfOk result (λ text. IsFiltering single acr.now amr.now digits.now text.items) }
+    ensures err { IfErr result (RefusesFilter acr.now amr.now digits.now) }
+{
+    let acr = registers_of(acr)?;
+    let amr = registers_of(amr)?;
+    let message = message_of(alloc, digits)?;
+    let filter = Filter { single, acr, amr };
+    let mut text = Vec::new(alloc);
+    text.extend_from_slice(verdict_of(&filter, &message.frame()).as_bytes())?;
+    Ok(text)
+}
+
+/// The four registers that these eight digits spell.
+fn registers_of(digits: &str) -> Result<[u8; 4], Refusal>
+    ensures ok { IfOk result (λ registers. ReadsAsRegisters digits.now registers) }
+    ensures err { IfErr result (RefusesRegisters digits.now) }
+{
+    let mut registers = [0; 4];
+    match hex::decode_to_slice(digits, &mut registers) {
+        Ok(()) => Ok(registers),
+        Err(_) => Err(Refusal::NotHexadecimal),
+    }
+}
+
+/// The line that says whether the filter passes the frame.
+fn verdict_of(filter: &Filter, frame: &Frame) -> &'static str
+    ensures { IsVerdict (Passes filter.now frame.now) result.now }
+{
+    if filter.passes(frame) {
+        "pass\n"
+    } else {
+        "stop\n"
+    }
+}

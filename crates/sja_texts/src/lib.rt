@@ -1,0 +1,23 @@
+//! What the program `sja` writes of one frame, of one line and of frames that contend, and of each refusal.
+//!
+//! [`encoded`], [`decoded`], [`filtered`] and [`arbitrated`] make the texts of four commands from the texts of their
+//! arguments. A [`Refusal`] says why a request has no answer, and shows as the text that the program writes of it.
+//!
+//! Their tests stand in `crates/sja_tests/src/program`.
+#![tactic(auto)]
+
+mod arbitrate;
+mod bytes_text;
+mod decode;
+mod encode;
+mod filter;
+mod line_text;
+mod message;
+mod plan_fault_text;
+mod refusal;
+
+pub use arbitrate::arbitrated;
+pub use decode::decoded;
+pub use encode::encoded;
+pub use filter::filtered;
+pub use refusal::Refusal;

@@ -1,0 +1,144 @@
+//! [`Refusal`]: why the program refuses, and the text that it writes of it.
+
+ghost use Rattle.std.specs.Prelude.{◌≡◌};
+ghost use Rattle.sja_texts.specs.Refusal.{layout_fault_text, run_fault_text};
+
+use super::plan_fault_text::PlanFaultText;
+use can_bits::LineFault;
+use can_frame::{LayoutFault, OutOfMemory};
+use sja_log::RunFault;
+use sja_plan::PlanFault;
+use std::alloc::AllocError;
+use std::fmt;
+
+/// Why the program refuses what it was asked for. It shows as the text that the program writes of it
+/// (this project's own rule).
+#[derive(Clone, Copy, Debug, PartialEq, Eq)]
+pub enum Refusal {
+    /// Memory was refused.
+    OutOfMemory,
+    /// A text isn't the number of hexadecimal digits that is needed.
+    NotHexadecimal,
+    /// A text has a character that isn't `0` or `1`.
+    NotALine,
+    /// The input can't be read.
+    Read,
+    /// Bytes are no message.
+    Layout(LayoutFault),
+    /// Levels are no acknowledged line.
+    Line(LineFault),
+    /// The input is no plan.
+    Plan(PlanFault),
+    /// A run has no log.
+    Run(RunFault),
+}
+
+impl fmt::Display for Refusal {
+    ghost use Rattle.std.specs.Prelude.{Some};
+    ghost use Rattle.sja_texts.specs.Refusal.{refusal_text};
+
+    ghost output = { λ refusal. Some (refusal_text refusal) };
+
+    fn fmt<W: fmt::Write>(&self, f: &mut fmt::Formatter<W>) -> fmt::Result {
+        match self {
+            Refusal::OutOfMemory => f.write_str("out of memory"),
+            Refusal::NotHexadecimal => f.write_str("not hexadecimal"),
+            Refusal::NotALine => f.write_str("not a line"),
+            Refusal::Read => f.write_str("read fault"),
+            Refusal::Layout(fault) => f.write_str(layout_fault_text(*fault)),
+            Refusal::Line(LineFault::Stuff(at)) => write!(f, "line fault 1 Stuff at {at}"),
+            Refusal::Line(LineFault::Form(at)) => write!(f, "line fault 2 Form at {at}"),
+            Refusal::Line(LineFault::Crc) => f.write_str("line fault 3 Crc"),
+            Refusal::Line(LineFault::NoAck) => f.write_str("line fault 4 NoAck"),
+            Refusal::Line(LineFault::Truncated) => f.write_str("line fault 5 Truncated"),
+            Refusal::Line(LineFault::Trailing(at)) => write!(f, "line fault 6 Trailing at {at}"),
+            Refusal::Plan(fault) => write!(f, "{}", PlanFaultText(*fault)),
+            Refusal::Run(fault) => f.write_str(run_fault_text(*fault)),
+        }
+    }
+}
+
+/// What is wrong with the layout of a message.
+fn layout_fault_text(fault: LayoutFault) -> &'static str
+    ensures { result.now ≡ layout_fault_text fault }
+{
+    match fault {
+        LayoutFault::Short => "layout fault 1 Short",
+        LayoutFault::Long => "layout fault 2 Long",
+        LayoutFault::UnusedBit => "layout fault 3 UnusedBit",
+        LayoutFault::RtrDisagrees => "layout fault 4 RtrDisagrees",
+    }
+}
+
+/// Why a run has no log.
+fn run_fault_text(fault: RunFault) -> &'static str
+    ensures { result.now ≡ run_fault_text fault }
+{
+    match fault {
+        RunFault::Memory => "out of memory",
+        RunFault::GateCount => "run fault 2 GateCount",
+        RunFault::Bus(_) => "run fault 3 Bus",
+        RunFault::Thread => "run fault 4 Thread",
+        RunFault::Unsettled => "run fault 5 Unsettled",
+    }
+}
+
+impl From<AllocError> for Refusal {
+    ghost use Rattle.sja_texts.specs.declared.refusal.Refusal.TheVariants as refusal;
+
+    ghost from_gives = { λ _ given. given ≡ refusal.OutOfMemory };
+
+    fn from(_error: AllocError) -> Refusal {
+        Refusal::OutOfMemory
+    }
+}
+
+impl From<OutOfMemory> for Refusal {
+    ghost use Rattle.sja_texts.specs.declared.refusal.Refusal.TheVariants as refusal;
+
+    ghost from_gives = { λ _ given. given ≡ refusal.OutOfMemory };
+
+    fn from(_error: OutOfMemory) -> Refusal {
+        Refusal::OutOfMemory
+    }
+}
+
+impl From<LayoutFault> for Refusal {
+    ghost use Rattle.sja_texts.specs.declared.refusal.Refusal.TheVariants as refusal;
+
+    ghost from_gives = { λ fault given. given ≡ refusal.Layout fault };
+
+    fn from(fault: LayoutFault) -> Refusal {
+        Refusal::Layout(fault)
+    }
+}
+
+impl From<LineFault> for Refusal {
+    ghost use Rattle.sja_texts.specs.declared.refusal.Refusal.TheVariants as refusal;
+
+    ghost from_gives = { λ fault given. given ≡ refusal.Line fault };
+
+    fn from(fault: LineFault) -> Refusal {
+        Refusal::Line(fault)
+    }
+}
+
+impl From<PlanFault> for Refusal {
+    ghost use Rattle.sja_texts.specs.declared.refusal.Refusal.TheVariants as refusal;
+
+    ghost from_gives = { λ fault given. given ≡ refusal.Plan fault };
+
+    fn from(fault: PlanFault) -> Refusal {
+        Refusal::Plan(fault)
+    }
+}
+
+impl From<RunFault> for Refusal {
+    ghost use Rattle.sja_texts.specs.declared.refusal.Refusal.TheVariants as refusal;
+
+    ghost from_gives = { λ fault given. given ≡ refusal.Run fault };
+
+    fn from(fault: RunFault) -> Refusal {
+        Refusal::Run(fault)
+    }
+}
