@@ -1,4 +1,4 @@
-//! The tests of runs: [`turns`] those of `sja_turns`, [`reports`] of `sja_report`, [`waves`] of `sja_wave`, [`threads`]
+//! The tests of runs: [`turns`] those of `sja_serial`, [`reports`] of `sja_report`, [`waves`] of `sja_wave`, [`threads`]
 //! of `sja_threads`. [`rings`] has plans that are run over links of two rings in one thread, by a turn loop of the tests'
 //! own. Whole runs with their reports stand in `sja_tests`.
 //!

@@ -4,7 +4,7 @@
 //! or one line to its error output, and answers the exit status. [`Output`] is a writer that remembers a failed write.
 //! What the words ask for is a [`Task`], from the crate `sja_words`. For `run` it reads a [`Plan`] from its input
 //! ([`read_plan`]), runs it in one thread ([`run_serial`]) and writes the report of the run's log ([`report`]); these
-//! calls are those of `sja_plan`, `sja_turns` and `sja_report`. For `wave` it writes the run's waveform ([`wave`]),
+//! calls are those of `sja_plan`, `sja_serial` and `sja_report`. For `wave` it writes the run's waveform ([`wave`]),
 //! that of `sja_wave`. The texts of the other commands, and of each refusal, are those of `sja_texts`.
 //!
 //! Its tests stand in `crates/sja_tests/src/program`.
@@ -26,9 +26,9 @@ pub use serial::sja_serial;
 pub use sja_log::{ActivationLog, End, NodeRun, RunFault, RunLog};
 pub use sja_plan::{Plan, PlanFault, Turn, read_plan};
 pub use sja_report::report;
+pub use sja_serial::run_serial;
 pub use sja_texts::Refusal;
 pub use sja_threads::run_threads;
-pub use sja_turns::run_serial;
 pub use sja_wave::wave;
 pub use sja_words::{Task, WordsFault, parse};
 pub use tries::Tries;

@@ -5,8 +5,8 @@ ghost use Rattle.sja_run.specs.Run.{IsRunning, RefusesRun};
 
 use super::input::plan_of_input;
 use sja_report::report;
+use sja_serial::run_serial;
 use sja_texts::Refusal;
-use sja_turns::run_serial;
 use std::alloc::Global;
 use std::io::Read;
 

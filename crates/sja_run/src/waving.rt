@@ -5,8 +5,8 @@ ghost use Rattle.sja_run.specs.Run.{RefusesRun};
 ghost use Rattle.sja_run.specs.Wave.{IsWaving};
 
 use super::input::plan_of_input;
+use sja_serial::run_serial;
 use sja_texts::Refusal;
-use sja_turns::run_serial;
 use sja_wave::wave;
 use std::alloc::Global;
 use std::io::Read;

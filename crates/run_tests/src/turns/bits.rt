@@ -1,7 +1,7 @@
 //! Turns of the bus.
 
 use sja_plan::read_plan;
-use sja_turns::SerialRun;
+use sja_serial::SerialRun;
 use std::test::Fail;
 
 /// A node that starts, and asks for a frame that nobody acknowledges.

@@ -1,7 +1,7 @@
 //! Turns of nodes.
 
 use sja_plan::read_plan;
-use sja_turns::SerialRun;
+use sja_serial::SerialRun;
 use std::test::Fail;
 
 /// Two nodes: one starts, asks, waits until its frame is sent and starts once more, and one awaits a message.

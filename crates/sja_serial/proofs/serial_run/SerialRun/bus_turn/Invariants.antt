@@ -1,0 +1,16 @@
+use Rattle.std.proofs.Common.{◌≡◌, ℕ, List, ◌+◌, ◌≤◌, ◌-◌}
+use Rattle.sja_driver.specs.Deeds.{Deed}
+use Rattle.sja_serial.specs.Serial.{SerialValue, StandsAt}
+use Rattle.sja_serial.proofs.SomeBits.{SomeBits}
+use Rattle.sja_serial.proofs.serial_run.SerialRun.bus_turn.Given as goal
+
+abbrev pub invariant-loop-run : goal.invariant-loop-run
+invariant-loop-run l = record {
+  most : l.run ≤ l.count;
+  some : (deeds : List (List Deed)) → StandsAt l.plan l.initial.self deeds →
+      (more : ℕ) × (l.run ≡ l.initial.run + more)
+      × SomeBits l.plan deeds (λ (r : SerialValue). Unit {0}) l.initial.self l.self more;
+}
+
+abbrev pub decreases-loop-run : goal.decreases-loop-run
+decreases-loop-run l = l.count - l.run

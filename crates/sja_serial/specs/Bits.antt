@@ -1,0 +1,68 @@
+-- What bits do to a run in one thread (this project's own rule).
+use Rattle.std.specs.Prelude.{◌≡◌, ◌≢◌, ◌+◌, ◌<◌, ◌≤◌, ◌++◌, ℕ, suc, true, false, Bool, List, length}
+use Rattle.can_bits.specs.declared.level.Level.{Level}
+use Rattle.sja_link.specs.declared.entry.Entry.{Entry}
+use Rattle.sja_link.specs.Records.{record_of}
+use Rattle.sja_wire.specs.OneBit.{abort_as, HasBit}
+use Rattle.sja_bus.specs.Resting.{RestsAs}
+use Rattle.sja_wire.specs.Wire.{journal_at}
+use Rattle.sja_plan.specs.Plan.{PlanValue}
+use Rattle.sja_driver.specs.Deeds.{Deed}
+use Rattle.sja_serial.specs.Serial.{SerialValue, StandsAt}
+
+-- a journal has one bit more: an abort that changed the node or none, the bit, and what came of it. No item was taken
+pub record HasOneBit (j k : List Entry) : Type 0 where
+  pub changed : Bool
+  pub driven : Level
+  pub seen : Level
+  pub bit : HasBit (j ++ abort_as changed) driven seen k
+
+-- one bit of a run, whose drivers did these deeds and nothing more
+pub record TakesBit (plan : PlanValue) (deeds : List (List Deed)) (was now : SerialValue) : Type 0 where
+  pub stands : StandsAt plan now deeds
+  pub bits : now.bits ≡ was.bits + 1
+  pub nodes : (node : ℕ) → node < length plan.nodes →
+      HasOneBit (journal_at was.bus.journals node) (journal_at now.bus.journals node)
+
+-- so many bits, before each of which this held
+pub data TakesBits (plan : PlanValue) (deeds : List (List Deed)) (Before : SerialValue → Type 0) :
+    SerialValue → ℕ → SerialValue → Type 0 where
+  no_bit : (r : SerialValue) → TakesBits plan deeds Before r 0 r
+  one_more : (was mid now : SerialValue) (n : ℕ) → TakesBits plan deeds Before was n mid → Before mid →
+      TakesBit plan deeds mid now → TakesBits plan deeds Before was (suc n) now
+
+-- so many bits were run at once, at most as many as were asked for. Where there were none, neither the bits nor a
+-- journal changed
+pub record TakesAtOnce (plan : PlanValue) (deeds : List (List Deed)) (was now : SerialValue)
+    (most run : ℕ) : Type 0 where
+  pub within : run ≤ most
+  pub stands : StandsAt plan now deeds
+  pub none : run ≡ 0 → (now.bits ≡ was.bits) × (now.bus.journals ≡ was.bus.journals)
+  pub some : run ≢ 0 → TakesBits plan deeds (λ r. Unit {0}) was run now
+
+-- every node is at rest
+abbrev pub AllRest : PlanValue → SerialValue → Type 0
+AllRest plan r =
+    (node : ℕ) → node < length plan.nodes → RestsAs (record_of (journal_at r.bus.journals node)) true
+
+-- some node isn't
+abbrev pub SomeWorks : PlanValue → SerialValue → Type 0
+SomeWorks plan r =
+    (node : ℕ) × (node < length plan.nodes) × RestsAs (record_of (journal_at r.bus.journals node)) false
+
+-- ---- turns
+
+-- `bus` runs so many bits, or as many as are left
+pub record TakesBusTurn (plan : PlanValue) (deeds : List (List Deed)) (was now : SerialValue) (count : ℕ) (all : Bool) :
+    Type 0 where
+  pub run : ℕ
+  pub bits : TakesBits plan deeds (λ r. Unit {0}) was run now
+  pub whole : all ≡ true → run ≡ count
+  pub spent : all ≡ false → (run < count) × (now.bits ≡ plan.bits)
+
+-- `rest` runs bits until every node is at rest, or the bits are spent
+pub record TakesRest (plan : PlanValue) (deeds : List (List Deed)) (was now : SerialValue) (rests : Bool) : Type 0 where
+  pub run : ℕ
+  pub bits : TakesBits plan deeds (SomeWorks plan) was run now
+  pub whole : rests ≡ true → AllRest plan now
+  pub spent : rests ≡ false → SomeWorks plan now × (now.bits ≡ plan.bits)

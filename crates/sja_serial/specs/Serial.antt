@@ -1,0 +1,97 @@
+-- A run in one thread, between two turns (this project's own rule).
+use Rattle.std.specs.Prelude.{◌≡◌, ◌+◌, ◌*◌, ◌<◌, ◌≤◌, ◌++◌, ◌⊎◌, ℕ, false, None, List, []}
+use Rattle.std.specs.Prelude.{length, slice_index_or, slice_set}
+use Rattle.sja_link.specs.declared.up.Up.{Up}
+use Rattle.sja_link.specs.declared.entry.Entry.{Entry}
+use Rattle.sja_link.specs.Deques.{Deques}
+use Rattle.sja_bus.specs.Buses.{BusValue, untold_at}
+use Rattle.sja_wire.specs.Links.{Numbered}
+use Rattle.sja_wire.specs.OneBit.{entries_of_items}
+use Rattle.sja_wire.specs.Wire.{journal_at}
+use Rattle.sja_plan.specs.Plan.{PlanValue, steps_at}
+use Rattle.sja_regs.specs.declared.registers.Registers.{Registers}
+use Rattle.sja_script.specs.declared.step.Step.{Step}
+use Rattle.sja_driver.specs.declared.logged_driver.LoggedDriver.{LoggedDriver}
+use Rattle.sja_driver.specs.Deeds.{Deed, deeds_at}
+use Rattle.sja_driver.specs.LoggedDrivers.{node_of}
+use Rattle.sja_serial.specs.Nodes.{IsNode}
+use Rattle.sja_serial.specs.Shown.{ShowsRecord}
+use Rattle.sja_serial.specs.Waiting.{HasToWait}
+
+-- what a contract sees of a run: its bus, the drivers, their ports and their links by node, and the bits that were run
+pub record SerialValue : Type 0 where
+  pub bus : BusValue
+  pub drivers : List LoggedDriver
+  pub ports : List Registers
+  pub links : List Deques
+  pub bits : ℕ
+
+abbrev pub run_now : BusValue → List LoggedDriver → List Registers → List Deques → ℕ → SerialValue
+run_now bus drivers ports links bits = record {
+  bus = bus;
+  drivers = drivers;
+  ports = ports;
+  links = links;
+  bits = bits;
+}
+
+-- as many of each as the plan has nodes
+pub record HasNodes (nodes : ℕ) (r : SerialValue) : Type 0 where
+  pub journals : length r.bus.journals ≡ nodes
+  pub drivers : length r.drivers ≡ nodes
+  pub ports : length r.ports ≡ nodes
+  pub links : length r.links ≡ 8 * nodes
+
+-- the run of a plan stands where its drivers did these deeds, a list for each node
+pub record StandsAt (plan : PlanValue) (r : SerialValue) (deeds : List (List Deed)) : Type 0 where
+  pub right : r.bus.fault ≡ None
+  pub script : r.bus.script ≡ plan.strikes
+  pub all_bits : r.bus.run + r.bus.left ≡ plan.bits
+  pub bits : r.bits ≡ r.bus.run
+  pub count : HasNodes (length plan.nodes) r
+  pub deeds_count : length deeds ≡ length plan.nodes
+  pub ids : Numbered (λ (s : Deques). s.link) r.links
+  pub own : (node : ℕ) (d : LoggedDriver) → node < length plan.nodes → node_of (slice_index_or r.drivers node d) ≡ node
+  pub nodes : (node : ℕ) (d : LoggedDriver) (p : Registers) → node < length plan.nodes →
+      IsNode plan.version (steps_at plan node) (journal_at r.bus.journals node) (deeds_at deeds node)
+      (slice_index_or r.drivers node d) (slice_index_or r.ports node p) r.links (8 * node)
+  -- where nothing is untold of a node its port shows what the node's record says
+  pub shown : (node : ℕ) (p : Registers) → node < length plan.nodes → untold_at r.bus.untold node ≡ false →
+      ShowsRecord (journal_at r.bus.journals node) (slice_index_or r.ports node p)
+
+-- there are such deeds
+abbrev pub IsRunOf : PlanValue → SerialValue → Type 0
+IsRunOf plan r = (deeds : List (List Deed)) × StandsAt plan r deeds
+
+-- with deeds more of one node
+abbrev pub with_deeds : List (List Deed) → ℕ → List Deed → List (List Deed)
+with_deeds deeds node more = slice_set deeds node (deeds_at deeds node ++ more)
+
+-- a journal has these items more, and nothing else
+pub record HasMore (j k : List Entry) : Type 0 where
+  pub items : List Up
+  pub whole : k ≡ j ++ entries_of_items items
+
+-- these deeds were done then: the driver of this node did them after the bits that had run, and no bit was run; the
+-- journals have items more
+pub record Does (plan : PlanValue) (was now : SerialValue) (node : ℕ) (deeds : List (List Deed))
+    (more : List Deed) : Type 0 where
+  pub stands : StandsAt plan now (with_deeds deeds node more)
+  pub at_once : (i : ℕ) (d : Deed) → i < length more → (slice_index_or more i d).bits ≡ was.bits
+  pub bits : now.bits ≡ was.bits
+  pub items : (m : ℕ) → m < length plan.nodes → HasMore (journal_at was.bus.journals m) (journal_at now.bus.journals m)
+
+-- the driver of a node has no step left, or its next one has to wait
+abbrev pub IsStuck : PlanValue → SerialValue → List (List Deed) → ℕ → Type 0
+IsStuck plan r deeds node =
+    (length (steps_at plan node) ≤ length (deeds_at deeds node))
+    ⊎ ((s : Step) (p : Registers) → HasToWait (journal_at r.bus.journals node) (deeds_at deeds node)
+    (slice_index_or r.ports node p) (slice_index_or (steps_at plan node) (length (deeds_at deeds node)) s))
+
+-- one turn of a node: these deeds more, at most so many; fewer only where the driver is stuck
+pub record TakesTurn (plan : PlanValue) (was now : SerialValue) (node count : ℕ)
+    (deeds : List (List Deed)) : Type 0 where
+  pub more : List Deed
+  pub does : Does plan was now node deeds more
+  pub most : length more ≤ count
+  pub stuck : length more < count → IsStuck plan now (with_deeds deeds node more) node
