@@ -4,9 +4,9 @@ ghost use Rattle.std.specs.Prelude.{◌≡◌, ◌<◌, ◌+◌, ◌^◌, ◌++�
 ghost use Rattle.sja_report.specs.ReportLines.{line_text, lines_text, numbered, node_line, step_line};
 ghost use Rattle.sja_report.specs.ReportLines.{step_lines, counts_line, message_line, message_lines};
 
-use super::node_run::NodeRun;
 use super::words::{put_answer, put_bytes};
 use can_frame::Message;
+use sja_log::NodeRun;
 use sja_script::Done;
 use std::alloc::AllocError;
 use std::fmt::Write;

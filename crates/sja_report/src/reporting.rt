@@ -6,14 +6,11 @@ ghost use Rattle.sja_report.specs.ReportLines.{lines_text, line_text, numbered, 
 ghost use Rattle.sja_report.specs.ReportLines.{activation_lines, node_lines, report_text};
 ghost use Rattle.sja_report.specs.Inside.Tallies.{tally_value, no_tally, tallied, activation_lines_of, tallied_lines};
 
-use super::activation_log::ActivationLog;
-use super::end::End;
 use super::lines::{put_counts_line, put_messages, put_node_line, put_steps};
-use super::node_run::NodeRun;
-use super::run_log::RunLog;
 use super::tally::Tally;
 use super::tallying::tallies_of;
 use can_frame::OutOfMemory;
+use sja_log::{ActivationLog, End, NodeRun, RunLog};
 use std::alloc::{AllocError, Global};
 use std::fmt::Write;
 

@@ -11,9 +11,8 @@ ghost use Rattle.sja_log.specs.declared.run_fault.RunFault.TheVariants.{Memory};
 ghost use Rattle.sja_serial.specs.Ending.{TakesTurns, TakesOne};
 ghost use Rattle.sja_serial.specs.Serial.{StandsAt, IsRunOf};
 
-use super::run_fault::RunFault;
 use super::serial_run::SerialRun;
-use sja_log::{End, RunLog};
+use sja_log::{End, RunFault, RunLog};
 use sja_plan::{Plan, Turn};
 use std::alloc::Global;
 

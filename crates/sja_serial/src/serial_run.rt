@@ -1,11 +1,12 @@
 //! [`SerialRun`]: a run in one thread, as far as it has come.
 
-use super::beginning::{new_drivers, script_of};
+use super::beginning::new_drivers;
 use super::stepping::take_turn;
 use can_frame::OutOfMemory;
 use sja_bus::{Bus, SerialBoard, serial_links};
 use sja_driver::LoggedDriver;
 use sja_link::DequeLink;
+use sja_log::script_of;
 use sja_plan::Plan;
 use std::alloc::Global;
 use std::marker::Model;
