@@ -1,3 +1,4 @@
+pub mod EndWord
 pub mod Log
 -- ---- the headline, and what it is by
 pub mod Headline

@@ -15,7 +15,7 @@ pub enum End {
 
 impl fmt::Display for End {
     ghost use Rattle.std.specs.Prelude.{Some};
-    ghost use Rattle.sja_report.specs.ReportWords.{end_word};
+    ghost use Rattle.sja_log.specs.EndWord.{end_word};
 
     ghost output = { λ end. Some (end_word end) };
 

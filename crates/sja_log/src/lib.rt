@@ -17,7 +17,7 @@ mod ending;
 mod laws;
 mod lying;
 mod node_run;
-mod node_runs;
+mod nodes;
 mod run_fault;
 mod run_log;
 mod strikes;
@@ -30,7 +30,7 @@ pub use laws::{
 };
 pub use lying::Lying;
 pub use node_run::NodeRun;
-pub use node_runs::node_runs;
+pub use nodes::node_runs;
 pub use run_fault::RunFault;
 pub use run_log::RunLog;
 pub use strikes::script_of;

@@ -1,21 +1,32 @@
--- What the driver alone sets of a port's registers (this project's own rule): a turn of the bus asks for none of it,
--- and changes none of it but RM, at bus-off.
+-- What the driver alone sets of a port's registers (this project's own rule): a turn of the bus changes none of it but
+-- RM, at bus-off.
 use Rattle.std.specs.Prelude.{◌≡◌, ◌||◌, ◌&&◌, not, ℕ, true, if◌then◌else◌, List}
+use Rattle.sja_regs.specs.declared.interrupts.Interrupts.{Interrupts}
 use Rattle.sja_regs.specs.declared.mode.Mode.{Mode}
 use Rattle.sja_regs.specs.declared.registers.Registers.{Registers}
 use Rattle.sja_regs.specs.Registers.{after_entering_reset}
 
--- the version of the model, MOD, the acceptance codes and masks, and the transmit buffer
+-- the version of the model, MOD, IER, EWLR, the acceptance codes and masks, and the transmit buffer
 pub record SettingsValue : Type 0 where
   pub version : ℕ
   pub mode : Mode
+  pub enabled : Interrupts
+  pub ewlr : ℕ
   pub acr : List ℕ
   pub amr : List ℕ
   pub buffer : List ℕ
 
 -- those of these registers
 abbrev pub settings_in : Registers → SettingsValue
-settings_in p = record { version = p.version; mode = p.mode; acr = p.acr; amr = p.amr; buffer = p.buffer }
+settings_in p = record {
+  version = p.version;
+  mode = p.mode;
+  enabled = p.enabled;
+  ewlr = p.ewlr;
+  acr = p.acr;
+  amr = p.amr;
+  buffer = p.buffer;
+}
 
 -- these registers have these settings; reset mode may have been entered since
 pub record HasSettings (p : Registers) (s : SettingsValue) : Type 0 where
@@ -24,6 +35,8 @@ pub record HasSettings (p : Registers) (s : SettingsValue) : Type 0 where
   pub self_test : p.mode.stm ≡ s.mode.stm
   pub filter_mode : p.mode.afm ≡ s.mode.afm
   pub reset : s.mode.rm ≡ true → p.mode.rm ≡ true
+  pub enabled : p.enabled ≡ s.enabled
+  pub ewlr : p.ewlr ≡ s.ewlr
   pub acr : p.acr ≡ s.acr
   pub amr : p.amr ≡ s.amr
   pub buffer : p.buffer ≡ s.buffer
@@ -38,6 +51,8 @@ with_settings p s =
     record (with_reset p s) {
       version = s.version;
       mode = record s.mode { rm = s.mode.rm || p.mode.rm };
+      enabled = s.enabled;
+      ewlr = s.ewlr;
       acr = s.acr;
       amr = s.amr;
       buffer = s.buffer;

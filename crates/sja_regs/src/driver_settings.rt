@@ -1,19 +1,22 @@
 //! [`DriverSettings`]: what the driver alone sets of a port's registers.
 
+use super::interrupts::Interrupts;
 use super::mode::Mode;
 use super::port::Port;
 use super::registers::Registers;
 use std::marker::Model;
 
-/// What the driver alone sets of a port's registers (this project's own rule): the version of the model, MOD, the
-/// acceptance codes and masks, and the transmit buffer. A turn of the bus asks for none of it, and changes none of it
-/// but RM, at bus-off. A driver whose port stands behind a lock keeps them beside it.
+/// What the driver alone sets of a port's registers (this project's own rule): the version of the model, MOD, IER, EWLR,
+/// the acceptance codes and masks, and the transmit buffer. A turn of the bus changes none of it but RM, at bus-off. A
+/// driver whose port stands behind a lock keeps them beside it.
 ///
 /// Contracts see them as `SettingsValue`.
 #[derive(Debug, Drop)]
 pub struct DriverSettings {
     pub(crate) version: u8,
     pub(crate) mode: Mode,
+    pub(crate) enabled: Interrupts,
+    pub(crate) ewlr: u8,
     pub(crate) acr: [u8; 4],
     pub(crate) amr: [u8; 4],
     pub(crate) buffer: [u8; 13],
@@ -28,6 +31,8 @@ impl Model for DriverSettings {
     ghost view = { λ s. record {
       version = s.version;
       mode = s.mode;
+      enabled = s.enabled;
+      ewlr = s.ewlr;
       acr = s.acr;
       amr = s.amr;
       buffer = s.buffer;
@@ -41,7 +46,8 @@ impl DriverSettings {
     ghost use Rattle.sja_regs.specs.Registers.{at_power_on};
     ghost use Rattle.sja_regs.specs.DriverSettings.{settings_in};
 
-    /// Those of a port after power-on: reset mode, ACR 0, AMR ff and a transmit buffer of 0.
+    /// Those of a port after power-on: reset mode, no interrupt enabled, EWLR 60 (hexadecimal), ACR 0, AMR ff and a
+    /// transmit buffer of 0.
     pub fn at_power_on(version: u8) -> DriverSettings
         ensures { result ≡ settings_in (at_power_on version) }
     {
@@ -61,6 +67,8 @@ impl Port {
         DriverSettings {
             version: registers.version,
             mode: registers.mode,
+            enabled: registers.enabled,
+            ewlr: registers.ewlr,
             acr: registers.acr,
             amr: registers.amr,
             buffer: registers.buffer,
@@ -82,6 +90,8 @@ impl Port {
             rm,
             ..settings.mode
         };
+        registers.enabled = settings.enabled;
+        registers.ewlr = settings.ewlr;
         registers.acr = settings.acr;
         registers.amr = settings.amr;
         registers.buffer = settings.buffer;

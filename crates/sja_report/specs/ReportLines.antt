@@ -8,7 +8,8 @@ use Rattle.sja_link.specs.Free.{free_of}
 use Rattle.sja_script.specs.declared.done.Done.{Done}
 use Rattle.sja_log.specs.declared.end.End.{End}
 use Rattle.sja_log.specs.Log.{ActivationValue, NodeValue, RunValue}
-use Rattle.sja_report.specs.ReportWords.{end_word, message_words, answer_words}
+use Rattle.sja_log.specs.EndWord.{end_word}
+use Rattle.sja_report.specs.ReportWords.{message_words, answer_words}
 
 -- ---- texts
 

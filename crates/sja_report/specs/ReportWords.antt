@@ -5,14 +5,6 @@ use Rattle.sja_script.specs.Refusals.{refusal_name}
 use Rattle.sja_script.specs.declared.step_answer.StepAnswer.{StepAnswer}
 use Rattle.sja_script.specs.declared.step_answer.StepAnswer.TheVariants.{Done as IsDone, NoMessage}
 use Rattle.sja_script.specs.declared.step_answer.StepAnswer.TheVariants.{Shown, Released, Value, Refused}
-use Rattle.sja_log.specs.declared.end.End.{End}
-use Rattle.sja_log.specs.declared.end.End.TheVariants.{Turns, Rest, Bits}
-
--- why a run ended
-abbrev pub end_word : End → List ℕ
-end_word Turns = codes "turns"
-end_word Rest = codes "rest"
-end_word Bits = codes "bits"
 
 -- a byte: two hexadecimal digits, in lower case
 abbrev pub byte_word : ℕ → List ℕ

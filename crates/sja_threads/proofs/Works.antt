@@ -50,7 +50,15 @@ any_of (x ∷ xs) many = x
 -- some registers with these settings
 abbrev pub registers_with : SettingsValue → Registers
 registers_with s =
-    record (at_power_on 1) { version = s.version; mode = s.mode; acr = s.acr; amr = s.amr; buffer = s.buffer }
+    record (at_power_on 1) {
+      version = s.version;
+      mode = s.mode;
+      enabled = s.enabled;
+      ewlr = s.ewlr;
+      acr = s.acr;
+      amr = s.amr;
+      buffer = s.buffer;
+    }
 
 pub has_those : (s : SettingsValue) → HasSettings (registers_with s) s
 has_those s = record {
@@ -59,6 +67,8 @@ has_those s = record {
   self_test = refl;
   filter_mode = refl;
   reset = λ e. e;
+  enabled = refl;
+  ewlr = refl;
   acr = refl;
   amr = refl;
   buffer = refl;

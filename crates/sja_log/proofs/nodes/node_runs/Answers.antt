@@ -7,7 +7,7 @@ use Rattle.sja_driver.specs.declared.logged_driver.LoggedDriver.{LoggedDriver}
 use Rattle.sja_log.specs.Log.{NodeValue}
 use Rattle.sja_log.specs.Finishing.{IsNodeEnd, AreNodeEnds}
 use Rattle.sja_log.proofs.Logging.{nodes_push, next_of}
-use Rattle.sja_log.proofs.node_runs.node_runs.Goals as goal
+use Rattle.sja_log.proofs.nodes.node_runs.Goals as goal
 
 pub loop-log-preserved : goal.loop-log-preserved
 loop-log-preserved c =

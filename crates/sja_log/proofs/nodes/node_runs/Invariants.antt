@@ -1,7 +1,7 @@
 use Rattle.std.proofs.Common.{◌≡◌, ◌≤◌, vec_capacity, length, drop}
 use Rattle.std.specs.Vec.Iter.{into_iter_items}
 use Rattle.sja_log.specs.Finishing.{AreNodeEnds}
-use Rattle.sja_log.proofs.node_runs.node_runs.Given as goal
+use Rattle.sja_log.proofs.nodes.node_runs.Given as goal
 
 abbrev pub invariant-loop-log : goal.invariant-loop-log
 invariant-loop-log l = record {
