@@ -194,8 +194,8 @@ pub(crate) fn work_from<D: DriverEnd + Drop, G: Gate>(
 ///
 /// `links` are the driver's ends of the node's eight links, by activation. The port's lock is held over a try, but not
 /// over one of `Window` or `Release`. The driver begins with what it finds set at the port, and from then on what it
-/// sets is its own: mode bits, IER, EWLR, acceptance filter, transmit buffer and version. The log is empty, with room for all
-/// steps; no step takes memory.
+/// sets is its own: mode bits, IER, EWLR, acceptance filter, transmit buffer and version. The log is empty, with room
+/// for all steps; no step takes memory.
 pub fn work<D: DriverEnd + Drop, G: Gate>(
     rt: &impl Wait,
     node: u8,
