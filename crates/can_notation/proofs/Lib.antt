@@ -1,0 +1,6 @@
+pub mod DigitLemmas
+pub mod DataLemmas
+pub mod IdentifierLemmas
+pub mod RestLemmas
+pub mod HashLemmas
+pub mod FrameLemmas

@@ -1,0 +1,4 @@
+use Rattle.can_notation.proofs.digits.+push_digits.Given as goal
+
+abbrev pub decreases-push_digits : goal.decreases-push_digits
+decreases-push_digits l = l.count

@@ -1,0 +1,25 @@
+//! One hexadecimal digit, written and read.
+
+ghost use Rattle.std.specs.Prelude.{◌≡◌, ◌≢◌, ◌<◌, ℕ, IfSome, IfNone};
+ghost use Rattle.can_notation.specs.Digits.{digit_of, capital};
+
+/// The upper-case digit of a number.
+pub fn digit_of(n: u8) -> u8
+    requires { n < 16 }
+    ensures { result ≡ digit_of n }
+{
+    if n < 10 { b'0' + n } else { b'A' + (n - 10) }
+}
+
+/// The number that a digit stands for, in either case.
+pub fn value_of(digit: u8) -> Option<u8>
+    ensures some { IfSome result (λ n. (n < 16) × (capital digit ≡ digit_of n)) }
+    ensures none { IfNone result ((n : ℕ) → n < 16 → capital digit ≢ digit_of n) }
+{
+    match digit {
+        b'0'..=b'9' => Some(digit - b'0'),
+        b'A'..=b'F' => Some(digit - b'A' + 10),
+        b'a'..=b'f' => Some(digit - b'a' + 10),
+        _ => None,
+    }
+}
