@@ -1,7 +1,7 @@
 -- What some words ask for, by computing the parser's answer.
 use Rattle.std.proofs.Common.{◌≡◌, ◌==◌, ℕ, List, [], ◌∷◌, codes, refl, false, true, Some}
 use Rattle.clap.proofs.OnLiterals.{clap_on_literals}
-use Rattle.sja_words.specs.Words.{Request, ParsesAs, encode, run, wave, asked, faults}
+use Rattle.sja_words.specs.Words.{Request, ParsesAs, decode, encode, run, wave, asked, faults}
 
 -- `encode` and the empty text
 pub empty_text : (name : List ℕ) → ParsesAs (name ∷ codes "encode" ∷ [] ∷ []) (encode [])
@@ -17,6 +17,25 @@ asked_text name rest x h = simp h
 taken_text : (name rest : List ℕ) (x : ℕ) → (x == 45) ≡ false → faults (name ∷ codes "encode" ∷ (x ∷ rest) ∷ []) ≡ []
 unfolding clap_on_literals faults
 taken_text name rest x h = simp h
+
+-- `decode` and the empty text
+pub empty_line : (name : List ℕ) → ParsesAs (name ∷ codes "decode" ∷ [] ∷ []) (decode [])
+unfolding clap_on_literals asked faults
+empty_line name = record { taken = refl; asks = refl }
+
+-- `decode` and a text whose first byte is no `-`
+asked_line : (name rest : List ℕ) (x : ℕ) → (x == 45) ≡ false →
+    asked (name ∷ codes "decode" ∷ (x ∷ rest) ∷ []) ≡ Some (decode (x ∷ rest))
+unfolding clap_on_literals asked
+asked_line name rest x h = simp h
+
+taken_line : (name rest : List ℕ) (x : ℕ) → (x == 45) ≡ false → faults (name ∷ codes "decode" ∷ (x ∷ rest) ∷ []) ≡ []
+unfolding clap_on_literals faults
+taken_line name rest x h = simp h
+
+pub line : (name rest : List ℕ) (x : ℕ) → (x == 45) ≡ false →
+    ParsesAs (name ∷ codes "decode" ∷ (x ∷ rest) ∷ []) (decode (x ∷ rest))
+line name rest x h = record { taken = taken_line name rest x h; asks = asked_line name rest x h }
 
 -- the program's name alone
 pub no_subcommand : (name : List ℕ) (r : Request) → ¬ ParsesAs (name ∷ []) r

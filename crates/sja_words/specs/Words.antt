@@ -1,12 +1,22 @@
 -- What words ask for (this project's own rule).
-use Rattle.std.specs.Prelude.{◌≡◌, ◌&&◌}
+use Rattle.std.specs.Prelude.{◌≡◌, ◌==◌, ◌&&◌, ◌∷◌}
 use Rattle.std.specs.Prelude.{ℕ, Bool, true, false, List, [], length, map, Option, Some, None, codes, option_map}
 use Rattle.std.specs.Prelude.{if◌then◌else◌, nat_lt, nat_le}
+use Rattle.std.specs.List.{list_any}
 use Rattle.std.specs.Str.{bytes_eq}
 use Rattle.clap.specs.Words.{Kinds, Row, Text, all_of, fault_of, first_of, subcommand_of}
 use Rattle.sja_words.specs.declared.task.Task.{Task}
 use Rattle.sja_words.specs.declared.task.Task.TheVariants.{Encode, Decode, Filter, Arbitrate, Run, Wave}
 use Rattle.sja_words.specs.CommandLine.{sja_app}
+
+-- the text begins with `-` (45), as a flag does
+abbrev pub begins_with_hyphen : Text → Bool
+begins_with_hyphen [] = false
+begins_with_hyphen (first ∷ rest) = first == 45
+
+-- none of the texts begins with `-`
+abbrev pub HasNoFlag : List Text → Type 0
+HasNoFlag texts = list_any begins_with_hyphen texts ≡ false
 
 -- what the program is asked for, with the texts of its arguments
 pub data Request : Type 0 where

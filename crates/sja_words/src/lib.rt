@@ -13,7 +13,10 @@ mod parsing;
 mod task;
 mod words_fault;
 
-pub use laws::{a_message_is_needed, encode_and_a_text_parse, run_parses, wave_parses};
+pub use laws::{
+    a_message_is_needed, arbitrate_and_texts_parse, decode_and_a_text_parse,
+    encode_and_a_text_parse, filter_and_texts_parse, run_parses, wave_parses,
+};
 pub use parsing::parse;
 pub use task::Task;
 pub use words_fault::WordsFault;
