@@ -13,7 +13,8 @@ use Rattle.clap.specs.Walk.{Names, Walk, settled, finished, nothing_held, positi
 use Rattle.clap.specs.Words.{App, Rule, Text, all_of}
 use Rattle.clap.specs.declared.builder.value_parser.ValueParser.TheVariants as parser
 use Rattle.sja_words.specs.CommandLine.{arbitrate_app, sja_app}
-use Rattle.sja_words.specs.Words.{HasNoFlag, ParsesAs, Request, arbitrate, arbitrate_in, asked, begins_with_hyphen, faults, request_in}
+use Rattle.sja_words.specs.Words.{HasNoFlag, ParsesAs, Request, arbitrate, arbitrate_in, asked, begins_with_hyphen}
+use Rattle.sja_words.specs.Words.{faults, request_in}
 use Rattle.sja_words.proofs.NoFlag.{each_of, no_dashes, no_hyphen}
 use Rattle.sja_words.proofs.Several.{arbitrate_asked, not_asked}
 
@@ -119,7 +120,8 @@ unfolding clap_on_literals
 all_fit before [] h = refl
 all_fit before (text ∷ texts) h =
     let each = each_of text texts h in
-    rw (no_dashes text each.0, no_hyphen text each.0, no_hyphen text each.0) (all_fit (before ++ text ∷ []) texts each.1)
+    rw (no_dashes text each.0, no_hyphen text each.0, no_hyphen text each.0)
+    (all_fit (before ++ text ∷ []) texts each.1)
 
 walk_fits : (first : Text) (texts : List Text) → HasNoFlag (first ∷ texts) →
     walk_fault shape [] (walk_from nothing_held) (first ∷ texts) ≡ []

@@ -1,7 +1,7 @@
 -- What some words ask for, by computing the parser's answer.
 use Rattle.std.proofs.Common.{◌≡◌, ◌==◌, ℕ, List, [], ◌∷◌, codes, refl, false, true, Some}
 use Rattle.clap.proofs.OnLiterals.{clap_on_literals}
-use Rattle.sja_words.specs.Words.{Request, ParsesAs, decode, encode, run, wave, asked, faults}
+use Rattle.sja_words.specs.Words.{Request, ParsesAs, decode, encode, message, run, wave, asked, faults}
 
 -- `encode` and the empty text
 pub empty_text : (name : List ℕ) → ParsesAs (name ∷ codes "encode" ∷ [] ∷ []) (encode [])
@@ -36,6 +36,25 @@ taken_line name rest x h = simp h
 pub line : (name rest : List ℕ) (x : ℕ) → (x == 45) ≡ false →
     ParsesAs (name ∷ codes "decode" ∷ (x ∷ rest) ∷ []) (decode (x ∷ rest))
 line name rest x h = record { taken = taken_line name rest x h; asks = asked_line name rest x h }
+
+-- `message` and the empty text
+pub empty_form : (name : List ℕ) → ParsesAs (name ∷ codes "message" ∷ [] ∷ []) (message [])
+unfolding clap_on_literals asked faults
+empty_form name = record { taken = refl; asks = refl }
+
+-- `message` and a text whose first byte is no `-`
+asked_form : (name rest : List ℕ) (x : ℕ) → (x == 45) ≡ false →
+    asked (name ∷ codes "message" ∷ (x ∷ rest) ∷ []) ≡ Some (message (x ∷ rest))
+unfolding clap_on_literals asked
+asked_form name rest x h = simp h
+
+taken_form : (name rest : List ℕ) (x : ℕ) → (x == 45) ≡ false → faults (name ∷ codes "message" ∷ (x ∷ rest) ∷ []) ≡ []
+unfolding clap_on_literals faults
+taken_form name rest x h = simp h
+
+pub form : (name rest : List ℕ) (x : ℕ) → (x == 45) ≡ false →
+    ParsesAs (name ∷ codes "message" ∷ (x ∷ rest) ∷ []) (message (x ∷ rest))
+form name rest x h = record { taken = taken_form name rest x h; asks = asked_form name rest x h }
 
 -- the program's name alone
 pub no_subcommand : (name : List ℕ) (r : Request) → ¬ ParsesAs (name ∷ []) r

@@ -45,6 +45,10 @@ line_app =
 abbrev pub frame_app : App
 frame_app = with_subcommand (with_subcommand line_app filter_app.top) arbitrate_app.top
 
+-- those and the command over a message's two forms: `message TEXT`
+abbrev pub notation_app : App
+notation_app = with_subcommand frame_app (text_app (codes "message") (codes "TEXT")).top
+
 -- a flag of this name, which stands or doesn't
 abbrev pub flag_rule : Text → Rule
 flag_rule name = record (new_rule name) { long = Some name; action = Some SetTrue }
@@ -59,4 +63,4 @@ wave_app = new_app (codes "wave")
 
 -- the whole
 abbrev pub sja_app : App
-sja_app = with_subcommand (with_subcommand frame_app run_app.top) wave_app.top
+sja_app = with_subcommand (with_subcommand notation_app run_app.top) wave_app.top

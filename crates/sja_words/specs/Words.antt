@@ -6,7 +6,7 @@ use Rattle.std.specs.List.{list_any}
 use Rattle.std.specs.Str.{bytes_eq}
 use Rattle.clap.specs.Words.{Kinds, Row, Text, all_of, fault_of, first_of, subcommand_of}
 use Rattle.sja_words.specs.declared.task.Task.{Task}
-use Rattle.sja_words.specs.declared.task.Task.TheVariants.{Encode, Decode, Filter, Arbitrate, Run, Wave}
+use Rattle.sja_words.specs.declared.task.Task.TheVariants.{Encode, Decode, Filter, Arbitrate, Message, Run, Wave}
 use Rattle.sja_words.specs.CommandLine.{sja_app}
 
 -- the text begins with `-` (45), as a flag does
@@ -24,15 +24,17 @@ pub data Request : Type 0 where
   decode : List ℕ → Request
   filter : Bool → List ℕ → List ℕ → List ℕ → Request
   arbitrate : List (List ℕ) → Request
+  message : List ℕ → Request
   run : Bool → Request
   wave : Request
 
 -- a task as what it asks for
 abbrev pub request_of : Task → Request
-request_of (Encode message) = encode message.now
+request_of (Encode digits) = encode digits.now
 request_of (Decode line) = decode line.now
-request_of (Filter single acr amr message) = filter single acr.now amr.now message.now
-request_of (Arbitrate messages) = arbitrate (map (λ message. message.now) messages.items)
+request_of (Filter single acr amr digits) = filter single acr.now amr.now digits.now
+request_of (Arbitrate messages) = arbitrate (map (λ digits. digits.now) messages.items)
+request_of (Message text) = message text.now
 request_of (Run threads) = run threads
 request_of Wave = wave
 
@@ -45,12 +47,12 @@ single_in mode =
 
 -- what `filter` asks for, by its four arguments, where they are there and the first is a mode
 abbrev pub filter_in : Option Text → Option Text → Option Text → Option Text → Option Request
-filter_in (Some mode) (Some acr) (Some amr) (Some message) =
-    option_map (λ single. filter single acr amr message) (single_in mode)
+filter_in (Some mode) (Some acr) (Some amr) (Some digits) =
+    option_map (λ single. filter single acr amr digits) (single_in mode)
 filter_in (Some mode) (Some acr) (Some amr) None = None
-filter_in (Some mode) (Some acr) None message = None
-filter_in (Some mode) None amr message = None
-filter_in None acr amr message = None
+filter_in (Some mode) (Some acr) None digits = None
+filter_in (Some mode) None amr digits = None
+filter_in None acr amr digits = None
 
 -- what `arbitrate` asks for, by the values of its argument: there are one to eight of them
 abbrev pub arbitrate_in : Option (List Text) → Option Request
@@ -72,6 +74,7 @@ request_by name rows =
     filter_in (first_of (codes "MODE") rows) (first_of (codes "ACR") rows)
     (first_of (codes "AMR") rows) (first_of (codes "MESSAGE") rows)
     else if bytes_eq name (codes "arbitrate") then arbitrate_in (all_of (codes "MESSAGE") rows)
+    else if bytes_eq name (codes "message") then option_map message (first_of (codes "TEXT") rows)
     else if bytes_eq name (codes "run") then Some (run (flag_in (first_of (codes "threads") rows)))
     else if bytes_eq name (codes "wave") then Some wave
     else None

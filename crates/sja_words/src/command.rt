@@ -4,7 +4,8 @@ ghost use Rattle.std.specs.Prelude.{◌≡◌, IfOk, codes, false};
 ghost use Rattle.clap.specs.Words.{app_of, rule_of};
 ghost use Rattle.clap.specs.declared.builder.command.Command.TheViews.{out-Command};
 ghost use Rattle.sja_words.specs.CommandLine.{text_rule, text_app, filter_app, arbitrate_app};
-ghost use Rattle.sja_words.specs.CommandLine.{empty_app, line_app, frame_app, flag_rule, run_app, wave_app, sja_app};
+ghost use Rattle.sja_words.specs.CommandLine.{empty_app, line_app, frame_app, notation_app};
+ghost use Rattle.sja_words.specs.CommandLine.{flag_rule, run_app, wave_app, sja_app};
 
 use super::task::MOST_MESSAGES;
 use clap::{Arg, ArgAction, Command};
@@ -61,6 +62,16 @@ fn arbitrate_command<'a>(alloc: Global) -> Result<Command<'a>, AllocError>
         .arg(text_argument(alloc, "MESSAGE").num_args(1..=MOST_MESSAGES))
 }
 
+/// `message TEXT`.
+fn message_command<'a>(alloc: Global) -> Result<Command<'a>, AllocError>
+    ensures app { IfOk result (λ command. app_of command ≡ text_app (codes "message") (codes "TEXT")) }
+    ensures local { IfOk result (λ command. (out-Command command).has_globals ≡ false) }
+{
+    Command::new(alloc, "message")
+        .about("Print a message in can-utils' notation, or the message of that notation")
+        .arg(text_argument(alloc, "TEXT"))
+}
+
 /// The program, of which one command has to be given, before it has any.
 fn empty_command<'a>(alloc: Global) -> Command<'a>
     ensures app { app_of result ≡ empty_app }
@@ -89,6 +100,14 @@ fn frame_command<'a>(alloc: Global) -> Result<Command<'a>, AllocError>
     line_command(alloc)?
         .subcommand(filter_command(alloc)?)?
         .subcommand(arbitrate_command(alloc)?)
+}
+
+/// Those and the command over a message.
+fn notation_command<'a>(alloc: Global) -> Result<Command<'a>, AllocError>
+    ensures app { IfOk result (λ command. app_of command ≡ notation_app) }
+    ensures local { IfOk result (λ command. (out-Command command).has_globals ≡ false) }
+{
+    frame_command(alloc)?.subcommand(message_command(alloc)?)
 }
 
 /// A flag of this name, which stands or doesn't.
@@ -121,7 +140,7 @@ fn wave_command<'a>(alloc: Global) -> Command<'a>
 pub fn sja_command<'a>(alloc: Global) -> Result<Command<'a>, AllocError>
     ensures { IfOk result (λ command. app_of command ≡ sja_app) }
 {
-    frame_command(alloc)?
+    notation_command(alloc)?
         .subcommand(run_command(alloc)?)?
         .subcommand(wave_command(alloc))
 }

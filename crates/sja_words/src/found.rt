@@ -2,8 +2,8 @@
 
 ghost use Rattle.std.specs.Prelude.{◌≡◌, codes, option_map};
 ghost use Rattle.clap.specs.Words.{all_of, first_of, found_of, rows_of, subcommand_rows_of};
-ghost use Rattle.sja_words.specs.Words.{arbitrate_in, decode, encode, filter_in, request_by, request_in, request_of};
-ghost use Rattle.sja_words.specs.Words.{flag_in, run, single_in};
+ghost use Rattle.sja_words.specs.Words.{arbitrate_in, decode, encode, filter_in, message, request_by, request_in};
+ghost use Rattle.sja_words.specs.Words.{flag_in, request_of, run, single_in};
 
 use super::task::Task;
 use arrayvec::ArrayVec;
@@ -27,6 +27,7 @@ fn task_by<'a>(name: &str, arguments: &ArgMatches<'a>) -> Option<Task<'a>>
         "decode" => decode_task(arguments),
         "filter" => filter_task(arguments),
         "arbitrate" => arbitrate_task(arguments),
+        "message" => message_task(arguments),
         "run" => Some(run_task(arguments)),
         "wave" => Some(Task::Wave),
         _ => None,
@@ -79,6 +80,14 @@ fn arbitrate_task<'a>(arguments: &ArgMatches<'a>) -> Option<Task<'a>>
         return None;
     }
     Some(Task::Arbitrate(messages))
+}
+
+/// `message TEXT`.
+fn message_task<'a>(arguments: &ArgMatches<'a>) -> Option<Task<'a>>
+    ensures { option_map request_of result
+        ≡ option_map message (first_of (codes "TEXT") (rows_of (found_of arguments.now))) }
+{
+    Some(Task::Message(text_at(arguments, "TEXT")?))
 }
 
 /// `run`, or `run --threads`.

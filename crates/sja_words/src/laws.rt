@@ -1,7 +1,8 @@
 //! Laws of the words. Each stands as the contract of a function that does nothing.
 
 ghost use Rattle.std.specs.Prelude.{◌≡◌, ◌==◌, ◌<◌, ◌≤◌, ◌∷◌, [], ℕ, List, codes, false, length, true};
-ghost use Rattle.sja_words.specs.Words.{HasNoFlag, ParsesAs, Request, arbitrate, decode, encode, filter, run, wave};
+ghost use Rattle.sja_words.specs.Words.{HasNoFlag, ParsesAs, Request, arbitrate, decode, encode, filter, message};
+ghost use Rattle.sja_words.specs.Words.{run, wave};
 
 /// The program's name, `encode` and a text that doesn't begin with `-` (45) ask for the levels of this message.
 pub fn encode_and_a_text_parse()
@@ -21,15 +22,15 @@ pub fn decode_and_a_text_parse()
 /// filter with these registers passes this message. With another text that doesn't begin with `-` in the mode's place
 /// they ask for nothing.
 pub fn filter_and_texts_parse()
-    ensures single { (name acr amr message : List ℕ) → HasNoFlag (acr ∷ amr ∷ message ∷ [])
-        → ParsesAs (name ∷ codes "filter" ∷ codes "single" ∷ acr ∷ amr ∷ message ∷ [])
-        (filter true acr amr message) }
-    ensures dual { (name acr amr message : List ℕ) → HasNoFlag (acr ∷ amr ∷ message ∷ [])
-        → ParsesAs (name ∷ codes "filter" ∷ codes "dual" ∷ acr ∷ amr ∷ message ∷ [])
-        (filter false acr amr message) }
-    ensures other { (name mode acr amr message : List ℕ) (r : Request)
-        → ¬ (mode ≡ codes "single") → ¬ (mode ≡ codes "dual") → HasNoFlag (mode ∷ acr ∷ amr ∷ message ∷ [])
-        → ¬ ParsesAs (name ∷ codes "filter" ∷ mode ∷ acr ∷ amr ∷ message ∷ []) r }
+    ensures single { (name acr amr digits : List ℕ) → HasNoFlag (acr ∷ amr ∷ digits ∷ [])
+        → ParsesAs (name ∷ codes "filter" ∷ codes "single" ∷ acr ∷ amr ∷ digits ∷ [])
+        (filter true acr amr digits) }
+    ensures dual { (name acr amr digits : List ℕ) → HasNoFlag (acr ∷ amr ∷ digits ∷ [])
+        → ParsesAs (name ∷ codes "filter" ∷ codes "dual" ∷ acr ∷ amr ∷ digits ∷ [])
+        (filter false acr amr digits) }
+    ensures other { (name mode acr amr digits : List ℕ) (r : Request)
+        → ¬ (mode ≡ codes "single") → ¬ (mode ≡ codes "dual") → HasNoFlag (mode ∷ acr ∷ amr ∷ digits ∷ [])
+        → ¬ ParsesAs (name ∷ codes "filter" ∷ mode ∷ acr ∷ amr ∷ digits ∷ []) r }
 {}
 
 /// The program's name, `arbitrate` and one to eight texts of which none begins with `-` ask what becomes of these
@@ -41,6 +42,13 @@ pub fn arbitrate_and_texts_parse()
     ensures none { (name : List ℕ) (r : Request) → ¬ ParsesAs (name ∷ codes "arbitrate" ∷ []) r }
     ensures more { (name : List ℕ) (messages : List (List ℕ)) (r : Request) → HasNoFlag messages
         → 8 < length messages → ¬ ParsesAs (name ∷ codes "arbitrate" ∷ messages) r }
+{}
+
+/// The program's name, `message` and a text that doesn't begin with `-` (45) ask for the other form of this text.
+pub fn message_and_a_text_parses()
+    ensures empty { (name : List ℕ) → ParsesAs (name ∷ codes "message" ∷ [] ∷ []) (message []) }
+    ensures text { (name rest : List ℕ) (first : ℕ) → (first == 45) ≡ false
+        → ParsesAs (name ∷ codes "message" ∷ (first ∷ rest) ∷ []) (message (first ∷ rest)) }
 {}
 
 /// The program's name and `run` ask for the report of the plan on the input; with `--threads` behind them they ask for

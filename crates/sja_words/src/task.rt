@@ -26,6 +26,8 @@ pub enum Task<'a> {
     },
     /// `arbitrate MESSAGE..`: what becomes of these one to eight messages' frames if their transmitters start together.
     Arbitrate(ArrayVec<&'a str, MOST_MESSAGES>),
+    /// `message TEXT`: this message in can-utils' notation, or the message of this notation.
+    Message(&'a str),
     /// `run`: the report of the run of the plan on the input.
     Run {
         /// With `--threads`: each driver stands in a thread of its own, otherwise all stand in one.
