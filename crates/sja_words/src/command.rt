@@ -11,12 +11,24 @@ use super::task::MOST_MESSAGES;
 use clap::{Arg, ArgAction, Command};
 use std::alloc::{AllocError, Global};
 
-/// An argument without a flag, which must be given and takes one text.
-fn text_argument<'a>(alloc: Global, id: &'a str) -> Arg<'a>
+/// What help says of the acceptance code registers.
+const ACR_HELP: &str = "The four acceptance code registers, a byte each in hexadecimal";
+
+/// What help says of the acceptance mask registers.
+const AMR_HELP: &str = "The four acceptance mask registers alike; a bit 1 isn't compared";
+
+/// What help says of a message.
+const MESSAGE_HELP: &str = "A message as the controller's buffers hold it, in hexadecimal";
+
+/// An argument without a flag, which must be given and takes one text, with the line of help behind it.
+fn text_argument<'a>(alloc: Global, id: &'a str, help: &'a str) -> Arg<'a>
     ensures rule { rule_of result ≡ text_rule id.entry.now }
     ensures local { result.global ≡ false }
 {
-    Arg::new(alloc, id).required(true).action(ArgAction::Set)
+    Arg::new(alloc, id)
+        .required(true)
+        .action(ArgAction::Set)
+        .help(help)
 }
 
 /// `encode MESSAGE`.
@@ -26,7 +38,7 @@ fn encode_command<'a>(alloc: Global) -> Result<Command<'a>, AllocError>
 {
     Command::new(alloc, "encode")
         .about("Print the levels of a message's frame")
-        .arg(text_argument(alloc, "MESSAGE"))
+        .arg(text_argument(alloc, "MESSAGE", MESSAGE_HELP))
 }
 
 /// `decode LINE`.
@@ -36,7 +48,11 @@ fn decode_command<'a>(alloc: Global) -> Result<Command<'a>, AllocError>
 {
     Command::new(alloc, "decode")
         .about("Print the message of an acknowledged line")
-        .arg(text_argument(alloc, "LINE"))
+        .arg(text_argument(
+            alloc,
+            "LINE",
+            "The levels of a line, a digit each: 0 dominant, 1 recessive",
+        ))
 }
 
 /// `filter MODE ACR AMR MESSAGE`.
@@ -46,10 +62,10 @@ fn filter_command<'a>(alloc: Global) -> Result<Command<'a>, AllocError>
 {
     Command::new(alloc, "filter")
         .about("Print whether an acceptance filter, single or dual, passes a message's frame")
-        .arg(text_argument(alloc, "MODE"))?
-        .arg(text_argument(alloc, "ACR"))?
-        .arg(text_argument(alloc, "AMR"))?
-        .arg(text_argument(alloc, "MESSAGE"))
+        .arg(text_argument(alloc, "MODE", "single or dual"))?
+        .arg(text_argument(alloc, "ACR", ACR_HELP))?
+        .arg(text_argument(alloc, "AMR", AMR_HELP))?
+        .arg(text_argument(alloc, "MESSAGE", MESSAGE_HELP))
 }
 
 /// `arbitrate MESSAGE..`, with one to eight messages.
@@ -59,7 +75,7 @@ fn arbitrate_command<'a>(alloc: Global) -> Result<Command<'a>, AllocError>
 {
     Command::new(alloc, "arbitrate")
         .about("Print where each of one to eight messages' frames loses arbitration to the others")
-        .arg(text_argument(alloc, "MESSAGE").num_args(1..=MOST_MESSAGES))
+        .arg(text_argument(alloc, "MESSAGE", MESSAGE_HELP).num_args(1..=MOST_MESSAGES))
 }
 
 /// `message TEXT`.
@@ -69,7 +85,11 @@ fn message_command<'a>(alloc: Global) -> Result<Command<'a>, AllocError>
 {
     Command::new(alloc, "message")
         .about("Print a message in can-utils' notation, or the message of that notation")
-        .arg(text_argument(alloc, "TEXT"))
+        .arg(text_argument(
+            alloc,
+            "TEXT",
+            "The message, in hexadecimal or in can-utils' notation",
+        ))
 }
 
 /// The program, of which one command has to be given, before it has any.
@@ -124,7 +144,7 @@ fn run_command<'a>(alloc: Global) -> Result<Command<'a>, AllocError>
     ensures local { IfOk result (λ command. (out-Command command).has_globals ≡ false) }
 {
     Command::new(alloc, "run")
-        .about("Print the report of a run of the plan on standard input")
+        .about("Print the report of a run of the plan on standard input: sja run < plan.toml")
         .arg(flag(alloc, "threads").help("Run each node's driver in a thread of its own"))
 }
 
@@ -133,7 +153,9 @@ fn wave_command<'a>(alloc: Global) -> Command<'a>
     ensures app { app_of result ≡ wave_app }
     ensures local { (out-Command result).has_globals ≡ false }
 {
-    Command::new(alloc, "wave").about("Print the waveform of a run of the plan on standard input")
+    Command::new(alloc, "wave").about(
+        "Print the waveform of a run of the plan on standard input: sja wave < plan.toml",
+    )
 }
 
 /// The whole: a subcommand has to be given.
