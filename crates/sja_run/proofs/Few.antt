@@ -50,6 +50,7 @@ few_refused May before after refusal.NotHexadecimal h = absurd h
 few_refused May before after refusal.NotALine h = absurd h
 few_refused May before after (refusal.Layout fault) h = absurd h
 few_refused May before after (refusal.Line fault) h = absurd h
+few_refused May before after (refusal.Notation fault) h = absurd h
 
 pub few_refused_threads : (before after : Option (List ℕ)) (r : Refusal) → RefusesThreads before after r → ReadsFew
     before after
@@ -67,6 +68,7 @@ refused_threads before after refusal.NotHexadecimal h = absurd h
 refused_threads before after refusal.NotALine h = absurd h
 refused_threads before after (refusal.Layout fault) h = absurd h
 refused_threads before after (refusal.Line fault) h = absurd h
+refused_threads before after (refusal.Notation fault) h = absurd h
 
 -- whatever is printed: only for a run anything is read
 pub few_printed : (r : Request) (before after : Option (List ℕ)) (text : List ℕ) → AsksForRun r ⊎ (after ≡ before) →

@@ -1,6 +1,6 @@
 -- Refused memory is a refusal of each request.
-use Rattle.std.proofs.Common.{List, ℕ, Option, true, false, refl, inl}
-use Rattle.sja_words.specs.Words.{Request, encode, decode, filter, arbitrate, run, wave}
+use Rattle.std.proofs.Common.{List, ℕ, Option, true, false, refl, inl, inr}
+use Rattle.sja_words.specs.Words.{Request, encode, decode, filter, arbitrate, message, run, wave}
 use Rattle.sja_run.specs.Answer.{IsRefused}
 use Rattle.sja_run.specs.Input.{ReadsFew}
 use Rattle.sja_texts.specs.declared.refusal.Refusal.TheVariants.{OutOfMemory}
@@ -12,6 +12,7 @@ memory_refused (encode digits) before after few = tt
 memory_refused (decode digits) before after few = tt
 memory_refused (filter single acr amr digits) before after few = inl refl
 memory_refused (arbitrate messages) before after few = inl refl
+memory_refused (message given) before after few = inr (inr refl)
 memory_refused (run false) before after few = few
 memory_refused (run true) before after few = few
 memory_refused wave before after few = few

@@ -1,7 +1,7 @@
 -- What words ask for, and what becomes of a run in threads.
 use Rattle.std.proofs.Common.{◌≡◌, ◌⊎◌, ℕ, Bool, List, Option, Some, true, false, refl, sym, inl, inr}
 use Rattle.std.specs.Io.KnownBytes.{Keeps}
-use Rattle.sja_words.specs.Words.{Request, ParsesAs, encode, decode, filter, arbitrate, run, wave}
+use Rattle.sja_words.specs.Words.{Request, ParsesAs, encode, decode, filter, arbitrate, message, run, wave}
 use Rattle.sja_texts.specs.declared.refusal.Refusal.TheVariants.{OutOfMemory}
 use Rattle.sja_run.specs.Answer.{Shows, IsLeft}
 use Rattle.sja_run.specs.Input.{ReadsFew}
@@ -18,6 +18,7 @@ is_threads (encode digits) = inr (λ is. cc)
 is_threads (decode digits) = inr (λ is. cc)
 is_threads (filter single acr amr digits) = inr (λ is. cc)
 is_threads (arbitrate messages) = inr (λ is. cc)
+is_threads (message given) = inr (λ is. cc)
 is_threads wave = inr (λ is. cc)
 
 -- a run in threads that isn't left to another call, since memory was refused

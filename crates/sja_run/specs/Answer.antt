@@ -1,7 +1,7 @@
 -- What the program does, by what the words ask for (this project's own rule).
 use Rattle.std.specs.Prelude.{◌≡◌, ◌⊎◌, ℕ, Bool, true, false, List, Option, Some, None}
 use Rattle.std.specs.Io.KnownBytes.{Appends, Keeps}
-use Rattle.sja_words.specs.Words.{Request, encode, decode, filter, arbitrate, run, wave}
+use Rattle.sja_words.specs.Words.{Request, encode, decode, filter, arbitrate, message, run, wave}
 use Rattle.sja_texts.specs.declared.refusal.Refusal.{Refusal}
 use Rattle.sja_texts.specs.declared.refusal.Refusal.TheVariants as refusal
 use Rattle.sja_texts.specs.Arbitrate.{IsArbitration, RefusesMessages}
@@ -9,6 +9,7 @@ use Rattle.sja_texts.specs.Decode.{IsDecoding, RefusesLine}
 use Rattle.sja_texts.specs.Encode.{IsEncoding}
 use Rattle.sja_texts.specs.Filter.{IsFiltering, RefusesFilter}
 use Rattle.sja_texts.specs.Message.{RefusesMessage}
+use Rattle.sja_texts.specs.Notation.{IsTranslation, RefusesTranslation}
 use Rattle.sja_texts.specs.Refusal.{refusal_line}
 use Rattle.sja_run.specs.Run.{IsRunning, RefusesRun}
 use Rattle.sja_run.specs.ThreadedRun.{IsRunningThreads, RefusesThreads}
@@ -24,6 +25,7 @@ IsPrinted (encode digits) before after text = IsEncoding digits text
 IsPrinted (decode digits) before after text = IsDecoding digits text
 IsPrinted (filter single acr amr digits) before after text = IsFiltering single acr amr digits text
 IsPrinted (arbitrate messages) before after text = IsArbitration messages text
+IsPrinted (message given) before after text = IsTranslation given text
 IsPrinted (run false) before after text = IsRunning before after text
 IsPrinted (run true) before after text = IsRunningThreads before after text
 IsPrinted wave before after text = IsWaving before after text
@@ -34,6 +36,7 @@ IsRefused (encode digits) before after r = RefusesMessage digits r
 IsRefused (decode digits) before after r = RefusesLine digits r
 IsRefused (filter single acr amr digits) before after r = RefusesFilter acr amr digits r
 IsRefused (arbitrate messages) before after r = RefusesMessages messages r
+IsRefused (message given) before after r = RefusesTranslation given r
 IsRefused (run false) before after r = RefusesRun before after r
 IsRefused (run true) before after r = RefusesThreads before after r
 IsRefused wave before after r = RefusesRun before after r

@@ -37,6 +37,7 @@ RefusesBy May before after refusal.NotHexadecimal = ⊥
 RefusesBy May before after refusal.NotALine = ⊥
 RefusesBy May before after (refusal.Layout fault) = ⊥
 RefusesBy May before after (refusal.Line fault) = ⊥
+RefusesBy May before after (refusal.Notation fault) = ⊥
 
 -- in one thread: in the run memory was refused
 abbrev pub RefusesRun : Option (List ℕ) → Option (List ℕ) → Refusal → Type 0

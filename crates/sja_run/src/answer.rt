@@ -6,7 +6,7 @@ ghost use Rattle.sja_run.specs.Answer.{AsksForRun, IsPrinted, IsRefused};
 
 use super::run::reported;
 use super::waving::waved;
-use sja_texts::{Refusal, arbitrated, decoded, encoded, filtered};
+use sja_texts::{Refusal, arbitrated, decoded, encoded, filtered, translated};
 use sja_words::Task;
 use std::alloc::Global;
 use std::io::Read;
@@ -29,6 +29,7 @@ pub fn printed<R: Read>(alloc: Global, task: Task<'_>, input: &mut R) -> Result<
             message,
         } => filtered(alloc, single, acr, amr, message),
         Task::Arbitrate(messages) => arbitrated(alloc, messages.as_slice()),
+        Task::Message(text) => translated(alloc, text),
         Task::Run { threads: false } => reported(alloc, input),
         Task::Run { threads: true } => unreachable!(),
         Task::Wave => waved(alloc, input),

@@ -8,6 +8,7 @@ mod each_write;
 mod encode;
 mod failing_writes;
 mod filter;
+mod message;
 mod refused_memory;
 mod row;
 mod runs;

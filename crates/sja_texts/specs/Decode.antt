@@ -6,7 +6,7 @@ use Rattle.can_frame.specs.Frame.{FrameValue}
 use Rattle.can_frame.specs.Message.{message}
 use Rattle.sja_texts.specs.declared.refusal.Refusal.{Refusal}
 use Rattle.sja_texts.specs.declared.refusal.Refusal.TheVariants.{OutOfMemory, NotHexadecimal, NotALine, Read}
-use Rattle.sja_texts.specs.declared.refusal.Refusal.TheVariants.{Layout, Line, Plan, Run}
+use Rattle.sja_texts.specs.declared.refusal.Refusal.TheVariants.{Layout, Line, Notation, Plan, Run}
 use Rattle.sja_texts.specs.BytesText.{bytes_text}
 use Rattle.sja_texts.specs.LineText.{symbol}
 
@@ -28,5 +28,6 @@ RefusesLine digits (Line fault) = (l : List Level) × ReadsAsLevels digits l × 
 RefusesLine digits NotHexadecimal = ⊥
 RefusesLine digits Read = ⊥
 RefusesLine digits (Layout fault) = ⊥
+RefusesLine digits (Notation fault) = ⊥
 RefusesLine digits (Plan fault) = ⊥
 RefusesLine digits (Run fault) = ⊥

@@ -6,3 +6,4 @@ pub mod Encode
 pub mod Decode
 pub mod Filter
 pub mod Arbitrate
+pub mod Notation

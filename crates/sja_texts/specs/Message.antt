@@ -6,7 +6,7 @@ use Rattle.can_frame.specs.declared.layout_fault.LayoutFault.{LayoutFault}
 use Rattle.can_frame.specs.declared.layout_fault.LayoutFault.TheVariants.{Short, Long, UnusedBit, RtrDisagrees}
 use Rattle.sja_texts.specs.declared.refusal.Refusal.{Refusal}
 use Rattle.sja_texts.specs.declared.refusal.Refusal.TheVariants.{OutOfMemory, NotHexadecimal, NotALine, Read}
-use Rattle.sja_texts.specs.declared.refusal.Refusal.TheVariants.{Layout, Line, Plan, Run}
+use Rattle.sja_texts.specs.declared.refusal.Refusal.TheVariants.{Layout, Line, Notation, Plan, Run}
 
 -- the digits spell these bytes
 abbrev pub ReadsAs : List ℕ → List ℕ → Type 0
@@ -28,5 +28,6 @@ RefusesMessage digits (Layout fault) = (bytes : List ℕ) × ReadsAs digits byte
 RefusesMessage digits NotALine = ⊥
 RefusesMessage digits Read = ⊥
 RefusesMessage digits (Line fault) = ⊥
+RefusesMessage digits (Notation fault) = ⊥
 RefusesMessage digits (Plan fault) = ⊥
 RefusesMessage digits (Run fault) = ⊥

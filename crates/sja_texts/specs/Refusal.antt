@@ -4,6 +4,8 @@ use Rattle.can_frame.specs.declared.layout_fault.LayoutFault.{LayoutFault}
 use Rattle.can_frame.specs.declared.layout_fault.LayoutFault.TheVariants.{Short, Long, UnusedBit, RtrDisagrees}
 use Rattle.can_bits.specs.declared.line_fault.LineFault.{LineFault}
 use Rattle.can_bits.specs.declared.line_fault.LineFault.TheVariants.{Stuff, Form, Crc, NoAck, Truncated, Trailing}
+use Rattle.can_notation.specs.declared.notation_fault.NotationFault.{NotationFault}
+use Rattle.can_notation.specs.declared.notation_fault.NotationFault.TheVariants as notation
 use Rattle.sja_plan.specs.declared.plan_fault.PlanFault.{PlanFault}
 use Rattle.sja_plan.specs.declared.plan_fault.PlanFault.TheVariants as plan
 use Rattle.sja_log.specs.declared.run_fault.RunFault.{RunFault}
@@ -26,6 +28,12 @@ line_fault_text Crc = codes "line fault 3 Crc"
 line_fault_text NoAck = codes "line fault 4 NoAck"
 line_fault_text Truncated = codes "line fault 5 Truncated"
 line_fault_text (Trailing at) = codes "line fault 6 Trailing at " ++ decimal at
+
+-- what is wrong with a text in can-utils' notation
+abbrev pub notation_fault_text : NotationFault → List ℕ
+notation_fault_text notation.NoHash = codes "notation fault 1 NoHash"
+notation_fault_text notation.Identifier = codes "notation fault 2 Identifier"
+notation_fault_text notation.Data = codes "notation fault 3 Data"
 
 -- what is wrong with a plan. Nodes count from 0, steps, turns and strikes from 1
 abbrev pub plan_fault_text : PlanFault → List ℕ
@@ -60,6 +68,7 @@ refusal_text refusal.NotALine = codes "not a line"
 refusal_text refusal.Read = codes "read fault"
 refusal_text (refusal.Layout fault) = layout_fault_text fault
 refusal_text (refusal.Line fault) = line_fault_text fault
+refusal_text (refusal.Notation fault) = notation_fault_text fault
 refusal_text (refusal.Plan fault) = plan_fault_text fault
 refusal_text (refusal.Run fault) = run_fault_text fault
 

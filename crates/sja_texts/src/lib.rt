@@ -1,7 +1,7 @@
 //! What the program `sja` writes of one frame, of one line and of frames that contend, and of each refusal.
 //!
-//! [`encoded`], [`decoded`], [`filtered`] and [`arbitrated`] make the texts of four commands from the texts of their
-//! arguments. A [`Refusal`] says why a request has no answer, and shows as the text that the program writes of it.
+//! [`encoded`], [`decoded`], [`filtered`], [`arbitrated`] and [`translated`] make the texts of five commands from the
+//! texts of their arguments. A [`Refusal`] says why a request has no answer, and shows as the text that the program writes of it.
 //!
 //! Their tests stand in `crates/sja_tests/src/program`.
 #![tactic(auto)]
@@ -13,6 +13,7 @@ mod encode;
 mod filter;
 mod line_text;
 mod message;
+mod notation;
 mod plan_fault_text;
 mod refusal;
 
@@ -20,4 +21,5 @@ pub use arbitrate::arbitrated;
 pub use decode::decoded;
 pub use encode::encoded;
 pub use filter::filtered;
+pub use notation::translated;
 pub use refusal::Refusal;

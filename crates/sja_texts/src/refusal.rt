@@ -1,11 +1,12 @@
 //! [`Refusal`]: why the program refuses, and the text that it writes of it.
 
 ghost use Rattle.std.specs.Prelude.{◌≡◌};
-ghost use Rattle.sja_texts.specs.Refusal.{layout_fault_text, run_fault_text};
+ghost use Rattle.sja_texts.specs.Refusal.{layout_fault_text, notation_fault_text, run_fault_text};
 
 use super::plan_fault_text::PlanFaultText;
 use can_bits::LineFault;
 use can_frame::{LayoutFault, OutOfMemory};
+use can_notation::NotationFault;
 use sja_log::RunFault;
 use sja_plan::PlanFault;
 use std::alloc::AllocError;
@@ -27,6 +28,8 @@ pub enum Refusal {
     Layout(LayoutFault),
     /// Levels are no acknowledged line.
     Line(LineFault),
+    /// A text with a `#` isn't in can-utils' notation.
+    Notation(NotationFault),
     /// The input is no plan.
     Plan(PlanFault),
     /// A run has no log.
@@ -52,6 +55,7 @@ impl fmt::Display for Refusal {
             Refusal::Line(LineFault::NoAck) => f.write_str("line fault 4 NoAck"),
             Refusal::Line(LineFault::Truncated) => f.write_str("line fault 5 Truncated"),
             Refusal::Line(LineFault::Trailing(at)) => write!(f, "line fault 6 Trailing at {at}"),
+            Refusal::Notation(fault) => f.write_str(notation_fault_text(*fault)),
             Refusal::Plan(fault) => write!(f, "{}", PlanFaultText(*fault)),
             Refusal::Run(fault) => f.write_str(run_fault_text(*fault)),
         }
@@ -67,6 +71,17 @@ fn layout_fault_text(fault: LayoutFault) -> &'static str
         LayoutFault::Long => "layout fault 2 Long",
         LayoutFault::UnusedBit => "layout fault 3 UnusedBit",
         LayoutFault::RtrDisagrees => "layout fault 4 RtrDisagrees",
+    }
+}
+
+/// What is wrong with a text in can-utils' notation.
+fn notation_fault_text(fault: NotationFault) -> &'static str
+    ensures { result.now ≡ notation_fault_text fault }
+{
+    match fault {
+        NotationFault::NoHash => "notation fault 1 NoHash",
+        NotationFault::Identifier => "notation fault 2 Identifier",
+        NotationFault::Data => "notation fault 3 Data",
     }
 }
 

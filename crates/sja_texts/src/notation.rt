@@ -1,0 +1,38 @@
+//! `message TEXT`: a frame in can-utils' notation as its message, or a message's frame in that notation.
+
+ghost use Rattle.std.specs.Prelude.{IfOk, IfErr};
+ghost use Rattle.can_notation.specs.Faults.{HasHash};
+ghost use Rattle.sja_texts.specs.Notation.{IsTranslation, RefusesTranslation};
+
+use super::bytes_text::text_of_bytes;
+use super::message::message_of;
+use super::refusal::Refusal;
+use can_frame::Message;
+use can_notation::{NotationFault, read_text, text_of};
+use std::alloc::Global;
+
+/// The bytes of the message whose frame this text says in can-utils' notation; or, where it has no `#`, that notation
+/// of the message that its hexadecimal digits spell. Both end with a line feed.
+pub fn translated(alloc: Global, given: &str) -> Result<Vec<u8>, Refusal>
+    ensures ok { IfOk result (λ text. IsTranslation given.now text.items) }
+    ensures err { IfErr result (RefusesTranslation given.now) }
+{
+    match read_text(given.as_bytes()) {
+        Ok(frame) => Ok(text_of_bytes(alloc, Message::of(&frame).bytes())?),
+        Err(NotationFault::NoHash) => in_notation(alloc, given),
+        Err(fault) => Err(Refusal::Notation(fault)),
+    }
+}
+
+/// The frame of the message that these digits spell, in that notation.
+fn in_notation(alloc: Global, digits: &str) -> Result<Vec<u8>, Refusal>
+    requires plain { ¬ HasHash digits.now }
+    ensures ok { IfOk result (λ text. IsTranslation digits.now text.items) }
+    ensures err { IfErr result (RefusesTranslation digits.now) }
+{
+    let message = message_of(alloc, digits)?;
+    let mut text = Vec::new(alloc);
+    text.extend_from_slice(text_of(&message.frame()).as_slice())?;
+    text.push(b'\n')?;
+    Ok(text)
+}
