@@ -1,15 +1,16 @@
 //! `message TEXT`: a frame in can-utils' notation as its message, or a message's frame in that notation.
 
-ghost use Rattle.std.specs.Prelude.{IfOk, IfErr};
+ghost use Rattle.std.specs.Prelude.{◌≡◌, [], ◌∷◌, ◌++◌, IfOk, IfErr};
 ghost use Rattle.can_notation.specs.Faults.{HasHash};
+ghost use Rattle.can_notation.specs.Text.{text};
 ghost use Rattle.sja_texts.specs.Notation.{IsTranslation, RefusesTranslation};
 
 use super::bytes_text::text_of_bytes;
 use super::message::message_of;
 use super::refusal::Refusal;
-use can_frame::Message;
+use can_frame::{Frame, Message};
 use can_notation::{NotationFault, read_text, text_of};
-use std::alloc::Global;
+use std::alloc::{AllocError, Global};
 
 /// The bytes of the message whose frame this text says in can-utils' notation; or, where it has no `#`, that notation
 /// of the message that its hexadecimal digits spell. Both end with a line feed.
@@ -31,8 +32,15 @@ fn in_notation(alloc: Global, digits: &str) -> Result<Vec<u8>, Refusal>
     ensures err { IfErr result (RefusesTranslation digits.now) }
 {
     let message = message_of(alloc, digits)?;
-    let mut text = Vec::new(alloc);
-    text.extend_from_slice(text_of(&message.frame()).as_slice())?;
-    text.push(b'\n')?;
-    Ok(text)
+    Ok(notation_of(alloc, &message.frame())?)
+}
+
+/// The text of a frame in that notation, and a line feed.
+fn notation_of(alloc: Global, frame: &Frame) -> Result<Vec<u8>, AllocError>
+    ensures { IfOk result (λ line. line.items ≡ text frame.now ++ 10 ∷ []) }
+{
+    let mut line = Vec::new(alloc);
+    line.extend_from_slice(text_of(frame).as_slice())?;
+    line.push(b'\n')?;
+    Ok(line)
 }
