@@ -27,10 +27,6 @@ capital-digit_of n h = grind (arith, nat_tests)
 pub digit_of-small : (n : ℕ) → n < 16 → (48 ≤ digit_of n) × (digit_of n ≤ 70)
 digit_of-small n h = grind (arith, nat_tests)
 
--- one is as good as its capital where it is no letter
-pub capital-plain : (c d : ℕ) → d < 65 → capital c ≡ d → c ≡ d
-capital-plain c d small e = grind (arith, nat_tests)
-
 -- a text of digits is as long as asked for
 pub length-digits_of : (count n : ℕ) → length (digits_of count n) ≡ count
 length-digits_of zero n = refl
@@ -76,7 +72,8 @@ digits_of-at (suc count) n i h =
     ]
 
 -- the digits of a number with one more behind it
-pub digits_of-more : (count n v : ℕ) → v < 16 → digits_of (count + 1) (n * 16 + v) ≡ digits_of count n ++ digit_of v ∷ []
+pub digits_of-more : (count n v : ℕ) → v < 16 →
+    digits_of (count + 1) (n * 16 + v) ≡ digits_of count n ++ digit_of v ∷ []
 digits_of-more count n v h =
     let high : (n * 16 + v) / 16 ≡ n = omega arith in
     let low : (n * 16 + v) % 16 ≡ v = omega arith in

@@ -4,7 +4,8 @@ use Rattle.std.proofs.lemmas.List.Elements.{All-nil}
 use Rattle.can_frame.specs.Frame.{FrameValue, IsFrame, id_limit}
 use Rattle.can_notation.specs.Digits.{capitals}
 use Rattle.can_notation.specs.Text.{identifier_text, rest_text, Says}
-use Rattle.can_notation.specs.Faults.{HasHash, HasIdentifier, HasRest, IsRest, before_hash, behind_hash}
+use Rattle.can_notation.specs.Faults.{HasHash, HasIdentifier, HasRest, before_hash, behind_hash}
+use Rattle.can_notation.specs.Rest.{IsRest}
 use Rattle.can_notation.proofs.HashLemmas.{joined}
 
 -- the frame of five values

@@ -92,17 +92,24 @@ module _ (said : List ℕ) (ext : Bool) (id : ℕ) (rest : List ℕ)
   place = position_or_len_is (λ c. c == hash) said (identifier_digits ext) 0 (omega (arith, room)) no_hash_before
       (λ _. is_hash _ (at_hash 0))
 
-  -- there is a `#`, the identifier stands before the first one, and the rest behind it
+  -- the identifier stands before it
+  front : capitals (before_hash said) ≡ identifier_text ext id
+  front =
+      ap (λ k. capitals (take k said)) place ∙ sym (take-map capital (identifier_digits ext) said)
+      ∙ ap (take (identifier_digits ext)) e
+      ∙ take_at (identifier_text ext id) (hash ∷ rest) (identifier_digits ext) size
+
+  -- the rest stands behind it
+  back : capitals (behind_hash said) ≡ rest
+  back =
+      ap (λ k. capitals (drop (k + 1) said)) place ∙ sym (drop-map capital (identifier_digits ext + 1) said)
+      ∙ ap (drop (identifier_digits ext + 1)) e
+      ∙ sym (drop-drop 1 (identifier_digits ext) (identifier_text ext id ++ hash ∷ rest))
+      ∙ ap (drop 1) (drop_at (identifier_text ext id) (hash ∷ rest) (identifier_digits ext) size)
+
+  -- all three
   pub parts : HasHash said × (capitals (before_hash said) ≡ identifier_text ext id) × (capitals (behind_hash said) ≡ rest)
-  parts = (
-    (identifier_digits ext, room, at_hash hash),
-    ap (λ k. capitals (take k said)) place ∙ sym (take-map capital (identifier_digits ext) said)
-        ∙ ap (take (identifier_digits ext)) e ∙ take_at (identifier_text ext id) (hash ∷ rest) (identifier_digits ext) size,
-    ap (λ k. capitals (drop (k + 1) said)) place ∙ sym (drop-map capital (identifier_digits ext + 1) said)
-        ∙ ap (drop (identifier_digits ext + 1)) e
-        ∙ sym (drop-drop 1 (identifier_digits ext) (identifier_text ext id ++ hash ∷ rest))
-        ∙ ap (drop 1) (drop_at (identifier_text ext id) (hash ∷ rest) (identifier_digits ext) size),
-  )
+  parts = ((identifier_digits ext, room, at_hash hash), front, back)
 
 -- a text whose two halves are an identifier and a rest is these with a `#` between them
 pub joined : (said before behind : List ℕ) → HasHash said → capitals (before_hash said) ≡ before →

@@ -23,7 +23,8 @@ pub identifier_text-injective : (a b : Bool) (m n : ℕ) → m < 16 ^ identifier
 identifier_text-injective a b m n hm hn e =
     let format : a ≡ b = same_format a b (sym (length-digits_of (identifier_digits a) m) ∙ ap length e
     ∙ length-digits_of (identifier_digits b) n) in
-    (format, digits_of-injective (identifier_digits a) m n hm (rw format hn) (e ∙ ap (λ f. identifier_text f n) (sym format)))
+    let digits = e ∙ ap (λ f. identifier_text f n) (sym format) in
+    (format, digits_of-injective (identifier_digits a) m n hm (rw format hn) digits)
 
 -- digits of a number past the limit are the identifier of no frame
 pub past_limit : (text : List ℕ) (a : Bool) (n : ℕ) → length text ≡ identifier_digits a → id_limit a ≤ n →

@@ -1,7 +1,8 @@
 use Rattle.std.proofs.Common.{sym, ◌∙◌}
 use Rattle.can_frame.specs.Frame.{FrameValue, IsFrame}
 use Rattle.can_notation.specs.Text.{rest_text}
-use Rattle.can_notation.specs.Faults.{IsRest, behind_hash}
+use Rattle.can_notation.specs.Faults.{behind_hash}
+use Rattle.can_notation.specs.Rest.{IsRest}
 use Rattle.can_notation.proofs.IdentifierLemmas.{fits_digits, identifier_text-injective}
 use Rattle.can_notation.proofs.RestLemmas.{rest-injective}
 use Rattle.can_notation.proofs.HashLemmas.{parts}
@@ -18,6 +19,6 @@ returns c = λ said f g valid_f valid_g says_f says_g.
     let (_, front_g, back_g) = parts said g.ext g.id (rest_text g.rtr g.dlc g.bytes) says_g in
     let (ext, id) = identifier_text-injective f.ext g.ext f.id g.id (fits_digits f.ext f.id valid_f.id)
     (fits_digits g.ext g.id valid_g.id) (sym front_f ∙ front_g) in
-    let (rtr, dlc, bytes) = rest-injective (behind_hash said) f.rtr g.rtr f.dlc g.dlc f.bytes g.bytes (is_rest f valid_f)
-    (is_rest g valid_g) back_f back_g in
+    let (rtr, dlc, bytes) = rest-injective (behind_hash said) f.rtr g.rtr f.dlc g.dlc f.bytes g.bytes
+    (is_rest f valid_f) (is_rest g valid_g) back_f back_g in
     same_frame f g ext id rtr dlc bytes

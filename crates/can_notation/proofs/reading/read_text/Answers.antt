@@ -31,18 +31,20 @@ pub returns-in_default-rest_of-clause-identifier : goal.returns-in_default-rest_
 returns-in_default-rest_of-clause-identifier c =
     let (_, before, _) = c.in-Some.ensures.some in
     let (few, front) = c.in-Some-identifier.ensures.some in
+    let ext = c.in-Some-identifier.ext in
+    let id = c.in-Some-identifier.id in
     let has : HasIdentifier c.args.text.now =
-    has_identifier c.args.text.now c.in-Some.before.now c.in-Some-identifier.ext c.in-Some-identifier.id before few front
-    in
+    has_identifier c.args.text.now c.in-Some.before.now ext id before few front in
     (λ e. cc e, λ h. absurd (h.1 has))
 
 pub returns-in_default-rest_of-clause-rest : goal.returns-in_default-rest_of-clause-rest
 returns-in_default-rest_of-clause-rest c =
     let (hash, before, behind) = c.in-Some.ensures.some in
     let (few, front) = c.in-Some-identifier.ensures.some in
+    let ext = c.in-Some-identifier.ext in
+    let id = c.in-Some-identifier.id in
     let has : HasIdentifier c.args.text.now =
-    has_identifier c.args.text.now c.in-Some.before.now c.in-Some-identifier.ext c.in-Some-identifier.id before few front
-    in
+    has_identifier c.args.text.now c.in-Some.before.now ext id before few front in
     let none : ¬ HasRest c.args.text.now =
     no_rest c.args.text.now c.in-Some.behind.now behind c.in_default-rest_of.ensures.none in
     (λ _. (hash, has, none), λ _. refl)
