@@ -1,6 +1,7 @@
 -- What some words ask for, by computing the parser's answer.
 use Rattle.std.proofs.Common.{◌≡◌, ◌==◌, ℕ, List, [], ◌∷◌, codes, refl, false, true, Some}
 use Rattle.clap.proofs.OnLiterals.{clap_on_literals}
+use Rattle.clap.specs.declared.error.kind.ErrorKind.TheVariants.{DisplayVersion}
 use Rattle.sja_words.specs.Words.{Request, ParsesAs, decode, encode, message, run, wave, asked, faults}
 
 -- `encode` and the empty text
@@ -55,6 +56,16 @@ taken_form name rest x h = simp h
 pub form : (name rest : List ℕ) (x : ℕ) → (x == 45) ≡ false →
     ParsesAs (name ∷ codes "message" ∷ (x ∷ rest) ∷ []) (message (x ∷ rest))
 form name rest x h = record { taken = taken_form name rest x h; asks = asked_form name rest x h }
+
+-- `--version`, whatever follows
+pub long_version : (name : List ℕ) (more : List (List ℕ)) → faults (name ∷ codes "--version" ∷ more) ≡ DisplayVersion ∷ []
+unfolding clap_on_literals faults
+long_version name more = refl
+
+-- `-V`, whatever follows
+pub short_version : (name : List ℕ) (more : List (List ℕ)) → faults (name ∷ codes "-V" ∷ more) ≡ DisplayVersion ∷ []
+unfolding clap_on_literals faults
+short_version name more = refl
 
 -- the program's name alone
 pub no_subcommand : (name : List ℕ) (r : Request) → ¬ ParsesAs (name ∷ []) r

@@ -30,9 +30,11 @@ arbitrate_app =
     with_rule (new_app (codes "arbitrate"))
     (record (text_rule (codes "MESSAGE")) { range = Some (record { start_inclusive = 1; end_inclusive = 8 }) })
 
--- a command of which one subcommand has to be given
+-- a command of which one subcommand has to be given, and which has a version: so it takes `--version` and `-V` itself
 abbrev pub empty_app : App
-empty_app = let a = new_app (codes "sja") in record a { top = record a.top { subcommand_required = true } }
+empty_app =
+    let a = new_app (codes "sja") in
+    record a { top = record a.top { subcommand_required = true; has_version = true } }
 
 -- the commands over one line: `encode MESSAGE` and `decode LINE`
 abbrev pub line_app : App

@@ -7,18 +7,15 @@ ghost use Rattle.sja_words.specs.CommandLine.{text_rule, text_app, filter_app, a
 ghost use Rattle.sja_words.specs.CommandLine.{empty_app, line_app, frame_app, notation_app};
 ghost use Rattle.sja_words.specs.CommandLine.{flag_rule, run_app, wave_app, sja_app};
 
+use super::help::{
+    ACR_HELP, AMR_HELP, LINE_HELP, MESSAGE_HELP, MODE_HELP, TEXT_HELP, THREADS_HELP,
+};
 use super::task::MOST_MESSAGES;
 use clap::{Arg, ArgAction, Command};
 use std::alloc::{AllocError, Global};
 
-/// What help says of the acceptance code registers.
-const ACR_HELP: &str = "The four acceptance code registers, a byte each in hexadecimal";
-
-/// What help says of the acceptance mask registers.
-const AMR_HELP: &str = "The four acceptance mask registers alike; a bit 1 isn't compared";
-
-/// What help says of a message.
-const MESSAGE_HELP: &str = "A message as the controller's buffers hold it, in hexadecimal";
+/// The version that `sja --version` prints (this project's own rule).
+const VERSION: &str = "0.3.0";
 
 /// An argument without a flag, which must be given and takes one text, with the line of help behind it.
 fn text_argument<'a>(alloc: Global, id: &'a str, help: &'a str) -> Arg<'a>
@@ -48,11 +45,7 @@ fn decode_command<'a>(alloc: Global) -> Result<Command<'a>, AllocError>
 {
     Command::new(alloc, "decode")
         .about("Print the message of an acknowledged line")
-        .arg(text_argument(
-            alloc,
-            "LINE",
-            "The levels of a line, a digit each: 0 dominant, 1 recessive",
-        ))
+        .arg(text_argument(alloc, "LINE", LINE_HELP))
 }
 
 /// `filter MODE ACR AMR MESSAGE`.
@@ -62,7 +55,7 @@ fn filter_command<'a>(alloc: Global) -> Result<Command<'a>, AllocError>
 {
     Command::new(alloc, "filter")
         .about("Print whether an acceptance filter, single or dual, passes a message's frame")
-        .arg(text_argument(alloc, "MODE", "single or dual"))?
+        .arg(text_argument(alloc, "MODE", MODE_HELP))?
         .arg(text_argument(alloc, "ACR", ACR_HELP))?
         .arg(text_argument(alloc, "AMR", AMR_HELP))?
         .arg(text_argument(alloc, "MESSAGE", MESSAGE_HELP))
@@ -85,20 +78,17 @@ fn message_command<'a>(alloc: Global) -> Result<Command<'a>, AllocError>
 {
     Command::new(alloc, "message")
         .about("Print a message in can-utils' notation, or the message of that notation")
-        .arg(text_argument(
-            alloc,
-            "TEXT",
-            "The message, in hexadecimal or in can-utils' notation",
-        ))
+        .arg(text_argument(alloc, "TEXT", TEXT_HELP))
 }
 
-/// The program, of which one command has to be given, before it has any.
+/// The program, which has a version and of which one command has to be given, before it has any.
 fn empty_command<'a>(alloc: Global) -> Command<'a>
     ensures app { app_of result ≡ empty_app }
     ensures local { (out-Command result).has_globals ≡ false }
 {
     Command::new(alloc, "sja")
         .about("A model of SJA1000 CAN controllers on one bus")
+        .version(VERSION)
         .subcommand_required(true)
 }
 
@@ -145,7 +135,7 @@ fn run_command<'a>(alloc: Global) -> Result<Command<'a>, AllocError>
 {
     Command::new(alloc, "run")
         .about("Print the report of a run of the plan on standard input: sja run < plan.toml")
-        .arg(flag(alloc, "threads").help("Run each node's driver in a thread of its own"))
+        .arg(flag(alloc, "threads").help(THREADS_HELP))
 }
 
 /// `wave`.

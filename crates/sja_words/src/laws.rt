@@ -2,7 +2,8 @@
 
 ghost use Rattle.std.specs.Prelude.{◌≡◌, ◌==◌, ◌<◌, ◌≤◌, ◌∷◌, [], ℕ, List, codes, false, length, true};
 ghost use Rattle.sja_words.specs.Words.{HasNoFlag, ParsesAs, Request, arbitrate, decode, encode, filter, message};
-ghost use Rattle.sja_words.specs.Words.{run, wave};
+ghost use Rattle.clap.specs.declared.error.kind.ErrorKind.TheVariants.{DisplayVersion};
+ghost use Rattle.sja_words.specs.Words.{faults, run, wave};
 
 /// The program's name, `encode` and a text that doesn't begin with `-` (45) ask for the levels of this message.
 pub fn encode_and_a_text_parse()
@@ -61,6 +62,15 @@ pub fn run_parses()
 /// The program's name and `wave` ask for the waveform of that plan.
 pub fn wave_parses()
     ensures { (name : List ℕ) → ParsesAs (name ∷ codes "wave" ∷ []) wave }
+{}
+
+/// The program's name and `--version` or `-V`, whatever follows, ask for the version: that is all that the parser says
+/// of them, so they ask for no task.
+pub fn version_is_asked_for()
+    ensures long { (name : List ℕ) (more : List (List ℕ))
+        → faults (name ∷ codes "--version" ∷ more) ≡ DisplayVersion ∷ [] }
+    ensures short { (name : List ℕ) (more : List (List ℕ))
+        → faults (name ∷ codes "-V" ∷ more) ≡ DisplayVersion ∷ [] }
 {}
 
 /// The program's name alone, or with `encode` alone, asks for nothing.

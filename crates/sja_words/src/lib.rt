@@ -8,6 +8,7 @@
 
 mod command;
 mod found;
+mod help;
 mod laws;
 mod parsing;
 mod task;
@@ -16,7 +17,7 @@ mod words_fault;
 pub use laws::{
     a_message_is_needed, arbitrate_and_texts_parse, decode_and_a_text_parse,
     encode_and_a_text_parse, filter_and_texts_parse, message_and_a_text_parses, run_parses,
-    wave_parses,
+    version_is_asked_for, wave_parses,
 };
 pub use parsing::parse;
 pub use task::Task;

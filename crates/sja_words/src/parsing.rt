@@ -13,8 +13,8 @@ use std::convert::AsStr;
 
 /// The task that these words ask for (this project's own rule). The first word is the program's name, whatever it is.
 ///
-/// Errors: [`WordsFault::Unparsed`] where the words don't parse as a task or ask for help, with the parser's text for
-/// the user; [`WordsFault::OutOfMemory`].
+/// Errors: [`WordsFault::Unparsed`] where the words don't parse as a task or ask for help or the version, with the
+/// parser's text for the user; [`WordsFault::OutOfMemory`].
 pub fn parse<'a, S: AsStr>(alloc: Global, words: &'a [S]) -> Result<Task<'a>, WordsFault>
     ensures ok { IfOk result (λ task. ParsesAs (map S.text words.entry.now) (request_of task)) }
     ensures refused { (r : Request) → ParsesAs (map S.text words.entry.now) r
