@@ -49,7 +49,7 @@ fn decode_command<'a>(alloc: Global) -> Result<Command<'a>, AllocError>
 }
 
 /// `filter MODE ACR AMR MESSAGE`.
-fn filter_command<'a>(alloc: Global) -> Result<Command<'a>, AllocError>
+pub fn filter_command<'a>(alloc: Global) -> Result<Command<'a>, AllocError>
     ensures app { IfOk result (λ command. app_of command ≡ filter_app) }
     ensures local { IfOk result (λ command. (out-Command command).has_globals ≡ false) }
 {

@@ -3,12 +3,12 @@
 ghost use Rattle.std.specs.Prelude.{◌≡◌, map, IfOk, IfErr};
 ghost use Rattle.sja_words.specs.Words.{Request, ParsesAs, request_of};
 
-use super::command::sja_command;
+use super::command::{filter_command, sja_command};
 use super::found::task_of;
 use super::task::Task;
 use super::words_fault::WordsFault;
 use clap::error::ErrorKind;
-use std::alloc::Global;
+use std::alloc::{AllocError, Global};
 use std::convert::AsStr;
 
 /// The task that these words ask for (this project's own rule). The first word is the program's name, whatever it is.
@@ -24,15 +24,34 @@ pub fn parse<'a, S: AsStr>(alloc: Global, words: &'a [S]) -> Result<Task<'a>, Wo
     match command.try_get_matches_from_mut(words) {
         Ok(matches) => match task_of(&matches) {
             Some(task) => Ok(task),
-            None => {
-                let error = command.error(
-                    ErrorKind::InvalidValue,
-                    "MODE is neither 'single' nor 'dual'",
-                )?;
-                Err(WordsFault::Unparsed(error.to_string(alloc)?))
-            }
+            None => Err(WordsFault::Unparsed(mode_text(alloc, shown_name(words))?)),
         },
         Err(error) if error.kind() == ErrorKind::OutOfMemory => Err(WordsFault::OutOfMemory),
         Err(error) => Err(WordsFault::Unparsed(error.to_string(alloc)?)),
     }
+}
+
+/// What the parser would say, under the program's name `program`, of a MODE that is none: with the usage of `filter`.
+fn mode_text(alloc: Global, program: &str) -> Result<String, AllocError> {
+    let name = format!(in alloc; "{program} filter")?;
+    let mut command = filter_command(alloc)?.bin_name(name.as_str())?;
+    let error = command.error(
+        ErrorKind::InvalidValue,
+        "MODE is neither 'single' nor 'dual'",
+    )?;
+    error.to_string(alloc)
+}
+
+/// The program's name as the parser shows it: what stands behind the last slash of the first word, or `sja` where
+/// nothing does.
+fn shown_name<S: AsStr>(words: &[S]) -> &str {
+    let Some(first) = words.first() else {
+        return "sja";
+    };
+    let first = first.as_str();
+    let name = match first.rsplit_once('/') {
+        Some((_, behind)) => behind,
+        None => first,
+    };
+    if name.is_empty() { "sja" } else { name }
 }
