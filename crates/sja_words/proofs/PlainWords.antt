@@ -58,7 +58,8 @@ pub form : (name rest : List ℕ) (x : ℕ) → (x == 45) ≡ false →
 form name rest x h = record { taken = taken_form name rest x h; asks = asked_form name rest x h }
 
 -- `--version`, whatever follows
-pub long_version : (name : List ℕ) (more : List (List ℕ)) → faults (name ∷ codes "--version" ∷ more) ≡ DisplayVersion ∷ []
+pub long_version : (name : List ℕ) (more : List (List ℕ)) →
+    faults (name ∷ codes "--version" ∷ more) ≡ DisplayVersion ∷ []
 unfolding clap_on_literals faults
 long_version name more = refl
 

@@ -7,8 +7,8 @@ use std::alloc::AllocError;
 pub enum WordsFault {
     /// Memory was refused.
     OutOfMemory,
-    /// The words don't parse, or ask for help or the version. The parser's own text for the user, which ends with a line
-    /// feed.
+    /// The words don't parse, or ask for help or the version. The parser's own text for the user, which ends with a
+    /// line feed.
     Unparsed(String),
 }
 
