@@ -16,5 +16,6 @@ pub mod Own
 pub mod Later
 pub mod Adding
 -- the end of a run
+pub mod OffLinks
 pub mod Logging
 pub mod NodeEnds

@@ -52,6 +52,5 @@ pub mod GoingOn
 pub mod AfterBusTurn
 pub mod AfterNodeTurn
 pub mod Coming
-pub mod OffLinks
 pub mod Ended
 pub mod Whole
