@@ -3,23 +3,43 @@
 
 use sja_run::{Output, Refusal, sja};
 use std::env;
-use std::io::ErrorKind;
+use std::io::{ErrorKind, IsTerminal};
 use std::process::ExitCode;
 
 /// What the parser says of an argument that is no text.
 const NO_TEXT: &str = "error: invalid UTF-8 was detected in one or more arguments\n";
 
-/// Answers the exit status: 0 for done, 1 for refused, 2 for words that don't parse.
+/// What is said before a plan is read that somebody has to type.
+const WAITING: &str =
+    "sja: the plan is waited for on standard input; from a file: sja run < plan.toml";
+
+/// Answers the exit status: 0 for done, 1 for refused, 2 for words that don't parse. Where words ask for the run of a
+/// plan and standard input is a terminal, a line on standard error says that the plan is waited for.
 fn main(rt: HostRuntime) -> ExitCode {
     let mut out = Output::new(rt.stdout());
     let mut err = Output::new(rt.stderr());
     let status = match env::args(&rt) {
         Ok(args) => match args.collect::<Vec<String>>(rt.alloc()) {
-            Ok(words) => sja(&rt, rt.alloc(), &words, &mut rt.stdin(), &mut out, &mut err),
+            Ok(words) => {
+                let mut input = rt.stdin();
+                if asks_for_plan(words.as_slice()) && input.is_terminal() {
+                    let _ = eprintln!(rt; "{WAITING}");
+                }
+                sja(&rt, rt.alloc(), &words, &mut input, &mut out, &mut err)
+            }
             Err(_) => err.refuse(Refusal::OutOfMemory),
         },
         Err(error) if error.kind() == ErrorKind::OutOfMemory => err.refuse(Refusal::OutOfMemory),
         Err(_) => err.turn_away(NO_TEXT.as_bytes()),
     };
     ExitCode::from(status)
+}
+
+/// Whether the words, the program's name first, ask for the run of a plan.
+fn asks_for_plan(words: &[String]) -> bool {
+    match words {
+        [_, command] => command.as_str() == "run" || command.as_str() == "wave",
+        [_, command, flag] => command.as_str() == "run" && flag.as_str() == "--threads",
+        _ => false,
+    }
 }

@@ -18,7 +18,8 @@ use std::thread::Threads;
 /// status. The first word is the program's name.
 ///
 /// The status is 0 where the text was written, 1 where an argument, the plan or memory was refused, a run failed, or a
-/// read or a write failed, and 2 where the words don't parse or ask for help; then `err` has the parser's own text.
+/// read or a write failed, and 2 where the words don't parse, or ask for help or the version; then `err` has the
+/// parser's own text.
 /// `input` is read for `run`, with `--threads` or without, and for `wave` alone: at most 65,537 bytes of it, in at most
 /// 131,074 reads.
 /// For `run --threads` alone it starts threads, and waits for them.

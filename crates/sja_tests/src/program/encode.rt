@@ -53,7 +53,7 @@ fn encode_refuses_what_spells_no_message(rt: HostRuntime) {
 
 #[test]
 fn other_words_give_the_parsers_text(rt: HostRuntime) {
-    let rows: [Row; 10] = [
+    let rows: [Row; 14] = [
         (&[], Want::Usage),
         (&["sja"], Want::Usage),
         (&["sja", "encode"], Want::Usage),
@@ -64,6 +64,10 @@ fn other_words_give_the_parsers_text(rt: HostRuntime) {
         (&["sja", "--help"], Want::Usage),
         (&["sja", "help"], Want::Usage),
         (&["sja", "encode", "-h"], Want::Usage),
+        (&["sja", "--version"], Want::Usage),
+        (&["sja", "-V"], Want::Usage),
+        (&["sja", "message"], Want::Usage),
+        (&["sja", "message", "123#", "123#"], Want::Usage),
     ];
     for (words, want) in rows {
         assert!(rt; gives(rt.alloc(), words, want), "{words:?}");
