@@ -16,7 +16,7 @@ use Rattle.sja_texts.specs.BytesText.{bytes_text}
 -- line feed
 abbrev pub IsTranslation : List ℕ → List ℕ → Type 0
 IsTranslation given printed =
-    ((f : FrameValue) × IsFrame f × HasHash given × Says given f × (printed ≡ bytes_text (message f)))
+    ((f : FrameValue) × IsFrame f × Says given f × (printed ≡ bytes_text (message f)))
     ⊎ ((f : FrameValue) × IsFrame f × ¬ HasHash given × ReadsAs given (message f) × (printed ≡ text f ++ 10 ∷ []))
 
 -- the first fault of a text with a `#`
