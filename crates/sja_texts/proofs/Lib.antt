@@ -1,2 +1,3 @@
 pub mod Symbols
 pub mod Spelled
+pub mod Translating

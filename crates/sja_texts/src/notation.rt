@@ -14,6 +14,7 @@ use std::alloc::{AllocError, Global};
 
 /// The bytes of the message whose frame this text says in can-utils' notation; or, where it has no `#`, that notation
 /// of the message that its hexadecimal digits spell. Both end with a line feed.
+#[tactic(auto, using(crate::proofs::Translating::from_notation, crate::proofs::Translating::no_identifier, crate::proofs::Translating::no_data))]
 pub fn translated(alloc: Global, given: &str) -> Result<Vec<u8>, Refusal>
     ensures ok { IfOk result (λ text. IsTranslation given.now text.items) }
     ensures err { IfErr result (RefusesTranslation given.now) }
@@ -21,7 +22,8 @@ pub fn translated(alloc: Global, given: &str) -> Result<Vec<u8>, Refusal>
     match read_text(given.as_bytes()) {
         Ok(frame) => Ok(text_of_bytes(alloc, Message::of(&frame).bytes())?),
         Err(NotationFault::NoHash) => in_notation(alloc, given),
-        Err(fault) => Err(Refusal::Notation(fault)),
+        Err(NotationFault::Identifier) => Err(Refusal::Notation(NotationFault::Identifier)),
+        Err(NotationFault::Data) => Err(Refusal::Notation(NotationFault::Data)),
     }
 }
 

@@ -163,7 +163,7 @@ module _ (plan : PlanValue) (bus : BusValue) (links : List RingBus) (workeds : L
     journals = journals_in_log plan log logs bus.journals (all_drivers workeds) lying are;
     done = λ node n w less. done_there node n less w;
     linked = λ node n less. linked_by (steps_at plan node) (deeds_at deeds node) (slice_index_or log.nodes node n)
-        (trace_there node n less) (settled_there node n less) (lawful_there node n less) (orderly_there node n less);
+        (trace_there node n less) (lawful_there node n less) (orderly_there node n less);
   }
 
 -- ---- as it is made
