@@ -15,8 +15,8 @@ from_notation given printed f frame says is = inl (f, frame, says, is)
 
 pub no_identifier : (given : List ℕ) → HasHash given → ¬ HasIdentifier given →
     RefusesTranslation given (Notation Identifier)
-no_identifier given hash none = inl (Identifier, refl, hash, none)
+no_identifier given hash none = inl (Identifier, refl, (hash, none))
 
 pub no_data : (given : List ℕ) → HasHash given → HasIdentifier given → ¬ HasRest given →
     RefusesTranslation given (Notation Data)
-no_data given hash identifier none = inl (Data, refl, hash, identifier, none)
+no_data given hash identifier none = inl (Data, refl, (hash, identifier, none))

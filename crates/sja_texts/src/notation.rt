@@ -14,7 +14,6 @@ use std::alloc::{AllocError, Global};
 
 /// The bytes of the message whose frame this text says in can-utils' notation; or, where it has no `#`, that notation
 /// of the message that its hexadecimal digits spell. Both end with a line feed.
-#[tactic(auto, using(crate::proofs::Translating::from_notation, crate::proofs::Translating::no_identifier, crate::proofs::Translating::no_data))]
 pub fn translated(alloc: Global, given: &str) -> Result<Vec<u8>, Refusal>
     ensures ok { IfOk result (λ text. IsTranslation given.now text.items) }
     ensures err { IfErr result (RefusesTranslation given.now) }
