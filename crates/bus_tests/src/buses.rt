@@ -16,6 +16,7 @@ mod listening;
 mod places;
 mod refused_memory;
 mod rig;
+mod scripts;
 mod self_reception;
 mod several;
 mod step;

@@ -1,25 +1,9 @@
 //! Scripts of strikes: which nodes they strike in which bits.
 
-use sja_script::{FaultScript, Strike};
+use super::given::script_of;
+use sja_script::FaultScript;
 use std::alloc::Global;
 use std::test::Fail;
-
-/// A strike by its four numbers.
-pub fn strike(node: u8, bit: u32, every: u32, times: u32) -> Strike {
-    Strike {
-        node,
-        bit,
-        every,
-        times,
-    }
-}
-
-/// The script of these strikes.
-fn script_of(alloc: Global, strikes: &[Strike]) -> Result<FaultScript, Fail> {
-    let mut list = Vec::new(alloc);
-    list.extend_from_slice(strikes)?;
-    Ok(FaultScript::of(list))
-}
 
 /// Which of the first so many bits strike this node.
 fn struck_bits(alloc: Global, script: &FaultScript, node: u8, bits: u32) -> Result<Vec<u32>, Fail> {
@@ -38,12 +22,12 @@ fn a_script_strikes_the_bits_of_its_strikes(rt: HostRuntime) -> Result<(), Fail>
     let script = script_of(
         alloc,
         &[
-            strike(0, 3, 4, 3),
-            strike(1, 5, 1, 2),
-            strike(1, 6, 9, 2),
-            strike(0, 11, 7, 1),
-            strike(2, 4, 0, 9),
-            strike(2, 8, 3, 0),
+            (0, 3, 4, 3),
+            (1, 5, 1, 2),
+            (1, 6, 9, 2),
+            (0, 11, 7, 1),
+            (2, 4, 0, 9),
+            (2, 8, 3, 0),
         ],
     )?;
     let rows = [
@@ -73,7 +57,7 @@ fn a_script_of_no_strike_strikes_nothing(rt: HostRuntime) -> Result<(), Fail> {
 fn a_bit_past_2_to_32_strikes_none_before(rt: HostRuntime) -> Result<(), Fail> {
     let script = script_of(
         rt.alloc(),
-        &[strike(0, 4_000_000_000, 500_000_000, 4_294_967_295)],
+        &[(0, 4_000_000_000, 500_000_000, 4_294_967_295)],
     )?;
     assert!(rt; script.strikes(4_000_000_000, 0));
     assert!(rt; !script.strikes(205_032_704, 0));

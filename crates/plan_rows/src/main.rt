@@ -1,0 +1,45 @@
+//! Plans row by row: each line of the input is made a document, and what reading it answers is printed behind it.
+//!
+//! A line that begins with `== ` is the title of the rows below it, and one that begins with `-- ` their form. [`row`]
+//! says what document a row is, and [`answer`] how the answer is written. The answers that are wanted stand in the file
+//! `stdout`, and are written by hand from the format of plans.
+#![tactic(auto)]
+
+mod answer;
+mod row;
+
+use answer::answer;
+use row::document;
+use std::alloc::Global;
+use std::io;
+use std::process::ExitCode;
+
+/// Answers the exit status: 0 for done, 1 where memory was refused or a read or a write failed.
+fn main(rt: HostRuntime) -> ExitCode {
+    ExitCode::from(if rows_are_told(&rt).is_ok() { 0 } else { 1 })
+}
+
+/// Prints each line of the input, and behind a row what it answers.
+fn rows_are_told(rt: &HostRuntime) -> io::Result<()> {
+    let mut form = String::new(rt.alloc());
+    for line in rt.lines(rt.alloc()) {
+        let line = line?;
+        if let Some(next) = line.as_str().strip_prefix("-- ") {
+            form.clear();
+            form.push_str(next)?;
+            println!(rt; "{line}")?;
+        } else if line.as_str().starts_with("== ") {
+            println!(rt; "{line}")?;
+        } else {
+            let text = told(rt.alloc(), form.as_str(), line.as_str())?;
+            println!(rt; "{line} -> {text}")?;
+        }
+    }
+    Ok(())
+}
+
+/// What reading the row's document answers.
+fn told(alloc: Global, form: &str, row: &str) -> io::Result<String> {
+    let bytes = document(alloc, form, row)?;
+    answer(alloc, bytes.as_slice())
+}
