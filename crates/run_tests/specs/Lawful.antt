@@ -1,4 +1,4 @@
--- That a driver and its log go together is one fact.
+-- That a driver and its log go together is one fact (this project's own rule).
 use Rattle.std.proofs.Common.{◌≡◌, ℕ}
 use Rattle.std.proofs.Props.{props}
 use Rattle.sja_driver.specs.declared.any_driver.AnyDriver.{AnyDriver}

@@ -1,4 +1,4 @@
--- What a driver's calls do at its port.
+-- What a driver's calls do at its port (SJA1000 data sheet, 6.4.3, reset mode, and 6.4.4, command register).
 use Rattle.std.specs.Prelude.{Option, Some, None, Result, Ok, Err, List, [], ◌∷◌, if◌then◌else◌}
 use Rattle.can_node.specs.declared.request.Request.{Request}
 use Rattle.sja_link.specs.declared.up.Up.{Up}

@@ -1,4 +1,4 @@
--- Lists and numbers gathered from the elements of a list.
+-- Lists and numbers gathered from the elements of a list (this project's own rule).
 use Rattle.std.specs.Prelude.{◌+◌, ℕ, List, [], ◌∷◌, ◌++◌}
 
 -- what each element gives, in order

@@ -1,4 +1,5 @@
--- The words of can_node that this crate speaks of: a bit, the record of a node, and what its cuts find.
+-- The words of can_node that this crate speaks of: a bit, the record of a node, and what its cuts find (this project's
+-- own rule).
 pub use Rattle.can_node.specs.Bits.{Bit as NodeBit}
 pub use Rattle.can_node.specs.Record.{Entry as NodeEntry}
 pub use Rattle.can_node.specs.Record.Entry.{Start as NodeStarted, Stop as NodeStopped, OneBit as NodeTook}

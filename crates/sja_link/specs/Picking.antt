@@ -1,4 +1,4 @@
--- Lists beside lists.
+-- Lists beside lists (this project's own rule).
 use Rattle.std.specs.Prelude.{List, [], ◌∷◌, ◌++◌}
 
 -- of the elements that have the property each has its partner, in order and each once; the others have none

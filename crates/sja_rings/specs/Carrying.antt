@@ -1,5 +1,5 @@
 -- What the traits of ends ask of "the same end", for each end of a ring: it is the same as itself, and it carries over
--- from one call to the next.
+-- from one call to the next (this project's own rule).
 use Rattle.std.proofs.Common.{refl, ◌∙◌}
 use Rattle.rtrb.specs.Ends.{SameRing}
 use Rattle.rtrb.specs.Ring.{SameProducer, SameConsumer}

@@ -1,4 +1,4 @@
--- What `decode` prints and refuses.
+-- What `decode` prints and refuses (this project's own rule; lines are those of Bosch CAN 2.0 part A).
 use Rattle.std.specs.Prelude.{◌≡◌, ℕ, List, map}
 use Rattle.can_bits.specs.declared.level.Level.{Level}
 use Rattle.can_bits.specs.Reading.{IsReceived, IsFirstFault}

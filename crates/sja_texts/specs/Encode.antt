@@ -1,4 +1,4 @@
--- What `encode` prints.
+-- What `encode` prints (this project's own rule; lines are those of Bosch CAN 2.0 part A).
 use Rattle.std.specs.Prelude.{◌≡◌, ℕ, List}
 use Rattle.can_bits.specs.declared.level.Level.{Level}
 use Rattle.can_bits.specs.Line.{IsSentLine}
