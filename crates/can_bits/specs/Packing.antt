@@ -1,4 +1,4 @@
--- Levels kept as one number.
+-- Levels kept as one number (this project's own rule).
 use Rattle.std.specs.Prelude.{◌≡◌, ◌≤◌, ℕ, List, length}
 use Rattle.can_frame.specs.Frame.{FrameValue}
 use Rattle.can_bits.specs.declared.level.Level.{Level}

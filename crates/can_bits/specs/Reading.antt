@@ -1,4 +1,4 @@
--- What levels say when they are read as a line.
+-- What levels say when they are read as a line (Bosch CAN 2.0 part A section 6.1; their order is this project's own).
 use Rattle.std.specs.Prelude.{Bool, true, false, ◌≡◌, ◌≢◌, ◌≤◌, List, [], ◌∷◌, ◌++◌, length}
 use Rattle.can_frame.specs.Frame.{FrameValue}
 use Rattle.can_bits.specs.declared.level.Level.{Level}

@@ -1,4 +1,4 @@
--- The levels that a reader of one level at a time was given, and how it judges the next one.
+-- The levels that a reader of one level at a time was given, and how it judges the next one (this project's own rule).
 use Rattle.std.specs.Prelude.{◌≡◌, List, [], ◌∷◌, ◌++◌, Option, Some, None}
 use Rattle.can_bits.specs.declared.level.Level.{Level}
 use Rattle.can_bits.specs.declared.shift_event.ShiftEvent.{ShiftEvent}

@@ -1,4 +1,4 @@
--- A body and its CRC sequence, before stuffing.
+-- A body and its CRC sequence, before stuffing (Bosch CAN 2.0 part A section 3.1.1).
 use Rattle.std.specs.Prelude.{◌≡◌, List, ◌++◌, length}
 use Rattle.can_frame.specs.Frame.{FrameValue, IsFrame}
 use Rattle.can_bits.specs.declared.level.Level.{Level}

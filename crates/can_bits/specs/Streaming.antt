@@ -1,4 +1,4 @@
--- What a reader of one level at a time says. It takes either level in the ACK slot.
+-- What a reader of one level at a time says (Bosch CAN 2.0 part A, 3.1.1 and 5 to 7), whichever level the ACK slot has.
 use Rattle.std.specs.Prelude.{◌≡◌, ◌≤◌, ℕ, Bool, List, [], ◌∷◌, ◌++◌, length, Option, Some, None, ◌↔◌, IfSome, IsTrue}
 use Rattle.can_frame.specs.Frame.{FrameValue}
 use Rattle.can_bits.specs.declared.level.Level.{Level}

@@ -1,4 +1,4 @@
--- What is known of a node beside the place where it stands: its context.
+-- What is known of a node beside the place where it stands: its context (this project's own rule; sources as named).
 use Rattle.std.specs.Prelude.{◌&&◌, ◌||◌, ℕ, Bool, true, false, nat_le, if◌then◌else◌, Option, Some, None}
 use Rattle.can_bits.specs.declared.level.Level.{Level}
 use Rattle.can_bits.specs.declared.level.Level.TheVariants.{Dominant, Recessive}

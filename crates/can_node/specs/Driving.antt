@@ -1,4 +1,4 @@
--- What a node drives in its next bit, and the phase of that bit.
+-- What a node drives in its next bit (Bosch CAN 2.0 part A section 3.1), and its phase (this project's own rule).
 use Rattle.std.specs.Prelude.{◌≡◌, nat_lt, if◌then◌else◌, Option, Some, None, List, [], ◌∷◌, ◌++◌, length}
 use Rattle.can_bits.specs.declared.level.Level.{Level}
 use Rattle.can_bits.specs.declared.level.Level.TheVariants.{Dominant, Recessive}

@@ -1,4 +1,4 @@
--- What a bit tells.
+-- What a bit tells (this project's own rule; the source of what is told stands beside it).
 use Rattle.std.specs.Prelude.{◌&&◌, not, ℕ, Bool, true, false, nat_le, if◌then◌else◌, Option, Some, None, List, ◌∷◌}
 use Rattle.can_frame.specs.Frame.{FrameValue}
 use Rattle.can_bits.specs.declared.level.Level.{Level}

@@ -1,5 +1,5 @@
--- What the cut of a record says of the next bit: the context in it, its phase, the level that is driven in it. No node
--- is named here: each of these is a function of the record, since a record has one cut.
+-- What the cut of a record says of the next bit: the context in it, its phase, the level that is driven in it (this
+-- project's own rule). No node is named here: each of these is a function of the record, since a record has one cut.
 use Rattle.std.specs.Prelude.{Bool, true, false, if◌then◌else◌, List, []}
 use Rattle.can_bits.specs.declared.level.Level.{Level}
 use Rattle.can_node.specs.declared.phase.Phase.{Phase}

@@ -1,4 +1,4 @@
--- A node that stands at a record, and what its calls do.
+-- A node that stands at a record, and what its calls do (this project's own rule).
 use Rattle.std.specs.Prelude.{⊤, ◌≡◌, ◌≢◌, ◌⊎◌, ◌||◌, not, Bool, true, false, nat_le, nat_lt}
 use Rattle.std.specs.Prelude.{if◌then◌else◌, Option, Some, None, Result, Ok, Err, List, [], ◌∷◌, ◌++◌}
 use Rattle.can_frame.specs.Frame.{FrameValue}

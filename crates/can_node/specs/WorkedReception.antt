@@ -1,5 +1,5 @@
 -- A record worked by hand, with its finished pieces: a node starts, waits for eleven recessive levels, receives the
--- frame of another node and acknowledges it.
+-- frame of another node and acknowledges it (by Bosch CAN 2.0 part A section 3.1 and ISO 11898-1).
 use Rattle.std.specs.Prelude.{false, List, [], ◌∷◌, ◌++◌, map, replicate}
 use Rattle.can_frame.specs.Frame.{FrameValue}
 use Rattle.can_bits.specs.declared.level.Level.{Level}

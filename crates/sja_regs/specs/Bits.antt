@@ -1,4 +1,4 @@
--- Bytes and their bits.
+-- Bytes and their bits (this project's own rule).
 use Rattle.std.specs.Prelude.{◌==◌, ◌+◌, ◌*◌, ◌/◌, ◌%◌, ◌^◌, not, ℕ, Bool, if◌then◌else◌, List, [], ◌∷◌}
 use Rattle.can_frame.specs.Message.{bit}
 

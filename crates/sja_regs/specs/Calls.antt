@@ -1,4 +1,4 @@
--- The calls that change a port's registers, one after the other, and what each leaves by its contract.
+-- The calls that change a port's registers, in order, and what each leaves by its contract (this project's own rule).
 use Rattle.std.specs.Prelude.{ℕ, true, if◌then◌else◌, Option, Some, None, List, [], ◌∷◌}
 use Rattle.sja_regs.specs.declared.bus_turn.BusTurn.{BusTurn}
 use Rattle.sja_regs.specs.declared.command.Command.{Command}

@@ -1,4 +1,4 @@
--- What holds of the registers of every port, at each call and behind each lock.
+-- What holds of the registers of every port, at each call and behind each lock (this project's own rule).
 use Rattle.std.specs.Prelude.{◌≡◌, true, false, length}
 use Rattle.sja_regs.specs.declared.registers.Registers.{Registers}
 

@@ -1,4 +1,4 @@
--- What stands in a register after several calls, or after a write.
+-- What stands in a register after several calls, or after a write (SJA1000 data sheet, 6.4.6, 6.4.8 and 6.4.9).
 use Rattle.std.specs.Prelude.{◌≢◌, ◌≡◌, ◌||◌, ◌&&◌, ◌%◌, not, ℕ, Bool, true, false}
 use Rattle.std.specs.Prelude.{if◌then◌else◌, Option, Some, None, List, [], ◌∷◌, All}
 use Rattle.sja_regs.specs.declared.interrupts.Interrupts.{Interrupts}

@@ -1,4 +1,4 @@
--- What calls leave as it is.
+-- What calls leave as it is (this project's own rule).
 use Rattle.std.specs.Prelude.{◌≢◌, ◌⊎◌, ◌≡◌, ◌||◌, true, false, None}
 use Rattle.sja_regs.specs.declared.bus_turn.BusTurn.{BusTurn}
 use Rattle.sja_regs.specs.declared.registers.Registers.{Registers}

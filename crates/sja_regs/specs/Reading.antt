@@ -1,4 +1,4 @@
--- What a driver reads.
+-- What a driver reads (SJA1000 data sheet, 6.4.3 to 6.4.16).
 use Rattle.std.specs.Prelude.{ℕ, Option, Some, None, Result, Ok, Err, List, slice_get, slice_index, unwrap_or}
 use Rattle.sja_regs.specs.declared.register.Register.{Register}
 use Rattle.sja_regs.specs.declared.register.Register.TheVariants.{Mode, Command, Status, Interrupt, InterruptEnable}

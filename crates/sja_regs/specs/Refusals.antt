@@ -1,4 +1,4 @@
--- Refusals: of several the first that holds.
+-- Refusals: of several the first that holds (this project's own rule).
 use Rattle.std.specs.Prelude.{Bool, if◌then◌else◌, Option, Some, None, Result, Ok, Err, List, [], ◌∷◌}
 use Rattle.sja_regs.specs.declared.reg_fault.RegFault.{RegFault}
 

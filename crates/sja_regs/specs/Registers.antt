@@ -1,4 +1,4 @@
--- What a port keeps, as a whole: after power-on, what follows from it, and reset mode.
+-- What a port keeps, as a whole: after power-on, what follows, and reset mode (SJA1000 data sheet, 6.4.2 to 6.4.6).
 use Rattle.std.specs.Prelude.{◌+◌, ◌&&◌, min, ℕ, true, false, replicate, is_some}
 use Rattle.can_node.specs.declared.config.Config.{Config}
 use Rattle.sja_regs.specs.declared.registers.Registers.{Registers}

@@ -1,4 +1,4 @@
--- What one bit of the bus changes, a register at a time.
+-- What one bit of the bus changes, a register at a time (SJA1000 data sheet, 6.4.3 to 6.4.12).
 use Rattle.std.specs.Prelude.{◌==◌, ◌||◌, ◌&&◌, not, ℕ, Bool, true, false, if◌then◌else◌, Option, Some, None, is_some}
 use Rattle.can_bits.specs.declared.segment.Segment.{Segment}
 use Rattle.can_node.specs.declared.cause.Cause.{Cause}

@@ -1,4 +1,4 @@
--- What a driver writes.
+-- What a driver writes (SJA1000 data sheet, 6.4.3, 6.4.7, 6.4.10, 6.4.13 and 6.4.15).
 use Rattle.std.specs.Prelude.{◌≡◌, ◌==◌, ◌||◌, ◌&&◌, not, ℕ, Bool, true, Option, Some, None, List, [], ◌∷◌, slice_set}
 use Rattle.can_frame.specs.Message.{message}
 use Rattle.can_frame.specs.Buffer.{frame_in, buffer_of}
