@@ -2,7 +2,7 @@
 //!
 //! Only `line_of` takes memory.
 //!
-//! Its tests stand in `crates/can_tests/src/lines`.
+//! Its tests stand in `crates/test_can/src/lines`.
 #![tactic(auto)]
 
 mod crc;

@@ -4,7 +4,7 @@
 //! transmit and receive buffers, 3 to 13 bytes. The two are one to one. A [`Filter`] says which received frames the
 //! controller keeps. No call of this crate takes memory.
 //!
-//! Its tests stand in `crates/can_tests/src/frames`.
+//! Its tests stand in `crates/test_can/src/frames`.
 #![tactic(auto)]
 
 mod buffer;

@@ -8,7 +8,7 @@
 //! [`contend`] says which of several frames go on if their transmitters start together, and where the others lose
 //! arbitration. It alone takes memory.
 //!
-//! Its tests stand in `crates/can_tests/src/node` and `contention`.
+//! Its tests stand in `crates/test_can/src/node` and `contention`.
 #![tactic(auto)]
 
 mod aborted;

@@ -3,7 +3,7 @@
 //! [`text_of`] writes the text of a frame, and [`read_text`] reads it. A text says a frame where, with its letters
 //! turned to capitals, it is exactly the text of that frame. No call of this crate takes memory.
 //!
-//! Its tests stand in `crates/can_tests/src/notation.rt`.
+//! Its tests stand in `crates/test_can/src/notation.rt`.
 #![tactic(auto)]
 
 mod body;

@@ -12,7 +12,7 @@
 //! registers, the registers after it, why it is to be tried again, and how log and links go on with all steps before
 //! it. When it may be made is the record `MayStep`, and what is in order after it, whatever the step, `StaysLawful`.
 //!
-//! `WorkLog::new` alone takes memory. The tests stand in `crates/controller_tests`.
+//! `WorkLog::new` alone takes memory. The tests stand in `crates/test_controller`.
 #![tactic(auto)]
 
 mod active;

@@ -9,7 +9,7 @@
 //! The [`World`] of one link has the events that may happen on it.
 //!
 //! `DequeLink::new`, `Journal::new` and `World::step` alone take memory. Its tests stand in
-//! `crates/controller_tests/src/links`.
+//! `crates/test_controller/src/links`.
 #![tactic(auto)]
 
 mod bad_credit;

@@ -7,7 +7,7 @@
 //!
 //! [`node_runs`] makes the nodes of a log of what the bus left of each node, its driver, and what lay on its links
 //! ([`Lying`]); [`script_of`] has the strikes of a plan as a bus takes them. These and `Lying::of` and `Lying::on` alone
-//! take memory. A [`RunFault`] says why a run has no log. The tests stand in `crates/run_tests`.
+//! take memory. A [`RunFault`] says why a run has no log. The tests stand in `crates/test_runs`.
 #![tactic(auto)]
 
 mod activation_log;

@@ -5,7 +5,7 @@
 //! see a port as its `Registers` in the data sheet's letters, and the facts of `specs/Facts.antt` hold of every port.
 //! No call of this crate takes memory, and each is a constant amount of work.
 //!
-//! Its tests stand in `crates/controller_tests/src/registers`.
+//! Its tests stand in `crates/test_controller/src/registers`.
 #![tactic(auto)]
 
 mod bits;

@@ -7,7 +7,7 @@
 //! calls are those of `sja_plan`, `sja_serial` and `sja_report`. For `wave` it writes the run's waveform ([`wave`]),
 //! that of `sja_wave`. The texts of the other commands, and of each refusal, are those of `sja_texts`.
 //!
-//! Its tests stand in `crates/sja_tests/src/program`.
+//! Its tests stand in `crates/test_program/src/program`.
 #![tactic(auto)]
 
 mod answer;

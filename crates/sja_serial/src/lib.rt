@@ -13,7 +13,7 @@
 //! port is as its writes and loads have set it; and all was in time, as `IsInTime` of sja_log has it.
 //!
 //! `SerialRun::new` and `SerialRun::finish` alone take memory.
-//! The tests stand in `crates/run_tests`.
+//! The tests stand in `crates/test_runs`.
 #![tactic(auto)]
 
 mod beginning;

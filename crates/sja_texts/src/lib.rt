@@ -3,7 +3,7 @@
 //! [`encoded`], [`decoded`], [`filtered`], [`arbitrated`] and [`translated`] make the texts of five commands from the
 //! texts of their arguments. A [`Refusal`] says why a request has no answer, and shows as the text that the program writes of it.
 //!
-//! Their tests stand in `crates/sja_tests/src/program`.
+//! Their tests stand in `crates/test_program/src/program`.
 #![tactic(auto)]
 
 mod arbitrate;

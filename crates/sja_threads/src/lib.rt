@@ -11,7 +11,7 @@
 //! link carried what it did, and when its bits were due, `IsThreadedRun` of `specs/Threads.antt`. No clause says that a
 //! wait ends, or how a port stands behind its lock.
 //!
-//! `run_threads` alone takes memory, none of it for a bit. The tests stand in `crates/run_tests`.
+//! `run_threads` alone takes memory, none of it for a bit. The tests stand in `crates/test_runs`.
 #![tactic(auto)]
 
 mod apart;

@@ -5,7 +5,7 @@
 //! Each journal is gone over once.
 //!
 //! `specs/Wires.antt` says what the signals are, each as a function of the bit, and `specs/WaveText.antt` what is
-//! written of them. The tests stand in `crates/run_tests`.
+//! written of them. The tests stand in `crates/test_runs`.
 #![tactic(auto)]
 
 mod changes;

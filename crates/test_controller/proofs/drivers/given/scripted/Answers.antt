@@ -1,0 +1,24 @@
+use Rattle.std.proofs.Common.{◌≡◌, ◌+◌, ◌≤◌, ℕ, length, ◌∙◌, sym, subst, arith, rules}
+use Rattle.sja_link.specs.Deques.{Deques}
+use Rattle.sja_driver.specs.Holding.{Numbered}
+use Rattle.test_controller.proofs.drivers.given.scripted.Goals as goal
+
+pub tried-requires : goal.tried-requires
+tried-requires c =
+    let i = c.loop-step.invariant in
+    record {
+      lawful = i.0;
+      room = i.3 1 (grind arith);
+      eight = search rules;
+      ids = subst (λ (node : ℕ). Numbered (λ (s : Deques). s.link) c.loop-step.links 0 node) (sym i.1) i.2;
+    }
+
+pub loop-step-preserved : goal.loop-step-preserved
+loop-step-preserved c =
+    let i = c.loop-step.invariant in
+    let e = c.tried.ensures in (
+      e.lawful,
+      e.node ∙ i.1,
+      subst (λ (node : ℕ). Numbered (λ (s : Deques). s.link) c.tried.new.links 0 node) (e.node ∙ i.1) e.ids,
+      λ k h. e.room k (i.3 (k + 1) (omega (arith, h))),
+    )

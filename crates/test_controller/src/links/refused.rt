@@ -1,0 +1,37 @@
+//! Refused memory: a call that makes room answers it, and a world is then as it was.
+//!
+//! Each answers well with and without memory, so that each allocation can be made to fail under it.
+
+use super::given::LINK;
+use can_frame::OutOfMemory;
+use sja_link::{DequeLink, Event, Journal, World};
+use test_frames::nodes::PLAIN;
+
+#[test]
+fn refused_memory_gives_no_link(rt: HostRuntime) {
+    match DequeLink::new(rt.alloc(), LINK) {
+        Ok(link) => assert!(rt; sja_link::BusEnd::id(&link) == LINK),
+        Err(refused) => assert!(rt; refused == OutOfMemory),
+    }
+}
+
+#[test]
+fn refused_memory_gives_no_journal(rt: HostRuntime) {
+    match Journal::new(rt.alloc(), 10) {
+        Ok(journal) => assert!(rt; journal.entries().next().is_none()),
+        Err(refused) => assert!(rt; refused == OutOfMemory),
+    }
+}
+
+#[test]
+fn refused_memory_changes_no_world(rt: HostRuntime) {
+    let mut world = World::new(rt.alloc());
+    match world.step(Event::Start(PLAIN)) {
+        Ok(allowed) => assert!(rt; allowed && world.step(Event::Take) == Ok(true)),
+        Err(refused) => {
+            assert!(rt; refused == OutOfMemory);
+            assert!(rt; world.step(Event::Take) == Ok(false));
+            assert!(rt; world.step(Event::Start(PLAIN)) == Ok(true));
+        }
+    }
+}

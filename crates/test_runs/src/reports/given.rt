@@ -1,0 +1,77 @@
+//! Parts of logs: messages, entries of journals, steps done, activations.
+
+use can_bits::Level;
+use can_frame::Message;
+use can_node::Request;
+use sja_link::{Entry, Journal, Up};
+use sja_log::ActivationLog;
+use sja_script::{Done, StepAnswer};
+use std::alloc::Global;
+use std::test::Fail;
+use test_frames::nodes::PLAIN;
+
+/// The message of the standard data frame with this identifier, below 8, and no data.
+pub fn message(identifier: u8) -> Result<Message, Fail> {
+    Ok(Message::from_bytes(&[0, 0, identifier << 5])?)
+}
+
+/// A start whose filter passes all.
+pub fn start() -> Entry {
+    Entry::Up(Up::Start(PLAIN))
+}
+
+/// A request for the frame of a message.
+pub fn send(message: &Message) -> Entry {
+    Entry::Up(Up::Send(Request {
+        frame: message.frame(),
+        single_shot: false,
+        self_receive: false,
+    }))
+}
+
+/// So many recessive bits, and then this entry.
+pub fn enter(journal: &mut Journal, bits: u32, entry: Entry) {
+    for _ in 0..bits {
+        let _ = journal.enter_bit(Level::Recessive, Level::Recessive);
+    }
+    let _ = journal.enter(entry);
+}
+
+/// A list of this.
+pub fn one<T: Drop>(alloc: Global, first: T) -> Result<Vec<T>, Fail> {
+    let mut list = Vec::new(alloc);
+    list.push(first)?;
+    Ok(list)
+}
+
+/// A list of these two.
+pub fn two<T: Drop>(alloc: Global, first: T, second: T) -> Result<Vec<T>, Fail> {
+    let mut list = one(alloc, first)?;
+    list.push(second)?;
+    Ok(list)
+}
+
+/// Several of this message.
+pub fn several(alloc: Global, message: &Message, count: usize) -> Result<Vec<Message>, Fail> {
+    let mut messages = Vec::new(alloc);
+    for _ in 0..count {
+        messages.push(message.copy())?;
+    }
+    Ok(messages)
+}
+
+/// A step that answered so, after so many bits.
+pub fn answered(done: &mut Vec<Done>, bits: u32, answer: StepAnswer) -> Result<(), Fail> {
+    done.push(Done { answer, bits })?;
+    Ok(())
+}
+
+/// An activation of which these messages were released and these left unread on the link.
+pub fn activation(released: Vec<Message>, unread: Vec<Message>) -> ActivationLog {
+    ActivationLog::of(released, unread)
+}
+
+/// An activation in which nothing came.
+pub fn quiet(alloc: Global) -> ActivationLog {
+    activation(Vec::new(alloc), Vec::new(alloc))
+}

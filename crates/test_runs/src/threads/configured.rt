@@ -1,0 +1,120 @@
+//! A run of controllers that their drivers have configured by writes, in version 2.
+
+use super::given::{are_answers, counts, run, two_gates};
+use can_frame::Message;
+use sja_log::{End, RunLog};
+use sja_script::StepAnswer;
+use std::test::Fail;
+use test_frames::TWO_BYTES;
+
+/// Node 0 sets a single filter that passes only the frame with identifier 123 (hexadecimal) and the data 11 22, and
+/// receives until it has one message. Node 1 sets self test, and sends the frame with identifier 089 and then that one.
+/// Of two filters in the same registers the second would pass 089. When node 0 has stopped, node 1 sends the frame of
+/// zeros, which nobody acknowledges.
+const CONFIGURED: &str = "version = 2
+bits = 2000
+[[node]]
+steps = [
+    'read 0', 'read 2', 'read 16',
+    'write 0 09', 'write 16 24', 'write 17 60', 'write 18 11', 'write 19 22',
+    'write 20 00', 'write 21 0f', 'write 22 00', 'write 23 00',
+    'read 0', 'read 2', 'read 16',
+    'start', 'await 1', 'read 0', 'read 16', 'window', 'release', 'stop',
+    'read 0', 'read 16', 'read 2',
+]
+[[node]]
+steps = [
+    'write 0 05', 'read 0',
+    'start', 'load 0211201122', 'command 01', 'sent', 'load 0224601122', 'command 01', 'sent',
+    'load 000000', 'command 01', 'sent', 'read 0',
+]
+";
+
+/// Node 1 loads its last frame when node 0 has stopped. Node 0 reads its status register when that frame has been sent:
+/// the bus has taken the stop by then, so no bit before it still tells RS and TS.
+const FIRST: [(u16, u64); 3] = [(25, 13), (0, 0), (0, 0)];
+
+const SECOND: [(u16, u64); 3] = [(10, 23), (0, 0), (0, 0)];
+
+/// Fails where the driver of this node was answered otherwise.
+fn answered(log: &RunLog, node: usize, expected: &[StepAnswer]) -> Result<(), Fail> {
+    match log.nodes().get(node) {
+        Some(run) => are_answers(run.done(), expected),
+        None => Err("no such node")?,
+    }
+}
+
+/// After power-on MOD is 01 and ACR0 00. In reset mode SR is 3c: TBS, TCS, RS and TS are 1. MOD's bit 0 is 0 out of
+/// reset mode, and at 16 stands the first byte of the message then.
+fn answers_of_the_receiver(log: &RunLog) -> Result<(), Fail> {
+    answered(
+        log,
+        0,
+        &[
+            StepAnswer::Value(0x01),
+            StepAnswer::Value(0x3c),
+            StepAnswer::Value(0x00),
+            StepAnswer::Done,
+            StepAnswer::Done,
+            StepAnswer::Done,
+            StepAnswer::Done,
+            StepAnswer::Done,
+            StepAnswer::Done,
+            StepAnswer::Done,
+            StepAnswer::Done,
+            StepAnswer::Done,
+            StepAnswer::Value(0x09),
+            StepAnswer::Value(0x3c),
+            StepAnswer::Value(0x24),
+            StepAnswer::Done,
+            StepAnswer::Done,
+            StepAnswer::Value(0x08),
+            StepAnswer::Value(0x02),
+            StepAnswer::Shown(Message::from_bytes(&TWO_BYTES)?),
+            StepAnswer::Released(5),
+            StepAnswer::Done,
+            StepAnswer::Value(0x09),
+            StepAnswer::Value(0x24),
+            StepAnswer::Value(0x3c),
+        ],
+    )
+}
+
+/// Every wait passes, the last one with nobody to acknowledge.
+fn answers_of_the_sender(log: &RunLog) -> Result<(), Fail> {
+    answered(
+        log,
+        1,
+        &[
+            StepAnswer::Done,
+            StepAnswer::Value(0x05),
+            StepAnswer::Done,
+            StepAnswer::Done,
+            StepAnswer::Done,
+            StepAnswer::Done,
+            StepAnswer::Done,
+            StepAnswer::Done,
+            StepAnswer::Done,
+            StepAnswer::Done,
+            StepAnswer::Done,
+            StepAnswer::Done,
+            StepAnswer::Value(0x04),
+        ],
+    )
+}
+
+/// A message that the filter should have stopped would have come first, and been released or left unread.
+#[test]
+fn what_a_driver_writes_decides_what_is_stored(rt: HostRuntime) -> Result<(), Fail> {
+    let gates = two_gates(rt.alloc(), FIRST, SECOND)?;
+    let log = run(&rt, rt.alloc(), CONFIGURED, gates)?;
+    assert!(rt; log.end() == End::Rest);
+    answers_of_the_receiver(&log)?;
+    answers_of_the_sender(&log)?;
+    assert!(rt; counts(&log, 0)? == (25, 1, 0));
+    assert!(rt; counts(&log, 1)? == (13, 0, 0));
+    for node in log.nodes() {
+        assert!(rt; (node.txerr(), node.rxerr()) == (0, 0));
+    }
+    Ok(())
+}

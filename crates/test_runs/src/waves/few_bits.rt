@@ -1,0 +1,123 @@
+//! A run of five bits and one of none, whole.
+
+use Level::{Dominant, Recessive};
+use can_bits::Level;
+use can_frame::Message;
+use sja_link::{Entry, Journal, Up};
+use sja_log::{End, NodeRun, RunLog};
+use sja_wave::wave;
+use std::alloc::Global;
+use std::test::Fail;
+use test_frames::nodes::PLAIN;
+use test_frames::runs::{DECLARED, FIRST_VALUES};
+
+/// The wave of the two journals below after the declarations of the bus and of node 0.
+///
+/// Bit 0 begins at 0, bit 1 at 10, and so on; at 40 nothing changes, and at 50 the last bit ends.
+const FIVE_BITS: &str = "$scope module node1 $end
+$var wire 1 d1 driven $end
+$var wire 1 s1 seen $end
+$var wire 1 a1 active $end
+$var wire 1 f1 off $end
+$var wire 1 m1 stored $end
+$var wire 1 o1 overrun $end
+$upscope $end
+$upscope $end
+$enddefinitions $end
+#0
+$dumpvars
+0w
+0d0
+0s0
+1a0
+0f0
+0m0
+0o0
+1d1
+0s1
+0a1
+0f1
+0m1
+0o1
+$end
+#10
+1d0
+0d1
+1a1
+#20
+1w
+1s0
+1m0
+1d1
+1s1
+#30
+0s0
+1o1
+#50
+0a0
+1f0
+0a1
+1m1
+";
+
+/// A node with this journal.
+fn node(alloc: Global, journal: Journal) -> NodeRun {
+    NodeRun::of(journal, 0, 0, Vec::new(alloc), Vec::new(alloc))
+}
+
+/// It is active from the first bit on, and is struck in the last two, after which it goes bus-off.
+fn struck(alloc: Global) -> Result<NodeRun, Fail> {
+    let mut journal = Journal::new(alloc, 10)?;
+    let _ = journal.enter(Entry::Up(Up::Start(PLAIN)));
+    let _ = journal.enter(Entry::Bit(Dominant, Dominant));
+    let _ = journal.enter(Entry::Bit(Recessive, Dominant));
+    let _ = journal.enter(Entry::Stored(Message::default()));
+    let _ = journal.enter(Entry::Bit(Recessive, Recessive));
+    let _ = journal.enter(Entry::Bit(Recessive, Dominant));
+    let _ = journal.enter(Entry::Abort);
+    let _ = journal.enter(Entry::Bit(Recessive, Dominant));
+    let _ = journal.enter(Entry::Off);
+    Ok(node(alloc, journal))
+}
+
+/// It starts before bit 1, and stops after the last one.
+fn stopped(alloc: Global) -> Result<NodeRun, Fail> {
+    let mut journal = Journal::new(alloc, 10)?;
+    let _ = journal.enter(Entry::Bit(Recessive, Dominant));
+    let _ = journal.enter(Entry::Up(Up::Start(PLAIN)));
+    let _ = journal.enter(Entry::Bit(Dominant, Dominant));
+    let _ = journal.enter(Entry::Bit(Recessive, Recessive));
+    let _ = journal.enter(Entry::Overrun(Message::default()));
+    let _ = journal.enter(Entry::Up(Up::Credit(3)));
+    let _ = journal.enter(Entry::Bit(Recessive, Recessive));
+    let _ = journal.enter(Entry::Bit(Recessive, Recessive));
+    let _ = journal.enter(Entry::Stored(Message::default()));
+    let _ = journal.enter(Entry::Up(Up::Stop));
+    Ok(node(alloc, journal))
+}
+
+#[test]
+fn five_bits_of_two_nodes_are_shown(rt: HostRuntime) -> Result<(), Fail> {
+    let alloc = rt.alloc();
+    let mut nodes = Vec::new(alloc);
+    nodes.push(struck(alloc)?)?;
+    nodes.push(stopped(alloc)?)?;
+    let text = wave(alloc, &RunLog::of(1, 5, End::Bits, nodes))?;
+    let after = text.strip_prefix(DECLARED);
+    assert!(rt; after == Some(FIVE_BITS), "{text}");
+    Ok(())
+}
+
+/// What stands in its journals is there at once.
+#[test]
+fn a_run_without_bits_has_its_first_values(rt: HostRuntime) -> Result<(), Fail> {
+    let alloc = rt.alloc();
+    let mut journal = Journal::new(alloc, 10)?;
+    let _ = journal.enter(Entry::Up(Up::Start(PLAIN)));
+    let mut nodes = Vec::new(alloc);
+    nodes.push(node(alloc, journal))?;
+    let text = wave(alloc, &RunLog::of(1, 0, End::Turns, nodes))?;
+    let after = text.strip_prefix(DECLARED);
+    assert!(rt; after == Some(FIRST_VALUES), "{text}");
+    Ok(())
+}
