@@ -1,4 +1,4 @@
-"""Plans made from the examples by mutation, for ./hostile. The same seed and number give the same plan."""
+"""Plans made from the examples by mutation, for ./checks/hostile. The same seed and number give the same plan."""
 
 import glob
 import random

@@ -1,4 +1,4 @@
-// Loaded before the C library by ./refuse_memory. Counts the requests for memory of all threads together, and refuses
+// Loaded before the C library by ./checks/refuse_memory. Counts the requests for memory of all threads together, and refuses
 // those that the environment names; the start of a thread is one, since it needs a stack.
 //
 //     REFUSE_AT=N      request N, with REFUSE_ON=1 each later one too

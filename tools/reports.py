@@ -1,4 +1,4 @@
-"""Whether the report of a run in threads is one that the plan may have, whatever the schedule was. ./soak says what is
+"""Whether the report of a run in threads is one that the plan may have, whatever the schedule was. ./checks/soak says what is
 checked."""
 
 from collections import Counter
