@@ -20,8 +20,8 @@ use Rattle.can_node.specs.Pieces.Place.{AtLastEofBit, AtFlag, AtDelimiter, AtInt
 use Rattle.can_node.specs.declared.fault_site.FaultSite.TheVariants.{InTransmission, InReception, InFlag, InDelimiter}
 use Rattle.can_node.specs.Pieces.Piece.{Integration, IdleBit, Reception, Transmission, Fault, LastEofBit, Flag}
 use Rattle.can_node.specs.Pieces.Piece.{Delimiter, InterframeSpace, InterframeSpaceWithSof, InterframeSpaceBroken}
-use Rattle.can_node.specs.Record.{Entry}
-use Rattle.can_node.specs.Record.Entry.{Start, Stop, OneBit, Send, Abort, BusOff}
+use Rattle.can_node.specs.Record.{RecordEntry}
+use Rattle.can_node.specs.Record.RecordEntry.{Start, Stop, OneBit, Send, Abort, BusOff}
 use Rattle.can_node.specs.Counting.{more_rec, more_tec, more_by, unless_listening, drop_failed, at_bit}
 
 -- ---- entries that are no bits
@@ -67,7 +67,7 @@ abbrev pub with_off : ContextValue → ContextValue
 with_off c = record (with_stop c) { tec = 127; rec = 0; off = true }
 
 -- the context after these entries of one piece; `done` are the bits of the piece before them
-abbrev pub along : ContextValue → Place → List Bit → List Entry → ContextValue
+abbrev pub along : ContextValue → Place → List Bit → List RecordEntry → ContextValue
 along c place done [] = c
 along c place done (OneBit b ∷ entries) = along (at_bit c place done b) place (done ++ b ∷ []) entries
 along c place done (Send request ∷ entries) = along (with_send request c) place done entries
@@ -150,5 +150,5 @@ abbrev pub closed : Piece → Place → ContextValue → ContextValue
 closed piece next c = entering next piece c (own_step piece c)
 
 -- the context after the entries of a piece
-abbrev pub after : ContextValue → Place → List Entry → Piece → Place → ContextValue
+abbrev pub after : ContextValue → Place → List RecordEntry → Piece → Place → ContextValue
 after c place slice piece next = closed piece next (along c place [] slice)

@@ -2,8 +2,8 @@
 use Rattle.std.specs.Prelude.{◌+◌, ℕ, Option, Some, None, List, [], ◌∷◌}
 use Rattle.can_frame.specs.Frame.{FrameValue}
 use Rattle.can_node.specs.Pieces.{Piece, received_by}
-use Rattle.can_node.specs.Record.{Entry}
-use Rattle.can_node.specs.Record.Entry.{Start, Stop, OneBit, Send, Abort, BusOff}
+use Rattle.can_node.specs.Record.{RecordEntry}
+use Rattle.can_node.specs.Record.RecordEntry.{Start, Stop, OneBit, Send, Abort, BusOff}
 
 -- ---- counts
 
@@ -17,7 +17,7 @@ abbrev pub none_yet : Count
 none_yet = record { starts = 0; bits = 0 }
 
 -- the count after an entry more
-abbrev pub counted_one : Count → Entry → Count
+abbrev pub counted_one : Count → RecordEntry → Count
 counted_one k (OneBit b) = record k { bits = k.bits + 1 }
 counted_one k (Start config) = record k { starts = k.starts + 1 }
 counted_one k (Send request) = k
@@ -26,7 +26,7 @@ counted_one k Stop = k
 counted_one k BusOff = k
 
 -- the count after several
-abbrev pub counted : Count → List Entry → Count
+abbrev pub counted : Count → List RecordEntry → Count
 counted k [] = k
 counted k (entry ∷ entries) = counted (counted_one k entry) entries
 

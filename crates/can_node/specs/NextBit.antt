@@ -8,25 +8,25 @@ use Rattle.can_node.specs.declared.phase.Phase.TheVariants.{Frame as FramePhase,
 use Rattle.can_node.specs.declared.phase.Phase.TheVariants.{Delimiter as DelimiterPhase, Intermission, Suspension}
 use Rattle.can_node.specs.Bits.{Bit}
 use Rattle.can_node.specs.Context.{ContextValue, is_held}
-use Rattle.can_node.specs.Record.{Entry, bits_in}
+use Rattle.can_node.specs.Record.{RecordEntry, bits_in}
 use Rattle.can_node.specs.Effects.{along}
 use Rattle.can_node.specs.Cut.{FinishedPiece, IsCut}
 use Rattle.can_node.specs.Driving.{Drives, phase_at}
 
 -- the context of the next bit
-abbrev pub now_in : {entries : List Entry} {found : List FinishedPiece} → IsCut entries found → ContextValue
+abbrev pub now_in : {entries : List RecordEntry} {found : List FinishedPiece} → IsCut entries found → ContextValue
 now_in cut = along cut.context cut.place [] cut.rest
 
 -- the bits that came of the piece that isn't finished
-abbrev pub open_bits : {entries : List Entry} {found : List FinishedPiece} → IsCut entries found → List Bit
+abbrev pub open_bits : {entries : List RecordEntry} {found : List FinishedPiece} → IsCut entries found → List Bit
 open_bits cut = bits_in cut.rest
 
 -- the phase of the next bit
-abbrev pub phase_in : {entries : List Entry} {found : List FinishedPiece} → IsCut entries found → Phase
+abbrev pub phase_in : {entries : List RecordEntry} {found : List FinishedPiece} → IsCut entries found → Phase
 phase_in cut = phase_at cut.place (open_bits cut)
 
 -- the level is the one that is driven in the next bit
-abbrev pub DrivesIn : {entries : List Entry} {found : List FinishedPiece} → IsCut entries found → Level → Type 0
+abbrev pub DrivesIn : {entries : List RecordEntry} {found : List FinishedPiece} → IsCut entries found → Level → Type 0
 DrivesIn cut x = Drives (now_in cut) cut.place (open_bits cut) x
 
 -- at rest: in reset, or idle with no request
@@ -41,5 +41,5 @@ rests_in Intermission held = false
 rests_in Suspension held = false
 
 -- whether nothing is to come of its own accord
-abbrev pub is_at_rest : {entries : List Entry} {found : List FinishedPiece} → IsCut entries found → Bool
+abbrev pub is_at_rest : {entries : List RecordEntry} {found : List FinishedPiece} → IsCut entries found → Bool
 is_at_rest cut = rests_in (phase_in cut) (is_held (now_in cut).held)

@@ -24,8 +24,8 @@ use Rattle.can_node.specs.declared.node.Node.{Node}
 use Rattle.can_node.specs.Bits.{Bit}
 use Rattle.can_node.specs.Context.{is_held, is_transmitter}
 use Rattle.can_node.specs.Pieces.Place.{AtReset}
-use Rattle.can_node.specs.Record.{Entry}
-use Rattle.can_node.specs.Record.Entry.{OneBit, Send, Abort, BusOff}
+use Rattle.can_node.specs.Record.{RecordEntry}
+use Rattle.can_node.specs.Record.RecordEntry.{OneBit, Send, Abort, BusOff}
 use Rattle.can_node.specs.Effects.{is_in_progress}
 use Rattle.can_node.specs.Cut.{FinishedPiece, IsCut, ReceivedFrame, received, Count, none_yet, counted, tagged}
 use Rattle.can_node.specs.Events.{Step, events_of}
@@ -36,13 +36,13 @@ use Rattle.can_node.specs.Machine.Stages.{At}
 
 -- by its fields the node stands at this record, cut into these finished pieces, with a piece perhaps that isn't
 -- finished at its end: they say the context of the next bit, and how far that piece has come
-pub record FollowsAt (node : Node) (entries : List Entry) (found : List FinishedPiece) : Type 0 where
+pub record FollowsAt (node : Node) (entries : List RecordEntry) (found : List FinishedPiece) : Type 0 where
   pub cut : IsCut entries found
   pub shows : context_of node.context ≡ now_in cut
   pub at : At node.stage node.shift cut.context (now_in cut) cut.place (open_bits cut)
 
 -- the node stands at this record: and it keeps the level that is driven in the next bit, and the body of its request
-pub record StandsAt (node : Node) (entries : List Entry) (found : List FinishedPiece) : Type 0 where
+pub record StandsAt (node : Node) (entries : List RecordEntry) (found : List FinishedPiece) : Type 0 where
   pub cut : IsCut entries found
   pub shows : context_of node.context ≡ now_in cut
   pub at : At node.stage node.shift cut.context (now_in cut) cut.place (open_bits cut)
@@ -50,7 +50,7 @@ pub record StandsAt (node : Node) (entries : List Entry) (found : List FinishedP
   pub body : HasBody node.context node.body
 
 -- the entries that a bit adds: its own, and that of bus-off
-abbrev pub entries_of : Bit → BitEvents → List Entry
+abbrev pub entries_of : Bit → BitEvents → List RecordEntry
 entries_of b e = if e.went_off then OneBit b ∷ BusOff ∷ [] else OneBit b ∷ []
 
 -- the piece that a bit finished, with its activation and the number of bits up to its end
@@ -59,7 +59,7 @@ closed_by k Within = []
 closed_by k (Finishes piece next) = tagged k (piece ∷ [])
 
 -- one bit leads from a record to the record with it, and tells what the cut has there
-pub record Leads (node new : Node) (entries : List Entry) (found : List FinishedPiece) (h : StandsAt node entries found)
+pub record Leads (node new : Node) (entries : List RecordEntry) (found : List FinishedPiece) (h : StandsAt node entries found)
     (b : Bit) (e : BitEvents) : Type 0 where
   pub step : Step
   pub told : e ≡ events_of step (now_in h.cut) h.cut.place (open_bits h.cut) b
@@ -78,7 +78,7 @@ received_now None k = []
 received_now (Some f) k = (record { frame = f; activation = k.starts; bits = k.bits }) ∷ []
 
 -- after a bit the node stands at the record with it, and the frames received are those before and the one that it tells
-pub record TakesBit (new : Node) (entries : List Entry) (found : List FinishedPiece) (b : Bit) (e : BitEvents) : Type 0
+pub record TakesBit (new : Node) (entries : List RecordEntry) (found : List FinishedPiece) (b : Bit) (e : BitEvents) : Type 0
   where
     pub more : List FinishedPiece
     pub stands : StandsAt new (entries ++ entries_of b e) (found ++ more)
@@ -141,40 +141,40 @@ nothing receiving = record {
 -- ---- what the calls do, for every record that the node stands at
 
 -- with one entry more, and the same pieces
-abbrev pub Enters : Node → Node → Entry → Type 0
-Enters old new entry = (entries : List Entry) (found : List FinishedPiece) → StandsAt old entries found →
+abbrev pub Enters : Node → Node → RecordEntry → Type 0
+Enters old new entry = (entries : List RecordEntry) (found : List FinishedPiece) → StandsAt old entries found →
     StandsAt new (entries ++ entry ∷ []) found
 
 -- one bit, in which the node drove what it drives there
 abbrev pub Samples : Node → Node → Level → BitEvents → Type 0
 Samples old new seen result =
-    (entries : List Entry) (found : List FinishedPiece) (h : StandsAt old entries found) (x : Level) →
+    (entries : List RecordEntry) (found : List FinishedPiece) (h : StandsAt old entries found) (x : Level) →
     DrivesIn h.cut x → Leads old new entries found h (record { driven = x; seen = seen }) result
 
 -- a node in reset stays there, whatever it sees
 abbrev pub StaysReset : Node → Node → BitEvents → Type 0
-StaysReset old new e = InReset old → (entries : List Entry) (found : List FinishedPiece) → StandsAt old entries found →
+StaysReset old new e = InReset old → (entries : List RecordEntry) (found : List FinishedPiece) → StandsAt old entries found →
     Rests new e
 
 -- the level is the one that the node drives next
 abbrev pub DrivesNext : Node → Level → Type 0
-DrivesNext node result = (entries : List Entry) (found : List FinishedPiece) (h : StandsAt node entries found) →
+DrivesNext node result = (entries : List RecordEntry) (found : List FinishedPiece) (h : StandsAt node entries found) →
     DrivesIn h.cut result
 
 -- the phase of the next bit
 abbrev pub ShowsPhase : Node → Phase → Type 0
-ShowsPhase node result = (entries : List Entry) (found : List FinishedPiece) (h : StandsAt node entries found) →
+ShowsPhase node result = (entries : List RecordEntry) (found : List FinishedPiece) (h : StandsAt node entries found) →
     result ≡ phase_in h.cut
 
 -- the counters that the cut gives
 abbrev pub ShowsCounters : Node → Counters → Type 0
 ShowsCounters node result =
-    (entries : List Entry) (found : List FinishedPiece) (h : StandsAt node entries found) →
+    (entries : List RecordEntry) (found : List FinishedPiece) (h : StandsAt node entries found) →
     let c = now_in h.cut in (result.tec ≡ c.tec) × (result.rec ≡ c.rec) × (result.off ≡ c.off)
 
 -- two cuts of a record are one: the same finished pieces, context and place, and the same entries of a piece that isn't
 -- finished
-abbrev pub HasOneCut : List Entry → Type 0
+abbrev pub HasOneCut : List RecordEntry → Type 0
 HasOneCut entries =
     (found others : List FinishedPiece) (h : IsCut entries found) (k : IsCut entries others) →
     (found ≡ others) × (h.context ≡ k.context) × (h.place ≡ k.place) × (h.rest ≡ k.rest)
@@ -184,16 +184,16 @@ abbrev pub state_of : Counters → State
 state_of k = if k.off then BusOff else if nat_le 128 k.tec || nat_le 128 k.rec then Passive else Active
 
 abbrev pub ShowsRest : Node → Bool → Type 0
-ShowsRest node result = (entries : List Entry) (found : List FinishedPiece) (h : StandsAt node entries found) →
+ShowsRest node result = (entries : List RecordEntry) (found : List FinishedPiece) (h : StandsAt node entries found) →
     result ≡ is_at_rest h.cut
 
 -- a request is taken, or given back where the node is in reset or holds one
 abbrev pub Requests : Node → Node → Request → Result ⊤ Request → Type 0
 Requests old new request (Ok done) = Enters old new (Send request)
-    × ((entries : List Entry) (found : List FinishedPiece) (h : StandsAt old entries found) →
+    × ((entries : List RecordEntry) (found : List FinishedPiece) (h : StandsAt old entries found) →
     (h.cut.place ≢ AtReset) × ((now_in h.cut).held ≡ None))
 Requests old new request (Err back) = (back ≡ request) × (new ≡ old)
-    × ((entries : List Entry) (found : List FinishedPiece) (h : StandsAt old entries found) →
+    × ((entries : List RecordEntry) (found : List FinishedPiece) (h : StandsAt old entries found) →
     (h.cut.place ≡ AtReset) ⊎ (is_held (now_in h.cut).held ≡ true))
 
 -- a request in progress is marked, unless it would be dropped where it fails or loses anyway; any other is dropped
@@ -210,5 +210,5 @@ EntersAbort old new Dropped = Enters old new Abort
 
 abbrev pub Aborts : Node → Node → Aborted → Type 0
 Aborts old new result = EntersAbort old new result
-    × ((entries : List Entry) (found : List FinishedPiece) (h : StandsAt old entries found) →
+    × ((entries : List RecordEntry) (found : List FinishedPiece) (h : StandsAt old entries found) →
     let c = now_in h.cut in result ≡ abort_of (is_in_progress c h.cut.place) c.held c.aborted)

@@ -7,8 +7,8 @@ use Rattle.can_bits.specs.declared.level.Level.TheVariants.{Dominant, Recessive}
 use Rattle.can_node.specs.declared.config.Config.{Config}
 use Rattle.can_node.specs.Bits.{Bit, recessive_bit, dominant_bit, recessive_bits}
 use Rattle.can_node.specs.Pieces.Piece.{Integration, Reception, LastEofBit, InterframeSpace}
-use Rattle.can_node.specs.Record.{Entry}
-use Rattle.can_node.specs.Record.Entry.{Start, OneBit}
+use Rattle.can_node.specs.Record.{RecordEntry}
+use Rattle.can_node.specs.Record.RecordEntry.{Start, OneBit}
 use Rattle.can_node.specs.FinishedPieces.{FinishedPiece, ReceivedFrame}
 
 -- the standard data frame with the identifier 0 and no bytes
@@ -34,7 +34,7 @@ answered =
     ++ (recessive_bit Recessive ∷ dominant_bit Dominant ∷ recessive_bits (replicate 7 Recessive))
 
 -- the record: the seventh bit of EOF and intermission follow
-abbrev pub record_of_reception : Config → List Entry
+abbrev pub record_of_reception : Config → List RecordEntry
 record_of_reception config =
     Start (record config { listen = false; self_test = false })
     ∷ map OneBit (recessive_bits (replicate 11 Recessive)

@@ -1,3 +1,5 @@
+//! What one bit brings: received, sent, lost, a fault, bus-off.
+
 use super::cause::Cause;
 use super::outcome::Outcome;
 use can_bits::Segment;

@@ -1,3 +1,5 @@
+//! What a controller starts with.
+
 ghost use Rattle.std.specs.Prelude.{◌≡◌};
 
 use can_frame::Filter;

@@ -1,10 +1,11 @@
 //! The error counters of a node.
+
 use super::state::State;
 
-/// Error passive from here on (Bosch CAN 2.0 part A section 7).
-pub(crate) const ERROR_PASSIVE: u16 = 128;
-/// Bus-off from here on (Bosch CAN 2.0 part A section 7).
-pub(crate) const BUS_OFF: u16 = 256;
+/// A node with a counter of this or more is error passive (Bosch CAN 2.0 part A section 7).
+pub const ERROR_PASSIVE: u16 = 128;
+/// A node with a transmit error counter of this or more is bus-off (Bosch CAN 2.0 part A section 7).
+pub const BUS_OFF: u16 = 256;
 
 /// The error counters of a node (Bosch CAN 2.0 part A section 7, fault confinement).
 #[derive(Clone, Copy, Debug, PartialEq, Eq)]

@@ -1,3 +1,5 @@
+//! The piece of a record in which a fault was.
+
 /// In which piece a fault was.
 #[derive(Clone, Copy, Debug)]
 pub enum FaultSite {

@@ -8,8 +8,8 @@ ghost use Rattle.can_node.specs.Bits.{Bit, recessive_bits};
 ghost use Rattle.can_node.specs.Context.{ContextValue, fresh};
 ghost use Rattle.can_node.specs.Pieces.{Place, Piece};
 ghost use Rattle.can_node.specs.Pieces.Place.{AtIntegration};
-ghost use Rattle.can_node.specs.Record.{Entry};
-ghost use Rattle.can_node.specs.Record.Entry.{OneBit};
+ghost use Rattle.can_node.specs.Record.{RecordEntry};
+ghost use Rattle.can_node.specs.Record.RecordEntry.{OneBit};
 ghost use Rattle.can_node.specs.Table.{Row, Elevens};
 ghost use Rattle.can_node.specs.Effects.{along};
 ghost use Rattle.can_node.specs.FinishedPieces.{received};
@@ -30,7 +30,7 @@ pub fn pieces_are_told_apart()
 /// same number of bits up to its end, and lead to the same context, the same place and the same entries of a piece that
 /// isn't finished (this project's own rule).
 pub fn a_record_has_one_cut()
-    ensures { (entries : List Entry) → HasOneCut entries }
+    ensures { (entries : List RecordEntry) → HasOneCut entries }
 {}
 
 /// After bus-off, where the node doesn't only listen, each list of levels with its first eleven successive recessive

@@ -54,7 +54,7 @@ pub use cause::Cause;
 pub use config::Config;
 pub use contention::contend;
 pub use contention_laws::{contention_has_one_answer, some_frame_goes_on};
-pub use counters::Counters;
+pub use counters::{BUS_OFF, Counters, ERROR_PASSIVE};
 pub use laws::{
     a_frame_of_another_node_is_received, a_record_has_one_cut, each_eleven_takes_one,
     pieces_are_told_apart,

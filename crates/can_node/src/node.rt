@@ -1,3 +1,5 @@
+//! [`Node`]: a CAN node, bit by bit.
+
 use super::aborted::Aborted;
 use super::after_bit::AfterBit;
 use super::bit_events::BitEvents;
@@ -27,7 +29,7 @@ pub struct Node {
 
 impl Node {
     ghost use Rattle.std.specs.Prelude.{◌≡◌, ◌<◌, ◌↔◌, [], List, IsTrue};
-    ghost use Rattle.can_node.specs.Record.{Entry};
+    ghost use Rattle.can_node.specs.Record.{RecordEntry};
     ghost use Rattle.can_node.specs.Bits.{Bit};
     ghost use Rattle.can_node.specs.Context.{ContextValue};
     ghost use Rattle.can_node.specs.Pieces.{Place};
@@ -55,7 +57,7 @@ impl Node {
     /// Leaves reset with this configuration, and waits for the bus. The node has to be in reset.
     pub fn start(&mut self, config: Config)
         requires reset { InReset self.old }
-        ensures { Enters self.old self.new (Entry.Start config) }
+        ensures { Enters self.old self.new (RecordEntry.Start config) }
     {
         self.context.start(&config);
         self.stage = Stage::Integrating {
@@ -67,7 +69,7 @@ impl Node {
 
     /// Enters reset at once. The request is dropped, and the error counters stay.
     pub fn stop(&mut self)
-        ensures enters { Enters self.old self.new Entry.Stop }
+        ensures enters { Enters self.old self.new RecordEntry.Stop }
         ensures reset { InReset self.new }
     {
         self.context.stop();
@@ -154,7 +156,7 @@ impl Node {
     /// ([`a_record_has_one_cut`](super::laws)). The transmit error counter is below 256.
     pub fn counters(&self) -> Counters
         ensures counts { ShowsCounters self.now result }
-        ensures below { (entries : List Entry) (found : List FinishedPiece) → StandsAt self.now entries found
+        ensures below { (entries : List RecordEntry) (found : List FinishedPiece) → StandsAt self.now entries found
             → result.tec < 256 }
     {
         self.context.counters

@@ -1,3 +1,5 @@
+//! A frame to be sent, and how often it is tried.
+
 ghost use Rattle.std.specs.Prelude.{◌≡◌};
 
 use can_frame::Frame;

@@ -1,7 +1,7 @@
 //! The program `sja`: the arguments and the standard streams, handed to [`sja`].
 #![tactic(auto)]
 
-use sja_run::{Output, Refusal, sja};
+use sja_run::{CommandRefusal, Output, sja};
 use std::env;
 use std::io::{ErrorKind, IsTerminal};
 use std::process::ExitCode;
@@ -27,9 +27,11 @@ fn main(rt: HostRuntime) -> ExitCode {
                 }
                 sja(&rt, rt.alloc(), &words, &mut input, &mut out, &mut err)
             }
-            Err(_) => err.refuse(Refusal::OutOfMemory),
+            Err(_) => err.refuse(CommandRefusal::OutOfMemory),
         },
-        Err(error) if error.kind() == ErrorKind::OutOfMemory => err.refuse(Refusal::OutOfMemory),
+        Err(error) if error.kind() == ErrorKind::OutOfMemory => err.refuse(
+            CommandRefusal::OutOfMemory,
+        ),
         Err(_) => err.turn_away(NO_TEXT.as_bytes()),
     };
     ExitCode::from(status)

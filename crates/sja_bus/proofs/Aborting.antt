@@ -8,8 +8,8 @@ use Rattle.can_node.specs.Bits.{Bit as Levels}
 use Rattle.can_node.specs.Context.{ContextValue, fresh, is_held}
 use Rattle.can_node.specs.Pieces.{Place}
 use Rattle.can_node.specs.Pieces.Place.{AtReset}
-use Rattle.can_node.specs.Record.{Entry as Event, bits_in}
-use Rattle.can_node.specs.Record.Entry.{Abort as AbortedNow}
+use Rattle.can_node.specs.Record.{RecordEntry as Event, bits_in}
+use Rattle.can_node.specs.Record.RecordEntry.{Abort as AbortedNow}
 use Rattle.can_node.specs.Record.Inner.{none_left, aborts}
 use Rattle.can_node.specs.Effects.{along, with_abort, is_in_progress}
 use Rattle.can_node.specs.FinishedPieces.{FinishedPiece, none_yet}

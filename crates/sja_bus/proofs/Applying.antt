@@ -3,7 +3,7 @@ use Rattle.std.proofs.Common.{◌≡◌, ◌≢◌, ℕ, true, false, List, [], 
 use Rattle.can_node.specs.declared.aborted.Aborted.{Aborted}
 use Rattle.can_node.specs.declared.node.Node.{Node}
 use Rattle.can_node.specs.Context.{ContextValue}
-use Rattle.can_node.specs.Record.{Entry as Event}
+use Rattle.can_node.specs.Record.{RecordEntry as Event}
 use Rattle.can_node.specs.FinishedPieces.{FinishedPiece}
 use Rattle.can_node.specs.Cut.{IsCut}
 use Rattle.can_node.specs.Effects.{is_in_progress}

@@ -35,7 +35,7 @@ use Rattle.sja_wire.specs.OneBit.{MayHaveAbort, Opens}
 use Rattle.sja_bus.specs.Stretches.{recessive_bits}
 use Rattle.sja_bus.specs.Inside.Following.{Follows}
 use Rattle.sja_bus.specs.Inside.Seats.{IsSound, IsReady}
-use Rattle.sja_bus.specs.Inside.Turning.{OpensNews, Turns}
+use Rattle.sja_bus.specs.Inside.Turning.{OpensUntold, Turns}
 use Rattle.sja_bus.specs.Inside.Idling.{IsResting, after_bits}
 use Rattle.sja_bus.proofs.Bits.{items_none}
 use Rattle.sja_bus.proofs.Lawfuls.{now_once}
@@ -183,13 +183,13 @@ opens_after has_orders n s o has ready rest =
       applied = λ yes. applied_at_rest s.node j rest.rests (sound_after n s ready rest).follows;
     }
 
-pub news_none : (s : Seat) → OpensNews s s
-news_none s = record {
+pub untold_none : (s : Seat) → OpensUntold s s
+untold_none s = record {
   taken = s.journal.entries;
   items = items_none s.journal.entries;
   aborts = no_abort s.journal.entries;
   still = λ e. (e, refl);
-  drops = λ ne. drops_none s.journal.entries s.news ne;
+  drops = λ ne. drops_none s.journal.entries s.untold ne;
 }
 
 -- one bit more was entered

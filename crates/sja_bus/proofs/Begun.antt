@@ -4,8 +4,8 @@ use Rattle.can_frame.specs.Frame.{FrameValue}
 use Rattle.can_node.specs.declared.node.Node.{Node}
 use Rattle.can_node.specs.Context.{ContextValue}
 use Rattle.can_node.specs.Pieces.{Place, Piece, received_by}
-use Rattle.can_node.specs.Record.{Entry as Event}
-use Rattle.can_node.specs.Record.Entry.{Start, Stop, OneBit, Send, Abort, BusOff}
+use Rattle.can_node.specs.Record.{RecordEntry as Event}
+use Rattle.can_node.specs.Record.RecordEntry.{Start, Stop, OneBit, Send, Abort, BusOff}
 use Rattle.can_node.specs.FinishedPieces.{Count, FinishedPiece, ReceivedFrame, counted, counted_one, none_yet, tagged, received_if, received}
 use Rattle.can_node.specs.Cut.{From}
 use Rattle.can_node.specs.Cut.From.{here, on}

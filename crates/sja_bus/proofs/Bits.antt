@@ -23,17 +23,17 @@ use Rattle.sja_link.proofs.Entering.{gathered_push, gathered_append}
 use Rattle.sja_wire.specs.OneBit.{IsRead, AreRead, MayHaveItems, MayHaveAbort, abort_as, entries_of_items, judged_as, off_as, HasBit, AreInOrder}
 use Rattle.sja_wire.specs.OutOfOrder.{IsOutOfOrder}
 use Rattle.sja_bus.specs.Inside.Following.{Follows, FollowsBit}
-use Rattle.sja_bus.specs.declared.brought.Brought.{Brought}
+use Rattle.sja_bus.specs.declared.bit_outcome.BitOutcome.{BitOutcome}
 use Rattle.sja_bus.specs.Inside.Turning.{BringsVerdict, Brings}
-use Rattle.sja_bus.specs.Inside.Seats.{Keeps, IsJudged}
+use Rattle.sja_bus.specs.Inside.Seats.{IsPassing, IsJudged}
 use Rattle.sja_bus.proofs.Steps.{follows_bit, follows_stopped, follows_judged}
 
 -- nothing is to be judged
 pub received_quiet : (old new : Node) (j : List Entry) (x seen : Level) (e : BitEvents) (filter : Filter) (a : ℕ) → DrivesNext old x → Samples old new seen e → (place_of j).activation ≡ a →
-    filter_of (part j a) ≡ Some filter → Keeps filter e.received None → Follows old j → FollowsBit new (j ++ Bit x seen ∷ []) e.went_off
+    filter_of (part j a) ≡ Some filter → IsPassing filter e.received None → Follows old j → FollowsBit new (j ++ Bit x seen ∷ []) e.went_off
 received_quiet old new j x seen e filter a drives samples at is keeps h = go e.received refl keeps
   where
-    go : (o : Option FrameValue) → e.received ≡ o → Keeps filter o None → FollowsBit new (j ++ Bit x seen ∷ []) e.went_off
+    go : (o : Option FrameValue) → e.received ≡ o → IsPassing filter o None → FollowsBit new (j ++ Bit x seen ∷ []) e.went_off
     go None same k = follows_bit old new j x seen e drives samples same h
     go (Some f) same k =
         let P : Option Filter → Type 0 = λ o. PassesAny o f in
@@ -41,10 +41,10 @@ received_quiet old new j x seen e filter a drives samples at is keeps h = go e.r
 
 -- a message was judged
 pub received_judged : (old new : Node) (j after : List Entry) (x seen : Level) (e : BitEvents) (filter : Filter) (a : ℕ) (m : List ℕ) (overrun : Bool) → DrivesNext old x → Samples old new seen e → (place_of j).activation ≡ a →
-    filter_of (part j a) ≡ Some filter → Keeps filter e.received (Some m) → IsJudged j x seen a m overrun after → Follows old j → FollowsBit new after e.went_off
+    filter_of (part j a) ≡ Some filter → IsPassing filter e.received (Some m) → IsJudged j x seen a m overrun after → Follows old j → FollowsBit new after e.went_off
 received_judged old new j after x seen e filter a m overrun drives samples at is keeps judged h = go e.received refl keeps
   where
-    go : (o : Option FrameValue) → e.received ≡ o → Keeps filter o (Some m) → FollowsBit new after e.went_off
+    go : (o : Option FrameValue) → e.received ≡ o → IsPassing filter o (Some m) → FollowsBit new after e.went_off
     go None same k = absurd cc
     go (Some f) same k =
         let P : Option Filter → Type 0 = λ o. PassesAny o f in
@@ -89,25 +89,25 @@ has_alone j after x seen e = record { verdict = record { verdict = None; whole =
 pub has_judged : (j after : List Entry) (x seen : Level) (a : ℕ) (m : List ℕ) (overrun : Bool) → IsJudged j x seen a m overrun after → BringsVerdict j x seen overrun after
 has_judged j after x seen a m overrun judged = record { verdict = record { verdict = Some (judged.verdict, m); whole = judged.whole }; overrun_is = judged.overrun_is }
 
-pub has_on : (j after : List Entry) (x seen : Level) (brought : Brought) → brought.events.went_off ≡ false → BringsVerdict j x seen brought.overrun after → Brings j x seen brought after
-has_on j after x seen brought on h = record {
+pub has_on : (j after : List Entry) (x seen : Level) (outcome : BitOutcome) → outcome.events.went_off ≡ false → BringsVerdict j x seen outcome.overrun after → Brings j x seen outcome after
+has_on j after x seen outcome on h = record {
   bit = record { verdict = h.verdict.verdict; off = false; whole = h.verdict.whole ∙ sym (append-nil ((j ++ Bit x seen ∷ []) ++ judged_as h.verdict.verdict)) };
   off = on;
   overrun = h.overrun_is;
 }
 
-pub has_off : (j k after : List Entry) (x seen : Level) (brought : Brought) → brought.events.went_off ≡ true → after ≡ k ++ Off ∷ [] → BringsVerdict j x seen brought.overrun k → Brings j x seen brought after
-has_off j k after x seen brought off e h = record {
+pub has_off : (j k after : List Entry) (x seen : Level) (outcome : BitOutcome) → outcome.events.went_off ≡ true → after ≡ k ++ Off ∷ [] → BringsVerdict j x seen outcome.overrun k → Brings j x seen outcome after
+has_off j k after x seen outcome off e h = record {
   bit = record { verdict = h.verdict.verdict; off = true; whole = e ∙ ap (λ l. l ++ Off ∷ []) h.verdict.whole };
   off = off;
   overrun = h.overrun_is;
 }
 
 -- one of a node in reset
-pub rest_brings : {X : Type 0} (r : Result Brought X) (j after : List Entry) (x seen : Level) → OnOk r (after ≡ j ++ Bit x seen ∷ []) →
-    IfOk r (λ brought. (brought.events.went_off ≡ false) × (brought.overrun ≡ false)) → IfOk r (λ brought. Brings j x seen brought after)
-rest_brings (Ok brought) j after x seen e h =
-    let P : Bool → Type 0 = λ o. BringsVerdict j x seen o after in has_on j after x seen brought h.0 (subst P (sym h.1) (has_alone j after x seen e))
+pub rest_brings : {X : Type 0} (r : Result BitOutcome X) (j after : List Entry) (x seen : Level) → OnOk r (after ≡ j ++ Bit x seen ∷ []) →
+    IfOk r (λ outcome. (outcome.events.went_off ≡ false) × (outcome.overrun ≡ false)) → IfOk r (λ outcome. Brings j x seen outcome after)
+rest_brings (Ok outcome) j after x seen e h =
+    let P : Bool → Type 0 = λ o. BringsVerdict j x seen o after in has_on j after x seen outcome h.0 (subst P (sym h.1) (has_alone j after x seen e))
 rest_brings (Err fault) j after x seen e h = tt
 
 -- items one after another

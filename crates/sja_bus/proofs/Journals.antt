@@ -18,9 +18,9 @@ use Rattle.sja_wire.specs.Links.{Kept, stops_of}
 use Rattle.sja_wire.specs.OneBit.{MayHaveItems, Opens}
 use Rattle.sja_wire.specs.Telling.{SaysAlone, IsPassedOver, IsUntold}
 use Rattle.sja_bus.specs.Buses.{EachJournal, EachUntold, KeepsAll, AllDry, untold_at, IsNodeBit, IsBit}
-use Rattle.sja_bus.specs.declared.news.News.TheVariants.{Nothing, Changed, Dropped}
-use Rattle.sja_bus.specs.Inside.Turning.{is_untold, is_dropped, TakesNews, OpensNews, Drops, Turns}
-use Rattle.sja_bus.specs.Inside.Rows.{AreReady, AreCalm, EachSeat, SeatTakes, SeatNews, GoesAll, AllRead, journals_of, untold_of, driven_by, seen_by}
+use Rattle.sja_bus.specs.declared.untold.Untold.TheVariants.{Nothing, Changed, Dropped}
+use Rattle.sja_bus.specs.Inside.Turning.{is_untold, is_dropped, TakesUntold, OpensUntold, Drops, Turns}
+use Rattle.sja_bus.specs.Inside.Rows.{AreReady, AreCalm, EachSeat, SeatTakes, SeatUntold, GoesAll, AllRead, journals_of, untold_of, driven_by, seen_by}
 use Rattle.sja_bus.specs.Inside.Whole.{IsRowBit}
 use Rattle.sja_bus.proofs.Bits.{changed_once}
 use Rattle.sja_bus.proofs.Running.{journal_is, untold_is, count_is, driven_at_place, seen_right, wired_opened, wired_ticked}
@@ -45,19 +45,19 @@ all_items (s ∷ seats) after len takes = λ node few.
     subst P (sym (journal_is all node s near)) (subst Q (sym (journal_is after node s (omega (arith, near, len)))) (takes node s near))
 
 -- whether something is untold of each, after items were taken
-seat_untold : (old new : Seat) → TakesNews old new → IsUntold (is_untold old.news) (is_untold new.news) old.journal.entries new.journal.entries
-seat_untold old new (inl (news, same)) = record {
-  stays = λ e. ap is_untold news ∙ e;
+seat_untold : (old new : Seat) → TakesUntold old new → IsUntold (is_untold old.untold) (is_untold new.untold) old.journal.entries new.journal.entries
+seat_untold old new (inl (untold, same)) = record {
+  stays = λ e. ap is_untold untold ∙ e;
   takes = λ ne. absurd (ne same);
-  none = λ e _. ap is_untold news ∙ e;
+  none = λ e _. ap is_untold untold ∙ e;
 }
-seat_untold old new (inr (news, more)) = record {
-  stays = λ e. ap is_untold news;
-  takes = λ ne. ap is_untold news;
+seat_untold old new (inr (untold, more)) = record {
+  stays = λ e. ap is_untold untold;
+  takes = λ ne. ap is_untold untold;
   none = λ e same. let l = ap (λ (j : List Entry). length j) same in absurd (omega (arith, l, more));
 }
 
-pub all_untold : (seats after : List Seat) → length after ≡ length seats → EachSeat SeatNews seats after → EachUntold (untold_of seats) (untold_of after) (journals_of seats) (journals_of after)
+pub all_untold : (seats after : List Seat) → length after ≡ length seats → EachSeat SeatUntold seats after → EachUntold (untold_of seats) (untold_of after) (journals_of seats) (journals_of after)
 all_untold [] after len takes = λ node few. absurd (omega arith)
 all_untold (s ∷ seats) after len takes = λ node few.
     let all = s ∷ seats in let cb = count_is all in
@@ -67,17 +67,17 @@ all_untold (s ∷ seats) after len takes = λ node few.
     let P : List Entry → Type 0 = λ j. IsUntold (untold_at (untold_of all) node) (untold_at (untold_of after) node) j (journal_at (journals_of after) node) in
     let Q : List Entry → Type 0 = λ k. IsUntold (untold_at (untold_of all) node) (untold_at (untold_of after) node) old.journal.entries k in
     let R : Bool → Type 0 = λ b. IsUntold b (untold_at (untold_of after) node) old.journal.entries new.journal.entries in
-    let S : Bool → Type 0 = λ b. IsUntold (is_untold old.news) b old.journal.entries new.journal.entries in
+    let S : Bool → Type 0 = λ b. IsUntold (is_untold old.untold) b old.journal.entries new.journal.entries in
     subst P (sym (journal_is all node s near)) (subst Q (sym (journal_is after node s there))
     (subst R (sym (untold_is all node s near)) (subst S (sym (untold_is after node s there)) (seat_untold old new (takes node s near)))))
 
 -- no request was dropped
-pub calm_taken : (seats after : List Seat) → length after ≡ length seats → EachSeat SeatNews seats after → AreCalm seats → AreCalm after
+pub calm_taken : (seats after : List Seat) → length after ≡ length seats → EachSeat SeatUntold seats after → AreCalm seats → AreCalm after
 calm_taken seats after len takes calm k s few = one (slice_index_or seats k s) (slice_index_or after k s) (takes k s (omega (arith, few, len))) (calm k s (omega (arith, few, len)))
   where
-    one : (old new : Seat) → TakesNews old new → old.news ≢ Dropped → new.news ≢ Dropped
-    one old new (inl (news, same)) ne e = ne (sym news ∙ e)
-    one old new (inr (news, more)) ne e = let wrong : Changed ≡ Dropped = sym news ∙ e in cc
+    one : (old new : Seat) → TakesUntold old new → old.untold ≢ Dropped → new.untold ≢ Dropped
+    one old new (inl (untold, same)) ne e = ne (sym untold ∙ e)
+    one old new (inr (untold, more)) ne e = let wrong : Changed ≡ Dropped = sym untold ∙ e in cc
 
 pub all_dry : {E : Type 0} (dry : E → Type 0) (seats : List Seat) (links : List E) → AreReady seats → AllRead dry seats links → AllDry dry (journals_of seats) links
 all_dry dry [] links ready read = λ node d few. absurd (omega arith)
@@ -91,24 +91,24 @@ all_dry dry (s ∷ seats) links ready read = λ node d few run.
 
 -- one node of them
 node_bit : (has_orders : Orders → Type 0) (was_told : BusTurn → Type 0) (was_kept : Type 0) (untold : Bool) (old opened new : Seat) (seen : Level) →
-    untold ≡ is_untold old.news → old.news ≢ Dropped → Opens has_orders old.journal.entries opened.journal.entries → OpensNews old opened → Turns was_told was_kept seen opened new →
+    untold ≡ is_untold old.untold → old.untold ≢ Dropped → Opens has_orders old.journal.entries opened.journal.entries → OpensUntold old opened → Turns was_told was_kept seen opened new →
     IsNodeBit has_orders was_told was_kept untold old.journal.entries new.journal.entries opened.drives seen
-node_bit has_orders was_told was_kept untold old opened new seen is calm opens news turns =
-    let changed : news.aborts.changed ≡ opens.aborts.changed =
-    changed_once old.journal.entries news.taken opens.taken opened.journal.entries news.items news.aborts opens.items opens.aborts in
-    let P : Bool → Type 0 = λ c. Drops c opened.journal.entries (is_dropped opened.news) in record {
+node_bit has_orders was_told was_kept untold old opened new seen is calm opens untold turns =
+    let changed : untold.aborts.changed ≡ opens.aborts.changed =
+    changed_once old.journal.entries untold.taken opens.taken opened.journal.entries untold.items untold.aborts opens.items opens.aborts in
+    let P : Bool → Type 0 = λ c. Drops c opened.journal.entries (is_dropped opened.untold) in record {
       opened = opened.journal.entries;
       opens = opens;
       bit = turns.bit;
       turn = turns.turn;
-      is_turn = turns.is_turn opens.aborts.changed (subst P changed (news.drops calm));
+      is_turn = turns.is_turn opens.aborts.changed (subst P changed (untold.drops calm));
       port = port turns.port;
     }
   where
-    port : was_told turns.turn ⊎ (was_kept × (opened.news ≡ Nothing) × SaysAlone opened.journal.entries turns.turn) → was_told turns.turn ⊎ IsPassedOver was_kept untold old.journal.entries opened.journal.entries turns.turn
+    port : was_told turns.turn ⊎ (was_kept × (opened.untold ≡ Nothing) × SaysAlone opened.journal.entries turns.turn) → was_told turns.turn ⊎ IsPassedOver was_kept untold old.journal.entries opened.journal.entries turns.turn
     port (inl told) = inl told
     port (inr (kept, none, alone)) =
-        let s = news.still none in
+        let s = untold.still none in
         let Q : List Entry → Type 0 = λ j. SaysAlone j turns.turn in
         inr (record { kept = kept; told = is ∙ ap is_untold s.0; same = s.1; alone = subst Q s.1 alone })
 
@@ -144,11 +144,11 @@ is_bit orders_are was_told was_kept script n struck seats after len few at calm 
             subst P (sym (journal_is seats node s here)) (subst Q (sym (journal_is after node s (omega (arith, here, la))))
             (subst R (sym (driven_at_place row.opened node s there))
             (node_bit (orders_are node) (was_told node) (was_kept node) (untold_at (untold_of seats) node) (slice_index_or seats node s) (slice_index_or row.opened node s) (slice_index_or after node s) seen
-            (untold_is seats node s here) (calm node s here) (row.opens node s here) (row.news node s here) (row.turns node s there))))
+            (untold_is seats node s here) (calm node s here) (row.opens node s here) (row.untold node s here) (row.turns node s there))))
 
 -- nothing is to be told after it
 pub all_told : {orders_are : ℕ → Orders → Type 0} (was_told : ℕ → BusTurn → Type 0) (was_kept : ℕ → Type 0) (struck : StruckNodes) (seats after : List Seat) → length after ≡ length seats →
-    IsRowBit orders_are was_told was_kept struck seats after → (k : ℕ) (s : Seat) → k < length after → (slice_index_or after k s).news ≡ Nothing
+    IsRowBit orders_are was_told was_kept struck seats after → (k : ℕ) (s : Seat) → k < length after → (slice_index_or after k s).untold ≡ Nothing
 all_told was_told was_kept struck seats after len row k s few = let c = row.count in (row.turns k s (omega (arith, few, len, c))).told
 
 pub wired_row : (orders_are : ℕ → Orders → Type 0) (was_told : ℕ → BusTurn → Type 0) (was_kept : ℕ → Type 0) (script : List Strike) (n : ℕ) (struck : StruckNodes) (seats after : List Seat) → length after ≡ length seats → length seats ≤ 8 →

@@ -5,7 +5,7 @@ use Rattle.sja_link.specs.declared.verdict.Verdict.{Verdict}
 use Rattle.sja_link.specs.declared.verdict.Verdict.TheVariants.{Stored as ToStore, Overrun as ToLose}
 use Rattle.sja_link.specs.declared.entry.Entry.{Entry}
 use Rattle.sja_link.specs.declared.entry.Entry.TheVariants.{Bit}
-use Rattle.sja_link.specs.Places.{Place, past, place_of}
+use Rattle.sja_link.specs.Places.{JournalPlace, past, place_of}
 use Rattle.sja_link.specs.Parts.{part}
 use Rattle.sja_link.specs.Carried.{put_of}
 use Rattle.sja_link.specs.Gathering.{total}
@@ -33,7 +33,7 @@ due_now j x seen a v m free at h fair =
     prompt ToStore h = h
     prompt ToLose h = h
 
-pub verdict_stays : (v : Verdict) (m : List ℕ) (p : Place) →
+pub verdict_stays : (v : Verdict) (m : List ℕ) (p : JournalPlace) →
     past p (entry_of v m) ≡ record p { bits = (past p (entry_of v m)).bits }
 verdict_stays ToStore m p = refl
 verdict_stays ToLose m p = refl

@@ -3,7 +3,7 @@ use Rattle.std.proofs.Common.{◌≡◌, List, [], ap, ◌∙◌, subst}
 use Rattle.can_node.specs.declared.node.Node.{Node}
 use Rattle.can_node.specs.declared.counters.Counters.{Counters}
 use Rattle.can_node.specs.Context.{ContextValue}
-use Rattle.can_node.specs.Record.{Entry as Event}
+use Rattle.can_node.specs.Record.{RecordEntry as Event}
 use Rattle.can_node.specs.FinishedPieces.{FinishedPiece, received}
 use Rattle.can_node.specs.Cut.{IsCut}
 use Rattle.can_node.specs.NextBit.{now_in}

@@ -10,7 +10,7 @@ use Rattle.sja_wire.specs.declared.node_log.NodeLog.{NodeLog}
 use Rattle.sja_wire.specs.Lawful.{CountersAre}
 use Rattle.sja_bus.specs.Inside.Following.{Follows}
 use Rattle.sja_bus.specs.Inside.Ending.{IsLog}
-use Rattle.sja_bus.specs.declared.news.News.TheVariants.{Nothing, Dropped}
+use Rattle.sja_bus.specs.declared.untold.Untold.TheVariants.{Nothing, Dropped}
 use Rattle.sja_bus.specs.Inside.Turning.{is_untold}
 use Rattle.sja_bus.specs.Inside.Rows.{IsOf, AreReady, AreCalm, journals_of, untold_of, IsBus}
 use Rattle.sja_bus.proofs.Wires.{index_before, index_last, wired_none}
@@ -22,7 +22,7 @@ use Rattle.sja_bus.proofs.Running.{journal_is, count_is}
 pub record IsNew (s : Seat) (node : ℕ) : Type 0 where
   pub is_of : IsOf s node
   pub empty : s.journal.entries ≡ []
-  pub nothing : s.news ≡ Nothing
+  pub nothing : s.untold ≡ Nothing
 
 abbrev pub AreNew : ℕ → List Seat → Type 0
 AreNew n seats = (k : ℕ) (s : Seat) → k < n → IsNew (slice_index_or seats k s) k
@@ -47,13 +47,13 @@ new_journals (s ∷ seats) none =
     ap (λ (j : List Entry). j ∷ journals_of seats) (none 0 s (omega arith)) ∙ ap (λ l. [] ∷ l) (new_journals seats (λ k d few. none (suc k) d (omega (arith, few))))
 
 -- nothing is to be told of seats of which that is so
-pub none_untold : (seats : List Seat) → ((k : ℕ) (s : Seat) → k < length seats → (slice_index_or seats k s).news ≡ Nothing) → untold_of seats ≡ replicate (length seats) false
+pub none_untold : (seats : List Seat) → ((k : ℕ) (s : Seat) → k < length seats → (slice_index_or seats k s).untold ≡ Nothing) → untold_of seats ≡ replicate (length seats) false
 none_untold [] none = refl
 none_untold (s ∷ seats) none =
     ap (λ n. is_untold n ∷ untold_of seats) (none 0 s (omega arith)) ∙ ap (λ l. false ∷ l) (none_untold seats (λ k d few. none (suc k) d (omega (arith, few))))
 
 -- nor was a request dropped
-pub calm_by : (seats : List Seat) → ((k : ℕ) (s : Seat) → k < length seats → (slice_index_or seats k s).news ≡ Nothing) → AreCalm seats
+pub calm_by : (seats : List Seat) → ((k : ℕ) (s : Seat) → k < length seats → (slice_index_or seats k s).untold ≡ Nothing) → AreCalm seats
 calm_by seats none k s few e = let wrong : Nothing ≡ Dropped = sym (none k s few) ∙ e in cc
 
 pub new_bus : (script : List Strike) (seats : List Seat) → AreNew (length seats) seats → IsBus script 0 seats

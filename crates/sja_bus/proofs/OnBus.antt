@@ -10,8 +10,8 @@ use Rattle.can_node.specs.Frames.Receives.{reception, broken}
 use Rattle.can_node.specs.Frames.Transmits.{sending, failed, lost}
 use Rattle.can_node.specs.Table.{Row}
 use Rattle.can_node.specs.Table.Row.{integration, idle, other, own, other_begun, own_begun, last_eof_bit, last_eof_bit_overload, flag, flag_fault, flag_passive, delimiter, delimiter_overload, delimiter_fault, interframe_space, interframe_space_sof, suspend_transmission_sof, intermission_overload, intermission_overload_second}
-use Rattle.can_node.specs.Record.{Entry as Event, Inner}
-use Rattle.can_node.specs.Record.Entry.{Stop, OneBit, BusOff}
+use Rattle.can_node.specs.Record.{RecordEntry as Event, Inner}
+use Rattle.can_node.specs.Record.RecordEntry.{Stop, OneBit, BusOff}
 use Rattle.can_node.specs.Record.Inner.{none_left, samples, sends, aborts}
 use Rattle.can_node.specs.FinishedPieces.{Count, FinishedPiece}
 use Rattle.can_node.specs.Cut.{From, Move, IsOpenAt, IsCut}

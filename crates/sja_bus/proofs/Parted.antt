@@ -7,7 +7,7 @@ use Rattle.can_node.specs.Stands.{InReset}
 use Rattle.sja_link.specs.declared.up.Up.TheVariants.{Start, Send, Stop, Credit}
 use Rattle.sja_link.specs.declared.entry.Entry.{Entry}
 use Rattle.sja_link.specs.declared.entry.Entry.TheVariants.{Bit, Up as Item, Abort, Stored, Overrun, Off}
-use Rattle.sja_link.specs.Places.{Place, first_place, past, place_of}
+use Rattle.sja_link.specs.Places.{JournalPlace, first_place, past, place_of}
 use Rattle.sja_link.specs.Records.{told, record_of}
 use Rattle.sja_link.specs.Parts.{part}
 use Rattle.sja_link.specs.Free.{IsFree, credit_in, bytes_in}
@@ -72,19 +72,19 @@ no_mark (Stored m) none = refl
 no_mark (Overrun m) none = refl
 no_mark Off none = refl
 
-pub stays_of : (e : Entry) → ((p : Place) → past p e ≡ record p { bits = (past p e).bits }) → StaysIn e
-stays_of e h p = ap (λ (q : Place). q.activation) (h p)
+pub stays_of : (e : Entry) → ((p : JournalPlace) → past p e ≡ record p { bits = (past p e).bits }) → StaysIn e
+stays_of e h p = ap (λ (q : JournalPlace). q.activation) (h p)
 
-pub off_same : (j : List Entry) (e : Entry) → ((p : Place) → past p e ≡ record p { bits = (past p e).bits }) →
+pub off_same : (j : List Entry) (e : Entry) → ((p : JournalPlace) → past p e ≡ record p { bits = (past p e).bits }) →
     (place_of (j ++ e ∷ [])).off ≡ (place_of j).off
-off_same j e h = ap (λ (p : Place). p.off) (place_push j e ∙ h (place_of j))
+off_same j e h = ap (λ (p : JournalPlace). p.off) (place_push j e ∙ h (place_of j))
 
 pub begun_same : (j : List Entry) (e : Entry) → StaysIn e →
     (place_of (j ++ e ∷ [])).activation ≡ (place_of j).activation
-begun_same j e h = ap (λ (p : Place). p.activation) (place_push j e) ∙ h (place_of j)
+begun_same j e h = ap (λ (p : JournalPlace). p.activation) (place_push j e) ∙ h (place_of j)
 
 -- the node is on the bus as it was
-told_on : (off on : Bool) (e : Entry) → ((p : Place) → past p e ≡ record p { bits = (past p e).bits }) →
+told_on : (off on : Bool) (e : Entry) → ((p : JournalPlace) → past p e ≡ record p { bits = (past p e).bits }) →
     stops_in e ≡ 0 → is_on on (told off e) ≡ on
 told_on off on (Bit driven seen) stays none = refl
 told_on off on (Item (Start config)) stays none =
@@ -96,9 +96,9 @@ told_on off on (Item Stop) stays none = absurd (omega (arith, none))
 told_on off on Abort stays none = refl
 told_on off on (Stored m) stays none = refl
 told_on off on (Overrun m) stays none = refl
-told_on off on Off stays none = let s : true ≡ false = ap (λ (p : Place). p.off) (stays first_place) in absurd cc
+told_on off on Off stays none = let s : true ≡ false = ap (λ (p : JournalPlace). p.off) (stays first_place) in absurd cc
 
-pub on_same : (j : List Entry) (e : Entry) → ((p : Place) → past p e ≡ record p { bits = (past p e).bits }) →
+pub on_same : (j : List Entry) (e : Entry) → ((p : JournalPlace) → past p e ≡ record p { bits = (past p e).bits }) →
     stops_in e ≡ 0 → is_on false (record_of (j ++ e ∷ [])) ≡ is_on false (record_of j)
 on_same j e stays none =
     ap (is_on false) (record_push j e) ∙ on_both false (record_of j) (told (place_of j).off e)
@@ -136,12 +136,12 @@ asked_more j e a h = elim (cases_eq (past (place_of j) e).activation a) [
 ]
 
 -- bus-off, and a request after it, that stood there before
-pub off_less : (j : List Entry) (e : Entry) (a : ℕ) → ((p : Place) → past p e ≡ record p { bits = (past p e).bits }) →
+pub off_less : (j : List Entry) (e : Entry) (a : ℕ) → ((p : JournalPlace) → past p e ≡ record p { bits = (past p e).bits }) →
     HasOff (part (j ++ e ∷ []) a) → HasOff (part j a)
 off_less j e a stays h = elim (cases_eq (past (place_of j) e).activation a) [
   | inl q ↦ off_before (part j a) e
-      (λ is. let P : Entry → Type 0 = λ x. (p : Place) → past p x ≡ record p { bits = (past p x).bits } in
-      let s : true ≡ false = ap (λ (p : Place). p.off) (subst P is stays first_place) in cc)
+      (λ is. let P : Entry → Type 0 = λ x. (p : JournalPlace) → past p x ≡ record p { bits = (past p x).bits } in
+      let s : true ≡ false = ap (λ (p : JournalPlace). p.off) (subst P is stays first_place) in cc)
       (subst (λ (l : List Entry). HasOff l) (part_here j e a q) h)
   | inr ne ↦ subst (λ (l : List Entry). HasOff l) (part_else j e a ne) h
 ]
@@ -156,7 +156,7 @@ asked_less j e a none h = elim (cases_eq (past (place_of j) e).activation a) [
 ]
 
 pub active_same : (activity : Activity) (old new : Node) (j : List Entry) (e : Entry) (a : ℕ) →
-    ((p : Place) → past p e ≡ record p { bits = (past p e).bits }) → marks_in e ≡ 0 →
+    ((p : JournalPlace) → past p e ≡ record p { bits = (past p e).bits }) → marks_in e ≡ 0 →
     (InReset old → InReset new) → IsActive activity old j a → IsActive activity new (j ++ e ∷ []) a
 active_same Between old new j e a stays none reset h = reset h
 active_same (Running filter) old new j e a stays none reset h = (

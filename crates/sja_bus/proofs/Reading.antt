@@ -9,7 +9,7 @@ use Rattle.can_node.specs.Stands.{InReset}
 use Rattle.sja_link.specs.declared.up.Up.TheVariants.{Start, Send, Stop}
 use Rattle.sja_link.specs.declared.entry.Entry.{Entry}
 use Rattle.sja_link.specs.declared.entry.Entry.TheVariants.{Up as Item, Off}
-use Rattle.sja_link.specs.Places.{Place, past, place_of}
+use Rattle.sja_link.specs.Places.{JournalPlace, past, place_of}
 use Rattle.sja_link.specs.Records.{told, record_of}
 use Rattle.sja_link.specs.Parts.{part, entry_at}
 use Rattle.sja_link.specs.Carried.{taken_of}
@@ -40,7 +40,7 @@ reads_new node reset =
 
 -- an entry that begins and ends no activation, by which nothing is taken and nothing put
 abbrev pub IsQuiet : Entry → Type 0
-IsQuiet e = ((p : Place) → past p e ≡ record p { bits = (past p e).bits }) × (bytes_in e ≡ 0)
+IsQuiet e = ((p : JournalPlace) → past p e ≡ record p { bits = (past p e).bits }) × (bytes_in e ≡ 0)
     × (credit_in e ≡ 0) × (acts_in e ≡ 0)
 
 -- an entry with which nothing changes but the node: an abort, and a bit
@@ -70,13 +70,13 @@ reads_start old new j config ended free left pays h =
     let none : part j (suc ended) ≡ [] = of_part_later entry_at j (suc ended) few in
     let one : part (j ++ e ∷ []) (suc ended) ≡ part j (suc ended) ++ e ∷ [] = part_here j e (suc ended) at in
     let place = place_push j e in record {
-      begun = ap (λ (p : Place). p.activation) place ∙ at ∙ omega arith;
+      begun = ap (λ (p : JournalPlace). p.activation) place ∙ at ∙ omega arith;
       stopped = stopped_same j e ended refl h.stopped;
       free_is = subst (λ (p : List Entry). IsFree p left) (sym one) (pays (part j (suc ended)) h.free_is);
       stopless = stopless_with j e (suc ended) refl h.stopless;
       orderly = orderly_here j e (suc ended) h.orderly at (ap taken_of none);
       active = (
-        ap (λ (p : Place). p.off) place,
+        ap (λ (p : JournalPlace). p.off) place,
         ap filter_of one ∙ ap (λ l. filter_of (l ++ e ∷ [])) none,
         ap (is_on false) (record_push j e) ∙ on_both false (record_of j) (told (place_of j).off e),
         λ off. none_off
@@ -99,7 +99,7 @@ reads_running activity node j ended free runs h =
 
 -- an entry of the activation that is read, and what the bus knows of it then
 reads_with : (old new : Node) (j : List Entry) (e : Entry) (ended : ℕ) (was now : Activity) (free left : ℕ) →
-    ((p : Place) → past p e ≡ record p { bits = (past p e).bits }) →
+    ((p : JournalPlace) → past p e ≡ record p { bits = (past p e).bits }) →
     stops_in e ≡ 0 → open_in was ≡ 1 → open_in now ≡ 1 → Pays free left e → IsOrderly (part j (suc ended)) e →
     IsActive now new (j ++ e ∷ []) (suc ended) → Reads old j ended was free → Reads new (j ++ e ∷ []) ended now left
 reads_with old new j e ended was now free left stays none runs still pays due active h =
@@ -115,7 +115,7 @@ reads_with old new j e ended was now free left stays none runs still pays due ac
 
 -- a credit, and a verdict
 pub reads_here : (old new : Node) (j : List Entry) (e : Entry) (ended : ℕ) (activity : Activity) (free left : ℕ) →
-    ((p : Place) → past p e ≡ record p { bits = (past p e).bits }) →
+    ((p : JournalPlace) → past p e ≡ record p { bits = (past p e).bits }) →
     marks_in e ≡ 0 → open_in activity ≡ 1 → (InReset old → InReset new) → Pays free left e →
     IsOrderly (part j (suc ended)) e → Reads old j ended activity free → Reads new (j ++ e ∷ []) ended activity left
 reads_here old new j e ended activity free left stays none runs reset pays due h =
@@ -187,7 +187,7 @@ reads_off node j ended filter free reset h =
       orderly = orderly_here j Off (suc ended) h.orderly at
           (reads_running (Running filter) node j ended free refl h, no_off_put (part j (suc ended)) h.active.3);
       active = (
-        ap (λ (p : Place). p.off) (place_push j Off),
+        ap (λ (p : JournalPlace). p.off) (place_push j Off),
         reset,
         record { before = part j (suc ended); after = []; whole = part_here j Off (suc ended) at },
         λ asked. h.active.3 (off_of_asked (part j (suc ended)) (asked_less j Off (suc ended) refl asked)),

@@ -11,7 +11,7 @@ use Rattle.can_node.specs.declared.node.Node.{Node}
 use Rattle.can_node.specs.Context.{ContextValue, is_held}
 use Rattle.can_node.specs.Pieces.{Place}
 use Rattle.can_node.specs.Pieces.Place.{AtReset, AtIntegration, AtIdle, AfterSof, AtLastEofBit, AtFlag, AtDelimiter, AtInterframeSpace}
-use Rattle.can_node.specs.Record.{Entry as Event, bits_in}
+use Rattle.can_node.specs.Record.{RecordEntry as Event, bits_in}
 use Rattle.can_node.specs.FinishedPieces.{FinishedPiece}
 use Rattle.can_node.specs.Cut.{IsCut}
 use Rattle.can_node.specs.Effects.{along}
@@ -21,8 +21,8 @@ use Rattle.can_node.specs.Stands.{DrivesNext, ShowsRest}
 use Rattle.can_node.proofs.OneCut.CutOnce.{whole_once}
 use Rattle.sja_link.specs.declared.entry.Entry.{Entry}
 use Rattle.sja_link.specs.Records.{record_of}
-use Rattle.sja_bus.specs.declared.news.News.{News}
-use Rattle.sja_bus.specs.declared.news.News.TheVariants.{Nothing, Changed, Dropped}
+use Rattle.sja_bus.specs.declared.untold.Untold.{Untold}
+use Rattle.sja_bus.specs.declared.untold.Untold.TheVariants.{Nothing, Changed, Dropped}
 use Rattle.sja_bus.specs.declared.seat.Seat.{Seat}
 use Rattle.sja_wire.specs.Wire.{journal_at}
 use Rattle.sja_bus.specs.Buses.{BusValue, untold_at}
@@ -94,10 +94,10 @@ rest_recessive node j x h rests drives =
 
 -- ---- one of several isn't, or something is untold of it
 
-is_news : (n : News) → n ≢ Nothing → is_untold n ≡ true
-is_news Nothing some = absurd (some refl)
-is_news Changed some = refl
-is_news Dropped some = refl
+has_untold : (n : Untold) → n ≢ Nothing → is_untold n ≡ true
+has_untold Nothing some = absurd (some refl)
+has_untold Changed some = refl
+has_untold Dropped some = refl
 
 pub ends_awake : (count n : ℕ) (now : BusValue) (seats : List Seat) → now.journals ≡ journals_of seats → now.untold ≡ untold_of seats →
     AreReady seats → IsOneAwake seats → EndsStretch count n now
@@ -108,7 +108,7 @@ ends_awake count n now (s ∷ seats) journals told ready one =
     let near : k < length (journals_of all) = omega (arith, few, c) in
     let here : k < length now.journals = omega (arith, near, size) in
     elim (one.2 s) [
-      | inl news ↦ untold k here (ap (λ u. untold_at u k) told ∙ untold_is all k s few ∙ is_news (slice_index_or all k s).news news)
+      | inl untold ↦ untold k here (ap (λ u. untold_at u k) told ∙ untold_is all k s few ∙ has_untold (slice_index_or all k s).untold untold)
       | inr shows ↦ busy k here (subst (λ (j : List (List Entry)). RestsAs (record_of (journal_at j k)) false) (sym journals)
           (rests_at all false k ready near (λ e. subst (λ (x : Seat). ShowsRest x.node false) (or_same all k s e few) shows)))
     ]

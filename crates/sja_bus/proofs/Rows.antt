@@ -33,7 +33,7 @@ pub record HaveTaken {E : Type 0} (same : E → E → Type 0) (stands : E → Li
   pub goes : GoesAll same stands before seats given links
   pub rooms : (n : ℕ) → HaveRoom n before → HaveRoom n seats
   pub done : Done Does k before seats
-  pub news : Done Tells k before seats
+  pub untold : Done Tells k before seats
 
 pub taken_none : {E : Type 0} (same : E → E → Type 0) (stands : E → Lists → Type 0) (dry : E → Type 0) → ((x : E) → same x x) → (Does Tells : ℕ → Seat → Seat → Type 0) (seats : List Seat) (links : List E) → AreReady seats →
     HaveTaken same stands dry Does Tells seats links 0 seats links
@@ -43,7 +43,7 @@ taken_none same stands dry same_refl Does Tells seats links ready = record {
   goes = goes_all_refl same stands same_refl seats links;
   rooms = λ n h. h;
   done = done_none Does seats;
-  news = done_none Tells seats;
+  untold = done_none Tells seats;
 }
 
 -- one more took what its links show
@@ -59,5 +59,5 @@ taken_one same stands dry same_trans Does Tells before seats given links after k
       goes = goes_all_one same stands same_trans before seats given links after k s new here count so_far.goes goes;
       rooms = λ n h. rooms_one n seats k s new here stays.room (so_far.rooms n h);
       done = done_one Does k before seats s new was count does so_far.done;
-      news = done_one Tells k before seats s new was count tells so_far.news;
+      untold = done_one Tells k before seats s new was count tells so_far.untold;
     }

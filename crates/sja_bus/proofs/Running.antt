@@ -34,7 +34,7 @@ journal_is (x ∷ seats) zero s few = refl
 journal_is (x ∷ seats) (suc k) s few = journal_is seats k s (omega arith)
 
 -- whether something is untold of it
-pub untold_is : (seats : List Seat) (k : ℕ) (s : Seat) → k < length seats → slice_index_or (untold_of seats) k false ≡ is_untold (slice_index_or seats k s).news
+pub untold_is : (seats : List Seat) (k : ℕ) (s : Seat) → k < length seats → slice_index_or (untold_of seats) k false ≡ is_untold (slice_index_or seats k s).untold
 untold_is [] k s few = absurd (omega arith)
 untold_is (x ∷ seats) zero s few = refl
 untold_is (x ∷ seats) (suc k) s few = untold_is seats k s (omega arith)

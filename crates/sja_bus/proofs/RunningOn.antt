@@ -28,7 +28,7 @@ use Rattle.sja_bus.specs.Inside.Refusing.{HaveRoom, SeatBreaks}
 use Rattle.sja_bus.specs.Inside.Rows.{AreReady, EachSeat, SeatTurns, GoesAll, IsBus, driven_by, journals_of}
 use Rattle.sja_bus.specs.Inside.RunningOn.{NoneAborts, moment_of, bus_of, AnyBit}
 use Rattle.sja_bus.specs.Inside.Whole.{IsRowBit}
-use Rattle.sja_bus.proofs.AtRest.{news_none}
+use Rattle.sja_bus.proofs.AtRest.{untold_none}
 use Rattle.sja_bus.proofs.Bits.{items_none}
 use Rattle.sja_bus.proofs.Breaking.{stops_bit}
 use Rattle.sja_bus.proofs.Journals.{keeps_all, is_bit, all_told, wired_row}
@@ -59,7 +59,7 @@ row_on orders_are was_told was_kept struck level seats after none is turns = rec
   level = level;
   count = refl;
   opens = λ m s few. let o = none m few in opens_none (orders_are m) (slice_index_or seats m s).journal.entries o.0 o.1 o.2;
-  news = λ m s few. news_none (slice_index_or seats m s);
+  untold = λ m s few. untold_none (slice_index_or seats m s);
   is_level = is;
   turns = turns;
 }

@@ -11,8 +11,8 @@ use Rattle.can_node.specs.declared.aborted.Aborted.TheVariants.{Unchanged, Marke
 use Rattle.can_node.specs.declared.bit_events.BitEvents.{BitEvents}
 use Rattle.can_node.specs.declared.node.Node.{Node}
 use Rattle.can_node.specs.Bits.{Bit as Levels}
-use Rattle.can_node.specs.Record.{Entry as Event}
-use Rattle.can_node.specs.Record.Entry.{Start as Started, Stop as Stopped, OneBit as Took, Send as Asked, Abort as AbortedNow, BusOff as WentOff}
+use Rattle.can_node.specs.Record.{RecordEntry as Event}
+use Rattle.can_node.specs.Record.RecordEntry.{Start as Started, Stop as Stopped, OneBit as Took, Send as Asked, Abort as AbortedNow, BusOff as WentOff}
 use Rattle.can_node.specs.FinishedPieces.{Count, FinishedPiece, ReceivedFrame, counted, none_yet, received}
 use Rattle.can_node.specs.Events.{received_in}
 use Rattle.can_node.specs.Stands.{StandsAt, Enters, Samples, DrivesNext, Requests, Aborts, closed_by, received_now}

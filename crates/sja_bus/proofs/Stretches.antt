@@ -14,7 +14,7 @@ use Rattle.sja_regs.specs.declared.bus_turn.BusTurn.{BusTurn}
 use Rattle.sja_script.specs.declared.strike.Strike.{Strike}
 use Rattle.sja_script.specs.Striking.{Strikes}
 use Rattle.sja_bus.specs.declared.struck_nodes.StruckNodes.{StruckNodes}
-use Rattle.sja_bus.specs.declared.news.News.TheVariants.{Nothing, Dropped}
+use Rattle.sja_bus.specs.declared.untold.Untold.TheVariants.{Nothing, Dropped}
 use Rattle.sja_bus.specs.declared.seat.Seat.{Seat}
 use Rattle.sja_bus.specs.StrikesByBit.{IsAmong}
 use Rattle.sja_wire.specs.Wire.{wired, IsWired}
@@ -25,13 +25,13 @@ use Rattle.sja_bus.specs.Buses.{BusValue, untold_at, IsBit}
 use Rattle.sja_bus.specs.Stretches.{recessive_bits, with_recessive, IsStretch, EndsStretch, IsOutOfEntries}
 use Rattle.sja_bus.specs.Stretches.EndsStretch.{asked_for, spent, struck}
 use Rattle.sja_bus.specs.Inside.Turning.{is_untold, Turns}
-use Rattle.sja_bus.specs.Inside.Rows.{IsOf, AreReady, Done, AreCalm, journals_of, untold_of, driven_by, seen_by, IsBus, SeatOpens, SeatOpensNews, SeatTurns}
+use Rattle.sja_bus.specs.Inside.Rows.{IsOf, AreReady, Done, AreCalm, journals_of, untold_of, driven_by, seen_by, IsBus, SeatOpens, SeatOpensUntold, SeatTurns}
 use Rattle.sja_bus.specs.Inside.Whole.{IsRowBit}
 use Rattle.sja_bus.specs.Inside.Idling.{AreResting, IsFullAfter, IsFullBy, after_bits, all_after}
 use Rattle.sja_bus.specs.Inside.Refusing.{HaveRoom}
 use Rattle.sja_bus.proofs.Running.{journal_is, untold_is, count_is}
 use Rattle.sja_bus.proofs.Journals.{is_bit, wired_row}
-use Rattle.sja_bus.proofs.AtRest.{after_none, ready_after, turns_after, opens_after, news_none}
+use Rattle.sja_bus.proofs.AtRest.{after_none, ready_after, turns_after, opens_after, untold_none}
 
 -- ---- all seats after so many bits
 
@@ -65,7 +65,7 @@ after_journals n (s ∷ seats) = ap (λ l. (s.journal.entries ++ recessive_bits 
 
 pub after_untold : (n : ℕ) (seats : List Seat) → untold_of (all_after n seats) ≡ untold_of seats
 after_untold n [] = refl
-after_untold n (s ∷ seats) = ap (λ l. is_untold s.news ∷ l) (after_untold n seats)
+after_untold n (s ∷ seats) = ap (λ l. is_untold s.untold ∷ l) (after_untold n seats)
 
 pub room_after : (n room : ℕ) (seats : List Seat) → HaveRoom room seats → HaveRoom room (all_after n seats)
 room_after n room seats h k s few =
@@ -102,9 +102,9 @@ module _ (orders_are : ℕ → Orders → Type 0) (was_told : ℕ → BusTurn �
         let P : Seat → Type 0 = λ x. SeatOpens orders_are m x x in
         let o = rest.orders m (here n m few) in
         subst P (sym (after_at n seats m s (here n m few))) (opens_after (orders_are m) n (slice_index_or seats m s) o.0 o.1 (ready m s (here n m few)).ready (rest.each m s (here n m few)));
-    news = λ m s few.
-        let P : Seat → Type 0 = λ x. SeatOpensNews m x x in
-        subst P (sym (after_at n seats m s (here n m few))) (news_none (after_bits n (slice_index_or seats m s)));
+    untold = λ m s few.
+        let P : Seat → Type 0 = λ x. SeatOpensUntold m x x in
+        subst P (sym (after_at n seats m s (here n m few))) (untold_none (after_bits n (slice_index_or seats m s)));
     is_level = after_wired n seats (λ k s few. (rest.each k s few).drives);
     turns = λ m s few.
         let P : Seat → Type 0 = λ x. SeatTurns was_told was_kept nobody Recessive m x (slice_index_or (all_after (suc n) seats) m s) in
@@ -116,8 +116,8 @@ module _ (orders_are : ℕ → Orders → Type 0) (was_told : ℕ → BusTurn �
 
   calm_after : (n : ℕ) → AreCalm (all_after n seats)
   calm_after n m s few e =
-      let none : (slice_index_or (all_after n seats) m s).news ≡ Nothing =
-      ap (λ (x : Seat). x.news) (after_at n seats m s (here n m few)) ∙ (rest.each m s (here n m few)).none in
+      let none : (slice_index_or (all_after n seats) m s).untold ≡ Nothing =
+      ap (λ (x : Seat). x.untold) (after_at n seats m s (here n m few)) ∙ (rest.each m s (here n m few)).none in
       let wrong : Nothing ≡ Dropped = sym none ∙ e in cc
 
   ready_all : (n : ℕ) → AreReady (all_after n seats)

@@ -7,8 +7,8 @@ ghost use Rattle.sja_regs.specs.declared.bus_turn.BusTurn.{BusTurn as Turn};
 ghost use Rattle.can_bits.specs.Digits.{opposite};
 ghost use Rattle.sja_wire.specs.Wire.{wired};
 ghost use Rattle.sja_wire.specs.Links.{Numbered};
-ghost use Rattle.sja_bus.specs.Inside.Rows.{AreReady, AreSeated, AreTold, EachSeat, SeatTakes, SeatNews};
-ghost use Rattle.sja_bus.specs.Inside.Rows.{SeatOpens, SeatOpensNews, SeatTurns, GoesAll, AllRead, driven_by};
+ghost use Rattle.sja_bus.specs.Inside.Rows.{AreReady, AreSeated, AreTold, EachSeat, SeatTakes, SeatUntold};
+ghost use Rattle.sja_bus.specs.Inside.Rows.{SeatOpens, SeatOpensUntold, SeatTurns, GoesAll, AllRead, driven_by};
 ghost use Rattle.sja_bus.specs.Boards.{KeepsOthers};
 ghost use Rattle.sja_bus.specs.declared.seat.Seat.{Seat as Seated};
 ghost use Rattle.sja_bus.specs.Inside.Underway.{IsUnderway};
@@ -16,8 +16,8 @@ ghost use Rattle.sja_bus.specs.Inside.Whole.{IsRowBit};
 ghost use Rattle.sja_bus.specs.Inside.RowTakes.{RowTakesAll};
 ghost use Rattle.sja_bus.specs.Inside.Refusing.{HaveRoom, AreFree, SeatRefuses, SeatFull, SeatBreaks, SeatStops};
 
+use super::bit_end::BitEnd;
 use super::board::Board;
-use super::row_end::RowEnd;
 use super::seat::{LINKS, Seat};
 use super::struck_nodes::StruckNodes;
 use can_bits::Level;
@@ -33,7 +33,7 @@ pub(crate) fn gather_all<E: BusEnd>(seats: &mut [Seat], links: &mut [E]) -> Resu
     ensures ready { OnOk result (AreReady seats.new) }
     ensures goes { OnOk result (GoesAll E.same E.stands seats.old seats.new links.old links.new) }
     ensures items { OnOk result (EachSeat SeatTakes seats.old seats.new) }
-    ensures news { OnOk result (EachSeat SeatNews seats.old seats.new) }
+    ensures untold { OnOk result (EachSeat SeatUntold seats.old seats.new) }
     ensures dry { OnOk result (AllRead E.dry seats.new links.new) }
     ensures rooms { OnOk result ((n : ℕ) → HaveRoom n seats.old → HaveRoom n seats.new) }
     ensures refused { IfErr result (λ f. SeatRefuses E.stands seats.old seats.new links.old links.new f) }
@@ -59,7 +59,7 @@ pub(crate) fn open_all<E: BusEnd, B: Board>(
     ensures ready { OnOk result (AreReady seats.new) }
     ensures goes { OnOk result (GoesAll E.same E.stands seats.old seats.new links.old links.new) }
     ensures opens { OnOk result (EachSeat (SeatOpens (B.orders_are board.now)) seats.old seats.new) }
-    ensures news { OnOk result (EachSeat SeatOpensNews seats.old seats.new) }
+    ensures untold { OnOk result (EachSeat SeatOpensUntold seats.old seats.new) }
     ensures dry { OnOk result (AllRead E.dry seats.new links.new) }
     ensures rooms { OnOk result ((n : ℕ) → HaveRoom n seats.old → HaveRoom n seats.new) }
     ensures stops { IfErr result (λ f. SeatRefuses E.stands seats.old seats.new links.old links.new f
@@ -114,7 +114,7 @@ fn both(a: Level, b: Level) -> Level
 /// The nodes from this one on have their bit, and see this level, or the other one where they are struck. Their ports
 /// are told of it where there is something to tell. What was so of those before goes on to all.
 #[inline(never)]
-fn tick_from<E: BusEnd, B: Board>(
+fn sample_from<E: BusEnd, B: Board>(
     seats: &mut [Seat],
     links: &mut [E],
     level: Level,
@@ -138,7 +138,7 @@ fn tick_from<E: BusEnd, B: Board>(
 {
     for k in first..seats.len() {
         let sees = seen(level, struck.has(k));
-        seats[k].tick(links, LINKS * k, sees, board)?;
+        seats[k].sample(links, LINKS * k, sees, board)?;
     }
     Ok(())
 }
@@ -146,13 +146,13 @@ fn tick_from<E: BusEnd, B: Board>(
 /// Each node has its bit, and sees this level, or the other one where it is struck. Its port is told of it where there
 /// is something to tell. Answers what all drive together then, and whether some port was told.
 #[inline(always)]
-pub(crate) fn tick_all<E: BusEnd, B: Board>(
+pub(crate) fn sample_all<E: BusEnd, B: Board>(
     seats: &mut [Seat],
     links: &mut [E],
     level: Level,
     struck: StruckNodes,
     board: &mut B,
-) -> Result<RowEnd, BusFault>
+) -> Result<BitEnd, BusFault>
     requires seated { AreSeated E.link seats.old links.old (B.ports board.old) }
     requires told { AreTold seats.old }
     requires free { AreFree 1 seats.old }
@@ -171,16 +171,16 @@ pub(crate) fn tick_all<E: BusEnd, B: Board>(
     let mut next = Level::Recessive;
     for k in 0..seats.len() {
         let sees = seen(level, struck.has(k));
-        if !seats[k].tick_quietly(sees) {
-            tick_from(seats, links, level, struck, board, k)?;
-            return Ok(RowEnd {
+        if !seats[k].sample_quietly(sees) {
+            sample_from(seats, links, level, struck, board, k)?;
+            return Ok(BitEnd {
                 level: level_of(seats),
                 told: true,
             });
         }
         next = both(next, seats[k].drives);
     }
-    Ok(RowEnd {
+    Ok(BitEnd {
         level: next,
         told: false,
     })
@@ -189,7 +189,7 @@ pub(crate) fn tick_all<E: BusEnd, B: Board>(
 /// One bit of all nodes, in which these are struck: what the links show is taken and what stands is aborted, all drive,
 /// each sees the level, and the ports are told.
 #[inline(never)]
-pub(crate) fn bit_all<E: BusEnd, B: Board>(
+pub(crate) fn bit_of_all<E: BusEnd, B: Board>(
     seats: &mut [Seat],
     links: &mut [E],
     board: &mut B,
@@ -210,6 +210,6 @@ pub(crate) fn bit_all<E: BusEnd, B: Board>(
 {
     open_all(seats, links, board)?;
     let level = level_of(seats);
-    tick_from(seats, links, level, struck, board, 0)?;
+    sample_from(seats, links, level, struck, board, 0)?;
     Ok(())
 }

@@ -3,15 +3,15 @@
 ghost use Rattle.std.specs.Prelude.{◌≡◌, true};
 ghost use Rattle.sja_bus.specs.Inside.Rows.{AreTold};
 
-use super::news::News;
 use super::seat::Seat;
+use super::untold::Untold;
 
 /// Whether no port is to be told anything.
 pub(crate) fn are_told(seats: &[Seat]) -> bool
     ensures { result ≡ true → AreTold seats.now }
 {
     for k in 0..seats.len() {
-        let News::Nothing = seats[k].news else {
+        let Untold::Nothing = seats[k].untold else {
             return false;
         };
     }

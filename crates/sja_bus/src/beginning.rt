@@ -5,8 +5,8 @@ ghost use Rattle.sja_link.specs.Related.{EachRelated};
 ghost use Rattle.sja_bus.specs.Inside.Ending.{IsLog};
 
 use super::activity::Activity;
-use super::news::News;
 use super::seat::Seat;
+use super::untold::Untold;
 use can_frame::OutOfMemory;
 use can_node::Node;
 use sja_link::{BusLedger, Journal, LinkId};
@@ -16,7 +16,7 @@ use std::alloc::Global;
 impl Seat {
     ghost use Rattle.std.specs.Prelude.{◌≡◌, ◌≢◌, ◌+◌, [], true, false, IfOk};
     ghost use Rattle.sja_link.specs.BusLedgers.{link_of};
-    ghost use Rattle.sja_bus.specs.declared.news.News.TheVariants.{Nothing};
+    ghost use Rattle.sja_bus.specs.declared.untold.Untold.TheVariants.{Nothing};
     ghost use Rattle.sja_bus.specs.Inside.Following.{open_in};
     ghost use Rattle.sja_bus.specs.Reasons.{room_for};
     ghost use Rattle.sja_bus.specs.Inside.Ending.{IsLog};
@@ -30,7 +30,7 @@ impl Seat {
         ensures own { IfOk result (λ s. (link_of s.ledger).node ≡ number) }
         ensures empty { IfOk result (λ s. s.journal.entries ≡ []) }
         ensures room { IfOk result (λ s. s.journal.room ≡ room_for bits) }
-        ensures news { IfOk result (λ s. s.news ≡ Nothing) }
+        ensures untold { IfOk result (λ s. s.untold ≡ Nothing) }
     {
         let journal = Journal::new(alloc, bits)?;
         let node = Node::new();
@@ -46,7 +46,7 @@ impl Seat {
             journal,
             ended: 0,
             activity: Activity::Between,
-            news: News::Nothing,
+            untold: Untold::Nothing,
         })
     }
 

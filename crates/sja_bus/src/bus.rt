@@ -2,7 +2,7 @@
 
 ghost use Rattle.std.specs.Prelude.{◌≡◌, None};
 
-use super::all_nodes::{bit_all, gather_all};
+use super::all_nodes::{bit_of_all, gather_all};
 use super::beginning::logs_of;
 use super::board::Board;
 use super::resting::all_rest;
@@ -180,7 +180,7 @@ impl Bus {
     {
         self.goes_on()?;
         let struck = self.struck.at(self.run);
-        match bit_all(self.seats.as_mut_slice(), links, board, struck) {
+        match bit_of_all(self.seats.as_mut_slice(), links, board, struck) {
             Ok(()) => {
                 self.run += 1;
                 self.left -= 1;

@@ -2,8 +2,8 @@
 
 use super::activity::Activity;
 use super::board::Board;
-use super::news::News;
 use super::seat::Seat;
+use super::untold::Untold;
 use can_node::Aborted;
 use sja_link::{BusEnd, Entry};
 use sja_wire::BusFault;
@@ -20,7 +20,7 @@ impl Seat {
     ghost use Rattle.sja_bus.specs.Inside.Seats.{IsSeat, IsReady};
     ghost use Rattle.sja_bus.specs.Inside.AtLinks.{HasLinks, KeepsLinks};
     ghost use Rattle.sja_bus.specs.Inside.Taking.{Applies, IsFull, FullForAbort};
-    ghost use Rattle.sja_bus.specs.Inside.Turning.{TakesNews, AbortsNews, OpensNews};
+    ghost use Rattle.sja_bus.specs.Inside.Turning.{TakesUntold, AbortsUntold, OpensUntold};
 
     /// Takes all that the links show, one link after the other.
     #[inline(always)]
@@ -31,7 +31,7 @@ impl Seat {
         ensures goes { OnOk result
             (Goes E.same E.stands self.old.journal.entries self.new.journal.entries links.old links.new base) }
         ensures items { OnOk result (MayHaveItems self.old.journal.entries self.new.journal.entries) }
-        ensures news { OnOk result (TakesNews self.old self.new) }
+        ensures untold { OnOk result (TakesUntold self.old self.new) }
         ensures dry { OnOk result
             ((d : E) → self.new.ended < 8 → E.dry (slice_index_or links.new (base + self.new.ended) d)) }
         ensures refused { IfErr result (λ f. RefusesItem E.stands self.old.journal.room self.old.journal.entries
@@ -49,7 +49,7 @@ impl Seat {
     }
 
     /// Writes an abort that changed the node.
-    fn enter_abort(&mut self, news: News) -> Result<(), BusFault>
+    fn enter_abort(&mut self, untold: Untold) -> Result<(), BusFault>
         requires follows { Follows self.old.node (self.old.journal.entries ++ AbortEntry ∷ []) }
         requires reads { Reads self.old.node (self.old.journal.entries ++ AbortEntry ∷ []) self.old.ended
             self.old.activity (free_in self.old.ledger) }
@@ -58,11 +58,11 @@ impl Seat {
         ensures room { self.new.journal.room ≡ self.old.journal.room }
         ensures ready { OnOk result (IsReady self.new) }
         ensures ended { self.new.ended ≡ self.old.ended }
-        ensures news { self.new.news ≡ news }
+        ensures untold { self.new.untold ≡ untold }
         ensures entered { OnOk result (self.new.journal.entries ≡ self.old.journal.entries ++ AbortEntry ∷ []) }
         ensures full { IfErr result (λ f. IsFull self.old self.new f) }
     {
-        self.news = news;
+        self.untold = untold;
         self.drives = self.node.drive();
         self.enter(Entry::Abort)
     }
@@ -76,7 +76,7 @@ impl Seat {
         ensures ready { OnOk result (IsReady self.new) }
         ensures ended { self.new.ended ≡ self.old.ended }
         ensures aborts { OnOk result (Applies self.old.journal.entries self.new.journal.entries) }
-        ensures news { OnOk result (AbortsNews self.old self.new) }
+        ensures untold { OnOk result (AbortsUntold self.old self.new) }
         ensures full { IfErr result (λ f. IsFull self.old self.new f) }
         ensures due { OnErr result (IsApplied self.old.journal.entries true) }
     {
@@ -85,8 +85,8 @@ impl Seat {
         };
         match self.node.abort() {
             Aborted::Unchanged => Ok(()),
-            Aborted::Marked => self.enter_abort(News::Changed),
-            Aborted::Dropped => self.enter_abort(News::Dropped),
+            Aborted::Marked => self.enter_abort(Untold::Changed),
+            Aborted::Dropped => self.enter_abort(Untold::Dropped),
         }
     }
 
@@ -106,7 +106,7 @@ impl Seat {
             (Goes E.same E.stands self.old.journal.entries self.new.journal.entries links.old links.new base) }
         ensures opens { OnOk result (Opens (B.orders_are board.now (link_of self.old.ledger).node)
             self.old.journal.entries self.new.journal.entries) }
-        ensures news { OnOk result (OpensNews self.old self.new) }
+        ensures untold { OnOk result (OpensUntold self.old self.new) }
         ensures dry { OnOk result
             ((d : E) → self.new.ended < 8 → E.dry (slice_index_or links.new (base + self.new.ended) d)) }
         ensures stops { IfErr result (λ f. RefusesItem E.stands self.old.journal.room self.old.journal.entries

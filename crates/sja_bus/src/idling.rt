@@ -5,8 +5,8 @@ ghost use Rattle.sja_bus.specs.Inside.Idling.{AreResting, IsOneAwake, all_after,
 ghost use Rattle.sja_bus.specs.Inside.Rows.{AreReady};
 
 use super::board::Board;
-use super::news::News;
 use super::seat::Seat;
+use super::untold::Untold;
 use can_bits::Level;
 use sja_wire::BusFault;
 
@@ -21,14 +21,14 @@ impl Seat {
         ensures yes { result ≡ true → IsResting self.now }
         ensures no { result ≡ false → IsAwake self.now }
     {
-        match self.news {
-            News::Nothing => self.node.at_rest(),
+        match self.untold {
+            Untold::Nothing => self.node.at_rest(),
             _ => false,
         }
     }
 
     /// So many recessive bits of a node at rest: they change nothing but the journal.
-    fn rest_for(&mut self, count: u32) -> Result<(), BusFault>
+    fn enter_idle_bits(&mut self, count: u32) -> Result<(), BusFault>
         ensures rested { OnOk result (self.new ≡ after_bits count self.old) }
         ensures full { IfErr result (λ f. IsFullAfter count self.old self.new f) }
     {
@@ -57,13 +57,13 @@ pub(crate) fn are_resting<B: Board>(seats: &[Seat], board: &B) -> bool
 }
 
 /// So many recessive bits of all nodes, which are at rest.
-pub(crate) fn rest_all(seats: &mut [Seat], count: u32) -> Result<(), BusFault>
+pub(crate) fn all_enter_idle_bits(seats: &mut [Seat], count: u32) -> Result<(), BusFault>
     requires ready { AreReady seats.old }
     ensures rested { OnOk result (seats.new ≡ all_after count seats.old) }
     ensures full { IfErr result (λ f. IsFullBy count seats.old seats.new f) }
 {
     for k in 0..seats.len() {
-        seats[k].rest_for(count)?;
+        seats[k].enter_idle_bits(count)?;
     }
     Ok(())
 }

@@ -11,7 +11,7 @@ ghost use Rattle.sja_bus.specs.Inside.Refusing.{HaveRoom, AreFree};
 ghost use Rattle.sja_bus.specs.Inside.Rows.{AreReady, AreSeated, AreTold, IsBus};
 ghost use Rattle.sja_bus.specs.Inside.RunningOn.{NoneAborts, RowsRun, RowsStop};
 
-use super::all_nodes::{level_of, tick_all};
+use super::all_nodes::{level_of, sample_all};
 use super::all_told::are_told;
 use super::board::Board;
 use super::broken_off::BrokenOff;
@@ -24,7 +24,7 @@ use sja_link::BusEnd;
 use sja_wire::BusFault;
 
 /// Whether no port wants an abort, and the ports are told all.
-fn may_run_on<B: Board>(seats: &[Seat], board: &B) -> bool
+fn may_run_untaken<B: Board>(seats: &[Seat], board: &B) -> bool
     requires ready { AreReady seats.now }
     requires ports { length seats.now ≤ B.ports board.now }
     ensures orders { result ≡ true → NoneAborts (B.orders_are board.now) (length seats.now) }
@@ -66,7 +66,7 @@ fn room_of(seats: &[Seat], most: u32) -> u32
 /// Bits of all nodes from this one on, at most so many: as far as no node is struck and each journal has room, with
 /// `to_rest` as long as some node works, and up to the first in which a port is told something. Answers how many.
 #[inline(never)]
-pub(crate) fn on_all<E: BusEnd, B: Board>(
+pub(crate) fn untaken_bits<E: BusEnd, B: Board>(
     seats: &mut [Seat],
     links: &mut [E],
     board: &mut B,
@@ -93,7 +93,7 @@ pub(crate) fn on_all<E: BusEnd, B: Board>(
         if !goes_on(seats, marks[run as usize], to_rest) {
             return Ok(run);
         }
-        match tick_all(seats, links, level, StruckNodes::none(), board) {
+        match sample_all(seats, links, level, StruckNodes::none(), board) {
             Ok(end) => {
                 board.keeps_its_facts();
                 if end.told {
@@ -118,7 +118,7 @@ impl Bus {
     /// Nothing is taken from the links in them.
     ///
     /// Error: [`BusFault::Stuck`] or [`BusFault::JournalFull`], and then the same always. The bits before it count.
-    pub(crate) fn run_on<E: BusEnd, B: Board>(
+    pub(crate) fn run_untaken_bits<E: BusEnd, B: Board>(
         &mut self,
         links: &mut [E],
         board: &mut B,
@@ -136,11 +136,11 @@ impl Bus {
     {
         let mut run = 0;
         while run < count {
-            if !may_run_on(self.seats.as_slice(), board) {
+            if !may_run_untaken(self.seats.as_slice(), board) {
                 return Ok(run);
             }
             let (seats, most) = (self.seats.as_mut_slice(), count - run);
-            match on_all(seats, links, board, &self.struck, self.run, most, to_rest) {
+            match untaken_bits(seats, links, board, &self.struck, self.run, most, to_rest) {
                 Ok(0) => return Ok(run),
                 Ok(bits) => {
                     self.run += bits;

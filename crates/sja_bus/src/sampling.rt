@@ -5,10 +5,10 @@ ghost use Rattle.can_frame.specs.declared.filter.Filter.{Filter as Filtering};
 ghost use Rattle.sja_link.specs.Verdicts.{entry_of};
 ghost use Rattle.sja_bus.specs.declared.activity.Activity.TheVariants.{Running};
 ghost use Rattle.sja_wire.specs.Telling.{is_overrun as overruns};
-ghost use Rattle.sja_bus.specs.Inside.Seats.{Keeps};
+ghost use Rattle.sja_bus.specs.Inside.Seats.{IsPassing};
 
 use super::activity::Activity;
-use super::brought::Brought;
+use super::bit_outcome::BitOutcome;
 use super::putting::{accept, put_off};
 use super::seat::Seat;
 use can_bits::Level;
@@ -51,7 +51,7 @@ impl Seat {
         ensures room { self.new.journal.room ≡ self.old.journal.room }
         ensures kept { (self.new.node ≡ self.old.node) × (self.new.ended ≡ self.old.ended)
             × (self.new.activity ≡ self.old.activity) × (link_of self.new.ledger ≡ link_of self.old.ledger) }
-        ensures news { self.new.news ≡ self.old.news }
+        ensures untold { self.new.untold ≡ self.old.untold }
         ensures judged { IfOk result (λ overrun.
             IsJudged self.old.journal.entries driven seen (suc self.old.ended) message overrun
             self.new.journal.entries) }
@@ -85,7 +85,7 @@ impl Seat {
         ensures room { self.new.journal.room ≡ self.old.journal.room }
         ensures ledger { self.new.ledger ≡ self.old.ledger }
         ensures ended { self.new.ended ≡ self.old.ended }
-        ensures news { self.new.news ≡ self.old.news }
+        ensures untold { self.new.untold ≡ self.old.untold }
         ensures node { self.new.node ≡ self.old.node }
         ensures sound { OnOk result (IsSound self.new) }
         ensures seat { OnOk result (IsSeat self.new) }
@@ -106,7 +106,11 @@ impl Seat {
     }
 
     /// The bit of a node that runs, and the verdict on what was received with it.
-    fn receive_bit<E: BusEnd>(&mut self, end: &mut E, seen: Level) -> Result<Brought, BusFault>
+    fn sample_and_judge<E: BusEnd>(
+        &mut self,
+        end: &mut E,
+        seen: Level,
+    ) -> Result<BitOutcome, BusFault>
         requires id { E.link end.old ≡ link_of self.old.ledger }
         requires runs { (f : Filtering) × (self.old.activity ≡ Running f) }
         requires ready { IsReady self.old }
@@ -114,14 +118,14 @@ impl Seat {
         ensures kept { (self.new.ended ≡ self.old.ended) × (self.new.activity ≡ self.old.activity)
             × (link_of self.new.ledger ≡ link_of self.old.ledger) }
         ensures room { self.new.journal.room ≡ self.old.journal.room }
-        ensures news { self.new.news ≡ self.old.news }
-        ensures mid { IfOk result (λ brought. IsMid self.new brought.events.went_off) }
-        ensures off { IfOk result (λ brought. brought.events.went_off ≡ true → InReset self.new.node) }
-        ensures samples { IfOk result (λ brought. Samples self.old.node self.new.node seen brought.events) }
+        ensures untold { self.new.untold ≡ self.old.untold }
+        ensures mid { IfOk result (λ outcome. IsMid self.new outcome.events.went_off) }
+        ensures off { IfOk result (λ outcome. outcome.events.went_off ≡ true → InReset self.new.node) }
+        ensures samples { IfOk result (λ outcome. Samples self.old.node self.new.node seen outcome.events) }
         ensures moves { OnOk result
             (Moves E.stands end.old end.new self.old.journal.entries self.new.journal.entries (suc self.old.ended)) }
-        ensures verdict { IfOk result (λ brought.
-            BringsVerdict self.old.journal.entries self.old.drives seen brought.overrun self.new.journal.entries) }
+        ensures verdict { IfOk result (λ outcome.
+            BringsVerdict self.old.journal.entries self.old.drives seen outcome.overrun self.new.journal.entries) }
         ensures broken { IfErr result (λ f. BreaksHere E.stands E.full end.old self.old self.new f) }
     {
         let driven = self.drives;
@@ -129,68 +133,68 @@ impl Seat {
         match passing(&self.activity, &events.received) {
             None => {
                 self.enter_bit(driven, seen)?;
-                Ok(Brought {
+                Ok(BitOutcome {
                     events,
                     overrun: false,
                 })
             }
             Some(message) => {
                 let overrun = self.judge(end, driven, seen, message)?;
-                Ok(Brought { events, overrun })
+                Ok(BitOutcome { events, overrun })
             }
         }
     }
 
     /// One bit of a node that runs.
-    pub(crate) fn run_bit<E: BusEnd>(
+    pub(crate) fn sample_running<E: BusEnd>(
         &mut self,
         end: &mut E,
         seen: Level,
-    ) -> Result<Brought, BusFault>
+    ) -> Result<BitOutcome, BusFault>
         requires running { (f : Filtering) × (self.old.activity ≡ Running f) }
         requires link { E.link end.old ≡ link_of self.old.ledger }
         requires ready { IsReady self.old }
         ensures room { self.new.journal.room ≡ self.old.journal.room }
         ensures id { link_of self.new.ledger ≡ link_of self.old.ledger }
         ensures ended { self.new.ended ≡ self.old.ended }
-        ensures news { self.new.news ≡ self.old.news }
+        ensures untold { self.new.untold ≡ self.old.untold }
         ensures same { E.same end.old end.new }
         ensures sound { OnOk result (IsSound self.new) }
         ensures seat { OnOk result (IsSeat self.new) }
-        ensures samples { IfOk result (λ brought. Samples self.old.node self.new.node seen brought.events) }
+        ensures samples { IfOk result (λ outcome. Samples self.old.node self.new.node seen outcome.events) }
         ensures moves { OnOk result
             (Moves E.stands end.old end.new self.old.journal.entries self.new.journal.entries (suc self.old.ended)) }
-        ensures brings { IfOk result (λ brought.
-            Brings self.old.journal.entries self.old.drives seen brought self.new.journal.entries) }
+        ensures brings { IfOk result (λ outcome.
+            Brings self.old.journal.entries self.old.drives seen outcome self.new.journal.entries) }
         ensures broken { IfErr result (λ f. BreaksHere E.stands E.full end.old self.old self.new f) }
     {
-        let brought = self.receive_bit(end, seen)?;
-        if !brought.events.went_off {
-            return Ok(brought);
+        let outcome = self.sample_and_judge(end, seen)?;
+        if !outcome.events.went_off {
+            return Ok(outcome);
         }
         self.go_off(end)?;
-        Ok(brought)
+        Ok(outcome)
     }
 
     /// One bit of a node in reset: it looks at no level.
-    pub(crate) fn rest_bit(&mut self, seen: Level) -> Result<Brought, BusFault>
+    pub(crate) fn sample_in_reset(&mut self, seen: Level) -> Result<BitOutcome, BusFault>
         requires rests { InReset self.old.node }
         requires ready { IsReady self.old }
         ensures room { self.new.journal.room ≡ self.old.journal.room }
         ensures kept { (self.new.ended ≡ self.old.ended) × (self.new.ledger ≡ self.old.ledger) }
-        ensures news { self.new.news ≡ self.old.news }
+        ensures untold { self.new.untold ≡ self.old.untold }
         ensures sound { OnOk result (IsSound self.new) }
         ensures seat { OnOk result (IsSeat self.new) }
-        ensures samples { IfOk result (λ brought. Samples self.old.node self.new.node seen brought.events) }
+        ensures samples { IfOk result (λ outcome. Samples self.old.node self.new.node seen outcome.events) }
         ensures entered { OnOk result
             (self.new.journal.entries ≡ self.old.journal.entries ++ Bit self.old.drives seen ∷ []) }
-        ensures quiet { IfOk result (λ brought. (brought.events.went_off ≡ false) × (brought.overrun ≡ false)) }
+        ensures quiet { IfOk result (λ outcome. (outcome.events.went_off ≡ false) × (outcome.overrun ≡ false)) }
         ensures short { IfErr result (λ f. IsBitShort self.old self.new f) }
     {
         let driven = self.drives;
         let events = self.node.sample(seen);
         self.enter(Entry::Bit(driven, seen))?;
-        Ok(Brought {
+        Ok(BitOutcome {
             events,
             overrun: false,
         })
@@ -219,7 +223,7 @@ fn is_overrun(verdict: Verdict) -> bool
 
 /// The message of a received frame that passes the filter of the activation that runs.
 fn passing(activity: &Activity, received: &Option<Frame>) -> Option<Message>
-    ensures { (f : Filtering) → activity.now ≡ Running f → Keeps f received.now result }
+    ensures { (f : Filtering) → activity.now ≡ Running f → IsPassing f received.now result }
 {
     let Some(frame) = received else {
         return None;

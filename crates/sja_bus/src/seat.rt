@@ -3,7 +3,7 @@
 ghost use Rattle.std.specs.Prelude.{◌≡◌};
 
 use super::activity::Activity;
-use super::news::News;
+use super::untold::Untold;
 use can_bits::Level;
 use can_node::Node;
 use sja_link::{BusLedger, Entry, Journal};
@@ -25,7 +25,7 @@ pub(crate) struct Seat {
     pub(crate) ended: u8,
     pub(crate) activity: Activity,
     /// What the port isn't told yet.
-    pub(crate) news: News,
+    pub(crate) untold: Untold,
 }
 
 impl Seat {

@@ -70,7 +70,7 @@ impl Bus {
             }
             self.bit(links, board)?;
             run += 1;
-            run += self.run_on(links, board, most - run, to_rest)?;
+            run += self.run_untaken_bits(links, board, most - run, to_rest)?;
         }
         Ok(run)
     }

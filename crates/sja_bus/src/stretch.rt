@@ -2,7 +2,7 @@
 
 use super::board::Board;
 use super::bus::Bus;
-use super::idling::{are_resting, rest_all};
+use super::idling::{all_enter_idle_bits, are_resting};
 use sja_link::BusEnd;
 use sja_wire::BusFault;
 
@@ -18,7 +18,7 @@ impl Bus {
     ghost use Rattle.sja_bus.specs.Inside.AtOnce.{RunsAtOnce};
 
     /// Runs bits at once as far as it can: nothing waits on any link.
-    fn rest<B: Board>(&mut self, board: &B, count: u32) -> Result<u32, BusFault>
+    fn run_idle_bits<B: Board>(&mut self, board: &B, count: u32) -> Result<u32, BusFault>
         requires right { self.old.fault ≡ None }
         requires ports { length self.old.journals ≤ B.ports board.now }
         ensures script { self.new.script ≡ self.old.script }
@@ -33,7 +33,7 @@ impl Bus {
         if bits == 0 || !are_resting(self.seats.as_slice(), board) {
             return Ok(0);
         }
-        match rest_all(self.seats.as_mut_slice(), bits) {
+        match all_enter_idle_bits(self.seats.as_mut_slice(), bits) {
             Ok(()) => {
                 self.run += bits;
                 self.left -= bits;
@@ -88,6 +88,6 @@ impl Bus {
             (result ≡ Err f) × (self.new ≡ self.old) × (links.new ≡ links.old) }
     {
         self.gather(links)?;
-        self.rest(board, count)
+        self.run_idle_bits(board, count)
     }
 }

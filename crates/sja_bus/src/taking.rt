@@ -1,8 +1,8 @@
 //! What the bus does with an item that it took.
 
 use super::activity::Activity;
-use super::news::News;
 use super::seat::Seat;
+use super::untold::Untold;
 use can_node::{Config, Request};
 use sja_link::{BadCredit, BusEnd, BusLedger, Entry, LinkId, Up};
 use sja_wire::BusFault;
@@ -16,7 +16,7 @@ impl Seat {
     ghost use Rattle.sja_link.specs.Places.{past, place_of};
     ghost use Rattle.sja_link.specs.BusLedgers.{link_of, free_in};
     ghost use Rattle.sja_wire.specs.Links.{Moves};
-    ghost use Rattle.sja_bus.specs.declared.news.News.TheVariants.{Changed};
+    ghost use Rattle.sja_bus.specs.declared.untold.Untold.TheVariants.{Changed};
     ghost use Rattle.sja_wire.specs.OutOfOrder.{IsOutOfOrder};
     ghost use Rattle.sja_bus.specs.Inside.Seats.{IsOwed, IsSeat, IsReady};
     ghost use Rattle.sja_bus.specs.Inside.Taking.{Takes, Refuses, RefusesHere};
@@ -136,7 +136,7 @@ impl Seat {
             × (length self.old.journal.entries < self.old.journal.room)
             × ((past (place_of self.old.journal.entries) (Item item)).activation ≡ suc self.old.ended)
             × (IsOutOfOrder self.old.journal.entries item → ⊥) }
-        ensures news { result ≡ Ok true → self.new.news ≡ Changed }
+        ensures untold { result ≡ Ok true → self.new.untold ≡ Changed }
         ensures none { result ≡ Ok false → E.dry end.new × (self.new ≡ self.old) }
         ensures refused { IfErr result (λ f. RefusesHere E.stands end.old end.new self.old self.new f) }
     {
@@ -144,7 +144,7 @@ impl Seat {
             Ok(None) => Ok(false),
             Ok(Some(item)) => {
                 self.note(item)?;
-                self.news = News::Changed;
+                self.untold = Untold::Changed;
                 self.drives = self.node.drive();
                 Ok(true)
             }

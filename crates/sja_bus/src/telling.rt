@@ -1,17 +1,17 @@
 //! What the port of a controller is told of a bit.
 
 use super::activity::Activity;
+use super::bit_outcome::BitOutcome;
 use super::board::Board;
-use super::brought::Brought;
-use super::news::News;
 use super::seat::Seat;
+use super::untold::Untold;
 use sja_regs::BusTurn;
 
 impl Seat {
     ghost use Rattle.std.specs.Prelude.{◌≡◌, ◌≢◌, ◌+◌, ◌<◌, ◌≤◌, ℕ};
     ghost use Rattle.sja_regs.specs.declared.bus_turn.BusTurn.{BusTurn as Turn};
     ghost use Rattle.sja_link.specs.BusLedgers.{link_of};
-    ghost use Rattle.sja_bus.specs.declared.news.News.TheVariants.{Nothing};
+    ghost use Rattle.sja_bus.specs.declared.untold.Untold.TheVariants.{Nothing};
     ghost use Rattle.sja_bus.specs.Inside.Following.{Follows, open_in};
     ghost use Rattle.sja_bus.specs.Inside.Turning.{TurnOf, is_dropped};
     ghost use Rattle.sja_bus.specs.Inside.Seats.{IsSound, IsSeat};
@@ -29,46 +29,46 @@ impl Seat {
 
     /// Whether an abort dropped the request before this bit.
     fn has_dropped(&self) -> bool
-        ensures { result ≡ is_dropped self.now.news }
+        ensures { result ≡ is_dropped self.now.untold }
     {
-        match self.news {
-            News::Dropped => true,
+        match self.untold {
+            Untold::Dropped => true,
             _ => false,
         }
     }
 
     /// What a bit brought, and how the node is after it.
-    fn turn_of(&self, brought: Brought) -> BusTurn
+    fn turn_of(&self, outcome: BitOutcome) -> BusTurn
         requires seat { IsSeat self.now }
         requires follows { IsSound self.now }
-        ensures { TurnOf self.now brought.events brought.overrun result }
+        ensures { TurnOf self.now outcome.events outcome.overrun result }
     {
         let counters = self.node.counters();
         BusTurn {
             activation: self.activation(),
-            events: brought.events,
+            events: outcome.events,
             txerr: counters.tec.min(255) as u8,
             rxerr: counters.rec,
             phase: self.node.phase(),
             aborted: self.has_dropped(),
-            overrun: brought.overrun,
+            overrun: outcome.overrun,
         }
     }
 
     /// Tells the port what a bit brought: nothing is left to be told.
     #[inline(always)]
-    pub(crate) fn tell<B: Board>(&mut self, board: &mut B, brought: Brought)
+    pub(crate) fn tell<B: Board>(&mut self, board: &mut B, outcome: BitOutcome)
         requires seat { IsSeat self.old }
         requires sound { IsSound self.old }
         requires port { (link_of self.old.ledger).node < B.ports board.old }
-        ensures seat { self.new ≡ record self.old { news = Nothing } }
+        ensures seat { self.new ≡ record self.old { untold = Nothing } }
         ensures ports { B.ports board.new ≡ B.ports board.old }
         ensures others { (k : ℕ) → k ≢ (link_of self.old.ledger).node → B.kept board.old board.new k }
         ensures told { (turn : Turn) × B.told board.old board.new (link_of self.old.ledger).node turn
-            × TurnOf self.old brought.events brought.overrun turn }
+            × TurnOf self.old outcome.events outcome.overrun turn }
     {
-        let turn = self.turn_of(brought);
+        let turn = self.turn_of(outcome);
         board.bus_turn(self.number(), &turn);
-        self.news = News::Nothing;
+        self.untold = Untold::Nothing;
     }
 }

@@ -1,10 +1,10 @@
 //! One bit of a controller.
 
 use super::activity::Activity;
+use super::bit_outcome::BitOutcome;
 use super::board::Board;
-use super::brought::Brought;
-use super::news::News;
 use super::seat::Seat;
+use super::untold::Untold;
 use can_bits::Level;
 use sja_link::BusEnd;
 use sja_wire::BusFault;
@@ -17,44 +17,44 @@ impl Seat {
     ghost use Rattle.sja_bus.specs.Reasons.{IsBrokenFor};
     ghost use Rattle.sja_bus.specs.Inside.Seats.{IsSound, IsSeat, IsReady};
     ghost use Rattle.sja_bus.specs.Inside.AtLinks.{HasLinks, KeepsLinks};
-    ghost use Rattle.sja_bus.specs.declared.news.News.TheVariants.{Nothing};
+    ghost use Rattle.sja_bus.specs.declared.untold.Untold.TheVariants.{Nothing};
     ghost use Rattle.sja_bus.specs.Inside.Turning.{Brings, IsQuietBit, Turns};
 
     /// One bit of the node in which something may happen.
     #[inline(always)]
-    fn full_bit<E: BusEnd>(
+    fn sample_fully<E: BusEnd>(
         &mut self,
         links: &mut [E],
         base: usize,
         seen: Level,
-    ) -> Result<Brought, BusFault>
+    ) -> Result<BitOutcome, BusFault>
         requires at { HasLinks E.link self.old links.old base }
         ensures stays { KeepsLinks E.same self.old self.new links.old links.new }
         ensures sound { OnOk result (IsSound self.new) }
         ensures seat { OnOk result (IsSeat self.new) }
-        ensures news { self.new.news ≡ self.old.news }
-        ensures samples { IfOk result (λ brought. Samples self.old.node self.new.node seen brought.events) }
+        ensures untold { self.new.untold ≡ self.old.untold }
+        ensures samples { IfOk result (λ outcome. Samples self.old.node self.new.node seen outcome.events) }
         ensures goes { OnOk result
             (Goes E.same E.stands self.old.journal.entries self.new.journal.entries links.old links.new base) }
-        ensures brings { IfOk result (λ brought.
-            Brings self.old.journal.entries self.old.drives seen brought self.new.journal.entries) }
+        ensures brings { IfOk result (λ outcome.
+            Brings self.old.journal.entries self.old.drives seen outcome self.new.journal.entries) }
         ensures broken { IfErr result (λ f.
             IsBrokenFor E.stands E.full (link_of self.old.ledger).node self.old.journal.room
             self.old.journal.entries self.new.journal.entries links.old base f) }
     {
         let Activity::Running(_) = self.activity else {
-            return self.rest_bit(seen);
+            return self.sample_in_reset(seen);
         };
         let here = base + self.ended as usize;
-        self.run_bit(&mut links[here], seen)
+        self.sample_running(&mut links[here], seen)
     }
 
     /// A bit of the node, which sees this level and whose port is told all, where nothing happens and its journal has
     /// room. Answers whether it was one; else nothing changed.
     #[inline(always)]
-    pub(crate) fn tick_quietly(&mut self, seen: Level) -> bool
+    pub(crate) fn sample_quietly(&mut self, seen: Level) -> bool
         requires ready { IsReady self.old }
-        requires told { self.old.news ≡ Nothing }
+        requires told { self.old.untold ≡ Nothing }
         requires free { length self.old.journal.entries < self.old.journal.room }
         ensures node { (link_of self.new.ledger).node ≡ (link_of self.old.ledger).node }
         ensures room { self.new.journal.room ≡ self.old.journal.room }
@@ -72,11 +72,11 @@ impl Seat {
 
     /// Whether its port is told all, and its journal has room.
     #[inline(always)]
-    fn may_tick_quietly(&self) -> bool
-        ensures told { result ≡ true → self.now.news ≡ Nothing }
+    fn may_sample_quietly(&self) -> bool
+        ensures told { result ≡ true → self.now.untold ≡ Nothing }
         ensures free { result ≡ true → length self.now.journal.entries < self.now.journal.room }
     {
-        if let News::Nothing = self.news {
+        if let Untold::Nothing = self.untold {
             self.journal.free() > 0
         } else {
             false
@@ -86,7 +86,7 @@ impl Seat {
     /// One bit of the node, which sees this level. Its port is told of it, unless nothing happened and nothing is left
     /// to be told.
     #[inline(always)]
-    pub(crate) fn tick<E: BusEnd, B: Board>(
+    pub(crate) fn sample<E: BusEnd, B: Board>(
         &mut self,
         links: &mut [E],
         base: usize,
@@ -107,12 +107,12 @@ impl Seat {
             IsBrokenFor E.stands E.full (link_of self.old.ledger).node self.old.journal.room
             self.old.journal.entries self.new.journal.entries links.old base f) }
     {
-        if self.may_tick_quietly() && self.tick_quietly(seen) {
+        if self.may_sample_quietly() && self.sample_quietly(seen) {
             return Ok(());
         }
-        let brought = self.full_bit(links, base, seen)?;
+        let outcome = self.sample_fully(links, base, seen)?;
         self.drives = self.node.drive();
-        self.tell(board, brought);
+        self.tell(board, outcome);
         Ok(())
     }
 }

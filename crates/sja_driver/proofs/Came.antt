@@ -6,7 +6,7 @@ use Rattle.sja_link.specs.declared.driver_ledger.DriverLedger.{DriverLedger}
 use Rattle.sja_link.specs.declared.entry.Entry.{Entry}
 use Rattle.sja_link.specs.declared.up.Up.{Up}
 use Rattle.sja_link.specs.Accounts.{account}
-use Rattle.sja_link.specs.DriverLedgers.{held_by, knows_off}
+use Rattle.sja_link.specs.DriverLedgers.{held_by, knows_bus_off}
 use Rattle.sja_link.specs.Lists.{Lists}
 use Rattle.sja_regs.specs.declared.registers.Registers.{Registers}
 use Rattle.sja_script.specs.declared.step.Step.{Step}
@@ -162,7 +162,7 @@ module _ {E : Type 0} (alike : E → E → Type 0) (stands : E → Lists → Typ
             (let s = acts.opens in omega (arith, s, z)) acts.out acts.fits (gives_carried p step DoneAnswer) h;
         holds = λ t j h k. holds_deed stands t (releases_in log) (releases_in now) (leaves (left_in log) (held_of was))
             (leaves (left_in now) (held_of nxt)) j links base n (length (left_in now)) d0 new
-            (held_of was) (held_by l) (off_of was) (off_of nxt) (knows_off l) d [] c.few c.room
+            (held_of was) (held_by l) (off_of was) (off_of nxt) (knows_bus_off l) d [] c.few c.room
             (inl (stands_ended p step was nxt l node n (acts.place node n c.own) acts.opens acts.quiet acts.kind t
             h.opened)) acts.does
             (released_same (releases_in log) (releases_in now) (suc n) c.released ∙ sym (append-nil _))

@@ -2,7 +2,7 @@
 use Rattle.std.specs.Prelude.{◌+◌, ℕ, Bool, None, List}
 use Rattle.can_frame.specs.declared.seen.Seen.{Seen}
 use Rattle.sja_link.specs.declared.link_id.LinkId.{LinkId}
-use Rattle.sja_link.specs.DriverLedgers.{link_of, held_by, knows_off}
+use Rattle.sja_link.specs.DriverLedgers.{link_of, held_by, knows_bus_off}
 use Rattle.sja_driver.specs.declared.driver.Driver.{Driver}
 use Rattle.sja_driver.specs.declared.reset.Reset.{Reset}
 use Rattle.sja_driver.specs.declared.active.Active.{Active}
@@ -31,4 +31,4 @@ abbrev pub held_in : Driver Active → List (List ℕ)
 held_in d = held_by d.state.ledger
 
 abbrev pub off_in : Driver Active → Bool
-off_in d = knows_off d.state.ledger
+off_in d = knows_bus_off d.state.ledger

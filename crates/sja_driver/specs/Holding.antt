@@ -14,8 +14,8 @@ use Rattle.sja_driver.specs.Deeds.{Deed, given_in, deeds_of}
 use Rattle.sja_driver.specs.Logs.{Traces, releases_in, left_in, released_of, leaves}
 
 -- the eight links of a node, from that place on
-abbrev pub Numbered : {E : Type 0} → (E → LinkId) → List E → ℕ → ℕ → Type 0
-Numbered {E} link links base node =
+abbrev pub NumberedFrom : {E : Type 0} → (E → LinkId) → List E → ℕ → ℕ → Type 0
+NumberedFrom {E} link links base node =
     (a : ℕ) (d : E) → a < 8 → link (slice_index_or links (base + a) d) ≡ record { node = node; activation = a + 1 }
 
 -- the place of the link that is used after so many activations have ended: the next one's, and the last once eight have

@@ -10,7 +10,7 @@ use Rattle.sja_driver.specs.declared.logged_driver.LoggedDriver.{LoggedDriver}
 use Rattle.sja_driver.specs.declared.work_log.WorkLog.{WorkLog}
 use Rattle.sja_driver.specs.Acting.{Acts}
 use Rattle.sja_driver.specs.AnyDrivers.{IsDriverOf}
-use Rattle.sja_driver.specs.Holding.{Goes, Numbered, place_after}
+use Rattle.sja_driver.specs.Holding.{Goes, NumberedFrom, place_after}
 use Rattle.sja_driver.specs.Logs.{HasRoom, done_in, releases_in, left_in, done_by, releases_by, left_by, deeds_by}
 use Rattle.sja_driver.specs.Tries.{Tried, is_met}
 
@@ -37,7 +37,7 @@ pub record MayStep {E : Type 0} (link : E → LinkId) (was : LoggedDriver) (link
   pub lawful : IsLawful was
   pub room : HasRoom 1 (log_of was)
   pub eight : base + 8 ≤ length links
-  pub ids : Numbered link links base (node_of was)
+  pub ids : NumberedFrom link links base (node_of was)
 
 -- what is in order after a try, whatever the step: the driver is still the node's, each link is the same one, all but
 -- the present activation's are untouched, and the log took the room of one step, or none where it isn't done
@@ -46,7 +46,7 @@ pub record StaysLawful {E : Type 0} (link : E → LinkId) (alike : E → E → T
   pub same : EachRelated alike links links_now
   pub others : (i : ℕ) (d : E) → i ≢ place_after base (ended_of was) →
       slice_index_or links_now i d ≡ slice_index_or links i d
-  pub ids : Numbered link links_now base (node_of now)
+  pub ids : NumberedFrom link links_now base (node_of now)
   pub node : node_of now ≡ node_of was
   pub lawful : IsLawful now
   pub room : (k : ℕ) → HasRoom (k + 1) (log_of was) → HasRoom k (log_of now)

@@ -2,7 +2,7 @@
 use Rattle.std.specs.Prelude.{◌≡◌, ◌+◌, ◌++◌, ℕ, Bool, true, false, Result, Ok, Err, List, [], ◌∷◌, length}
 use Rattle.sja_link.specs.declared.driver_ledger.DriverLedger.{DriverLedger}
 use Rattle.sja_link.specs.declared.up.Up.{Up}
-use Rattle.sja_link.specs.DriverLedgers.{held_by, knows_off}
+use Rattle.sja_link.specs.DriverLedgers.{held_by, knows_bus_off}
 use Rattle.sja_regs.specs.declared.registers.Registers.{Registers}
 use Rattle.sja_script.specs.declared.step.Step.{Step}
 use Rattle.sja_script.specs.declared.step.Step.TheVariants.{Stop, Release}
@@ -113,7 +113,7 @@ abbrev pub off_after : AnyDriver → Tried → Bool
 off_after now Unmet = off_of now
 off_after now (Answered answer) = off_of now
 off_after now (Released m) = off_of now
-off_after now (Ended ledger) = knows_off ledger
+off_after now (Ended ledger) = knows_bus_off ledger
 
 -- the window as it saw it: what it released, and what is held after it
 abbrev pub window_after : AnyDriver → Tried → List (List ℕ)

@@ -3,7 +3,7 @@
 ghost use Rattle.std.specs.Prelude.{◌≡◌, ℕ, List, [], length, true, false, Err, OnOk, OnErr, IfOk};
 ghost use Rattle.sja_link.specs.declared.release_fault.ReleaseFault.TheVariants.{Stopped as FaultStopped};
 ghost use Rattle.sja_link.specs.declared.release_fault.ReleaseFault.TheVariants.{Empty, Busy as ReleaseBusy};
-ghost use Rattle.sja_link.specs.DriverLedgers.{link_of, held_by, knows_off};
+ghost use Rattle.sja_link.specs.DriverLedgers.{link_of, held_by, knows_bus_off};
 ghost use Rattle.sja_link.specs.Looking.{Pulls, IsTaken, Releases, Refuses};
 ghost use Rattle.sja_driver.specs.Calls.{Ends, TakesIn};
 ghost use Rattle.sja_driver.specs.Drivers.{node_in, started_in, link_in, held_in, off_in};

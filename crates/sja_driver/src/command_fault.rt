@@ -1,3 +1,5 @@
+//! Why a command wasn't done.
+
 use sja_regs::RegFault;
 
 /// Why a command wasn't done.

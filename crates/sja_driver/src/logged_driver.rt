@@ -2,7 +2,7 @@
 
 ghost use Rattle.std.specs.Prelude.{◌≡◌, ◌≢◌, ◌+◌, ◌≤◌, ℕ, [], length, false, slice_index_or};
 ghost use Rattle.sja_driver.specs.AnyDrivers.{is_out, opened_of, held_of};
-ghost use Rattle.sja_driver.specs.Holding.{Numbered, place_after};
+ghost use Rattle.sja_driver.specs.Holding.{NumberedFrom, place_after};
 ghost use Rattle.sja_driver.specs.LoggedDrivers.{node_of, driver_of, log_of, ended_of, IsLawful, Steps};
 ghost use Rattle.sja_driver.specs.Logs.{HasRoom, IsEmpty, Traces};
 

@@ -42,7 +42,7 @@ impl LoggedDriver {
         if matches!(step, Step::Stop) {
             return self.step_stop(links, base, port, bits);
         }
-        let here = base + self.turn();
+        let here = base + self.link_place();
         let attempt = try_step(&mut self.driver, &mut links[here], port, step);
         self.log.enter(attempt, bits)
     }
@@ -55,7 +55,7 @@ impl LoggedDriver {
         ensures steps { (p : Registers) → Steps E.same E.stands E.dry E.full self.old self.new links.old links.new base
             p p Window bits result }
     {
-        let here = base + self.turn();
+        let here = base + self.link_place();
         let attempt = window_step(&mut self.driver, &mut links[here]);
         self.log.enter(attempt, bits)
     }
@@ -68,7 +68,7 @@ impl LoggedDriver {
         ensures steps { (p : Registers) → Steps E.same E.stands E.dry E.full self.old self.new links.old links.new base
             p p Release bits result }
     {
-        let here = base + self.turn();
+        let here = base + self.link_place();
         let attempt = release_step(&mut self.driver, &mut links[here]);
         self.log.enter(attempt, bits)
     }
@@ -88,14 +88,14 @@ impl LoggedDriver {
         ensures steps { Steps E.same E.stands E.dry E.full self.old self.new links.old links.new base port.old port.new
             Stop bits result }
     {
-        let here = base + self.turn();
+        let here = base + self.link_place();
         let stopped = stop_step(&mut self.driver, &mut links[here], port);
         self.log.enter_stop(stopped, bits)
     }
 
     /// The place of the present activation's link among the node's eight, from 0: of the next one's in reset, and the
     /// last once eight were used.
-    fn turn(&self) -> usize
+    fn link_place(&self) -> usize
         ensures { result ≡ min (ended_of self.now) 7 }
     {
         self.log.left.len().min(LAST)

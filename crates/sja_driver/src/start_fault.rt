@@ -1,3 +1,5 @@
+//! Why no activation was started.
+
 /// Why no activation was started.
 #[derive(Clone, Copy, Debug, PartialEq, Eq)]
 pub enum StartFault {

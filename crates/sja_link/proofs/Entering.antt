@@ -10,7 +10,7 @@ use Rattle.sja_link.specs.declared.entry.Entry.{Entry}
 use Rattle.sja_link.specs.declared.entry.Entry.TheVariants.{Bit, Up as Item, Abort, Stored, Overrun, Off}
 use Rattle.sja_link.specs.Lists.{Lists}
 use Rattle.sja_link.specs.Gathering.{gathered}
-use Rattle.sja_link.specs.Places.{Place, first_place, past, past_all, place_of, Placed, placed_from, placed}
+use Rattle.sja_link.specs.Places.{JournalPlace, first_place, past, past_all, place_of, Placed, placed_from, placed}
 use Rattle.sja_link.specs.Parts.{in_part, of_part, entry_at, part}
 use Rattle.sja_link.specs.Carried.{bits_of, taken_in, put_in, taken_of, put_of}
 use Rattle.sja_link.specs.Accounts.{Account, account, with_entry}
@@ -27,14 +27,14 @@ gathered_push f xs y = gathered_append f xs (y ∷ []) ∙ ap (λ l. gathered f 
 
 -- ---- places
 
-pub past_push : (p : Place) (es : List Entry) (e : Entry) → past_all p (es ++ e ∷ []) ≡ past (past_all p es) e
+pub past_push : (p : JournalPlace) (es : List Entry) (e : Entry) → past_all p (es ++ e ∷ []) ≡ past (past_all p es) e
 past_push p [] e = refl
 past_push p (x ∷ es) e = past_push (past p x) es e
 
 pub place_push : (j : List Entry) (e : Entry) → place_of (j ++ e ∷ []) ≡ past (place_of j) e
 place_push j e = past_push first_place j e
 
-pub placed_push : (p : Place) (es : List Entry) (e : Entry) → placed_from p (es ++ e ∷ []) ≡ placed_from p es ++ (record { before = past_all p es; entry = e }) ∷ []
+pub placed_push : (p : JournalPlace) (es : List Entry) (e : Entry) → placed_from p (es ++ e ∷ []) ≡ placed_from p es ++ (record { before = past_all p es; entry = e }) ∷ []
 placed_push p [] e = refl
 placed_push p (x ∷ es) e = ap (λ l. (record { before = p; entry = x }) ∷ l) (placed_push (past p x) es e)
 
@@ -69,7 +69,7 @@ pub part_else : (j : List Entry) (e : Entry) (a : ℕ) → ((past (place_of j) e
 part_else j e a h = of_part_else entry_at j e a h
 
 -- the activation never falls
-past_more : (p : Place) (e : Entry) → p.activation ≤ (past p e).activation
+past_more : (p : JournalPlace) (e : Entry) → p.activation ≤ (past p e).activation
 past_more p (Bit driven seen) = omega arith
 past_more p (Item (Start config)) = omega arith
 past_more p (Item (Credit n)) = omega arith
@@ -80,12 +80,12 @@ past_more p (Stored m) = omega arith
 past_more p (Overrun m) = omega arith
 past_more p Off = omega arith
 
-all_more : (p : Place) (es : List Entry) → p.activation ≤ (past_all p es).activation
+all_more : (p : JournalPlace) (es : List Entry) → p.activation ≤ (past_all p es).activation
 all_more p [] = omega arith
 all_more p (e ∷ es) = let x = past_more p e in let y = all_more (past p e) es in omega (arith, x, y)
 
 -- of an activation that hasn't begun there is nothing
-none_later : {B : Type 0} (f : Placed → List B) (p : Place) (es : List Entry) (a : ℕ) → (past_all p es).activation < a → gathered (in_part f a) (placed_from p es) ≡ []
+none_later : {B : Type 0} (f : Placed → List B) (p : JournalPlace) (es : List Entry) (a : ℕ) → (past_all p es).activation < a → gathered (in_part f a) (placed_from p es) ≡ []
 none_later f p [] a h = refl
 none_later f p (e ∷ es) a h =
     let few = all_more (past p e) es in
@@ -101,10 +101,10 @@ pub record_push : (j : List Entry) (e : Entry) → record_of (j ++ e ∷ []) ≡
 record_push j e = placed_end told_at j e
 
 -- the record counts as the journal does
-abbrev count_of : Place → Count
+abbrev count_of : JournalPlace → Count
 count_of p = record { starts = p.activation; bits = p.bits }
 
-one_counted : (p : Place) (off : Bool) (e : Entry) → counted (count_of p) (told off e) ≡ count_of (past p e)
+one_counted : (p : JournalPlace) (off : Bool) (e : Entry) → counted (count_of p) (told off e) ≡ count_of (past p e)
 one_counted p off (Bit driven seen) = refl
 one_counted p off (Item (Start config)) = refl
 one_counted p off (Item (Credit n)) = refl
@@ -116,7 +116,7 @@ one_counted p off (Stored m) = refl
 one_counted p off (Overrun m) = refl
 one_counted p off Off = refl
 
-all_counted : (p : Place) (es : List Entry) → counted (count_of p) (gathered told_at (placed_from p es)) ≡ count_of (past_all p es)
+all_counted : (p : JournalPlace) (es : List Entry) → counted (count_of p) (gathered told_at (placed_from p es)) ≡ count_of (past_all p es)
 all_counted p [] = refl
 all_counted p (e ∷ es) =
     counted_both (count_of p) (told p.off e) (gathered told_at (placed_from (past p e) es))
@@ -127,7 +127,7 @@ record_counted j = all_counted first_place j
 
 -- ---- the bits
 
-bits_from : (p : Place) (es : List Entry) → (past_all p es).bits ≡ p.bits + length (bits_of es)
+bits_from : (p : JournalPlace) (es : List Entry) → (past_all p es).bits ≡ p.bits + length (bits_of es)
 bits_from p [] = omega arith
 bits_from p (Bit driven seen ∷ es) = let h = bits_from (past p (Bit driven seen)) es in omega (arith, h)
 bits_from p (Item (Start config) ∷ es) = bits_from (past p (Item (Start config))) es

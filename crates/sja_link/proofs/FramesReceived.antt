@@ -11,7 +11,7 @@ use Rattle.can_node.specs.Frames.{Receives, Transmits}
 use Rattle.can_node.specs.Frames.Receives.{reception, broken}
 use Rattle.can_node.specs.Frames.Transmits.{sending, failed, lost}
 use Rattle.can_node.specs.Pieces.{Place, Piece, received_by}
-use Rattle.can_node.specs.Record.{Entry}
+use Rattle.can_node.specs.Record.{RecordEntry}
 use Rattle.can_node.specs.Table.{Row}
 use Rattle.can_node.specs.Table.Row.{integration, idle, other, own, other_begun, own_begun, last_eof_bit, last_eof_bit_overload, flag, flag_fault, flag_passive, delimiter, delimiter_overload, delimiter_fault, interframe_space, interframe_space_sof, suspend_transmission_sof, intermission_overload, intermission_overload_second}
 use Rattle.can_node.specs.FinishedPieces.{FinishedPiece, ReceivedFrame, Count, counted, tagged, received_if, received}
@@ -75,7 +75,7 @@ frames_if : (f : Option FrameValue) (x : FinishedPiece) → AnyIsFrame f → Are
 frames_if None x h = tt
 frames_if (Some f) x h = (h, tt)
 
-by_move : {c next : ContextValue} {place site : Place} {entries : List Entry} {ps : List Piece} (k : Count) →
+by_move : {c next : ContextValue} {place site : Place} {entries : List RecordEntry} {ps : List Piece} (k : Count) →
     Move c place entries ps next site → AreFrames (received (tagged k ps))
 by_move k (piece {p = p} slice is row stays) = frames_if (received_by p) _ (by_row row)
 by_move k (sent request away) = tt
@@ -85,7 +85,7 @@ by_move k (stopped slice opened stays) = tt
 by_move k (off_within slice before last whole stays is unfinished full) = tt
 by_move k (off_after {p = p} slice before last whole stays is row full) = frames_if (received_by p) _ (by_row row)
 
-frames_from : {k : Count} {c end : ContextValue} {place last : Place} {entries rest : List Entry}
+frames_from : {k : Count} {c end : ContextValue} {place last : Place} {entries rest : List RecordEntry}
     {found : List FinishedPiece} → From k c place entries found end last rest → AreFrames (received found)
 frames_from (here opened stays) = tt
 frames_from {k = k} (on {entries = first} {ps = ps} {qs = qs} move from) =
@@ -93,7 +93,7 @@ frames_from {k = k} (on {entries = first} {ps = ps} {qs = qs} move from) =
     (frames_both (received (tagged (counted k first) ps)) (received qs) (by_move (counted k first) move)
     (frames_from from))
 
-pub all_frames : (entries : List Entry) (found : List FinishedPiece) → IsCut entries found → AreFrames (received found)
+pub all_frames : (entries : List RecordEntry) (found : List FinishedPiece) → IsCut entries found → AreFrames (received found)
 all_frames entries found cut = frames_from cut.from
 
 -- ---- so a message has 3 to 13 bytes

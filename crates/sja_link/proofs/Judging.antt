@@ -12,7 +12,7 @@ use Rattle.sja_link.specs.declared.verdict.Verdict.TheVariants.{Stored as ToStor
 use Rattle.sja_link.specs.declared.entry.Entry.{Entry}
 use Rattle.sja_link.specs.declared.entry.Entry.TheVariants.{Bit, Up as Item, Abort, Stored, Overrun, Off}
 use Rattle.sja_link.specs.Gathering.{gathered}
-use Rattle.sja_link.specs.Places.{Place, first_place, past, place_of, Placed, placed, activation_of}
+use Rattle.sja_link.specs.Places.{JournalPlace, first_place, past, place_of, Placed, placed, activation_of}
 use Rattle.sja_link.specs.Parts.{part, in_part, of_part, entry_at}
 use Rattle.sja_link.specs.Carried.{stored_in, stored_of, put_of}
 use Rattle.sja_link.specs.Lists.{messages}
@@ -63,7 +63,7 @@ each_push P before (y ∷ xs) x h p =
 
 -- an entry that begins no activation
 abbrev pub StaysIn : Entry → Type 0
-StaysIn e = (p : Place) → (past p e).activation ≡ p.activation
+StaysIn e = (p : JournalPlace) → (past p e).activation ≡ p.activation
 
 filter_end : (p : List Entry) (e : Entry) → StaysIn e → filter_of (p ++ e ∷ []) ≡ filter_of p
 filter_end [] (Item (Start config)) h = let x : 1 ≡ 0 = h first_place in absurd (omega (arith, x))

@@ -6,7 +6,7 @@ use Rattle.sja_link.specs.declared.up.Up.TheVariants.{Start, Credit, Send, Stop}
 use Rattle.sja_link.specs.declared.entry.Entry.{Entry}
 use Rattle.sja_link.specs.declared.entry.Entry.TheVariants.{Bit, Up as Item, Abort, Stored, Overrun, Off}
 use Rattle.sja_link.specs.Gathering.{gathered}
-use Rattle.sja_link.specs.Places.{Place, first_place, past, past_all, place_of, placed_from}
+use Rattle.sja_link.specs.Places.{JournalPlace, first_place, past, past_all, place_of, placed_from}
 use Rattle.sja_link.specs.Parts.{in_part, entry_at, part}
 use Rattle.sja_link.specs.Verdicts.{filter_of}
 
@@ -16,7 +16,7 @@ pub record Opens (p : List Entry) : Type 0 where
   pub opens : p ≡ Item (Start config) ∷ rest
 
 -- only a start begins an activation, and only one
-begins : (p : Place) (e : Entry) (a : ℕ) → p.activation < a → (past p e).activation ≡ a → (rest : List Entry) → Opens (e ∷ rest)
+begins : (p : JournalPlace) (e : Entry) (a : ℕ) → p.activation < a → (past p e).activation ≡ a → (rest : List Entry) → Opens (e ∷ rest)
 begins p (Item (Start config)) a less same rest = record { config = config; rest = rest; opens = refl }
 begins p (Bit driven seen) a less same rest = absurd (omega (arith, less, same))
 begins p (Item (Credit n)) a less same rest = absurd (omega (arith, less, same))
@@ -27,7 +27,7 @@ begins p (Stored m) a less same rest = absurd (omega (arith, less, same))
 begins p (Overrun m) a less same rest = absurd (omega (arith, less, same))
 begins p Off a less same rest = absurd (omega (arith, less, same))
 
-one_at_most : (p : Place) (e : Entry) → (past p e).activation ≤ p.activation + 1
+one_at_most : (p : JournalPlace) (e : Entry) → (past p e).activation ≤ p.activation + 1
 one_at_most p (Item (Start config)) = omega arith
 one_at_most p (Bit driven seen) = omega arith
 one_at_most p (Item (Credit n)) = omega arith
@@ -38,7 +38,7 @@ one_at_most p (Stored m) = omega arith
 one_at_most p (Overrun m) = omega arith
 one_at_most p Off = omega arith
 
-opens_from : (p : Place) (es : List Entry) (a : ℕ) → p.activation < a → a ≤ (past_all p es).activation → Opens (gathered (in_part entry_at a) (placed_from p es))
+opens_from : (p : JournalPlace) (es : List Entry) (a : ℕ) → p.activation < a → a ≤ (past_all p es).activation → Opens (gathered (in_part entry_at a) (placed_from p es))
 opens_from p [] a less more = absurd (omega (arith, less, more))
 opens_from p (e ∷ es) a less more =
     let P : List Entry → Type 0 = λ l. Opens l in

@@ -12,5 +12,5 @@ abbrev pub held_by : DriverLedger → List (List ℕ)
 held_by ledger = ledger.held.items
 
 -- bus-off was got
-abbrev pub knows_off : DriverLedger → Bool
-knows_off ledger = ledger.off
+abbrev pub knows_bus_off : DriverLedger → Bool
+knows_bus_off ledger = ledger.off

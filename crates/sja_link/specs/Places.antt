@@ -5,16 +5,16 @@ use Rattle.sja_link.specs.declared.entry.Entry.{Entry}
 use Rattle.sja_link.specs.declared.entry.Entry.TheVariants.{Bit, Up as Item, Abort, Stored, Overrun, Off}
 
 -- the activations begun, the bits, and whether the last activation begun went bus-off
-pub record Place : Type 0 where
+pub record JournalPlace : Type 0 where
   pub activation : ℕ
   pub bits : ℕ
   pub off : Bool
 
-abbrev pub first_place : Place
+abbrev pub first_place : JournalPlace
 first_place = record { activation = 0; bits = 0; off = false }
 
 -- with an entry more, and with several
-abbrev pub past : Place → Entry → Place
+abbrev pub past : JournalPlace → Entry → JournalPlace
 past p (Bit driven seen) = record p { bits = p.bits + 1 }
 past p (Item (Start config)) = record p { activation = p.activation + 1; off = false }
 past p (Item (Credit n)) = p
@@ -25,20 +25,20 @@ past p (Stored m) = p
 past p (Overrun m) = p
 past p Off = record p { off = true }
 
-abbrev pub past_all : Place → List Entry → Place
+abbrev pub past_all : JournalPlace → List Entry → JournalPlace
 past_all p [] = p
 past_all p (e ∷ es) = past_all (past p e) es
 
 -- where a journal ends
-abbrev pub place_of : List Entry → Place
+abbrev pub place_of : List Entry → JournalPlace
 place_of j = past_all first_place j
 
 -- an entry, and the place right before it
 pub record Placed : Type 0 where
-  pub before : Place
+  pub before : JournalPlace
   pub entry : Entry
 
-abbrev pub placed_from : Place → List Entry → List Placed
+abbrev pub placed_from : JournalPlace → List Entry → List Placed
 placed_from p [] = []
 placed_from p (e ∷ es) = (record { before = p; entry = e }) ∷ placed_from (past p e) es
 

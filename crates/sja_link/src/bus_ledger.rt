@@ -7,12 +7,10 @@ use super::bus_end::BusEnd;
 use super::busy::Busy;
 use super::down::Down;
 use super::link_id::LinkId;
+use super::sizes::RECEIVE_FIFO;
 use super::up::Up;
 use super::verdict::Verdict;
 use can_frame::Message;
-
-/// The bytes of the receive buffer (SJA1000 data sheet, 6.4.14: the receive FIFO has 64 bytes).
-const BUFFER: u8 = 64;
 
 /// The bus's account of one activation: the bytes that are free in the receive buffer, 0 to 64.
 ///
@@ -45,7 +43,7 @@ impl BusLedger {
         ensures id { link_of result ≡ id }
         ensures free { free_in result ≡ 64 }
     {
-        BusLedger { id, free: BUFFER }
+        BusLedger { id, free: RECEIVE_FIFO }
     }
 
     /// Which link it is of.
@@ -120,7 +118,7 @@ impl BusLedger {
             return Ok(None);
         };
         if let Up::Credit(bytes) = item {
-            if !(3..=13).contains(&bytes) || bytes > BUFFER - self.free {
+            if !(3..=13).contains(&bytes) || bytes > RECEIVE_FIFO - self.free {
                 return Err(BadCredit(bytes));
             }
             self.free += bytes;

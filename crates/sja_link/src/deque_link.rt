@@ -6,17 +6,12 @@ use super::bus_end::BusEnd;
 use super::down::Down;
 use super::driver_end::DriverEnd;
 use super::link_id::LinkId;
+use super::sizes::{ITEMS_DOWN, ITEMS_UP};
 use super::up::Up;
 use can_frame::OutOfMemory;
 use std::alloc::Global;
 use std::collections::VecDeque;
 use std::marker::Model;
-
-/// How many items lie on a link downward at most: 21 messages and bus-off.
-const DOWN: usize = 22;
-
-/// How many items lie on it upward at most: a start, 21 credits, a request and a stop.
-const UP: usize = 24;
 
 /// A link in one thread: both ends in one value (this project's own rule).
 ///
@@ -50,8 +45,8 @@ impl DequeLink {
         ensures id { IfOk result (λ s. s.link ≡ id) }
         ensures empty { IfOk result (λ s. (s.down ≡ []) × (s.up ≡ [])) }
     {
-        let down = VecDeque::with_capacity(alloc, DOWN)?;
-        let up = VecDeque::with_capacity(alloc, UP)?;
+        let down = VecDeque::with_capacity(alloc, ITEMS_DOWN)?;
+        let up = VecDeque::with_capacity(alloc, ITEMS_UP)?;
         Ok(DequeLink { id, down, up })
     }
 }
@@ -76,7 +71,7 @@ impl BusEnd for DequeLink {
     }
 
     fn put(&mut self, item: Down) -> Result<(), Down> {
-        if self.down.len() >= DOWN {
+        if self.down.len() >= ITEMS_DOWN {
             return Err(item);
         }
         match self.down.push_back(item) {
@@ -120,7 +115,7 @@ impl DriverEnd for DequeLink {
     }
 
     fn give(&mut self, item: Up) -> Result<(), Up> {
-        if self.up.len() >= UP {
+        if self.up.len() >= ITEMS_UP {
             return Err(item);
         }
         match self.up.push_back(item) {

@@ -31,7 +31,7 @@ impl DriverLedger {
     ghost use Rattle.sja_link.specs.contracts.driver_ledger.DriverLedger.{the_row};
     ghost use Rattle.sja_link.specs.declared.release_fault.ReleaseFault.TheVariants.{Stopped as FaultStopped};
     ghost use Rattle.sja_link.specs.declared.release_fault.ReleaseFault.TheVariants.{Empty, Busy};
-    ghost use Rattle.sja_link.specs.DriverLedgers.{link_of, held_by, knows_off};
+    ghost use Rattle.sja_link.specs.DriverLedgers.{link_of, held_by, knows_bus_off};
     ghost use Rattle.sja_link.specs.Looking.{Pulls, IsTaken, Releases, Refuses, one_if};
     ghost use Rattle.sja_link.specs.Showing.{Shows, window_in, seen_of};
 
@@ -39,7 +39,7 @@ impl DriverLedger {
     pub fn new(id: LinkId) -> DriverLedger
         ensures id { link_of result ≡ id }
         ensures held { held_by result ≡ [] }
-        ensures on { knows_off result ≡ false }
+        ensures on { knows_bus_off result ≡ false }
     {
         DriverLedger {
             id,
@@ -63,10 +63,10 @@ impl DriverLedger {
         ensures id { link_of self.new ≡ link_of self.old }
         ensures same { E.same end.old end.new }
         ensures got { Pulls E.stands end.old end.new (held_by self.old) (held_by self.new)
-            (knows_off self.old) (knows_off self.new) }
-        ensures all { IsTaken E.dry end.new (knows_off self.new) (held_by self.new) }
-        ensures on { OnOk result (knows_off self.new ≡ false) }
-        ensures stopped { OnErr result (knows_off self.new ≡ true) }
+            (knows_bus_off self.old) (knows_bus_off self.new) }
+        ensures all { IsTaken E.dry end.new (knows_bus_off self.new) (held_by self.new) }
+        ensures on { OnOk result (knows_bus_off self.new ≡ false) }
+        ensures stopped { OnErr result (knows_bus_off self.new ≡ true) }
     {
         self.pull(end);
         if self.off { Err(Stopped) } else { Ok(()) }
@@ -80,9 +80,9 @@ impl DriverLedger {
         ensures same { E.same end.old end.new }
         ensures* after { sem 𝓛 (follows_so the_row the_row self.entry.ghost_name none (λ _ _. ⊤) (λ n.
             (link_of n ≡ link_of self.old)
-            × Pulls E.stands end.old end.new (held_by self.old) (held_by n) (knows_off self.old) (knows_off n)
-            × IsTaken E.dry end.new (knows_off n) (held_by n)
-            × Shows (knows_off n) (held_by n) (window_in result))) }
+            × Pulls E.stands end.old end.new (held_by self.old) (held_by n) (knows_bus_off self.old) (knows_bus_off n)
+            × IsTaken E.dry end.new (knows_bus_off n) (held_by n)
+            × Shows (knows_bus_off n) (held_by n) (window_in result))) }
     {
         match self.look(end) {
             Ok(()) => Ok(self.first()),
@@ -108,15 +108,15 @@ impl DriverLedger {
         ensures id { link_of self.new ≡ link_of self.old }
         ensures same { E.same end.old end.new }
         ensures ok { IfOk result (λ n. (m : List ℕ) × (length m ≡ n) × Releases E.same E.stands E.dry end.old end.new
-            (held_by self.old) (held_by self.new) (knows_off self.old) (knows_off self.new) m) }
-        ensures on { OnOk result (knows_off self.new ≡ false) }
+            (held_by self.old) (held_by self.new) (knows_bus_off self.old) (knows_bus_off self.new) m) }
+        ensures on { OnOk result (knows_bus_off self.new ≡ false) }
         ensures err { OnErr result (Pulls E.stands end.old end.new (held_by self.old) (held_by self.new)
-            (knows_off self.old) (knows_off self.new)) }
-        ensures stopped { result ≡ Err FaultStopped → knows_off self.new ≡ true }
-        ensures empty { result ≡ Err Empty → (knows_off self.new ≡ false) × (held_by self.new ≡ [])
+            (knows_bus_off self.old) (knows_bus_off self.new)) }
+        ensures stopped { result ≡ Err FaultStopped → knows_bus_off self.new ≡ true }
+        ensures empty { result ≡ Err Empty → (knows_bus_off self.new ≡ false) × (held_by self.new ≡ [])
             × E.dry end.new }
-        ensures busy { result ≡ Err Busy → (knows_off self.new ≡ false)
-            × Refuses E.same E.stands E.dry E.full end.old (knows_off self.new) (held_by self.new) }
+        ensures busy { result ≡ Err Busy → (knows_bus_off self.new ≡ false)
+            × Refuses E.same E.stands E.dry E.full end.old (knows_bus_off self.new) (held_by self.new) }
     {
         self.pull(end);
         if self.off {
@@ -138,7 +138,7 @@ impl DriverLedger {
     /// What a read of the controller's registers sees: the first message that was got and not released, and how many
     /// there are; none and 0 once bus-off is known. It takes in nothing.
     pub fn seen(&self) -> Seen
-        ensures { result ≡ seen_of (knows_off self.now) (held_by self.now) }
+        ensures { result ≡ seen_of (knows_bus_off self.now) (held_by self.now) }
     {
         if self.off {
             return Seen {
@@ -166,9 +166,9 @@ impl DriverLedger {
     /// Takes in all that the link shows, until 22 messages are held or bus-off is known.
     fn pull<E: DriverEnd>(&mut self, end: &mut E)
         requires { E.link end.old ≡ link_of self.old }
-        ensures all { IsTaken E.dry end.new (knows_off self.new) (held_by self.new) }
+        ensures all { IsTaken E.dry end.new (knows_bus_off self.new) (held_by self.new) }
         ensures got { Pulls E.stands end.old end.new (held_by self.old) (held_by self.new)
-            (knows_off self.old) (knows_off self.new) }
+            (knows_bus_off self.old) (knows_bus_off self.new) }
         ensures same { E.same end.old end.new }
         ensures id { link_of self.new ≡ link_of self.old }
     {
@@ -185,11 +185,11 @@ impl DriverLedger {
         ensures id { link_of self.new ≡ link_of self.old }
         ensures same { E.same end.old end.new }
         ensures got { Pulls E.stands end.old end.new (held_by self.old) (held_by self.new)
-            (knows_off self.old) (knows_off self.new) }
+            (knows_bus_off self.old) (knows_bus_off self.new) }
         ensures few { result ≡ true → length (held_by self.new) ≤ 22 }
-        ensures more { result ≡ true → length (held_by self.new) + one_if (knows_off self.new)
-            ≡ length (held_by self.old) + one_if (knows_off self.old) + 1 }
-        ensures all { result ≡ false → IsTaken E.dry end.new (knows_off self.new) (held_by self.new) }
+        ensures more { result ≡ true → length (held_by self.new) + one_if (knows_bus_off self.new)
+            ≡ length (held_by self.old) + one_if (knows_bus_off self.old) + 1 }
+        ensures all { result ≡ false → IsTaken E.dry end.new (knows_bus_off self.new) (held_by self.new) }
     {
         if self.off || self.held.is_full() {
             return false;

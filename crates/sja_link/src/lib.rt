@@ -31,6 +31,7 @@ mod journal;
 mod laws;
 mod link_id;
 mod release_fault;
+mod sizes;
 mod stopped;
 mod up;
 mod verdict;
@@ -55,6 +56,7 @@ pub use laws::{
 };
 pub use link_id::LinkId;
 pub use release_fault::ReleaseFault;
+pub use sizes::{ITEMS_DOWN, ITEMS_UP, LINKS_PER_NODE, RECEIVE_FIFO, first_link};
 pub use stopped::Stopped;
 pub use up::Up;
 pub use verdict::Verdict;

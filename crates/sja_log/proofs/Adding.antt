@@ -9,7 +9,7 @@ use Rattle.sja_link.specs.declared.entry.Entry.{Entry}
 use Rattle.sja_link.specs.declared.entry.Entry.TheVariants.{Bit, Abort, Stored, Overrun, Off}
 use Rattle.sja_link.specs.Looking.{off_among}
 use Rattle.sja_link.specs.Picking.{EachAfter}
-use Rattle.sja_link.specs.Places.{Place, past, place_of}
+use Rattle.sja_link.specs.Places.{JournalPlace, past, place_of}
 use Rattle.sja_link.specs.Parts.{part}
 use Rattle.sja_link.specs.Carried.{put_in, put_of}
 use Rattle.sja_link.proofs.Entering.{place_push, gathered_append}
@@ -78,18 +78,18 @@ module _ (j : List Entry) (changed : Bool) (driven seen : Level) (v : Option (Ve
   opened_bits = over changed
     where
       over : (c : Bool) → (place_of (j ++ abort_as c)).bits ≡ (place_of j).bits
-      over true = ap (λ (p : Place). p.bits) (place_push j Abort)
+      over true = ap (λ (p : JournalPlace). p.bits) (place_push j Abort)
       over false = ap (λ (l : List Entry). (place_of l).bits) (append-nil j)
 
   bit_bits : (place_of with_bit).bits ≡ (place_of j).bits + 1
-  bit_bits = ap (λ (p : Place). p.bits) (place_push opened (Bit driven seen)) ∙ ap (λ (n : ℕ). n + 1) opened_bits
+  bit_bits = ap (λ (p : JournalPlace). p.bits) (place_push opened (Bit driven seen)) ∙ ap (λ (n : ℕ). n + 1) opened_bits
 
   pub added_bits : (place_of (j ++ added changed driven seen v off)).bits ≡ (place_of j).bits + 1
   added_bits = ap (λ (l : List Entry). (place_of l).bits) added_is ∙ over v off
     where
       same : (l : List Entry) (e : Entry) → (past (place_of l) e).bits ≡ (place_of l).bits →
           (place_of l).bits ≡ (place_of j).bits + 1 → (place_of (l ++ e ∷ [])).bits ≡ (place_of j).bits + 1
-      same l e q h = ap (λ (p : Place). p.bits) (place_push l e) ∙ q ∙ h
+      same l e q h = ap (λ (p : JournalPlace). p.bits) (place_push l e) ∙ q ∙ h
 
       judged : (w : Option (Verdict × List ℕ)) → (place_of (with_bit ++ judged_as w)).bits ≡ (place_of j).bits + 1
       judged None = ap (λ (l : List Entry). (place_of l).bits) (append-nil with_bit) ∙ bit_bits

@@ -53,8 +53,8 @@ opened_few node ended (InActive d) h =
 
 -- ---- one node
 
-module _ (j : List Entry) (deeds : List Deed) (driver : LoggedDriver) (lying : List (List Down)) (base : ℕ)
-    (log : NodeLog) (node : NodeValue) (end : IsNodeEnd log driver lying base node) (same : node.journal ≡ j) where
+module _ (j : List Entry) (deeds : List Deed) (driver : LoggedDriver) (left_down : List (List Down)) (base : ℕ)
+    (log : NodeLog) (node : NodeValue) (end : IsNodeEnd log driver left_down base node) (same : node.journal ≡ j) where
   -- its trace, by its driver's, where all that was given was taken
   pub trace_of : (steps : List Step) → AreDeeds steps deeds → Traces (driver_of driver) (log_of driver) deeds →
       ((a : ℕ) → given_in (deeds_of deeds a) ≡ taken_of (part j a)) → IsTrace steps node deeds
@@ -72,7 +72,7 @@ module _ (j : List Entry) (deeds : List Deed) (driver : LoggedDriver) (lying : L
 
   -- its activations are settled, where what is told of each is
   pub settled_of : IsLawful driver → ((a : ℕ) → a < 8 →
-      IsSettled j (a + 1) (activation_after driver (slice_index_or lying (base + a) []) a)) → AreSettled node
+      IsSettled j (a + 1) (activation_after driver (slice_index_or left_down (base + a) []) a)) → AreSettled node
   settled_of lawful settled a d less =
       let few : a < opened_of (driver_of driver) = let c = end.activations.count_is in omega (arith, c, less) in
       let eight = (opened_few (node_of driver) (ended_of driver) (driver_of driver) lawful).0 in
@@ -84,8 +84,8 @@ module _ (j : List Entry) (deeds : List Deed) (driver : LoggedDriver) (lying : L
 
 -- the nodes of a log are those of the bus with these journals, of these drivers, and of what lay on their links
 pub record AreEnds (plan : PlanValue) (log : RunValue) (logs : List NodeLog) (journals : List (List Entry))
-    (drivers : List LoggedDriver) (lying : List (List Down)) : Type 0 where
-  pub nodes : AreNodeEnds logs drivers lying (length drivers) log.nodes
+    (drivers : List LoggedDriver) (left_down : List (List Down)) : Type 0 where
+  pub nodes : AreNodeEnds logs drivers left_down (length drivers) log.nodes
   pub drivers_count : length drivers ≡ length plan.nodes
   pub journals_count : length journals ≡ length plan.nodes
   pub journals_are : map (λ (g : NodeLog). g.journal.entries) logs ≡ journals
@@ -94,7 +94,7 @@ pub record AreEnds (plan : PlanValue) (log : RunValue) (logs : List NodeLog) (jo
       (slice_index_or logs k g).rxerr
 
 module _ (plan : PlanValue) (log : RunValue) (logs : List NodeLog) (journals : List (List Entry))
-    (drivers : List LoggedDriver) (lying : List (List Down)) (h : AreEnds plan log logs journals drivers lying) where
+    (drivers : List LoggedDriver) (left_down : List (List Down)) (h : AreEnds plan log logs journals drivers left_down) where
   pub nodes_count : length log.nodes ≡ length plan.nodes
   nodes_count = h.nodes.count_is ∙ h.drivers_count
 
@@ -112,7 +112,7 @@ module _ (plan : PlanValue) (log : RunValue) (logs : List NodeLog) (journals : L
     pub some_driver : LoggedDriver
     some_driver = let c = h.drivers_count in let i = in_plan in any_of drivers (omega (arith, c, i))
 
-    pub node_end : IsNodeEnd (slice_index_or logs k some_log) (slice_index_or drivers k some_driver) lying (8 * k)
+    pub node_end : IsNodeEnd (slice_index_or logs k some_log) (slice_index_or drivers k some_driver) left_down (8 * k)
         (slice_index_or log.nodes k n)
     node_end = let c = h.drivers_count in let i = in_plan in
         h.nodes.each k some_log some_driver n (omega (arith, c, i))

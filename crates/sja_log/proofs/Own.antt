@@ -5,7 +5,7 @@ use Rattle.sja_link.specs.declared.up.Up.{Up}
 use Rattle.sja_link.specs.declared.entry.Entry.{Entry}
 use Rattle.sja_link.specs.declared.entry.Entry.TheVariants.{Bit, Up as Item, Abort, Stored, Overrun, Off}
 use Rattle.sja_link.specs.Gathering.{total}
-use Rattle.sja_link.specs.Places.{Place, past, place_of}
+use Rattle.sja_link.specs.Places.{JournalPlace, past, place_of}
 use Rattle.sja_link.specs.Parts.{part}
 use Rattle.sja_link.specs.Carried.{taken_in, taken_of}
 use Rattle.sja_link.specs.World.{is_send}
@@ -37,7 +37,7 @@ own_all P f j (e ∷ es) o h = subst P (append_assoc j (e ∷ []) es) (own_all P
 
 -- ---- one entry
 
-own_begins : (p : Place) (e : Entry) → IsOwn e → (past p e).activation ≡ p.activation
+own_begins : (p : JournalPlace) (e : Entry) → IsOwn e → (past p e).activation ≡ p.activation
 own_begins p (Item u) o = elim o [ ]
 own_begins p (Bit driven seen) o = refl
 own_begins p Abort o = refl
@@ -45,7 +45,7 @@ own_begins p (Stored m) o = refl
 own_begins p (Overrun m) o = refl
 own_begins p Off o = refl
 
-own_bits : (p : Place) (e : Entry) → IsOwn e → p.bits ≤ (past p e).bits
+own_bits : (p : JournalPlace) (e : Entry) → IsOwn e → p.bits ≤ (past p e).bits
 own_bits p (Item u) o = elim o [ ]
 own_bits p (Bit driven seen) o = omega arith
 own_bits p Abort o = omega arith
@@ -74,7 +74,7 @@ own_takes Off o = refl
 pub own_activation : (j es : List Entry) → AreOwn es → (place_of (j ++ es)).activation ≡ (place_of j).activation
 own_activation j es o =
     own_all (λ k. (place_of k).activation ≡ (place_of j).activation)
-    (λ k e i h. ap (λ (p : Place). p.activation) (place_push k e) ∙ own_begins (place_of k) e i ∙ h) j es o refl
+    (λ k e i h. ap (λ (p : JournalPlace). p.activation) (place_push k e) ∙ own_begins (place_of k) e i ∙ h) j es o refl
 
 pub own_stopped : (j es : List Entry) → AreOwn es → stops_of (j ++ es) ≡ stops_of j
 own_stopped j es o =
@@ -110,7 +110,7 @@ own_part j [] a o at = ap (λ (l : List Entry). part l a) (append-nil j) ∙ sym
 own_part j (e ∷ es) a o at =
     let here : (past (place_of j) e).activation ≡ a = own_begins (place_of j) e o.0 ∙ at in
     ap (λ (l : List Entry). part l a) (sym (append_assoc j (e ∷ []) es))
-    ∙ own_part (j ++ e ∷ []) es a o.1 (ap (λ (p : Place). p.activation) (place_push j e) ∙ here)
+    ∙ own_part (j ++ e ∷ []) es a o.1 (ap (λ (p : JournalPlace). p.activation) (place_push j e) ∙ here)
     ∙ ap (λ (l : List Entry). l ++ es) (part_here j e a here) ∙ append_assoc (part j a) (e ∷ []) es
 
 -- after more bits they change nothing of what was put by then
@@ -119,6 +119,6 @@ pub own_late : (n : ℕ) (j es : List Entry) (a : ℕ) → AreOwn es → n < (pl
 own_late n j es a o late =
     (own_all (λ k. (put_by n k a ≡ put_by n j a) × (n < (place_of k).bits))
     (λ k e i h. let b = own_bits (place_of k) e i in
-    let p : (place_of (k ++ e ∷ [])).bits ≡ (past (place_of k) e).bits = ap (λ (q : Place). q.bits)
+    let p : (place_of (k ++ e ∷ [])).bits ≡ (past (place_of k) e).bits = ap (λ (q : JournalPlace). q.bits)
     (place_push k e) in let l = h.1 in
     (put_later n k e a h.1 ∙ h.0, omega (arith, b, p, l))) j es o (refl, late)).0

@@ -12,7 +12,7 @@ use Rattle.sja_link.specs.declared.up.Up.TheVariants.{Start, Credit, Send, Stop}
 use Rattle.sja_link.specs.declared.entry.Entry.{Entry}
 use Rattle.sja_link.specs.declared.entry.Entry.TheVariants.{Bit, Up as Item, Abort, Stored, Overrun, Off}
 use Rattle.sja_link.specs.Gathering.{gathered}
-use Rattle.sja_link.specs.Places.{Place, first_place, past, past_all, place_of, Placed, placed_from}
+use Rattle.sja_link.specs.Places.{JournalPlace, first_place, past, past_all, place_of, Placed, placed_from}
 use Rattle.sja_link.specs.Parts.{in_part, entry_at, part}
 use Rattle.sja_link.specs.Carried.{taken_in, put_in, taken_of, put_of}
 use Rattle.sja_link.specs.Picking.{EachAfter}
@@ -37,7 +37,7 @@ timely_give given j a up x h =
 pub timely_take : (given : List Timed) (j : List Entry) (a : ℕ) (u : Up) (up : List Up) → (past (place_of j) (Item u)).activation ≡ a → (past (place_of j) (Item u)).bits ≡ (place_of j).bits →
     WaitsInTime given j a (u ∷ up) → WaitsInTime given (j ++ Item u ∷ []) a up
 timely_take given j a u up at same h =
-    let b : (place_of (j ++ Item u ∷ [])).bits ≡ (place_of j).bits = ap (λ (p : Place). p.bits) (place_push j (Item u)) ∙ same in
+    let b : (place_of (j ++ Item u ∷ [])).bits ≡ (place_of j).bits = ap (λ (p : JournalPlace). p.bits) (place_push j (Item u)) ∙ same in
     h ∙ sym (append_assoc (taken_when j a) (timed (place_of j).bits u ∷ []) (map (timed (place_of j).bits) up))
     ∙ ap (λ l. l ++ map (timed (place_of j).bits) up) (sym (of_part_here (λ q. map (timed q.before.bits) (taken_in q.entry)) j (Item u) a at))
     ∙ ap (λ n. taken_when (j ++ Item u ∷ []) a ++ map (timed n) up) (sym b)
@@ -47,7 +47,7 @@ pub timely_quiet : (given : List Timed) (j : List Entry) (e : Entry) (a : ℕ) (
     WaitsInTime given j a up → WaitsInTime given (j ++ e ∷ []) a up
 timely_quiet given j e a up none same h =
     let f : Placed → List Timed = λ q. map (timed q.before.bits) (taken_in q.entry) in
-    let b : (place_of (j ++ e ∷ [])).bits ≡ (place_of j).bits = ap (λ (p : Place). p.bits) (place_push j e) ∙ same in
+    let b : (place_of (j ++ e ∷ [])).bits ≡ (place_of j).bits = ap (λ (p : JournalPlace). p.bits) (place_push j e) ∙ same in
     let t : taken_when (j ++ e ∷ []) a ≡ taken_when j a = elim none [
       | inl q ↦ of_part_none f j e a (ap (map (timed (place_of j).bits)) q)
       | inr n ↦ of_part_else f j e a n
@@ -176,7 +176,7 @@ put_later k j e a late =
     of_part_none (λ q. if nat_le q.before.bits k then put_in q.entry else []) j e a
     (ap (λ (b : Bool). if b then put_in e else []) (lt-leb (place_of j).bits k late))
 
-bits_more : (p : Place) (e : Entry) → p.bits ≤ (past p e).bits
+bits_more : (p : JournalPlace) (e : Entry) → p.bits ≤ (past p e).bits
 bits_more p (Bit driven seen) = omega arith
 bits_more p (Item (Start config)) = omega arith
 bits_more p (Item (Credit n)) = omega arith
@@ -187,12 +187,12 @@ bits_more p (Stored m) = omega arith
 bits_more p (Overrun m) = omega arith
 bits_more p Off = omega arith
 
-all_bits_more : (p : Place) (es : List Entry) → p.bits ≤ (past_all p es).bits
+all_bits_more : (p : JournalPlace) (es : List Entry) → p.bits ≤ (past_all p es).bits
 all_bits_more p [] = omega arith
 all_bits_more p (e ∷ es) = let x = bits_more p e in let y = all_bits_more (past p e) es in omega (arith, x, y)
 
 -- by the time of its last bit that is all that was put
-all_put : (k : ℕ) (p : Place) (es : List Entry) (a : ℕ) → (past_all p es).bits ≤ k →
+all_put : (k : ℕ) (p : JournalPlace) (es : List Entry) (a : ℕ) → (past_all p es).bits ≤ k →
     gathered (in_part (λ q. if nat_le q.before.bits k then put_in q.entry else []) a) (placed_from p es) ≡ gathered put_in (gathered (in_part entry_at a) (placed_from p es))
 all_put k p [] a few = refl
 all_put k p (e ∷ es) a few =

@@ -26,24 +26,24 @@ activation_after driver down a = record {
 }
 
 -- the logs of the first so many activations; what lies on their links begins at this place
-pub record AreActivations (driver : LoggedDriver) (lying : List (List Down)) (base count : ℕ)
+pub record AreActivations (driver : LoggedDriver) (left_down : List (List Down)) (base count : ℕ)
     (logs : List ActivationValue) : Type 0 where
   pub count_is : length logs ≡ count
   pub each : (a : ℕ) (d : ActivationValue) (l : List Down) → a < count →
-      slice_index_or logs a d ≡ activation_after driver (slice_index_or lying (base + a) l) a
+      slice_index_or logs a d ≡ activation_after driver (slice_index_or left_down (base + a) l) a
 
 -- the log of a node
-pub record IsNodeEnd (log : NodeLog) (driver : LoggedDriver) (lying : List (List Down)) (base : ℕ) (node : NodeValue) :
+pub record IsNodeEnd (log : NodeLog) (driver : LoggedDriver) (left_down : List (List Down)) (base : ℕ) (node : NodeValue) :
     Type 0 where
   pub journal : node.journal ≡ log.journal.entries
   pub txerr : node.txerr ≡ log.txerr
   pub rxerr : node.rxerr ≡ log.rxerr
   pub done : node.done ≡ done_in (log_of driver)
-  pub activations : AreActivations driver lying base (opened_of (driver_of driver)) node.activations
+  pub activations : AreActivations driver left_down base (opened_of (driver_of driver)) node.activations
 
 -- the logs of the first so many nodes
-pub record AreNodeEnds (logs : List NodeLog) (drivers : List LoggedDriver) (lying : List (List Down)) (count : ℕ)
+pub record AreNodeEnds (logs : List NodeLog) (drivers : List LoggedDriver) (left_down : List (List Down)) (count : ℕ)
     (nodes : List NodeValue) : Type 0 where
   pub count_is : length nodes ≡ count
   pub each : (k : ℕ) (g : NodeLog) (d : LoggedDriver) (n : NodeValue) → k < count →
-      IsNodeEnd (slice_index_or logs k g) (slice_index_or drivers k d) lying (8 * k) (slice_index_or nodes k n)
+      IsNodeEnd (slice_index_or logs k g) (slice_index_or drivers k d) left_down (8 * k) (slice_index_or nodes k n)

@@ -9,7 +9,7 @@ ghost use Rattle.sja_log.specs.Finishing.{held_after, activation_after, AreActiv
 
 use super::activation_log::ActivationLog;
 use super::copying::all_copied;
-use super::lying::Lying;
+use super::left_down::LeftDown;
 use super::node_run::NodeRun;
 use can_frame::{Message, OutOfMemory};
 use sja_driver::{LoggedDriver, Release};
@@ -52,14 +52,18 @@ fn held_in(driver: &LoggedDriver, ended: usize) -> &[Message]
 /// These messages, and then those that lay on the link.
 ///
 /// Error: [`OutOfMemory`] where memory was refused.
-fn unread_on(alloc: Global, held: &[Message], lying: &Lying) -> Result<Vec<Message>, OutOfMemory>
-    ensures { IfOk result (λ list. list.items ≡ held.now ++ messages lying.now) }
+fn unread_on(
+    alloc: Global,
+    held: &[Message],
+    left_down: &LeftDown,
+) -> Result<Vec<Message>, OutOfMemory>
+    ensures { IfOk result (λ list. list.items ≡ held.now ++ messages left_down.now) }
 {
     let mut list = Vec::with_capacity(alloc, held.len())?;
     for message in held {
         list.push_reserved(message.copy());
     }
-    let down = lying.items();
+    let down = left_down.items();
     for place in 0..down.len() {
         if let Down::Message(message) = &down[place] {
             list.push(message.copy())?;
@@ -74,15 +78,15 @@ fn unread_on(alloc: Global, held: &[Message], lying: &Lying) -> Result<Vec<Messa
 fn activation_log(
     alloc: Global,
     driver: &LoggedDriver,
-    lying: &Lying,
+    left_down: &LeftDown,
     ended: u8,
 ) -> Result<ActivationLog, OutOfMemory>
     requires ended { ended ≤ ended_of driver.now }
     requires few { ended < 8 }
-    ensures { IfOk result (λ log. log ≡ activation_after driver.now lying.now ended) }
+    ensures { IfOk result (λ log. log ≡ activation_after driver.now left_down.now ended) }
 {
     let released = released_in(alloc, driver.log().released(), ended + 1)?;
-    let unread = unread_on(alloc, held_in(driver, usize::from(ended)), lying)?;
+    let unread = unread_on(alloc, held_in(driver, usize::from(ended)), left_down)?;
     Ok(ActivationLog::of(released, unread))
 }
 
@@ -92,7 +96,7 @@ fn activation_log(
 fn activation_logs(
     alloc: Global,
     driver: &LoggedDriver,
-    lists: &[Lying],
+    lists: &[LeftDown],
     base: usize,
 ) -> Result<Vec<ActivationLog>, OutOfMemory>
     requires lawful { IsLawful driver.now }
@@ -103,8 +107,8 @@ fn activation_logs(
     let count = driver.activation();
     let mut logs = Vec::with_capacity(alloc, usize::from(count))?;
     for ended in 0..count {
-        let lying = &lists[base + usize::from(ended)];
-        logs.push_reserved(activation_log(alloc, driver, lying, ended)?);
+        let left_down = &lists[base + usize::from(ended)];
+        logs.push_reserved(activation_log(alloc, driver, left_down, ended)?);
     }
     Ok(logs)
 }
@@ -116,7 +120,7 @@ pub(crate) fn node_run(
     alloc: Global,
     log: NodeLog,
     driver: &LoggedDriver,
-    lists: &[Lying],
+    lists: &[LeftDown],
     base: usize,
 ) -> Result<NodeRun, OutOfMemory>
     requires lawful { IsLawful driver.now }

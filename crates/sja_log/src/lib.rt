@@ -6,7 +6,7 @@
 //! promises of a run in one thread beside that.
 //!
 //! [`node_runs`] makes the nodes of a log of what the bus left of each node, its driver, and what lay on its links
-//! ([`Lying`]); [`script_of`] has the strikes of a plan as a bus takes them. These and `Lying::of` and `Lying::on` alone
+//! ([`LeftDown`]); [`script_of`] has the strikes of a plan as a bus takes them. These and `LeftDown::of` and `LeftDown::on` alone
 //! take memory. A [`RunFault`] says why a run has no log. The tests stand in `crates/test_runs`.
 #![tactic(auto)]
 
@@ -15,7 +15,7 @@ mod copying;
 mod end;
 mod ending;
 mod laws;
-mod lying;
+mod left_down;
 mod node_run;
 mod nodes;
 mod run_fault;
@@ -28,7 +28,7 @@ pub use laws::{
     a_bus_with_traced_drivers_is_a_run, a_moment_is_a_front, a_settled_node_has_the_headline,
     an_abort_stands_right_before_a_bit,
 };
-pub use lying::Lying;
+pub use left_down::LeftDown;
 pub use node_run::NodeRun;
 pub use nodes::node_runs;
 pub use run_fault::RunFault;

@@ -6,7 +6,7 @@ ghost use Rattle.sja_driver.specs.LoggedDrivers.{IsLawful};
 ghost use Rattle.sja_log.specs.Finishing.{AreNodeEnds};
 
 use super::ending::node_run;
-use super::lying::Lying;
+use super::left_down::LeftDown;
 use super::node_run::NodeRun;
 use can_frame::OutOfMemory;
 use sja_driver::LoggedDriver;
@@ -24,7 +24,7 @@ pub fn node_runs(
     alloc: Global,
     logs: Vec<NodeLog>,
     drivers: &[LoggedDriver],
-    lists: &[Lying],
+    lists: &[LeftDown],
 ) -> Result<Vec<NodeRun>, OutOfMemory>
     requires drivers { length drivers.now ≡ vec_len logs }
     requires lists { length lists.now ≡ 8 * vec_len logs }

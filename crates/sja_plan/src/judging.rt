@@ -15,7 +15,7 @@ use super::document::Document;
 use super::list_fault::ListFault;
 use super::plan::Plan;
 use super::plan_fault::PlanFault;
-use super::said::read_all;
+use super::plan_text::read_all;
 use super::settings::{counts, settings_of};
 use super::turn::Turn;
 use sja_script::{Step, Strike};

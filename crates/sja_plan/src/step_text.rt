@@ -4,16 +4,16 @@ ghost use Rattle.std.specs.Prelude.{◌≡◌, ◌⊎◌, IfOk, IfErr, map, [], 
 ghost use Rattle.sja_plan.specs.Words.{words};
 ghost use Rattle.sja_plan.specs.StepTexts.{AreStepWords};
 
-use super::said::Said;
+use super::plan_text::PlanText;
 use super::text_fault::TextFault;
 use super::word::{byte, find_words, message, number_within};
 use sja_script::Step;
 use std::alloc::Global;
 
-impl Said for Step {
+impl PlanText for Step {
     ghost says = { λ nodes text s. AreStepWords (words text) s };
 
-    fn said<'a>(
+    fn plan_text<'a>(
         alloc: Global,
         nodes: usize,
         text: &'a str,

@@ -4,16 +4,16 @@ ghost use Rattle.std.specs.Prelude.{◌≡◌, ◌≤◌, IfOk, IfErr, map};
 ghost use Rattle.sja_plan.specs.Words.{words};
 ghost use Rattle.sja_plan.specs.StrikeTexts.{AreOnce, AreRepeated, AreStrikeWords};
 
-use super::said::Said;
+use super::plan_text::PlanText;
 use super::text_fault::TextFault;
 use super::word::{GREATEST, find_words, node_within, number_within};
 use sja_script::Strike;
 use std::alloc::Global;
 
-impl Said for Strike {
+impl PlanText for Strike {
     ghost says = { λ nodes text s. AreStrikeWords nodes (words text) s };
 
-    fn said<'a>(
+    fn plan_text<'a>(
         alloc: Global,
         nodes: usize,
         text: &'a str,

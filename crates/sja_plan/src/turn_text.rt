@@ -4,16 +4,16 @@ ghost use Rattle.std.specs.Prelude.{◌≡◌, ◌≤◌, IfOk, IfErr, map, [], 
 ghost use Rattle.sja_plan.specs.Words.{words};
 ghost use Rattle.sja_plan.specs.TurnTexts.{AreTurnWords};
 
-use super::said::Said;
+use super::plan_text::PlanText;
 use super::text_fault::TextFault;
 use super::turn::Turn;
 use super::word::{GREATEST, find_words, node_within, number_within};
 use std::alloc::Global;
 
-impl Said for Turn {
+impl PlanText for Turn {
     ghost says = { λ nodes text t. AreTurnWords nodes (words text) t };
 
-    fn said<'a>(
+    fn plan_text<'a>(
         alloc: Global,
         nodes: usize,
         text: &'a str,

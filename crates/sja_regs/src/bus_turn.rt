@@ -1,3 +1,5 @@
+//! What one bit tells the registers.
+
 use can_node::{BitEvents, Phase};
 
 /// What the bus tells a port after one bit.

@@ -1,3 +1,5 @@
+//! The capture registers ALC and ECC: free, or taken until they are read.
+
 ghost use Rattle.std.specs.Prelude.{◌≡◌, true};
 ghost use Rattle.sja_regs.specs.Captures.{after_capture};
 

@@ -1,3 +1,5 @@
+//! The bits of CMR.
+
 ghost use Rattle.std.specs.Prelude.{◌≡◌};
 ghost use Rattle.sja_regs.specs.Commands.{command_of, requests};
 

@@ -1,3 +1,5 @@
+//! What EI and EPI are told by.
+
 ghost use Rattle.std.specs.Prelude.{◌≡◌};
 ghost use Rattle.sja_regs.specs.ErrorStates.{causes_between};
 

@@ -1,3 +1,5 @@
+//! The bits of IR and IER.
+
 ghost use Rattle.std.specs.Prelude.{◌≡◌, ◌||◌, ◌&&◌};
 ghost use Rattle.sja_regs.specs.Interrupting.{interrupts_of, interrupts_byte, no_interrupt, pending_after};
 

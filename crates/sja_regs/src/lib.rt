@@ -8,7 +8,7 @@
 //! Its tests stand in `crates/test_controller/src/registers`.
 #![tactic(auto)]
 
-mod bits;
+pub mod bits;
 mod bus_turn;
 mod capture;
 mod command;
@@ -18,7 +18,7 @@ mod error_code;
 mod error_state;
 mod interrupts;
 mod laws;
-mod letters;
+pub mod letters;
 mod mode;
 mod orders;
 mod port;

@@ -1,3 +1,5 @@
+//! The bits of MOD.
+
 ghost use Rattle.std.specs.Prelude.{◌≡◌};
 ghost use Rattle.sja_regs.specs.Modes.{mode_of, mode_byte};
 ghost use Rattle.sja_regs.specs.Writing.{is_other_mode};

@@ -1,3 +1,5 @@
+//! What the registers want of the bus in the next bit.
+
 /// What a driver wants of the bus.
 #[derive(Clone, Copy, Debug, PartialEq, Eq)]
 pub struct Orders {

@@ -1,3 +1,5 @@
+//! [`Port`]: the registers of one controller.
+
 ghost use Rattle.std.specs.Prelude.{◌≡◌, true, if◌then◌else◌};
 
 use super::orders::Orders;

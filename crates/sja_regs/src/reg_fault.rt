@@ -1,3 +1,5 @@
+//! Why a register call is refused.
+
 /// Why a register call is refused. A refusal changes nothing.
 #[derive(Clone, Copy, Debug, PartialEq, Eq)]
 pub enum RegFault {

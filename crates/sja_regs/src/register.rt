@@ -1,3 +1,5 @@
+//! The registers by their names, and their addresses.
+
 ghost use Rattle.std.specs.Prelude.{◌≡◌, IfSome};
 ghost use Rattle.sja_regs.specs.Addresses.{register_at, IsPlace};
 

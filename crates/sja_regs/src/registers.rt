@@ -1,3 +1,5 @@
+//! All that a port keeps, register by register.
+
 ghost use Rattle.std.specs.Prelude.{◌≡◌};
 ghost use Rattle.sja_regs.specs.Registers.{at_power_on, error_state_of, status_of, interrupts_in, config_of};
 ghost use Rattle.sja_regs.specs.Writing.{is_first_version};
@@ -8,10 +10,10 @@ use super::interrupts::Interrupts;
 use super::mode::Mode;
 use super::status::Status;
 use can_frame::{Filter, Seen};
-use can_node::Config;
+use can_node::{Config, ERROR_PASSIVE};
 
-/// The counters of a node that is error passive begin here.
-const PASSIVE_FROM: u8 = 128;
+/// A counter of this or more makes a node error passive.
+const PASSIVE: u8 = ERROR_PASSIVE as u8;
 
 /// All that a port keeps, in the data sheet's letters. Not kept is what follows: RBS, RI and RMC from what the driver
 /// sees, and ES from the error counters.
@@ -123,7 +125,7 @@ impl Registers {
         ErrorState {
             es: self.txerr >= self.ewlr || self.rxerr >= self.ewlr,
             bs: self.bs,
-            passive: self.txerr >= PASSIVE_FROM || self.rxerr >= PASSIVE_FROM,
+            passive: self.txerr >= PASSIVE || self.rxerr >= PASSIVE,
         }
     }
 

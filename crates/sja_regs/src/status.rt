@@ -1,3 +1,5 @@
+//! The bits of SR.
+
 ghost use Rattle.std.specs.Prelude.{◌≡◌};
 ghost use Rattle.sja_regs.specs.Statuses.{status_byte};
 

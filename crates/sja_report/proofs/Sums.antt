@@ -6,7 +6,7 @@ use Rattle.sja_link.specs.declared.up.Up.TheVariants.{Start, Credit, Send, Stop}
 use Rattle.sja_link.specs.declared.entry.Entry.{Entry}
 use Rattle.sja_link.specs.declared.entry.Entry.TheVariants.{Bit, Up as Item, Abort, Stored, Overrun, Off}
 use Rattle.sja_link.specs.Gathering.{gathered}
-use Rattle.sja_link.specs.Places.{Place, first_place, past, placed_from}
+use Rattle.sja_link.specs.Places.{JournalPlace, first_place, past, placed_from}
 use Rattle.sja_link.specs.Parts.{in_part, entry_at, part}
 use Rattle.sja_link.specs.Carried.{overrun_of}
 use Rattle.sja_link.specs.Between.{between_bits}
@@ -43,21 +43,21 @@ tallied_enters t Off es h = refl
 -- ---- the parts of a journal
 
 -- the part of an activation, from a place on
-abbrev part_from : Place → List Entry → ℕ → List Entry
+abbrev part_from : JournalPlace → List Entry → ℕ → List Entry
 part_from p es a = gathered (in_part entry_at a) (placed_from p es)
 
-part_here : (p : Place) (e : Entry) (es : List Entry) (a : ℕ) → (past p e).activation ≡ a → part_from p (e ∷ es) a ≡ e ∷ part_from (past p e) es a
+part_here : (p : JournalPlace) (e : Entry) (es : List Entry) (a : ℕ) → (past p e).activation ≡ a → part_from p (e ∷ es) a ≡ e ∷ part_from (past p e) es a
 part_here p e es a h = ap (λ b. cond b (e ∷ []) [] ++ part_from (past p e) es a) (eq-eqb (past p e).activation a h)
 
-part_else : (p : Place) (e : Entry) (es : List Entry) (a : ℕ) → ((past p e).activation ≡ a → ⊥) → part_from p (e ∷ es) a ≡ part_from (past p e) es a
+part_else : (p : JournalPlace) (e : Entry) (es : List Entry) (a : ℕ) → ((past p e).activation ≡ a → ⊥) → part_from p (e ∷ es) a ≡ part_from (past p e) es a
 part_else p e es a h = ap (λ b. cond b (e ∷ []) [] ++ part_from (past p e) es a) (ne_eqb (past p e).activation a h)
 
 -- an entry begins an activation, or stays in one
-data Begins (p : Place) (e : Entry) : Type 0 where
+data Begins (p : JournalPlace) (e : Entry) : Type 0 where
   begins : opens e ≡ true → (past p e).activation ≡ p.activation + 1 → Begins p e
   stays : opens e ≡ false → (past p e).activation ≡ p.activation → Begins p e
 
-begins_or_stays : (p : Place) (e : Entry) → Begins p e
+begins_or_stays : (p : JournalPlace) (e : Entry) → Begins p e
 begins_or_stays p (Item (Start config)) = begins refl refl
 begins_or_stays p (Item (Credit n)) = stays refl refl
 begins_or_stays p (Item (Send request)) = stays refl refl
@@ -69,7 +69,7 @@ begins_or_stays p (Overrun m) = stays refl refl
 begins_or_stays p Off = stays refl refl
 
 -- nothing more comes of an activation that has passed
-part_none : (p : Place) (es : List Entry) (a : ℕ) → a < p.activation → part_from p es a ≡ []
+part_none : (p : JournalPlace) (es : List Entry) (a : ℕ) → a < p.activation → part_from p es a ≡ []
 part_none p [] a h = refl
 part_none p (e ∷ es) a h = elim (begins_or_stays p e) [
   | begins o n ↦ part_else p e es a (λ q. omega (arith, h, n, q)) ∙ part_none (past p e) es a (omega (arith, h, n))
@@ -126,7 +126,7 @@ abbrev onto : ℕ → TallyValue → TallyValue → TallyValue
 onto zero t u = both t u
 onto (suc k) t u = u
 
-at_place : (t : TallyValue) (p : Place) (es : List Entry) (k a : ℕ) → a ≡ p.activation + k →
+at_place : (t : TallyValue) (p : JournalPlace) (es : List Entry) (k a : ℕ) → a ≡ p.activation + k →
     slice_index_or (tallied t es) k no_tally ≡ onto k t (tally_of (part_from p es a))
 at_place t p [] zero a h = sym (both_none t)
 at_place t p [] (suc k) a h = refl

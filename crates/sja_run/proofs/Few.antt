@@ -8,8 +8,8 @@ use Rattle.sja_words.specs.Words.{Request, ParsesAs, run, wave}
 use Rattle.sja_log.specs.declared.run_fault.RunFault.{RunFault}
 use Rattle.sja_log.specs.declared.run_fault.RunFault.TheVariants.{Memory}
 use Rattle.sja_threads.specs.Stopping.{IsFaultOf}
-use Rattle.sja_texts.specs.declared.refusal.Refusal.{Refusal}
-use Rattle.sja_texts.specs.declared.refusal.Refusal.TheVariants as refusal
+use Rattle.sja_texts.specs.declared.command_refusal.CommandRefusal.{CommandRefusal}
+use Rattle.sja_texts.specs.declared.command_refusal.CommandRefusal.TheVariants as refusal
 use Rattle.sja_run.specs.Answer.{AsksForRun, IsPrinted, IsRefused}
 use Rattle.sja_run.specs.Input.{ReadsFew}
 use Rattle.sja_run.specs.Run.{IsRunning, RefusesBy, RefusesRun}
@@ -40,7 +40,7 @@ pub few_running_threads : (before after : Option (List ℕ)) (text : List ℕ) �
 few_running_threads before after text runs = (runs.0, runs.1.0, runs.1.1)
 
 -- there is none
-few_refused : (May : PlanValue → RunFault → Type 0) (before after : Option (List ℕ)) (r : Refusal) → RefusesBy May
+few_refused : (May : PlanValue → RunFault → Type 0) (before after : Option (List ℕ)) (r : CommandRefusal) → RefusesBy May
     before after r → ReadsFew before after
 few_refused May before after refusal.OutOfMemory h = h
 few_refused May before after refusal.Read h = (h.0, h.1, omega arith)
@@ -52,12 +52,12 @@ few_refused May before after (refusal.Layout fault) h = absurd h
 few_refused May before after (refusal.Line fault) h = absurd h
 few_refused May before after (refusal.Notation fault) h = absurd h
 
-pub few_refused_threads : (before after : Option (List ℕ)) (r : Refusal) → RefusesThreads before after r → ReadsFew
+pub few_refused_threads : (before after : Option (List ℕ)) (r : CommandRefusal) → RefusesThreads before after r → ReadsFew
     before after
 few_refused_threads before after r h = few_refused IsFaultOf before after r h
 
 -- what is refused before any run is refused of each
-pub refused_threads : (before after : Option (List ℕ)) (r : Refusal) → RefusesRun before after r → RefusesThreads before
+pub refused_threads : (before after : Option (List ℕ)) (r : CommandRefusal) → RefusesRun before after r → RefusesThreads before
     after r
 refused_threads before after refusal.OutOfMemory h = h
 refused_threads before after refusal.Read h = h
@@ -80,7 +80,7 @@ few_printed r before after text (inl (inr is)) printed =
 few_printed r before after text (inr same) printed = subst (ReadsFew before) (sym same) (unread before)
 
 -- and whatever is refused
-pub few_turned_down : (r : Request) (before after : Option (List ℕ)) (why : Refusal) → AsksForRun r ⊎ (after ≡ before) →
+pub few_turned_down : (r : Request) (before after : Option (List ℕ)) (why : CommandRefusal) → AsksForRun r ⊎ (after ≡ before) →
     IsRefused r before after why → ReadsFew before after
 few_turned_down r before after why (inl (inl is)) refused =
     few_refused (λ plan fault. fault ≡ Memory) before after why (subst (λ q. IsRefused q before after why) is refused)

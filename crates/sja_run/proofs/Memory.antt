@@ -3,7 +3,7 @@ use Rattle.std.proofs.Common.{List, ℕ, Option, true, false, refl, inl, inr}
 use Rattle.sja_words.specs.Words.{Request, encode, decode, filter, arbitrate, message, run, wave}
 use Rattle.sja_run.specs.Answer.{IsRefused}
 use Rattle.sja_run.specs.Input.{ReadsFew}
-use Rattle.sja_texts.specs.declared.refusal.Refusal.TheVariants.{OutOfMemory}
+use Rattle.sja_texts.specs.declared.command_refusal.CommandRefusal.TheVariants.{OutOfMemory}
 
 -- whatever is asked for, where few bytes were read
 pub memory_refused : (r : Request) (before after : Option (List ℕ)) → ReadsFew before after →

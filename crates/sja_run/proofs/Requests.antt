@@ -2,7 +2,7 @@
 use Rattle.std.proofs.Common.{◌≡◌, ◌⊎◌, ℕ, Bool, List, Option, Some, true, false, refl, sym, inl, inr}
 use Rattle.std.specs.Io.KnownBytes.{Keeps}
 use Rattle.sja_words.specs.Words.{Request, ParsesAs, encode, decode, filter, arbitrate, message, run, wave}
-use Rattle.sja_texts.specs.declared.refusal.Refusal.TheVariants.{OutOfMemory}
+use Rattle.sja_texts.specs.declared.command_refusal.CommandRefusal.TheVariants.{OutOfMemory}
 use Rattle.sja_run.specs.Answer.{Shows, IsLeft}
 use Rattle.sja_run.specs.Input.{ReadsFew}
 

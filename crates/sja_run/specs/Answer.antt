@@ -2,8 +2,8 @@
 use Rattle.std.specs.Prelude.{◌≡◌, ◌⊎◌, ℕ, Bool, true, false, List, Option, Some, None}
 use Rattle.std.specs.Io.KnownBytes.{Appends, Keeps}
 use Rattle.sja_words.specs.Words.{Request, encode, decode, filter, arbitrate, message, run, wave}
-use Rattle.sja_texts.specs.declared.refusal.Refusal.{Refusal}
-use Rattle.sja_texts.specs.declared.refusal.Refusal.TheVariants as refusal
+use Rattle.sja_texts.specs.declared.command_refusal.CommandRefusal.{CommandRefusal}
+use Rattle.sja_texts.specs.declared.command_refusal.CommandRefusal.TheVariants as refusal
 use Rattle.sja_texts.specs.Arbitrate.{IsArbitration, RefusesMessages}
 use Rattle.sja_texts.specs.Decode.{IsDecoding, RefusesLine}
 use Rattle.sja_texts.specs.Encode.{IsEncoding}
@@ -31,7 +31,7 @@ IsPrinted (run true) before after text = IsRunningThreads before after text
 IsPrinted wave before after text = IsWaving before after text
 
 -- the same, and why the request has no answer
-abbrev pub IsRefused : Request → Option (List ℕ) → Option (List ℕ) → Refusal → Type 0
+abbrev pub IsRefused : Request → Option (List ℕ) → Option (List ℕ) → CommandRefusal → Type 0
 IsRefused (encode digits) before after r = RefusesMessage digits r
 IsRefused (decode digits) before after r = RefusesLine digits r
 IsRefused (filter single acr amr digits) before after r = RefusesFilter acr amr digits r
@@ -50,7 +50,7 @@ abbrev pub Shows :
 Shows request status in_old in_new out_old out_new err_old err_new =
     ((text : List ℕ) × IsPrinted request in_old in_new text × (status ≡ Some 0) × Appends out_old out_new text
     × Keeps err_old err_new)
-    ⊎ ((r : Refusal) × IsRefused request in_old in_new r × (status ≡ Some 1) × Keeps out_old out_new
+    ⊎ ((r : CommandRefusal) × IsRefused request in_old in_new r × (status ≡ Some 1) × Keeps out_old out_new
     × Appends err_old err_new (refusal_line r))
 
 -- The words ask for a run in threads, which is left to another call: there is no status; or memory was refused, and

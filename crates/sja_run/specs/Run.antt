@@ -7,8 +7,8 @@ use Rattle.sja_report.specs.ReportLines.{report_text}
 use Rattle.sja_log.specs.Runs.{IsSerialRun}
 use Rattle.sja_log.specs.declared.run_fault.RunFault.{RunFault}
 use Rattle.sja_log.specs.declared.run_fault.RunFault.TheVariants.{Memory}
-use Rattle.sja_texts.specs.declared.refusal.Refusal.{Refusal}
-use Rattle.sja_texts.specs.declared.refusal.Refusal.TheVariants as refusal
+use Rattle.sja_texts.specs.declared.command_refusal.CommandRefusal.{CommandRefusal}
+use Rattle.sja_texts.specs.declared.command_refusal.CommandRefusal.TheVariants as refusal
 use Rattle.sja_run.specs.Input.{IsRead, ReadsFew, BreaksOff}
 
 -- the bytes that were read are this plan
@@ -26,7 +26,7 @@ IsRunning before after text = (bytes : List ℕ) × IsRead before after bytes ×
 
 -- why there is no report. Memory may be refused at any time, and a read may fail. Else the bytes that were read have
 -- this first fault, or they are a plan, and its run had one of these faults
-abbrev pub RefusesBy : (PlanValue → RunFault → Type 0) → Option (List ℕ) → Option (List ℕ) → Refusal → Type 0
+abbrev pub RefusesBy : (PlanValue → RunFault → Type 0) → Option (List ℕ) → Option (List ℕ) → CommandRefusal → Type 0
 RefusesBy May before after refusal.OutOfMemory = ReadsFew before after
 RefusesBy May before after refusal.Read = BreaksOff before after
 RefusesBy May before after (refusal.Plan fault) =
@@ -40,5 +40,5 @@ RefusesBy May before after (refusal.Line fault) = ⊥
 RefusesBy May before after (refusal.Notation fault) = ⊥
 
 -- in one thread: in the run memory was refused
-abbrev pub RefusesRun : Option (List ℕ) → Option (List ℕ) → Refusal → Type 0
+abbrev pub RefusesRun : Option (List ℕ) → Option (List ℕ) → CommandRefusal → Type 0
 RefusesRun = RefusesBy (λ plan fault. fault ≡ Memory)

@@ -2,7 +2,7 @@
 use Rattle.std.specs.Prelude.{ℕ, true, List, Option}
 use Rattle.sja_threads.specs.Stopping.{IsFaultOf}
 use Rattle.sja_threads.specs.Threads.{IsThreadedRun}
-use Rattle.sja_texts.specs.declared.refusal.Refusal.{Refusal}
+use Rattle.sja_texts.specs.declared.command_refusal.CommandRefusal.{CommandRefusal}
 use Rattle.sja_run.specs.Run.{IsReportBy, RefusesBy}
 use Rattle.sja_run.specs.Input.{IsRead}
 
@@ -13,5 +13,5 @@ IsRunningThreads before after text =
 
 -- why there is no report: as for a run in one thread, but its run may have any fault that a run in threads of that plan
 -- has; there is a gate for each node
-abbrev pub RefusesThreads : Option (List ℕ) → Option (List ℕ) → Refusal → Type 0
+abbrev pub RefusesThreads : Option (List ℕ) → Option (List ℕ) → CommandRefusal → Type 0
 RefusesThreads = RefusesBy IsFaultOf

@@ -6,13 +6,17 @@ ghost use Rattle.sja_run.specs.Answer.{AsksForRun, IsPrinted, IsRefused};
 
 use super::run::reported;
 use super::waving::waved;
-use sja_texts::{Refusal, arbitrated, decoded, encoded, filtered, translated};
+use sja_texts::{CommandRefusal, arbitrated, decoded, encoded, filtered, translated};
 use sja_words::Task;
 use std::alloc::Global;
 use std::io::Read;
 
 /// The text that answers the task, which isn't a run in threads. Only for `run` and `wave` the input is read.
-pub fn printed<R: Read>(alloc: Global, task: Task<'_>, input: &mut R) -> Result<Vec<u8>, Refusal>
+pub fn printed<R: Read>(
+    alloc: Global,
+    task: Task<'_>,
+    input: &mut R,
+) -> Result<Vec<u8>, CommandRefusal>
     requires alone { ¬ (request_of task ≡ run true) }
     ensures ok { IfOk result (λ text.
         IsPrinted (request_of task.entry) (R.remaining input.old) (R.remaining input.new) text.items) }

@@ -5,7 +5,7 @@ ghost use Rattle.std.specs.Io.KnownBytes.{Consumes, IsAtEnd};
 ghost use Rattle.sja_run.specs.Run.{HoldsPlan, RefusesRun};
 
 use sja_plan::{Plan, read_plan};
-use sja_texts::Refusal;
+use sja_texts::CommandRefusal;
 use std::alloc::Global;
 use std::io::Read;
 
@@ -20,8 +20,8 @@ const ROOM: usize = 1_024;
 
 /// The plan that the bytes of the input are.
 ///
-/// Errors: those of [`read_input`]; [`Refusal::Plan`] where they are no plan.
-pub fn plan_of_input<R: Read>(alloc: Global, input: &mut R) -> Result<Plan, Refusal>
+/// Errors: those of [`read_input`]; [`CommandRefusal::Plan`] where they are no plan.
+pub fn plan_of_input<R: Read>(alloc: Global, input: &mut R) -> Result<Plan, CommandRefusal>
     ensures ok { IfOk result (HoldsPlan (R.remaining input.old) (R.remaining input.new)) }
     ensures err { IfErr result (RefusesRun (R.remaining input.old) (R.remaining input.new)) }
 {
@@ -33,9 +33,9 @@ pub fn plan_of_input<R: Read>(alloc: Global, input: &mut R) -> Result<Plan, Refu
 /// The bytes of the input, up to its end or to 65,537 of them, which are too many for a plan. It makes at most 131,074
 /// reads (this project's own rule).
 ///
-/// Errors: [`Refusal::Read`] where a read fails, or where that many reads come neither to the end nor to 65,537 bytes;
-/// [`Refusal::OutOfMemory`].
-fn read_input<R: Read>(alloc: Global, input: &mut R) -> Result<Vec<u8>, Refusal>
+/// Errors: [`CommandRefusal::Read`] where a read fails, or where that many reads come neither to the end nor to 65,537 bytes;
+/// [`CommandRefusal::OutOfMemory`].
+fn read_input<R: Read>(alloc: Global, input: &mut R) -> Result<Vec<u8>, CommandRefusal>
     ensures taken { IfOk result (λ bytes. Consumes (R.remaining input.old) (R.remaining input.new) bytes.items) }
     ensures bound { IfOk result (λ bytes. length bytes.items ≤ 65537) }
     ensures whole { IfOk result (λ bytes. length bytes.items < 65537 → IsAtEnd (R.remaining input.new)) }
@@ -50,7 +50,7 @@ fn read_input<R: Read>(alloc: Global, input: &mut R) -> Result<Vec<u8>, Refusal>
             return Ok(bytes);
         }
     }
-    Err(Refusal::Read)
+    Err(CommandRefusal::Read)
 }
 
 /// Makes one read, of as many bytes as the buffer has at most, puts them behind those read before, and counts them.
@@ -58,7 +58,7 @@ fn read_once<R: Read>(
     input: &mut R,
     bytes: &mut Vec<u8>,
     buffer: &mut [u8],
-) -> Result<usize, Refusal>
+) -> Result<usize, CommandRefusal>
     requires few { length bytes.old.items < 65537 }
     requires room { length bytes.old.items + length buffer.old ≤ 65537 }
     ensures taken { (before : Option (List ℕ)) → Consumes before (R.remaining input.old) bytes.old.items
@@ -70,7 +70,7 @@ fn read_once<R: Read>(
         → IfErr result (RefusesRun before (R.remaining input.new)) }
 {
     let Ok(count) = input.read(buffer) else {
-        return Err(Refusal::Read);
+        return Err(CommandRefusal::Read);
     };
     bytes.extend_from_slice(&buffer[..count])?;
     Ok(count)

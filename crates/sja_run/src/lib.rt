@@ -27,7 +27,7 @@ pub use sja_log::{ActivationLog, End, NodeRun, RunFault, RunLog};
 pub use sja_plan::{Plan, PlanFault, Turn, read_plan};
 pub use sja_report::report;
 pub use sja_serial::run_serial;
-pub use sja_texts::Refusal;
+pub use sja_texts::CommandRefusal;
 pub use sja_threads::run_threads;
 pub use sja_wave::wave;
 pub use sja_words::{Task, WordsFault, parse};

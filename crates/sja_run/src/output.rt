@@ -4,7 +4,7 @@ ghost use Rattle.std.specs.Prelude.{◌≡◌, false, true};
 ghost use Rattle.std.specs.Io.KnownBytes.{Appends};
 ghost use Rattle.sja_texts.specs.Refusal.{refusal_line};
 
-use sja_texts::Refusal;
+use sja_texts::CommandRefusal;
 use std::io::Write;
 
 /// A writer, and whether a write to it has failed.
@@ -41,7 +41,7 @@ impl<W: Write> Output<W> {
     }
 
     /// Writes the one line of a refusal, and gives its exit status.
-    pub fn refuse(&mut self, refusal: Refusal) -> u8
+    pub fn refuse(&mut self, refusal: CommandRefusal) -> u8
         ensures status { result ≡ 1 }
         ensures written { self.new.failed ≡ false → (self.old.failed ≡ false)
             × Appends (W.contents self.old.writer) (W.contents self.new.writer) (refusal_line refusal) }

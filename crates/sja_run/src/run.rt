@@ -6,12 +6,12 @@ ghost use Rattle.sja_run.specs.Run.{IsRunning, RefusesRun};
 use super::input::plan_of_input;
 use sja_report::report;
 use sja_serial::run_serial;
-use sja_texts::Refusal;
+use sja_texts::CommandRefusal;
 use std::alloc::Global;
 use std::io::Read;
 
 /// The report of a run in one thread of the plan that the bytes of the input are.
-pub fn reported<R: Read>(alloc: Global, input: &mut R) -> Result<Vec<u8>, Refusal>
+pub fn reported<R: Read>(alloc: Global, input: &mut R) -> Result<Vec<u8>, CommandRefusal>
     ensures ok { IfOk result (λ text. IsRunning (R.remaining input.old) (R.remaining input.new) text.items) }
     ensures err { IfErr result (RefusesRun (R.remaining input.old) (R.remaining input.new)) }
 {

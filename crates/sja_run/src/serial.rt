@@ -7,7 +7,7 @@ ghost use Rattle.sja_run.specs.Input.{ReadsFew};
 
 use super::answer::printed;
 use super::output::Output;
-use sja_texts::Refusal;
+use sja_texts::CommandRefusal;
 use sja_words::{Task, WordsFault, parse};
 use std::alloc::Global;
 use std::convert::AsStr;
@@ -52,7 +52,7 @@ pub fn sja_serial<S: AsStr, R: Read, O: Write, E: Write>(
     match parse(alloc, words) {
         Ok(task) if is_threaded(&task) => None,
         Ok(task) => Some(reply(alloc, task, input, out, err)),
-        Err(WordsFault::OutOfMemory) => Some(err.refuse(Refusal::OutOfMemory)),
+        Err(WordsFault::OutOfMemory) => Some(err.refuse(CommandRefusal::OutOfMemory)),
         Err(WordsFault::Unparsed(text)) => Some(err.turn_away(text.as_bytes())),
     }
 }

@@ -6,7 +6,7 @@ ghost use Rattle.sja_run.specs.ThreadedRun.{IsRunningThreads, RefusesThreads};
 use super::input::plan_of_input;
 use super::tries::Tries;
 use sja_report::report;
-use sja_texts::Refusal;
+use sja_texts::CommandRefusal;
 use sja_threads::run_threads;
 use std::alloc::{AllocError, Global};
 use std::io::Read;
@@ -19,7 +19,7 @@ pub fn reported_threads<T: Threads + Wait + Sync, R: Read>(
     rt: &T,
     alloc: Global,
     input: &mut R,
-) -> Result<Vec<u8>, Refusal>
+) -> Result<Vec<u8>, CommandRefusal>
     ensures ok { IfOk result (λ text. IsRunningThreads (R.remaining input.old) (R.remaining input.new) text.items) }
     ensures err { IfErr result (RefusesThreads (R.remaining input.old) (R.remaining input.new)) }
 {

@@ -6,13 +6,13 @@ ghost use Rattle.sja_run.specs.Wave.{IsWaving};
 
 use super::input::plan_of_input;
 use sja_serial::run_serial;
-use sja_texts::Refusal;
+use sja_texts::CommandRefusal;
 use sja_wave::wave;
 use std::alloc::Global;
 use std::io::Read;
 
 /// The waveform of a run in one thread of the plan that the bytes of the input are.
-pub fn waved<R: Read>(alloc: Global, input: &mut R) -> Result<Vec<u8>, Refusal>
+pub fn waved<R: Read>(alloc: Global, input: &mut R) -> Result<Vec<u8>, CommandRefusal>
     ensures ok { IfOk result (λ text. IsWaving (R.remaining input.old) (R.remaining input.new) text.items) }
     ensures err { IfErr result (RefusesRun (R.remaining input.old) (R.remaining input.new)) }
 {

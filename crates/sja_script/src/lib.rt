@@ -7,6 +7,7 @@
 
 mod done;
 mod fault_script;
+mod nodes;
 mod refusal;
 mod step;
 mod step_answer;
@@ -14,6 +15,7 @@ mod strike;
 
 pub use done::Done;
 pub use fault_script::FaultScript;
+pub use nodes::MOST_NODES;
 pub use refusal::Refusal;
 pub use step::Step;
 pub use step_answer::StepAnswer;

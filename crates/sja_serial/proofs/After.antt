@@ -7,7 +7,7 @@ use Rattle.sja_link.specs.declared.entry.Entry.TheVariants.{Up as Item}
 use Rattle.sja_link.specs.Gathering.{total}
 use Rattle.sja_link.specs.Looking.{one_if}
 use Rattle.sja_link.specs.Picking.{EachAfter}
-use Rattle.sja_link.specs.Places.{Place, past, place_of}
+use Rattle.sja_link.specs.Places.{JournalPlace, past, place_of}
 use Rattle.sja_link.specs.World.{is_send}
 use Rattle.sja_link.proofs.Entering.{place_push}
 use Rattle.sja_link.proofs.Freeing.{total_push}
@@ -94,7 +94,7 @@ level_item : (j : List Entry) (deeds : List Deed) (d : Deed) (u : Up) (more_stop
 level_item j deeds d u more_stops now gave at st act sum h =
     let more = opened_push deeds d in let e = h.ended in
     let place : (place_of (j ++ Item u ∷ [])).activation ≡ (past (place_of j) (Item u)).activation =
-    ap (λ (p : Place). p.activation) (place_push j (Item u)) in
+    ap (λ (p : JournalPlace). p.activation) (place_push j (Item u)) in
     let pushed = stops_push j u in
     let is : one_if (is_active (deeds ++ d ∷ [])) ≡ one_if now = ap one_if (active_push false deeds d ∙ act) in
     let s = asked_more deeds d in let z : total is_send d.gave ≡ is_send u + 0 = ap (total is_send) gave in let a =

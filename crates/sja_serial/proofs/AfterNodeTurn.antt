@@ -29,7 +29,7 @@ use Rattle.sja_serial.specs.Ending.{progress}
 use Rattle.sja_serial.specs.Serial.{SerialValue, StandsAt}
 use Rattle.sja_driver.specs.Deeds.{deeds_at}
 use Rattle.sja_plan.specs.Plan.{steps_at}
-use Rattle.sja_serial.specs.Serial.{with_deeds, TakesTurn, IsStuck as IsStuckNow}
+use Rattle.sja_serial.specs.Serial.{with_deeds, TakesTurn, HasToWait as IsStuckNow}
 use Rattle.sja_serial.specs.Waiting.{HasToWait}
 use Rattle.sja_serial.proofs.GoingOn.{acts_of, GoesOn, ArePresent, length_at, lengths_set}
 use Rattle.sja_serial.proofs.GoingOn.{deeds_then, first_driver, record_then, window_then, off_then}

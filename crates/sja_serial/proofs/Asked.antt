@@ -16,7 +16,7 @@ use Rattle.sja_link.specs.Gathering.{gathered}
 use Rattle.sja_link.specs.Looking.{off_among}
 use Rattle.sja_link.specs.Parts.{in_part, entry_at}
 use Rattle.sja_link.specs.Carried.{put_in, put_of}
-use Rattle.sja_link.specs.Places.{Place, first_place, past, past_all, placed_from, place_of}
+use Rattle.sja_link.specs.Places.{JournalPlace, first_place, past, past_all, placed_from, place_of}
 use Rattle.sja_link.specs.Records.{told, record_of}
 use Rattle.sja_link.specs.Verdicts.{IsLawful}
 use Rattle.sja_link.proofs.Entering.{record_push, gathered_append}
@@ -35,7 +35,7 @@ off_kept (Message m ∷ xs) = off_kept xs
 off_kept (OffDown ∷ xs) = off_kept xs
 
 -- the activation never falls
-rises : (p : Place) (e : Entry) → p.activation ≤ (past p e).activation
+rises : (p : JournalPlace) (e : Entry) → p.activation ≤ (past p e).activation
 rises p (Bit driven seen) = omega arith
 rises p (Item (StartItem config)) = omega arith
 rises p (Item (Credit n)) = omega arith
@@ -46,19 +46,19 @@ rises p (Stored m) = omega arith
 rises p (Overrun m) = omega arith
 rises p Off = omega arith
 
-all_rise : (p : Place) (es : List Entry) → p.activation ≤ (past_all p es).activation
+all_rise : (p : JournalPlace) (es : List Entry) → p.activation ≤ (past_all p es).activation
 all_rise p [] = omega arith
 all_rise p (e ∷ es) = let a = rises p e in let b = all_rise (past p e) es in omega (arith, a, b)
 
 -- what was put among these entries in the activation that they end in
-abbrev put_last : Place → List Entry → List Down
+abbrev put_last : JournalPlace → List Entry → List Down
 put_last p es = put_of (gathered (in_part entry_at (past_all p es).activation) (placed_from p es))
 
 -- it stood before, in the same activation, or is among them
-abbrev Known : Place → List Entry → Type 0
+abbrev Known : JournalPlace → List Entry → Type 0
 Known p es = ((p.off ≡ true) × ((past_all p es).activation ≡ p.activation)) ⊎ (off_among false (put_last p es) ≡ true)
 
-more_known : (p : Place) (e : Entry) (es : List Entry) (a : ℕ) →
+more_known : (p : JournalPlace) (e : Entry) (es : List Entry) (a : ℕ) →
     off_among false (put_of (gathered (in_part entry_at a) (placed_from (past p e) es))) ≡ true →
     off_among false (put_of (gathered (in_part entry_at a) (placed_from p (e ∷ es)))) ≡ true
 more_known p e es a h =
@@ -72,12 +72,12 @@ more_known p e es a h =
     over true = off_kept (put_of (gathered (in_part entry_at a) (placed_from (past p e) es)))
     over false = h
 
-same_known : (p : Place) (e : Entry) (es : List Entry) → (past p e).off ≡ p.off → (past p e).activation ≡ p.activation →
+same_known : (p : JournalPlace) (e : Entry) (es : List Entry) → (past p e).off ≡ p.off → (past p e).activation ≡ p.activation →
     Known (past p e) es → Known p (e ∷ es)
 same_known p e es off act (inl before) = inl (sym off ∙ before.0, before.1 ∙ act)
 same_known p e es off act (inr among) = inr (more_known p e es (past_all (past p e) es).activation among)
 
-known_from : (p : Place) (es : List Entry) → (past_all p es).off ≡ true → Known p es
+known_from : (p : JournalPlace) (es : List Entry) → (past_all p es).off ≡ true → Known p es
 known_from p [] h = inl (h, refl)
 known_from p (Bit driven seen ∷ es) h =
     same_known p (Bit driven seen) es refl refl (known_from (past p (Bit driven seen)) es h)

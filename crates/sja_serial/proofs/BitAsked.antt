@@ -8,7 +8,7 @@ use Rattle.can_node.specs.declared.bit_events.BitEvents.{BitEvents}
 use Rattle.can_node.specs.Bits.{Bit as Levels}
 use Rattle.can_node.specs.Context.{ContextValue, is_held}
 use Rattle.can_node.specs.Pieces.{Place}
-use Rattle.can_node.specs.Record.Entry.{OneBit as Took}
+use Rattle.can_node.specs.Record.RecordEntry.{OneBit as Took}
 use Rattle.can_node.specs.Effects.{is_in_progress, with_abort}
 use Rattle.can_node.specs.Events.{stepped, ended_in}
 use Rattle.can_node.specs.FinishedPieces.{FinishedPiece, counted, none_yet}
@@ -20,7 +20,7 @@ use Rattle.sja_link.specs.declared.verdict.Verdict.{Verdict}
 use Rattle.sja_link.specs.declared.verdict.Verdict.TheVariants.{Stored as ToStore, Overrun as ToLose}
 use Rattle.sja_link.specs.declared.entry.Entry.{Entry}
 use Rattle.sja_link.specs.declared.entry.Entry.TheVariants.{Bit, Abort, Stored, Overrun, Off}
-use Rattle.sja_link.specs.Places.{Place as Point, past, place_of}
+use Rattle.sja_link.specs.Places.{JournalPlace as Point, past, place_of}
 use Rattle.sja_link.specs.Records.{record_of}
 use Rattle.sja_link.proofs.Entering.{record_push, place_push}
 use Rattle.sja_regs.specs.declared.bus_turn.BusTurn.{BusTurn}
@@ -37,7 +37,7 @@ use Rattle.sja_bus.proofs.Turning.{record_bit}
 use Rattle.sja_serial.specs.Asking.{IsAsked}
 use Rattle.sja_serial.proofs.OneMore.{bit_more, abort_more}
 use Rattle.sja_serial.proofs.OnceOff.{off_more}
-use Rattle.sja_serial.proofs.Requests.{Keeps, step_keeps, held_alike, ended_is}
+use Rattle.sja_serial.proofs.Requests.{KeepsRequest, step_keeps, held_alike, ended_is}
 
 -- a journal whose record has a cut
 pub record HasCut (j : List Entry) : Type 0 where
@@ -87,18 +87,18 @@ opened_as untold j k driven seen bit none = bit.opens.aborts.whole
 -- it is the one before it with its mark, or it ended
 pub bit_keeps : (j k : List Entry) (driven seen : Level) (bit : HasBit j driven seen k)
     (found others : List FinishedPiece) (h : IsCut (record_of j) found) (c : IsCut (record_of k) others) →
-    Keeps (now_in h) (now_in c)
+    KeepsRequest (now_in h) (now_in c)
 bit_keeps j k driven seen bit found others h c = by bit.off (record_bit j k driven seen bit)
   where
     by : (off : Bool) → record_of k ≡
-        (record_of j ++ Took (record { driven = driven; seen = seen }) ∷ []) ++ off_left off → Keeps (now_in h)
+        (record_of j ++ Took (record { driven = driven; seen = seen }) ∷ []) ++ off_left off → KeepsRequest (now_in h)
         (now_in c)
     by true e = inl
         (off_more (record_of j ++ Took (record { driven = driven; seen = seen }) ∷ []) (record_of k) others c e)
     by false e =
         let b : Levels = record { driven = driven; seen = seen } in
         let m = bit_more (record_of j) (record_of k) found others b h c (e ∙ append-nil (record_of j ++ Took b ∷ [])) in
-        let P : ContextValue → Type 0 = λ d. Keeps (now_in h) d in
+        let P : ContextValue → Type 0 = λ d. KeepsRequest (now_in h) d in
         subst P (sym m.is) (step_keeps m.step (now_in h) h.place (open_bits h) b)
 
 -- none is held exactly where the node went bus-off in the bit, or the bit tells its end, or none was held before it

@@ -17,7 +17,7 @@ use Rattle.sja_link.specs.declared.up.Up.TheVariants.{Start, Credit, Send, Stop}
 use Rattle.sja_link.specs.declared.entry.Entry.{Entry}
 use Rattle.sja_link.specs.declared.entry.Entry.TheVariants.{Bit, Up as Item, Abort, Stored, Overrun, Off}
 use Rattle.sja_link.specs.Gathering.{gathered, total}
-use Rattle.sja_link.specs.Places.{Place as Point, first_place, past, past_all, place_of, placed_from}
+use Rattle.sja_link.specs.Places.{JournalPlace as Point, first_place, past, past_all, place_of, placed_from}
 use Rattle.sja_link.specs.Records.{told, told_at, record_of}
 use Rattle.sja_link.proofs.Entering.{record_push, record_counted}
 use Rattle.sja_link.proofs.Freeing.{total_append, total_push}
@@ -34,7 +34,7 @@ use Rattle.sja_driver.specs.Deeds.{Deed}
 use Rattle.sja_serial.specs.Counted.{item_in, verdict_in, off_in, abort_in, asks_by, changes_left, pending, off_left, IsCounted}
 use Rattle.sja_serial.proofs.OneMore.{abort_more}
 use Rattle.sja_serial.proofs.OnceOff.{is_off, is_off_both, offs, offs_both, left, off_once}
-use Rattle.sja_serial.proofs.Requests.{Keeps}
+use Rattle.sja_serial.proofs.Requests.{KeepsRequest}
 use Rattle.sja_serial.proofs.BitAsked.{HasCut, place_abort, place_bit, opened_as, bit_keeps}
 
 -- ---- bus-off, of every journal whose record has a cut
@@ -107,7 +107,7 @@ of_judged f (Some (ToLose, m)) n most = let a = (most m).1 in omega (arith, a)
 -- ---- what an abort that stands can change still
 
 -- a bit adds nothing to it
-falls : (stood stands : Bool) (c d : ContextValue) → (stands ≡ true → stood ≡ true) → Keeps c d →
+falls : (stood stands : Bool) (c d : ContextValue) → (stands ≡ true → stood ≡ true) → KeepsRequest c d →
     pending stands d ≤ pending stood c
 falls stood false c d h keeps = omega arith
 falls false true c d h keeps = let no : false ≡ true = h refl in absurd cc

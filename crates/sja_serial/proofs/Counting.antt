@@ -10,7 +10,7 @@ use Rattle.sja_link.specs.declared.up.Up.TheVariants.{Start as StartItem, Credit
 use Rattle.sja_link.specs.declared.entry.Entry.{Entry}
 use Rattle.sja_link.specs.declared.entry.Entry.TheVariants.{Up as Item}
 use Rattle.sja_link.specs.Gathering.{total}
-use Rattle.sja_link.specs.Places.{Place, past, place_of}
+use Rattle.sja_link.specs.Places.{JournalPlace, past, place_of}
 use Rattle.sja_link.specs.Records.{record_of}
 use Rattle.sja_link.specs.Verdicts.{IsLawful}
 use Rattle.sja_link.proofs.Entering.{place_push, record_push}
@@ -51,7 +51,7 @@ left_most : (off : Bool) → left_of off ≤ 1
 left_most true = omega arith
 left_most false = omega arith
 
-off_item : (p : Place) (u : Up) (offs : ℕ) → offs + left_of p.off ≤ p.activation + 1 →
+off_item : (p : JournalPlace) (u : Up) (offs : ℕ) → offs + left_of p.off ≤ p.activation + 1 →
     offs + left_of (past p (Item u)).off ≤ (past p (Item u)).activation + 1
 off_item p (StartItem config) offs h = let m = left_most p.off in omega (arith, h, m)
 off_item p (Credit n) offs h = h
@@ -85,17 +85,17 @@ module _ (j : List Entry) (deeds : List Deed) (d : Deed) (p q : Registers) (h : 
       let g = total_push gave_by deeds d in let one : length d.gave ≡ 1 = ap (λ (l : List Up). length l) gave in
       let i = h.items in let n = total_push item_in j (Item u) in
       let v = h.verdicts in let w = total_push verdict_in j (Item u) in
-      let bits = ap (λ (x : Place). x.bits) (place_push j (Item u)) ∙ same_bits (place_of j) u in
+      let bits = ap (λ (x : JournalPlace). x.bits) (place_push j (Item u)) ∙ same_bits (place_of j) u in
       let o = off_item (place_of j) u (total off_in j) h.offs in let t = total_push off_in j (Item u) in
-      let off = ap (λ (x : Place). left_of x.off) (place_push j (Item u)) in
-      let a = ap (λ (x : Place). x.activation) (place_push j (Item u)) in record {
+      let off = ap (λ (x : JournalPlace). left_of x.off) (place_push j (Item u)) in
+      let a = ap (λ (x : JournalPlace). x.activation) (place_push j (Item u)) in record {
         items = omega (arith, g, one, i, n);
         verdicts = omega (arith, v, w, bits);
         offs = omega (arith, o, t, off, a);
         aborts = aborts;
       }
     where
-      same_bits : (x : Place) (y : Up) → (past x (Item y)).bits ≡ x.bits
+      same_bits : (x : JournalPlace) (y : Up) → (past x (Item y)).bits ≡ x.bits
       same_bits x (StartItem config) = refl
       same_bits x (Credit n) = refl
       same_bits x (SendItem request) = refl

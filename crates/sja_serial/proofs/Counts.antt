@@ -5,7 +5,7 @@ use Rattle.std.proofs.lemmas.Bool.{cases_eq, eq-eqb, ne_eqb}
 use Rattle.std.proofs.lemmas.List.{length-append, length-map}
 use Rattle.sja_link.specs.declared.entry.Entry.{Entry}
 use Rattle.sja_link.specs.Gathering.{gathered}
-use Rattle.sja_link.specs.Places.{Place, first_place, past, Placed, placed_from}
+use Rattle.sja_link.specs.Places.{JournalPlace, first_place, past, Placed, placed_from}
 use Rattle.sja_link.specs.Parts.{in_part}
 use Rattle.sja_link.specs.Carried.{taken_in, taken_of}
 use Rattle.sja_driver.specs.Deeds.{Deed, opens_by, given_in, section_from}
@@ -112,12 +112,12 @@ deeds_label n (d ∷ ds) a = one (deeds_label (n + opens_by d) ds a) ((n + opens
 
 -- ---- what was taken
 
-abbrev entry_weights : Place → List Entry → List Weighed
+abbrev entry_weights : JournalPlace → List Entry → List Weighed
 entry_weights p [] = []
 entry_weights p (e ∷ es) = (record { label = (past p e).activation; weight = length (taken_in e) }) ∷ entry_weights
     (past p e) es
 
-entries_weigh : (p : Place) (es : List Entry) → weight_of (entry_weights p es) ≡ length (taken_of es)
+entries_weigh : (p : JournalPlace) (es : List Entry) → weight_of (entry_weights p es) ≡ length (taken_of es)
 entries_weigh p [] = refl
 entries_weigh p (e ∷ es) = ap (λ m. length (taken_in e) + m) (entries_weigh (past p e) es)
     ∙ sym (length-append (taken_in e) (taken_of es))
@@ -125,7 +125,7 @@ entries_weigh p (e ∷ es) = ap (λ m. length (taken_in e) + m) (entries_weigh (
 abbrev entry_times : Placed → List Timed
 entry_times q = map (timed q.before.bits) (taken_in q.entry)
 
-entries_label : (p : Place) (es : List Entry) (a : ℕ) →
+entries_label : (p : JournalPlace) (es : List Entry) (a : ℕ) →
     at_label (entry_weights p es) a ≡ length (gathered (in_part entry_times a) (placed_from p es))
 entries_label p [] a = refl
 entries_label p (e ∷ es) a = one (entries_label (past p e) es a) ((past p e).activation == a)

@@ -11,8 +11,8 @@ use Rattle.can_node.specs.Bits.{Bit, recessive_bits}
 use Rattle.can_node.specs.Context.{ContextValue, fresh, is_held}
 use Rattle.can_node.specs.Pieces.{Place, Piece}
 use Rattle.can_node.specs.Pieces.Place.{AtReset}
-use Rattle.can_node.specs.Record.{Entry}
-use Rattle.can_node.specs.Record.Entry.{Start, Stop, OneBit, Send, Abort, BusOff}
+use Rattle.can_node.specs.Record.{RecordEntry}
+use Rattle.can_node.specs.Record.RecordEntry.{Start, Stop, OneBit, Send, Abort, BusOff}
 use Rattle.can_node.specs.FinishedPieces.{FinishedPiece, Count, none_yet}
 use Rattle.can_node.specs.Effects.{along, keep_first, with_start}
 use Rattle.can_node.specs.Cut.{IsOpenAt, Move, From, IsCut}
@@ -31,7 +31,7 @@ use Rattle.can_node.proofs.OneCut.Through.{Through, goes_through}
 -- ---- a record without entries
 
 -- the context is the one before it
-now_empty : {k : Count} {c end : ContextValue} {place last : Place} {entries rest : List Entry}
+now_empty : {k : Count} {c end : ContextValue} {place last : Place} {entries rest : List RecordEntry}
     {found : List FinishedPiece} → From k c place entries found end last rest → entries ≡ [] →
     along end last [] rest ≡ c
 now_empty {c = c} {place = place} (here opened stays) e = ap (along c place []) e
@@ -43,7 +43,7 @@ now_empty {c = c} {place = place} (on {next = next} {site = site} {entries = fir
 pub now_first : (found : List FinishedPiece) (cut : IsCut [] found) → now_in cut ≡ fresh
 now_first found cut = now_empty cut.from refl
 
-place_empty : {k : Count} {c end : ContextValue} {place last : Place} {entries rest : List Entry}
+place_empty : {k : Count} {c end : ContextValue} {place last : Place} {entries rest : List RecordEntry}
     {found : List FinishedPiece} → From k c place entries found end last rest → entries ≡ [] → last ≡ place
 place_empty (here opened stays) e = refl
 place_empty {c = c} {place = place} (on {next = next} {site = site} {entries = first} {more = more} {ps = ps} move from)
@@ -61,8 +61,8 @@ none_held_first found cut = ap (λ (c : ContextValue). is_held c.held) (now_empt
 -- ---- one entry after what is open
 
 -- a move from there ends among what is open, or with that entry
-whole_or_front : (first more slice : List Entry) (e : Entry) → first ++ more ≡ slice ++ e ∷ [] →
-    ((x : List Entry) × (slice ≡ first ++ x)) ⊎ ((first ≡ slice ++ e ∷ []) × (more ≡ []))
+whole_or_front : (first more slice : List RecordEntry) (e : RecordEntry) → first ++ more ≡ slice ++ e ∷ [] →
+    ((x : List RecordEntry) × (slice ≡ first ++ x)) ⊎ ((first ≡ slice ++ e ∷ []) × (more ≡ []))
 whole_or_front first more slice e same = elim (last_of more) [
   | inl none ↦ inr (sym (append-nil first) ∙ ap (λ l. first ++ l) (sym none) ∙ same, none)
   | inr some ↦
@@ -72,7 +72,7 @@ whole_or_front first more slice e same = elim (last_of more) [
 ]
 
 -- which entry it ends with
-last_is : (before slice : List Entry) (x e : Entry) (first : List Entry) → first ≡ before ++ x ∷ [] →
+last_is : (before slice : List RecordEntry) (x e : RecordEntry) (first : List RecordEntry) → first ≡ before ++ x ∷ [] →
     first ≡ slice ++ e ∷ [] → x ≡ e
 last_is before slice x e first is whole = (same_from_push before slice x e (sym is ∙ whole)).1
 
@@ -101,12 +101,12 @@ any_sent None request = refl
 any_sent (Some other) request = refl
 
 -- a request leaves one held
-sent_from : {k : Count} {c end : ContextValue} {place last : Place} {entries rest : List Entry}
-    {found : List FinishedPiece} (slice : List Entry) (request : Request) →
+sent_from : {k : Count} {c end : ContextValue} {place last : Place} {entries rest : List RecordEntry}
+    {found : List FinishedPiece} (slice : List RecordEntry) (request : Request) →
     From k c place entries found end last rest → entries ≡ slice ++ Send request ∷ [] → IsOpenAt c place slice →
     is_held (along end last [] rest).held ≡ true
 sent_from {c = c} {place = place} slice request (here opened stays) e open_now =
-    ap (λ (l : List Entry). is_held (along c place [] l).held) e
+    ap (λ (l : List RecordEntry). is_held (along c place [] l).held) e
     ∙ ap (λ (d : ContextValue). is_held d.held) (along_both c place [] slice (Send request ∷ []))
     ∙ any_sent (along c place [] slice).held request
 sent_from {c = c} {place = place} slice request
@@ -116,7 +116,7 @@ sent_from {c = c} {place = place} slice request
       | inr both ↦ ap (λ (d : ContextValue). is_held d.held) (now_empty from both.1) ∙ by move both.0
     ]
   where
-    by : {c next : ContextValue} {place site : Place} {first : List Entry} {ps : List Piece} →
+    by : {c next : ContextValue} {place site : Place} {first : List RecordEntry} {ps : List Piece} →
         Move c place first ps next site → first ≡ slice ++ Send request ∷ [] → is_held next.held ≡ true
     by (piece s is row stays) w =
         let x = last_is is.ends.before slice (OneBit is.ends.bit) (Send request) s is.ends.whole w in absurd cc
@@ -131,8 +131,8 @@ sent_from {c = c} {place = place} slice request
         let x = last_is s slice BusOff (Send request) (s ++ BusOff ∷ []) refl w in absurd cc
 
 -- a stop leaves none
-stopped_from : {k : Count} {c end : ContextValue} {place last : Place} {entries rest : List Entry}
-    {found : List FinishedPiece} (slice : List Entry) →
+stopped_from : {k : Count} {c end : ContextValue} {place last : Place} {entries rest : List RecordEntry}
+    {found : List FinishedPiece} (slice : List RecordEntry) →
     From k c place entries found end last rest → entries ≡ slice ++ Stop ∷ [] → IsOpenAt c place slice →
     is_held (along end last [] rest).held ≡ false
 stopped_from {entries = entries} slice (here opened stays) e open_now =
@@ -144,7 +144,7 @@ stopped_from {c = c} {place = place} slice
       | inr both ↦ ap (λ (d : ContextValue). is_held d.held) (now_empty from both.1) ∙ by move both.0
     ]
   where
-    by : {c next : ContextValue} {place site : Place} {first : List Entry} {ps : List Piece} →
+    by : {c next : ContextValue} {place site : Place} {first : List RecordEntry} {ps : List Piece} →
         Move c place first ps next site → first ≡ slice ++ Stop ∷ [] → is_held next.held ≡ false
     by (piece s is row stays) w =
         let x = last_is is.ends.before slice (OneBit is.ends.bit) Stop s is.ends.whole w in absurd cc
@@ -157,8 +157,8 @@ stopped_from {c = c} {place = place} slice
     by (off_after s before b whole stays is row full) w = refl
 
 -- a start leaves what was held
-started_from : {k : Count} {c end : ContextValue} {place last : Place} {entries rest : List Entry}
-    {found : List FinishedPiece} (slice : List Entry) (config : Config) →
+started_from : {k : Count} {c end : ContextValue} {place last : Place} {entries rest : List RecordEntry}
+    {found : List FinishedPiece} (slice : List RecordEntry) (config : Config) →
     From k c place entries found end last rest → entries ≡ slice ++ Start config ∷ [] → IsOpenAt c place slice →
     is_held (along end last [] rest).held ≡ is_held (along c place [] slice).held
 started_from {entries = entries} slice config (here opened stays) e open_now =
@@ -170,7 +170,7 @@ started_from {c = c} {place = place} slice config
       | inr both ↦ ap (λ (d : ContextValue). is_held d.held) (now_empty from both.1) ∙ by move both.0 open_now
     ]
   where
-    by : {c next : ContextValue} {place site : Place} {first : List Entry} {ps : List Piece} →
+    by : {c next : ContextValue} {place site : Place} {first : List RecordEntry} {ps : List Piece} →
         Move c place first ps next site → first ≡ slice ++ Start config ∷ [] → IsOpenAt c place slice →
         is_held next.held ≡ is_held (along c place [] slice).held
     by (piece s is row stays) w o =
@@ -181,7 +181,7 @@ started_from {c = c} {place = place} slice config
     by {c = c} (started other l) w o =
         let r = rest_open o in
         start_keeps other c ∙ ap (λ (d : ContextValue). is_held d.held) (sym (along_rest c [] r.0))
-        ∙ ap (λ (x : List Entry). is_held (along c AtReset [] x).held) (sym r.1)
+        ∙ ap (λ (x : List RecordEntry). is_held (along c AtReset [] x).held) (sym r.1)
     by (stopped s opened stays) w o = let x = last_is s slice Stop (Start config) (s ++ Stop ∷ []) refl w in absurd cc
     by (off_within s before b whole stays is unfinished full) w o =
         let x = last_is s slice BusOff (Start config) (s ++ BusOff ∷ []) refl w in absurd cc
@@ -190,8 +190,8 @@ started_from {c = c} {place = place} slice config
 
 -- ---- a whole record with an entry more, whose front has this cut
 
-module _ (entries : List Entry) (found others : List FinishedPiece) (h : IsCut entries found) where
-  through : (e : Entry) (k : IsCut (entries ++ e ∷ []) others) →
+module _ (entries : List RecordEntry) (found others : List FinishedPiece) (h : IsCut entries found) where
+  through : (e : RecordEntry) (k : IsCut (entries ++ e ∷ []) others) →
       Through none_yet entries found h.context h.place h.rest (e ∷ []) others k.context k.place k.rest
   through e k =
       goes_through none_yet fresh h.context k.context AtReset h.place k.place entries (entries ++ e ∷ []) h.rest

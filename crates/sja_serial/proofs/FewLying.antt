@@ -99,13 +99,13 @@ all_messages p got down on put =
 
 -- ---- all together: what was put and isn't released fits in 64 bytes
 
-pub few_lying : (j : List Entry) (a : ℕ) (frames : List ReceivedFrame) (deeds : List Deed) (got down : List Down)
+pub few_left_down : (j : List Entry) (a : ℕ) (frames : List ReceivedFrame) (deeds : List Deed) (got down : List Down)
     (up : List Up) (released window : List (List ℕ)) → HasVerdicts j frames → (HasOff (part j a) → ⊥) →
     put_of (part j a) ≡ got ++ down → Holds got released window →
     given_in (deeds_of deeds a) ≡ taken_of (part j a) ++ up →
     EachAfter (λ b (d : Deed). Gives d.step d.answer d.gave) [] deeds →
     released_lengths (deeds_of deeds a) ≡ map (λ (m : List ℕ). length m) released → length down ≤ 21
-few_lying j a frames deeds got down up released window verdicts on put holds given gives lengths =
+few_left_down j a frames deeds got down up released window verdicts on put holds given gives lengths =
     let driver : Account = record { got = got; given = [] } in
     let all : released ++ (window ++ messages down) ≡ stored_of (part j a) =
     told_stored j a driver down released window put holds in

@@ -13,7 +13,7 @@ use Rattle.sja_link.specs.Gathering.{total}
 use Rattle.sja_link.specs.Lists.{messages}
 use Rattle.sja_link.specs.Looking.{off_among}
 use Rattle.sja_link.specs.Picking.{EachAfter}
-use Rattle.sja_link.specs.Places.{Place, past, place_of}
+use Rattle.sja_link.specs.Places.{JournalPlace, past, place_of}
 use Rattle.sja_link.specs.Carried.{taken_in}
 use Rattle.sja_link.specs.World.{is_send}
 use Rattle.sja_link.proofs.Entering.{place_push}
@@ -33,14 +33,14 @@ use Rattle.sja_regs.specs.Registers.{at_power_on}
 
 -- ---- places
 
-item_bits : (p : Place) (u : Up) → (past p (Item u)).bits ≡ p.bits
+item_bits : (p : JournalPlace) (u : Up) → (past p (Item u)).bits ≡ p.bits
 item_bits p (StartItem config) = refl
 item_bits p (Credit n) = refl
 item_bits p (SendItem request) = refl
 item_bits p StopItem = refl
 
 pub bits_same : (j : List Entry) (u : Up) → (place_of (j ++ Item u ∷ [])).bits ≡ (place_of j).bits
-bits_same j u = ap (λ (p : Place). p.bits) (place_push j (Item u)) ∙ item_bits (place_of j) u
+bits_same j u = ap (λ (p : JournalPlace). p.bits) (place_push j (Item u)) ∙ item_bits (place_of j) u
 
 pub stops_push : (j : List Entry) (u : Up) → stops_of (j ++ Item u ∷ []) ≡ stops_of j + stops_in (Item u)
 stops_push j u = total_push stops_in j (Item u)

@@ -40,7 +40,7 @@ pub mod Bit
 pub mod BitRun
 pub mod StillBits
 pub mod AtOnce
-pub mod FewLying
+pub mod FewLeftDown
 pub mod Unstopped
 pub mod SomeBits
 pub mod ManyBits

@@ -12,12 +12,12 @@ use Rattle.sja_bus.specs.declared.serial_board.SerialBoard.{SerialBoard}
 use Rattle.sja_bus.specs.Boards.{HasOrders, ShowsTurn, WasTold, WasClosed, WasKept}
 use Rattle.sja_wire.specs.Lawful.{IsBusRun}
 use Rattle.sja_bus.specs.Moment.{Moment, OneBit}
-use Rattle.sja_bus.specs.Several.{AllRest as AllAtRest, BitInOrder, AreBits, WorksIf, BreaksOff}
+use Rattle.sja_bus.specs.Several.{AllRestIn as AllAtRest, BitInOrder, AreBits, WorksIf, BreaksOff}
 use Rattle.sja_bus.specs.Several.AreBits.{no_bit as none_run, one_more as one_run}
 use Rattle.sja_plan.specs.Plan.{PlanValue, IsInLimits}
 use Rattle.sja_driver.specs.declared.logged_driver.LoggedDriver.{LoggedDriver}
 use Rattle.sja_driver.specs.Deeds.{Deed}
-use Rattle.sja_serial.specs.Bits.{TakesBit, TakesBits, AllRest, SomeWorks}
+use Rattle.sja_serial.specs.Bits.{TakesBit, TakesBits, AllRestIn, SomeWorks}
 use Rattle.sja_serial.specs.Bits.TakesBits.{no_bit, one_more}
 use Rattle.sja_serial.specs.Serial.{SerialValue, StandsAt, IsRunOf, run_now}
 use Rattle.sja_serial.proofs.BitRun.{cuts_of, takes_bit}
@@ -157,11 +157,11 @@ module _ (plan : PlanValue) (drivers : List LoggedDriver) (was : SerialMoment) (
 
     -- there were as many as were asked for, or as are left, or every node is at rest
     pub busy_whole : (many ≡ most) ⊎ (now.bus.left ≡ 0) ⊎ ((true ≡ true) × AllAtRest now.bus.journals) →
-        (many ≡ count) ⊎ (plan.bits ≤ n.bits) ⊎ AllRest plan n
+        (many ≡ count) ⊎ (plan.bits ≤ n.bits) ⊎ AllRestIn plan n
     busy_whole whole =
         let t = there_still plan run.0 drivers (WorksIf true) was now many are (there run.0 run.1) in
         let ran = t.stands.all_bits in let e = bits_now in let w = within in
-        subst (λ (x : SerialValue). (many ≡ count) ⊎ (plan.bits ≤ x.bits) ⊎ AllRest plan x) now_is (elim whole [
+        subst (λ (x : SerialValue). (many ≡ count) ⊎ (plan.bits ≤ x.bits) ⊎ AllRestIn plan x) now_is (elim whole [
           | inl same ↦ elim (cases_lt count (plan.bits - bits)) [
             | inl more ↦ inl (omega (arith, same, most_is, more))
             | inr all ↦ inr (inl (omega (arith, same, most_is, w, all, e)))

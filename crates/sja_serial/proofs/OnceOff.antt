@@ -8,8 +8,8 @@ use Rattle.can_node.specs.Bits.{Bit}
 use Rattle.can_node.specs.Context.{ContextValue, fresh}
 use Rattle.can_node.specs.Pieces.{Place, Piece}
 use Rattle.can_node.specs.Pieces.Place.{AtReset}
-use Rattle.can_node.specs.Record.{Entry, Inner}
-use Rattle.can_node.specs.Record.Entry.{Start, Stop, OneBit, Send, Abort, BusOff}
+use Rattle.can_node.specs.Record.{RecordEntry, Inner}
+use Rattle.can_node.specs.Record.RecordEntry.{Start, Stop, OneBit, Send, Abort, BusOff}
 use Rattle.can_node.specs.Record.Inner.{none_left, samples, sends, aborts}
 use Rattle.can_node.specs.Effects.{along}
 use Rattle.can_node.specs.FinishedPieces.{FinishedPiece, Count, counted, counted_one, none_yet}
@@ -29,12 +29,12 @@ use Rattle.sja_serial.proofs.OneMore.{none_more}
 
 -- ---- after bus-off no request is held
 
-no_off_between : (c next : ContextValue) (place : Place) (entry : Entry) → Between c place entry next → entry ≡ BusOff →
+no_off_between : (c next : ContextValue) (place : Place) (entry : RecordEntry) → Between c place entry next → entry ≡ BusOff →
     ⊥
 no_off_between c next place entry (send request) e = cc
 no_off_between c next place entry abort e = cc
 
-closed_off : (c next : ContextValue) (slice : List Entry) (place site : Place) (entry : Entry) (ps : List Piece) →
+closed_off : (c next : ContextValue) (slice : List RecordEntry) (place site : Place) (entry : RecordEntry) (ps : List Piece) →
     Closing c slice place entry ps next site →
     entry ≡ BusOff → next.held ≡ None
 closed_off c next slice place site entry ps (by_start config) e = absurd cc
@@ -42,7 +42,7 @@ closed_off c next slice place site entry ps (by_stop opened) e = refl
 closed_off c next slice place site entry ps (by_off unfinished) e = refl
 closed_off c next slice place site entry ps (by_off_after is row full) e = refl
 
-way_off : (c next : ContextValue) (place site : Place) (before entries : List Entry) (ps : List Piece) →
+way_off : (c next : ContextValue) (place site : Place) (before entries : List RecordEntry) (ps : List Piece) →
     Way c place entries ps next site → entries ≡ before ++ BusOff ∷ [] →
     next.held ≡ None
 way_off c next place site before entries ps (finishes s h row on_bus) e =
@@ -53,7 +53,7 @@ way_off c next place site before entries ps (comes entry between) e =
 way_off c next place site before entries ps (closes s entry part out closing) e =
     closed_off c next s place site entry ps closing (same_from_push s before entry BusOff e).1
 
-off_last : (k : Count) (c end : ContextValue) (place last : Place) (before entries rest : List Entry)
+off_last : (k : Count) (c end : ContextValue) (place last : Place) (before entries rest : List RecordEntry)
     (found : List FinishedPiece) →
     From k c place entries found end last rest → entries ≡ before ++ BusOff ∷ [] → (along end last [] rest).held ≡ None
 off_last k c end place last before entries rest found (here opened stays) e =
@@ -74,14 +74,14 @@ off_last k c end place last before entries rest found
     ]
 
 -- right after bus-off the node holds no request
-pub off_more : (before all : List Entry) (others : List FinishedPiece) (k : IsCut all others) →
+pub off_more : (before all : List RecordEntry) (others : List FinishedPiece) (k : IsCut all others) →
     all ≡ before ++ BusOff ∷ [] → (now_in k).held ≡ None
 off_more before all others k e = off_last none_yet fresh k.context AtReset k.place before all k.rest others k.from e
 
 -- ---- how often
 
 -- whether bus-off came since the last start
-abbrev off_after : Bool → Entry → Bool
+abbrev off_after : Bool → RecordEntry → Bool
 off_after b (Start config) = false
 off_after b BusOff = true
 off_after b (OneBit bit) = b
@@ -89,11 +89,11 @@ off_after b (Send request) = b
 off_after b Abort = b
 off_after b Stop = b
 
-abbrev pub is_off : Bool → List Entry → Bool
+abbrev pub is_off : Bool → List RecordEntry → Bool
 is_off b [] = b
 is_off b (x ∷ xs) = is_off (off_after b x) xs
 
-abbrev off_one : Entry → ℕ
+abbrev off_one : RecordEntry → ℕ
 off_one BusOff = 1
 off_one (Start config) = 0
 off_one (OneBit bit) = 0
@@ -101,28 +101,28 @@ off_one (Send request) = 0
 off_one Abort = 0
 off_one Stop = 0
 
-abbrev pub offs : List Entry → ℕ
+abbrev pub offs : List RecordEntry → ℕ
 offs [] = 0
 offs (x ∷ xs) = off_one x + offs xs
 
 abbrev pub left : Bool → ℕ
 left b = if b then 0 else 1
 
-pub is_off_both : (b : Bool) (xs ys : List Entry) → is_off b (xs ++ ys) ≡ is_off (is_off b xs) ys
+pub is_off_both : (b : Bool) (xs ys : List RecordEntry) → is_off b (xs ++ ys) ≡ is_off (is_off b xs) ys
 is_off_both b [] ys = refl
 is_off_both b (x ∷ xs) ys = is_off_both (off_after b x) xs ys
 
-pub offs_both : (xs ys : List Entry) → offs (xs ++ ys) ≡ offs xs + offs ys
+pub offs_both : (xs ys : List RecordEntry) → offs (xs ++ ys) ≡ offs xs + offs ys
 offs_both [] ys = omega arith
 offs_both (x ∷ xs) ys = let h = offs_both xs ys in omega (arith, h)
 
 -- within a piece it doesn't come
-record IsQuiet (k : Count) (b : Bool) (l : List Entry) : Type 0 where
+record IsQuiet (k : Count) (b : Bool) (l : List RecordEntry) : Type 0 where
   pub same : is_off b l ≡ b
   pub none : offs l ≡ 0
   pub starts : (counted k l).starts ≡ k.starts
 
-quiet_inner : (k : Count) (b : Bool) (l : List Entry) → Inner l → IsQuiet k b l
+quiet_inner : (k : Count) (b : Bool) (l : List RecordEntry) → Inner l → IsQuiet k b l
 quiet_inner k b l none_left = record { same = refl; none = refl; starts = refl }
 quiet_inner k b l (samples {entries = xs} bit h) =
     let q = quiet_inner (counted_one k (OneBit bit)) b xs h in
@@ -135,11 +135,11 @@ quiet_inner k b l (aborts {entries = xs} h) =
     record { same = q.same; none = let n = q.none in omega (arith, n); starts = q.starts }
 
 -- entries after which the count is right where it was before, and after bus-off the node is in reset
-record GoesRight (k : Count) (b : Bool) (entries : List Entry) (site : Place) : Type 0 where
+record GoesRight (k : Count) (b : Bool) (entries : List RecordEntry) (site : Place) : Type 0 where
   pub reset : is_off b entries ≡ true → site ≡ AtReset
   pub few : offs entries + left (is_off b entries) + k.starts ≤ (counted k entries).starts + left b
 
-right_quiet : (k : Count) (b : Bool) (l : List Entry) (site : Place) → IsQuiet k b l → (b ≡ true → site ≡ AtReset) →
+right_quiet : (k : Count) (b : Bool) (l : List RecordEntry) (site : Place) → IsQuiet k b l → (b ≡ true → site ≡ AtReset) →
     GoesRight k b l site
 right_quiet k b l site q at =
     let same = ap left q.same in let n = q.none in let s = q.starts in
@@ -155,7 +155,7 @@ no_reset_row c place next bits p row e = let P : Place → Type 0 = λ s. Row c 
     (subst P e row)
 
 -- a slice and then bus-off, a start or a stop
-right_off : (k : Count) (b : Bool) (slice : List Entry) → IsQuiet k b slice → left b ≡ 1 → GoesRight k b
+right_off : (k : Count) (b : Bool) (slice : List RecordEntry) → IsQuiet k b slice → left b ≡ 1 → GoesRight k b
     (slice ++ BusOff ∷ []) AtReset
 right_off k b slice q was =
     let n = q.none in let s = q.starts in
@@ -164,7 +164,7 @@ right_off k b slice q was =
     let w = ap (λ (j : Count). j.starts) (counted_both k slice (BusOff ∷ [])) in
     record { reset = λ e. refl; few = omega (arith, n, s, a, l, w, was) }
 
-right_closed : (k : Count) (b : Bool) (slice : List Entry) (entry : Entry) (c next : ContextValue) (place site : Place)
+right_closed : (k : Count) (b : Bool) (slice : List RecordEntry) (entry : RecordEntry) (c next : ContextValue) (place site : Place)
     (ps : List Piece) →
     Inner slice → (b ≡ true → place ≡ AtReset) → Closing c slice place entry ps next site → GoesRight k b
     (slice ++ entry ∷ []) site
@@ -187,7 +187,7 @@ right_closed k b slice entry c next place site ps inner at (by_off unfinished) =
 right_closed k b slice entry c next place site ps inner at (by_off_after is row full) =
     right_off k b slice (quiet_inner k b slice inner) (is_on b (λ e. no_reset_row c place _ _ _ row (at e)))
 
-right_way : (k : Count) (b : Bool) (entries : List Entry) (c next : ContextValue) (place site : Place)
+right_way : (k : Count) (b : Bool) (entries : List RecordEntry) (c next : ContextValue) (place site : Place)
     (ps : List Piece) →
     (b ≡ true → place ≡ AtReset) → Way c place entries ps next site → GoesRight k b entries site
 right_way k b entries c next place site ps at (finishes s h row on_bus) =
@@ -199,7 +199,7 @@ right_way k b entries c next place site ps at (comes entry abort) = right_quiet 
 right_way k b entries c next place site ps at (closes s entry part out closing) =
     right_closed k b s entry c next place site ps part.inner at closing
 
-right_from : (k : Count) (b : Bool) (c end : ContextValue) (place last : Place) (entries rest : List Entry)
+right_from : (k : Count) (b : Bool) (c end : ContextValue) (place last : Place) (entries rest : List RecordEntry)
     (found : List FinishedPiece) → (b ≡ true → place ≡ AtReset) →
     From k c place entries found end last rest → offs entries + left (is_off b entries) + k.starts ≤
     (counted k entries).starts + left b
@@ -213,7 +213,7 @@ right_from k b c end place last entries rest found at
     let s = ap (λ (j : Count). j.starts) (counted_both k first more) in omega (arith, x, y, a, l, s)
 
 -- of a record that has a cut: bus-off comes once in an activation at most
-pub off_once : (entries : List Entry) (found : List FinishedPiece) → IsCut entries found →
+pub off_once : (entries : List RecordEntry) (found : List FinishedPiece) → IsCut entries found →
     offs entries + left (is_off false entries) ≤ (counted none_yet entries).starts + 1
 off_once entries found h =
     let r = right_from none_yet false fresh h.context AtReset h.place entries h.rest found (λ no. cc) h.from in omega
@@ -221,7 +221,7 @@ off_once entries found h =
 
 -- ---- where it leaves the node
 
-reset_from : (k : Count) (b : Bool) (c end : ContextValue) (place last : Place) (entries rest : List Entry)
+reset_from : (k : Count) (b : Bool) (c end : ContextValue) (place last : Place) (entries rest : List RecordEntry)
     (found : List FinishedPiece) → (b ≡ true → place ≡ AtReset) →
     From k c place entries found end last rest → is_off b entries ≡ true → last ≡ AtReset
 reset_from k b c end place last entries rest found at (here opened stays) is =
@@ -233,10 +233,10 @@ reset_from k b c end place last entries rest found at
     (sym (is_off_both b first more) ∙ is)
 
 -- right after bus-off the node is in reset
-pub off_resets : (before all : List Entry) (found : List FinishedPiece) (cut : IsCut all found) →
+pub off_resets : (before all : List RecordEntry) (found : List FinishedPiece) (cut : IsCut all found) →
     all ≡ before ++ BusOff ∷ [] → phase_in cut ≡ Reset
 off_resets before all found cut e =
-    let off : is_off false all ≡ true = ap (λ (l : List Entry). is_off false l) e
+    let off : is_off false all ≡ true = ap (λ (l : List RecordEntry). is_off false l) e
     ∙ is_off_both false before (BusOff ∷ []) in
     ap (λ (s : Place). phase_at s (open_bits cut))
     (reset_from none_yet false fresh cut.context AtReset cut.place all cut.rest found (λ no. refl) cut.from off)

@@ -6,8 +6,8 @@ use Rattle.can_node.specs.Bits.{Bit}
 use Rattle.can_node.specs.Context.{ContextValue, fresh}
 use Rattle.can_node.specs.Pieces.{Place, Piece}
 use Rattle.can_node.specs.Pieces.Place.{AtReset}
-use Rattle.can_node.specs.Record.{Entry, bits_in}
-use Rattle.can_node.specs.Record.Entry.{OneBit, Abort}
+use Rattle.can_node.specs.Record.{RecordEntry, bits_in}
+use Rattle.can_node.specs.Record.RecordEntry.{OneBit, Abort}
 use Rattle.can_node.specs.Effects.{along, closed, with_abort}
 use Rattle.can_node.specs.FinishedPieces.{FinishedPiece, Count, counted, none_yet, tagged}
 use Rattle.can_node.specs.Cut.{IsOpenAt, Move, From, IsCut}
@@ -29,7 +29,7 @@ use Rattle.can_node.proofs.OneCut.Ways.Way.{finishes, comes, closes}
 -- ---- an entry more
 
 -- no move is of no entry
-way_some : (c next : ContextValue) (place site : Place) (entries : List Entry) (ps : List Piece) →
+way_some : (c next : ContextValue) (place site : Place) (entries : List RecordEntry) (ps : List Piece) →
     Way c place entries ps next site → entries ≢ []
 way_some c next place site entries ps (finishes slice is row stays) e =
     let begins = is.begins in let no : OneBit begins.bit ∷ begins.rest ≡ [] = sym begins.whole ∙ e in absurd cc
@@ -37,7 +37,7 @@ way_some c next place site entries ps (comes entry between) e = absurd cc
 way_some c next place site entries ps (closes slice entry part out closing) e = some_not_none slice entry [] e
 
 -- of no entries the context is what it was
-pub none_more : (k : Count) (c end : ContextValue) (place last : Place) (entries rest : List Entry)
+pub none_more : (k : Count) (c end : ContextValue) (place last : Place) (entries rest : List RecordEntry)
     (found : List FinishedPiece) →
     From k c place entries found end last rest → entries ≡ [] → (found ≡ []) × (along end last [] rest ≡ c)
 none_more k c end place last entries rest found (here opened stays) e = (refl, ap (λ l. along c place [] l) e)
@@ -47,19 +47,19 @@ none_more k c end place last entries rest found
 none_more k c end place last entries rest found (on {entries = x ∷ first} {more = more} move from) e = absurd cc
 
 -- what is open with an entry more is open still, or one move ends with that entry
-pub data Ends (k : Count) (c : ContextValue) (place : Place) (entries : List Entry) : List FinishedPiece →
+pub data Ends (k : Count) (c : ContextValue) (place : Place) (entries : List RecordEntry) : List FinishedPiece →
     ContextValue → Type 0 where
   stays : Ends k c place entries [] (along c place [] entries)
   moves : {next : ContextValue} {site : Place} {ps : List Piece} → Way c place entries ps next site →
       Ends k c place entries (tagged (counted k entries) ps) next
 
 -- by its last move
-ended_by : (k : Count) (c next : ContextValue) (place site : Place) (entries all : List Entry) (ps : List Piece)
+ended_by : (k : Count) (c next : ContextValue) (place site : Place) (entries all : List RecordEntry) (ps : List Piece)
     (found later : List FinishedPiece) (now : ContextValue) →
     Move c place entries ps next site → entries ≡ all → found ≡ tagged (counted k entries) ps ++ later → later ≡ [] →
     now ≡ next → Ends k c place all found now
 ended_by k c next place site entries all ps found later now move same whole none is =
-    let P : List Entry → Type 0 = λ l. Ends k c place l (tagged (counted k entries) ps) next in
+    let P : List RecordEntry → Type 0 = λ l. Ends k c place l (tagged (counted k entries) ps) next in
     let made : Ends k c place entries (tagged (counted k entries) ps) next = moves (way_of move) in
     let pieces : found ≡ tagged (counted k entries) ps = whole ∙ ap (λ l. tagged (counted k entries) ps ++ l) none
     ∙ append-nil (tagged (counted k entries) ps) in
@@ -67,7 +67,7 @@ ended_by k c next place site entries all ps found later now move same whole none
     let S : ContextValue → Type 0 = λ d. Ends k c place all found d in
     subst S (sym is) (subst R (sym pieces) (subst P same made))
 
-pub ends_with : (k : Count) (c end : ContextValue) (place last : Place) (slice all rest : List Entry) (e : Entry)
+pub ends_with : (k : Count) (c end : ContextValue) (place last : Place) (slice all rest : List RecordEntry) (e : RecordEntry)
     (found : List FinishedPiece) →
     From k c place all found end last rest → IsOpenAt c place slice → all ≡ slice ++ e ∷ [] → Ends k c place all found
     (along end last [] rest)
@@ -89,23 +89,23 @@ ends_with k c end place last slice all rest e found
 -- ---- a bit more
 
 -- after a bit the pieces and the context are those of a step
-pub record BitMore (k : Count) (c : ContextValue) (place : Place) (slice : List Entry) (b : Bit)
+pub record BitMore (k : Count) (c : ContextValue) (place : Place) (slice : List RecordEntry) (b : Bit)
     (found : List FinishedPiece) (now : ContextValue) : Type 0 where
   pub step : Step
   pub is : now ≡ stepped step (along c place [] slice) place (bits_in slice) b
   pub pieces : found ≡ closed_by (counted k (slice ++ OneBit b ∷ [])) step
 
-no_outer_bit : (entry : Entry) (b : Bit) → IsOuter entry → entry ≡ OneBit b → ⊥
+no_outer_bit : (entry : RecordEntry) (b : Bit) → IsOuter entry → entry ≡ OneBit b → ⊥
 no_outer_bit entry b (start config) e = cc
 no_outer_bit entry b stop e = cc
 no_outer_bit entry b off e = cc
 
-no_between_bit : (c next : ContextValue) (place : Place) (entry : Entry) (b : Bit) → Between c place entry next →
+no_between_bit : (c next : ContextValue) (place : Place) (entry : RecordEntry) (b : Bit) → Between c place entry next →
     entry ≡ OneBit b → ⊥
 no_between_bit c next place entry b (send request) e = cc
 no_between_bit c next place entry b abort e = cc
 
-bit_way : (k : Count) (c next : ContextValue) (place site : Place) (slice all : List Entry) (b : Bit)
+bit_way : (k : Count) (c next : ContextValue) (place site : Place) (slice all : List RecordEntry) (b : Bit)
     (ps : List Piece) →
     Way c place all ps next site → all ≡ slice ++ OneBit b ∷ [] → BitMore k c place slice b
     (tagged (counted k all) ps) next
@@ -119,7 +119,7 @@ bit_way k c next place site slice all b ps (comes entry between) e =
 bit_way k c next place site slice all b ps (closes s entry part out closing) e =
     absurd (no_outer_bit entry b out (same_from_push s slice entry (OneBit b) e).1)
 
-bit_ends : (k : Count) (c : ContextValue) (place : Place) (slice all : List Entry) (b : Bit)
+bit_ends : (k : Count) (c : ContextValue) (place : Place) (slice all : List RecordEntry) (b : Bit)
     (found : List FinishedPiece) (now : ContextValue) →
     Ends k c place all found now → all ≡ slice ++ OneBit b ∷ [] → BitMore k c place slice b found now
 bit_ends k c place slice all b found now stays e = record {
@@ -131,14 +131,14 @@ bit_ends k c place slice all b found now (moves {next = n} {site = s} {ps = ps} 
     bit_way k c n place s slice all b ps way e
 
 -- the step of a bit, by two cuts: of the record before it, and of the record with it
-pub record StepIs (entries : List Entry) (found others : List FinishedPiece) (h : IsCut entries found) (b : Bit)
+pub record StepIs (entries : List RecordEntry) (found others : List FinishedPiece) (h : IsCut entries found) (b : Bit)
     (now : ContextValue) : Type 0 where
   pub step : Step
   pub is : now ≡ stepped step (now_in h) h.place (open_bits h) b
   pub count : Count
   pub pieces : others ≡ found ++ closed_by count step
 
-pub bit_more : (entries all : List Entry) (found others : List FinishedPiece) (b : Bit) (h : IsCut entries found)
+pub bit_more : (entries all : List RecordEntry) (found others : List FinishedPiece) (b : Bit) (h : IsCut entries found)
     (k : IsCut all others) →
     all ≡ entries ++ OneBit b ∷ [] → StepIs entries found others h b (now_in k)
 bit_more entries all found others b h k e =
@@ -156,18 +156,18 @@ bit_more entries all found others b h k e =
 
 -- ---- an abort more
 
-no_outer_abort : (entry : Entry) → IsOuter entry → entry ≡ Abort → ⊥
+no_outer_abort : (entry : RecordEntry) → IsOuter entry → entry ≡ Abort → ⊥
 no_outer_abort entry (start config) e = cc
 no_outer_abort entry stop e = cc
 no_outer_abort entry off e = cc
 
-abort_between : (c next : ContextValue) (place : Place) (entry : Entry) (slice : List Entry) →
+abort_between : (c next : ContextValue) (place : Place) (entry : RecordEntry) (slice : List RecordEntry) →
     Between c place entry next → entry ≡ Abort → slice ≡ [] →
     next ≡ with_abort place (along c place [] slice)
 abort_between c next place entry slice (send request) e none = absurd cc
 abort_between c next place entry slice abort e none = ap (λ l. with_abort place (along c place [] l)) (sym none)
 
-abort_ends : (k : Count) (c : ContextValue) (place : Place) (slice all : List Entry) (found : List FinishedPiece)
+abort_ends : (k : Count) (c : ContextValue) (place : Place) (slice all : List RecordEntry) (found : List FinishedPiece)
     (now : ContextValue) →
     Ends k c place all found now → all ≡ slice ++ Abort ∷ [] → now ≡ with_abort place (along c place [] slice)
 abort_ends k c place slice all found now stays e = ap (λ l. along c place [] l) e ∙ along_both c place [] slice
@@ -181,7 +181,7 @@ abort_ends k c place slice all found now (moves (closes s entry part out closing
     absurd (no_outer_abort entry out (same_from_push s slice entry Abort e).1)
 
 -- after an abort the context is the one with it
-pub abort_more : (entries all : List Entry) (found others : List FinishedPiece) (h : IsCut entries found)
+pub abort_more : (entries all : List RecordEntry) (found others : List FinishedPiece) (h : IsCut entries found)
     (k : IsCut all others) →
     all ≡ entries ++ Abort ∷ [] → now_in k ≡ with_abort h.place (now_in h)
 abort_more entries all found others h k e =

@@ -13,7 +13,7 @@ use Rattle.sja_link.specs.declared.verdict.Verdict.TheVariants.{Stored as ToStor
 use Rattle.sja_link.specs.declared.entry.Entry.{Entry}
 use Rattle.sja_link.specs.declared.entry.Entry.TheVariants.{Bit, Up as Item, Abort, Stored, Overrun, Off}
 use Rattle.sja_link.specs.Gathering.{gathered}
-use Rattle.sja_link.specs.Places.{Place, first_place, past, past_all, place_of, Placed, placed_from, placed}
+use Rattle.sja_link.specs.Places.{JournalPlace, first_place, past, past_all, place_of, Placed, placed_from, placed}
 use Rattle.sja_link.specs.Parts.{in_part}
 use Rattle.sja_link.specs.Carried.{bits_of, taken_of, put_in}
 use Rattle.sja_link.specs.Verdicts.{entry_of}
@@ -64,7 +64,7 @@ moment_then j final bits items x aborts b i =
 
 -- ---- what it had put
 
-bits_grow : (p : Place) (e : Entry) → p.bits ≤ (past p e).bits
+bits_grow : (p : JournalPlace) (e : Entry) → p.bits ≤ (past p e).bits
 bits_grow p (Bit driven seen) = omega arith
 bits_grow p (Item (Start config)) = omega arith
 bits_grow p (Item (Credit n)) = omega arith
@@ -75,7 +75,7 @@ bits_grow p (Stored m) = omega arith
 bits_grow p (Overrun m) = omega arith
 bits_grow p Off = omega arith
 
-item_bits : (p : Place) (u : Up) → (past p (Item u)).bits ≡ p.bits
+item_bits : (p : JournalPlace) (u : Up) → (past p (Item u)).bits ≡ p.bits
 item_bits p (Start config) = refl
 item_bits p (Credit n) = refl
 item_bits p (Send request) = refl
@@ -93,7 +93,7 @@ nothing_twice true true l = refl
 nothing_twice true false l = refl
 nothing_twice false c l = refl
 
-none_after : (n : ℕ) (p : Place) (es : List Entry) (a : ℕ) → n < p.bits →
+none_after : (n : ℕ) (p : JournalPlace) (es : List Entry) (a : ℕ) → n < p.bits →
     gathered (in_part (early n) a) (placed_from p es) ≡ []
 none_after n p [] a h = refl
 none_after n p (e ∷ es) a h =
@@ -102,7 +102,7 @@ none_after n p (e ∷ es) a h =
     (in_part (early n) a) (placed_from (past p e) es)) (lt-leb p.bits n h)
     ∙ nothing ((past p e).activation == a) _ ∙ none_after n (past p e) es a (omega (arith, more, h))
 
-none_by_then : (n : ℕ) (p : Place) (es : List Entry) (a : ℕ) → n ≡ p.bits → PutsLater es →
+none_by_then : (n : ℕ) (p : JournalPlace) (es : List Entry) (a : ℕ) → n ≡ p.bits → PutsLater es →
     gathered (in_part (early n) a) (placed_from p es) ≡ []
 none_by_then n p [] a e h = refl
 none_by_then n p (Bit driven seen ∷ es) a e h =
@@ -117,7 +117,7 @@ none_by_then n p (Stored m ∷ es) a e h = absurd h
 none_by_then n p (Overrun m ∷ es) a e h = absurd h
 none_by_then n p (Off ∷ es) a e h = absurd h
 
-placed_append : (p : Place) (es fs : List Entry) →
+placed_append : (p : JournalPlace) (es fs : List Entry) →
     placed_from p (es ++ fs) ≡ placed_from p es ++ placed_from (past_all p es) fs
 placed_append p [] fs = refl
 placed_append p (e ∷ es) fs = ap (λ l. (record { before = p; entry = e }) ∷ l) (placed_append (past p e) es fs)

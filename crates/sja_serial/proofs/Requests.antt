@@ -26,61 +26,61 @@ use Rattle.can_node.specs.FinishedPieces.{Count, FinishedPiece}
 use Rattle.can_node.specs.Stands.{closed_by}
 
 -- the second context holds no request, or that of the first with its mark
-abbrev pub Keeps : ContextValue → ContextValue → Type 0
-Keeps c d = (d.held ≡ None) ⊎ ((d.held ≡ c.held) × (d.aborted ≡ c.aborted))
+abbrev pub KeepsRequest : ContextValue → ContextValue → Type 0
+KeepsRequest c d = (d.held ≡ None) ⊎ ((d.held ≡ c.held) × (d.aborted ≡ c.aborted))
 
-same : (c : ContextValue) → Keeps c c
+same : (c : ContextValue) → KeepsRequest c c
 same c = inr (refl, refl)
 
-chosen : (test : Bool) (c d e : ContextValue) → Keeps c d → Keeps c e → Keeps c (if test then d else e)
+chosen : (test : Bool) (c d e : ContextValue) → KeepsRequest c d → KeepsRequest c e → KeepsRequest c (if test then d else e)
 chosen true c d e h k = h
 chosen false c d e h k = k
 
-drops : (held : Option Request) (c d : ContextValue) → Keeps c d → Keeps c (drop_failed held d)
+drops : (held : Option Request) (c d : ContextValue) → KeepsRequest c d → KeepsRequest c (drop_failed held d)
 drops None c d h = h
 drops (Some request) c d h = chosen (request.single_shot || d.aborted) c (record d { held = None; aborted = false }) d
     (inl refl) h
 
-pub keeps_both : (c d e : ContextValue) → Keeps c d → Keeps d e → Keeps c e
+pub keeps_both : (c d e : ContextValue) → KeepsRequest c d → KeepsRequest d e → KeepsRequest c e
 keeps_both c d e h (inl none) = inl none
 keeps_both c d e (inl none) (inr k) = inl (k.0 ∙ none)
 keeps_both c d e (inr h) (inr k) = inr (k.0 ∙ h.0, k.1 ∙ h.1)
 
 -- ---- a bit
 
-steps_by : (role : Role) (t r : ℕ) (c d : ContextValue) → Keeps c d → Keeps c (more_by role t r d)
+steps_by : (role : Role) (t r : ℕ) (c d : ContextValue) → KeepsRequest c d → KeepsRequest c (more_by role t r d)
 steps_by Transmitter t r c d h = h
 steps_by Receiver t r c d h = h
 
-lost : (held : Option Request) (c : ContextValue) → Keeps c (record (drop_failed held c) { role = Receiver })
+lost : (held : Option Request) (c : ContextValue) → KeepsRequest c (record (drop_failed held c) { role = Receiver })
 lost None c = same c
 lost (Some request) c = by (request.single_shot || c.aborted)
   where
-    by : (test : Bool) → Keeps c
+    by : (test : Bool) → KeepsRequest c
         (record (if test then record c { held = None; aborted = false } else c) { role = Receiver })
     by true = inl refl
     by false = same c
 
-in_frame : (role : Role) (c : ContextValue) (l : List Level) (b : Bit) → Keeps c (frame_bit role c l b)
+in_frame : (role : Role) (c : ContextValue) (l : List Level) (b : Bit) → KeepsRequest c (frame_bit role c l b)
 in_frame Transmitter c l b =
     chosen (is_some (lost_by c.held l b.driven b.seen)) c (record (drop_failed c.held c) { role = Receiver }) c
     (lost c.held c) (same c)
 in_frame Receiver c l b = acknowledged b.driven b.seen
   where
-    acknowledged : (x y : Level) → Keeps c (if_acknowledged x y c)
+    acknowledged : (x y : Level) → KeepsRequest c (if_acknowledged x y c)
     acknowledged Dominant Dominant = same c
     acknowledged Dominant Recessive = same c
     acknowledged Recessive y = same c
 
-first : (sent : Option Request) (c : ContextValue) → Keeps c (first_bit sent c)
+first : (sent : Option Request) (c : ContextValue) → KeepsRequest c (first_bit sent c)
 first None c = same c
 first (Some request) c = same c
 
-in_flag : (x : Level) (c : ContextValue) → Keeps c (if_ack_step_owed x c)
+in_flag : (x : Level) (c : ContextValue) → KeepsRequest c (if_ack_step_owed x c)
 in_flag Dominant c = chosen c.ack_step_owed c (record c { tec = c.tec + 8; ack_step_owed = false }) c (same c) (same c)
 in_flag Recessive c = same c
 
-after_flag : (done : List Bit) (role : Role) (flag : FlagKind) (c : ContextValue) → Keeps c
+after_flag : (done : List Bit) (role : Role) (flag : FlagKind) (c : ContextValue) → KeepsRequest c
     (after_error_flag done role flag c)
 after_flag [] Receiver ActiveError c = same c
 after_flag [] Receiver PassiveError c = same c
@@ -88,7 +88,7 @@ after_flag [] Receiver Overload c = same c
 after_flag [] Transmitter flag c = same c
 after_flag (b ∷ done) role flag c = same c
 
-in_delimiter : (x : Level) (done : List Bit) (c : ContextValue) → Keeps c (delimiter_level x done c)
+in_delimiter : (x : Level) (done : List Bit) (c : ContextValue) → KeepsRequest c (delimiter_level x done c)
 in_delimiter Dominant done c =
     let d = after_error_flag done c.role c.flag c in
     let h = after_flag done c.role c.flag c in
@@ -97,7 +97,7 @@ in_delimiter Dominant done c =
     (steps_by d.role 8 8 c d h) h)
 in_delimiter Recessive done c = same c
 
-bit_keeps : (c : ContextValue) (place : Place) (done : List Bit) (b : Bit) → Keeps c (at_bit c place done b)
+bit_keeps : (c : ContextValue) (place : Place) (done : List Bit) (b : Bit) → KeepsRequest c (at_bit c place done b)
 bit_keeps c AtReset done b = same c
 bit_keeps c AtIntegration done b =
     chosen ((c.off && not c.listen) && ends_eleven (fold next_run 0 (seen_of done)) b.seen) c
@@ -112,7 +112,7 @@ bit_keeps c AtInterframeSpace done b = same c
 
 -- ---- the end of a piece
 
-transmitter_keeps : (cause : Cause) (c : ContextValue) → Keeps c (transmitter_fault cause c)
+transmitter_keeps : (cause : Cause) (c : ContextValue) → KeepsRequest c (transmitter_fault cause c)
 transmitter_keeps BitError c = same c
 transmitter_keeps StuffError c = same c
 transmitter_keeps FormError c = same c
@@ -120,13 +120,13 @@ transmitter_keeps CrcError c = same c
 transmitter_keeps AckError c = chosen (is_passive c) c (record c { ack_step_owed = true })
     (record c { tec = c.tec + 8 }) (same c) (same c)
 
-fault_keeps : (site : FaultSite) (cause : Cause) (c : ContextValue) → Keeps c (fault_step site cause c)
+fault_keeps : (site : FaultSite) (cause : Cause) (c : ContextValue) → KeepsRequest c (fault_step site cause c)
 fault_keeps InTransmission cause c = drops c.held c (transmitter_fault cause c) (transmitter_keeps cause c)
 fault_keeps InReception cause c = chosen c.listen c c (record c { rec = min 255 (c.rec + 1) }) (same c) (same c)
 fault_keeps InFlag cause c = steps_by c.role 8 8 c c (same c)
 fault_keeps InDelimiter cause c = chosen c.listen c c (more_by c.role 8 1 c) (same c) (steps_by c.role 8 1 c c (same c))
 
-own_keeps : (piece : Piece) (c : ContextValue) → Keeps c (own_step piece c)
+own_keeps : (piece : Piece) (c : ContextValue) → KeepsRequest c (own_step piece c)
 own_keeps Integration c = chosen (c.off && not c.listen) c (record c { tec = 0; rec = 0; off = false }) c (same c)
     (same c)
 own_keeps (Transmission request) c = inl refl
@@ -152,7 +152,7 @@ enters AtLastEofBit piece before c = (refl, refl)
 enters AtDelimiter piece before c = (refl, refl)
 enters AtInterframeSpace piece before c = (refl, refl)
 
-pub step_keeps : (step : Step) (c : ContextValue) (place : Place) (done : List Bit) (b : Bit) → Keeps c
+pub step_keeps : (step : Step) (c : ContextValue) (place : Place) (done : List Bit) (b : Bit) → KeepsRequest c
     (stepped step c place done b)
 step_keeps Within c place done b = bit_keeps c place done b
 step_keeps (Finishes piece next) c place done b =
@@ -208,7 +208,7 @@ ends_as false true false h k = refl
 ends_as false false true h k = let no : true ≡ false = k refl in absurd cc
 ends_as false false false h k = refl
 
-pub keeps_none : (c d : ContextValue) → Keeps c d → is_held c.held ≡ false → is_held d.held ≡ false
+pub keeps_none : (c d : ContextValue) → KeepsRequest c d → is_held c.held ≡ false → is_held d.held ≡ false
 keeps_none c d (inl none) e = ap is_held none
 keeps_none c d (inr h) e = ap is_held h.0 ∙ e
 

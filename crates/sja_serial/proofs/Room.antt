@@ -7,7 +7,7 @@ use Rattle.sja_link.specs.declared.entry.Entry.{Entry}
 use Rattle.sja_link.specs.declared.entry.Entry.TheVariants.{Bit, Up as Item, Abort, Stored, Overrun, Off}
 use Rattle.sja_link.specs.Gathering.{total}
 use Rattle.sja_link.specs.Picking.{EachAfter}
-use Rattle.sja_link.specs.Places.{Place, first_place, past, past_all, place_of}
+use Rattle.sja_link.specs.Places.{JournalPlace, first_place, past, past_all, place_of}
 use Rattle.sja_link.specs.Verdicts.{IsLawful}
 use Rattle.sja_bus.specs.Reasons.{room_for}
 use Rattle.sja_regs.specs.declared.registers.Registers.{Registers}
@@ -22,7 +22,7 @@ use Rattle.sja_serial.specs.Counted.{item_in, verdict_in, off_in, abort_in, asks
 
 -- ---- each entry is of one kind
 
-entries_from : (p : Place) (es : List Entry) →
+entries_from : (p : JournalPlace) (es : List Entry) →
     p.bits + length es ≡ (((past_all p es).bits + total item_in es) + total verdict_in es)
     + (total off_in es + total abort_in es)
 entries_from p [] = omega arith

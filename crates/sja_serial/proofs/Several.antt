@@ -13,7 +13,7 @@ use Rattle.sja_driver.specs.declared.logged_driver.LoggedDriver.{LoggedDriver}
 use Rattle.sja_driver.specs.Deeds.{Deed, done_of}
 use Rattle.sja_driver.specs.LoggedDrivers.{log_of}
 use Rattle.sja_driver.specs.Logs.{done_in}
-use Rattle.sja_serial.specs.Serial.{SerialValue, StandsAt, HasMore, Does, IsStuck, TakesTurn, with_deeds}
+use Rattle.sja_serial.specs.Serial.{SerialValue, StandsAt, HasMore, NodeDoes, HasToWait, TakesTurn, with_deeds}
 use Rattle.sja_driver.specs.Deeds.{deeds_at}
 use Rattle.sja_serial.proofs.Slices.{no_deeds}
 
@@ -63,7 +63,7 @@ both_at xs ys n f g i d less =
 
 -- nothing was done
 pub does_none : (plan : PlanValue) (r : SerialValue) (node : ℕ) (deeds : List (List Deed)) → StandsAt plan r deeds →
-    Does plan r r node deeds []
+    NodeDoes plan r r node deeds []
 does_none plan r node deeds h = record {
   stands = subst (λ (l : List (List Deed)). StandsAt plan r l) (sym (no_deeds deeds node)) h;
   at_once = λ i d less. absurd (omega (arith, less));
@@ -81,8 +81,8 @@ more_both j k l f g = record {
 }
 
 pub does_both : (plan : PlanValue) (r m n : SerialValue) (node : ℕ) (deeds : List (List Deed)) (xs ys : List Deed) →
-    node < length deeds → Does plan r m node deeds xs → Does plan m n node (with_deeds deeds node xs) ys →
-    Does plan r n node deeds (xs ++ ys)
+    node < length deeds → NodeDoes plan r m node deeds xs → NodeDoes plan m n node (with_deeds deeds node xs) ys →
+    NodeDoes plan r n node deeds (xs ++ ys)
 does_both plan r m n node deeds xs ys there f g = record {
   stands = subst (λ (l : List (List Deed)). StandsAt plan n l) (deeds_twice deeds node xs ys there) g.stands;
   at_once = both_at xs ys r.bits f.at_once (λ i d less. g.at_once i d less ∙ f.bits);
@@ -101,7 +101,7 @@ done_count plan r deeds node d p h there =
 -- so many deeds were done
 pub record SoFar (plan : PlanValue) (r n : SerialValue) (node : ℕ) (deeds : List (List Deed)) (count : ℕ) : Type 0 where
   pub more : List Deed
-  pub does : Does plan r n node deeds more
+  pub does : NodeDoes plan r n node deeds more
   pub many : length more ≡ count
 
 pub so_far_none : (plan : PlanValue) (r : SerialValue) (node : ℕ) (deeds : List (List Deed)) → StandsAt plan r deeds →
@@ -110,7 +110,7 @@ so_far_none plan r node deeds h = record { more = []; does = does_none plan r no
 
 pub so_far_one : (plan : PlanValue) (r m n : SerialValue) (node count : ℕ) (deeds : List (List Deed)) →
     node < length deeds → (s : SoFar plan r m node deeds count) → (d : Deed) →
-    Does plan m n node (with_deeds deeds node s.more) (d ∷ []) →
+    NodeDoes plan m n node (with_deeds deeds node s.more) (d ∷ []) →
     SoFar plan r n node deeds (count + 1)
 so_far_one plan r m n node count deeds there s d did =
     let l = length-append s.more (d ∷ []) in let k = s.many in
@@ -123,21 +123,21 @@ so_far_one plan r m n node count deeds there s d did =
 
 -- a turn that ends since the driver is stuck, or since all was done
 pub turn_stuck : (plan : PlanValue) (r n : SerialValue) (node count most : ℕ) (deeds : List (List Deed)) →
-    (s : SoFar plan r n node deeds count) → count ≤ most → IsStuck plan n (with_deeds deeds node s.more) node →
+    (s : SoFar plan r n node deeds count) → count ≤ most → HasToWait plan n (with_deeds deeds node s.more) node →
     TakesTurn plan r n node most deeds
 turn_stuck plan r n node count most deeds s few stuck = let k = s.many in
     record { more = s.more; does = s.does; most = omega (arith, k, few); stuck = λ less. stuck }
 
 pub turn_waits : (plan : PlanValue) (r m n : SerialValue) (node count most : ℕ) (deeds : List (List Deed)) →
     node < length deeds → (s : SoFar plan r m node deeds count) → count ≤ most →
-    Does plan m n node (with_deeds deeds node s.more) [] × IsStuck plan n (with_deeds deeds node s.more) node →
+    NodeDoes plan m n node (with_deeds deeds node s.more) [] × HasToWait plan n (with_deeds deeds node s.more) node →
     TakesTurn plan r n node most deeds
 turn_waits plan r m n node count most deeds there s few w =
     let k = s.many in
-    let both : Does plan r n node deeds (s.more ++ []) = does_both plan r m n node deeds s.more [] there s.does w.0 in
+    let both : NodeDoes plan r n node deeds (s.more ++ []) = does_both plan r m n node deeds s.more [] there s.does w.0 in
     record {
       more = s.more;
-      does = subst (λ (l : List Deed). Does plan r n node deeds l)
+      does = subst (λ (l : List Deed). NodeDoes plan r n node deeds l)
           (append-nil s.more) both;
       most = omega (arith, k, few);
       stuck = λ less. w.1;

@@ -7,7 +7,7 @@ use Rattle.sja_bus.specs.Resting.{RestsAs}
 use Rattle.sja_wire.specs.Wire.{journal_at}
 use Rattle.sja_plan.specs.Plan.{PlanValue}
 use Rattle.sja_driver.specs.Deeds.{Deed}
-use Rattle.sja_serial.specs.Bits.{HasOneBit, TakesBit, TakesBits, TakesAtOnce, AllRest, SomeWorks, TakesBusTurn, TakesRest}
+use Rattle.sja_serial.specs.Bits.{HasOneBit, TakesBit, TakesBits, TakesAtOnce, AllRestIn, SomeWorks, TakesBusTurn, TakesRest}
 use Rattle.sja_serial.specs.Bits.TakesBits.{no_bit, one_more}
 use Rattle.sja_serial.specs.Serial.{SerialValue, StandsAt}
 use Rattle.sja_serial.proofs.GoingOn.{bits_run, stands_bits}
@@ -96,7 +96,7 @@ bus_spent plan deeds r n run count few spent s =
 
 pub all_rest : (plan : PlanValue) (n : SerialValue) (deeds : List (List Deed)) → StandsAt plan n deeds →
     ((node : ℕ) → node < length n.bus.journals → RestsAs (record_of (journal_at n.bus.journals node)) true) →
-    AllRest plan n
+    AllRestIn plan n
 all_rest plan n deeds h rest node less = let c = h.count.journals in rest node (omega (arith, c, less))
 
 pub some_works : (plan : PlanValue) (n : SerialValue) (deeds : List (List Deed)) → StandsAt plan n deeds →
@@ -105,14 +105,14 @@ pub some_works : (plan : PlanValue) (n : SerialValue) (deeds : List (List Deed))
 some_works plan n deeds h busy = let c = h.count.journals in let l = busy.1 in (busy.0, omega (arith, c, l), busy.2)
 
 -- not every node is at rest where some node works
-not_both : (plan : PlanValue) (n : SerialValue) → AllRest plan n → SomeWorks plan n → ⊥
+not_both : (plan : PlanValue) (n : SerialValue) → AllRestIn plan n → SomeWorks plan n → ⊥
 not_both plan n rest busy =
     let r = rest busy.0 busy.1 in let is = r.is in let no = busy.2.every r.found r.cut in cc (is, no)
 
 -- it ran until all rest, or the bits were spent
 pub rest_so : (plan : PlanValue) (deeds : List (List Deed)) (r n : SerialValue) (run most : ℕ) (rests : Bool) →
     StandsAt plan r deeds → TakesBits plan deeds (SomeWorks plan) r run n → most ≡ plan.bits →
-    (run ≡ most) ⊎ (plan.bits ≤ n.bits) ⊎ AllRest plan n → (rests ≡ true → AllRest plan n) →
+    (run ≡ most) ⊎ (plan.bits ≤ n.bits) ⊎ AllRestIn plan n → (rests ≡ true → AllRestIn plan n) →
     (rests ≡ false → SomeWorks plan n) → TakesRest plan deeds r n rests
 rest_so plan deeds r n run most rests h t is whole all busy =
     let s = some_first plan deeds (SomeWorks plan) r n run h t in

@@ -43,7 +43,7 @@ use Rattle.sja_plan.specs.Plan.{steps_at}
 use Rattle.sja_log.proofs.Adding.{one_abort}
 use Rattle.sja_serial.proofs.BitRun.{some_of, no_link}
 use Rattle.sja_serial.proofs.Dry.{none_beyond, none_taken, none_taken_own}
-use Rattle.sja_serial.proofs.FewLying.{few_lying}
+use Rattle.sja_serial.proofs.FewLeftDown.{few_left_down}
 use Rattle.sja_log.proofs.Own.{AreOwn}
 use Rattle.sja_serial.proofs.Room.{has_room}
 use Rattle.sja_serial.proofs.Done.{opened_most}
@@ -116,7 +116,7 @@ module _ (plan : PlanValue) (r : SerialValue) (deeds : List (List Deed)) (h : St
     not_stuck opened j between kept b =
         let ds = deeds_at deeds m in let d = slice_index_or r.drivers m driver in
         let lies : Lies b.end (account j (suc b.place) (acc b.place)) = b.stood acc kept in
-        let few = few_lying j (suc b.place) (received b.found) ds (node.linked.holds.got b.place) b.end.down b.end.up
+        let few = few_left_down j (suc b.place) (received b.found) ds (node.linked.holds.got b.place) b.end.down b.end.up
         (released_of (releases_in (log_of d)) (suc b.place))
         (slice_index_or (leaves (left_in (log_of d)) (held_of (driver_of d))) b.place []) b.verdicts b.on lies.0
         (node.linked.holds.told b.place b.few) lies.1 node.traced.traces.answered.gives

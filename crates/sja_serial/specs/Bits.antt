@@ -41,8 +41,8 @@ pub record TakesAtOnce (plan : PlanValue) (deeds : List (List Deed)) (was now : 
   pub some : run ≢ 0 → TakesBits plan deeds (λ r. Unit {0}) was run now
 
 -- every node is at rest
-abbrev pub AllRest : PlanValue → SerialValue → Type 0
-AllRest plan r =
+abbrev pub AllRestIn : PlanValue → SerialValue → Type 0
+AllRestIn plan r =
     (node : ℕ) → node < length plan.nodes → RestsAs (record_of (journal_at r.bus.journals node)) true
 
 -- some node isn't
@@ -64,5 +64,5 @@ pub record TakesBusTurn (plan : PlanValue) (deeds : List (List Deed)) (was now :
 pub record TakesRest (plan : PlanValue) (deeds : List (List Deed)) (was now : SerialValue) (rests : Bool) : Type 0 where
   pub run : ℕ
   pub bits : TakesBits plan deeds (SomeWorks plan) was run now
-  pub whole : rests ≡ true → AllRest plan now
+  pub whole : rests ≡ true → AllRestIn plan now
   pub spent : rests ≡ false → SomeWorks plan now × (now.bits ≡ plan.bits)

@@ -74,7 +74,7 @@ pub record HasMore (j k : List Entry) : Type 0 where
 
 -- these deeds were done then: the driver of this node did them after the bits that had run, and no bit was run; the
 -- journals have items more
-pub record Does (plan : PlanValue) (was now : SerialValue) (node : ℕ) (deeds : List (List Deed))
+pub record NodeDoes (plan : PlanValue) (was now : SerialValue) (node : ℕ) (deeds : List (List Deed))
     (more : List Deed) : Type 0 where
   pub stands : StandsAt plan now (with_deeds deeds node more)
   pub at_once : (i : ℕ) (d : Deed) → i < length more → (slice_index_or more i d).bits ≡ was.bits
@@ -82,8 +82,8 @@ pub record Does (plan : PlanValue) (was now : SerialValue) (node : ℕ) (deeds :
   pub items : (m : ℕ) → m < length plan.nodes → HasMore (journal_at was.bus.journals m) (journal_at now.bus.journals m)
 
 -- the driver of a node has no step left, or its next one has to wait
-abbrev pub IsStuck : PlanValue → SerialValue → List (List Deed) → ℕ → Type 0
-IsStuck plan r deeds node =
+abbrev pub HasToWait : PlanValue → SerialValue → List (List Deed) → ℕ → Type 0
+HasToWait plan r deeds node =
     (length (steps_at plan node) ≤ length (deeds_at deeds node))
     ⊎ ((s : Step) (p : Registers) → HasToWait (journal_at r.bus.journals node) (deeds_at deeds node)
     (slice_index_or r.ports node p) (slice_index_or (steps_at plan node) (length (deeds_at deeds node)) s))
@@ -92,6 +92,6 @@ IsStuck plan r deeds node =
 pub record TakesTurn (plan : PlanValue) (was now : SerialValue) (node count : ℕ)
     (deeds : List (List Deed)) : Type 0 where
   pub more : List Deed
-  pub does : Does plan was now node deeds more
+  pub does : NodeDoes plan was now node deeds more
   pub most : length more ≤ count
-  pub stuck : length more < count → IsStuck plan now (with_deeds deeds node more) node
+  pub stuck : length more < count → HasToWait plan now (with_deeds deeds node more) node

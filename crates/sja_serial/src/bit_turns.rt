@@ -10,7 +10,7 @@ impl SerialRun {
     ghost use Rattle.sja_bus.specs.Resting.{RestsAs};
     ghost use Rattle.sja_wire.specs.Wire.{journal_at};
     ghost use Rattle.sja_driver.specs.Deeds.{Deed};
-    ghost use Rattle.sja_serial.specs.Bits.{TakesBit, TakesBits, TakesAtOnce, AllRest};
+    ghost use Rattle.sja_serial.specs.Bits.{TakesBit, TakesBits, TakesAtOnce, AllRestIn};
     ghost use Rattle.sja_serial.specs.Bits.{SomeWorks, TakesBusTurn, TakesRest};
     ghost use Rattle.sja_serial.specs.Serial.{StandsAt, IsRunOf};
 
@@ -33,7 +33,7 @@ impl SerialRun {
     }
 
     /// One bit of the bus. No item is taken, since all that the drivers gave was taken before. Nothing stops it.
-    fn run_bit(&mut self, plan: &Plan)
+    fn run_one_bit(&mut self, plan: &Plan)
         requires run { IsRunOf plan.now self.old }
         requires left { self.old.bits < plan.now.bits }
         ensures { (deeds : List (List Deed)) → StandsAt plan.now self.old deeds →
@@ -50,7 +50,7 @@ impl SerialRun {
 
     /// Up to so many of the next bits at once, as far as every node is at rest in them, nothing is to be told and no
     /// strike falls. It says how many.
-    fn run_at_once(&mut self, plan: &Plan, count: u32) -> u32
+    fn run_idle_bits(&mut self, plan: &Plan, count: u32) -> u32
         requires run { IsRunOf plan.now self.old }
         requires left { self.old.bits < plan.now.bits }
         ensures { (deeds : List (List Deed)) → StandsAt plan.now self.old deeds →
@@ -72,7 +72,7 @@ impl SerialRun {
     }
 
     /// The next bits, at most so many: as many as can be run at once, or one where none can. It says how many.
-    fn run_resting(&mut self, plan: &Plan, count: u32) -> u32
+    fn run_resting_bits(&mut self, plan: &Plan, count: u32) -> u32
         requires run { IsRunOf plan.now self.old }
         requires left { self.old.bits < plan.now.bits }
         requires some { 1 ≤ count }
@@ -81,9 +81,9 @@ impl SerialRun {
         ensures bits { (deeds : List (List Deed)) → StandsAt plan.now self.old deeds →
             TakesBits plan.now deeds (λ r. Unit {0}) self.old result self.new }
     {
-        let bits = self.run_at_once(plan, count);
+        let bits = self.run_idle_bits(plan, count);
         if bits == 0 {
-            self.run_bit(plan);
+            self.run_one_bit(plan);
             return 1;
         }
         bits
@@ -91,12 +91,12 @@ impl SerialRun {
 
     /// Bits as long as some node works, at most so many and as many as are left. It says how many. No item is taken in
     /// them, and nothing stops them.
-    fn run_busy(&mut self, plan: &Plan, count: u32) -> u32
+    fn run_busy_bits(&mut self, plan: &Plan, count: u32) -> u32
         requires run { IsRunOf plan.now self.old }
         ensures most { result ≤ count }
         ensures bits { (deeds : List (List Deed)) → StandsAt plan.now self.old deeds →
             TakesBits plan.now deeds (SomeWorks plan.now) self.old result self.new }
-        ensures whole { (result ≡ count) ⊎ (plan.now.bits ≤ self.new.bits) ⊎ AllRest plan.now self.new }
+        ensures whole { (result ≡ count) ⊎ (plan.now.bits ≤ self.new.bits) ⊎ AllRestIn plan.now self.new }
     {
         plan.limits();
         self.bus.keeps_its_laws();
@@ -121,13 +121,13 @@ impl SerialRun {
             TakesBusTurn plan.now deeds self.old self.new count result }
         ensures stays { IsRunOf plan.now self.new }
     {
-        let mut run = self.run_busy(plan, count);
+        let mut run = self.run_busy_bits(plan, count);
         while run < count {
             if self.is_spent(plan) {
                 return false;
             }
-            run += self.run_resting(plan, count - run);
-            run += self.run_busy(plan, count - run);
+            run += self.run_resting_bits(plan, count - run);
+            run += self.run_busy_bits(plan, count - run);
         }
         true
     }
@@ -140,7 +140,7 @@ impl SerialRun {
             TakesRest plan.now deeds self.old self.new result }
         ensures stays { IsRunOf plan.now self.new }
     {
-        self.run_busy(plan, plan.bits());
+        self.run_busy_bits(plan, plan.bits());
         self.rests()
     }
 }

@@ -1,6 +1,6 @@
 //! The log of a run at its end.
 
-use super::off_links::all_lying;
+use super::off_links::all_left_down;
 use super::serial_run::SerialRun;
 use can_frame::OutOfMemory;
 use sja_log::{End, RunLog, node_runs};
@@ -29,7 +29,7 @@ impl SerialRun {
             bits,
             ..
         } = self;
-        let lists = all_lying(alloc, links)?;
+        let lists = all_left_down(alloc, links)?;
         let logs = bus.finish();
         let nodes = node_runs(alloc, logs, drivers.as_slice(), lists.as_slice())?;
         Ok(RunLog::of(plan.version(), bits, end, nodes))

@@ -2,8 +2,8 @@
 
 ghost use Rattle.std.specs.Prelude.{◌≡◌, ◌<◌, ◌≤◌, ◌⊎◌, ℕ, List, [], ◌∷◌, length, true, false, slice_index_or};
 ghost use Rattle.sja_driver.specs.Deeds.{Deed};
-ghost use Rattle.sja_serial.specs.Serial.{SerialValue, StandsAt, IsRunOf, IsStuck};
-ghost use Rattle.sja_serial.specs.Serial.{Does, TakesTurn, run_now};
+ghost use Rattle.sja_serial.specs.Serial.{SerialValue, StandsAt, IsRunOf, HasToWait};
+ghost use Rattle.sja_serial.specs.Serial.{NodeDoes, TakesTurn, run_now};
 ghost use Rattle.sja_driver.specs.Deeds.{deeds_at};
 ghost use Rattle.sja_plan.specs.Plan.{steps_at};
 
@@ -34,13 +34,13 @@ pub(crate) fn try_next(
         length (deeds_at deeds node) < length (steps_at plan.now node) }
     ensures done { result ≡ true → (deeds : List (List Deed)) →
         StandsAt plan.now (run_now bus.old drivers.old ports.old links.old bits) deeds →
-        (d : Deed) × Does plan.now (run_now bus.old drivers.old ports.old links.old bits)
+        (d : Deed) × NodeDoes plan.now (run_now bus.old drivers.old ports.old links.old bits)
         (run_now bus.new drivers.new ports.new links.new bits) node deeds (d ∷ []) }
     ensures waits { result ≡ false → (deeds : List (List Deed)) →
         StandsAt plan.now (run_now bus.old drivers.old ports.old links.old bits) deeds →
-        Does plan.now (run_now bus.old drivers.old ports.old links.old bits)
+        NodeDoes plan.now (run_now bus.old drivers.old ports.old links.old bits)
         (run_now bus.new drivers.new ports.new links.new bits) node deeds []
-        × IsStuck plan.now (run_now bus.new drivers.new ports.new links.new bits) deeds node }
+        × HasToWait plan.now (run_now bus.new drivers.new ports.new links.new bits) deeds node }
 {
     plan.limits();
     let at = drivers[node].log().done().len();

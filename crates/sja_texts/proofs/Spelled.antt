@@ -7,7 +7,7 @@ use Rattle.can_frame.specs.Frame.{FrameValue, IsFrame}
 use Rattle.can_frame.specs.Message.{message}
 use Rattle.can_bits.proofs.Lists.{split_at}
 use Rattle.can_node.proofs.Contending.Winning.{zip_push}
-use Rattle.sja_texts.specs.declared.refusal.Refusal.{Refusal}
+use Rattle.sja_texts.specs.declared.command_refusal.CommandRefusal.{CommandRefusal}
 use Rattle.sja_texts.specs.Arbitrate.{SpellsFrame, RefusesFirst}
 use Rattle.sja_texts.specs.Message.{ReadsAs, RefusesMessage}
 
@@ -29,7 +29,7 @@ frames_more messages frames i d f within spelled this =
     subst P (sym more) (zip_push SpellsFrame (texts (take i messages)) frames (get_or messages i d).now f spelled this)
 
 -- the first that is refused
-pub first_refused : (messages : List (Bor (List ℕ))) (frames : List FrameValue) (i : ℕ) (d : Bor (List ℕ)) (refusal : Refusal) →
+pub first_refused : (messages : List (Bor (List ℕ))) (frames : List FrameValue) (i : ℕ) (d : Bor (List ℕ)) (refusal : CommandRefusal) →
     i < length messages → AllZip SpellsFrame (texts (take i messages)) frames → RefusesMessage (get_or messages i d).now refusal →
     RefusesFirst (texts messages) refusal
 first_refused messages frames i d refusal within spelled refused = record {

@@ -5,7 +5,7 @@ use Rattle.can_frame.specs.Message.{message}
 use Rattle.can_notation.specs.Text.{Says}
 use Rattle.can_notation.specs.Faults.{HasHash, HasIdentifier, HasRest}
 use Rattle.can_notation.specs.declared.notation_fault.NotationFault.TheVariants.{Identifier, Data}
-use Rattle.sja_texts.specs.declared.refusal.Refusal.TheVariants.{Notation}
+use Rattle.sja_texts.specs.declared.command_refusal.CommandRefusal.TheVariants.{Notation}
 use Rattle.sja_texts.specs.BytesText.{bytes_text}
 use Rattle.sja_texts.specs.Notation.{IsTranslation, RefusesTranslation}
 

@@ -6,8 +6,8 @@ use Rattle.can_frame.specs.Frame.{FrameValue, IsFrame}
 use Rattle.can_frame.specs.Message.{message}
 use Rattle.can_node.specs.Contending.{IsContention}
 use Rattle.sja_texts.specs.Message.{ReadsAs, RefusesMessage}
-use Rattle.sja_texts.specs.declared.refusal.Refusal.{Refusal}
-use Rattle.sja_texts.specs.declared.refusal.Refusal.TheVariants.{OutOfMemory}
+use Rattle.sja_texts.specs.declared.command_refusal.CommandRefusal.{CommandRefusal}
+use Rattle.sja_texts.specs.declared.command_refusal.CommandRefusal.TheVariants.{OutOfMemory}
 
 -- the place code where a frame loses, in decimal, or `-` where it goes on, and a line feed
 abbrev pub place_line : Option ℕ → List ℕ
@@ -31,7 +31,7 @@ IsArbitration messages text =
     × (text ≡ places_text places)
 
 -- this one is refused, and those before it are messages
-pub record RefusesFirst (messages : List (List ℕ)) (refusal : Refusal) : Type 0 where
+pub record RefusesFirst (messages : List (List ℕ)) (refusal : CommandRefusal) : Type 0 where
   pub before : List (List ℕ)
   pub digits : List ℕ
   pub after : List (List ℕ)
@@ -41,5 +41,5 @@ pub record RefusesFirst (messages : List (List ℕ)) (refusal : Refusal) : Type 
   pub refused : RefusesMessage digits refusal
 
 -- memory may be refused at any time; else why the first of them is refused that is, from left to right
-abbrev pub RefusesMessages : List (List ℕ) → Refusal → Type 0
+abbrev pub RefusesMessages : List (List ℕ) → CommandRefusal → Type 0
 RefusesMessages messages refusal = (refusal ≡ OutOfMemory) ⊎ RefusesFirst messages refusal

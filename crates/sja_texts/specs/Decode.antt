@@ -4,9 +4,9 @@ use Rattle.can_bits.specs.declared.level.Level.{Level}
 use Rattle.can_bits.specs.Reading.{IsReceived, IsFirstFault}
 use Rattle.can_frame.specs.Frame.{FrameValue}
 use Rattle.can_frame.specs.Message.{message}
-use Rattle.sja_texts.specs.declared.refusal.Refusal.{Refusal}
-use Rattle.sja_texts.specs.declared.refusal.Refusal.TheVariants.{OutOfMemory, NotHexadecimal, NotALine, Read}
-use Rattle.sja_texts.specs.declared.refusal.Refusal.TheVariants.{Layout, Line, Notation, Plan, Run}
+use Rattle.sja_texts.specs.declared.command_refusal.CommandRefusal.{CommandRefusal}
+use Rattle.sja_texts.specs.declared.command_refusal.CommandRefusal.TheVariants.{OutOfMemory, NotHexadecimal, NotALine, Read}
+use Rattle.sja_texts.specs.declared.command_refusal.CommandRefusal.TheVariants.{Layout, Line, Notation, Plan, Run}
 use Rattle.sja_texts.specs.BytesText.{bytes_text}
 use Rattle.sja_texts.specs.LineText.{symbol}
 
@@ -21,7 +21,7 @@ IsDecoding digits text =
 
 -- why the digits are no received line: memory may be refused at any time; else they are no levels, or levels with this
 -- first fault
-abbrev pub RefusesLine : List ℕ → Refusal → Type 0
+abbrev pub RefusesLine : List ℕ → CommandRefusal → Type 0
 RefusesLine digits OutOfMemory = Unit {0}
 RefusesLine digits NotALine = (l : List Level) → ¬ ReadsAsLevels digits l
 RefusesLine digits (Line fault) = (l : List Level) × ReadsAsLevels digits l × IsFirstFault l fault

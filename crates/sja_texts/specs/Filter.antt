@@ -4,8 +4,8 @@ use Rattle.can_frame.specs.Frame.{FrameValue, IsFrame}
 use Rattle.can_frame.specs.Message.{message}
 use Rattle.can_frame.specs.Filter.{PassesBy}
 use Rattle.sja_texts.specs.Message.{ReadsAs, RefusesMessage}
-use Rattle.sja_texts.specs.declared.refusal.Refusal.{Refusal}
-use Rattle.sja_texts.specs.declared.refusal.Refusal.TheVariants.{OutOfMemory, NotHexadecimal}
+use Rattle.sja_texts.specs.declared.command_refusal.CommandRefusal.{CommandRefusal}
+use Rattle.sja_texts.specs.declared.command_refusal.CommandRefusal.TheVariants.{OutOfMemory, NotHexadecimal}
 
 -- eight hexadecimal digits, in either case, spell four registers
 abbrev pub ReadsAsRegisters : List ℕ → List ℕ → Type 0
@@ -23,12 +23,12 @@ IsFiltering single acr amr digits text =
     × IsFrame f × ReadsAs digits (message f) × IsVerdict (PassesBy single f.ext code mask f) text
 
 -- the digits spell no registers
-abbrev pub RefusesRegisters : List ℕ → Refusal → Type 0
+abbrev pub RefusesRegisters : List ℕ → CommandRefusal → Type 0
 RefusesRegisters digits refusal =
     (refusal ≡ NotHexadecimal) × ((registers : List ℕ) → ¬ ReadsAsRegisters digits registers)
 
 -- memory may be refused at any time; else why the first argument is refused that is, from left to right
-abbrev pub RefusesFilter : List ℕ → List ℕ → List ℕ → Refusal → Type 0
+abbrev pub RefusesFilter : List ℕ → List ℕ → List ℕ → CommandRefusal → Type 0
 RefusesFilter acr amr digits refusal =
     (refusal ≡ OutOfMemory)
     ⊎ RefusesRegisters acr refusal

@@ -4,9 +4,9 @@ use Rattle.hex.specs.Hex.{decode_of}
 use Rattle.can_frame.specs.Layout.{IsShort, IsLong, IsSized, UnusedAreZero, RtrAgrees}
 use Rattle.can_frame.specs.declared.layout_fault.LayoutFault.{LayoutFault}
 use Rattle.can_frame.specs.declared.layout_fault.LayoutFault.TheVariants.{Short, Long, UnusedBit, RtrDisagrees}
-use Rattle.sja_texts.specs.declared.refusal.Refusal.{Refusal}
-use Rattle.sja_texts.specs.declared.refusal.Refusal.TheVariants.{OutOfMemory, NotHexadecimal, NotALine, Read}
-use Rattle.sja_texts.specs.declared.refusal.Refusal.TheVariants.{Layout, Line, Notation, Plan, Run}
+use Rattle.sja_texts.specs.declared.command_refusal.CommandRefusal.{CommandRefusal}
+use Rattle.sja_texts.specs.declared.command_refusal.CommandRefusal.TheVariants.{OutOfMemory, NotHexadecimal, NotALine, Read}
+use Rattle.sja_texts.specs.declared.command_refusal.CommandRefusal.TheVariants.{Layout, Line, Notation, Plan, Run}
 
 -- the digits spell these bytes
 abbrev pub ReadsAs : List ℕ → List ℕ → Type 0
@@ -21,7 +21,7 @@ IsLayoutFault bytes RtrDisagrees = IsSized bytes × UnusedAreZero bytes × ¬ Rt
 
 -- why the digits spell no message: memory may be refused at any time; else they spell no bytes, or bytes with
 -- this fault
-abbrev pub RefusesMessage : List ℕ → Refusal → Type 0
+abbrev pub RefusesMessage : List ℕ → CommandRefusal → Type 0
 RefusesMessage digits OutOfMemory = Unit {0}
 RefusesMessage digits NotHexadecimal = (bytes : List ℕ) → ¬ ReadsAs digits bytes
 RefusesMessage digits (Layout fault) = (bytes : List ℕ) × ReadsAs digits bytes × IsLayoutFault bytes fault

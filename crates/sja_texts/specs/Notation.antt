@@ -7,8 +7,8 @@ use Rattle.can_notation.specs.Text.{Says, text}
 use Rattle.can_notation.specs.Faults.{HasHash, HasIdentifier, HasRest}
 use Rattle.can_notation.specs.declared.notation_fault.NotationFault.{NotationFault}
 use Rattle.can_notation.specs.declared.notation_fault.NotationFault.TheVariants.{NoHash, Identifier, Data}
-use Rattle.sja_texts.specs.declared.refusal.Refusal.{Refusal}
-use Rattle.sja_texts.specs.declared.refusal.Refusal.TheVariants.{Notation, OutOfMemory}
+use Rattle.sja_texts.specs.declared.command_refusal.CommandRefusal.{CommandRefusal}
+use Rattle.sja_texts.specs.declared.command_refusal.CommandRefusal.TheVariants.{Notation, OutOfMemory}
 use Rattle.sja_texts.specs.Message.{ReadsAs, RefusesMessage}
 use Rattle.sja_texts.specs.BytesText.{bytes_text}
 
@@ -27,7 +27,7 @@ IsNotationFault given Data = HasHash given × HasIdentifier given × ¬ HasRest 
 
 -- why a text is neither: a frame in the notation has such a fault; without a `#` it is refused as a message is. Memory
 -- may be refused at any time
-abbrev pub RefusesTranslation : List ℕ → Refusal → Type 0
+abbrev pub RefusesTranslation : List ℕ → CommandRefusal → Type 0
 RefusesTranslation given refusal =
     ((fault : NotationFault) × (refusal ≡ Notation fault) × IsNotationFault given fault)
     ⊎ (¬ HasHash given × RefusesMessage given refusal)

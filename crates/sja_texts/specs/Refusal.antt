@@ -10,8 +10,8 @@ use Rattle.sja_plan.specs.declared.plan_fault.PlanFault.{PlanFault}
 use Rattle.sja_plan.specs.declared.plan_fault.PlanFault.TheVariants as plan
 use Rattle.sja_log.specs.declared.run_fault.RunFault.{RunFault}
 use Rattle.sja_log.specs.declared.run_fault.RunFault.TheVariants as run
-use Rattle.sja_texts.specs.declared.refusal.Refusal.{Refusal}
-use Rattle.sja_texts.specs.declared.refusal.Refusal.TheVariants as refusal
+use Rattle.sja_texts.specs.declared.command_refusal.CommandRefusal.{CommandRefusal}
+use Rattle.sja_texts.specs.declared.command_refusal.CommandRefusal.TheVariants as refusal
 
 -- what is wrong with the layout of a message
 abbrev pub layout_fault_text : LayoutFault → List ℕ
@@ -61,7 +61,7 @@ run_fault_text run.Thread = codes "run fault 4 Thread"
 run_fault_text run.Unsettled = codes "run fault 5 Unsettled"
 
 -- each refusal's own text
-abbrev pub refusal_text : Refusal → List ℕ
+abbrev pub refusal_text : CommandRefusal → List ℕ
 refusal_text refusal.OutOfMemory = codes "out of memory"
 refusal_text refusal.NotHexadecimal = codes "not hexadecimal"
 refusal_text refusal.NotALine = codes "not a line"
@@ -73,5 +73,5 @@ refusal_text (refusal.Plan fault) = plan_fault_text fault
 refusal_text (refusal.Run fault) = run_fault_text fault
 
 -- its line: the program's name before it, a line feed after it
-abbrev pub refusal_line : Refusal → List ℕ
+abbrev pub refusal_line : CommandRefusal → List ℕ
 refusal_line given = codes "sja: " ++ refusal_text given ++ 10 ∷ []

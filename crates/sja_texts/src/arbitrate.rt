@@ -4,15 +4,15 @@ ghost use Rattle.std.specs.Prelude.{◌≡◌, ◌++◌, map, IfOk, IfErr, OnOk}
 ghost use Rattle.std.specs.List.{AllZip};
 ghost use Rattle.sja_texts.specs.Arbitrate.{IsArbitration, RefusesMessages, SpellsFrame, place_line, places_text};
 
+use super::command_refusal::CommandRefusal;
 use super::message::message_of;
-use super::refusal::Refusal;
 use can_frame::Frame;
 use can_node::contend;
 use std::alloc::{AllocError, Global};
 
 /// A line for each of the messages that these digits spell: the place code where its frame loses, or `-`. The messages
 /// are judged from left to right.
-pub fn arbitrated(alloc: Global, messages: &[&str]) -> Result<Vec<u8>, Refusal>
+pub fn arbitrated(alloc: Global, messages: &[&str]) -> Result<Vec<u8>, CommandRefusal>
     ensures ok { IfOk result (λ text. IsArbitration (map (λ digits. digits.now) messages.now) text.items) }
     ensures err { IfErr result (RefusesMessages (map (λ digits. digits.now) messages.now)) }
 {
@@ -22,7 +22,7 @@ pub fn arbitrated(alloc: Global, messages: &[&str]) -> Result<Vec<u8>, Refusal>
 }
 
 /// The frames whose messages these digits spell.
-fn frames_of(alloc: Global, messages: &[&str]) -> Result<Vec<Frame>, Refusal>
+fn frames_of(alloc: Global, messages: &[&str]) -> Result<Vec<Frame>, CommandRefusal>
     ensures ok { IfOk result (λ frames. AllZip SpellsFrame (map (λ digits. digits.now) messages.now) frames.items) }
     ensures err { IfErr result (RefusesMessages (map (λ digits. digits.now) messages.now)) }
 {

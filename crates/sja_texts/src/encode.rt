@@ -4,14 +4,14 @@ ghost use Rattle.std.specs.Prelude.{IfOk, IfErr};
 ghost use Rattle.sja_texts.specs.Encode.{IsEncoding};
 ghost use Rattle.sja_texts.specs.Message.{RefusesMessage};
 
+use super::command_refusal::CommandRefusal;
 use super::line_text::text_of;
 use super::message::message_of;
-use super::refusal::Refusal;
 use can_bits::line_of;
 use std::alloc::Global;
 
 /// The line of the frame whose message these digits spell, as text.
-pub fn encoded(alloc: Global, digits: &str) -> Result<Vec<u8>, Refusal>
+pub fn encoded(alloc: Global, digits: &str) -> Result<Vec<u8>, CommandRefusal>
     ensures ok { IfOk result (λ text. IsEncoding digits.now text.items) }
     ensures err { IfErr result (RefusesMessage digits.now) }
 {

@@ -5,8 +5,8 @@ ghost use Rattle.can_frame.specs.Filter.{Passes};
 ghost use Rattle.sja_texts.specs.Filter.{IsFiltering, IsVerdict, ReadsAsRegisters, RefusesFilter};
 ghost use Rattle.sja_texts.specs.Filter.{RefusesRegisters};
 
+use super::command_refusal::CommandRefusal;
 use super::message::message_of;
-use super::refusal::Refusal;
 use can_frame::{Filter, Frame};
 use std::alloc::Global;
 
@@ -18,7 +18,7 @@ pub fn filtered(
     acr: &str,
     amr: &str,
     digits: &str,
-) -> Result<Vec<u8>, Refusal>
+) -> Result<Vec<u8>, CommandRefusal>
     ensures ok { IfOk result (λ text. IsFiltering single acr.now amr.now digits.now text.items) }
     ensures err { IfErr result (RefusesFilter acr.now amr.now digits.now) }
 {
@@ -32,14 +32,14 @@ pub fn filtered(
 }
 
 /// The four registers that these eight digits spell.
-fn registers_of(digits: &str) -> Result<[u8; 4], Refusal>
+fn registers_of(digits: &str) -> Result<[u8; 4], CommandRefusal>
     ensures ok { IfOk result (λ registers. ReadsAsRegisters digits.now registers) }
     ensures err { IfErr result (RefusesRegisters digits.now) }
 {
     let mut registers = [0; 4];
     match hex::decode_to_slice(digits, &mut registers) {
         Ok(()) => Ok(registers),
-        Err(_) => Err(Refusal::NotHexadecimal),
+        Err(_) => Err(CommandRefusal::NotHexadecimal),
     }
 }
 

@@ -1,13 +1,14 @@
 //! What the program `sja` writes of one frame, of one line and of frames that contend, and of each refusal.
 //!
 //! [`encoded`], [`decoded`], [`filtered`], [`arbitrated`] and [`translated`] make the texts of five commands from the
-//! texts of their arguments. A [`Refusal`] says why a request has no answer, and shows as the text that the program writes of it.
+//! texts of their arguments. A [`CommandRefusal`] says why a request has no answer, and shows as the text that the program writes of it.
 //!
 //! Their tests stand in `crates/test_program/src/program`.
 #![tactic(auto)]
 
 mod arbitrate;
 mod bytes_text;
+mod command_refusal;
 mod decode;
 mod encode;
 mod filter;
@@ -15,11 +16,10 @@ mod line_text;
 mod message;
 mod notation;
 mod plan_fault_text;
-mod refusal;
 
 pub use arbitrate::arbitrated;
+pub use command_refusal::CommandRefusal;
 pub use decode::decoded;
 pub use encode::encoded;
 pub use filter::filtered;
 pub use notation::translated;
-pub use refusal::Refusal;

@@ -5,7 +5,7 @@ ghost use Rattle.can_bits.specs.declared.level.Level.{Level as Bus};
 ghost use Rattle.sja_texts.specs.Decode.{ReadsAsLevels, RefusesLine};
 ghost use Rattle.sja_texts.specs.LineText.{symbol, line_text};
 
-use super::refusal::Refusal;
+use super::command_refusal::CommandRefusal;
 use can_bits::Level;
 use std::alloc::{AllocError, Global};
 
@@ -44,14 +44,14 @@ fn level_of(digit: u8) -> Option<Level>
 }
 
 /// The levels of these digits.
-pub fn levels_of(alloc: Global, digits: &str) -> Result<Vec<Level>, Refusal>
+pub fn levels_of(alloc: Global, digits: &str) -> Result<Vec<Level>, CommandRefusal>
     ensures ok { IfOk result (λ levels. ReadsAsLevels digits.now levels.items) }
     ensures err { IfErr result (RefusesLine digits.now) }
 {
     let mut levels = Vec::with_capacity(alloc, digits.len())?;
     for digit in digits.as_bytes() {
         let Some(level) = level_of(*digit) else {
-            return Err(Refusal::NotALine);
+            return Err(CommandRefusal::NotALine);
         };
         levels.push_reserved(level);
     }

@@ -6,28 +6,28 @@ ghost use Rattle.can_notation.specs.Text.{text};
 ghost use Rattle.sja_texts.specs.Notation.{IsTranslation, RefusesTranslation};
 
 use super::bytes_text::text_of_bytes;
+use super::command_refusal::CommandRefusal;
 use super::message::message_of;
-use super::refusal::Refusal;
 use can_frame::{Frame, Message};
 use can_notation::{NotationFault, read_text, text_of};
 use std::alloc::{AllocError, Global};
 
 /// The bytes of the message whose frame this text says in can-utils' notation; or, where it has no `#`, that notation
 /// of the message that its hexadecimal digits spell. Both end with a line feed.
-pub fn translated(alloc: Global, given: &str) -> Result<Vec<u8>, Refusal>
+pub fn translated(alloc: Global, given: &str) -> Result<Vec<u8>, CommandRefusal>
     ensures ok { IfOk result (λ text. IsTranslation given.now text.items) }
     ensures err { IfErr result (RefusesTranslation given.now) }
 {
     match read_text(given.as_bytes()) {
         Ok(frame) => Ok(text_of_bytes(alloc, Message::of(&frame).bytes())?),
         Err(NotationFault::NoHash) => in_notation(alloc, given),
-        Err(NotationFault::Identifier) => Err(Refusal::Notation(NotationFault::Identifier)),
-        Err(NotationFault::Data) => Err(Refusal::Notation(NotationFault::Data)),
+        Err(NotationFault::Identifier) => Err(CommandRefusal::Notation(NotationFault::Identifier)),
+        Err(NotationFault::Data) => Err(CommandRefusal::Notation(NotationFault::Data)),
     }
 }
 
 /// The frame of the message that these digits spell, in that notation.
-fn in_notation(alloc: Global, digits: &str) -> Result<Vec<u8>, Refusal>
+fn in_notation(alloc: Global, digits: &str) -> Result<Vec<u8>, CommandRefusal>
     requires plain { ¬ HasHash digits.now }
     ensures ok { IfOk result (λ text. IsTranslation digits.now text.items) }
     ensures err { IfErr result (RefusesTranslation digits.now) }

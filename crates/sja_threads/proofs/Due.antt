@@ -8,7 +8,7 @@ use Rattle.sja_link.specs.Records.{record_of}
 use Rattle.sja_wire.specs.Links.{Grows}
 use Rattle.sja_bus.specs.Resting.{RestsAs}
 use Rattle.sja_wire.specs.Wire.{journal_at}
-use Rattle.sja_threads.specs.Needed.{WorksAt, IsDue, AllDue}
+use Rattle.sja_threads.specs.Needed.{WorksAt, IsBitDue, AllDue}
 use Rattle.sja_threads.specs.Inside.Underway.{StayDue}
 
 works_grows : (j k : List Entry) (bits : ℕ) → Grows j k → WorksAt j bits → WorksAt k bits
@@ -38,7 +38,7 @@ due_kept bits old new count grow due i less = due_stays old new count grow i (du
 -- where a node isn't at rest after so many bits one more is due
 pub due_now : (bits : ℕ) (journals : List (List Entry)) (node : ℕ) → node < length journals →
     length (bits_of (journal_at journals node)) ≡ bits → RestsAs (record_of (journal_at journals node)) false →
-    IsDue bits journals
+    IsBitDue bits journals
 due_now bits journals node few many busy = (
   node,
   few,

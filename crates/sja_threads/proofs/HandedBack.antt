@@ -21,11 +21,11 @@ use Rattle.sja_bus.specs.Buses.{BusValue, new_bus}
 use Rattle.sja_wire.specs.Wire.{journal_at}
 use Rattle.sja_driver.specs.Deeds.{deeds_at}
 use Rattle.sja_plan.specs.Plan.{steps_at}
-use Rattle.sja_threads.specs.declared.hand.Hand.{Hand}
+use Rattle.sja_threads.specs.declared.thread_start.ThreadStart.{ThreadStart}
 use Rattle.sja_threads.specs.declared.worked.Worked.{Worked}
 use Rattle.sja_threads.specs.Working.{AreUntouched}
 use Rattle.sja_threads.specs.Ended.{IsOverAt, IsOverOf}
-use Rattle.sja_threads.specs.Inside.Making.{AreNewLinks, IsMade, AreMade}
+use Rattle.sja_threads.specs.Inside.Making.{AreNewEnds, IsMade, AreMade}
 use Rattle.sja_threads.specs.Inside.Started.{Serves}
 use Rattle.sja_threads.specs.Inside.Underway.{IsUnderWay}
 use Rattle.sja_threads.proofs.Places.{each_place}
@@ -44,7 +44,7 @@ some_at (x ∷ xs) zero less = x
 some_at (x ∷ xs) (suc i) less = some_at xs i (omega (arith, less))
 
 -- before the first turn of the bus
-pub begins : {G : Type 0} (plan : PlanValue) (bus : BusValue) (hands : List (Hand G)) (links : List RingBus) →
+pub begins : {G : Type 0} (plan : PlanValue) (bus : BusValue) (hands : List (ThreadStart G)) (links : List RingBus) →
     bus ≡ new_bus plan.strikes plan.bits (length plan.nodes) → length links ≡ 8 * length plan.nodes →
     length hands ≡ length plan.nodes → AreMade plan (length plan.nodes) hands links → IsUnderWay plan bus links
 begins {G} plan bus hands links is count many made = record {
@@ -67,8 +67,8 @@ begins {G} plan bus hands links is count many made = record {
     empty node = ap (λ (b : BusValue). journal_at b.journals node) is ∙ nothing_at (length plan.nodes) node
 
     at : (node : ℕ) (few : node < length plan.nodes) →
-        let h : Hand G = some_at hands node (omega (arith, few, many)) in
-        AreNewLinks 8 node links (slice_index_or hands node h).links.items (8 * node)
+        let h : ThreadStart G = some_at hands node (omega (arith, few, many)) in
+        AreNewEnds 8 node links (slice_index_or hands node h).links.items (8 * node)
     at node few = (made node (some_at hands node (omega (arith, few, many))) few).links
 
 -- ---- its end
@@ -92,22 +92,22 @@ still_one b c d e one p q = (
 )
 
 -- what stands at one place of both lists, and the deeds of that node
-pub record Place {G : Type 0} (quits : Bool) (plan : PlanValue) (hands : List (Hand G)) (ws : List (Worked RingDriver))
+pub record Place {G : Type 0} (quits : Bool) (plan : PlanValue) (hands : List (ThreadStart G)) (ws : List (Worked RingDriver))
     (deeds : List (List Deed)) (i : ℕ) : Type 0 where
-  pub hand : Hand G
+  pub hand : ThreadStart G
   pub worked : Worked RingDriver
-  pub hand_is : (x : Hand G) → slice_index_or hands i x ≡ hand
+  pub hand_is : (x : ThreadStart G) → slice_index_or hands i x ≡ hand
   pub worked_is : (y : Worked RingDriver) → slice_index_or ws i y ≡ worked
   pub serves : Serves quits plan hand worked
   pub deeds_are : deeds_at deeds i ≡ serves.worked.deeds
 
-pub record Done {G : Type 0} (quits : Bool) (plan : PlanValue) (hands : List (Hand G)) (ws : List (Worked RingDriver)) :
+pub record Done {G : Type 0} (quits : Bool) (plan : PlanValue) (hands : List (ThreadStart G)) (ws : List (Worked RingDriver)) :
     Type 0 where
   pub deeds : List (List Deed)
   pub count : length deeds ≡ length hands
   pub places : (i : ℕ) → i < length hands → Place quits plan hands ws deeds i
 
-pub all_done : {G : Type 0} (quits : Bool) (plan : PlanValue) (hands : List (Hand G)) (ws : List (Worked RingDriver)) →
+pub all_done : {G : Type 0} (quits : Bool) (plan : PlanValue) (hands : List (ThreadStart G)) (ws : List (Worked RingDriver)) →
     EachRelated (Serves quits plan) hands ws → Done quits plan hands ws
 all_done quits plan [] [] p = record { deeds = []; count = refl; places = λ i less. absurd (omega (arith, less)) }
 all_done quits plan [] (w ∷ ws) p = absurd p
@@ -139,12 +139,12 @@ all_done {G} quits plan (h ∷ hands) (w ∷ ws) p =
           deeds_are = r.deeds_are;
         }
 
-module _ {G : Type 0} (quits : Bool) (plan : PlanValue) (hands : List (Hand G)) (ws : List (Worked RingDriver))
+module _ {G : Type 0} (quits : Bool) (plan : PlanValue) (hands : List (ThreadStart G)) (ws : List (Worked RingDriver))
     (first links : List RingBus) (bus : BusValue) (many : length hands ≡ length plan.nodes)
     (long : length first ≡ 8 * length plan.nodes) (made : AreMade plan (length plan.nodes) hands first)
     (sames : EachRelated SameBus first links) (way : IsUnderWay plan bus links) where
   -- one node
-  over_at : (node : ℕ) (h : Hand G) (w : Worked RingDriver) (deeds : List Deed) → node < length plan.nodes →
+  over_at : (node : ℕ) (h : ThreadStart G) (w : Worked RingDriver) (deeds : List Deed) → node < length plan.nodes →
       IsMade plan node h first → (s : Serves quits plan h w) → deeds ≡ s.worked.deeds →
       IsOverAt (settings_in (at_power_on plan.version)) (steps_at plan node) node (journal_at bus.journals node) deeds w
       links (8 * node)
@@ -196,7 +196,7 @@ module _ {G : Type 0} (quits : Bool) (plan : PlanValue) (hands : List (Hand G)) 
               node (journal_at bus.journals node)
               (deeds_at done.deeds node) x links (8 * node)) (sym (p.worked_is w))
               (over_at node p.hand p.worked (deeds_at done.deeds node) few
-              (subst (λ (x : Hand G). IsMade plan node x first) (p.hand_is p.hand) (made node p.hand few))
+              (subst (λ (x : ThreadStart G). IsMade plan node x first) (p.hand_is p.hand) (made node p.hand few))
               p.serves p.deeds_are);
         },
       )

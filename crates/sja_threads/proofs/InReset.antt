@@ -13,8 +13,8 @@ use Rattle.sja_driver.specs.Carried.{ported}
 use Rattle.sja_driver.specs.Deeds.{Deed, opened, active_after, is_active}
 use Rattle.sja_driver.proofs.Sections.{active_push}
 use Rattle.sja_driver.proofs.Modes.{rm_step}
-use Rattle.sja_threads.specs.Setting.{LeadTo}
-use Rattle.sja_threads.specs.Setting.LeadTo.{nothing_done, step_done}
+use Rattle.sja_threads.specs.Setting.{LeadToSettings}
+use Rattle.sja_threads.specs.Setting.LeadToSettings.{nothing_done, step_done}
 
 -- a step after which a driver is in reset opened no activation
 none_opened : (active : Bool) (step : Step) (answer : StepAnswer) → active_after active step answer ≡ false →
@@ -28,7 +28,7 @@ after_step : (b : Bool) (p : Registers) (step : Step) (answer : StepAnswer) → 
 after_step true p step answer h = refl
 after_step false p step answer h = h refl
 
-pub reset_kept : (first : SettingsValue) (deeds : List Deed) (s : SettingsValue) → LeadTo first deeds s →
+pub reset_kept : (first : SettingsValue) (deeds : List Deed) (s : SettingsValue) → LeadToSettings first deeds s →
     first.mode.rm ≡ true → is_active deeds ≡ false → s.mode.rm ≡ true
 reset_kept first deeds s nothing_done rm out = rm
 reset_kept first deeds s (step_done before d was p l has done) rm out =

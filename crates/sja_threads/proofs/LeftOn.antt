@@ -19,22 +19,22 @@ none_beyond (suc n) [] e = omega arith
 none_beyond (suc n) (x ∷ xs) e = let less = none_beyond n xs e in omega (arith, less)
 
 -- one link more
-pub left_push : (buses : List RingBus) (drivers : List RingDriver) (n : ℕ) (lying : List (List Down)) (x : List Down) →
-    AreLeftOn buses drivers n lying →
+pub left_push : (buses : List RingBus) (drivers : List RingDriver) (n : ℕ) (left_down : List (List Down)) (x : List Down) →
+    AreLeftOn buses drivers n left_down →
     ((b : RingBus) (d : RingDriver) → IsLeftOn (slice_index_or buses n b) (slice_index_or drivers n d) x) →
-    AreLeftOn buses drivers (n + 1) (lying ++ x ∷ [])
-left_push buses drivers n lying x h is = record {
-  count_is = let c = h.count_is in let e = length-append lying (x ∷ []) in omega (arith, c, e);
+    AreLeftOn buses drivers (n + 1) (left_down ++ x ∷ [])
+left_push buses drivers n left_down x h is = record {
+  count_is = let c = h.count_is in let e = length-append left_down (x ∷ []) in omega (arith, c, e);
   each = λ i b d l less. elim (cases_eq n i) [
     | inl e ↦
-        let at : slice_index_or (lying ++ x ∷ []) i l ≡ x =
-        ap (λ m. slice_index_or (lying ++ x ∷ []) m l) (sym (h.count_is ∙ e)) ∙ push_here lying x l in
+        let at : slice_index_or (left_down ++ x ∷ []) i l ≡ x =
+        ap (λ m. slice_index_or (left_down ++ x ∷ []) m l) (sym (h.count_is ∙ e)) ∙ push_here left_down x l in
         subst (λ (y : List Down). IsLeftOn (slice_index_or buses i b) (slice_index_or drivers i d) y) (sym at)
         (subst (λ (m : ℕ). IsLeftOn (slice_index_or buses m b) (slice_index_or drivers m d) x) e (is b d))
     | inr differ ↦
         let c = h.count_is in
         subst (λ (y : List Down). IsLeftOn (slice_index_or buses i b) (slice_index_or drivers i d) y)
-        (sym (push_front lying x l i (omega (arith, c, less, differ)))) (h.each i b d l (omega (arith, less, differ)))
+        (sym (push_front left_down x l i (omega (arith, c, less, differ)))) (h.each i b d l (omega (arith, less, differ)))
   ];
 }
 

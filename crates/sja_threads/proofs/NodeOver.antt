@@ -28,16 +28,16 @@ use Rattle.sja_threads.proofs.Outside.{given_outside}
 
 module _ (set : SettingsValue) (steps : List Step) (node : ℕ) (j : List Entry) (deeds : List Deed) (w : Worked
     RingDriver)
-    (links : List RingBus) (base : ℕ) (h : IsOverAt set steps node j deeds w links base) (lying : List (List Down))
+    (links : List RingBus) (base : ℕ) (h : IsOverAt set steps node j deeds w links base) (left_down : List (List Down))
     (bus : RingBus) (end : RingDriver)
     (left : (a : ℕ) → a < 8 → IsLeftOn (slice_index_or links (base + a) bus) (slice_index_or w.links.items a end)
-    (slice_index_or lying (base + a) [])) where
+    (slice_index_or left_down (base + a) [])) where
   abbrev did : ℕ → Account
   did a = record { got = h.drivers.got a; given = given_in (deeds_of deeds (suc a)) }
 
   -- what was put is what the driver got and what lies there, and all that it gave was taken
   on_link : (a : ℕ) → a < 8 →
-      (put_of (part j (suc a)) ≡ h.drivers.got a ++ slice_index_or lying (base + a) [])
+      (put_of (part j (suc a)) ≡ h.drivers.got a ++ slice_index_or left_down (base + a) [])
       × (given_in (deeds_of deeds (suc a)) ≡ taken_of (part j (suc a)))
   on_link a few =
       let from_none : 0 + a ≡ a = omega arith in
@@ -63,18 +63,18 @@ module _ (set : SettingsValue) (steps : List Step) (node : ℕ) (j : List Entry)
   abbrev ended_with : ℕ → ℕ → ActivationValue
   ended_with a n = record {
     released = released_of (releases_in (log_of w.driver)) n;
-    unread = held_after w.driver a ++ messages (slice_index_or lying (base + a) []);
+    unread = held_after w.driver a ++ messages (slice_index_or left_down (base + a) []);
   }
 
   pub settled_all : (a : ℕ) → a < 8 →
-      IsSettled j (a + 1) (activation_after w.driver (slice_index_or lying (base + a) []) a)
+      IsSettled j (a + 1) (activation_after w.driver (slice_index_or left_down (base + a) []) a)
   settled_all a few =
       let one : suc a ≡ a + 1 = omega arith in
       let link = on_link a few in
       subst (λ (n : ℕ). IsSettled j n (ended_with a n)) one
       (record {
         driver = did a;
-        down = slice_index_or lying (base + a) [];
+        down = slice_index_or left_down (base + a) [];
         held = held_after w.driver a;
         put = link.0;
         given = link.1;

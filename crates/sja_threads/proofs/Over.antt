@@ -31,7 +31,7 @@ use Rattle.sja_log.proofs.NodeEnds.{AreEnds, any_of, trace_of, settled_of, nodes
 use Rattle.sja_log.proofs.NodeEnds.{node_end, journal_is, journals_in_log, run_of_ends}
 use Rattle.sja_threads.specs.declared.worked.Worked.{Worked}
 use Rattle.sja_threads.specs.Ended.{IsOverAt, IsOver}
-use Rattle.sja_threads.specs.Settling.{all_drivers, all_ends, IsLeftOn, AreLeftOn, IsLogOf}
+use Rattle.sja_threads.specs.Settling.{all_drivers, all_ends, IsLeftOn, AreLeftOn, IsSettledLog}
 use Rattle.sja_threads.proofs.LeftOn.{eight_at}
 use Rattle.sja_threads.proofs.Linking.{linked_by}
 use Rattle.sja_threads.proofs.NodeOver.{given_all, settled_all}
@@ -39,12 +39,12 @@ use Rattle.sja_threads.proofs.LinksOver.{eights, in_links}
 
 -- what the log of a run that is over is made of
 pub record IsMade (plan : PlanValue) (bus : BusValue) (links : List RingBus) (workeds : List (Worked RingDriver))
-    (end : End) (log : RunValue) (logs : List NodeLog) (lying : List (List Down)) : Type 0 where
+    (end : End) (log : RunValue) (logs : List NodeLog) (left_down : List (List Down)) : Type 0 where
   pub version : log.version ≡ plan.version
   pub bits : log.bits ≡ bus.run
   pub ends : log.end ≡ end
-  pub nodes : AreNodeEnds logs (all_drivers workeds) lying (length (all_drivers workeds)) log.nodes
-  pub left : AreLeftOn links (all_ends workeds) (length links) lying
+  pub nodes : AreNodeEnds logs (all_drivers workeds) left_down (length (all_drivers workeds)) log.nodes
+  pub left : AreLeftOn links (all_ends workeds) (length links) left_down
   pub journals : map (λ (g : NodeLog). g.journal.entries) logs ≡ bus.journals
   pub lawful : IsBusRun bus.script bus.run (map (λ (g : NodeLog). g.journal.entries) logs)
   pub counters : (k : ℕ) (g : NodeLog) → k < length logs →
@@ -52,10 +52,10 @@ pub record IsMade (plan : PlanValue) (bus : BusValue) (links : List RingBus) (wo
       (slice_index_or logs k g).rxerr
 
 module _ (plan : PlanValue) (bus : BusValue) (links : List RingBus) (workeds : List (Worked RingDriver)) (end : End)
-    (log : RunValue) (logs : List NodeLog) (lying : List (List Down))
-    (m : IsMade plan bus links workeds end log logs lying) (deeds : List (List Deed))
+    (log : RunValue) (logs : List NodeLog) (left_down : List (List Down))
+    (m : IsMade plan bus links workeds end log logs left_down) (deeds : List (List Deed))
     (h : IsOver plan bus links workeds deeds) where
-  are : AreEnds plan log logs bus.journals (all_drivers workeds) lying
+  are : AreEnds plan log logs bus.journals (all_drivers workeds) left_down
   are = record {
     nodes = m.nodes;
     drivers_count = length-map workeds (λ (w : Worked RingDriver). w.driver) ∙ h.workeds_count;
@@ -66,7 +66,7 @@ module _ (plan : PlanValue) (bus : BusValue) (links : List RingBus) (workeds : L
 
   module _ (k : ℕ) (n : NodeValue) (less : k < length log.nodes) where
     in_plan : k < length plan.nodes
-    in_plan = let c = nodes_count plan log logs bus.journals (all_drivers workeds) lying are in omega (arith, c, less)
+    in_plan = let c = nodes_count plan log logs bus.journals (all_drivers workeds) left_down are in omega (arith, c, less)
 
     in_workeds : k < length workeds
     in_workeds = let c = h.workeds_count in let i = in_plan in omega (arith, c, i)
@@ -88,10 +88,10 @@ module _ (plan : PlanValue) (bus : BusValue) (links : List RingBus) (workeds : L
     some_end = let e = over.eight in any_of handed.links.items (omega (arith, e))
 
     left_there : (a : ℕ) → a < 8 → IsLeftOn (slice_index_or links (8 * k + a) some_bus)
-        (slice_index_or handed.links.items a some_end) (slice_index_or lying (8 * k + a) [])
+        (slice_index_or handed.links.items a some_end) (slice_index_or left_down (8 * k + a) [])
     left_there a few =
         subst (λ (d : RingDriver). IsLeftOn (slice_index_or links (8 * k + a) some_bus) d
-        (slice_index_or lying (8 * k + a) []))
+        (slice_index_or left_down (8 * k + a) []))
         (eight_at (λ (w : Worked RingDriver). w.links.items) workeds (eights plan bus links workeds deeds h) k a some
         some_end in_workeds few)
         (m.left.each (8 * k + a) some_bus some_end []
@@ -107,30 +107,30 @@ module _ (plan : PlanValue) (bus : BusValue) (links : List RingBus) (workeds : L
     there = slice_index_or log.nodes k n
 
     end_there : IsNodeEnd
-        (slice_index_or logs k (some_log plan log logs bus.journals (all_drivers workeds) lying are k n less))
-        handed.driver lying (8 * k) there
+        (slice_index_or logs k (some_log plan log logs bus.journals (all_drivers workeds) left_down are k n less))
+        handed.driver left_down (8 * k) there
     end_there =
         subst (λ (d : LoggedDriver). IsNodeEnd
-        (slice_index_or logs k (some_log plan log logs bus.journals (all_drivers workeds) lying are k n less)) d lying
+        (slice_index_or logs k (some_log plan log logs bus.journals (all_drivers workeds) left_down are k n less)) d left_down
         (8 * k) there)
-        (driver_is (some_driver plan log logs bus.journals (all_drivers workeds) lying are k n less))
-        (node_end plan log logs bus.journals (all_drivers workeds) lying are k n less)
+        (driver_is (some_driver plan log logs bus.journals (all_drivers workeds) left_down are k n less))
+        (node_end plan log logs bus.journals (all_drivers workeds) left_down are k n less)
 
     same : there.journal ≡ journal
-    same = journal_is plan log logs bus.journals (all_drivers workeds) lying are k n less
+    same = journal_is plan log logs bus.journals (all_drivers workeds) left_down are k n less
 
     trace_there : IsTrace (steps_at plan k) there (deeds_at deeds k)
-    trace_there = trace_of journal (deeds_at deeds k) handed.driver lying (8 * k) _ there end_there same
+    trace_there = trace_of journal (deeds_at deeds k) handed.driver left_down (8 * k) _ there end_there same
         (steps_at plan k) over.deeds_are over.traces
         (given_all (settings_in (at_power_on plan.version)) (steps_at plan k) k journal (deeds_at deeds k) handed links
-        (8 * k) over lying some_bus some_end
+        (8 * k) over left_down some_bus some_end
         left_there)
 
     settled_there : AreSettled there
-    settled_there = settled_of journal (deeds_at deeds k) handed.driver lying (8 * k) _ there end_there same
+    settled_there = settled_of journal (deeds_at deeds k) handed.driver left_down (8 * k) _ there end_there same
         over.lawful
         (settled_all (settings_in (at_power_on plan.version)) (steps_at plan k) k journal (deeds_at deeds k) handed
-        links (8 * k) over lying some_bus some_end
+        links (8 * k) over left_down some_bus some_end
         left_there)
 
     bus_there : IsBusRun bus.script bus.run bus.journals
@@ -153,14 +153,14 @@ module _ (plan : PlanValue) (bus : BusValue) (links : List RingBus) (workeds : L
         ∙ index_map (λ (x : Worked RingDriver). x.driver) workeds k w handed.driver in_workeds)
 
   pub run_over : IsRun plan log deeds
-  run_over = run_of_ends plan log logs bus.journals (all_drivers workeds) lying are deeds bus.script bus.run m.version
+  run_over = run_of_ends plan log logs bus.journals (all_drivers workeds) left_down are deeds bus.script bus.run m.version
       h.script m.bits m.lawful trace_there settled_there
 
-  pub log_over : IsLogOf bus workeds end log
+  pub log_over : IsSettledLog bus workeds end log
   log_over = record {
     bits = m.bits;
     ends = m.ends;
-    journals = journals_in_log plan log logs bus.journals (all_drivers workeds) lying are;
+    journals = journals_in_log plan log logs bus.journals (all_drivers workeds) left_down are;
     done = λ node n w less. done_there node n less w;
     linked = λ node n less. linked_by (steps_at plan node) (deeds_at deeds node) (slice_index_or log.nodes node n)
         (trace_there node n less) (lawful_there node n less) (orderly_there node n less);
@@ -170,27 +170,27 @@ module _ (plan : PlanValue) (bus : BusValue) (links : List RingBus) (workeds : L
 
 pub made : (plan : PlanValue) (bus : BusValue) (links : List RingBus) (workeds : List (Worked RingDriver)) (end : End)
     (log : RunValue) (logs : List NodeLog) (drivers slice : List LoggedDriver) (endings : List RingDriver)
-    (lying now : List (List Down)) (nodes : List NodeValue) (version bits : ℕ) →
-    drivers ≡ all_drivers workeds → slice ≡ drivers → endings ≡ all_ends workeds → now ≡ lying →
-    AreNodeEnds logs slice now (length slice) nodes → AreLeftOn links endings (length links) lying →
+    (left_down now : List (List Down)) (nodes : List NodeValue) (version bits : ℕ) →
+    drivers ≡ all_drivers workeds → slice ≡ drivers → endings ≡ all_ends workeds → now ≡ left_down →
+    AreNodeEnds logs slice now (length slice) nodes → AreLeftOn links endings (length links) left_down →
     log ≡ record { version = version; bits = bits; end = end; nodes = nodes } → version ≡ plan.version →
     bits ≡ bus.run → map (λ (g : NodeLog). g.journal.entries) logs ≡ bus.journals →
     IsBusRun bus.script bus.run (map (λ (g : NodeLog). g.journal.entries) logs) →
     ((k : ℕ) (g : NodeLog) → k < length logs →
     CountersAre (slice_index_or logs k g).journal.entries (slice_index_or logs k g).txerr
-    (slice_index_or logs k g).rxerr) → IsMade plan bus links workeds end log logs lying
-made plan bus links workeds end log logs drivers slice endings lying now nodes version bits are sliced ended lists all
+    (slice_index_or logs k g).rxerr) → IsMade plan bus links workeds end log logs left_down
+made plan bus links workeds end log logs drivers slice endings left_down now nodes version bits are sliced ended lists all
     left is versions run journals lawful counters = record {
       version = ap (λ (l : RunValue). l.version) is ∙ versions;
       bits = ap (λ (l : RunValue). l.bits) is ∙ run;
       ends = ap (λ (l : RunValue). l.end) is;
       nodes =
-          subst (λ (ns : List NodeValue). AreNodeEnds logs (all_drivers workeds) lying (length (all_drivers workeds))
+          subst (λ (ns : List NodeValue). AreNodeEnds logs (all_drivers workeds) left_down (length (all_drivers workeds))
           ns) (sym (ap (λ (l : RunValue). l.nodes) is))
           (subst (λ (l : List (List Down)). AreNodeEnds logs (all_drivers workeds) l (length (all_drivers workeds))
           nodes) lists
           (subst (λ (ds : List LoggedDriver). AreNodeEnds logs ds now (length ds) nodes) (sliced ∙ are) all));
-      left = subst (λ (es : List RingDriver). AreLeftOn links es (length links) lying) ended left;
+      left = subst (λ (es : List RingDriver). AreLeftOn links es (length links) left_down) ended left;
       journals = journals;
       lawful = lawful;
       counters = counters;

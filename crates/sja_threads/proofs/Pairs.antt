@@ -14,8 +14,8 @@ use Rattle.sja_plan.specs.Plan.{PlanValue}
 use Rattle.sja_script.specs.declared.step.Step.{Step}
 use Rattle.sja_driver.specs.Logs.{HasRoom, IsEmpty}
 use Rattle.sja_plan.specs.Plan.{steps_at}
-use Rattle.sja_threads.specs.declared.hand.Hand.{Hand}
-use Rattle.sja_threads.specs.Inside.Making.{IsNewBus, IsNewDriver, AreNewLinks, IsMade, AreMade}
+use Rattle.sja_threads.specs.declared.thread_start.ThreadStart.{ThreadStart}
+use Rattle.sja_threads.specs.Inside.Making.{IsNewBus, IsNewEnd, AreNewEnds, IsMade, AreMade}
 
 -- what holds of so many elements from a place on, and of the next one, which is the last, holds of one more
 each_push : {A : Type 0} (P : ℕ → A → Type 0) (count : ℕ) (xs : List A) (base : ℕ) (x : A) → length xs ≡ base + count →
@@ -48,11 +48,11 @@ first_push P count xs x long so new a y less =
 -- one link more
 pub links_push : (count node : ℕ) (buses : List RingBus) (drivers : List RingDriver) (base : ℕ) (b : RingBus)
     (d : RingDriver) → length buses ≡ base + count → length drivers ≡ count →
-    AreNewLinks count node buses drivers base → IsNewBus node (suc count) b → IsNewDriver node (suc count) d →
-    OneLink b d → AreNewLinks (count + 1) node (buses ++ b ∷ []) (drivers ++ d ∷ []) base
+    AreNewEnds count node buses drivers base → IsNewBus node (suc count) b → IsNewEnd node (suc count) d →
+    OneLink b d → AreNewEnds (count + 1) node (buses ++ b ∷ []) (drivers ++ d ∷ []) base
 links_push count node buses drivers base b d long many so bus driver one = record {
   buses_new = each_push (λ a x. IsNewBus node (suc a) x) count buses base b long so.buses_new bus;
-  drivers_new = first_push (λ a y. IsNewDriver node (suc a) y) count drivers d many so.drivers_new driver;
+  drivers_new = first_push (λ a y. IsNewEnd node (suc a) y) count drivers d many so.drivers_new driver;
   one = λ a x y less. elim (cases_eq a count) [
     | inl last ↦
         let here : base + a ≡ length buses = omega (arith, last, long) in
@@ -75,7 +75,7 @@ links_push count node buses drivers base b d long many so bus driver one = recor
 }
 
 -- links that were made before others stay as they are
-made_later : {G : Type 0} (plan : PlanValue) (node : ℕ) (h : Hand G) (buses after : List RingBus) →
+made_later : {G : Type 0} (plan : PlanValue) (node : ℕ) (h : ThreadStart G) (buses after : List RingBus) →
     ((a : ℕ) (b : RingBus) → a < 8 → slice_index_or after (8 * node + a) b ≡ slice_index_or buses (8 * node + a) b) →
     IsMade plan node h buses → IsMade plan node h after
 made_later plan node h buses after same m = record {
@@ -93,8 +93,8 @@ made_later plan node h buses after same m = record {
 }
 
 -- the links of one node more
-pub made_push : {G : Type 0} (plan : PlanValue) (count : ℕ) (hands : List (Hand G)) (buses after : List RingBus)
-    (h : Hand G) → length hands ≡ count → length buses ≡ 8 * count →
+pub made_push : {G : Type 0} (plan : PlanValue) (count : ℕ) (hands : List (ThreadStart G)) (buses after : List RingBus)
+    (h : ThreadStart G) → length hands ≡ count → length buses ≡ 8 * count →
     ((i : ℕ) (b : RingBus) → i < length buses → slice_index_or after i b ≡ slice_index_or buses i b) →
     AreMade plan count hands buses → IsMade plan count h after → AreMade plan (count + 1) (hands ++ h ∷ []) after
 made_push {G} plan count hands buses after h many long same so new =
@@ -118,18 +118,18 @@ new_bus node place b link lists = record { link = numbered node place (link_of_b
 
 pub new_driver : (node place : ℕ) (b : RingBus) (d : RingDriver) →
     link_of_bus b ≡ record { node = node; activation = place + 1 } → OneLink b d → DriverLists d nothing_yet →
-    IsNewDriver node (suc place) d
+    IsNewEnd node (suc place) d
 new_driver node place b d link one lists =
     record { link = one.0 ∙ numbered node place (link_of_bus b) link; lists = lists }
 
 -- what the thread of a node begins with, as it was made
-pub made_of : {G : Type 0} (plan : PlanValue) (node base : ℕ) (h : Hand G) (after : List RingBus) (steps : List Step) →
+pub made_of : {G : Type 0} (plan : PlanValue) (node base : ℕ) (h : ThreadStart G) (after : List RingBus) (steps : List Step) →
     h.node ≡ node → IsEmpty h.log → steps ≡ steps_at plan node → HasRoom (length steps) h.log →
-    length h.links.items ≡ 8 → base ≡ 8 * node → AreNewLinks 8 node after h.links.items base → IsMade plan node h after
+    length h.links.items ≡ 8 → base ≡ 8 * node → AreNewEnds 8 node after h.links.items base → IsMade plan node h after
 made_of plan node base h after steps own empty are room eight here links = record {
   own = own;
   empty = empty;
   room = subst (λ (l : List Step). HasRoom (length l) h.log) are room;
   eight = eight;
-  links = subst (λ (n : ℕ). AreNewLinks 8 node after h.links.items n) here links;
+  links = subst (λ (n : ℕ). AreNewEnds 8 node after h.links.items n) here links;
 }

@@ -13,12 +13,12 @@ use Rattle.sja_driver.specs.declared.logged_driver.LoggedDriver.{LoggedDriver}
 use Rattle.sja_driver.specs.declared.work_log.WorkLog.{WorkLog}
 use Rattle.sja_driver.specs.AnyDrivers.{is_out}
 use Rattle.sja_driver.specs.Deeds.{Deed, done_of}
-use Rattle.sja_driver.specs.Holding.{HoldsBy, Numbered}
+use Rattle.sja_driver.specs.Holding.{HoldsBy, NumberedFrom}
 use Rattle.sja_driver.specs.LoggedDrivers.{node_of, driver_of, log_of, IsLawful}
 use Rattle.sja_driver.specs.Logs.{HasRoom, IsEmpty, Traces, done_in}
 use Rattle.sja_driver.proofs.NothingDone.{nothing_known, nothing_told}
 use Rattle.sja_threads.specs.declared.worked.Worked.{Worked}
-use Rattle.sja_threads.specs.Setting.LeadTo.{nothing_done}
+use Rattle.sja_threads.specs.Setting.LeadToSettings.{nothing_done}
 use Rattle.sja_threads.specs.Working.{MayWork, DoesSteps, AreUntouched, HasWorked}
 use Rattle.sja_threads.proofs.Works.{may_less}
 
@@ -71,13 +71,13 @@ take_next n xs s d few this =
 -- a driver before its first step, at its ends
 pub may_first : {E : Type 0} (link : E → LinkId) (first : LoggedDriver) (links given : List E) (node steps : ℕ)
     (log : WorkLog) → node_of first ≡ node → log_of first ≡ log → IsLawful first → given ≡ links → HasRoom steps log →
-    8 ≤ length links → Numbered link links 0 node → MayWork link first given steps
+    8 ≤ length links → NumberedFrom link links 0 node → MayWork link first given steps
 may_first {E} link first links given node steps log own logs lawful these room eight ids = record {
   lawful = lawful;
   room = subst (λ (l : WorkLog). HasRoom steps l) (sym logs) room;
   eight = subst (λ (l : List E). 8 ≤ length l) (sym these) eight;
-  ids = subst (λ (n : ℕ). Numbered link given 0 n) (sym own)
-      (subst (λ (l : List E). Numbered link l 0 node) (sym these) ids);
+  ids = subst (λ (n : ℕ). NumberedFrom link given 0 n) (sym own)
+      (subst (λ (l : List E). NumberedFrom link l 0 node) (sym these) ids);
 }
 
 -- what a driver hands back that did a front of its steps

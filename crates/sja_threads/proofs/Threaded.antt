@@ -17,14 +17,14 @@ use Rattle.sja_log.specs.declared.end.End.{End}
 use Rattle.sja_log.specs.Log.{RunValue, journals_in}
 use Rattle.sja_log.specs.Runs.{IsRun}
 use Rattle.sja_plan.specs.Plan.{steps_at}
-use Rattle.sja_threads.specs.declared.hand.Hand.{Hand}
-use Rattle.sja_threads.specs.declared.joined.Joined.{Joined}
+use Rattle.sja_threads.specs.declared.thread_start.ThreadStart.{ThreadStart}
+use Rattle.sja_threads.specs.declared.joined_run.JoinedRun.{JoinedRun}
 use Rattle.sja_threads.specs.declared.worked.Worked.{Worked}
 use Rattle.sja_threads.specs.Ended.{IsOver, IsOverOf}
 use Rattle.sja_threads.specs.Needed.{AllDue, EndsDuly}
-use Rattle.sja_threads.specs.Settling.{IsLogOf}
+use Rattle.sja_threads.specs.Settling.{IsSettledLog}
 use Rattle.sja_threads.specs.Threads.{IsThreadedRun}
-use Rattle.sja_threads.specs.Inside.Joined.{IsEnding}
+use Rattle.sja_threads.specs.Inside.JoinedRun.{IsEnding}
 use Rattle.sja_threads.specs.Inside.Making.{IsMade, AreMade}
 use Rattle.sja_threads.specs.Inside.Started.{Serves}
 use Rattle.sja_threads.specs.Inside.Underway.{IsUnderWay, HasRun, IsRunOut}
@@ -32,8 +32,8 @@ use Rattle.sja_threads.proofs.HandedBack.{all_done, is_over, some_at}
 use Rattle.sja_threads.proofs.Same.{bus_trans}
 
 -- once all threads are joined
-pub ending : {G : Type 0} (quits : Bool) (plan : PlanValue) (hands : List (Hand G)) (first : List RingBus)
-    (j : Joined) → length hands ≡ length plan.nodes → length first ≡ 8 * length plan.nodes →
+pub ending : {G : Type 0} (quits : Bool) (plan : PlanValue) (hands : List (ThreadStart G)) (first : List RingBus)
+    (j : JoinedRun) → length hands ≡ length plan.nodes → length first ≡ 8 * length plan.nodes →
     AreMade plan (length plan.nodes) hands first → HasRun plan j.run j.spent j.bus j.links.items →
     EachRelated SameBus first j.links.items → EachRelated (Serves quits plan) hands j.workeds.items → IsEnding quits
     plan j
@@ -45,7 +45,7 @@ ending {G} quits plan hands first j many long made run sames served = record {
       let done = all_done quits plan hands j.workeds.items served in
       let p = done.places node (omega (arith, few, many)) in
       let own : IsMade plan node p.hand first =
-      subst (λ (x : Hand G). IsMade plan node x first) (p.hand_is p.hand) (made node p.hand few) in
+      subst (λ (x : ThreadStart G). IsMade plan node x first) (p.hand_is p.hand) (made node p.hand few) in
       ap (λ (x : Worked RingDriver). length (done_in (log_of x.driver))) (p.worked_is w) ∙ p.serves.done never
       ∙ ap (λ (n : ℕ). length (steps_at plan n)) own.own;
 }
@@ -53,7 +53,7 @@ ending {G} quits plan hands first j many long made run sames served = record {
 -- at the end of the run
 pub threaded : (quits : Bool) (plan : PlanValue) (bits : ℕ) (end : End) (bus : BusValue) (links : List RingBus)
     (ws : List (Worked RingDriver)) (log : RunValue) → IsRunOut plan bits end bus links → IsOverOf plan bus links ws →
-    ((deeds : List (List Deed)) → IsOver plan bus links ws deeds → IsRun plan log deeds) → IsLogOf bus ws end log →
+    ((deeds : List (List Deed)) → IsOver plan bus links ws deeds → IsRun plan log deeds) → IsSettledLog bus ws end log →
     (quits ≡ false → (node : ℕ) (w : Worked RingDriver) → node < length plan.nodes →
     length (done_in (log_of (slice_index_or ws node w).driver)) ≡ length (steps_at plan node)) →
     IsThreadedRun plan log quits
@@ -87,7 +87,7 @@ if_both (Err x) f p q = tt
 
 -- ---- the links as a list that was lent and given back
 
-pub over_now : (quits : Bool) (plan : PlanValue) (j : Joined) (bus : BusValue) (given links those : List RingBus) →
+pub over_now : (quits : Bool) (plan : PlanValue) (j : JoinedRun) (bus : BusValue) (given links those : List RingBus) →
     given ≡ j.links.items → those ≡ links → IsEnding quits plan j → EachRelated SameBus given links →
     IsUnderWay plan bus links → IsOverOf plan bus those j.workeds.items
 over_now quits plan j bus given links those here that e same way =

@@ -17,7 +17,7 @@ use Rattle.sja_wire.specs.OneBit.{MayHaveItems}
 use Rattle.sja_bus.specs.Resting.{RestsAs}
 use Rattle.sja_wire.specs.Wire.{journal_at}
 use Rattle.sja_bus.proofs.Many.{numbered_kept}
-use Rattle.sja_threads.specs.Needed.{IsDue, AllDue, AllRest}
+use Rattle.sja_threads.specs.Needed.{IsBitDue, AllDue, AllAtRest}
 use Rattle.sja_threads.specs.declared.moving.Move.{Move}
 use Rattle.sja_threads.specs.declared.moving.Move.TheVariants.{Ran, Rests, Spent}
 use Rattle.sja_log.specs.declared.end.End.TheVariants.{Bits as BitsSpent}
@@ -89,7 +89,7 @@ module _ (plan : PlanValue) (old new : BusValue) (links after : List RingBus) (w
 pub spent_now : (plan : PlanValue) (run : ℕ) (bus : BusValue) (links : List RingBus) → IsUnderWay plan bus links →
     bus.run ≡ run → plan.bits ≤ run → IsBusRun bus.script bus.run bus.journals →
     (node : ℕ) × (node < length bus.journals) × RestsAs (record_of (journal_at bus.journals node)) false →
-    (run ≡ plan.bits) × IsDue plan.bits bus.journals
+    (run ≡ plan.bits) × IsBitDue plan.bits bus.journals
 spent_now plan run bus links w same many laws busy =
     let all = w.all_bits in let last : run ≡ plan.bits = omega (arith, all, same, many) in (
       last,
@@ -98,7 +98,7 @@ spent_now plan run bus links w same many laws busy =
 
 -- where each node is at rest, it is so by a cut
 pub all_rest : (journals : List (List Entry)) →
-    ((node : ℕ) → node < length journals → RestsAs (record_of (journal_at journals node)) true) → AllRest journals
+    ((node : ℕ) → node < length journals → RestsAs (record_of (journal_at journals node)) true) → AllAtRest journals
 all_rest journals rests node few = let r = rests node few in (r.found, r.cut, r.is)
 
 -- ---- a turn
@@ -127,7 +127,7 @@ none_due plan run ports bus links m = record {
 -- a bit was run in it
 pub ran_on : (plan : PlanValue) (run : ℕ) (spent : Bool) (was : List (List Entry)) (move : Move) (bus : BusValue)
     (links : List RingBus) →
-    (spent ≡ true → (run ≡ plan.bits) × IsDue plan.bits was) → move ≡ Ran → IsMoved plan run move bus links →
+    (spent ≡ true → (run ≡ plan.bits) × IsBitDue plan.bits was) → move ≡ Ran → IsMoved plan run move bus links →
     HasRun plan (run + 1) spent bus links
 ran_on plan run spent was move bus links all is m =
     let bits : bus.run ≡ run + 1 = m.bits ∙ ap (λ (x : Move). run + ran_by x) is in record {
@@ -138,7 +138,7 @@ ran_on plan run spent was move bus links all is m =
 
 -- it isn't so that nothing was due where the bits were spent before and none is run
 pub still_spent : (plan : PlanValue) (run : ℕ) (spent : Bool) (was : List (List Entry)) (move : Move) (bus : BusValue)
-    (links : List RingBus) → (spent ≡ true → (run ≡ plan.bits) × IsDue plan.bits was) → StayDue was bus.journals →
+    (links : List RingBus) → (spent ≡ true → (run ≡ plan.bits) × IsBitDue plan.bits was) → StayDue was bus.journals →
     (move ≡ Ran → ⊥) → IsMoved plan run move bus links → HasRun plan run spent bus links
 still_spent plan run spent was move bus links all stay idle m = record {
   way = m.way;
@@ -168,7 +168,7 @@ due_through a b c (Err x) p q = tt
 
 -- at the end of a run no bit is run, and they were spent before
 pub out_spent : (plan : PlanValue) (run : ℕ) (was : List (List Entry)) (bus : BusValue) (links : List RingBus) →
-    (run ≡ plan.bits) × IsDue plan.bits was → StayDue was bus.journals → (move : Move) → move ≡ Rests →
+    (run ≡ plan.bits) × IsBitDue plan.bits was → StayDue was bus.journals → (move : Move) → move ≡ Rests →
     IsMoved plan run move bus links → IsRunOut plan run BitsSpent bus links
 out_spent plan run was bus links all stay move is m = record {
   way = m.way;

@@ -6,7 +6,7 @@ use Rattle.std.proofs.lemmas.Slice.Zip.{AllZip-long}
 use Rattle.std.specs.Prelude.{if◌then◌else◌}
 use Rattle.sja_link.specs.declared.link_id.LinkId.{LinkId}
 use Rattle.sja_link.specs.Lists.{Lists}
-use Rattle.sja_link.specs.DriverLedgers.{held_by, knows_off}
+use Rattle.sja_link.specs.DriverLedgers.{held_by, knows_bus_off}
 use Rattle.sja_link.specs.Showing.{seen_of}
 use Rattle.can_frame.specs.declared.seen.Seen.{Seen}
 use Rattle.sja_link.proofs.Related.{each_refl, each_trans}
@@ -28,8 +28,8 @@ use Rattle.sja_driver.specs.Tries.{Tried, is_met, port_after}
 use Rattle.sja_driver.specs.Tries.Tried.{Unmet, Answered, Released, Ended}
 use Rattle.sja_regs.specs.Registers.{at_power_on}
 use Rattle.sja_regs.specs.DriverSettings.{SettingsValue, settings_in, HasSettings}
-use Rattle.sja_threads.specs.Setting.{IsDoneAt, LeadTo}
-use Rattle.sja_threads.specs.Setting.LeadTo.{step_done}
+use Rattle.sja_threads.specs.Setting.{IsDoneAt, LeadToSettings}
+use Rattle.sja_threads.specs.Setting.LeadToSettings.{step_done}
 use Rattle.sja_threads.specs.Working.{MayWork, DoesSteps}
 
 -- ---- what a step that is done answers by, and what it sets
@@ -76,8 +76,8 @@ has_those s = record {
 
 -- what was set before a try leads to what is set after it, by the deed that it was
 abbrev pub TryLeads : Registers → Step → Tried → ℕ → SettingsValue → SettingsValue → List Deed → Type 0
-TryLeads p which o bits set set_now before = (first : SettingsValue) → LeadTo first before set →
-    LeadTo first (before ++ deeds_by p which o bits) set_now
+TryLeads p which o bits set set_now before = (first : SettingsValue) → LeadToSettings first before set →
+    LeadToSettings first (before ++ deeds_by p which o bits) set_now
 
 leads_try : {E : Type 0} (same : E → E → Type 0) (stands : E → Lists → Type 0) (dry full : E → Type 0) (e f : E) (p q :
     Registers)
@@ -86,11 +86,11 @@ leads_try : {E : Type 0} (same : E → E → Type 0) (stands : E → Lists → T
     Acts same stands dry full e f p q which was now o → (before : List Deed) → is_active before ≡ is_out was →
     TryLeads p which o bits set set_now before
 leads_try same stands dry full e f p q which was now Unmet bits set set_now none has met unmet a before out first l =
-    subst (λ (s : SettingsValue). LeadTo first (before ++ []) s) (sym (unmet refl))
-    (subst (λ (x : List Deed). LeadTo first x set) (sym (append-nil before)) l)
+    subst (λ (s : SettingsValue). LeadToSettings first (before ++ []) s) (sym (unmet refl))
+    (subst (λ (x : List Deed). LeadToSettings first x set) (sym (append-nil before)) l)
 leads_try same stands dry full e f p q which was now (Answered answer) bits set set_now none has met unmet a before out
     first l =
-    subst (λ (s : SettingsValue). LeadTo first (before ++ deeds_by p which (Answered answer) bits) s)
+    subst (λ (s : SettingsValue). LeadToSettings first (before ++ deeds_by p which (Answered answer) bits) s)
     (sym (met refl ∙ ap settings_in a.port))
     (step_done before _ set p l has (record {
       window = held_of now;
@@ -103,7 +103,7 @@ leads_try same stands dry full e f p q which was now (Answered answer) bits set 
     }))
 leads_try same stands dry full e f p q which was now (Released m) bits set set_now none has met unmet a before out first
     l =
-    subst (λ (s : SettingsValue). LeadTo first (before ++ deeds_by p which (Released m) bits) s)
+    subst (λ (s : SettingsValue). LeadToSettings first (before ++ deeds_by p which (Released m) bits) s)
     (sym (met refl ∙ ap settings_in a.port))
     (step_done before _ set p l has (record {
       window = m ∷ held_of now;
@@ -117,15 +117,15 @@ leads_try same stands dry full e f p q which was now (Released m) bits set set_n
     }))
 leads_try same stands dry full e f p q which was now (Ended ledger) bits set set_now none has met unmet a before out
     first l =
-    subst (λ (s : SettingsValue). LeadTo first (before ++ deeds_by p which (Ended ledger) bits) s)
+    subst (λ (s : SettingsValue). LeadToSettings first (before ++ deeds_by p which (Ended ledger) bits) s)
     (sym (met refl ∙ ap settings_in a.port))
     (step_done before _ set p l has (record {
       window = held_by ledger;
-      off = knows_off ledger;
-      tells = subst (λ (s : Step). Tells s (is_active before) p (seen_of (knows_off ledger) (held_by ledger))
+      off = knows_bus_off ledger;
+      tells = subst (λ (s : Step). Tells s (is_active before) p (seen_of (knows_bus_off ledger) (held_by ledger))
           DoneAnswer)
           (sym a.kind) tt;
-      sees = λ active. if_out was (Sees which (knows_off ledger) (held_by ledger) DoneAnswer) a.sees
+      sees = λ active. if_out was (Sees which (knows_bus_off ledger) (held_by ledger) DoneAnswer) a.sees
           (sym out ∙ active);
       gave = refl;
       bits = none;
@@ -154,7 +154,7 @@ module _ {E : Type 0} (link : E → LinkId) (same : E → E → Type 0) (stands 
       holds = λ deeds j t h.
           subst (λ (x : List Deed). HoldsBy stands x (driver_of d) (log_of d) j links 0) (sym (append-nil deeds)) h;
     };
-    leads = λ first before t l. subst (λ (x : List Deed). LeadTo first x set) (sym (append-nil before)) l;
+    leads = λ first before t l. subst (λ (x : List Deed). LeadToSettings first x set) (sym (append-nil before)) l;
     sames = each_refl same r links;
     node = refl;
     able = λ n m. may_less d links n (0 + n) (omega arith) m;
@@ -177,7 +177,7 @@ module _ {E : Type 0} (link : E → LinkId) (same : E → E → Type 0) (stands 
           (append_assoc deeds p.deeds q.deeds)
           (q.goes.holds (deeds ++ p.deeds) j (p.goes.traces deeds w) (p.goes.holds deeds j w h));
     };
-    leads = λ first before w l. subst (λ (d : List Deed). LeadTo first d v) (append_assoc before p.deeds q.deeds)
+    leads = λ first before w l. subst (λ (d : List Deed). LeadToSettings first d v) (append_assoc before p.deeds q.deeds)
         (q.leads first (before ++ p.deeds) (p.goes.traces before w) (p.leads first before w l));
     sames = each_trans same t x y z p.sames q.sames;
     node = q.node ∙ p.node;

@@ -21,7 +21,7 @@ use Rattle.sja_wire.specs.Wire.{journal_at}
 use Rattle.sja_driver.specs.Deeds.{deeds_at}
 use Rattle.sja_plan.specs.Plan.{steps_at}
 use Rattle.sja_threads.specs.declared.worked.Worked.{Worked}
-use Rattle.sja_threads.specs.Setting.{LeadTo}
+use Rattle.sja_threads.specs.Setting.{LeadToSettings}
 
 -- of one node, when its driver and the bus have ended: what its driver had set first, its journal, what its driver
 -- handed back, and the bus's ends of its eight links, from this place on
@@ -31,7 +31,7 @@ pub record IsOverAt (set : SettingsValue) (steps : List Step) (node : ℕ) (j : 
   pub own : node_of w.driver ≡ node
   pub lawful : IsLawful w.driver
   pub deeds_are : AreDeeds steps deeds
-  pub leads : (last : SettingsValue) × LeadTo set deeds last
+  pub leads : (last : SettingsValue) × LeadToSettings set deeds last
   pub traces : Traces (driver_of w.driver) (log_of w.driver) deeds
   -- the driver's ends stand beside the journal for these deeds, and the bus's for the parts of the journal, whatever
   -- the driver got and gave

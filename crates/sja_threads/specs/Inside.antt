@@ -3,4 +3,4 @@ pub mod Underway
 pub mod Making
 pub mod Started
 pub mod Promised
-pub mod Joined
+pub mod JoinedRun

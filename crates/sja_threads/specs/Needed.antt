@@ -19,21 +19,21 @@ pub record WorksAt (j : List Entry) (bits : ℕ) : Type 0 where
 
 -- after so many bits one more was due: there is such a place in some node's journal, after the entry of the last of
 -- them and before that of the next one
-abbrev pub IsDue : ℕ → List (List Entry) → Type 0
-IsDue bits journals = (node : ℕ) × (node < length journals) × WorksAt (journal_at journals node) bits
+abbrev pub IsBitDue : ℕ → List (List Entry) → Type 0
+IsBitDue bits journals = (node : ℕ) × (node < length journals) × WorksAt (journal_at journals node) bits
 
 -- each of so many bits was due
 abbrev pub AllDue : ℕ → List (List Entry) → Type 0
-AllDue bits journals = (i : ℕ) → i < bits → IsDue i journals
+AllDue bits journals = (i : ℕ) → i < bits → IsBitDue i journals
 
 -- each node is at rest at the end of its journal
-abbrev pub AllRest : List (List Entry) → Type 0
-AllRest journals = (node : ℕ) → node < length journals → IsAtRest (record_of (journal_at journals node))
+abbrev pub AllAtRest : List (List Entry) → Type 0
+AllAtRest journals = (node : ℕ) → node < length journals → IsAtRest (record_of (journal_at journals node))
 
 -- all nodes are at rest; or the bits of the plan, so many, are spent, and one more was due
 abbrev pub EndsDuly : ℕ → End → ℕ → List (List Entry) → Type 0
 EndsDuly bits end run journals =
-    ((end ≡ Rest) × AllRest journals) ⊎ ((end ≡ Bits) × (run ≡ bits) × IsDue bits journals)
+    ((end ≡ Rest) × AllAtRest journals) ⊎ ((end ≡ Bits) × (run ≡ bits) × IsBitDue bits journals)
 
 -- of a run of a plan with so many bits: a bit was run only where some node worked, and at its end all nodes are at
 -- rest, or the bits are spent and one more was due

@@ -20,8 +20,8 @@ pub record IsDoneAt (active : Bool) (p : Registers) (d : Deed) : Type 0 where
 
 -- from settings of the driver its deeds lead to others: each step is done at registers that have the settings which
 -- the steps before it have left, and leaves what it leaves
-pub data LeadTo (first : SettingsValue) : List Deed → SettingsValue → Type 0 where
-  nothing_done : LeadTo first [] first
-  step_done : (deeds : List Deed) (d : Deed) (s : SettingsValue) (p : Registers) → LeadTo first deeds s →
+pub data LeadToSettings (first : SettingsValue) : List Deed → SettingsValue → Type 0 where
+  nothing_done : LeadToSettings first [] first
+  step_done : (deeds : List Deed) (d : Deed) (s : SettingsValue) (p : Registers) → LeadToSettings first deeds s →
       HasSettings p s → IsDoneAt (is_active deeds) p d →
-      LeadTo first (deeds ++ d ∷ []) (settings_in (ported p d.step d.answer))
+      LeadToSettings first (deeds ++ d ∷ []) (settings_in (ported p d.step d.answer))

@@ -29,15 +29,15 @@ IsLeftOn b d down =
     (l : Lists) → BusLists b l → DriverLists d l → (l.put ≡ l.got ++ down) × (l.given ≡ l.taken)
 
 -- so it is on the first so many links
-pub record AreLeftOn (buses : List RingBus) (drivers : List RingDriver) (count : ℕ) (lying : List (List Down)) :
+pub record AreLeftOn (buses : List RingBus) (drivers : List RingDriver) (count : ℕ) (left_down : List (List Down)) :
     Type 0 where
-  pub count_is : length lying ≡ count
+  pub count_is : length left_down ≡ count
   pub each : (i : ℕ) (b : RingBus) (d : RingDriver) (l : List Down) → i < count →
-      IsLeftOn (slice_index_or buses i b) (slice_index_or drivers i d) (slice_index_or lying i l)
+      IsLeftOn (slice_index_or buses i b) (slice_index_or drivers i d) (slice_index_or left_down i l)
 
 -- a log says how many bits were run, why the run ended, the journals of the bus, and the steps that each driver did;
 -- and some order of events leads to what each activation's link carried
-pub record IsLogOf (bus : BusValue) (workeds : List (Worked RingDriver)) (end : End) (log : RunValue) : Type 0 where
+pub record IsSettledLog (bus : BusValue) (workeds : List (Worked RingDriver)) (end : End) (log : RunValue) : Type 0 where
   pub bits : log.bits ≡ bus.run
   pub ends : log.end ≡ end
   pub journals : journals_in log ≡ bus.journals

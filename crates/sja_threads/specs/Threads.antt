@@ -11,7 +11,7 @@ use Rattle.sja_driver.specs.Deeds.{deeds_at}
 use Rattle.sja_plan.specs.Plan.{steps_at}
 use Rattle.sja_threads.specs.Linked.{AreLinked}
 use Rattle.sja_threads.specs.Needed.{IsNeeded}
-use Rattle.sja_threads.specs.Setting.{LeadTo}
+use Rattle.sja_threads.specs.Setting.{LeadToSettings}
 
 -- of its drivers there are deeds by which it is what every run is; each step of a driver is done with what the steps
 -- before it have set, from power-on; some order of events leads to what the link of each activation carried; each of
@@ -20,7 +20,7 @@ pub record IsThreadedRun (plan : PlanValue) (log : RunValue) (quits : Bool) : Ty
   pub deeds : List (List Deed)
   pub run : IsRun plan log deeds
   pub sets : (node : ℕ) → node < length plan.nodes →
-      (last : SettingsValue) × LeadTo (settings_in (at_power_on plan.version)) (deeds_at deeds node) last
+      (last : SettingsValue) × LeadToSettings (settings_in (at_power_on plan.version)) (deeds_at deeds node) last
   pub linked : (node : ℕ) (d : NodeValue) → node < length log.nodes → AreLinked (slice_index_or log.nodes node d)
   pub needed : IsNeeded plan.bits log
   pub all_done : quits ≡ false → (node : ℕ) (d : NodeValue) → node < length log.nodes →

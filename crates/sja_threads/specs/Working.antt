@@ -9,18 +9,18 @@ use Rattle.sja_regs.specs.DriverSettings.{SettingsValue}
 use Rattle.sja_script.specs.declared.step.Step.{Step}
 use Rattle.sja_driver.specs.declared.logged_driver.LoggedDriver.{LoggedDriver}
 use Rattle.sja_driver.specs.Deeds.{Deed, AreDeeds}
-use Rattle.sja_driver.specs.Holding.{Goes, HoldsBy, Numbered}
+use Rattle.sja_driver.specs.Holding.{Goes, HoldsBy, NumberedFrom}
 use Rattle.sja_driver.specs.LoggedDrivers.{node_of, driver_of, log_of, IsLawful}
 use Rattle.sja_driver.specs.Logs.{HasRoom, Traces}
 use Rattle.sja_threads.specs.declared.worked.Worked.{Worked}
-use Rattle.sja_threads.specs.Setting.{LeadTo}
+use Rattle.sja_threads.specs.Setting.{LeadToSettings}
 
 -- a driver may do so many steps more: its log has room for them, and its ends are those of its node's eight links
 pub record MayWork {E : Type 0} (link : E → LinkId) (driver : LoggedDriver) (links : List E) (steps : ℕ) : Type 0 where
   pub lawful : IsLawful driver
   pub room : HasRoom steps (log_of driver)
   pub eight : 8 ≤ length links
-  pub ids : Numbered link links 0 (node_of driver)
+  pub ids : NumberedFrom link links 0 (node_of driver)
 
 -- a driver did these steps, each once and in this order: there are deeds of them, and with these its log and its ends
 -- went on, for all deeds before and for all journals, and so did what it has set; its ends are the same ones, and it
@@ -31,7 +31,7 @@ pub record DoesSteps {E : Type 0} (link : E → LinkId) (same : E → E → Type
   pub are : map (λ (d : Deed). d.step) deeds ≡ steps
   pub goes : Goes stands (driver_of was) (driver_of now) (log_of was) (log_of now) links links_now 0 deeds
   pub leads : (first : SettingsValue) (before : List Deed) → Traces (driver_of was) (log_of was) before →
-      LeadTo first before set → LeadTo first (before ++ deeds) set_now
+      LeadToSettings first before set → LeadToSettings first (before ++ deeds) set_now
   pub sames : EachRelated same links links_now
   pub node : node_of now ≡ node_of was
   pub able : (n : ℕ) → MayWork link was links (length steps + n) → MayWork link now links_now n
@@ -50,7 +50,7 @@ pub record HasWorked {E : Type 0} (stands : E → Lists → Type 0) (set : Setti
   pub own : node_of w.driver ≡ node
   pub lawful : IsLawful w.driver
   pub deeds_are : AreDeeds steps deeds
-  pub leads : (last : SettingsValue) × LeadTo set deeds last
+  pub leads : (last : SettingsValue) × LeadToSettings set deeds last
   pub traces : Traces (driver_of w.driver) (log_of w.driver) deeds
   pub holds : (j : List Entry) → AreUntouched stands j links 0 →
       HoldsBy stands deeds (driver_of w.driver) (log_of w.driver) j w.links.items 0

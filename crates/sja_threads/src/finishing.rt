@@ -5,9 +5,9 @@ ghost use Rattle.sja_driver.specs.Deeds.{Deed};
 ghost use Rattle.sja_log.specs.Runs.{IsRun};
 ghost use Rattle.sja_log.specs.declared.run_fault.RunFault.TheVariants.{Memory, Unsettled};
 ghost use Rattle.sja_threads.specs.Ended.{IsOver, IsOverOf};
-ghost use Rattle.sja_threads.specs.Settling.{IsLogOf};
+ghost use Rattle.sja_threads.specs.Settling.{IsSettledLog};
 
-use super::apart::Apart;
+use super::drivers_and_ends::DriversAndEnds;
 use super::settling::settle_all;
 use super::worked::Worked;
 use sja_bus::Bus;
@@ -35,13 +35,13 @@ pub(crate) fn finish_run(
     requires bits { bits ≡ bus.run }
     ensures run { IfOk result (λ log. (deeds : List (List Deed)) → IsOver plan.now bus links.items workeds.items deeds →
         IsRun plan.now log deeds) }
-    ensures log { IfOk result (IsLogOf bus workeds.items end) }
+    ensures log { IfOk result (IsSettledLog bus workeds.items end) }
     ensures fault { IfErr result (λ f. (f ≡ Memory) ⊎ (f ≡ Unsettled)) }
 {
-    let Ok(apart) = Apart::of(alloc, workeds) else {
+    let Ok(apart) = DriversAndEnds::of(alloc, workeds) else {
         return Err(RunFault::Memory);
     };
-    let Apart { drivers, ends } = apart;
+    let DriversAndEnds { drivers, ends } = apart;
     let lists = settle_all(alloc, links, ends)?;
     let logs = bus.finish();
     match node_runs(alloc, logs, drivers.as_slice(), lists.as_slice()) {

@@ -14,22 +14,22 @@
 //! `run_threads` alone takes memory, none of it for a bit. The tests stand in `crates/test_runs`.
 #![tactic(auto)]
 
-mod apart;
+mod drivers_and_ends;
 mod finishing;
 mod gate;
-mod hand;
-mod joined;
-mod keeps;
+mod joined_run;
 mod laws;
 mod lock_board;
 mod looping;
 mod making;
 mod moving;
 mod pass;
-mod ready;
+mod run_parts;
 mod running;
 mod settling;
 mod starting;
+mod thread_promise;
+mod thread_start;
 mod waiting;
 mod watching;
 mod worked;

@@ -2,10 +2,10 @@
 
 ghost use Rattle.std.specs.Prelude.{◌≡◌, ◌≤◌, ◌+◌, ◌*◌, ◌<◌, ℕ, [], length, slice_index_or, vec_len, OnOk, IfOk};
 ghost use Rattle.sja_rings.specs.declared.ring_bus.RingBus.{RingBus as BusEnd};
-ghost use Rattle.sja_threads.specs.Inside.Making.{AreNewLinks, AreMade};
+ghost use Rattle.sja_threads.specs.Inside.Making.{AreNewEnds, AreMade};
 
 use super::gate::Gate;
-use super::hand::Hand;
+use super::thread_start::ThreadStart;
 use can_frame::OutOfMemory;
 use sja_driver::WorkLog;
 use sja_link::LinkId;
@@ -31,7 +31,7 @@ fn links_of(
     ensures others { OnOk result ((i : ℕ) (b : BusEnd) → i < length buses.old.items →
         slice_index_or buses.new.items i b ≡ slice_index_or buses.old.items i b) }
     ensures pairs { IfOk result (λ drivers.
-        AreNewLinks 8 node buses.new.items drivers.items (length buses.old.items)) }
+        AreNewEnds 8 node buses.new.items drivers.items (length buses.old.items)) }
 {
     let mut drivers = Vec::with_capacity(alloc, usize::from(LINKS))?;
     for place in 0..LINKS {
@@ -55,7 +55,7 @@ pub(crate) fn hands_of<G: Gate>(
     plan: &Plan,
     gates: Vec<G>,
     buses: &mut Vec<RingBus>,
-) -> Result<Vec<Hand<G>>, OutOfMemory>
+) -> Result<Vec<ThreadStart<G>>, OutOfMemory>
     requires gates { vec_len gates ≡ length plan.now.nodes }
     requires none { buses.old.items ≡ [] }
     ensures hands { IfOk result (λ hands. length hands.items ≡ length plan.now.nodes) }
@@ -69,7 +69,7 @@ pub(crate) fn hands_of<G: Gate>(
     for gate in gates {
         let log = WorkLog::new(alloc, plan.steps(usize::from(node)).len() as u16)?;
         let links = links_of(alloc, node, buses)?;
-        hands.push_reserved(Hand {
+        hands.push_reserved(ThreadStart {
             node,
             links,
             log,

@@ -4,7 +4,7 @@ ghost use Rattle.std.specs.Prelude.{◌≡◌, length, Ok, IfOk, IfErr, OnOk};
 ghost use Rattle.sja_link.specs.Related.{EachRelated};
 ghost use Rattle.sja_rings.specs.Ends.{SameBus};
 ghost use Rattle.sja_threads.specs.declared.moving.Move.TheVariants.{Rests};
-ghost use Rattle.sja_threads.specs.Needed.{AllRest};
+ghost use Rattle.sja_threads.specs.Needed.{AllAtRest};
 ghost use Rattle.sja_threads.specs.Stopping.{StopsFor};
 ghost use Rattle.sja_threads.specs.Inside.Underway.{MayTurn, IsMoved, StayDue};
 
@@ -42,7 +42,7 @@ pub(crate) fn bit_if_due<R: Wait>(
     ensures moved { IfOk result (λ move. IsMoved plan.now run move bus.new links.new) }
     ensures due { OnOk result (StayDue bus.old.journals bus.new.journals) }
     ensures fault { IfErr result (StopsFor plan.now) }
-    ensures rests { result ≡ Ok Rests → AllRest bus.new.journals }
+    ensures rests { result ≡ Ok Rests → AllAtRest bus.new.journals }
 {
     if bus.at_rest() {
         return Ok(Move::Rests);

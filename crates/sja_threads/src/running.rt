@@ -6,15 +6,15 @@ ghost use Rattle.sja_log.specs.Log.{NodeValue};
 ghost use Rattle.sja_log.specs.declared.run_fault.RunFault.TheVariants.{GateCount};
 ghost use Rattle.sja_threads.specs.Stopping.{IsFaultOf};
 ghost use Rattle.sja_threads.specs.Threads.{IsThreadedRun};
-ghost use Rattle.sja_threads.specs.Inside.Joined.{IsEnding};
-ghost use Rattle.sja_threads.specs.Inside.Making.{IsReady};
+ghost use Rattle.sja_threads.specs.Inside.JoinedRun.{IsEnding};
+ghost use Rattle.sja_threads.specs.Inside.Making.{AreRunParts};
 
 use super::finishing::finish_run;
 use super::gate::Gate;
-use super::joined::Joined;
+use super::joined_run::JoinedRun;
 use super::looping::{run_after, run_beside};
 use super::making::ports_of;
-use super::ready::Ready;
+use super::run_parts::RunParts;
 use super::starting::{join_all, start_all};
 use super::watching::close_all;
 use sja_log::{RunFault, RunLog};
@@ -33,15 +33,15 @@ fn run_in<'s, E, G: Gate + 's, R: Threads + Wait + Sync>(
     scope: &Scope<'s, E>,
     rt: &'s R,
     plan: &'s Plan,
-    ready: Ready<G>,
+    ready: RunParts<G>,
     ports: &'s [Mutex<Port>],
-) -> Result<Joined, RunFault>
-    requires ready { IsReady plan.now ready }
+) -> Result<JoinedRun, RunFault>
+    requires ready { AreRunParts plan.now ready }
     requires ports { length ports.now ≡ length plan.now.nodes }
     ensures ending { IfOk result (IsEnding G.QUITS plan.now) }
     ensures fault { IfErr result (IsFaultOf plan.now) }
 {
-    let Ready {
+    let RunParts {
         mut bus,
         mut links,
         hands,
@@ -50,7 +50,7 @@ fn run_in<'s, E, G: Gate + 's, R: Threads + Wait + Sync>(
     } = ready;
     let children = start_all(scope, rt, plan, hands, ports, children)?;
     match run_beside(rt, plan, &mut bus, links.as_mut_slice(), ports) {
-        Ok((run, spent)) => Ok(Joined {
+        Ok((run, spent)) => Ok(JoinedRun {
             bus,
             links,
             workeds: join_all(rt, children, workeds),
@@ -68,10 +68,10 @@ fn run_in<'s, E, G: Gate + 's, R: Threads + Wait + Sync>(
 fn run_drivers<G: Gate, R: Threads + Wait + Sync>(
     rt: &R,
     plan: &Plan,
-    ready: Ready<G>,
+    ready: RunParts<G>,
     ports: &[Mutex<Port>],
-) -> Result<Joined, RunFault>
-    requires ready { IsReady plan.now ready }
+) -> Result<JoinedRun, RunFault>
+    requires ready { AreRunParts plan.now ready }
     requires ports { length ports.now ≡ length plan.now.nodes }
     ensures ending { IfOk result (IsEnding G.QUITS plan.now) }
     ensures fault { IfErr result (IsFaultOf plan.now) }
@@ -79,8 +79,8 @@ fn run_drivers<G: Gate, R: Threads + Wait + Sync>(
     thread::scope(
         thread::scope_env(),
         rt,
-        move |scope| -> Result<Joined, RunFault>
-            requires ready { IsReady plan.now ready }
+        move |scope| -> Result<JoinedRun, RunFault>
+            requires ready { AreRunParts plan.now ready }
             requires ports { length ports.now ≡ length plan.now.nodes }
             ensures ending { IfOk result (IsEnding G.QUITS plan.entry.now) }
             ensures fault { IfErr result (IsFaultOf plan.entry.now) }
@@ -103,7 +103,7 @@ fn end_run<G: Gate, R: Wait>(
     rt: &R,
     alloc: Global,
     plan: &Plan,
-    joined: Joined,
+    joined: JoinedRun,
     ports: &[Mutex<Port>],
 ) -> Result<RunLog, RunFault>
     requires ending { IsEnding G.QUITS plan.now joined }
@@ -111,7 +111,7 @@ fn end_run<G: Gate, R: Wait>(
     ensures run { IfOk result (λ log. IsThreadedRun plan.now log G.QUITS) }
     ensures fault { IfErr result (IsFaultOf plan.now) }
 {
-    let Joined {
+    let JoinedRun {
         mut bus,
         mut links,
         workeds,
@@ -160,7 +160,7 @@ pub fn run_threads<G: Gate, R: Threads + Wait + Sync>(
     if gates.len() != plan.nodes() {
         return Err(RunFault::GateCount);
     }
-    let Ok(ready) = Ready::new(alloc, plan, gates) else {
+    let Ok(ready) = RunParts::new(alloc, plan, gates) else {
         return Err(RunFault::Memory);
     };
     let Ok(ports) = ports_of(alloc, plan) else {

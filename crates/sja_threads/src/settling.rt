@@ -7,7 +7,7 @@ ghost use Rattle.sja_rings.specs.Ends.{OneLink};
 ghost use Rattle.sja_log.specs.declared.run_fault.RunFault.TheVariants.{Memory, Unsettled};
 ghost use Rattle.sja_threads.specs.Settling.{IsLeftOn, AreLeftOn};
 
-use sja_log::{Lying, RunFault};
+use sja_log::{LeftDown, RunFault};
 use sja_rings::{RingBus, RingDriver, end_bus, end_driver, settle};
 use std::alloc::Global;
 
@@ -16,9 +16,9 @@ use std::alloc::Global;
 ///
 /// Error: [`RunFault::Unsettled`] where something lies there upward, or an end gave no account;
 /// [`RunFault::Memory`] where memory was refused.
-fn settle_link(alloc: Global, bus: RingBus, driver: RingDriver) -> Result<Lying, RunFault>
+fn settle_link(alloc: Global, bus: RingBus, driver: RingDriver) -> Result<LeftDown, RunFault>
     requires { OneLink bus driver }
-    ensures left { IfOk result (λ lying. IsLeftOn bus driver lying) }
+    ensures left { IfOk result (λ left_down. IsLeftOn bus driver left_down) }
     ensures fault { IfErr result (λ f. (f ≡ Memory) ⊎ (f ≡ Unsettled)) }
 {
     let Ok(settled) = settle(end_bus(bus), end_driver(driver)) else {
@@ -27,8 +27,8 @@ fn settle_link(alloc: Global, bus: RingBus, driver: RingDriver) -> Result<Lying,
     if !settled.up.is_empty() {
         return Err(RunFault::Unsettled);
     }
-    match Lying::of(alloc, settled.down.as_slice()) {
-        Ok(lying) => Ok(lying),
+    match LeftDown::of(alloc, settled.down.as_slice()) {
+        Ok(left_down) => Ok(left_down),
         Err(_) => Err(RunFault::Memory),
     }
 }
@@ -41,7 +41,7 @@ pub(crate) fn settle_all(
     alloc: Global,
     links: Vec<RingBus>,
     ends: Vec<RingDriver>,
-) -> Result<Vec<Lying>, RunFault>
+) -> Result<Vec<LeftDown>, RunFault>
     requires count { length links.items ≡ length ends.items }
     requires pairs { (i : ℕ) (b : Bus) (d : Driver) → i < length links.items →
         OneLink (slice_index_or links.items i b) (slice_index_or ends.items i d) }

@@ -4,11 +4,11 @@ ghost use Rattle.std.specs.Prelude.{◌≡◌, ◌≤◌, [], length, map, vec_l
 ghost use Rattle.sja_link.specs.Related.{EachRelated};
 ghost use Rattle.sja_log.specs.declared.run_fault.RunFault.TheVariants.{Thread};
 ghost use Rattle.sja_threads.specs.Inside.Started.{IsHand, Serves};
-ghost use Rattle.sja_threads.specs.Inside.Promised.{IsFor, IsKept};
+ghost use Rattle.sja_threads.specs.Inside.Promised.{IsFor, IsPromised};
 
 use super::gate::Gate;
-use super::hand::Hand;
-use super::keeps::{Child, Keeps};
+use super::thread_promise::{Child, ThreadPromise};
+use super::thread_start::ThreadStart;
 use super::worked::Worked;
 use super::working::work_from;
 use sja_log::RunFault;
@@ -25,13 +25,13 @@ use std::thread::{Scope, Threads};
 fn serve<G: Gate>(
     rt: &impl Wait,
     plan: &Plan,
-    hand: Hand<G>,
+    hand: ThreadStart<G>,
     port: &Mutex<Port>,
 ) -> Worked<RingDriver>
     requires { IsHand plan.now hand }
     ensures { Serves G.QUITS plan.now hand result }
 {
-    let Hand {
+    let ThreadStart {
         node,
         links,
         log,
@@ -56,14 +56,14 @@ fn start<'s, E, G: Gate + 's, R: Threads + Wait + Sync>(
     scope: &Scope<'s, E>,
     rt: &'s R,
     plan: &'s Plan,
-    hand: Hand<G>,
+    hand: ThreadStart<G>,
     port: &'s Mutex<Port>,
 ) -> Result<Child<G>, RunFault>
     requires { IsHand plan.now hand }
     ensures child { IfOk result (λ child. IsFor plan.now hand child.promise) }
     ensures fault { IfErr result (λ f. f ≡ Thread) }
 {
-    let promise = Keeps {
+    let promise = ThreadPromise {
         plan: Snapshot::of(plan),
         node: hand.node,
         links: Snapshot::of(&hand.links),
@@ -88,7 +88,7 @@ pub(crate) fn start_all<'s, E, G: Gate + 's, R: Threads + Wait + Sync>(
     scope: &Scope<'s, E>,
     rt: &'s R,
     plan: &'s Plan,
-    hands: Vec<Hand<G>>,
+    hands: Vec<ThreadStart<G>>,
     ports: &'s [Mutex<Port>],
     children: Vec<Child<G>>,
 ) -> Result<Vec<Child<G>>, RunFault>
@@ -118,7 +118,7 @@ pub(crate) fn join_all<G: Gate, R: Threads>(
 ) -> Vec<Worked<RingDriver>>
     requires room { vec_len children ≤ vec_capacity workeds }
     requires none { workeds.items ≡ [] }
-    ensures { EachRelated (IsKept G.QUITS) (map (λ child. child.promise) children.items) result.items }
+    ensures { EachRelated (IsPromised G.QUITS) (map (λ child. child.promise) children.items) result.items }
 {
     let mut workeds = workeds;
     for child in children {

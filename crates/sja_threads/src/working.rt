@@ -2,7 +2,7 @@
 
 ghost use Rattle.std.specs.Prelude.{◌≡◌, ◌≤◌, [], ◌∷◌, true, false, length, take};
 ghost use Rattle.sja_link.specs.Related.{EachRelated};
-ghost use Rattle.sja_driver.specs.Holding.{Numbered};
+ghost use Rattle.sja_driver.specs.Holding.{NumberedFrom};
 ghost use Rattle.sja_driver.specs.LoggedDrivers.{node_of, log_of};
 ghost use Rattle.sja_driver.specs.Logs.{HasRoom, IsEmpty, done_in};
 ghost use Rattle.sja_regs.specs.DriverSettings.{SettingsValue};
@@ -165,7 +165,7 @@ pub(crate) fn work_from<D: DriverEnd + Drop, G: Gate>(
     requires empty { IsEmpty log }
     requires room { HasRoom (length steps.now) log }
     requires eight { 8 ≤ length links.items }
-    requires ids { Numbered D.link links.items 0 node }
+    requires ids { NumberedFrom D.link links.items 0 node }
     ensures same { EachRelated D.same links.items result.links.items }
     ensures worked { HasWorked D.stands set node steps.now links.items result }
     ensures done { G.QUITS ≡ false → length (done_in (log_of result.driver)) ≡ length steps.now }
@@ -208,7 +208,7 @@ pub fn work<D: DriverEnd + Drop, G: Gate>(
     requires empty { IsEmpty log }
     requires room { HasRoom (length steps.now) log }
     requires eight { 8 ≤ length links.items }
-    requires ids { Numbered D.link links.items 0 node }
+    requires ids { NumberedFrom D.link links.items 0 node }
     ensures same { EachRelated D.same links.items result.links.items }
     ensures worked { (set : SettingsValue) × HasWorked D.stands set node steps.now links.items result }
     ensures done { G.QUITS ≡ false → length (done_in (log_of result.driver)) ≡ length steps.now }

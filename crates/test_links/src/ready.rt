@@ -1,14 +1,14 @@
 //! Whether ends are those of a driver.
 
 ghost use Rattle.std.specs.Prelude.{◌≡◌, ◌+◌, ◌<◌, true, length};
-ghost use Rattle.sja_driver.specs.Holding.{Numbered};
+ghost use Rattle.sja_driver.specs.Holding.{NumberedFrom};
 
 use sja_link::{DriverEnd, LinkId};
 
 /// Whether these are the ends of a node's eight links, by activation.
 pub fn are_links_of_node<E: DriverEnd>(ends: &[E], node: u8) -> bool
     ensures count { result ≡ true → length ends.now ≡ 8 }
-    ensures ids { result ≡ true → Numbered E.link ends.now 0 node }
+    ensures ids { result ≡ true → NumberedFrom E.link ends.now 0 node }
 {
     if ends.len() != 8 {
         return false;

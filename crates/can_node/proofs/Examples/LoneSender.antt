@@ -20,8 +20,8 @@ use Rattle.can_node.specs.Pieces.Piece.{Integration, Fault, Flag, Delimiter, Int
 use Rattle.can_node.specs.Frames.{SentPart, Transmits}
 use Rattle.can_node.specs.Frames.Fails.{no_ack}
 use Rattle.can_node.specs.Frames.Transmits.{failed}
-use Rattle.can_node.specs.Record.{Entry}
-use Rattle.can_node.specs.Record.Entry.{Start, Send, OneBit}
+use Rattle.can_node.specs.Record.{RecordEntry}
+use Rattle.can_node.specs.Record.RecordEntry.{Start, Send, OneBit}
 use Rattle.can_node.specs.Table.Row.{own, flag, delimiter, interframe_space}
 use Rattle.can_node.specs.FinishedPieces.{FinishedPiece}
 use Rattle.can_node.specs.Cut.{Move, IsCut}
@@ -141,7 +141,7 @@ rests = by_bits sending AtInterframeSpace AtIdle InterframeSpace (recessive_bit 
     (recessive_bits (replicate 2 Recessive)) interframe_space (omega arith)
 
 -- the record
-abbrev pub record_of_sender : Config → List Entry
+abbrev pub record_of_sender : Config → List RecordEntry
 record_of_sender config =
     Start (record config { listen = false; self_test = false }) ∷ Send asked ∷ map OneBit
     (recessive_bits (replicate 11 Recessive)

@@ -21,8 +21,8 @@ use Rattle.can_node.specs.Pieces.Piece.{Integration, Fault}
 use Rattle.can_node.specs.Frames.{SentPart, Transmits}
 use Rattle.can_node.specs.Frames.Receives.{broken}
 use Rattle.can_node.specs.Frames.Transmits.{lost}
-use Rattle.can_node.specs.Record.{Entry}
-use Rattle.can_node.specs.Record.Entry.{Start, Send, OneBit}
+use Rattle.can_node.specs.Record.{RecordEntry}
+use Rattle.can_node.specs.Record.RecordEntry.{Start, Send, OneBit}
 use Rattle.can_node.specs.Table.Row.{own}
 use Rattle.can_node.specs.FinishedPieces.{FinishedPiece}
 use Rattle.can_node.specs.Cut.{Move, IsCut}
@@ -127,7 +127,7 @@ breaks =
     (own refl loses) (omega arith)
 
 -- the record
-abbrev pub record_of_loss : Config → List Entry
+abbrev pub record_of_loss : Config → List RecordEntry
 record_of_loss config =
     Start (record config { listen = false; self_test = false }) ∷ Send asked
     ∷ map OneBit (recessive_bits (replicate 11 Recessive) ++ dominant_bit Dominant

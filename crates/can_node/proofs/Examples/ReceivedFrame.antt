@@ -8,7 +8,7 @@ use Rattle.can_node.specs.Context.{fresh}
 use Rattle.can_node.specs.Pieces.Place.{AtIdle, AtLastEofBit, AtInterframeSpace}
 use Rattle.can_node.specs.Pieces.Piece.{Reception, LastEofBit, InterframeSpace}
 use Rattle.can_node.specs.Frames.{Receives}
-use Rattle.can_node.specs.Record.Entry.{OneBit}
+use Rattle.can_node.specs.Record.RecordEntry.{OneBit}
 use Rattle.can_node.specs.Table.Row.{other, last_eof_bit, interframe_space}
 use Rattle.can_node.specs.Cut.{Move, IsCut}
 use Rattle.can_node.specs.Cut.IsOpenAt.{nothing}

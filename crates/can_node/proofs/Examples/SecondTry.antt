@@ -11,8 +11,8 @@ use Rattle.can_node.specs.Bits.{recessive_bit, dominant_bit, recessive_bits, dom
 use Rattle.can_node.specs.Context.{ContextValue}
 use Rattle.can_node.specs.Pieces.Place.{AtIdle, AtFlag}
 use Rattle.can_node.specs.Pieces.Piece.{Fault}
-use Rattle.can_node.specs.Record.{Entry}
-use Rattle.can_node.specs.Record.Entry.{Start, Send, OneBit}
+use Rattle.can_node.specs.Record.{RecordEntry}
+use Rattle.can_node.specs.Record.RecordEntry.{Start, Send, OneBit}
 use Rattle.can_node.specs.Table.Row.{own}
 use Rattle.can_node.specs.FinishedPieces.{FinishedPiece}
 use Rattle.can_node.specs.Cut.{Move, IsCut}
@@ -37,7 +37,7 @@ is_unanswered_again =
     (rest_of (unanswered ++ recessive_bit Recessive ∷ [])) (own refl fails) (omega arith)
 
 -- the record
-abbrev pub record_of_retry : Config → List Entry
+abbrev pub record_of_retry : Config → List RecordEntry
 record_of_retry config =
     Start (record config { listen = false; self_test = false }) ∷ Send asked ∷ map OneBit
     (recessive_bits (replicate 11 Recessive)

@@ -23,7 +23,7 @@ use Rattle.can_node.specs.Pieces.Piece.{Integration, Fault, Flag}
 use Rattle.can_node.specs.Frames.{Transmits}
 use Rattle.can_node.specs.Frames.Fails.{unseen}
 use Rattle.can_node.specs.Frames.Transmits.{failed}
-use Rattle.can_node.specs.Record.Entry.{OneBit, Stop, BusOff}
+use Rattle.can_node.specs.Record.RecordEntry.{OneBit, Stop, BusOff}
 use Rattle.can_node.specs.Table.Elevens.{none_left, one_more}
 use Rattle.can_node.specs.Table.Row.{integration, own, flag_passive}
 use Rattle.can_node.specs.Cut.{Move, IsUnfinished}

@@ -25,8 +25,8 @@ use Rattle.can_node.specs.Frames.{IsWithin, BreaksOff}
 use Rattle.can_bits.specs.declared.level.Level.{Level}
 use Rattle.can_bits.specs.Reading.{Begins, IsPastPart}
 use Rattle.can_node.specs.Frames.Receives.{broken}
-use Rattle.can_node.specs.Record.{Entry}
-use Rattle.can_node.specs.Record.Entry.{Start, OneBit}
+use Rattle.can_node.specs.Record.{RecordEntry}
+use Rattle.can_node.specs.Record.RecordEntry.{Start, OneBit}
 use Rattle.can_node.specs.Table.Row.{other}
 use Rattle.can_node.specs.FinishedPieces.{FinishedPiece}
 use Rattle.can_node.specs.Cut.{Move, IsCut}
@@ -84,7 +84,7 @@ breaks =
     (six_dominant fresh refl) (omega arith)
 
 -- the record
-abbrev pub record_of_fault : Config → List Entry
+abbrev pub record_of_fault : Config → List RecordEntry
 record_of_fault config =
     Start (record config { listen = false; self_test = false })
     ∷ map OneBit (recessive_bits (replicate 11 Recessive ++ replicate 6 Dominant))

@@ -26,8 +26,8 @@ use Rattle.can_node.specs.Pieces.Piece.{Integration, Fault}
 use Rattle.can_node.specs.Frames.{AllAcknowledge, Receives}
 use Rattle.can_node.specs.Frames.Breaks.{check}
 use Rattle.can_node.specs.Frames.Receives.{broken}
-use Rattle.can_node.specs.Record.{Entry}
-use Rattle.can_node.specs.Record.Entry.{Start, OneBit}
+use Rattle.can_node.specs.Record.{RecordEntry}
+use Rattle.can_node.specs.Record.RecordEntry.{Start, OneBit}
 use Rattle.can_node.specs.Table.Row.{other}
 use Rattle.can_node.specs.FinishedPieces.{FinishedPiece}
 use Rattle.can_node.specs.Cut.{Move, IsCut}
@@ -158,7 +158,7 @@ faults =
     (other refl receives_fault) (omega arith)
 
 -- the record
-abbrev pub record_of_check : Config → List Entry
+abbrev pub record_of_check : Config → List RecordEntry
 record_of_check config =
     Start (record config { listen = false; self_test = false })
     ∷ map OneBit (recessive_bits (replicate 11 Recessive)

@@ -19,12 +19,12 @@ use Rattle.can_node.specs.Effects.{along, with_send, with_abort, is_in_progress}
 use Rattle.can_node.specs.Pieces.{Place, sent_at}
 use Rattle.can_node.specs.Pieces.Place.{AtReset, AtIntegration, AtIdle, AfterSof}
 use Rattle.can_node.specs.Pieces.Place.{AtLastEofBit, AtFlag, AtDelimiter, AtInterframeSpace}
-use Rattle.can_node.specs.Record.{Entry, bits_in}
-use Rattle.can_node.specs.Record.Entry.{Start, Stop, OneBit, Send, Abort, BusOff}
+use Rattle.can_node.specs.Record.{RecordEntry, bits_in}
+use Rattle.can_node.specs.Record.RecordEntry.{Start, Stop, OneBit, Send, Abort, BusOff}
 use Rattle.can_node.specs.Machine.Standing.{IsKept}
 
 -- the bits among two lists of entries
-pub bits_both : (a b : List Entry) → bits_in (a ++ b) ≡ bits_in a ++ bits_in b
+pub bits_both : (a b : List RecordEntry) → bits_in (a ++ b) ≡ bits_in a ++ bits_in b
 bits_both [] b = refl
 bits_both (OneBit x ∷ a) b = ap (λ l. x ∷ l) (bits_both a b)
 bits_both (Send request ∷ a) b = bits_both a b
@@ -34,7 +34,7 @@ bits_both (Stop ∷ a) b = bits_both a b
 bits_both (BusOff ∷ a) b = bits_both a b
 
 -- the context after one list of entries and another
-pub along_both : (c : ContextValue) (place : Place) (done : List Bit) (a b : List Entry) →
+pub along_both : (c : ContextValue) (place : Place) (done : List Bit) (a b : List RecordEntry) →
     along c place done (a ++ b) ≡ along (along c place done a) place (done ++ bits_in a) b
 along_both c place done [] b = ap (λ l. along c place l b) (sym (append-nil done))
 along_both c place done (OneBit x ∷ a) b =
@@ -48,7 +48,7 @@ along_both c place done (Stop ∷ a) b = along_both c place done a b
 along_both c place done (BusOff ∷ a) b = along_both c place done a b
 
 -- after a bit more
-pub along-bit : (c : ContextValue) (place : Place) (slice : List Entry) (b : Bit) →
+pub along-bit : (c : ContextValue) (place : Place) (slice : List RecordEntry) (b : Bit) →
     along c place [] (slice ++ OneBit b ∷ []) ≡ at_bit (along c place [] slice) place (bits_in slice) b
 along-bit c place slice b = along_both c place [] slice (OneBit b ∷ [])
 
@@ -142,7 +142,7 @@ aborted c place = chosen (is_in_progress c place) c (record c { aborted = true }
     (same c)
 
 -- all entries of a piece
-pub all_kept : (c : ContextValue) (place : Place) (done : List Bit) (slice : List Entry) →
+pub all_kept : (c : ContextValue) (place : Place) (done : List Bit) (slice : List RecordEntry) →
     AreKept c (along c place done slice)
 all_kept c place done [] = same c
 all_kept c place done (OneBit b ∷ slice) =
@@ -158,7 +158,7 @@ all_kept c place done (Stop ∷ slice) = all_kept c place done slice
 all_kept c place done (BusOff ∷ slice) = all_kept c place done slice
 
 -- in interframe space role and counters stay
-interframe_kept : (c : ContextValue) (done : List Bit) (slice : List Entry) →
+interframe_kept : (c : ContextValue) (done : List Bit) (slice : List RecordEntry) →
     owes_suspension (along c AtInterframeSpace done slice) ≡ owes_suspension c
 interframe_kept c done [] = refl
 interframe_kept c done (OneBit b ∷ slice) = interframe_kept c (done ++ b ∷ []) slice
@@ -169,7 +169,7 @@ interframe_kept c done (Stop ∷ slice) = interframe_kept c done slice
 interframe_kept c done (BusOff ∷ slice) = interframe_kept c done slice
 
 -- what doesn't change within a piece
-pub is_kept : (c : ContextValue) (place : Place) (slice : List Entry) → IsKept place c (along c place [] slice)
+pub is_kept : (c : ContextValue) (place : Place) (slice : List RecordEntry) → IsKept place c (along c place [] slice)
 is_kept c place slice =
     let all = all_kept c place [] slice in
     let P : Place → Type 0 = λ s. owes_suspension (along c s [] slice) ≡ owes_suspension c in

@@ -19,8 +19,8 @@ use Rattle.can_node.specs.Bits.{Bit}
 use Rattle.can_node.specs.Context.{ContextValue, fresh, is_transmitter, flag_level}
 use Rattle.can_node.specs.Pieces.{Place}
 use Rattle.can_node.specs.Pieces.Place.{AtReset, AfterSof}
-use Rattle.can_node.specs.Record.{Entry, bits_in, Inner}
-use Rattle.can_node.specs.Record.Entry.{Send, Abort}
+use Rattle.can_node.specs.Record.{RecordEntry, bits_in, Inner}
+use Rattle.can_node.specs.Record.RecordEntry.{Send, Abort}
 use Rattle.can_node.specs.Record.Inner.{none_left, sends, aborts}
 use Rattle.can_node.specs.Effects.{along}
 use Rattle.can_node.specs.Cut.{IsUnfinished, IsOpenAt, IsOnBus, Move, From, FinishedPiece, none_yet}
@@ -133,7 +133,7 @@ at_start (StageInInterframeSpace n) shift c held marked place away stays at =
 -- ---- one entry more that is no bit
 
 -- what such an entry is to a cut: it may stand between pieces and within one, and changes the request
-pub record IsBetween (entry : Entry) (place : Place) : Type 0 where
+pub record IsBetween (entry : RecordEntry) (place : Place) : Type 0 where
   pub inner : Inner (entry ∷ [])
   pub bits : bits_in (entry ∷ []) ≡ []
   pub moves : (c : ContextValue) → Move c place (entry ∷ []) [] (along c place [] (entry ∷ [])) place
@@ -156,8 +156,8 @@ abort_between place away = record {
 }
 
 -- the node stands at the record with it
-between_by : (old new : Node) (entries : List Entry) (found : List FinishedPiece) (entry : Entry)
-    (held : Option Request) (marked : Bool) (c : ContextValue) (place : Place) (slice : List Entry) →
+between_by : (old new : Node) (entries : List RecordEntry) (found : List FinishedPiece) (entry : RecordEntry)
+    (held : Option Request) (marked : Bool) (c : ContextValue) (place : Place) (slice : List RecordEntry) →
     From none_yet fresh AtReset entries found c place slice → IsOpenAt c place slice →
     At old.stage old.shift c (along c place [] slice) place (bits_in slice) →
     context_of old.context ≡ along c place [] slice → IsBetween entry place → place ≢ AtReset →
@@ -218,8 +218,8 @@ between_by old new entries found entry held marked c place slice cut (begun inne
       at = subst T (sym shift) (subst S (sym stage) (subst R (sym bits) (subst Q (sym whole) there)));
     }
 
-pub between_stands : (old new : Node) (entries : List Entry) (found : List FinishedPiece)
-    (h : StandsAt old entries found) (entry : Entry) (held : Option Request) (marked : Bool) →
+pub between_stands : (old new : Node) (entries : List RecordEntry) (found : List FinishedPiece)
+    (h : StandsAt old entries found) (entry : RecordEntry) (held : Option Request) (marked : Bool) →
     let now = along h.cut.context h.cut.place [] h.cut.rest in
     IsBetween entry h.cut.place → h.cut.place ≢ AtReset →
     along now h.cut.place [] (entry ∷ []) ≡ changed now held marked →

@@ -9,8 +9,8 @@ use Rattle.can_node.specs.Bits.{Bit}
 use Rattle.can_node.specs.Context.{ContextValue, fresh}
 use Rattle.can_node.specs.Pieces.{Place, Piece}
 use Rattle.can_node.specs.Pieces.Place.{AtReset}
-use Rattle.can_node.specs.Record.{Entry, bits_in}
-use Rattle.can_node.specs.Record.Entry.{OneBit, BusOff}
+use Rattle.can_node.specs.Record.{RecordEntry, bits_in}
+use Rattle.can_node.specs.Record.RecordEntry.{OneBit, BusOff}
 use Rattle.can_node.specs.Counting.{at_bit}
 use Rattle.can_node.specs.Effects.{along, after, with_off, closed}
 use Rattle.can_node.specs.Table.{Row}
@@ -40,7 +40,7 @@ off_away c place bits b stays off e =
 
 -- ---- the piece under way goes on
 
-unfoldable pub goes_stands : (old new : Node) (entries : List Entry) (found : List FinishedPiece)
+unfoldable pub goes_stands : (old new : Node) (entries : List RecordEntry) (found : List FinishedPiece)
     (h : StandsAt old entries found) (b : Bit) (stage : Stage) (shift : Shift) →
     let now = along h.cut.context h.cut.place [] h.cut.rest in let d = at_bit now h.cut.place (bits_in h.cut.rest) b in
     Drives now h.cut.place (bits_in h.cut.rest) b.driven →
@@ -74,13 +74,13 @@ goes_stands old new entries found h b stage shift drives at few shows same_stage
 -- ---- the piece ends
 
 -- with this bit the entries are the piece, and this is the context after it
-pub record EndsWith (c : ContextValue) (place : Place) (rest : List Entry) (b : Bit) (p : Piece) (next : Place) : Type 0
+pub record EndsWith (c : ContextValue) (place : Place) (rest : List RecordEntry) (b : Bit) (p : Piece) (next : Place) : Type 0
   where
     whole : after c place (rest ++ OneBit b ∷ []) p next
         ≡ closed p next (at_bit (along c place [] rest) place (bits_in rest) b)
     lawful : Row c place (bits_in (rest ++ OneBit b ∷ [])) p next
 
-pub ends_with : (c : ContextValue) (place : Place) (rest : List Entry) (b : Bit) (p : Piece) (next : Place) →
+pub ends_with : (c : ContextValue) (place : Place) (rest : List RecordEntry) (b : Bit) (p : Piece) (next : Place) →
     Row c place (bits_in rest ++ b ∷ []) p next → EndsWith c place rest b p next
 ends_with c place rest b p next row =
     let P : List Bit → Type 0 = λ l. Row c place l p next in
@@ -89,7 +89,7 @@ ends_with c place rest b p next row =
       lawful = subst P (sym (bits_push rest b)) row;
     }
 
-unfoldable pub closes_stands : (old new : Node) (entries : List Entry) (found : List FinishedPiece)
+unfoldable pub closes_stands : (old new : Node) (entries : List RecordEntry) (found : List FinishedPiece)
     (h : StandsAt old entries found) (b : Bit) (stage : Stage) (shift : Shift) (p : Piece) (next : Place) →
     let n = closed p next (at_bit (along h.cut.context h.cut.place [] h.cut.rest) h.cut.place (bits_in h.cut.rest) b) in
     Row h.cut.context h.cut.place (bits_in h.cut.rest ++ b ∷ []) p next → At stage shift n n next [] → n.tec < 256 →
@@ -127,13 +127,13 @@ off_rests node c reset =
     subst P (sym reset) (refl, refl)
 
 -- the counts after a bit, and after bus-off too
-off_counts : (entries : List Entry) (b : Bit) →
+off_counts : (entries : List RecordEntry) (b : Bit) →
     counted none_yet (entries ++ OneBit b ∷ BusOff ∷ []) ≡ counted none_yet (entries ++ OneBit b ∷ [])
 off_counts entries b = counted_both none_yet entries (OneBit b ∷ BusOff ∷ [])
     ∙ sym (counted_both none_yet entries (OneBit b ∷ []))
 
 -- within a piece
-pub off_goes : (old new : Node) (entries : List Entry) (found : List FinishedPiece) (h : StandsAt old entries found)
+pub off_goes : (old new : Node) (entries : List RecordEntry) (found : List FinishedPiece) (h : StandsAt old entries found)
     (b : Bit) (stage : Stage) (shift : Shift) →
     let now = along h.cut.context h.cut.place [] h.cut.rest in let d = at_bit now h.cut.place (bits_in h.cut.rest) b in
     At stage shift h.cut.context d h.cut.place (bits_in h.cut.rest ++ b ∷ []) → 256 ≤ d.tec →
@@ -156,7 +156,7 @@ off_goes old new entries found h b stage shift at off shows reset =
     let move : Move h.cut.context h.cut.place (slice ++ BusOff ∷ []) [] (with_off d) AtReset =
     subst Q whole (off_within slice h.cut.rest b refl stays (slice_open b away (open_end h.cut.from))
     (subst P (sym (bits_push h.cut.rest b)) unfinished) far) in
-    let R : List Entry → Type 0 = λ l. Move h.cut.context h.cut.place l [] (with_off d) AtReset in
+    let R : List RecordEntry → Type 0 = λ l. Move h.cut.context h.cut.place l [] (with_off d) AtReset in
     let S : List FinishedPiece → Type 0 =
     λ l. From none_yet fresh AtReset (entries ++ OneBit b ∷ BusOff ∷ []) l (with_off d) AtReset [] in
     record {
@@ -173,7 +173,7 @@ off_goes old new entries found h b stage shift at off shows reset =
     }
 
 -- at the end of a piece
-pub off_closes : (old new : Node) (entries : List Entry) (found : List FinishedPiece) (h : StandsAt old entries found)
+pub off_closes : (old new : Node) (entries : List RecordEntry) (found : List FinishedPiece) (h : StandsAt old entries found)
     (b : Bit) (p : Piece) (next : Place) →
     let n = closed p next (at_bit (along h.cut.context h.cut.place [] h.cut.rest) h.cut.place (bits_in h.cut.rest) b) in
     Row h.cut.context h.cut.place (bits_in h.cut.rest ++ b ∷ []) p next → 256 ≤ n.tec →
@@ -191,7 +191,7 @@ off_closes old new entries found h b p next row off shows reset =
     let move : Move h.cut.context h.cut.place (slice ++ BusOff ∷ []) (p ∷ []) (with_off n) AtReset =
     subst Q ends.whole (off_after slice h.cut.rest b refl (stays_end h.cut.from)
     (slice_open b (piece_away h.cut.place row) (open_end h.cut.from)) ends.lawful far) in
-    let R : List Entry → Type 0 = λ l. Move h.cut.context h.cut.place l (p ∷ []) (with_off n) AtReset in
+    let R : List RecordEntry → Type 0 = λ l. Move h.cut.context h.cut.place l (p ∷ []) (with_off n) AtReset in
     let S : Count → Type 0 = λ k. From none_yet fresh AtReset (entries ++ OneBit b ∷ BusOff ∷ [])
     (found ++ tagged k (p ∷ [])) (with_off n) AtReset [] in
     record {

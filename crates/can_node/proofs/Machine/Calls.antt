@@ -10,8 +10,8 @@ use Rattle.can_node.specs.Bits.{Bit, recessive_bits}
 use Rattle.can_node.specs.Context.{ContextValue, fresh, integration_count}
 use Rattle.can_node.specs.Pieces.{Place}
 use Rattle.can_node.specs.Pieces.Place.{AtReset, AtIntegration}
-use Rattle.can_node.specs.Record.{Entry, bits_in}
-use Rattle.can_node.specs.Record.Entry.{Start, Stop, OneBit}
+use Rattle.can_node.specs.Record.{RecordEntry, bits_in}
+use Rattle.can_node.specs.Record.RecordEntry.{Start, Stop, OneBit}
 use Rattle.can_node.specs.Effects.{along, with_start, with_stop}
 use Rattle.can_node.specs.Cut.{IsOpenAt, IsOnBus, Move, From, FinishedPiece, none_yet}
 use Rattle.can_node.specs.Cut.IsOpenAt.{nothing}
@@ -28,7 +28,7 @@ along_rest c done [] = refl
 along_rest c done (b ∷ bits) = along_rest c (done ++ b ∷ []) bits
 
 -- the same of a slice that is open there
-pub along_open : (c : ContextValue) (slice : List Entry) → IsOpenAt c AtReset slice → along c AtReset [] slice ≡ c
+pub along_open : (c : ContextValue) (slice : List RecordEntry) → IsOpenAt c AtReset slice → along c AtReset [] slice ≡ c
 along_open c slice opened =
     let bits = rest_open opened in
     ap (λ l. along c AtReset [] l) bits.1 ∙ along_rest c [] (recessive_bits bits.0)
@@ -66,7 +66,7 @@ start_stays config c stays = chosen (c.off && not config.listen)
     chosen false = stays
 
 -- the cut from a rest on
-started_on : (config : Config) {c : ContextValue} {place : Place} {entries slice : List Entry}
+started_on : (config : Config) {c : ContextValue} {place : Place} {entries slice : List RecordEntry}
     {found : List FinishedPiece} → place ≡ AtReset →
     From none_yet fresh AtReset entries found c place slice →
     From none_yet fresh AtReset (entries ++ Start config ∷ []) (found ++ []) (with_start config c) AtIntegration []
@@ -76,18 +76,18 @@ started_on config {c = c} {place = place} {entries = entries} {slice = slice} {f
     let opened = open_end here in
     let bits = rest_open opened in
     let stays : IsOnBus c = subst (λ d. IsOnBus d) (along_open c slice opened) (stays_end here) in
-    let Q : List Entry → Type 0 = λ l. Move c AtReset (l ++ Start config ∷ []) [] (with_start config c) AtIntegration in
+    let Q : List RecordEntry → Type 0 = λ l. Move c AtReset (l ++ Start config ∷ []) [] (with_start config c) AtIntegration in
     move_on (Start config ∷ []) [] here (subst Q (sym bits.1) (started config bits.0)) (start_stays config c stays)
 
 -- the context of a rest is the one of its beginning
-rest_now : (c : ContextValue) (place : Place) (slice : List Entry) → place ≡ AtReset → IsOpenAt c place slice →
+rest_now : (c : ContextValue) (place : Place) (slice : List RecordEntry) → place ≡ AtReset → IsOpenAt c place slice →
     along c place [] slice ≡ c
 rest_now c place slice rest opened =
     let P : Place → Type 0 = λ s. IsOpenAt c s slice in
     let Q : Place → Type 0 = λ s. along c s [] slice ≡ c in
     subst Q (sym rest) (along_open c slice (subst P rest opened))
 
-pub started_stands : (old new : Node) (config : Config) (entries : List Entry) (found : List FinishedPiece) →
+pub started_stands : (old new : Node) (config : Config) (entries : List RecordEntry) (found : List FinishedPiece) →
     old.stage ≡ StageInReset →
     context_of new.context ≡ with_start config (context_of old.context) →
     new.stage ≡ StageIntegrating (integration_count (context_of new.context)) 0 →
@@ -128,7 +128,7 @@ start_holds config c = chosen (c.off && not config.listen)
 
 -- ---- a stop
 
-pub stopped_stands : (old new : Node) (entries : List Entry) (found : List FinishedPiece) → new.stage ≡ StageInReset →
+pub stopped_stands : (old new : Node) (entries : List RecordEntry) (found : List FinishedPiece) → new.stage ≡ StageInReset →
     context_of new.context ≡ with_stop (context_of old.context) → StandsAt old entries found →
     FollowsAt new (entries ++ Stop ∷ []) found
 stopped_stands old new entries found reset shows h =

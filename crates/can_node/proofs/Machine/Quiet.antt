@@ -19,8 +19,8 @@ use Rattle.can_node.specs.Context.{ContextValue, is_transmitter, is_held}
 use Rattle.can_node.specs.Pieces.{Place, sent_at}
 use Rattle.can_node.specs.Pieces.Place.{AtIdle}
 use Rattle.can_node.specs.Pieces.Piece.{IdleBit}
-use Rattle.can_node.specs.Record.{Entry, bits_in}
-use Rattle.can_node.specs.Record.Entry.{OneBit}
+use Rattle.can_node.specs.Record.{RecordEntry, bits_in}
+use Rattle.can_node.specs.Record.RecordEntry.{OneBit}
 use Rattle.can_node.specs.Counting.{at_bit, first_bit}
 use Rattle.can_node.specs.Table.{Row}
 use Rattle.can_node.specs.Cut.{FinishedPiece, none_yet, counted, tagged}
@@ -65,12 +65,12 @@ nothing_told now place bits b step few same received ended lost fault =
     (sym (lt-leb 256 now.tec few)) (none_recovers now.off)
 
 -- the role that a node shows is that of the cut
-role_shown : (node : Node) (entries : List Entry) (found : List FinishedPiece) (h : StandsAt node entries found) →
+role_shown : (node : Node) (entries : List RecordEntry) (found : List FinishedPiece) (h : StandsAt node entries found) →
     is_receiving node ≡ not (is_transmitter (now_in h.cut).role)
 role_shown node entries found h = ap (λ (k : ContextValue). not (is_transmitter k.role)) h.shows
 
 -- a step in which nothing is told
-leads_quietly : (old new : Node) (entries : List Entry) (found : List FinishedPiece) (h : StandsAt old entries found)
+leads_quietly : (old new : Node) (entries : List RecordEntry) (found : List FinishedPiece) (h : StandsAt old entries found)
     (b : Bit) (step : Step) →
     nothing (is_receiving old) ≡ events_of step (now_in h.cut) h.cut.place (open_bits h.cut) b →
     StandsAt new (entries ++ OneBit b ∷ []) (found ++ closed_by (counted none_yet (entries ++ OneBit b ∷ [])) step) →

@@ -16,8 +16,8 @@ use Rattle.can_node.specs.Bits.{Bit}
 use Rattle.can_node.specs.Context.{ContextValue, is_transmitter}
 use Rattle.can_node.specs.Pieces.{Place}
 use Rattle.can_node.specs.Pieces.Place.{AtReset}
-use Rattle.can_node.specs.Record.{Entry, bits_in}
-use Rattle.can_node.specs.Record.Entry.{Send, Abort}
+use Rattle.can_node.specs.Record.{RecordEntry, bits_in}
+use Rattle.can_node.specs.Record.RecordEntry.{Send, Abort}
 use Rattle.can_node.specs.Effects.{with_send, with_abort, keep_first, is_in_progress}
 use Rattle.can_node.specs.Cut.{FinishedPiece}
 use Rattle.can_node.specs.Machine.Standing.{context_of}
@@ -46,7 +46,7 @@ awake (StageInFlag n like) shift c now place bits off at e = let wrong = sym at.
 awake (StageInDelimiter d r) shift c now place bits off at e = let wrong = sym at.0 ∙ e in cc
 awake (StageInInterframeSpace n) shift c now place bits off at e = let wrong = sym at.0 ∙ e in cc
 
-pub awake_now : (node : Node) (entries : List Entry) (found : List FinishedPiece) (h : StandsAt node entries found) →
+pub awake_now : (node : Node) (entries : List RecordEntry) (found : List FinishedPiece) (h : StandsAt node entries found) →
     node.stage ≢ StageInReset → h.cut.place ≢ AtReset
 awake_now node entries found h off =
     awake node.stage node.shift h.cut.context (now_in h.cut) h.cut.place (bits_in h.cut.rest) off h.at
@@ -57,7 +57,7 @@ none_held None e = refl
 none_held (Some request) e = absurd cc
 
 -- it was held by the node's own fields
-pub held_now : (node : Node) (entries : List Entry) (found : List FinishedPiece) (h : StandsAt node entries found)
+pub held_now : (node : Node) (entries : List RecordEntry) (found : List FinishedPiece) (h : StandsAt node entries found)
     (held : Option Request) → node.context.held ≡ held →
     (now_in h.cut).held ≡ held
 held_now node entries found h held e = sym (ap (λ (c : ContextValue). c.held) h.shows) ∙ e
@@ -76,7 +76,7 @@ transmitting_holds stage shift c now place bits in_frame role at none =
 pub sent_stands : (old new : Node) (request : Request) → old.stage ≢ StageInReset → old.context.held ≡ None →
     context_of new.context ≡ changed (context_of old.context) (Some request) old.context.aborted →
     new.stage ≡ old.stage → new.shift ≡ old.shift →
-    (entries : List Entry) (found : List FinishedPiece) → StandsAt old entries found →
+    (entries : List RecordEntry) (found : List FinishedPiece) → StandsAt old entries found →
     FollowsAt new (entries ++ Send request ∷ []) found
 sent_stands old new request off none shows stage shift entries found h =
     let now = now_in h.cut in
@@ -93,7 +93,7 @@ sent_stands old new request off none shows stage shift entries found h =
 -- ---- an abort
 
 -- what a node that holds a request and isn't in reset answers by its own fields
-pub abort_is : (node : Node) (entries : List Entry) (found : List FinishedPiece) (h : StandsAt node entries found)
+pub abort_is : (node : Node) (entries : List RecordEntry) (found : List FinishedPiece) (h : StandsAt node entries found)
     (request : Request) (going marks : Bool) →
     node.context.held ≡ Some request → going ≡ is_in_progress (context_of node.context) h.cut.place →
     marks ≡ node.context.aborted →
@@ -107,7 +107,7 @@ abort_is node entries found h request going marks held goes marked =
     ∙ ap (λ m. abort_of (is_in_progress c h.cut.place) c.held m) (marked ∙ ap (λ (k : ContextValue). k.aborted) h.shows)
 
 -- a node that holds a request isn't in reset
-pub holding_awake : (node : Node) (entries : List Entry) (found : List FinishedPiece) (h : StandsAt node entries found)
+pub holding_awake : (node : Node) (entries : List RecordEntry) (found : List FinishedPiece) (h : StandsAt node entries found)
     (request : Request) → node.context.held ≡ Some request → h.cut.place ≢ AtReset
 holding_awake node entries found h request held =
     holds node.stage node.shift h.cut.context (now_in h.cut) h.cut.place (bits_in h.cut.rest) h.at
@@ -130,11 +130,11 @@ holding_awake node entries found h request held =
 
 -- an abort of a request in progress marks it
 pub marked_stands : (old new : Node) (request : Request) → old.context.held ≡ Some request →
-    ((entries : List Entry) (found : List FinishedPiece) (h : StandsAt old entries found) →
+    ((entries : List RecordEntry) (found : List FinishedPiece) (h : StandsAt old entries found) →
     is_in_progress (context_of old.context) h.cut.place ≡ true) →
     context_of new.context ≡ changed (context_of old.context) old.context.held true → new.stage ≡ old.stage →
     new.shift ≡ old.shift →
-    (entries : List Entry) (found : List FinishedPiece) → StandsAt old entries found →
+    (entries : List RecordEntry) (found : List FinishedPiece) → StandsAt old entries found →
     FollowsAt new (entries ++ Abort ∷ []) found
 marked_stands old new request held going shows stage shift entries found h =
     let now = now_in h.cut in
@@ -150,11 +150,11 @@ marked_stands old new request held going shows stage shift entries found h =
 
 -- and any other is dropped
 pub dropped_stands : (old new : Node) (request : Request) → old.context.held ≡ Some request →
-    ((entries : List Entry) (found : List FinishedPiece) (h : StandsAt old entries found) →
+    ((entries : List RecordEntry) (found : List FinishedPiece) (h : StandsAt old entries found) →
     is_in_progress (context_of old.context) h.cut.place ≡ false) →
     context_of new.context ≡ changed (context_of old.context) None old.context.aborted → new.stage ≡ old.stage →
     new.shift ≡ old.shift →
-    (entries : List Entry) (found : List FinishedPiece) → StandsAt old entries found →
+    (entries : List RecordEntry) (found : List FinishedPiece) → StandsAt old entries found →
     FollowsAt new (entries ++ Abort ∷ []) found
 dropped_stands old new request held going shows stage shift entries found h =
     let now = now_in h.cut in
@@ -187,7 +187,7 @@ pub going_is : (node : Node) (going value : Bool) → going ≡ value →
     ((c : ContextValue) (place : Place) (bits : List Bit) →
     At node.stage node.shift c (context_of node.context) place bits →
     going ≡ is_in_progress (context_of node.context) place) →
-    (entries : List Entry) (found : List FinishedPiece) (h : StandsAt node entries found) →
+    (entries : List RecordEntry) (found : List FinishedPiece) (h : StandsAt node entries found) →
     is_in_progress (context_of node.context) h.cut.place ≡ value
 going_is node going value e f entries found h =
     sym (f h.cut.context h.cut.place (bits_in h.cut.rest) (at_shown node entries found h)) ∙ e

@@ -18,8 +18,8 @@ use Rattle.can_node.specs.Bits.{Bit, recessive_bit, recessive_bits}
 use Rattle.can_node.specs.Context.{ContextValue, fresh}
 use Rattle.can_node.specs.Pieces.{Place, Piece}
 use Rattle.can_node.specs.Pieces.Place.{AtReset}
-use Rattle.can_node.specs.Record.{Entry, bits_in}
-use Rattle.can_node.specs.Record.Entry.{OneBit, BusOff}
+use Rattle.can_node.specs.Record.{RecordEntry, bits_in}
+use Rattle.can_node.specs.Record.RecordEntry.{OneBit, BusOff}
 use Rattle.can_node.specs.Table.{Row}
 use Rattle.can_node.specs.Cut.{IsOpenAt, From, FinishedPiece, Count, counted, none_yet}
 use Rattle.can_node.specs.Cut.IsOpenAt.{rests}
@@ -43,7 +43,7 @@ use Rattle.can_node.proofs.OneCut.Through.{Through, goes_through}
 -- ---- in reset
 
 -- after more bits in reset the place is reset, and no piece is finished
-rest_on : (k : Count) (c other : ContextValue) (place another : Place) (slice more : List Entry)
+rest_on : (k : Count) (c other : ContextValue) (place another : Place) (slice more : List RecordEntry)
     (later : List FinishedPiece) (l : List Level) → place ≡ AtReset → slice ≡ map OneBit (recessive_bits l) →
     From k c place slice later other another more → (later ≡ []) × (another ≡ AtReset)
 rest_on k c other place another slice more later l at e (here opened stays) = (refl, at)
@@ -54,7 +54,7 @@ rest_on k c other place another slice more later l at e
     (subst P (sym at) (rests l)) (sym e))
 
 -- a bus-off can't come there
-no_off_way : (c next : ContextValue) (place site : Place) (a x : List Entry) (ps : List Piece) (l : List Level) →
+no_off_way : (c next : ContextValue) (place site : Place) (a x : List RecordEntry) (ps : List Piece) (l : List Level) →
     place ≡ AtReset → Way c place a ps next site →
     map OneBit (recessive_bits l) ++ BusOff ∷ [] ≡ a ++ x → ⊥
 no_off_way c next place site a x ps l at (finishes {next = n} {p = p} slice is_slice row stays) e =
@@ -68,7 +68,7 @@ no_off_way c next place site a x ps l at (closes slice entry part out closing) e
     part.inner off out (e ∙ append_assoc slice (entry ∷ []) x) in
     ends closing at once.1
   where
-    ends : {s t : Place} {n : ContextValue} {qs : List Piece} {f : Entry} {b : List Entry} → Closing c b s f qs n t →
+    ends : {s t : Place} {n : ContextValue} {qs : List Piece} {f : RecordEntry} {b : List RecordEntry} → Closing c b s f qs n t →
         s ≡ AtReset → BusOff ≡ f → ⊥
     ends (by_start config) z q = cc
     ends (by_stop opened) z q = cc
@@ -79,7 +79,7 @@ no_off_way c next place site a x ps l at (closes slice entry part out closing) e
     ends {b = b} (by_off_after {next = m} {p = p} is_slice row far) z q =
         let P : Place → Type 0 = λ r. Row c r (bits_in b) p m in no_rest_piece (subst P z row)
 
-no_off : (k : Count) (c other : ContextValue) (place another : Place) (slice more : List Entry)
+no_off : (k : Count) (c other : ContextValue) (place another : Place) (slice more : List RecordEntry)
     (later : List FinishedPiece) (l : List Level) → place ≡ AtReset →
     slice ≡ map OneBit (recessive_bits l) ++ BusOff ∷ [] → From k c place slice later other another more → ⊥
 no_off k c other place another slice more later l at e (here opened stays) =
@@ -121,7 +121,7 @@ more_bits : (l : List Level) (seen : Level) →
 more_bits [] seen = refl
 more_bits (y ∷ l) seen = ap (λ r. OneBit (recessive_bit y) ∷ r) (more_bits l seen)
 
-module _ (old new : Node) (entries : List Entry) (found : List FinishedPiece) (h : StandsAt old entries found)
+module _ (old new : Node) (entries : List RecordEntry) (found : List FinishedPiece) (h : StandsAt old entries found)
     (seen : Level) (e : BitEvents) (reset : InReset old)
     (x : Level) (drives : DrivesIn h.cut x)
     (leads : Leads old new entries found h (record { driven = x; seen = seen }) e) where

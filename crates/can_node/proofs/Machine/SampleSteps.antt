@@ -15,7 +15,7 @@ use Rattle.can_node.specs.declared.node.Node.{Node}
 use Rattle.can_node.specs.Bits.{Bit}
 use Rattle.can_node.specs.Context.{ContextValue, is_transmitter, is_held}
 use Rattle.can_node.specs.Pieces.{Place}
-use Rattle.can_node.specs.Record.{Entry, bits_in}
+use Rattle.can_node.specs.Record.{RecordEntry, bits_in}
 use Rattle.can_node.specs.Counting.{at_bit}
 use Rattle.can_node.specs.Effects.{along}
 use Rattle.can_node.specs.Cut.{FinishedPiece, IsOnBus}
@@ -48,7 +48,7 @@ Counts context stage new driven seen lost = (shift : Shift) (c : ContextValue) (
     new ≡ at_bit (context_of context) place bits (record { driven = driven; seen = seen })
 
 -- one bit, in which the node drove the level that it keeps
-pub sampled : (old stepped gone new : Node) (entries : List Entry) (found : List FinishedPiece)
+pub sampled : (old stepped gone new : Node) (entries : List RecordEntry) (found : List FinishedPiece)
     (h : StandsAt old entries found) (x seen : Level) (turn : AfterBit)
     (received : Option FrameValue) (ended : Option Outcome) (lost : Option ℕ) (fault : Option (Cause × Segment))
     (transmits recovered held sent loses : Bool) →

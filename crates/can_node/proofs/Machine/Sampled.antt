@@ -12,8 +12,8 @@ use Rattle.can_node.specs.declared.bit_events.BitEvents.{BitEvents}
 use Rattle.can_node.specs.declared.node.Node.{Node}
 use Rattle.can_node.specs.Bits.{Bit}
 use Rattle.can_node.specs.Context.{ContextValue, is_transmitter}
-use Rattle.can_node.specs.Record.{Entry, bits_in}
-use Rattle.can_node.specs.Record.Entry.{OneBit, BusOff}
+use Rattle.can_node.specs.Record.{RecordEntry, bits_in}
+use Rattle.can_node.specs.Record.RecordEntry.{OneBit, BusOff}
 use Rattle.can_node.specs.Pieces.{Place}
 use Rattle.can_node.specs.Counting.{at_bit}
 use Rattle.can_node.specs.Effects.{along, closed, with_off}
@@ -35,17 +35,17 @@ off_now : (n : ContextValue) → 256 ≤ n.tec → off_if n ≡ with_off n
 off_now n far = ap (λ t. if t then with_off n else n) (le-leb 256 n.tec far)
 
 -- the entries that the bit adds
-abbrev pub entries_if : Bool → Bit → List Entry
+abbrev pub entries_if : Bool → Bit → List RecordEntry
 entries_if went b = if went then OneBit b ∷ BusOff ∷ [] else OneBit b ∷ []
 
 -- the context after a bit of which this came
-abbrev context_in : {entries : List Entry} {found : List FinishedPiece} → IsCut entries found → AfterBit → Bit →
+abbrev context_in : {entries : List RecordEntry} {found : List FinishedPiece} → IsCut entries found → AfterBit → Bit →
     ContextValue
 context_in cut turn b = resulted turn (at_bit (now_in cut) cut.place (open_bits cut) b)
 
 -- what the steps of a bit say together: the level driven, what came of the piece, where the node then stands, and
 -- bus-off
-pub record IsDone (old new : Node) (entries : List Entry) (found : List FinishedPiece) (h : StandsAt old entries found)
+pub record IsDone (old new : Node) (entries : List RecordEntry) (found : List FinishedPiece) (h : StandsAt old entries found)
     (b : Bit) (turn : AfterBit)
     (stage : Stage) (reader shift : Shift) : Type 0 where
   pub drives : Drives (now_in h.cut) h.cut.place (open_bits h.cut) b.driven
@@ -56,7 +56,7 @@ pub record IsDone (old new : Node) (entries : List Entry) (found : List Finished
   pub off : 256 ≤ (context_in h.cut turn b).tec → new.stage ≡ StageInReset
 
 -- the node stands at the record with the bit
-stands_by : (old new : Node) (entries : List Entry) (found : List FinishedPiece) (h : StandsAt old entries found)
+stands_by : (old new : Node) (entries : List RecordEntry) (found : List FinishedPiece) (h : StandsAt old entries found)
     (b : Bit) (turn : AfterBit) (stage : Stage) (reader shift : Shift) →
     IsDone old new entries found h b turn stage reader shift →
     FollowsAt new (entries ++ entries_if (nat_le 256 (context_in h.cut turn b).tec) b)
@@ -110,7 +110,7 @@ role_told e f n new told tells is =
     ∙ ap (λ r. not (is_transmitter r)) (sym (ap (λ (c : ContextValue). c.role) is ∙ off_role (nat_le 256 n.tec) n))
 
 -- and the bit tells what the cut has there
-pub leads_by : (old new : Node) (entries : List Entry) (found : List FinishedPiece) (h : StandsAt old entries found)
+pub leads_by : (old new : Node) (entries : List RecordEntry) (found : List FinishedPiece) (h : StandsAt old entries found)
     (b : Bit) (turn : AfterBit) (stage : Stage) (reader shift : Shift) (e : BitEvents) →
     IsDone old new entries found h b turn stage reader shift →
     e ≡ events_of (step_of turn) (now_in h.cut) h.cut.place (open_bits h.cut) b →

@@ -17,8 +17,8 @@ use Rattle.can_node.specs.Context.{ContextValue}
 use Rattle.can_node.specs.Pieces.{Place}
 use Rattle.can_node.specs.Pieces.Place.{AtReset, AtIntegration, AtIdle, AtLastEofBit}
 use Rattle.can_node.specs.Pieces.Place.{AtFlag, AtDelimiter, AtInterframeSpace}
-use Rattle.can_node.specs.Record.{Entry, bits_in}
-use Rattle.can_node.specs.Record.Entry.{OneBit}
+use Rattle.can_node.specs.Record.{RecordEntry, bits_in}
+use Rattle.can_node.specs.Record.RecordEntry.{OneBit}
 use Rattle.can_node.specs.Record.Inner.{none_left, samples}
 use Rattle.can_node.specs.Effects.{along}
 use Rattle.can_node.specs.Cut.{IsUnfinished, IsOpenAt}
@@ -67,7 +67,7 @@ open_at (StageInInterframeSpace n) shift c now place bits away some at =
 -- ---- the entries of the piece with a bit more
 
 -- a bit more
-pub bits_push : (slice : List Entry) (b : Bit) → bits_in (slice ++ OneBit b ∷ []) ≡ bits_in slice ++ b ∷ []
+pub bits_push : (slice : List RecordEntry) (b : Bit) → bits_in (slice ++ OneBit b ∷ []) ≡ bits_in slice ++ b ∷ []
 bits_push slice b = bits_both slice (OneBit b ∷ [])
 
 -- a list with a bit at its end has one
@@ -76,7 +76,7 @@ some_bit [] b e = cc
 some_bit (x ∷ bits) b e = cc
 
 -- in reset
-rest_push : (c : ContextValue) (slice : List Entry) (b : Bit) → b.driven ≡ Recessive → IsOpenAt c AtReset slice →
+rest_push : (c : ContextValue) (slice : List RecordEntry) (b : Bit) → b.driven ≡ Recessive → IsOpenAt c AtReset slice →
     IsOpenAt c AtReset (slice ++ OneBit b ∷ [])
 rest_push c slice b quiet opened =
     let l = rest_open opened in
@@ -85,11 +85,11 @@ rest_push c slice b quiet opened =
     ap (λ m. map OneBit m) (map-append recessive_bit l.0 (b.seen ∷ []))
     ∙ map-append OneBit (recessive_bits l.0) (recessive_bit b.seen ∷ [])
     ∙ ap (λ m. m ++ OneBit (recessive_bit b.seen) ∷ []) (sym l.1) ∙ ap (λ x. slice ++ OneBit x ∷ []) same in
-    let P : List Entry → Type 0 = λ m. IsOpenAt c AtReset m in
+    let P : List RecordEntry → Type 0 = λ m. IsOpenAt c AtReset m in
     subst P whole (rests (l.0 ++ b.seen ∷ []))
 
 -- at any other place
-piece_push : (c : ContextValue) (place : Place) (slice : List Entry) (b : Bit) → place ≢ AtReset →
+piece_push : (c : ContextValue) (place : Place) (slice : List RecordEntry) (b : Bit) → place ≢ AtReset →
     IsOpenAt c place slice → IsUnfinished c place (bits_in slice ++ b ∷ []) →
     IsOpenAt c place (slice ++ OneBit b ∷ [])
 piece_push c place slice b away opened unfinished =
@@ -114,7 +114,7 @@ rest_drives : (now : ContextValue) (place : Place) (bits : List Bit) (x : Level)
 rest_drives now place bits x e h = let P : Place → Type 0 = λ s. Drives now s bits x in subst P e h
 
 -- the entries with a bit more are open
-pub pushed_open : (stage : Stage) (shift : Shift) (c now : ContextValue) (place : Place) (slice : List Entry)
+pub pushed_open : (stage : Stage) (shift : Shift) (c now : ContextValue) (place : Place) (slice : List RecordEntry)
     (b : Bit) →
     IsOpenAt c place slice → Drives (along c place [] slice) place (bits_in slice) b.driven →
     At stage shift c now place (bits_in slice ++ b ∷ []) →

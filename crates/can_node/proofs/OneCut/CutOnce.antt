@@ -4,7 +4,7 @@ use Rattle.std.proofs.lemmas.List.{append_cancel_left}
 use Rattle.can_node.specs.Context.{ContextValue, fresh}
 use Rattle.can_node.specs.Pieces.{Place, Piece}
 use Rattle.can_node.specs.Pieces.Place.{AtReset}
-use Rattle.can_node.specs.Record.{Entry}
+use Rattle.can_node.specs.Record.{RecordEntry}
 use Rattle.can_node.specs.FinishedPieces.{Count, counted, FinishedPiece, tagged, none_yet}
 use Rattle.can_node.specs.Cut.{IsOpenAt, Move, From, IsCut}
 use Rattle.can_node.specs.Cut.From.{here, on}
@@ -14,7 +14,7 @@ use Rattle.can_node.proofs.OneCut.Ways.Way.{finishes, comes, closes}
 use Rattle.can_node.proofs.OneCut.MoveOnce.{move_once, open_no_piece, between_not_open}
 
 -- where less than a piece has come no move goes on among its entries
-way_or_open : (c next : ContextValue) (place site : Place) (a entries x : List Entry) (ps : List Piece) →
+way_or_open : (c next : ContextValue) (place site : Place) (a entries x : List RecordEntry) (ps : List Piece) →
     Way c place a ps next site →
     IsOpenAt c place entries → entries ≡ a ++ x → ⊥
 way_or_open c next place site a entries x ps (finishes {next = n} {p = p} slice is_slice row stays) opened e =
@@ -25,20 +25,20 @@ way_or_open c next place site a entries x ps (closes slice entry part out closin
     outer_not_within slice entries x entry out (open_part opened).inner (e ∙ append_assoc slice (entry ∷ []) x)
 
 -- so the end of a record is open at its place, or a move goes on there, and not both
-pub move_or_open : (c next : ContextValue) (place site : Place) (a entries x : List Entry) (ps : List Piece) →
+pub move_or_open : (c next : ContextValue) (place site : Place) (a entries x : List RecordEntry) (ps : List Piece) →
     Move c place a ps next site →
     IsOpenAt c place entries → entries ≡ a ++ x → ⊥
 move_or_open c next place site a entries x ps move opened e =
     way_or_open c next place site a entries x ps (way_of move) opened e
 
 -- two cuts that have the same pieces, and end in the same context and at the same place, with the same entries open
-abbrev pub EndSame : List FinishedPiece → ContextValue → Place → List Entry → List FinishedPiece → ContextValue →
-    Place → List Entry → Type 0
+abbrev pub EndSame : List FinishedPiece → ContextValue → Place → List RecordEntry → List FinishedPiece → ContextValue →
+    Place → List RecordEntry → Type 0
 EndSame found end last rest others other another more =
     (found ≡ others) × (end ≡ other) × (last ≡ another) × (rest ≡ more)
 
 -- what goes on after one of two equal moves goes on after the other
-after_same : (k j : Count) (c d end : ContextValue) (s t last : Place) (entries rest : List Entry)
+after_same : (k j : Count) (c d end : ContextValue) (s t last : Place) (entries rest : List RecordEntry)
     (found : List FinishedPiece) → k ≡ j → c ≡ d → s ≡ t →
     From k c s entries found end last rest → From j d t entries found end last rest
 after_same k j c d end s t last entries rest found count context place from =
@@ -49,7 +49,7 @@ after_same k j c d end s t last entries rest found count context place from =
 
 -- from one place on a record is cut in one way
 pub from_once : (k : Count) (c end other : ContextValue) (place last another : Place)
-    (entries again rest more : List Entry) (found others : List FinishedPiece) →
+    (entries again rest more : List RecordEntry) (found others : List FinishedPiece) →
     From k c place entries found end last rest → From k c place again others other another more → entries ≡ again →
     EndSame found end last rest others other another more
 from_once k c end other place last another entries again rest more found others (here opened stays) (here too context)
@@ -74,14 +74,14 @@ from_once k c end other place last another entries again rest more found others
     (tags ∙ ap (λ l. tagged (counted k b) qs ++ l) once.0, once.1, once.2, once.3)
 
 -- two cuts of one record have the same finished pieces
-pub cut_once : (entries : List Entry) (found others : List FinishedPiece) → IsCut entries found → IsCut entries others →
+pub cut_once : (entries : List RecordEntry) (found others : List FinishedPiece) → IsCut entries found → IsCut entries others →
     found ≡ others
 cut_once entries found others h k =
     (from_once none_yet fresh h.context k.context AtReset h.place k.place entries entries h.rest k.rest found others
     h.from k.from refl).0
 
 -- and they lead to the same context and place, with the same entries open
-pub whole_once : (entries : List Entry) (found others : List FinishedPiece) (h : IsCut entries found)
+pub whole_once : (entries : List RecordEntry) (found others : List FinishedPiece) (h : IsCut entries found)
     (k : IsCut entries others) →
     (found ≡ others) × (h.context ≡ k.context) × (h.place ≡ k.place) × (h.rest ≡ k.rest)
 whole_once entries found others h k =

@@ -6,8 +6,8 @@ use Rattle.can_node.specs.declared.config.Config.{Config}
 use Rattle.can_node.specs.Bits.{recessive_bit, recessive_bits}
 use Rattle.can_node.specs.Context.{ContextValue}
 use Rattle.can_node.specs.Pieces.{Place}
-use Rattle.can_node.specs.Record.{Entry, bits_in, Inner, BeginsInBit, EndsInBit, IsSlice}
-use Rattle.can_node.specs.Record.Entry.{Start, Stop, OneBit, BusOff}
+use Rattle.can_node.specs.Record.{RecordEntry, bits_in, Inner, BeginsInBit, EndsInBit, IsSlice}
+use Rattle.can_node.specs.Record.RecordEntry.{Start, Stop, OneBit, BusOff}
 use Rattle.can_node.specs.Record.Inner.{none_left, samples, sends, aborts}
 use Rattle.can_node.specs.Cut.{IsOpenAt}
 use Rattle.can_node.specs.Cut.IsOpenAt.{rests, nothing, begun}
@@ -15,25 +15,25 @@ use Rattle.can_node.proofs.Machine.Along.{bits_both}
 use Rattle.can_node.proofs.OneCut.Slices.{slice_of}
 
 -- a start, a stop or bus-off: what no piece has between its bits
-pub data IsOuter : Entry → Type 0 where
+pub data IsOuter : RecordEntry → Type 0 where
   start : (config : Config) → IsOuter (Start config)
   stop : IsOuter Stop
   off : IsOuter BusOff
 
 -- it isn't among the entries of a piece
-pub outer_or_inner : (entry : Entry) (l : List Entry) → IsOuter entry → Inner (entry ∷ l) → ⊥
+pub outer_or_inner : (entry : RecordEntry) (l : List RecordEntry) → IsOuter entry → Inner (entry ∷ l) → ⊥
 outer_or_inner entry l (start config) h = elim h [ ]
 outer_or_inner entry l stop h = elim h [ ]
 outer_or_inner entry l off h = elim h [ ]
 
 -- the entries of a piece after the first
-inner_rest : {entry : Entry} {l : List Entry} → Inner (entry ∷ l) → Inner l
+inner_rest : {entry : RecordEntry} {l : List RecordEntry} → Inner (entry ∷ l) → Inner l
 inner_rest (samples b h) = h
 inner_rest (sends request h) = h
 inner_rest (aborts h) = h
 
 -- the first start, stop or bus-off of a record is one entry at one place
-pub outer_once : (a b x y : List Entry) (e f : Entry) → Inner a → Inner b → IsOuter e → IsOuter f →
+pub outer_once : (a b x y : List RecordEntry) (e f : RecordEntry) → Inner a → Inner b → IsOuter e → IsOuter f →
     a ++ e ∷ x ≡ b ++ f ∷ y → (a ≡ b) × (e ≡ f)
 outer_once [] [] x y e f h k out other same = (refl, cc)
 outer_once [] (w ∷ b) x y e f h k out other same =
@@ -50,8 +50,8 @@ outer_once (v ∷ a) (w ∷ b) x y e f h k out other same =
     (cc, once.1)
 
 -- the entries of a piece stand before it
-pub inner_before : (a b x y : List Entry) (f : Entry) → Inner a → IsOuter f → a ++ x ≡ b ++ f ∷ y →
-    (m : List Entry) × (b ≡ a ++ m)
+pub inner_before : (a b x y : List RecordEntry) (f : RecordEntry) → Inner a → IsOuter f → a ++ x ≡ b ++ f ∷ y →
+    (m : List RecordEntry) × (b ≡ a ++ m)
 inner_before [] b x y f h out same = (b, refl)
 inner_before (v ∷ a) [] x y f h out same =
     let first : f ≡ v = cc in
@@ -64,7 +64,7 @@ inner_before (v ∷ a) (w ∷ b) x y f h out same =
     (before.0, cc)
 
 -- no start, stop or bus-off stands within them
-pub outer_not_within : (a b x : List Entry) (entry : Entry) → IsOuter entry → Inner b → b ≡ a ++ entry ∷ x → ⊥
+pub outer_not_within : (a b x : List RecordEntry) (entry : RecordEntry) → IsOuter entry → Inner b → b ≡ a ++ entry ∷ x → ⊥
 outer_not_within [] b x entry out h e = outer_or_inner entry x out (subst Inner e h)
 outer_not_within (v ∷ a) b x entry out h e =
     outer_not_within a (a ++ entry ∷ x) x entry out (inner_rest (subst Inner e h)) refl
@@ -75,7 +75,7 @@ some_not_none [] x rest h = cc
 some_not_none (y ∷ l) x rest h = cc
 
 -- after the last bit of a slice that ends in a bit nothing is left
-none_after : (a m : List Entry) → EndsInBit (a ++ m) → bits_in m ≡ [] → m ≡ []
+none_after : (a m : List RecordEntry) → EndsInBit (a ++ m) → bits_in m ≡ [] → m ≡ []
 none_after a m ends none =
     elim (last_of m) [
       | inl empty ↦ empty
@@ -88,14 +88,14 @@ none_after a m ends none =
     ]
 
 -- a slice with the bits of its front is that front
-slice_front : (a b m : List Entry) → b ≡ a ++ m → EndsInBit b → bits_in a ≡ bits_in b → a ≡ b
+slice_front : (a b m : List RecordEntry) → b ≡ a ++ m → EndsInBit b → bits_in a ≡ bits_in b → a ≡ b
 slice_front a b m whole ends same =
     let bits = sym (ap bits_in whole ∙ bits_both a m) ∙ sym same ∙ sym (append-nil (bits_in a)) in
     let none = none_after a m (subst EndsInBit whole ends) (append_cancel_left (bits_in a) (bits_in m) [] bits) in
     sym (append-nil a) ∙ ap (λ l. a ++ l) (sym none) ∙ sym whole
 
 -- two slices of one record that begin at one place and have the same bits are the same
-pub slices_once : (a b x y : List Entry) → EndsInBit a → EndsInBit b → bits_in a ≡ bits_in b → a ++ x ≡ b ++ y → a ≡ b
+pub slices_once : (a b x y : List RecordEntry) → EndsInBit a → EndsInBit b → bits_in a ≡ bits_in b → a ++ x ≡ b ++ y → a ≡ b
 slices_once a b x y h k same e =
     elim (fronts a b x y e) [
       | inl longer ↦ slice_front a b longer.0 longer.1 k same
@@ -103,12 +103,12 @@ slices_once a b x y h k same e =
     ]
 
 -- part of a piece: nothing, or entries of a piece from its first bit on
-pub record IsPart (entries : List Entry) : Type 0 where
+pub record IsPart (entries : List RecordEntry) : Type 0 where
   pub inner : Inner entries
   pub begins : (entries ≡ []) ⊎ BeginsInBit entries
 
 -- less than a piece is part of one
-pub open_part : {c : ContextValue} {place : Place} {slice : List Entry} → IsOpenAt c place slice → IsPart slice
+pub open_part : {c : ContextValue} {place : Place} {slice : List RecordEntry} → IsOpenAt c place slice → IsPart slice
 open_part (rests []) = record { inner = none_left; begins = inl refl }
 open_part (rests (x ∷ l)) =
     let slice = slice_of (recessive_bit x) (recessive_bits l) in
@@ -117,5 +117,5 @@ open_part nothing = record { inner = none_left; begins = inl refl }
 open_part (begun inner begins unfinished) = record { inner = inner; begins = inr begins }
 
 -- so is a whole slice
-pub slice_part : {slice : List Entry} → IsSlice slice → IsPart slice
+pub slice_part : {slice : List RecordEntry} → IsSlice slice → IsPart slice
 slice_part h = record { inner = h.inner; begins = inr h.begins }

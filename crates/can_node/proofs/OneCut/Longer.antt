@@ -9,8 +9,8 @@ use Rattle.can_node.specs.declared.node.Node.{Node}
 use Rattle.can_node.specs.declared.bit_events.BitEvents.{BitEvents}
 use Rattle.can_node.specs.Bits.{Bit}
 use Rattle.can_node.specs.Context.{ContextValue, fresh}
-use Rattle.can_node.specs.Record.{Entry}
-use Rattle.can_node.specs.Record.Entry.{OneBit, Start, Send, Abort, Stop, BusOff}
+use Rattle.can_node.specs.Record.{RecordEntry}
+use Rattle.can_node.specs.Record.RecordEntry.{OneBit, Start, Send, Abort, Stop, BusOff}
 use Rattle.can_node.specs.Pieces.{Place, Piece, received_by}
 use Rattle.can_node.specs.Pieces.Place.{AtReset}
 use Rattle.can_node.specs.FinishedPieces.{FinishedPiece, ReceivedFrame, received_if, received}
@@ -49,7 +49,7 @@ received_more found k (Finishes piece next) =
 -- ---- the counts
 
 -- the number of bits doesn't fall
-one_within : (k : Count) (e : Entry) → k.bits ≤ (counted_one k e).bits
+one_within : (k : Count) (e : RecordEntry) → k.bits ≤ (counted_one k e).bits
 one_within k (OneBit b) = omega arith
 one_within k (Start config) = omega arith
 one_within k (Send request) = omega arith
@@ -57,7 +57,7 @@ one_within k Abort = omega arith
 one_within k Stop = omega arith
 one_within k BusOff = omega arith
 
-pub bits_within : (k : Count) (entries : List Entry) → k.bits ≤ (counted k entries).bits
+pub bits_within : (k : Count) (entries : List RecordEntry) → k.bits ≤ (counted k entries).bits
 bits_within k [] = omega arith
 bits_within k (e ∷ entries) = let a = one_within k e in let b =
     bits_within (counted_one k e) entries in omega (a, b, arith)
@@ -71,7 +71,7 @@ tagged_by k n [] h = All-nil (EndsBy n)
 tagged_by k n (p ∷ ps) h = All-cons (EndsBy n) (record { piece = p; activation = k.starts; bits = k.bits })
     (tagged k ps) h (tagged_by k n ps h)
 
-pub tags_within : (k : Count) (c end : ContextValue) (place last : Place) (entries rest : List Entry)
+pub tags_within : (k : Count) (c end : ContextValue) (place last : Place) (entries rest : List RecordEntry)
     (found : List FinishedPiece) → From k c place entries found end last rest →
     All (EndsBy (counted k entries).bits) found
 tags_within k c end place last entries rest found (here opened stays) = All-nil (EndsBy (counted k entries).bits)
@@ -87,14 +87,14 @@ tags_within k c end place last entries rest found
     All-append (EndsBy n) (tagged (counted k a) ps) later (tagged_by (counted k a) n ps few) rest_by
 
 -- of a record's cut: so a frame whose number is that of the last bit is newly received
-pub ends_within : (entries : List Entry) (found : List FinishedPiece) → IsCut entries found →
+pub ends_within : (entries : List RecordEntry) (found : List FinishedPiece) → IsCut entries found →
     All (EndsBy (counted none_yet entries).bits) found
 ends_within entries found cut = tags_within none_yet fresh cut.context AtReset cut.place entries cut.rest found cut.from
 
 -- ---- one bit
 
 -- what a node drives and then makes of a level, together
-pub one_bit : (old new : Node) (driven seen : Level) (e : BitEvents) (entries : List Entry)
+pub one_bit : (old new : Node) (driven seen : Level) (e : BitEvents) (entries : List RecordEntry)
     (found : List FinishedPiece) →
     DrivesNext old driven → Samples old new seen e → StandsAt old entries found →
     TakesBit new entries found (record { driven = driven; seen = seen }) e

@@ -4,8 +4,8 @@ use Rattle.std.proofs.lemmas.List.{append-nil, append_cancel_left}
 use Rattle.can_node.specs.Bits.{Bit}
 use Rattle.can_node.specs.Context.{ContextValue}
 use Rattle.can_node.specs.Pieces.{Place, Piece}
-use Rattle.can_node.specs.Record.{Entry, bits_in, BeginsInBit, IsSlice}
-use Rattle.can_node.specs.Record.Entry.{OneBit}
+use Rattle.can_node.specs.Record.{RecordEntry, bits_in, BeginsInBit, IsSlice}
+use Rattle.can_node.specs.Record.RecordEntry.{OneBit}
 use Rattle.can_node.specs.Table.{Row}
 use Rattle.can_node.specs.Effects.{with_off, after}
 use Rattle.can_node.specs.Cut.{IsUnfinished, IsOpenAt, IsOnBus, Move}
@@ -24,7 +24,7 @@ use Rattle.can_node.proofs.OneCut.Ways.Way.{finishes, comes, closes}
 -- ---- pieces
 
 -- two pieces at one place in one record are the same
-pub pieces_once : (c : ContextValue) (place next other : Place) (p q : Piece) (a b x y : List Entry) → IsSlice a →
+pub pieces_once : (c : ContextValue) (place next other : Place) (p q : Piece) (a b x y : List RecordEntry) → IsSlice a →
     IsSlice b →
     Row c place (bits_in a) p next → Row c place (bits_in b) q other → a ++ x ≡ b ++ y →
     (a ≡ b) × (p ≡ q) × (after c place a p next ≡ after c place b q other) × (next ≡ other)
@@ -37,7 +37,7 @@ pieces_once c place next other p q a b x y h k row another e =
     (slice, once.1, context, once.2)
 
 -- two moves that have the same entries, pieces, context and place
-abbrev pub AreSame : List Entry → List Piece → ContextValue → Place → List Entry → List Piece → ContextValue → Place →
+abbrev pub AreSame : List RecordEntry → List Piece → ContextValue → Place → List RecordEntry → List Piece → ContextValue → Place →
     Type 0
 AreSame a ps next site b qs other another = (a ≡ b) × (ps ≡ qs) × (next ≡ other) × (site ≡ another)
 
@@ -58,7 +58,7 @@ less_no_piece c place next p bits more row unfinished =
     some_not_none more x rest (append_cancel_left bits (more ++ x ∷ rest) [] same)
 
 -- the same of the bits of a slice
-less_no_slice : (c : ContextValue) (place next : Place) (p : Piece) (a b m : List Entry) →
+less_no_slice : (c : ContextValue) (place next : Place) (p : Piece) (a b m : List RecordEntry) →
     Row c place (bits_in a) p next → b ≡ a ++ m →
     IsUnfinished c place (bits_in b) → ⊥
 less_no_slice c place next p a b m row whole unfinished =
@@ -66,7 +66,7 @@ less_no_slice c place next p a b m row whole unfinished =
     (subst (IsUnfinished c place) (ap bits_in whole ∙ bits_both a m) unfinished)
 
 -- what is open at a place has no piece as a front of it
-pub open_no_piece : (c : ContextValue) (place next : Place) (p : Piece) (a b m : List Entry) → BeginsInBit a →
+pub open_no_piece : (c : ContextValue) (place next : Place) (p : Piece) (a b m : List RecordEntry) → BeginsInBit a →
     Row c place (bits_in a) p next → b ≡ a ++ m →
     IsOpenAt c place b → ⊥
 open_no_piece c place next p a b m begins row whole (rests l) = no_rest_piece row
@@ -76,13 +76,13 @@ open_no_piece c place next p a b m begins row whole (begun inner first unfinishe
     less_no_slice c place next p a b m row whole unfinished
 
 -- a request or an abort isn't a bit
-between_no_bit : (c next : ContextValue) (place : Place) (entry : Entry) (b : Bit) → Between c place entry next →
+between_no_bit : (c next : ContextValue) (place : Place) (entry : RecordEntry) (b : Bit) → Between c place entry next →
     entry ≡ OneBit b → ⊥
 between_no_bit c next place entry b (send request) e = cc
 between_no_bit c next place entry b abort e = cc
 
 -- nor a start, a stop or bus-off
-between_not_outer : (c next : ContextValue) (place : Place) (entry other : Entry) → Between c place entry next →
+between_not_outer : (c next : ContextValue) (place : Place) (entry other : RecordEntry) → Between c place entry next →
     IsOuter other → entry ≡ other → ⊥
 between_not_outer c next place entry other (send request) (start config) e = cc
 between_not_outer c next place entry other (send request) stop e = cc
@@ -92,7 +92,7 @@ between_not_outer c next place entry other abort stop e = cc
 between_not_outer c next place entry other abort off e = cc
 
 -- a slice doesn't begin with a request or an abort
-between_no_slice : (c next : ContextValue) (place : Place) (entry : Entry) (slice x y : List Entry) →
+between_no_slice : (c next : ContextValue) (place : Place) (entry : RecordEntry) (slice x y : List RecordEntry) →
     Between c place entry next → BeginsInBit slice →
     entry ∷ x ≡ slice ++ y → ⊥
 between_no_slice c next place entry slice x y between begins e =
@@ -100,7 +100,7 @@ between_no_slice c next place entry slice x y between begins e =
     between_no_bit c next place entry begins.bit between cc
 
 -- nor does what is open at a place
-pub between_not_open : (c next : ContextValue) (place : Place) (entry : Entry) (entries x : List Entry) →
+pub between_not_open : (c next : ContextValue) (place : Place) (entry : RecordEntry) (entries x : List RecordEntry) →
     Between c place entry next → IsOpenAt c place entries →
     entries ≡ (entry ∷ []) ++ x → ⊥
 between_not_open c next place entry entries x between opened e =
@@ -110,7 +110,7 @@ between_not_open c next place entry entries x between opened e =
     ]
 
 -- nor does what is closed
-between_no_closing : (c next : ContextValue) (place : Place) (entry other : Entry) (slice x y : List Entry) →
+between_no_closing : (c next : ContextValue) (place : Place) (entry other : RecordEntry) (slice x y : List RecordEntry) →
     Between c place entry next → IsPart slice → IsOuter other →
     entry ∷ x ≡ slice ++ other ∷ y → ⊥
 between_no_closing c next place entry other slice x y between part out e =
@@ -122,8 +122,8 @@ between_no_closing c next place entry other slice x y between part out e =
     ]
 
 -- where a slice is closed no shorter one is a piece, and it is one itself only with bus-off
-piece_no_closing : (c after_it : ContextValue) (place next site : Place) (p : Piece) (ps : List Piece) (entry : Entry)
-    (a b m : List Entry) → IsSlice a →
+piece_no_closing : (c after_it : ContextValue) (place next site : Place) (p : Piece) (ps : List Piece) (entry : RecordEntry)
+    (a b m : List RecordEntry) → IsSlice a →
     Row c place (bits_in a) p next → IsOnBus (after c place a p next) → b ≡ a ++ m →
     Closing c b place entry ps after_it site → ⊥
 piece_no_closing c after_it place next site p ps entry a b m is_slice row stays whole (by_start config) =
@@ -141,7 +141,7 @@ piece_no_closing c after_it place next site p ps entry a b m is_slice row stays 
 
 -- nor in a record where a slice is closed after it
 piece_before_closing : (c after_it : ContextValue) (place next site : Place) (p : Piece) (ps : List Piece)
-    (entry : Entry) (a b x y : List Entry) → IsSlice a →
+    (entry : RecordEntry) (a b x y : List RecordEntry) → IsSlice a →
     Row c place (bits_in a) p next → IsOnBus (after c place a p next) → IsOuter entry →
     Closing c b place entry ps after_it site → a ++ x ≡ b ++ entry ∷ y → ⊥
 piece_before_closing c after_it place next site p ps entry a b x y is_slice row stays out closing e =
@@ -151,14 +151,14 @@ piece_before_closing c after_it place next site p ps entry a b x y is_slice row 
 -- ---- within a group
 
 -- one request or abort
-between_once : (c next other : ContextValue) (place : Place) (entry : Entry) → Between c place entry next →
+between_once : (c next other : ContextValue) (place : Place) (entry : RecordEntry) → Between c place entry next →
     Between c place entry other → next ≡ other
 between_once c next other place entry (send request) (send again) = refl
 between_once c next other place entry abort abort = refl
 
 -- one way in which a slice is closed by one entry
-closing_once : (c next other : ContextValue) (place site another : Place) (ps qs : List Piece) (slice : List Entry)
-    (entry : Entry) →
+closing_once : (c next other : ContextValue) (place site another : Place) (ps qs : List Piece) (slice : List RecordEntry)
+    (entry : RecordEntry) →
     Closing c slice place entry ps next site → Closing c slice place entry qs other another →
     (ps ≡ qs) × (next ≡ other) × (site ≡ another)
 closing_once c next other place site another ps qs slice entry (by_start config) (by_start again) = (refl, refl, refl)
@@ -178,7 +178,7 @@ closing_once c next other place site another ps qs slice entry (by_off_after {ne
 -- ---- two moves
 
 -- two ways on from one place in one record are the same
-way_once : (c next other : ContextValue) (place site another : Place) (a b x y : List Entry) (ps qs : List Piece) →
+way_once : (c next other : ContextValue) (place site another : Place) (a b x y : List RecordEntry) (ps qs : List Piece) →
     Way c place a ps next site → Way c place b qs other another → a ++ x ≡ b ++ y →
     AreSame a ps next site b qs other another
 way_once c next other place site another a b x y ps qs (finishes {next = n} {p = p} s h row stays)
@@ -187,14 +187,14 @@ way_once c next other place site another a b x y ps qs (finishes {next = n} {p =
     (same.0, ap (λ r. r ∷ []) same.1, same.2, same.3)
 way_once c next other place site another a b x y ps qs (comes entry between) (comes again one) e =
     let same : entry ≡ again = cc in
-    let P : Entry → Type 0 = λ f. Between c place f next in
+    let P : RecordEntry → Type 0 = λ f. Between c place f next in
     (ap (λ f. f ∷ []) same, refl, between_once c next other place again (subst P same between) one, refl)
 way_once c next other place site another a b x y ps qs (closes s entry part out closing)
     (closes t again other_part other_out one) e =
     let whole = sym (append_assoc s (entry ∷ []) x) ∙ e ∙ append_assoc t (again ∷ []) y in
     let same = outer_once s t x y entry again part.inner other_part.inner out other_out whole in
-    let P : List Entry → Type 0 = λ l. Closing c l place again ps next site in
-    let Q : Entry → Type 0 = λ f. Closing c s place f ps next site in
+    let P : List RecordEntry → Type 0 = λ l. Closing c l place again ps next site in
+    let Q : RecordEntry → Type 0 = λ f. Closing c s place f ps next site in
     let once = closing_once c next other place site another ps qs t again (subst P same.0 (subst Q same.1 closing))
     one in
     (ap (λ l. l ++ entry ∷ []) same.0 ∙ ap (λ f. t ++ f ∷ []) same.1, once.0, once.1, once.2)
@@ -216,7 +216,7 @@ way_once c next other place site another a b x y ps qs (closes s entry part out 
     absurd (between_no_closing c other place again entry s y x between part out (sym e ∙ append_assoc s (entry ∷ []) x))
 
 -- so are two moves
-pub move_once : (c next other : ContextValue) (place site another : Place) (a b x y : List Entry) (ps qs : List Piece) →
+pub move_once : (c next other : ContextValue) (place site another : Place) (a b x y : List RecordEntry) (ps qs : List Piece) →
     Move c place a ps next site → Move c place b qs other another → a ++ x ≡ b ++ y →
     AreSame a ps next site b qs other another
 move_once c next other place site another a b x y ps qs h k e =

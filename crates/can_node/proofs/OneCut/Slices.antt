@@ -11,8 +11,8 @@ use Rattle.can_node.specs.Context.{ContextValue, fresh}
 use Rattle.can_node.specs.Pieces.{Place, Piece}
 use Rattle.can_node.specs.Pieces.Place.{AtReset, AtIntegration, AtIdle}
 use Rattle.can_node.specs.Pieces.Piece.{Integration}
-use Rattle.can_node.specs.Record.{Entry, bits_in, Inner, EndsInBit, IsSlice}
-use Rattle.can_node.specs.Record.Entry.{OneBit, Start}
+use Rattle.can_node.specs.Record.{RecordEntry, bits_in, Inner, EndsInBit, IsSlice}
+use Rattle.can_node.specs.Record.RecordEntry.{OneBit, Start}
 use Rattle.can_node.specs.Record.Inner.{none_left as inner_end, samples}
 use Rattle.can_node.specs.Table.{Row, EndsInEleven}
 use Rattle.can_node.specs.Table.Elevens.{none_left, one_more}
@@ -80,7 +80,7 @@ integrates held =
     (integration (one_more first_eleven none_left refl)) (omega arith)
 
 -- a record that begins with a start and eleven recessive bits goes on as one from an idle bus on
-pub begins_idle : (config : Config) {entries rest : List Entry} {found : List FinishedPiece} {end : ContextValue}
+pub begins_idle : (config : Config) {entries rest : List RecordEntry} {found : List FinishedPiece} {end : ContextValue}
     {last : Place} →
     From (record { starts = 1; bits = 11 }) fresh AtIdle entries found end last rest →
     From none_yet fresh AtReset

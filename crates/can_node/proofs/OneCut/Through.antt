@@ -3,7 +3,7 @@ use Rattle.std.proofs.Common.{◌≡◌, List, ◌++◌, refl, sym, ap, ◌∙�
 use Rattle.std.proofs.lemmas.List.{append_cancel_left}
 use Rattle.can_node.specs.Context.{ContextValue}
 use Rattle.can_node.specs.Pieces.{Place}
-use Rattle.can_node.specs.Record.{Entry}
+use Rattle.can_node.specs.Record.{RecordEntry}
 use Rattle.can_node.specs.FinishedPieces.{FinishedPiece, Count, counted, tagged}
 use Rattle.can_node.specs.Cut.{From}
 use Rattle.can_node.specs.Cut.From.{here, on}
@@ -12,8 +12,8 @@ use Rattle.can_node.proofs.OneCut.MoveOnce.{move_once}
 use Rattle.can_node.proofs.OneCut.CutOnce.{move_or_open}
 
 -- from the place where the front is open the longer cut goes on, with the pieces after those of the front
-pub record Through (k : Count) (entries : List Entry) (found : List FinishedPiece) (end : ContextValue) (last : Place)
-    (rest x : List Entry) (others : List FinishedPiece) (other : ContextValue) (another : Place) (more : List Entry) :
+pub record Through (k : Count) (entries : List RecordEntry) (found : List FinishedPiece) (end : ContextValue) (last : Place)
+    (rest x : List RecordEntry) (others : List FinishedPiece) (other : ContextValue) (another : Place) (more : List RecordEntry) :
     Type 0 where
   pub count : Count
   pub later : List FinishedPiece
@@ -22,11 +22,11 @@ pub record Through (k : Count) (entries : List Entry) (found : List FinishedPiec
   pub from : From count end last (rest ++ x) later other another more
 
 pub goes_through : (k : Count) (c end other : ContextValue) (place last another : Place)
-    (entries again rest x more : List Entry) (found others : List FinishedPiece) →
+    (entries again rest x more : List RecordEntry) (found others : List FinishedPiece) →
     From k c place entries found end last rest → From k c place again others other another more → again ≡ entries ++ x →
     Through k entries found end last rest x others other another more
 goes_through k c end other place last another entries again rest x more found others (here opened stays) from e =
-    let P : List Entry → Type 0 = λ l. From k c place l others other another more in
+    let P : List RecordEntry → Type 0 = λ l. From k c place l others other another more in
     record { count = k; later = others; counts = refl; whole = refl; from = subst P e from }
 goes_through k c end other place last another entries again rest x more found others
     (on {next = next} {site = site} {entries = first} {more = later} {ps = ps} move from) (here opened stays) e =

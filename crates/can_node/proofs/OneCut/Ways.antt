@@ -7,8 +7,8 @@ use Rattle.can_node.specs.Bits.{recessive_bits}
 use Rattle.can_node.specs.Context.{ContextValue}
 use Rattle.can_node.specs.Pieces.{Place, Piece}
 use Rattle.can_node.specs.Pieces.Place.{AtReset, AtIntegration}
-use Rattle.can_node.specs.Record.{Entry, bits_in, IsSlice}
-use Rattle.can_node.specs.Record.Entry.{Start, Stop, OneBit, Send, Abort, BusOff}
+use Rattle.can_node.specs.Record.{RecordEntry, bits_in, IsSlice}
+use Rattle.can_node.specs.Record.RecordEntry.{Start, Stop, OneBit, Send, Abort, BusOff}
 use Rattle.can_node.specs.Table.{Row}
 use Rattle.can_node.specs.Effects.{with_send, with_abort, with_start, with_stop, with_off, along, after}
 use Rattle.can_node.specs.Cut.{IsUnfinished, IsOpenAt, IsOnBus, Move}
@@ -18,12 +18,12 @@ use Rattle.can_node.proofs.OneCut.Entries.{IsOuter, IsPart, open_part, slice_par
 use Rattle.can_node.proofs.OneCut.Entries.IsOuter.{start, stop, off}
 
 -- a request or an abort, and the context after it
-pub data Between (c : ContextValue) (place : Place) : Entry → ContextValue → Type 0 where
+pub data Between (c : ContextValue) (place : Place) : RecordEntry → ContextValue → Type 0 where
   send : (request : Request) → Between c place (Send request) (with_send request c)
   abort : Between c place Abort (with_abort place c)
 
 -- after this slice a start, a stop or bus-off, with a piece or none, and the context and the place after it
-pub data Closing (c : ContextValue) (slice : List Entry) : Place → Entry → List Piece → ContextValue → Place →
+pub data Closing (c : ContextValue) (slice : List RecordEntry) : Place → RecordEntry → List Piece → ContextValue → Place →
     Type 0 where
   by_start : (config : Config) → Closing c slice AtReset (Start config) [] (with_start config c) AtIntegration
   by_stop : {place : Place} → IsOpenAt c place slice →
@@ -35,18 +35,18 @@ pub data Closing (c : ContextValue) (slice : List Entry) : Place → Entry → L
       Closing c slice place BusOff (p ∷ []) (with_off (after c place slice p next)) AtReset
 
 -- a move by its group
-pub data Way (c : ContextValue) : Place → List Entry → List Piece → ContextValue → Place → Type 0 where
-  finishes : {place next : Place} {p : Piece} (slice : List Entry) →
+pub data Way (c : ContextValue) : Place → List RecordEntry → List Piece → ContextValue → Place → Type 0 where
+  finishes : {place next : Place} {p : Piece} (slice : List RecordEntry) →
       IsSlice slice → Row c place (bits_in slice) p next → IsOnBus (after c place slice p next) →
       Way c place slice (p ∷ []) (after c place slice p next) next
-  comes : {place : Place} {next : ContextValue} (entry : Entry) → Between c place entry next →
+  comes : {place : Place} {next : ContextValue} (entry : RecordEntry) → Between c place entry next →
       Way c place (entry ∷ []) [] next place
-  closes : {place site : Place} {next : ContextValue} {ps : List Piece} (slice : List Entry) (entry : Entry) →
+  closes : {place site : Place} {next : ContextValue} {ps : List Piece} (slice : List RecordEntry) (entry : RecordEntry) →
       IsPart slice → IsOuter entry → Closing c slice place entry ps next site →
       Way c place (slice ++ entry ∷ []) ps next site
 
 -- each move is of one of these groups
-pub way_of : {c next : ContextValue} {place site : Place} {entries : List Entry} {ps : List Piece} →
+pub way_of : {c next : ContextValue} {place site : Place} {entries : List RecordEntry} {ps : List Piece} →
     Move c place entries ps next site → Way c place entries ps next site
 way_of (piece slice is_slice row stays) = finishes slice is_slice row stays
 way_of (sent request away) = comes (Send request) (send request)

@@ -10,7 +10,7 @@ use Rattle.can_node.specs.declared.flag_kind.FlagKind.TheVariants.{ActiveError, 
 use Rattle.can_node.specs.Pieces.Place.{AfterSof, AtFlag, AtDelimiter, AtInterframeSpace}
 use Rattle.can_node.specs.declared.fault_site.FaultSite.TheVariants.{InTransmission, InReception, InFlag, InDelimiter}
 use Rattle.can_node.specs.Pieces.Piece.{Flag, Transmission}
-use Rattle.can_node.specs.Record.Entry.{OneBit}
+use Rattle.can_node.specs.Record.RecordEntry.{OneBit}
 use Rattle.can_node.specs.Counting.{at_bit}
 use Rattle.can_node.specs.Effects.{along, closed}
 use Rattle.can_node.proofs.Rules.Given.{asked, sender, passive_sender, failed}

@@ -14,7 +14,7 @@ use Rattle.can_node.specs.Pieces.Place.{AtIntegration, AtIdle, AfterSof, AtFlag,
 use Rattle.can_node.specs.declared.fault_site.FaultSite.TheVariants.{InTransmission, InReception, InFlag, InDelimiter}
 use Rattle.can_node.specs.Pieces.Piece.{Integration, Fault, LastEofBit, Delimiter, InterframeSpace}
 use Rattle.can_node.specs.Pieces.Piece.{InterframeSpaceWithSof, InterframeSpaceBroken}
-use Rattle.can_node.specs.Record.Entry.{OneBit, Send}
+use Rattle.can_node.specs.Record.RecordEntry.{OneBit, Send}
 use Rattle.can_node.specs.Counting.{at_bit}
 use Rattle.can_node.specs.Effects.{with_start, with_off, along, closed}
 use Rattle.can_node.proofs.Rules.Given.{asked, sender, passive_sender, listener, gone, failed}

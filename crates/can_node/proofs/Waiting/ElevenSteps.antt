@@ -11,7 +11,7 @@ use Rattle.can_bits.specs.declared.level.Level.TheVariants.{Dominant, Recessive}
 use Rattle.can_bits.proofs.Lists.{fronts, append-cancel}
 use Rattle.can_node.specs.Bits.{Bit, recessive_bit, recessive_bits, seen_of, IsFirst}
 use Rattle.can_node.specs.Context.{ContextValue}
-use Rattle.can_node.specs.Record.Entry.{OneBit}
+use Rattle.can_node.specs.Record.RecordEntry.{OneBit}
 use Rattle.can_node.specs.Pieces.Place.{AtIntegration}
 use Rattle.can_node.specs.Table.{EndsInEleven, Elevens}
 use Rattle.can_node.specs.Table.Elevens.{none_left, one_more}

@@ -6,19 +6,19 @@ use Rattle.sja_link.specs.BusLedgers.{link_of}
 use Rattle.sja_regs.specs.declared.orders.Orders.{Orders}
 use Rattle.sja_wire.specs.declared.bus_fault.BusFault.{BusFault}
 use Rattle.sja_wire.specs.declared.bus_fault.BusFault.TheVariants.{JournalFull}
-use Rattle.sja_bus.specs.declared.news.News.TheVariants.{Nothing}
+use Rattle.sja_bus.specs.declared.untold.Untold.TheVariants.{Nothing}
 use Rattle.sja_bus.specs.declared.seat.Seat.{Seat}
 use Rattle.sja_bus.specs.Stretches.{recessive_bits}
 
 -- the node is at rest and drives recessive, and nothing is to be told of it
 pub record IsResting (s : Seat) : Type 0 where
-  pub none : s.news ≡ Nothing
+  pub none : s.untold ≡ Nothing
   pub drives : s.drives ≡ Recessive
   pub rests : ShowsRest s.node true
 
 -- something is to be told of the node, or it isn't at rest
 abbrev pub IsAwake : Seat → Type 0
-IsAwake s = (s.news ≢ Nothing) ⊎ ShowsRest s.node false
+IsAwake s = (s.untold ≢ Nothing) ⊎ ShowsRest s.node false
 
 -- each of them is at rest, with nothing to be told, and its port has orders
 pub record AreResting (orders_are : ℕ → Orders → Type 0) (seats : List Seat) : Type 0 where

@@ -14,13 +14,13 @@ use Rattle.sja_regs.specs.declared.orders.Orders.{Orders}
 use Rattle.sja_regs.specs.declared.bus_turn.BusTurn.{BusTurn}
 use Rattle.sja_script.specs.declared.strike.Strike.{Strike}
 use Rattle.sja_bus.specs.declared.struck_nodes.StruckNodes.{StruckNodes}
-use Rattle.sja_bus.specs.declared.news.News.TheVariants.{Nothing, Dropped}
+use Rattle.sja_bus.specs.declared.untold.Untold.TheVariants.{Nothing, Dropped}
 use Rattle.sja_bus.specs.declared.seat.Seat.{Seat}
 use Rattle.sja_wire.specs.Wire.{IsWired}
 use Rattle.sja_wire.specs.Links.{per_node, Kept, Grows, Numbered}
 use Rattle.sja_wire.specs.OneBit.{MayHaveItems, Opens}
 use Rattle.sja_bus.specs.Inside.Seats.{IsReady}
-use Rattle.sja_bus.specs.Inside.Turning.{is_untold, TakesNews, OpensNews, Turns}
+use Rattle.sja_bus.specs.Inside.Turning.{is_untold, TakesUntold, OpensUntold, Turns}
 
 -- a seat is ready, and is of its node
 pub record IsOf (s : Seat) (node : ℕ) : Type 0 where
@@ -43,7 +43,7 @@ abbrev pub journals_of : List Seat → List (List Entry)
 journals_of seats = map (λ s. s.journal.entries) seats
 
 abbrev pub untold_of : List Seat → List Bool
-untold_of seats = map (λ s. is_untold s.news) seats
+untold_of seats = map (λ s. is_untold s.untold) seats
 
 abbrev pub driven_by : List Seat → List Level
 driven_by seats = map (λ s. s.drives) seats
@@ -67,11 +67,11 @@ abbrev pub SeatOpens : (ℕ → Orders → Type 0) → ℕ → Seat → Seat →
 SeatOpens orders_are m old new = Opens (orders_are m) old.journal.entries new.journal.entries
 
 -- what is to be told of each
-abbrev pub SeatNews : ℕ → Seat → Seat → Type 0
-SeatNews m old new = TakesNews old new
+abbrev pub SeatUntold : ℕ → Seat → Seat → Type 0
+SeatUntold m old new = TakesUntold old new
 
-abbrev pub SeatOpensNews : ℕ → Seat → Seat → Type 0
-SeatOpensNews m old new = OpensNews old new
+abbrev pub SeatOpensUntold : ℕ → Seat → Seat → Type 0
+SeatOpensUntold m old new = OpensUntold old new
 
 -- what a node sees of this level, where these nodes are struck
 abbrev pub seen_by : StruckNodes → Level → ℕ → Level
@@ -98,11 +98,11 @@ AllRead {E} dry seats links =
 
 -- no port is to be told anything
 abbrev pub AreTold : List Seat → Type 0
-AreTold seats = (k : ℕ) (s : Seat) → k < length seats → (slice_index_or seats k s).news ≡ Nothing
+AreTold seats = (k : ℕ) (s : Seat) → k < length seats → (slice_index_or seats k s).untold ≡ Nothing
 
 -- no request was dropped since the last bit
 abbrev pub AreCalm : List Seat → Type 0
-AreCalm seats = (k : ℕ) (s : Seat) → k < length seats → (slice_index_or seats k s).news ≢ Dropped
+AreCalm seats = (k : ℕ) (s : Seat) → k < length seats → (slice_index_or seats k s).untold ≢ Dropped
 
 -- the seats are ready, and their journals are of one wire
 pub record IsBus (script : List Strike) (bits : ℕ) (seats : List Seat) : Type 0 where

@@ -46,10 +46,10 @@ pub record IsReady (s : Seat) : Type 0 where
   pub drives : DrivesNext s.node s.drives
 
 -- what is to be judged of a received frame: its message, where it passes the filter
-abbrev pub Keeps : Filter → Option FrameValue → Option (List ℕ) → Type 0
-Keeps filter None out = out ≡ None
-Keeps filter (Some f) None = Passes filter f → ⊥
-Keeps filter (Some f) (Some m) = Passes filter f × (m ≡ message f)
+abbrev pub IsPassing : Filter → Option FrameValue → Option (List ℕ) → Type 0
+IsPassing filter None out = out ≡ None
+IsPassing filter (Some f) None = Passes filter f → ⊥
+IsPassing filter (Some f) (Some m) = Passes filter f × (m ≡ message f)
 
 -- a journal with a bit more, and a verdict on this message that is due: whether the message found no room
 pub record IsJudged (j : List Entry) (driven seen : Level) (a : ℕ) (m : List ℕ) (overrun : Bool) (after : List Entry) :

@@ -10,30 +10,30 @@ use Rattle.sja_link.specs.declared.entry.Entry.{Entry}
 use Rattle.sja_link.specs.declared.entry.Entry.TheVariants.{Bit}
 use Rattle.sja_link.specs.Records.{record_of}
 use Rattle.sja_regs.specs.declared.bus_turn.BusTurn.{BusTurn}
-use Rattle.sja_bus.specs.declared.brought.Brought.{Brought}
-use Rattle.sja_bus.specs.declared.news.News.{News}
-use Rattle.sja_bus.specs.declared.news.News.TheVariants.{Nothing, Changed, Dropped}
+use Rattle.sja_bus.specs.declared.bit_outcome.BitOutcome.{BitOutcome}
+use Rattle.sja_bus.specs.declared.untold.Untold.{Untold}
+use Rattle.sja_bus.specs.declared.untold.Untold.TheVariants.{Nothing, Changed, Dropped}
 use Rattle.sja_bus.specs.declared.seat.Seat.{Seat}
 use Rattle.sja_wire.specs.OneBit.{MayHaveItems, MayHaveAbort, MayHaveVerdict, HasBit}
 use Rattle.sja_wire.specs.Telling.{IsTurn, SaysAlone, is_overrun}
 use Rattle.sja_bus.specs.Inside.Following.{open_in}
 
 -- whether something is to be told, and whether it is that a request was dropped
-abbrev pub is_untold : News → Bool
+abbrev pub is_untold : Untold → Bool
 is_untold Nothing = false
 is_untold Changed = true
 is_untold Dropped = true
 
-abbrev pub is_dropped : News → Bool
+abbrev pub is_dropped : Untold → Bool
 is_dropped Nothing = false
 is_dropped Changed = false
 is_dropped Dropped = true
 
 -- nothing was taken, or something that is to be told
-abbrev pub TakesNews : Seat → Seat → Type 0
-TakesNews old new =
-    ((new.news ≡ old.news) × (new.journal.entries ≡ old.journal.entries))
-    ⊎ ((new.news ≡ Changed) × (length old.journal.entries < length new.journal.entries))
+abbrev pub TakesUntold : Seat → Seat → Type 0
+TakesUntold old new =
+    ((new.untold ≡ old.untold) × (new.journal.entries ≡ old.journal.entries))
+    ⊎ ((new.untold ≡ Changed) × (length old.journal.entries < length new.journal.entries))
 
 -- by every cut of the journal's record: an abort that changed the node left no request
 abbrev pub Drops : Bool → List Entry → Bool → Type 0
@@ -41,18 +41,18 @@ Drops changed j dropped = (found : List FinishedPiece) (cut : IsCut (record_of j
     dropped ≡ (changed && not (is_held (now_in cut).held))
 
 -- an abort is to be told where it changed the node, and that the request was dropped where none is left
-pub record AbortsNews (old new : Seat) : Type 0 where
+pub record AbortsUntold (old new : Seat) : Type 0 where
   pub aborts : MayHaveAbort old.journal.entries new.journal.entries
-  pub still : new.news ≡ Nothing → (old.news ≡ Nothing) × (new.journal.entries ≡ old.journal.entries)
-  pub drops : old.news ≢ Dropped → Drops aborts.changed new.journal.entries (is_dropped new.news)
+  pub still : new.untold ≡ Nothing → (old.untold ≡ Nothing) × (new.journal.entries ≡ old.journal.entries)
+  pub drops : old.untold ≢ Dropped → Drops aborts.changed new.journal.entries (is_dropped new.untold)
 
 -- the same after items were taken
-pub record OpensNews (old new : Seat) : Type 0 where
+pub record OpensUntold (old new : Seat) : Type 0 where
   pub taken : List Entry
   pub items : MayHaveItems old.journal.entries taken
   pub aborts : MayHaveAbort taken new.journal.entries
-  pub still : new.news ≡ Nothing → (old.news ≡ Nothing) × (new.journal.entries ≡ old.journal.entries)
-  pub drops : old.news ≢ Dropped → Drops aborts.changed new.journal.entries (is_dropped new.news)
+  pub still : new.untold ≡ Nothing → (old.untold ≡ Nothing) × (new.journal.entries ≡ old.journal.entries)
+  pub drops : old.untold ≢ Dropped → Drops aborts.changed new.journal.entries (is_dropped new.untold)
 
 -- the journal has a bit more with what the bit brought: whether the message found no room, and whether the node went
 -- bus-off
@@ -60,15 +60,15 @@ pub record BringsVerdict (j : List Entry) (driven seen : Level) (overrun : Bool)
   pub verdict : MayHaveVerdict j driven seen k
   pub overrun_is : overrun ≡ is_overrun verdict.verdict
 
-pub record Brings (j : List Entry) (driven seen : Level) (brought : Brought) (k : List Entry) : Type 0 where
+pub record Brings (j : List Entry) (driven seen : Level) (outcome : BitOutcome) (k : List Entry) : Type 0 where
   pub bit : HasBit j driven seen k
-  pub off : brought.events.went_off ≡ bit.off
-  pub overrun : brought.overrun ≡ is_overrun bit.verdict
+  pub off : outcome.events.went_off ≡ bit.off
+  pub overrun : outcome.overrun ≡ is_overrun bit.verdict
 
 -- one bit of a seat with which nothing happened, and nothing was or is to be told
 pub record IsQuietBit (seen : Level) (old new : Seat) : Type 0 where
-  pub untold : old.news ≡ Nothing
-  pub told : new.news ≡ Nothing
+  pub untold : old.untold ≡ Nothing
+  pub told : new.untold ≡ Nothing
   pub samples : Samples old.node new.node seen (nothing (is_receiving old.node))
   pub shows : ShowsSame old.node new.node
   pub whole : new.journal.entries ≡ old.journal.entries ++ Bit old.drives seen ∷ []
@@ -80,7 +80,7 @@ pub record TurnOf (s : Seat) (events : BitEvents) (overrun : Bool) (turn : BusTu
   pub counters : (entries : List NodeEntry) (found : List FinishedPiece) (h : StandsAt s.node entries found) →
       (turn.txerr ≡ (now_in h.cut).tec) × (turn.rxerr ≡ (now_in h.cut).rec)
   pub phase : ShowsPhase s.node turn.phase
-  pub aborted : turn.aborted ≡ is_dropped s.news
+  pub aborted : turn.aborted ≡ is_dropped s.untold
   pub overrun_is : turn.overrun ≡ overrun
 
 -- one bit of a seat: its journal has the bit, and its port was told the turn of that bit or passed over; now nothing is
@@ -88,7 +88,7 @@ pub record TurnOf (s : Seat) (events : BitEvents) (overrun : Bool) (turn : BusTu
 pub record Turns (was_told : BusTurn → Type 0) (was_kept : Type 0) (seen : Level) (old new : Seat) : Type 0 where
   pub bit : HasBit old.journal.entries old.drives seen new.journal.entries
   pub turn : BusTurn
-  pub is_turn : (changed : Bool) → Drops changed old.journal.entries (is_dropped old.news) →
+  pub is_turn : (changed : Bool) → Drops changed old.journal.entries (is_dropped old.untold) →
       IsTurn changed old.journal.entries old.drives seen new.journal.entries bit turn
-  pub port : was_told turn ⊎ (was_kept × (old.news ≡ Nothing) × SaysAlone old.journal.entries turn)
-  pub told : new.news ≡ Nothing
+  pub port : was_told turn ⊎ (was_kept × (old.untold ≡ Nothing) × SaysAlone old.journal.entries turn)
+  pub told : new.untold ≡ Nothing

@@ -10,7 +10,7 @@ use Rattle.sja_bus.specs.StrikesByBit.{Scripted}
 use Rattle.sja_wire.specs.Wire.{wired}
 use Rattle.sja_bus.specs.Reasons.{room_for}
 use Rattle.sja_bus.specs.Inside.Refusing.{HaveRoom}
-use Rattle.sja_bus.specs.Inside.Rows.{IsBus, EachSeat, SeatOpens, driven_by, SeatOpensNews, SeatTurns}
+use Rattle.sja_bus.specs.Inside.Rows.{IsBus, EachSeat, SeatOpens, driven_by, SeatOpensUntold, SeatTurns}
 
 -- one to eight nodes, as many bits as it is known whom the script strikes, and while there is no fault a bus, with room
 -- for all its bits
@@ -31,6 +31,6 @@ pub record IsRowBit (orders_are : ℕ → Orders → Type 0) (was_told : ℕ →
   pub level : Level
   pub count : length opened ≡ length old
   pub opens : EachSeat (SeatOpens orders_are) old opened
-  pub news : EachSeat SeatOpensNews old opened
+  pub untold : EachSeat SeatOpensUntold old opened
   pub is_level : level ≡ wired (driven_by opened)
   pub turns : EachSeat (SeatTurns was_told was_kept struck level) opened new

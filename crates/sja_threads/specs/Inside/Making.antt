@@ -8,41 +8,41 @@ use Rattle.sja_plan.specs.Plan.{PlanValue}
 use Rattle.sja_driver.specs.Logs.{HasRoom, IsEmpty}
 use Rattle.sja_bus.specs.Buses.{new_bus}
 use Rattle.sja_plan.specs.Plan.{steps_at}
-use Rattle.sja_threads.specs.declared.hand.Hand.{Hand}
-use Rattle.sja_threads.specs.declared.ready.Ready.{Ready}
+use Rattle.sja_threads.specs.declared.thread_start.ThreadStart.{ThreadStart}
+use Rattle.sja_threads.specs.declared.run_parts.RunParts.{RunParts}
 
 -- each end of the link of an activation, with nothing on it
 pub record IsNewBus (node activation : ℕ) (b : RingBus) : Type 0 where
   pub link : link_of_bus b ≡ record { node = node; activation = activation }
   pub lists : BusLists b nothing_yet
 
-pub record IsNewDriver (node activation : ℕ) (d : RingDriver) : Type 0 where
+pub record IsNewEnd (node activation : ℕ) (d : RingDriver) : Type 0 where
   pub link : link_of_driver d ≡ record { node = node; activation = activation }
   pub lists : DriverLists d nothing_yet
 
 -- the first so many links of a node, whose ends begin at this place of the bus's
-pub record AreNewLinks (count node : ℕ) (buses : List RingBus) (drivers : List RingDriver) (base : ℕ) : Type 0 where
+pub record AreNewEnds (count node : ℕ) (buses : List RingBus) (drivers : List RingDriver) (base : ℕ) : Type 0 where
   pub buses_new : (a : ℕ) (b : RingBus) → a < count → IsNewBus node (suc a) (slice_index_or buses (base + a) b)
-  pub drivers_new : (a : ℕ) (d : RingDriver) → a < count → IsNewDriver node (suc a) (slice_index_or drivers a d)
+  pub drivers_new : (a : ℕ) (d : RingDriver) → a < count → IsNewEnd node (suc a) (slice_index_or drivers a d)
   pub one : (a : ℕ) (b : RingBus) (d : RingDriver) → a < count →
       OneLink (slice_index_or buses (base + a) b) (slice_index_or drivers a d)
 
 -- what the thread of a node's driver begins with: its ends of the node's eight links, and an empty log with room for
 -- all its steps
-pub record IsMade {G : Type 0} (plan : PlanValue) (node : ℕ) (h : Hand G) (buses : List RingBus) : Type 0 where
+pub record IsMade {G : Type 0} (plan : PlanValue) (node : ℕ) (h : ThreadStart G) (buses : List RingBus) : Type 0 where
   pub own : h.node ≡ node
   pub empty : IsEmpty h.log
   pub room : HasRoom (length (steps_at plan node)) h.log
   pub eight : length h.links.items ≡ 8
-  pub links : AreNewLinks 8 node buses h.links.items (8 * node)
+  pub links : AreNewEnds 8 node buses h.links.items (8 * node)
 
 -- the same of the first so many nodes
-abbrev pub AreMade : {G : Type 0} → PlanValue → ℕ → List (Hand G) → List RingBus → Type 0
-AreMade {G} plan count hands buses = (node : ℕ) (h : Hand G) → node < count →
+abbrev pub AreMade : {G : Type 0} → PlanValue → ℕ → List (ThreadStart G) → List RingBus → Type 0
+AreMade {G} plan count hands buses = (node : ℕ) (h : ThreadStart G) → node < count →
     IsMade plan node (slice_index_or hands node h) buses
 
 -- all that a run of this plan begins with beside the ports
-pub record IsReady {G : Type 0} (plan : PlanValue) (r : Ready G) : Type 0 where
+pub record AreRunParts {G : Type 0} (plan : PlanValue) (r : RunParts G) : Type 0 where
   pub bus : r.bus ≡ new_bus plan.strikes plan.bits (length plan.nodes)
   pub links : length r.links.items ≡ 8 * length plan.nodes
   pub hands : length r.hands.items ≡ length plan.nodes

@@ -13,7 +13,7 @@ use Rattle.sja_wire.specs.Wire.{journal_at}
 use Rattle.sja_log.specs.declared.end.End.{End}
 use Rattle.sja_threads.specs.declared.moving.Move.{Move}
 use Rattle.sja_threads.specs.declared.moving.Move.TheVariants.{Ran, Rests, Spent}
-use Rattle.sja_threads.specs.Needed.{IsDue, AllDue, EndsDuly}
+use Rattle.sja_threads.specs.Needed.{IsBitDue, AllDue, EndsDuly}
 
 -- items were taken in the activations 1 to 8 alone
 abbrev pub TakesWithin : List Entry → Type 0
@@ -47,19 +47,19 @@ ran_by Spent = 0
 
 -- a bit that was due by these journals was due by those too
 abbrev pub StayDue : List (List Entry) → List (List Entry) → Type 0
-StayDue before after = (bits : ℕ) → IsDue bits before → IsDue bits after
+StayDue before after = (bits : ℕ) → IsBitDue bits before → IsBitDue bits after
 
 -- after a turn of the bus, before which so many bits were run
 pub record IsMoved (plan : PlanValue) (run : ℕ) (move : Move) (bus : BusValue) (links : List RingBus) : Type 0 where
   pub way : IsUnderWay plan bus links
   pub bits : bus.run ≡ run + ran_by move
-  pub spent : move ≡ Spent → (run ≡ plan.bits) × IsDue plan.bits bus.journals
+  pub spent : move ≡ Spent → (run ≡ plan.bits) × IsBitDue plan.bits bus.journals
 
 -- after so many bits, which are all where the bits are spent: then one more was due
 pub record HasRun (plan : PlanValue) (run : ℕ) (spent : Bool) (bus : BusValue) (links : List RingBus) : Type 0 where
   pub way : IsUnderWay plan bus links
   pub bits : bus.run ≡ run
-  pub all : spent ≡ true → (run ≡ plan.bits) × IsDue plan.bits bus.journals
+  pub all : spent ≡ true → (run ≡ plan.bits) × IsBitDue plan.bits bus.journals
 
 -- at the end of a run, after so many bits
 pub record IsRunOut (plan : PlanValue) (run : ℕ) (end : End) (bus : BusValue) (links : List RingBus) : Type 0 where

@@ -2,7 +2,7 @@
 
 ghost use Rattle.std.specs.Prelude.{◌≡◌, ◌<◌, ◌^◌, length, IfOk};
 ghost use Rattle.sja_link.specs.Deques.{Deques};
-ghost use Rattle.sja_driver.specs.Holding.{Numbered};
+ghost use Rattle.sja_driver.specs.Holding.{NumberedFrom};
 ghost use Rattle.sja_driver.specs.LoggedDrivers.{MayStep, StaysLawful};
 
 use can_frame::Message;
@@ -79,7 +79,7 @@ pub fn message(upper: u8) -> Result<Message, Fail> {
 
 /// The eight links of the node, with these items put on the first.
 pub fn eight_links(alloc: Global, items: &[Down]) -> Result<[DequeLink; 8], Fail>
-    ensures { IfOk result (λ links. Numbered (λ (s : Deques). s.link) links 0 1) }
+    ensures { IfOk result (λ links. NumberedFrom (λ (s : Deques). s.link) links 0 1) }
 {
     let first = link_with(alloc, items)?;
     Ok([

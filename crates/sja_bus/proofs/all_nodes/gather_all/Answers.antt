@@ -1,6 +1,6 @@
 use Rattle.std.proofs.Common.{◌≡◌, ◌<◌, length, rules}
 use Rattle.std.specs.Prelude.{Err, slice_set}
-use Rattle.sja_bus.specs.Inside.Rows.{SeatTakes, SeatNews}
+use Rattle.sja_bus.specs.Inside.Rows.{SeatTakes, SeatUntold}
 use Rattle.sja_bus.specs.Inside.Refusing.{SeatRefuses}
 use Rattle.sja_link.proofs.Related.{each_trans}
 use Rattle.sja_bus.proofs.Results.{err_is}
@@ -10,7 +10,7 @@ use Rattle.sja_bus.proofs.Refusing.{refuses_seat}
 use Rattle.sja_bus.proofs.all_nodes.gather_all.Goals as goal
 
 pub loop-k-init : goal.loop-k-init
-loop-k-init g c = taken_none g.E.BusEnd.same g.E.BusEnd.stands g.E.BusEnd.dry g.met.E.BusEnd.same_refl SeatTakes SeatNews c.args.seats.now c.args.links.now c.requires.ready
+loop-k-init g c = taken_none g.E.BusEnd.same g.E.BusEnd.stands g.E.BusEnd.dry g.met.E.BusEnd.same_refl SeatTakes SeatUntold c.args.seats.now c.args.links.now c.requires.ready
 
 pub gather-requires : goal.gather-requires
 gather-requires g c =
@@ -26,8 +26,8 @@ pub loop-k-preserved : goal.loop-k-preserved
 loop-k-preserved g c =
     let E = g.E.BusEnd in let k = c.loop-k.k in let s = c.index-seats-k.result in let new = c.gather.new.self in let did = c.in_ok-gather.ensures in
     let here : k < length c.loop-k.seats = search rules in
-    taken_one E.same E.stands E.dry g.met.E.BusEnd.same_trans SeatTakes SeatNews c.args.seats.now c.loop-k.seats c.args.links.now c.loop-k.links c.gather.new.links k s new here c.loop-k.auto.seats
-    did.stays did.ready did.goes did.dry did.items did.news c.loop-k.invariant
+    taken_one E.same E.stands E.dry g.met.E.BusEnd.same_trans SeatTakes SeatUntold c.args.seats.now c.loop-k.seats c.args.links.now c.loop-k.links c.gather.new.links k s new here c.loop-k.auto.seats
+    did.stays did.ready did.goes did.dry did.items did.untold c.loop-k.invariant
 
 pub returns-clause-items : goal.returns-clause-items
 returns-clause-items g c = done_all SeatTakes c.loop-k.k c.args.seats.now c.loop-k.seats (search rules) c.loop-k.invariant.done
@@ -46,5 +46,5 @@ returns-in_err-gather-clause-refused g c =
 pub returns-clause-rooms : goal.returns-clause-rooms
 returns-clause-rooms g c = c.loop-k.invariant.rooms
 
-pub returns-clause-news : goal.returns-clause-news
-returns-clause-news g c = done_all SeatNews c.loop-k.k c.args.seats.now c.loop-k.seats (search rules) c.loop-k.invariant.news
+pub returns-clause-untold : goal.returns-clause-untold
+returns-clause-untold g c = done_all SeatUntold c.loop-k.k c.args.seats.now c.loop-k.seats (search rules) c.loop-k.invariant.untold

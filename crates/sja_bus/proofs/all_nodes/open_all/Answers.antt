@@ -1,7 +1,7 @@
 use Rattle.std.proofs.Common.{◌≡◌, ℕ, ◌<◌, length, rules, subst, inl, inr}
 use Rattle.std.specs.Prelude.{◌⊎◌, Err, slice_index_or, slice_set}
 use Rattle.sja_link.proofs.Related.{each_trans}
-use Rattle.sja_bus.specs.Inside.Rows.{SeatOpens, SeatOpensNews}
+use Rattle.sja_bus.specs.Inside.Rows.{SeatOpens, SeatOpensUntold}
 use Rattle.sja_bus.specs.Inside.Refusing.{SeatRefuses, SeatFull}
 use Rattle.sja_bus.proofs.Many.{done_all}
 use Rattle.sja_bus.proofs.Rows.{has_links, taken_none, taken_one}
@@ -11,7 +11,7 @@ use Rattle.sja_bus.proofs.Results.{err_is}
 use Rattle.sja_bus.proofs.all_nodes.open_all.Goals as goal
 
 pub loop-k-init : goal.loop-k-init
-loop-k-init g c = taken_none g.E.BusEnd.same g.E.BusEnd.stands g.E.BusEnd.dry g.met.E.BusEnd.same_refl (SeatOpens (g.B.Board.orders_are c.args.board.now)) SeatOpensNews c.args.seats.now c.args.links.now c.requires.ready
+loop-k-init g c = taken_none g.E.BusEnd.same g.E.BusEnd.stands g.E.BusEnd.dry g.met.E.BusEnd.same_refl (SeatOpens (g.B.Board.orders_are c.args.board.now)) SeatOpensUntold c.args.seats.now c.args.links.now c.requires.ready
 
 pub open_bit-requires-clause-at : goal.open_bit-requires-clause-at
 open_bit-requires-clause-at g c =
@@ -28,8 +28,8 @@ loop-k-preserved g c =
     let O = SeatOpens (g.B.Board.orders_are c.args.board.now) in
     let P : ℕ → Type 0 = λ m. O m (slice_index_or c.loop-k.seats k s) new in
     let opens = subst P (c.loop-k.invariant.ready k s here).own did.opens in
-    taken_one E.same E.stands E.dry g.met.E.BusEnd.same_trans O SeatOpensNews c.args.seats.now c.loop-k.seats c.args.links.now c.loop-k.links c.open_bit.new.links k s new here c.loop-k.auto.seats
-    did.stays did.ready did.goes did.dry opens did.news c.loop-k.invariant
+    taken_one E.same E.stands E.dry g.met.E.BusEnd.same_trans O SeatOpensUntold c.args.seats.now c.loop-k.seats c.args.links.now c.loop-k.links c.open_bit.new.links k s new here c.loop-k.auto.seats
+    did.stays did.ready did.goes did.dry opens did.untold c.loop-k.invariant
 
 pub returns-clause-opens : goal.returns-clause-opens
 returns-clause-opens g c = done_all (SeatOpens (g.B.Board.orders_are c.args.board.now)) c.loop-k.k c.args.seats.now c.loop-k.seats (search rules) c.loop-k.invariant.done
@@ -37,8 +37,8 @@ returns-clause-opens g c = done_all (SeatOpens (g.B.Board.orders_are c.args.boar
 pub returns-clause-rooms : goal.returns-clause-rooms
 returns-clause-rooms g c = c.loop-k.invariant.rooms
 
-pub returns-clause-news : goal.returns-clause-news
-returns-clause-news g c = done_all SeatOpensNews c.loop-k.k c.args.seats.now c.loop-k.seats (search rules) c.loop-k.invariant.news
+pub returns-clause-untold : goal.returns-clause-untold
+returns-clause-untold g c = done_all SeatOpensUntold c.loop-k.k c.args.seats.now c.loop-k.seats (search rules) c.loop-k.invariant.untold
 
 pub returns-in_err-open_bit-clause-stops : goal.returns-in_err-open_bit-clause-stops
 returns-in_err-open_bit-clause-stops g c =

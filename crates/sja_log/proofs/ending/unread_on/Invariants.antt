@@ -10,4 +10,4 @@ invariant-loop-message l = record {
 
 -- what was gathered, and the items that are left, are the whole
 abbrev pub invariant-loop-place : goal.invariant-loop-place
-invariant-loop-place l = l.list.items ++ messages (drop l.place l.lying) ≡ l.held ++ messages l.lying
+invariant-loop-place l = l.list.items ++ messages (drop l.place l.left_down) ≡ l.held ++ messages l.left_down

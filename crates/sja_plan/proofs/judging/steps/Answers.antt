@@ -17,7 +17,7 @@ returns-in-Err-Bad-clause-err c = λ h.
 
 pub loop-texts-preserved : goal.loop-texts-preserved
 loop-texts-preserved c =
-    let said = rw c.as_slice.ensures.value at c.in-Ok.ensures.ok in
+    let plan_text = rw c.as_slice.ensures.value at c.in-Ok.ensures.ok in
     rw c.in_ok-push-in-Ok.ensures.items
     (node_more c.as_slice-texts-items.result.now c.loop-texts.found.items c.loop-texts.texts-index c.texts-item.result
-    c.in-Ok.steps (omega (arith, c.loop-texts-test.true)) c.loop-texts.invariant c.texts-item.is said)
+    c.in-Ok.steps (omega (arith, c.loop-texts-test.true)) c.loop-texts.invariant c.texts-item.is plan_text)

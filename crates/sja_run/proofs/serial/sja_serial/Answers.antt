@@ -1,6 +1,6 @@
 use Rattle.std.proofs.Common.{rules, inr, ap, Some}
 use Rattle.sja_words.specs.Words.{request_of}
-use Rattle.sja_texts.specs.declared.refusal.Refusal.TheVariants as refusal
+use Rattle.sja_texts.specs.declared.command_refusal.CommandRefusal.TheVariants as refusal
 use Rattle.sja_run.proofs.Few.{unread, only_runs_read}
 use Rattle.sja_run.proofs.Memory.{memory_refused}
 use Rattle.sja_run.proofs.Requests.{asks_one}

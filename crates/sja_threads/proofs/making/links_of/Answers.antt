@@ -3,7 +3,7 @@ use Rattle.std.specs.Prelude.{slice_index_or}
 use Rattle.std.proofs.lemmas.List.{length-append, get_or_append_left}
 use Rattle.sja_rings.specs.declared.ring_bus.RingBus.{RingBus}
 use Rattle.sja_rings.specs.declared.ring_driver.RingDriver.{RingDriver}
-use Rattle.sja_threads.specs.Inside.Making.{AreNewLinks}
+use Rattle.sja_threads.specs.Inside.Making.{AreNewEnds}
 use Rattle.sja_threads.proofs.Pairs.{links_push, new_bus, new_driver}
 use Rattle.sja_threads.proofs.making.links_of.Goals as goal
 
@@ -29,9 +29,9 @@ loop-place-preserved c =
           let m = inv.more in
           ap (λ (xs : List RingBus). slice_index_or xs i b) first
           ∙ get_or_append_left buses (bus ∷ []) b i (omega (arith, less, m)) ∙ inv.others i b less;
-      links = subst (λ (xs : List RingBus). AreNewLinks (place + 1) node xs c.push-in-loop-place.new.self.items base)
+      links = subst (λ (xs : List RingBus). AreNewEnds (place + 1) node xs c.push-in-loop-place.new.self.items base)
           (sym first)
-          (subst (λ (ys : List RingDriver). AreNewLinks (place + 1) node (buses ++ bus ∷ []) ys base) (sym second)
+          (subst (λ (ys : List RingDriver). AreNewEnds (place + 1) node (buses ++ bus ∷ []) ys base) (sym second)
           (links_push place node buses drivers base bus driver inv.more inv.count inv.links
           (new_bus node place bus made.link made.bus) (new_driver node place bus driver made.link made.one made.driver)
           made.one));

@@ -1,6 +1,6 @@
 use Rattle.std.proofs.Common.{rules, ◌≡◌, ◌∷◌, ◌+◌, drop, vec_len, sym, ◌∙◌}
 use Rattle.std.specs.Vec.Iter.{into_iter_items}
-use Rattle.sja_threads.specs.Inside.Promised.{IsKept}
+use Rattle.sja_threads.specs.Inside.Promised.{IsPromised}
 use Rattle.sja_threads.proofs.Places.{kept_next, rest_next}
 use Rattle.sja_threads.proofs.starting.join_all.Goals as goal
 
@@ -17,7 +17,7 @@ loop-child-preserved g c =
     record {
       room = search rules;
       rest = rest_next n (vec_len more) children left child is next;
-      kept = kept_next (IsKept g.G.Gate.QUITS) (λ child. child.promise) n (vec_len more) children left child
+      kept = kept_next (IsPromised g.G.Gate.QUITS) (λ child. child.promise) n (vec_len more) children left child
           c.loop-child.workeds.items more.items c.join.result is c.push_reserved.ensures.items next inv.kept
           c.join.ensures;
     }

@@ -1,7 +1,7 @@
 use Rattle.std.proofs.Common.{◌++◌, ◌∷◌, [], refl, sym, ap, ◌∙◌, None, true, false, if◌then◌else◌}
 use Rattle.can_node.specs.declared.aborted.Aborted.TheVariants.{Unchanged, Marked}
 use Rattle.can_node.specs.declared.node.Node.{Node}
-use Rattle.can_node.specs.Record.Entry.{Abort}
+use Rattle.can_node.specs.Record.RecordEntry.{Abort}
 use Rattle.can_node.proofs.Machine.Shown.{stands_up}
 use Rattle.can_node.proofs.Machine.Requests.{marked_stands, dropped_stands, abort_is, going_is}
 use Rattle.can_node.proofs.node.Node.abort.Goals as goal

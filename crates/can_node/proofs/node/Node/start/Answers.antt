@@ -2,7 +2,7 @@ use Rattle.std.proofs.Common.{refl, ap, sym, ◌∙◌, ◌++◌, ◌∷◌, []}
 use Rattle.can_node.specs.declared.node.Node.{Node}
 use Rattle.can_node.specs.declared.stage.Stage.TheVariants.{Integrating}
 use Rattle.can_node.specs.Context.{ContextValue}
-use Rattle.can_node.specs.Record.Entry.{Start}
+use Rattle.can_node.specs.Record.RecordEntry.{Start}
 use Rattle.can_node.specs.Machine.Standing.{context_of}
 use Rattle.can_node.proofs.Machine.Calls.{started_stands, start_holds}
 use Rattle.can_node.proofs.Machine.Shown.{stands_up, integrating_drives}

@@ -1,7 +1,7 @@
 use Rattle.std.proofs.Common.{refl, ap, sym, ◌∙◌, ◌++◌, ◌∷◌, []}
 use Rattle.can_node.specs.declared.node.Node.{Node}
 use Rattle.can_node.specs.Context.{ContextValue}
-use Rattle.can_node.specs.Record.Entry.{Stop}
+use Rattle.can_node.specs.Record.RecordEntry.{Stop}
 use Rattle.can_node.proofs.Machine.Calls.{stopped_stands}
 use Rattle.can_node.proofs.Machine.Shown.{stands_up, reset_drives}
 use Rattle.can_node.proofs.node.Node.stop.Goals as goal

@@ -29,12 +29,12 @@ returns-in_err-goes_on-clause-keeps g c = record {
 pub invariant_of-self : goal.invariant_of-self
 invariant_of-self g c =
     let b = c.self.inside in
-    let now = c.bit_all.new.seats in let was = b.seats.items in let inv = c.self.invariant.0 in
+    let now = c.bit_of_all.new.seats in let was = b.seats.items in let inv = c.self.invariant.0 in
     let v : c.as_mut_slice.result.now ≡ was = c.as_mut_slice.ensures.value in
-    let len : length now ≡ length was = c.bit_all.auto.seats ∙ ap (λ (l : List Seat). length l) v in
+    let len : length now ≡ length was = c.bit_of_all.auto.seats ∙ ap (λ (l : List Seat). length l) v in
     let e : take b.seats.len (now ++ drop (length now) was) ≡ now = grind (arith, common_steps) in
-    let T : List Seat → Type 0 = λ l. IsRowBit (g.B.Board.orders_are c.args.board.now) (g.B.Board.told c.args.board.now c.bit_all.new.board) (g.B.Board.kept c.args.board.now c.bit_all.new.board) c.at-struck.result l now in
-    let row : IsRowBit (g.B.Board.orders_are c.args.board.now) (g.B.Board.told c.args.board.now c.bit_all.new.board) (g.B.Board.kept c.args.board.now c.bit_all.new.board) c.at-struck.result was now = subst T v c.in-Ok.ensures.bit in
+    let T : List Seat → Type 0 = λ l. IsRowBit (g.B.Board.orders_are c.args.board.now) (g.B.Board.told c.args.board.now c.bit_of_all.new.board) (g.B.Board.kept c.args.board.now c.bit_of_all.new.board) c.at-struck.result l now in
+    let row : IsRowBit (g.B.Board.orders_are c.args.board.now) (g.B.Board.told c.args.board.now c.bit_of_all.new.board) (g.B.Board.kept c.args.board.now c.bit_of_all.new.board) c.at-struck.result was now = subst T v c.in-Ok.ensures.bit in
     let F : BusValue → Type 0 = λ w. (w.fault ≡ None) × (w.left ≢ 0) in
     let some = (subst F (sym c.self.view_is) c.in_ok-goes_on.ensures.ok).1 in let bits = inv.bits in
     let few = inv.few in let logs = inv.logs in
@@ -45,8 +45,8 @@ invariant_of-self g c =
       most = inv.most;
       bus = λ f. record {
         ready = c.in-Ok.ensures.ready;
-        calm = calm_by now (all_told (g.B.Board.told c.args.board.now c.bit_all.new.board) (g.B.Board.kept c.args.board.now c.bit_all.new.board) c.at-struck.result was now len row);
-        wired = wired_row (g.B.Board.orders_are c.args.board.now) (g.B.Board.told c.args.board.now c.bit_all.new.board) (g.B.Board.kept c.args.board.now c.bit_all.new.board) b.struck.script b.run c.at-struck.result was now len few c.at-struck.ensures row (inv.bus f).wired;
+        calm = calm_by now (all_told (g.B.Board.told c.args.board.now c.bit_of_all.new.board) (g.B.Board.kept c.args.board.now c.bit_of_all.new.board) c.at-struck.result was now len row);
+        wired = wired_row (g.B.Board.orders_are c.args.board.now) (g.B.Board.told c.args.board.now c.bit_of_all.new.board) (g.B.Board.kept c.args.board.now c.bit_of_all.new.board) b.struck.script b.run c.at-struck.result was now len few c.at-struck.ensures row (inv.bus f).wired;
       };
       logs = omega (arith, len, logs);
       rooms = λ f. subst H v c.in-Ok.ensures.rooms (room_for b.struck.bits) (inv.rooms f);
@@ -58,19 +58,19 @@ pub returns-in-Ok-clause-keeps : goal.returns-in-Ok-clause-keeps
 returns-in-Ok-clause-keeps g c =
     let seats = c.self.inside.seats in
     let all : seats.len ≡ length seats.items = omega arith in
-    keeps_still g.E.BusEnd g.B.Board seats.items c.as_mut_slice.result.now c.bit_all.new.seats seats.len
-    c.args.self.now _ c.args.links.now c.bit_all.new.links c.args.board.now c.bit_all.new.board all
-    c.as_mut_slice.ensures.value c.bit_all.auto.seats (ap (λ (w : BusValue). w.journals) c.self.view_is)
-    (ap (λ (w : BusValue). w.script) c.self.view_is) refl c.bit_all.ensures.sames c.bit_all.ensures.board
+    keeps_still g.E.BusEnd g.B.Board seats.items c.as_mut_slice.result.now c.bit_of_all.new.seats seats.len
+    c.args.self.now _ c.args.links.now c.bit_of_all.new.links c.args.board.now c.bit_of_all.new.board all
+    c.as_mut_slice.ensures.value c.bit_of_all.auto.seats (ap (λ (w : BusValue). w.journals) c.self.view_is)
+    (ap (λ (w : BusValue). w.script) c.self.view_is) refl c.bit_of_all.ensures.sames c.bit_of_all.ensures.board
 
 pub returns-in-Err-clause-keeps : goal.returns-in-Err-clause-keeps
 returns-in-Err-clause-keeps g c =
     let seats = c.self.inside.seats in
     let all : seats.len ≡ length seats.items = omega arith in
-    keeps_still g.E.BusEnd g.B.Board seats.items c.as_mut_slice.result.now c.bit_all.new.seats seats.len
-    c.args.self.now _ c.args.links.now c.bit_all.new.links c.args.board.now c.bit_all.new.board all
-    c.as_mut_slice.ensures.value c.bit_all.auto.seats (ap (λ (w : BusValue). w.journals) c.self.view_is)
-    (ap (λ (w : BusValue). w.script) c.self.view_is) refl c.bit_all.ensures.sames c.bit_all.ensures.board
+    keeps_still g.E.BusEnd g.B.Board seats.items c.as_mut_slice.result.now c.bit_of_all.new.seats seats.len
+    c.args.self.now _ c.args.links.now c.bit_of_all.new.links c.args.board.now c.bit_of_all.new.board all
+    c.as_mut_slice.ensures.value c.bit_of_all.auto.seats (ap (λ (w : BusValue). w.journals) c.self.view_is)
+    (ap (λ (w : BusValue). w.script) c.self.view_is) refl c.bit_of_all.ensures.sames c.bit_of_all.ensures.board
 
 pub returns-in-Ok-clause-bit : goal.returns-in-Ok-clause-bit
 returns-in-Ok-clause-bit g c = record {
@@ -80,18 +80,18 @@ returns-in-Ok-clause-bit g c = record {
   kept =
       let E = g.E.BusEnd in let seats = c.self.inside.seats in
       let all : seats.len ≡ length seats.items = omega arith in
-      keeps_back E.same E.stands seats.items c.as_mut_slice.result.now c.bit_all.new.seats seats.len c.args.self.now.journals c.args.links.now
-      c.bit_all.new.links all c.as_mut_slice.ensures.value c.bit_all.auto.seats (ap (λ (w : BusValue). w.journals) c.self.view_is) c.in-Ok.ensures.goes;
+      keeps_back E.same E.stands seats.items c.as_mut_slice.result.now c.bit_of_all.new.seats seats.len c.args.self.now.journals c.args.links.now
+      c.bit_of_all.new.links all c.as_mut_slice.ensures.value c.bit_of_all.auto.seats (ap (λ (w : BusValue). w.journals) c.self.view_is) c.in-Ok.ensures.goes;
   bit =
       let b = c.self.inside in let inv = c.self.invariant.0 in let few = inv.few in
-      let now = c.bit_all.new.seats in let was = b.seats.items in
+      let now = c.bit_of_all.new.seats in let was = b.seats.items in
       let v : c.as_mut_slice.result.now ≡ was = c.as_mut_slice.ensures.value in
-      let len : length now ≡ length was = c.bit_all.auto.seats ∙ ap (λ (l : List Seat). length l) v in
+      let len : length now ≡ length was = c.bit_of_all.auto.seats ∙ ap (λ (l : List Seat). length l) v in
       let e : take b.seats.len (now ++ drop (length now) was) ≡ now = grind (arith, common_steps) in
-      let T : List Seat → Type 0 = λ l. IsRowBit (g.B.Board.orders_are c.args.board.now) (g.B.Board.told c.args.board.now c.bit_all.new.board) (g.B.Board.kept c.args.board.now c.bit_all.new.board) c.at-struck.result l now in
-      let row : IsRowBit (g.B.Board.orders_are c.args.board.now) (g.B.Board.told c.args.board.now c.bit_all.new.board) (g.B.Board.kept c.args.board.now c.bit_all.new.board) c.at-struck.result was now = subst T v c.in-Ok.ensures.bit in
+      let T : List Seat → Type 0 = λ l. IsRowBit (g.B.Board.orders_are c.args.board.now) (g.B.Board.told c.args.board.now c.bit_of_all.new.board) (g.B.Board.kept c.args.board.now c.bit_of_all.new.board) c.at-struck.result l now in
+      let row : IsRowBit (g.B.Board.orders_are c.args.board.now) (g.B.Board.told c.args.board.now c.bit_of_all.new.board) (g.B.Board.kept c.args.board.now c.bit_of_all.new.board) c.at-struck.result was now = subst T v c.in-Ok.ensures.bit in
       let orders = g.B.Board.orders_are c.args.board.now in
-      let told = g.B.Board.told c.args.board.now c.bit_all.new.board in let kept = g.B.Board.kept c.args.board.now c.bit_all.new.board in
+      let told = g.B.Board.told c.args.board.now c.bit_of_all.new.board in let kept = g.B.Board.kept c.args.board.now c.bit_of_all.new.board in
       let P : BusValue → Type 0 = λ w. IsBit orders told kept w.script w.run w.untold w.journals (journals_of now) in
       let Q : List Seat → Type 0 = λ xs. IsBit orders told kept c.args.self.now.script c.args.self.now.run c.args.self.now.untold c.args.self.now.journals (journals_of xs) in
       let F : BusValue → Type 0 = λ w. (w.fault ≡ None) × (w.left ≢ 0) in
@@ -99,11 +99,11 @@ returns-in-Ok-clause-bit g c = record {
       subst Q (sym e) (subst P c.self.view_is (is_bit orders told kept b.struck.script b.run c.at-struck.result was now len few c.at-struck.ensures (inv.bus right).calm row));
   told =
       let b = c.self.inside in
-      let now = c.bit_all.new.seats in let was = b.seats.items in
+      let now = c.bit_of_all.new.seats in let was = b.seats.items in
       let v : c.as_mut_slice.result.now ≡ was = c.as_mut_slice.ensures.value in
-      let len : length now ≡ length was = c.bit_all.auto.seats ∙ ap (λ (l : List Seat). length l) v in
+      let len : length now ≡ length was = c.bit_of_all.auto.seats ∙ ap (λ (l : List Seat). length l) v in
       let e : take b.seats.len (now ++ drop (length now) was) ≡ now = grind (arith, common_steps) in
-      let told = g.B.Board.told c.args.board.now c.bit_all.new.board in let kept = g.B.Board.kept c.args.board.now c.bit_all.new.board in
+      let told = g.B.Board.told c.args.board.now c.bit_of_all.new.board in let kept = g.B.Board.kept c.args.board.now c.bit_of_all.new.board in
       let T : List Seat → Type 0 = λ l. IsRowBit (g.B.Board.orders_are c.args.board.now) told kept c.at-struck.result l now in
       let row = subst T v c.in-Ok.ensures.bit in
       let none : untold_of now ≡ replicate (length was) false = none_untold now (all_told told kept c.at-struck.result was now len row) ∙ ap (λ n. replicate n false) len in
@@ -125,10 +125,10 @@ returns-in_err-goes_on-clause-reason g c =
 pub returns-in-Err-clause-reason : goal.returns-in-Err-clause-reason
 returns-in-Err-clause-reason g c = λ none.
     let E = g.E.BusEnd in let b = c.self.inside in let inv = c.self.invariant.0 in let O = g.B.Board.orders_are c.args.board.now in
-    let now = c.bit_all.new.seats in let was = b.seats.items in let f = c.in-Err.fault in
-    let before = c.args.links.now in let after = c.bit_all.new.links in
+    let now = c.bit_of_all.new.seats in let was = b.seats.items in let f = c.in-Err.fault in
+    let before = c.args.links.now in let after = c.bit_of_all.new.links in
     let v : c.as_mut_slice.result.now ≡ was = c.as_mut_slice.ensures.value in
-    let len : length now ≡ length was = c.bit_all.auto.seats ∙ ap (λ (l : List Seat). length l) v in
+    let len : length now ≡ length was = c.bit_of_all.auto.seats ∙ ap (λ (l : List Seat). length l) v in
     let e : take b.seats.len (now ++ drop (length now) was) ≡ now = grind (arith, common_steps) in
     let right : b.fault ≡ None = ap (λ (w : BusValue). w.fault) c.self.view_is ∙ none in
     let rooms = inv.rooms right in
@@ -144,6 +144,6 @@ pub returns-in-Ok-clause-takes : goal.returns-in-Ok-clause-takes
 returns-in-Ok-clause-takes g c =
     let seats = c.self.inside.seats in
     let all : seats.len ≡ length seats.items = omega arith in
-    takes_back g.E.BusEnd seats.items c.as_mut_slice.result.now c.bit_all.new.seats seats.len c.args.self.now.journals
-    c.args.links.now all c.as_mut_slice.ensures.value c.bit_all.auto.seats c.in-Ok.ensures.ready
+    takes_back g.E.BusEnd seats.items c.as_mut_slice.result.now c.bit_of_all.new.seats seats.len c.args.self.now.journals
+    c.args.links.now all c.as_mut_slice.ensures.value c.bit_of_all.auto.seats c.in-Ok.ensures.ready
     (ap (λ (w : BusValue). w.journals) c.self.view_is) c.in-Ok.ensures.takes

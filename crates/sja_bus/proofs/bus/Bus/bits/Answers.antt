@@ -8,7 +8,7 @@ use Rattle.sja_bus.proofs.Results.{err_is}
 use Rattle.sja_bus.proofs.Many.{numbered_kept}
 use Rattle.sja_bus.proofs.SoFar.{keeps_refl, none_yet, and_one, and_more, keeps_trans, still_for, breaks_later}
 use Rattle.sja_bus.proofs.bus.Bus.bits.Goals as goal
-use Rattle.sja_bus.proofs.bus.Bus.bits.Goals.{After-bit, After-run_on, else-to_rest-via-then-to_rest+else-at_rest, else-to_rest-via-else-to_rest}
+use Rattle.sja_bus.proofs.bus.Bus.bits.Goals.{After-bit, After-run_untaken_bits, else-to_rest-via-then-to_rest+else-at_rest, else-to_rest-via-else-to_rest}
 
 -- before a bit some node works, where that was asked for
 works : (g : _) (c : After-bit g) → WorksIf c.args.to_rest (moment c.loop-run.self c.loop-run.links c.loop-run.board)
@@ -28,7 +28,7 @@ kept g c =
     c.bit.ensures.keeps
 
 -- one that did is one more
-one_more : (g : _) (c : After-run_on g) →
+one_more : (g : _) (c : After-run_untaken_bits g) →
     WorksIf c.args.to_rest (moment c.loop-run.self c.loop-run.links c.loop-run.board) → IsSoFar g.E.BusEnd g.B.Board
     (BitInOrder g.E.BusEnd g.B.Board) c.args.to_rest (moment c.args.self.now c.args.links.now c.args.board.now)
     (c.loop-run.run + 1) (moment c.bit.new.self c.bit.new.links c.bit.new.board)
@@ -41,21 +41,21 @@ one_more g c before =
     (record { bit = ok.bit; takes = λ first. ok.takes })
 
 -- a bit after the first one is in order
-later : (g : _) (c : After-run_on g) (k : ℕ) (x y : Moment _ _) → AnyBit g.E.BusEnd g.B.Board k x y →
+later : (g : _) (c : After-run_untaken_bits g) (k : ℕ) (x y : Moment _ _) → AnyBit g.E.BusEnd g.B.Board k x y →
     BitInOrder g.E.BusEnd g.B.Board ((c.loop-run.run + 1) + k) x y
 later g c k x y one = record { bit = one; takes = λ first. absurd (omega (arith, first)) }
 
 -- what they and further ones keep
-kept_on : (g : _) (c : After-run_on g) →
+kept_on : (g : _) (c : After-run_untaken_bits g) →
     Keeps g.E.BusEnd g.B.Board (moment c.args.self.now c.args.links.now c.args.board.now)
     (moment c.bit.new.self c.bit.new.links c.bit.new.board) →
     Keeps g.E.BusEnd g.B.Board (moment c.bit.new.self c.bit.new.links c.bit.new.board)
-    (moment c.run_on.new.self c.run_on.new.links c.run_on.new.board) →
+    (moment c.run_untaken_bits.new.self c.run_untaken_bits.new.links c.run_untaken_bits.new.board) →
     Keeps g.E.BusEnd g.B.Board (moment c.args.self.now c.args.links.now c.args.board.now)
-    (moment c.run_on.new.self c.run_on.new.links c.run_on.new.board)
+    (moment c.run_untaken_bits.new.self c.run_untaken_bits.new.links c.run_untaken_bits.new.board)
 kept_on g c = keeps_trans g.E.BusEnd g.B.Board g.met.E.BusEnd.same_trans g.met.B.Board.kept_trans
     (moment c.args.self.now c.args.links.now c.args.board.now) (moment c.bit.new.self c.bit.new.links c.bit.new.board)
-    (moment c.run_on.new.self c.run_on.new.links c.run_on.new.board)
+    (moment c.run_untaken_bits.new.self c.run_untaken_bits.new.links c.run_untaken_bits.new.board)
 
 pub returns-in_err-most-clause-keeps : goal.returns-in_err-most-clause-keeps
 returns-in_err-most-clause-keeps g c = keeps_refl g.E.BusEnd g.B.Board g.met.E.BusEnd.same_refl
@@ -96,31 +96,31 @@ returns-in_err-bit-clause-reason g c =
       left_so_far = c.in_err-bit.ensures.unrun.1;
     })
 
-pub run_on-requires-clause-fit : goal.run_on-requires-clause-fit
-run_on-requires-clause-fit g c = let fit = c.requires in
+pub run_untaken_bits-requires-clause-fit : goal.run_untaken_bits-requires-clause-fit
+run_untaken_bits-requires-clause-fit g c = let fit = c.requires in
     still_for g.E.BusEnd g.B.Board g.met.E.BusEnd.same_link
     (moment c.args.self.now c.args.links.now c.args.board.now) (moment c.bit.new.self c.bit.new.links c.bit.new.board)
-    (kept g (goal.at.run_on-requires-clause-fit g c).After-bit)
+    (kept g (goal.at.run_untaken_bits-requires-clause-fit g c).After-bit)
     (record { count = fit.count; ids = fit.ids; ports = fit.ports })
 
 pub returns-in_err-run-clause-keeps : goal.returns-in_err-run-clause-keeps
 returns-in_err-run-clause-keeps g c =
     let at = goal.at.returns-in_err-run-clause-keeps g c in
-    kept_on g at.After-run_on (kept g at.After-bit) c.in_err-run.ensures.stops.keeps
+    kept_on g at.After-run_untaken_bits (kept g at.After-bit) c.in_err-run.ensures.stops.keeps
 
 pub returns-in_err-run-clause-reason : goal.returns-in_err-run-clause-reason
 returns-in_err-run-clause-reason g c =
     let E = g.E.BusEnd in let B = g.B.Board in let to_rest = c.args.to_rest in let f = c.in_err-run.field-0.0 in
     let more = c.loop-run-test.true in let most = c.in_ok-most.ensures.count in
     let was = moment c.args.self.now c.args.links.now c.args.board.now in
-    let now = moment c.run_on.new.self c.run_on.new.links c.run_on.new.board in
+    let now = moment c.run_untaken_bits.new.self c.run_untaken_bits.new.links c.run_untaken_bits.new.board in
     let at = goal.at.returns-in_err-run-clause-reason g c in
     let is : c.from_residual-in_err-run.result ≡ Err f = search rules in
     let P : BusFault → Type 0 = λ x. c.args.self.now.fault ≡ None → StopsBits E B to_rest c.args.count was now x in
     err_is P c.from_residual-in_err-run.result f is (λ _. breaks_later E.stands E.full B.orders_are (BitInOrder E B)
     (AnyBit E B) (WorksIf to_rest) was (moment c.bit.new.self c.bit.new.links c.bit.new.board) now (c.loop-run.run + 1)
     (c.in_ok-most.most - (c.loop-run.run + 1)) c.args.count f (omega (arith, more, most))
-    (later g at.After-run_on) (one_more g at.After-run_on (works g at.After-bit)).bits c.in_err-run.ensures.stops.reason)
+    (later g at.After-run_untaken_bits) (one_more g at.After-run_untaken_bits (works g at.After-bit)).bits c.in_err-run.ensures.stops.reason)
 
 pub loop-run-preserved : goal.loop-run-preserved
 loop-run-preserved g c =
@@ -130,7 +130,7 @@ loop-run-preserved g c =
       far = and_more g.E.BusEnd g.B.Board (BitInOrder g.E.BusEnd g.B.Board) g.met.E.BusEnd.same_trans g.met.B.Board.kept_trans c.args.to_rest
           (moment c.args.self.now c.args.links.now c.args.board.now)
           (moment c.bit.new.self c.bit.new.links c.bit.new.board)
-          (moment c.run_on.new.self c.run_on.new.links c.run_on.new.board) (c.loop-run.run + 1)
-          (one_more g at.After-run_on (works g at.After-bit)) (AnyBit g.E.BusEnd g.B.Board) c.in_ok-run.field-0
-          (later g at.After-run_on) c.in_ok-run.ensures.runs;
+          (moment c.run_untaken_bits.new.self c.run_untaken_bits.new.links c.run_untaken_bits.new.board) (c.loop-run.run + 1)
+          (one_more g at.After-run_untaken_bits (works g at.After-bit)) (AnyBit g.E.BusEnd g.B.Board) c.in_ok-run.field-0
+          (later g at.After-run_untaken_bits) c.in_ok-run.ensures.runs;
     }

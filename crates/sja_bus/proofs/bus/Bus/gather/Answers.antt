@@ -5,7 +5,7 @@ use Rattle.sja_link.proofs.Related.{each_refl}
 use Rattle.sja_bus.specs.declared.seat.Seat.{Seat}
 use Rattle.sja_wire.specs.OneBit.{MayHaveItems}
 use Rattle.sja_bus.specs.Buses.{BusValue, EachJournal, EachUntold, AllDry}
-use Rattle.sja_bus.specs.Inside.Rows.{journals_of, untold_of, EachSeat, SeatTakes, SeatNews}
+use Rattle.sja_bus.specs.Inside.Rows.{journals_of, untold_of, EachSeat, SeatTakes, SeatUntold}
 use Rattle.sja_bus.specs.Inside.Whole.{IsWhole}
 use Rattle.sja_bus.specs.Reasons.{room_for, IsTakenAndRefused}
 use Rattle.sja_bus.specs.Inside.Refusing.{HaveRoom, SeatRefuses}
@@ -27,8 +27,8 @@ invariant_of-self g c =
     let e : take b.seats.len (now ++ drop (length now) was) ≡ now = grind (arith, common_steps) in
     let T : List Seat → Type 0 = λ l. EachSeat SeatTakes l now in
     let takes : EachSeat SeatTakes was now = subst T v c.in-Ok.ensures.items in
-    let N : List Seat → Type 0 = λ l. EachSeat SeatNews l now in
-    let news : EachSeat SeatNews was now = subst N v c.in-Ok.ensures.news in
+    let N : List Seat → Type 0 = λ l. EachSeat SeatUntold l now in
+    let untold : EachSeat SeatUntold was now = subst N v c.in-Ok.ensures.untold in
     let few = inv.few in let logs = inv.logs in
     let H : List Seat → Type 0 = λ l. (n : ℕ) → HaveRoom n l → HaveRoom n now in
     let l : IsWhole b.struck b.run b.left b.fault now (vec_capacity b.logs) = record {
@@ -37,7 +37,7 @@ invariant_of-self g c =
       most = inv.most;
       bus = λ f. record {
         ready = c.in-Ok.ensures.ready;
-        calm = calm_taken was now len news (inv.bus f).calm;
+        calm = calm_taken was now len untold (inv.bus f).calm;
         wired = wired_taken b.struck.script b.run was now len takes (inv.bus f).wired;
       };
       logs = omega (arith, len, logs);
@@ -98,7 +98,7 @@ returns-in-Ok-clause-untold g c =
     let v : c.as_mut_slice.result.now ≡ was = c.as_mut_slice.ensures.value in
     let len : length now ≡ length was = c.gather_all.auto.seats ∙ ap (λ (l : List Seat). length l) v in
     let e : take b.seats.len (now ++ drop (length now) was) ≡ now = grind (arith, common_steps) in
-    let T : List Seat → Type 0 = λ l. EachSeat SeatNews l now in
+    let T : List Seat → Type 0 = λ l. EachSeat SeatUntold l now in
     let P : BusValue → Type 0 = λ w. EachUntold w.untold (untold_of now) w.journals (journals_of now) in
     let Q : List Seat → Type 0 = λ xs. EachUntold c.args.self.now.untold (untold_of xs) c.args.self.now.journals (journals_of xs) in
-    subst Q (sym e) (subst P c.self.view_is (all_untold was now len (subst T v c.in-Ok.ensures.news)))
+    subst Q (sym e) (subst P c.self.view_is (all_untold was now len (subst T v c.in-Ok.ensures.untold)))

@@ -20,7 +20,7 @@ loop-node-preserved c =
     record {
       count = search rules;
       room = search rules;
-      made = rw c.push_reserved.ensures.items (new_push n c.loop-node.seats.items _ (search rules) (record { is_of = record { ready = made.ready; own = made.own }; empty = made.empty; nothing = made.news }) c.loop-node.invariant.made);
+      made = rw c.push_reserved.ensures.items (new_push n c.loop-node.seats.items _ (search rules) (record { is_of = record { ready = made.ready; own = made.own }; empty = made.empty; nothing = made.untold }) c.loop-node.invariant.made);
       rooms = subst Q (sym c.push_reserved.ensures.items) (rooms_push (room_for c.args.bits) c.loop-node.seats.items _ made.room c.loop-node.invariant.rooms);
     }
 

@@ -7,7 +7,7 @@ use Rattle.sja_bus.specs.declared.activity.Activity.TheVariants.{Running}
 use Rattle.sja_bus.specs.Inside.Following.{Reads}
 use Rattle.sja_bus.proofs.Applying.{applied_running, applied_resting, applies_none, applies_one}
 use Rattle.sja_bus.proofs.Steps.{follows_abort}
-use Rattle.sja_bus.specs.declared.news.News.TheVariants.{Changed, Dropped as DroppedNews}
+use Rattle.sja_bus.specs.declared.untold.Untold.TheVariants.{Changed, Dropped as DroppedUntold}
 use Rattle.sja_bus.proofs.Aborting.{marked_leaves, dropped_leaves}
 use Rattle.sja_bus.proofs.Turning.{aborts_none, aborts_one}
 use Rattle.sja_bus.proofs.Reading.{reads_swap, reads_quiet}
@@ -62,21 +62,21 @@ returns-in_default-clause-aborts c =
     let was = c.args.self.now in let j = was.journal.entries in
     applies_none j (applied_resting was.node j was.ended (free_in was.ledger) was.activity c.in_default.not-Running c.requires.ready.sound.reads)
 
-pub returns-in_default-clause-news : goal.returns-in_default-clause-news
-returns-in_default-clause-news c = aborts_none c.args.self.now c.args.self.now refl refl
+pub returns-in_default-clause-untold : goal.returns-in_default-clause-untold
+returns-in_default-clause-untold c = aborts_none c.args.self.now c.args.self.now refl refl
 
-pub returns-in-Unchanged-clause-news : goal.returns-in-Unchanged-clause-news
-returns-in-Unchanged-clause-news c = aborts_none c.args.self.now (record c.args.self.now { node = c.abort.new.self }) refl refl
+pub returns-in-Unchanged-clause-untold : goal.returns-in-Unchanged-clause-untold
+returns-in-Unchanged-clause-untold c = aborts_none c.args.self.now (record c.args.self.now { node = c.abort.new.self }) refl refl
 
-pub returns-in-Marked-clause-news : goal.returns-in-Marked-clause-news
-returns-in-Marked-clause-news c =
+pub returns-in-Marked-clause-untold : goal.returns-in-Marked-clause-untold
+returns-in-Marked-clause-untold c =
     let was = c.args.self.now in let drops = marked_leaves was.node c.abort.new.self was.journal.entries c.in-Marked.ensures c.requires.ready.sound.follows in
-    ok_map c.enter_abort.result (λ e. aborts_one was c.enter_abort.new.self Changed c.enter_abort.ensures.news (λ n. cc) e drops) c.enter_abort.ensures.entered
+    ok_map c.enter_abort.result (λ e. aborts_one was c.enter_abort.new.self Changed c.enter_abort.ensures.untold (λ n. cc) e drops) c.enter_abort.ensures.entered
 
-pub returns-in-Dropped-clause-news : goal.returns-in-Dropped-clause-news
-returns-in-Dropped-clause-news c =
+pub returns-in-Dropped-clause-untold : goal.returns-in-Dropped-clause-untold
+returns-in-Dropped-clause-untold c =
     let was = c.args.self.now in let drops = dropped_leaves was.node c.abort.new.self was.journal.entries c.in-Dropped.ensures c.requires.ready.sound.follows in
-    ok_map c.enter_abort-in-Dropped.result (λ e. aborts_one was c.enter_abort-in-Dropped.new.self DroppedNews c.enter_abort-in-Dropped.ensures.news (λ n. cc) e drops) c.enter_abort-in-Dropped.ensures.entered
+    ok_map c.enter_abort-in-Dropped.result (λ e. aborts_one was c.enter_abort-in-Dropped.new.self DroppedUntold c.enter_abort-in-Dropped.ensures.untold (λ n. cc) e drops) c.enter_abort-in-Dropped.ensures.entered
 
 pub returns-in-Marked-clause-due : goal.returns-in-Marked-clause-due
 returns-in-Marked-clause-due c =

@@ -8,7 +8,7 @@ use Rattle.sja_bus.proofs.seat.Seat.enter_abort.Goals as goal
 pub returns-clause-ready : goal.returns-clause-ready
 returns-clause-ready c =
     let o = c.enter.ensures.others in
-    let was : Seat = record c.args.self.now { news = c.args.news; drives = c.drive-self.result } in
+    let was : Seat = record c.args.self.now { untold = c.args.untold; drives = c.drive-self.result } in
     let P : Seat → Type 0 = λ s. IsSeat s in
     let Q : Seat → Type 0 = λ s. DrivesNext s.node s.drives in
     let R : Seat → Type 0 = λ s. IsSeat (record s { journal = c.enter.new.self.journal }) in

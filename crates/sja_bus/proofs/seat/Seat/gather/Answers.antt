@@ -17,7 +17,7 @@ loop-self-init g c = record {
   stays = stays_refl g.E.BusEnd.same g.met.E.BusEnd.same_refl c.args.self.now c.args.links.now;
   goes = goes_refl g.E.BusEnd.same g.E.BusEnd.stands g.met.E.BusEnd.same_refl c.args.self.now.journal.entries c.args.links.now c.args.base;
   items = items_none c.args.self.now.journal.entries;
-  news = inl (refl, refl);
+  untold = inl (refl, refl);
 }
 
 pub take-requires-clause-id : goal.take-requires-clause-id
@@ -66,7 +66,7 @@ loop-self-preserved g c =
       goes = goes;
       items = items_push c.args.self.now.journal.entries s.journal.entries c.take.new.self.journal.entries took.0 took.1
           (record { activation = took.3 ∙ ap suc (sym c.loop-self.invariant.ready.sound.reads.stopped); left = rw c.loop-self.invariant.ready.sound.reads.stopped (omega arith) }) took.4 c.loop-self.invariant.items;
-      news = takes_one c.args.self.now s c.take.new.self (c.in_ok-take.ensures.news (search rules)) took.0 took.1 c.loop-self.invariant.news;
+      untold = takes_one c.args.self.now s c.take.new.self (c.in_ok-take.ensures.untold (search rules)) took.0 took.1 c.loop-self.invariant.untold;
     }
 
 pub returns-in_err-take-clause-refused : goal.returns-in_err-take-clause-refused

@@ -3,7 +3,7 @@ use Rattle.sja_wire.specs.Links.{Goes}
 use Rattle.sja_wire.specs.OneBit.{MayHaveItems}
 use Rattle.sja_bus.specs.Inside.Seats.{IsReady}
 use Rattle.sja_bus.specs.Inside.AtLinks.{KeepsLinks}
-use Rattle.sja_bus.specs.Inside.Turning.{TakesNews}
+use Rattle.sja_bus.specs.Inside.Turning.{TakesUntold}
 use Rattle.sja_bus.proofs.seat.Seat.gather.Given as goal
 
 abbrev pub invariant-loop-self : goal.invariant-loop-self
@@ -12,7 +12,7 @@ invariant-loop-self g l = record {
   stays : KeepsLinks g.E.BusEnd.same l.initial.self l.self l.initial.links l.links;
   goes : Goes g.E.BusEnd.same g.E.BusEnd.stands l.initial.self.journal.entries l.self.journal.entries l.initial.links l.links l.base;
   items : MayHaveItems l.initial.self.journal.entries l.self.journal.entries;
-  news : TakesNews l.initial.self l.self;
+  untold : TakesUntold l.initial.self l.self;
 }
 
 abbrev pub decreases-loop-self : goal.decreases-loop-self

@@ -1,5 +1,5 @@
 use Rattle.std.proofs.Common.{◌≡◌, suc, true, List, refl, sym, ap, subst, rules}
-use Rattle.can_node.specs.Record.{Entry as Event}
+use Rattle.can_node.specs.Record.{RecordEntry as Event}
 use Rattle.can_node.specs.Cut.{IsCut}
 use Rattle.sja_link.specs.declared.entry.Entry.TheVariants.{Off}
 use Rattle.sja_link.specs.BusLedgers.{link_of, free_in}

@@ -1,7 +1,7 @@
 use Rattle.std.proofs.Common.{[], arith, refl, ap}
 use Rattle.sja_bus.specs.declared.seat.Seat.{Seat}
 use Rattle.sja_bus.specs.declared.activity.Activity.TheVariants.{Between}
-use Rattle.sja_bus.specs.declared.news.News.TheVariants.{Nothing}
+use Rattle.sja_bus.specs.declared.untold.Untold.TheVariants.{Nothing}
 use Rattle.sja_bus.proofs.Steps.{follows_new}
 use Rattle.sja_bus.proofs.Reading.{reads_new}
 use Rattle.sja_bus.proofs.Seating.{sound_by}
@@ -10,7 +10,7 @@ use Rattle.sja_bus.proofs.seat.Seat.new.Goals as goal
 pub returns-clause-ready : goal.returns-clause-ready
 returns-clause-ready c =
     let node = c.new-node.result in
-    let s : Seat = record { node = node; drives = c.drive-drives.result; ledger = c.new-ledger.result; journal = c.in_ok-journal.journal; ended = 0; activity = Between; news = Nothing } in
+    let s : Seat = record { node = node; drives = c.drive-drives.result; ledger = c.new-ledger.result; journal = c.in_ok-journal.journal; ended = 0; activity = Between; untold = Nothing } in
     record {
       sound = sound_by s node [] 0 Between 64 refl c.in_ok-journal.ensures.empty refl refl c.new-ledger.ensures.free
           (follows_new node c.new-node.ensures.stands) (reads_new node c.new-node.ensures.reset);

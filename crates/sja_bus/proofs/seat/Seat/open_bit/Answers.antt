@@ -30,13 +30,13 @@ returns-else-ordered-clause-opens g c =
     let no : c.orders-ordered.result.abort ≡ false = search rules in
     record { taken = k; items = c.in_ok-gather.ensures.items; aborts = record { changed = false; whole = sym (append-nil k) }; orders = c.orders-ordered.result; are_orders = are; unasked = λ no. refl; applied = λ ordered. let e : true ≡ false = sym ordered ∙ no in absurd cc }
 
-pub returns-then-ordered-clause-news : goal.returns-then-ordered-clause-news
-returns-then-ordered-clause-news g c =
-    ok_map c.abort.result (λ a. takes_then c.args.self.now c.gather.new.self c.abort.new.self c.in_ok-gather.ensures.news c.in_ok-gather.ensures.items a) c.abort.ensures.news
+pub returns-then-ordered-clause-untold : goal.returns-then-ordered-clause-untold
+returns-then-ordered-clause-untold g c =
+    ok_map c.abort.result (λ a. takes_then c.args.self.now c.gather.new.self c.abort.new.self c.in_ok-gather.ensures.untold c.in_ok-gather.ensures.items a) c.abort.ensures.untold
 
-pub returns-else-ordered-clause-news : goal.returns-else-ordered-clause-news
-returns-else-ordered-clause-news g c =
-    takes_then c.args.self.now c.gather.new.self c.gather.new.self c.in_ok-gather.ensures.news c.in_ok-gather.ensures.items (aborts_none c.gather.new.self c.gather.new.self refl refl)
+pub returns-else-ordered-clause-untold : goal.returns-else-ordered-clause-untold
+returns-else-ordered-clause-untold g c =
+    takes_then c.args.self.now c.gather.new.self c.gather.new.self c.in_ok-gather.ensures.untold c.in_ok-gather.ensures.items (aborts_none c.gather.new.self c.gather.new.self refl refl)
 
 pub returns-then-ordered-clause-stops : goal.returns-then-ordered-clause-stops
 returns-then-ordered-clause-stops g c =

@@ -6,19 +6,19 @@ use Rattle.sja_serial.proofs.serial_run.SerialRun.bus_turn.Goals as goal
 
 pub loop-run-init : goal.loop-run-init
 loop-run-init c = record {
-  most = c.run_busy-run.ensures.most;
+  most = c.run_busy_bits-run.ensures.most;
   some = λ deeds h. (
     0,
     omega arith,
     bits_none c.args.plan.now deeds (λ (r : SerialValue). Unit {0})
-        c.run_busy-run.new.self h,
+        c.run_busy_bits-run.new.self h,
   );
 }
 
 pub returns-then-is_spent-clause-turn : goal.returns-then-is_spent-clause-turn
 returns-then-is_spent-clause-turn c = λ deeds h.
-    let s = some_since c.args.plan.now deeds c.args.self.now c.run_busy-run.new.self c.loop-run.self
-    c.run_busy-run.result c.loop-run.run h (c.run_busy-run.ensures.bits deeds h) (c.loop-run.invariant.some deeds) in
+    let s = some_since c.args.plan.now deeds c.args.self.now c.run_busy_bits-run.new.self c.loop-run.self
+    c.run_busy_bits-run.result c.loop-run.run h (c.run_busy_bits-run.ensures.bits deeds h) (c.loop-run.invariant.some deeds) in
     let few = c.loop-run-test.true in
     let yes : c.is_spent.result ≡ true = search rules in
     bus_spent c.args.plan.now deeds c.args.self.now c.loop-run.self c.loop-run.run c.args.count (omega (arith, few))
@@ -28,59 +28,59 @@ pub returns-then-is_spent-clause-stays : goal.returns-then-is_spent-clause-stays
 returns-then-is_spent-clause-stays c =
     let h = c.requires.run in (
       h.0,
-      (some_since c.args.plan.now h.0 c.args.self.now c.run_busy-run.new.self c.loop-run.self
-          c.run_busy-run.result c.loop-run.run h.1 (c.run_busy-run.ensures.bits h.0 h.1)
+      (some_since c.args.plan.now h.0 c.args.self.now c.run_busy_bits-run.new.self c.loop-run.self
+          c.run_busy_bits-run.result c.loop-run.run h.1 (c.run_busy_bits-run.ensures.bits h.0 h.1)
           (c.loop-run.invariant.some h.0)).stands,
     )
 
-pub run_resting-run-requires-clause-run : goal.run_resting-run-requires-clause-run
-run_resting-run-requires-clause-run c =
+pub run_resting_bits-run-requires-clause-run : goal.run_resting_bits-run-requires-clause-run
+run_resting_bits-run-requires-clause-run c =
     let h = c.requires.run in (
       h.0,
-      (some_since c.args.plan.now h.0 c.args.self.now c.run_busy-run.new.self c.loop-run.self
-          c.run_busy-run.result c.loop-run.run h.1 (c.run_busy-run.ensures.bits h.0 h.1)
+      (some_since c.args.plan.now h.0 c.args.self.now c.run_busy_bits-run.new.self c.loop-run.self
+          c.run_busy_bits-run.result c.loop-run.run h.1 (c.run_busy_bits-run.ensures.bits h.0 h.1)
           (c.loop-run.invariant.some h.0)).stands,
     )
 
-pub run_busy-run-requires-in-loop-run : goal.run_busy-run-requires-in-loop-run
-run_busy-run-requires-in-loop-run c =
+pub run_busy_bits-run-requires-in-loop-run : goal.run_busy_bits-run-requires-in-loop-run
+run_busy_bits-run-requires-in-loop-run c =
     let h = c.requires.run in
-    let s = some_since c.args.plan.now h.0 c.args.self.now c.run_busy-run.new.self c.loop-run.self
-    c.run_busy-run.result c.loop-run.run h.1 (c.run_busy-run.ensures.bits h.0 h.1)
+    let s = some_since c.args.plan.now h.0 c.args.self.now c.run_busy_bits-run.new.self c.loop-run.self
+    c.run_busy_bits-run.result c.loop-run.run h.1 (c.run_busy_bits-run.ensures.bits h.0 h.1)
     (c.loop-run.invariant.some h.0) in
     record {
       run = (
         h.0,
         (some_then c.args.plan.now h.0 (λ (r : SerialValue). Unit {0}) c.args.self.now c.loop-run.self
-            c.run_resting-run.new.self c.loop-run.run c.run_resting-run.result s
-            (c.run_resting-run.ensures.bits h.0 s.stands)).stands,
+            c.run_resting_bits-run.new.self c.loop-run.run c.run_resting_bits-run.result s
+            (c.run_resting_bits-run.ensures.bits h.0 s.stands)).stands,
       );
     }
 
 pub loop-run-preserved : goal.loop-run-preserved
 loop-run-preserved c =
-    let most = c.loop-run.invariant.most in let few = c.run_resting-run.ensures.most in
-    let more = c.run_busy-run-in-loop-run.ensures.most in record {
+    let most = c.loop-run.invariant.most in let few = c.run_resting_bits-run.ensures.most in
+    let more = c.run_busy_bits-run-in-loop-run.ensures.most in record {
       most = omega (arith, most, few, more);
       some = λ deeds h.
           let x = c.loop-run.invariant.some deeds h in let is = x.1 in
-          let s = some_then c.args.plan.now deeds (λ (r : SerialValue). Unit {0}) c.run_busy-run.new.self
-          c.loop-run.self c.run_resting-run.new.self x.0 c.run_resting-run.result x.2
-          (c.run_resting-run.ensures.bits deeds x.2.stands) in (
-            x.0 + c.run_resting-run.result + c.run_busy-run-in-loop-run.result,
+          let s = some_then c.args.plan.now deeds (λ (r : SerialValue). Unit {0}) c.run_busy_bits-run.new.self
+          c.loop-run.self c.run_resting_bits-run.new.self x.0 c.run_resting_bits-run.result x.2
+          (c.run_resting_bits-run.ensures.bits deeds x.2.stands) in (
+            x.0 + c.run_resting_bits-run.result + c.run_busy_bits-run-in-loop-run.result,
             omega (arith, is),
-            some_then c.args.plan.now deeds (λ (r : SerialValue). Unit {0}) c.run_busy-run.new.self
-                c.run_resting-run.new.self c.run_busy-run-in-loop-run.new.self (x.0 + c.run_resting-run.result)
-                c.run_busy-run-in-loop-run.result s (bits_freely c.args.plan.now deeds (SomeWorks c.args.plan.now)
-                c.run_resting-run.new.self c.run_busy-run-in-loop-run.new.self c.run_busy-run-in-loop-run.result
-                (c.run_busy-run-in-loop-run.ensures.bits deeds s.stands)),
+            some_then c.args.plan.now deeds (λ (r : SerialValue). Unit {0}) c.run_busy_bits-run.new.self
+                c.run_resting_bits-run.new.self c.run_busy_bits-run-in-loop-run.new.self (x.0 + c.run_resting_bits-run.result)
+                c.run_busy_bits-run-in-loop-run.result s (bits_freely c.args.plan.now deeds (SomeWorks c.args.plan.now)
+                c.run_resting_bits-run.new.self c.run_busy_bits-run-in-loop-run.new.self c.run_busy_bits-run-in-loop-run.result
+                (c.run_busy_bits-run-in-loop-run.ensures.bits deeds s.stands)),
           );
     }
 
 pub returns-clause-turn : goal.returns-clause-turn
 returns-clause-turn c = λ deeds h.
-    let s = some_since c.args.plan.now deeds c.args.self.now c.run_busy-run.new.self c.loop-run.self
-    c.run_busy-run.result c.loop-run.run h (c.run_busy-run.ensures.bits deeds h) (c.loop-run.invariant.some deeds) in
+    let s = some_since c.args.plan.now deeds c.args.self.now c.run_busy_bits-run.new.self c.loop-run.self
+    c.run_busy_bits-run.result c.loop-run.run h (c.run_busy_bits-run.ensures.bits deeds h) (c.loop-run.invariant.some deeds) in
     let most = c.loop-run-test.false in let few = c.loop-run.invariant.most in
     bus_all c.args.plan.now deeds c.args.self.now c.loop-run.self c.loop-run.run c.args.count
     (omega (arith, most, few)) s
@@ -89,7 +89,7 @@ pub returns-clause-stays : goal.returns-clause-stays
 returns-clause-stays c =
     let h = c.requires.run in (
       h.0,
-      (some_since c.args.plan.now h.0 c.args.self.now c.run_busy-run.new.self c.loop-run.self
-          c.run_busy-run.result c.loop-run.run h.1 (c.run_busy-run.ensures.bits h.0 h.1)
+      (some_since c.args.plan.now h.0 c.args.self.now c.run_busy_bits-run.new.self c.loop-run.self
+          c.run_busy_bits-run.result c.loop-run.run h.1 (c.run_busy_bits-run.ensures.bits h.0 h.1)
           (c.loop-run.invariant.some h.0)).stands,
     )

@@ -1,6 +1,6 @@
 use Rattle.std.proofs.Common.{◌≡◌, ◌+◌, ◌≤◌, ℕ, length, ◌∙◌, sym, subst, arith, rules}
 use Rattle.sja_link.specs.Deques.{Deques}
-use Rattle.sja_driver.specs.Holding.{Numbered}
+use Rattle.sja_driver.specs.Holding.{NumberedFrom}
 use Rattle.test_controller.proofs.drivers.given.scripted.Goals as goal
 
 pub tried-requires : goal.tried-requires
@@ -10,7 +10,7 @@ tried-requires c =
       lawful = i.0;
       room = i.3 1 (grind arith);
       eight = search rules;
-      ids = subst (λ (node : ℕ). Numbered (λ (s : Deques). s.link) c.loop-step.links 0 node) (sym i.1) i.2;
+      ids = subst (λ (node : ℕ). NumberedFrom (λ (s : Deques). s.link) c.loop-step.links 0 node) (sym i.1) i.2;
     }
 
 pub loop-step-preserved : goal.loop-step-preserved
@@ -19,6 +19,6 @@ loop-step-preserved c =
     let e = c.tried.ensures in (
       e.lawful,
       e.node ∙ i.1,
-      subst (λ (node : ℕ). Numbered (λ (s : Deques). s.link) c.tried.new.links 0 node) (e.node ∙ i.1) e.ids,
+      subst (λ (node : ℕ). NumberedFrom (λ (s : Deques). s.link) c.tried.new.links 0 node) (e.node ∙ i.1) e.ids,
       λ k h. e.room k (i.3 (k + 1) (omega (arith, h))),
     )

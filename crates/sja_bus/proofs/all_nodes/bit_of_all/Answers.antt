@@ -1,0 +1,112 @@
+use Rattle.std.proofs.Common.{◌≡◌, refl, arith, rules, inr}
+use Rattle.std.specs.Prelude.{◌⊎◌, Err}
+use Rattle.sja_link.proofs.Related.{each_trans}
+use Rattle.sja_bus.specs.Inside.Refusing.{SeatRefuses, SeatFull, SeatStops}
+use Rattle.sja_bus.specs.Inside.Rows.{SeatTurns}
+use Rattle.sja_bus.proofs.Many.{goes_all_trans, numbered_kept, done_all}
+use Rattle.sja_bus.proofs.Underway.{underway_none}
+use Rattle.sja_bus.proofs.TakenBefore.{row_takes}
+use Rattle.sja_bus.proofs.Results.{err_is}
+use Rattle.sja_bus.proofs.all_nodes.bit_of_all.Goals as goal
+
+pub sample_from-requires : goal.sample_from-requires
+sample_from-requires g c =
+    let h = c.requires.seated in let did = c.in_ok-open_all.ensures in
+    let seats = c.open_all.auto.seats in let links = c.open_all.auto.links in
+    let few = h.few in let count = h.count in let ports = h.ports in record {
+      seated = record {
+        few = omega (arith, few, seats);
+        count = omega (arith, count, seats, links);
+        ids = numbered_kept g.E.BusEnd.link g.E.BusEnd.same g.met.E.BusEnd.same_link c.args.links.now c.open_all.new.links c.open_all.ensures.sames h.ids;
+        ready = did.ready;
+        ports = omega (arith, ports, seats);
+      };
+    }
+
+pub returns-clause-sames : goal.returns-clause-sames
+returns-clause-sames g c = each_trans g.E.BusEnd.same g.met.E.BusEnd.same_trans c.args.links.now c.open_all.new.links c.sample_from.new.links c.open_all.ensures.sames c.sample_from.ensures.sames
+
+pub returns-in_err-sample_from-clause-sames : goal.returns-in_err-sample_from-clause-sames
+returns-in_err-sample_from-clause-sames g c = each_trans g.E.BusEnd.same g.met.E.BusEnd.same_trans c.args.links.now c.open_all.new.links c.sample_from.new.links c.open_all.ensures.sames c.sample_from.ensures.sames
+
+pub returns-clause-goes : goal.returns-clause-goes
+returns-clause-goes g c =
+    let E = g.E.BusEnd in let B = g.B.Board in let seats = c.open_all.new.seats in
+    let row = underway_none E.same E.stands g.met.E.BusEnd.same_refl B.ports B.told B.kept g.met.B.Board.kept_refl c.args.struck c.level_of-level.result seats c.open_all.new.links c.args.board.now c.in_ok-open_all.ensures.ready in
+    let did = c.in_ok-sample_from.ensures.row seats c.open_all.new.links c.args.board.now row in
+    goes_all_trans g.E.BusEnd.same g.E.BusEnd.stands g.met.E.BusEnd.same_trans c.args.seats.now c.open_all.new.seats c.sample_from.new.seats c.args.links.now c.open_all.new.links c.sample_from.new.links
+    c.open_all.auto.seats c.in_ok-open_all.ensures.goes did.2.goes
+
+pub returns-clause-bit : goal.returns-clause-bit
+returns-clause-bit g c =
+    let E = g.E.BusEnd in let B = g.B.Board in let seats = c.open_all.new.seats in
+    let row = underway_none E.same E.stands g.met.E.BusEnd.same_refl B.ports B.told B.kept g.met.B.Board.kept_refl c.args.struck c.level_of-level.result seats c.open_all.new.links c.args.board.now c.in_ok-open_all.ensures.ready in
+    let did = c.in_ok-sample_from.ensures.row seats c.open_all.new.links c.args.board.now row in
+    let u = did.2 in let all = did.1 in let count = u.count in record {
+      opened = c.open_all.new.seats;
+      level = c.level_of-level.result;
+      count = c.open_all.auto.seats;
+      opens = c.in_ok-open_all.ensures.opens;
+      untold = c.in_ok-open_all.ensures.untold;
+      is_level = c.level_of-level.ensures;
+      turns = done_all (SeatTurns (B.told c.args.board.now c.sample_from.new.board) (B.kept c.args.board.now c.sample_from.new.board) c.args.struck c.level_of-level.result) did.0 seats c.sample_from.new.seats (omega (arith, all, count)) u.done;
+    }
+
+pub returns-clause-rooms : goal.returns-clause-rooms
+returns-clause-rooms g c = λ n h.
+    let E = g.E.BusEnd in let B = g.B.Board in let seats = c.open_all.new.seats in
+    let row = underway_none E.same E.stands g.met.E.BusEnd.same_refl B.ports B.told B.kept g.met.B.Board.kept_refl c.args.struck c.level_of-level.result seats c.open_all.new.links c.args.board.now c.in_ok-open_all.ensures.ready in
+    let did = c.in_ok-sample_from.ensures.row seats c.open_all.new.links c.args.board.now row in
+    did.2.rooms n (c.in_ok-open_all.ensures.rooms n h)
+
+pub returns-clause-ready : goal.returns-clause-ready
+returns-clause-ready g c =
+    let E = g.E.BusEnd in let B = g.B.Board in let seats = c.open_all.new.seats in
+    let row = underway_none E.same E.stands g.met.E.BusEnd.same_refl B.ports B.told B.kept g.met.B.Board.kept_refl c.args.struck c.level_of-level.result seats c.open_all.new.links c.args.board.now c.in_ok-open_all.ensures.ready in
+    let did = c.in_ok-sample_from.ensures.row seats c.open_all.new.links c.args.board.now row in
+    did.2.ready
+
+pub returns-in_err-open_all-clause-board : goal.returns-in_err-open_all-clause-board
+returns-in_err-open_all-clause-board g c = (refl, λ k far. g.met.B.Board.kept_refl c.args.board.now k)
+
+pub returns-clause-board : goal.returns-clause-board
+returns-clause-board g c =
+    let seats = c.open_all.auto.seats in (c.sample_from.ensures.board.0, λ k far. c.sample_from.ensures.board.1 k (omega (arith, far, seats)))
+
+pub returns-in_err-sample_from-clause-board : goal.returns-in_err-sample_from-clause-board
+returns-in_err-sample_from-clause-board g c =
+    let seats = c.open_all.auto.seats in (c.sample_from.ensures.board.0, λ k far. c.sample_from.ensures.board.1 k (omega (arith, far, seats)))
+
+pub returns-in_err-sample_from-clause-stops : goal.returns-in_err-sample_from-clause-stops
+returns-in_err-sample_from-clause-stops g c =
+    let E = g.E.BusEnd in let B = g.B.Board in let seats = c.open_all.new.seats in
+    let row = underway_none E.same E.stands g.met.E.BusEnd.same_refl B.ports B.told B.kept g.met.B.Board.kept_refl c.args.struck c.level_of-level.result seats c.open_all.new.links c.args.board.now c.in_ok-open_all.ensures.ready in
+    let O = g.B.Board.orders_are c.args.board.now in
+    let did = c.in_ok-open_all.ensures in let f = c.in_err-sample_from.field-0.0 in
+    let was = c.args.seats.now in let now = c.sample_from.new.seats in
+    let is : c.from_residual-in_err-sample_from.result ≡ Err f = search rules in
+    let P : _ → Type 0 = λ x. (SeatRefuses E.stands was now c.args.links.now c.sample_from.new.links x
+    ⊎ SeatFull E.stands O was now c.args.links.now c.sample_from.new.links x) ⊎ SeatStops E.stands E.full O E.same was now c.args.links.now x in
+    err_is P c.from_residual-in_err-sample_from.result f is
+    (inr (record {
+      opened = c.open_all.new.seats;
+      between = c.open_all.new.links;
+      count = c.open_all.auto.seats;
+      opens = did.opens;
+      goes = did.goes;
+      rooms = did.rooms;
+      breaks = c.in_err-sample_from.ensures.broken seats c.open_all.new.links c.args.board.now row;
+    }))
+
+pub returns-clause-takes : goal.returns-clause-takes
+returns-clause-takes g c =
+    let E = g.E.BusEnd in let B = g.B.Board in let seats = c.open_all.new.seats in
+    let opening = c.in_ok-open_all.ensures in let level = c.level_of-level.result in
+    let told = B.told c.args.board.now c.sample_from.new.board in let kept = B.kept c.args.board.now c.sample_from.new.board in
+    let row = underway_none E.same E.stands g.met.E.BusEnd.same_refl B.ports B.told B.kept g.met.B.Board.kept_refl c.args.struck level seats c.open_all.new.links c.args.board.now opening.ready in
+    let did = c.in_ok-sample_from.ensures.row seats c.open_all.new.links c.args.board.now row in
+    let u = did.2 in let all = did.1 in let count = u.count in
+    row_takes E (B.orders_are c.args.board.now) told kept c.args.struck level c.args.seats.now seats c.sample_from.new.seats
+    c.args.links.now c.open_all.new.links c.open_all.auto.seats count opening.ready u.ready opening.opens
+    (done_all (SeatTurns told kept c.args.struck level) did.0 seats c.sample_from.new.seats (omega (arith, all, count)) u.done)
+    opening.goes opening.dry

@@ -1,0 +1,78 @@
+use Rattle.std.proofs.Common.{◌≡◌, ◌<◌, length, rules, arith, refl, ◌∙◌}
+use Rattle.std.specs.Prelude.{Err, slice_set}
+use Rattle.sja_bus.specs.Inside.Rows.{SeatTurns, seen_by}
+use Rattle.sja_bus.specs.Inside.Refusing.{SeatBreaks}
+use Rattle.sja_bus.proofs.Breaking.{breaks_seat}
+use Rattle.sja_link.proofs.Related.{each_refl, each_trans}
+use Rattle.sja_bus.proofs.Results.{err_is}
+use Rattle.sja_bus.proofs.Many.{ready_one}
+use Rattle.sja_bus.proofs.Rows.{has_links}
+use Rattle.sja_bus.proofs.Running.{seen_is}
+use Rattle.sja_bus.proofs.Underway.{underway_one}
+use Rattle.sja_bus.proofs.all_nodes.sample_from.Goals as goal
+
+pub loop-k-init : goal.loop-k-init
+loop-k-init g c = record {
+  ready = c.requires.seated.ready;
+  sames = each_refl g.E.BusEnd.same g.met.E.BusEnd.same_refl c.args.links.now;
+  ports = refl;
+  others = λ m far. g.met.B.Board.kept_refl c.args.board.now m;
+  row = λ before given was u. u;
+}
+
+pub sample-requires-clause-at : goal.sample-requires-clause-at
+sample-requires-clause-at g c =
+    let h = c.requires.seated in let inv = c.loop-k.invariant in
+    has_links g.E.BusEnd.link g.E.BusEnd.same g.met.E.BusEnd.same_link (length c.args.seats.now) c.loop-k.seats c.args.links.now c.loop-k.links c.loop-k.k c.index-seats-k.result h.count c.loop-k.auto.seats (search rules)
+    inv.sames h.ids inv.ready
+
+pub loop-k-preserved : goal.loop-k-preserved
+loop-k-preserved g c =
+    let E = g.E.BusEnd in let B = g.B.Board in let met = g.met.B.Board in let k = c.loop-k.k in
+    let did = c.in_ok-sample.ensures in
+    let here : k < length c.loop-k.seats = search rules in
+    let was : k < length c.args.seats.now = search rules in
+    let n = (c.loop-k.invariant.ready k c.index-seats-k.result here).own in
+    let a = c.args.board.now in let b = c.loop-k.board in let z = c.sample.new.board in
+    let sees : c.seen-sees.result ≡ seen_by c.args.struck c.args.level k = c.seen-sees.ensures ∙ seen_is c.has.result c.args.struck c.args.level k c.has.ensures in
+    record {
+      ready = ready_one c.loop-k.seats k c.sample.new.self here c.loop-k.invariant.ready (record { ready = did.ready; own = did.stays.node ∙ n });
+      sames = each_trans E.same g.met.E.BusEnd.same_trans c.args.links.now c.loop-k.links c.sample.new.links c.loop-k.invariant.sames c.sample.ensures.stays.sames;
+      ports = did.ports ∙ c.loop-k.invariant.ports;
+      others = λ m l. met.kept_trans a b z m (c.loop-k.invariant.others m l) (did.others m (λ e. omega (arith, e, n, l, was)));
+      row = λ before given then u.
+          underway_one E.same E.stands g.met.E.BusEnd.same_trans B.ports B.told B.kept met.kept_trans met.told_first met.told_last c.args.struck c.args.level c.seen-sees.result before c.loop-k.seats
+          given c.loop-k.links c.sample.new.links then b z k c.index-seats-k.result c.sample.new.self here sees
+          (record { ready = did.ready; node = did.stays.node; room = did.stays.room; goes = did.goes; ports_are = did.ports; others = did.others; turns = did.turns })
+          (c.loop-k.invariant.row before given then u);
+    }
+
+pub returns-in_err-sample-clause-sames : goal.returns-in_err-sample-clause-sames
+returns-in_err-sample-clause-sames g c = each_trans g.E.BusEnd.same g.met.E.BusEnd.same_trans c.args.links.now c.loop-k.links c.sample.new.links c.loop-k.invariant.sames c.sample.ensures.stays.sames
+
+pub returns-in_err-sample-clause-board : goal.returns-in_err-sample-clause-board
+returns-in_err-sample-clause-board g c =
+    let here : c.loop-k.k < length c.args.seats.now = search rules in
+    let n = (c.loop-k.invariant.ready c.loop-k.k c.index-seats-k.result (search rules)).own in (
+      c.sample.ensures.ports ∙ c.loop-k.invariant.ports,
+      λ m far. g.met.B.Board.kept_trans c.args.board.now c.loop-k.board c.sample.new.board m (c.loop-k.invariant.others m far)
+          (c.sample.ensures.others m (λ e. omega (arith, e, n, far, here))),
+    )
+
+pub returns-clause-board : goal.returns-clause-board
+returns-clause-board g c = (c.loop-k.invariant.ports, c.loop-k.invariant.others)
+
+pub returns-clause-row : goal.returns-clause-row
+returns-clause-row g c = λ before given was u. (c.loop-k.k, search rules, c.loop-k.invariant.row before given was u)
+
+pub returns-in_err-sample-clause-broken : goal.returns-in_err-sample-clause-broken
+returns-in_err-sample-clause-broken g c =
+    let E = g.E.BusEnd in let B = g.B.Board in let k = c.loop-k.k in let s = c.index-seats-k.result in let f = c.in_err-sample.field-0.0 in
+    let inv = c.loop-k.invariant in let new = c.sample.new.self in
+    let near : k < length c.loop-k.seats = search rules in
+    let is : c.from_residual.result ≡ Err f = search rules in
+    let P : _ → Type 0 = λ x. (before : _) (given : _) (was : _) → _ → SeatBreaks E.stands E.full before (slice_set c.loop-k.seats k new) given x in
+    err_is P c.from_residual.result f is
+    (λ before given was u.
+    let i = inv.row before given was u in let count = i.count in
+    breaks_seat E.same E.stands E.full (SeatTurns (B.told was c.loop-k.board) (B.kept was c.loop-k.board) c.args.struck c.args.level) before c.loop-k.seats given c.loop-k.links k s new f (omega (arith, near, count)) i.count i.ready i.goes i.done c.in_err-sample.ensures.broken)

@@ -1,0 +1,18 @@
+use Rattle.std.proofs.Common.{◌≡◌, ℕ, ◌≤◌, List, length}
+use Rattle.sja_link.specs.Related.{EachRelated}
+use Rattle.sja_bus.specs.declared.seat.Seat.{Seat}
+use Rattle.sja_bus.specs.Inside.Rows.{AreReady}
+use Rattle.sja_bus.specs.Inside.Underway.{IsUnderway}
+use Rattle.sja_bus.proofs.all_nodes.sample_from.Given as goal
+
+-- what was so before the first of them had its bit goes on
+abbrev pub invariant-loop-k : goal.invariant-loop-k
+invariant-loop-k g l = record {
+  ready : AreReady l.seats;
+  sames : EachRelated g.E.BusEnd.same l.initial.links l.links;
+  ports : g.B.Board.ports l.board ≡ g.B.Board.ports l.initial.board;
+  others : (m : ℕ) → length l.initial.seats ≤ m → g.B.Board.kept l.initial.board l.board m;
+  row : (before : List Seat) (given : List g.row.E.Denot) (was : g.row.B.Denot) →
+      IsUnderway g.E.BusEnd.same g.E.BusEnd.stands g.B.Board.ports g.B.Board.told g.B.Board.kept l.struck l.level before given was l.first l.initial.seats l.initial.links l.initial.board →
+      IsUnderway g.E.BusEnd.same g.E.BusEnd.stands g.B.Board.ports g.B.Board.told g.B.Board.kept l.struck l.level before given was l.k l.seats l.links l.board;
+}

@@ -1,0 +1,147 @@
+use Rattle.std.proofs.Common.{◌≡◌, ◌≢◌, ◌+◌, ◌-◌, ◌<◌, ◌≤◌, true, false, replicate, None, List, ◌++◌, length, take, drop, sym, ap, ◌∙◌, subst, arith, rules, refl, ℕ}
+use Rattle.std.proofs.lemmas.Grind.{common_steps}
+use Rattle.std.specs.Prelude.{◌⊎◌, vec_capacity}
+use Rattle.sja_bus.specs.declared.seat.Seat.{Seat}
+use Rattle.sja_bus.specs.Buses.{BusValue}
+use Rattle.sja_script.specs.Striking.{Strikes}
+use Rattle.sja_bus.specs.Stretches.{IsStretch, EndsStretch, IsOutOfEntries}
+use Rattle.sja_bus.specs.Inside.Rows.{journals_of, untold_of, IsBus}
+use Rattle.sja_bus.specs.Inside.Whole.{IsWhole}
+use Rattle.sja_bus.specs.Inside.AtOnce.{RunsAtOnce}
+use Rattle.sja_bus.specs.Inside.Idling.{AreResting, IsOneAwake, IsFullBy, all_after}
+use Rattle.sja_bus.specs.Inside.Refusing.{HaveRoom}
+use Rattle.sja_bus.specs.Reasons.{room_for}
+use Rattle.sja_bus.proofs.Logs.{none_untold}
+use Rattle.sja_bus.proofs.RanOn.{bus_with}
+use Rattle.sja_bus.proofs.Running.{count_is}
+use Rattle.sja_bus.proofs.Rests.{ends_awake}
+use Rattle.sja_bus.proofs.Stretches.{after_untold, room_after, bus_after, stretch_after, ends_quiet, out_of_entries}
+use Rattle.sja_bus.proofs.bus.Bus.rest.Goals.{After-all_enter_idle_bits, In-Ok, then-bits-eq0-via-then-bits-eq0, then-bits-eq0-via-else-bits-eq0+then-not-are_resting}
+use Rattle.sja_bus.proofs.bus.Bus.rest.Goals as goal
+
+-- as many seats as before
+same_count : (g : _) (c : After-all_enter_idle_bits g) → length c.all_enter_idle_bits.new.seats ≡ length c.self.inside.seats.items
+same_count g c = c.all_enter_idle_bits.auto.seats ∙ ap (λ (l : List Seat). length l) c.as_mut_slice.ensures.value
+
+-- the seats that are written back are those
+are_back : (g : _) (c : After-all_enter_idle_bits g) → take c.self.inside.seats.len
+    (c.all_enter_idle_bits.new.seats ++ drop (length c.all_enter_idle_bits.new.seats) c.self.inside.seats.items) ≡ c.all_enter_idle_bits.new.seats
+are_back g c = let len = same_count g c in grind (arith, common_steps)
+
+-- there was no fault
+is_right : (g : _) (c : After-all_enter_idle_bits g) → c.self.inside.fault ≡ None
+is_right g c = ap (λ (w : BusValue). w.fault) c.self.view_is ∙ c.requires.right
+
+-- all nodes rested
+rested : (g : _) (c : After-all_enter_idle_bits g) → AreResting (g.B.Board.orders_are c.args.board.now) c.self.inside.seats.items
+rested g c =
+    let yes : c.are_resting.result ≡ true = search rules in
+    let R : List Seat → Type 0 = λ l. AreResting (g.B.Board.orders_are c.args.board.now) l in
+    subst R c.as_slice.ensures.value (c.are_resting.ensures.yes yes)
+
+-- each seat has that many recessive bits more
+grown : (g : _) (c : In-Ok g) → c.all_enter_idle_bits.new.seats ≡ all_after c.quiet_for-bits.result c.self.inside.seats.items
+grown g c =
+    let A : List Seat → Type 0 = λ l. c.all_enter_idle_bits.new.seats ≡ all_after c.quiet_for-bits.result l in
+    subst A c.as_mut_slice.ensures.value c.in-Ok.ensures.rested
+
+pub invariant_of-self : goal.invariant_of-self
+invariant_of-self g c =
+    let at = (goal.at.invariant_of-self g c).After-all_enter_idle_bits in
+    let b = c.self.inside in let n = c.quiet_for-bits.result in let inv = c.self.invariant.0 in
+    let now = c.all_enter_idle_bits.new.seats in let was = b.seats.items in let board = c.args.board.now in
+    let len = same_count g at in
+    let is = grown g (goal.at.invariant_of-self g c).In-Ok in
+    let I : List Seat → Type 0 = λ l. IsBus b.struck.script (b.run + n) l in
+    let H : List Seat → Type 0 = λ l. HaveRoom (room_for b.struck.bits) l in
+    let few = inv.few in let logs = inv.logs in let bits = inv.bits in
+    let within = c.quiet_for-bits.ensures.within in
+    let l : IsWhole b.struck (b.run + n) (b.left - n) b.fault now (vec_capacity b.logs) = record {
+      few = omega (arith, len, few);
+      bits = omega (arith, bits, within);
+      most = inv.most;
+      bus = λ f. subst I (sym is)
+          (bus_after (g.B.Board.orders_are board) (g.B.Board.told board board) (g.B.Board.kept board board)
+          (λ node. g.met.B.Board.kept_refl board node) was (inv.bus f).ready (rested g at) b.struck.script b.run n few
+          c.quiet_for-bits.ensures.quiet (inv.bus f));
+      logs = omega (arith, len, logs);
+      rooms = λ f. subst H (sym is) (room_after n (room_for b.struck.bits) was (inv.rooms f));
+    } in
+    let P : List Seat → Type 0 = λ xs. IsWhole b.struck (b.run + n) (b.left - n) b.fault xs (vec_capacity b.logs) in
+    (subst P (sym (are_back g at)) l, c.self.invariant.1)
+
+pub returns-in-Ok-clause-runs : goal.returns-in-Ok-clause-runs
+returns-in-Ok-clause-runs g c =
+    let here = goal.at.returns-in-Ok-clause-runs g c in let at = here.After-all_enter_idle_bits in
+    let b = c.self.inside in let n = c.quiet_for-bits.result in let inv = c.self.invariant.0 in
+    let now = c.all_enter_idle_bits.new.seats in let was = b.seats.items in let board = c.args.board.now in
+    let orders = g.B.Board.orders_are board in let told = g.B.Board.told board board in
+    let kept = g.B.Board.kept board board in
+    let is = grown g here.In-Ok in let rest = rested g at in
+    let some : n ≢ 0 = search rules in
+    let quiet = c.quiet_for-bits.ensures.most in let min = c.min.ensures in
+    let h = stretch_after orders told kept (λ node. g.met.B.Board.kept_refl board node) was
+    (inv.bus (is_right g at)).ready rest b.struck.script b.run n inv.few c.quiet_for-bits.ensures.quiet in
+    let N : List Seat → Type 0 = λ l.
+    IsStretch orders told kept b.struck.script b.run n (untold_of was) (journals_of was) (journals_of l) in
+    let none : untold_of was ≡ replicate (length was) false =
+    none_untold was (λ k s few. (rest.each k s few).none) in
+    let V : ℕ → ℕ → List Seat → BusValue = λ run left l. bus_with b.struck.script run left b.fault l in
+    let r : RunsAtOnce g.B.Board board c.args.count (V b.run b.left was) (V (b.run + n) (b.left - n) now) n = record {
+      most = omega (arith, quiet, min);
+      bits = (refl, omega (arith, quiet, min));
+      none = λ zero. absurd (some zero);
+      stretch = λ ne. subst N (sym is) h;
+      told = λ ne. ap (λ (l : List Seat). untold_of l) is ∙ after_untold n was ∙ none
+          ∙ ap (λ m. replicate m false) (sym (count_is was));
+      right = is_right g at;
+    } in
+    let P : BusValue → Type 0 = λ x.
+    RunsAtOnce g.B.Board board c.args.count x (V (b.run + n) (b.left - n) now) n in
+    let Q : List Seat → Type 0 = λ l.
+    RunsAtOnce g.B.Board board c.args.count c.args.self.now (V (b.run + n) (b.left - n) l) n in
+    subst Q (sym (are_back g at)) (subst P c.self.view_is r)
+
+pub returns-then-bits-eq0-clause-longest : goal.returns-then-bits-eq0-clause-longest
+returns-then-bits-eq0-clause-longest g c =
+    let b = c.self.inside in let inv = c.self.invariant.0 in let count = c.args.count in let was = b.seats.items in
+    let right : b.fault ≡ None = ap (λ (w : BusValue). w.fault) c.self.view_is ∙ c.requires.right in
+    let v : BusValue = bus_with b.struck.script b.run b.left b.fault was in
+    let h : EndsStretch count 0 v = elim c.then-bits-eq0.branch [
+      | then-bits-eq0-via-then-bits-eq0 w ↦
+          let zero : c.quiet_for-bits.result ≡ 0 = search rules in
+          let L : ℕ → Type 0 = λ n. (n ≡ c.min.result) ⊎ (b.run + n ≡ b.struck.bits)
+          ⊎ ((node : ℕ) × (node < 8) × Strikes b.struck.script (b.run + n) node) in
+          let none : b.run ≡ b.run + 0 = omega arith in let all : b.left + 0 ≡ b.left = omega arith in
+          ends_quiet count 0 c.min.result b.struck.bits v v refl none all inv.bits c.min.ensures
+          (subst L zero c.quiet_for-bits.ensures.longest)
+      | then-bits-eq0-via-else-bits-eq0+then-not-are_resting w ↦
+          let no : w.are_resting.result ≡ false = search rules in
+          ends_awake count 0 v was refl refl (inv.bus right).ready
+          (subst (λ (l : List Seat). IsOneAwake l) w.as_slice.ensures.value (w.are_resting.ensures.no no))
+    ] in
+    subst (λ (x : BusValue). EndsStretch count 0 x) c.self.view_is h
+
+pub returns-in-Ok-clause-longest : goal.returns-in-Ok-clause-longest
+returns-in-Ok-clause-longest g c =
+    let b = c.self.inside in let n = c.quiet_for-bits.result in let was = b.seats.items in
+    let quiet = c.quiet_for-bits.ensures.most in let min = c.min.ensures in
+    let v : ℕ → ℕ → List Seat → BusValue = λ run left l. bus_with b.struck.script run left b.fault l in
+    ends_quiet c.args.count n c.min.result b.struck.bits (v b.run b.left was) (v (b.run + n) (b.left - n) _) refl refl
+    (omega (arith, quiet, min)) c.self.invariant.0.bits min c.quiet_for-bits.ensures.longest
+
+pub returns-in-Err-clause-reason : goal.returns-in-Err-clause-reason
+returns-in-Err-clause-reason g c =
+    let at = (goal.at.returns-in-Err-clause-reason g c).After-all_enter_idle_bits in
+    let b = c.self.inside in let inv = c.self.invariant.0 in let f = c.in-Err.fault in
+    let n = c.quiet_for-bits.result in let now = c.all_enter_idle_bits.new.seats in let was = b.seats.items in
+    let F : List Seat → Type 0 = λ l. IsFullBy n l now f in
+    let full : IsFullBy n was now f = subst F c.as_mut_slice.ensures.value c.in-Err.ensures.full in
+    let left : n ≤ b.left = let m = c.quiet_for-bits.ensures.most in let l = c.min.ensures in omega (arith, m, l) in
+    let H : ℕ → Type 0 = λ m. HaveRoom (room_for m) was in
+    let rooms : HaveRoom (room_for (b.run + b.left)) was = subst H (sym inv.bits) (inv.rooms (is_right g at)) in
+    let P : BusValue → Type 0 = λ x. IsOutOfEntries (x.run + x.left) x.left x.journals (journals_of now) f in
+    let old = c.args.self.now in
+    let Q : List Seat → Type 0 = λ l. IsOutOfEntries (old.run + old.left) old.left old.journals (journals_of l) f in
+    subst Q (sym (are_back g at))
+    (subst P c.self.view_is (out_of_entries (b.run + b.left) b.left n was now f (same_count g at) left rooms full))

@@ -1,0 +1,43 @@
+//! [`DriversAndEnds`]: what the drivers of all nodes handed back, drivers and ends apart.
+
+ghost use Rattle.std.specs.Prelude.{◌≡◌, IfOk};
+ghost use Rattle.sja_threads.specs.Settling.{all_drivers, all_ends};
+
+use super::worked::Worked;
+use can_frame::OutOfMemory;
+use sja_driver::LoggedDriver;
+use sja_rings::RingDriver;
+use std::alloc::Global;
+
+/// What the drivers of all nodes handed back, drivers and ends apart.
+#[derive(Drop)]
+pub(crate) struct DriversAndEnds {
+    /// The drivers, by node.
+    pub(crate) drivers: Vec<LoggedDriver>,
+    /// Their ends of all links, one driver's after the other's.
+    pub(crate) ends: Vec<RingDriver>,
+}
+
+impl DriversAndEnds {
+    ghost use Rattle.std.specs.Prelude.{◌≡◌, IfOk};
+
+    /// The drivers and the ends of these.
+    ///
+    /// Error: [`OutOfMemory`] where memory was refused.
+    pub(crate) fn of(
+        alloc: Global,
+        workeds: Vec<Worked<RingDriver>>,
+    ) -> Result<DriversAndEnds, OutOfMemory>
+        ensures drivers { IfOk result (λ apart. apart.drivers.items ≡ all_drivers workeds.items) }
+        ensures ends { IfOk result (λ apart. apart.ends.items ≡ all_ends workeds.items) }
+    {
+        let mut drivers = Vec::new(alloc);
+        let mut ends = Vec::new(alloc);
+        for worked in workeds {
+            let Worked { mut links, driver } = worked;
+            drivers.push(driver)?;
+            ends.append(&mut links)?;
+        }
+        Ok(DriversAndEnds { drivers, ends })
+    }
+}

@@ -1,0 +1,28 @@
+//! [`ThreadPromise`]: what a driver's thread promises.
+
+use super::gate::Gate;
+use super::worked::Worked;
+use sja_plan::Plan;
+use sja_rings::RingDriver;
+use std::marker::PhantomData;
+use std::snapshot::Snapshot;
+use std::thread::{Promise, PromisedHandle};
+
+/// What a driver's thread promises (this project's own rule): that it followed the steps which the plan has for its
+/// node, with these ends and as such a gate lets it.
+#[derive(Drop)]
+pub(crate) struct ThreadPromise<G: Gate> {
+    pub(crate) plan: Snapshot<Plan>,
+    pub(crate) node: u8,
+    pub(crate) links: Snapshot<Vec<RingDriver>>,
+    pub(crate) gate: PhantomData<G>,
+}
+
+impl<G: Gate> Promise<Worked<RingDriver>> for ThreadPromise<G> {
+    ghost use Rattle.sja_threads.specs.Inside.Started.{HandsBack};
+
+    ghost kept_by = { λ p w. HandsBack G.QUITS p.plan.value p.node p.links.value.items w };
+}
+
+/// A driver's thread.
+pub(crate) type Child<G> = PromisedHandle<Worked<RingDriver>, ThreadPromise<G>>;
