@@ -84,7 +84,8 @@ pub data Move (c : ContextValue) : Place → List RecordEntry → List Piece →
 --   each further one is an IdleBit, finished with bit 12 and bit 13, and leads to AtIdle;
 --   no entry is left for a piece that isn't finished, and the last place is AtIdle.
 pub data From :
-    Count → ContextValue → Place → List RecordEntry → List FinishedPiece → ContextValue → Place → List RecordEntry → Type 0 where
+    Count → ContextValue → Place → List RecordEntry → List FinishedPiece → ContextValue → Place →
+        List RecordEntry → Type 0 where
   -- no piece is finished
   here : {k : Count} {c : ContextValue} {place : Place} {slice : List RecordEntry} →
       IsOpenAt c place slice → IsOnBus (along c place [] slice) → From k c place slice [] c place slice

@@ -59,7 +59,8 @@ closed_by k Within = []
 closed_by k (Finishes piece next) = tagged k (piece ∷ [])
 
 -- one bit leads from a record to the record with it, and tells what the cut has there
-pub record Leads (node new : Node) (entries : List RecordEntry) (found : List FinishedPiece) (h : StandsAt node entries found)
+pub record Leads (node new : Node) (entries : List RecordEntry) (found : List FinishedPiece)
+    (h : StandsAt node entries found)
     (b : Bit) (e : BitEvents) : Type 0 where
   pub step : Step
   pub told : e ≡ events_of step (now_in h.cut) h.cut.place (open_bits h.cut) b
@@ -78,7 +79,8 @@ received_now None k = []
 received_now (Some f) k = (record { frame = f; activation = k.starts; bits = k.bits }) ∷ []
 
 -- after a bit the node stands at the record with it, and the frames received are those before and the one that it tells
-pub record TakesBit (new : Node) (entries : List RecordEntry) (found : List FinishedPiece) (b : Bit) (e : BitEvents) : Type 0
+pub record TakesBit (new : Node) (entries : List RecordEntry) (found : List FinishedPiece) (b : Bit)
+    (e : BitEvents) : Type 0
   where
     pub more : List FinishedPiece
     pub stands : StandsAt new (entries ++ entries_of b e) (found ++ more)
@@ -153,7 +155,8 @@ Samples old new seen result =
 
 -- a node in reset stays there, whatever it sees
 abbrev pub StaysReset : Node → Node → BitEvents → Type 0
-StaysReset old new e = InReset old → (entries : List RecordEntry) (found : List FinishedPiece) → StandsAt old entries found →
+StaysReset old new e = InReset old → (entries : List RecordEntry) (found : List FinishedPiece) →
+    StandsAt old entries found →
     Rests new e
 
 -- the level is the one that the node drives next

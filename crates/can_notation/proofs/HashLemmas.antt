@@ -108,7 +108,8 @@ module _ (said : List ℕ) (ext : Bool) (id : ℕ) (rest : List ℕ)
       ∙ ap (drop 1) (drop_at (identifier_text ext id) (hash ∷ rest) (identifier_digits ext) size)
 
   -- all three
-  pub parts : HasHash said × (capitals (before_hash said) ≡ identifier_text ext id) × (capitals (behind_hash said) ≡ rest)
+  pub parts : HasHash said × (capitals (before_hash said) ≡ identifier_text ext id)
+      × (capitals (behind_hash said) ≡ rest)
   parts = ((identifier_digits ext, room, at_hash hash), front, back)
 
 -- a text whose two halves are an identifier and a rest is these with a `#` between them

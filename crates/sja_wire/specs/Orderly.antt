@@ -16,7 +16,8 @@ pub record IsRunning (before : List Entry) : Type 0 where
   pub running : total is_stop (taken_of before) ≡ 0
 
 -- whether an entry may come after these in the part of an activation: a start is its first item, a stop its last;
--- bus-off is the last that is put; a message that is stored has room; and a credit is of the 3 to 13 bytes of a message,
+-- bus-off is the last that is put; a message that is stored has room; and a credit is of the 3 to 13 bytes of a
+-- message,
 -- and of none that weren't stored
 abbrev pub IsOrderly : List Entry → Entry → Type 0
 IsOrderly before (Stored m) =

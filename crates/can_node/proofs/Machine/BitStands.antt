@@ -74,7 +74,8 @@ goes_stands old new entries found h b stage shift drives at few shows same_stage
 -- ---- the piece ends
 
 -- with this bit the entries are the piece, and this is the context after it
-pub record EndsWith (c : ContextValue) (place : Place) (rest : List RecordEntry) (b : Bit) (p : Piece) (next : Place) : Type 0
+pub record EndsWith (c : ContextValue) (place : Place) (rest : List RecordEntry) (b : Bit) (p : Piece)
+    (next : Place) : Type 0
   where
     whole : after c place (rest ++ OneBit b ∷ []) p next
         ≡ closed p next (at_bit (along c place [] rest) place (bits_in rest) b)
@@ -133,7 +134,8 @@ off_counts entries b = counted_both none_yet entries (OneBit b ∷ BusOff ∷ []
     ∙ sym (counted_both none_yet entries (OneBit b ∷ []))
 
 -- within a piece
-pub off_goes : (old new : Node) (entries : List RecordEntry) (found : List FinishedPiece) (h : StandsAt old entries found)
+pub off_goes : (old new : Node) (entries : List RecordEntry) (found : List FinishedPiece)
+    (h : StandsAt old entries found)
     (b : Bit) (stage : Stage) (shift : Shift) →
     let now = along h.cut.context h.cut.place [] h.cut.rest in let d = at_bit now h.cut.place (bits_in h.cut.rest) b in
     At stage shift h.cut.context d h.cut.place (bits_in h.cut.rest ++ b ∷ []) → 256 ≤ d.tec →
@@ -173,7 +175,8 @@ off_goes old new entries found h b stage shift at off shows reset =
     }
 
 -- at the end of a piece
-pub off_closes : (old new : Node) (entries : List RecordEntry) (found : List FinishedPiece) (h : StandsAt old entries found)
+pub off_closes : (old new : Node) (entries : List RecordEntry) (found : List FinishedPiece)
+    (h : StandsAt old entries found)
     (b : Bit) (p : Piece) (next : Place) →
     let n = closed p next (at_bit (along h.cut.context h.cut.place [] h.cut.rest) h.cut.place (bits_in h.cut.rest) b) in
     Row h.cut.context h.cut.place (bits_in h.cut.rest ++ b ∷ []) p next → 256 ≤ n.tec →

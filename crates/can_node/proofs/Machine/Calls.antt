@@ -76,7 +76,8 @@ started_on config {c = c} {place = place} {entries = entries} {slice = slice} {f
     let opened = open_end here in
     let bits = rest_open opened in
     let stays : IsOnBus c = subst (λ d. IsOnBus d) (along_open c slice opened) (stays_end here) in
-    let Q : List RecordEntry → Type 0 = λ l. Move c AtReset (l ++ Start config ∷ []) [] (with_start config c) AtIntegration in
+    let Q : List RecordEntry → Type 0 = λ l. Move c AtReset (l ++ Start config ∷ []) []
+        (with_start config c) AtIntegration in
     move_on (Start config ∷ []) [] here (subst Q (sym bits.1) (started config bits.0)) (start_stays config c stays)
 
 -- the context of a rest is the one of its beginning
@@ -128,7 +129,8 @@ start_holds config c = chosen (c.off && not config.listen)
 
 -- ---- a stop
 
-pub stopped_stands : (old new : Node) (entries : List RecordEntry) (found : List FinishedPiece) → new.stage ≡ StageInReset →
+pub stopped_stands : (old new : Node) (entries : List RecordEntry) (found : List FinishedPiece) →
+    new.stage ≡ StageInReset →
     context_of new.context ≡ with_stop (context_of old.context) → StandsAt old entries found →
     FollowsAt new (entries ++ Stop ∷ []) found
 stopped_stands old new entries found reset shows h =

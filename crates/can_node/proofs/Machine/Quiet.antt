@@ -70,7 +70,8 @@ role_shown : (node : Node) (entries : List RecordEntry) (found : List FinishedPi
 role_shown node entries found h = ap (λ (k : ContextValue). not (is_transmitter k.role)) h.shows
 
 -- a step in which nothing is told
-leads_quietly : (old new : Node) (entries : List RecordEntry) (found : List FinishedPiece) (h : StandsAt old entries found)
+leads_quietly : (old new : Node) (entries : List RecordEntry) (found : List FinishedPiece)
+    (h : StandsAt old entries found)
     (b : Bit) (step : Step) →
     nothing (is_receiving old) ≡ events_of step (now_in h.cut) h.cut.place (open_bits h.cut) b →
     StandsAt new (entries ++ OneBit b ∷ []) (found ++ closed_by (counted none_yet (entries ++ OneBit b ∷ [])) step) →

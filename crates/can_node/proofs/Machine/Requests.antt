@@ -46,7 +46,8 @@ awake (StageInFlag n like) shift c now place bits off at e = let wrong = sym at.
 awake (StageInDelimiter d r) shift c now place bits off at e = let wrong = sym at.0 ∙ e in cc
 awake (StageInInterframeSpace n) shift c now place bits off at e = let wrong = sym at.0 ∙ e in cc
 
-pub awake_now : (node : Node) (entries : List RecordEntry) (found : List FinishedPiece) (h : StandsAt node entries found) →
+pub awake_now : (node : Node) (entries : List RecordEntry) (found : List FinishedPiece)
+    (h : StandsAt node entries found) →
     node.stage ≢ StageInReset → h.cut.place ≢ AtReset
 awake_now node entries found h off =
     awake node.stage node.shift h.cut.context (now_in h.cut) h.cut.place (bits_in h.cut.rest) off h.at
@@ -107,7 +108,8 @@ abort_is node entries found h request going marks held goes marked =
     ∙ ap (λ m. abort_of (is_in_progress c h.cut.place) c.held m) (marked ∙ ap (λ (k : ContextValue). k.aborted) h.shows)
 
 -- a node that holds a request isn't in reset
-pub holding_awake : (node : Node) (entries : List RecordEntry) (found : List FinishedPiece) (h : StandsAt node entries found)
+pub holding_awake : (node : Node) (entries : List RecordEntry) (found : List FinishedPiece)
+    (h : StandsAt node entries found)
     (request : Request) → node.context.held ≡ Some request → h.cut.place ≢ AtReset
 holding_awake node entries found h request held =
     holds node.stage node.shift h.cut.context (now_in h.cut) h.cut.place (bits_in h.cut.rest) h.at

@@ -68,7 +68,8 @@ no_off_way c next place site a x ps l at (closes slice entry part out closing) e
     part.inner off out (e ∙ append_assoc slice (entry ∷ []) x) in
     ends closing at once.1
   where
-    ends : {s t : Place} {n : ContextValue} {qs : List Piece} {f : RecordEntry} {b : List RecordEntry} → Closing c b s f qs n t →
+    ends : {s t : Place} {n : ContextValue} {qs : List Piece} {f : RecordEntry} {b : List RecordEntry} →
+        Closing c b s f qs n t →
         s ≡ AtReset → BusOff ≡ f → ⊥
     ends (by_start config) z q = cc
     ends (by_stop opened) z q = cc

@@ -45,7 +45,8 @@ context_in cut turn b = resulted turn (at_bit (now_in cut) cut.place (open_bits 
 
 -- what the steps of a bit say together: the level driven, what came of the piece, where the node then stands, and
 -- bus-off
-pub record IsDone (old new : Node) (entries : List RecordEntry) (found : List FinishedPiece) (h : StandsAt old entries found)
+pub record IsDone (old new : Node) (entries : List RecordEntry) (found : List FinishedPiece)
+    (h : StandsAt old entries found)
     (b : Bit) (turn : AfterBit)
     (stage : Stage) (reader shift : Shift) : Type 0 where
   pub drives : Drives (now_in h.cut) h.cut.place (open_bits h.cut) b.driven
@@ -110,7 +111,8 @@ role_told e f n new told tells is =
     ∙ ap (λ r. not (is_transmitter r)) (sym (ap (λ (c : ContextValue). c.role) is ∙ off_role (nat_le 256 n.tec) n))
 
 -- and the bit tells what the cut has there
-pub leads_by : (old new : Node) (entries : List RecordEntry) (found : List FinishedPiece) (h : StandsAt old entries found)
+pub leads_by : (old new : Node) (entries : List RecordEntry) (found : List FinishedPiece)
+    (h : StandsAt old entries found)
     (b : Bit) (turn : AfterBit) (stage : Stage) (reader shift : Shift) (e : BitEvents) →
     IsDone old new entries found h b turn stage reader shift →
     e ≡ events_of (step_of turn) (now_in h.cut) h.cut.place (open_bits h.cut) b →

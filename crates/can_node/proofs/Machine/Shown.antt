@@ -32,14 +32,16 @@ use Rattle.can_node.proofs.Machine.Ats.{at_is}
 use Rattle.can_node.proofs.Waiting.InterframeSpaces.{interframe_length}
 
 -- where the node is, by its own fields
-pub at_shown : (node : Node) (entries : List RecordEntry) (found : List FinishedPiece) (h : StandsAt node entries found) →
+pub at_shown : (node : Node) (entries : List RecordEntry) (found : List FinishedPiece)
+    (h : StandsAt node entries found) →
     At node.stage node.shift h.cut.context (context_of node.context) h.cut.place (bits_in h.cut.rest)
 at_shown node entries found h =
     let P : ContextValue → Type 0 = λ d. At node.stage node.shift h.cut.context d h.cut.place (bits_in h.cut.rest) in
     subst P (sym h.shows) h.at
 
 -- what its context keeps
-pub kept_shown : (node : Node) (entries : List RecordEntry) (found : List FinishedPiece) (h : StandsAt node entries found) →
+pub kept_shown : (node : Node) (entries : List RecordEntry) (found : List FinishedPiece)
+    (h : StandsAt node entries found) →
     IsKept h.cut.place h.cut.context (context_of node.context)
 kept_shown node entries found h =
     let P : ContextValue → Type 0 = λ d. IsKept h.cut.place h.cut.context d in
@@ -48,7 +50,8 @@ kept_shown node entries found h =
 -- ---- the level that is kept
 
 -- what it drives next, by its own context
-pub next_shown : (node : Node) (entries : List RecordEntry) (found : List FinishedPiece) (h : StandsAt node entries found) →
+pub next_shown : (node : Node) (entries : List RecordEntry) (found : List FinishedPiece)
+    (h : StandsAt node entries found) →
     Drives (context_of node.context) h.cut.place (bits_in h.cut.rest) node.next
 next_shown node entries found h =
     subst (λ d. Drives d h.cut.place (bits_in h.cut.rest) node.next) (sym h.shows) h.next
@@ -122,7 +125,8 @@ phase_by (StageInFlag n last) shift c now place bits h = sym (ap (λ s. phase_at
 phase_by (StageInDelimiter d r) shift c now place bits h = sym (ap (λ s. phase_at s bits) h.0)
 phase_by (StageInInterframeSpace n) shift c now place bits h = interframe_phase n c place bits h.0 h.1
 
-pub phase_shown : (node : Node) (entries : List RecordEntry) (found : List FinishedPiece) (h : StandsAt node entries found) →
+pub phase_shown : (node : Node) (entries : List RecordEntry) (found : List FinishedPiece)
+    (h : StandsAt node entries found) →
     phase_of_stage node.stage ≡ phase_at h.cut.place (bits_in h.cut.rest)
 phase_shown node entries found h =
     phase_by node.stage node.shift h.cut.context (now_in h.cut) h.cut.place (bits_in h.cut.rest) h.at
@@ -149,7 +153,8 @@ none_is None false e = absurd cc
 none_is (Some request) true e = absurd cc
 none_is (Some request) false e = refl
 
-pub idle_shown : (node : Node) (entries : List RecordEntry) (found : List FinishedPiece) (h : StandsAt node entries found)
+pub idle_shown : (node : Node) (entries : List RecordEntry) (found : List FinishedPiece)
+    (h : StandsAt node entries found)
     (p : Phase) (none : Bool) → p ≡ Idle →
     p ≡ phase_at h.cut.place (bits_in h.cut.rest) → is_some node.context.held ≡ not none →
     none ≡ rests_in (phase_at h.cut.place (bits_in h.cut.rest)) (is_held (now_in h.cut).held)

@@ -74,7 +74,8 @@ from_once k c end other place last another entries again rest more found others
     (tags ∙ ap (λ l. tagged (counted k b) qs ++ l) once.0, once.1, once.2, once.3)
 
 -- two cuts of one record have the same finished pieces
-pub cut_once : (entries : List RecordEntry) (found others : List FinishedPiece) → IsCut entries found → IsCut entries others →
+pub cut_once : (entries : List RecordEntry) (found others : List FinishedPiece) →
+    IsCut entries found → IsCut entries others →
     found ≡ others
 cut_once entries found others h k =
     (from_once none_yet fresh h.context k.context AtReset h.place k.place entries entries h.rest k.rest found others

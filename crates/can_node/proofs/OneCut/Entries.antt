@@ -64,7 +64,8 @@ inner_before (v ∷ a) (w ∷ b) x y f h out same =
     (before.0, cc)
 
 -- no start, stop or bus-off stands within them
-pub outer_not_within : (a b x : List RecordEntry) (entry : RecordEntry) → IsOuter entry → Inner b → b ≡ a ++ entry ∷ x → ⊥
+pub outer_not_within : (a b x : List RecordEntry) (entry : RecordEntry) → IsOuter entry →
+    Inner b → b ≡ a ++ entry ∷ x → ⊥
 outer_not_within [] b x entry out h e = outer_or_inner entry x out (subst Inner e h)
 outer_not_within (v ∷ a) b x entry out h e =
     outer_not_within a (a ++ entry ∷ x) x entry out (inner_rest (subst Inner e h)) refl
@@ -95,7 +96,8 @@ slice_front a b m whole ends same =
     sym (append-nil a) ∙ ap (λ l. a ++ l) (sym none) ∙ sym whole
 
 -- two slices of one record that begin at one place and have the same bits are the same
-pub slices_once : (a b x y : List RecordEntry) → EndsInBit a → EndsInBit b → bits_in a ≡ bits_in b → a ++ x ≡ b ++ y → a ≡ b
+pub slices_once : (a b x y : List RecordEntry) → EndsInBit a → EndsInBit b → bits_in a ≡ bits_in b →
+    a ++ x ≡ b ++ y → a ≡ b
 slices_once a b x y h k same e =
     elim (fronts a b x y e) [
       | inl longer ↦ slice_front a b longer.0 longer.1 k same

@@ -45,7 +45,8 @@ go_on {k = k} x g (here opened stays) step = step k refl
 go_on {k = k} {c = c} {end = end} {next = next} {place = place} {last = last} {site = site} {slice = slice}
     {more = more} x g (on {entries = first} {more = others} {ps = ps} {qs = qs} move rest) step =
     let later = go_on x g rest (λ j e. step j (e ∙ sym (counted_both k first others))) in
-    let P : List RecordEntry → Type 0 = λ l. From k c place l ((tagged (counted k first) ps ++ qs) ++ g) next site more in
+    let P : List RecordEntry → Type 0 = λ l. From k c place l
+        ((tagged (counted k first) ps ++ qs) ++ g) next site more in
     let Q : List FinishedPiece → Type 0 = λ l. From k c place (first ++ (others ++ x)) l next site more in
     subst P (sym (append_assoc first others x))
     (subst Q (sym (append_assoc (tagged (counted k first) ps) qs g)) (on move later))
@@ -91,7 +92,8 @@ pub no_rest_piece : {c : ContextValue} {bits : List Bit} {p : Piece} {next : Pla
 no_rest_piece row = elim row [ ]
 
 -- the open entries are a piece's, but in reset
-pub inner_open : {c : ContextValue} {place : Place} {slice : List RecordEntry} → place ≢ AtReset → IsOpenAt c place slice →
+pub inner_open : {c : ContextValue} {place : Place} {slice : List RecordEntry} → place ≢ AtReset →
+    IsOpenAt c place slice →
     Inner slice
 inner_open away (rests l) = absurd (away refl)
 inner_open away nothing = none_left

@@ -37,7 +37,8 @@ pieces_once c place next other p q a b x y h k row another e =
     (slice, once.1, context, once.2)
 
 -- two moves that have the same entries, pieces, context and place
-abbrev pub AreSame : List RecordEntry → List Piece → ContextValue → Place → List RecordEntry → List Piece → ContextValue → Place →
+abbrev pub AreSame : List RecordEntry → List Piece → ContextValue → Place → List RecordEntry →
+    List Piece → ContextValue → Place →
     Type 0
 AreSame a ps next site b qs other another = (a ≡ b) × (ps ≡ qs) × (next ≡ other) × (site ≡ another)
 
@@ -110,7 +111,8 @@ between_not_open c next place entry entries x between opened e =
     ]
 
 -- nor does what is closed
-between_no_closing : (c next : ContextValue) (place : Place) (entry other : RecordEntry) (slice x y : List RecordEntry) →
+between_no_closing : (c next : ContextValue) (place : Place) (entry other : RecordEntry)
+    (slice x y : List RecordEntry) →
     Between c place entry next → IsPart slice → IsOuter other →
     entry ∷ x ≡ slice ++ other ∷ y → ⊥
 between_no_closing c next place entry other slice x y between part out e =
@@ -122,7 +124,8 @@ between_no_closing c next place entry other slice x y between part out e =
     ]
 
 -- where a slice is closed no shorter one is a piece, and it is one itself only with bus-off
-piece_no_closing : (c after_it : ContextValue) (place next site : Place) (p : Piece) (ps : List Piece) (entry : RecordEntry)
+piece_no_closing : (c after_it : ContextValue) (place next site : Place) (p : Piece)
+    (ps : List Piece) (entry : RecordEntry)
     (a b m : List RecordEntry) → IsSlice a →
     Row c place (bits_in a) p next → IsOnBus (after c place a p next) → b ≡ a ++ m →
     Closing c b place entry ps after_it site → ⊥
@@ -157,7 +160,8 @@ between_once c next other place entry (send request) (send again) = refl
 between_once c next other place entry abort abort = refl
 
 -- one way in which a slice is closed by one entry
-closing_once : (c next other : ContextValue) (place site another : Place) (ps qs : List Piece) (slice : List RecordEntry)
+closing_once : (c next other : ContextValue) (place site another : Place) (ps qs : List Piece)
+    (slice : List RecordEntry)
     (entry : RecordEntry) →
     Closing c slice place entry ps next site → Closing c slice place entry qs other another →
     (ps ≡ qs) × (next ≡ other) × (site ≡ another)
@@ -178,7 +182,8 @@ closing_once c next other place site another ps qs slice entry (by_off_after {ne
 -- ---- two moves
 
 -- two ways on from one place in one record are the same
-way_once : (c next other : ContextValue) (place site another : Place) (a b x y : List RecordEntry) (ps qs : List Piece) →
+way_once : (c next other : ContextValue) (place site another : Place)
+    (a b x y : List RecordEntry) (ps qs : List Piece) →
     Way c place a ps next site → Way c place b qs other another → a ++ x ≡ b ++ y →
     AreSame a ps next site b qs other another
 way_once c next other place site another a b x y ps qs (finishes {next = n} {p = p} s h row stays)
@@ -216,7 +221,8 @@ way_once c next other place site another a b x y ps qs (closes s entry part out 
     absurd (between_no_closing c other place again entry s y x between part out (sym e ∙ append_assoc s (entry ∷ []) x))
 
 -- so are two moves
-pub move_once : (c next other : ContextValue) (place site another : Place) (a b x y : List RecordEntry) (ps qs : List Piece) →
+pub move_once : (c next other : ContextValue) (place site another : Place)
+    (a b x y : List RecordEntry) (ps qs : List Piece) →
     Move c place a ps next site → Move c place b qs other another → a ++ x ≡ b ++ y →
     AreSame a ps next site b qs other another
 move_once c next other place site another a b x y ps qs h k e =

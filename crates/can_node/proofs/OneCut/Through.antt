@@ -12,8 +12,10 @@ use Rattle.can_node.proofs.OneCut.MoveOnce.{move_once}
 use Rattle.can_node.proofs.OneCut.CutOnce.{move_or_open}
 
 -- from the place where the front is open the longer cut goes on, with the pieces after those of the front
-pub record Through (k : Count) (entries : List RecordEntry) (found : List FinishedPiece) (end : ContextValue) (last : Place)
-    (rest x : List RecordEntry) (others : List FinishedPiece) (other : ContextValue) (another : Place) (more : List RecordEntry) :
+pub record Through (k : Count) (entries : List RecordEntry) (found : List FinishedPiece)
+    (end : ContextValue) (last : Place)
+    (rest x : List RecordEntry) (others : List FinishedPiece) (other : ContextValue) (another : Place)
+        (more : List RecordEntry) :
     Type 0 where
   pub count : Count
   pub later : List FinishedPiece

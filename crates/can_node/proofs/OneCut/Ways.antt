@@ -23,7 +23,8 @@ pub data Between (c : ContextValue) (place : Place) : RecordEntry → ContextVal
   abort : Between c place Abort (with_abort place c)
 
 -- after this slice a start, a stop or bus-off, with a piece or none, and the context and the place after it
-pub data Closing (c : ContextValue) (slice : List RecordEntry) : Place → RecordEntry → List Piece → ContextValue → Place →
+pub data Closing (c : ContextValue) (slice : List RecordEntry) : Place → RecordEntry →
+    List Piece → ContextValue → Place →
     Type 0 where
   by_start : (config : Config) → Closing c slice AtReset (Start config) [] (with_start config c) AtIntegration
   by_stop : {place : Place} → IsOpenAt c place slice →
@@ -41,7 +42,8 @@ pub data Way (c : ContextValue) : Place → List RecordEntry → List Piece → 
       Way c place slice (p ∷ []) (after c place slice p next) next
   comes : {place : Place} {next : ContextValue} (entry : RecordEntry) → Between c place entry next →
       Way c place (entry ∷ []) [] next place
-  closes : {place site : Place} {next : ContextValue} {ps : List Piece} (slice : List RecordEntry) (entry : RecordEntry) →
+  closes : {place site : Place} {next : ContextValue} {ps : List Piece} (slice : List RecordEntry)
+      (entry : RecordEntry) →
       IsPart slice → IsOuter entry → Closing c slice place entry ps next site →
       Way c place (slice ++ entry ∷ []) ps next site
 

@@ -6,7 +6,8 @@ pub returns-then-later-self-eq0 : goal.returns-then-later-self-eq0
 returns-then-later-self-eq0 c =
     let s = c.args.self.now in let later = c.args.later in
     let some : 0 < s.every = search rules in (
-      (λ t. repeated_whole s later c.if-later-self-eq0.true (let few : later / s.every < s.times = search rules in few)),
+      (λ t. repeated_whole s later c.if-later-self-eq0.true
+          (let few : later / s.every < s.times = search rules in few)),
       (λ h. let few : later / s.every < s.times = (whole_repeated s later some h).1 in search rules),
     )
 
@@ -15,4 +16,5 @@ returns-else-later-self-eq0 c =
     let s = c.args.self.now in let later = c.args.later in
     let some : 0 < s.every = search rules in
     let no = c.if-later-self-eq0.false in
-    ((λ t. absurd (no (let e : later % s.every ≡ 0 = search rules in e))), (λ h. absurd (no (whole_repeated s later some h).0)))
+    ((λ t. absurd (no (let e : later % s.every ≡ 0 = search rules in e))),
+        (λ h. absurd (no (whole_repeated s later some h).0)))
