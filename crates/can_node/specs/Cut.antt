@@ -85,7 +85,7 @@ pub data Move (c : ContextValue) : Place → List RecordEntry → List Piece →
 --   no entry is left for a piece that isn't finished, and the last place is AtIdle.
 pub data From :
     Count → ContextValue → Place → List RecordEntry → List FinishedPiece → ContextValue → Place →
-        List RecordEntry → Type 0 where
+    List RecordEntry → Type 0 where
   -- no piece is finished
   here : {k : Count} {c : ContextValue} {place : Place} {slice : List RecordEntry} →
       IsOpenAt c place slice → IsOnBus (along c place [] slice) → From k c place slice [] c place slice

@@ -77,7 +77,7 @@ started_on config {c = c} {place = place} {entries = entries} {slice = slice} {f
     let bits = rest_open opened in
     let stays : IsOnBus c = subst (λ d. IsOnBus d) (along_open c slice opened) (stays_end here) in
     let Q : List RecordEntry → Type 0 = λ l. Move c AtReset (l ++ Start config ∷ []) []
-        (with_start config c) AtIntegration in
+    (with_start config c) AtIntegration in
     move_on (Start config ∷ []) [] here (subst Q (sym bits.1) (started config bits.0)) (start_stays config c stays)
 
 -- the context of a rest is the one of its beginning

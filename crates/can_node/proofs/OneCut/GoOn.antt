@@ -46,7 +46,7 @@ go_on {k = k} {c = c} {end = end} {next = next} {place = place} {last = last} {s
     {more = more} x g (on {entries = first} {more = others} {ps = ps} {qs = qs} move rest) step =
     let later = go_on x g rest (λ j e. step j (e ∙ sym (counted_both k first others))) in
     let P : List RecordEntry → Type 0 = λ l. From k c place l
-        ((tagged (counted k first) ps ++ qs) ++ g) next site more in
+    ((tagged (counted k first) ps ++ qs) ++ g) next site more in
     let Q : List FinishedPiece → Type 0 = λ l. From k c place (first ++ (others ++ x)) l next site more in
     subst P (sym (append_assoc first others x))
     (subst Q (sym (append_assoc (tagged (counted k first) ps) qs g)) (on move later))

@@ -15,7 +15,7 @@ use Rattle.can_node.proofs.OneCut.CutOnce.{move_or_open}
 pub record Through (k : Count) (entries : List RecordEntry) (found : List FinishedPiece)
     (end : ContextValue) (last : Place)
     (rest x : List RecordEntry) (others : List FinishedPiece) (other : ContextValue) (another : Place)
-        (more : List RecordEntry) :
+    (more : List RecordEntry) :
     Type 0 where
   pub count : Count
   pub later : List FinishedPiece

@@ -15,6 +15,7 @@ pub returns-else-later-self-eq0 : goal.returns-else-later-self-eq0
 returns-else-later-self-eq0 c =
     let s = c.args.self.now in let later = c.args.later in
     let some : 0 < s.every = search rules in
-    let no = c.if-later-self-eq0.false in
-    ((λ t. absurd (no (let e : later % s.every ≡ 0 = search rules in e))),
-        (λ h. absurd (no (whole_repeated s later some h).0)))
+    let no = c.if-later-self-eq0.false in (
+      (λ t. absurd (no (let e : later % s.every ≡ 0 = search rules in e))),
+      (λ h. absurd (no (whole_repeated s later some h).0)),
+    )
