@@ -43,7 +43,10 @@ impl BusLedger {
         ensures id { link_of result ≡ id }
         ensures free { free_in result ≡ 64 }
     {
-        BusLedger { id, free: RECEIVE_FIFO }
+        BusLedger {
+            id,
+            free: RECEIVE_FIFO,
+        }
     }
 
     /// Which link it is of.
