@@ -3,11 +3,14 @@
 //! A driver reads and writes the registers of a [`Port`] by their addresses, loads its transmit buffer and gives it
 //! commands. The bus tells it once a bit what happened ([`BusTurn`]), and asks for the driver's [`Orders`]. Contracts
 //! see a port as its `Registers` in the data sheet's letters, and the facts of `specs/Facts.antt` hold of every port.
-//! No call of this crate takes memory, and each is a constant amount of work.
+//! The numbers stand in three modules: the address of each register ([`address`]), the bits of each by their letters
+//! ([`letters`]), and what a bit of a byte is ([`bits`]). No call of this crate takes memory, and each is a constant
+//! amount of work.
 //!
 //! Its tests stand in `crates/test_controller/src/registers`.
 #![tactic(auto)]
 
+pub mod address;
 pub mod bits;
 mod bus_turn;
 mod capture;

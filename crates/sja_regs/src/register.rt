@@ -3,6 +3,11 @@
 ghost use Rattle.std.specs.Prelude.{◌≡◌, IfSome};
 ghost use Rattle.sja_regs.specs.Addresses.{register_at, IsPlace};
 
+use super::address::{
+    ACR0, ACR3, ALC, AMR0, AMR3, BUFFER, BUFFER_END, CMR, ECC, EWLR, IER, IR, MOD, RMC, RXERR, SR,
+    TXERR,
+};
+
 /// A register of the controller in PeliCAN mode (SJA1000 data sheet, 6.4.1).
 #[derive(Clone, Copy, Debug, PartialEq, Eq)]
 pub enum Register {
@@ -43,20 +48,20 @@ impl Register {
         ensures place { IfSome result (λ register. IsPlace register) }
     {
         match addr {
-            0 => Some(Register::Mode),
-            1 => Some(Register::Command),
-            2 => Some(Register::Status),
-            3 => Some(Register::Interrupt),
-            4 => Some(Register::InterruptEnable),
-            11 => Some(Register::ArbitrationLostCapture),
-            12 => Some(Register::ErrorCodeCapture),
-            13 => Some(Register::ErrorWarningLimit),
-            14 => Some(Register::ReceiveErrorCounter),
-            15 => Some(Register::TransmitErrorCounter),
-            16..=19 if reset => Some(Register::AcceptanceCode(addr - 16)),
-            20..=23 if reset => Some(Register::AcceptanceMask(addr - 20)),
-            16..=28 if !reset => Some(Register::Buffer(addr - 16)),
-            29 => Some(Register::ReceiveMessageCounter),
+            MOD => Some(Register::Mode),
+            CMR => Some(Register::Command),
+            SR => Some(Register::Status),
+            IR => Some(Register::Interrupt),
+            IER => Some(Register::InterruptEnable),
+            ALC => Some(Register::ArbitrationLostCapture),
+            ECC => Some(Register::ErrorCodeCapture),
+            EWLR => Some(Register::ErrorWarningLimit),
+            RXERR => Some(Register::ReceiveErrorCounter),
+            TXERR => Some(Register::TransmitErrorCounter),
+            ACR0..=ACR3 if reset => Some(Register::AcceptanceCode(addr - ACR0)),
+            AMR0..=AMR3 if reset => Some(Register::AcceptanceMask(addr - AMR0)),
+            BUFFER..=BUFFER_END if !reset => Some(Register::Buffer(addr - BUFFER)),
+            RMC => Some(Register::ReceiveMessageCounter),
             _ => None,
         }
     }
