@@ -4,6 +4,7 @@ use super::down::Down;
 use super::driver_end::DriverEnd;
 use super::link_id::LinkId;
 use super::release_fault::ReleaseFault;
+use super::sizes::ITEMS_DOWN;
 use super::stopped::Stopped;
 use super::up::Up;
 use arrayvec::ArrayVec;
@@ -18,7 +19,7 @@ use can_frame::{Message, Seen};
 #[derive(Debug, Drop)]
 pub struct DriverLedger {
     pub(crate) id: LinkId,
-    pub(crate) held: ArrayVec<Message, 22>,
+    pub(crate) held: ArrayVec<Message, ITEMS_DOWN>,
     pub(crate) off: bool,
 }
 

@@ -6,7 +6,8 @@
 //! [`BusLedger`] decides which message is stored and which is overrun, by the bytes that are free. At the driver's end
 //! the [`DriverLedger`] shows the messages and releases them. The [`Journal`] of a node has all that happened, and what
 //! it means is said of it alone: the part of each activation, the record of the node, the free bytes and the verdicts.
-//! The [`World`] of one link has the events that may happen on it.
+//! The [`World`] of one link has the events that may happen on it. [`LINKS_PER_NODE`], [`ITEMS_DOWN`], [`ITEMS_UP`] and
+//! [`RECEIVE_FIFO`] are the sizes of all that, and [`first_link`] is where a node's links begin among those of all.
 //!
 //! `DequeLink::new`, `Journal::new` and `World::step` alone take memory. Its tests stand in
 //! `crates/test_controller/src/links`.

@@ -7,6 +7,7 @@ ghost use Rattle.sja_link.specs.declared.event.Event.TheVariants.{Send, SendDone
 use super::counts::{credit_at, credit_of, starts, stops, waits, went_off};
 use super::down::Down;
 use super::event::Event;
+use super::sizes::RECEIVE_FIFO;
 use super::up::Up;
 use can_frame::{Message, OutOfMemory};
 use can_node::{Config, Request};
@@ -54,7 +55,7 @@ impl World {
             given: Vec::new(alloc),
             taken: 0,
             may_send: true,
-            free: 64,
+            free: RECEIVE_FIFO,
             released: 0,
         }
     }
