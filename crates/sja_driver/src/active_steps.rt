@@ -13,11 +13,8 @@ use super::attempt::{Attempt, passed, refused};
 use super::command_fault::CommandFault;
 use can_frame::{Message, Seen};
 use sja_link::{DriverEnd, ReleaseFault, Stopped};
-use sja_regs::Port;
+use sja_regs::{Port, address};
 use sja_script::{Refusal, StepAnswer};
-
-/// The address of the status register.
-const STATUS: u8 = 2;
 
 /// Looks at the window. No port is touched.
 pub(crate) fn window_step<E: DriverEnd>(driver: &mut AnyDriver, end: &mut E) -> Attempt
@@ -162,6 +159,6 @@ fn is_released(port: &mut Port) -> bool
         first: None,
         count: 0,
     };
-    let status = port.read(STATUS, &nothing);
+    let status = port.read(address::SR, &nothing);
     shows_released(status)
 }

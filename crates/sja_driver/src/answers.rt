@@ -6,7 +6,8 @@ ghost use Rattle.sja_regs.specs.Refusals.{fault_of};
 ghost use Rattle.sja_regs.specs.Statuses.{status_byte};
 ghost use Rattle.sja_driver.specs.Answers.{refusal_of, done_answer, done_unless, value_answer};
 
-use sja_regs::RegFault;
+use sja_regs::bits::is_set;
+use sja_regs::{RegFault, letters};
 use sja_script::{Refusal, StepAnswer};
 
 /// A port's refusal as a step's.
@@ -46,12 +47,12 @@ pub(crate) fn value_answer(value: Result<u8, RegFault>) -> StepAnswer
     }
 }
 
-/// Whether a status that was read shows the transmit buffer released: TBS, bit 2 (SJA1000 data sheet, 6.4.5).
+/// Whether a status that was read shows the transmit buffer released: TBS (SJA1000 data sheet, 6.4.5).
 pub(crate) fn shows_released(status: Result<u8, RegFault>) -> bool
     ensures { (s : StatusBits) → status ≡ Ok (status_byte s) → result ≡ s.tbs }
 {
     match status {
-        Ok(status) => status / 4 % 2 == 1,
+        Ok(status) => is_set(status, letters::TBS),
         Err(_) => false,
     }
 }

@@ -16,12 +16,9 @@ use super::attempt::Attempt;
 use super::changing::{start_step, stop_step};
 use super::logged_driver::LoggedDriver;
 use super::register_steps::{read_step, write_step};
-use sja_link::DriverEnd;
+use sja_link::{DriverEnd, LINKS_PER_NODE};
 use sja_regs::Port;
 use sja_script::Step;
-
-/// The place of the last of a node's links among its eight.
-const LAST: usize = 7;
 
 impl LoggedDriver {
     /// Tries a step at the link of the present activation, after so many bits, and logs it where it is done. The node's
@@ -98,7 +95,7 @@ impl LoggedDriver {
     fn link_place(&self) -> usize
         ensures { result ≡ min (ended_of self.now) 7 }
     {
-        self.log.left.len().min(LAST)
+        self.log.left.len().min(LINKS_PER_NODE - 1)
     }
 }
 

@@ -15,11 +15,8 @@ use super::active::Active;
 use super::driver::Driver;
 use super::start_fault::StartFault;
 use can_frame::Seen;
-use sja_link::{DriverEnd, DriverLedger, LinkId, Up};
+use sja_link::{DriverEnd, DriverLedger, LINKS_PER_NODE, LinkId, Up};
 use sja_regs::{Port, RegFault};
-
-/// How many activations a node has.
-const ACTIVATIONS: u8 = 8;
 
 /// The state of a driver whose controller it keeps in reset mode: how many activations it has started.
 #[derive(Debug, Drop)]
@@ -54,7 +51,7 @@ impl Driver<Reset> {
         ensures some { started_in self.now < 8 → result ≡ Some (next_link self.now) }
         ensures none { 8 ≤ started_in self.now → result ≡ None }
     {
-        if self.state.activation < ACTIVATIONS {
+        if usize::from(self.state.activation) < LINKS_PER_NODE {
             Some(LinkId {
                 node: self.state.node,
                 activation: self.state.activation + 1,
@@ -87,7 +84,7 @@ impl Driver<Reset> {
         ensures none_left { 8 ≤ started_in self → IfErr result (λ e. e.1 ≡ NoActivationLeft) × (end.new ≡ end.old) }
         ensures busy { IfErr result (λ e. (8 ≤ started_in self) ⊎ (e.1 ≡ Busy) × E.full end.old) }
     {
-        if self.state.activation >= ACTIVATIONS {
+        if usize::from(self.state.activation) >= LINKS_PER_NODE {
             return Err((self, StartFault::NoActivationLeft));
         }
         if end.give(Up::Start(port.config())).is_err() {

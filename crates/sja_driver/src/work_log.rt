@@ -9,12 +9,9 @@ ghost use Rattle.sja_driver.specs.Tries.{tried_of, stopped_by, ended_by};
 use super::attempt::Attempt;
 use super::release::Release;
 use can_frame::OutOfMemory;
-use sja_link::DriverLedger;
+use sja_link::{DriverLedger, LINKS_PER_NODE};
 use sja_script::{Done, StepAnswer};
 use std::alloc::Global;
-
-/// How many activations a node has.
-const ACTIVATIONS: usize = 8;
 
 /// What a driver did: its steps done, the messages that it released, and the ledger of each activation that ended
 /// (this project's own rule).
@@ -37,7 +34,7 @@ impl WorkLog {
     {
         let done = Vec::with_capacity(alloc, usize::from(steps))?;
         let released = Vec::with_capacity(alloc, usize::from(steps))?;
-        let left = Vec::with_capacity(alloc, ACTIVATIONS)?;
+        let left = Vec::with_capacity(alloc, LINKS_PER_NODE)?;
         Ok(WorkLog {
             done,
             released,
