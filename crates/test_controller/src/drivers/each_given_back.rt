@@ -6,14 +6,10 @@ use can_node::Request;
 use sja_driver::{Active, CommandFault, Driver, Reset, StartFault};
 use sja_link::{BusEnd, Down, DriverEnd, ReleaseFault, Up};
 use sja_regs::Port;
+use sja_regs::address::{MOD, SR};
 use std::alloc::Global;
 use std::test::Fail;
 use test_links::Returning;
-
-/// The address of the mode register, and of the status register (SJA1000 data sheet, 6.4.1).
-const MODE: u8 = 0;
-
-const STATUS: u8 = 2;
 
 /// The driver after a start, which is answered `Busy` first where it is to be.
 fn started(end: &mut Returning, port: &mut Port, comes_back: bool) -> Result<Driver<Active>, Fail> {
@@ -41,7 +37,7 @@ fn kept_in_reset(
     }
     match driver.start(end, port) {
         Err((driver, StartFault::Busy))
-            if driver.activation() == 0 && driver.read(port, MODE) == Ok(0x01) => Ok(driver),
+            if driver.activation() == 0 && driver.read(port, MOD) == Ok(0x01) => Ok(driver),
         _ => Err("the start was taken, or left something")?,
     }
 }
@@ -57,11 +53,11 @@ fn requests(
         return Err("another link")?;
     }
     if comes_back {
-        let before = driver.read(end, port, STATUS);
+        let before = driver.read(end, port, SR);
         if driver.command(end, port, 0x01) != Err(CommandFault::Busy) {
             return Err("the request was taken")?;
         }
-        if driver.read(end, port, STATUS) != before {
+        if driver.read(end, port, SR) != before {
             return Err("the status has changed")?;
         }
     }
@@ -115,12 +111,12 @@ fn stops(
             Err(driver) => driver,
             Ok(_) => Err("the stop was taken")?,
         };
-        if driver.activation() != 1 || driver.read(end, port, MODE) != Ok(0x00) {
+        if driver.activation() != 1 || driver.read(end, port, MOD) != Ok(0x00) {
             return Err("the stop left something")?;
         }
     }
     match driver.stop(end, port) {
-        Ok(driver) if driver.read(port, MODE) == Ok(0x01) => Ok(()),
+        Ok(driver) if driver.read(port, MOD) == Ok(0x01) => Ok(()),
         _ => Err("no stop")?,
     }
 }

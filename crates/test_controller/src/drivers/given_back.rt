@@ -4,6 +4,7 @@ use super::given::{NODE, link_of, message, started};
 use sja_driver::{Active, CommandFault, Driver, StartFault};
 use sja_link::{BusEnd, DequeLink, Down, DriverEnd, ReleaseFault, Up};
 use sja_regs::Port;
+use sja_regs::address::MOD;
 use std::test::Fail;
 
 /// Gives stops until one comes back.
@@ -38,7 +39,7 @@ fn a_start_that_comes_back_changes_nothing(rt: HostRuntime) -> Result<(), Fail> 
         return Err(Fail::new(format_args!("a start over a full link")));
     };
     assert!(rt; fault == StartFault::Busy && driver.activation() == 0);
-    assert!(rt; driver.read(&mut port, 0) == Ok(0x01));
+    assert!(rt; driver.read(&mut port, MOD) == Ok(0x01));
     assert!(rt; link.take() == Some(Up::Stop));
     assert!(rt; started(driver, &mut link, &mut port).is_some());
     Ok(())

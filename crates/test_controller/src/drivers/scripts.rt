@@ -5,6 +5,7 @@ use can_frame::Message;
 use sja_driver::Release;
 use sja_link::Down;
 use sja_regs::Port;
+use sja_regs::address::{EWLR, MOD, SR};
 use sja_script::{Refusal, Step, StepAnswer};
 use std::alloc::Global;
 use std::test::Fail;
@@ -74,15 +75,15 @@ fn the_registers_refuse_by_name(rt: HostRuntime) -> Result<(), Fail> {
     let mut port = Port::new(1);
     let script = [
         Step::Start,
-        Step::Write(13, 0x60),
-        Step::Write(0, 0x08),
-        Step::Write(2, 0x00),
+        Step::Write(EWLR, 0x60),
+        Step::Write(MOD, 0x08),
+        Step::Write(SR, 0x00),
         Step::Read(6),
         Step::Command(0x04),
         Step::Release,
         Step::Command(0x01),
         Step::Load(Message::default()),
-        Step::Read(2),
+        Step::Read(SR),
     ];
     let driver = scripted(rt.alloc(), &mut port, &[], &script, false)?;
     let wanted = [
@@ -203,7 +204,7 @@ fn after_bus_off_steps_are_stopped(rt: HostRuntime) -> Result<(), Fail> {
 
 #[test]
 fn self_reception_is_of_later_versions(rt: HostRuntime) -> Result<(), Fail> {
-    let script = [Step::Write(0, 0x05), Step::Start, Step::Command(0x10)];
+    let script = [Step::Write(MOD, 0x05), Step::Start, Step::Command(0x10)];
     let mut first = Port::new(1);
     let driver = scripted(rt.alloc(), &mut first, &[], &script, false)?;
     let refused = || StepAnswer::Refused(Refusal::NotInVersion);

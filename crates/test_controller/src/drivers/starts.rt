@@ -4,6 +4,7 @@ use super::given::{NODE, link_of, started, stopped};
 use sja_driver::{Driver, StartFault};
 use sja_link::{BusEnd, DriverEnd, LinkId, Up};
 use sja_regs::Port;
+use sja_regs::address::{ACR0, BUFFER, MOD, RMC};
 use std::test::Fail;
 
 #[test]
@@ -65,18 +66,18 @@ fn a_start_asks_for_the_link_of_the_next_activation(rt: HostRuntime) -> Result<(
 fn a_driver_writes_what_its_state_shows(rt: HostRuntime) -> Result<(), Fail> {
     let mut port = Port::new(1);
     let driver = Driver::new(NODE);
-    assert!(rt; driver.write(&mut port, 16, 0x12) == Ok(()));
-    assert!(rt; driver.read(&mut port, 16) == Ok(0x12));
+    assert!(rt; driver.write(&mut port, ACR0, 0x12) == Ok(()));
+    assert!(rt; driver.read(&mut port, ACR0) == Ok(0x12));
     let mut link = link_of(rt.alloc(), 1)?;
     let Some(driver) = started(driver, &mut link, &mut port) else {
         return Err(Fail::new(format_args!("start")));
     };
-    assert!(rt; driver.write(&mut port, 16, 0x34) == Ok(()));
+    assert!(rt; driver.write(&mut port, BUFFER, 0x34) == Ok(()));
     let Some(driver) = stopped(driver, &mut link, &mut port) else {
         return Err(Fail::new(format_args!("stop")));
     };
-    assert!(rt; driver.read(&mut port, 16) == Ok(0x12));
-    assert!(rt; driver.read(&mut port, 29) == Ok(0));
-    assert!(rt; driver.read(&mut port, 0) == Ok(0x01));
+    assert!(rt; driver.read(&mut port, ACR0) == Ok(0x12));
+    assert!(rt; driver.read(&mut port, RMC) == Ok(0));
+    assert!(rt; driver.read(&mut port, MOD) == Ok(0x01));
     Ok(())
 }

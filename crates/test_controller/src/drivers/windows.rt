@@ -5,6 +5,7 @@ use super::given::{NODE, link_with, message, started};
 use can_frame::Message;
 use sja_driver::{Active, Driver};
 use sja_link::{BusEnd, Down, DriverEnd, LinkId, ReleaseFault, Stopped, Up};
+use sja_regs::address::{BUFFER, CMR, RMC, SR};
 use sja_regs::{Port, RegFault};
 use std::test::Fail;
 
@@ -55,15 +56,15 @@ fn messages_are_shown_and_released_in_order(rt: HostRuntime) -> Result<(), Fail>
     assert!(rt; shown(&mut driver, &mut link) == Ok(Some(message(1)?)));
     assert!(rt; shown(&mut driver, &mut link) == Ok(Some(message(1)?)));
     assert!(rt; link.take().is_none());
-    assert!(rt; read(&mut driver, &mut link, &mut port, 29) == Ok(2));
-    assert!(rt; read(&mut driver, &mut link, &mut port, 17) == Ok(1));
+    assert!(rt; read(&mut driver, &mut link, &mut port, RMC) == Ok(2));
+    assert!(rt; read(&mut driver, &mut link, &mut port, BUFFER + 1) == Ok(1));
     assert!(rt; released(&mut driver, &mut link) == Ok(3));
     assert!(rt; link.take() == Some(Up::Credit(3)) && link.take().is_none());
     assert!(rt; driver.unread() == [message(2)?].as_slice());
     assert!(rt; released(&mut driver, &mut link) == Ok(3));
     assert!(rt; shown(&mut driver, &mut link) == Ok(None));
     assert!(rt; released(&mut driver, &mut link) == Err(ReleaseFault::Empty));
-    assert!(rt; read(&mut driver, &mut link, &mut port, 2) == Ok(0x3c));
+    assert!(rt; read(&mut driver, &mut link, &mut port, SR) == Ok(0x3c));
     Ok(())
 }
 
@@ -76,9 +77,9 @@ fn a_read_takes_in_what_the_link_shows(rt: HostRuntime) -> Result<(), Fail> {
         return Err(Fail::new(format_args!("start")));
     };
     assert!(rt; driver.unread().is_empty());
-    assert!(rt; read(&mut driver, &mut link, &mut port, 2) == Ok(0x3d));
+    assert!(rt; read(&mut driver, &mut link, &mut port, SR) == Ok(0x3d));
     assert!(rt; driver.unread().len() == 1);
-    assert!(rt; read(&mut driver, &mut link, &mut port, 1) == Err(RegFault::NoRegister));
+    assert!(rt; read(&mut driver, &mut link, &mut port, CMR) == Err(RegFault::NoRegister));
     Ok(())
 }
 
@@ -92,7 +93,7 @@ fn after_bus_off_the_window_is_gone(rt: HostRuntime) -> Result<(), Fail> {
     };
     assert!(rt; shown(&mut driver, &mut link) == Err(Stopped));
     assert!(rt; released(&mut driver, &mut link) == Err(ReleaseFault::Stopped));
-    assert!(rt; read(&mut driver, &mut link, &mut port, 29) == Ok(0));
+    assert!(rt; read(&mut driver, &mut link, &mut port, RMC) == Ok(0));
     assert!(rt; driver.unread() == [message(1)?].as_slice());
     assert!(rt; link.take() == Some(Up::Start(port.config())) && link.take().is_none());
     Ok(())
@@ -113,9 +114,9 @@ fn a_link_without_end_fills_the_ledger(rt: HostRuntime) -> Result<(), Fail> {
     };
     assert!(rt; shown(&mut driver, &mut end) == Ok(Some(Message::default())));
     assert!(rt; driver.unread().len() == 22);
-    assert!(rt; read(&mut driver, &mut end, &mut port, 29) == Ok(22));
+    assert!(rt; read(&mut driver, &mut end, &mut port, RMC) == Ok(22));
     assert!(rt; released(&mut driver, &mut end) == Ok(3));
     assert!(rt; driver.unread().len() == 21);
-    assert!(rt; read(&mut driver, &mut end, &mut port, 29) == Ok(22));
+    assert!(rt; read(&mut driver, &mut end, &mut port, RMC) == Ok(22));
     Ok(())
 }

@@ -2,6 +2,7 @@
 
 use super::controller::Controller;
 use super::given::{active, nothing_seen, two_seen};
+use sja_regs::address::{ACR0, AMR3, BUFFER, BUFFER_END, EWLR, IER, MOD, RMC, SR};
 use sja_regs::{RegFault, Register};
 use std::test::Fail;
 
@@ -21,7 +22,8 @@ const fn written(value: u8) -> Answers {
     (Ok(value), Ok(()))
 }
 
-/// What an address answers in reset mode, and out of it. Present mode bits are written to MOD, and 0 to all others.
+/// What an address answers in reset mode, and out of it, by the data sheet's numbers. Present mode bits are written to
+/// MOD, and 0 to all others.
 fn wanted(addr: u8) -> (Answers, Answers) {
     let command = (Err(RegFault::NoRegister), Err(RegFault::UseTyped));
     let limit = (Ok(0x60), Err(RegFault::ResetOnly));
@@ -50,7 +52,7 @@ fn each_address_answers_in_both_versions(rt: HostRuntime) {
     for number in 0..256u32 {
         let addr = (number & 0xff) as u8;
         let (in_reset, in_operation) = wanted(addr);
-        let mode = u8::from(addr == 0);
+        let mode = u8::from(addr == MOD);
         for version in [1, 2] {
             assert!(rt;
                 answers(Controller::new(version), addr, mode) == in_reset,
@@ -68,16 +70,16 @@ fn each_address_answers_in_both_versions(rt: HostRuntime) {
 #[test]
 fn registers_of_reset_mode_are_read_as_they_were_written(rt: HostRuntime) -> Result<(), Fail> {
     let mut port = Controller::new(1);
-    for addr in 16..=23 {
+    for addr in ACR0..=AMR3 {
         port.write(addr, 0xa0 + addr)?;
     }
-    port.write(4, 0x5a)?;
-    port.write(13, 0x80)?;
-    port.write(0, 0x09)?;
-    for addr in 16..=23 {
+    port.write(IER, 0x5a)?;
+    port.write(EWLR, 0x80)?;
+    port.write(MOD, 0x09)?;
+    for addr in ACR0..=AMR3 {
         assert!(rt; port.shows(&[(addr, 0xa0 + addr)]));
     }
-    assert!(rt; port.shows(&[(4, 0x5a), (13, 0x80), (0, 0x09)]));
+    assert!(rt; port.shows(&[(IER, 0x5a), (EWLR, 0x80), (MOD, 0x09)]));
     let config = port.config();
     assert!(rt; config.filter.single && !config.self_test && !config.listen);
     assert!(rt; config.filter.acr == [0xb0, 0xb1, 0xb2, 0xb3]);
@@ -91,13 +93,13 @@ fn messages_are_seen_in_the_receive_buffer(rt: HostRuntime) -> Result<(), Fail> 
     let mut port = active(1);
     let seen = two_seen()?;
     let bytes = [0x02, 0x24, 0x60, 0x11, 0x22, 0, 0, 0, 0, 0, 0, 0, 0];
-    for (addr, byte) in (16..29u8).zip(bytes) {
+    for (addr, byte) in (BUFFER..=BUFFER_END).zip(bytes) {
         assert!(rt; port.read(addr, &seen) == Ok(byte), "at {addr}");
     }
-    assert!(rt; port.read(29, &seen) == Ok(2));
-    assert!(rt; port.read(2, &seen) == Ok(0x3d));
+    assert!(rt; port.read(RMC, &seen) == Ok(2));
+    assert!(rt; port.read(SR, &seen) == Ok(0x3d));
     port.enter_reset();
-    assert!(rt; port.read(17, &seen) == Ok(0x00));
+    assert!(rt; port.read(BUFFER + 1, &seen) == Ok(0x00));
     Ok(())
 }
 

@@ -4,6 +4,7 @@ use super::given::{active, quiet};
 use can_bits::Segment;
 use can_node::{Cause, Phase};
 use sja_regs::BusTurn;
+use sja_regs::address::{ALC, ECC};
 
 /// A turn in which arbitration was lost at this place, and in which this was the fault.
 fn lost_at(place: u8, fault: (Cause, Segment)) -> BusTurn {
@@ -20,7 +21,7 @@ fn two_captures_without_a_read_between(rt: HostRuntime) {
     let mut port = active(1);
     port.bus_turn(&lost_at(12, (Cause::Form, Segment::EndOfFrame)));
     port.bus_turn(&lost_at(3, (Cause::Bit, Segment::StartOfFrame)));
-    assert!(rt; port.shows(&[(11, 12), (12, 0x7a)]));
+    assert!(rt; port.shows(&[(ALC, 12), (ECC, 0x7a)]));
 }
 
 /// A read allows the next capture, and the value stays until then. Each register has a read of its own.
@@ -28,11 +29,11 @@ fn two_captures_without_a_read_between(rt: HostRuntime) {
 fn two_captures_with_a_read_between(rt: HostRuntime) {
     let mut port = active(1);
     port.bus_turn(&lost_at(12, (Cause::Form, Segment::EndOfFrame)));
-    assert!(rt; port.shows(&[(11, 12), (11, 12)]));
+    assert!(rt; port.shows(&[(ALC, 12), (ALC, 12)]));
     port.bus_turn(&lost_at(3, (Cause::Bit, Segment::StartOfFrame)));
-    assert!(rt; port.shows(&[(11, 3), (12, 0x7a)]));
+    assert!(rt; port.shows(&[(ALC, 3), (ECC, 0x7a)]));
     port.bus_turn(&lost_at(4, (Cause::Bit, Segment::StartOfFrame)));
-    assert!(rt; port.shows(&[(11, 4), (12, 0x23)]));
+    assert!(rt; port.shows(&[(ALC, 4), (ECC, 0x23)]));
 }
 
 /// A read in reset mode allows the next capture too, and the values stay over reset mode.
@@ -41,12 +42,12 @@ fn captures_stay_over_reset_mode(rt: HostRuntime) {
     let mut port = active(1);
     port.bus_turn(&lost_at(12, (Cause::Form, Segment::EndOfFrame)));
     port.enter_reset();
-    assert!(rt; port.shows(&[(11, 12)]));
+    assert!(rt; port.shows(&[(ALC, 12)]));
     port.leave_reset();
     let mut turn = lost_at(3, (Cause::Bit, Segment::StartOfFrame));
     turn.activation = 2;
     port.bus_turn(&turn);
-    assert!(rt; port.shows(&[(11, 3), (12, 0x7a)]));
+    assert!(rt; port.shows(&[(ALC, 3), (ECC, 0x7a)]));
 }
 
 /// Kind of error, role and segment.
@@ -68,6 +69,6 @@ fn the_error_code_says_kind_role_and_segment(rt: HostRuntime) {
         turn.events.fault = Some((cause, segment));
         turn.events.receiving = receiving;
         port.bus_turn(&turn);
-        assert!(rt; port.shows(&[(12, want)]));
+        assert!(rt; port.shows(&[(ECC, want)]));
     }
 }

@@ -4,6 +4,9 @@ use super::controller::Controller;
 use super::given::{nothing_seen, quiet, sending, two_seen};
 use can_bits::Segment;
 use can_node::{Cause, Outcome};
+use sja_regs::address::{IER, IR, SR};
+use sja_regs::bits::is_set;
+use sja_regs::letters::WUI;
 use sja_regs::{BusTurn, Interrupts};
 use std::test::Fail;
 
@@ -33,7 +36,7 @@ fn causes() -> [(BusTurn, u8); 8] {
 /// A port with a request under way and these interrupts enabled.
 fn enabled(bits: u8) -> Result<Controller, Fail> {
     let mut port = sending()?;
-    port.write(4, bits)?;
+    port.write(IER, bits)?;
     Ok(port)
 }
 
@@ -42,7 +45,7 @@ fn an_interrupt_comes_where_it_is_enabled(rt: HostRuntime) -> Result<(), Fail> {
     for (turn, bit) in causes() {
         let mut port = enabled(bit)?;
         port.bus_turn(&turn);
-        assert!(rt; port.shows(&[(3, bit), (3, 0)]));
+        assert!(rt; port.shows(&[(IR, bit), (IR, 0)]));
     }
     Ok(())
 }
@@ -53,8 +56,8 @@ fn an_interrupt_that_is_not_enabled_is_lost(rt: HostRuntime) -> Result<(), Fail>
     for (turn, bit) in causes() {
         let mut port = enabled(!bit)?;
         port.bus_turn(&turn);
-        port.write(4, 0xff)?;
-        let pending = port.read(3, &seen)?;
+        port.write(IER, 0xff)?;
+        let pending = port.read(IR, &seen)?;
         assert!(rt; pending & bit == 0, "of {bit}");
     }
     Ok(())
@@ -65,8 +68,8 @@ fn a_pending_interrupt_stays_where_its_enable_bit_is_cleared(rt: HostRuntime) ->
     for (turn, bit) in causes() {
         let mut port = enabled(bit)?;
         port.bus_turn(&turn);
-        port.write(4, 0x00)?;
-        assert!(rt; port.shows(&[(3, bit), (3, 0)]));
+        port.write(IER, 0x00)?;
+        assert!(rt; port.shows(&[(IR, bit), (IR, 0)]));
     }
     Ok(())
 }
@@ -76,13 +79,13 @@ fn a_pending_interrupt_stays_where_its_enable_bit_is_cleared(rt: HostRuntime) ->
 fn the_receive_interrupt_stands_with_a_message(rt: HostRuntime) -> Result<(), Fail> {
     let mut port = enabled(0x01)?;
     let seen = two_seen()?;
-    assert!(rt; port.read(3, &nothing_seen()) == Ok(0x00));
-    assert!(rt; port.read(3, &seen) == Ok(0x01));
-    assert!(rt; port.read(3, &seen) == Ok(0x01));
-    port.write(4, 0xfe)?;
-    assert!(rt; port.read(3, &seen) == Ok(0x00));
-    port.write(4, 0x01)?;
-    assert!(rt; port.read(3, &seen) == Ok(0x01));
+    assert!(rt; port.read(IR, &nothing_seen()) == Ok(0x00));
+    assert!(rt; port.read(IR, &seen) == Ok(0x01));
+    assert!(rt; port.read(IR, &seen) == Ok(0x01));
+    port.write(IER, 0xfe)?;
+    assert!(rt; port.read(IR, &seen) == Ok(0x00));
+    port.write(IER, 0x01)?;
+    assert!(rt; port.read(IR, &seen) == Ok(0x01));
     Ok(())
 }
 
@@ -90,11 +93,11 @@ fn the_receive_interrupt_stands_with_a_message(rt: HostRuntime) -> Result<(), Fa
 #[test]
 fn the_wake_up_interrupt_never_comes(rt: HostRuntime) -> Result<(), Fail> {
     let mut port = enabled(0xff)?;
-    assert!(rt; port.shows(&[(4, 0xff)]));
+    assert!(rt; port.shows(&[(IER, 0xff)]));
     for (turn, _bit) in causes() {
         port.bus_turn(&turn);
-        let pending = port.read(3, &nothing_seen())?;
-        assert!(rt; pending & 0x10 == 0);
+        let pending = port.read(IR, &nothing_seen())?;
+        assert!(rt; !is_set(pending, WUI));
     }
     Ok(())
 }
@@ -106,13 +109,13 @@ fn an_overrun_is_told_once_until_it_is_cleared(rt: HostRuntime) -> Result<(), Fa
     let mut turn = quiet();
     turn.overrun = true;
     port.bus_turn(&turn);
-    assert!(rt; port.shows(&[(3, 0x08)]));
+    assert!(rt; port.shows(&[(IR, 0x08)]));
     port.bus_turn(&turn);
-    assert!(rt; port.shows(&[(3, 0x00), (2, 0x02)]));
+    assert!(rt; port.shows(&[(IR, 0x00), (SR, 0x02)]));
     port.command(0x08)?;
-    assert!(rt; port.shows(&[(2, 0x00)]));
+    assert!(rt; port.shows(&[(SR, 0x00)]));
     port.bus_turn(&turn);
-    assert!(rt; port.shows(&[(3, 0x08)]));
+    assert!(rt; port.shows(&[(IR, 0x08)]));
     Ok(())
 }
 

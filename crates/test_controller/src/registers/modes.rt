@@ -3,6 +3,9 @@
 use super::controller::Controller;
 use super::given::{active, quiet, request_for_zeros, zeros};
 use can_node::Outcome;
+use sja_regs::address::{MOD, SR};
+use sja_regs::bits::is_set;
+use sja_regs::letters::{AFM, LOM, STM};
 use sja_regs::{Command, Mode, RegFault};
 use std::test::Fail;
 
@@ -10,15 +13,15 @@ use std::test::Fail;
 #[test]
 fn both_modes_are_written_in_version_2_alone(rt: HostRuntime) {
     for value in [0x03, 0x05, 0x07, 0x0f, 0xff] {
-        assert!(rt; Controller::new(1).write(0, value) == Err(RegFault::NotInVersion));
+        assert!(rt; Controller::new(1).write(MOD, value) == Err(RegFault::NotInVersion));
         let mut port = Controller::new(2);
-        assert!(rt; port.write(0, value) == Ok(()));
-        assert!(rt; port.shows(&[(0, value & 0x0f)]));
-        assert!(rt; port.config().listen == (value & 0x02 != 0));
-        assert!(rt; port.config().self_test == (value & 0x04 != 0));
-        assert!(rt; port.config().filter.single == (value & 0x08 != 0));
+        assert!(rt; port.write(MOD, value) == Ok(()));
+        assert!(rt; port.shows(&[(MOD, value & 0x0f)]));
+        assert!(rt; port.config().listen == is_set(value, LOM));
+        assert!(rt; port.config().self_test == is_set(value, STM));
+        assert!(rt; port.config().filter.single == is_set(value, AFM));
     }
-    assert!(rt; Controller::new(1).write(0, 0xf9) == Ok(()));
+    assert!(rt; Controller::new(1).write(MOD, 0xf9) == Ok(()));
 }
 
 /// Another RM comes first, then what the version doesn't have, then what is written in reset mode alone.
@@ -37,11 +40,11 @@ fn a_mode_is_refused_for_the_first_reason(rt: HostRuntime) {
     ];
     for (version, value, want) in rows {
         let mut port = active(version);
-        assert!(rt; port.write(0, value) == Err(want), "{value}");
-        assert!(rt; port.shows(&[(0, 0x00)]));
-        assert!(rt; port.write(0, 0xf0) == Ok(()));
+        assert!(rt; port.write(MOD, value) == Err(want), "{value}");
+        assert!(rt; port.shows(&[(MOD, 0x00)]));
+        assert!(rt; port.write(MOD, 0xf0) == Ok(()));
     }
-    assert!(rt; Controller::new(1).write(0, 0x02) == Err(RegFault::UseTyped));
+    assert!(rt; Controller::new(1).write(MOD, 0x02) == Err(RegFault::UseTyped));
 }
 
 /// SRR makes a request that the node receives itself; TR with SRR ignores SRR.
@@ -64,7 +67,7 @@ fn self_reception_is_requested_in_version_2_alone(rt: HostRuntime) -> Result<(),
         assert!(rt; port.plan_command(value) == Ok(Some(request.copy())));
         assert!(rt; port.command(value) == Ok(Some(request)));
         assert!(rt; port.command(0x10) == Err(RegFault::Locked));
-        assert!(rt; port.shows(&[(2, 0x30)]));
+        assert!(rt; port.shows(&[(SR, 0x30)]));
     }
     Ok(())
 }
@@ -74,7 +77,7 @@ fn self_reception_is_requested_in_version_2_alone(rt: HostRuntime) -> Result<(),
 fn a_port_that_only_listens_sends_nothing(rt: HostRuntime) -> Result<(), Fail> {
     for mode in [0x03, 0x07] {
         let mut port = Controller::new(2);
-        port.write(0, mode)?;
+        port.write(MOD, mode)?;
         assert!(rt; port.command(0x01) == Err(RegFault::ActiveOnly));
         port.leave_reset();
         for value in [0x01, 0x03, 0x10, 0x11, 0x19] {
@@ -92,14 +95,14 @@ fn a_port_that_only_listens_sends_nothing(rt: HostRuntime) -> Result<(), Fail> {
 #[test]
 fn a_port_in_self_test_mode_sends(rt: HostRuntime) -> Result<(), Fail> {
     let mut port = Controller::new(2);
-    port.write(0, 0x05)?;
+    port.write(MOD, 0x05)?;
     port.leave_reset();
     port.load(&zeros())?;
     assert!(rt; port.command(0x01) == Ok(Some(request_for_zeros())));
     let mut turn = quiet();
     turn.events.ended = Some(Outcome::Sent);
     port.bus_turn(&turn);
-    assert!(rt; port.shows(&[(2, 0x0c)]));
+    assert!(rt; port.shows(&[(SR, 0x0c)]));
     Ok(())
 }
 

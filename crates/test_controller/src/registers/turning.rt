@@ -4,6 +4,7 @@ use super::controller::Controller;
 use super::given::{active, quiet, sending, two_seen};
 use can_bits::Segment;
 use can_node::{Cause, Outcome, Phase};
+use sja_regs::address::{ALC, ECC, EWLR, IER, IR, MOD, RMC, RXERR, SR, TXERR};
 use sja_regs::{BusTurn, Status};
 use std::test::Fail;
 
@@ -25,10 +26,10 @@ fn receive_and_transmit_status_follow_phase_and_role(rt: HostRuntime) {
         let mut turn = quiet();
         turn.phase = phase;
         port.bus_turn(&turn);
-        assert!(rt; port.shows(&[(2, receiver)]));
+        assert!(rt; port.shows(&[(SR, receiver)]));
         turn.events.receiving = false;
         port.bus_turn(&turn);
-        assert!(rt; port.shows(&[(2, transmitter)]));
+        assert!(rt; port.shows(&[(SR, transmitter)]));
     }
 }
 
@@ -39,20 +40,20 @@ fn a_warning_limit_written_in_reset_mode_moves_the_error_status(
 ) -> Result<(), Fail> {
     let mut port = Controller::new(1);
     let rows = [(0x00, 0x7c, 0x04), (0x01, 0x3c, 0x04), (0x02, 0x3c, 0x00)];
-    port.write(4, 0x04)?;
+    port.write(IER, 0x04)?;
     for (limit, status, interrupt) in rows {
-        port.write(13, limit)?;
-        assert!(rt; port.shows(&[(2, status), (3, interrupt)]));
+        port.write(EWLR, limit)?;
+        assert!(rt; port.shows(&[(SR, status), (IR, interrupt)]));
     }
     let mut turn = quiet();
     turn.rxerr = 0x32;
     port.bus_turn(&turn);
-    port.write(13, 0x32)?;
+    port.write(EWLR, 0x32)?;
     turn.phase = Phase::Reset;
     port.bus_turn(&turn);
-    assert!(rt; port.shows(&[(2, 0x7c)]));
-    port.write(13, 0x33)?;
-    assert!(rt; port.shows(&[(2, 0x3c)]));
+    assert!(rt; port.shows(&[(SR, 0x7c)]));
+    port.write(EWLR, 0x33)?;
+    assert!(rt; port.shows(&[(SR, 0x3c)]));
     Ok(())
 }
 
@@ -69,13 +70,21 @@ fn counted(txerr: u8, phase: Phase) -> BusTurn {
 #[test]
 fn a_single_shot_that_fails_leaves_tcs_at_0(rt: HostRuntime) -> Result<(), Fail> {
     let mut port = active(1);
-    port.write(4, 0x02)?;
+    port.write(IER, 0x02)?;
     port.command(0x03)?;
     let mut turn = counted(8, Phase::Flag);
     turn.events.fault = Some((Cause::Ack, Segment::AckSlot));
     turn.events.ended = Some(Outcome::Failed);
     port.bus_turn(&turn);
-    assert!(rt; port.shows(&[(2, 0x24), (3, 0x02), (12, 0xd9), (15, 0x08), (14, 0x00)]));
+    assert!(rt;
+        port.shows(&[
+            (SR, 0x24),
+            (IR, 0x02),
+            (ECC, 0xd9),
+            (TXERR, 0x08),
+            (RXERR, 0x00)
+        ])
+    );
     Ok(())
 }
 
@@ -83,15 +92,21 @@ fn a_single_shot_that_fails_leaves_tcs_at_0(rt: HostRuntime) -> Result<(), Fail>
 #[test]
 fn bus_off_enters_reset_mode(rt: HostRuntime) -> Result<(), Fail> {
     let mut port = sending()?;
-    port.write(4, 0xff)?;
+    port.write(IER, 0xff)?;
     port.command(0x02)?;
     port.bus_turn(&counted(248, Phase::Idle));
-    assert!(rt; port.shows(&[(3, 0x24)]));
+    assert!(rt; port.shows(&[(IR, 0x24)]));
     let mut turn = counted(127, Phase::Reset);
     turn.events.went_off = true;
     turn.events.fault = Some((Cause::Bit, Segment::StartOfFrame));
     port.bus_turn(&turn);
-    let rows = [(0, 0x01), (2, 0xf4), (3, 0xa4), (12, 0x03), (15, 0x7f)];
+    let rows = [
+        (MOD, 0x01),
+        (SR, 0xf4),
+        (IR, 0xa4),
+        (ECC, 0x03),
+        (TXERR, 0x7f),
+    ];
     assert!(rt; port.shows(&rows));
     assert!(rt; !port.orders().abort);
     Ok(())
@@ -105,16 +120,16 @@ fn bus_off_ends_with_an_error_warning_interrupt(rt: HostRuntime) -> Result<(), F
     turn.events.went_off = true;
     port.bus_turn(&turn);
     port.leave_reset();
-    port.write(4, 0x04)?;
+    port.write(IER, 0x04)?;
     turn = counted(127, Phase::Waiting);
     turn.activation = 2;
     port.bus_turn(&turn);
-    assert!(rt; port.shows(&[(2, 0xfc), (3, 0x00)]));
+    assert!(rt; port.shows(&[(SR, 0xfc), (IR, 0x00)]));
     turn = counted(0, Phase::Idle);
     turn.activation = 2;
     turn.events.recovered = true;
     port.bus_turn(&turn);
-    assert!(rt; port.shows(&[(2, 0x0c), (3, 0x04)]));
+    assert!(rt; port.shows(&[(SR, 0x0c), (IR, 0x04)]));
     Ok(())
 }
 
@@ -135,20 +150,20 @@ fn a_turn_of_an_activation_that_was_left_ends_no_request(rt: HostRuntime) -> Res
     let mut port = active(1);
     port.enter_reset();
     port.leave_reset();
-    port.write(4, 0xff)?;
+    port.write(IER, 0xff)?;
     port.command(0x01)?;
     port.bus_turn(&eventful(1));
     let rows = [
-        (0, 0x00),
-        (2, 0x60),
-        (3, 0x24),
-        (11, 0x00),
-        (12, 0x00),
-        (15, 0x80),
+        (MOD, 0x00),
+        (SR, 0x60),
+        (IR, 0x24),
+        (ALC, 0x00),
+        (ECC, 0x00),
+        (TXERR, 0x80),
     ];
     assert!(rt; port.shows(&rows));
     port.bus_turn(&eventful(2));
-    let rows = [(2, 0x6e), (3, 0xca), (11, 0x07), (12, 0x0a)];
+    let rows = [(SR, 0x6e), (IR, 0xca), (ALC, 0x07), (ECC, 0x0a)];
     assert!(rt; port.shows(&rows));
     Ok(())
 }
@@ -156,10 +171,16 @@ fn a_turn_of_an_activation_that_was_left_ends_no_request(rt: HostRuntime) -> Res
 #[test]
 fn a_turn_into_reset_mode_brings_no_event(rt: HostRuntime) -> Result<(), Fail> {
     let mut port = active(1);
-    port.write(4, 0xff)?;
+    port.write(IER, 0xff)?;
     port.enter_reset();
     port.bus_turn(&eventful(1));
-    let rows = [(0, 0x01), (2, 0x6c), (3, 0x24), (11, 0x00), (12, 0x00)];
+    let rows = [
+        (MOD, 0x01),
+        (SR, 0x6c),
+        (IR, 0x24),
+        (ALC, 0x00),
+        (ECC, 0x00),
+    ];
     assert!(rt; port.shows(&rows));
     Ok(())
 }
@@ -175,7 +196,7 @@ fn an_abort_stands_until_the_request_ends(rt: HostRuntime) -> Result<(), Fail> {
     turn.aborted = true;
     port.bus_turn(&turn);
     assert!(rt; !port.orders().abort);
-    assert!(rt; port.shows(&[(2, 0x04)]));
+    assert!(rt; port.shows(&[(SR, 0x04)]));
     Ok(())
 }
 
@@ -183,7 +204,7 @@ fn an_abort_stands_until_the_request_ends(rt: HostRuntime) -> Result<(), Fail> {
 fn shown(port: &mut Controller) -> Result<[u8; 10], Fail> {
     let seen = two_seen()?;
     let mut values = [0; 10];
-    let addresses = [0, 2, 4, 11, 12, 13, 14, 15, 29, 3];
+    let addresses = [MOD, SR, IER, ALC, ECC, EWLR, RXERR, TXERR, RMC, IR];
     for (value, addr) in values.iter_mut().zip(addresses) {
         *value = port.read(addr, &seen)?;
     }
@@ -193,7 +214,7 @@ fn shown(port: &mut Controller) -> Result<[u8; 10], Fail> {
 #[test]
 fn a_quiet_turn_told_again_changes_nothing(rt: HostRuntime) -> Result<(), Fail> {
     let mut port = sending()?;
-    port.write(4, 0xff)?;
+    port.write(IER, 0xff)?;
     port.bus_turn(&counted(97, Phase::Frame));
     shown(&mut port)?;
     let before = shown(&mut port)?;
