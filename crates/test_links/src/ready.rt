@@ -3,17 +3,17 @@
 ghost use Rattle.std.specs.Prelude.{◌≡◌, ◌+◌, ◌<◌, true, length};
 ghost use Rattle.sja_driver.specs.Holding.{NumberedFrom};
 
-use sja_link::{DriverEnd, LinkId};
+use sja_link::{DriverEnd, LINKS_PER_NODE, LinkId};
 
 /// Whether these are the ends of a node's eight links, by activation.
 pub fn are_links_of_node<E: DriverEnd>(ends: &[E], node: u8) -> bool
     ensures count { result ≡ true → length ends.now ≡ 8 }
     ensures ids { result ≡ true → NumberedFrom E.link ends.now 0 node }
 {
-    if ends.len() != 8 {
+    if ends.len() != LINKS_PER_NODE {
         return false;
     }
-    for place in 0..8 {
+    for place in 0..LINKS_PER_NODE {
         let id = LinkId {
             node,
             activation: place as u8 + 1,
