@@ -2,6 +2,7 @@
 
 use super::station::Station;
 use can_frame::{Frame, Message};
+use sja_link::RECEIVE_FIFO;
 use std::alloc::Global;
 
 /// The bits of the longest kind of frame with intermission, and the bit in which it is asked for again.
@@ -13,8 +14,8 @@ const WAITING: u32 = 11;
 /// How many frames a bus is run for at most: a run has at most 200,000 bits.
 const FRAMES: u32 = 1_300;
 
-/// How many messages a node's receive FIFO holds at most: its 64 bytes have room for so many of three bytes.
-const MOST_HELD: u32 = 21;
+/// How many messages a node's receive FIFO holds at most: so many of three bytes.
+const MOST_HELD: u32 = RECEIVE_FIFO as u32 / 3;
 
 /// A bus, how many of its nodes send, and whether the bits in which every node is at rest are run at once.
 #[derive(Clone, Copy)]

@@ -6,12 +6,13 @@ use super::running::{run_bits, run_bits_at_once};
 use can_frame::{Message, OutOfMemory};
 use sja_bus::{Bus, SerialBoard, are_links_of, serial_links};
 use sja_driver::{Active, Driver};
-use sja_link::{DequeLink, DriverEnd};
-use sja_script::FaultScript;
+use sja_link::{DequeLink, DriverEnd, first_link};
+use sja_regs::letters;
+use sja_script::{FaultScript, MOST_NODES};
 use std::alloc::Global;
 
 /// The command that requests a transmission (SJA1000 data sheet, 6.4.4).
-const TRANSMIT: u8 = 0x01;
+const TRANSMIT: u8 = 1 << letters::TR;
 
 /// A bus in one thread with a driver out of reset for each node.
 #[derive(Drop)]
@@ -28,7 +29,7 @@ impl Station {
     /// So many started nodes, each of which receives every frame, for so many bits. Nothing where memory was refused,
     /// and where there are no such buses.
     pub fn new(alloc: Global, nodes: u8, bits: u32) -> Option<Station> {
-        if nodes == 0 || nodes > 8 || bits == 0 || bits > 200_000 {
+        if nodes == 0 || nodes > MOST_NODES || bits == 0 || bits > 200_000 {
             return None;
         }
         let bus = plain_bus(alloc, nodes, bits).ok()?;
@@ -54,7 +55,7 @@ impl Station {
         let Some(driver) = self.drivers.get_mut(node) else {
             return;
         };
-        let Some(link) = self.links.get_mut(8 * (node % 8)) else {
+        let Some(link) = self.links.get_mut(first_link(node % MOST_NODES as usize)) else {
             return;
         };
         let Some(port) = self.board.ports.get_mut(node) else {
@@ -70,7 +71,7 @@ impl Station {
         let Some(driver) = self.drivers.get_mut(node) else {
             return false;
         };
-        let Some(link) = self.links.get_mut(8 * (node % 8)) else {
+        let Some(link) = self.links.get_mut(first_link(node % MOST_NODES as usize)) else {
             return false;
         };
         DriverEnd::id(link) == driver.link() && driver.release(link).is_ok()
@@ -104,7 +105,7 @@ fn plain_bus(alloc: Global, nodes: u8, bits: u32) -> Result<Bus, OutOfMemory>
 /// The driver of this node, started on its first link.
 fn started(node: u8, links: &mut [DequeLink], board: &mut SerialBoard) -> Option<Driver<Active>> {
     let driver = Driver::new(node);
-    let link = links.get_mut(8 * usize::from(node))?;
+    let link = links.get_mut(first_link(usize::from(node)))?;
     let port = board.ports.get_mut(usize::from(node))?;
     if Some(DriverEnd::id(link)) != driver.next_link() {
         return None;
