@@ -1,7 +1,7 @@
 //! Plans.
 
-ghost use Rattle.std.specs.Prelude.{◌≡◌, ◌<◌, length, slice_index_or, []};
-ghost use Rattle.sja_plan.specs.Plan.{IsInLimits};
+ghost use Rattle.std.specs.Prelude.{◌≡◌, ◌<◌, ◌≤◌, length, slice_index_or, [], All};
+ghost use Rattle.sja_plan.specs.Plan.{IsInLimits, NamesNode, IsStrikeOn, times_in};
 
 use super::turn::Turn;
 use sja_script::{Step, Strike};
@@ -52,45 +52,58 @@ impl Model for Plan {
 }
 
 impl Plan {
-    /// The version of the plan's rules: 2 has self test, self reception and listen only beside all of 1.
+    /// The version of the plan's rules, 1 or 2: 2 has self test, self reception and listen only beside all of 1.
     pub fn version(&self) -> u8
-        ensures { result ≡ self.now.version }
+        ensures value { result ≡ self.now.version }
+        ensures least { 1 ≤ result }
+        ensures most { result ≤ 2 }
     {
         self.version
     }
 
-    /// How many bits the run has at most.
+    /// How many bits the run has at most: 1 to 200,000. A plan with bits is within all limits.
     pub fn bits(&self) -> u32
-        ensures { result ≡ self.now.bits }
+        ensures value { result ≡ self.now.bits }
+        ensures some { 1 ≤ result }
+        ensures few { result ≤ 200000 }
+        ensures limits { IsInLimits self.now }
     {
         self.bits
     }
 
-    /// How many nodes there are.
+    /// How many nodes there are: 1 to 8. A plan with nodes is within all limits.
     pub fn nodes(&self) -> usize
-        ensures { result ≡ length self.now.nodes }
+        ensures value { result ≡ length self.now.nodes }
+        ensures some { 1 ≤ result }
+        ensures few { result ≤ 8 }
+        ensures limits { IsInLimits self.now }
     {
         self.nodes.len()
     }
 
-    /// The steps of the driver of a node, counted from 0.
+    /// The steps of the driver of a node, counted from 0: at most 1,000.
     pub fn steps(&self, node: usize) -> &[Step]
         requires { node < length self.now.nodes }
-        ensures { result.now ≡ slice_index_or self.now.nodes node [] }
+        ensures value { result.now ≡ slice_index_or self.now.nodes node [] }
+        ensures few { length result.now ≤ 1000 }
     {
         self.nodes[node].as_slice()
     }
 
-    /// The turns of a serial run.
+    /// The turns of a serial run: at most 10,000. Each turn of a node names one that is there.
     pub fn turns(&self) -> &[Turn]
-        ensures { result.now ≡ self.now.turns }
+        ensures value { result.now ≡ self.now.turns }
+        ensures few { length result.now ≤ 10000 }
+        ensures there { All (NamesNode (length self.now.nodes)) result.now }
     {
         self.turns.as_slice()
     }
 
-    /// The strikes.
+    /// The strikes, which strike at most 1,000 bits. Each is at a node that is there, and strikes one bit at least.
     pub fn strikes(&self) -> &[Strike]
-        ensures { result.now ≡ self.now.strikes }
+        ensures value { result.now ≡ self.now.strikes }
+        ensures few { times_in result.now ≤ 1000 }
+        ensures there { All (IsStrikeOn (length self.now.nodes)) result.now }
     {
         self.strikes.as_slice()
     }

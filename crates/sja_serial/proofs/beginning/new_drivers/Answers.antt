@@ -15,7 +15,7 @@ loop-node-preserved c =
     let node = c.loop-node.node in
     let own : c.new-in-loop-node.result.node ≡ node = c.new-in-loop-node.ensures.node in
     let room : HasRoom (length (steps_at c.args.plan.now node)) c.in_ok-log.log = subst
-    (λ (l : List Step). HasRoom (length l) c.in_ok-log.log) c.steps.ensures c.in_ok-log.ensures.room in
+    (λ (l : List Step). HasRoom (length l) c.in_ok-log.log) c.steps.ensures.value c.in_ok-log.ensures.room in
     let is : IsNewDriver node (length (steps_at c.args.plan.now node)) x = record {
       own = own;
       empty = subst (λ (l : WorkLog). IsEmpty l) (sym c.new-in-loop-node.ensures.log) c.in_ok-log.ensures.empty;

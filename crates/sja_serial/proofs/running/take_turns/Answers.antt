@@ -16,11 +16,11 @@ one c = slice_index_or c.turns-turn-items.result.now c.loop-turn.turn-index (Bus
 -- it is one of the plan's
 is_there : (c : In-loop-turn) → c.loop-turn.turn-index < length c.args.plan.now.turns
 is_there c =
-    let same = ap (λ l. length l) c.turns-turn-items.ensures in let t = c.loop-turn-test.true in
+    let same = ap (λ l. length l) c.turns-turn-items.ensures.value in let t = c.loop-turn-test.true in
     omega (arith, same, t)
 
 is_one : (c : In-loop-turn) → slice_index_or c.args.plan.now.turns c.loop-turn.turn-index (Bus 0) ≡ one c
-is_one c = ap (λ l. slice_index_or l c.loop-turn.turn-index (Bus 0)) (sym c.turns-turn-items.ensures)
+is_one c = ap (λ l. slice_index_or l c.loop-turn.turn-index (Bus 0)) (sym c.turns-turn-items.ensures.value)
 
 -- and names a node that is there
 names : (c : In-loop-turn) → NamesNode (length c.args.plan.now.nodes) (one c)
@@ -59,6 +59,6 @@ returns-then-not-take_one c =
 pub returns : goal.returns
 returns c =
     let plan = c.args.plan.now in let i = c.loop-turn.turn-index in
-    let same = ap (λ l. length l) c.turns-turn-items.ensures in let t = c.loop-turn-test.false in
+    let same = ap (λ l. length l) c.turns-turn-items.ensures.value in let t = c.loop-turn-test.false in
     let all : take i plan.turns ≡ plan.turns = take_all i plan.turns (omega (arith, same, t)) in
     end_all plan (take i plan.turns) c.loop-turn.run c.loop-turn.invariant all

@@ -23,7 +23,7 @@ try_next-requires-clause-left c = λ deeds h.
     let d : length c.done-done.result.now ≡ length (deeds_at deeds c.args.node) =
     ap (λ l. length l) (c.done-done.ensures ∙ ap done_in c.log.ensures) ∙ n in
     let s : length c.steps.result.now ≡ length (steps_at c.args.plan.now c.args.node) =
-    ap (λ l. length l) c.steps.ensures in
+    ap (λ l. length l) c.steps.ensures.value in
     let less = c.if-done-steps.false in omega (arith, d, s, less)
 
 pub loop-preserved : goal.loop-preserved
@@ -47,7 +47,7 @@ returns-then-done-steps c = record {
       let d : length c.done-done.result.now ≡ length (deeds_at (with_deeds deeds c.args.node s.more) c.args.node) =
       ap (λ l. length l) (c.done-done.ensures ∙ ap done_in c.log.ensures) ∙ n in
       let all : length c.steps.result.now ≡ length (steps_at c.args.plan.now c.args.node) =
-      ap (λ l. length l) c.steps.ensures in
+      ap (λ l. length l) c.steps.ensures.value in
       let most = c.if-done-steps.true in let few = c.loop-test.true in
       turn_stuck c.args.plan.now (run_now c.args.bus.now c.args.drivers.now c.args.ports.now c.args.links.now
       c.args.bits) (run_now c.loop.bus c.loop.drivers c.loop.ports c.loop.links c.args.bits)

@@ -84,7 +84,7 @@ returns c =
     let is : c.index-steps-at.result ≡ slice_index_or (steps_at c.args.plan.now node) (length (deeds_at deeds node))
     c.index-steps-at.result =
     c.index-steps-at.is ∙ ap (λ l. slice_index_or l (length c.done-at.result.now) c.index-steps-at.result)
-    c.steps.ensures
+    c.steps.ensures.value
     ∙ ap (λ m. slice_index_or (steps_at c.args.plan.now node) m c.index-steps-at.result) many_done in
     let few : node < length c.args.ports.now = let e = h.count.ports in omega (arith, e, there) in
     let facts : RegisterFacts p = subst (λ (x : Registers). RegisterFacts x)

@@ -42,8 +42,8 @@ log_made c right =
     c.finish-logs.result.items c.in-Ok.apart.drivers.items c.as_slice.result.now c.in-Ok.apart.ends.items
     c.in_ok-lists.lists.items c.as_slice-2.result.now c.in-Ok-node_runs.nodes.items c.version.result c.args.bits
     c.in-Ok.ensures.drivers c.as_slice.ensures.value c.in-Ok.ensures.ends c.as_slice-2.ensures.value
-    c.in-Ok-node_runs.ensures c.in_ok-lists.ensures.left c.of-in-Ok-node_runs.ensures c.version.ensures c.requires.bits
-    f.journals (f.lawful right) (f.counters right)
+    c.in-Ok-node_runs.ensures c.in_ok-lists.ensures.left c.of-in-Ok-node_runs.ensures c.version.ensures.value
+    c.requires.bits f.journals (f.lawful right) (f.counters right)
 
 pub returns-in-Ok-node_runs-clause-run : goal.returns-in-Ok-node_runs-clause-run
 returns-in-Ok-node_runs-clause-run c = λ deeds over.

@@ -41,7 +41,7 @@ returns c =
     record {
       log = subst P c.self.view_is (λ deeds h.
           log_of_run c.args.plan.now now deeds c.args.end c.of.result logs h (ap (λ (l : RunValue). l.version) is
-          ∙ c.version.ensures) (ap (λ (l : RunValue). l.bits) is) (ap (λ (l : RunValue). l.end) is)
+          ∙ c.version.ensures.value) (ap (λ (l : RunValue). l.bits) is) (ap (λ (l : RunValue). l.end) is)
           (subst (λ (ns : List NodeValue). AreNodeEnds logs b.drivers.items (all_down b.links.items)
           (length b.drivers.items) ns) (sym (ap (λ (l : RunValue). l.nodes) is)) all)
           c.finish-logs.ensures.journals (c.finish-logs.ensures.lawful h.right)

@@ -7,8 +7,8 @@ pub returns-clause-turn : goal.returns-clause-turn
 returns-clause-turn c = λ deeds h.
     let n = c.run_busy_bits.new.self in let t = c.run_busy_bits.ensures.bits deeds h in
     let s = stands_bits c.args.plan.now deeds (SomeWorks c.args.plan.now) c.args.self.now n c.run_busy_bits.result t h in
-    rest_so c.args.plan.now deeds c.args.self.now n c.run_busy_bits.result c.bits.result c.rests.result h t c.bits.ensures
-    c.run_busy_bits.ensures.whole (λ yes. all_rest c.args.plan.now n deeds s (c.rests.ensures.rest s.right yes))
+    rest_so c.args.plan.now deeds c.args.self.now n c.run_busy_bits.result c.bits.result c.rests.result h t
+    c.bits.ensures.value c.run_busy_bits.ensures.whole (λ yes. all_rest c.args.plan.now n deeds s (c.rests.ensures.rest s.right yes))
     (λ no. some_works c.args.plan.now n deeds s (c.rests.ensures.busy s.right no))
 
 pub returns-clause-stays : goal.returns-clause-stays

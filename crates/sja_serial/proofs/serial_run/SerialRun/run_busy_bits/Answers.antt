@@ -35,7 +35,7 @@ will_be c many = let b = c.self.inside in
     λ i. run_now c.bits-2.new.self b.drivers.items c.bits-2.new.board.ports.items (sym l i) (b.bits + many)
 
 most_is : (c : After-bits-2) → c.min-most.result ≡ min c.args.count (c.args.plan.now.bits - c.self.inside.bits)
-most_is c = c.min-most.ensures ∙ ap (λ k. min c.args.count (k - c.self.inside.bits)) c.bits.ensures
+most_is c = c.min-most.ensures ∙ ap (λ k. min c.args.count (k - c.self.inside.bits)) c.bits.ensures.value
 
 pub unreachable-requires : goal.unreachable-requires
 unreachable-requires c = let b = c.self.inside in let at = (goal.at.unreachable-requires c).After-bits-2 in

@@ -1,0 +1,18 @@
+use Rattle.std.proofs.Common.{◌≡◌, ◌<◌, ◌≤◌, ◌∙◌, List, [], length, map, ap, sym, arith}
+use Rattle.std.proofs.lemmas.List.{get_or-map, length-map}
+use Rattle.std.proofs.lemmas.List.Elements.{All-get_or}
+use Rattle.sja_script.specs.declared.step.Step.{Step}
+use Rattle.sja_plan.specs.Plan.{PlanValue}
+use Rattle.sja_plan.proofs.plan.Plan.steps.Goals as goal
+
+pub returns-clause-few : goal.returns-clause-few
+returns-clause-few c =
+    let lists = c.self.inside.nodes.items in
+    let all : List (List Step) = map (λ steps. steps.items) lists in
+    let same : length all ≡ length c.args.self.now.nodes =
+    ap (λ (plan : PlanValue). length plan.nodes) c.self.view_is in
+    let there : c.args.node < length lists = omega (arith, c.requires, same, length-map lists (λ steps. steps.items)) in
+    let is = c.as_slice.ensures.value ∙ ap (λ steps. steps.items) c.index.ensures
+    ∙ sym (get_or-map (λ steps. steps.items) lists c.args.node c.index.result.now [] there) in
+    rw is (All-get_or (λ (steps : List Step). length steps ≤ 1000) all c.args.node []
+    (omega (arith, c.requires, same)) c.self.invariant.steps)
