@@ -93,22 +93,22 @@ all_dry dry (s ∷ seats) links ready read = λ node d few run.
 node_bit : (has_orders : Orders → Type 0) (was_told : BusTurn → Type 0) (was_kept : Type 0) (untold : Bool) (old opened new : Seat) (seen : Level) →
     untold ≡ is_untold old.untold → old.untold ≢ Dropped → Opens has_orders old.journal.entries opened.journal.entries → OpensUntold old opened → Turns was_told was_kept seen opened new →
     IsNodeBit has_orders was_told was_kept untold old.journal.entries new.journal.entries opened.drives seen
-node_bit has_orders was_told was_kept untold old opened new seen is calm opens untold turns =
-    let changed : untold.aborts.changed ≡ opens.aborts.changed =
-    changed_once old.journal.entries untold.taken opens.taken opened.journal.entries untold.items untold.aborts opens.items opens.aborts in
+node_bit has_orders was_told was_kept untold old opened new seen is calm opens tells turns =
+    let changed : tells.aborts.changed ≡ opens.aborts.changed =
+    changed_once old.journal.entries tells.taken opens.taken opened.journal.entries tells.items tells.aborts opens.items opens.aborts in
     let P : Bool → Type 0 = λ c. Drops c opened.journal.entries (is_dropped opened.untold) in record {
       opened = opened.journal.entries;
       opens = opens;
       bit = turns.bit;
       turn = turns.turn;
-      is_turn = turns.is_turn opens.aborts.changed (subst P changed (untold.drops calm));
+      is_turn = turns.is_turn opens.aborts.changed (subst P changed (tells.drops calm));
       port = port turns.port;
     }
   where
     port : was_told turns.turn ⊎ (was_kept × (opened.untold ≡ Nothing) × SaysAlone opened.journal.entries turns.turn) → was_told turns.turn ⊎ IsPassedOver was_kept untold old.journal.entries opened.journal.entries turns.turn
     port (inl told) = inl told
     port (inr (kept, none, alone)) =
-        let s = untold.still none in
+        let s = tells.still none in
         let Q : List Entry → Type 0 = λ j. SaysAlone j turns.turn in
         inr (record { kept = kept; told = is ∙ ap is_untold s.0; same = s.1; alone = subst Q s.1 alone })
 

@@ -68,12 +68,12 @@ bit_untold orders_are was_told was_kept script n untold another before after sam
 pub stretch_taken : (orders_are : ℕ → Orders → Type 0) (was_told : ℕ → BusTurn → Type 0) (was_kept : ℕ → Type 0) (script : List Strike) (run count : ℕ) (untold now : List Bool) (before mid after : List (List Entry)) →
     length mid ≡ length before → EachJournal MayHaveItems before mid → EachUntold untold now before mid →
     IsStretch orders_are was_told was_kept script run count now mid after → IsStretch orders_are was_told was_kept script run count untold before after
-stretch_taken orders_are was_told was_kept script run count untold now before mid after len items untold h =
+stretch_taken orders_are was_told was_kept script run count untold now before mid after len items tells h =
     let same : mid ≡ before =
     lists_same [] before mid len
-    (λ i few. none_taken (journal_at before i) (journal_at mid i) (untold_at untold i) (untold_at now i) (items i few) (untold i few) (h.told i (omega (arith, few, len)))) in
+    (λ i few. none_taken (journal_at before i) (journal_at mid i) (untold_at untold i) (untold_at now i) (items i few) (tells i few) (h.told i (omega (arith, few, len)))) in
     let told : (node : ℕ) → node < length before → untold_at untold node ≡ false =
-    λ node few. was_told_before (untold_at untold node) (untold_at now node) (untold node few).stays (h.told node (omega (arith, few, len))) in record {
+    λ node few. was_told_before (untold_at untold node) (untold_at now node) (tells node few).stays (h.told node (omega (arith, few, len))) in record {
       told = told;
       grown = h.grown ∙ ap (λ l. with_recessive count l) same;
       bits = λ i early.
@@ -151,8 +151,8 @@ pub stretch_rest : (orders_are : ℕ → Orders → Type 0) (was_told : ℕ → 
     EachJournal MayHaveItems before mid → EachUntold untold now before mid →
     IfOk r (λ n. n ≢ 0 → IsStretch orders_are was_told was_kept script_now run_now n now mid after) →
     IfOk r (λ n. n ≢ 0 → IsStretch orders_are was_told was_kept script run n untold before after)
-stretch_rest orders_are was_told was_kept script script_now run run_now (Ok n) untold now before mid after same_script same_run len items untold h = λ ne.
+stretch_rest orders_are was_told was_kept script script_now run run_now (Ok n) untold now before mid after same_script same_run len items tells h = λ ne.
     let P : List Strike → Type 0 = λ x. IsStretch orders_are was_told was_kept x run n now mid after in
     let Q : ℕ → Type 0 = λ k. IsStretch orders_are was_told was_kept script_now k n now mid after in
-    stretch_taken orders_are was_told was_kept script run n untold now before mid after len items untold (subst P same_script (subst Q same_run (h ne)))
-stretch_rest orders_are was_told was_kept script script_now run run_now (Err f) untold now before mid after same_script same_run len items untold h = tt
+    stretch_taken orders_are was_told was_kept script run n untold now before mid after len items tells (subst P same_script (subst Q same_run (h ne)))
+stretch_rest orders_are was_told was_kept script script_now run run_now (Err f) untold now before mid after same_script same_run len items tells h = tt

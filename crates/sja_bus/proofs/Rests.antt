@@ -108,7 +108,7 @@ ends_awake count n now (s ∷ seats) journals told ready one =
     let near : k < length (journals_of all) = omega (arith, few, c) in
     let here : k < length now.journals = omega (arith, near, size) in
     elim (one.2 s) [
-      | inl untold ↦ untold k here (ap (λ u. untold_at u k) told ∙ untold_is all k s few ∙ has_untold (slice_index_or all k s).untold untold)
+      | inl some ↦ untold k here (ap (λ u. untold_at u k) told ∙ untold_is all k s few ∙ has_untold (slice_index_or all k s).untold some)
       | inr shows ↦ busy k here (subst (λ (j : List (List Entry)). RestsAs (record_of (journal_at j k)) false) (sym journals)
           (rests_at all false k ready near (λ e. subst (λ (x : Seat). ShowsRest x.node false) (or_same all k s e few) shows)))
     ]

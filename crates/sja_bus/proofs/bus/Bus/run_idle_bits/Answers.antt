@@ -16,8 +16,8 @@ use Rattle.sja_bus.proofs.RanOn.{bus_with}
 use Rattle.sja_bus.proofs.Running.{count_is}
 use Rattle.sja_bus.proofs.Rests.{ends_awake}
 use Rattle.sja_bus.proofs.Stretches.{after_untold, room_after, bus_after, stretch_after, ends_quiet, out_of_entries}
-use Rattle.sja_bus.proofs.bus.Bus.rest.Goals.{After-all_enter_idle_bits, In-Ok, then-bits-eq0-via-then-bits-eq0, then-bits-eq0-via-else-bits-eq0+then-not-are_resting}
-use Rattle.sja_bus.proofs.bus.Bus.rest.Goals as goal
+use Rattle.sja_bus.proofs.bus.Bus.run_idle_bits.Goals.{After-all_enter_idle_bits, In-Ok, then-bits-eq0-via-then-bits-eq0, then-bits-eq0-via-else-bits-eq0+then-not-are_resting}
+use Rattle.sja_bus.proofs.bus.Bus.run_idle_bits.Goals as goal
 
 -- as many seats as before
 same_count : (g : _) (c : After-all_enter_idle_bits g) → length c.all_enter_idle_bits.new.seats ≡ length c.self.inside.seats.items
