@@ -37,7 +37,7 @@ use Rattle.sja_bus.specs.Inside.Following.{Follows}
 use Rattle.sja_bus.specs.Inside.Seats.{IsSound, IsReady}
 use Rattle.sja_bus.specs.Inside.Turning.{OpensUntold, Turns}
 use Rattle.sja_bus.specs.Inside.Idling.{IsResting, after_bits}
-use Rattle.sja_bus.proofs.Bits.{items_none}
+use Rattle.sja_bus.proofs.NodeBit.{items_none}
 use Rattle.sja_bus.proofs.Lawfuls.{now_once}
 use Rattle.sja_bus.proofs.Quiet.{quiet_sound}
 use Rattle.sja_bus.proofs.Turning.{quiet_turns, drops_none}

@@ -22,7 +22,7 @@ use Rattle.sja_bus.specs.declared.untold.Untold.TheVariants.{Nothing, Changed, D
 use Rattle.sja_bus.specs.Inside.Turning.{is_untold, is_dropped, TakesUntold, OpensUntold, Drops, Turns}
 use Rattle.sja_bus.specs.Inside.Rows.{AreReady, AreCalm, EachSeat, SeatTakes, SeatUntold, GoesAll, AllRead, journals_of, untold_of, driven_by, seen_by}
 use Rattle.sja_bus.specs.Inside.Whole.{IsRowBit}
-use Rattle.sja_bus.proofs.Bits.{changed_once}
+use Rattle.sja_bus.proofs.NodeBit.{changed_once}
 use Rattle.sja_bus.proofs.Running.{journal_is, untold_is, count_is, driven_at_place, seen_right, wired_opened, wired_ticked}
 
 pub keeps_all : {E : Type 0} (same : E → E → Type 0) (stands : E → Lists → Type 0) (seats after : List Seat) (links links_after : List E) → length after ≡ length seats →

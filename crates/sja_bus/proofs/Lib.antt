@@ -12,7 +12,7 @@ pub mod Lawfuls
 pub mod Moving
 pub mod AtLinks
 pub mod Seating
-pub mod Bits
+pub mod NodeBit
 pub mod Applying
 pub mod Takings
 pub mod OutOfRoom

@@ -25,7 +25,7 @@ use Rattle.sja_bus.specs.Inside.Turning.{is_untold}
 use Rattle.sja_bus.specs.Inside.Rows.{EachSeat, SeatTakes, SeatOpens, SeatTurns, seen_by, journals_of, untold_of, driven_by, IsBus}
 use Rattle.sja_bus.proofs.Wires.{wired_bit, wired_same}
 use Rattle.sja_bus.proofs.Lawfuls.{lawful_of}
-use Rattle.sja_bus.proofs.Bits.{bits_has, bits_items, bits_abort}
+use Rattle.sja_bus.proofs.NodeBit.{bits_has, bits_items, bits_abort}
 
 -- the journal of a node
 pub journal_is : (seats : List Seat) (k : ℕ) (s : Seat) → k < length seats → journal_at (journals_of seats) k ≡ (slice_index_or seats k s).journal.entries

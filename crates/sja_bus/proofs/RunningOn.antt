@@ -29,7 +29,7 @@ use Rattle.sja_bus.specs.Inside.Rows.{AreReady, EachSeat, SeatTurns, GoesAll, Is
 use Rattle.sja_bus.specs.Inside.RunningOn.{NoneAborts, moment_of, bus_of, AnyBit}
 use Rattle.sja_bus.specs.Inside.Whole.{IsRowBit}
 use Rattle.sja_bus.proofs.AtRest.{untold_none}
-use Rattle.sja_bus.proofs.Bits.{items_none}
+use Rattle.sja_bus.proofs.NodeBit.{items_none}
 use Rattle.sja_bus.proofs.Breaking.{stops_bit}
 use Rattle.sja_bus.proofs.Journals.{keeps_all, is_bit, all_told, wired_row}
 use Rattle.sja_bus.proofs.Logs.{none_untold, calm_by}

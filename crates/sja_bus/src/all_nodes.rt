@@ -1,10 +1,8 @@
 //! What all nodes of a bus do in one bit, node after node.
 
-ghost use Rattle.std.specs.Prelude.{◌≡◌, ◌*◌, ◌<◌, ◌≤◌, ◌+◌, if◌then◌else◌, ℕ, List};
-ghost use Rattle.std.specs.Prelude.{suc, false, [], ◌∷◌, length, IfOk, OnOk, IfErr, ◌⊎◌};
+ghost use Rattle.std.specs.Prelude.{◌≡◌, ◌*◌, ◌≤◌, ℕ, List, suc, false};
+ghost use Rattle.std.specs.Prelude.{length, IfOk, OnOk, IfErr, ◌⊎◌};
 ghost use Rattle.sja_link.specs.Related.{EachRelated};
-ghost use Rattle.sja_regs.specs.declared.bus_turn.BusTurn.{BusTurn as Turn};
-ghost use Rattle.can_bits.specs.Digits.{opposite};
 ghost use Rattle.sja_wire.specs.Wire.{wired};
 ghost use Rattle.sja_wire.specs.Links.{Numbered};
 ghost use Rattle.sja_bus.specs.Inside.Rows.{AreReady, AreSeated, AreTold, EachSeat, SeatTakes, SeatUntold};
@@ -14,12 +12,14 @@ ghost use Rattle.sja_bus.specs.declared.seat.Seat.{Seat as Seated};
 ghost use Rattle.sja_bus.specs.Inside.Underway.{IsUnderway};
 ghost use Rattle.sja_bus.specs.Inside.Whole.{IsRowBit};
 ghost use Rattle.sja_bus.specs.Inside.RowTakes.{RowTakesAll};
-ghost use Rattle.sja_bus.specs.Inside.Refusing.{HaveRoom, AreFree, SeatRefuses, SeatFull, SeatBreaks, SeatStops};
+ghost use Rattle.sja_bus.specs.Inside.Refusing.{HaveRoom, AreFree, SeatRefuses, SeatFull, SeatBreaks};
+ghost use Rattle.sja_bus.specs.Inside.Refusing.{SeatStops};
 
 use super::bit_end::BitEnd;
 use super::board::Board;
 use super::seat::{LINKS, Seat};
 use super::struck_nodes::StruckNodes;
+use super::wire::{both, level_of, seen};
 use can_bits::Level;
 use sja_link::BusEnd;
 use sja_wire::BusFault;
@@ -44,9 +44,37 @@ pub(crate) fn gather_all<E: BusEnd>(seats: &mut [Seat], links: &mut [E]) -> Resu
     Ok(())
 }
 
+/// One bit of all nodes, in which these are struck: what the links show is taken and what stands is aborted, all drive,
+/// each sees the level, and the ports are told.
+#[inline(never)]
+pub(crate) fn bit_of_all<E: BusEnd, B: Board>(
+    seats: &mut [Seat],
+    links: &mut [E],
+    board: &mut B,
+    struck: StruckNodes,
+) -> Result<(), BusFault>
+    requires seated { AreSeated E.link seats.old links.old (B.ports board.old) }
+    ensures board { KeepsOthers B.ports B.kept (length seats.old) board.old board.new }
+    ensures sames { EachRelated E.same links.old links.new }
+    ensures goes { OnOk result (GoesAll E.same E.stands seats.old seats.new links.old links.new) }
+    ensures ready { OnOk result (AreReady seats.new) }
+    ensures bit { OnOk result (IsRowBit (B.orders_are board.old)
+        (B.told board.old board.new) (B.kept board.old board.new) struck seats.old seats.new) }
+    ensures takes { OnOk result (RowTakesAll E.BusEnd seats.old seats.new links.old) }
+    ensures rooms { OnOk result ((n : ℕ) → HaveRoom n seats.old → HaveRoom n seats.new) }
+    ensures stops { IfErr result (λ f. (SeatRefuses E.stands seats.old seats.new links.old links.new f
+        ⊎ SeatFull E.stands (B.orders_are board.old) seats.old seats.new links.old links.new f)
+        ⊎ SeatStops E.stands E.full (B.orders_are board.old) E.same seats.old seats.new links.old f) }
+{
+    open_all(seats, links, board)?;
+    let level = level_of(seats);
+    sample_from(seats, links, level, struck, board, 0)?;
+    Ok(())
+}
+
 /// Takes all that the links show, and applies the aborts that stand.
 #[inline(always)]
-pub(crate) fn open_all<E: BusEnd, B: Board>(
+fn open_all<E: BusEnd, B: Board>(
     seats: &mut [Seat],
     links: &mut [E],
     board: &B,
@@ -69,46 +97,6 @@ pub(crate) fn open_all<E: BusEnd, B: Board>(
         seats[k].open_bit(links, LINKS * k, board)?;
     }
     Ok(())
-}
-
-/// The level on the bus: dominant where any node drives dominant.
-#[inline(always)]
-pub(crate) fn level_of(seats: &[Seat]) -> Level
-    ensures { result ≡ wired (driven_by seats.now) }
-{
-    for k in 0..seats.len() {
-        if let Level::Dominant = seats[k].drives {
-            return Level::Dominant;
-        }
-    }
-    Level::Recessive
-}
-
-/// What a node sees: the other level where it is struck.
-#[inline(always)]
-fn seen(level: Level, struck: bool) -> Level
-    ensures { result ≡ (if struck then opposite level else level) }
-{
-    if struck { struck_level(level) } else { level }
-}
-
-/// What a struck node sees.
-#[inline(never)]
-fn struck_level(level: Level) -> Level
-    ensures { result ≡ opposite level }
-{
-    match level {
-        Level::Dominant => Level::Recessive,
-        Level::Recessive => Level::Dominant,
-    }
-}
-
-/// What two levels make on the bus.
-#[inline(always)]
-fn both(a: Level, b: Level) -> Level
-    ensures { result ≡ wired (a ∷ b ∷ []) }
-{
-    Level::of(a.is_recessive() && b.is_recessive())
 }
 
 /// The nodes from this one on have their bit, and see this level, or the other one where they are struck. Their ports
@@ -184,32 +172,4 @@ pub(crate) fn sample_all<E: BusEnd, B: Board>(
         level: next,
         told: false,
     })
-}
-
-/// One bit of all nodes, in which these are struck: what the links show is taken and what stands is aborted, all drive,
-/// each sees the level, and the ports are told.
-#[inline(never)]
-pub(crate) fn bit_of_all<E: BusEnd, B: Board>(
-    seats: &mut [Seat],
-    links: &mut [E],
-    board: &mut B,
-    struck: StruckNodes,
-) -> Result<(), BusFault>
-    requires seated { AreSeated E.link seats.old links.old (B.ports board.old) }
-    ensures board { KeepsOthers B.ports B.kept (length seats.old) board.old board.new }
-    ensures sames { EachRelated E.same links.old links.new }
-    ensures goes { OnOk result (GoesAll E.same E.stands seats.old seats.new links.old links.new) }
-    ensures ready { OnOk result (AreReady seats.new) }
-    ensures bit { OnOk result (IsRowBit (B.orders_are board.old)
-        (B.told board.old board.new) (B.kept board.old board.new) struck seats.old seats.new) }
-    ensures takes { OnOk result (RowTakesAll E.BusEnd seats.old seats.new links.old) }
-    ensures rooms { OnOk result ((n : ℕ) → HaveRoom n seats.old → HaveRoom n seats.new) }
-    ensures stops { IfErr result (λ f. (SeatRefuses E.stands seats.old seats.new links.old links.new f
-        ⊎ SeatFull E.stands (B.orders_are board.old) seats.old seats.new links.old links.new f)
-        ⊎ SeatStops E.stands E.full (B.orders_are board.old) E.same seats.old seats.new links.old f) }
-{
-    open_all(seats, links, board)?;
-    let level = level_of(seats);
-    sample_from(seats, links, level, struck, board, 0)?;
-    Ok(())
 }

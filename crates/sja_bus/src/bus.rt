@@ -3,9 +3,9 @@
 ghost use Rattle.std.specs.Prelude.{◌≡◌, None};
 
 use super::all_nodes::{bit_of_all, gather_all};
-use super::beginning::logs_of;
 use super::board::Board;
-use super::resting::all_rest;
+use super::idle_bits::all_rest;
+use super::node_log::logs_of;
 use super::seat::Seat;
 use super::struck_bits::StruckBits;
 use can_frame::OutOfMemory;

@@ -9,41 +9,36 @@
 //! `Bus::new`, `serial_links` and `SerialBoard::new` alone take memory. The tests stand in `crates/test_bus`.
 #![tactic(auto)]
 
+mod aborts;
 mod activity;
 mod all_nodes;
-mod all_told;
-mod beginning;
 mod bit_end;
 mod bit_outcome;
+mod bits;
 mod board;
 mod board_laws;
 mod broken_off;
 mod bus;
-mod gathering;
-mod idling;
-mod link_numbers;
-mod new_links;
-mod putting;
-mod resting;
-mod running_on;
-mod sampling;
+mod bus_off;
+mod idle_bits;
+mod items;
+mod node_bit;
+mod node_links;
+mod node_log;
+mod ports;
 mod seat;
 mod serial_board;
-mod several;
-mod stretch;
 mod struck_bits;
 mod struck_nodes;
-mod taking;
-mod telling;
-mod ticking;
 mod untold;
+mod verdict;
+mod wire;
 
 pub use board::Board;
 pub use board_laws::{
     a_port_kept_that_shows_the_turn_was_told_it, a_port_shows_a_turn_that_says_the_same,
 };
 pub use bus::Bus;
-pub use link_numbers::are_links_of;
-pub use new_links::serial_links;
+pub use node_links::{are_links_of, serial_links};
 pub use serial_board::SerialBoard;
 pub use sja_wire::{BusFault, NodeLog};

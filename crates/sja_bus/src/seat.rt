@@ -5,9 +5,11 @@ ghost use Rattle.std.specs.Prelude.{◌≡◌};
 use super::activity::Activity;
 use super::untold::Untold;
 use can_bits::Level;
+use can_frame::OutOfMemory;
 use can_node::Node;
-use sja_link::{BusLedger, Entry, Journal};
+use sja_link::{BusLedger, Entry, Journal, LinkId};
 use sja_wire::BusFault;
+use std::alloc::Global;
 
 /// How many links, and so activations, a node has.
 pub(crate) const LINKS: usize = 8;
@@ -29,18 +31,63 @@ pub(crate) struct Seat {
 }
 
 impl Seat {
-    ghost use Rattle.std.specs.Prelude.{◌≡◌, ◌<◌, [], ◌∷◌, ◌++◌, OnOk, IfErr, length};
+    ghost use Rattle.std.specs.Prelude.{◌≡◌, ◌<◌, [], ◌∷◌, ◌++◌, OnOk, IfErr, length, ◌≢◌, ◌+◌, true, false};
+    ghost use Rattle.std.specs.Prelude.{IfOk};
     ghost use Rattle.sja_link.specs.BusLedgers.{link_of, free_in};
     ghost use Rattle.sja_link.specs.declared.entry.Entry.TheVariants.{Bit as BitEntry};
-    ghost use Rattle.sja_bus.specs.Inside.Following.{Follows, Reads};
-    ghost use Rattle.sja_bus.specs.Inside.Seats.{IsSound};
+    ghost use Rattle.sja_bus.specs.Inside.Following.{Follows, Reads, open_in};
+    ghost use Rattle.sja_bus.specs.Inside.Seats.{IsSound, IsReady};
     ghost use Rattle.sja_bus.specs.Inside.Taking.{IsFull};
+    ghost use Rattle.sja_bus.specs.declared.untold.Untold.TheVariants.{Nothing};
+    ghost use Rattle.sja_bus.specs.Reasons.{room_for};
+
+    /// A controller to which nothing has happened, with room for a run of so many bits.
+    ///
+    /// Error: [`OutOfMemory`] where memory was refused.
+    pub(crate) fn new(alloc: Global, number: u8, bits: u32) -> Result<Seat, OutOfMemory>
+        ensures ready { IfOk result (λ s. IsReady s) }
+        ensures own { IfOk result (λ s. (link_of s.ledger).node ≡ number) }
+        ensures empty { IfOk result (λ s. s.journal.entries ≡ []) }
+        ensures room { IfOk result (λ s. s.journal.room ≡ room_for bits) }
+        ensures untold { IfOk result (λ s. s.untold ≡ Nothing) }
+    {
+        let journal = Journal::new(alloc, bits)?;
+        let node = Node::new();
+        let drives = node.drive();
+        let ledger = BusLedger::new(LinkId {
+            node: number,
+            activation: 1,
+        });
+        Ok(Seat {
+            node,
+            drives,
+            ledger,
+            journal,
+            ended: 0,
+            activity: Activity::Between,
+            untold: Untold::Nothing,
+        })
+    }
 
     /// The number of the node.
     pub(crate) fn number(&self) -> u8
         ensures { result ≡ (link_of self.now.ledger).node }
     {
         self.ledger.id().node
+    }
+
+    /// Whether a start was taken.
+    pub(crate) fn has_begun(&self) -> bool
+        ensures yes { result ≡ true → self.now.ended + open_in self.now.activity ≢ 0 }
+        ensures no { result ≡ false → self.now.ended + open_in self.now.activity ≡ 0 }
+    {
+        if self.ended > 0 {
+            return true;
+        }
+        match self.activity {
+            Activity::Between => false,
+            _ => true,
+        }
     }
 
     /// Writes an entry.

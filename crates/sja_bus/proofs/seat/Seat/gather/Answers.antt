@@ -7,7 +7,7 @@ use Rattle.sja_bus.proofs.Results.{err_is}
 use Rattle.sja_bus.proofs.AtLinks.{stays_refl, stays_trans, stays_one}
 use Rattle.sja_bus.proofs.Moving.{goes_refl, goes_trans, goes_one}
 use Rattle.sja_bus.proofs.Refusing.{refuses_link}
-use Rattle.sja_bus.proofs.Bits.{items_none, items_push}
+use Rattle.sja_bus.proofs.NodeBit.{items_none, items_push}
 use Rattle.sja_bus.proofs.Turning.{takes_one}
 use Rattle.sja_bus.proofs.seat.Seat.gather.Goals as goal
 

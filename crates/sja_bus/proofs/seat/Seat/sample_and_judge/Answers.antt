@@ -8,7 +8,7 @@ use Rattle.sja_bus.specs.Inside.Following.{Reads, open_in}
 use Rattle.can_node.specs.declared.node.Node.{Node}
 use Rattle.can_node.specs.Stands.{InReset, Samples}
 use Rattle.sja_bus.proofs.Seating.{reads_by, follows_by}
-use Rattle.sja_bus.proofs.Bits.{received_quiet, received_judged, has_alone, has_judged}
+use Rattle.sja_bus.proofs.NodeBit.{received_quiet, received_judged, has_alone, has_judged}
 use Rattle.sja_bus.proofs.Parted.{stands_at}
 use Rattle.sja_bus.proofs.Reading.{reads_quiet, reads_swap, runs_at}
 use Rattle.sja_bus.proofs.Moving.{moves_quiet}

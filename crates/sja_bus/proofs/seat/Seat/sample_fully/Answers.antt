@@ -7,7 +7,7 @@ use Rattle.sja_bus.proofs.Results.{ok_map, err_map}
 use Rattle.sja_bus.proofs.AtLinks.{stays_one}
 use Rattle.sja_bus.proofs.Breaking.{broken_link, broken_short}
 use Rattle.sja_bus.proofs.Moving.{goes_one, goes_quiet}
-use Rattle.sja_bus.proofs.Bits.{rest_brings}
+use Rattle.sja_bus.proofs.NodeBit.{rest_brings}
 use Rattle.sja_bus.proofs.seat.Seat.sample_fully.Goals as goal
 
 pub returns-in_default-clause-stays : goal.returns-in_default-clause-stays

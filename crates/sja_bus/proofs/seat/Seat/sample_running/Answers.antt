@@ -8,7 +8,7 @@ use Rattle.sja_bus.proofs.Moving.{moves_trans}
 use Rattle.sja_bus.proofs.Breaking.{breaks_after}
 use Rattle.sja_bus.proofs.OutOfRoom.{off_short}
 use Rattle.sja_bus.proofs.Steps.{follows_on}
-use Rattle.sja_bus.proofs.Bits.{has_on, has_off}
+use Rattle.sja_bus.proofs.NodeBit.{has_on, has_off}
 use Rattle.sja_bus.proofs.Results.{err_is}
 use Rattle.sja_bus.proofs.seat.Seat.sample_running.Goals as goal
 

@@ -1,7 +1,0 @@
-use Rattle.std.proofs.Common.{◌≡◌, drop}
-use Rattle.sja_wire.specs.Wire.{wired}
-use Rattle.sja_bus.specs.Inside.Rows.{driven_by}
-use Rattle.sja_bus.proofs.all_nodes.level_of.Given as goal
-
-abbrev pub invariant-loop-k : goal.invariant-loop-k
-invariant-loop-k l = wired (driven_by l.seats) ≡ wired (driven_by (drop l.k l.seats))

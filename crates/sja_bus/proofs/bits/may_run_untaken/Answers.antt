@@ -1,0 +1,19 @@
+use Rattle.std.proofs.Common.{◌≡◌, ℕ, ◌<◌, false, length, rules, sym, ap, subst, ◌∙◌, inl, inr}
+use Rattle.sja_link.specs.BusLedgers.{link_of}
+use Rattle.sja_bus.specs.declared.seat.Seat.{Seat}
+use Rattle.sja_bus.proofs.Rests.{earlier_or_now}
+use Rattle.sja_bus.proofs.bits.may_run_untaken.Goals as goal
+
+pub loop-k-preserved : goal.loop-k-preserved
+loop-k-preserved g c =
+    let k = c.loop-k.k in let seat = c.index-seats-k.result in
+    let few : k < length c.args.seats.now = search rules in
+    let node : c.number.result ≡ k =
+    c.number.ensures ∙ ap (λ (x : Seat). (link_of x.ledger).node) c.index-seats-k.is ∙ (c.requires.ready k seat few).own in
+    let O : ℕ → Type 0 = λ m. g.B.Board.orders_are c.args.board.now m c.orders.result in
+    let asked : O k = subst O node c.orders.ensures in
+    let none : c.orders.result.abort ≡ false = search rules in
+    λ m h. elim (earlier_or_now m k h) [
+      | inl before ↦ c.loop-k.invariant m before
+      | inr now ↦ (c.orders.result, subst O (sym now) asked, none)
+    ]

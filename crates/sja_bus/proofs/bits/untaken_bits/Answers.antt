@@ -1,0 +1,117 @@
+use Rattle.std.proofs.Common.{◌≡◌, ℕ, ◌+◌, ◌-◌, ◌<◌, false, true, length, rules, arith, refl, ap, ◌∙◌, subst}
+use Rattle.std.specs.Prelude.{slice_index_or}
+use Rattle.sja_link.proofs.Related.{each_refl, each_trans}
+use Rattle.sja_bus.specs.Reasons.{room_for}
+use Rattle.sja_bus.specs.Several.{WorksIf}
+use Rattle.sja_bus.specs.Inside.Rows.{IsBus}
+use Rattle.sja_bus.specs.Inside.RunningOn.{moment_of, AnyBit, RowsRun}
+use Rattle.sja_bus.proofs.Many.{numbered_kept}
+use Rattle.sja_bus.proofs.RunningOn.{passes, none_still, some_work, none_yet, bits_on, stops_on}
+use Rattle.sja_bus.proofs.bits.untaken_bits.Goals.{After-keeps_its_facts}
+use Rattle.sja_bus.proofs.bits.untaken_bits.Goals as goal
+
+-- the bits so far, and one more that went well
+runs_more : (g : _) (c : After-keeps_its_facts g) → RowsRun g.E.BusEnd g.B.Board c.args.to_rest c.args.struck.now.script c.args.from c.args.most
+    c.args.seats.now c.sample_all.new.seats c.args.links.now c.sample_all.new.links c.args.board.now c.sample_all.new.board (c.loop-run.run + 1)
+runs_more g c =
+    let E = g.E.BusEnd in
+    let B = g.B.Board in let inv = c.loop-run.invariant in let a = c.loop-run.board in let z = c.sample_all.new.board in
+    let goes : c.goes_on.result ≡ true = search rules in
+    let within : c.loop-run.run < length c.part-marks.result.now = search rules in
+    let count = c.part-marks.ensures.count in let all = c.room_of.ensures.most in
+    let early : c.loop-run.run < c.args.most = omega (arith, within, count, all) in
+    let pass = passes B.orders_are (B.told a z) (B.kept a z) c.args.struck.now.script (c.args.from + c.loop-run.run) (length c.args.seats.now) c.none.result (slice_index_or c.part-marks.result.now c.loop-run.run _) c.loop-run.level c.args.board.now a c.loop-run.seats c.sample_all.new.seats
+    c.requires.seated.few c.loop-run.auto.seats c.sample_all.auto.seats inv.board c.requires.may.0 c.none.ensures (c.goes_on.ensures.none goes) (λ node few. c.part-marks.ensures.struck c.loop-run.run node _ within few) inv.level c.in-Ok.ensures.turns c.in-Ok.ensures.ready inv.bus in record {
+      bus = pass.bus (c.args.from + (c.loop-run.run + 1)) (omega arith);
+      bits = λ left enough.
+          bits_on E B c.args.to_rest (moment_of c.args.struck.now.script c.args.from left c.args.seats.now c.args.links.now c.args.board.now)
+          c.args.struck.now.script c.args.from c.loop-run.run c.args.most left c.none.result c.loop-run.seats c.sample_all.new.seats c.loop-run.links c.sample_all.new.links a z early enough c.sample_all.auto.seats pass.few pass.at pass.row
+          c.sample_all.ensures.sames c.sample_all.ensures.board c.in-Ok.ensures.goes inv.bus (pass.bus (c.args.from + (c.loop-run.run + 1)) (omega arith)) c.keeps_its_facts.ensures
+          (λ yes. some_work c.loop-run.seats inv.bus.ready (c.goes_on.ensures.works goes yes)) (inv.bits left enough);
+    }
+
+pub loop-run-init : goal.loop-run-init
+loop-run-init g c =
+    let E = g.E.BusEnd in let B = g.B.Board in let script = c.args.struck.now.script in
+    let at : c.args.from ≡ c.args.from + 0 = omega arith in
+    let P : ℕ → Type 0 = λ n. IsBus script n c.args.seats.now in record {
+      level = c.level_of-level.ensures;
+      board = refl;
+      bus = subst P at c.requires.bus;
+      told = c.requires.may.1;
+      sames = each_refl E.same g.met.E.BusEnd.same_refl c.args.links.now;
+      rooms = λ n h. h;
+      free = λ k s here. let room = c.room_of.ensures.free k s here in let count = c.part-marks.ensures.count in omega (arith, room, count);
+      bits = λ left enough. none_yet (AnyBit E B) (WorksIf c.args.to_rest) script c.args.from left c.args.seats.now c.args.links.now c.args.board.now;
+    }
+
+pub sample_all-requires : goal.sample_all-requires
+sample_all-requires g c =
+    let h = c.requires.seated in let inv = c.loop-run.invariant in
+    let seats = c.loop-run.auto.seats in let links = c.loop-run.auto.links in
+    let few = h.few in let count = h.count in let ports = h.ports in let p = ap g.B.Board.ports inv.board in record {
+      seated = record {
+        few = omega (arith, few, seats);
+        count = omega (arith, count, seats, links);
+        ids = numbered_kept g.E.BusEnd.link g.E.BusEnd.same g.met.E.BusEnd.same_link c.args.links.now c.loop-run.links inv.sames h.ids;
+        ready = inv.bus.ready;
+        ports = omega (arith, ports, seats, p);
+      };
+      told = inv.told;
+      free = λ k s here.
+          let run : c.loop-run.run < length c.part-marks.result.now = search rules in let room = inv.free k s here in
+          omega (arith, run, room);
+    }
+
+pub returns-then-end-clause-sames : goal.returns-then-end-clause-sames
+returns-then-end-clause-sames g c =
+    each_trans g.E.BusEnd.same g.met.E.BusEnd.same_trans c.args.links.now c.loop-run.links c.sample_all.new.links c.loop-run.invariant.sames c.sample_all.ensures.sames
+
+pub returns-in-Err-clause-sames : goal.returns-in-Err-clause-sames
+returns-in-Err-clause-sames g c =
+    each_trans g.E.BusEnd.same g.met.E.BusEnd.same_trans c.args.links.now c.loop-run.links c.sample_all.new.links c.loop-run.invariant.sames c.sample_all.ensures.sames
+
+pub returns-then-end-clause-rooms : goal.returns-then-end-clause-rooms
+returns-then-end-clause-rooms g c = λ n h. c.in-Ok.ensures.rooms n (c.loop-run.invariant.rooms n h)
+
+pub returns-then-end-clause-runs : goal.returns-then-end-clause-runs
+returns-then-end-clause-runs g c = runs_more g (goal.at.returns-then-end-clause-runs g c).After-keeps_its_facts
+
+pub loop-run-preserved : goal.loop-run-preserved
+loop-run-preserved g c =
+    let E = g.E.BusEnd in let inv = c.loop-run.invariant in
+    let more = runs_more g (goal.at.loop-run-preserved g c).After-keeps_its_facts in
+    let within : c.loop-run.run < length c.part-marks.result.now = search rules in
+    let untold : c.in-Ok.end.told ≡ false = search rules in record {
+      level = c.in-Ok.ensures.level;
+      board = c.in-Ok.ensures.untold untold ∙ inv.board;
+      bus = more.bus;
+      told = λ k s few. (c.in-Ok.ensures.turns k s (let count = c.sample_all.auto.seats in omega (arith, few, count))).told;
+      sames = each_trans E.same g.met.E.BusEnd.same_trans c.args.links.now c.loop-run.links c.sample_all.new.links inv.sames c.sample_all.ensures.sames;
+      rooms = λ n h. c.in-Ok.ensures.rooms n (inv.rooms n h);
+      free = c.in-Ok.ensures.free untold (length c.part-marks.result.now - (c.loop-run.run + 1))
+          (λ k s here. let room = inv.free k s here in omega (arith, within, room));
+      bits = more.bits;
+    }
+
+pub returns-in-Err-clause-breaks : goal.returns-in-Err-clause-breaks
+returns-in-Err-clause-breaks g c = λ left later enough rooms journals run_is left_is.
+    let E = g.E.BusEnd in let B = g.B.Board in let inv = c.loop-run.invariant in
+    let script = c.args.struck.now.script in let from = c.args.from in let run = c.loop-run.run in
+    let was = c.loop-run.seats in let now = c.sample_all.new.seats in
+    let a = c.loop-run.board in
+    let within : run < length c.part-marks.result.now = search rules in
+    let count = c.part-marks.ensures.count in let all = c.room_of.ensures.most in
+    let early : run < c.args.most = omega (arith, within, count, all) in
+    let goes : c.goes_on.result ≡ true = search rules in
+    let none = none_still B.orders_are (length c.args.seats.now) c.args.board.now a was c.loop-run.auto.seats inv.board c.requires.may.0 in record {
+      mid = moment_of script (from + run) (left - run) was c.loop-run.links a;
+      run = run;
+      early = early;
+      bits = inv.bits left enough;
+      before = λ yes. some_work was inv.bus.ready (c.goes_on.ensures.works goes yes);
+      stops = stops_on E.same E.stands E.full (B.orders_are a) script (from + run) (left - run) (from + left) was now c.loop-run.links c.sample_all.new.links c.in-Err.fault later g.met.E.BusEnd.same_refl journals
+          (omega (arith, early, enough)) c.sample_all.auto.seats (inv.rooms (room_for (from + left)) rooms) none c.in-Err.ensures.broken;
+      run_so_far = run_is;
+      left_so_far = left_is;
+    }

@@ -1,0 +1,24 @@
+use Rattle.std.proofs.Common.{◌≡◌, ℕ, ◌+◌, ◌-◌, ◌≤◌, length}
+use Rattle.sja_link.specs.Related.{EachRelated}
+use Rattle.sja_bus.specs.Several.{AreBits, WorksIf}
+use Rattle.sja_wire.specs.Wire.{wired}
+use Rattle.sja_bus.specs.Inside.Refusing.{HaveRoom, AreFree}
+use Rattle.sja_bus.specs.Inside.Rows.{AreTold, IsBus, driven_by}
+use Rattle.sja_bus.specs.Inside.RunningOn.{moment_of, AnyBit}
+use Rattle.sja_bus.proofs.bits.untaken_bits.Given as goal
+
+-- the bits so far, in none of which a port was told anything
+abbrev pub invariant-loop-run : goal.invariant-loop-run
+invariant-loop-run g l = record {
+  level : l.level ≡ wired (driven_by l.seats);
+  board : l.board ≡ l.initial.board;
+  bus : IsBus l.struck.script (l.from + l.run) l.seats;
+  told : AreTold l.seats;
+  sames : EachRelated g.E.BusEnd.same l.initial.links l.links;
+  rooms : (n : ℕ) → HaveRoom n l.initial.seats → HaveRoom n l.seats;
+  free : AreFree (length l.marks - l.run) l.seats;
+  bits : (left : ℕ) → l.most ≤ left →
+      AreBits (AnyBit g.E.BusEnd g.B.Board) (WorksIf l.to_rest)
+      (moment_of l.struck.script l.from left l.initial.seats l.initial.links l.initial.board) l.run
+      (moment_of l.struck.script (l.from + l.run) (left - l.run) l.seats l.links l.board);
+}

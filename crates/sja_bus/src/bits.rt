@@ -1,0 +1,228 @@
+//! Bits of a bus, one after another.
+
+ghost use Rattle.std.specs.Prelude.{◌≡◌, ◌+◌, ◌<◌, ◌≤◌, ℕ, true, false, length, slice_index_or, IfOk};
+ghost use Rattle.std.specs.Prelude.{OnOk, IfErr, MatchResult};
+ghost use Rattle.can_node.specs.Stands.{ShowsRest};
+ghost use Rattle.sja_link.specs.Related.{EachRelated};
+ghost use Rattle.sja_bus.specs.declared.seat.Seat.{Seat as Seated};
+ghost use Rattle.sja_bus.specs.StrikesByBit.{IsAmong};
+ghost use Rattle.sja_bus.specs.Boards.{KeepsOthers};
+ghost use Rattle.sja_bus.specs.Inside.Refusing.{HaveRoom, AreFree};
+ghost use Rattle.sja_bus.specs.Inside.Rows.{AreReady, AreSeated, AreTold, IsBus};
+ghost use Rattle.sja_bus.specs.Inside.RunningOn.{NoneAborts, RowsRun, RowsStop};
+
+use super::all_nodes::sample_all;
+use super::board::Board;
+use super::broken_off::BrokenOff;
+use super::bus::Bus;
+use super::idle_bits::all_rest;
+use super::ports::are_told;
+use super::seat::Seat;
+use super::struck_bits::StruckBits;
+use super::struck_nodes::StruckNodes;
+use super::wire::level_of;
+use sja_link::BusEnd;
+use sja_wire::BusFault;
+
+impl Bus {
+    ghost use Rattle.std.specs.Prelude.{◌≡◌, ◌*◌, ◌≤◌, ◌⊎◌, None, Some, Err, true, length, OnOk, IfOk};
+    ghost use Rattle.std.specs.Prelude.{IfErr};
+    ghost use Rattle.sja_wire.specs.declared.bus_fault.BusFault.{BusFault as Fault};
+    ghost use Rattle.sja_wire.specs.Links.{Numbered};
+    ghost use Rattle.sja_bus.specs.Buses.{IsStill};
+    ghost use Rattle.sja_bus.specs.Moment.{moment, Keeps};
+    ghost use Rattle.sja_bus.specs.Several.{AllRest, RunsBits, StopsBits};
+    ghost use Rattle.sja_bus.specs.Inside.RunningOn.{AreFor, AnyBit, IsSoFar, IsStopped};
+
+    /// Bits one after another: so many, or as many as are left; with `to_rest` only as long as some node isn't at rest.
+    /// Answers how many they were.
+    ///
+    /// They are what as many calls of [`bit`](Bus::bit) are between which no driver does anything: what the drivers
+    /// gave is taken before the first of them. `links` are eight a node, by node and activation.
+    ///
+    /// Error: after some of these bits, any fault of [`bit`](Bus::bit) but [`BusFault::BitsSpent`], and then the same
+    /// always. The bits before it count.
+    pub fn bits<E: BusEnd, B: Board>(
+        &mut self,
+        links: &mut [E],
+        board: &mut B,
+        count: u32,
+        to_rest: bool,
+    ) -> Result<u32, BusFault>
+        requires count { length links.old ≡ 8 * length self.old.journals }
+        requires ids { Numbered E.link links.old }
+        requires ports { length self.old.journals ≤ B.ports board.old }
+        ensures keeps { Keeps E.BusEnd B.Board
+            (moment self.old links.old board.old) (moment self.new links.new board.new) }
+        ensures most { IfOk result (λ n. n ≤ count) }
+        ensures bits { IfOk result (λ n. RunsBits E.BusEnd B.Board to_rest
+            (moment self.old links.old board.old) n (moment self.new links.new board.new)) }
+        ensures whole { IfOk result (λ n.
+            (n ≡ count) ⊎ (self.new.left ≡ 0) ⊎ ((to_rest ≡ true) × AllRest self.new.journals)) }
+        ensures right { OnOk result (self.new.fault ≡ None) }
+        ensures fault { IfErr result (λ f. self.new.fault ≡ Some f) }
+        ensures reason { IfErr result (λ f. self.old.fault ≡ None → StopsBits E.BusEnd B.Board to_rest count
+            (moment self.old links.old board.old) (moment self.new links.new board.new) f) }
+        ensures stays { (f : Fault) → self.old.fault ≡ Some f →
+            (result ≡ Err f) × IsStill self.old self.new links.old links.new board.old board.new }
+    {
+        let most = self.at_most(count)?;
+        let mut run = 0;
+        while run < most {
+            if to_rest && self.at_rest() {
+                return Ok(run);
+            }
+            self.bit(links, board)?;
+            run += 1;
+            run += self.run_untaken_bits(links, board, most - run, to_rest)?;
+        }
+        Ok(run)
+    }
+
+    /// So many bits, or as many as are left.
+    ///
+    /// Error: the fault that is answered always.
+    fn at_most(&self, count: u32) -> Result<u32, BusFault>
+        ensures right { OnOk result (self.now.fault ≡ None) }
+        ensures count { IfOk result (λ n. n ≤ count) }
+        ensures left { IfOk result (λ n. n ≤ self.now.left) }
+        ensures whole { IfOk result (λ n. (n ≡ count) ⊎ (n ≡ self.now.left)) }
+        ensures fault { IfErr result (λ f. self.now.fault ≡ Some f) }
+        ensures stays { (f : Fault) → self.now.fault ≡ Some f → result ≡ Err f }
+    {
+        if let Some(fault) = self.fault {
+            return Err(fault);
+        }
+        Ok(count.min(self.left))
+    }
+
+    /// Further bits, at most so many: as far as no strike falls and no abort stands at any port, with `to_rest` as long
+    /// as some node works. They go on past a bit in which a port is told something. Answers how many.
+    ///
+    /// Nothing is taken from the links in them.
+    ///
+    /// Error: [`BusFault::Stuck`] or [`BusFault::JournalFull`], and then the same always. The bits before it count.
+    fn run_untaken_bits<E: BusEnd, B: Board>(
+        &mut self,
+        links: &mut [E],
+        board: &mut B,
+        count: u32,
+        to_rest: bool,
+    ) -> Result<u32, BusFault>
+        requires fit { AreFor E.link links.old (length self.old.journals) (B.ports board.old) }
+        requires right { self.old.fault ≡ None }
+        requires most { count ≤ self.old.left }
+        ensures most { IfOk result (λ n. n ≤ count) }
+        ensures runs { IfOk result (λ n. IsSoFar E.BusEnd B.Board (AnyBit E.BusEnd B.Board) to_rest
+            (moment self.old links.old board.old) n (moment self.new links.new board.new)) }
+        ensures stops { IfErr result (λ f. IsStopped E.BusEnd B.Board to_rest count
+            (moment self.old links.old board.old) (moment self.new links.new board.new) f) }
+    {
+        let mut run = 0;
+        while run < count {
+            if !may_run_untaken(self.seats.as_slice(), board) {
+                return Ok(run);
+            }
+            let (seats, most) = (self.seats.as_mut_slice(), count - run);
+            match untaken_bits(seats, links, board, &self.struck, self.run, most, to_rest) {
+                Ok(0) => return Ok(run),
+                Ok(bits) => {
+                    self.run += bits;
+                    self.left -= bits;
+                    run += bits;
+                }
+                Err(broken) => {
+                    self.run += broken.after;
+                    self.left -= broken.after;
+                    self.fault = Some(broken.fault);
+                    return Err(broken.fault);
+                }
+            }
+        }
+        Ok(run)
+    }
+}
+
+/// Whether no port wants an abort, and the ports are told all.
+fn may_run_untaken<B: Board>(seats: &[Seat], board: &B) -> bool
+    requires ready { AreReady seats.now }
+    requires ports { length seats.now ≤ B.ports board.now }
+    ensures orders { result ≡ true → NoneAborts (B.orders_are board.now) (length seats.now) }
+    ensures told { result ≡ true → AreTold seats.now }
+{
+    for k in 0..seats.len() {
+        if board.orders(seats[k].number()).abort {
+            return false;
+        }
+    }
+    are_told(seats)
+}
+
+/// Bits of all nodes from this one on, at most so many: as far as no node is struck and each journal has room, with
+/// `to_rest` as long as some node works, and up to the first in which a port is told something. Answers how many.
+#[inline(never)]
+fn untaken_bits<E: BusEnd, B: Board>(
+    seats: &mut [Seat],
+    links: &mut [E],
+    board: &mut B,
+    struck: &StruckBits,
+    from: u32,
+    most: u32,
+    to_rest: bool,
+) -> Result<u32, BrokenOff>
+    requires seated { AreSeated E.link seats.old links.old (B.ports board.old) }
+    requires may { NoneAborts (B.orders_are board.old) (length seats.old) × AreTold seats.old }
+    requires bus { IsBus struck.now.script from seats.old }
+    requires within { (from + most ≤ struck.now.bits) × (struck.now.bits ≤ 200000) }
+    ensures sames { EachRelated E.same links.old links.new }
+    ensures others { KeepsOthers B.ports B.kept (length seats.old) board.old board.new }
+    ensures most { MatchResult result (λ n. n ≤ most) (λ f. f.after < most) }
+    ensures rooms { OnOk result ((n : ℕ) → HaveRoom n seats.old → HaveRoom n seats.new) }
+    ensures runs { IfOk result (λ n. RowsRun E.BusEnd B.Board to_rest struck.now.script from most
+        seats.old seats.new links.old links.new board.old board.new n) }
+    ensures breaks { IfErr result (λ f. RowsStop E.BusEnd B.Board to_rest struck.now.script from most
+        seats.old seats.new links.old links.new board.old board.new f) }
+{
+    let (marks, mut level) = (struck.part(from, room_of(seats, most)), level_of(seats));
+    for run in 0..marks.len() as u32 {
+        if !goes_on(seats, marks[run as usize], to_rest) {
+            return Ok(run);
+        }
+        match sample_all(seats, links, level, StruckNodes::none(), board) {
+            Ok(end) => {
+                board.keeps_its_facts();
+                if end.told {
+                    return Ok(run + 1);
+                }
+                level = end.level;
+            }
+            Err(fault) => return Err(BrokenOff { after: run, fault }),
+        }
+    }
+    Ok(marks.len() as u32)
+}
+
+/// Whether these are no nodes, and some node works, where that is asked for.
+#[inline(always)]
+fn goes_on(seats: &[Seat], struck: StruckNodes, to_rest: bool) -> bool
+    ensures none { result ≡ true → (node : ℕ) → IsAmong node struck → ⊥ }
+    ensures works { result ≡ true → to_rest ≡ true → (k : ℕ) × (k < length seats.now)
+        × ((s : Seated) → ShowsRest (slice_index_or seats.now k s).node false) }
+{
+    if !struck.is_empty() {
+        return false;
+    }
+    !(to_rest && all_rest(seats))
+}
+
+/// For how many bits that are entered alone each journal has room, at most so many.
+fn room_of(seats: &[Seat], most: u32) -> u32
+    ensures most { result ≤ most }
+    ensures free { AreFree result seats.now }
+{
+    let mut free = most as usize;
+    for k in 0..seats.len() {
+        free = free.min(seats[k].journal.free());
+    }
+    free as u32
+}

@@ -1,0 +1,186 @@
+//! Bits in which every node of a bus is at rest: they are run at once.
+
+ghost use Rattle.std.specs.Prelude.{◌≡◌, ◌<◌, ℕ, true, false, length, slice_index_or, ◌≤◌, OnOk, IfErr};
+ghost use Rattle.can_node.specs.Stands.{ShowsRest};
+ghost use Rattle.sja_bus.specs.declared.seat.Seat.{Seat as Seated};
+ghost use Rattle.sja_bus.specs.Inside.Idling.{AreResting, IsOneAwake, all_after, IsFullBy};
+ghost use Rattle.sja_bus.specs.Inside.Rows.{AreReady};
+
+use super::board::Board;
+use super::bus::Bus;
+use super::seat::Seat;
+use super::untold::Untold;
+use can_bits::Level;
+use sja_link::BusEnd;
+use sja_wire::BusFault;
+
+impl Bus {
+    ghost use Rattle.std.specs.Prelude.{◌≡◌, ◌≢◌, ◌+◌, ◌*◌, ◌≤◌, ◌⊎◌, None, Some, Ok, Err, length, OnOk, IfOk};
+    ghost use Rattle.std.specs.Prelude.{IfErr, true, false};
+    ghost use Rattle.sja_link.specs.Related.{EachRelated};
+    ghost use Rattle.sja_wire.specs.declared.bus_fault.BusFault.{BusFault as Fault};
+    ghost use Rattle.sja_wire.specs.Links.{Numbered};
+    ghost use Rattle.sja_wire.specs.OneBit.{MayHaveItems};
+    ghost use Rattle.sja_bus.specs.Buses.{EachJournal, EachUntold, KeepsAll, AllDry, AllTold};
+    ghost use Rattle.sja_bus.specs.Reasons.{IsTakenAndRefused};
+    ghost use Rattle.sja_bus.specs.Stretches.{IsStretch, EndsStretch, IsOutOfEntries, IsFullInStretch};
+    ghost use Rattle.sja_bus.specs.Inside.AtOnce.{RunsAtOnce};
+    ghost use Rattle.sja_bus.specs.Inside.Idling.{IsResting, IsAwake, IsFullAfter, after_bits};
+    ghost use Rattle.sja_bus.specs.Inside.Seats.{IsReady};
+
+    /// Takes what the drivers gave, as [`gather`](Bus::gather) does, and then runs up to so many bits at once, as far
+    /// as every node is at rest, nothing was taken or is untold, no strike falls and a bit is left. Answers how many.
+    ///
+    /// They are what as many calls of [`bit`](Bus::bit) are that find nothing on any link: each node drives and sees
+    /// recessive, and no port is told anything. An answer of 0 says that the next bit takes a call of `bit`. `links`
+    /// are eight a node, by node and activation.
+    ///
+    /// Error: [`BusFault::BadCredit`], [`BusFault::BadOrder`] or [`BusFault::JournalFull`], and then the same always.
+    pub fn quiet_bits<E: BusEnd, B: Board>(
+        &mut self,
+        links: &mut [E],
+        board: &B,
+        count: u32,
+    ) -> Result<u32, BusFault>
+        requires count { length links.old ≡ 8 * length self.old.journals }
+        requires ids { Numbered E.link links.old }
+        requires ports { length self.old.journals ≤ B.ports board.now }
+        ensures sames { EachRelated E.same links.old links.new }
+        ensures script { self.new.script ≡ self.old.script }
+        ensures nodes { length self.new.journals ≡ length self.old.journals }
+        ensures most { IfOk result (λ n. n ≤ count) }
+        ensures bits { IfOk result (λ n. (self.new.run ≡ self.old.run + n) × (self.new.left + n ≡ self.old.left)) }
+        ensures kept { OnOk result (KeepsAll E.stands self.old.journals self.new.journals links.old links.new) }
+        ensures dry { OnOk result (AllDry E.dry self.new.journals links.new) }
+        ensures items { result ≡ Ok 0 → EachJournal MayHaveItems self.old.journals self.new.journals }
+        ensures untold { result ≡ Ok 0 →
+            EachUntold self.old.untold self.new.untold self.old.journals self.new.journals }
+        ensures stretch { IfOk result (λ n. n ≢ 0 → IsStretch (B.orders_are board.now) (B.told board.now board.now)
+            (B.kept board.now board.now) self.old.script self.old.run n self.old.untold
+            self.old.journals self.new.journals) }
+        ensures longest { IfOk result (λ n. EndsStretch count n self.new) }
+        ensures told { IfOk result (λ n. n ≢ 0 → AllTold (length self.old.journals) self.new.untold) }
+        ensures right { OnOk result (self.new.fault ≡ None) }
+        ensures fault { IfErr result (λ f. self.new.fault ≡ Some f) }
+        ensures reason { IfErr result (λ f. self.old.fault ≡ None →
+            IsTakenAndRefused E.stands (self.old.run + self.old.left) self.old.journals self.new.journals links.old links.new f
+            ⊎ IsFullInStretch E.stands (self.old.run + self.old.left) self.old.left self.old.journals self.new.journals
+            links.old links.new f) }
+        ensures stays { (f : Fault) → self.old.fault ≡ Some f →
+            (result ≡ Err f) × (self.new ≡ self.old) × (links.new ≡ links.old) }
+    {
+        self.gather(links)?;
+        self.run_idle_bits(board, count)
+    }
+
+    /// Runs bits at once as far as it can: nothing waits on any link.
+    fn run_idle_bits<B: Board>(&mut self, board: &B, count: u32) -> Result<u32, BusFault>
+        requires right { self.old.fault ≡ None }
+        requires ports { length self.old.journals ≤ B.ports board.now }
+        ensures script { self.new.script ≡ self.old.script }
+        ensures nodes { length self.new.journals ≡ length self.old.journals }
+        ensures runs { IfOk result (λ n. RunsAtOnce B.Board board.now count self.old self.new n) }
+        ensures longest { IfOk result (λ n. EndsStretch count n self.new) }
+        ensures fault { IfErr result (λ f. self.new.fault ≡ Some f) }
+        ensures reason { IfErr result (λ f.
+            IsOutOfEntries (self.old.run + self.old.left) self.old.left self.old.journals self.new.journals f) }
+    {
+        let bits = self.struck.quiet_for(self.run, count.min(self.left));
+        if bits == 0 || !are_resting(self.seats.as_slice(), board) {
+            return Ok(0);
+        }
+        match all_enter_idle_bits(self.seats.as_mut_slice(), bits) {
+            Ok(()) => {
+                self.run += bits;
+                self.left -= bits;
+                Ok(bits)
+            }
+            Err(fault) => {
+                self.fault = Some(fault);
+                Err(fault)
+            }
+        }
+    }
+}
+
+/// Whether every node is at rest, and its port is told all. What the ports order is asked too, but changes nothing: an
+/// abort finds no request.
+fn are_resting<B: Board>(seats: &[Seat], board: &B) -> bool
+    requires ready { AreReady seats.now }
+    requires ports { length seats.now ≤ B.ports board.now }
+    ensures yes { result ≡ true → AreResting (B.orders_are board.now) seats.now }
+    ensures no { result ≡ false → IsOneAwake seats.now }
+{
+    for k in 0..seats.len() {
+        if !seats[k].is_resting() {
+            return false;
+        }
+        let _orders = board.orders(seats[k].number());
+    }
+    true
+}
+
+/// Whether every node is at rest.
+pub(crate) fn all_rest(seats: &[Seat]) -> bool
+    ensures rest { result ≡ true → (k : ℕ) (s : Seated) → k < length seats.now →
+        ShowsRest (slice_index_or seats.now k s).node true }
+    ensures busy { result ≡ false → (k : ℕ) × (k < length seats.now)
+        × ((s : Seated) → ShowsRest (slice_index_or seats.now k s).node false) }
+{
+    for k in 0..seats.len() {
+        if !seats[k].node.at_rest() {
+            return false;
+        }
+    }
+    true
+}
+
+/// So many recessive bits of all nodes, which are at rest.
+fn all_enter_idle_bits(seats: &mut [Seat], count: u32) -> Result<(), BusFault>
+    requires ready { AreReady seats.old }
+    ensures rested { OnOk result (seats.new ≡ all_after count seats.old) }
+    ensures full { IfErr result (λ f. IsFullBy count seats.old seats.new f) }
+{
+    for k in 0..seats.len() {
+        seats[k].enter_idle_bits(count)?;
+    }
+    Ok(())
+}
+
+impl Seat {
+    ghost use Rattle.std.specs.Prelude.{◌≡◌, ◌≢◌, ◌+◌, ◌*◌, ◌≤◌, ◌⊎◌, None, Some, Ok, Err, length, OnOk, IfOk};
+    ghost use Rattle.std.specs.Prelude.{IfErr, true, false};
+    ghost use Rattle.sja_link.specs.Related.{EachRelated};
+    ghost use Rattle.sja_wire.specs.declared.bus_fault.BusFault.{BusFault as Fault};
+    ghost use Rattle.sja_wire.specs.Links.{Numbered};
+    ghost use Rattle.sja_wire.specs.OneBit.{MayHaveItems};
+    ghost use Rattle.sja_bus.specs.Buses.{EachJournal, EachUntold, KeepsAll, AllDry, AllTold};
+    ghost use Rattle.sja_bus.specs.Reasons.{IsTakenAndRefused};
+    ghost use Rattle.sja_bus.specs.Stretches.{IsStretch, EndsStretch, IsOutOfEntries, IsFullInStretch};
+    ghost use Rattle.sja_bus.specs.Inside.AtOnce.{RunsAtOnce};
+    ghost use Rattle.sja_bus.specs.Inside.Idling.{IsResting, IsAwake, IsFullAfter, after_bits};
+    ghost use Rattle.sja_bus.specs.Inside.Seats.{IsReady};
+
+    /// Whether the node is at rest, and its port is told all.
+    fn is_resting(&self) -> bool
+        requires { IsReady self.now }
+        ensures yes { result ≡ true → IsResting self.now }
+        ensures no { result ≡ false → IsAwake self.now }
+    {
+        match self.untold {
+            Untold::Nothing => self.node.at_rest(),
+            _ => false,
+        }
+    }
+
+    /// So many recessive bits of a node at rest: they change nothing but the journal.
+    fn enter_idle_bits(&mut self, count: u32) -> Result<(), BusFault>
+        ensures rested { OnOk result (self.new ≡ after_bits count self.old) }
+        ensures full { IfErr result (λ f. IsFullAfter count self.old self.new f) }
+    {
+        for _ in 0..count {
+            self.enter_bit(Level::Recessive, Level::Recessive)?;
+        }
+        Ok(())
+    }
+}

@@ -1,0 +1,214 @@
+//! What a controller takes from its driver before it drives a bit: items, one link after the other.
+
+use super::activity::Activity;
+use super::board::Board;
+use super::seat::Seat;
+use super::untold::Untold;
+use can_node::{Config, Request};
+use sja_link::{BadCredit, BusEnd, BusLedger, Entry, LinkId, Up};
+use sja_wire::BusFault;
+
+impl Seat {
+    ghost use Rattle.std.specs.Prelude.{◌≡◌, ◌<◌, ◌+◌, [], ◌∷◌, ◌++◌, slice_index_or, true, length, OnOk};
+    ghost use Rattle.std.specs.Prelude.{IfErr, ◌⊎◌, ◌≤◌, ℕ, suc, Ok, false};
+    ghost use Rattle.sja_link.specs.BusLedgers.{link_of};
+    ghost use Rattle.sja_link.specs.declared.entry.Entry.TheVariants.{Up as Item};
+    ghost use Rattle.sja_wire.specs.Links.{Goes, Moves};
+    ghost use Rattle.sja_wire.specs.OneBit.{MayHaveItems, Opens};
+    ghost use Rattle.sja_bus.specs.Reasons.{RefusesItem};
+    ghost use Rattle.sja_bus.specs.Inside.Seats.{IsSeat, IsReady, IsOwed};
+    ghost use Rattle.sja_bus.specs.Inside.AtLinks.{HasLinks, KeepsLinks};
+    ghost use Rattle.sja_bus.specs.Inside.Taking.{FullForAbort, Takes, Refuses, RefusesHere};
+    ghost use Rattle.sja_bus.specs.Inside.Turning.{TakesUntold, OpensUntold};
+    ghost use Rattle.sja_link.specs.declared.up.Up.TheVariants.{Start, Credit, Send, Stop};
+    ghost use Rattle.sja_link.specs.declared.up.Up.{Up as Given};
+    ghost use Rattle.sja_link.specs.Places.{past, place_of};
+    ghost use Rattle.sja_bus.specs.declared.untold.Untold.TheVariants.{Changed};
+    ghost use Rattle.sja_wire.specs.OutOfOrder.{IsOutOfOrder};
+
+    /// Takes all that the links show, and then applies an abort that stands.
+    #[inline(always)]
+    pub(crate) fn open_bit<E: BusEnd, B: Board>(
+        &mut self,
+        links: &mut [E],
+        base: usize,
+        board: &B,
+    ) -> Result<(), BusFault>
+        requires at { HasLinks E.link self.old links.old base }
+        requires port { (link_of self.old.ledger).node < B.ports board.now }
+        ensures stays { KeepsLinks E.same self.old self.new links.old links.new }
+        ensures ready { OnOk result (IsReady self.new) }
+        ensures goes { OnOk result
+            (Goes E.same E.stands self.old.journal.entries self.new.journal.entries links.old links.new base) }
+        ensures opens { OnOk result (Opens (B.orders_are board.now (link_of self.old.ledger).node)
+            self.old.journal.entries self.new.journal.entries) }
+        ensures untold { OnOk result (OpensUntold self.old self.new) }
+        ensures dry { OnOk result
+            ((d : E) → self.new.ended < 8 → E.dry (slice_index_or links.new (base + self.new.ended) d)) }
+        ensures stops { IfErr result (λ f. RefusesItem E.stands self.old.journal.room self.old.journal.entries
+            self.new.journal.entries links.old links.new base (link_of self.old.ledger).node f
+            ⊎ FullForAbort E.stands (B.orders_are board.now (link_of self.old.ledger).node) self.old self.new
+            links.old links.new base f) }
+    {
+        self.gather(links, base)?;
+        let ordered = board.orders(self.number()).abort;
+        if ordered { self.abort() } else { Ok(()) }
+    }
+
+    /// Takes all that the links show, one link after the other.
+    #[inline(always)]
+    pub(crate) fn gather<E: BusEnd>(&mut self, links: &mut [E], base: usize) -> Result<(), BusFault>
+        requires at { HasLinks E.link self.old links.old base }
+        ensures stays { KeepsLinks E.same self.old self.new links.old links.new }
+        ensures ready { OnOk result (IsReady self.new) }
+        ensures goes { OnOk result
+            (Goes E.same E.stands self.old.journal.entries self.new.journal.entries links.old links.new base) }
+        ensures items { OnOk result (MayHaveItems self.old.journal.entries self.new.journal.entries) }
+        ensures untold { OnOk result (TakesUntold self.old self.new) }
+        ensures dry { OnOk result
+            ((d : E) → self.new.ended < 8 → E.dry (slice_index_or links.new (base + self.new.ended) d)) }
+        ensures refused { IfErr result (λ f. RefusesItem E.stands self.old.journal.room self.old.journal.entries
+            self.new.journal.entries links.old links.new base (link_of self.old.ledger).node f) }
+    {
+        loop {
+            if self.ended >= 8 {
+                return Ok(());
+            }
+            let here = base + self.ended as usize;
+            if !self.take(&mut links[here])? {
+                return Ok(());
+            }
+        }
+    }
+
+    /// Takes one item from the link that is read. False where it shows none.
+    #[inline(always)]
+    fn take<E: BusEnd>(&mut self, end: &mut E) -> Result<bool, BusFault>
+        requires id { E.link end.old ≡ link_of self.old.ledger }
+        requires ready { IsReady self.old }
+        requires more { self.old.ended < 8 }
+        ensures same { E.same end.old end.new }
+        ensures node { (link_of self.new.ledger).node ≡ (link_of self.old.ledger).node }
+        ensures room { self.new.journal.room ≡ self.old.journal.room }
+        ensures ready { OnOk result (IsReady self.new) }
+        ensures moves { OnOk result
+            (Moves E.stands end.old end.new self.old.journal.entries self.new.journal.entries (suc self.old.ended)) }
+        ensures some { result ≡ Ok true → (item : Given)
+            × (self.new.journal.entries ≡ self.old.journal.entries ++ Item item ∷ [])
+            × (length self.old.journal.entries < self.old.journal.room)
+            × ((past (place_of self.old.journal.entries) (Item item)).activation ≡ suc self.old.ended)
+            × (IsOutOfOrder self.old.journal.entries item → ⊥) }
+        ensures untold { result ≡ Ok true → self.new.untold ≡ Changed }
+        ensures none { result ≡ Ok false → E.dry end.new × (self.new ≡ self.old) }
+        ensures refused { IfErr result (λ f. RefusesHere E.stands end.old end.new self.old self.new f) }
+    {
+        match self.ledger.collect(end) {
+            Ok(None) => Ok(false),
+            Ok(Some(item)) => {
+                self.note(item)?;
+                self.untold = Untold::Changed;
+                self.drives = self.node.drive();
+                Ok(true)
+            }
+            Err(BadCredit(bytes)) => Err(BusFault::BadCredit(self.number(), bytes)),
+        }
+    }
+
+    /// An item was taken.
+    #[inline(never)]
+    fn note(&mut self, item: Up) -> Result<(), BusFault>
+        requires owed { IsOwed self.old (Item item) }
+        requires seat { IsSeat self.old }
+        requires more { self.old.ended < 8 }
+        requires some { (bytes : ℕ) → item ≡ Credit bytes → (3 ≤ bytes) × (bytes ≤ 13) }
+        ensures node { (link_of self.new.ledger).node ≡ (link_of self.old.ledger).node }
+        ensures room { self.new.journal.room ≡ self.old.journal.room }
+        ensures takes { OnOk result (Takes self.old self.new item) }
+        ensures refused { IfErr result (λ f. Refuses self.old self.new item f) }
+    {
+        match item {
+            Up::Start(config) => self.begin(config),
+            Up::Credit(bytes) => self.credited(bytes),
+            Up::Send(request) => self.ask(request),
+            Up::Stop => self.end(),
+        }
+    }
+
+    /// A start was taken.
+    fn begin(&mut self, config: Config) -> Result<(), BusFault>
+        requires owed { IsOwed self.old (Item (Start config)) }
+        requires seat { IsSeat self.old }
+        requires more { self.old.ended < 8 }
+        ensures node { (link_of self.new.ledger).node ≡ (link_of self.old.ledger).node }
+        ensures room { self.new.journal.room ≡ self.old.journal.room }
+        ensures takes { OnOk result (Takes self.old self.new (Start config)) }
+        ensures refused { IfErr result (λ f. Refuses self.old self.new (Start config) f) }
+    {
+        let Activity::Between = self.activity else {
+            return Err(BusFault::BadOrder(self.number()));
+        };
+        self.node.start(config.copy());
+        self.activity = Activity::Running(config.filter);
+        self.enter(Entry::Up(Up::Start(config)))
+    }
+
+    /// A credit was taken. Between two activations none can be: all 64 bytes are free there.
+    fn credited(&mut self, bytes: u8) -> Result<(), BusFault>
+        requires owed { IsOwed self.old (Item (Credit bytes)) }
+        requires seat { IsSeat self.old }
+        requires more { self.old.ended < 8 }
+        requires some { (3 ≤ bytes) × (bytes ≤ 13) }
+        ensures node { (link_of self.new.ledger).node ≡ (link_of self.old.ledger).node }
+        ensures room { self.new.journal.room ≡ self.old.journal.room }
+        ensures takes { OnOk result (Takes self.old self.new (Credit bytes)) }
+        ensures refused { IfErr result (λ f. Refuses self.old self.new (Credit bytes) f) }
+    {
+        self.enter(Entry::Up(Up::Credit(bytes)))
+    }
+
+    /// A request was taken.
+    fn ask(&mut self, request: Request) -> Result<(), BusFault>
+        requires owed { IsOwed self.old (Item (Send request)) }
+        requires seat { IsSeat self.old }
+        requires more { self.old.ended < 8 }
+        ensures node { (link_of self.new.ledger).node ≡ (link_of self.old.ledger).node }
+        ensures room { self.new.journal.room ≡ self.old.journal.room }
+        ensures takes { OnOk result (Takes self.old self.new (Send request)) }
+        ensures refused { IfErr result (λ f. Refuses self.old self.new (Send request) f) }
+    {
+        match self.activity {
+            Activity::Running(_) => match self.node.request(request.copy()) {
+                Ok(()) => self.enter(Entry::Up(Up::Send(request))),
+                Err(_) => Err(BusFault::BadOrder(self.number())),
+            },
+            Activity::Off => {
+                self.activity = Activity::OffAndAsked;
+                self.enter(Entry::Up(Up::Send(request)))
+            }
+            _ => Err(BusFault::BadOrder(self.number())),
+        }
+    }
+
+    /// A stop was taken: the next link is read from now on.
+    fn end(&mut self) -> Result<(), BusFault>
+        requires owed { IsOwed self.old (Item Stop) }
+        requires seat { IsSeat self.old }
+        requires more { self.old.ended < 8 }
+        ensures node { (link_of self.new.ledger).node ≡ (link_of self.old.ledger).node }
+        ensures room { self.new.journal.room ≡ self.old.journal.room }
+        ensures takes { OnOk result (Takes self.old self.new Stop) }
+        ensures refused { IfErr result (λ f. Refuses self.old self.new Stop f) }
+    {
+        if let Activity::Between = self.activity {
+            return Err(BusFault::BadOrder(self.number()));
+        }
+        self.node.stop();
+        self.activity = Activity::Between;
+        self.ended += 1;
+        self.ledger = BusLedger::new(LinkId {
+            node: self.ledger.id().node,
+            activation: self.ended + 1,
+        });
+        self.enter(Entry::Up(Up::Stop))
+    }
+}

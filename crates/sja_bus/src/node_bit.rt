@@ -1,0 +1,219 @@
+//! One bit of a controller: what it sees, what comes of it, and what its port is told.
+
+use super::activity::Activity;
+use super::bit_outcome::BitOutcome;
+use super::board::Board;
+use super::seat::Seat;
+use super::untold::Untold;
+use super::verdict::passing;
+use can_bits::Level;
+use sja_link::{BusEnd, Entry};
+use sja_wire::BusFault;
+
+impl Seat {
+    ghost use Rattle.std.specs.Prelude.{◌≡◌, ◌≢◌, ◌<◌, ℕ, true, false, length, OnOk, IfOk, IfErr, suc};
+    ghost use Rattle.std.specs.Prelude.{[], ◌∷◌, ◌++◌};
+    ghost use Rattle.can_node.specs.Stands.{Samples, InReset};
+    ghost use Rattle.sja_link.specs.BusLedgers.{link_of};
+    ghost use Rattle.sja_wire.specs.Links.{Goes, Moves};
+    ghost use Rattle.sja_bus.specs.Reasons.{IsBrokenFor};
+    ghost use Rattle.sja_bus.specs.Inside.Seats.{IsSound, IsSeat, IsReady, IsMid};
+    ghost use Rattle.sja_bus.specs.Inside.AtLinks.{HasLinks, KeepsLinks};
+    ghost use Rattle.sja_bus.specs.declared.untold.Untold.TheVariants.{Nothing};
+    ghost use Rattle.sja_bus.specs.Inside.Turning.{Brings, IsQuietBit, Turns, BringsVerdict};
+    ghost use Rattle.can_frame.specs.declared.filter.Filter.{Filter as Filtering};
+    ghost use Rattle.sja_link.specs.declared.entry.Entry.TheVariants.{Bit};
+    ghost use Rattle.sja_bus.specs.declared.activity.Activity.TheVariants.{Running};
+    ghost use Rattle.sja_bus.specs.Inside.Taking.{BreaksHere, IsBitShort};
+
+    /// One bit of the node, which sees this level. Its port is told of it, unless nothing happened and nothing is left
+    /// to be told.
+    #[inline(always)]
+    pub(crate) fn sample<E: BusEnd, B: Board>(
+        &mut self,
+        links: &mut [E],
+        base: usize,
+        seen: Level,
+        board: &mut B,
+    ) -> Result<(), BusFault>
+        requires at { HasLinks E.link self.old links.old base }
+        requires port { (link_of self.old.ledger).node < B.ports board.old }
+        ensures stays { KeepsLinks E.same self.old self.new links.old links.new }
+        ensures ready { OnOk result (IsReady self.new) }
+        ensures goes { OnOk result
+            (Goes E.same E.stands self.old.journal.entries self.new.journal.entries links.old links.new base) }
+        ensures ports { B.ports board.new ≡ B.ports board.old }
+        ensures others { (k : ℕ) → k ≢ (link_of self.old.ledger).node → B.kept board.old board.new k }
+        ensures turns { OnOk result (Turns (B.told board.old board.new (link_of self.old.ledger).node)
+            (B.kept board.old board.new (link_of self.old.ledger).node) seen self.old self.new) }
+        ensures broken { IfErr result (λ f.
+            IsBrokenFor E.stands E.full (link_of self.old.ledger).node self.old.journal.room
+            self.old.journal.entries self.new.journal.entries links.old base f) }
+    {
+        if self.may_sample_quietly() && self.sample_quietly(seen) {
+            return Ok(());
+        }
+        let outcome = self.sample_fully(links, base, seen)?;
+        self.drives = self.node.drive();
+        self.tell(board, outcome);
+        Ok(())
+    }
+
+    /// Whether its port is told all, and its journal has room.
+    #[inline(always)]
+    fn may_sample_quietly(&self) -> bool
+        ensures told { result ≡ true → self.now.untold ≡ Nothing }
+        ensures free { result ≡ true → length self.now.journal.entries < self.now.journal.room }
+    {
+        if let Untold::Nothing = self.untold {
+            self.journal.free() > 0
+        } else {
+            false
+        }
+    }
+
+    /// A bit of the node, which sees this level and whose port is told all, where nothing happens and its journal has
+    /// room. Answers whether it was one; else nothing changed.
+    #[inline(always)]
+    pub(crate) fn sample_quietly(&mut self, seen: Level) -> bool
+        requires ready { IsReady self.old }
+        requires told { self.old.untold ≡ Nothing }
+        requires free { length self.old.journal.entries < self.old.journal.room }
+        ensures node { (link_of self.new.ledger).node ≡ (link_of self.old.ledger).node }
+        ensures room { self.new.journal.room ≡ self.old.journal.room }
+        ensures ready { IsReady self.new }
+        ensures quiet { result ≡ true → IsQuietBit seen self.old self.new }
+        ensures same { result ≡ false → self.new ≡ self.old }
+    {
+        if self.node.sample_quietly(seen) {
+            self.journal.enter_bit_reserved(self.drives, seen);
+            self.drives = self.node.drive();
+            return true;
+        }
+        false
+    }
+
+    /// One bit of the node in which something may happen.
+    #[inline(always)]
+    fn sample_fully<E: BusEnd>(
+        &mut self,
+        links: &mut [E],
+        base: usize,
+        seen: Level,
+    ) -> Result<BitOutcome, BusFault>
+        requires at { HasLinks E.link self.old links.old base }
+        ensures stays { KeepsLinks E.same self.old self.new links.old links.new }
+        ensures sound { OnOk result (IsSound self.new) }
+        ensures seat { OnOk result (IsSeat self.new) }
+        ensures untold { self.new.untold ≡ self.old.untold }
+        ensures samples { IfOk result (λ outcome. Samples self.old.node self.new.node seen outcome.events) }
+        ensures goes { OnOk result
+            (Goes E.same E.stands self.old.journal.entries self.new.journal.entries links.old links.new base) }
+        ensures brings { IfOk result (λ outcome.
+            Brings self.old.journal.entries self.old.drives seen outcome self.new.journal.entries) }
+        ensures broken { IfErr result (λ f.
+            IsBrokenFor E.stands E.full (link_of self.old.ledger).node self.old.journal.room
+            self.old.journal.entries self.new.journal.entries links.old base f) }
+    {
+        let Activity::Running(_) = self.activity else {
+            return self.sample_in_reset(seen);
+        };
+        let here = base + self.ended as usize;
+        self.sample_running(&mut links[here], seen)
+    }
+
+    /// One bit of a node in reset: it looks at no level.
+    fn sample_in_reset(&mut self, seen: Level) -> Result<BitOutcome, BusFault>
+        requires rests { InReset self.old.node }
+        requires ready { IsReady self.old }
+        ensures room { self.new.journal.room ≡ self.old.journal.room }
+        ensures kept { (self.new.ended ≡ self.old.ended) × (self.new.ledger ≡ self.old.ledger) }
+        ensures untold { self.new.untold ≡ self.old.untold }
+        ensures sound { OnOk result (IsSound self.new) }
+        ensures seat { OnOk result (IsSeat self.new) }
+        ensures samples { IfOk result (λ outcome. Samples self.old.node self.new.node seen outcome.events) }
+        ensures entered { OnOk result
+            (self.new.journal.entries ≡ self.old.journal.entries ++ Bit self.old.drives seen ∷ []) }
+        ensures quiet { IfOk result (λ outcome. (outcome.events.went_off ≡ false) × (outcome.overrun ≡ false)) }
+        ensures short { IfErr result (λ f. IsBitShort self.old self.new f) }
+    {
+        let driven = self.drives;
+        let events = self.node.sample(seen);
+        self.enter(Entry::Bit(driven, seen))?;
+        Ok(BitOutcome {
+            events,
+            overrun: false,
+        })
+    }
+
+    /// One bit of a node that runs.
+    fn sample_running<E: BusEnd>(
+        &mut self,
+        end: &mut E,
+        seen: Level,
+    ) -> Result<BitOutcome, BusFault>
+        requires running { (f : Filtering) × (self.old.activity ≡ Running f) }
+        requires link { E.link end.old ≡ link_of self.old.ledger }
+        requires ready { IsReady self.old }
+        ensures room { self.new.journal.room ≡ self.old.journal.room }
+        ensures id { link_of self.new.ledger ≡ link_of self.old.ledger }
+        ensures ended { self.new.ended ≡ self.old.ended }
+        ensures untold { self.new.untold ≡ self.old.untold }
+        ensures same { E.same end.old end.new }
+        ensures sound { OnOk result (IsSound self.new) }
+        ensures seat { OnOk result (IsSeat self.new) }
+        ensures samples { IfOk result (λ outcome. Samples self.old.node self.new.node seen outcome.events) }
+        ensures moves { OnOk result
+            (Moves E.stands end.old end.new self.old.journal.entries self.new.journal.entries (suc self.old.ended)) }
+        ensures brings { IfOk result (λ outcome.
+            Brings self.old.journal.entries self.old.drives seen outcome self.new.journal.entries) }
+        ensures broken { IfErr result (λ f. BreaksHere E.stands E.full end.old self.old self.new f) }
+    {
+        let outcome = self.sample_and_judge(end, seen)?;
+        if !outcome.events.went_off {
+            return Ok(outcome);
+        }
+        self.go_off(end)?;
+        Ok(outcome)
+    }
+
+    /// The bit of a node that runs, and the verdict on what was received with it.
+    fn sample_and_judge<E: BusEnd>(
+        &mut self,
+        end: &mut E,
+        seen: Level,
+    ) -> Result<BitOutcome, BusFault>
+        requires id { E.link end.old ≡ link_of self.old.ledger }
+        requires runs { (f : Filtering) × (self.old.activity ≡ Running f) }
+        requires ready { IsReady self.old }
+        ensures same { E.same end.old end.new }
+        ensures kept { (self.new.ended ≡ self.old.ended) × (self.new.activity ≡ self.old.activity)
+            × (link_of self.new.ledger ≡ link_of self.old.ledger) }
+        ensures room { self.new.journal.room ≡ self.old.journal.room }
+        ensures untold { self.new.untold ≡ self.old.untold }
+        ensures mid { IfOk result (λ outcome. IsMid self.new outcome.events.went_off) }
+        ensures off { IfOk result (λ outcome. outcome.events.went_off ≡ true → InReset self.new.node) }
+        ensures samples { IfOk result (λ outcome. Samples self.old.node self.new.node seen outcome.events) }
+        ensures moves { OnOk result
+            (Moves E.stands end.old end.new self.old.journal.entries self.new.journal.entries (suc self.old.ended)) }
+        ensures verdict { IfOk result (λ outcome.
+            BringsVerdict self.old.journal.entries self.old.drives seen outcome.overrun self.new.journal.entries) }
+        ensures broken { IfErr result (λ f. BreaksHere E.stands E.full end.old self.old self.new f) }
+    {
+        let driven = self.drives;
+        let events = self.node.sample_fully(seen);
+        match passing(&self.activity, &events.received) {
+            None => {
+                self.enter_bit(driven, seen)?;
+                Ok(BitOutcome {
+                    events,
+                    overrun: false,
+                })
+            }
+            Some(message) => {
+                let overrun = self.judge(end, driven, seen, message)?;
+                Ok(BitOutcome { events, overrun })
+            }
+        }
+    }
+}
