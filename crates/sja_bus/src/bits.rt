@@ -15,7 +15,7 @@ use super::all_nodes::sample_all;
 use super::board::Board;
 use super::broken_off::BrokenOff;
 use super::bus::Bus;
-use super::idle_bits::all_rest;
+use super::idle_bits::are_at_rest;
 use super::ports::are_told;
 use super::seat::Seat;
 use super::struck_bits::StruckBits;
@@ -212,7 +212,7 @@ fn goes_on(seats: &[Seat], struck: StruckNodes, to_rest: bool) -> bool
     if !struck.is_empty() {
         return false;
     }
-    !(to_rest && all_rest(seats))
+    !(to_rest && are_at_rest(seats))
 }
 
 /// For how many bits that are entered alone each journal has room, at most so many.

@@ -4,7 +4,7 @@ ghost use Rattle.std.specs.Prelude.{◌≡◌, None};
 
 use super::all_nodes::{bit_of_all, gather_all};
 use super::board::Board;
-use super::idle_bits::all_rest;
+use super::idle_bits::are_at_rest;
 use super::node_log::logs_of;
 use super::seat::Seat;
 use super::struck_bits::StruckBits;
@@ -210,7 +210,7 @@ impl Bus {
         ensures busy { self.now.fault ≡ None → result ≡ false → (node : ℕ) × (node < length self.now.journals)
             × RestsAs (record_of (journal_at self.now.journals node)) false }
     {
-        all_rest(self.seats.as_slice())
+        are_at_rest(self.seats.as_slice())
     }
 
     /// Whether a start of this node was taken; not where there is no such node.

@@ -1,15 +1,9 @@
 //! Bus-off: the driver is told of it, and it is entered.
 
-ghost use Rattle.std.specs.Prelude.{◌≡◌, OnOk, OnErr};
-ghost use Rattle.sja_link.specs.declared.down.Down.TheVariants.{Off as OffDown};
-ghost use Rattle.sja_link.specs.Lists.{Lists, with_put};
-ghost use Rattle.sja_link.specs.BusLedgers.{link_of};
-ghost use Rattle.sja_bus.specs.Inside.Taking.{IsGivenBack};
-
 use super::activity::Activity;
 use super::seat::Seat;
 use super::verdict::TRIES;
-use sja_link::{BusEnd, BusLedger, Busy, Entry};
+use sja_link::{BusEnd, Entry};
 use sja_wire::BusFault;
 
 impl Seat {
@@ -24,7 +18,7 @@ impl Seat {
     ghost use Rattle.sja_bus.specs.Inside.Seats.{IsSound, IsSeat, IsMid};
     ghost use Rattle.sja_bus.specs.Inside.Taking.{BreaksBy};
 
-    /// Tells the driver of bus-off, and writes it.
+    /// Tells the driver of bus-off, and writes it. The put is tried again where the end gives it back.
     pub(crate) fn go_off<E: BusEnd>(&mut self, end: &mut E) -> Result<(), BusFault>
         requires id { E.link end.old ≡ link_of self.old.ledger }
         requires runs { (f : Filtering) × (self.old.activity ≡ Running f) }
@@ -46,30 +40,12 @@ impl Seat {
             E.stands E.full end.old self.old self.new f) }
         ensures unentered { IfErr result (λ f. self.new.journal.entries ≡ self.old.journal.entries) }
     {
-        match put_off(&mut self.ledger, end) {
-            Ok(()) => {
+        for _ in 0..TRIES {
+            if let Ok(()) = self.ledger.off(end) {
                 self.activity = Activity::Off;
-                self.enter(Entry::Off)
+                return self.enter(Entry::Off);
             }
-            Err(Busy) => Err(BusFault::Stuck(self.number())),
         }
+        Err(BusFault::Stuck(self.number()))
     }
-}
-
-/// Puts that the node went bus-off.
-///
-/// Error: [`Busy`] where the end gave it back each time.
-fn put_off<E: BusEnd>(ledger: &mut BusLedger, end: &mut E) -> Result<(), Busy>
-    requires { E.link end.old ≡ link_of ledger.old }
-    ensures ledger { ledger.new ≡ ledger.old }
-    ensures same { E.same end.old end.new }
-    ensures puts { OnOk result ((l : Lists) → E.stands end.old l → E.stands end.new (with_put l OffDown)) }
-    ensures back { OnErr result (IsGivenBack E.stands E.full end.old) }
-{
-    for _ in 0..TRIES {
-        if let Ok(()) = ledger.off(end) {
-            return Ok(());
-        }
-    }
-    Err(Busy)
 }

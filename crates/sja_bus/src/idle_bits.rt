@@ -121,7 +121,7 @@ fn are_resting<B: Board>(seats: &[Seat], board: &B) -> bool
 }
 
 /// Whether every node is at rest.
-pub(crate) fn all_rest(seats: &[Seat]) -> bool
+pub(crate) fn are_at_rest(seats: &[Seat]) -> bool
     ensures rest { result ≡ true → (k : ℕ) (s : Seated) → k < length seats.now →
         ShowsRest (slice_index_or seats.now k s).node true }
     ensures busy { result ≡ false → (k : ℕ) × (k < length seats.now)

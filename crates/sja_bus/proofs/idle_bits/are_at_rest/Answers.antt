@@ -4,7 +4,7 @@ use Rattle.std.proofs.lemmas.List.{get_or_default as or_same}
 use Rattle.can_node.specs.Stands.{ShowsRest}
 use Rattle.sja_bus.specs.declared.seat.Seat.{Seat}
 use Rattle.sja_bus.proofs.Rests.{earlier_or_now}
-use Rattle.sja_bus.proofs.idle_bits.all_rest.Goals as goal
+use Rattle.sja_bus.proofs.idle_bits.are_at_rest.Goals as goal
 
 pub returns-then-not-at_rest-clause-busy : goal.returns-then-not-at_rest-clause-busy
 returns-then-not-at_rest-clause-busy c = λ e.
