@@ -1,6 +1,7 @@
 -- Bits in which nothing is taken and nothing aborted.
-use Rattle.std.proofs.Common.{◌≡◌, ℕ, suc, ◌+◌, ◌-◌, ◌<◌, ◌≤◌, Bool, true, false, None, List, length, replicate, inr, refl, sym, ap, ◌∙◌, subst, append-nil, arith}
-use Rattle.std.specs.Prelude.{slice_index_or, ◌↔◌}
+use Rattle.std.proofs.Common.{◌≡◌, ℕ, suc, ◌+◌, ◌-◌, ◌<◌, ◌≤◌, Bool, true, false, None, List, [], ◌∷◌, length, replicate, inl, inr, refl, sym, ap, ◌∙◌, subst, append-nil, arith}
+use Rattle.std.specs.Prelude.{slice_index_or, ◌↔◌, ◌⊎◌}
+use Rattle.std.proofs.lemmas.Bool.{cases_lt}
 use Rattle.can_bits.specs.declared.level.Level.{Level}
 use Rattle.can_node.specs.Stands.{ShowsRest}
 use Rattle.sja_link.specs.declared.entry.Entry.{Entry}
@@ -146,6 +147,28 @@ one_bit e b script n next left less struck seats after links links_after board n
       lawful = bus_run script next after bus_after;
       facts = are;
     }
+
+-- what holds of every board goes on with a bit
+pub facts_of_bit : {B : Type 0} (b : Ports B) →
+    ((was now : B) → b.ports now ≡ b.ports was →
+    ((k : ℕ) → k < b.ports was → b.kept was now k ⊎ ((turn : BusTurn) × b.told was now k turn)) →
+    b.facts was → b.facts now) →
+    (struck : StruckNodes) (level : Level) (seats after : List Seat) (board now : B) →
+    KeepsOthers b.ports b.kept (length seats) board now →
+    EachSeat (SeatTurns (b.told board now) (b.kept board now) struck level) seats after → b.facts board → b.facts now
+facts_of_bit {B} b go_on struck level seats after board now others turns facts =
+    go_on board now others.0 (λ k few. each seats turns others.1 k (cases_lt k (length seats))) facts
+  where
+    each : (before : List Seat) →
+        EachSeat (SeatTurns (b.told board now) (b.kept board now) struck level) before after →
+        ((k : ℕ) → length before ≤ k → b.kept board now k) → (k : ℕ) → (k < length before) ⊎ (length before ≤ k) →
+        b.kept board now k ⊎ ((turn : BusTurn) × b.told board now k turn)
+    each before turn kept k (inr far) = inl (kept k far)
+    each [] turn kept k (inl near) = absurd (omega (arith, near))
+    each (s ∷ before) turn kept k (inl near) = let bit = turn k s near in elim bit.port [
+      | inl told ↦ inr (bit.turn, told)
+      | inr passed ↦ inl passed.0
+    ]
 
 -- ---- several
 

@@ -89,7 +89,8 @@ seen_plain : (node : ℕ) → seen_by nobody Recessive node ≡ Recessive
 seen_plain node = ap (λ c. cond c (opposite Recessive) Recessive) (ne_eqb (bit_at 0 node) 1 (not_among node))
 
 module _ (orders_are : ℕ → Orders → Type 0) (was_told : ℕ → BusTurn → Type 0) (was_kept : ℕ → Type 0) (kept : (node : ℕ) → was_kept node)
-    (seats : List Seat) (ready : AreReady seats) (rest : AreResting orders_are seats) where
+    (seats : List Seat) (ready : AreReady seats) (rest : AreResting seats)
+    (asked : (node : ℕ) → node < length seats → (o : Orders) × orders_are node o) where
   here : (n m : ℕ) → m < length (all_after n seats) → m < length seats
   here n m few = let c = after_count n seats in omega (arith, few, c)
 
@@ -100,31 +101,31 @@ module _ (orders_are : ℕ → Orders → Type 0) (was_told : ℕ → BusTurn �
     count = refl;
     opens = λ m s few.
         let P : Seat → Type 0 = λ x. SeatOpens orders_are m x x in
-        let o = rest.orders m (here n m few) in
-        subst P (sym (after_at n seats m s (here n m few))) (opens_after (orders_are m) n (slice_index_or seats m s) o.0 o.1 (ready m s (here n m few)).ready (rest.each m s (here n m few)));
+        let o = asked m (here n m few) in
+        subst P (sym (after_at n seats m s (here n m few))) (opens_after (orders_are m) n (slice_index_or seats m s) o.0 o.1 (ready m s (here n m few)).ready (rest m s (here n m few)));
     untold = λ m s few.
         let P : Seat → Type 0 = λ x. SeatOpensUntold m x x in
         subst P (sym (after_at n seats m s (here n m few))) (untold_none (after_bits n (slice_index_or seats m s)));
-    is_level = after_wired n seats (λ k s few. (rest.each k s few).drives);
+    is_level = after_wired n seats (λ k s few. (rest k s few).drives);
     turns = λ m s few.
         let P : Seat → Type 0 = λ x. SeatTurns was_told was_kept nobody Recessive m x (slice_index_or (all_after (suc n) seats) m s) in
         let Q : Seat → Type 0 = λ x. SeatTurns was_told was_kept nobody Recessive m (after_bits n (slice_index_or seats m s)) x in
         let R : Level → Type 0 = λ x. Turns (was_told m) (was_kept m) x (after_bits n (slice_index_or seats m s)) (after_bits (suc n) (slice_index_or seats m s)) in
         subst P (sym (after_at n seats m s (here n m few))) (subst Q (sym (after_at (suc n) seats m s (here n m few)))
-        (subst R (sym (seen_plain m)) (turns_after (was_told m) (was_kept m) n (slice_index_or seats m s) (kept m) (ready m s (here n m few)).ready (rest.each m s (here n m few)))));
+        (subst R (sym (seen_plain m)) (turns_after (was_told m) (was_kept m) n (slice_index_or seats m s) (kept m) (ready m s (here n m few)).ready (rest m s (here n m few)))));
   }
 
   calm_after : (n : ℕ) → AreCalm (all_after n seats)
   calm_after n m s few e =
       let none : (slice_index_or (all_after n seats) m s).untold ≡ Nothing =
-      ap (λ (x : Seat). x.untold) (after_at n seats m s (here n m few)) ∙ (rest.each m s (here n m few)).none in
+      ap (λ (x : Seat). x.untold) (after_at n seats m s (here n m few)) ∙ (rest m s (here n m few)).none in
       let wrong : Nothing ≡ Dropped = sym none ∙ e in cc
 
   ready_all : (n : ℕ) → AreReady (all_after n seats)
   ready_all n m s few =
       let P : Seat → Type 0 = λ x. IsOf x m in
       let was = ready m s (here n m few) in
-      subst P (sym (after_at n seats m s (here n m few))) (record { ready = ready_after n (slice_index_or seats m s) was.ready (rest.each m s (here n m few)); own = was.own })
+      subst P (sym (after_at n seats m s (here n m few))) (record { ready = ready_after n (slice_index_or seats m s) was.ready (rest m s (here n m few)); own = was.own })
 
   module _ (script : List Strike) (run count : ℕ) (most : length seats ≤ 8)
       (unstruck : (bit node : ℕ) → run ≤ bit → bit < run + count → node < 8 → Strikes script bit node → ⊥) where
@@ -173,7 +174,7 @@ module _ (orders_are : ℕ → Orders → Type 0) (was_told : ℕ → BusTurn �
         told_by [] e node few = let cs = count_is seats in let z : length seats ≡ 0 = ap (λ (l : List Seat). length l) (sym e) in absurd (omega (arith, few, cs, z))
         told_by (s ∷ xs) e node few =
             let cs = count_is seats in let near : node < length seats = omega (arith, few, cs) in
-            untold_is seats node s near ∙ ap is_untold (rest.each node s near).none
+            untold_is seats node s near ∙ ap is_untold (rest node s near).none
 
 -- ---- why they aren't more
 

@@ -13,3 +13,4 @@ pub mod Ending
 pub mod Idling
 pub mod AtOnce
 pub mod RunningOn
+pub mod SerialBoards

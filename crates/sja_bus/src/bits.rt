@@ -111,6 +111,7 @@ impl Bus {
     ) -> Result<u32, BusFault>
         requires fit { AreFor E.link links.old (length self.old.journals) (B.ports board.old) }
         requires right { self.old.fault ≡ None }
+        requires facts { B.facts board.old }
         requires most { count ≤ self.old.left }
         ensures most { IfOk result (λ n. n ≤ count) }
         ensures runs { IfOk result (λ n. IsSoFar E.BusEnd B.Board (AnyBit E.BusEnd B.Board) to_rest
@@ -174,8 +175,10 @@ fn untaken_bits<E: BusEnd, B: Board>(
     requires may { NoneAborts (B.orders_are board.old) (length seats.old) × AreTold seats.old }
     requires bus { IsBus struck.now.script from seats.old }
     requires within { (from + most ≤ struck.now.bits) × (struck.now.bits ≤ 200000) }
+    requires facts { B.facts board.old }
     ensures sames { EachRelated E.same links.old links.new }
     ensures others { KeepsOthers B.ports B.kept (length seats.old) board.old board.new }
+    ensures facts { OnOk result (B.facts board.new) }
     ensures most { MatchResult result (λ n. n ≤ most) (λ f. f.after < most) }
     ensures rooms { OnOk result ((n : ℕ) → HaveRoom n seats.old → HaveRoom n seats.new) }
     ensures runs { IfOk result (λ n. RowsRun E.BusEnd B.Board to_rest struck.now.script from most
@@ -190,7 +193,6 @@ fn untaken_bits<E: BusEnd, B: Board>(
         }
         match sample_all(seats, links, level, StruckNodes::none(), board) {
             Ok(end) => {
-                board.keeps_its_facts();
                 if end.told {
                     return Ok(run + 1);
                 }

@@ -1,6 +1,6 @@
 //! The ports of a bus.
 
-ghost use Rattle.std.specs.Prelude.{◌≡◌, ◌≢◌, ◌<◌, ℕ};
+ghost use Rattle.std.specs.Prelude.{◌≡◌, ◌≢◌, ◌<◌, ◌⊎◌, ℕ};
 ghost use Rattle.sja_regs.specs.declared.orders.Orders.{Orders};
 ghost use Rattle.sja_regs.specs.declared.bus_turn.BusTurn.{BusTurn};
 
@@ -65,4 +65,11 @@ pub trait Board {
 
     /// What a port shows already it was told, where nothing is done.
     ghost told_same: { (b : Self) (k : ℕ) (t : BusTurn) → shows b k t → told b b k t };
+
+    /// Each port has orders, whether it is asked for them or not.
+    ghost has_orders: { (b : Self) (k : ℕ) → k < ports b → (o : Orders) × orders_are b k o };
+
+    /// What holds of every board goes on where each port was told a turn or is as it was.
+    ghost facts_go_on: { (a b : Self) → ports b ≡ ports a →
+        ((k : ℕ) → k < ports a → kept a b k ⊎ ((t : BusTurn) × told a b k t)) → facts a → facts b };
 }

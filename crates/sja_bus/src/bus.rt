@@ -184,7 +184,6 @@ impl Bus {
             Ok(()) => {
                 self.run += 1;
                 self.left -= 1;
-                self.keeps_its_laws();
                 board.keeps_its_facts();
                 Ok(())
             }

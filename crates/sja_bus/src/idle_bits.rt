@@ -86,7 +86,7 @@ impl Bus {
             IsOutOfEntries (self.old.run + self.old.left) self.old.left self.old.journals self.new.journals f) }
     {
         let bits = self.struck.quiet_for(self.run, count.min(self.left));
-        if bits == 0 || !are_resting(self.seats.as_slice(), board) {
+        if bits == 0 || !are_resting(self.seats.as_slice()) {
             return Ok(0);
         }
         match all_enter_idle_bits(self.seats.as_mut_slice(), bits) {
@@ -103,19 +103,16 @@ impl Bus {
     }
 }
 
-/// Whether every node is at rest, and its port is told all. What the ports order is asked too, but changes nothing: an
-/// abort finds no request.
-fn are_resting<B: Board>(seats: &[Seat], board: &B) -> bool
-    requires ready { AreReady seats.now }
-    requires ports { length seats.now ≤ B.ports board.now }
-    ensures yes { result ≡ true → AreResting (B.orders_are board.now) seats.now }
+/// Whether every node is at rest, and its port is told all. What the ports order isn't asked: an abort finds no request.
+fn are_resting(seats: &[Seat]) -> bool
+    requires { AreReady seats.now }
+    ensures yes { result ≡ true → AreResting seats.now }
     ensures no { result ≡ false → IsOneAwake seats.now }
 {
     for k in 0..seats.len() {
         if !seats[k].is_resting() {
             return false;
         }
-        let _orders = board.orders(seats[k].number());
     }
     true
 }

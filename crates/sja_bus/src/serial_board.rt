@@ -49,6 +49,7 @@ impl Board for SerialBoard {
     ghost use Rattle.sja_regs.specs.declared.registers.Registers.{Registers};
     ghost use Rattle.sja_regs.specs.Facts.{RegisterFacts};
     ghost use Rattle.sja_bus.specs.Boards.{HasOrders, ShowsTurn, WasTold, WasClosed, WasKept};
+    ghost use Rattle.sja_bus.specs.Inside.SerialBoards.{orders_at, facts_after};
 
     ghost ports = { λ b. length b.ports.items };
 
@@ -90,4 +91,8 @@ impl Board for SerialBoard {
     ghost told_last = { λ a b c k t p q d. q d ∙ ap (λ r. after_turn r t) (p d) };
 
     ghost told_same = { λ b k t p d. sym (p d) };
+
+    ghost has_orders = { λ b k few. orders_at b.ports.items k few };
+
+    ghost facts_go_on = { λ a b count each facts. facts_after a.ports.items b.ports.items count each facts };
 }

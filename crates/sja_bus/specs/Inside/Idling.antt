@@ -3,7 +3,6 @@ use Rattle.std.specs.Prelude.{◌≡◌, ◌≢◌, ◌⊎◌, ◌≤◌, ◌<�
 use Rattle.can_bits.specs.declared.level.Level.TheVariants.{Recessive}
 use Rattle.can_node.specs.Stands.{ShowsRest}
 use Rattle.sja_link.specs.BusLedgers.{link_of}
-use Rattle.sja_regs.specs.declared.orders.Orders.{Orders}
 use Rattle.sja_wire.specs.declared.bus_fault.BusFault.{BusFault}
 use Rattle.sja_wire.specs.declared.bus_fault.BusFault.TheVariants.{JournalFull}
 use Rattle.sja_bus.specs.declared.untold.Untold.TheVariants.{Nothing}
@@ -20,10 +19,9 @@ pub record IsResting (s : Seat) : Type 0 where
 abbrev pub IsAwake : Seat → Type 0
 IsAwake s = (s.untold ≢ Nothing) ⊎ ShowsRest s.node false
 
--- each of them is at rest, with nothing to be told, and its port has orders
-pub record AreResting (orders_are : ℕ → Orders → Type 0) (seats : List Seat) : Type 0 where
-  pub each : (k : ℕ) (s : Seat) → k < length seats → IsResting (slice_index_or seats k s)
-  pub orders : (k : ℕ) → k < length seats → (o : Orders) × orders_are k o
+-- each of them is at rest, with nothing to be told
+abbrev pub AreResting : List Seat → Type 0
+AreResting seats = (k : ℕ) (s : Seat) → k < length seats → IsResting (slice_index_or seats k s)
 
 -- one of them isn't
 abbrev pub IsOneAwake : List Seat → Type 0

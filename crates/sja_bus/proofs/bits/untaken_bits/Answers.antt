@@ -1,4 +1,4 @@
-use Rattle.std.proofs.Common.{◌≡◌, ℕ, ◌+◌, ◌-◌, ◌<◌, false, true, length, rules, arith, refl, ap, ◌∙◌, subst}
+use Rattle.std.proofs.Common.{◌≡◌, ℕ, ◌+◌, ◌-◌, ◌<◌, false, true, length, rules, arith, refl, sym, ap, ◌∙◌, subst}
 use Rattle.std.specs.Prelude.{slice_index_or}
 use Rattle.sja_link.proofs.Related.{each_refl, each_trans}
 use Rattle.sja_bus.specs.Reasons.{room_for}
@@ -6,12 +6,20 @@ use Rattle.sja_bus.specs.Several.{WorksIf}
 use Rattle.sja_bus.specs.Inside.Rows.{IsBus}
 use Rattle.sja_bus.specs.Inside.RunningOn.{moment_of, AnyBit, RowsRun}
 use Rattle.sja_bus.proofs.Many.{numbered_kept}
-use Rattle.sja_bus.proofs.RunningOn.{passes, none_still, some_work, none_yet, bits_on, stops_on}
-use Rattle.sja_bus.proofs.bits.untaken_bits.Goals.{After-keeps_its_facts}
+use Rattle.sja_bus.proofs.RunningOn.{facts_of_bit, passes, none_still, some_work, none_yet, bits_on, stops_on}
+use Rattle.sja_bus.proofs.bits.untaken_bits.Goals.{In-Ok}
 use Rattle.sja_bus.proofs.bits.untaken_bits.Goals as goal
 
+-- what holds of every board held before that bit, and does after it
+facts : (g : _) (c : In-Ok g) → g.B.Board.facts c.sample_all.new.board
+facts g c =
+    let B = g.B.Board in let F : _ → Type 0 = λ x. B.facts x in
+    facts_of_bit B g.met.B.Board.facts_go_on c.none.result c.loop-run.level c.loop-run.seats c.sample_all.new.seats
+    c.loop-run.board c.sample_all.new.board c.sample_all.ensures.board c.in-Ok.ensures.turns
+    (subst F (sym c.loop-run.invariant.board) c.requires.facts)
+
 -- the bits so far, and one more that went well
-runs_more : (g : _) (c : After-keeps_its_facts g) → RowsRun g.E.BusEnd g.B.Board c.args.to_rest c.args.struck.now.script c.args.from c.args.most
+runs_more : (g : _) (c : In-Ok g) → RowsRun g.E.BusEnd g.B.Board c.args.to_rest c.args.struck.now.script c.args.from c.args.most
     c.args.seats.now c.sample_all.new.seats c.args.links.now c.sample_all.new.links c.args.board.now c.sample_all.new.board (c.loop-run.run + 1)
 runs_more g c =
     let E = g.E.BusEnd in
@@ -26,7 +34,7 @@ runs_more g c =
       bits = λ left enough.
           bits_on E B c.args.to_rest (moment_of c.args.struck.now.script c.args.from left c.args.seats.now c.args.links.now c.args.board.now)
           c.args.struck.now.script c.args.from c.loop-run.run c.args.most left c.none.result c.loop-run.seats c.sample_all.new.seats c.loop-run.links c.sample_all.new.links a z early enough c.sample_all.auto.seats pass.few pass.at pass.row
-          c.sample_all.ensures.sames c.sample_all.ensures.board c.in-Ok.ensures.goes inv.bus (pass.bus (c.args.from + (c.loop-run.run + 1)) (omega arith)) c.keeps_its_facts.ensures
+          c.sample_all.ensures.sames c.sample_all.ensures.board c.in-Ok.ensures.goes inv.bus (pass.bus (c.args.from + (c.loop-run.run + 1)) (omega arith)) (facts g c)
           (λ yes. some_work c.loop-run.seats inv.bus.ready (c.goes_on.ensures.works goes yes)) (inv.bits left enough);
     }
 
@@ -75,12 +83,18 @@ pub returns-then-end-clause-rooms : goal.returns-then-end-clause-rooms
 returns-then-end-clause-rooms g c = λ n h. c.in-Ok.ensures.rooms n (c.loop-run.invariant.rooms n h)
 
 pub returns-then-end-clause-runs : goal.returns-then-end-clause-runs
-returns-then-end-clause-runs g c = runs_more g (goal.at.returns-then-end-clause-runs g c).After-keeps_its_facts
+returns-then-end-clause-runs g c = runs_more g (goal.at.returns-then-end-clause-runs g c).In-Ok
+
+pub returns-then-end-clause-facts : goal.returns-then-end-clause-facts
+returns-then-end-clause-facts g c = facts g (goal.at.returns-then-end-clause-facts g c).In-Ok
+
+pub returns-clause-facts : goal.returns-clause-facts
+returns-clause-facts g c = let F : _ → Type 0 = λ x. g.B.Board.facts x in subst F (sym c.loop-run.invariant.board) c.requires.facts
 
 pub loop-run-preserved : goal.loop-run-preserved
 loop-run-preserved g c =
     let E = g.E.BusEnd in let inv = c.loop-run.invariant in
-    let more = runs_more g (goal.at.loop-run-preserved g c).After-keeps_its_facts in
+    let more = runs_more g (goal.at.loop-run-preserved g c).In-Ok in
     let within : c.loop-run.run < length c.part-marks.result.now = search rules in
     let untold : c.in-Ok.end.told ≡ false = search rules in record {
       level = c.in-Ok.ensures.level;

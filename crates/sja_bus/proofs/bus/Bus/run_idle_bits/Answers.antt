@@ -1,6 +1,7 @@
 use Rattle.std.proofs.Common.{◌≡◌, ◌≢◌, ◌+◌, ◌-◌, ◌<◌, ◌≤◌, true, false, replicate, None, List, ◌++◌, length, take, drop, sym, ap, ◌∙◌, subst, arith, rules, refl, ℕ}
 use Rattle.std.proofs.lemmas.Grind.{common_steps}
 use Rattle.std.specs.Prelude.{◌⊎◌, vec_capacity}
+use Rattle.sja_regs.specs.declared.orders.Orders.{Orders}
 use Rattle.sja_bus.specs.declared.seat.Seat.{Seat}
 use Rattle.sja_bus.specs.Buses.{BusValue}
 use Rattle.sja_script.specs.Striking.{Strikes}
@@ -33,11 +34,19 @@ is_right : (g : _) (c : After-all_enter_idle_bits g) → c.self.inside.fault ≡
 is_right g c = ap (λ (w : BusValue). w.fault) c.self.view_is ∙ c.requires.right
 
 -- all nodes rested
-rested : (g : _) (c : After-all_enter_idle_bits g) → AreResting (g.B.Board.orders_are c.args.board.now) c.self.inside.seats.items
+rested : (g : _) (c : After-all_enter_idle_bits g) → AreResting c.self.inside.seats.items
 rested g c =
     let yes : c.are_resting.result ≡ true = search rules in
-    let R : List Seat → Type 0 = λ l. AreResting (g.B.Board.orders_are c.args.board.now) l in
+    let R : List Seat → Type 0 = λ l. AreResting l in
     subst R c.as_slice.ensures.value (c.are_resting.ensures.yes yes)
+
+-- their ports have orders
+asked : (g : _) (c : After-all_enter_idle_bits g) (node : ℕ) → node < length c.self.inside.seats.items →
+    (o : Orders) × g.B.Board.orders_are c.args.board.now node o
+asked g c node few =
+    let P : BusValue → Type 0 = λ w. length w.journals ≤ g.B.Board.ports c.args.board.now in
+    let ports = subst P (sym c.self.view_is) c.requires.ports in let n = count_is c.self.inside.seats.items in
+    g.met.B.Board.has_orders c.args.board.now node (omega (arith, few, ports, n))
 
 -- each seat has that many recessive bits more
 grown : (g : _) (c : In-Ok g) → c.all_enter_idle_bits.new.seats ≡ all_after c.quiet_for-bits.result c.self.inside.seats.items
@@ -62,7 +71,7 @@ invariant_of-self g c =
       most = inv.most;
       bus = λ f. subst I (sym is)
           (bus_after (g.B.Board.orders_are board) (g.B.Board.told board board) (g.B.Board.kept board board)
-          (λ node. g.met.B.Board.kept_refl board node) was (inv.bus f).ready (rested g at) b.struck.script b.run n few
+          (λ node. g.met.B.Board.kept_refl board node) was (inv.bus f).ready (rested g at) (asked g at) b.struck.script b.run n few
           c.quiet_for-bits.ensures.quiet (inv.bus f));
       logs = omega (arith, len, logs);
       rooms = λ f. subst H (sym is) (room_after n (room_for b.struck.bits) was (inv.rooms f));
@@ -81,11 +90,11 @@ returns-in-Ok-clause-runs g c =
     let some : n ≢ 0 = search rules in
     let quiet = c.quiet_for-bits.ensures.most in let min = c.min.ensures in
     let h = stretch_after orders told kept (λ node. g.met.B.Board.kept_refl board node) was
-    (inv.bus (is_right g at)).ready rest b.struck.script b.run n inv.few c.quiet_for-bits.ensures.quiet in
+    (inv.bus (is_right g at)).ready rest (asked g at) b.struck.script b.run n inv.few c.quiet_for-bits.ensures.quiet in
     let N : List Seat → Type 0 = λ l.
     IsStretch orders told kept b.struck.script b.run n (untold_of was) (journals_of was) (journals_of l) in
     let none : untold_of was ≡ replicate (length was) false =
-    none_untold was (λ k s few. (rest.each k s few).none) in
+    none_untold was (λ k s few. (rest k s few).none) in
     let V : ℕ → ℕ → List Seat → BusValue = λ run left l. bus_with b.struck.script run left b.fault l in
     let r : RunsAtOnce g.B.Board board c.args.count (V b.run b.left was) (V (b.run + n) (b.left - n) now) n = record {
       most = omega (arith, quiet, min);

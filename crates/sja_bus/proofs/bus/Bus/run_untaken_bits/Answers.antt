@@ -103,6 +103,7 @@ loop-run-init g c =
       few = omega arith;
       whole = c.self.invariant.0;
       empty = c.self.invariant.1;
+      facts = c.requires.facts;
       far = subst P c.self.view_is (none_yet g.E.BusEnd g.B.Board (AnyBit g.E.BusEnd g.B.Board) g.met.E.BusEnd.same_refl g.met.B.Board.kept_refl
           c.args.to_rest (moment was c.args.links.now c.args.board.now)
           (ap (λ (w : BusValue). w.fault) c.self.view_is ∙ c.requires.right));
@@ -152,6 +153,7 @@ loop-run-preserved g c =
       few = omega (arith, early, most);
       whole = still_whole g at n (b.run + n) (b.left - n) most refl refl c.in-Ok.ensures.runs.bus c.in-Ok.ensures.rooms;
       empty = c.loop-run.invariant.empty;
+      facts = c.in-Ok.ensures.facts;
       far = more g at n (b.run + n) (b.left - n) (c.loop-run.run + n) _ most refl refl refl
           (ends g at (b.run + n) (b.left - n) _ (are_back g at)) c.in-Ok.ensures.runs;
     }
