@@ -29,7 +29,7 @@ use Rattle.sja_serial.specs.Ending.{progress}
 use Rattle.sja_serial.specs.Serial.{SerialValue, StandsAt}
 use Rattle.sja_driver.specs.Deeds.{deeds_at}
 use Rattle.sja_plan.specs.Plan.{steps_at}
-use Rattle.sja_serial.specs.Serial.{with_deeds, TakesTurn, HasToWait as IsStuckNow}
+use Rattle.sja_serial.specs.Serial.{with_deeds, TakesTurn, CannotStep}
 use Rattle.sja_serial.specs.Waiting.{HasToWait}
 use Rattle.sja_serial.proofs.GoingOn.{acts_of, GoesOn, ArePresent, length_at, lengths_set}
 use Rattle.sja_serial.proofs.GoingOn.{deeds_then, first_driver, record_then, window_then, off_then}
@@ -90,7 +90,7 @@ module _ (plan : PlanValue) (r : SerialValue) (deeds : List (List Deed)) (journa
   unmet_then (Load m) p asked w = absurd w
   unmet_then (Command v) p asked w = absurd w
 
-  stuck_then : IsStuckNow plan r deeds k → IsStuck (acts_of plan journals all) (progress r deeds) k
+  stuck_then : CannotStep plan r deeds k → IsStuck (acts_of plan journals all) (progress r deeds) k
   stuck_then (inl none) = record { why = inl (let n = length_at deeds k in omega (arith, none, n)) }
   stuck_then (inr waits) = record {
     why = inr (λ s.

@@ -12,7 +12,7 @@ use Rattle.sja_bus.specs.declared.serial_board.SerialBoard.{SerialBoard}
 use Rattle.sja_bus.specs.Boards.{HasOrders, ShowsTurn, WasTold, WasClosed, WasKept}
 use Rattle.sja_wire.specs.Lawful.{IsBusRun}
 use Rattle.sja_bus.specs.Moment.{Moment, OneBit}
-use Rattle.sja_bus.specs.Several.{AllRestIn as AllAtRest, BitInOrder, AreBits, WorksIf, BreaksOff}
+use Rattle.sja_bus.specs.Several.{AllRest as AllAtRest, BitInOrder, AreBits, WorksIf, BreaksOff}
 use Rattle.sja_bus.specs.Several.AreBits.{no_bit as none_run, one_more as one_run}
 use Rattle.sja_plan.specs.Plan.{PlanValue, IsInLimits}
 use Rattle.sja_driver.specs.declared.logged_driver.LoggedDriver.{LoggedDriver}

@@ -13,7 +13,7 @@ use Rattle.sja_driver.specs.declared.logged_driver.LoggedDriver.{LoggedDriver}
 use Rattle.sja_driver.specs.Deeds.{Deed, done_of}
 use Rattle.sja_driver.specs.LoggedDrivers.{log_of}
 use Rattle.sja_driver.specs.Logs.{done_in}
-use Rattle.sja_serial.specs.Serial.{SerialValue, StandsAt, HasMore, NodeDoes, HasToWait, TakesTurn, with_deeds}
+use Rattle.sja_serial.specs.Serial.{SerialValue, StandsAt, HasMore, NodeDoes, CannotStep, TakesTurn, with_deeds}
 use Rattle.sja_driver.specs.Deeds.{deeds_at}
 use Rattle.sja_serial.proofs.Slices.{no_deeds}
 
@@ -123,14 +123,14 @@ so_far_one plan r m n node count deeds there s d did =
 
 -- a turn that ends since the driver is stuck, or since all was done
 pub turn_stuck : (plan : PlanValue) (r n : SerialValue) (node count most : ℕ) (deeds : List (List Deed)) →
-    (s : SoFar plan r n node deeds count) → count ≤ most → HasToWait plan n (with_deeds deeds node s.more) node →
+    (s : SoFar plan r n node deeds count) → count ≤ most → CannotStep plan n (with_deeds deeds node s.more) node →
     TakesTurn plan r n node most deeds
 turn_stuck plan r n node count most deeds s few stuck = let k = s.many in
     record { more = s.more; does = s.does; most = omega (arith, k, few); stuck = λ less. stuck }
 
 pub turn_waits : (plan : PlanValue) (r m n : SerialValue) (node count most : ℕ) (deeds : List (List Deed)) →
     node < length deeds → (s : SoFar plan r m node deeds count) → count ≤ most →
-    NodeDoes plan m n node (with_deeds deeds node s.more) [] × HasToWait plan n (with_deeds deeds node s.more) node →
+    NodeDoes plan m n node (with_deeds deeds node s.more) [] × CannotStep plan n (with_deeds deeds node s.more) node →
     TakesTurn plan r n node most deeds
 turn_waits plan r m n node count most deeds there s few w =
     let k = s.many in

@@ -27,7 +27,7 @@ use Rattle.sja_driver.specs.Holding.{HoldsBy, place_after, NumberedFrom as Numbe
 use Rattle.sja_driver.specs.LoggedDrivers.{node_of, driver_of, log_of, ended_of, IsLawful, Steps}
 use Rattle.sja_driver.specs.Logs.{HasRoom}
 use Rattle.sja_serial.specs.Nodes.{IsNode}
-use Rattle.sja_serial.specs.Serial.{SerialValue, StandsAt, HasMore, with_deeds, NodeDoes, HasToWait}
+use Rattle.sja_serial.specs.Serial.{SerialValue, StandsAt, HasMore, with_deeds, NodeDoes, CannotStep}
 use Rattle.sja_driver.specs.Deeds.{deeds_at}
 use Rattle.sja_plan.specs.Plan.{steps_at}
 use Rattle.sja_serial.specs.Shown.{ShowsRecord}
@@ -234,7 +234,7 @@ module _ (plan : PlanValue) (r n : SerialValue) (deeds : List (List Deed)) (node
       (place_of (journal_at r.bus.journals node)).bits ≡ r.bits →
       Steps alike Lies shows_none takes_none was now r.links given
       (8 * node) p q one r.bits false → ((m : ℕ) → HasRoom m (log_of was) → HasRoom m (log_of now)) →
-      NodeDoes plan r n node deeds [] × HasToWait plan n deeds node
+      NodeDoes plan r n node deeds [] × CannotStep plan n deeds node
   next_waits p one port_was w lawful left is now_lawful place st room =
       let at : Steps alike Lies shows_none takes_none was now r.links given (8 * node) p q one
       (place_of (journal_at r.bus.journals node)).bits false =
@@ -290,7 +290,7 @@ module _ (plan : PlanValue) (r n : SerialValue) (deeds : List (List Deed)) (node
       ((m : ℕ) → HasRoom (m + 1) (log_of was) → HasRoom m (log_of now)) →
       (b ≡ false → (m : ℕ) → HasRoom m (log_of was) → HasRoom m (log_of now)) →
       (b ≡ true → (d : Deed) × NodeDoes plan r n node deeds (d ∷ []))
-      × (b ≡ false → NodeDoes plan r n node deeds [] × HasToWait plan n deeds node)
+      × (b ≡ false → NodeDoes plan r n node deeds [] × CannotStep plan n deeds node)
   next_tried p one true port w lawful facts left is now_lawful place st room still_room =
       (λ e. next_done p one port w lawful facts left is now_lawful place st room, λ e. absurd cc)
   next_tried p one false port w lawful facts left is now_lawful place st room still_room =

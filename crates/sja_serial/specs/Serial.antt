@@ -82,8 +82,8 @@ pub record NodeDoes (plan : PlanValue) (was now : SerialValue) (node : ℕ) (dee
   pub items : (m : ℕ) → m < length plan.nodes → HasMore (journal_at was.bus.journals m) (journal_at now.bus.journals m)
 
 -- the driver of a node has no step left, or its next one has to wait
-abbrev pub HasToWait : PlanValue → SerialValue → List (List Deed) → ℕ → Type 0
-HasToWait plan r deeds node =
+abbrev pub CannotStep : PlanValue → SerialValue → List (List Deed) → ℕ → Type 0
+CannotStep plan r deeds node =
     (length (steps_at plan node) ≤ length (deeds_at deeds node))
     ⊎ ((s : Step) (p : Registers) → HasToWait (journal_at r.bus.journals node) (deeds_at deeds node)
     (slice_index_or r.ports node p) (slice_index_or (steps_at plan node) (length (deeds_at deeds node)) s))
@@ -94,4 +94,4 @@ pub record TakesTurn (plan : PlanValue) (was now : SerialValue) (node count : �
   pub more : List Deed
   pub does : NodeDoes plan was now node deeds more
   pub most : length more ≤ count
-  pub stuck : length more < count → HasToWait plan now (with_deeds deeds node more) node
+  pub stuck : length more < count → CannotStep plan now (with_deeds deeds node more) node

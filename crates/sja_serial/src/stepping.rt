@@ -2,7 +2,7 @@
 
 ghost use Rattle.std.specs.Prelude.{◌≡◌, ◌<◌, ◌≤◌, ◌⊎◌, ℕ, List, [], ◌∷◌, length, true, false, slice_index_or};
 ghost use Rattle.sja_driver.specs.Deeds.{Deed};
-ghost use Rattle.sja_serial.specs.Serial.{SerialValue, StandsAt, IsRunOf, HasToWait};
+ghost use Rattle.sja_serial.specs.Serial.{SerialValue, StandsAt, IsRunOf, CannotStep};
 ghost use Rattle.sja_serial.specs.Serial.{NodeDoes, TakesTurn, run_now};
 ghost use Rattle.sja_driver.specs.Deeds.{deeds_at};
 ghost use Rattle.sja_plan.specs.Plan.{steps_at};
@@ -40,7 +40,7 @@ pub(crate) fn try_next(
         StandsAt plan.now (run_now bus.old drivers.old ports.old links.old bits) deeds →
         NodeDoes plan.now (run_now bus.old drivers.old ports.old links.old bits)
         (run_now bus.new drivers.new ports.new links.new bits) node deeds []
-        × HasToWait plan.now (run_now bus.new drivers.new ports.new links.new bits) deeds node }
+        × CannotStep plan.now (run_now bus.new drivers.new ports.new links.new bits) deeds node }
 {
     plan.limits();
     let at = drivers[node].log().done().len();

@@ -8,7 +8,7 @@ use Rattle.sja_regs.specs.Facts.{RegisterFacts}
 use Rattle.sja_driver.specs.Deeds.{Deed, done_of}
 use Rattle.sja_driver.specs.LoggedDrivers.{node_of}
 use Rattle.sja_driver.specs.Logs.{done_in}
-use Rattle.sja_serial.specs.Serial.{run_now, StandsAt, NodeDoes, HasToWait}
+use Rattle.sja_serial.specs.Serial.{run_now, StandsAt, NodeDoes, CannotStep}
 use Rattle.sja_driver.specs.Deeds.{deeds_at}
 use Rattle.sja_plan.specs.Plan.{steps_at}
 use Rattle.sja_serial.proofs.Standing.{next_tried}
@@ -66,7 +66,7 @@ returns c =
     (slice_set c.args.ports.now node c.step-done.new.port) c.gather.new.links c.args.bits in
     let both : (deeds : List (List Deed)) → StandsAt c.args.plan.now r deeds →
     (c.step-done.result ≡ true → (d : Deed) × NodeDoes c.args.plan.now r n node deeds (d ∷ []))
-    × (c.step-done.result ≡ false → NodeDoes c.args.plan.now r n node deeds [] × HasToWait c.args.plan.now n deeds node) =
+    × (c.step-done.result ≡ false → NodeDoes c.args.plan.now r n node deeds [] × CannotStep c.args.plan.now n deeds node) =
     λ deeds h.
     let w = h.nodes node c.index-drivers-node-2.result c.index-ports-node-2.result there in
     let laws = c.keeps_its_laws.ensures h.right in
