@@ -1,5 +1,6 @@
 //! Why a run has no log.
 
+use can_frame::OutOfMemory;
 use sja_wire::BusFault;
 use std::alloc::{AllocError, AllocFailed};
 use thiserror::Error;
@@ -42,6 +43,17 @@ impl<T: Drop> From<AllocFailed<T>> for RunFault {
     ghost from_gives = { λ _ e. e ≡ Memory };
 
     fn from(_: AllocFailed<T>) -> RunFault {
+        RunFault::Memory
+    }
+}
+
+impl From<OutOfMemory> for RunFault {
+    ghost use Rattle.std.specs.Prelude.{◌≡◌};
+    ghost use Rattle.sja_log.specs.declared.run_fault.RunFault.TheVariants.{Memory};
+
+    ghost from_gives = { λ _ e. e ≡ Memory };
+
+    fn from(_: OutOfMemory) -> RunFault {
         RunFault::Memory
     }
 }
