@@ -55,4 +55,8 @@ impl<'a, R: Wait> Board for LockBoard<'a, R> {
     ghost told_last = { λ a b c k t p q. tt };
 
     ghost told_same = { λ b k t p. tt };
+
+    ghost has_orders = { λ b k few. (record { abort = false; ended = false }, tt) };
+
+    ghost facts_go_on = { λ a b count each facts. tt };
 }

@@ -11,11 +11,12 @@ use Rattle.sja_bus.specs.Reasons.StopsBit.{spent}
 use Rattle.sja_bus.specs.Inside.Refusing.{HaveRoom, SeatRefuses, SeatFull, SeatStops}
 use Rattle.sja_bus.proofs.Journals.{wired_row, is_bit, all_told}
 use Rattle.sja_bus.proofs.Logs.{calm_by, none_untold}
-use Rattle.sja_bus.proofs.Running.{count_is}
+use Rattle.sja_bus.proofs.Running.{count_is, bus_run}
 use Rattle.sja_bus.proofs.WrittenBack.{keeps_back, keeps_still}
 use Rattle.sja_bus.proofs.TakenBefore.{takes_back}
 use Rattle.sja_bus.proofs.Breaking.{stops_bit}
 use Rattle.sja_bus.proofs.Results.{err_is}
+use Rattle.sja_bus.proofs.bus.Bus.bit.Goals.{In-Ok}
 use Rattle.sja_bus.proofs.bus.Bus.bit.Goals as goal
 
 pub returns-in_err-goes_on-clause-keeps : goal.returns-in_err-goes_on-clause-keeps
@@ -26,8 +27,11 @@ returns-in_err-goes_on-clause-keeps g c = record {
   nodes = refl;
 }
 
-pub invariant_of-self : goal.invariant_of-self
-invariant_of-self g c =
+-- the bus is whole after the bit
+whole : (g : _) (c : In-Ok g) → let b = c.self.inside in let now = c.bit_of_all.new.seats in
+    IsWhole b.struck (b.run + 1) (b.left - 1) b.fault (take b.seats.len (now ++ drop (length now) b.seats.items))
+    (vec_capacity b.logs)
+whole g c =
     let b = c.self.inside in
     let now = c.bit_of_all.new.seats in let was = b.seats.items in let inv = c.self.invariant.0 in
     let v : c.as_mut_slice.result.now ≡ was = c.as_mut_slice.ensures.value in
@@ -52,7 +56,10 @@ invariant_of-self g c =
       rooms = λ f. subst H v c.in-Ok.ensures.rooms (room_for b.struck.bits) (inv.rooms f);
     } in
     let P : List Seat → Type 0 = λ xs. IsWhole b.struck (b.run + 1) (b.left - 1) b.fault xs (vec_capacity b.logs) in
-    (subst P (sym e) l, c.self.invariant.1)
+    subst P (sym e) l
+
+pub invariant_of-self : goal.invariant_of-self
+invariant_of-self g c = (whole g (goal.at.invariant_of-self g c).In-Ok, c.self.invariant.1)
 
 pub returns-in-Ok-clause-keeps : goal.returns-in-Ok-clause-keeps
 returns-in-Ok-clause-keeps g c =
@@ -111,7 +118,11 @@ returns-in-Ok-clause-bit g c = record {
       let Q : List Seat → Type 0 = λ xs. untold_of xs ≡ replicate (length c.args.self.now.journals) false in
       subst Q (sym e) (subst P c.self.view_is (none ∙ ap (λ n. replicate n false) (sym (count_is was))));
   right = search rules;
-  lawful = c.keeps_its_laws.ensures (search rules);
+  lawful =
+      let b = c.self.inside in
+      let F : BusValue → Type 0 = λ w. (w.fault ≡ None) × (w.left ≢ 0) in
+      let right : b.fault ≡ None = (subst F (sym c.self.view_is) c.in_ok-goes_on.ensures.ok).0 in
+      bus_run b.struck.script (b.run + 1) _ ((whole g (goal.at.returns-in-Ok-clause-bit g c).In-Ok).bus right);
   facts = c.keeps_its_facts.ensures;
 }
 

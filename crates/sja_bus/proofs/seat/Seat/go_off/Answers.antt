@@ -1,7 +1,6 @@
-use Rattle.std.proofs.Common.{◌≡◌, suc, true, List, [], ◌∷◌, ◌++◌, refl, sym, ap, ◌∙◌, subst, rules}
+use Rattle.std.proofs.Common.{suc, true, List, [], ◌∷◌, ◌++◌, refl, sym, ap, ◌∙◌, subst, rules}
 use Rattle.can_node.specs.Record.{RecordEntry as Event}
 use Rattle.can_node.specs.Cut.{IsCut}
-use Rattle.sja_link.specs.declared.entry.Entry.{Entry}
 use Rattle.sja_link.specs.declared.entry.Entry.TheVariants.{Off}
 use Rattle.sja_link.specs.BusLedgers.{link_of, free_in}
 use Rattle.sja_link.specs.Accounts.{account}
