@@ -16,7 +16,7 @@ pub struct LockBoard<'a, R: Wait> {
 }
 
 impl<'a, R: Wait> Board for LockBoard<'a, R> {
-    ghost use Rattle.std.specs.Prelude.{length};
+    ghost use Rattle.std.specs.Prelude.{false, length};
 
     ghost ports = { λ b. length b.ports.now };
 
