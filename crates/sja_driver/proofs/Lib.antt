@@ -11,3 +11,6 @@ pub mod Logged
 pub mod NothingDone
 pub mod Modes
 pub mod Few
+-- the registers after a step, and what deeds are
+pub mod Registers
+pub mod Deeds

@@ -1,19 +1,19 @@
 -- Reset mode, spent bits and a standing abort after a step.
-use Rattle.std.proofs.Common.{◌≡◌, ℕ, Bool, true, false, refl, ◌∙◌, inl, inr, arith}
+use Rattle.std.proofs.Common.{◌≡◌, ℕ, Bool, true, false, refl, sym, ◌∙◌, inl, inr, arith}
 use Rattle.std.specs.Prelude.{◌⊎◌, ◌||◌, ◌&&◌, not, if◌then◌else◌, Option, Some, None}
 use Rattle.can_frame.specs.declared.seen.Seen.{Seen}
 use Rattle.sja_regs.specs.declared.reg_fault.RegFault.{RegFault}
 use Rattle.sja_regs.specs.declared.register.Register.{Register}
-use Rattle.sja_regs.specs.declared.register.Register.TheVariants.{Mode, Interrupt, InterruptEnable, ArbitrationLostCapture, ErrorCodeCapture, ErrorWarningLimit, AcceptanceCode, AcceptanceMask, Buffer}
+use Rattle.sja_regs.specs.declared.register.Register.TheVariants.{Mode}
 use Rattle.sja_regs.specs.declared.registers.Registers.{Registers}
 use Rattle.sja_regs.specs.Addresses.{register_at}
 use Rattle.sja_regs.specs.Bits.{differ}
 use Rattle.sja_regs.specs.Commands.{command_of, requests}
 use Rattle.sja_regs.specs.Modes.{mode_of}
-use Rattle.sja_regs.specs.Reading.{after_reading_at}
 use Rattle.sja_regs.specs.Refusals.{first_fault}
 use Rattle.sja_regs.specs.Registers.{after_leaving_reset}
 use Rattle.sja_regs.specs.Writing.{write_faults_at, after_writing_at}
+use Rattle.sja_regs.proofs.KeepLemmas.{read_keeps, write_keeps, leaving_keeps}
 use Rattle.sja_script.specs.declared.step.Step.{Step}
 use Rattle.sja_script.specs.declared.step.Step.TheVariants.{Start, Stop, Window, Release, Read, Write, Load, Command, Await, Sent}
 use Rattle.sja_script.specs.declared.step_answer.StepAnswer.{StepAnswer}
@@ -27,13 +27,6 @@ use Rattle.sja_driver.specs.Deeds.{opened, active_after}
 start_rm : (b : Bool) (p : Registers) → p.mode.rm ≡ b → (if b then after_leaving_reset p else p).mode.rm ≡ false
 start_rm true p e = refl
 start_rm false p e = e
-
-read_rm : (x : Option Register) (p : Registers) → (after_reading_at p x).mode.rm ≡ p.mode.rm
-read_rm None p = refl
-read_rm (Some Interrupt) p = refl
-read_rm (Some ArbitrationLostCapture) p = refl
-read_rm (Some ErrorCodeCapture) p = refl
-read_rm (Some other) p = refl
 
 same_bit : (a b d : Bool) (f : RegFault) (rest : Option RegFault) → differ a b ≡ d →
     Done ≡ done_unless (if d then Some f else rest) → b ≡ a
@@ -56,8 +49,10 @@ pub rm_step : (p : Registers) (step : Step) (answer : StepAnswer) (active out : 
     (opened step answer ≡ 1 → (ported p step answer).mode.rm ≡ false)
 rm_step p Start Done active out seen rest t e = (λ o. absurd (omega (arith, o)), λ o. start_rm p.mode.rm p refl)
 rm_step p Stop Done active out seen rest t e = (λ o. refl, λ o. absurd (omega (arith, o)))
-rm_step p (Read address) answer active out seen rest t e =
-    (λ o. read_rm (register_at p.mode.rm address) p ∙ e, λ o. absurd (omega (arith, o)))
+rm_step p (Read address) answer active out seen rest t e = (
+  λ o. read_keeps (λ q. q.mode.rm) (λ q i a c. refl) (register_at p.mode.rm address) p ∙ e,
+  λ o. absurd (omega (arith, o)),
+)
 rm_step p (Write address value) Done active out seen rest t e =
     (λ o. write_rm (register_at p.mode.rm address) value p t ∙ e, λ o. absurd (omega (arith, o)))
 rm_step p (Load m) Done active out seen rest t e = (λ o. e, λ o. absurd (omega (arith, o)))
@@ -74,33 +69,14 @@ rm_step p Sent answer active out seen rest t e = (λ o. e, λ o. absurd (omega (
 
 -- ---- the bits aren't spent
 
-start_closed : (b : Bool) (p : Registers) → (if b then after_leaving_reset p else p).closed ≡ p.closed
-start_closed true p = refl
-start_closed false p = refl
-
-read_closed : (x : Option Register) (p : Registers) → (after_reading_at p x).closed ≡ p.closed
-read_closed None p = refl
-read_closed (Some Interrupt) p = refl
-read_closed (Some ArbitrationLostCapture) p = refl
-read_closed (Some ErrorCodeCapture) p = refl
-read_closed (Some other) p = refl
-
-write_closed : (x : Option Register) (v : ℕ) (p : Registers) → (after_writing_at p x v).closed ≡ p.closed
-write_closed None v p = refl
-write_closed (Some Mode) v p = refl
-write_closed (Some InterruptEnable) v p = refl
-write_closed (Some ErrorWarningLimit) v p = refl
-write_closed (Some (AcceptanceCode i)) v p = refl
-write_closed (Some (AcceptanceMask i)) v p = refl
-write_closed (Some (Buffer i)) v p = refl
-write_closed (Some other) v p = refl
-
 -- no step of a driver closes its port
 pub closed_step : (p : Registers) (step : Step) (answer : StepAnswer) → (ported p step answer).closed ≡ p.closed
-closed_step p Start Done = start_closed p.mode.rm p
+closed_step p Start Done = leaving_keeps (λ q. q.closed) p.mode.rm p (after_leaving_reset p) refl
 closed_step p Stop Done = refl
-closed_step p (Read address) answer = read_closed (register_at p.mode.rm address) p
-closed_step p (Write address value) Done = write_closed (register_at p.mode.rm address) value p
+closed_step p (Read address) answer =
+    read_keeps (λ q. q.closed) (λ q i a c. refl) (register_at p.mode.rm address) p
+closed_step p (Write address value) Done =
+    write_keeps (λ q. q.closed) (λ q s i. refl) (register_at p.mode.rm address) value p
 closed_step p (Load m) Done = refl
 closed_step p (Command value) Done = refl
 closed_step p Start other = refl
@@ -115,27 +91,6 @@ closed_step p Sent answer = refl
 
 -- ---- a standing abort
 
-start_abort : (b : Bool) (p : Registers) → (if b then after_leaving_reset p else p).abort ≡ true → p.abort ≡ true
-start_abort true p h = h
-start_abort false p h = h
-
-read_abort : (x : Option Register) (p : Registers) → (after_reading_at p x).abort ≡ true → p.abort ≡ true
-read_abort None p h = h
-read_abort (Some Interrupt) p h = h
-read_abort (Some ArbitrationLostCapture) p h = h
-read_abort (Some ErrorCodeCapture) p h = h
-read_abort (Some other) p h = h
-
-write_abort : (x : Option Register) (v : ℕ) (p : Registers) → (after_writing_at p x v).abort ≡ true → p.abort ≡ true
-write_abort None v p h = h
-write_abort (Some Mode) v p h = h
-write_abort (Some InterruptEnable) v p h = h
-write_abort (Some ErrorWarningLimit) v p h = h
-write_abort (Some (AcceptanceCode i)) v p h = h
-write_abort (Some (AcceptanceMask i)) v p h = h
-write_abort (Some (Buffer i)) v p h = h
-write_abort (Some other) v p h = h
-
 either : (was at asks busy : Bool) → (was || at && not asks && not busy) ≡ true →
     (was ≡ true) ⊎ ((at && not asks) ≡ true)
 either true at asks busy h = inl refl
@@ -148,10 +103,12 @@ either false false asks busy h = absurd cc
 pub abort_step : (p : Registers) (step : Step) (answer : StepAnswer) → (ported p step answer).abort ≡ true →
     (p.abort ≡ true) ⊎ (asks_abort step answer ≡ true)
 abort_step p (Command value) Done h = either p.abort (command_of value).at (requests (command_of value)) p.tbs h
-abort_step p Start Done h = inl (start_abort p.mode.rm p h)
+abort_step p Start Done h = inl (sym (leaving_keeps (λ q. q.abort) p.mode.rm p (after_leaving_reset p) refl) ∙ h)
 abort_step p Stop Done h = absurd cc
-abort_step p (Read address) answer h = inl (read_abort (register_at p.mode.rm address) p h)
-abort_step p (Write address value) Done h = inl (write_abort (register_at p.mode.rm address) value p h)
+abort_step p (Read address) answer h =
+    inl (sym (read_keeps (λ q. q.abort) (λ q i a c. refl) (register_at p.mode.rm address) p) ∙ h)
+abort_step p (Write address value) Done h =
+    inl (sym (write_keeps (λ q. q.abort) (λ q s i. refl) (register_at p.mode.rm address) value p) ∙ h)
 abort_step p (Load m) Done h = inl h
 abort_step p Start other h = inl h
 abort_step p Stop other h = inl h

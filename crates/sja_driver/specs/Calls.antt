@@ -1,5 +1,5 @@
 -- What calls of a driver do that several of them have in common (this project's own rule).
-use Rattle.std.specs.Prelude.{◌≡◌, ℕ, List, [], ◌∷◌, Result, OnOk, OnErr, IfErr}
+use Rattle.std.specs.Prelude.{◌≡◌, ℕ, [], ◌∷◌, Result, OnOk, OnErr, IfErr}
 use Rattle.sja_link.specs.declared.up.Up.TheVariants.{Stop}
 use Rattle.sja_link.specs.Lists.{Lists}
 use Rattle.sja_link.specs.Looking.{Pulls, IsTaken}

@@ -4,7 +4,7 @@ ghost use Rattle.std.specs.Prelude.{◌≡◌, ℕ, List, [], length, true, fals
 ghost use Rattle.sja_link.specs.declared.release_fault.ReleaseFault.TheVariants.{Stopped as FaultStopped};
 ghost use Rattle.sja_link.specs.declared.release_fault.ReleaseFault.TheVariants.{Empty, Busy as ReleaseBusy};
 ghost use Rattle.sja_link.specs.DriverLedgers.{link_of, held_by, knows_bus_off};
-ghost use Rattle.sja_link.specs.Looking.{Pulls, IsTaken, Releases, Refuses};
+ghost use Rattle.sja_link.specs.Looking.{Pulls, IsTaken, Releases, Refuses, TriesRelease};
 ghost use Rattle.sja_driver.specs.Calls.{Ends, TakesIn};
 ghost use Rattle.sja_driver.specs.Drivers.{node_in, started_in, link_in, held_in, off_in};
 
@@ -36,7 +36,7 @@ impl Driver<Active> {
         self.state.ledger.id().activation
     }
 
-    /// The link of the present activation, which each call with an end asks of it.
+    /// The link of the present activation, which each call with an end asks of it. Tests and benches alone ask for it.
     pub fn link(&self) -> LinkId
         ensures { result ≡ link_in self.now }
     {
@@ -51,7 +51,7 @@ impl Driver<Active> {
     }
 
     /// Ends the activation: the stop is given, and the port enters reset mode. What was got and not released stays
-    /// unread.
+    /// unread. Tests alone call it: a step hands out the ledger too.
     ///
     /// Error: this state, where the end gave the stop back; nothing changed then.
     pub fn stop<E: DriverEnd>(
@@ -135,7 +135,7 @@ impl Driver<Active> {
     }
 
     /// Takes in all that the link shows, and releases the first message that was got and not released: its credit is
-    /// given. The answer is its length, 3 to 13.
+    /// given. The answer is its length, 3 to 13. Tests and benches alone call it: a step hands out the message too.
     ///
     /// Errors, the first that holds: [`ReleaseFault::Stopped`] where bus-off is known; [`ReleaseFault::Empty`] where no
     /// such message is there; [`ReleaseFault::Busy`] where the end gave the credit back. Nothing is released then.
@@ -154,5 +154,18 @@ impl Driver<Active> {
             × Refuses E.same E.stands E.dry E.full end.old (off_in self.new) (held_in self.new) }
     {
         self.state.ledger.release(end)
+    }
+
+    /// The same as [`release`](Driver::release), but it hands out the message that it released.
+    ///
+    /// Errors: those of [`release`](Driver::release).
+    pub fn release_message<E: DriverEnd>(&mut self, end: &mut E) -> Result<Message, ReleaseFault>
+        requires { E.link end.old ≡ link_in self.old }
+        ensures link { link_in self.new ≡ link_in self.old }
+        ensures same { E.same end.old end.new }
+        ensures tried { TriesRelease E.same E.stands E.dry E.full end.old end.new (held_in self.old) (held_in self.new)
+            (off_in self.old) (off_in self.new) result }
+    {
+        self.state.ledger.release_message(end)
     }
 }

@@ -82,18 +82,12 @@ impl Driver<Active> {
         ensures unchanged { OnErr result (port.new ≡ port.old) }
         ensures busy { result ≡ Err Busy → E.full end.old × (requests (command_of value) ≡ true) }
     {
-        let request = match port.plan_command(value) {
-            Ok(request) => request,
-            Err(fault) => return Err(CommandFault::Reg(fault)),
-        };
-        if let Some(request) = request {
+        if let Some(request) = port.plan_command(value)? {
             if end.give(Up::Send(request)).is_err() {
                 return Err(CommandFault::Busy);
             }
         }
-        match port.command(value) {
-            Ok(_) => Ok(()),
-            Err(fault) => Err(CommandFault::Reg(fault)),
-        }
+        port.obey(value);
+        Ok(())
     }
 }

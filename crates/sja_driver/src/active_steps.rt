@@ -44,15 +44,8 @@ pub(crate) fn release_step<E: DriverEnd>(driver: &mut AnyDriver, end: &mut E) ->
     let AnyDriver::InActive(driver) = driver else {
         return refused(Refusal::WrongState);
     };
-    if driver.look(end).is_err() {
-        return refused(Refusal::Stopped);
-    }
-    let Some(first) = driver.unread().first() else {
-        return refused(Refusal::Empty);
-    };
-    let message = first.copy();
-    match driver.release(end) {
-        Ok(_) => Attempt::Released(message),
+    match driver.release_message(end) {
+        Ok(message) => Attempt::Released(message),
         Err(ReleaseFault::Busy) => Attempt::Unmet,
         Err(ReleaseFault::Stopped) => refused(Refusal::Stopped),
         Err(ReleaseFault::Empty) => refused(Refusal::Empty),

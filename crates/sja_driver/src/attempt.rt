@@ -10,7 +10,7 @@ use sja_script::{Refusal, StepAnswer};
 /// What came of a try of a step that ended no activation. A stop that ended one hands out its ledger instead, which is
 /// large and is moved there alone.
 #[derive(Debug, Drop)]
-pub enum Attempt {
+pub(crate) enum Attempt {
     /// The step isn't done: it is to be tried again.
     Unmet,
     /// The step is done with this answer.

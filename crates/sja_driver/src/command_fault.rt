@@ -10,3 +10,14 @@ pub enum CommandFault {
     /// The link gave the request back.
     Busy,
 }
+
+impl From<RegFault> for CommandFault {
+    ghost use Rattle.std.specs.Prelude.{◌≡◌};
+    ghost use Rattle.sja_driver.specs.declared.command_fault.CommandFault.TheVariants.{Reg};
+
+    ghost from_gives = { λ fault e. e ≡ Reg fault };
+
+    fn from(fault: RegFault) -> CommandFault {
+        CommandFault::Reg(fault)
+    }
+}

@@ -47,6 +47,7 @@ impl Driver<Reset> {
     }
 
     /// The link of the activation that would be started next, which a start asks of its end; none once eight were used.
+    /// Tests and benches alone ask for it.
     pub fn next_link(&self) -> Option<LinkId>
         ensures some { started_in self.now < 8 → result ≡ Some (next_link self.now) }
         ensures none { 8 ≤ started_in self.now → result ≡ None }

@@ -1,10 +1,9 @@
 -- The entries of codes, one code more.
-use Rattle.std.proofs.Common.{◌≡◌, ℕ, ◌+◌, ◌<◌, ◌≤◌, List, [], ◌∷◌, ◌++◌, length, refl, sym, ap, arith, append-nil}
+use Rattle.std.proofs.Common.{◌≡◌, ℕ, ◌+◌, ◌<◌, ◌≤◌, List, [], ◌∷◌, ◌++◌, length, refl, ap, arith, append-nil}
 use Rattle.can_node.specs.declared.config.Config.{Config}
 use Rattle.can_node.specs.declared.request.Request.{Request}
 use Rattle.can_bits.specs.declared.level.Level.TheVariants.{Dominant, Recessive}
 use Rattle.sja_link.specs.declared.up.Up.TheVariants.{Start as StartUp, Credit as CreditUp, Send as SendUp, Stop as StopUp}
-use Rattle.sja_link.specs.declared.entry.Entry.{Entry}
 use Rattle.sja_link.specs.declared.entry.Entry.TheVariants.{Bit, Up as Item, Abort as AbortEntry, Stored as StoredEntry, Overrun as OverrunEntry, Off as OffEntry}
 use Rattle.sja_link.specs.declared.code.Code.{Code}
 use Rattle.sja_link.specs.declared.code.Code.TheVariants.{DominantAsDriven, DominantSeenRecessive, RecessiveSeenDominant, RecessiveAsDriven, Start, Credit, Send, Stop, Abort, Stored, Overrun, Off}

@@ -34,6 +34,29 @@ past_push p (x ∷ es) e = past_push (past p x) es e
 pub place_push : (j : List Entry) (e : Entry) → place_of (j ++ e ∷ []) ≡ past (place_of j) e
 place_push j e = past_push first_place j e
 
+-- past an entry neither the activation nor the number of bits falls
+pub record Rises (p q : JournalPlace) : Type 0 where
+  pub activation : p.activation ≤ q.activation
+  pub bits : p.bits ≤ q.bits
+
+pub past_rises : (p : JournalPlace) (e : Entry) → Rises p (past p e)
+past_rises p (Bit driven seen) = record { activation = omega arith; bits = omega arith }
+past_rises p (Item (Start config)) = record { activation = omega arith; bits = omega arith }
+past_rises p (Item (Credit n)) = record { activation = omega arith; bits = omega arith }
+past_rises p (Item (Send request)) = record { activation = omega arith; bits = omega arith }
+past_rises p (Item Stop) = record { activation = omega arith; bits = omega arith }
+past_rises p Abort = record { activation = omega arith; bits = omega arith }
+past_rises p (Stored m) = record { activation = omega arith; bits = omega arith }
+past_rises p (Overrun m) = record { activation = omega arith; bits = omega arith }
+past_rises p Off = record { activation = omega arith; bits = omega arith }
+
+pub all_rise : (p : JournalPlace) (es : List Entry) → Rises p (past_all p es)
+all_rise p [] = record { activation = omega arith; bits = omega arith }
+all_rise p (e ∷ es) =
+    let x = past_rises p e in
+    let y = all_rise (past p e) es in
+    record { activation = omega (arith, x, y); bits = omega (arith, x, y) }
+
 pub placed_push : (p : JournalPlace) (es : List Entry) (e : Entry) → placed_from p (es ++ e ∷ []) ≡ placed_from p es ++ (record { before = past_all p es; entry = e }) ∷ []
 placed_push p [] e = refl
 placed_push p (x ∷ es) e = ap (λ l. (record { before = p; entry = x }) ∷ l) (placed_push (past p x) es e)
@@ -68,27 +91,11 @@ part_here j e a h = of_part_here entry_at j e a h
 pub part_else : (j : List Entry) (e : Entry) (a : ℕ) → ((past (place_of j) e).activation ≡ a → ⊥) → part (j ++ e ∷ []) a ≡ part j a
 part_else j e a h = of_part_else entry_at j e a h
 
--- the activation never falls
-past_more : (p : JournalPlace) (e : Entry) → p.activation ≤ (past p e).activation
-past_more p (Bit driven seen) = omega arith
-past_more p (Item (Start config)) = omega arith
-past_more p (Item (Credit n)) = omega arith
-past_more p (Item (Send request)) = omega arith
-past_more p (Item Stop) = omega arith
-past_more p Abort = omega arith
-past_more p (Stored m) = omega arith
-past_more p (Overrun m) = omega arith
-past_more p Off = omega arith
-
-all_more : (p : JournalPlace) (es : List Entry) → p.activation ≤ (past_all p es).activation
-all_more p [] = omega arith
-all_more p (e ∷ es) = let x = past_more p e in let y = all_more (past p e) es in omega (arith, x, y)
-
 -- of an activation that hasn't begun there is nothing
 none_later : {B : Type 0} (f : Placed → List B) (p : JournalPlace) (es : List Entry) (a : ℕ) → (past_all p es).activation < a → gathered (in_part f a) (placed_from p es) ≡ []
 none_later f p [] a h = refl
 none_later f p (e ∷ es) a h =
-    let few = all_more (past p e) es in
+    let few = all_rise (past p e) es in
     let t : ((past p e).activation == a) ≡ false = ne_eqb (past p e).activation a (λ q. omega (arith, h, few, q)) in
     rw t (none_later f (past p e) es a h)
 

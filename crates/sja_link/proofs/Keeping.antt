@@ -1,5 +1,5 @@
 -- The fields of a world, one event more.
-use Rattle.std.proofs.Common.{◌≡◌, ◌≢◌, ℕ, ◌+◌, ◌-◌, ◌<◌, ◌≤◌, Bool, true, false, Ok, List, [], ◌∷◌, ◌++◌, length, get_or, take, drop, refl, sym, ap, ◌∙◌, subst, append-nil, add-one, arith}
+use Rattle.std.proofs.Common.{◌≡◌, ℕ, ◌+◌, ◌-◌, ◌<◌, ◌≤◌, Bool, true, Ok, List, [], ◌∷◌, ◌++◌, length, get_or, take, drop, refl, sym, ap, ◌∙◌, subst, append-nil, add-one, arith}
 use Rattle.std.proofs.lemmas.List.{take-append-le, length-take-le, length-append}
 use Rattle.std.proofs.Math.Seq.{take-add, take-suc}
 use Rattle.sja_link.specs.declared.down.Down.{Down}
@@ -7,7 +7,7 @@ use Rattle.sja_link.specs.declared.up.Up.{Up}
 use Rattle.sja_link.specs.declared.event.Event.{Event}
 use Rattle.sja_link.specs.declared.event.Event.TheVariants.{Get, Release, Take}
 use Rattle.sja_link.specs.Gathering.{total}
-use Rattle.sja_link.specs.Lists.{Lists, messages}
+use Rattle.sja_link.specs.Lists.{messages}
 use Rattle.sja_link.specs.Free.{credit_of}
 use Rattle.sja_link.specs.World.{WorldValue, bytes_of, credits_of, free, is_off, is_stop}
 use Rattle.sja_link.specs.WorldEvents.{Allowed, MayRelease, first_credit, done, Steps}

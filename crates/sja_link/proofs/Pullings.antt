@@ -1,8 +1,8 @@
 -- Runs of gets.
-use Rattle.std.proofs.Common.{◌≡◌, ◌≤◌, arith, ℕ, Bool, true, false, List, [], ◌∷◌, ◌++◌, length, refl, sym, ap, ◌∙◌, subst, append_assoc, append-nil}
+use Rattle.std.proofs.Common.{◌≡◌, ◌≤◌, arith, ℕ, Bool, true, false, List, [], ◌∷◌, ◌++◌, refl, sym, ap, ◌∙◌, subst, append_assoc, append-nil}
 use Rattle.sja_link.specs.declared.down.Down.{Down}
 use Rattle.sja_link.specs.declared.down.Down.TheVariants.{Message, Off}
-use Rattle.sja_link.specs.Lists.{Lists, with_got, messages}
+use Rattle.sja_link.specs.Lists.{Lists, messages}
 use Rattle.sja_link.specs.Looking.{with_gots, off_among, Pulls, one_if}
 use Rattle.sja_link.proofs.ListCounts.{messages_both}
 

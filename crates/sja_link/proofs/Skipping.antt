@@ -1,5 +1,5 @@
 -- Bits passed over.
-use Rattle.std.proofs.Common.{rules, ◌≡◌, ℕ, ◌+◌, ◌≤◌, Option, Some, None, List, [], ◌∷◌, ◌++◌, length, drop, refl, sym, ap, ◌∙◌, arith, length-append}
+use Rattle.std.proofs.Common.{rules, ◌≡◌, ℕ, ◌≤◌, Option, Some, None, List, [], ◌∷◌, length, drop, refl, ap, ◌∙◌, arith}
 use Rattle.std.specs.Iterator.{YieldsFirst, MakesProgress, item_count}
 use Rattle.std.specs.declared.iter.Iterator.{can_next-default}
 use Rattle.can_node.specs.declared.config.Config.{Config}
@@ -8,9 +8,9 @@ use Rattle.sja_link.specs.declared.entry.Entry.{Entry}
 use Rattle.sja_link.specs.declared.entry.Entry.TheVariants.{Bit, Up as Item, Abort as AbortEntry, Stored as StoredEntry, Overrun as OverrunEntry, Off as OffEntry}
 use Rattle.sja_link.specs.declared.code.Code.{Code}
 use Rattle.sja_link.specs.declared.code.Code.TheVariants.{DominantAsDriven, DominantSeenRecessive, RecessiveSeenDominant, RecessiveAsDriven, Start, Credit, Send, Stop, Abort, Stored, Overrun, Off}
-use Rattle.sja_link.specs.Between.{unless_bit, between_bits, past_bits}
-use Rattle.sja_link.specs.Kept.Codes.{decoded, is_bit, bits_before, AreWhole}
-use Rattle.sja_link.proofs.Decoding.{IsPlain, plain, plain_rest}
+use Rattle.sja_link.specs.Between.{between_bits, past_bits}
+use Rattle.sja_link.specs.Kept.Codes.{decoded, bits_before, AreWhole}
+use Rattle.sja_link.proofs.Decoding.{plain, plain_rest}
 
 -- ---- the codes after the first bits
 

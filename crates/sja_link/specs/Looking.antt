@@ -1,7 +1,10 @@
 -- What the driver's ledger does at its end (this project's own rule).
 use Rattle.std.specs.Prelude.{◌≡◌, ◌⊎◌, ◌≤◌, ℕ, Bool, true, false, List, [], ◌∷◌, ◌++◌, length}
+use Rattle.std.specs.Prelude.{Result, Err, OnOk, OnErr, IfOk}
 use Rattle.sja_link.specs.declared.down.Down.{Down}
 use Rattle.sja_link.specs.declared.down.Down.TheVariants.{Message, Off}
+use Rattle.sja_link.specs.declared.release_fault.ReleaseFault.{ReleaseFault}
+use Rattle.sja_link.specs.declared.release_fault.ReleaseFault.TheVariants.{Stopped, Empty, Busy}
 use Rattle.sja_link.specs.declared.up.Up.TheVariants.{Credit}
 use Rattle.sja_link.specs.Lists.{Lists, with_given, messages}
 
@@ -52,6 +55,17 @@ pub record Refuses {E : Type 0} (alike : E → E → Type 0) (stands : E → Lis
   pub all : IsTaken dry at now_off now_held
   pub some : 1 ≤ length now_held
   pub is_full : full at
+
+-- a release was tried, and answered the message that it released, or why there was none
+pub record TriesRelease {E : Type 0} (alike : E → E → Type 0) (stands : E → Lists → Type 0) (dry full : E → Type 0)
+    (old new : E) (held now_held : List (List ℕ)) (off now_off : Bool) (result : Result (List ℕ) ReleaseFault)
+    : Type 0 where
+  pub ok : IfOk result (λ m. Releases alike stands dry old new held now_held off now_off m)
+  pub on : OnOk result (now_off ≡ false)
+  pub err : OnErr result (Pulls stands old new held now_held off now_off)
+  pub stopped : result ≡ Err Stopped → now_off ≡ true
+  pub empty : result ≡ Err Empty → (now_off ≡ false) × (now_held ≡ []) × dry new
+  pub busy : result ≡ Err Busy → (now_off ≡ false) × Refuses alike stands dry full old now_off now_held
 
 -- of the messages got these were released, and these are held
 abbrev pub Holds : List Down → List (List ℕ) → List (List ℕ) → Type 0

@@ -33,7 +33,7 @@ impl DriverLedger {
     ghost use Rattle.sja_link.specs.declared.release_fault.ReleaseFault.TheVariants.{Stopped as FaultStopped};
     ghost use Rattle.sja_link.specs.declared.release_fault.ReleaseFault.TheVariants.{Empty, Busy};
     ghost use Rattle.sja_link.specs.DriverLedgers.{link_of, held_by, knows_bus_off};
-    ghost use Rattle.sja_link.specs.Looking.{Pulls, IsTaken, Releases, Refuses, one_if};
+    ghost use Rattle.sja_link.specs.Looking.{Pulls, IsTaken, Releases, Refuses, TriesRelease, one_if};
     ghost use Rattle.sja_link.specs.Showing.{Shows, window_in, seen_of};
 
     /// The ledger of an activation that begins: nothing was got.
@@ -73,7 +73,8 @@ impl DriverLedger {
         if self.off { Err(Stopped) } else { Ok(()) }
     }
 
-    /// Takes in all that the link shows, and shows the first message that was got and not released, or none.
+    /// Takes in all that the link shows, and shows the first message that was got and not released, or none. A driver
+    /// calls [`look`](DriverLedger::look) and [`first`](DriverLedger::first); tests alone call both at once.
     ///
     /// Error: [`Stopped`] where bus-off is known.
     pub fn window<E: DriverEnd>(&mut self, end: &mut E) -> Result<Option<&Message>, Stopped>
@@ -119,19 +120,29 @@ impl DriverLedger {
         ensures busy { result ≡ Err Busy → (knows_bus_off self.new ≡ false)
             × Refuses E.same E.stands E.dry E.full end.old (knows_bus_off self.new) (held_by self.new) }
     {
-        self.pull(end);
-        if self.off {
+        let message = self.release_message(end)?;
+        Ok(message.len() as u8)
+    }
+
+    /// The same as [`release`](DriverLedger::release), but it hands out the message that it released.
+    ///
+    /// Errors: those of [`release`](DriverLedger::release).
+    pub fn release_message<E: DriverEnd>(&mut self, end: &mut E) -> Result<Message, ReleaseFault>
+        requires { E.link end.old ≡ link_of self.old }
+        ensures id { link_of self.new ≡ link_of self.old }
+        ensures same { E.same end.old end.new }
+        ensures tried { TriesRelease E.same E.stands E.dry E.full end.old end.new (held_by self.old) (held_by self.new)
+            (knows_bus_off self.old) (knows_bus_off self.new) result }
+    {
+        if self.look(end).is_err() {
             return Err(ReleaseFault::Stopped);
         }
         let Some(first) = self.held.as_slice().first() else {
             return Err(ReleaseFault::Empty);
         };
-        let bytes = first.len() as u8;
-        match end.give(Up::Credit(bytes)) {
-            Ok(()) => {
-                self.held.remove(0);
-                Ok(bytes)
-            }
+        let credit = Up::Credit(first.len() as u8);
+        match end.give(credit) {
+            Ok(()) => Ok(self.held.remove(0)),
             Err(_) => Err(ReleaseFault::Busy),
         }
     }

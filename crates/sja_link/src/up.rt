@@ -18,7 +18,7 @@ pub enum Up {
 }
 
 impl Up {
-    /// An equal item.
+    /// An equal item. Tests alone make one.
     pub fn copy(&self) -> Up
         ensures { result ≡ self.now }
     {

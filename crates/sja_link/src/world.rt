@@ -15,6 +15,7 @@ use std::alloc::Global;
 use std::marker::Model;
 
 /// The pure core of one link: what its two ends did, and whether the next event may happen (this project's own rule).
+/// Tests alone run one: it shows that events which keep to the rules keep the budget of a link.
 ///
 /// Contracts see the four lists of the link, and the word "may send".
 #[derive(Debug, Drop)]

@@ -21,6 +21,7 @@ use Rattle.sja_regs.specs.Commands.{requests, command_faults, after_command}
 use Rattle.sja_regs.specs.Calls.{Call, Turn, Read, Write, Load, Give, LeaveReset}
 use Rattle.sja_regs.specs.Calls.{EnterReset, Restore, Close, Finish, unless_refused, after_call}
 use Rattle.sja_regs.specs.Histories.{IsNoRequest, lost_by, fault_by, either, both, causes_by, releases}
+use Rattle.sja_regs.proofs.KeepLemmas.{read_keeps, write_keeps, leaving_keeps}
 
 -- a refused call keeps what a call keeps that is done
 unless_keeps : {A : Type 0} (f : Registers → A) (fault : Option RegFault) (p q : Registers) → f q ≡ f p →
@@ -28,72 +29,36 @@ unless_keeps : {A : Type 0} (f : Registers → A) (fault : Option RegFault) (p q
 unless_keeps f None p q h = h
 unless_keeps f (Some fault) p q h = refl
 
--- reset mode is left, or the port isn't in it
-leaving_keeps : {A : Type 0} (f : Registers → A) (rm : Bool) (p q : Registers) → f q ≡ f p →
-    f (if rm then q else p) ≡ f p
-leaving_keeps f true p q h = h
-leaving_keeps f false p q h = refl
+-- a look at another register keeps ALC, ECC and IR
+unread_alc : (p : Registers) (register : Register) → register ≢ ArbitrationLostCapture →
+    (after_reading p register).alc ≡ p.alc
+unread_alc p ArbitrationLostCapture h = absurd (h refl)
+unread_alc p Interrupt h = refl
+unread_alc p ErrorCodeCapture h = refl
+unread_alc p other h = refl
 
--- what no write touches
-record Unwritten (p q : Registers) : Type 0 where
-  alc : q.alc ≡ p.alc
-  ecc : q.ecc ≡ p.ecc
-  tbs : q.tbs ≡ p.tbs
+unread_ecc : (p : Registers) (register : Register) → register ≢ ErrorCodeCapture →
+    (after_reading p register).ecc ≡ p.ecc
+unread_ecc p ErrorCodeCapture h = absurd (h refl)
+unread_ecc p Interrupt h = refl
+unread_ecc p ArbitrationLostCapture h = refl
+unread_ecc p other h = refl
 
-unwritten : (p : Registers) (register : Register) (value : ℕ) → Unwritten p (after_writing p register value)
-unwritten p Mode value = record { alc = refl; ecc = refl; tbs = refl }
-unwritten p Command value = record { alc = refl; ecc = refl; tbs = refl }
-unwritten p Status value = record { alc = refl; ecc = refl; tbs = refl }
-unwritten p Interrupt value = record { alc = refl; ecc = refl; tbs = refl }
-unwritten p InterruptEnable value = record { alc = refl; ecc = refl; tbs = refl }
-unwritten p ArbitrationLostCapture value = record { alc = refl; ecc = refl; tbs = refl }
-unwritten p ErrorCodeCapture value = record { alc = refl; ecc = refl; tbs = refl }
-unwritten p ErrorWarningLimit value = record { alc = refl; ecc = refl; tbs = refl }
-unwritten p ReceiveErrorCounter value = record { alc = refl; ecc = refl; tbs = refl }
-unwritten p TransmitErrorCounter value = record { alc = refl; ecc = refl; tbs = refl }
-unwritten p (AcceptanceCode i) value = record { alc = refl; ecc = refl; tbs = refl }
-unwritten p (AcceptanceMask i) value = record { alc = refl; ecc = refl; tbs = refl }
-unwritten p (Buffer i) value = record { alc = refl; ecc = refl; tbs = refl }
-unwritten p ReceiveMessageCounter value = record { alc = refl; ecc = refl; tbs = refl }
-
--- what a look at another register keeps
-record Unread (p : Registers) (register : Register) (q : Registers) : Type 0 where
-  alc : register ≢ ArbitrationLostCapture → q.alc ≡ p.alc
-  ecc : register ≢ ErrorCodeCapture → q.ecc ≡ p.ecc
-  pending : register ≢ Interrupt → q.pending ≡ p.pending
-  tbs : q.tbs ≡ p.tbs
-
--- a look that leaves all as it is
-nothing_read : (p : Registers) (register : Register) → Unread p register p
-nothing_read p register = record { alc = λ h. refl; ecc = λ h. refl; pending = λ h. refl; tbs = refl }
-
-unread : (p : Registers) (register : Register) → Unread p register (after_reading p register)
-unread p Mode = nothing_read p Mode
-unread p Command = nothing_read p Command
-unread p Status = nothing_read p Status
-unread p Interrupt =
-    record { alc = λ h. refl; ecc = λ h. refl; pending = λ h. absurd (h refl); tbs = refl }
-unread p InterruptEnable = nothing_read p InterruptEnable
-unread p ArbitrationLostCapture =
-    record { alc = λ h. absurd (h refl); ecc = λ h. refl; pending = λ h. refl; tbs = refl }
-unread p ErrorCodeCapture =
-    record { alc = λ h. refl; ecc = λ h. absurd (h refl); pending = λ h. refl; tbs = refl }
-unread p ErrorWarningLimit = nothing_read p ErrorWarningLimit
-unread p ReceiveErrorCounter = nothing_read p ReceiveErrorCounter
-unread p TransmitErrorCounter = nothing_read p TransmitErrorCounter
-unread p (AcceptanceCode i) = nothing_read p (AcceptanceCode i)
-unread p (AcceptanceMask i) = nothing_read p (AcceptanceMask i)
-unread p (Buffer i) = nothing_read p (Buffer i)
-unread p ReceiveMessageCounter = nothing_read p ReceiveMessageCounter
+unread_pending : (p : Registers) (register : Register) → register ≢ Interrupt →
+    (after_reading p register).pending ≡ p.pending
+unread_pending p Interrupt h = absurd (h refl)
+unread_pending p ArbitrationLostCapture h = refl
+unread_pending p ErrorCodeCapture h = refl
+unread_pending p other h = refl
 
 -- ALC takes the place where arbitration was lost
 pub alc_by : (p : Registers) (call : Call) → call ≢ Read ArbitrationLostCapture →
     (after_call p call).alc ≡ after_capture p.alc (lost_by p call)
 alc_by p (Turn turn) h = refl
-alc_by p (Read register) h = (unread p register).alc (λ e. h (ap Read e))
+alc_by p (Read register) h = unread_alc p register (λ e. h (ap Read e))
 alc_by p (Write register value) h =
     unless_keeps (λ q. q.alc) (first_fault (write_faults p register value)) p (after_writing p register value)
-    (unwritten p register value).alc
+    (write_keeps (λ q. q.alc) (λ q s i. refl) (Some register) value p)
 alc_by p (Load m) h = unless_keeps (λ q. q.alc) (first_fault (load_faults p)) p (after_loading p m) refl
 alc_by p (Give c) h = unless_keeps (λ q. q.alc) (first_fault (command_faults p c)) p (after_command p c) refl
 alc_by p LeaveReset h = leaving_keeps (λ q. q.alc) p.mode.rm p (after_leaving_reset p) refl
@@ -107,10 +72,10 @@ alc_by p Finish h = refl
 pub ecc_by : (p : Registers) (call : Call) → call ≢ Read ErrorCodeCapture →
     (after_call p call).ecc ≡ after_capture p.ecc (fault_by p call)
 ecc_by p (Turn turn) h = refl
-ecc_by p (Read register) h = (unread p register).ecc (λ e. h (ap Read e))
+ecc_by p (Read register) h = unread_ecc p register (λ e. h (ap Read e))
 ecc_by p (Write register value) h =
     unless_keeps (λ q. q.ecc) (first_fault (write_faults p register value)) p (after_writing p register value)
-    (unwritten p register value).ecc
+    (write_keeps (λ q. q.ecc) (λ q s i. refl) (Some register) value p)
 ecc_by p (Load m) h = unless_keeps (λ q. q.ecc) (first_fault (load_faults p)) p (after_loading p m) refl
 ecc_by p (Give c) h = unless_keeps (λ q. q.ecc) (first_fault (command_faults p c)) p (after_command p c) refl
 ecc_by p LeaveReset h = leaving_keeps (λ q. q.ecc) p.mode.rm p (after_leaving_reset p) refl
@@ -154,7 +119,7 @@ written p ReceiveMessageCounter value = refl
 pub pending_by : (p : Registers) (call : Call) → call ≢ Read Interrupt →
     (after_call p call).pending ≡ either (both (causes_by p call) p.enabled) p.pending
 pending_by p (Turn turn) h = refl
-pending_by p (Read register) h = (unread p register).pending (λ e. h (ap Read e))
+pending_by p (Read register) h = unread_pending p register (λ e. h (ap Read e))
 pending_by p (Write register value) h = written p register value
 pending_by p (Load m) h = unless_keeps (λ q. q.pending) (first_fault (load_faults p)) p (after_loading p m) refl
 pending_by p (Give c) h = unless_keeps (λ q. q.pending) (first_fault (command_faults p c)) p (after_command p c) refl
@@ -180,10 +145,10 @@ released_if false p = refl
 -- TBS is 1 where the call releases the transmit buffer
 pub tbs_by : (p : Registers) (call : Call) → IsNoRequest call → (after_call p call).tbs ≡ (releases p call || p.tbs)
 tbs_by p (Turn turn) h = refl
-tbs_by p (Read register) h = (unread p register).tbs
+tbs_by p (Read register) h = read_keeps (λ q. q.tbs) (λ q i a c. refl) (Some register) p
 tbs_by p (Write register value) h =
     unless_keeps (λ q. q.tbs) (first_fault (write_faults p register value)) p (after_writing p register value)
-    (unwritten p register value).tbs
+    (write_keeps (λ q. q.tbs) (λ q s i. refl) (Some register) value p)
 tbs_by p (Load m) h = unless_keeps (λ q. q.tbs) (first_fault (load_faults p)) p (after_loading p m) refl
 tbs_by p (Give c) h =
     unless_keeps (λ q. q.tbs) (first_fault (command_faults p c)) p (after_command p c) (stays p.tbs (requests c) h)

@@ -1,3 +1,5 @@
+pub mod KeepLemmas
 pub mod CallLemmas
 pub mod HistoryLemmas
 pub mod TurnLemmas
+pub mod SaysTheSame

@@ -5,7 +5,7 @@ ghost use Rattle.sja_regs.specs.Captures.{after_capture};
 
 /// A capture register, ALC or ECC (SJA1000 data sheet, 6.4.8 and 6.4.9).
 #[derive(Clone, Copy, Debug, PartialEq, Eq)]
-pub struct Capture {
+pub(crate) struct Capture {
     /// What the register reads as: the last capture.
     pub value: u8,
     /// It was read since, so the next capture is allowed.
@@ -14,7 +14,7 @@ pub struct Capture {
 
 impl Capture {
     /// Nothing was captured.
-    pub fn new() -> Capture
+    pub(crate) fn new() -> Capture
         ensures { result ≡ record { value = 0; was_read = true } }
     {
         Capture {
@@ -24,7 +24,7 @@ impl Capture {
     }
 
     /// Captures a value, if there is one and a capture is allowed.
-    pub fn take(&mut self, value: Option<u8>)
+    pub(crate) fn take(&mut self, value: Option<u8>)
         ensures { self.new ≡ after_capture self.old value }
     {
         if let Some(value) = value {

@@ -11,7 +11,7 @@ use can_frame::Frame;
 use can_node::Request;
 
 impl Port {
-    /// What [`command`](Port::command) would answer.
+    /// What [`command`](Port::command) would answer. Where it is not refused, [`obey`](Port::obey) does the rest.
     ///
     /// Errors: those of [`command`](Port::command).
     pub fn plan_command(&self, value: u8) -> Result<Option<Request>, RegFault>
@@ -25,7 +25,8 @@ impl Port {
         }
     }
 
-    /// Does a command, and answers the request that it makes of the transmit buffer, if it makes one.
+    /// Does a command, and answers the request that it makes of the transmit buffer, if it makes one. A driver plans it
+    /// and then has it obeyed; tests alone call both at once.
     ///
     /// Errors, the first that holds: [`RegFault::ActiveOnly`] in reset mode; [`RegFault::UseTyped`] for RRB;
     /// [`RegFault::NotInVersion`] for SRR in version 1; with TR or SRR [`RegFault::ListenOnly`] in listen only mode and
@@ -37,8 +38,27 @@ impl Port {
         ensures unchanged { OnErr result (self.new ≡ self.old) }
     {
         let request = self.plan_command(value)?;
-        self.obey(Command::of(value));
+        self.obey(value);
         Ok(request)
+    }
+
+    /// Does a command that [`plan_command`](Port::plan_command) does not refuse, for a caller that has planned it: it is
+    /// not judged again.
+    pub fn obey(&mut self, value: u8)
+        requires { first_fault (command_faults self.old (command_of value)) ≡ None }
+        ensures { self.new ≡ after_command self.old (command_of value) }
+    {
+        let command = Command::of(value);
+        let registers = &mut self.registers;
+        if command.cdo {
+            registers.dos = false;
+        }
+        if command.requests() {
+            registers.tbs = false;
+            registers.tcs = false;
+        } else if command.at && !registers.tbs {
+            registers.abort = true;
+        }
     }
 
     /// Why a command isn't done.
@@ -73,22 +93,5 @@ impl Port {
             single_shot: command.at,
             self_receive: !command.tr,
         })
-    }
-
-    /// What a command leaves.
-    fn obey(&mut self, command: Command)
-        requires { first_fault (command_faults self.old command) ≡ None }
-        ensures { self.new ≡ after_command self.old command }
-    {
-        let registers = &mut self.registers;
-        if command.cdo {
-            registers.dos = false;
-        }
-        if command.requests() {
-            registers.tbs = false;
-            registers.tcs = false;
-        } else if command.at && !registers.tbs {
-            registers.abort = true;
-        }
     }
 }

@@ -6,9 +6,9 @@ use super::port::Port;
 use super::registers::Registers;
 use std::marker::Model;
 
-/// What the driver alone sets of a port's registers (this project's own rule): the version of the model, MOD, IER, EWLR,
-/// the acceptance codes and masks, and the transmit buffer. A turn of the bus changes none of it but RM, at bus-off. A
-/// driver whose port stands behind a lock keeps them beside it.
+/// What the driver alone sets of a port's registers (this project's own rule): the version of the model, MOD, IER,
+/// EWLR, the acceptance codes and masks, and the transmit buffer. A turn of the bus changes none of it but RM, at
+/// bus-off. A driver whose port stands behind a lock keeps them beside it.
 ///
 /// Contracts see them as `SettingsValue`.
 #[derive(Debug, Drop)]

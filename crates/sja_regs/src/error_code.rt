@@ -21,7 +21,7 @@ fn kind_bits(cause: Cause) -> u8
 }
 
 /// The value for a fault: its kind, the role of the node, and the segment in the lowest bits.
-pub fn error_code(cause: Cause, segment: Segment, receiving: bool) -> u8
+pub(crate) fn error_code(cause: Cause, segment: Segment, receiving: bool) -> u8
     ensures { result ≡ error_code cause segment receiving }
 {
     kind_bits(cause) + bit_at(DIR, receiving) + segment.code()

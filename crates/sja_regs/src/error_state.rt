@@ -8,7 +8,7 @@ use super::interrupts::Interrupts;
 
 /// What the two error interrupts hang on (SJA1000 data sheet, 6.4.6).
 #[derive(Clone, Copy)]
-pub struct ErrorState {
+pub(crate) struct ErrorState {
     /// ES: an error counter has come to the warning limit.
     pub es: bool,
     /// BS: bus-off.
@@ -19,7 +19,7 @@ pub struct ErrorState {
 
 impl ErrorState {
     /// Which of EI and EPI have a cause, where this state becomes a new one.
-    pub fn causes(self, new: ErrorState) -> Interrupts
+    pub(crate) fn causes(self, new: ErrorState) -> Interrupts
         ensures { result ≡ causes_between self new }
     {
         Interrupts {

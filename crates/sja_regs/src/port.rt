@@ -43,7 +43,8 @@ impl Port {
         }
     }
 
-    /// The facts that hold of every port.
+    /// The facts that hold of every port. It does nothing when it runs: a caller that needs them for its own proof calls
+    /// it for its contract.
     pub fn keeps_its_facts(&self)
         ensures { RegisterFacts self.now }
     {
@@ -82,9 +83,10 @@ impl Port {
         registers.abort = false;
     }
 
-    /// What the driver wants of the bus.
+    /// What the driver wants of the bus. Who asks it learns what holds of every port too.
     pub fn orders(&self) -> Orders
-        ensures { result ≡ record { abort = self.now.abort; ended = self.now.ended } }
+        ensures orders { result ≡ record { abort = self.now.abort; ended = self.now.ended } }
+        ensures facts { RegisterFacts self.now }
     {
         Orders {
             abort: self.registers.abort,

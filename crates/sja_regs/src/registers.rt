@@ -18,7 +18,7 @@ const PASSIVE: u8 = ERROR_PASSIVE as u8;
 /// All that a port keeps, in the data sheet's letters. Not kept is what follows: RBS, RI and RMC from what the driver
 /// sees, and ES from the error counters.
 #[derive(Debug, Drop)]
-pub struct Registers {
+pub(crate) struct Registers {
     /// The version of the model: version 1 has no LOM, no STM and no SRR.
     pub version: u8,
     /// How often reset mode was left, at most 255.
@@ -67,7 +67,7 @@ pub struct Registers {
 
 impl Registers {
     /// After power-on (SJA1000 data sheet, 6.4.2).
-    pub fn at_power_on(version: u8) -> Registers
+    pub(crate) fn at_power_on(version: u8) -> Registers
         ensures { result ≡ at_power_on version }
     {
         Registers {
@@ -97,14 +97,14 @@ impl Registers {
     }
 
     /// Whether this is the first version of the model.
-    pub fn is_first_version(&self) -> bool
+    pub(crate) fn is_first_version(&self) -> bool
         ensures { result ≡ is_first_version self.now }
     {
         self.version == 1
     }
 
     /// How the controller starts.
-    pub fn config(&self) -> Config
+    pub(crate) fn config(&self) -> Config
         ensures { result ≡ config_of self.now }
     {
         Config {
@@ -119,7 +119,7 @@ impl Registers {
     }
 
     /// ES, BS and error passive.
-    pub fn error_state(&self) -> ErrorState
+    pub(crate) fn error_state(&self) -> ErrorState
         ensures { result ≡ error_state_of self.now }
     {
         ErrorState {
@@ -130,7 +130,7 @@ impl Registers {
     }
 
     /// The status register.
-    pub fn status(&self, seen: &Seen) -> Status
+    pub(crate) fn status(&self, seen: &Seen) -> Status
         ensures { result ≡ status_of self.now seen.now }
     {
         Status {
@@ -146,7 +146,7 @@ impl Registers {
     }
 
     /// The interrupt register.
-    pub fn interrupts(&self, seen: &Seen) -> Interrupts
+    pub(crate) fn interrupts(&self, seen: &Seen) -> Interrupts
         ensures { result ≡ interrupts_in self.now seen.now }
     {
         Interrupts {

@@ -1,5 +1,5 @@
 -- How the entries of a journal are kept: one code each, and the contents of some in lists of their own.
-use Rattle.std.specs.Prelude.{◌≡◌, ◌≤◌, ℕ, suc, Bool, true, false, if◌then◌else◌, List, [], ◌∷◌, length}
+use Rattle.std.specs.Prelude.{◌≡◌, ℕ, suc, Bool, true, false, if◌then◌else◌, List, [], ◌∷◌, length}
 use Rattle.can_node.specs.declared.config.Config.{Config}
 use Rattle.can_node.specs.declared.request.Request.{Request}
 use Rattle.can_bits.specs.declared.level.Level.TheVariants.{Dominant, Recessive}

@@ -1,4 +1,4 @@
-use Rattle.std.proofs.Common.{◌≡◌, ℕ, ◌+◌, ◌-◌, length}
+use Rattle.std.proofs.Common.{◌≡◌, ◌+◌, ◌-◌, length}
 use Rattle.sja_link.specs.Looking.{Pulls, one_if}
 use Rattle.sja_link.proofs.driver_ledger.DriverLedger.pull.Given as goal
 

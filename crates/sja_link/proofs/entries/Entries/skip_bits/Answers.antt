@@ -1,7 +1,4 @@
-use Rattle.std.proofs.Common.{sym, ap, ◌∙◌}
-use Rattle.std.specs.Prelude.{drop}
 use Rattle.std.proofs.lemmas.List.{take_rest}
-use Rattle.sja_link.specs.Between.{past_bits}
 use Rattle.sja_link.proofs.Skipping.{skips}
 use Rattle.sja_link.proofs.entries.Entries.skip_bits.Goals as goal
 

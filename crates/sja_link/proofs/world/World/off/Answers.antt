@@ -1,4 +1,4 @@
-use Rattle.std.proofs.Common.{◌≡◌, ◌∙◌, ◌++◌, ◌∷◌, [], refl, sym, ap, append-nil, rules}
+use Rattle.std.proofs.Common.{◌∙◌, rules}
 use Rattle.sja_link.specs.declared.down.Down.TheVariants.{Off as OffDown}
 use Rattle.sja_link.specs.declared.event.Event.TheVariants.{Off}
 use Rattle.sja_link.specs.WorldEvents.{MayPut}

@@ -1,4 +1,4 @@
-use Rattle.std.proofs.Common.{◌≡◌, ◌≤◌, ◌-◌, ◌∙◌, length, ap, arith, rules}
+use Rattle.std.proofs.Common.{◌-◌, ◌∙◌, ap, arith, rules}
 use Rattle.sja_link.specs.declared.down.Down.TheVariants.{Message}
 use Rattle.sja_link.specs.declared.event.Event.TheVariants.{Put}
 use Rattle.sja_link.specs.WorldEvents.{Allowed}

@@ -1,7 +1,7 @@
 use Rattle.std.proofs.Common.{refl, ◌∙◌, sym, rules}
 use Rattle.sja_link.specs.declared.up.Up.TheVariants.{Send as SendUp}
 use Rattle.sja_link.specs.declared.event.Event.TheVariants.{Send}
-use Rattle.sja_link.specs.WorldEvents.{IsOpen, Allowed}
+use Rattle.sja_link.specs.WorldEvents.{Allowed}
 use Rattle.sja_link.specs.Kept.Fields.{world_of}
 use Rattle.sja_link.proofs.Worlds.{world_next}
 use Rattle.sja_link.proofs.Keeping.{give_stored, credits_same}

@@ -1,4 +1,4 @@
-use Rattle.std.proofs.Common.{◌<◌, ◌∙◌, length, arith, ap}
+use Rattle.std.proofs.Common.{◌<◌, length, arith}
 use Rattle.sja_link.proofs.Keeping.{take_stored, take_free, take_fits}
 use Rattle.sja_link.proofs.world.World.take.Goals as goal
 

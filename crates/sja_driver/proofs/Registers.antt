@@ -1,0 +1,4 @@
+pub mod Untouched
+pub mod TransmitBuffer
+pub mod Activation
+pub mod TbsAndAbort
