@@ -39,5 +39,4 @@ pub mod QuietBits
 pub mod Logs
 pub mod RunningOn
 pub mod RanOn
-pub mod Boards
 pub mod SoFar

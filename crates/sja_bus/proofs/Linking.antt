@@ -11,13 +11,13 @@ use Rattle.sja_link.specs.declared.up.Up.{Up}
 use Rattle.sja_bus.specs.NewLinks.{new_link}
 
 -- a link with this number and nothing on it
-pub is_new : (link : Deques) (node activation a : ℕ) → link.link ≡ record { node = node; activation = activation } →
-    link.down ≡ [] → link.up ≡ [] → activation ≡ a → link ≡ new_link node a
-is_new link node activation a id down up same =
+pub is_new : (link : Deques) (node activation : ℕ) → link.link ≡ record { node = node; activation = activation } →
+    link.down ≡ [] → link.up ≡ [] → link ≡ new_link node activation
+is_new link node activation id down up =
     let A : LinkId → Deques = λ l. record { link = l; down = link.down; up = link.up } in
     let B : List Down → Deques = λ l. record { link = record { node = node; activation = activation }; down = l; up = link.up } in
     let C : List Up → Deques = λ l. record { link = record { node = node; activation = activation }; down = []; up = l } in
-    ap A id ∙ ap B down ∙ ap C up ∙ ap (new_link node) same
+    ap A id ∙ ap B down ∙ ap C up
 
 -- the links at these places are those of their nodes and activations
 abbrev pub AreLinked : ℕ → List Deques → Type 0

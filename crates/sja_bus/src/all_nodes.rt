@@ -17,15 +17,16 @@ ghost use Rattle.sja_bus.specs.Inside.Refusing.{SeatStops};
 
 use super::bit_end::BitEnd;
 use super::board::Board;
-use super::seat::{LINKS, Seat};
+use super::seat::Seat;
 use super::struck_nodes::StruckNodes;
 use super::wire::{both, level_of, seen};
 use can_bits::Level;
-use sja_link::BusEnd;
+use sja_link::{BusEnd, first_link};
 use sja_wire::BusFault;
 
 /// Takes all that the links show.
 pub(crate) fn gather_all<E: BusEnd>(seats: &mut [Seat], links: &mut [E]) -> Result<(), BusFault>
+    requires few { length seats.old ≤ 8 }
     requires count { length links.old ≡ 8 * length seats.old }
     requires ids { Numbered E.link links.old }
     requires ready { AreReady seats.old }
@@ -39,7 +40,7 @@ pub(crate) fn gather_all<E: BusEnd>(seats: &mut [Seat], links: &mut [E]) -> Resu
     ensures refused { IfErr result (λ f. SeatRefuses E.stands seats.old seats.new links.old links.new f) }
 {
     for k in 0..seats.len() {
-        seats[k].gather(links, LINKS * k)?;
+        seats[k].gather(links, first_link(k))?;
     }
     Ok(())
 }
@@ -79,6 +80,7 @@ fn open_all<E: BusEnd, B: Board>(
     links: &mut [E],
     board: &B,
 ) -> Result<(), BusFault>
+    requires few { length seats.old ≤ 8 }
     requires count { length links.old ≡ 8 * length seats.old }
     requires ids { Numbered E.link links.old }
     requires ready { AreReady seats.old }
@@ -94,7 +96,7 @@ fn open_all<E: BusEnd, B: Board>(
         ⊎ SeatFull E.stands (B.orders_are board.now) seats.old seats.new links.old links.new f) }
 {
     for k in 0..seats.len() {
-        seats[k].open_bit(links, LINKS * k, board)?;
+        seats[k].open_bit(links, first_link(k), board)?;
     }
     Ok(())
 }
@@ -126,7 +128,7 @@ fn sample_from<E: BusEnd, B: Board>(
 {
     for k in first..seats.len() {
         let sees = seen(level, struck.has(k));
-        seats[k].sample(links, LINKS * k, sees, board)?;
+        seats[k].sample(links, first_link(k), sees, board)?;
     }
     Ok(())
 }

@@ -195,7 +195,7 @@ impl Bus {
     }
 
     /// What holds of every bus without such a fault: by every cut of each node's record the verdicts are right, and
-    /// what each node saw in each bit is what the wire had.
+    /// what each node saw in each bit is what the wire had. It does nothing: a caller calls it for its contract.
     pub fn keeps_its_laws(&self)
         ensures { self.now.fault ≡ None → IsBusRun self.now.script self.now.run self.now.journals }
     {

@@ -11,9 +11,6 @@ use sja_link::{BusLedger, Entry, Journal, LinkId};
 use sja_wire::BusFault;
 use std::alloc::Global;
 
-/// How many links, and so activations, a node has.
-pub(crate) const LINKS: usize = 8;
-
 /// One controller on the bus: its node, its journal, and what the bus knows of its activations.
 #[derive(Debug, Drop)]
 pub(crate) struct Seat {

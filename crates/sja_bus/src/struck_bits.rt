@@ -6,7 +6,7 @@ ghost use Rattle.sja_bus.specs.StrikesByBit.{IsMarked, AreStruck};
 
 use super::struck_nodes::StruckNodes;
 use can_frame::OutOfMemory;
-use sja_script::{FaultScript, Strike};
+use sja_script::{FaultScript, MOST_NODES, Strike};
 use std::alloc::Global;
 use std::marker::Model;
 
@@ -109,10 +109,10 @@ fn mark_all(bits: &mut [StruckNodes], script: &[Strike])
 fn mark(bits: &mut [StruckNodes], strike: &Strike)
     ensures { IsMarked strike.now bits.old bits.new }
 {
-    let node = strike.node as usize;
-    if node >= 8 {
+    if strike.node >= MOST_NODES {
         return;
     }
+    let node = strike.node as usize;
     let first = strike.bit as usize;
     let every = strike.every as usize;
     for time in 0..times_within(strike, bits.len()) {

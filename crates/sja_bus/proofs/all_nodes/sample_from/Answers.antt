@@ -1,5 +1,8 @@
-use Rattle.std.proofs.Common.{◌≡◌, ◌<◌, length, rules, arith, refl, ◌∙◌}
-use Rattle.std.specs.Prelude.{Err, slice_set}
+use Rattle.std.proofs.Common.{◌≡◌, ◌<◌, ℕ, length, rules, arith, refl, ◌∙◌, subst}
+use Rattle.std.specs.Prelude.{Err, slice_set, slice_index_or}
+use Rattle.sja_link.specs.BusLedgers.{link_of}
+use Rattle.sja_wire.specs.Links.{Goes}
+use Rattle.sja_bus.specs.Reasons.{IsBrokenFor}
 use Rattle.sja_bus.specs.Inside.Rows.{SeatTurns, seen_by}
 use Rattle.sja_bus.specs.Inside.Refusing.{SeatBreaks}
 use Rattle.sja_bus.proofs.Breaking.{breaks_seat}
@@ -23,8 +26,8 @@ loop-k-init g c = record {
 pub sample-requires-clause-at : goal.sample-requires-clause-at
 sample-requires-clause-at g c =
     let h = c.requires.seated in let inv = c.loop-k.invariant in
-    has_links g.E.BusEnd.link g.E.BusEnd.same g.met.E.BusEnd.same_link (length c.args.seats.now) c.loop-k.seats c.args.links.now c.loop-k.links c.loop-k.k c.index-seats-k.result h.count c.loop-k.auto.seats (search rules)
-    inv.sames h.ids inv.ready
+    rw c.first_link.ensures (has_links g.E.BusEnd.link g.E.BusEnd.same g.met.E.BusEnd.same_link (length c.args.seats.now) c.loop-k.seats c.args.links.now c.loop-k.links c.loop-k.k c.index-seats-k.result h.count c.loop-k.auto.seats (search rules)
+    inv.sames h.ids inv.ready)
 
 pub loop-k-preserved : goal.loop-k-preserved
 loop-k-preserved g c =
@@ -34,6 +37,10 @@ loop-k-preserved g c =
     let was : k < length c.args.seats.now = search rules in
     let n = (c.loop-k.invariant.ready k c.index-seats-k.result here).own in
     let a = c.args.board.now in let b = c.loop-k.board in let z = c.sample.new.board in
+    let s = slice_index_or c.loop-k.seats k c.index-seats-k.result in
+    let G : ℕ → Type 0 = λ base. Goes E.same E.stands s.journal.entries c.sample.new.self.journal.entries c.loop-k.links
+    c.sample.new.links base in
+    let goes = subst G c.first_link.ensures did.goes in
     let sees : c.seen-sees.result ≡ seen_by c.args.struck c.args.level k = c.seen-sees.ensures ∙ seen_is c.has.result c.args.struck c.args.level k c.has.ensures in
     record {
       ready = ready_one c.loop-k.seats k c.sample.new.self here c.loop-k.invariant.ready (record { ready = did.ready; own = did.stays.node ∙ n });
@@ -43,7 +50,7 @@ loop-k-preserved g c =
       row = λ before given then u.
           underway_one E.same E.stands g.met.E.BusEnd.same_trans B.ports B.told B.kept met.kept_trans met.told_first met.told_last c.args.struck c.args.level c.seen-sees.result before c.loop-k.seats
           given c.loop-k.links c.sample.new.links then b z k c.index-seats-k.result c.sample.new.self here sees
-          (record { ready = did.ready; node = did.stays.node; room = did.stays.room; goes = did.goes; ports_are = did.ports; others = did.others; turns = did.turns })
+          (record { ready = did.ready; node = did.stays.node; room = did.stays.room; goes = goes; ports_are = did.ports; others = did.others; turns = did.turns })
           (c.loop-k.invariant.row before given then u);
     }
 
@@ -67,12 +74,16 @@ returns-clause-row g c = λ before given was u. (c.loop-k.k, search rules, c.loo
 
 pub returns-in_err-sample-clause-broken : goal.returns-in_err-sample-clause-broken
 returns-in_err-sample-clause-broken g c =
-    let E = g.E.BusEnd in let B = g.B.Board in let k = c.loop-k.k in let s = c.index-seats-k.result in let f = c.in_err-sample.field-0.0 in
+    let E = g.E.BusEnd in let D = g.B.Board in let k = c.loop-k.k in let s = c.index-seats-k.result in let f = c.in_err-sample.field-0.0 in
     let inv = c.loop-k.invariant in let new = c.sample.new.self in
     let near : k < length c.loop-k.seats = search rules in
     let is : c.from_residual.result ≡ Err f = search rules in
+    let was = slice_index_or c.loop-k.seats k s in
+    let B : ℕ → Type 0 = λ base. IsBrokenFor E.stands E.full (link_of was.ledger).node was.journal.room
+    was.journal.entries new.journal.entries c.loop-k.links base f in
+    let broken = subst B c.first_link.ensures c.in_err-sample.ensures.broken in
     let P : _ → Type 0 = λ x. (before : _) (given : _) (was : _) → _ → SeatBreaks E.stands E.full before (slice_set c.loop-k.seats k new) given x in
     err_is P c.from_residual.result f is
-    (λ before given was u.
-    let i = inv.row before given was u in let count = i.count in
-    breaks_seat E.same E.stands E.full (SeatTurns (B.told was c.loop-k.board) (B.kept was c.loop-k.board) c.args.struck c.args.level) before c.loop-k.seats given c.loop-k.links k s new f (omega (arith, near, count)) i.count i.ready i.goes i.done c.in_err-sample.ensures.broken)
+    (λ before given start u.
+    let i = inv.row before given start u in let count = i.count in
+    breaks_seat E.same E.stands E.full (SeatTurns (D.told start c.loop-k.board) (D.kept start c.loop-k.board) c.args.struck c.args.level) before c.loop-k.seats given c.loop-k.links k s new f (omega (arith, near, count)) i.count i.ready i.goes i.done broken)

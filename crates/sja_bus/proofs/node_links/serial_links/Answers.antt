@@ -1,4 +1,4 @@
-use Rattle.std.proofs.Common.{◌≡◌, ◌/◌, ◌%◌, ◌+◌, List, suc, rules, arith, subst, sym}
+use Rattle.std.proofs.Common.{◌≡◌, ◌/◌, ◌%◌, ◌+◌, ◌∙◌, List, suc, rules, subst, sym}
 use Rattle.sja_link.specs.Deques.{Deques}
 use Rattle.sja_bus.specs.NewLinks.{new_link}
 use Rattle.sja_bus.proofs.Linking.{AreLinked, is_new, linked_more}
@@ -9,8 +9,8 @@ loop-place-preserved c =
     let place = c.loop-place.place in
     let link : Deques = c.in_ok-new.field-0 in
     let new : link ≡ new_link (place / 8) (suc (place % 8)) =
-    is_new link (place / 8) (place % 8 + 1) (suc (place % 8)) c.in_ok-new.ensures.id c.in_ok-new.ensures.empty.0
-    c.in_ok-new.ensures.empty.1 (omega arith) in
+    is_new link (place / 8) (suc (place % 8)) (c.in_ok-new.ensures.id ∙ c.id_at.ensures) c.in_ok-new.ensures.empty.0
+    c.in_ok-new.ensures.empty.1 in
     let more = linked_more c.loop-place.links.items link place (search rules) new c.loop-place.invariant.made in
     let P : List Deques → Type 0 = AreLinked (place + 1) in
     record {
