@@ -1,6 +1,7 @@
 //! [`Document`]: what is read in the figures of plans.
 
-use super::long::{LENGTH, filled, list};
+use super::long::{filled, list};
+use sja_plan::{MOST_BYTES, MOST_STRIKES};
 use std::alloc::{AllocError, Global};
 
 /// What a document of 65,536 bytes has most of.
@@ -29,7 +30,7 @@ impl Document {
             Document::Words => push_words(&mut text, 32_700)?,
             Document::Tables => push_list(alloc, &mut text, "node", &["{a=7}"], 10_900)?,
         }
-        filled(text, LENGTH)
+        filled(text, MOST_BYTES)
     }
 }
 
@@ -74,7 +75,7 @@ fn push_words(text: &mut String, count: u32) -> Result<(), AllocError> {
 /// Writes eight nodes with 900 steps each, 1,000 turns and 1,000 strikes: as many texts as there is room for.
 fn push_plan(alloc: Global, text: &mut String) -> Result<(), AllocError> {
     push_list(alloc, text, "turns", &["\"rest\""], 1_000)?;
-    push_list(alloc, text, "faults", &["\"0 1\""], 1_000)?;
+    push_list(alloc, text, "faults", &["\"0 1\""], MOST_STRIKES)?;
     for _ in 0..8u32 {
         text.push_str("[[node]]\n")?;
         push_list(alloc, text, "steps", &["\"stop\"", "\"sent\""], 900)?;

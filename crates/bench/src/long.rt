@@ -2,9 +2,6 @@
 
 use std::alloc::{AllocError, Global};
 
-/// How many bytes a plan has at most.
-pub const LENGTH: usize = 65_536;
-
 /// So many items, by turns of these, with a comma behind each.
 pub fn list(alloc: Global, items: &[&str], count: u32) -> Result<String, AllocError> {
     let mut text = String::new(alloc);

@@ -7,6 +7,7 @@ use can_frame::{Message, OutOfMemory};
 use sja_bus::{Bus, SerialBoard, are_links_of, serial_links};
 use sja_driver::{Active, Driver};
 use sja_link::{DequeLink, DriverEnd, first_link};
+use sja_plan::MOST_BITS;
 use sja_regs::letters;
 use sja_script::{FaultScript, MOST_NODES};
 use std::alloc::Global;
@@ -29,7 +30,7 @@ impl Station {
     /// So many started nodes, each of which receives every frame, for so many bits. Nothing where memory was refused,
     /// and where there are no such buses.
     pub fn new(alloc: Global, nodes: u8, bits: u32) -> Option<Station> {
-        if nodes == 0 || nodes > MOST_NODES || bits == 0 || bits > 200_000 {
+        if nodes == 0 || nodes > MOST_NODES || bits == 0 || bits > MOST_BITS {
             return None;
         }
         let bus = plain_bus(alloc, nodes, bits).ok()?;

@@ -5,18 +5,19 @@
 //! first fault. The tests are rows that the program `test_plan` reads, and `bench` measures the reader.
 #![tactic(auto)]
 
-mod counting;
+mod checks;
 mod document;
-mod judging;
 mod laws;
+mod limits;
 mod list_fault;
 mod members;
 mod plan;
+mod plan_bytes;
 mod plan_fault;
 mod plan_text;
-mod reading;
 mod settings;
 mod step_text;
+mod strike_count;
 mod strike_text;
 mod text_fault;
 mod turn;
@@ -28,7 +29,11 @@ pub use laws::{
     a_plan_has_no_fault, a_text_says_one_step, a_text_says_one_strike, a_text_says_one_turn,
     bytes_are_one_plan, bytes_have_one_first_fault,
 };
+pub use limits::{
+    GREATEST_NUMBER, LAST_VERSION, MOST_BITS, MOST_BYTES, MOST_DIGITS, MOST_STEPS, MOST_STRIKES,
+    MOST_TURNS,
+};
 pub use plan::Plan;
+pub use plan_bytes::read_plan;
 pub use plan_fault::PlanFault;
-pub use reading::read_plan;
 pub use turn::Turn;

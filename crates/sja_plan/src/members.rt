@@ -39,5 +39,5 @@ pub(crate) fn has_only(table: &Table, allowed: &[&str]) -> bool
 fn allows(allowed: &[&str], key: &str) -> bool
     ensures { result ≡ list_any (λ name. bytes_eq name.now key.now) allowed.now }
 {
-    allowed.iter().any(|name| *name == key)
+    allowed.contains(&key)
 }

@@ -6,7 +6,9 @@ ghost use Rattle.sja_plan.specs.Checks.{HasNodes, HasFewSteps, BeforeNodeCount};
 ghost use Rattle.sja_plan.specs.Faults.{IsDocumentFault};
 
 use super::document::Document;
+use super::limits::{LAST_VERSION, MOST_BITS, MOST_STEPS};
 use super::plan_fault::PlanFault;
+use sja_script::MOST_NODES;
 
 /// The version and the number of bits.
 #[derive(Clone, Copy)]
@@ -23,10 +25,10 @@ pub(crate) fn settings_of(document: &Document) -> Result<Settings, PlanFault>
         × (1 ≤ s.bits) × (s.bits ≤ 200000)) }
     ensures err { IfErr result (IsDocumentFault (document_view document.now)) }
 {
-    let Some(version) = within(document.version, 1, 2) else {
+    let Some(version) = within(document.version, 1, LAST_VERSION) else {
         return Err(PlanFault::Version);
     };
-    let Some(bits) = within(document.bits, 1, 200_000) else {
+    let Some(bits) = within(document.bits, 1, MOST_BITS) else {
         return Err(PlanFault::Bits);
     };
     Ok(Settings {
@@ -66,7 +68,7 @@ pub(crate) fn counts(document: &Document) -> Result<(), PlanFault>
 fn has_nodes(document: &Document) -> bool
     ensures { (result ≡ true) ↔ HasNodes (document_view document.now) }
 {
-    1 <= document.nodes.len() && document.nodes.len() <= 8
+    1 <= document.nodes.len() && document.nodes.len() <= usize::from(MOST_NODES)
 }
 
 /// Whether each node has at most 1,000 steps.
@@ -74,7 +76,7 @@ fn has_few_steps(document: &Document) -> bool
     ensures { (result ≡ true) ↔ HasFewSteps (document_view document.now) }
 {
     for steps in document.nodes.as_slice() {
-        if steps.len() > 1000 {
+        if steps.len() > MOST_STEPS {
             return false;
         }
     }

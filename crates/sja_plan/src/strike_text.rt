@@ -4,9 +4,10 @@ ghost use Rattle.std.specs.Prelude.{◌≡◌, ◌≤◌, IfOk, IfErr, map};
 ghost use Rattle.sja_plan.specs.Words.{words};
 ghost use Rattle.sja_plan.specs.StrikeTexts.{AreOnce, AreRepeated, AreStrikeWords};
 
+use super::limits::GREATEST_NUMBER;
 use super::plan_text::PlanText;
 use super::text_fault::TextFault;
-use super::word::{GREATEST, find_words, node_within, number_within};
+use super::word::{find_words, node_within, number_within};
 use sja_script::Strike;
 use std::alloc::Global;
 
@@ -47,7 +48,7 @@ fn once(nodes: usize, node: &str, bit: &str) -> Result<Strike, TextFault>
 {
     Ok(Strike {
         node: node_within(nodes, node)?,
-        bit: number_within(bit, 0, GREATEST)?,
+        bit: number_within(bit, 0, GREATEST_NUMBER)?,
         every: 1,
         times: 1,
     })
@@ -68,8 +69,8 @@ fn repeated(
 {
     Ok(Strike {
         node: node_within(nodes, node)?,
-        bit: number_within(bit, 0, GREATEST)?,
-        every: number_within(every, 1, GREATEST)?,
-        times: number_within(times, 1, GREATEST)?,
+        bit: number_within(bit, 0, GREATEST_NUMBER)?,
+        every: number_within(every, 1, GREATEST_NUMBER)?,
+        times: number_within(times, 1, GREATEST_NUMBER)?,
     })
 }

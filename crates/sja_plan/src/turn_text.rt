@@ -4,10 +4,11 @@ ghost use Rattle.std.specs.Prelude.{◌≡◌, ◌≤◌, IfOk, IfErr, map, [], 
 ghost use Rattle.sja_plan.specs.Words.{words};
 ghost use Rattle.sja_plan.specs.TurnTexts.{AreTurnWords};
 
+use super::limits::GREATEST_NUMBER;
 use super::plan_text::PlanText;
 use super::text_fault::TextFault;
 use super::turn::Turn;
-use super::word::{GREATEST, find_words, node_within, number_within};
+use super::word::{find_words, node_within, number_within};
 use std::alloc::Global;
 
 impl PlanText for Turn {
@@ -60,7 +61,7 @@ fn of_two_words(nodes: usize, name: &str, bits: &str) -> Result<Turn, TextFault>
 {
     let _ = nodes;
     match name {
-        "bus" => Ok(Turn::Bus(number_within(bits, 1, GREATEST)?)),
+        "bus" => Ok(Turn::Bus(number_within(bits, 1, GREATEST_NUMBER)?)),
         _ => Err(TextFault::Bad),
     }
 }
@@ -75,7 +76,7 @@ fn of_three_words(nodes: usize, name: &str, node: &str, steps: &str) -> Result<T
     match name {
         "node" => Ok(Turn::Node(
             node_within(nodes, node)?,
-            number_within(steps, 0, GREATEST)?,
+            number_within(steps, 0, GREATEST_NUMBER)?,
         )),
         _ => Err(TextFault::Bad),
     }

@@ -3,13 +3,11 @@
 ghost use Rattle.std.specs.Prelude.{◌≡◌, ◌≤◌, ◌<◌, ◌⊎◌, ℕ, List, IfOk, IfSome, IfErr, OnOk, map};
 ghost use Rattle.sja_plan.specs.Words.{words, number_of, SpellsWithin, SpellsNode, SpellsByte, SpellsMessage};
 
+use super::limits::{GREATEST_NUMBER, MOST_DIGITS};
 use super::text_fault::TextFault;
 use can_frame::Message;
 use hex::FromHexError;
 use std::alloc::{AllocError, Global};
-
-/// The greatest number that seven digits spell.
-pub(crate) const GREATEST: u32 = 9_999_999;
 
 /// The words of a text, what stands between its spaces, in the place of those that were found before.
 pub(crate) fn find_words<'a>(found: &mut Vec<&'a str>, text: &'a str) -> Result<(), AllocError>
@@ -30,7 +28,7 @@ pub(crate) fn number(word: &str) -> Option<u32>
     ensures value { result ≡ number_of word.now }
     ensures small { IfSome result (λ n. n < 10000000) }
 {
-    if word.len() > 7 || word.starts_with('+') {
+    if word.len() > MOST_DIGITS || word.starts_with('+') {
         return None;
     }
     word.parse::<u32>().ok()
@@ -53,7 +51,7 @@ pub(crate) fn node_within(nodes: usize, word: &str) -> Result<u8, TextFault>
     ensures ok { IfOk result (λ n. SpellsNode nodes word.now n) }
     ensures err { IfErr result (λ e. (e ≡ TextFault.Bad) × ((n : ℕ) → ¬ SpellsNode nodes word.now n)) }
 {
-    let node = number_within(word, 0, GREATEST)?;
+    let node = number_within(word, 0, GREATEST_NUMBER)?;
     if node as usize >= nodes {
         return Err(TextFault::Bad);
     }

@@ -1,13 +1,13 @@
 //! The report of a run: the text of its log.
 //!
-//! [`report`] makes it of a [`RunLog`](sja_log::RunLog), in one pass over each journal. `specs/ReportLines.antt` has the
-//! text, line by line. The tests stand in `crates/test_runs`.
+//! [`report`] makes it of a [`RunLog`](sja_log::RunLog), in one pass over each journal. The text stands line by line in
+//! `specs/ReportLines.antt`. The tests stand in `crates/test_runs`.
 #![tactic(auto)]
 
 mod lines;
-mod reporting;
+mod report_text;
+mod tallies;
 mod tally;
-mod tallying;
 mod words;
 
-pub use reporting::report;
+pub use report_text::report;

@@ -3,11 +3,8 @@
 ghost use Rattle.std.specs.Prelude.{◌<◌, ◌^◌};
 
 use can_frame::Message;
-use sja_link::{Entry, Up};
+use sja_link::{Entry, RECEIVE_FIFO, Up};
 use std::alloc::{AllocError, Global};
-
-/// The bytes of the receive buffer (SJA1000 data sheet, 6.4.14: the receive FIFO has 64 bytes).
-const BUFFER: u128 = 64;
 
 /// What the entries of one activation come to.
 ///
@@ -66,6 +63,6 @@ impl Tally {
     pub(crate) fn free(&self) -> u128
         ensures { result ≡ free_by (tally_value self.now) }
     {
-        (BUFFER + self.credits).saturating_sub(self.bytes)
+        (u128::from(RECEIVE_FIFO) + self.credits).saturating_sub(self.bytes)
     }
 }

@@ -1,3 +1,3 @@
-pub mod Few
-pub mod Memory
+pub mod FewBytes
+pub mod RefusedMemory
 pub mod Requests

@@ -30,7 +30,7 @@ left_shows status failed in_old in_new out_old out_new err_old err_new (inr told
     inr (OutOfMemory, few, told.0, keeps, told.1 wrote)
 
 -- what is shown from where another call left all as it was
-pub shows_from : (r q : Request) (status : Option ℕ) (a b c x y z i o e : Option (List ℕ)) → r ≡ q → x ≡ a → y ≡ b → z ≡ c →
-    Shows q status x i y o z e → Shows r status a i b o c e
+pub shows_from : (r q : Request) (status : Option ℕ) (a b c x y z i o e : Option (List ℕ)) → r ≡ q →
+    x ≡ a → y ≡ b → z ≡ c → Shows q status x i y o z e → Shows r status a i b o c e
 shows_from r q status a b c x y z i o e asks same_in same_out same_err shows =
     rw (asks, sym same_in, sym same_out, sym same_err) shows

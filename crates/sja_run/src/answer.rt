@@ -5,14 +5,14 @@ ghost use Rattle.sja_words.specs.Words.{request_of, run};
 ghost use Rattle.sja_run.specs.Answer.{AsksForRun, IsPrinted, IsRefused};
 
 use super::run::reported;
-use super::waving::waved;
+use super::waveform::waved;
 use sja_texts::{CommandRefusal, arbitrated, decoded, encoded, filtered, translated};
 use sja_words::Task;
 use std::alloc::Global;
 use std::io::Read;
 
 /// The text that answers the task, which isn't a run in threads. Only for `run` and `wave` the input is read.
-pub fn printed<R: Read>(
+pub(crate) fn printed<R: Read>(
     alloc: Global,
     task: Task<'_>,
     input: &mut R,

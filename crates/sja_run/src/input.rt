@@ -4,16 +4,16 @@ ghost use Rattle.std.specs.Prelude.{◌≡◌, ◌<◌, ◌≤◌, ◌+◌, ℕ,
 ghost use Rattle.std.specs.Io.KnownBytes.{Consumes, IsAtEnd};
 ghost use Rattle.sja_run.specs.Run.{HoldsPlan, RefusesRun};
 
-use sja_plan::{Plan, read_plan};
+use sja_plan::{MOST_BYTES, Plan, read_plan};
 use sja_texts::CommandRefusal;
 use std::alloc::Global;
 use std::io::Read;
 
 /// How many bytes are read at most: one more than a plan may have.
-const MOST_BYTES: usize = 65_537;
+const MOST_READ: usize = MOST_BYTES + 1;
 
-/// How many reads are made at most.
-const MOST_READS: u32 = 131_074;
+/// How many reads are made at most: two for each of those bytes.
+const MOST_READS: u32 = 2 * MOST_READ as u32;
 
 /// For how many bytes a read has room at most.
 const ROOM: usize = 1_024;
@@ -21,7 +21,7 @@ const ROOM: usize = 1_024;
 /// The plan that the bytes of the input are.
 ///
 /// Errors: those of [`read_input`]; [`CommandRefusal::Plan`] where they are no plan.
-pub fn plan_of_input<R: Read>(alloc: Global, input: &mut R) -> Result<Plan, CommandRefusal>
+pub(crate) fn plan_of_input<R: Read>(alloc: Global, input: &mut R) -> Result<Plan, CommandRefusal>
     ensures ok { IfOk result (HoldsPlan (R.remaining input.old) (R.remaining input.new)) }
     ensures err { IfErr result (RefusesRun (R.remaining input.old) (R.remaining input.new)) }
 {
@@ -33,8 +33,8 @@ pub fn plan_of_input<R: Read>(alloc: Global, input: &mut R) -> Result<Plan, Comm
 /// The bytes of the input, up to its end or to 65,537 of them, which are too many for a plan. It makes at most 131,074
 /// reads (this project's own rule).
 ///
-/// Errors: [`CommandRefusal::Read`] where a read fails, or where that many reads come neither to the end nor to 65,537 bytes;
-/// [`CommandRefusal::OutOfMemory`].
+/// Errors: [`CommandRefusal::Read`] where a read fails, or where that many reads come neither to the end nor to 65,537
+/// bytes; [`CommandRefusal::OutOfMemory`].
 fn read_input<R: Read>(alloc: Global, input: &mut R) -> Result<Vec<u8>, CommandRefusal>
     ensures taken { IfOk result (λ bytes. Consumes (R.remaining input.old) (R.remaining input.new) bytes.items) }
     ensures bound { IfOk result (λ bytes. length bytes.items ≤ 65537) }
@@ -44,9 +44,9 @@ fn read_input<R: Read>(alloc: Global, input: &mut R) -> Result<Vec<u8>, CommandR
     let mut bytes = Vec::new(alloc);
     let mut buffer = [0u8; ROOM];
     for _ in 0..MOST_READS {
-        let room = (MOST_BYTES - bytes.len()).min(ROOM);
+        let room = (MOST_READ - bytes.len()).min(ROOM);
         let count = read_once(input, &mut bytes, &mut buffer[..room])?;
-        if count == 0 || bytes.len() == MOST_BYTES {
+        if count == 0 || bytes.len() == MOST_READ {
             return Ok(bytes);
         }
     }

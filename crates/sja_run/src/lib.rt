@@ -18,7 +18,7 @@ mod run;
 mod serial;
 mod threaded_run;
 mod tries;
-mod waving;
+mod waveform;
 
 pub use output::Output;
 pub use program::sja;

@@ -55,7 +55,7 @@ pub fn sja<T: Threads + Wait + Sync, S: AsStr, R: Read, O: Write, E: Write>(
 }
 
 /// Does `run --threads`, and gives the exit status.
-#[tactic(auto, using(crate::proofs::Few::few_running_threads, crate::proofs::Few::few_refused_threads))]
+#[tactic(auto, using(crate::proofs::FewBytes::few_running_threads, crate::proofs::FewBytes::few_refused_threads))]
 fn reply_threads<T: Threads + Wait + Sync, R: Read, O: Write, E: Write>(
     rt: &T,
     alloc: Global,

@@ -11,7 +11,7 @@ use std::alloc::Global;
 use std::io::Read;
 
 /// The report of a run in one thread of the plan that the bytes of the input are.
-pub fn reported<R: Read>(alloc: Global, input: &mut R) -> Result<Vec<u8>, CommandRefusal>
+pub(crate) fn reported<R: Read>(alloc: Global, input: &mut R) -> Result<Vec<u8>, CommandRefusal>
     ensures ok { IfOk result (λ text. IsRunning (R.remaining input.old) (R.remaining input.new) text.items) }
     ensures err { IfErr result (RefusesRun (R.remaining input.old) (R.remaining input.new)) }
 {

@@ -21,7 +21,7 @@ use std::io::{Read, Write};
 /// failed, and 2 where the words don't parse, or ask for help or the version; then `err` has the parser's own text.
 /// `input` is read for `run` and `wave` alone: at most 65,537 bytes of it, in at most 131,074 reads.
 /// The words, texts and statuses are this project's own rule.
-#[tactic(auto, using(crate::proofs::Few::unread))]
+#[tactic(auto, using(crate::proofs::FewBytes::unread))]
 pub fn sja_serial<S: AsStr, R: Read, O: Write, E: Write>(
     alloc: Global,
     words: &[S],
@@ -69,7 +69,7 @@ fn is_threaded(task: &Task<'_>) -> bool
 }
 
 /// Does the task, which isn't a run in threads, and gives the exit status.
-#[tactic(auto, using(crate::proofs::Few::few_printed, crate::proofs::Few::few_turned_down))]
+#[tactic(auto, using(crate::proofs::FewBytes::few_printed, crate::proofs::FewBytes::few_turned_down))]
 fn reply<R: Read, O: Write, E: Write>(
     alloc: Global,
     task: Task<'_>,

@@ -14,8 +14,8 @@ use std::sync::Wait;
 use std::thread::Threads;
 
 /// The report of a run of the plan that the bytes of the input are, with each driver in a thread of its own.
-#[tactic(auto, using(crate::proofs::Few::refused_threads))]
-pub fn reported_threads<T: Threads + Wait + Sync, R: Read>(
+#[tactic(auto, using(crate::proofs::FewBytes::refused_threads))]
+pub(crate) fn reported_threads<T: Threads + Wait + Sync, R: Read>(
     rt: &T,
     alloc: Global,
     input: &mut R,

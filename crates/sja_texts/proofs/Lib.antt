@@ -1,3 +1,3 @@
 pub mod Symbols
 pub mod Spelled
-pub mod Translating
+pub mod Translations

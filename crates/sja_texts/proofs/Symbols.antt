@@ -4,14 +4,15 @@ use Rattle.can_bits.specs.declared.level.Level.{Level}
 use Rattle.sja_texts.specs.LineText.{symbol}
 
 -- each character of such a text is the digit of a level
-symbol_at : (l : List Level) (i : ℕ) → i < length (map symbol l) → (level : Level) × (get_or (map symbol l) i 0 ≡ symbol level)
+symbol_at : (l : List Level) (i : ℕ) → i < length (map symbol l) →
+    (level : Level) × (get_or (map symbol l) i 0 ≡ symbol level)
 symbol_at [] i h = absurd (omega arith)
 symbol_at (x ∷ l) zero h = (x, refl)
 symbol_at (x ∷ l) (suc i) h = symbol_at l i (omega arith)
 
 -- a text with another character is none
-pub no_levels : (digits : List ℕ) (i : ℕ) → i < length digits → ((level : Level) → ¬ (get_or digits i 0 ≡ symbol level)) →
-    (l : List Level) → ¬ (digits ≡ map symbol l)
+pub no_levels : (digits : List ℕ) (i : ℕ) → i < length digits →
+    ((level : Level) → ¬ (get_or digits i 0 ≡ symbol level)) → (l : List Level) → ¬ (digits ≡ map symbol l)
 no_levels digits i within none l is =
     let same : length digits ≡ length (map symbol l) = ap length is in
     let at = symbol_at l i (omega arith) in

@@ -5,8 +5,8 @@ use Rattle.can_bits.specs.Reading.{IsReceived, IsFirstFault}
 use Rattle.can_frame.specs.Frame.{FrameValue}
 use Rattle.can_frame.specs.Message.{message}
 use Rattle.sja_texts.specs.declared.command_refusal.CommandRefusal.{CommandRefusal}
-use Rattle.sja_texts.specs.declared.command_refusal.CommandRefusal.TheVariants.{OutOfMemory, NotHexadecimal, NotALine, Read}
-use Rattle.sja_texts.specs.declared.command_refusal.CommandRefusal.TheVariants.{Layout, Line, Notation, Plan, Run}
+use Rattle.sja_texts.specs.declared.command_refusal.CommandRefusal.TheVariants.{OutOfMemory, NotHexadecimal, NotALine}
+use Rattle.sja_texts.specs.declared.command_refusal.CommandRefusal.TheVariants.{Read, Layout, Line, Notation, Plan, Run}
 use Rattle.sja_texts.specs.BytesText.{bytes_text}
 use Rattle.sja_texts.specs.LineText.{symbol}
 

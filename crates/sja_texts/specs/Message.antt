@@ -5,8 +5,8 @@ use Rattle.can_frame.specs.Layout.{IsShort, IsLong, IsSized, UnusedAreZero, RtrA
 use Rattle.can_frame.specs.declared.layout_fault.LayoutFault.{LayoutFault}
 use Rattle.can_frame.specs.declared.layout_fault.LayoutFault.TheVariants.{Short, Long, UnusedBit, RtrDisagrees}
 use Rattle.sja_texts.specs.declared.command_refusal.CommandRefusal.{CommandRefusal}
-use Rattle.sja_texts.specs.declared.command_refusal.CommandRefusal.TheVariants.{OutOfMemory, NotHexadecimal, NotALine, Read}
-use Rattle.sja_texts.specs.declared.command_refusal.CommandRefusal.TheVariants.{Layout, Line, Notation, Plan, Run}
+use Rattle.sja_texts.specs.declared.command_refusal.CommandRefusal.TheVariants.{OutOfMemory, NotHexadecimal, NotALine}
+use Rattle.sja_texts.specs.declared.command_refusal.CommandRefusal.TheVariants.{Read, Layout, Line, Notation, Plan, Run}
 
 -- the digits spell these bytes
 abbrev pub ReadsAs : List ℕ → List ℕ → Type 0

@@ -1,5 +1,5 @@
--- What `message` prints and refuses (this project's own rule). Its text is a frame in can-utils' notation where it has a
--- `#`, and else a message's hexadecimal digits.
+-- What `message` prints and refuses (this project's own rule). Its text is a frame in can-utils' notation where it has
+-- a `#`, and else a message's hexadecimal digits.
 use Rattle.std.specs.Prelude.{◌≡◌, ◌⊎◌, ℕ, List, [], ◌∷◌, ◌++◌}
 use Rattle.can_frame.specs.Frame.{FrameValue, IsFrame}
 use Rattle.can_frame.specs.Message.{message}

@@ -10,7 +10,7 @@ use std::alloc::{AllocError, Global};
 const DIGITS: [u8; 16] = *b"0123456789abcdef";
 
 /// Two hexadecimal digits a byte, in lower case, one space between two bytes, and a line feed.
-pub fn text_of_bytes(alloc: Global, bytes: &[u8]) -> Result<Vec<u8>, AllocError>
+pub(crate) fn text_of_bytes(alloc: Global, bytes: &[u8]) -> Result<Vec<u8>, AllocError>
     ensures { IfOk result (λ text. text.items ≡ bytes_text bytes.now) }
 {
     let mut text = Vec::new(alloc);

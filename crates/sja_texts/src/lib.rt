@@ -1,7 +1,8 @@
 //! What the program `sja` writes of one frame, of one line and of frames that contend, and of each refusal.
 //!
 //! [`encoded`], [`decoded`], [`filtered`], [`arbitrated`] and [`translated`] make the texts of five commands from the
-//! texts of their arguments. A [`CommandRefusal`] says why a request has no answer, and shows as the text that the program writes of it.
+//! texts of their arguments. A [`CommandRefusal`] says why a request has no answer, and shows as the text that the
+//! program writes of it.
 //!
 //! Their tests stand in `crates/test_program/src/program`.
 #![tactic(auto)]

@@ -20,7 +20,7 @@ fn symbol_of(level: Level) -> u8
 }
 
 /// The digits of the levels and a line feed.
-pub fn text_of(alloc: Global, levels: &[Level]) -> Result<Vec<u8>, AllocError>
+pub(crate) fn text_of(alloc: Global, levels: &[Level]) -> Result<Vec<u8>, AllocError>
     ensures { IfOk result (λ text. text.items ≡ line_text levels.now) }
 {
     let mut text = levels
@@ -44,7 +44,7 @@ fn level_of(digit: u8) -> Option<Level>
 }
 
 /// The levels of these digits.
-pub fn levels_of(alloc: Global, digits: &str) -> Result<Vec<Level>, CommandRefusal>
+pub(crate) fn levels_of(alloc: Global, digits: &str) -> Result<Vec<Level>, CommandRefusal>
     ensures ok { IfOk result (λ levels. ReadsAsLevels digits.now levels.items) }
     ensures err { IfErr result (RefusesLine digits.now) }
 {

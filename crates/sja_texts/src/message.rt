@@ -9,7 +9,7 @@ use hex::FromHexError;
 use std::alloc::Global;
 
 /// The message that these digits spell.
-pub fn message_of(alloc: Global, digits: &str) -> Result<Message, CommandRefusal>
+pub(crate) fn message_of(alloc: Global, digits: &str) -> Result<Message, CommandRefusal>
     ensures ok { IfOk result (λ m. ReadsAs digits.now m) }
     ensures err { IfErr result (RefusesMessage digits.now) }
 {

@@ -5,7 +5,7 @@ use std::fmt;
 
 /// A plan's fault, which shows as the text that the program writes of it (this project's own rule).
 #[derive(Debug, Drop)]
-pub struct PlanFaultText(pub PlanFault);
+pub(crate) struct PlanFaultText(pub(crate) PlanFault);
 
 impl fmt::Display for PlanFaultText {
     ghost use Rattle.std.specs.Prelude.{Some};

@@ -1,5 +1,5 @@
 pub mod Texts
-pub mod Passing
-pub mod Showing
-pub mod Driving
+pub mod PastBits
+pub mod NextSignals
+pub mod BusLevels
 pub mod Written

@@ -17,7 +17,7 @@ use Rattle.sja_wave.specs.WaveText.{line, value_line, change, first_in, change_a
 use Rattle.sja_wave.specs.WaveText.{timed, time_line, changes_to, changes_of, declarations, node_scope, wave_text}
 use Rattle.sja_wave.specs.Inside.Cursors.{advanced, cursor_at}
 use Rattle.sja_wave.specs.Inside.Changes.{node_values, node_changes, driven_before, driven_now, all_values, all_changes}
-use Rattle.sja_wave.proofs.Showing.{next_bits}
+use Rattle.sja_wave.proofs.NextSignals.{next_bits}
 
 -- ---- the levels that all drive
 

@@ -26,7 +26,7 @@ pub(crate) fn cursors_of<'a>(
 }
 
 /// The cursor of a node, at the first bit.
-#[tactic(auto, using(crate::proofs::Showing::first_bit))]
+#[tactic(auto, using(crate::proofs::NextSignals::first_bit))]
 fn first_of<'a>(node: &'a NodeRun) -> Cursor<'a>
     ensures { result ≡ cursor_at 0 node.now }
 {

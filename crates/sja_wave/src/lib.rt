@@ -14,6 +14,6 @@ mod cursors;
 mod declarations;
 mod signals;
 mod values;
-mod waving;
+mod wave_text;
 
-pub use waving::wave;
+pub use wave_text::wave;

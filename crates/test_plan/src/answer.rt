@@ -1,21 +1,18 @@
 //! What reading a plan answers, as text.
 
-use sja_plan::{Plan, PlanFault, read_plan};
+use sja_plan::{MOST_BYTES, Plan, PlanFault, read_plan};
 use std::alloc::{AllocError, Global};
 use std::{fmt, io};
 
 /// How many items of a list are written out. Of a longer one their number is.
 const MOST_ITEMS: usize = 4;
 
-/// How many bytes a document has whose length is written.
-const LONG: usize = 65_536;
-
-/// What reading these bytes answers.
+/// What reading these bytes answers, behind their number where it is the greatest or more.
 ///
 /// Errors: memory was refused, to the reader too.
 pub fn answer(alloc: Global, bytes: &[u8]) -> io::Result<String> {
     let mut text = String::new(alloc);
-    if bytes.len() >= LONG {
+    if bytes.len() >= MOST_BYTES {
         text.push_str(format!(in alloc; "{} bytes, ", bytes.len())?.as_str())?;
     }
     match read_plan(alloc, bytes) {

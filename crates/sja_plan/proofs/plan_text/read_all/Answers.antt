@@ -1,7 +1,7 @@
 use Rattle.std.proofs.Common.{rules, ◌≡◌, ◌+◌, length, sym, subst, slice_index_or, Bor, [], arith}
 use Rattle.sja_plan.specs.Words.{Text}
 use Rattle.sja_plan.specs.Texts.{IsFirstBad}
-use Rattle.sja_plan.proofs.TextLemmas.{bytes_of, read_more, first_bad, read_count}
+use Rattle.sja_plan.proofs.Texts.{bytes_of, read_more, first_bad, read_count}
 use Rattle.sja_plan.proofs.plan_text.read_all.Goals as goal
 
 abbrev none_there : Bor Text
@@ -13,18 +13,18 @@ returns-in-Err-Bad-clause-err g c =
     let none : (x : g.row.T.Denot) → ¬ g.T.PlanText.says c.args.nodes
     (slice_index_or c.args.texts.now c.loop-text.text-index none_there).now x = search rules in
     subst (λ n. IsFirstBad (g.T.PlanText.says c.args.nodes) (bytes_of c.args.texts.now) (n + 1)) (sym len)
-    (first_bad (g.T.PlanText.says c.args.nodes) c.args.texts.now c.loop-text.found.items c.loop-text.text-index none_there
-    (omega (arith, c.loop-text-test.true)) c.loop-text.invariant none)
+    (first_bad (g.T.PlanText.says c.args.nodes) c.args.texts.now c.loop-text.found.items c.loop-text.text-index
+    none_there (omega (arith, c.loop-text-test.true)) c.loop-text.invariant none)
 
 pub loop-text-preserved : goal.loop-text-preserved
 loop-text-preserved g c =
     rw c.in_ok-push-in-Ok.ensures.items
-    (read_more (g.T.PlanText.says c.args.nodes) c.args.texts.now c.loop-text.found.items c.loop-text.text-index none_there
-    c.in-Ok.value (omega (arith, c.loop-text-test.true)) c.loop-text.invariant c.in-Ok.ensures.ok)
+    (read_more (g.T.PlanText.says c.args.nodes) c.args.texts.now c.loop-text.found.items c.loop-text.text-index
+    none_there c.in-Ok.value (omega (arith, c.loop-text-test.true)) c.loop-text.invariant c.in-Ok.ensures.ok)
 
 pub overflow_add-result : goal.overflow_add-result
 overflow_add-result g c =
     let len : c.len.result ≡ length c.loop-text.found.items = search rules in
-    let count = read_count (g.T.PlanText.says c.args.nodes) c.args.texts.now c.loop-text.found.items c.loop-text.text-index
-    (omega (arith, c.loop-text-test.true)) c.loop-text.invariant in
+    let count = read_count (g.T.PlanText.says c.args.nodes) c.args.texts.now c.loop-text.found.items
+    c.loop-text.text-index (omega (arith, c.loop-text-test.true)) c.loop-text.invariant in
     search rules

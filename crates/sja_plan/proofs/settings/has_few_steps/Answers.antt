@@ -1,10 +1,10 @@
 use Rattle.std.proofs.Common.{rules, ◌<◌, ◌∙◌, length, refl, arith}
 use Rattle.std.proofs.lemmas.List.{take_all}
-use Rattle.sja_plan.proofs.NodeLemmas.{all_few, not_few}
+use Rattle.sja_plan.proofs.Nodes.{all_few, not_few}
 use Rattle.sja_plan.proofs.settings.has_few_steps.Goals as goal
 
-pub returns-then-len-gt1000 : goal.returns-then-len-gt1000
-returns-then-len-gt1000 c =
+pub returns-then-len-gt-MOST_STEPS : goal.returns-then-len-gt-MOST_STEPS
+returns-then-len-gt-MOST_STEPS c =
     let items = c.as_slice-steps-items.ensures.value in
     let is = rw items at c.steps-item.is in
     let within = rw items at c.loop-steps-test.true in

@@ -1,4 +1,5 @@
-use Rattle.std.proofs.Common.{arith, suc, ◌≡◌, ℕ, List, [], ◌∷◌, ◌+◌, ◌++◌, drop, ap, ◌∙◌, sym, append_assoc, drop-cons, get_or, subst}
+use Rattle.std.proofs.Common.{arith, suc, ◌≡◌, ℕ, List, [], ◌∷◌, ◌+◌, ◌++◌, drop, ap, ◌∙◌, sym}
+use Rattle.std.proofs.Common.{append_assoc, drop-cons, get_or, subst}
 use Rattle.std.specs.Str.{IsAscii}
 use Rattle.std.proofs.lemmas.Str.Ascii.{IsAscii-push}
 use Rattle.sja_report.specs.ReportWords.{message_words}
@@ -6,9 +7,11 @@ use Rattle.sja_report.specs.Inside.Spacing.{all_spaced}
 use Rattle.sja_report.proofs.words.put_bytes.Goals as goal
 
 -- three more at the end of a list, before the rest
-three_more : (a b c d rest : List ℕ) (x y z : ℕ) → b ≡ a ++ x ∷ [] → c ≡ b ++ y ∷ [] → d ≡ c ++ z ∷ [] → d ++ rest ≡ a ++ (x ∷ y ∷ z ∷ rest)
+three_more : (a b c d rest : List ℕ) (x y z : ℕ) → b ≡ a ++ x ∷ [] → c ≡ b ++ y ∷ [] → d ≡ c ++ z ∷ [] →
+    d ++ rest ≡ a ++ (x ∷ y ∷ z ∷ rest)
 three_more a b c d rest x y z e f g =
-    ap (λ l. l ++ rest) g ∙ append_assoc c (z ∷ []) rest ∙ ap (λ l. l ++ (z ∷ rest)) f ∙ append_assoc b (y ∷ []) (z ∷ rest)
+    ap (λ l. l ++ rest) g ∙ append_assoc c (z ∷ []) rest
+    ∙ ap (λ l. l ++ (z ∷ rest)) f ∙ append_assoc b (y ∷ []) (z ∷ rest)
     ∙ ap (λ l. l ++ (y ∷ z ∷ rest)) e ∙ append_assoc a (x ∷ []) (y ∷ z ∷ rest)
 
 pub loop-byte-preserved : goal.loop-byte-preserved
@@ -34,7 +37,8 @@ loop-byte-preserved c =
       ascii =
           subst IsAscii (sym three.items) (IsAscii-push _ _
           (subst IsAscii (sym two.items) (IsAscii-push _ _
-          (subst IsAscii (sym one.items) (IsAscii-push old _ c.loop-byte.invariant.ascii (ascii 0))) (ascii 1))) (ascii 2));
-      room = let r = c.loop-byte.invariant.room in let a = one.len in let b = two.len in let d = three.len in omega (arith, r, a, b, d);
+          (subst IsAscii (sym one.items) (IsAscii-push old _ c.loop-byte.invariant.ascii (ascii 0))) (ascii 1)))
+          (ascii 2));
+      room = let r = c.loop-byte.invariant.room in omega (arith, r, one.len, two.len, three.len);
       few = c.loop-byte.invariant.few;
     }

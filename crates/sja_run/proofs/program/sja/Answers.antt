@@ -12,7 +12,8 @@ returns-in-Some-clause-answered g c = λ r parses wrote told.
     let serial = c.in-Some.ensures in
     elim (is_threads r) [
       | inl is ↦ let left = serial.threads (subst (λ q. ParsesAs words q) is parses) in
-          let keeps = subst (λ o. Keeps (g.O.Write.contents c.args.out.now.writer) (g.O.Write.contents o.writer)) (sym left.2) (Keeps-refl _) in
+          let keeps = subst (λ o. Keeps (g.O.Write.contents c.args.out.now.writer) (g.O.Write.contents o.writer))
+          (sym left.2) (Keeps-refl _) in
           rw is (left_shows c.in-Some.status _ _ _ _ _ _ _ left.0 serial.few keeps told)
       | inr other ↦ serial.answered r parses other wrote told
     ]

@@ -1,8 +1,8 @@
 use Rattle.std.proofs.Common.{rules, inr, ap, Some}
 use Rattle.sja_words.specs.Words.{request_of}
 use Rattle.sja_texts.specs.declared.command_refusal.CommandRefusal.TheVariants as refusal
-use Rattle.sja_run.proofs.Few.{unread, only_runs_read}
-use Rattle.sja_run.proofs.Memory.{memory_refused}
+use Rattle.sja_run.proofs.FewBytes.{unread, only_runs_read}
+use Rattle.sja_run.proofs.RefusedMemory.{memory_refused}
 use Rattle.sja_run.proofs.Requests.{asks_one}
 use Rattle.sja_run.proofs.serial.sja_serial.Goals as goal
 

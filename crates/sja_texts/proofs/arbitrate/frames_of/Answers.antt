@@ -24,5 +24,5 @@ pub returns-in_err-message-clause-err : goal.returns-in_err-message-clause-err
 returns-in_err-message-clause-err c =
     let told = err_from_is_err_and c.from_residual-in_err-message.result c.from_residual-in_err-message.ensures.1 in
     rw (told.1, told.2)
-    (inr (first_refused c.args.messages.now c.loop-digits.frames.items c.loop-digits.digits-index _ c.in_err-message.field-0.0
-    (omega arith) c.loop-digits.invariant.spelled c.in_err-message.ensures.err))
+    (inr (first_refused c.args.messages.now c.loop-digits.frames.items c.loop-digits.digits-index _
+    c.in_err-message.field-0.0 (omega arith) c.loop-digits.invariant.spelled c.in_err-message.ensures.err))

@@ -1,7 +1,7 @@
 use Rattle.std.proofs.Common.{ap, ◌∙◌}
 use Rattle.can_bits.specs.Fields.{is_recessive}
 use Rattle.sja_wave.specs.declared.cursor.Cursor.{Cursor}
-use Rattle.sja_wave.proofs.Driving.{drives_more, all_drive}
+use Rattle.sja_wave.proofs.BusLevels.{drives_more, all_drive}
 use Rattle.sja_wave.proofs.cursors.bus_before.Goals as goal
 
 pub loop-cursor-preserved : goal.loop-cursor-preserved

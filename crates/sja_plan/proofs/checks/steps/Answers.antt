@@ -1,0 +1,23 @@
+use Rattle.std.proofs.Common.{rules, ◌≡◌, length, arith}
+use Rattle.sja_plan.proofs.Nodes.{node_more, first_bad_step}
+use Rattle.sja_plan.proofs.checks.steps.Goals as goal
+
+pub returns-in-Err-Bad-clause-err : goal.returns-in-Err-Bad-clause-err
+returns-in-Err-Bad-clause-err c = λ h.
+    let items = c.as_slice-texts-items.ensures.value in
+    let within = rw items at c.loop-texts-test.true in
+    let read = rw items at c.loop-texts.invariant in
+    let is = rw items at c.texts-item.is in
+    let len : c.len.result ≡ length c.loop-texts.found.items = search rules in
+    let unread = rw (c.in-Err-Bad.field-0-is, c.as_slice.ensures.value) at c.in-Err-Bad.ensures.err in (
+      h,
+      rw (len, c.in-Err-Bad.field-0-is) (first_bad_step c.args.document.now.nodes.items c.loop-texts.found.items
+          c.loop-texts.texts-index c.in-Err-Bad.number c.texts-item.result within read is unread),
+    )
+
+pub loop-texts-preserved : goal.loop-texts-preserved
+loop-texts-preserved c =
+    let said = rw c.as_slice.ensures.value at c.in-Ok.ensures.ok in
+    rw c.in_ok-push-in-Ok.ensures.items
+    (node_more c.as_slice-texts-items.result.now c.loop-texts.found.items c.loop-texts.texts-index c.texts-item.result
+    c.in-Ok.steps (omega (arith, c.loop-texts-test.true)) c.loop-texts.invariant c.texts-item.is said)

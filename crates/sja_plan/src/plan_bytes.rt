@@ -1,0 +1,36 @@
+//! Plans read from bytes.
+
+ghost use Rattle.std.specs.Prelude.{IfOk, IfErr};
+ghost use Rattle.sja_plan.specs.Faults.{IsPlanOf, IsFirstFault};
+
+use super::checks::judge;
+use super::document::read_document;
+use super::limits::MOST_BYTES;
+use super::plan::Plan;
+use super::plan_fault::PlanFault;
+use std::alloc::Global;
+use toml::table_from_str;
+
+/// The plan that these bytes are.
+///
+/// Errors: the first check that fails, in the order of [`PlanFault`]'s variants. Where the bytes are more than 65,536
+/// only their number is looked at.
+#[tactic(auto, using(crate::proofs::PassedOn::shape_fault, crate::proofs::PassedOn::document_fault))]
+pub fn read_plan(alloc: Global, bytes: &[u8]) -> Result<Plan, PlanFault>
+    ensures ok { IfOk result (IsPlanOf bytes.now) }
+    ensures err { IfErr result (IsFirstFault bytes.now) }
+{
+    if bytes.len() > MOST_BYTES {
+        return Err(PlanFault::TooLong);
+    }
+    let Ok(text) = str::from_utf8(bytes) else {
+        return Err(PlanFault::NotText);
+    };
+    let table = match table_from_str(alloc, text) {
+        Ok(table) => table,
+        Err(error) if error.is_memory() => return Err(PlanFault::Memory),
+        Err(_) => return Err(PlanFault::Toml),
+    };
+    let document = read_document(alloc, &table)?;
+    judge(alloc, &document)
+}

@@ -1,0 +1,23 @@
+//! `wave`: the waveform of a run of the plan on the input.
+
+ghost use Rattle.std.specs.Prelude.{IfOk, IfErr};
+ghost use Rattle.sja_run.specs.Run.{RefusesRun};
+ghost use Rattle.sja_run.specs.Wave.{IsWaving};
+
+use super::input::plan_of_input;
+use sja_serial::run_serial;
+use sja_texts::CommandRefusal;
+use sja_wave::wave;
+use std::alloc::Global;
+use std::io::Read;
+
+/// The waveform of a run in one thread of the plan that the bytes of the input are.
+pub(crate) fn waved<R: Read>(alloc: Global, input: &mut R) -> Result<Vec<u8>, CommandRefusal>
+    ensures ok { IfOk result (λ text. IsWaving (R.remaining input.old) (R.remaining input.new) text.items) }
+    ensures err { IfErr result (RefusesRun (R.remaining input.old) (R.remaining input.new)) }
+{
+    let plan = plan_of_input(alloc, input)?;
+    let log = run_serial(alloc, &plan)?;
+    let text = wave(alloc, &log)?;
+    Ok(text.into_bytes())
+}
