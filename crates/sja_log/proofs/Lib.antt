@@ -10,6 +10,7 @@ pub mod Moments
 pub mod Fronts
 pub mod AbortsFirst
 pub mod Turning
+pub mod TbsAndAbort
 pub mod Logs
 -- a deed more, and a bit more, beside what was put
 pub mod Own

@@ -5,15 +5,15 @@
 //! `specs/Headline.antt` says of such a log what the project promises of every run, and `specs/Runs.antt` what it
 //! promises of a run in one thread beside that.
 //!
-//! [`node_runs`] makes the nodes of a log of what the bus left of each node, its driver, and what lay on its links
-//! ([`LeftDown`]); [`script_of`] has the strikes of a plan as a bus takes them. These and `LeftDown::of` and `LeftDown::on` alone
-//! take memory. A [`RunFault`] says why a run has no log. The tests stand in `crates/test_runs`.
+//! At the end of a run [`node_runs`] makes the nodes of a log of what the bus left of each node, its driver, and what lay
+//! on its links ([`LeftDown`]); [`script_of`] has the strikes of a plan as a bus takes them. These, `LeftDown::of` and
+//! `LeftDown::on` alone take memory. A [`RunFault`] says why a run has no log. The tests stand in `crates/test_runs`.
 #![tactic(auto)]
 
 mod activation_log;
-mod copying;
+mod activation_logs;
+mod done_steps;
 mod end;
-mod ending;
 mod laws;
 mod left_down;
 mod node_run;

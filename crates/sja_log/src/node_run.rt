@@ -34,7 +34,8 @@ impl NodeRun {
     ghost use Rattle.std.specs.Prelude.{◌≡◌};
 
     /// What became of a node: its journal, its error counters as TXERR and RXERR read at the end, the steps that its
-    /// driver did, and its activations, each in order.
+    /// driver did, and its activations, each in order. Beside [`node_runs`](super::nodes::node_runs) tests alone
+    /// call it.
     pub fn of(
         journal: Journal,
         txerr: u8,

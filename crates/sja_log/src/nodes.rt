@@ -1,20 +1,19 @@
-//! What became of all nodes of a run.
+//! What became of each node, as the log of a run has it.
 
-ghost use Rattle.std.specs.Prelude.{◌≡◌, ◌*◌, ◌<◌, ℕ, length, IfOk, slice_index_or, vec_len};
+ghost use Rattle.std.specs.Prelude.{◌≡◌, ◌+◌, ◌*◌, ◌<◌, ◌≤◌, ℕ, length, IfOk, slice_index_or, vec_len};
 ghost use Rattle.sja_driver.specs.declared.logged_driver.LoggedDriver.{LoggedDriver as Logged};
 ghost use Rattle.sja_driver.specs.LoggedDrivers.{IsLawful};
-ghost use Rattle.sja_log.specs.Finishing.{AreNodeEnds};
+ghost use Rattle.sja_log.specs.Finishing.{IsNodeEnd, AreNodeEnds};
 
-use super::ending::node_run;
+use super::activation_logs::activation_logs;
+use super::done_steps::all_copied;
 use super::left_down::LeftDown;
 use super::node_run::NodeRun;
 use can_frame::OutOfMemory;
 use sja_driver::LoggedDriver;
+use sja_link::LINKS_PER_NODE;
 use sja_wire::NodeLog;
 use std::alloc::Global;
-
-/// How many links, and so activations, a node has.
-const LINKS: usize = 8;
 
 /// What became of each node, by what the bus left of it, its driver, and what lay downward on its links at the end of
 /// the run, of all that was put there: eight links a node, by node and activation (this project's own rule).
@@ -34,8 +33,28 @@ pub fn node_runs(
     let mut runs = Vec::with_capacity(alloc, drivers.len())?;
     let mut node = 0;
     for log in logs {
-        runs.push_reserved(node_run(alloc, log, &drivers[node], lists, LINKS * node)?);
+        let first = LINKS_PER_NODE * node;
+        runs.push_reserved(node_run(alloc, log, &drivers[node], lists, first)?);
         node += 1;
     }
     Ok(runs)
+}
+
+/// What became of a node, by what the bus left of it, its driver, and what lay on its eight links, from this place on.
+///
+/// Error: [`OutOfMemory`] where memory was refused.
+fn node_run(
+    alloc: Global,
+    log: NodeLog,
+    driver: &LoggedDriver,
+    lists: &[LeftDown],
+    base: usize,
+) -> Result<NodeRun, OutOfMemory>
+    requires lawful { IsLawful driver.now }
+    requires lists { base + 8 ≤ length lists.now }
+    ensures { IfOk result (IsNodeEnd log driver.now lists.now base) }
+{
+    let done = all_copied(alloc, driver.log().done())?;
+    let activations = activation_logs(alloc, driver, lists, base)?;
+    Ok(NodeRun::of(log.journal, log.txerr, log.rxerr, done, activations))
 }

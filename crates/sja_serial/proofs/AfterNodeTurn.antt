@@ -1,5 +1,5 @@
 -- What follows a turn of a node in a run follows, with that turn, from where the run stood before.
-use Rattle.std.proofs.Common.{◌≡◌, ℕ, zero, suc, ◌+◌, ◌<◌, Bool, true, false, not, List, [], ◌∷◌}
+use Rattle.std.proofs.Common.{◌≡◌, ℕ, zero, suc, ◌+◌, ◌<◌, List, [], ◌∷◌}
 use Rattle.std.proofs.Common.{◌++◌, length, map, take, refl, sym, ap, ◌∙◌, subst, arith, inl, inr}
 use Rattle.std.specs.Prelude.{set, slice_index, slice_index_or}
 use Rattle.std.proofs.lemmas.List.{length-append, get_or-set_same}
@@ -7,13 +7,10 @@ use Rattle.sja_link.specs.NodeWords.{NodeEntry}
 use Rattle.sja_link.specs.declared.entry.Entry.{Entry}
 use Rattle.sja_link.specs.Places.{place_of}
 use Rattle.sja_link.proofs.Entering.{bits_counted}
-use Rattle.sja_wire.specs.Lawful.{IsBusRun}
 use Rattle.sja_wire.specs.Wire.{journal_at}
 use Rattle.sja_plan.specs.Plan.{PlanValue}
 use Rattle.sja_plan.specs.declared.turn.Turn.{Turn}
 use Rattle.sja_plan.specs.declared.turn.Turn.TheVariants.{Node}
-use Rattle.sja_regs.specs.declared.registers.Registers.{Registers}
-use Rattle.sja_regs.specs.Registers.{at_power_on}
 use Rattle.sja_script.specs.declared.step.Step.{Step}
 use Rattle.sja_script.specs.declared.step.Step.TheVariants.{Start, Stop, Window, Release, Read}
 use Rattle.sja_script.specs.declared.step.Step.TheVariants.{Write, Load, Command, Await, Sent}
@@ -24,7 +21,6 @@ use Rattle.sja_log.specs.Resting.{IsHolding}
 use Rattle.sja_log.specs.Turns.{Progress, with_steps, IsUnmet, IsStuck, DoesSteps, RunsTo}
 use Rattle.sja_log.specs.Turns.RunsTo.{node}
 use Rattle.sja_log.specs.Windows.{off_by, window_of}
-use Rattle.sja_serial.specs.Asking.{IsAsked}
 use Rattle.sja_serial.specs.Ending.{progress}
 use Rattle.sja_serial.specs.Serial.{SerialValue, StandsAt}
 use Rattle.sja_driver.specs.Deeds.{deeds_at}
@@ -32,11 +28,7 @@ use Rattle.sja_plan.specs.Plan.{steps_at}
 use Rattle.sja_serial.specs.Serial.{with_deeds, TakesTurn, CannotStep}
 use Rattle.sja_serial.specs.Waiting.{HasToWait}
 use Rattle.sja_serial.proofs.GoingOn.{acts_of, GoesOn, ArePresent, length_at, lengths_set}
-use Rattle.sja_serial.proofs.GoingOn.{deeds_then, first_driver, record_then, window_then, off_then}
-
-not_false : (b : Bool) → not b ≡ false → b ≡ true
-not_false true e = refl
-not_false false e = sym e
+use Rattle.sja_serial.proofs.GoingOn.{deeds_then, record_then, window_then, off_then}
 
 -- the deeds in between
 middle_at : (xs more after : List Deed) (i n : ℕ) (d : Deed) → n ≡ length xs + i → i < length more →
@@ -56,48 +48,37 @@ middle_at (x ∷ xs) more after i (suc n) d e less = middle_at xs more after i n
 
 module _ (plan : PlanValue) (r : SerialValue) (deeds : List (List Deed)) (journals : List (List Entry))
     (all : List (List Deed)) (h : StandsAt plan r deeds) (present : ArePresent plan r)
-    (go : GoesOn plan r deeds journals all)
-    (laws : IsBusRun r.bus.script r.bus.run r.bus.journals) (k : ℕ) (less : k < length plan.nodes) where
+    (go : GoesOn plan r deeds journals all) (k : ℕ) (less : k < length plan.nodes) where
   place_is : (place_of (journal_at r.bus.journals k)).bits ≡ r.bits
   place_is = bits_counted (journal_at r.bus.journals k) ∙ (present k less).bits_are
 
-  -- a request that isn't released by then
-  holding_then : (p : Registers) → IsAsked (journal_at r.bus.journals k) p → p.tbs ≡ false →
-      IsHolding (record_at (journal_at journals k) (deeds_at deeds k) r.bits)
-  holding_then p asked taken =
-      let c = h.count.journals in
-      let lawful = laws.lawful k (omega (arith, c, less)) in
-      subst (λ (l : List NodeEntry). IsHolding l) (sym (record_then plan r deeds journals all h present go k less))
-      (lawful.found, lawful.cut, not_false _ (sym (asked lawful.found lawful.cut) ∙ taken))
-
-  unmet_then : (s : Step) (p : Registers) → IsAsked (journal_at r.bus.journals k) p →
-      HasToWait (journal_at r.bus.journals k) (deeds_at deeds k) p s →
+  unmet_then : (s : Step) → HasToWait (journal_at r.bus.journals k) (deeds_at deeds k) s →
       IsUnmet (journal_at journals k) (deeds_at deeds k) r.bits s
-  unmet_then (Await count) p asked w = (
+  unmet_then (Await count) w = (
     w.0,
     off_then plan r deeds journals all h present go k (opened_by (deeds_at deeds k)) less
         ∙ ap (λ n. off_by n (journal_at r.bus.journals k) (opened_by (deeds_at deeds k))) (sym (place_is)) ∙ w.1,
     subst (λ (m : ℕ). m < count) (ap (λ n. length (window_of (journal_at r.bus.journals k) (deeds_at deeds k) n))
         place_is ∙ ap (λ l. length l) (sym (window_then plan r deeds journals all h present go k less))) w.2,
   )
-  unmet_then Sent p asked w = (w.0, holding_then p asked w.1)
-  unmet_then Start p asked w = absurd w
-  unmet_then Stop p asked w = absurd w
-  unmet_then Window p asked w = absurd w
-  unmet_then Release p asked w = absurd w
-  unmet_then (Read x) p asked w = absurd w
-  unmet_then (Write x y) p asked w = absurd w
-  unmet_then (Load m) p asked w = absurd w
-  unmet_then (Command v) p asked w = absurd w
+  unmet_then Sent w = (
+    w.0,
+    subst (λ (l : List NodeEntry). IsHolding l) (sym (record_then plan r deeds journals all h present go k less)) w.1,
+  )
+  unmet_then Start w = absurd w
+  unmet_then Stop w = absurd w
+  unmet_then Window w = absurd w
+  unmet_then Release w = absurd w
+  unmet_then (Read x) w = absurd w
+  unmet_then (Write x y) w = absurd w
+  unmet_then (Load m) w = absurd w
+  unmet_then (Command v) w = absurd w
 
   stuck_then : CannotStep plan r deeds k → IsStuck (acts_of plan journals all) (progress r deeds) k
   stuck_then (inl none) = record { why = inl (let n = length_at deeds k in omega (arith, none, n)) }
   stuck_then (inr waits) = record {
     why = inr (λ s.
-        let port = slice_index_or r.ports k (at_power_on 1) in
-        let u = unmet_then (slice_index_or (steps_at plan k) (length (deeds_at deeds k)) s) port
-        (h.nodes k (let c = h.count.drivers in first_driver r.drivers (omega (arith, c, less)))
-        (at_power_on 1) less).asked (waits s (at_power_on 1)) in
+        let u = unmet_then (slice_index_or (steps_at plan k) (length (deeds_at deeds k)) s) (waits s) in
         subst (λ (n : ℕ). IsUnmet (journal_at journals k)
         (take (slice_index (map (λ (l : List Deed). length l) deeds) k) (deeds_at all k)) r.bits
         (slice_index_or (steps_at plan k) n s)) (sym (length_at deeds k))
@@ -110,8 +91,7 @@ module _ (plan : PlanValue) (r : SerialValue) (deeds : List (List Deed)) (journa
 module _ (plan : PlanValue) (was now : SerialValue) (k count : ℕ) (deeds : List (List Deed))
     (journals : List (List Entry)) (all : List (List Deed)) (h : StandsAt plan was deeds)
     (t : TakesTurn plan was now k count deeds) (present : ArePresent plan now)
-    (go : GoesOn plan now (with_deeds deeds k t.more) journals all)
-    (laws : IsBusRun now.bus.script now.bus.run now.bus.journals) (less : k < length plan.nodes) where
+    (go : GoesOn plan now (with_deeds deeds k t.more) journals all) (less : k < length plan.nodes) where
   there : k < length deeds
   there = let c = h.deeds_count in omega (arith, c, less)
 
@@ -149,7 +129,7 @@ module _ (plan : PlanValue) (was now : SerialValue) (k count : ℕ) (deeds : Lis
         ∙ middle_at (deeds_at deeds k) t.more (go.deeds_go k less).0 i _ x e few)
         ∙ t.does.at_once i x few;
     stuck = λ few. subst (λ (p : Progress). IsStuck (acts_of plan journals all) p k) steps_on
-        (stuck_then plan now (with_deeds deeds k t.more) journals all t.does.stands present go laws k less
+        (stuck_then plan now (with_deeds deeds k t.more) journals all t.does.stands present go k less
         (t.stuck few));
   }
 

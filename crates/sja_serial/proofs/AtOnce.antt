@@ -7,7 +7,6 @@ use Rattle.sja_link.specs.Accounts.{Account}
 use Rattle.sja_link.specs.Deques.{Deques, Lies}
 use Rattle.sja_link.specs.Related.{EachRelated}
 use Rattle.sja_regs.specs.declared.registers.Registers.{Registers}
-use Rattle.sja_regs.specs.Facts.{RegisterFacts}
 use Rattle.sja_regs.specs.Registers.{at_power_on}
 use Rattle.sja_bus.specs.Boards.{HasOrders, WasTold, WasKept}
 use Rattle.sja_bus.specs.Buses.{EachJournal, KeepsAll, EachUntold, untold_at}
@@ -35,8 +34,7 @@ module _ (plan : PlanValue) (r n : SerialValue) (deeds : List (List Deed)) (h : 
     (drivers : n.drivers ≡ r.drivers) (ports : n.ports ≡ r.ports)
     (sames : EachRelated (λ (a b : Deques). b.link ≡ a.link) r.links n.links)
     (kept : KeepsAll Lies r.bus.journals n.bus.journals r.links n.links)
-    (was : IsBusRun r.bus.script r.bus.run r.bus.journals)
-    (facts : (m : ℕ) (d : Registers) → m < length r.ports → RegisterFacts (slice_index_or r.ports m d)) where
+    (was : IsBusRun r.bus.script r.bus.run r.bus.journals) where
   -- no item waited
   none_came : EachJournal MayHaveItems r.bus.journals n.bus.journals → n.bus.journals ≡ r.bus.journals
   none_came items = lists_same [] r.bus.journals n.bus.journals journals (λ m few.
@@ -82,7 +80,7 @@ module _ (plan : PlanValue) (r n : SerialValue) (deeds : List (List Deed)) (h : 
       let s = stretch (λ z. absurd (omega (arith, z))) in
       let less : r.bus.left - suc k ≡ n.bus.left = omega (arith, left) in
       let all = all_at_once plan r deeds h n.links sames (kept_back (suc k) s.grown) (suc k) n.bus.journals
-      (omega (arith, left)) was facts s n.bus.untold k refl in
+      (omega (arith, left)) was s n.bus.untold k refl in
       let is : run_at r n.links n.bus.untold (suc k) ≡ n = λ i. run_now (record {
         script = sym script i;
         run = sym run i;

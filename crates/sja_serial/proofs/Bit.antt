@@ -12,7 +12,6 @@ use Rattle.sja_link.specs.Picking.{EachAfter}
 use Rattle.sja_link.specs.Places.{place_of}
 use Rattle.sja_regs.specs.declared.orders.Orders.{Orders}
 use Rattle.sja_regs.specs.declared.registers.Registers.{Registers}
-use Rattle.sja_regs.specs.Facts.{RegisterFacts}
 use Rattle.sja_regs.specs.Turns.{after_turn}
 use Rattle.sja_wire.specs.Aborting.{IsApplied}
 use Rattle.sja_bus.specs.Buses.{IsNodeBit}
@@ -37,6 +36,7 @@ use Rattle.sja_serial.specs.Shown.{ShowsRecord}
 use Rattle.sja_log.proofs.Adding.{added, added_own, bit_whole, added_bits, added_put, added_due, added_off}
 use Rattle.sja_serial.proofs.BitAsked.{HasCut, bit_asked}
 use Rattle.sja_serial.proofs.BitCounted.{bit_counted}
+use Rattle.sja_log.proofs.TbsAndAbort.{tbs_right}
 use Rattle.sja_serial.proofs.BitPort.{ported_bit}
 use Rattle.sja_serial.proofs.Dry.{none_taken_own}
 use Rattle.sja_log.proofs.Later.{SameBy, done_more, all_see, all_carry, settings_by_then}
@@ -201,13 +201,14 @@ module _ (version : ℕ) (steps : List Step) (j k : List Entry) (deeds : List De
       told = told;
     }
 
-    -- its record had a cut, and its port's registers were as they always are
-    pub after_one_bit : HasCut j → RegisterFacts p → IsNode version steps k deeds driver q after base
-    after_one_bit lawful facts = record {
+    -- its record had a cut
+    pub after_one_bit : HasCut j → IsNode version steps k deeds driver q after base
+    after_one_bit lawful = record {
       traced = h.traced;
       linked = linked;
       ported = ported;
-      asked = bit_asked untold j k driven seen p q b none_taken (λ t e. e) (λ e. e) lawful facts
+      asked = bit_asked untold j k driven seen p q b none_taken (λ t e. e) (λ e. e) lawful
+          (tbs_right version j deeds p h.registers h.traced.traces.answered.states)
           (h.ported.activation ∙ sym h.linked.level.begun) h.asked;
       counted = bit_counted untold j k driven seen deeds p q b none_taken (λ o e. ap (λ (x : Orders). x.abort) e)
           (λ t e. e) (λ e. e) lawful h.counted;

@@ -26,7 +26,7 @@ use Rattle.sja_link.proofs.Entering.{record_push, place_push}
 use Rattle.sja_regs.specs.declared.bus_turn.BusTurn.{BusTurn}
 use Rattle.sja_regs.specs.declared.orders.Orders.{Orders}
 use Rattle.sja_regs.specs.declared.registers.Registers.{Registers}
-use Rattle.sja_regs.specs.Facts.{RegisterFacts}
+use Rattle.sja_driver.proofs.Registers.TbsAndAbort.{TbsIsRight}
 use Rattle.sja_regs.specs.Turns.{is_live, after_turn}
 use Rattle.sja_bus.specs.Boards.{HasOrders, WasTold, WasKept}
 use Rattle.sja_bus.specs.Buses.{IsNodeBit}
@@ -187,11 +187,10 @@ resets true same is rests = refl
 resets false same is rests = let e : true ≡ false = sym is ∙ rests in absurd cc
 
 -- TBS is 1 in a port that isn't live
-rests_released : (p : Registers) (turn : BusTurn) → RegisterFacts p → turn.activation ≡ p.activation →
+rests_released : (p : Registers) (turn : BusTurn) → TbsIsRight p → turn.activation ≡ p.activation →
     is_live p turn ≡ false → p.tbs ≡ true
-rests_released p turn facts same rests =
-    (facts.reset
-    (resets p.mode.rm (turn.activation == p.activation) (eq-eqb turn.activation p.activation same) rests)).0
+rests_released p turn buffer same rests =
+    buffer.in_reset (resets p.mode.rm (turn.activation == p.activation) (eq-eqb turn.activation p.activation same) rests)
 
 -- ---- the whole bit
 
@@ -201,8 +200,8 @@ pub bit_asked : {has_orders : Orders → Type 0} {was_told : BusTurn → Type 0}
     (j k : List Entry) (driven seen : Level) (p q : Registers) →
     (bit : IsNodeBit has_orders was_told was_kept untold j k driven seen) → bit.opens.taken ≡ j →
     ((turn : BusTurn) → was_told turn → q ≡ after_turn p turn) → (was_kept → q ≡ p) →
-    HasCut j → RegisterFacts p → p.activation ≡ (place_of j).activation → IsAsked j p → IsAsked k q
-bit_asked untold j k driven seen p q bit none told kept lawful facts activation asked others c =
+    HasCut j → TbsIsRight p → p.activation ≡ (place_of j).activation → IsAsked j p → IsAsked k q
+bit_asked untold j k driven seen p q bit none told kept lawful buffer activation asked others c =
     let turn = bit.turn in let t = bit.is_turn in let opened = bit.opened in let changed = bit.opens.aborts.changed in
     let whole = opened_as untold j k driven seen bit none in
     let before = not (is_held (now_in t.cut).held) in
@@ -220,7 +219,7 @@ bit_asked untold j k driven seen p q bit none told kept lawful facts activation 
       | inl has ↦
           ap (λ (r : Registers). r.tbs) (told turn has)
           ∙ tbs_as (is_live p turn) turn.events.went_off (is_some turn.events.ended) turn.aborted p.tbs
-          (rests_released p turn facts at) ∙ sym now
+          (rests_released p turn buffer at) ∙ sym now
       | inr over ↦
           let quiet = over.alone.events in
           let off : turn.events.went_off ≡ false = ap (λ (v : BitEvents). v.went_off) quiet in
@@ -230,14 +229,3 @@ bit_asked untold j k driven seen p q bit none told kept lawful facts activation 
           ∙ ap (λ o. is_some o || (turn.aborted || p.tbs)) ended
           ∙ ap (λ a. a || p.tbs) over.alone.aborted)
     ]
-
--- the same of a port of a board in one thread
-pub board_asked : (old new : List Registers) (node : ℕ) (d : Registers) (untold : Bool) (j k : List Entry)
-    (driven seen : Level)
-    (bit : IsNodeBit (HasOrders old node) (WasTold old new node) (WasKept old new node) untold j k driven seen) →
-    bit.opens.taken ≡ j → HasCut j → RegisterFacts (slice_index_or old node d) →
-    (slice_index_or old node d).activation ≡ (place_of j).activation → IsAsked j (slice_index_or old node d) →
-    IsAsked k (slice_index_or new node d)
-board_asked old new node d untold j k driven seen bit none lawful facts activation asked =
-    bit_asked untold j k driven seen (slice_index_or old node d) (slice_index_or new node d) bit none (λ turn h. h d)
-    (λ h. h d) lawful facts activation asked

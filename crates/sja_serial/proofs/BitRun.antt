@@ -11,7 +11,6 @@ use Rattle.sja_link.proofs.Related.{each_at}
 use Rattle.sja_regs.specs.declared.bus_turn.BusTurn.{BusTurn}
 use Rattle.sja_regs.specs.declared.orders.Orders.{Orders}
 use Rattle.sja_regs.specs.declared.registers.Registers.{Registers}
-use Rattle.sja_regs.specs.Facts.{RegisterFacts}
 use Rattle.sja_regs.specs.Registers.{at_power_on}
 use Rattle.sja_regs.specs.Turns.{after_turn}
 use Rattle.sja_bus.specs.Boards.{HasOrders, WasTold, WasKept}
@@ -81,8 +80,7 @@ module _ (plan : PlanValue) (r n : SerialValue) (deeds : List (List Deed)) (h : 
     (sames : EachRelated (λ (a b : Deques). b.link ≡ a.link) r.links n.links)
     (bit : IsBit (HasOrders r.ports) (WasTold r.ports n.ports)
     (WasKept r.ports n.ports) r.bus.script r.bus.run r.bus.untold r.bus.journals n.bus.journals)
-    (cuts : (m : ℕ) → m < length r.bus.journals → HasCut (journal_at r.bus.journals m))
-    (facts : (m : ℕ) (d : Registers) → m < length r.ports → RegisterFacts (slice_index_or r.ports m d)) where
+    (cuts : (m : ℕ) → m < length r.bus.journals → HasCut (journal_at r.bus.journals m)) where
   many : length n.links ≡ length r.links
   many = AllZip-long (λ (a b : Deques). b.link ≡ a.link) r.links n.links sames
 
@@ -112,7 +110,7 @@ module _ (plan : PlanValue) (r n : SerialValue) (deeds : List (List Deed)) (h : 
         (deeds_at deeds m) (slice_index_or r.drivers m d) (slice_index_or r.ports m p) (slice_index_or n.ports m p)
         r.links n.links (8 * m) no_link (untold_at r.bus.untold m) (slice_index_or bit.driven m Recessive)
         (bit.seen m) (h.nodes m d p less) here (λ acc. kept m acc (inside m less))
-        (h.shown m p less) (cuts m (inside m less)) (facts m p (let c = h.count.ports in omega (arith, c, less)))
+        (h.shown m p less) (cuts m (inside m less))
 
     shows_now : ShowsRecord (journal_at n.bus.journals m) (slice_index_or n.ports m p)
     shows_now =

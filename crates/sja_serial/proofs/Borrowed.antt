@@ -3,6 +3,7 @@ use Rattle.std.proofs.Common.{◌≡◌, ℕ, ◌<◌, List, sym, ◌∙◌, sub
 use Rattle.sja_link.specs.Deques.{Deques}
 use Rattle.sja_regs.specs.declared.registers.Registers.{Registers}
 use Rattle.sja_bus.specs.Buses.{BusValue}
+use Rattle.sja_wire.specs.Lawful.{IsBusRun}
 use Rattle.sja_plan.specs.Plan.{PlanValue}
 use Rattle.sja_driver.specs.declared.logged_driver.LoggedDriver.{LoggedDriver}
 use Rattle.sja_driver.specs.Deeds.{Deed}
@@ -22,3 +23,7 @@ module _ (bus : BusValue) (drivers : List LoggedDriver) (ports : List Registers)
     subst (λ (x : SerialValue). StandsAt plan x run.0) (sym run_is) run.1,
     subst (λ (x : SerialValue). x.bits < plan.bits) (sym run_is) left,
   )
+
+  -- and its bus has its laws where that of the run has
+  pub lawful_there : IsBusRun r.bus.script r.bus.run r.bus.journals → IsBusRun bus.script bus.run bus.journals
+  lawful_there = subst (λ (x : SerialValue). IsBusRun x.bus.script x.bus.run x.bus.journals) (sym view)

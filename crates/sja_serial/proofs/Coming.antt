@@ -5,7 +5,6 @@ use Rattle.std.proofs.lemmas.Bool.{cases_eq}
 use Rattle.std.proofs.lemmas.List.{get_or-set_same, get_or-set_other}
 use Rattle.sja_link.specs.declared.entry.Entry.{Entry}
 use Rattle.sja_bus.specs.Buses.{BusValue, new_bus}
-use Rattle.sja_wire.specs.Lawful.{IsBusRun}
 use Rattle.sja_wire.specs.Wire.{journal_at}
 use Rattle.sja_plan.specs.Plan.{PlanValue, NamesNode}
 use Rattle.sja_plan.specs.declared.turn.Turn.{Turn}
@@ -200,8 +199,8 @@ module _ (plan : PlanValue) (turns : List Turn) (was now : SerialValue) (c : Has
       )
 
   pub come_node : (k count : ℕ) → k < length plan.nodes → TakesTurn plan was now k count c.deeds →
-      IsBusRun now.bus.script now.bus.run now.bus.journals → HasCome plan (turns ++ Node k count ∷ []) now
-  come_node k count less t laws = record {
+      HasCome plan (turns ++ Node k count ∷ []) now
+  come_node k count less t = record {
     deeds = with_deeds c.deeds k t.more;
     stands = t.does.stands;
     present = there;
@@ -212,7 +211,7 @@ module _ (plan : PlanValue) (turns : List Turn) (was now : SerialValue) (c : Has
           deeds_go = deeds_back k t.more all less go.deeds_go;
         } in
         one_more (Node k count) journals all later q end (c.leads journals all back (Node k count ∷ later) q end
-        (node_whole plan was now k count c.deeds journals all c.stands t there go laws less later q end follows));
+        (node_whole plan was now k count c.deeds journals all c.stands t there go less later q end follows));
   }
     where
       there : ArePresent plan now
@@ -229,7 +228,7 @@ module _ (plan : PlanValue) (turns : List Turn) (was now : SerialValue) (c : Has
   come_one (Bus count) all names is taken = come_bus count
       (subst (λ (b : Bool). TakesBusTurn plan c.deeds was now count b) is taken)
   come_one Rest all names is taken = come_rest (subst (λ (b : Bool). TakesRest plan c.deeds was now b) is taken)
-  come_one (Node k count) all names is taken = come_node k count names taken.0 taken.2
+  come_one (Node k count) all names is taken = come_node k count names taken.0
 
   pub end_one : (t : Turn) (all : Bool) (later : List Turn) → all ≡ false → TakesOne plan c.deeds was now t all →
       turns ++ (t ∷ later) ≡ plan.turns → TakesTurns plan now BitsSpent

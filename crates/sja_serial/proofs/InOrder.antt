@@ -17,8 +17,8 @@ use Rattle.sja_wire.specs.OutOfOrder.{IsBadCredit, IsOutOfOrder, IsAskedWrongly}
 use Rattle.sja_wire.specs.OutOfOrder.IsAskedWrongly.{outside, while_held, again_off}
 use Rattle.sja_bus.specs.Reasons.{IsRefusedFor}
 use Rattle.sja_regs.specs.declared.registers.Registers.{Registers}
-use Rattle.sja_regs.specs.Facts.{RegisterFacts}
 use Rattle.sja_driver.specs.Deeds.{Deed, opened_by, is_active}
+use Rattle.sja_driver.proofs.Registers.TbsAndAbort.{TbsIsRight}
 use Rattle.sja_serial.specs.Asking.{IsAsked}
 use Rattle.sja_serial.specs.Linking.{IsLevel}
 use Rattle.sja_serial.specs.Porting.{IsPorted}
@@ -31,15 +31,15 @@ use Rattle.sja_serial.proofs.Trying.{IsNext}
 
 module _ (version : ℕ) (j : List Entry) (deeds : List Deed) (d : Deed) (p q : Registers) (next : IsNext j deeds p q d)
     (ported : IsPorted version j deeds p) (asked : IsAsked j p) (level : IsLevel j deeds)
-    (kind : Kind (is_active deeds) (opened_by deeds) d.step d.answer d.gave) (facts : RegisterFacts p)
+    (kind : Kind (is_active deeds) (opened_by deeds) d.step d.answer d.gave) (buffer : TbsIsRight p)
     (lawful : IsLawfulJournal j) (right : (n : ℕ) → d.gave ≡ Credit n ∷ [] → IsBadCredit j n → ⊥) where
   on : (request : Request) → d.gave ≡ SendItem request ∷ [] → ((p.mode.rm ≡ false) × (p.tbs ≡ true)) ×
       ((place_of j).off ≡ false)
   on request gave =
       let k = j ++ entries_of_items d.gave in
       let e = enters j k deeds d refl level kind in let after = level_after j k deeds d refl level kind in (
-        was_on version j k deeds d p q e next ported level after kind facts request gave,
-        on_bus version j k deeds d p q e next ported level after kind facts request gave,
+        was_on version j k deeds d p q e next ported level after kind buffer request gave,
+        on_bus version j k deeds d p q e next ported level after kind buffer request gave,
       )
 
   wrongly : (request : Request) → is_active deeds ≡ true → d.gave ≡ SendItem request ∷ [] → IsAskedWrongly j → ⊥

@@ -2,9 +2,6 @@ pub mod Slices
 pub mod Cuts
 pub mod Looks
 pub mod Ports
-pub mod Patience
-pub mod Effects
-pub mod Activations
 pub mod Seeing
 pub mod SawPut
 pub mod Trying
@@ -15,7 +12,6 @@ pub mod After
 pub mod Dating
 pub mod Ported
 pub mod Gathered
-pub mod FirstSteps
 pub mod Done
 -- what a port shows
 pub mod OneMore
@@ -25,7 +21,6 @@ pub mod Turned
 pub mod Standing
 pub mod Room
 pub mod Refused
-pub mod Paid
 pub mod InOrder
 pub mod Taken
 pub mod Several
@@ -45,6 +40,7 @@ pub mod Unstopped
 pub mod SomeBits
 pub mod ManyBits
 pub mod Borrowed
+pub mod NextStep
 -- the turns of a whole run
 pub mod Counts
 pub mod Onward

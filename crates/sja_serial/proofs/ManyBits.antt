@@ -1,5 +1,5 @@
 -- Bits that a bus ran one after another: each of them is a bit of the run.
-use Rattle.std.proofs.Common.{◌≡◌, ℕ, ◌+◌, ◌-◌, ◌<◌, ◌≤◌, true, List, [], length, refl, sym, ◌∙◌, subst, arith, inl, inr}
+use Rattle.std.proofs.Common.{◌≡◌, ℕ, ◌+◌, ◌<◌, ◌≤◌, true, List, [], length, refl, sym, ◌∙◌, subst, arith, inl, inr}
 use Rattle.std.specs.Prelude.{◌⊎◌, None, min, slice_index_or}
 use Rattle.std.proofs.lemmas.Bool.{cases_lt}
 use Rattle.sja_link.specs.declared.bus_end.BusEnd.{Ghosts as Ends}
@@ -22,7 +22,7 @@ use Rattle.sja_serial.specs.Bits.TakesBits.{no_bit, one_more}
 use Rattle.sja_serial.specs.Serial.{SerialValue, StandsAt, IsRunOf, run_now}
 use Rattle.sja_serial.proofs.BitRun.{cuts_of, takes_bit}
 use Rattle.sja_serial.proofs.GoingOn.{bits_run}
-use Rattle.sja_serial.proofs.SomeBits.{all_rest, some_works, bits_within}
+use Rattle.sja_serial.proofs.SomeBits.{all_rest, some_works}
 use Rattle.sja_serial.proofs.Unstopped.{never_stops}
 
 -- a moment of a bus in one thread
@@ -64,17 +64,16 @@ abbrev pub run_then : List LoggedDriver → SerialMoment → SerialValue
 run_then drivers m = run_now m.bus drivers m.board.ports.items m.links m.bus.run
 
 module _ (plan : PlanValue) (deeds : List (List Deed)) (drivers : List LoggedDriver) where
-  -- a run stands there, and its bus and its ports are as they always are
+  -- a run stands there, and its bus has its laws
   pub record IsThere (m : SerialMoment) : Type 0 where
     pub stands : StandsAt plan (run_then drivers m) deeds
     pub lawful : IsBusRun m.bus.script m.bus.run m.bus.journals
-    pub facts : PortFacts m.board
 
   one_bit : (was now : SerialMoment) → IsThere was → OneBit ends ports was now →
       TakesBit plan deeds (run_then drivers was) (run_then drivers now)
   one_bit was now t b =
       takes_bit plan (run_then drivers was) (run_then drivers now) deeds t.stands b.right b.keeps.script b.run b.left
-      b.keeps.nodes refl b.run b.keeps.others.0 b.kept b.keeps.sames b.bit (cuts_of t.lawful) t.facts
+      b.keeps.nodes refl b.run b.keeps.others.0 b.kept b.keeps.sames b.bit (cuts_of t.lawful)
 
   module _ (Before : SerialMoment → Type 0) where
     there_still : (was now : SerialMoment) (n : ℕ) → AreBits NthBit Before was n now → IsThere was → IsThere now
@@ -82,7 +81,6 @@ module _ (plan : PlanValue) (deeds : List (List Deed)) (drivers : List LoggedDri
     there_still was now n (one_run _ mid _ k bits before one) t = record {
       stands = (one_bit mid now (there_still was mid k bits t) one.bit).stands;
       lawful = one.bit.lawful;
-      facts = one.bit.facts;
     }
 
   -- each of them is a bit of the run, before which some node works
@@ -112,13 +110,13 @@ module _ (plan : PlanValue) (deeds : List (List Deed)) (drivers : List LoggedDri
 -- a run is that of a moment
 module _ (plan : PlanValue) (drivers : List LoggedDriver) (was : SerialMoment) (r : SerialValue) (bits most count : ℕ)
     (r_is : run_now was.bus drivers was.board.ports.items was.links bits ≡ r) (run : IsRunOf plan r)
-    (laws : was.bus.fault ≡ None → IsBusRun was.bus.script was.bus.run was.bus.journals) (facts : PortFacts was.board)
-    (most_is : most ≡ min count (plan.bits - bits)) where
+    (lawful : IsBusRun r.bus.script r.bus.run r.bus.journals) (left : ℕ) (left_is : r.bits + left ≡ plan.bits)
+    (most_is : most ≡ min count left) where
   bits_are : bits ≡ was.bus.run
   bits_are = subst (λ (x : SerialValue). x.bits ≡ x.bus.run) (sym r_is) run.1.bits
 
-  within : bits ≤ plan.bits
-  within = subst (λ (x : SerialValue). x.bits ≤ plan.bits) (sym r_is) (bits_within plan r run.0 run.1)
+  all_bits : bits + left ≡ plan.bits
+  all_bits = subst (λ (x : SerialValue). x.bits + left ≡ plan.bits) (sym r_is) left_is
 
   was_is : run_then drivers was ≡ r
   was_is = (λ i. run_now was.bus drivers was.board.ports.items was.links (sym bits_are i)) ∙ r_is
@@ -126,15 +124,18 @@ module _ (plan : PlanValue) (drivers : List LoggedDriver) (was : SerialMoment) (
   there : (deeds : List (List Deed)) → StandsAt plan r deeds → IsThere plan deeds drivers was
   there deeds h =
       let stands = subst (λ (x : SerialValue). StandsAt plan x deeds) (sym was_is) h in
-      record { stands = stands; lawful = laws stands.right; facts = facts }
+      record {
+        stands = stands;
+        lawful = subst (λ (x : SerialValue). IsBusRun x.bus.script x.bus.run x.bus.journals) (sym was_is) lawful;
+      }
 
   -- none of its bits broke off
   pub no_break : (now : SerialMoment) (f : BusFault) → IsInLimits plan →
       (was.bus.fault ≡ None → BreaksOff Lies (λ (s : Deques). length s.down ≡ 22)
       (λ (b : SerialBoard). HasOrders b.ports.items) NthBit (WorksIf true) most was now f) → ⊥
   no_break now f limits breaks =
-      let e = bits_are in let w = within in let t = there run.0 run.1 in
-      never_breaks plan run.0 drivers was now most f t limits (omega (arith, e, w, most_is)) (breaks t.stands.right)
+      let e = bits_are in let all = all_bits in let t = there run.0 run.1 in
+      never_breaks plan run.0 drivers was now most f t limits (omega (arith, e, all, most_is)) (breaks t.stands.right)
 
   -- it is that of another moment after so many of them
   module _ (now : SerialMoment) (n : SerialValue) (many : ℕ)
@@ -160,11 +161,11 @@ module _ (plan : PlanValue) (drivers : List LoggedDriver) (was : SerialMoment) (
         (many ≡ count) ⊎ (plan.bits ≤ n.bits) ⊎ AllRestIn plan n
     busy_whole whole =
         let t = there_still plan run.0 drivers (WorksIf true) was now many are (there run.0 run.1) in
-        let ran = t.stands.all_bits in let e = bits_now in let w = within in
+        let ran = t.stands.all_bits in let e = bits_now in let all = all_bits in
         subst (λ (x : SerialValue). (many ≡ count) ⊎ (plan.bits ≤ x.bits) ⊎ AllRestIn plan x) now_is (elim whole [
-          | inl same ↦ elim (cases_lt count (plan.bits - bits)) [
+          | inl same ↦ elim (cases_lt count left) [
             | inl more ↦ inl (omega (arith, same, most_is, more))
-            | inr all ↦ inr (inl (omega (arith, same, most_is, w, all, e)))
+            | inr few ↦ inr (inl (omega (arith, same, most_is, all, few, e)))
           ]
           | inr (inl none) ↦ inr (inl (omega (arith, none, ran)))
           | inr (inr rest) ↦ inr (inr (all_rest plan (run_then drivers now) run.0 t.stands rest.1))

@@ -13,7 +13,6 @@ use Rattle.sja_link.specs.Verdicts.{IsLawful}
 use Rattle.sja_link.specs.World.{is_send}
 use Rattle.sja_link.proofs.Entering.{of_part_later}
 use Rattle.sja_regs.specs.declared.registers.Registers.{Registers}
-use Rattle.sja_regs.specs.Facts.{RegisterFacts}
 use Rattle.sja_driver.specs.Carried.{ported, asks_abort}
 use Rattle.sja_driver.specs.Deeds.{Deed, opens_by, opened_by, active_after, is_active}
 use Rattle.sja_driver.proofs.Sections.{active_push, opened_push}
@@ -26,12 +25,13 @@ use Rattle.sja_serial.specs.Asking.{IsAsked}
 use Rattle.sja_serial.specs.Counted.{IsCounted}
 use Rattle.sja_serial.specs.Linking.{IsLevel}
 use Rattle.sja_serial.specs.Porting.{is_reset, IsPorted}
-use Rattle.sja_serial.proofs.Activations.{activation_step}
+use Rattle.sja_driver.proofs.Registers.Activation.{activation_step}
 use Rattle.sja_serial.proofs.After.{Enters, same_put, same_bits, asked_more}
 use Rattle.sja_serial.proofs.After.Enters.{nothing, item}
 use Rattle.sja_serial.proofs.Asked.{off_known, asked_same, asked_start, asked_credit, asked_send, asked_stop}
 use Rattle.sja_serial.proofs.Counting.{counted_none, counted_item, counted_credit}
-use Rattle.sja_serial.proofs.Effects.{tbs_by, tbs_step, stop_drops, busy_sends_none, abort_gives_none, reset_sends_none}
+use Rattle.sja_driver.proofs.Registers.TbsAndAbort.{TbsIsRight}
+use Rattle.sja_driver.proofs.Registers.TransmitBuffer.{tbs_by, tbs_step, stop_drops, busy_sends_none, abort_gives_none, reset_sends_none}
 use Rattle.sja_log.proofs.Givings.{Kind, opened_from}
 use Rattle.sja_log.proofs.Givings.Kind.{quiet, starts, credits, sends, stops}
 use Rattle.sja_serial.proofs.Items.{off_same, settings_same, settings_push}
@@ -43,7 +43,7 @@ use Rattle.sja_serial.proofs.Trying.{IsNext}
 module _ (version : ℕ) (j k : List Entry) (deeds : List Deed) (d : Deed) (p q : Registers) (e : Enters j k deeds d)
     (next : IsNext j deeds p q d) (h : IsPorted version j deeds p) (before : IsLevel j deeds)
     (after : IsLevel k (deeds ++ d ∷ [])) (kind : Kind (is_active deeds) (opened_by deeds) d.step d.answer d.gave)
-    (facts : RegisterFacts p) where
+    (buffer : TbsIsRight p) where
   set_after : AreAlike (ported p d.step d.answer) (settings_of version k (deeds ++ d ∷ []))
   set_after =
       let same = same_put j k deeds d e in
@@ -103,7 +103,7 @@ module _ (version : ℕ) (j k : List Entry) (deeds : List Deed) (d : Deed) (p q 
             let none : total is_send d.gave ≡ 0 = ap (total is_send) next.gave
             ∙ busy_sends_none p (opened_by deeds) d.step d.answer (is_active deeds)
             (seen_now (is_active deeds) j deeds) next.fits next.tells
-            (facts.abort was) in
+            (buffer.in_abort was) in
             let l = c.later in let b = c.by_then in record {
               early = c.early;
               command = c.command;
@@ -190,7 +190,7 @@ module _ (version : ℕ) (j k : List Entry) (deeds : List Deed) (d : Deed) (p q 
       by (starts was few config given o same) (item u gave is at) =
           over (j ++ Item (StartItem config) ∷ []) (is
           ∙ ap (λ (x : Up). j ++ Item x ∷ []) (one_item _ _ (sym gave ∙ given)))
-          (asked_start j p q lawful asked config (facts.reset (was_reset was)).0 (tbs_now ∙ ap (tbs_by p.tbs) given))
+          (asked_start j p q lawful asked config (buffer.in_reset (was_reset was)) (tbs_now ∙ ap (tbs_by p.tbs) given))
       by (credits was n given o same) (nothing none is) = absurd (no_item _ (sym given ∙ none))
       by (credits was n given o same) (item u gave is at) =
           over (j ++ Item (Credit n) ∷ []) (is ∙ ap (λ (x : Up). j ++ Item x ∷ []) (one_item _ _ (sym gave ∙ given)))
@@ -229,9 +229,9 @@ module _ (version : ℕ) (j k : List Entry) (deeds : List Deed) (d : Deed) (p q 
       by (quiet none o same) (item u gave is at) = absurd (no_item u (sym gave ∙ none))
       by (starts was few config given o same) (nothing none is) = absurd (no_item _ (sym given ∙ none))
       by (starts was few config given o same) (item u gave is at) =
-          let free = (facts.reset (was_reset was)).0 in
+          let free = (buffer.in_reset (was_reset was)) in
           over (j ++ Item u ∷ []) is (counted_item j deeds d p q counted stands lawful u gave
-          (none_stands u gave (λ s. neither p.tbs free (facts.abort s))))
+          (none_stands u gave (λ s. neither p.tbs free (buffer.in_abort s))))
       by (credits was n given o same) (nothing none is) = absurd (no_item _ (sym given ∙ none))
       by (credits was n given o same) (item u gave is at) =
           over (j ++ Item (Credit n) ∷ []) (is ∙ ap (λ (x : Up). j ++ Item x ∷ []) (one_item _ _ (sym gave ∙ given)))
@@ -239,7 +239,7 @@ module _ (version : ℕ) (j k : List Entry) (deeds : List Deed) (d : Deed) (p q 
       by (sends was request given o same) (nothing none is) = absurd (no_item _ (sym given ∙ none))
       by (sends was request given o same) (item u gave is at) =
           over (j ++ Item u ∷ []) is (counted_item j deeds d p q counted stands lawful u gave
-          (none_stands u gave (λ s. neither p.tbs (was_on request given).1 (facts.abort s))))
+          (none_stands u gave (λ s. neither p.tbs (was_on request given).1 (buffer.in_abort s))))
       by (stops was given o same) (nothing none is) = absurd (no_item _ (sym given ∙ none))
       by (stops was given o same) (item u gave is at) =
           over (j ++ Item u ∷ []) is (counted_item j deeds d p q counted stands lawful u gave

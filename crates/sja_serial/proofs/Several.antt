@@ -121,13 +121,7 @@ so_far_one plan r m n node count deeds there s d did =
       many = omega (arith, l, k);
     }
 
--- a turn that ends since the driver is stuck, or since all was done
-pub turn_stuck : (plan : PlanValue) (r n : SerialValue) (node count most : ℕ) (deeds : List (List Deed)) →
-    (s : SoFar plan r n node deeds count) → count ≤ most → CannotStep plan n (with_deeds deeds node s.more) node →
-    TakesTurn plan r n node most deeds
-turn_stuck plan r n node count most deeds s few stuck = let k = s.many in
-    record { more = s.more; does = s.does; most = omega (arith, k, few); stuck = λ less. stuck }
-
+-- a turn that ends since no further step is done, or since all were
 pub turn_waits : (plan : PlanValue) (r m n : SerialValue) (node count most : ℕ) (deeds : List (List Deed)) →
     node < length deeds → (s : SoFar plan r m node deeds count) → count ≤ most →
     NodeDoes plan m n node (with_deeds deeds node s.more) [] × CannotStep plan n (with_deeds deeds node s.more) node →

@@ -31,7 +31,7 @@ use Rattle.sja_regs.specs.Writing.{after_writing_at}
 use Rattle.sja_wire.specs.OneBit.{HasBit}
 use Rattle.sja_wire.specs.Telling.{Says, IsTurn, IsPassedOver}
 use Rattle.sja_bus.specs.Inside.Following.{off_left}
-use Rattle.sja_bus.proofs.Boards.{says_same}
+use Rattle.sja_regs.proofs.SaysTheSame.{says_same}
 use Rattle.sja_bus.proofs.Turning.{record_bit}
 use Rattle.sja_script.specs.declared.step.Step.{Step}
 use Rattle.sja_script.specs.declared.step.Step.TheVariants.{Start, Stop, Window, Release, Read}

@@ -1,9 +1,12 @@
 -- Bits of a run, one after another.
 use Rattle.std.specs.Prelude.{◌⊎◌}
-use Rattle.std.proofs.Common.{◌≡◌, ℕ, zero, suc, ◌+◌, ◌<◌, ◌≤◌, Bool, true, false, List, length, sym, subst, arith, inl, inr}
+use Rattle.std.proofs.Common.{◌≡◌, ℕ, zero, suc, ◌+◌, ◌<◌, ◌≤◌, Bool, true, false, List, length}
+use Rattle.std.proofs.Common.{sym, ◌∙◌, subst, arith, inl, inr}
 use Rattle.sja_link.specs.declared.entry.Entry.{Entry}
 use Rattle.sja_link.specs.Records.{record_of}
+use Rattle.sja_bus.specs.Buses.{BusValue}
 use Rattle.sja_bus.specs.Resting.{RestsAs}
+use Rattle.sja_wire.specs.Lawful.{IsBusRun}
 use Rattle.sja_wire.specs.Wire.{journal_at}
 use Rattle.sja_plan.specs.Plan.{PlanValue}
 use Rattle.sja_driver.specs.Deeds.{Deed}
@@ -131,6 +134,17 @@ rest_so plan deeds r n run most rests h t is whole all busy =
     }
 
 -- ---- bits at once, or one
+
+-- where none was run the bus has its laws still
+pub still_lawful : (plan : PlanValue) (deeds : List (List Deed)) (r m : SerialValue) → StandsAt plan r deeds →
+    StandsAt plan m deeds → (m.bits ≡ r.bits) × (m.bus.journals ≡ r.bus.journals) →
+    IsBusRun r.bus.script r.bus.run r.bus.journals → IsBusRun m.bus.script m.bus.run m.bus.journals
+still_lawful plan deeds r m h k same =
+    let script : r.bus.script ≡ m.bus.script = h.script ∙ sym k.script in
+    let run : r.bus.run ≡ m.bus.run = sym h.bits ∙ sym same.0 ∙ k.bits in
+    let bus : r.bus ≡ record r.bus { script = m.bus.script; run = m.bus.run; journals = m.bus.journals } =
+    λ i. record r.bus { script = script i; run = run i; journals = sym same.1 i } in
+    subst (λ (b : BusValue). IsBusRun b.script b.run b.journals) bus
 
 -- what one bit is of a run that it left as it was before
 one_after : (plan : PlanValue) (deeds : List (List Deed)) (r m n : SerialValue) →

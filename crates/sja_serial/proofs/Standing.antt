@@ -18,7 +18,6 @@ use Rattle.sja_link.specs.Verdicts.{IsLawful as IsLawfulJournal}
 use Rattle.sja_link.specs.Related.{EachRelated}
 use Rattle.sja_link.proofs.Related.{each_at}
 use Rattle.sja_plan.specs.Plan.{PlanValue}
-use Rattle.sja_regs.specs.Facts.{RegisterFacts}
 use Rattle.sja_script.specs.declared.step.Step.{Step}
 use Rattle.sja_regs.specs.declared.registers.Registers.{Registers}
 use Rattle.sja_driver.specs.declared.logged_driver.LoggedDriver.{LoggedDriver}
@@ -193,13 +192,13 @@ module _ (plan : PlanValue) (r n : SerialValue) (deeds : List (List Deed)) (node
       IsNode plan.version (steps_at plan node) (journal_at r.bus.journals node) (deeds_at deeds node) was p r.links
       (8 * node) →
       IsLawfulJournal (journal_at r.bus.journals node) →
-      RegisterFacts p → length (deeds_at deeds node) < length (steps_at plan node) →
+      length (deeds_at deeds node) < length (steps_at plan node) →
       one ≡ slice_index_or (steps_at plan node) (length (deeds_at deeds node)) one → IsLawful now →
       (place_of (journal_at r.bus.journals node)).bits ≡ r.bits →
       Steps alike Lies shows_none takes_none was now r.links given
       (8 * node) p q one r.bits true → ((m : ℕ) → HasRoom (m + 1) (log_of was) → HasRoom m (log_of now)) →
       (d : Deed) × NodeDoes plan r n node deeds (d ∷ [])
-  next_done p one port w lawful facts left is now_lawful place st room =
+  next_done p one port w lawful left is now_lawful place st room =
       let at : Steps alike Lies shows_none takes_none was now r.links given (8 * node) p q one
       (place_of (journal_at r.bus.journals node)).bits true =
       subst (λ (b : ℕ).
@@ -207,7 +206,7 @@ module _ (plan : PlanValue) (r n : SerialValue) (deeds : List (List Deed)) (node
       st in
       let s = stepped plan.version (steps_at plan node) (journal_at r.bus.journals node)
       (journal_at n.bus.journals node) (deeds_at deeds node) was now p q r.links given n.links (8 * node) one none w
-      lawful facts left is now_lawful
+      lawful left is now_lawful
       (items node inside) (λ acc. kept node acc inside) (λ few. dry node none now_inside few) at room in (
         s.deed,
         record {
@@ -265,24 +264,18 @@ module _ (plan : PlanValue) (r n : SerialValue) (deeds : List (List Deed)) (node
           bits = bits_are;
           items = more_items;
         },
-        inr (λ s x.
-            let c = h.count.ports in
-            let port_is : p ≡ slice_index_or n.ports node x =
-            sym port ∙ sym (get_or-set_same r.ports node q x (omega (arith, c, there)))
-            ∙ ap (λ l. slice_index_or l node x) (sym ports_are) in
+        inr (λ s.
             let step_is : one ≡ slice_index_or (steps_at plan node) (length ds) s =
             is ∙ get_or_default (steps_at plan node) (length ds) one s left in
-            subst (λ (l : List Entry). HasToWait l ds (slice_index_or n.ports node x)
-            (slice_index_or (steps_at plan node) (length ds) s)) (sym same)
-            (subst (λ (g : Registers). HasToWait j ds g (slice_index_or (steps_at plan node) (length ds) s)) port_is
-            (subst (λ (t : Step). HasToWait j ds p t) step_is why))),
+            subst (λ (l : List Entry). HasToWait l ds (slice_index_or (steps_at plan node) (length ds) s)) (sym same)
+            (subst (λ (t : Step). HasToWait j ds t) step_is why)),
       )
 
   -- either of both
   pub next_tried : (p : Registers) (one : Step) (b : Bool) → ((x : Registers) → slice_index_or r.ports node x ≡ p) →
       IsNode plan.version (steps_at plan node) (journal_at r.bus.journals node) (deeds_at deeds node) was p r.links
       (8 * node) →
-      IsLawfulJournal (journal_at r.bus.journals node) → RegisterFacts p →
+      IsLawfulJournal (journal_at r.bus.journals node) →
       length (deeds_at deeds node) < length (steps_at plan node) →
       one ≡ slice_index_or (steps_at plan node) (length (deeds_at deeds node)) one → IsLawful now →
       (place_of (journal_at r.bus.journals node)).bits ≡ r.bits →
@@ -291,7 +284,7 @@ module _ (plan : PlanValue) (r n : SerialValue) (deeds : List (List Deed)) (node
       (b ≡ false → (m : ℕ) → HasRoom m (log_of was) → HasRoom m (log_of now)) →
       (b ≡ true → (d : Deed) × NodeDoes plan r n node deeds (d ∷ []))
       × (b ≡ false → NodeDoes plan r n node deeds [] × CannotStep plan n deeds node)
-  next_tried p one true port w lawful facts left is now_lawful place st room still_room =
-      (λ e. next_done p one port w lawful facts left is now_lawful place st room, λ e. absurd cc)
-  next_tried p one false port w lawful facts left is now_lawful place st room still_room =
+  next_tried p one true port w lawful left is now_lawful place st room still_room =
+      (λ e. next_done p one port w lawful left is now_lawful place st room, λ e. absurd cc)
+  next_tried p one false port w lawful left is now_lawful place st room still_room =
       (λ e. absurd cc, λ e. next_waits p one port w lawful left is now_lawful place st (still_room refl))

@@ -14,7 +14,6 @@ use Rattle.sja_link.specs.Carried.{taken_of}
 use Rattle.sja_link.specs.Related.{EachRelated}
 use Rattle.sja_link.proofs.Related.{each_at, each_refl}
 use Rattle.sja_regs.specs.declared.registers.Registers.{Registers}
-use Rattle.sja_regs.specs.Facts.{RegisterFacts}
 use Rattle.sja_bus.specs.Boards.{HasOrders, WasTold, WasKept}
 use Rattle.sja_bus.specs.Buses.{KeepsAll, untold_at}
 use Rattle.sja_wire.specs.Lawful.{IsBusRun}
@@ -171,7 +170,6 @@ module _ (plan : PlanValue) (r : SerialValue) (deeds : List (List Deed)) (h : St
 
   module _ (count : ℕ) (after : List (List Entry)) (most : count ≤ r.bus.left)
       (was : IsBusRun r.bus.script r.bus.run r.bus.journals)
-      (facts : (m : ℕ) (d : Registers) → m < length r.ports → RegisterFacts (slice_index_or r.ports m d))
       (stretch : IsStretch (HasOrders r.ports) (WasTold r.ports r.ports)
       (WasKept r.ports r.ports) r.bus.script r.bus.run count r.bus.untold r.bus.journals after) where
     abbrev at : List Bool → ℕ → SerialValue
@@ -204,7 +202,7 @@ module _ (plan : PlanValue) (r : SerialValue) (deeds : List (List Deed)) (h : St
         (omega (arith, early, most)) (omega (arith, a, b)) refl (omega arith) refl
         (λ m acc few kept. keeps_still i (suc i) r.bus.journals links m acc (inside i m few) kept)
         (each_refl (λ (x y : Deques). y.link ≡ x.link) (λ x. refl) links) (stretch.bits i early)
-        (cuts i (omega (arith, early))) facts
+        (cuts i (omega (arith, early)))
 
     stands : (i : ℕ) → i ≤ count → StandsAt plan (at r.bus.untold i) deeds
     stands zero early = first

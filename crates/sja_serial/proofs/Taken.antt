@@ -18,7 +18,6 @@ use Rattle.sja_bus.specs.Reasons.{IsRefusedFor, RefusesItem, IsTakenAndRefused, 
 use Rattle.sja_wire.specs.Wire.{journal_at}
 use Rattle.sja_plan.specs.Plan.{PlanValue}
 use Rattle.sja_regs.specs.declared.registers.Registers.{Registers}
-use Rattle.sja_regs.specs.Facts.{RegisterFacts}
 use Rattle.sja_script.specs.declared.step.Step.{Step}
 use Rattle.sja_driver.specs.declared.any_driver.AnyDriver.{AnyDriver}
 use Rattle.sja_driver.specs.declared.logged_driver.LoggedDriver.{LoggedDriver}
@@ -33,7 +32,7 @@ use Rattle.sja_serial.specs.Nodes.{IsNode}
 use Rattle.sja_serial.specs.Serial.{SerialValue, StandsAt}
 use Rattle.sja_driver.specs.Deeds.{deeds_at}
 use Rattle.sja_plan.specs.Plan.{steps_at}
-use Rattle.sja_serial.proofs.Paid.{credit_lengths, credit_right}
+use Rattle.sja_driver.proofs.Deeds.Credits.{credit_lengths, credit_right}
 use Rattle.sja_serial.proofs.InOrder.{never_refused}
 use Rattle.sja_link.proofs.Small.{no_item}
 use Rattle.sja_serial.proofs.Refused.{refused_is}
@@ -41,6 +40,7 @@ use Rattle.sja_serial.proofs.Room.{has_room}
 use Rattle.sja_serial.proofs.Slices.{each_other}
 use Rattle.sja_wire.proofs.Taking.{no_wait}
 use Rattle.sja_serial.proofs.Trying.{alike, shows_none, takes_none}
+use Rattle.sja_log.proofs.TbsAndAbort.{tbs_right}
 use Rattle.sja_serial.proofs.Done.{at_most_one, is_read, opened_most, doing}
 use Rattle.sja_serial.proofs.Turned.{is_unmet}
 
@@ -62,7 +62,7 @@ module _ (version : ℕ) (steps : List Step) (j : List Entry) (deeds : List Deed
     (p q : Registers)
     (links given : List Deques) (base : ℕ) (one : Step) (none : Deques) (h : IsNode version steps j deeds was p links
     base)
-    (lawful : IsLawfulJournal j) (facts : RegisterFacts p) (bits : ℕ) (short : length deeds ≤ 1000)
+    (lawful : IsLawfulJournal j) (bits : ℕ) (short : length deeds ≤ 1000)
     (run : (place_of j).bits ≤ bits) where
   before : (a : ℕ) → given_in (deeds_of deeds a) ≡ taken_of (part j a)
   before a = given_taken deeds j a (h.in_time.when a)
@@ -90,7 +90,8 @@ module _ (version : ℕ) (steps : List Step) (j : List Entry) (deeds : List Deed
       credit_right j deeds d n (driver_of now) (log_of now) given base none lawful before
       h.traced.traces.answered.gives y.trace y.holds (credit_lengths p d.step d.answer n (sym next.gave ∙ gave))
       (stops_of j) read.1 (sym read.0) bad.free bad.is_free bad.bad in
-      never_refused version j deeds d p q next h.ported h.asked h.linked.level y.kind facts lawful right node
+      never_refused version j deeds d p q next h.ported h.asked h.linked.level y.kind
+      (tbs_right version j deeds p h.registers h.traced.traces.answered.states) lawful right node
       (room_for bits)
       r.item f is.1 fits (subst (λ (l : List Entry). IsRefusedFor node (room_for bits) l r.item f) is.0 r.why)
 
@@ -117,13 +118,13 @@ pub gather_takes : (plan : PlanValue) (r : SerialValue) (deeds : List (List Deed
     (b : Bool) → StandsAt plan r deeds →
     IsNode plan.version (steps_at plan node) (journal_at r.bus.journals node) (deeds_at deeds node) was p r.links
     (8 * node) →
-    IsLawfulJournal (journal_at r.bus.journals node) → RegisterFacts p → length (deeds_at deeds node) ≤ 1000 →
+    IsLawfulJournal (journal_at r.bus.journals node) → length (deeds_at deeds node) ≤ 1000 →
     (place_of (journal_at r.bus.journals node)).bits ≡ r.bits →
     Steps alike Lies shows_none takes_none was now r.links given (8 * node) p q one r.bits b →
     ((i : ℕ) (d : Deques) → i ≢ place_after (8 * node) (ended_of was) → slice_index_or given i d ≡ slice_index_or
     r.links i d) →
     IsTakenAndRefused Lies (r.bus.run + r.bus.left) r.bus.journals journals given after f → ⊥
-gather_takes plan r deeds node was now p q given after journals one none f b h w lawful facts short place st others
+gather_takes plan r deeds node was now p q given after journals one none f b h w lawful short place st others
     r_not =
     let m = r_not.node in
     elim (cases_eq m node) [
@@ -158,8 +159,8 @@ gather_takes plan r deeds node was now p q given after journals one none f b h w
     here true s refuses =
         done_taken plan.version (steps_at plan node) j (deeds_at deeds node) was now p q r.links given (8 * node) one
         none w lawful
-        facts (r.bus.run + r.bus.left) short run (journal_at journals node) after node f s refuses
+        (r.bus.run + r.bus.left) short run (journal_at journals node) after node f s refuses
     here false s refuses =
         waits_taken plan.version (steps_at plan node) j (deeds_at deeds node) was now p q r.links given (8 * node) one
         none w lawful
-        facts (r.bus.run + r.bus.left) short run (journal_at journals node) after node f s refuses
+        (r.bus.run + r.bus.left) short run (journal_at journals node) after node f s refuses

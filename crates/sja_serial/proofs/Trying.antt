@@ -1,7 +1,7 @@
 -- What comes of a try of a step, beside the journal.
 use Rattle.std.proofs.Common.{◌≡◌, ◌≢◌, ℕ, suc, ◌+◌, ◌<◌, Bool, true, false, List, []}
 use Rattle.std.proofs.Common.{◌∷◌, ◌++◌, length, map, refl, sym, ap, ◌∙◌, subst, arith}
-use Rattle.std.specs.Prelude.{min, slice_index_or}
+use Rattle.std.specs.Prelude.{not, min, slice_index_or}
 use Rattle.can_frame.specs.declared.seen.Seen.{Seen}
 use Rattle.sja_link.specs.declared.driver_ledger.DriverLedger.{DriverLedger}
 use Rattle.sja_link.specs.declared.entry.Entry.{Entry}
@@ -33,12 +33,13 @@ use Rattle.sja_driver.specs.Tries.{Tried, is_met, off_after, window_after}
 use Rattle.sja_driver.specs.Tries.Tried.{Unmet, Answered, Released, Ended}
 use Rattle.sja_log.specs.Registering.{seen_now}
 use Rattle.sja_log.specs.Windows.{SeesIf}
+use Rattle.sja_serial.specs.Asking.{IsAsked}
 use Rattle.sja_serial.specs.Waiting.{HasToWait}
 use Rattle.sja_serial.proofs.Seeing.{seen_as, seen_by_now, tells_seen, seen_shown, no_release, no_stop}
 use Rattle.sja_wire.proofs.Taking.{same_front}
 use Rattle.sja_serial.proofs.Looks.{IsShown, is_shown}
 use Rattle.sja_driver.proofs.Few.{few_held}
-use Rattle.sja_serial.proofs.Patience.{never_closed}
+use Rattle.sja_driver.proofs.Deeds.Patience.{never_closed}
 use Rattle.sja_serial.proofs.SawPut.{sees_shown, if_looking}
 
 -- two states of one link
@@ -198,40 +199,46 @@ module _ (j : List Entry) (deeds : List Deed) (log : WorkLog) (links : List Dequ
 
   -- ---- why a step isn't done
 
+  is_one : (held : Bool) → not held ≡ false → held ≡ true
+  is_one true e = refl
+  is_one false e = sym e
+
   not_full : (s : Deques) → s.up ≡ [] → length s.up ≡ 24 → ⊥
   not_full s none_up full = let e : length s.up ≡ 0 = ap (λ l. length l) none_up in omega (arith, e, full)
 
-  pub waits : (p : Registers) (one : Step) (w now : AnyDriver) → Traces w log deeds →
+  pub waits : (p : Registers) (one : Step) (w now : AnyDriver) → IsAsked j p → Traces w log deeds →
       IsDriverOf node (length (left_in log)) w → HoldsBy Lies deeds w log j links base →
       ((a : ℕ) (d : Deques) → a < 8 → (slice_index_or links (base + a) d).up ≡ []) →
       Waits alike Lies shows_none takes_none (slice_index_or links (place_after base (length (left_in log))) none) p one
-      w
-      now → HasToWait j deeds p one
-  waits p (Await count) (InActive was) now trace place h empty (closed, on, few, look) =
+      w now → HasToWait j deeds one
+  waits p (Await count) (InActive was) now asked trace place h empty (closed, on, few, look) =
       let shown = looked (InActive was) refl trace place h (held_of now) (off_of now) look in
       let same = shown.window_is on in
       (trace.out, shown.off_is ∙ on, subst (λ (l : List (List ℕ)). length l < count) (sym same) few)
-  waits p (Await count) (InReset was) now trace place h empty full = elim full [ ]
-  waits p Sent (InActive was) now trace place h empty (closed, busy, look) = (trace.out, busy)
-  waits p Sent (InReset was) now trace place h empty full = elim full [ ]
-  waits p Start (InReset was) now trace place h empty (left, full) =
+  waits p (Await count) (InReset was) now asked trace place h empty full = elim full [ ]
+  waits p Sent (InActive was) now asked trace place h empty (closed, busy, look) = (
+    trace.out,
+    (lawful.found, lawful.cut, is_one _ (sym (asked lawful.found lawful.cut) ∙ busy)),
+  )
+  waits p Sent (InReset was) now asked trace place h empty full = elim full [ ]
+  waits p Start (InReset was) now asked trace place h empty (left, full) =
       not_full (slice_index_or links (place_after base (length (left_in log))) none)
       (empty (min (length (left_in log)) 7) none (min_less (length (left_in log)))) full
-  waits p Start (InActive was) now trace place h empty full = elim full [ ]
-  waits p Stop (InActive was) now trace place h empty full =
+  waits p Start (InActive was) now asked trace place h empty full = elim full [ ]
+  waits p Stop (InActive was) now asked trace place h empty full =
       not_full (slice_index_or links (place_after base (length (left_in log))) none)
       (empty (min (length (left_in log)) 7) none (min_less (length (left_in log)))) full
-  waits p Stop (InReset was) now trace place h empty full = elim full [ ]
-  waits p (Command value) (InActive was) now trace place h empty (full, asks, fits) =
+  waits p Stop (InReset was) now asked trace place h empty full = elim full [ ]
+  waits p (Command value) (InActive was) now asked trace place h empty (full, asks, fits) =
       not_full (slice_index_or links (place_after base (length (left_in log))) none)
       (empty (min (length (left_in log)) 7) none (min_less (length (left_in log)))) full
-  waits p (Command value) (InReset was) now trace place h empty full = elim full [ ]
-  waits p Window w now trace place h empty full = elim full [ ]
-  waits p (Read a) w now trace place h empty full = elim full [ ]
-  waits p (Write a v) w now trace place h empty full = elim full [ ]
-  waits p (Load m) w now trace place h empty full = elim full [ ]
-  waits p Release (InReset was) now trace place h empty full = elim full [ ]
-  waits p Release (InActive was) now trace place h empty (on, r) =
+  waits p (Command value) (InReset was) now asked trace place h empty full = elim full [ ]
+  waits p Window w now asked trace place h empty full = elim full [ ]
+  waits p (Read a) w now asked trace place h empty full = elim full [ ]
+  waits p (Write a v) w now asked trace place h empty full = elim full [ ]
+  waits p (Load m) w now asked trace place h empty full = elim full [ ]
+  waits p Release (InReset was) now asked trace place h empty full = elim full [ ]
+  waits p Release (InActive was) now asked trace place h empty (on, r) =
       let a = min (length (left_in log)) 7 in
       let lies = h.kept a none (min_less (length (left_in log))) in
       let after = r.lists _ lies in

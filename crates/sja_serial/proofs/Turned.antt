@@ -14,7 +14,6 @@ use Rattle.sja_link.specs.Verdicts.{IsLawful as IsLawfulJournal}
 use Rattle.sja_wire.specs.Links.{stops_of, Kept}
 use Rattle.sja_wire.specs.OneBit.{entries_of_items, MayHaveItems}
 use Rattle.sja_regs.specs.declared.registers.Registers.{Registers}
-use Rattle.sja_regs.specs.Facts.{RegisterFacts}
 use Rattle.sja_script.specs.declared.step.Step.{Step}
 use Rattle.sja_driver.specs.declared.logged_driver.LoggedDriver.{LoggedDriver}
 use Rattle.sja_driver.specs.Acting.{Acts}
@@ -41,8 +40,9 @@ use Rattle.sja_serial.proofs.Trying.{alike, shows_none, takes_none, waits}
 use Rattle.sja_serial.proofs.After.{enters, level_after, in_time_after}
 use Rattle.sja_serial.proofs.Dating.{done_after}
 use Rattle.sja_serial.proofs.Ported.{ported_after, asked_after, counted_after}
-use Rattle.sja_serial.proofs.FirstSteps.{first_more}
+use Rattle.sja_driver.proofs.Deeds.FirstSteps.{first_more}
 use Rattle.sja_serial.proofs.Gathered.{items_are, linked_after}
+use Rattle.sja_log.proofs.TbsAndAbort.{tbs_right}
 use Rattle.sja_serial.proofs.Done.{at_most_one, is_read, opened_most, doing}
 use Rattle.sja_serial.proofs.Shown.{shows_on}
 
@@ -57,7 +57,7 @@ none_entered j k (u ∷ items) e same =
 
 module _ (version : ℕ) (steps : List Step) (j k : List Entry) (deeds : List Deed) (was now : LoggedDriver)
     (p q : Registers) (links given after : List Deques) (base : ℕ) (one : Step) (none : Deques)
-    (h : IsNode version steps j deeds was p links base) (lawful : IsLawfulJournal j) (facts : RegisterFacts p)
+    (h : IsNode version steps j deeds was p links base) (lawful : IsLawfulJournal j)
     (left : length deeds < length steps) (is : one ≡ slice_index_or steps (length deeds) one)
     (now_lawful : IsLawful now) (items : MayHaveItems j k) (kept : (acc : ℕ → Account) → Kept Lies j given base acc →
     Kept Lies k after base acc)
@@ -83,6 +83,7 @@ module _ (version : ℕ) (steps : List Step) (j k : List Entry) (deeds : List De
       (at_most_one (is_active deeds) (opened_by deeds) d.step d.answer d.gave y.kind) (is_read j deeds d h.linked.level
       most y.kind) y.waits_now dry in
       let e = enters j k deeds d entered h.linked.level y.kind in
+      let buffer = tbs_right version j deeds p h.registers h.traced.traces.answered.states in
       let level = level_after j k deeds d entered h.linked.level y.kind in
       let in_time = in_time_after version j k deeds d p q e next h.ported h.in_time in record {
         deed = d;
@@ -97,11 +98,11 @@ module _ (version : ℕ) (steps : List Step) (j k : List Entry) (deeds : List De
           };
           linked = linked_after j k (deeds ++ d ∷ []) (driver_of now) (log_of now) given after base none y.holds kept
               now refl refl (λ a. given_taken (deeds ++ d ∷ []) k a (in_time.when a)) level;
-          ported = ported_after version j k deeds d p q e next h.ported h.linked.level level y.kind facts;
+          ported = ported_after version j k deeds d p q e next h.ported h.linked.level level y.kind buffer;
           done = done_after j k deeds d e next.now h.done;
-          asked = asked_after version j k deeds d p q e next h.ported h.linked.level level y.kind facts h.asked
+          asked = asked_after version j k deeds d p q e next h.ported h.linked.level level y.kind buffer h.asked
               lawful;
-          counted = counted_after version j k deeds d p q e next h.ported h.linked.level level y.kind facts h.counted
+          counted = counted_after version j k deeds d p q e next h.ported h.linked.level level y.kind buffer h.counted
               lawful;
           in_time = in_time;
           registers = step j k deeds d p q h.registers next.now next.tells next.gave entered next.left;
@@ -185,9 +186,10 @@ module _ (version : ℕ) (steps : List Step) (j k : List Entry) (deeds : List De
   nothing_done : deeds ++ deeds_by p one st.tried (place_of j).bits ≡ deeds
   nothing_done = ap (λ (o : Tried). deeds ++ deeds_by p one o (place_of j).bits) unmet ∙ append-nil deeds
 
-  pub waited : HasToWait j deeds p one
+  pub waited : HasToWait j deeds one
   waited = waits j deeds (log_of was) links base (node_of was) none lawful (λ a.
-      given_taken deeds j a (h.in_time.when a)) p one (driver_of was) (driver_of now) h.traced.traces h.traced.lawful
+      given_taken deeds j a (h.in_time.when a)) p one (driver_of was) (driver_of now) h.asked h.traced.traces
+      h.traced.lawful
       h.linked.holds h.linked.taken acts.waits
 
   trace_still : Traces (driver_of now) (log_of now) deeds

@@ -1,6 +1,5 @@
 -- The log of a run in one thread, as it stands when it ends (this project's own rule).
 use Rattle.std.specs.Prelude.{◌≡◌, ◌<◌, ℕ, Bool, true, List, [], length, map, replicate, slice_index_or}
-use Rattle.sja_wire.specs.Lawful.{IsBusRun}
 use Rattle.sja_plan.specs.Plan.{PlanValue}
 use Rattle.sja_plan.specs.declared.turn.Turn.{Turn}
 use Rattle.sja_plan.specs.declared.turn.Turn.TheVariants.{Bus, Rest, Node}
@@ -37,9 +36,9 @@ pub record TakesTurns (plan : PlanValue) (r : SerialValue) (end : End) : Type 0 
   pub turns : RunsTo (record { plan = plan; journals = r.bus.journals; deeds = deeds })
       (record { bits = 0; done = replicate (length plan.nodes) 0 }) plan.turns (progress r deeds) end
 
--- one turn of the plan was taken, as a whole or until the bits were spent; after a turn of a node the bus has its laws
+-- one turn of the plan was taken, as a whole or until the bits were spent
 abbrev pub TakesOne : PlanValue → List (List Deed) → SerialValue → SerialValue → Turn → Bool → Type 0
 TakesOne plan deeds was now (Node node count) all =
-    TakesTurn plan was now node count deeds × (all ≡ true) × IsBusRun now.bus.script now.bus.run now.bus.journals
+    TakesTurn plan was now node count deeds × (all ≡ true)
 TakesOne plan deeds was now (Bus count) all = TakesBusTurn plan deeds was now count all
 TakesOne plan deeds was now Rest all = TakesRest plan deeds was now all

@@ -85,8 +85,8 @@ pub record NodeDoes (plan : PlanValue) (was now : SerialValue) (node : ℕ) (dee
 abbrev pub CannotStep : PlanValue → SerialValue → List (List Deed) → ℕ → Type 0
 CannotStep plan r deeds node =
     (length (steps_at plan node) ≤ length (deeds_at deeds node))
-    ⊎ ((s : Step) (p : Registers) → HasToWait (journal_at r.bus.journals node) (deeds_at deeds node)
-    (slice_index_or r.ports node p) (slice_index_or (steps_at plan node) (length (deeds_at deeds node)) s))
+    ⊎ ((s : Step) → HasToWait (journal_at r.bus.journals node) (deeds_at deeds node)
+    (slice_index_or (steps_at plan node) (length (deeds_at deeds node)) s))
 
 -- one turn of a node: these deeds more, at most so many; fewer only where the driver is stuck
 pub record TakesTurn (plan : PlanValue) (was now : SerialValue) (node count : ℕ)

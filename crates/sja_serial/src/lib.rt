@@ -16,13 +16,13 @@
 //! The tests stand in `crates/test_runs`.
 #![tactic(auto)]
 
-mod beginning;
-mod bit_turns;
-mod finishing;
-mod off_links;
-mod running;
+mod bus_turns;
+mod drivers;
+mod finish;
+mod left_on_links;
+mod node_turns;
+mod run;
 mod serial_run;
-mod stepping;
 
-pub use running::run_serial;
+pub use run::run_serial;
 pub use serial_run::SerialRun;

@@ -1,7 +1,6 @@
 //! [`SerialRun`]: a run in one thread, as far as it has come.
 
-use super::beginning::new_drivers;
-use super::stepping::take_turn;
+use super::drivers::new_drivers;
 use can_frame::OutOfMemory;
 use sja_bus::{Bus, SerialBoard, serial_links};
 use sja_driver::LoggedDriver;
@@ -14,7 +13,8 @@ use std::marker::Model;
 /// A run in one thread, as far as it has come (this project's own rule).
 ///
 /// What a driver gives is taken at once, so that between two steps nothing waits on any link. Contracts see it as its
-/// bus, drivers, ports and links, and the bits that were run, and say at which deeds of the drivers it stands.
+/// bus, drivers, ports and links, and the bits that were run, and say at which deeds of the drivers it stands. Beside
+/// [`run_serial`](super::run::run_serial) tests alone make and turn one.
 #[derive(Debug, Drop)]
 pub struct SerialRun {
     pub(crate) bus: Bus,
@@ -39,11 +39,9 @@ impl Model for SerialRun {
 }
 
 impl SerialRun {
-    ghost use Rattle.std.specs.Prelude.{◌≡◌, ◌<◌, List, [], None, length, replicate, IfOk};
-    ghost use Rattle.sja_wire.specs.Lawful.{IsBusRun};
+    ghost use Rattle.std.specs.Prelude.{◌≡◌, [], length, replicate, IfOk};
     ghost use Rattle.sja_bus.specs.Buses.{new_bus};
-    ghost use Rattle.sja_driver.specs.Deeds.{Deed};
-    ghost use Rattle.sja_serial.specs.Serial.{StandsAt, IsRunOf, TakesTurn};
+    ghost use Rattle.sja_serial.specs.Serial.{StandsAt};
 
     /// A run of this plan to which nothing happened. All its room is made here.
     ///
@@ -52,7 +50,6 @@ impl SerialRun {
         ensures stands { IfOk result (λ r. StandsAt plan.now r (replicate (length plan.now.nodes) [])) }
         ensures bus { IfOk result (λ r. r.bus ≡ new_bus plan.now.strikes plan.now.bits (length plan.now.nodes)) }
     {
-        plan.limits();
         let nodes = plan.nodes() as u8;
         let script = script_of(alloc, plan)?;
         let bus = Bus::new(alloc, nodes, plan.bits(), script)?;
@@ -66,35 +63,5 @@ impl SerialRun {
             drivers,
             bits: 0,
         })
-    }
-
-    /// One turn of a node, counted from 0: so many steps of its driver, one after the other, or as many as it has left,
-    /// or up to one that has to wait. No bit is run, and what the driver gives is taken at once: the bus refuses no
-    /// item of it.
-    pub fn node_turn(&mut self, plan: &Plan, node: u8, count: u32)
-        requires run { IsRunOf plan.now self.old }
-        requires node { node < length plan.now.nodes }
-        ensures turn { (deeds : List (List Deed)) → StandsAt plan.now self.old deeds →
-            TakesTurn plan.now self.old self.new node count deeds }
-        ensures stays { IsRunOf plan.now self.new }
-    {
-        take_turn(
-            plan,
-            usize::from(node),
-            count,
-            self.bits,
-            &mut self.bus,
-            self.drivers.as_mut_slice(),
-            self.board.ports.as_mut_slice(),
-            self.links.as_mut_slice(),
-        );
-    }
-
-    /// What holds of the bus of every run without a fault, as of every bus. It does nothing: a caller calls it for its
-    /// contract.
-    pub(crate) fn keeps_its_laws(&self)
-        ensures { self.now.bus.fault ≡ None → IsBusRun self.now.bus.script self.now.bus.run self.now.bus.journals }
-    {
-        self.bus.keeps_its_laws();
     }
 }

@@ -15,17 +15,26 @@ loop-run-init c = record {
   );
 }
 
-pub returns-then-is_spent-clause-turn : goal.returns-then-is_spent-clause-turn
-returns-then-is_spent-clause-turn c = λ deeds h.
+pub returns-then-bits_left-eq0-clause-turn : goal.returns-then-bits_left-eq0-clause-turn
+returns-then-bits_left-eq0-clause-turn c = λ deeds h.
     let s = some_since c.args.plan.now deeds c.args.self.now c.run_busy_bits-run.new.self c.loop-run.self
     c.run_busy_bits-run.result c.loop-run.run h (c.run_busy_bits-run.ensures.bits deeds h) (c.loop-run.invariant.some deeds) in
-    let few = c.loop-run-test.true in
-    let yes : c.is_spent.result ≡ true = search rules in
+    let few = c.loop-run-test.true in let all = c.bits_left.ensures.left in
+    let none : c.bits_left.result ≡ 0 = search rules in
     bus_spent c.args.plan.now deeds c.args.self.now c.loop-run.self c.loop-run.run c.args.count (omega (arith, few))
-    (c.is_spent.ensures.spent yes) s
+    (omega (arith, all, none)) s
 
-pub returns-then-is_spent-clause-stays : goal.returns-then-is_spent-clause-stays
-returns-then-is_spent-clause-stays c =
+pub returns-then-bits_left-eq0-clause-stays : goal.returns-then-bits_left-eq0-clause-stays
+returns-then-bits_left-eq0-clause-stays c =
+    let h = c.requires.run in (
+      h.0,
+      (some_since c.args.plan.now h.0 c.args.self.now c.run_busy_bits-run.new.self c.loop-run.self
+          c.run_busy_bits-run.result c.loop-run.run h.1 (c.run_busy_bits-run.ensures.bits h.0 h.1)
+          (c.loop-run.invariant.some h.0)).stands,
+    )
+
+pub bits_left-requires : goal.bits_left-requires
+bits_left-requires c =
     let h = c.requires.run in (
       h.0,
       (some_since c.args.plan.now h.0 c.args.self.now c.run_busy_bits-run.new.self c.loop-run.self

@@ -1,15 +1,23 @@
-use Rattle.sja_serial.specs.Bits.{SomeWorks}
+use Rattle.std.proofs.Common.{sym, subst}
+use Rattle.sja_serial.specs.Bits.{AllRestIn, SomeWorks}
+use Rattle.sja_serial.specs.Serial.{SerialValue, StandsAt, run_now}
 use Rattle.sja_serial.proofs.GoingOn.{stands_bits}
 use Rattle.sja_serial.proofs.SomeBits.{all_rest, some_works, rest_so}
 use Rattle.sja_serial.proofs.serial_run.SerialRun.rest_turn.Goals as goal
 
 pub returns-clause-turn : goal.returns-clause-turn
 returns-clause-turn c = λ deeds h.
-    let n = c.run_busy_bits.new.self in let t = c.run_busy_bits.ensures.bits deeds h in
-    let s = stands_bits c.args.plan.now deeds (SomeWorks c.args.plan.now) c.args.self.now n c.run_busy_bits.result t h in
-    rest_so c.args.plan.now deeds c.args.self.now n c.run_busy_bits.result c.bits.result c.rests.result h t
-    c.bits.ensures.value c.run_busy_bits.ensures.whole (λ yes. all_rest c.args.plan.now n deeds s (c.rests.ensures.rest s.right yes))
-    (λ no. some_works c.args.plan.now n deeds s (c.rests.ensures.busy s.right no))
+    let plan = c.args.plan.now in let n = c.run_busy_bits.new.self in let b = c.self.inside in
+    let t = c.run_busy_bits.ensures.bits deeds h in
+    let now = run_now b.bus b.drivers.items b.board.ports.items b.links.items b.bits in
+    let s : StandsAt plan now deeds = subst (λ (x : SerialValue). StandsAt plan x deeds) (sym c.self.view_is)
+    (stands_bits plan deeds (SomeWorks plan) c.args.self.now n c.run_busy_bits.result t h) in
+    rest_so plan deeds c.args.self.now n c.run_busy_bits.result c.bits.result c.at_rest.result h t
+    c.bits.ensures.value c.run_busy_bits.ensures.whole
+    (λ yes. subst (λ (x : SerialValue). AllRestIn plan x) c.self.view_is
+    (all_rest plan now deeds s (c.at_rest.ensures.rest s.right yes)))
+    (λ no. subst (λ (x : SerialValue). SomeWorks plan x) c.self.view_is
+    (some_works plan now deeds s (c.at_rest.ensures.busy s.right no)))
 
 pub returns-clause-stays : goal.returns-clause-stays
 returns-clause-stays c =

@@ -5,7 +5,7 @@ use Rattle.std.specs.Vec.{with_items}
 use Rattle.sja_serial.specs.Bits.{TakesAtOnce}
 use Rattle.sja_serial.specs.Serial.{SerialValue, StandsAt, run_now}
 use Rattle.sja_serial.proofs.AtOnce.{takes_at_once}
-use Rattle.sja_serial.proofs.Borrowed.{run_is, stands_there}
+use Rattle.sja_serial.proofs.Borrowed.{run_is, stands_there, lawful_there}
 use Rattle.sja_serial.proofs.Unstopped.{never_refused}
 use Rattle.sja_serial.proofs.serial_run.SerialRun.run_idle_bits.Goals as goal
 
@@ -21,9 +21,11 @@ returns c = λ deeds h.
     let stood : StandsAt c.args.plan.now r deeds = subst (λ (x : SerialValue). StandsAt c.args.plan.now x deeds)
     (sym was) h in
     let is : c.quiet_bits.result ≡ Ok many = search rules in
+    let lawful = lawful_there bus drivers ports c.as_mut_slice.result.now c.self.inside.links.items bits
+    c.args.self.now c.as_mut_slice.ensures.value c.self.view_is c.requires.lawful in
     let q = c.quiet_bits.ensures in let ok = c.in-Ok.ensures in
     let t : TakesAtOnce c.args.plan.now deeds r n most many = takes_at_once c.args.plan.now r n deeds stood ok.right
-    q.script q.nodes refl refl q.sames ok.kept (c.keeps_its_laws.ensures stood.right) c.keeps_its_facts.ensures
+    q.script q.nodes refl refl q.sames ok.kept lawful
     most many ok.most ok.bits.0 ok.bits.1 refl (λ zero. q.items (is ∙ ap (λ (x : ℕ). Ok x) zero))
     (λ zero. q.untold (is ∙ ap (λ (x : ℕ). Ok x) zero)) ok.stretch in
     let l : (with_items c.self.inside.links c.quiet_bits.new.links).items ≡ c.quiet_bits.new.links = with_items_is
@@ -39,6 +41,8 @@ unreachable-requires c =
     let b = c.self.inside in let slice = c.as_mut_slice.result.now in
     let there = stands_there b.bus b.drivers.items b.board.ports.items slice b.links.items b.bits c.args.self.now
     c.as_mut_slice.ensures.value c.self.view_is c.args.plan.now c.requires.run c.requires.left in
+    let lawful = lawful_there b.bus b.drivers.items b.board.ports.items slice b.links.items b.bits c.args.self.now
+    c.as_mut_slice.ensures.value c.self.view_is c.requires.lawful in
     never_refused c.args.plan.now (run_now b.bus b.drivers.items b.board.ports.items slice b.bits) there.0 there.1
-    there.2 (c.keeps_its_laws.ensures there.1.right) c.limits.ensures c.quiet_bits.new.self c.quiet_bits.new.links _
+    there.2 lawful c.requires.limits c.quiet_bits.new.self c.quiet_bits.new.links _
     (c.in-Err.ensures.reason there.1.right)

@@ -5,7 +5,7 @@ use Rattle.sja_bus.specs.Boards.{HasOrders}
 use Rattle.sja_serial.specs.Bits.{TakesBit}
 use Rattle.sja_serial.specs.Serial.{SerialValue, StandsAt, run_now}
 use Rattle.sja_serial.proofs.BitRun.{cuts_of, takes_bit}
-use Rattle.sja_serial.proofs.Borrowed.{run_is, stands_there}
+use Rattle.sja_serial.proofs.Borrowed.{run_is, stands_there, lawful_there}
 use Rattle.sja_serial.proofs.Unstopped.{never_stops}
 use Rattle.sja_serial.proofs.serial_run.SerialRun.run_one_bit.Goals as goal
 
@@ -22,7 +22,8 @@ returns c = λ deeds h.
     let b = c.in-Ok.ensures.bit in
     let t : TakesBit c.args.plan.now deeds r n = takes_bit c.args.plan.now r n deeds stood b.right b.keeps.script b.run
     b.left b.keeps.nodes refl refl b.keeps.others.0 b.kept b.keeps.sames b.bit
-    (cuts_of (c.keeps_its_laws.ensures stood.right)) c.keeps_its_facts.ensures in
+    (cuts_of (lawful_there bus drivers ports c.as_mut_slice.result.now c.self.inside.links.items bits
+    c.args.self.now c.as_mut_slice.ensures.value c.self.view_is c.requires.lawful)) in
     let l : (with_items c.self.inside.links c.bit.new.links).items ≡ c.bit.new.links = with_items_is
     c.self.inside.links c.bit.new.links (omega (arith, c.bit.auto.links, c.as_mut_slice.ensures.len)) in
     let after : n ≡ run_now c.bit.new.self drivers c.bit.new.board.ports.items
@@ -36,6 +37,8 @@ unreachable-requires c =
     let b = c.self.inside in let slice = c.as_mut_slice.result.now in
     let there = stands_there b.bus b.drivers.items b.board.ports.items slice b.links.items b.bits c.args.self.now
     c.as_mut_slice.ensures.value c.self.view_is c.args.plan.now c.requires.run c.requires.left in
+    let lawful = lawful_there b.bus b.drivers.items b.board.ports.items slice b.links.items b.bits c.args.self.now
+    c.as_mut_slice.ensures.value c.self.view_is c.requires.lawful in
     never_stops c.args.plan.now (run_now b.bus b.drivers.items b.board.ports.items slice b.bits) there.0 there.1
-    there.2 (c.keeps_its_laws.ensures there.1.right) c.limits.ensures (HasOrders b.board.ports.items) c.bit.new.self
+    there.2 lawful c.requires.limits (HasOrders b.board.ports.items) c.bit.new.self
     c.bit.new.links _ (c.in-Err.ensures.reason there.1.right)

@@ -1,0 +1,30 @@
+-- Registers that entries and deeds have led to: TBS is 1 in reset mode, and 0 as long as an abort stands.
+use Rattle.std.proofs.Common.{◌≡◌, ℕ, true, false, List, [], ◌∷◌, ◌++◌, refl, sym, subst, append_assoc, append-nil}
+use Rattle.sja_link.specs.declared.entry.Entry.{Entry}
+use Rattle.sja_link.specs.Picking.{EachAfter}
+use Rattle.sja_regs.specs.declared.registers.Registers.{Registers}
+use Rattle.sja_driver.specs.Deeds.{Deed, FitsState, is_active, opened_by}
+use Rattle.sja_driver.proofs.Registers.TbsAndAbort.{TbsIsRight, tbs_after_step, tbs_after_turn}
+use Rattle.sja_log.specs.Registering.{LeadTo, seen_now}
+use Rattle.sja_log.specs.Registering.LeadTo.{power_on, step, bit}
+
+-- what holds of each element holds of those before the last one, and of that
+each_front : {X : Type 0} (P : List X → X → Type 0) (before xs : List X) (x : X) →
+    EachAfter P before (xs ++ x ∷ []) → EachAfter P before xs × P (before ++ xs) x
+each_front P before [] x h = (tt, subst (λ l. P l x) (sym (append-nil before)) h.0)
+each_front P before (y ∷ xs) x h =
+    let rest = each_front P (before ++ y ∷ []) xs x h.1 in
+    ((h.0, rest.0), subst (λ l. P l x) (append_assoc before (y ∷ []) xs) rest.1)
+
+pub tbs_right : (version : ℕ) (j : List Entry) (deeds : List Deed) (p : Registers) → LeadTo version j deeds p →
+    EachAfter (λ before (d : Deed). FitsState (is_active before) (opened_by before) d.step d.answer) [] deeds →
+    TbsIsRight p
+tbs_right version j deeds p power_on fits = record { in_reset = λ e. refl; in_abort = λ e. absurd cc }
+tbs_right version k deeds q (step j _ before d p _ lead now tells gave whole left) fits =
+    let each = each_front (λ b (x : Deed). FitsState (is_active b) (opened_by b) x.step x.answer) [] before d fits in
+    subst (λ (r : Registers). TbsIsRight r) (sym left)
+    (tbs_after_step p (opened_by before) d.step d.answer (is_active before) (seen_now (is_active before) j before)
+    each.1 tells (tbs_right version j before p lead each.0))
+tbs_right version k deeds q (bit j _ _ p _ lead is) fits =
+    subst (λ (r : Registers). TbsIsRight r) (sym is.told)
+    (tbs_after_turn p is.turn (tbs_right version j deeds p lead fits))

@@ -1,0 +1,13 @@
+use Rattle.std.proofs.Common.{◌≡◌, ◌≤◌, ◌++◌, length, take, drop, vec_capacity}
+use Rattle.sja_link.specs.Lists.{messages}
+use Rattle.sja_log.proofs.activation_logs.unread_on.Given as goal
+
+abbrev pub invariant-loop-message : goal.invariant-loop-message
+invariant-loop-message l = record {
+  items : l.list.items ≡ take l.message-index l.held;
+  room : length l.held ≤ vec_capacity l.list;
+}
+
+-- what was gathered, and the items that are left, are the whole
+abbrev pub invariant-loop-place : goal.invariant-loop-place
+invariant-loop-place l = l.list.items ++ messages (drop l.place l.left_down) ≡ l.held ++ messages l.left_down

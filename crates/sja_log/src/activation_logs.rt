@@ -1,0 +1,111 @@
+//! What became of each activation of a node, as the log of a run has it.
+
+ghost use Rattle.std.specs.Prelude.{◌≡◌, ◌+◌, ◌<◌, ◌≤◌, ◌++◌, length, IfOk};
+ghost use Rattle.sja_link.specs.Lists.{messages};
+ghost use Rattle.sja_driver.specs.AnyDrivers.{opened_of};
+ghost use Rattle.sja_driver.specs.LoggedDrivers.{driver_of, ended_of, IsLawful};
+ghost use Rattle.sja_driver.specs.Logs.{released_of};
+ghost use Rattle.sja_log.specs.Finishing.{held_after, activation_after, AreActivations};
+
+use super::activation_log::ActivationLog;
+use super::left_down::LeftDown;
+use can_frame::{Message, OutOfMemory};
+use sja_driver::{LoggedDriver, Release};
+use sja_link::Down;
+use std::alloc::Global;
+
+/// What became of each activation that a driver started; what lay on its eight links begins at this place.
+///
+/// Error: [`OutOfMemory`] where memory was refused.
+pub(crate) fn activation_logs(
+    alloc: Global,
+    driver: &LoggedDriver,
+    lists: &[LeftDown],
+    base: usize,
+) -> Result<Vec<ActivationLog>, OutOfMemory>
+    requires lawful { IsLawful driver.now }
+    requires lists { base + 8 ≤ length lists.now }
+    ensures { IfOk result (λ logs.
+        AreActivations driver.now lists.now base (opened_of (driver_of driver.now)) logs.items) }
+{
+    let count = driver.activation();
+    let mut logs = Vec::with_capacity(alloc, usize::from(count))?;
+    for ended in 0..count {
+        let left_down = &lists[base + usize::from(ended)];
+        logs.push_reserved(activation_log(alloc, driver, left_down, ended)?);
+    }
+    Ok(logs)
+}
+
+/// What became of the activation after so many, on whose link this lay.
+///
+/// Error: [`OutOfMemory`] where memory was refused.
+fn activation_log(
+    alloc: Global,
+    driver: &LoggedDriver,
+    left_down: &LeftDown,
+    ended: u8,
+) -> Result<ActivationLog, OutOfMemory>
+    requires ended { ended ≤ ended_of driver.now }
+    requires few { ended < 8 }
+    ensures { IfOk result (λ log. log ≡ activation_after driver.now left_down.now ended) }
+{
+    let released = released_in(alloc, driver.log().released(), ended + 1)?;
+    let unread = unread_on(alloc, held_in(driver, usize::from(ended)), left_down)?;
+    Ok(ActivationLog::of(released, unread))
+}
+
+/// The messages that were released in an activation, 1 to 8.
+///
+/// Error: [`OutOfMemory`] where memory was refused.
+fn released_in(
+    alloc: Global,
+    releases: &[Release],
+    activation: u8,
+) -> Result<Vec<Message>, OutOfMemory>
+    ensures { IfOk result (λ list. list.items ≡ released_of releases.now activation) }
+{
+    let mut list = Vec::new(alloc);
+    for release in releases {
+        if release.activation == activation {
+            list.push(release.message.copy())?;
+        }
+    }
+    Ok(list)
+}
+
+/// These messages, and then those that lay on the link.
+///
+/// Error: [`OutOfMemory`] where memory was refused.
+fn unread_on(
+    alloc: Global,
+    held: &[Message],
+    left_down: &LeftDown,
+) -> Result<Vec<Message>, OutOfMemory>
+    ensures { IfOk result (λ list. list.items ≡ held.now ++ messages left_down.now) }
+{
+    let mut list = Vec::with_capacity(alloc, held.len())?;
+    for message in held {
+        list.push_reserved(message.copy());
+    }
+    let down = left_down.items();
+    for place in 0..down.len() {
+        if let Down::Message(message) = &down[place] {
+            list.push(message.copy())?;
+        }
+    }
+    Ok(list)
+}
+
+/// The messages that a driver holds, or held at the end, in the activation after so many.
+fn held_in(driver: &LoggedDriver, ended: usize) -> &[Message]
+    requires { ended ≤ ended_of driver.now }
+    ensures { result.now ≡ held_after driver.now ended }
+{
+    let left = driver.log().left();
+    if ended < left.len() {
+        left[ended].unread()
+    } else {
+        driver.unread()
+    }
+}

@@ -1,0 +1,61 @@
+//! The turns of a node: steps of its driver, each with the taking of what it gave.
+
+use super::serial_run::SerialRun;
+use sja_link::first_link;
+use sja_plan::Plan;
+
+impl SerialRun {
+    ghost use Rattle.std.specs.Prelude.{◌≡◌, ◌<◌, List, [], ◌∷◌, true, false, length};
+    ghost use Rattle.sja_driver.specs.Deeds.{Deed};
+    ghost use Rattle.sja_serial.specs.Serial.{StandsAt, IsRunOf, NodeDoes, CannotStep, TakesTurn};
+
+    /// One turn of a node, counted from 0: so many steps of its driver, one after the other, or as many as it has left,
+    /// or up to one that has to wait. No bit is run, and what the driver gives is taken at once: the bus refuses no
+    /// item of it.
+    pub fn node_turn(&mut self, plan: &Plan, node: u8, count: u32)
+        requires run { IsRunOf plan.now self.old }
+        requires node { node < length plan.now.nodes }
+        ensures turn { (deeds : List (List Deed)) → StandsAt plan.now self.old deeds →
+            TakesTurn plan.now self.old self.new node count deeds }
+        ensures stays { IsRunOf plan.now self.new }
+    {
+        for _ in 0..count {
+            if !self.try_next(plan, node) {
+                return;
+            }
+        }
+    }
+
+    /// Tries the next step of a node's driver, and takes what it gave: the bus refuses no item of it. It says whether
+    /// the step is done; else there is none left, or it has to wait.
+    fn try_next(&mut self, plan: &Plan, node: u8) -> bool
+        requires run { IsRunOf plan.now self.old }
+        requires node { node < length plan.now.nodes }
+        ensures done { result ≡ true → (deeds : List (List Deed)) → StandsAt plan.now self.old deeds →
+            (d : Deed) × NodeDoes plan.now self.old self.new node deeds (d ∷ []) }
+        ensures waits { result ≡ false → (deeds : List (List Deed)) → StandsAt plan.now self.old deeds →
+            NodeDoes plan.now self.old self.new node deeds [] × CannotStep plan.now self.new deeds node }
+    {
+        let index = usize::from(node);
+        let steps = plan.steps(index);
+        let next = self.drivers[index].log().done().len();
+        if next >= steps.len() {
+            return false;
+        }
+        // What holds of every bus: of a journal as it has them no item of its driver is refused.
+        self.bus.keeps_its_laws();
+        let links = self.links.as_mut_slice();
+        let port = &mut self.board.ports[index];
+        let done = self.drivers[index].step(
+            links,
+            first_link(index),
+            port,
+            &steps[next],
+            self.bits,
+        );
+        match self.bus.gather(links) {
+            Ok(()) => done,
+            Err(_) => unreachable!(),
+        }
+    }
+}

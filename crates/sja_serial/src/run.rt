@@ -1,0 +1,70 @@
+//! [`run_serial`]: a whole run in one thread.
+
+ghost use Rattle.std.specs.Prelude.{◌≡◌, ◌<◌, ℕ, List, [], length, replicate, slice_index_or, IfOk, IfErr};
+ghost use Rattle.sja_bus.specs.Buses.{new_bus};
+ghost use Rattle.sja_driver.specs.Deeds.{Deed};
+ghost use Rattle.sja_plan.specs.Plan.{NamesNode};
+ghost use Rattle.sja_log.specs.Headline.{IsAccount};
+ghost use Rattle.sja_log.specs.Log.{NodeValue};
+ghost use Rattle.sja_log.specs.Runs.{IsSerialRun};
+ghost use Rattle.sja_log.specs.declared.run_fault.RunFault.TheVariants.{Memory};
+ghost use Rattle.sja_serial.specs.Ending.{TakesTurns, TakesOne};
+ghost use Rattle.sja_serial.specs.Serial.{StandsAt, IsRunOf};
+
+use super::serial_run::SerialRun;
+use sja_log::{End, RunFault, RunLog};
+use sja_plan::{Plan, Turn};
+use std::alloc::Global;
+
+/// Runs a plan in one thread, and gives the log of the run.
+///
+/// What each driver released in an activation, followed by what it left unread, is, in order and each once, the frames
+/// its controller validly received and its filter passed, less those marked overrun; and a frame is marked overrun
+/// exactly where it is longer than 64 less the bytes stored and not yet collected back. What each node saw in each bit
+/// is what all drove together, or the other level where the plan's faults strike it. Each item was taken after just the
+/// bits before its step, each step saw all that had been put by then, and bits and steps follow the turns of the plan.
+/// Each step is answered by the registers that the steps and bits before it have left, from power-on in the plan's
+/// version: in each bit an abort that stands is applied, and the port is told what the bit brought.
+///
+/// Error: [`RunFault::Memory`] where memory was refused.
+pub fn run_serial(alloc: Global, plan: &Plan) -> Result<RunLog, RunFault>
+    ensures run { IfOk result (λ log. IsSerialRun plan.now log) }
+    ensures headline { IfOk result (λ log. (k : ℕ) (d : NodeValue) → k < length log.nodes →
+        IsAccount (slice_index_or log.nodes k d)) }
+    ensures memory { IfErr result (λ f. f ≡ Memory) }
+{
+    let mut run = SerialRun::new(alloc, plan)?;
+    let end = take_turns(&mut run, plan);
+    Ok(run.finish(alloc, plan, end)?)
+}
+
+/// Takes the turns of a plan, one after the other, and says why the run ends: all are done, or the bits were spent.
+fn take_turns(run: &mut SerialRun, plan: &Plan) -> End
+    requires stands { StandsAt plan.now run.old (replicate (length plan.now.nodes) []) }
+    requires bus { run.old.bus ≡ new_bus plan.now.strikes plan.now.bits (length plan.now.nodes) }
+    ensures { TakesTurns plan.now run.new result }
+{
+    for turn in plan.turns() {
+        if !take_one(run, plan, turn) {
+            return End::Bits;
+        }
+    }
+    End::Turns
+}
+
+/// Takes one turn. It says whether all of it was taken; else the bits are spent.
+fn take_one(run: &mut SerialRun, plan: &Plan, turn: &Turn) -> bool
+    requires run { IsRunOf plan.now run.old }
+    requires names { NamesNode (length plan.now.nodes) turn.now }
+    ensures { (deeds : List (List Deed)) → StandsAt plan.now run.old deeds →
+        TakesOne plan.now deeds run.old run.new turn.now result }
+{
+    match *turn {
+        Turn::Node(node, count) => {
+            run.node_turn(plan, node, count);
+            true
+        }
+        Turn::Bus(count) => run.bus_turn(plan, count),
+        Turn::Rest => run.rest_turn(plan),
+    }
+}
