@@ -2,6 +2,7 @@
 
 ghost use Rattle.std.specs.Prelude.{◌≡◌};
 ghost use Rattle.rtrb.specs.Ring.{consumer_capacity};
+ghost use Rattle.sja_link.specs.declared.sizes.TheConstants.{ITEMS_UP};
 
 use rtrb::{Consumer, Finished};
 use sja_link::{Down, Up};
@@ -13,7 +14,7 @@ use sja_link::{Down, Up};
 pub struct EndedBus {
     pub(crate) note: Option<Finished<Down>>,
     pub(crate) up: Consumer<Up>,
-    ghost size: { consumer_capacity up ≡ 24 },
+    ghost size: { consumer_capacity up ≡ ITEMS_UP },
 }
 
 impl EndedBus {
@@ -21,6 +22,7 @@ impl EndedBus {
     ghost use Rattle.sja_rings.specs.Ended.{HasBusNote};
 
     /// Whether the ring down gave its closing note. It gives none where the driver's end is gone already.
+    /// [`settle`](crate::settle) looks itself, so tests alone ask.
     pub fn has_note(&self) -> bool
         ensures { IsTrue result ↔ HasBusNote self.now }
     {

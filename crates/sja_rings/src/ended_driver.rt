@@ -2,6 +2,7 @@
 
 ghost use Rattle.std.specs.Prelude.{◌≡◌};
 ghost use Rattle.rtrb.specs.Ring.{consumer_capacity};
+ghost use Rattle.sja_link.specs.declared.sizes.TheConstants.{ITEMS_DOWN};
 
 use rtrb::{Consumer, Finished};
 use sja_link::{Down, Up};
@@ -13,7 +14,7 @@ use sja_link::{Down, Up};
 pub struct EndedDriver {
     pub(crate) down: Consumer<Down>,
     pub(crate) note: Option<Finished<Up>>,
-    ghost size: { consumer_capacity down ≡ 22 },
+    ghost size: { consumer_capacity down ≡ ITEMS_DOWN },
 }
 
 impl EndedDriver {
@@ -21,6 +22,7 @@ impl EndedDriver {
     ghost use Rattle.sja_rings.specs.Ended.{HasDriverNote};
 
     /// Whether the ring up gave its closing note. It gives none where the bus's end is gone already.
+    /// [`settle`](crate::settle) looks itself, so tests alone ask.
     pub fn has_note(&self) -> bool
         ensures { IsTrue result ↔ HasDriverNote self.now }
     {

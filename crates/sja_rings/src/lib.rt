@@ -10,22 +10,22 @@
 
 mod ended_bus;
 mod ended_driver;
-mod ending;
+mod last_acts;
 mod laws;
-mod pairing;
+mod left_on_link;
+mod pair;
 mod ring_bus;
 mod ring_driver;
 mod settled;
-mod settling;
 mod unsettled;
 
 pub use ended_bus::EndedBus;
 pub use ended_driver::EndedDriver;
-pub use ending::{end_bus, end_driver};
+pub use last_acts::{end_bus, end_driver};
 pub use laws::{ends_of_one_pair_can_be_settled, the_first_items_never_come_back};
-pub use pairing::ring_pair;
+pub use left_on_link::settle;
+pub use pair::ring_pair;
 pub use ring_bus::RingBus;
 pub use ring_driver::RingDriver;
 pub use settled::Settled;
-pub use settling::settle;
 pub use unsettled::Unsettled;

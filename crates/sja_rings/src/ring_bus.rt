@@ -2,6 +2,7 @@
 
 ghost use Rattle.std.specs.Prelude.{◌≡◌};
 ghost use Rattle.rtrb.specs.Ring.{producer_capacity, consumer_capacity};
+ghost use Rattle.sja_link.specs.declared.sizes.TheConstants.{ITEMS_DOWN, ITEMS_UP};
 
 use rtrb::{Consumer, Producer, PushError};
 use sja_link::{BusEnd, Down, LinkId, Up};
@@ -15,7 +16,7 @@ pub struct RingBus {
     pub(crate) id: LinkId,
     pub(crate) down: Producer<Down>,
     pub(crate) up: Consumer<Up>,
-    ghost sizes: { (producer_capacity down ≡ 22) × (consumer_capacity up ≡ 24) },
+    ghost sizes: { (producer_capacity down ≡ ITEMS_DOWN) × (consumer_capacity up ≡ ITEMS_UP) },
 }
 
 impl BusEnd for RingBus {

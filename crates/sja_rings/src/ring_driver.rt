@@ -2,6 +2,7 @@
 
 ghost use Rattle.std.specs.Prelude.{◌≡◌};
 ghost use Rattle.rtrb.specs.Ring.{producer_capacity, consumer_capacity};
+ghost use Rattle.sja_link.specs.declared.sizes.TheConstants.{ITEMS_DOWN, ITEMS_UP};
 
 use rtrb::{Consumer, Producer, PushError};
 use sja_link::{Down, DriverEnd, LinkId, Up};
@@ -15,7 +16,7 @@ pub struct RingDriver {
     pub(crate) id: LinkId,
     pub(crate) down: Consumer<Down>,
     pub(crate) up: Producer<Up>,
-    ghost sizes: { (consumer_capacity down ≡ 22) × (producer_capacity up ≡ 24) },
+    ghost sizes: { (consumer_capacity down ≡ ITEMS_DOWN) × (producer_capacity up ≡ ITEMS_UP) },
 }
 
 impl DriverEnd for RingDriver {

@@ -12,7 +12,7 @@ use super::settled::Settled;
 use super::unsettled::Unsettled;
 use arrayvec::ArrayVec;
 use rtrb::{Consumer, Finished};
-use sja_link::{Down, Up};
+use sja_link::{Down, ITEMS_DOWN, ITEMS_UP, Up};
 
 /// What was left on a link, once both ends have done their last act: what was got and then this is what was put, and
 /// what was taken and then this is what was given. Both ends come from one [`ring_pair`](crate::ring_pair), and may
@@ -39,8 +39,8 @@ pub fn settle(bus: EndedBus, driver: EndedDriver) -> Result<Settled, Unsettled>
         return Err(Unsettled);
     };
     Ok(Settled {
-        down: left::<Down, 22>(down, down_note),
-        up: left::<Up, 24>(up, up_note),
+        down: left::<Down, ITEMS_DOWN>(down, down_note),
+        up: left::<Up, ITEMS_UP>(up, up_note),
     })
 }
 

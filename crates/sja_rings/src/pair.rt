@@ -1,4 +1,4 @@
-//! Making a link of two rings.
+//! The two ends of a link of two rings, as they are made.
 
 ghost use Rattle.std.specs.Prelude.{◌≡◌, IfOk};
 ghost use Rattle.sja_link.specs.Lists.{nothing_yet};
@@ -8,14 +8,8 @@ use super::ring_bus::RingBus;
 use super::ring_driver::RingDriver;
 use can_frame::OutOfMemory;
 use rtrb::RingBuffer;
-use sja_link::LinkId;
+use sja_link::{ITEMS_DOWN, ITEMS_UP, LinkId};
 use std::alloc::Global;
-
-/// The places of the ring down: 21 messages and bus-off.
-const DOWN: usize = 22;
-
-/// The places of the ring up: a start, 21 credits, a request and a stop.
-const UP: usize = 24;
 
 /// The two ends of one link, with nothing on it. All its room is made here.
 ///
@@ -25,11 +19,11 @@ pub fn ring_pair(alloc: Global, id: LinkId) -> Result<(RingBus, RingDriver), Out
     ensures one { IfOk result (λ r. OneLink r.0 r.1) }
     ensures bus { IfOk result (λ r. BusLists r.0 nothing_yet) }
     ensures driver { IfOk result (λ r. DriverLists r.1 nothing_yet) }
-    ensures down { IfOk result (λ r. places_down r.0 ≡ 22) }
-    ensures up { IfOk result (λ r. places_up r.1 ≡ 24) }
+    ensures down { IfOk result (λ r. places_down r.0 ≡ ITEMS_DOWN) }
+    ensures up { IfOk result (λ r. places_up r.1 ≡ ITEMS_UP) }
 {
-    let (bus_down, driver_down) = RingBuffer::new(alloc, DOWN)?;
-    let (driver_up, bus_up) = RingBuffer::new(alloc, UP)?;
+    let (bus_down, driver_down) = RingBuffer::new(alloc, ITEMS_DOWN)?;
+    let (driver_up, bus_up) = RingBuffer::new(alloc, ITEMS_UP)?;
     let bus = RingBus {
         id,
         down: bus_down,
