@@ -1,6 +1,13 @@
--- How the code keeps a run in threads.
-pub mod Underway
+-- How the code keeps a run in threads: definitions of the private contracts alone.
+-- ---- a driver in its thread
+pub mod Steps
+-- ---- the beginning of a run
 pub mod Making
 pub mod Started
 pub mod Promised
+-- ---- the bus beside its drivers, and after them
+pub mod Rounds
 pub mod JoinedRun
+-- ---- the end of a run
+pub mod Ended
+pub mod Settling

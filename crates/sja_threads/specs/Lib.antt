@@ -4,9 +4,7 @@ pub mod Working
 -- ---- a whole run
 pub mod Needed
 pub mod Stopping
-pub mod Threads
-pub mod Ended
 pub mod Linked
-pub mod Settling
+pub mod Threads
 -- ---- how the code keeps a run: definitions of the private contracts alone
 pub mod Inside

@@ -1,40 +1,16 @@
 -- What a driver in a thread of its own did (this project's own rule).
-use Rattle.std.specs.Prelude.{◌≡◌, ◌≤◌, ◌<◌, ◌+◌, ◌++◌, ℕ, suc, List, [], length, map, slice_index_or}
-use Rattle.sja_link.specs.declared.link_id.LinkId.{LinkId}
+use Rattle.std.specs.Prelude.{◌≡◌, ◌<◌, ◌+◌, ℕ, suc, List, [], slice_index_or}
 use Rattle.sja_link.specs.declared.entry.Entry.{Entry}
 use Rattle.sja_link.specs.Accounts.{account}
 use Rattle.sja_link.specs.Lists.{Lists}
-use Rattle.sja_link.specs.Related.{EachRelated}
 use Rattle.sja_regs.specs.DriverSettings.{SettingsValue}
 use Rattle.sja_script.specs.declared.step.Step.{Step}
-use Rattle.sja_driver.specs.declared.logged_driver.LoggedDriver.{LoggedDriver}
 use Rattle.sja_driver.specs.Deeds.{Deed, AreDeeds}
-use Rattle.sja_driver.specs.Holding.{Goes, HoldsBy, NumberedFrom}
+use Rattle.sja_driver.specs.Holding.{HoldsBy}
 use Rattle.sja_driver.specs.LoggedDrivers.{node_of, driver_of, log_of, IsLawful}
-use Rattle.sja_driver.specs.Logs.{HasRoom, Traces}
+use Rattle.sja_driver.specs.Logs.{Traces}
 use Rattle.sja_threads.specs.declared.worked.Worked.{Worked}
 use Rattle.sja_threads.specs.Setting.{LeadToSettings}
-
--- a driver may do so many steps more: its log has room for them, and its ends are those of its node's eight links
-pub record MayWork {E : Type 0} (link : E → LinkId) (driver : LoggedDriver) (links : List E) (steps : ℕ) : Type 0 where
-  pub lawful : IsLawful driver
-  pub room : HasRoom steps (log_of driver)
-  pub eight : 8 ≤ length links
-  pub ids : NumberedFrom link links 0 (node_of driver)
-
--- a driver did these steps, each once and in this order: there are deeds of them, and with these its log and its ends
--- went on, for all deeds before and for all journals, and so did what it has set; its ends are the same ones, and it
--- may do as many more as it had left
-pub record DoesSteps {E : Type 0} (link : E → LinkId) (same : E → E → Type 0) (stands : E → Lists → Type 0)
-    (was now : LoggedDriver) (set set_now : SettingsValue) (links links_now : List E) (steps : List Step) : Type 0 where
-  pub deeds : List Deed
-  pub are : map (λ (d : Deed). d.step) deeds ≡ steps
-  pub goes : Goes stands (driver_of was) (driver_of now) (log_of was) (log_of now) links links_now 0 deeds
-  pub leads : (first : SettingsValue) (before : List Deed) → Traces (driver_of was) (log_of was) before →
-      LeadToSettings first before set → LeadToSettings first (before ++ deeds) set_now
-  pub sames : EachRelated same links links_now
-  pub node : node_of now ≡ node_of was
-  pub able : (n : ℕ) → MayWork link was links (length steps + n) → MayWork link now links_now n
 
 -- nothing was got or given on the links of a node, from this place on: they stand for the parts of its journal alone
 abbrev pub AreUntouched : {E : Type 0} → (E → Lists → Type 0) → List Entry → List E → ℕ → Type 0

@@ -1,7 +1,7 @@
 //! [`DriversAndEnds`]: what the drivers of all nodes handed back, drivers and ends apart.
 
 ghost use Rattle.std.specs.Prelude.{◌≡◌, IfOk};
-ghost use Rattle.sja_threads.specs.Settling.{all_drivers, all_ends};
+ghost use Rattle.sja_threads.specs.Inside.Settling.{all_drivers, all_ends};
 
 use super::worked::Worked;
 use can_frame::OutOfMemory;

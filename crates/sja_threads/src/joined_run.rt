@@ -1,16 +1,37 @@
-//! [`JoinedRun`]: a run once all its drivers' threads are joined.
+//! [`JoinedRun`]: a run once all its drivers' threads are joined, and how they are.
 
+ghost use Rattle.std.specs.Prelude.{◌≡◌, ◌≤◌, [], map, vec_len, vec_capacity};
+ghost use Rattle.sja_link.specs.Related.{EachRelated};
+ghost use Rattle.sja_threads.specs.Inside.Promised.{IsPromised};
+
+use super::bus_thread::BusThread;
+use super::gate::Gate;
+use super::thread_promise::Child;
 use super::worked::Worked;
-use sja_bus::Bus;
-use sja_rings::{RingBus, RingDriver};
+use sja_rings::RingDriver;
+use std::thread::Threads;
 
-/// A run once all its drivers' threads are joined (this project's own rule): the bus, its ends of all links, what each
-/// driver handed back, how many bits were run, and whether they are spent.
+/// A run once all its drivers' threads are joined (this project's own rule): the bus, and what each driver handed back,
+/// by node.
 #[derive(Drop)]
 pub(crate) struct JoinedRun {
-    pub(crate) bus: Bus,
-    pub(crate) links: Vec<RingBus>,
+    pub(crate) bus: BusThread,
     pub(crate) workeds: Vec<Worked<RingDriver>>,
-    pub(crate) run: u32,
-    pub(crate) spent: bool,
+}
+
+/// Joins the threads of all drivers, and gives what each handed back, in order.
+pub(crate) fn join_all<G: Gate, R: Threads>(
+    rt: &R,
+    children: Vec<Child<G>>,
+    workeds: Vec<Worked<RingDriver>>,
+) -> Vec<Worked<RingDriver>>
+    requires room { vec_len children ≤ vec_capacity workeds }
+    requires none { workeds.items ≡ [] }
+    ensures { EachRelated (IsPromised G.QUITS) (map (λ child. child.promise) children.items) result.items }
+{
+    let mut workeds = workeds;
+    for child in children {
+        workeds.push_reserved(child.join(rt));
+    }
+    workeds
 }

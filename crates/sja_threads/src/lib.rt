@@ -14,31 +14,28 @@
 //! `run_threads` alone takes memory, none of it for a bit. The tests stand in `crates/test_runs`.
 #![tactic(auto)]
 
+mod bus_thread;
+mod driver_thread;
 mod drivers_and_ends;
-mod finishing;
 mod gate;
 mod joined_run;
 mod laws;
+mod left_on_links;
 mod lock_board;
-mod looping;
-mod making;
-mod moving;
 mod pass;
+mod round;
+mod run;
+mod run_end;
 mod run_parts;
-mod running;
-mod settling;
-mod starting;
 mod thread_promise;
 mod thread_start;
-mod waiting;
-mod watching;
+mod waits;
 mod worked;
-mod working;
 
+pub use driver_thread::work;
 pub use gate::Gate;
 pub use laws::a_driver_in_reset_finds_reset_mode;
 pub use lock_board::LockBoard;
 pub use pass::Pass;
-pub use running::run_threads;
+pub use run::run_threads;
 pub use worked::Worked;
-pub use working::work;

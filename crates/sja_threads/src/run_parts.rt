@@ -1,30 +1,36 @@
-//! [`RunParts`]: all that a run in threads begins with beside the ports.
+//! [`RunParts`]: all that a run in threads begins with beside the ports; and the ports.
 
+ghost use Rattle.std.specs.Prelude.{◌≡◌, ◌+◌, ◌*◌, ◌<◌, ℕ, [], length, slice_index_or, vec_len, OnOk, IfOk};
+ghost use Rattle.sja_rings.specs.declared.ring_bus.RingBus.{RingBus as BusEnd};
+ghost use Rattle.sja_threads.specs.Inside.Making.{AreNewEnds, AreMade};
+
+use super::bus_thread::BusThread;
 use super::gate::Gate;
-use super::making::hands_of;
 use super::thread_promise::Child;
 use super::thread_start::ThreadStart;
 use super::worked::Worked;
 use can_frame::OutOfMemory;
 use sja_bus::Bus;
+use sja_driver::WorkLog;
+use sja_link::{LINKS_PER_NODE, LinkId};
 use sja_log::script_of;
 use sja_plan::Plan;
-use sja_rings::{RingBus, RingDriver};
+use sja_regs::Port;
+use sja_rings::{RingBus, RingDriver, ring_pair};
 use std::alloc::Global;
+use std::sync::Mutex;
 
-/// All that a run in threads begins with beside the ports (this project's own rule): the bus and its ends of all links,
-/// what each driver's thread begins with, and room for the threads and for what they hand back.
+/// All that a run in threads begins with beside the ports (this project's own rule): the bus with its ends of all
+/// links, what each driver's thread begins with, and room for the threads and for what they hand back.
 #[derive(Drop)]
 pub(crate) struct RunParts<G: Gate> {
-    pub(crate) bus: Bus,
-    pub(crate) links: Vec<RingBus>,
-    pub(crate) hands: Vec<ThreadStart<G>>,
+    pub(crate) bus: BusThread,
+    pub(crate) starts: Vec<ThreadStart<G>>,
     pub(crate) children: Vec<Child<G>>,
     pub(crate) workeds: Vec<Worked<RingDriver>>,
 }
 
 impl<G: Gate> RunParts<G> {
-    ghost use Rattle.std.specs.Prelude.{◌≡◌, length, vec_len, IfOk};
     ghost use Rattle.sja_threads.specs.Inside.Making.{AreRunParts};
 
     /// All of it for a run of this plan, with a gate for each node.
@@ -34,20 +40,99 @@ impl<G: Gate> RunParts<G> {
         requires { vec_len gates ≡ length plan.now.nodes }
         ensures { IfOk result (AreRunParts plan.now) }
     {
-        plan.limits();
         let nodes = plan.nodes();
         let script = script_of(alloc, plan)?;
         let bus = Bus::new(alloc, nodes as u8, plan.bits(), script)?;
         let mut links = Vec::new(alloc);
-        let hands = hands_of(alloc, plan, gates, &mut links)?;
+        let starts = starts_of(alloc, plan, gates, &mut links)?;
         let children = Vec::with_capacity(alloc, nodes)?;
         let workeds = Vec::with_capacity(alloc, nodes)?;
-        Ok(RunParts {
+        let bus = BusThread {
             bus,
             links,
-            hands,
+            run: 0,
+            spent: false,
+        };
+        Ok(RunParts {
+            bus,
+            starts,
             children,
             workeds,
         })
     }
+}
+
+/// What the thread of each driver begins with, and the gate that it asks. The bus's ends of all links are added to
+/// `buses`, eight a node, by node and activation.
+///
+/// Error: [`OutOfMemory`] where memory was refused.
+fn starts_of<G: Gate>(
+    alloc: Global,
+    plan: &Plan,
+    gates: Vec<G>,
+    buses: &mut Vec<RingBus>,
+) -> Result<Vec<ThreadStart<G>>, OutOfMemory>
+    requires gates { vec_len gates ≡ length plan.now.nodes }
+    requires none { buses.old.items ≡ [] }
+    ensures count { IfOk result (λ starts. length starts.items ≡ length plan.now.nodes) }
+    ensures links { OnOk result (length buses.new.items ≡ 8 * length plan.now.nodes) }
+    ensures made { IfOk result (λ starts.
+        AreMade plan.now (length plan.now.nodes) starts.items buses.new.items) }
+{
+    let mut starts = Vec::with_capacity(alloc, plan.nodes())?;
+    let mut node = 0u8;
+    for gate in gates {
+        let log = WorkLog::new(alloc, plan.steps(usize::from(node)).len() as u16)?;
+        let links = links_of(alloc, node, buses)?;
+        starts.push_reserved(ThreadStart {
+            node,
+            links,
+            log,
+            gate,
+        });
+        node += 1;
+    }
+    Ok(starts)
+}
+
+/// The driver's ends of a node's eight links, with nothing on them. The bus's ends are added to `buses`.
+///
+/// Error: [`OutOfMemory`] where memory was refused.
+fn links_of(
+    alloc: Global,
+    node: u8,
+    buses: &mut Vec<RingBus>,
+) -> Result<Vec<RingDriver>, OutOfMemory>
+    ensures eight { IfOk result (λ drivers. length drivers.items ≡ 8) }
+    ensures more { OnOk result (length buses.new.items ≡ length buses.old.items + 8) }
+    ensures others { OnOk result ((i : ℕ) (b : BusEnd) → i < length buses.old.items →
+        slice_index_or buses.new.items i b ≡ slice_index_or buses.old.items i b) }
+    ensures pairs { IfOk result (λ drivers.
+        AreNewEnds 8 node buses.new.items drivers.items (length buses.old.items)) }
+{
+    let mut drivers = Vec::with_capacity(alloc, LINKS_PER_NODE)?;
+    for place in 0..LINKS_PER_NODE {
+        let id = LinkId {
+            node,
+            activation: place as u8 + 1,
+        };
+        let (bus, driver) = ring_pair(alloc, id)?;
+        buses.push(bus)?;
+        drivers.push(driver)?;
+    }
+    Ok(drivers)
+}
+
+/// The ports of the plan's nodes, each behind its lock, in the plan's version of the rules.
+///
+/// Error: [`OutOfMemory`] where memory was refused.
+pub(crate) fn ports_of(alloc: Global, plan: &Plan) -> Result<Vec<Mutex<Port>>, OutOfMemory>
+    ensures { IfOk result (λ ports. length ports.items ≡ length plan.now.nodes) }
+{
+    let nodes = plan.nodes();
+    let mut ports = Vec::with_capacity(alloc, nodes)?;
+    for _ in 0..nodes {
+        ports.push_reserved(Mutex::new(Port::new(plan.version())));
+    }
+    Ok(ports)
 }

@@ -1,7 +1,24 @@
-//! [`ThreadStart`]: what the thread of a driver begins with.
+//! [`ThreadStart`]: what the thread of a driver begins with, and how the threads of all drivers are started.
 
-use sja_driver::WorkLog;
+ghost use Rattle.std.specs.Prelude.{◌≡◌, ◌≤◌, [], length, map, vec_len, vec_capacity, All, IfOk, IfErr};
+ghost use Rattle.sja_link.specs.Related.{EachRelated};
+ghost use Rattle.sja_log.specs.declared.run_fault.RunFault.TheVariants.{Thread};
+ghost use Rattle.sja_threads.specs.Inside.Started.{IsThreadStart, Serves};
+ghost use Rattle.sja_threads.specs.Inside.Promised.{IsFor};
+
+use super::driver_thread::DriverThread;
+use super::gate::Gate;
+use super::thread_promise::{Child, ThreadPromise};
+use super::worked::Worked;
+use sja_driver::{LoggedDriver, WorkLog};
+use sja_log::RunFault;
+use sja_plan::Plan;
+use sja_regs::{DriverSettings, Port};
 use sja_rings::RingDriver;
+use std::marker::PhantomData;
+use std::snapshot::Snapshot;
+use std::sync::{Mutex, Wait};
+use std::thread::{Scope, Threads};
 
 /// What the thread of a node's driver begins with (this project's own rule): its ends of the node's eight links, by
 /// activation, an empty log with room for all its steps, and the gate that it asks.
@@ -11,4 +28,93 @@ pub(crate) struct ThreadStart<G: Drop> {
     pub(crate) links: Vec<RingDriver>,
     pub(crate) log: WorkLog,
     pub(crate) gate: G,
+}
+
+/// The part of a driver, in its own thread. It begins with what is set after power-on, in the plan's version of the
+/// rules.
+fn serve<G: Gate>(
+    rt: &impl Wait,
+    plan: &Plan,
+    start: ThreadStart<G>,
+    port: &Mutex<Port>,
+) -> Worked<RingDriver>
+    requires { IsThreadStart plan.now start }
+    ensures { Serves G.QUITS plan.now start result }
+{
+    let ThreadStart {
+        node,
+        links,
+        log,
+        gate,
+    } = start;
+    let driver = LoggedDriver::new(node, log);
+    let set = DriverSettings::at_power_on(plan.version());
+    let thread = DriverThread {
+        node,
+        driver,
+        set,
+        links,
+    };
+    thread.follow(rt, port, plan.steps(usize::from(node)), gate)
+}
+
+/// Starts the thread of a driver.
+///
+/// Error: [`RunFault::Thread`] where no thread can be made.
+fn start_one<'s, E, G: Gate + 's, R: Threads + Wait + Sync>(
+    scope: &Scope<'s, E>,
+    rt: &'s R,
+    plan: &'s Plan,
+    start: ThreadStart<G>,
+    port: &'s Mutex<Port>,
+) -> Result<Child<G>, RunFault>
+    requires { IsThreadStart plan.now start }
+    ensures child { IfOk result (λ child. IsFor plan.now start child.promise) }
+    ensures fault { IfErr result (λ f. f ≡ Thread) }
+{
+    let promise = ThreadPromise {
+        plan: Snapshot::of(plan),
+        node: start.node,
+        links: Snapshot::of(&start.links),
+        gate: PhantomData,
+    };
+    match scope.spawn_with(
+        promise,
+        move || -> Worked<RingDriver>
+            requires { IsThreadStart plan.now start }
+            ensures { Serves G.QUITS plan.entry.now start result }
+        { serve(rt, plan, start, port) },
+    ) {
+        Ok(child) => Ok(child),
+        Err(_) => Err(RunFault::Thread),
+    }
+}
+
+/// Starts the threads of all drivers, in order.
+///
+/// Error: [`RunFault::Thread`] where no thread can be made; those that were started run on.
+pub(crate) fn start_all<'s, E, G: Gate + 's, R: Threads + Wait + Sync>(
+    scope: &Scope<'s, E>,
+    rt: &'s R,
+    plan: &'s Plan,
+    starts: Vec<ThreadStart<G>>,
+    ports: &'s [Mutex<Port>],
+    children: Vec<Child<G>>,
+) -> Result<Vec<Child<G>>, RunFault>
+    requires starts { All (IsThreadStart plan.now) starts.items }
+    requires ports { length ports.now ≡ vec_len starts }
+    requires room { vec_len starts ≤ vec_capacity children }
+    requires none { children.items ≡ [] }
+    ensures all { IfOk result (λ all.
+        EachRelated (IsFor plan.now) starts.items (map (λ child. child.promise) all.items)) }
+    ensures fault { IfErr result (λ f. f ≡ Thread) }
+{
+    let mut children = children;
+    let mut next = 0;
+    for start in starts {
+        let child = start_one(scope, rt, plan, start, &ports[next])?;
+        children.push_reserved(child);
+        next += 1;
+    }
+    Ok(children)
 }

@@ -1,13 +1,12 @@
 -- What a run in threads begins with.
-use Rattle.std.specs.Prelude.{◌≡◌, ◌≤◌, ◌+◌, ◌*◌, ◌<◌, ℕ, suc, List, [], length, slice_index_or, vec_capacity}
+use Rattle.std.specs.Prelude.{◌≡◌, ◌≤◌, ◌+◌, ◌*◌, ◌<◌, ℕ, suc, false, List, [], length, slice_index_or, vec_capacity}
 use Rattle.sja_link.specs.Lists.{nothing_yet}
 use Rattle.sja_rings.specs.declared.ring_bus.RingBus.{RingBus}
 use Rattle.sja_rings.specs.declared.ring_driver.RingDriver.{RingDriver}
 use Rattle.sja_rings.specs.Ends.{BusLists, DriverLists, OneLink, link_of_bus, link_of_driver}
-use Rattle.sja_plan.specs.Plan.{PlanValue}
+use Rattle.sja_plan.specs.Plan.{PlanValue, steps_at}
 use Rattle.sja_driver.specs.Logs.{HasRoom, IsEmpty}
 use Rattle.sja_bus.specs.Buses.{new_bus}
-use Rattle.sja_plan.specs.Plan.{steps_at}
 use Rattle.sja_threads.specs.declared.thread_start.ThreadStart.{ThreadStart}
 use Rattle.sja_threads.specs.declared.run_parts.RunParts.{RunParts}
 
@@ -29,23 +28,25 @@ pub record AreNewEnds (count node : ℕ) (buses : List RingBus) (drivers : List 
 
 -- what the thread of a node's driver begins with: its ends of the node's eight links, and an empty log with room for
 -- all its steps
-pub record IsMade {G : Type 0} (plan : PlanValue) (node : ℕ) (h : ThreadStart G) (buses : List RingBus) : Type 0 where
-  pub own : h.node ≡ node
-  pub empty : IsEmpty h.log
-  pub room : HasRoom (length (steps_at plan node)) h.log
-  pub eight : length h.links.items ≡ 8
-  pub links : AreNewEnds 8 node buses h.links.items (8 * node)
+pub record IsMade {G : Type 0} (plan : PlanValue) (node : ℕ) (s : ThreadStart G) (buses : List RingBus) : Type 0 where
+  pub own : s.node ≡ node
+  pub empty : IsEmpty s.log
+  pub room : HasRoom (length (steps_at plan node)) s.log
+  pub eight : length s.links.items ≡ 8
+  pub links : AreNewEnds 8 node buses s.links.items (8 * node)
 
 -- the same of the first so many nodes
 abbrev pub AreMade : {G : Type 0} → PlanValue → ℕ → List (ThreadStart G) → List RingBus → Type 0
-AreMade {G} plan count hands buses = (node : ℕ) (h : ThreadStart G) → node < count →
-    IsMade plan node (slice_index_or hands node h) buses
+AreMade {G} plan count starts buses = (node : ℕ) (s : ThreadStart G) → node < count →
+    IsMade plan node (slice_index_or starts node s) buses
 
 -- all that a run of this plan begins with beside the ports
 pub record AreRunParts {G : Type 0} (plan : PlanValue) (r : RunParts G) : Type 0 where
-  pub bus : r.bus ≡ new_bus plan.strikes plan.bits (length plan.nodes)
-  pub links : length r.links.items ≡ 8 * length plan.nodes
-  pub hands : length r.hands.items ≡ length plan.nodes
-  pub made : AreMade plan (length plan.nodes) r.hands.items r.links.items
+  pub bus : r.bus.bus ≡ new_bus plan.strikes plan.bits (length plan.nodes)
+  pub links : length r.bus.links.items ≡ 8 * length plan.nodes
+  pub run : r.bus.run ≡ 0
+  pub spent : r.bus.spent ≡ false
+  pub starts : length r.starts.items ≡ length plan.nodes
+  pub made : AreMade plan (length plan.nodes) r.starts.items r.bus.links.items
   pub children : (length plan.nodes ≤ vec_capacity r.children) × (r.children.items ≡ [])
   pub workeds : (length plan.nodes ≤ vec_capacity r.workeds) × (r.workeds.items ≡ [])

@@ -8,10 +8,10 @@ use Rattle.sja_threads.specs.declared.worked.Worked.{Worked}
 use Rattle.sja_threads.specs.Inside.Started.{HandsBack}
 
 -- the promise of the thread that begins with this, in a run of this plan
-pub record IsFor {G : Type 0} (plan : PlanValue) (h : ThreadStart G) (p : ThreadPromise G) : Type 0 where
+pub record IsFor {G : Type 0} (plan : PlanValue) (s : ThreadStart G) (p : ThreadPromise G) : Type 0 where
   pub same_plan : p.plan.value ≡ plan
-  pub same_node : p.node ≡ h.node
-  pub same_links : p.links.value.items ≡ h.links.items
+  pub same_node : p.node ≡ s.node
+  pub same_links : p.links.value.items ≡ s.links.items
 
 -- it was kept
 abbrev pub IsPromised : {G : Type 0} → Bool → ThreadPromise G → Worked RingDriver → Type 0

@@ -5,22 +5,21 @@ use Rattle.sja_rings.specs.declared.ring_driver.RingDriver.{RingDriver}
 use Rattle.sja_rings.specs.Ends.{DriverLists, SameDriver, link_of_driver}
 use Rattle.sja_regs.specs.DriverSettings.{settings_in}
 use Rattle.sja_regs.specs.Registers.{at_power_on}
-use Rattle.sja_plan.specs.Plan.{PlanValue}
+use Rattle.sja_plan.specs.Plan.{PlanValue, steps_at}
 use Rattle.sja_driver.specs.Holding.{NumberedFrom}
 use Rattle.sja_driver.specs.LoggedDrivers.{log_of}
 use Rattle.sja_driver.specs.Logs.{HasRoom, IsEmpty, done_in}
-use Rattle.sja_plan.specs.Plan.{steps_at}
 use Rattle.sja_threads.specs.declared.thread_start.ThreadStart.{ThreadStart}
 use Rattle.sja_threads.specs.declared.worked.Worked.{Worked}
 use Rattle.sja_threads.specs.Working.{HasWorked}
 
 -- what the thread of a driver of this plan may begin with
-pub record IsHand {G : Type 0} (plan : PlanValue) (h : ThreadStart G) : Type 0 where
-  pub few : h.node < length plan.nodes
-  pub empty : IsEmpty h.log
-  pub room : HasRoom (length (steps_at plan h.node)) h.log
-  pub eight : length h.links.items ≡ 8
-  pub ids : NumberedFrom link_of_driver h.links.items 0 h.node
+pub record IsThreadStart {G : Type 0} (plan : PlanValue) (s : ThreadStart G) : Type 0 where
+  pub few : s.node < length plan.nodes
+  pub empty : IsEmpty s.log
+  pub room : HasRoom (length (steps_at plan s.node)) s.log
+  pub eight : length s.links.items ≡ 8
+  pub ids : NumberedFrom link_of_driver s.links.items 0 s.node
 
 -- what it hands back: the same ends, and a driver that did steps of the plan with them; where its gate never quits, all
 pub record HandsBack (quits : Bool) (plan : PlanValue) (node : ℕ) (links : List RingDriver) (w : Worked RingDriver) :
@@ -31,4 +30,4 @@ pub record HandsBack (quits : Bool) (plan : PlanValue) (node : ℕ) (links : Lis
 
 -- the same of what a thread began with
 abbrev pub Serves : {G : Type 0} → Bool → PlanValue → ThreadStart G → Worked RingDriver → Type 0
-Serves quits plan h w = HandsBack quits plan h.node h.links.items w
+Serves quits plan s w = HandsBack quits plan s.node s.links.items w

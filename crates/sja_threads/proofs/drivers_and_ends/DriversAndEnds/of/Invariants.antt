@@ -1,6 +1,6 @@
 use Rattle.std.proofs.Common.{◌≡◌, ◌++◌}
 use Rattle.std.specs.Vec.Iter.{into_iter_items}
-use Rattle.sja_threads.specs.Settling.{all_drivers, all_ends}
+use Rattle.sja_threads.specs.Inside.Settling.{all_drivers, all_ends}
 use Rattle.sja_threads.proofs.drivers_and_ends.DriversAndEnds.of.Given as goal
 
 -- what was gathered, and what is left, are the whole

@@ -1,0 +1,4 @@
+pub mod Settings
+pub mod Steps
+pub mod Script
+pub mod InReset

@@ -1,0 +1,107 @@
+-- What a driver in a thread of its own has set, through a try of a step.
+use Rattle.std.proofs.Common.{◌≡◌, ◌++◌, ℕ, Bool, true, false, List, [], ◌∷◌, length, refl, sym, ap, ◌∙◌, subst}
+use Rattle.std.proofs.Common.{append-nil}
+use Rattle.can_frame.specs.declared.seen.Seen.{Seen}
+use Rattle.sja_link.specs.declared.driver_end.DriverEnd.{Ghosts as Ends}
+use Rattle.sja_link.specs.DriverLedgers.{held_by, knows_bus_off}
+use Rattle.sja_link.specs.Showing.{seen_of}
+use Rattle.sja_regs.specs.declared.registers.Registers.{Registers}
+use Rattle.sja_regs.specs.Registers.{at_power_on}
+use Rattle.sja_regs.specs.DriverSettings.{SettingsValue, settings_in, HasSettings}
+use Rattle.sja_script.specs.declared.step.Step.{Step}
+use Rattle.sja_script.specs.declared.step_answer.StepAnswer.TheVariants.{Done as DoneAnswer, Released as ReleasedAnswer}
+use Rattle.sja_driver.specs.declared.any_driver.AnyDriver.{AnyDriver}
+use Rattle.sja_driver.specs.declared.any_driver.AnyDriver.TheVariants.{InReset, InActive}
+use Rattle.sja_driver.specs.Acting.{Acts, IfOut}
+use Rattle.sja_driver.specs.AnyDrivers.{is_out, held_of, off_of, seen_by}
+use Rattle.sja_driver.specs.Carried.{Sees, Tells}
+use Rattle.sja_driver.specs.Deeds.{Deed, is_active}
+use Rattle.sja_driver.specs.Logs.{deeds_by}
+use Rattle.sja_driver.specs.Tries.{Tried, is_met}
+use Rattle.sja_driver.specs.Tries.Tried.{Unmet, Answered, Released, Ended}
+use Rattle.sja_threads.specs.Setting.{LeadToSettings}
+use Rattle.sja_threads.specs.Setting.LeadToSettings.{step_done}
+
+-- some registers with these settings
+abbrev pub registers_with : SettingsValue → Registers
+registers_with s =
+    record (at_power_on 1) {
+      version = s.version;
+      mode = s.mode;
+      enabled = s.enabled;
+      ewlr = s.ewlr;
+      acr = s.acr;
+      amr = s.amr;
+      buffer = s.buffer;
+    }
+
+pub has_those : (s : SettingsValue) → HasSettings (registers_with s) s
+has_those s = record {
+  version = refl;
+  listen_only = refl;
+  self_test = refl;
+  filter_mode = refl;
+  reset = λ e. e;
+  enabled = refl;
+  ewlr = refl;
+  acr = refl;
+  amr = refl;
+  buffer = refl;
+}
+
+seen_is : (now : AnyDriver) → seen_by now ≡ seen_of (off_of now) (held_of now)
+seen_is (InReset d) = refl
+seen_is (InActive d) = refl
+
+if_out : (was : AnyDriver) (P : Type 0) → IfOut was P → is_out was ≡ true → P
+if_out (InReset d) P p out = absurd cc
+if_out (InActive d) P p out = p
+
+module _ {E : Type 0} (e : Ends E) (a b : E) (p q : Registers) (which : Step) (was now : AnyDriver) (bits : ℕ)
+    (set set_now : SettingsValue) (none : bits ≡ 0) (has : HasSettings p set) where
+  -- what was set before a try leads to what is set after it, by the deed that it was
+  pub leads_try : (o : Tried) → (is_met o ≡ true → set_now ≡ settings_in q) → (is_met o ≡ false → set_now ≡ set) →
+      Acts e.same e.stands e.dry e.full a b p q which was now o → (before : List Deed) →
+      is_active before ≡ is_out was → (first : SettingsValue) → LeadToSettings first before set →
+      LeadToSettings first (before ++ deeds_by p which o bits) set_now
+  leads_try Unmet met unmet acts before out first l =
+      subst (λ (s : SettingsValue). LeadToSettings first (before ++ []) s) (sym (unmet refl))
+      (subst (λ (x : List Deed). LeadToSettings first x set) (sym (append-nil before)) l)
+  leads_try (Answered answer) met unmet acts before out first l =
+      subst (λ (s : SettingsValue). LeadToSettings first (before ++ deeds_by p which (Answered answer) bits) s)
+      (sym (met refl ∙ ap settings_in acts.port))
+      (step_done before _ set p l has (record {
+        window = held_of now;
+        off = off_of now;
+        tells = subst (λ (b : Bool). Tells which b p (seen_of (off_of now) (held_of now)) answer) (sym out)
+            (subst (λ (s : Seen). Tells which (is_out was) p s answer) (seen_is now) acts.tells);
+        sees = λ active. if_out was (Sees which (off_of now) (held_of now) answer) acts.sees (sym out ∙ active);
+        gave = refl;
+        bits = none;
+      }))
+  leads_try (Released m) met unmet acts before out first l =
+      subst (λ (s : SettingsValue). LeadToSettings first (before ++ deeds_by p which (Released m) bits) s)
+      (sym (met refl ∙ ap settings_in acts.port))
+      (step_done before _ set p l has (record {
+        window = m ∷ held_of now;
+        off = off_of now;
+        tells = subst (λ (s : Step). Tells s (is_active before) p (seen_of (off_of now) (m ∷ held_of now))
+            (ReleasedAnswer (length m))) (sym acts.kind) tt;
+        sees = λ active. if_out was (Sees which (off_of now) (m ∷ held_of now) (ReleasedAnswer (length m))) acts.sees
+            (sym out ∙ active);
+        gave = refl;
+        bits = none;
+      }))
+  leads_try (Ended ledger) met unmet acts before out first l =
+      subst (λ (s : SettingsValue). LeadToSettings first (before ++ deeds_by p which (Ended ledger) bits) s)
+      (sym (met refl ∙ ap settings_in acts.port))
+      (step_done before _ set p l has (record {
+        window = held_by ledger;
+        off = knows_bus_off ledger;
+        tells = subst (λ (s : Step). Tells s (is_active before) p (seen_of (knows_bus_off ledger) (held_by ledger))
+            DoneAnswer) (sym acts.kind) tt;
+        sees = λ active. if_out was (Sees which (knows_bus_off ledger) (held_by ledger) DoneAnswer) acts.sees
+            (sym out ∙ active);
+        gave = refl;
+        bits = none;
+      }))

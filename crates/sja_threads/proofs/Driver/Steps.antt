@@ -1,0 +1,147 @@
+-- Steps of a driver in a thread of its own, one after the other.
+use Rattle.std.proofs.Common.{◌≡◌, ◌≤◌, ◌+◌, ◌++◌, ℕ, Bool, true, false, List, [], ◌∷◌}
+use Rattle.std.proofs.Common.{length, map, refl, sym, ap, ◌∙◌, subst, arith, append-nil, append_assoc}
+use Rattle.std.proofs.lemmas.List.{length-append, map-append}
+use Rattle.std.proofs.lemmas.Slice.Zip.{AllZip-long}
+use Rattle.sja_link.specs.declared.driver_end.DriverEnd.{Ghosts as Ends}
+use Rattle.sja_link.proofs.Related.{each_refl, each_trans}
+use Rattle.sja_regs.specs.declared.registers.Registers.{Registers}
+use Rattle.sja_regs.specs.DriverSettings.{settings_in, HasSettings}
+use Rattle.sja_script.specs.declared.step.Step.{Step}
+use Rattle.sja_driver.specs.declared.work_log.WorkLog.{WorkLog}
+use Rattle.sja_driver.specs.Deeds.{Deed}
+use Rattle.sja_driver.specs.Holding.{HoldsBy}
+use Rattle.sja_driver.specs.LoggedDrivers.{driver_of, log_of, StaysLawful, Steps}
+use Rattle.sja_driver.specs.Logs.{HasRoom, Traces, deeds_by}
+use Rattle.sja_driver.specs.Tries.{Tried, is_met}
+use Rattle.sja_driver.specs.Tries.Tried.{Unmet, Answered, Released, Ended}
+use Rattle.sja_threads.specs.declared.driver_thread.DriverThread.{DriverThread}
+use Rattle.sja_threads.specs.Setting.{LeadToSettings}
+use Rattle.sja_threads.specs.Inside.Steps.{MayWork, DoesSteps, step_if}
+use Rattle.sja_threads.proofs.Driver.Settings.{leads_try}
+
+-- one of these
+any_of : {A : Type 0} (xs : List A) → 8 ≤ length xs → A
+any_of [] many = absurd (omega (arith, many))
+any_of (x ∷ xs) many = x
+
+-- room for fewer steps
+room_less : (k n : ℕ) (log : WorkLog) → k ≤ n → HasRoom n log → HasRoom k log
+room_less k n log less h =
+    let a = h.done in let b = h.releases in
+    record { done = omega (arith, a, less); releases = omega (arith, b, less); left = h.left }
+
+-- the steps of a try: the step, if it is done
+steps_of : (p : Registers) (which : Step) (o : Tried) (bits : ℕ) →
+    map (λ (d : Deed). d.step) (deeds_by p which o bits) ≡ step_if (is_met o) which
+steps_of p which Unmet bits = refl
+steps_of p which (Answered answer) bits = refl
+steps_of p which (Released m) bits = refl
+steps_of p which (Ended ledger) bits = refl
+
+module _ {E : Type 0} (e : Ends E) where
+  -- where fewer are asked for
+  pub may_less : (t : DriverThread E) (k n : ℕ) → k ≤ n → MayWork e.link t n → MayWork e.link t k
+  may_less t k n less m =
+      record { lawful = m.lawful; room = room_less k n (log_of t.driver) less m.room; eight = m.eight; ids = m.ids }
+
+  -- no step was done
+  pub does_none : ((x : E) → e.same x x) → (t : DriverThread E) → DoesSteps e t t []
+  does_none r t = record {
+    deeds = [];
+    are = refl;
+    goes = record {
+      traces = λ deeds w.
+          subst (λ (x : List Deed). Traces (driver_of t.driver) (log_of t.driver) x) (sym (append-nil deeds)) w;
+      holds = λ deeds j w h.
+          subst (λ (x : List Deed). HoldsBy e.stands x (driver_of t.driver) (log_of t.driver) j t.links.items 0)
+          (sym (append-nil deeds)) h;
+    };
+    leads = λ first before w l.
+        subst (λ (x : List Deed). LeadToSettings first x t.set) (sym (append-nil before)) l;
+    sames = each_refl e.same r t.links.items;
+    node = refl;
+    able = λ n m. may_less t n (0 + n) (omega arith) m;
+  }
+
+  module _ (trans : (a b c : E) → e.same a b → e.same b c → e.same a c) (a b c : DriverThread E) (steps : List Step)
+      (p : DoesSteps e a b steps) where
+    -- steps, and then more
+    does_more : (more : List Step) → DoesSteps e b c more → DoesSteps e a c (steps ++ more)
+    does_more more q = record {
+      deeds = p.deeds ++ q.deeds;
+      are = map-append (λ (d : Deed). d.step) p.deeds q.deeds
+          ∙ ap (λ l. l ++ map (λ (d : Deed). d.step) q.deeds) p.are ∙ ap (λ l. steps ++ l) q.are;
+      goes = record {
+        traces = λ deeds w.
+            subst (λ (l : List Deed). Traces (driver_of c.driver) (log_of c.driver) l)
+            (append_assoc deeds p.deeds q.deeds)
+            (q.goes.traces (deeds ++ p.deeds) (p.goes.traces deeds w));
+        holds = λ deeds j w h.
+            subst (λ (l : List Deed). HoldsBy e.stands l (driver_of c.driver) (log_of c.driver) j c.links.items 0)
+            (append_assoc deeds p.deeds q.deeds)
+            (q.goes.holds (deeds ++ p.deeds) j (p.goes.traces deeds w) (p.goes.holds deeds j w h));
+      };
+      leads = λ first before w l.
+          subst (λ (d : List Deed). LeadToSettings first d c.set) (append_assoc before p.deeds q.deeds)
+          (q.leads first (before ++ p.deeds) (p.goes.traces before w) (p.leads first before w l));
+      sames = each_trans e.same trans a.links.items b.links.items c.links.items p.sames q.sames;
+      node = q.node ∙ p.node;
+      able = λ n m.
+          let count = length-append steps more in
+          q.able n (p.able (length more + n)
+          (may_less a (length steps + (length more + n)) (length (steps ++ more) + n) (omega (arith, count)) m));
+    }
+
+    -- and then a step, or none where it isn't done
+    pub does_one : (s : Step) (m : Bool) → m ≡ true → DoesSteps e b c (step_if m s) → DoesSteps e a c (steps ++ s ∷ [])
+    does_one s m met q =
+        does_more (s ∷ []) (subst (λ (k : Bool). DoesSteps e b c (step_if k s)) met q)
+
+    pub does_not : (s : Step) (m : Bool) → m ≡ false → DoesSteps e b c (step_if m s) → DoesSteps e a c steps
+    does_not s m unmet q =
+        subst (λ (l : List Step). DoesSteps e a c l) (append-nil steps)
+        (does_more [] (subst (λ (k : Bool). DoesSteps e b c (step_if k s)) unmet q))
+
+  -- a try of a step, with its ends lent for it
+  pub does_try : (a b : DriverThread E) (x y : List E) (p q : Registers) (which : Step) (done : Bool) →
+      x ≡ a.links.items → b.links.items ≡ y → 8 ≤ length a.links.items → HasSettings p a.set →
+      (done ≡ true → b.set ≡ settings_in q) → (done ≡ false → b.set ≡ a.set) →
+      StaysLawful e.link e.same a.driver b.driver x y 0 done →
+      Steps e.same e.stands e.dry e.full a.driver b.driver x y 0 p q which 0 done → (m : Bool) → done ≡ m →
+      DoesSteps e a b (step_if m which)
+  does_try a b x y p q which done these those eight has met unmet stays_lent steps_lent m is = record {
+    deeds = deeds_by p which steps.tried 0;
+    are = steps_of p which steps.tried 0 ∙ ap (λ (k : Bool). step_if k which) (sym steps.met ∙ is);
+    goes = steps.goes;
+    leads = λ first before w.
+        let end = any_of a.links.items eight in
+        leads_try e _ _ p q which (driver_of a.driver) (driver_of b.driver) 0 a.set b.set refl has steps.tried
+        (λ k. met (steps.met ∙ k)) (λ k. unmet (steps.met ∙ k)) (steps.acts end end) before w.out first;
+    sames = stays.same;
+    node = stays.node;
+    able = λ n may. record {
+      lawful = stays.lawful;
+      room = room m is n may.room;
+      eight = let l = AllZip-long e.same a.links.items b.links.items stays.same in omega (arith, eight, l);
+      ids = stays.ids;
+    };
+  }
+    where
+      stays : StaysLawful e.link e.same a.driver b.driver a.links.items b.links.items 0 done
+      stays =
+          subst (λ (l : List E). StaysLawful e.link e.same a.driver b.driver l b.links.items 0 done) these
+          (subst (λ (l : List E). StaysLawful e.link e.same a.driver b.driver x l 0 done) (sym those) stays_lent)
+
+      steps : Steps e.same e.stands e.dry e.full a.driver b.driver a.links.items b.links.items 0 p q which 0 done
+      steps =
+          subst
+          (λ (l : List E). Steps e.same e.stands e.dry e.full a.driver b.driver l b.links.items 0 p q which 0 done)
+          these
+          (subst (λ (l : List E). Steps e.same e.stands e.dry e.full a.driver b.driver x l 0 p q which 0 done)
+          (sym those) steps_lent)
+
+      room : (k : Bool) → done ≡ k → (n : ℕ) → HasRoom (length (step_if k which) + n) (log_of a.driver) →
+          HasRoom n (log_of b.driver)
+      room true did n h = stays.room n (room_less (n + 1) (1 + n) (log_of a.driver) (omega arith) h)
+      room false undone n h = stays.waits undone n (room_less n (0 + n) (log_of a.driver) (omega arith) h)

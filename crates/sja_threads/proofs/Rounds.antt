@@ -1,0 +1,4 @@
+pub mod TakesWithin
+pub mod StaysDue
+pub mod GoesOn
+pub mod Stops

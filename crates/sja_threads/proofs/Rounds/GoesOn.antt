@@ -1,0 +1,173 @@
+-- The bus of a run in threads goes on from one round to the next.
+use Rattle.std.proofs.Common.{◌≡◌, ℕ, ◌+◌, ◌<◌, ◌≤◌, false, true, List, length, refl, sym, ap, ◌∙◌, subst, arith, inr}
+use Rattle.std.specs.Prelude.{None, Result, Ok, Err, OnOk}
+use Rattle.std.proofs.lemmas.Slice.Zip.{AllZip-long}
+use Rattle.sja_link.specs.declared.entry.Entry.{Entry}
+use Rattle.sja_link.specs.Records.{record_of}
+use Rattle.sja_link.specs.Related.{EachRelated}
+use Rattle.sja_link.proofs.Related.{each_refl, each_trans}
+use Rattle.sja_rings.specs.declared.ring_bus.RingBus.{RingBus}
+use Rattle.sja_rings.specs.Ends.{BusLists, SameBus, link_of_bus}
+use Rattle.sja_rings.proofs.SameEnd.{bus_refl, bus_trans}
+use Rattle.sja_plan.specs.Plan.{PlanValue}
+use Rattle.sja_regs.specs.declared.bus_turn.BusTurn.{BusTurn}
+use Rattle.sja_regs.specs.declared.orders.Orders.{Orders}
+use Rattle.sja_bus.specs.Buses.{EachJournal, KeepsAll, IsBit}
+use Rattle.sja_bus.specs.Resting.{RestsAs}
+use Rattle.sja_bus.proofs.Many.{numbered_kept}
+use Rattle.sja_wire.specs.declared.bus_fault.BusFault.{BusFault}
+use Rattle.sja_wire.specs.Lawful.{IsBusRun}
+use Rattle.sja_wire.specs.OneBit.{MayHaveItems}
+use Rattle.sja_wire.specs.Wire.{journal_at}
+use Rattle.sja_threads.specs.declared.bus_thread.BusThread.{BusThread}
+use Rattle.sja_threads.specs.Needed.{IsBitDue, AllDue, AllAtRest}
+use Rattle.sja_threads.specs.Inside.Rounds.{TakesWithin, StayDue, IsUnderWay, GoesOn}
+use Rattle.sja_threads.proofs.Rounds.StaysDue.{AllGrow, due_stays, due_kept, due_more, due_now}
+use Rattle.sja_threads.proofs.Rounds.TakesWithin.{within_items, items_grow, within_bit, bit_grows}
+
+-- some node isn't at rest
+abbrev pub SomeWorks : List (List Entry) → Type 0
+SomeWorks journals =
+    (node : ℕ) × (node < length journals) × RestsAs (record_of (journal_at journals node)) false
+
+-- with its links lent for a call
+module _ (was now : BusThread) (lent after : List RingBus) (these : lent ≡ was.links.items)
+    (those : now.links.items ≡ after) (script : now.bus.script ≡ was.bus.script)
+    (nodes : length now.bus.journals ≡ length was.bus.journals) (lent_sames : EachRelated SameBus lent after) where
+  sames : EachRelated SameBus was.links.items now.links.items
+  sames =
+      subst (λ (l : List RingBus). EachRelated SameBus l now.links.items) these
+      (subst (λ (l : List RingBus). EachRelated SameBus lent l) (sym those) lent_sames)
+
+  module _ (plan : PlanValue) (w : IsUnderWay plan was) (right : now.bus.fault ≡ None)
+      (lent_kept : KeepsAll BusLists was.bus.journals now.bus.journals lent after) where
+    few : (node : ℕ) → node < length plan.nodes → node < length was.bus.journals
+    few node less = let e = w.journals in omega (arith, e, less)
+
+    kept : KeepsAll BusLists was.bus.journals now.bus.journals was.links.items now.links.items
+    kept =
+        subst (λ (l : List RingBus). KeepsAll BusLists was.bus.journals now.bus.journals l now.links.items) these
+        (subst (λ (l : List RingBus). KeepsAll BusLists was.bus.journals now.bus.journals lent l) (sym those) lent_kept)
+
+    -- the bus is under way still, where its bits are counted, items were taken in such activations, and bits were due
+    goes_on : now.bus.run + now.bus.left ≡ plan.bits →
+        ((node : ℕ) → node < length plan.nodes → TakesWithin (journal_at now.bus.journals node)) →
+        AllDue now.bus.run now.bus.journals → now.bus.run ≡ now.run →
+        (now.spent ≡ true → (now.run ≡ plan.bits) × IsBitDue plan.bits now.bus.journals) → GoesOn plan was now
+    goes_on all within due run spent = record {
+      way = record {
+        right = right;
+        script = script ∙ w.script;
+        all_bits = all;
+        journals = nodes ∙ w.journals;
+        count = AllZip-long SameBus was.links.items now.links.items sames ∙ w.count;
+        ids = numbered_kept link_of_bus SameBus (λ a b p. p.0) was.links.items now.links.items sames w.ids;
+        kept = λ node h less. kept node h (few node less) (w.kept node h less);
+        within = within;
+        due = due;
+        run = run;
+        spent = spent;
+      };
+      sames = sames;
+    }
+
+    -- items were taken
+    pub after_gather : (now.bus.run ≡ was.bus.run) × (now.bus.left ≡ was.bus.left) →
+        EachJournal MayHaveItems was.bus.journals now.bus.journals → now.run ≡ was.run → now.spent ≡ was.spent →
+        GoesOn plan was now
+    after_gather bits items same_run same_spent = goes_on
+        (let all = w.all_bits in let run = bits.0 in let left = bits.1 in omega (arith, all, run, left))
+        (λ node less. within_items (journal_at was.bus.journals node) (journal_at now.bus.journals node)
+        (items node (few node less)) (w.within node less))
+        (subst (λ (n : ℕ). AllDue n now.bus.journals) (sym bits.0) (due_kept was.bus.run was.bus.journals
+        now.bus.journals nodes grow w.due))
+        (bits.0 ∙ w.run ∙ sym same_run)
+        (λ e.
+        let all = w.spent (sym same_spent ∙ e) in (
+          same_run ∙ all.0,
+          due_stays was.bus.journals now.bus.journals nodes grow plan.bits all.1,
+        ))
+      where
+        grow : AllGrow was.bus.journals now.bus.journals
+        grow node less =
+            items_grow (journal_at was.bus.journals node) (journal_at now.bus.journals node) (items node less)
+
+    -- a bit was run, before which a node wasn't at rest
+    pub after_bit : (orders_are : ℕ → Orders → Type 0) (was_told : ℕ → BusTurn → Type 0) (was_kept : ℕ → Type 0) →
+        (now.bus.run ≡ was.bus.run + 1) × (now.bus.left + 1 ≡ was.bus.left) →
+        IsBusRun was.bus.script was.bus.run was.bus.journals → SomeWorks was.bus.journals → was.run < plan.bits →
+        IsBit orders_are was_told was_kept was.bus.script was.bus.run was.bus.untold was.bus.journals
+        now.bus.journals → now.run ≡ was.run + 1 → now.spent ≡ was.spent → GoesOn plan was now
+    after_bit orders_are was_told was_kept bits laws busy less bit next_run same_spent = goes_on
+        (let all = w.all_bits in let run = bits.0 in let left = bits.1 in omega (arith, all, run, left))
+        (λ node less. within_bit _ _ _ _ (journal_at was.bus.journals node) (journal_at now.bus.journals node) _ _
+        (bit.nodes node (few node less)) (w.within node less))
+        (subst (λ (n : ℕ). AllDue n now.bus.journals) (sym bits.0) (due_more was.bus.run was.bus.journals
+        now.bus.journals busy.0 nodes
+        (λ node less. bit_grows _ _ _ _ (journal_at was.bus.journals node) (journal_at now.bus.journals node) _ _
+        (bit.nodes node less)) busy.1 (laws.wired.count busy.0 busy.1) busy.2 w.due))
+        (bits.0 ∙ ap (λ (n : ℕ). n + 1) w.run ∙ sym next_run)
+        (λ e. let all = (w.spent (sym same_spent ∙ e)).0 in absurd (omega (arith, all, less)))
+
+-- what was taken, by what the bus answers
+pub gathered : (was now : BusThread) (lent after : List RingBus) → lent ≡ was.links.items →
+    now.links.items ≡ after → now.bus.script ≡ was.bus.script →
+    length now.bus.journals ≡ length was.bus.journals → EachRelated SameBus lent after →
+    (now.bus.run ≡ was.bus.run) × (now.bus.left ≡ was.bus.left) → now.run ≡ was.run → now.spent ≡ was.spent →
+    {A : Type 0} (r : Result A BusFault) →
+    OnOk r (KeepsAll BusLists was.bus.journals now.bus.journals lent after) →
+    OnOk r (EachJournal MayHaveItems was.bus.journals now.bus.journals) → OnOk r (now.bus.fault ≡ None) →
+    OnOk r ((plan : PlanValue) → IsUnderWay plan was → GoesOn plan was now)
+gathered was now lent after these those script nodes sames bits same_run same_spent (Ok a) kept items right = λ plan w.
+    after_gather was now lent after these those script nodes sames plan w right kept bits items same_run same_spent
+gathered was now lent after these those script nodes sames bits same_run same_spent (Err f) kept items right = tt
+
+-- ---- without a bit
+
+-- nothing was done
+pub stays_on : (plan : PlanValue) (t : BusThread) → IsUnderWay plan t → GoesOn plan t t
+stays_on plan t w = record { way = w; sames = each_refl SameBus bus_refl t.links.items }
+
+-- it went on twice
+pub on_twice : (plan : PlanValue) (a b c : BusThread) → GoesOn plan a b → GoesOn plan b c → GoesOn plan a c
+on_twice plan a b c p q = record {
+  way = q.way;
+  sames = each_trans SameBus bus_trans a.links.items b.links.items c.links.items p.sames q.sames;
+}
+
+-- and the second time by what is answered
+pub on_then : (plan : PlanValue) (a b c : BusThread) → GoesOn plan a b → {A X : Type 0} (r : Result A X) →
+    OnOk r (GoesOn plan b c) → OnOk r (GoesOn plan a c)
+on_then plan a b c p (Ok x) q = on_twice plan a b c p q
+on_then plan a b c p (Err x) q = tt
+
+-- the bits are spent, and a node isn't at rest
+pub spent_now : (plan : PlanValue) (t : BusThread) → IsUnderWay plan t → plan.bits ≤ t.run →
+    IsBusRun t.bus.script t.bus.run t.bus.journals → SomeWorks t.bus.journals →
+    GoesOn plan t (record t { spent = true })
+spent_now plan t w many laws busy =
+    let all = w.all_bits in let same = w.run in
+    let last : t.run ≡ plan.bits = omega (arith, all, same, many) in record {
+      way = record {
+        right = w.right;
+        script = w.script;
+        all_bits = w.all_bits;
+        journals = w.journals;
+        count = w.count;
+        ids = w.ids;
+        kept = w.kept;
+        within = w.within;
+        due = w.due;
+        run = w.run;
+        spent = λ e. (
+          last,
+          due_now plan.bits t.bus.journals busy.0 busy.1 (laws.wired.count busy.0 busy.1 ∙ same ∙ last) busy.2,
+        );
+      };
+      sames = each_refl SameBus bus_refl t.links.items;
+    }
+
+-- where each node is at rest, it is so by a cut
+pub all_rest : (journals : List (List Entry)) →
+    ((node : ℕ) → node < length journals → RestsAs (record_of (journal_at journals node)) true) → AllAtRest journals
+all_rest journals rests node few = let r = rests node few in (r.found, r.cut, r.is)

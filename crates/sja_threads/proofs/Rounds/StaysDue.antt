@@ -1,0 +1,64 @@
+-- Bits that were due stay so as the journals grow.
+use Rattle.std.proofs.Common.{◌≡◌, ℕ, ◌+◌, ◌<◌, false, List, [], ◌++◌, length, sym, ap, ◌∙◌, append_assoc, append-nil}
+use Rattle.std.proofs.Common.{arith, inl, inr}
+use Rattle.std.specs.Prelude.{◌⊎◌}
+use Rattle.sja_link.specs.declared.entry.Entry.{Entry}
+use Rattle.sja_link.specs.Carried.{bits_of}
+use Rattle.sja_link.specs.Records.{record_of}
+use Rattle.sja_wire.specs.Links.{Grows}
+use Rattle.sja_bus.specs.Resting.{RestsAs}
+use Rattle.sja_wire.specs.Wire.{journal_at}
+use Rattle.sja_threads.specs.Needed.{WorksAt, IsBitDue, AllDue}
+use Rattle.sja_threads.specs.Inside.Rounds.{StayDue}
+
+works_grows : (j k : List Entry) (bits : ℕ) → Grows j k → WorksAt j bits → WorksAt k bits
+works_grows j k bits g w = record {
+  before = w.before;
+  after = w.after ++ g.0;
+  whole = g.1 ∙ ap (λ (l : List Entry). l ++ g.0) w.whole ∙ append_assoc w.before w.after g.0;
+  many = w.many;
+  works = w.works;
+}
+
+-- each journal grew
+abbrev pub AllGrow : List (List Entry) → List (List Entry) → Type 0
+AllGrow old new = (node : ℕ) → node < length old → Grows (journal_at old node) (journal_at new node)
+
+pub due_stays : (old new : List (List Entry)) → length new ≡ length old → AllGrow old new → StayDue old new
+due_stays old new count grow i w = (
+  w.0,
+  (let few = w.1 in omega (arith, few, count)),
+  works_grows (journal_at old w.0) (journal_at new w.0) i (grow w.0 w.1) w.2,
+)
+
+pub due_kept : (bits : ℕ) (old new : List (List Entry)) → length new ≡ length old → AllGrow old new →
+    AllDue bits old → AllDue bits new
+due_kept bits old new count grow due i less = due_stays old new count grow i (due i less)
+
+-- where a node isn't at rest after so many bits one more is due
+pub due_now : (bits : ℕ) (journals : List (List Entry)) (node : ℕ) → node < length journals →
+    length (bits_of (journal_at journals node)) ≡ bits → RestsAs (record_of (journal_at journals node)) false →
+    IsBitDue bits journals
+due_now bits journals node few many busy = (
+  node,
+  few,
+  record {
+    before = journal_at journals node;
+    after = [];
+    whole = sym (append-nil (journal_at journals node));
+    many = many;
+    works = (busy.found, busy.cut, busy.is);
+  },
+)
+
+earlier_or_last : (i n : ℕ) → i < n + 1 → (i < n) ⊎ (i ≡ n)
+earlier_or_last i n h = grind arith
+
+-- a bit more, before which a node wasn't at rest
+pub due_more : (bits : ℕ) (old new : List (List Entry)) (node : ℕ) → length new ≡ length old → AllGrow old new →
+    node < length old → length (bits_of (journal_at old node)) ≡ bits →
+    RestsAs (record_of (journal_at old node)) false → AllDue bits old → AllDue (bits + 1) new
+due_more bits old new node count grow few many busy due i less = elim (earlier_or_last i bits less) [
+  | inl before ↦ due_kept bits old new count grow due i before
+  | inr last ↦ due_stays old new count grow i (due_now i old node few (many ∙ sym last) busy)
+]

@@ -1,0 +1,84 @@
+-- Why the bus of a run in threads stops.
+use Rattle.std.proofs.Common.{◌≡◌, ◌≢◌, ℕ, ◌+◌, ◌*◌, ◌<◌, List, length, sym, ap, ◌∙◌, subst, arith, inl, inr}
+use Rattle.std.specs.Prelude.{◌⊎◌, None, Result, Ok, Err, IfErr}
+use Rattle.sja_link.specs.declared.entry.Entry.{Entry}
+use Rattle.sja_link.specs.Lists.{Lists}
+use Rattle.sja_regs.specs.declared.orders.Orders.{Orders}
+use Rattle.sja_rings.specs.declared.ring_bus.RingBus.{RingBus}
+use Rattle.sja_rings.specs.Ends.{BusLists}
+use Rattle.sja_plan.specs.Plan.{PlanValue}
+use Rattle.sja_wire.specs.declared.bus_fault.BusFault.{BusFault}
+use Rattle.sja_wire.specs.declared.bus_fault.BusFault.TheVariants.{BitsSpent, JournalFull}
+use Rattle.sja_bus.specs.Buses.{BusValue}
+use Rattle.sja_wire.specs.Lawful.{IsBusRun}
+use Rattle.sja_bus.specs.Reasons.{IsRefusedFor, IsBrokenFor, IsTakenAndRefused, StopsBit, room_for}
+use Rattle.sja_bus.specs.Reasons.StopsBit.{spent, not_taken, not_aborted, broken_off}
+use Rattle.sja_wire.specs.Links.{per_node}
+use Rattle.sja_wire.specs.Wire.{journal_at}
+use Rattle.sja_threads.specs.declared.bus_thread.BusThread.{BusThread}
+use Rattle.sja_threads.specs.Stopping.{HasNoPlace, any_orders, StopsFor}
+use Rattle.sja_threads.specs.Inside.Rounds.{IsUnderWay}
+
+-- an item that wasn't taken is no want of bits
+taken_not_spent : {E : Type 0} (stands : E → Lists → Type 0) (bits : ℕ) (before now : List (List Entry))
+    (links after : List E) (f : BusFault) → IsTakenAndRefused stands bits before now links after f → f ≢ BitsSpent
+taken_not_spent stands bits before now links after f n e =
+    subst (λ (x : BusFault). IsRefusedFor n.node (room_for bits) (journal_at now n.node) n.refuses.item x) e
+    n.refuses.why
+
+no_full : (node : ℕ) → BitsSpent ≡ JournalFull node → ⊥
+no_full node e = cc
+
+-- nor is a bit that broke off where bits are left
+bit_not_spent : {E : Type 0} (stands : E → Lists → Type 0) (full : E → Type 0) (orders_are : ℕ → Orders → Type 0)
+    (before now : BusValue) (links after : List E) (f : BusFault) → before.left ≢ 0 →
+    StopsBit stands full orders_are before now links after f → f ≢ BitsSpent
+bit_not_spent stands full orders_are before now links after f some (spent is none) e = some none
+bit_not_spent stands full orders_are before now links after f some (not_taken n) e =
+    taken_not_spent stands (before.run + before.left) before.journals now.journals links after f n e
+bit_not_spent stands full orders_are before now links after f some (not_aborted n) e = no_full n.node (sym e ∙ n.is)
+bit_not_spent stands full orders_are before now links after f some (broken_off n) e =
+    subst (λ (x : BusFault). IsBrokenFor stands full n.node (room_for (before.run + before.left)) n.opened
+    (journal_at now.journals n.node) n.between (per_node * n.node) x) e n.broken
+
+module _ (plan : PlanValue) (t : BusThread) (now : BusValue) (links after : List RingBus) (f : BusFault)
+    (w : IsUnderWay plan t) (laws : IsBusRun t.bus.script t.bus.run t.bus.journals) where
+  stops_for : IsTakenAndRefused BusLists plan.bits t.bus.journals now.journals links after f
+      ⊎ StopsBit BusLists HasNoPlace any_orders t.bus now links after f → f ≢ BitsSpent → StopsFor plan f
+  stops_for why unspent = record {
+    was = t.bus;
+    now = now;
+    links = links;
+    after = after;
+    script = w.script;
+    bits = w.all_bits;
+    nodes = w.journals;
+    right = w.right;
+    lawful = laws;
+    why = why;
+    not_spent = unspent;
+  }
+
+  -- an item wasn't taken
+  pub stops_taking : IsTakenAndRefused BusLists (t.bus.run + t.bus.left) t.bus.journals now.journals links after f →
+      StopsFor plan f
+  stops_taking n = stops_for
+      (inl (subst (λ (bits : ℕ). IsTakenAndRefused BusLists bits t.bus.journals now.journals links after f)
+      w.all_bits n))
+      (taken_not_spent BusLists (t.bus.run + t.bus.left) t.bus.journals now.journals links after f n)
+
+  -- a bit didn't come to its end, where bits were left
+  pub stops_bit : t.run < plan.bits → StopsBit BusLists HasNoPlace any_orders t.bus now links after f → StopsFor plan f
+  stops_bit less b = stops_for (inr b)
+      (bit_not_spent BusLists HasNoPlace any_orders t.bus now links after f
+      (λ none. let all = w.all_bits in let run = w.run in omega (arith, all, none, run, less)) b)
+
+-- an item that wasn't taken, by what the bus answers
+pub stops_gather : (t : BusThread) (now : BusValue) (links after : List RingBus) {A : Type 0} (r : Result A BusFault) →
+    (t.bus.fault ≡ None → IsBusRun t.bus.script t.bus.run t.bus.journals) →
+    IfErr r (λ f. t.bus.fault ≡ None →
+    IsTakenAndRefused BusLists (t.bus.run + t.bus.left) t.bus.journals now.journals links after f) →
+    IfErr r (λ f. (plan : PlanValue) → IsUnderWay plan t → StopsFor plan f)
+stops_gather t now links after (Ok a) laws why = tt
+stops_gather t now links after (Err f) laws why = λ plan w.
+    stops_taking plan t now links after f w (laws w.right) (why w.right)

@@ -1,0 +1,3 @@
+pub mod LinksMade
+pub mod Threads
+pub mod Begins

@@ -1,0 +1,85 @@
+-- What the drivers' threads begin with, and what they hand back.
+use Rattle.std.proofs.Common.{◌≡◌, ℕ, suc, ◌+◌, ◌<◌, Bool, List, [], ◌∷◌, ◌++◌, length, sym, ap, ◌∙◌, subst}
+use Rattle.std.proofs.Common.{arith}
+use Rattle.std.specs.Prelude.{All, slice_index_or}
+use Rattle.sja_link.specs.declared.link_id.LinkId.{LinkId}
+use Rattle.sja_link.specs.Related.{EachRelated}
+use Rattle.sja_rings.specs.declared.ring_bus.RingBus.{RingBus}
+use Rattle.sja_rings.specs.declared.ring_driver.RingDriver.{RingDriver}
+use Rattle.sja_rings.specs.Ends.{link_of_driver}
+use Rattle.sja_plan.specs.Plan.{PlanValue, steps_at}
+use Rattle.sja_driver.specs.Holding.{NumberedFrom}
+use Rattle.sja_driver.specs.Logs.{HasRoom}
+use Rattle.sja_threads.specs.declared.thread_start.ThreadStart.{ThreadStart}
+use Rattle.sja_threads.specs.declared.thread_promise.ThreadPromise.{ThreadPromise}
+use Rattle.sja_threads.specs.declared.worked.Worked.{Worked}
+use Rattle.sja_threads.specs.Inside.Making.{IsMade, AreMade}
+use Rattle.sja_threads.specs.Inside.Promised.{IsFor, IsPromised}
+use Rattle.sja_threads.specs.Inside.Started.{IsThreadStart, HandsBack, Serves}
+
+-- one more of each of two lists that are related place by place
+pub each_push : {A B : Type 0} (R : A → B → Type 0) (xs : List A) (ys : List B) (x : A) (y : B) → EachRelated R xs ys →
+    R x y → EachRelated R (xs ++ x ∷ []) (ys ++ y ∷ [])
+each_push R [] [] x y p r = (r, tt)
+each_push R [] (v ∷ ys) x y p r = absurd p
+each_push R (u ∷ xs) [] x y p r = absurd p
+each_push R (u ∷ xs) (v ∷ ys) x y p r = (p.0, each_push R xs ys x y p.1 r)
+
+no_base : (a : ℕ) → 0 + a ≡ a
+no_base a = omega arith
+
+next_is : (a : ℕ) → suc a ≡ a + 1
+next_is a = omega arith
+
+module _ {G : Type 0} (plan : PlanValue) where
+  -- what was made for a node is what its thread may begin with
+  start_of : (node : ℕ) (s : ThreadStart G) (buses : List RingBus) → node < length plan.nodes →
+      IsMade plan node s buses → IsThreadStart plan s
+  start_of node s buses few m = record {
+    few = subst (λ (n : ℕ). n < length plan.nodes) (sym m.own) few;
+    empty = m.empty;
+    room = subst (λ (n : ℕ). HasRoom (length (steps_at plan n)) s.log) (sym m.own) m.room;
+    eight = m.eight;
+    ids = subst (λ (n : ℕ). NumberedFrom link_of_driver s.links.items 0 n) (sym m.own) numbered;
+  }
+    where
+      numbered : NumberedFrom link_of_driver s.links.items 0 node
+      numbered a d less =
+          let id : LinkId = record { node = node; activation = a + 1 } in
+          subst (λ (i : ℕ). link_of_driver (slice_index_or s.links.items i d) ≡ id) (sym (no_base a))
+          ((m.links.drivers_new a d less).link
+          ∙ ap (λ (n : ℕ). record { node = node; activation = n }) (next_is a))
+
+  -- the same of all
+  pub all_starts : (starts : List (ThreadStart G)) (buses : List RingBus) → length starts ≡ length plan.nodes →
+      AreMade plan (length plan.nodes) starts buses → All (IsThreadStart plan) starts
+  all_starts starts buses many made node s less =
+      let few : node < length plan.nodes = omega (arith, less, many) in
+      start_of node (slice_index_or starts node s) buses few (made node s few)
+
+  -- the same of all but the first
+  pub starts_rest : (all rest : List (ThreadStart G)) (s : ThreadStart G) → all ≡ s ∷ rest →
+      All (IsThreadStart plan) all → All (IsThreadStart plan) rest
+  starts_rest all rest s is starts =
+      let those : All (IsThreadStart plan) (s ∷ rest) =
+      subst (λ (l : List (ThreadStart G)). All (IsThreadStart plan) l) is starts in
+      λ k d less. those (suc k) d (omega (arith, less))
+
+module _ {G : Type 0} (quits : Bool) (plan : PlanValue) where
+  -- a promise that was kept is what the thread that began so hands back
+  kept_is : (s : ThreadStart G) (p : ThreadPromise G) (w : Worked RingDriver) → IsFor plan s p →
+      IsPromised quits p w → Serves quits plan s w
+  kept_is s p w f k =
+      subst (λ (l : List RingDriver). HandsBack quits plan s.node l w) f.same_links
+      (subst (λ (n : ℕ). HandsBack quits plan n p.links.value.items w) f.same_node
+      (subst (λ (v : PlanValue). HandsBack quits v p.node p.links.value.items w) f.same_plan k))
+
+  pub all_kept : (starts : List (ThreadStart G)) (ps : List (ThreadPromise G)) (ws : List (Worked RingDriver)) →
+      EachRelated (IsFor plan) starts ps → EachRelated (IsPromised quits) ps ws →
+      EachRelated (Serves quits plan) starts ws
+  all_kept [] [] [] f k = tt
+  all_kept [] [] (w ∷ ws) f k = absurd k
+  all_kept [] (p ∷ ps) ws f k = absurd f
+  all_kept (s ∷ starts) [] ws f k = absurd f
+  all_kept (s ∷ starts) (p ∷ ps) [] f k = absurd k
+  all_kept (s ∷ starts) (p ∷ ps) (w ∷ ws) f k = (kept_is s p w f.0 k.0, all_kept starts ps ws f.1 k.1)

@@ -1,0 +1,20 @@
+use Rattle.std.proofs.Common.{◌≡◌, refl, arith}
+use Rattle.std.specs.Vec.{with_items}
+use Rattle.std.proofs.lemmas.List.{with_items_is}
+use Rattle.sja_threads.proofs.Rounds.GoesOn.{gathered}
+use Rattle.sja_threads.proofs.Rounds.Stops.{stops_gather}
+use Rattle.sja_threads.proofs.bus_thread.BusThread.gather.Goals as goal
+
+pub returns-clause-on : goal.returns-clause-on
+returns-clause-on c =
+    let e = c.gather.ensures in
+    let links = c.args.self.now.links in
+    let those : (with_items links c.gather.new.links).items ≡ c.gather.new.links =
+    with_items_is links c.gather.new.links (omega (arith, c.gather.auto.links, c.as_mut_slice.ensures.len)) in
+    gathered c.args.self.now _ c.as_mut_slice.result.now c.gather.new.links c.as_mut_slice.ensures.value those e.script
+    e.nodes e.sames e.bits refl refl c.gather.result e.kept e.items e.right
+
+pub returns-clause-fault : goal.returns-clause-fault
+returns-clause-fault c =
+    stops_gather c.args.self.now c.gather.new.self c.as_mut_slice.result.now c.gather.new.links c.gather.result
+    c.keeps_its_laws.ensures c.gather.ensures.reason

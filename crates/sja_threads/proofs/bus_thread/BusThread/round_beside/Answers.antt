@@ -1,0 +1,23 @@
+use Rattle.std.proofs.Common.{rules, ◌≡◌, Err}
+use Rattle.sja_bus.proofs.Results.{err_is}
+use Rattle.sja_threads.specs.Stopping.{StopsFor}
+use Rattle.sja_threads.proofs.Rounds.GoesOn.{on_then}
+use Rattle.sja_threads.proofs.bus_thread.BusThread.round_beside.Goals as goal
+
+pub returns-in_err-gather-clause-fault : goal.returns-in_err-gather-clause-fault
+returns-in_err-gather-clause-fault g c =
+    let f = c.in_err-gather.field-0.0 in
+    let is : c.from_residual.result ≡ Err f = search rules in
+    err_is (StopsFor c.args.plan.now) c.from_residual.result f is
+    (c.in_err-gather.ensures.fault c.args.plan.now c.requires.way)
+
+pub returns-then-not-all_begun-clause-on : goal.returns-then-not-all_begun-clause-on
+returns-then-not-all_begun-clause-on g c = c.in_ok-gather.ensures.on c.args.plan.now c.requires.way
+
+pub bit_if_due-requires-clause-way : goal.bit_if_due-requires-clause-way
+bit_if_due-requires-clause-way g c = (c.in_ok-gather.ensures.on c.args.plan.now c.requires.way).way
+
+pub returns-clause-on : goal.returns-clause-on
+returns-clause-on g c =
+    on_then c.args.plan.now c.args.self.now c.gather.new.self c.bit_if_due.new.self
+    (c.in_ok-gather.ensures.on c.args.plan.now c.requires.way) c.bit_if_due.result c.bit_if_due.ensures.on

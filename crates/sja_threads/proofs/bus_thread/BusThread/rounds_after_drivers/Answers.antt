@@ -1,0 +1,74 @@
+use Rattle.std.proofs.Common.{rules, ◌≡◌, Ok, Err, refl, ap, ◌∙◌, arith, inl, inr}
+use Rattle.sja_bus.proofs.Results.{err_is}
+use Rattle.sja_threads.specs.declared.round.Round.{Round}
+use Rattle.sja_threads.specs.Stopping.{StopsFor}
+use Rattle.sja_threads.specs.Inside.Rounds.{GoesOn}
+use Rattle.sja_threads.proofs.Rounds.GoesOn.{stays_on, on_twice}
+use Rattle.sja_threads.proofs.bus_thread.BusThread.rounds_after_drivers.Given.{Over}
+use Rattle.sja_threads.proofs.bus_thread.BusThread.rounds_after_drivers.Goals.{In_ok-gather, In_ok-bit_if_due}
+use Rattle.sja_threads.proofs.bus_thread.BusThread.rounds_after_drivers.Goals as goal
+
+-- once what was left was taken
+taken : (g : Over) (c : In_ok-gather g) → GoesOn c.args.plan.now c.args.self.now c.gather.new.self
+taken g c =
+    let on = c.loop.invariant.on in
+    on_twice c.args.plan.now c.args.self.now c.loop.self c.gather.new.self on
+    (c.in_ok-gather.ensures.on c.args.plan.now on.way)
+
+-- and after the bit
+one_more : (g : Over) (c : In_ok-bit_if_due g) → GoesOn c.args.plan.now c.args.self.now c.bit_if_due.new.self
+one_more g c =
+    let on = c.loop.invariant.on in
+    let took = on_twice c.args.plan.now c.args.self.now c.loop.self c.gather.new.self on
+    (c.in_ok-gather.ensures.on c.args.plan.now on.way) in
+    on_twice c.args.plan.now c.args.self.now c.gather.new.self c.bit_if_due.new.self took c.in_ok-bit_if_due.ensures.on
+
+pub loop-init : goal.loop-init
+loop-init g c = record {
+  on = stays_on c.args.plan.now c.args.self.now c.requires.way;
+  count = refl;
+  ports = c.requires.ports;
+}
+
+pub returns-in_err-gather-clause-fault : goal.returns-in_err-gather-clause-fault
+returns-in_err-gather-clause-fault g c =
+    let f = c.in_err-gather.field-0.0 in
+    let is : c.from_residual.result ≡ Err f = search rules in
+    err_is (StopsFor c.args.plan.now) c.from_residual.result f is
+    (c.in_err-gather.ensures.fault c.args.plan.now c.loop.invariant.on.way)
+
+pub bit_if_due-requires-clause-way : goal.bit_if_due-requires-clause-way
+bit_if_due-requires-clause-way g c = (taken g (goal.at.bit_if_due-requires-clause-way g c).In_ok-gather).way
+
+pub loop-preserved : goal.loop-preserved
+loop-preserved g c =
+    let count = c.loop.invariant.count in
+    let taken = c.gather.ensures.run in
+    let ran = c.bit_if_due.ensures.ran (c.in_ok-bit_if_due.was ∙ ap (λ (r : Round). Ok r) c.in-Ran.is) in
+    let ports = c.loop.invariant.ports in
+    let same = c.bit_if_due.ensures.ports in record {
+      on = one_more g (goal.at.loop-preserved g c).In_ok-bit_if_due;
+      count = omega (arith, count, taken, ran);
+      ports = omega (arith, ports, same);
+    }
+
+pub returns-in-Rests-clause-ends : goal.returns-in-Rests-clause-ends
+returns-in-Rests-clause-ends g c = record {
+  on = one_more g (goal.at.returns-in-Rests-clause-ends g c).In_ok-bit_if_due;
+  duly = inl (
+    refl,
+    c.bit_if_due.ensures.rests (c.in_ok-bit_if_due.was ∙ ap (λ (r : Round). Ok r) c.in-Rests.is),
+  );
+}
+
+pub returns-in_default-clause-ends : goal.returns-in_default-clause-ends
+returns-in_default-clause-ends g c =
+    let on = one_more g (goal.at.returns-in_default-clause-ends g c).In_ok-bit_if_due in
+    let spent = on.way.spent (search rules) in
+    record { on = on; duly = inr (refl, spent.0, spent.1) }
+
+pub returns-in_default-2-clause-ends : goal.returns-in_default-2-clause-ends
+returns-in_default-2-clause-ends g c =
+    let on = one_more g (goal.at.returns-in_default-2-clause-ends g c).In_ok-bit_if_due in
+    let spent = on.way.spent (search rules) in
+    record { on = on; duly = inr (refl, spent.0, spent.1) }

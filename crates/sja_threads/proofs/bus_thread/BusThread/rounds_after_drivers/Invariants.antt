@@ -1,0 +1,10 @@
+use Rattle.std.proofs.Common.{◌≡◌, ◌≤◌, length}
+use Rattle.sja_threads.specs.Inside.Rounds.{GoesOn}
+use Rattle.sja_threads.proofs.bus_thread.BusThread.rounds_after_drivers.Given as goal
+
+abbrev pub invariant-loop : goal.invariant-loop
+invariant-loop g l = record {
+  on : GoesOn l.plan l.initial.self l.self;
+  count : l.counter ≡ l.self.run;
+  ports : length l.plan.nodes ≤ length l.board.ports.now;
+}

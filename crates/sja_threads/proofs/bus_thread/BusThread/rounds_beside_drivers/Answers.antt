@@ -1,0 +1,31 @@
+use Rattle.std.proofs.Common.{rules, arith}
+use Rattle.sja_threads.specs.Inside.Rounds.{GoesOn}
+use Rattle.sja_threads.proofs.Rounds.GoesOn.{stays_on, on_twice}
+use Rattle.sja_threads.proofs.bus_thread.BusThread.rounds_beside_drivers.Given.{Over}
+use Rattle.sja_threads.proofs.bus_thread.BusThread.rounds_beside_drivers.Goals.{In_ok-round}
+use Rattle.sja_threads.proofs.bus_thread.BusThread.rounds_beside_drivers.Goals as goal
+
+-- after one round more
+one_more : (g : Over) (c : In_ok-round g) → GoesOn c.args.plan.now c.args.self.now c.round_beside.new.self
+one_more g c =
+    on_twice c.args.plan.now c.args.self.now c.loop.self c.round_beside.new.self c.loop.invariant.on
+    c.in_ok-round.ensures.on
+
+pub loop-init : goal.loop-init
+loop-init g c =
+    record { on = stays_on c.args.plan.now c.args.self.now c.requires.way; ports = c.requires.ports }
+
+pub returns-then-all_ended-clause-on : goal.returns-then-all_ended-clause-on
+returns-then-all_ended-clause-on g c = one_more g (goal.at.returns-then-all_ended-clause-on g c).In_ok-round
+
+pub loop-preserved-then-eq : goal.loop-preserved-then-eq
+loop-preserved-then-eq g c = record {
+  on = one_more g (goal.at.loop-preserved-then-eq g c).In_ok-round;
+  ports = let was = c.loop.invariant.ports in let same = c.round_beside.ensures.ports in omega (arith, was, same);
+}
+
+pub loop-preserved : goal.loop-preserved
+loop-preserved g c = record {
+  on = one_more g (goal.at.loop-preserved g c).In_ok-round;
+  ports = let was = c.loop.invariant.ports in let same = c.round_beside.ensures.ports in omega (arith, was, same);
+}

@@ -1,0 +1,79 @@
+use Rattle.std.proofs.Common.{◌≡◌, ℕ, ◌<◌, List, length, sym, ap, ◌∙◌, subst}
+use Rattle.std.specs.Prelude.{None, slice_index_or}
+use Rattle.sja_link.specs.declared.down.Down.{Down}
+use Rattle.sja_rings.specs.declared.ring_bus.RingBus.{RingBus}
+use Rattle.sja_rings.specs.declared.ring_driver.RingDriver.{RingDriver}
+use Rattle.sja_rings.specs.Ends.{OneLink}
+use Rattle.sja_driver.specs.declared.logged_driver.LoggedDriver.{LoggedDriver}
+use Rattle.sja_driver.specs.LoggedDrivers.{IsLawful}
+use Rattle.sja_log.specs.Finishing.{AreNodeEnds}
+use Rattle.sja_log.specs.Log.{NodeValue, RunValue}
+use Rattle.sja_threads.specs.Inside.Settling.{all_drivers, AreLeftOn}
+use Rattle.sja_threads.proofs.End.LinksOver.{ends_count, one_link, all_lawful}
+use Rattle.sja_threads.proofs.End.LogOver.{AreLogParts, run_over, log_over}
+use Rattle.sja_threads.proofs.run_end.settled_log.Goals.{After-of-2}
+use Rattle.sja_threads.proofs.run_end.settled_log.Goals as goal
+
+pub settle_all-requires-clause-count : goal.settle_all-requires-clause-count
+settle_all-requires-clause-count c =
+    let o = c.requires.over in
+    ends_count c.args.plan.now c.args.bus.bus c.args.bus.links.items c.args.workeds.items o.0 o.1
+    ∙ sym (ap (λ (l : List RingDriver). length l) c.in_ok-drivers.ensures.ends)
+
+pub settle_all-requires-clause-pairs : goal.settle_all-requires-clause-pairs
+settle_all-requires-clause-pairs c =
+    let o = c.requires.over in
+    let links = c.args.bus.links.items in
+    let P : List RingDriver → Type 0 = λ es. (i : ℕ) (b : RingBus) (d : RingDriver) → i < length links →
+    OneLink (slice_index_or links i b) (slice_index_or es i d) in
+    subst P (sym c.in_ok-drivers.ensures.ends)
+    (one_link c.args.plan.now c.args.bus.bus links c.args.workeds.items o.0 o.1)
+
+pub node_runs-requires-clause-lawful : goal.node_runs-requires-clause-lawful
+node_runs-requires-clause-lawful c =
+    let o = c.requires.over in
+    let P : List LoggedDriver → Type 0 = λ ds. (k : ℕ) (d : LoggedDriver) → k < length ds →
+    IsLawful (slice_index_or ds k d) in
+    subst P (sym (c.as_slice.ensures.value ∙ c.in_ok-drivers.ensures.drivers))
+    (all_lawful c.args.plan.now c.args.bus.bus c.args.bus.links.items c.args.workeds.items o.0 o.1)
+
+-- what the log is made of
+log_parts : (c : After-of-2) → c.args.bus.bus.fault ≡ None → AreLogParts c.args.plan.now c.args.bus.bus
+    c.args.bus.links.items c.args.workeds.items c.args.end c.of-2.result c.finish-logs.result.items
+    c.in_ok-lists.lists.items
+log_parts c right =
+    let f = c.finish-logs.ensures in
+    let logs = c.finish-logs.result.items in
+    let drivers = all_drivers c.args.workeds.items in
+    let left = c.in_ok-lists.lists.items in
+    let nodes = c.in_ok-nodes.nodes.items in
+    let now = c.as_slice-2.result.now in
+    let is = c.of-2.ensures in record {
+      version = ap (λ (l : RunValue). l.version) is ∙ c.version.ensures.value;
+      bits = ap (λ (l : RunValue). l.bits) is ∙ sym c.requires.bits;
+      ends = ap (λ (l : RunValue). l.end) is;
+      nodes =
+          subst (λ (ns : List NodeValue). AreNodeEnds logs drivers left (length drivers) ns)
+          (sym (ap (λ (l : RunValue). l.nodes) is))
+          (subst (λ (l : List (List Down)). AreNodeEnds logs drivers l (length drivers) nodes) c.as_slice-2.ensures.value
+          (subst (λ (ds : List LoggedDriver). AreNodeEnds logs ds now (length ds) nodes)
+          (c.as_slice.ensures.value ∙ c.in_ok-drivers.ensures.drivers) c.in_ok-nodes.ensures));
+      left = subst (λ (es : List RingDriver). AreLeftOn c.args.bus.links.items es (length c.args.bus.links.items) left)
+          c.in_ok-drivers.ensures.ends c.in_ok-lists.ensures.left;
+      journals = f.journals;
+      lawful = f.lawful right;
+      counters = f.counters right;
+    }
+
+pub returns-clause-run : goal.returns-clause-run
+returns-clause-run c = λ deeds over.
+    let m = log_parts (goal.at.returns-clause-run c).After-of-2 over.right in
+    run_over c.args.plan.now c.args.bus.bus c.args.bus.links.items c.args.workeds.items c.args.end c.of-2.result
+    c.finish-logs.result.items c.in_ok-lists.lists.items m deeds over
+
+pub returns-clause-log : goal.returns-clause-log
+returns-clause-log c =
+    let o = c.requires.over in
+    let m = log_parts (goal.at.returns-clause-log c).After-of-2 o.1.right in
+    log_over c.args.plan.now c.args.bus.bus c.args.bus.links.items c.args.workeds.items c.args.end c.of-2.result
+    c.finish-logs.result.items c.in_ok-lists.lists.items m o.0 o.1

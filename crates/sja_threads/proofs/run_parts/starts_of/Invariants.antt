@@ -1,0 +1,13 @@
+use Rattle.std.proofs.Common.{◌≡◌, ◌≤◌, ◌+◌, ◌*◌, length, vec_capacity}
+use Rattle.std.specs.Vec.Iter.{into_iter_len}
+use Rattle.sja_threads.specs.Inside.Making.{AreMade}
+use Rattle.sja_threads.proofs.run_parts.starts_of.Given as goal
+
+abbrev pub invariant-loop-gate : goal.invariant-loop-gate
+invariant-loop-gate g l = record {
+  all : l.node + into_iter_len l.gate-iterator ≡ length l.plan.nodes;
+  count : length l.starts.items ≡ l.node;
+  room : length l.plan.nodes ≤ vec_capacity l.starts;
+  links : length l.buses.items ≡ 8 * l.node;
+  made : AreMade l.plan l.node l.starts.items l.buses.items;
+}

@@ -1,0 +1,131 @@
+//! Whole runs with each driver in a thread of its own.
+
+ghost use Rattle.std.specs.Prelude.{◌≡◌, ◌≢◌, ◌<◌, ℕ, length, slice_index_or, vec_len, Err, IfOk, IfErr};
+ghost use Rattle.sja_log.specs.Headline.{IsAccount};
+ghost use Rattle.sja_log.specs.Log.{NodeValue};
+ghost use Rattle.sja_log.specs.declared.run_fault.RunFault.TheVariants.{GateCount};
+ghost use Rattle.sja_threads.specs.Stopping.{IsFaultOf};
+ghost use Rattle.sja_threads.specs.Threads.{IsThreadedRun};
+ghost use Rattle.sja_threads.specs.Inside.JoinedRun.{IsEnding};
+ghost use Rattle.sja_threads.specs.Inside.Making.{AreRunParts};
+
+use super::bus_thread::close_all;
+use super::gate::Gate;
+use super::joined_run::{JoinedRun, join_all};
+use super::run_end::end_run;
+use super::run_parts::{RunParts, ports_of};
+use super::thread_start::start_all;
+use sja_log::{RunFault, RunLog};
+use sja_plan::Plan;
+use sja_regs::Port;
+use std::alloc::Global;
+use std::sync::{Mutex, Wait};
+use std::thread;
+use std::thread::{Scope, Threads};
+
+/// Runs a plan with each driver in a thread of its own and the bus in the caller's, and gives the log of the run. Each
+/// driver follows its script as its gate lets it ([`work`](crate::work)); the plan's turns are left out of account.
+///
+/// Each activation has a link of its own, and each port stands behind a lock; the threads share nothing else. Before
+/// each bit the bus takes what the drivers gave. No bit is run before the first start of each driver was taken or the
+/// driver had ended, and none where every controller is at rest. Where a bit is due and none is left, the ports are
+/// closed, and taking goes on. When all drivers have ended and are joined, the bus takes the rest and runs on until
+/// every controller is at rest or the bits are spent.
+///
+/// What each driver released in an activation, followed by what it left unread, is, in order and each once, the frames
+/// its controller validly received and its filter passed, less those marked overrun; and a frame is marked overrun
+/// exactly where it is longer than 64 less the bytes stored and not yet collected back. What each node saw in each bit
+/// is what all drove together, or the other level where the plan's faults strike it. What the link of each activation
+/// carried came by events of one link, each allowed when it came, in the order in which the journal has the bus's.
+/// Where no gate quits every step was done. No clause says that a thread is served, or that the call returns.
+///
+/// Errors: [`RunFault::GateCount`] exactly where there isn't one gate for each node; [`RunFault::Memory`] where memory
+/// was refused; [`RunFault::Thread`] where a thread can't be started; [`RunFault::Bus`] where the bus doesn't go on for
+/// another cause than spent bits; [`RunFault::Unsettled`] where a link gave no account at its end, or items were left
+/// on it that the bus didn't take.
+pub fn run_threads<G: Gate, R: Threads + Wait + Sync>(
+    rt: &R,
+    alloc: Global,
+    plan: &Plan,
+    gates: Vec<G>,
+) -> Result<RunLog, RunFault>
+    ensures run { IfOk result (λ log. IsThreadedRun plan.now log G.QUITS) }
+    ensures headline { IfOk result (λ log. (k : ℕ) (d : NodeValue) → k < length log.nodes →
+        IsAccount (slice_index_or log.nodes k d)) }
+    ensures gates { (vec_len gates ≢ length plan.now.nodes) → result ≡ Err GateCount }
+    ensures only { result ≡ Err GateCount → vec_len gates ≢ length plan.now.nodes }
+    ensures fault { (vec_len gates ≡ length plan.now.nodes) → IfErr result (IsFaultOf plan.now) }
+{
+    if gates.len() != plan.nodes() {
+        return Err(RunFault::GateCount);
+    }
+    let parts = RunParts::new(alloc, plan, gates)?;
+    let ports = ports_of(alloc, plan)?;
+    let joined = run_drivers(rt, plan, parts, ports.as_slice())?;
+    end_run::<G, R>(rt, alloc, plan, joined, ports.as_slice())
+}
+
+/// Each driver in a thread of its own and the bus in this one, until all drivers have ended and are joined. Where the
+/// run stops before that, the ports are closed, so that the drivers end.
+///
+/// Error: [`RunFault::Thread`] where a thread can't be started, and [`RunFault::Bus`] where the bus doesn't go on.
+fn run_drivers<G: Gate, R: Threads + Wait + Sync>(
+    rt: &R,
+    plan: &Plan,
+    parts: RunParts<G>,
+    ports: &[Mutex<Port>],
+) -> Result<JoinedRun, RunFault>
+    requires parts { AreRunParts plan.now parts }
+    requires ports { length ports.now ≡ length plan.now.nodes }
+    ensures ending { IfOk result (IsEnding G.QUITS plan.now) }
+    ensures fault { IfErr result (IsFaultOf plan.now) }
+{
+    thread::scope(
+        thread::scope_env(),
+        rt,
+        move |scope| -> Result<JoinedRun, RunFault>
+            requires parts { AreRunParts plan.now parts }
+            requires ports { length ports.now ≡ length plan.now.nodes }
+            ensures ending { IfOk result (IsEnding G.QUITS plan.entry.now) }
+            ensures fault { IfErr result (IsFaultOf plan.entry.now) }
+        {
+            let joined = run_in(scope, rt, plan, parts, ports);
+            if joined.is_err() {
+                close_all(rt, ports);
+            }
+            joined
+        },
+    )
+}
+
+/// Starts the threads of all drivers, runs the bus beside them until they have ended, and joins them.
+///
+/// Error: [`RunFault::Thread`] where a thread can't be started, and [`RunFault::Bus`] where the bus doesn't go on. Then
+/// those that were started run on.
+fn run_in<'s, E, G: Gate + 's, R: Threads + Wait + Sync>(
+    scope: &Scope<'s, E>,
+    rt: &'s R,
+    plan: &'s Plan,
+    parts: RunParts<G>,
+    ports: &'s [Mutex<Port>],
+) -> Result<JoinedRun, RunFault>
+    requires parts { AreRunParts plan.now parts }
+    requires ports { length ports.now ≡ length plan.now.nodes }
+    ensures ending { IfOk result (IsEnding G.QUITS plan.now) }
+    ensures fault { IfErr result (IsFaultOf plan.now) }
+{
+    let RunParts {
+        mut bus,
+        starts,
+        children,
+        workeds,
+    } = parts;
+    let children = start_all(scope, rt, plan, starts, ports, children)?;
+    match bus.rounds_beside_drivers(rt, plan, ports) {
+        Ok(()) => Ok(JoinedRun {
+            bus,
+            workeds: join_all(rt, children, workeds),
+        }),
+        Err(stop) => Err(RunFault::Bus(stop)),
+    }
+}
