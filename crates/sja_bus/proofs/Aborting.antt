@@ -1,5 +1,6 @@
 -- What an abort leaves of a request.
-use Rattle.std.proofs.Common.{◌≡◌, ◌≢◌, Bool, true, false, Option, Some, None, List, [], ◌∷◌, ◌++◌, refl, sym, ap, ◌∙◌, subst, append-nil}
+use Rattle.std.proofs.Common.{◌≡◌, ◌≢◌, Bool, true, false, Option, Some, None, List, [], ◌∷◌, ◌++◌, refl, sym, ap, ◌∙◌}
+use Rattle.std.proofs.Common.{subst, append-nil}
 use Rattle.std.specs.Prelude.{◌||◌, not, if◌then◌else◌}
 use Rattle.can_node.specs.declared.request.Request.{Request}
 use Rattle.can_node.specs.declared.aborted.Aborted.TheVariants.{Unchanged, Marked, Dropped}
@@ -36,7 +37,8 @@ pub record AbortedCut (entries : List Event) (found : List FinishedPiece) (next 
   pub cut : IsCut (entries ++ AbortedNow ∷ []) found
   pub now : now_in cut ≡ next
 
-on_bus : (c : ContextValue) (b : Bool) → IsOnBus c → IsOnBus (if b then record c { aborted = true } else record c { held = None })
+on_bus : (c : ContextValue) (b : Bool) → IsOnBus c → IsOnBus
+    (if b then record c { aborted = true } else record c { held = None })
 on_bus c true h = h
 on_bus c false h = h
 
@@ -47,13 +49,15 @@ abort_by entries found c place slice cut (rests l) away = absurd (away refl)
 abort_by entries found c place slice cut nothing away =
     let next = with_abort place c in
     let on : IsOnBus c = stays_end cut in
-    let Q : List FinishedPiece → Type 0 = λ l. From none_yet fresh AtReset (entries ++ AbortedNow ∷ []) l next place [] in
+    let Q : List FinishedPiece → Type 0 = λ l. From none_yet fresh AtReset
+    (entries ++ AbortedNow ∷ []) l next place [] in
     record {
       cut = record {
         context = next;
         place = place;
         rest = [];
-        from = subst Q (append-nil found) (move_on (AbortedNow ∷ []) [] cut (aborted away) (on_bus c (is_in_progress c place) on));
+        from = subst Q (append-nil found) (move_on (AbortedNow ∷ []) [] cut (aborted away)
+            (on_bus c (is_in_progress c place) on));
       };
       now = refl;
     }
@@ -64,7 +68,12 @@ abort_by entries found c place slice cut (begun inner begins unfinished) away =
     let bits : bits_in more ≡ bits_in slice = bits_both slice (AbortedNow ∷ []) ∙ append-nil (bits_in slice) in
     let P : List Levels → Type 0 = λ l. IsUnfinished c place l in
     let opened : IsOpenAt c place more = begun (inner_both inner (aborts none_left))
-    (record { bit = begins.bit; rest = begins.rest ++ AbortedNow ∷ []; whole = ap (λ l. l ++ AbortedNow ∷ []) begins.whole })
+    (record {
+      bit = begins.bit;
+      rest = begins.rest ++ AbortedNow ∷ [];
+      whole =
+          ap (λ l. l ++ AbortedNow ∷ []) begins.whole;
+    })
     (subst P (sym bits) unfinished) in
     let on : IsOnBus now = stays_end cut in
     let next : IsOnBus (with_abort place now) = on_bus now (is_in_progress now place) on in
@@ -101,27 +110,34 @@ dropped_found false (Some request) marked e = (request, refl, refl)
 -- ---- what it left, by every cut
 
 -- it is told by the context after the abort
-leaves : (node : Node) (j : List Entry) (h : Follows node j) (left : Bool) (request : Request) → (now_in h.stands.cut).held ≡ Some request →
+leaves : (node : Node) (j : List Entry) (h : Follows node j) (left : Bool) (request : Request) →
+    (now_in h.stands.cut).held ≡ Some request →
     is_held (with_abort h.stands.cut.place (now_in h.stands.cut)).held ≡ left → Drops true (j ++ Abort ∷ []) (not left)
 leaves node j h left request held is found cut =
     let c = h.stands.cut in
-    let away = holding_awake node (record_of j) h.found h.stands request (ap (λ (d : ContextValue). d.held) h.stands.shows ∙ held) in
+    let away = holding_awake node (record_of j) h.found h.stands request
+    (ap (λ (d : ContextValue). d.held) h.stands.shows ∙ held) in
     let made = abort_by (record_of j) h.found c.context c.place c.rest c.from (open_end c.from) away in
     let one : record_of (j ++ Abort ∷ []) ≡ record_of j ++ AbortedNow ∷ [] = record_push j Abort in
     let P : List Event → Type 0 = λ r. IsCut r found in
     let Q : List Event → Type 0 = λ r. (k : IsCut r found) → is_held (now_in k).held ≡ left in
     let same : (k : IsCut (record_of j ++ AbortedNow ∷ []) found) → is_held (now_in k).held ≡ left =
-    λ k. ap (λ (d : ContextValue). is_held d.held) (sym (now_once (record_of j ++ AbortedNow ∷ []) h.found found made.cut k) ∙ made.now) ∙ is in
+    λ k. ap (λ (d : ContextValue). is_held d.held) (sym
+    (now_once (record_of j ++ AbortedNow ∷ []) h.found found made.cut k) ∙ made.now) ∙ is in
     ap not (sym (subst Q (sym one) same cut))
 
-pub marked_leaves : (old new : Node) (j : List Entry) → Aborts old new Marked → Follows old j → Drops true (j ++ Abort ∷ []) false
+pub marked_leaves : (old new : Node) (j : List Entry) → Aborts old new Marked → Follows old j →
+    Drops true (j ++ Abort ∷ []) false
 marked_leaves old new j does h =
     let c = now_in h.stands.cut in let place = h.stands.cut.place in
     let f = marked_found (is_in_progress c place) c.held c.aborted (does.1 (record_of j) h.found h.stands) in
-    leaves old j h true f.0 f.1 (ap (λ g. is_held (if g then record c { aborted = true } else record c { held = None }).held) f.2 ∙ ap is_held f.1)
+    leaves old j h true f.0 f.1 (ap (λ g. is_held (if g then record c { aborted = true } else record c
+    { held = None }).held) f.2 ∙ ap is_held f.1)
 
-pub dropped_leaves : (old new : Node) (j : List Entry) → Aborts old new Dropped → Follows old j → Drops true (j ++ Abort ∷ []) true
+pub dropped_leaves : (old new : Node) (j : List Entry) → Aborts old new Dropped → Follows old j →
+    Drops true (j ++ Abort ∷ []) true
 dropped_leaves old new j does h =
     let c = now_in h.stands.cut in let place = h.stands.cut.place in
     let f = dropped_found (is_in_progress c place) c.held c.aborted (does.1 (record_of j) h.found h.stands) in
-    leaves old j h false f.0 f.1 (ap (λ g. is_held (if g then record c { aborted = true } else record c { held = None }).held) f.2)
+    leaves old j h false f.0 f.1 (ap (λ g. is_held (if g then record c { aborted = true } else record c
+    { held = None }).held) f.2)

@@ -12,7 +12,8 @@ use Rattle.sja_wire.specs.OutOfOrder.{HasOff, HasAskedOff}
 abbrev Split : {A : Type 0} → List A → A → A → List A → List A → Type 0
 Split {A} p e x before after = (x ≡ e) ⊎ ((rest : List A) × (p ≡ before ++ x ∷ rest))
 
-split : {A : Type 0} (p : List A) (e x : A) (before after : List A) → p ++ e ∷ [] ≡ before ++ x ∷ after → Split p e x before after
+split : {A : Type 0} (p : List A) (e x : A) (before after : List A) → p ++ e ∷ [] ≡ before ++ x ∷ after →
+    Split p e x before after
 split [] e x [] after h = inl (ap (λ l. slice_index_or l 0 x) (sym h))
 split (y ∷ p) e x [] after h = inr (p, ap (λ z. z ∷ p) (ap (λ l. slice_index_or l 0 x) h))
 split [] e x (b ∷ before) after h =
@@ -20,7 +21,11 @@ split [] e x (b ∷ before) after h =
     let m : 1 ≡ suc (length (before ++ x ∷ after)) = ap (λ l. length l) h in absurd (omega (arith, n, m))
 split (y ∷ p) e x (b ∷ before) after h = elim (split p e x before after (ap (λ l. drop 1 l) h)) [
   | inl last ↦ inl last
-  | inr found ↦ inr (found.0, ap (λ l. y ∷ l) found.1 ∙ ap (λ z. z ∷ (before ++ x ∷ found.0)) (ap (λ l. slice_index_or l 0 x) h))
+  | inr found ↦ inr (
+    found.0,
+    ap (λ l. y ∷ l) found.1 ∙ ap (λ z. z ∷ (before ++ x ∷ found.0))
+        (ap (λ l. slice_index_or l 0 x) h),
+  )
 ]
 
 pub none_off : HasOff [] → ⊥
@@ -34,9 +39,11 @@ off_before p e other h = elim (split p e Off h.before h.after h.whole) [
   | inr found ↦ record { before = h.before; after = found.0; whole = found.1 }
 ]
 
-pub asked_before : (p : List Entry) (e : Entry) → ((request : Request) → e ≡ Item (Send request) → ⊥) → HasAskedOff (p ++ e ∷ []) → HasAskedOff p
+pub asked_before : (p : List Entry) (e : Entry) → ((request : Request) → e ≡ Item (Send request) → ⊥) →
+    HasAskedOff (p ++ e ∷ []) → HasAskedOff p
 asked_before p e other h =
-    let whole : p ++ e ∷ [] ≡ (h.before ++ Off ∷ h.between) ++ Item (Send h.request) ∷ h.after = h.whole ∙ sym (append_assoc h.before (Off ∷ h.between) (Item (Send h.request) ∷ h.after)) in
+    let whole : p ++ e ∷ [] ≡ (h.before ++ Off ∷ h.between) ++ Item (Send h.request) ∷ h.after = h.whole
+    ∙ sym (append_assoc h.before (Off ∷ h.between) (Item (Send h.request) ∷ h.after)) in
     elim (split p e (Item (Send h.request)) (h.before ++ Off ∷ h.between) h.after whole) [
       | inl last ↦ absurd (other h.request (sym last))
       | inr found ↦ record {

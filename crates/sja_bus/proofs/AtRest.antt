@@ -1,5 +1,6 @@
 -- A node at rest: a recessive bit changes nothing of it, and an abort finds no request.
-use Rattle.std.proofs.Common.{◌≡◌, ℕ, zero, suc, Bool, true, false, Option, Some, None, List, [], ◌∷◌, ◌++◌, ◌+◌, arith, inl, inr, refl, sym, ap, ◌∙◌, subst, append_assoc, append-nil}
+use Rattle.std.proofs.Common.{◌≡◌, ℕ, zero, suc, Bool, true, false, Option, Some, None, List, [], ◌∷◌, ◌++◌, ◌+◌, arith}
+use Rattle.std.proofs.Common.{inl, inr, refl, sym, ap, ◌∙◌, subst, append_assoc, append-nil}
 use Rattle.std.specs.Prelude.{◌⊎◌, if◌then◌else◌, nat_lt}
 use Rattle.can_bits.specs.declared.level.Level.{Level}
 use Rattle.can_bits.specs.declared.level.Level.TheVariants.{Recessive}
@@ -7,7 +8,11 @@ use Rattle.can_node.specs.declared.node.Node.{Node}
 use Rattle.can_node.specs.declared.phase.Phase.TheVariants.{Intermission, Suspension}
 use Rattle.can_node.specs.declared.request.Request.{Request}
 use Rattle.can_node.specs.declared.stage.Stage.{Stage}
-use Rattle.can_node.specs.declared.stage.Stage.TheVariants.{InReset as StageInReset, Integrating as StageIntegrating, BusIdle as StageBusIdle, InFrame as StageInFrame, LastEofBit as StageLastEofBit, InFlag as StageInFlag, InDelimiter as StageInDelimiter, InInterframeSpace as StageInInterframeSpace}
+use Rattle.can_node.specs.declared.stage.Stage.TheVariants.{InReset as StageInReset, Integrating as StageIntegrating}
+use Rattle.can_node.specs.declared.stage.Stage.TheVariants.{BusIdle as StageBusIdle, InFrame as StageInFrame}
+use Rattle.can_node.specs.declared.stage.Stage.TheVariants.{LastEofBit as StageLastEofBit, InFlag as StageInFlag}
+use Rattle.can_node.specs.declared.stage.Stage.TheVariants.{InDelimiter as StageInDelimiter}
+use Rattle.can_node.specs.declared.stage.Stage.TheVariants.{InInterframeSpace as StageInInterframeSpace}
 use Rattle.can_node.specs.Bits.{Bit as Levels}
 use Rattle.can_node.specs.Context.{ContextValue, is_held}
 use Rattle.can_node.specs.Pieces.{Place}
@@ -18,7 +23,8 @@ use Rattle.can_node.specs.Driving.{Drives}
 use Rattle.can_node.specs.NextBit.{now_in, open_bits, rests_in}
 use Rattle.can_node.specs.Machine.Standing.{context_of}
 use Rattle.can_node.specs.Machine.Stages.{At}
-use Rattle.can_node.specs.Stands.{DrivesNext, Samples, ShowsRest, ShowsSame, abort_of, nothing, is_receiving, phase_of_stage}
+use Rattle.can_node.specs.Stands.{DrivesNext, Samples, ShowsRest, ShowsSame, abort_of, nothing, is_receiving}
+use Rattle.can_node.specs.Stands.{phase_of_stage}
 use Rattle.can_node.proofs.Machine.Ats.{at_is}
 use Rattle.can_node.proofs.Machine.Quiet.{IsQuiet, quietly, idle_quietly}
 use Rattle.can_node.proofs.Machine.Shown.{phase_shown}
@@ -48,7 +54,8 @@ pausing : (b held : Bool) → rests_in (if b then Intermission else Suspension) 
 pausing true held e = cc
 pausing false held e = cc
 
-rest_stage : (s : Stage) (held : Bool) → rests_in (phase_of_stage s) held ≡ true → (s ≡ StageInReset) ⊎ ((s ≡ StageBusIdle) × (held ≡ false))
+rest_stage : (s : Stage) (held : Bool) → rests_in (phase_of_stage s) held ≡ true → (s ≡ StageInReset)
+    ⊎ ((s ≡ StageBusIdle) × (held ≡ false))
 rest_stage StageInReset held h = inl refl
 rest_stage (StageIntegrating left run) held h = absurd cc
 rest_stage StageBusIdle true h = absurd cc
@@ -69,11 +76,14 @@ resting_stage : (node : Node) (j : List Entry) → ShowsRest node true → (h : 
 resting_stage node j rests h =
     let held = is_held (now_in h.stands.cut).held in
     rest_stage node.stage held
-    (ap (λ p. rests_in p held) (phase_shown node (record_of j) h.found h.stands) ∙ sym (rests (record_of j) h.found h.stands))
+    (ap (λ p. rests_in p held) (phase_shown node (record_of j) h.found h.stands)
+    ∙ sym (rests (record_of j) h.found h.stands))
 
-resting_held : (node : Node) (j : List Entry) → ShowsRest node true → (h : Follows node j) → (now_in h.stands.cut).held ≡ None
+resting_held : (node : Node) (j : List Entry) → ShowsRest node true → (h : Follows node j) →
+    (now_in h.stands.cut).held ≡ None
 resting_held node j rests h = elim (resting_stage node j rests h) [
-  | inl reset ↦ (at_is StageInReset node.stage node.shift h.stands.cut.context (now_in h.stands.cut) h.stands.cut.place (open_bits h.stands.cut) reset h.stands.at).1
+  | inl reset ↦ (at_is StageInReset node.stage node.shift h.stands.cut.context (now_in h.stands.cut) h.stands.cut.place
+      (open_bits h.stands.cut) reset h.stands.at).1
   | inr idle ↦ none_held (now_in h.stands.cut).held idle.1
 ]
 
@@ -82,7 +92,8 @@ pub applied_at_rest : (node : Node) (j : List Entry) → ShowsRest node true →
 applied_at_rest node j rests h = record {
   runs = λ opened on found cut.
       let none : (now_in cut).held ≡ None =
-      ap (λ (c : ContextValue). c.held) (sym (now_once (record_of j) h.found found h.stands.cut cut)) ∙ resting_held node j rests h in
+      ap (λ (c : ContextValue). c.held) (sym (now_once (record_of j) h.found found h.stands.cut cut))
+      ∙ resting_held node j rests h in
       sym (ap (λ o. changes (abort_of (is_in_progress (now_in cut) cut.place) o (now_in cut).aborted)) none);
   rests = λ no. refl;
 }
@@ -112,7 +123,8 @@ pub resting_bit : (node : Node) (j : List Entry) → ShowsRest node true → Dri
 resting_bit node j rests drives h =
     let cut = h.stands.cut in
     let next : node.next ≡ Recessive =
-    drives_once (now_in cut) cut.place (open_bits cut) node.next Recessive h.stands.next (drives (record_of j) h.found h.stands) in
+    drives_once (now_in cut) cut.place (open_bits cut) node.next Recessive h.stands.next
+    (drives (record_of j) h.found h.stands) in
     elim (resting_stage node j rests h) [
       | inl reset ↦ quietly node node Recessive refl refl (reset_quiet node Recessive reset next)
       | inr idle ↦ idle_quietly node Recessive idle.0 next refl
@@ -127,24 +139,30 @@ snoc : (n : ℕ) → recessive_bits n ++ Bit Recessive Recessive ∷ [] ≡ rece
 snoc zero = refl
 snoc (suc n) = ap (λ l. Bit Recessive Recessive ∷ l) (snoc n)
 
-pub one_more : (n : ℕ) (j : List Entry) → (j ++ recessive_bits n) ++ Bit Recessive Recessive ∷ [] ≡ j ++ recessive_bits (suc n)
+pub one_more : (n : ℕ) (j : List Entry) → (j ++ recessive_bits n) ++ Bit Recessive Recessive ∷ [] ≡ j
+    ++ recessive_bits (suc n)
 one_more n j = append_assoc j (recessive_bits n) (Bit Recessive Recessive ∷ []) ∙ ap (λ l. j ++ l) (snoc n)
 
 pub after_none : (s : Seat) → after_bits 0 s ≡ s
-after_none s = ap (λ l. let x : Seat = record s { journal = record s.journal { entries = l } } in x) (append-nil s.journal.entries)
+after_none s = ap (λ l. let x : Seat = record s { journal = record s.journal { entries = l } } in x)
+    (append-nil s.journal.entries)
 
 -- it drives recessive
 drives_recessive : (s : Seat) → IsReady s → IsResting s → DrivesNext s.node Recessive
 drives_recessive s ready rest = let P : Level → Type 0 = λ x. DrivesNext s.node x in subst P rest.drives ready.drives
 
-samples_recessive : (s : Seat) → IsReady s → IsResting s → Samples s.node s.node Recessive (nothing (is_receiving s.node))
-samples_recessive s ready rest = resting_bit s.node s.journal.entries rest.rests (drives_recessive s ready rest) ready.sound.follows
+samples_recessive : (s : Seat) → IsReady s → IsResting s →
+    Samples s.node s.node Recessive (nothing (is_receiving s.node))
+samples_recessive s ready rest = resting_bit s.node s.journal.entries rest.rests
+    (drives_recessive s ready rest) ready.sound.follows
 
 sound_after : (n : ℕ) (s : Seat) → IsReady s → IsResting s → IsSound (after_bits n s)
 sound_after zero s ready rest = let P : Seat → Type 0 = λ x. IsSound x in subst P (sym (after_none s)) ready.sound
 sound_after (suc n) s ready rest =
-    quiet_sound (after_bits n s) (after_bits (suc n) s) s.node Recessive Recessive (is_receiving s.node) (drives_recessive s ready rest)
-    (samples_recessive s ready rest) (same_shown s.node) refl (sym (one_more n s.journal.entries)) refl refl refl (sound_after n s ready rest)
+    quiet_sound (after_bits n s) (after_bits (suc n) s) s.node Recessive Recessive (is_receiving s.node)
+    (drives_recessive s ready rest)
+    (samples_recessive s ready rest) (same_shown s.node) refl (sym (one_more n s.journal.entries)) refl refl refl
+    (sound_after n s ready rest)
 
 pub ready_after : (n : ℕ) (s : Seat) → IsReady s → IsResting s → IsReady (after_bits n s)
 ready_after n s ready rest = record {
@@ -154,7 +172,8 @@ ready_after n s ready rest = record {
 }
 
 -- each bit is one that its port is passed over in
-pub turns_after : (was_told : BusTurn → Type 0) (was_kept : Type 0) (n : ℕ) (s : Seat) → was_kept → IsReady s → IsResting s →
+pub turns_after : (was_told : BusTurn → Type 0) (was_kept : Type 0) (n : ℕ) (s : Seat) → was_kept →
+    IsReady s → IsResting s →
     Turns was_told was_kept Recessive (after_bits n s) (after_bits (suc n) s)
 turns_after was_told was_kept n s kept ready rest =
     quiet_turns was_told was_kept Recessive (after_bits n s) (after_bits (suc n) s) kept (ready_after n s ready rest)
@@ -163,14 +182,16 @@ turns_after was_told was_kept n s kept ready rest =
       told = rest.none;
       samples = samples_recessive s ready rest;
       shows = same_shown s.node;
-      whole = sym (one_more n s.journal.entries) ∙ ap (λ x. (s.journal.entries ++ recessive_bits n) ++ Bit x Recessive ∷ []) (sym rest.drives);
+      whole = sym (one_more n s.journal.entries) ∙ ap (λ x. (s.journal.entries ++ recessive_bits n) ++ Bit x Recessive
+          ∷ []) (sym rest.drives);
     })
 
 -- nothing is taken before it, and no abort changes the node
 abbrev no_abort : (j : List Entry) → MayHaveAbort j j
 no_abort j = record { changed = false; whole = sym (append-nil j) }
 
-pub opens_after : (has_orders : Orders → Type 0) (n : ℕ) (s : Seat) (o : Orders) → has_orders o → IsReady s → IsResting s →
+pub opens_after : (has_orders : Orders → Type 0) (n : ℕ) (s : Seat) (o : Orders) → has_orders o →
+    IsReady s → IsResting s →
     Opens has_orders (after_bits n s).journal.entries (after_bits n s).journal.entries
 opens_after has_orders n s o has ready rest =
     let t = after_bits n s in let j = t.journal.entries in record {
@@ -193,14 +214,20 @@ untold_none s = record {
 }
 
 -- one bit more was entered
-pub after_step : (n : ℕ) (s old new : Seat) → old ≡ after_bits n s → new ≡ record old { journal = new.journal } → new.journal.room ≡ old.journal.room →
+pub after_step : (n : ℕ) (s old new : Seat) → old ≡ after_bits n s → new ≡ record old { journal = new.journal } →
+    new.journal.room ≡ old.journal.room →
     new.journal.entries ≡ old.journal.entries ++ Bit Recessive Recessive ∷ [] → new ≡ after_bits (n + 1) s
 after_step n s old new is others room entries =
     let b = Bit Recessive Recessive in
-    let j : new.journal ≡ record old.journal { entries = old.journal.entries ++ b ∷ [] } = λ i. record { entries = entries i; room = room i } in
+    let j : new.journal ≡ record old.journal { entries = old.journal.entries ++ b ∷ [] } =
+    λ i. record { entries = entries i; room = room i } in
     let next : suc n ≡ n + 1 = omega arith in
     others
     ∙ ap (λ (w : Written). let x : Seat = record old { journal = w } in x) j
-    ∙ ap (λ (t : Seat). let x : Seat = record t { journal = record t.journal { entries = t.journal.entries ++ b ∷ [] } } in x) is
-    ∙ ap (λ l. let x : Seat = record s { journal = record s.journal { entries = l } } in x) (one_more n s.journal.entries)
+    ∙ ap (λ (t : Seat). let x : Seat = record t {
+      journal =
+          record t.journal { entries = t.journal.entries ++ b ∷ [] };
+    } in x) is
+    ∙ ap (λ l. let x : Seat = record s { journal = record s.journal { entries = l } } in x)
+    (one_more n s.journal.entries)
     ∙ ap (λ k. after_bits k s) next

@@ -20,17 +20,21 @@ pub lawful_of : (node : Node) (j : List Entry) → Follows node j → IsLawful j
 lawful_of node j h = record {
   found = h.found;
   cut = h.stands.cut;
-  verdicts = λ others cut. subst (λ (l : List FinishedPiece). HasVerdicts j (received l)) (cut_once (record_of j) h.found others h.stands.cut cut) h.verdicts;
+  verdicts = λ others cut. subst (λ (l : List FinishedPiece). HasVerdicts j (received l))
+      (cut_once (record_of j) h.found others h.stands.cut cut) h.verdicts;
 }
 
 -- the context of the next bit is the same by every cut
-pub now_once : (entries : List Event) (found others : List FinishedPiece) (h : IsCut entries found) (k : IsCut entries others) → now_in h ≡ now_in k
+pub now_once : (entries : List Event) (found others : List FinishedPiece) (h : IsCut entries found)
+    (k : IsCut entries others) → now_in h ≡ now_in k
 now_once entries found others h k =
     let once = whole_once entries found others h k in
-    ap (λ d. along d h.place [] h.rest) once.1 ∙ ap (λ p. along k.context p [] h.rest) once.2 ∙ ap (λ l. along k.context k.place [] l) once.3
+    ap (λ d. along d h.place [] h.rest) once.1 ∙ ap (λ p. along k.context p [] h.rest) once.2
+    ∙ ap (λ l. along k.context k.place [] l) once.3
 
 -- the counters that the node shows, by every cut
-pub counters_of : (node : Node) (j : List Entry) (counters : Counters) → ShowsCounters node counters → Follows node j → CountersAre j counters.tec counters.rec
+pub counters_of : (node : Node) (j : List Entry) (counters : Counters) → ShowsCounters node counters → Follows node j →
+    CountersAre j counters.tec counters.rec
 counters_of node j counters shows h found cut =
     let s = shows (record_of j) h.found h.stands in
     let same : now_in h.stands.cut ≡ now_in cut = now_once (record_of j) h.found found h.stands.cut cut in

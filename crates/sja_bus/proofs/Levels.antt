@@ -1,5 +1,6 @@
 -- The level that all nodes drive together.
-use Rattle.std.proofs.Common.{◌≡◌, ℕ, zero, suc, ◌<◌, ◌≤◌, List, [], ◌∷◌, ◌++◌, ◌+◌, length, take, drop, refl, sym, ap, ◌∙◌, arith}
+use Rattle.std.proofs.Common.{◌≡◌, ℕ, zero, suc, ◌<◌, ◌≤◌, List, [], ◌∷◌, ◌++◌, ◌+◌, length, take, drop, refl, sym, ap}
+use Rattle.std.proofs.Common.{◌∙◌, arith}
 use Rattle.std.specs.Prelude.{slice_index_or, slice_set}
 use Rattle.std.proofs.lemmas.List.{map-append, take_more_set}
 use Rattle.can_bits.specs.declared.level.Level.{Level}
@@ -17,13 +18,16 @@ wired_later Dominant levels e = absurd cc
 wired_later Recessive levels e = refl
 
 -- the first of those left drives dominant
-pub dominant_here : (seats : List Seat) (k : ℕ) (s : Seat) → k < length seats → (slice_index_or seats k s).drives ≡ Dominant → wired (driven_by (drop k seats)) ≡ Dominant
+pub dominant_here : (seats : List Seat) (k : ℕ) (s : Seat) → k < length seats →
+    (slice_index_or seats k s).drives ≡ Dominant → wired (driven_by (drop k seats)) ≡ Dominant
 dominant_here [] k s few e = absurd (omega arith)
 dominant_here (x ∷ seats) zero s few e = wired_first x.drives (driven_by seats) e
 dominant_here (x ∷ seats) (suc k) s few e = dominant_here seats k s (omega arith) e
 
 -- it drives recessive
-pub recessive_here : (seats : List Seat) (k : ℕ) (s : Seat) → k < length seats → (slice_index_or seats k s).drives ≡ Recessive → wired (driven_by (drop k seats)) ≡ wired (driven_by (drop (suc k) seats))
+pub recessive_here : (seats : List Seat) (k : ℕ) (s : Seat) → k < length seats →
+    (slice_index_or seats k s).drives ≡ Recessive → wired (driven_by (drop k seats)) ≡ wired
+    (driven_by (drop (suc k) seats))
 recessive_here [] k s few e = absurd (omega arith)
 recessive_here (x ∷ seats) zero s few e = wired_later x.drives (driven_by seats) e
 recessive_here (x ∷ seats) (suc k) s few e = recessive_here seats k s (omega arith) e
@@ -51,7 +55,8 @@ wired_alone Dominant = refl
 wired_alone Recessive = refl
 
 -- one more had its bit
-pub level_now : (seats : List Seat) (k : ℕ) (new : Seat) (before now : Level) → k < length seats → before ≡ wired (driven_by (take k seats)) → now ≡ wired (before ∷ new.drives ∷ []) →
+pub level_now : (seats : List Seat) (k : ℕ) (new : Seat) (before now : Level) → k < length seats →
+    before ≡ wired (driven_by (take k seats)) → now ≡ wired (before ∷ new.drives ∷ []) →
     now ≡ wired (driven_by (take (k + 1) (slice_set seats k new)))
 level_now seats k new before now few was is =
     is ∙ ap (λ l. wired (l ∷ new.drives ∷ [])) was ∙ sym (wired_last (driven_by (take k seats)) new.drives)

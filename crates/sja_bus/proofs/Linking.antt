@@ -1,5 +1,6 @@
 -- The links of all nodes, made one after another.
-use Rattle.std.proofs.Common.{◌≡◌, ◌+◌, ◌/◌, ◌%◌, ◌<◌, ℕ, suc, List, [], ◌∷◌, ◌++◌, length, inl, inr, sym, ap, ◌∙◌, arith}
+use Rattle.std.proofs.Common.{◌≡◌, ◌+◌, ◌/◌, ◌%◌, ◌<◌, ℕ, suc, List, [], ◌∷◌, ◌++◌, length, inl, inr, sym, ap, ◌∙◌}
+use Rattle.std.proofs.Common.{arith}
 use Rattle.std.specs.Prelude.{slice_index_or}
 use Rattle.std.proofs.Math.Seq.{get_or-append_seam}
 use Rattle.std.proofs.lemmas.Bool.{cases_eq}
@@ -15,8 +16,20 @@ pub is_new : (link : Deques) (node activation : ℕ) → link.link ≡ record { 
     link.down ≡ [] → link.up ≡ [] → link ≡ new_link node activation
 is_new link node activation id down up =
     let A : LinkId → Deques = λ l. record { link = l; down = link.down; up = link.up } in
-    let B : List Down → Deques = λ l. record { link = record { node = node; activation = activation }; down = l; up = link.up } in
-    let C : List Up → Deques = λ l. record { link = record { node = node; activation = activation }; down = []; up = l } in
+    let B : List Down → Deques = λ l. record {
+      link = record { node = node; activation = activation };
+      down = l;
+      up = link.up;
+    } in
+    let C : List Up → Deques = λ l. record {
+      link = record {
+        node = node;
+        activation =
+            activation;
+      };
+      down = [];
+      up = l;
+    } in
     ap A id ∙ ap B down ∙ ap C up
 
 -- the links at these places are those of their nodes and activations

@@ -1,9 +1,11 @@
 -- The nodes that are struck in each bit, marked strike by strike and time by time.
-use Rattle.std.proofs.Common.{◌≡◌, ◌⊎◌, ◌↔◌, ◌+◌, ◌*◌, ◌<◌, ◌≤◌, ℕ, List, [], ◌∷◌, ◌++◌, length, replicate, take, drop, inl, inr, sym, ap, ◌∙◌, subst, arith}
+use Rattle.std.proofs.Common.{◌≡◌, ◌⊎◌, ◌↔◌, ◌+◌, ◌*◌, ◌<◌, ◌≤◌, ℕ, List, [], ◌∷◌, ◌++◌, length, replicate, take, drop}
+use Rattle.std.proofs.Common.{inl, inr, sym, ap, ◌∙◌, subst, arith}
 use Rattle.std.specs.Prelude.{slice_index_or, slice_set}
 use Rattle.std.specs.List.{Contains}
 use Rattle.std.proofs.lemmas.Bool.{cases_eq}
-use Rattle.std.proofs.lemmas.List.{get_or_default, get_or-set_other, get_or-take, get_or-drop, length-replicate, length-take-le, length-drop, get_or-replicate}
+use Rattle.std.proofs.lemmas.List.{get_or_default, get_or-set_other, get_or-take, get_or-drop, length-replicate}
+use Rattle.std.proofs.lemmas.List.{length-take-le, length-drop, get_or-replicate}
 use Rattle.std.proofs.lemmas.Grind.{get_or-set_at}
 use Rattle.std.proofs.lemmas.List.Elements.{at_from_Contains, Contains-push, Contains-push_cases, Contains-append_left}
 use Rattle.sja_script.specs.declared.strike.Strike.{Strike}
@@ -35,7 +37,13 @@ pub once_less : (s : Strike) (times bit node : ℕ) → Hits (front s (times + 1
 once_less s times bit node h =
     elim (cases_eq h.time times) [
       | inl last ↦ inr (h.of_node, ap (λ n. s.bit + n * s.every) (sym last) ∙ h.now)
-      | inr other ↦ inl (record { of_node = h.of_node; time = h.time; few = let few = h.few in omega arith; now = h.now })
+      | inr other ↦ inl (record {
+        of_node = h.of_node;
+        time = h.time;
+        few = let few = h.few in
+            omega arith;
+        now = h.now;
+      })
     ]
 
 -- ---- a bit more is marked
@@ -46,7 +54,11 @@ same_place bits at bit d e same within =
     get_or_default bits at d e within ∙ ap (λ n. slice_index_or bits n e) (sym same)
 
 pub marked_none : (s : Strike) (bits : List StruckNodes) → IsMarked (front s 0) bits bits
-marked_none s bits bit node d few below = (λ h. inl h, λ h. elim h [ inl was ↦ was | inr hits ↦ absurd (no_time s bit node hits) ])
+marked_none s bits bit node d few below = (
+  λ h. inl h,
+  λ h. elim h
+      [ inl was ↦ was | inr hits ↦ absurd (no_time s bit node hits) ],
+)
 
 -- a strike of no node below 8 marks nothing
 pub marked_far : (s : Strike) (bits : List StruckNodes) → 8 ≤ s.node → IsMarked s bits bits
@@ -60,7 +72,8 @@ pub marked_more : (s : Strike) (times at : ℕ) (start old : List StruckNodes) (
 marked_more s times at start old nodes d here within long was added bit node e few below =
     elim (cases_eq bit at) [
       | inl same ↦
-          let now : slice_index_or (slice_set old at nodes) bit e ≡ nodes = get_or-set_at old at bit nodes e same within in
+          let now : slice_index_or (slice_set old at nodes) bit e ≡ nodes =
+          get_or-set_at old at bit nodes e same within in
           let before : slice_index_or old at d ≡ slice_index_or old bit e = same_place old at bit d e same within in
           let A : StruckNodes → Type 0 = λ x. IsAmong node x in (
             λ h. elim ((added node).0 (subst A now h)) [
@@ -79,7 +92,8 @@ marked_more s times at start old nodes d here within long was added bit node e f
             ])),
           )
       | inr other ↦
-          let now : slice_index_or (slice_set old at nodes) bit e ≡ slice_index_or old bit e = get_or-set_other old at bit nodes e other in
+          let now : slice_index_or (slice_set old at nodes) bit e ≡ slice_index_or old bit e =
+          get_or-set_other old at bit nodes e other in
           let A : StruckNodes → Type 0 = λ x. IsAmong node x in (
             λ h. elim ((was bit node e few below).0 (subst A now h)) [
               | inl first ↦ inl first
@@ -107,15 +121,18 @@ marked_all s times start old long all was bit node d few below = (
 -- ---- a strike more of a script
 
 none_there : (s : Strike) → Contains {X = Strike} [] s → ⊥
-none_there s h = let few : (at_from_Contains {X = Strike} [] s h).0 < 0 = (at_from_Contains {X = Strike} [] s h).1 in omega arith
+none_there s h = let few : (at_from_Contains {X = Strike} [] s h).0 < 0 =
+    (at_from_Contains {X = Strike} [] s h).1 in omega arith
 
 -- where nobody is marked nobody is struck by a script of no strike
 pub struck_none : (nodes : StruckNodes) (bits : ℕ) → ((node : ℕ) → IsAmong node nodes → ⊥) →
     AreStruck [] (replicate bits nodes)
 struck_none nodes bits none bit node d few below =
     let within : bit < bits = simp length-replicate at few in
-    let A : StruckNodes → Type 0 = λ x. IsAmong node x in
-    (λ h. absurd (none node (subst A (get_or-replicate bits bit nodes d within) h)), λ h. absurd (none_there h.strike h.in_script))
+    let A : StruckNodes → Type 0 = λ x. IsAmong node x in (
+      λ h. absurd (none node (subst A (get_or-replicate bits bit nodes d within) h)),
+      λ h. absurd (none_there h.strike h.in_script),
+    )
 
 pub struck_more : (script : List Strike) (s : Strike) (old new : List StruckNodes) → length new ≡ length old →
     AreStruck script old → IsMarked s old new → AreStruck (script ++ s ∷ []) new
@@ -123,11 +140,17 @@ struck_more script s old new long was marked bit node d few below =
     let within : bit < length old = omega arith in (
       λ h. elim ((marked bit node d within below).0 h) [
         | inl before ↦ let by = (was bit node d within below).0 before in
-            record { strike = by.strike; in_script = Contains-append_left script (s ∷ []) by.strike by.in_script; hits = by.hits }
+            record {
+              strike = by.strike;
+              in_script = Contains-append_left script (s ∷ []) by.strike
+                  by.in_script;
+              hits = by.hits;
+            }
         | inr hits ↦ record { strike = s; in_script = Contains-push script s; hits = hits }
       ],
       λ h. (marked bit node d within below).1 (elim (Contains-push_cases script s h.strike h.in_script) [
-        | inl before ↦ inl ((was bit node d within below).1 (record { strike = h.strike; in_script = before; hits = h.hits }))
+        | inl before ↦ inl ((was bit node d within below).1
+            (record { strike = h.strike; in_script = before; hits = h.hits }))
         | inr last ↦ inr (let P : Strike → Type 0 = λ x. Hits x bit node in subst P (sym last) h.hits)
       ]),
     )

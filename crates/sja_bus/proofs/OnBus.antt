@@ -9,7 +9,10 @@ use Rattle.can_node.specs.Frames.{Receives, Transmits}
 use Rattle.can_node.specs.Frames.Receives.{reception, broken}
 use Rattle.can_node.specs.Frames.Transmits.{sending, failed, lost}
 use Rattle.can_node.specs.Table.{Row}
-use Rattle.can_node.specs.Table.Row.{integration, idle, other, own, other_begun, own_begun, last_eof_bit, last_eof_bit_overload, flag, flag_fault, flag_passive, delimiter, delimiter_overload, delimiter_fault, interframe_space, interframe_space_sof, suspend_transmission_sof, intermission_overload, intermission_overload_second}
+use Rattle.can_node.specs.Table.Row.{integration, idle, other, own, other_begun, own_begun, last_eof_bit}
+use Rattle.can_node.specs.Table.Row.{last_eof_bit_overload, flag, flag_fault, flag_passive, delimiter}
+use Rattle.can_node.specs.Table.Row.{delimiter_overload, delimiter_fault, interframe_space, interframe_space_sof}
+use Rattle.can_node.specs.Table.Row.{suspend_transmission_sof, intermission_overload, intermission_overload_second}
 use Rattle.can_node.specs.Record.{RecordEntry as Event, Inner}
 use Rattle.can_node.specs.Record.RecordEntry.{Stop, OneBit, BusOff}
 use Rattle.can_node.specs.Record.Inner.{none_left, samples, sends, aborts}
@@ -35,16 +38,19 @@ on_bits b [] = refl
 on_bits b (x ∷ l) = on_bits b l
 
 -- no piece leads into reset
-away_received : {listen : Bool} {l : List Level} {bits : List Bit} {p : Piece} {next : Place} → Receives listen l bits p next → next ≢ AtReset
+away_received : {listen : Bool} {l : List Level} {bits : List Bit} {p : Piece} {next : Place} →
+    Receives listen l bits p next → next ≢ AtReset
 away_received (reception h) = λ e. cc
 away_received (broken h) = λ e. cc
 
-away_sent : {self_test : Bool} {request : _} {bits : List Bit} {p : Piece} {next : Place} → Transmits self_test request bits p next → next ≢ AtReset
+away_sent : {self_test : Bool} {request : _} {bits : List Bit} {p : Piece} {next : Place} →
+    Transmits self_test request bits p next → next ≢ AtReset
 away_sent (sending h) = λ e. cc
 away_sent (failed h) = λ e. cc
 away_sent (lost h) = away_received h.goes_on
 
-away_row : {c : ContextValue} {place next : Place} {bits : List Bit} {p : Piece} → Row c place bits p next → next ≢ AtReset
+away_row : {c : ContextValue} {place next : Place} {bits : List Bit} {p : Piece} →
+    Row c place bits p next → next ≢ AtReset
 away_row (integration h) = λ e. cc
 away_row (idle h) = λ e. cc
 away_row (other none h) = away_received h
@@ -66,30 +72,38 @@ away_row intermission_overload = λ e. cc
 away_row intermission_overload_second = λ e. cc
 
 -- after entries that end in a stop or in bus-off it is off the bus
-ends_off : (b : Bool) (xs : List Event) (x : Event) → ((o : Bool) → on_after o x ≡ false) → is_on b (xs ++ x ∷ []) ≡ true → ⊥
-ends_off b xs x off runs = let e : false ≡ true = sym (off (is_on b xs)) ∙ sym (on_both b xs (x ∷ [])) ∙ runs in absurd cc
+ends_off : (b : Bool) (xs : List Event) (x : Event) → ((o : Bool) → on_after o x ≡ false) →
+    is_on b (xs ++ x ∷ []) ≡ true → ⊥
+ends_off b xs x off runs = let e : false ≡ true = sym (off (is_on b xs))
+    ∙ sym (on_both b xs (x ∷ [])) ∙ runs in absurd cc
 
 -- from a place that isn't reset where the node is on the bus, one move
-move_away : {c next : ContextValue} {place site : Place} {entries : List Event} {ps : List Piece} (b : Bool) → Move c place entries ps next site →
+move_away : {c next : ContextValue} {place site : Place} {entries : List Event} {ps : List Piece} (b : Bool) →
+    Move c place entries ps next site →
     (b ≡ true → place ≢ AtReset) → is_on b entries ≡ true → site ≢ AtReset
 move_away b (piece slice is row stays) away runs = away_row row
 move_away b (sent request reset) away runs = reset
 move_away b (aborted reset) away runs = reset
 move_away b (started config l) away runs = λ e. cc
 move_away b (stopped slice opened stays) away runs = absurd (ends_off b slice Stop (λ o. refl) runs)
-move_away b (off_within slice before last whole stays is unfinished full) away runs = absurd (ends_off b slice BusOff (λ o. refl) runs)
-move_away b (off_after slice before last whole stays is row full) away runs = absurd (ends_off b slice BusOff (λ o. refl) runs)
+move_away b (off_within slice before last whole stays is unfinished full) away runs =
+    absurd (ends_off b slice BusOff (λ o. refl) runs)
+move_away b (off_after slice before last whole stays is row full) away runs =
+    absurd (ends_off b slice BusOff (λ o. refl) runs)
 
-on_open : {c : ContextValue} {place : Place} {slice : List Event} (b : Bool) → IsOpenAt c place slice → is_on b slice ≡ b
+on_open : {c : ContextValue} {place : Place} {slice : List Event} (b : Bool) →
+    IsOpenAt c place slice → is_on b slice ≡ b
 on_open b (rests l) = on_bits b l
 on_open b nothing = refl
 on_open b (begun inner begins unfinished) = on_inner b inner
 
-from_away : {k : Count} {c end : ContextValue} {place last : Place} {entries rest : List Event} {found : List FinishedPiece} (b : Bool) →
+from_away : {k : Count} {c end : ContextValue} {place last : Place} {entries rest : List Event}
+    {found : List FinishedPiece} (b : Bool) →
     From k c place entries found end last rest → (b ≡ true → place ≢ AtReset) → is_on b entries ≡ true → last ≢ AtReset
 from_away b (here opened stays) away runs = away (sym (on_open b opened) ∙ runs)
 from_away b (on {entries = first} {more = more} move from) away is =
     from_away (is_on b first) from (move_away b move away) (sym (on_both b first more) ∙ is)
 
-pub cut_away : (entries : List Event) (found : List FinishedPiece) (h : IsCut entries found) → is_on false entries ≡ true → h.place ≢ AtReset
+pub cut_away : (entries : List Event) (found : List FinishedPiece) (h : IsCut entries found) →
+    is_on false entries ≡ true → h.place ≢ AtReset
 cut_away entries found h is = from_away false h.from (λ no. cc) is

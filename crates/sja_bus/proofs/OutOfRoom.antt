@@ -1,5 +1,6 @@
 -- A bit whose entries the reserved ones of a journal don't hold.
-use Rattle.std.proofs.Common.{◌≡◌, arith, Option, ◌+◌, ◌≤◌, ℕ, Bool, true, false, None, Some, List, [], ◌∷◌, ◌++◌, length, refl, sym, ap, ◌∙◌, subst, append_assoc, append-nil}
+use Rattle.std.proofs.Common.{◌≡◌, arith, Option, ◌+◌, ◌≤◌, ℕ, Bool, true, false, None, Some, List, [], ◌∷◌, ◌++◌}
+use Rattle.std.proofs.Common.{length, refl, sym, ap, ◌∙◌, subst, append_assoc, append-nil}
 use Rattle.std.proofs.lemmas.List.{length-append}
 use Rattle.can_bits.specs.declared.level.Level.{Level}
 use Rattle.can_node.specs.declared.node.Node.{Node}
@@ -82,7 +83,8 @@ verdict_unjudged room j k x seen a v m same used due =
 
 -- the bit or its verdict does
 pub judged_short : (node : Node) (room : ℕ) (j k : List Entry) (x seen : Level) (a : ℕ) (m : List ℕ) (went : Bool) →
-    (short : IsJudgedShort room j x seen a m k) → FollowsBit node (k ++ short.due ∷ short.later) went → IsOutOfRoom room j k
+    (short : IsJudgedShort room j x seen a m k) → FollowsBit node (k ++ short.due ∷ short.later)
+    went → IsOutOfRoom room j k
 judged_short node room j k x seen a m went short follows =
     let whole : (k ++ short.due ∷ short.later) ++ off_as went ≡ k ++ short.due ∷ (short.later ++ off_as went)
     = append_assoc k (short.due ∷ short.later) (off_as went) in
@@ -102,13 +104,18 @@ judged_short node room j k x seen a m went short follows =
     }
 
 -- bus-off does, after the bit and its verdict
-pub off_short : (node : Node) (room : ℕ) (j mid k : List Entry) (x seen : Level) → MayHaveVerdict j x seen mid → k ≡ mid →
+pub off_short : (node : Node) (room : ℕ) (j mid k : List Entry) (x seen : Level) →
+    MayHaveVerdict j x seen mid → k ≡ mid →
     room ≤ length mid → FollowsBit node mid true → IsOutOfRoom room j k
 off_short node room j mid k x seen has same used follows =
     let P : List Entry → Type 0 = λ l. IsOutOfRoom room j l in
     subst P (sym same) (record {
       used = used;
-      grows = (Bit x seen ∷ judged_as has.verdict, has.whole ∙ append_assoc j (Bit x seen ∷ []) (judged_as has.verdict));
+      grows = (
+        Bit x seen ∷ judged_as has.verdict,
+        has.whole
+            ∙ append_assoc j (Bit x seen ∷ []) (judged_as has.verdict),
+      );
       due = Off;
       later = [];
       driven = x;

@@ -136,7 +136,8 @@ asked_more j e a h = elim (cases_eq (past (place_of j) e).activation a) [
 ]
 
 -- bus-off, and a request after it, that stood there before
-pub off_less : (j : List Entry) (e : Entry) (a : ℕ) → ((p : JournalPlace) → past p e ≡ record p { bits = (past p e).bits }) →
+pub off_less : (j : List Entry) (e : Entry) (a : ℕ) → ((p : JournalPlace) →
+    past p e ≡ record p { bits = (past p e).bits }) →
     HasOff (part (j ++ e ∷ []) a) → HasOff (part j a)
 off_less j e a stays h = elim (cases_eq (past (place_of j) e).activation a) [
   | inl q ↦ off_before (part j a) e

@@ -5,7 +5,11 @@ use Rattle.can_bits.specs.declared.level.Level.{Level}
 use Rattle.can_node.specs.declared.node.Node.{Node}
 use Rattle.can_node.specs.declared.phase.Phase.TheVariants.{Reset, Intermission, Suspension}
 use Rattle.can_node.specs.declared.stage.Stage.{Stage}
-use Rattle.can_node.specs.declared.stage.Stage.TheVariants.{InReset as StageInReset, Integrating as StageIntegrating, BusIdle as StageBusIdle, InFrame as StageInFrame, LastEofBit as StageLastEofBit, InFlag as StageInFlag, InDelimiter as StageInDelimiter, InInterframeSpace as StageInInterframeSpace}
+use Rattle.can_node.specs.declared.stage.Stage.TheVariants.{InReset as StageInReset, Integrating as StageIntegrating}
+use Rattle.can_node.specs.declared.stage.Stage.TheVariants.{BusIdle as StageBusIdle, InFrame as StageInFrame}
+use Rattle.can_node.specs.declared.stage.Stage.TheVariants.{LastEofBit as StageLastEofBit, InFlag as StageInFlag}
+use Rattle.can_node.specs.declared.stage.Stage.TheVariants.{InDelimiter as StageInDelimiter}
+use Rattle.can_node.specs.declared.stage.Stage.TheVariants.{InInterframeSpace as StageInInterframeSpace}
 use Rattle.can_node.specs.Stands.{InReset, DrivesNext, Samples, ShowsSame, phase_of_stage, nothing}
 use Rattle.sja_link.specs.declared.entry.Entry.TheVariants.{Bit}
 use Rattle.sja_link.specs.BusLedgers.{free_in}
@@ -34,10 +38,14 @@ pub still_reset : (old new : Node) → ShowsSame old new → InReset old → InR
 still_reset old new same h = reset_of new.stage (same.phase ∙ ap phase_of_stage h)
 
 -- a seat with such a bit more
-pub quiet_sound : (s new : Seat) (node : Node) (x seen : Level) (receiving : Bool) → DrivesNext s.node x → Samples s.node node seen (nothing receiving) → ShowsSame s.node node →
-    new.node ≡ node → new.journal.entries ≡ s.journal.entries ++ Bit x seen ∷ [] → new.ended ≡ s.ended → new.activity ≡ s.activity → free_in new.ledger ≡ free_in s.ledger → IsSound s → IsSound new
+pub quiet_sound : (s new : Seat) (node : Node) (x seen : Level) (receiving : Bool) → DrivesNext s.node x →
+    Samples s.node node seen (nothing receiving) → ShowsSame s.node node →
+    new.node ≡ node → new.journal.entries ≡ s.journal.entries ++ Bit x seen ∷ [] → new.ended ≡ s.ended →
+    new.activity ≡ s.activity → free_in new.ledger ≡ free_in s.ledger → IsSound s → IsSound new
 quiet_sound s new node x seen receiving drives samples same is entries ended activity free h =
     let j = s.journal.entries in
     sound_by new node (j ++ Bit x seen ∷ []) s.ended s.activity (free_in s.ledger) is entries ended activity free
-    (follows_on node (j ++ Bit x seen ∷ []) (follows_bit s.node node j x seen (nothing receiving) drives samples refl h.follows))
-    (reads_quiet s.node node j (Bit x seen) s.ended s.activity (free_in s.ledger) (λ p. refl, refl, refl, refl) (still_reset s.node node same) h.reads)
+    (follows_on node (j ++ Bit x seen ∷ []) (follows_bit s.node node j x seen (nothing receiving) drives
+    samples refl h.follows))
+    (reads_quiet s.node node j (Bit x seen) s.ended s.activity (free_in s.ledger) (λ p. refl, refl, refl, refl)
+    (still_reset s.node node same) h.reads)

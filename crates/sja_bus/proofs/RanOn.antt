@@ -1,5 +1,6 @@
 -- A bus after bits in which nothing was taken, as contracts see it.
-use Rattle.std.proofs.Common.{◌≡◌, ℕ, ◌+◌, ◌-◌, ◌≤◌, Bool, Option, Some, None, List, length, refl, sym, ap, ◌∙◌, subst, arith}
+use Rattle.std.proofs.Common.{◌≡◌, ℕ, ◌+◌, ◌-◌, ◌≤◌, Bool, Option, Some, None, List, length, refl, sym, ap, ◌∙◌, subst}
+use Rattle.std.proofs.Common.{arith}
 use Rattle.sja_link.specs.declared.bus_end.BusEnd.{Ghosts as Ends}
 use Rattle.sja_link.specs.Related.{EachRelated}
 use Rattle.sja_script.specs.declared.strike.Strike.{Strike}
@@ -58,8 +59,10 @@ module _ {E B : Type 0} (e : Ends E) (b : Ports B) (to_rest : Bool) (script : Li
       RowsRun e b to_rest script run count was now links after board told n →
       IsSoFar e b (AnyBit e b) to_rest (moment old links board) n (moment new after told)
   ran n new few enough end runs =
-      let P : BusValue → Type 0 = λ w. IsSoFar e b (AnyBit e b) to_rest (moment w links board) n (moment new after told) in
-      let Q : BusValue → Type 0 = λ w. IsSoFar e b (AnyBit e b) to_rest (moment (bus_of script run left was) links board) n
+      let P : BusValue → Type 0 = λ w. IsSoFar e b (AnyBit e b) to_rest (moment w links board) n
+      (moment new after told) in
+      let Q : BusValue → Type 0 = λ w. IsSoFar e b (AnyBit e b) to_rest
+      (moment (bus_of script run left was) links board) n
       (moment w after told) in
       let O : BusValue → Type 0 = λ w. Keeps e b (moment w links board)
       (moment (bus_of script (run + n) (left - n) now) after told) in

@@ -1,5 +1,6 @@
 -- Bits in which nothing is taken and nothing aborted.
-use Rattle.std.proofs.Common.{◌≡◌, ℕ, suc, ◌+◌, ◌-◌, ◌<◌, ◌≤◌, Bool, true, false, None, List, [], ◌∷◌, length, replicate, inl, inr, refl, sym, ap, ◌∙◌, subst, append-nil, arith}
+use Rattle.std.proofs.Common.{◌≡◌, ℕ, suc, ◌+◌, ◌-◌, ◌<◌, ◌≤◌, Bool, true, false, None, List, [], ◌∷◌, length}
+use Rattle.std.proofs.Common.{replicate, inl, inr, refl, sym, ap, ◌∙◌, subst, append-nil, arith}
 use Rattle.std.specs.Prelude.{slice_index_or, ◌↔◌, ◌⊎◌}
 use Rattle.std.proofs.lemmas.Bool.{cases_lt}
 use Rattle.can_bits.specs.declared.level.Level.{Level}
@@ -41,7 +42,8 @@ use Rattle.sja_bus.proofs.Running.{count_is, bus_run}
 -- ---- one bit
 
 -- no item was taken, and no abort is ordered
-opens_none : (has_orders : Orders → Type 0) (j : List Entry) (o : Orders) → has_orders o → o.abort ≡ false → Opens has_orders j j
+opens_none : (has_orders : Orders → Type 0) (j : List Entry) (o : Orders) → has_orders o →
+    o.abort ≡ false → Opens has_orders j j
 opens_none has_orders j o has none = record {
   taken = j;
   items = items_none j;
@@ -53,21 +55,27 @@ opens_none has_orders j o has none = record {
 }
 
 -- of all seats
-pub row_on : (orders_are : ℕ → Orders → Type 0) (was_told : ℕ → BusTurn → Type 0) (was_kept : ℕ → Type 0) (struck : StruckNodes) (level : Level) (seats after : List Seat) →
-    NoneAborts orders_are (length seats) → level ≡ wired (driven_by seats) → EachSeat (SeatTurns was_told was_kept struck level) seats after → IsRowBit orders_are was_told was_kept struck seats after
+pub row_on : (orders_are : ℕ → Orders → Type 0) (was_told : ℕ → BusTurn → Type 0) (was_kept : ℕ → Type 0)
+    (struck : StruckNodes) (level : Level) (seats after : List Seat) →
+    NoneAborts orders_are (length seats) → level ≡ wired (driven_by seats) →
+    EachSeat (SeatTurns was_told was_kept struck level) seats after →
+    IsRowBit orders_are was_told was_kept struck seats after
 row_on orders_are was_told was_kept struck level seats after none is turns = record {
   opened = seats;
   level = level;
   count = refl;
-  opens = λ m s few. let o = none m few in opens_none (orders_are m) (slice_index_or seats m s).journal.entries o.0 o.1 o.2;
+  opens = λ m s few. let o = none m few in opens_none (orders_are m)
+      (slice_index_or seats m s).journal.entries o.0 o.1 o.2;
   untold = λ m s few. untold_none (slice_index_or seats m s);
   is_level = is;
   turns = turns;
 }
 
 -- the bus after it
-pub bus_row : (orders_are : ℕ → Orders → Type 0) (was_told : ℕ → BusTurn → Type 0) (was_kept : ℕ → Type 0) (script : List Strike) (n : ℕ) (struck : StruckNodes) (seats after : List Seat) →
-    length after ≡ length seats → length seats ≤ 8 → ((node : ℕ) → node < 8 → IsAmong node struck ↔ Strikes script n node) → IsRowBit orders_are was_told was_kept struck seats after →
+pub bus_row : (orders_are : ℕ → Orders → Type 0) (was_told : ℕ → BusTurn → Type 0) (was_kept : ℕ → Type 0)
+    (script : List Strike) (n : ℕ) (struck : StruckNodes) (seats after : List Seat) →
+    length after ≡ length seats → length seats ≤ 8 → ((node : ℕ) → node < 8 →
+    IsAmong node struck ↔ Strikes script n node) → IsRowBit orders_are was_told was_kept struck seats after →
     AreReady after → IsBus script n seats → (next : ℕ) → next ≡ n + 1 → IsBus script next after
 bus_row orders_are was_told was_kept script n struck seats after len few at row ready bus next is =
     let P : ℕ → Type 0 = λ m. IsBus script m after in
@@ -78,7 +86,8 @@ bus_row orders_are was_told was_kept script n struck seats after len few at row 
     })
 
 -- the ports are as they were when they were asked
-pub none_still : {B : Type 0} (orders_are : B → ℕ → Orders → Type 0) (nodes : ℕ) (first board : B) (seats : List Seat) → length seats ≡ nodes → board ≡ first → NoneAborts (orders_are first) nodes →
+pub none_still : {B : Type 0} (orders_are : B → ℕ → Orders → Type 0) (nodes : ℕ) (first board : B) (seats : List Seat) →
+    length seats ≡ nodes → board ≡ first → NoneAborts (orders_are first) nodes →
     NoneAborts (orders_are board) (length seats)
 none_still orders_are nodes first board seats count same orders =
     let P : _ → Type 0 = λ b. NoneAborts (orders_are b) (length seats) in
@@ -86,25 +95,37 @@ none_still orders_are nodes first board seats count same orders =
     subst P (sym same) (subst Q (sym count) orders)
 
 -- none of those struck is any, and the script strikes none
-pub none_at : (script : List Strike) (n : ℕ) (none here : StruckNodes) → ((node : ℕ) → IsAmong node none → ⊥) → ((node : ℕ) → IsAmong node here → ⊥) →
-    ((node : ℕ) → node < 8 → IsAmong node here ↔ Strikes script n node) → (node : ℕ) → node < 8 → IsAmong node none ↔ Strikes script n node
-none_at script n none here is_none is_here at node few = (λ hit. absurd (is_none node hit), λ strikes. absurd (is_here node ((at node few).1 strikes)))
+pub none_at : (script : List Strike) (n : ℕ) (none here : StruckNodes) → ((node : ℕ) → IsAmong node none → ⊥) →
+    ((node : ℕ) → IsAmong node here → ⊥) →
+    ((node : ℕ) → node < 8 → IsAmong node here ↔ Strikes script n node) → (node : ℕ) → node < 8 →
+    IsAmong node none ↔ Strikes script n node
+none_at script n none here is_none is_here at node few =
+    (λ hit. absurd (is_none node hit), λ strikes. absurd (is_here node ((at node few).1 strikes)))
 
 -- a bit in which nothing was taken, and the bus after it
-pub record Passes {B : Type 0} (orders_are : B → ℕ → Orders → Type 0) (was_told : ℕ → BusTurn → Type 0) (was_kept : ℕ → Type 0) (script : List Strike) (n : ℕ) (struck : StruckNodes) (board : B) (seats after : List Seat) : Type 0 where
+pub record Passes {B : Type 0} (orders_are : B → ℕ → Orders → Type 0) (was_told : ℕ → BusTurn → Type 0)
+    (was_kept : ℕ → Type 0) (script : List Strike) (n : ℕ) (struck : StruckNodes) (board : B)
+    (seats after : List Seat) : Type 0 where
   pub few : length seats ≤ 8
   pub at : (node : ℕ) → node < 8 → IsAmong node struck ↔ Strikes script n node
   pub row : IsRowBit (orders_are board) was_told was_kept struck seats after
   pub bus : (next : ℕ) → next ≡ n + 1 → IsBus script next after
 
-pub passes : {B : Type 0} (orders_are : B → ℕ → Orders → Type 0) (was_told : ℕ → BusTurn → Type 0) (was_kept : ℕ → Type 0) (script : List Strike) (n nodes : ℕ) (none here : StruckNodes) (level : Level) (first board : B) (seats after : List Seat) →
-    nodes ≤ 8 → length seats ≡ nodes → length after ≡ length seats → board ≡ first → NoneAborts (orders_are first) nodes → ((node : ℕ) → IsAmong node none → ⊥) → ((node : ℕ) → IsAmong node here → ⊥) →
-    ((node : ℕ) → node < 8 → IsAmong node here ↔ Strikes script n node) → level ≡ wired (driven_by seats) → EachSeat (SeatTurns was_told was_kept none level) seats after → AreReady after → IsBus script n seats →
+pub passes : {B : Type 0} (orders_are : B → ℕ → Orders → Type 0) (was_told : ℕ → BusTurn → Type 0)
+    (was_kept : ℕ → Type 0) (script : List Strike) (n nodes : ℕ) (none here : StruckNodes) (level : Level)
+    (first board : B) (seats after : List Seat) →
+    nodes ≤ 8 → length seats ≡ nodes → length after ≡ length seats → board ≡ first →
+    NoneAborts (orders_are first) nodes → ((node : ℕ) → IsAmong node none → ⊥) →
+    ((node : ℕ) → IsAmong node here → ⊥) →
+    ((node : ℕ) → node < 8 → IsAmong node here ↔ Strikes script n node) → level ≡ wired (driven_by seats) →
+    EachSeat (SeatTurns was_told was_kept none level) seats after → AreReady after → IsBus script n seats →
     Passes orders_are was_told was_kept script n none board seats after
-passes orders_are was_told was_kept script n nodes none here level first board seats after most count len same orders is_none is_here struck is turns ready bus =
+passes orders_are was_told was_kept script n nodes none here level first board seats after most count len same orders
+    is_none is_here struck is turns ready bus =
     let few : length seats ≤ 8 = omega (arith, most, count) in
     let at = none_at script n none here is_none is_here struck in
-    let row = row_on (orders_are board) was_told was_kept none level seats after (none_still orders_are nodes first board seats count same orders) is turns in record {
+    let row = row_on (orders_are board) was_told was_kept none level seats after
+    (none_still orders_are nodes first board seats count same orders) is turns in record {
       few = few;
       at = at;
       row = row;
@@ -112,7 +133,8 @@ passes orders_are was_told was_kept script n nodes none here level first board s
     }
 
 -- some node works
-pub some_work : (seats : List Seat) → AreReady seats → (k : ℕ) × (k < length seats) × ((s : Seat) → ShowsRest (slice_index_or seats k s).node false) → SomeWork (journals_of seats)
+pub some_work : (seats : List Seat) → AreReady seats → (k : ℕ) × (k < length seats)
+    × ((s : Seat) → ShowsRest (slice_index_or seats k s).node false) → SomeWork (journals_of seats)
 some_work seats ready which =
     let c = count_is seats in let near = which.1 in
     let few : which.0 < length (journals_of seats) = omega (arith, near, c) in
@@ -126,7 +148,8 @@ pub one_bit : {E B : Type 0} (e : Ends E) (b : Ports B) (script : List Strike) (
     IsRowBit (b.orders_are board) (b.told board now) (b.kept board now) struck seats after →
     EachRelated e.same links links_after → KeepsOthers b.ports b.kept (length seats) board now →
     GoesAll e.same e.stands seats after links links_after → IsBus script n seats → IsBus script next after →
-    b.facts now → OneBit e b (moment_of script n left seats links board) (moment_of script next less after links_after now)
+    b.facts now → OneBit e b (moment_of script n left seats links board)
+    (moment_of script next less after links_after now)
 one_bit e b script n next left less struck seats after links links_after board now is_next is_less len few at row sames
     others goes bus bus_after are =
     let nodes : length after ≡ length (journals_of seats) = len ∙ sym (count_is seats) in
@@ -173,16 +196,21 @@ facts_of_bit {B} b go_on struck level seats after board now others turns facts =
 -- ---- several
 
 -- none so far
-pub none_yet : {E B : Type 0} (One : ℕ → Moment E B → Moment E B → Type 0) (Before : Moment E B → Type 0) (script : List Strike) (from left : ℕ) (seats : List Seat) (links : List E) (board : B) →
-    AreBits One Before (moment_of script from left seats links board) 0 (moment_of script (from + 0) (left - 0) seats links board)
+pub none_yet : {E B : Type 0} (One : ℕ → Moment E B → Moment E B → Type 0) (Before : Moment E B → Type 0)
+    (script : List Strike) (from left : ℕ) (seats : List Seat) (links : List E) (board : B) →
+    AreBits One Before (moment_of script from left seats links board) 0
+    (moment_of script (from + 0) (left - 0) seats links board)
 none_yet One Before script from left seats links board =
     let f : from ≡ from + 0 = omega arith in let l : left ≡ left - 0 = omega arith in
-    let P : ℕ → Type 0 = λ n. AreBits One Before (moment_of script from left seats links board) 0 (moment_of script n left seats links board) in
-    let Q : ℕ → Type 0 = λ n. AreBits One Before (moment_of script from left seats links board) 0 (moment_of script (from + 0) n seats links board) in
+    let P : ℕ → Type 0 = λ n. AreBits One Before (moment_of script from left seats links board) 0
+    (moment_of script n left seats links board) in
+    let Q : ℕ → Type 0 = λ n. AreBits One Before (moment_of script from left seats links board) 0
+    (moment_of script (from + 0) n seats links board) in
     subst Q l (subst P f (no_bit (moment_of script from left seats links board)))
 
 -- one more
-pub more_bits : {E B : Type 0} (One : ℕ → Moment E B → Moment E B → Type 0) (Before : Moment E B → Type 0) (was mid now : Moment E B) (n next : ℕ) → next ≡ n + 1 →
+pub more_bits : {E B : Type 0} (One : ℕ → Moment E B → Moment E B → Type 0) (Before : Moment E B → Type 0)
+    (was mid now : Moment E B) (n next : ℕ) → next ≡ n + 1 →
     AreBits One Before was n mid → Before mid → One n mid now → AreBits One Before was next now
 more_bits One Before was mid now n next is bits before one =
     let e : suc n ≡ next = omega (arith, is) in
@@ -206,20 +234,26 @@ bits_on e b to_rest was script from run most left struck seats after links links
     more_bits (AnyBit e b) (WorksIf to_rest) was (moment_of script (from + run) (left - run) seats links board)
     (moment_of script (from + (run + 1)) (left - (run + 1)) after links_after now) run (run + 1) refl bits works
     (one_bit e b script (from + run) (from + (run + 1)) (left - run) (left - (run + 1)) struck seats after links
-    links_after board now (omega arith) (omega (arith, early, enough)) len few at row sames others goes bus bus_after are)
+    links_after board now (omega arith) (omega (arith, early, enough)) len few at row sames others
+    goes bus bus_after are)
 
 -- the bit of one broke off
-pub stops_on : {E : Type 0} (same : E → E → Type 0) (stands : E → Lists → Type 0) (full : E → Type 0) (orders_are : ℕ → Orders → Type 0) (script : List Strike) (run left bits : ℕ)
-    (seats after : List Seat) (links links_after : List E) (f : BusFault) (now : BusValue) → ((x : E) → same x x) → now.journals ≡ journals_of after → run + left ≡ bits → length after ≡ length seats →
+pub stops_on : {E : Type 0} (same : E → E → Type 0) (stands : E → Lists → Type 0) (full : E → Type 0)
+    (orders_are : ℕ → Orders → Type 0) (script : List Strike) (run left bits : ℕ)
+    (seats after : List Seat) (links links_after : List E) (f : BusFault) (now : BusValue) → ((x : E) → same x x) →
+    now.journals ≡ journals_of after → run + left ≡ bits → length after ≡ length seats →
     HaveRoom (room_for bits) seats → NoneAborts orders_are (length seats) → SeatBreaks stands full seats after links f →
     StopsBit stands full orders_are (bus_of script run left seats) now links links_after f
-stops_on same stands full orders_are script run left bits seats after links links_after f now same_refl journals all len rooms none breaks =
-    stops_bit same stands full orders_are script run left bits None seats after links links_after f now journals all len rooms
+stops_on same stands full orders_are script run left bits seats after links links_after f now same_refl journals all
+    len rooms none breaks =
+    stops_bit same stands full orders_are script run left bits None seats after links links_after f
+    now journals all len rooms
     (inr (record {
       opened = seats;
       between = links;
       count = refl;
-      opens = λ m s few. let o = none m few in opens_none (orders_are m) (slice_index_or seats m s).journal.entries o.0 o.1 o.2;
+      opens = λ m s few. let o = none m few in opens_none (orders_are m)
+          (slice_index_or seats m s).journal.entries o.0 o.1 o.2;
       goes = goes_all_refl same stands same_refl seats links;
       rooms = λ n h. h;
       breaks = breaks;

@@ -12,7 +12,8 @@ use Rattle.sja_bus.specs.Inside.Following.{Follows, FollowsBit, Reads, IsActive,
 use Rattle.sja_bus.specs.Inside.Seats.{IsSound}
 
 -- its node, its journal and what the bus knows of them
-pub sound_by : (s : Seat) (node : Node) (j : List Entry) (ended : ℕ) (activity : Activity) (free : ℕ) → s.node ≡ node → s.journal.entries ≡ j → s.ended ≡ ended →
+pub sound_by : (s : Seat) (node : Node) (j : List Entry) (ended : ℕ) (activity : Activity) (free : ℕ) → s.node ≡ node →
+    s.journal.entries ≡ j → s.ended ≡ ended →
     s.activity ≡ activity → free_in s.ledger ≡ free → Follows node j → Reads node j ended activity free → IsSound s
 sound_by s node j ended activity free n e d a f follows reads =
     let P : Node → Type 0 = λ x. Follows x j in
@@ -27,10 +28,13 @@ sound_by s node j ended activity free n e d a f follows reads =
     }
 
 -- an entry more
-pub sound_entered : (s new : Seat) (e : Entry) → new ≡ record s { journal = new.journal } → new.journal.entries ≡ s.journal.entries ++ e ∷ [] →
-    Follows s.node (s.journal.entries ++ e ∷ []) → Reads s.node (s.journal.entries ++ e ∷ []) s.ended s.activity (free_in s.ledger) → IsSound new
+pub sound_entered : (s new : Seat) (e : Entry) → new ≡ record s { journal = new.journal } →
+    new.journal.entries ≡ s.journal.entries ++ e ∷ [] →
+    Follows s.node (s.journal.entries ++ e ∷ []) → Reads s.node (s.journal.entries ++ e ∷ []) s.ended s.activity
+    (free_in s.ledger) → IsSound new
 sound_entered s new e same entries follows reads =
-    sound_by new s.node (s.journal.entries ++ e ∷ []) s.ended s.activity (free_in s.ledger) (ap (λ (x : Seat). x.node) same) entries (ap (λ (x : Seat). x.ended) same)
+    sound_by new s.node (s.journal.entries ++ e ∷ []) s.ended s.activity (free_in s.ledger)
+    (ap (λ (x : Seat). x.node) same) entries (ap (λ (x : Seat). x.ended) same)
     (ap (λ (x : Seat). x.activity) same) (ap (λ (x : Seat). free_in x.ledger) same) follows reads
 
 -- one runs that isn't between two
@@ -40,8 +44,10 @@ open_else (Running filter) h = refl
 open_else Off h = refl
 open_else OffAndAsked h = refl
 
-pub reads_by : (s : Seat) (node : Node) (j : List Entry) (ended : ℕ) (activity : Activity) (free : ℕ) → s.node ≡ node → s.journal.entries ≡ j → s.ended ≡ ended →
-    s.activity ≡ activity → free_in s.ledger ≡ free → Reads node j ended activity free → Reads s.node s.journal.entries s.ended s.activity (free_in s.ledger)
+pub reads_by : (s : Seat) (node : Node) (j : List Entry) (ended : ℕ) (activity : Activity) (free : ℕ) → s.node ≡ node →
+    s.journal.entries ≡ j → s.ended ≡ ended →
+    s.activity ≡ activity → free_in s.ledger ≡ free → Reads node j ended activity free →
+    Reads s.node s.journal.entries s.ended s.activity (free_in s.ledger)
 reads_by s node j ended activity free n e d a f reads =
     let R : Node → Type 0 = λ x. Reads x j ended activity free in
     let S : List Entry → Type 0 = λ x. Reads s.node x ended activity free in
@@ -50,18 +56,21 @@ reads_by s node j ended activity free n e d a f reads =
     let V : ℕ → Type 0 = λ x. Reads s.node s.journal.entries s.ended s.activity x in
     subst V (sym f) (subst U (sym a) (subst T (sym d) (subst S (sym e) (subst R (sym n) reads))))
 
-pub follows_by : (s : Seat) (node : Node) (j : List Entry) (went : Bool) → s.node ≡ node → s.journal.entries ≡ j → FollowsBit node j went → FollowsBit s.node s.journal.entries went
+pub follows_by : (s : Seat) (node : Node) (j : List Entry) (went : Bool) → s.node ≡ node → s.journal.entries ≡ j →
+    FollowsBit node j went → FollowsBit s.node s.journal.entries went
 follows_by s node j went n e follows =
     let P : Node → Type 0 = λ x. FollowsBit x j went in
     let Q : List Entry → Type 0 = λ x. FollowsBit s.node x went in subst Q (sym e) (subst P (sym n) follows)
 
 -- a node of which none runs is in reset
-pub reset_else : (activity : Activity) (node : Node) (j : List Entry) (a : ℕ) → ((f : _) → activity ≢ Running f) → IsActive activity node j a → InReset node
+pub reset_else : (activity : Activity) (node : Node) (j : List Entry) (a : ℕ) → ((f : _) → activity ≢ Running f) →
+    IsActive activity node j a → InReset node
 reset_else Between node j a not h = h
 reset_else (Running filter) node j a not h = absurd (not filter refl)
 reset_else Off node j a not h = h.1
 reset_else OffAndAsked node j a not h = h.1
 
 -- the activation that is read is open where one runs
-pub open_by : (activity : Activity) (node : Node) (j : List Entry) (ended free : ℕ) → open_in activity ≡ 1 → Reads node j ended activity free → IsOpen j
+pub open_by : (activity : Activity) (node : Node) (j : List Entry) (ended free : ℕ) → open_in activity ≡ 1 →
+    Reads node j ended activity free → IsOpen j
 open_by activity node j ended free runs h = let b = h.begun in let s = h.stopped in omega (arith, b, s, runs)

@@ -35,21 +35,24 @@ many_more One More Before was _ _ m _ later p (one_more mid last now k q before 
     (later k last now one))
 
 -- bits, and then some of which one broke off
-pub breaks_later : {E B : Type 0} (stands : E → Lists → Type 0) (full : E → Type 0) (orders_are : B → ℕ → Orders → Type 0)
+pub breaks_later : {E B : Type 0} (stands : E → Lists → Type 0) (full : E → Type 0)
+    (orders_are : B → ℕ → Orders → Type 0)
     (One More : ℕ → Moment E B → Moment E B → Type 0) (Before : Moment E B → Type 0) (was mid now : Moment E B)
     (m left count : ℕ) (f : BusFault) → m + left ≤ count →
     ((k : ℕ) (x y : Moment E B) → More k x y → One (m + k) x y) → AreBits One Before was m mid →
-    BreaksOff stands full orders_are More Before left mid now f → BreaksOff stands full orders_are One Before count was now f
-breaks_later stands full orders_are One More Before was mid now m left count f most later bits off = let early = off.early in record {
-  mid = off.mid;
-  run = m + off.run;
-  early = omega (arith, early, most);
-  bits = many_more One More Before was mid off.mid m off.run later bits off.bits;
-  before = off.before;
-  stops = off.stops;
-  run_so_far = off.run_so_far;
-  left_so_far = off.left_so_far;
-}
+    BreaksOff stands full orders_are More Before left mid now f →
+    BreaksOff stands full orders_are One Before count was now f
+breaks_later stands full orders_are One More Before was mid now m left count f most later bits off =
+    let early = off.early in record {
+      mid = off.mid;
+      run = m + off.run;
+      early = omega (arith, early, most);
+      bits = many_more One More Before was mid off.mid m off.run later bits off.bits;
+      before = off.before;
+      stops = off.stops;
+      run_so_far = off.run_so_far;
+      left_so_far = off.left_so_far;
+    }
 
 module _ {E B : Type 0} (e : Ends E) (b : Ports B) where
   -- links and ports for the nodes stay such
@@ -94,7 +97,8 @@ module _ {E B : Type 0} (e : Ends E) (b : Ports B) where
     bits = no_bit m;
   }
 
-  module _ (One : ℕ → Moment E B → Moment E B → Type 0) (same_trans : (x y z : E) → e.same x y → e.same y z → e.same x z)
+  module _ (One : ℕ → Moment E B → Moment E B → Type 0)
+      (same_trans : (x y z : E) → e.same x y → e.same y z → e.same x z)
       (kept_trans : (x y z : B) (k : ℕ) → b.kept x y k → b.kept y z k → b.kept x z k) (to_rest : Bool)
       (was mid now : Moment E B) (m : ℕ) (far : IsSoFar e b One to_rest was m mid) where
     -- and so many more

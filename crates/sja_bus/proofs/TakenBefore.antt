@@ -1,5 +1,6 @@
 -- That all was taken which the links showed right before a bit.
-use Rattle.std.proofs.Common.{◌≡◌, ℕ, suc, ◌+◌, ◌*◌, ◌<◌, Bool, true, false, Option, None, Some, List, [], ◌∷◌, ◌++◌, length, take, drop, refl, sym, ap, ◌∙◌, subst, append_assoc, append-nil, arith, inl, inr}
+use Rattle.std.proofs.Common.{◌≡◌, ℕ, suc, ◌+◌, ◌*◌, ◌<◌, Bool, true, false, Option, None, Some, List, [], ◌∷◌, ◌++◌}
+use Rattle.std.proofs.Common.{length, take, drop, refl, sym, ap, ◌∙◌, subst, append_assoc, append-nil, arith, inl, inr}
 use Rattle.std.specs.Prelude.{slice_index_or}
 use Rattle.std.proofs.lemmas.Bool.{cases_eq}
 use Rattle.can_bits.specs.declared.level.Level.{Level}
@@ -56,7 +57,8 @@ taken_off false l a = ap (λ (m : List Entry). taken_of (part m a)) (append-nil 
 pub taken_in_bit : (j k : List Entry) (x seen : Level) (a : ℕ) → HasBit j x seen k →
     taken_of (part k a) ≡ taken_of (part j a)
 taken_in_bit j k x seen a h =
-    ap (λ (l : List Entry). taken_of (part l a)) h.whole ∙ taken_off h.off ((j ++ Bit x seen ∷ []) ++ judged_as h.verdict) a
+    ap (λ (l : List Entry). taken_of (part l a)) h.whole
+    ∙ taken_off h.off ((j ++ Bit x seen ∷ []) ++ judged_as h.verdict) a
     ∙ taken_judged h.verdict (j ++ Bit x seen ∷ []) a ∙ none_gathered taken_in j (Bit x seen) a refl
 
 -- nor is an activation stopped

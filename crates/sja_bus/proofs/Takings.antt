@@ -1,5 +1,6 @@
 -- An item that the bus takes, or doesn't.
-use Rattle.std.proofs.Common.{◌≡◌, ℕ, suc, ◌<◌, ◌≤◌, true, false, List, [], ◌∷◌, ◌++◌, length, inl, inr, refl, sym, ap, ◌∙◌, subst, arith}
+use Rattle.std.proofs.Common.{◌≡◌, ℕ, suc, ◌<◌, ◌≤◌, true, false, List, [], ◌∷◌, ◌++◌, length, inl, inr, refl, sym, ap}
+use Rattle.std.proofs.Common.{◌∙◌, subst, arith}
 use Rattle.std.specs.Prelude.{Result, Ok, Err, OnOk, IfErr}
 use Rattle.can_node.specs.declared.node.Node.{Node}
 use Rattle.can_node.specs.declared.request.Request.{Request}
@@ -41,15 +42,25 @@ seat_entered s new same h =
     subst P (sym same) (record { own = h.own; few = h.few; runs = h.runs })
 
 -- the entry was written
-pub takes_entered : {A X P : Type 0} (r : Result A X) (old new : Seat) (item : Up) → (IsOutOfOrder old.journal.entries item → ⊥) → OnOk r P → (P → IsSound new) → IsSeat new →
+pub takes_entered : {A X P : Type 0} (r : Result A X) (old new : Seat) (item : Up) →
+    (IsOutOfOrder old.journal.entries item → ⊥) → OnOk r P → (P → IsSound new) → IsSeat new →
     (past (place_of old.journal.entries) (Item item)).activation ≡ suc old.ended →
-    OnOk r ((new.journal.entries ≡ old.journal.entries ++ Item item ∷ []) × (length old.journal.entries < old.journal.room)) →
+    OnOk r ((new.journal.entries ≡ old.journal.entries ++ Item item ∷ [])
+    × (length old.journal.entries < old.journal.room)) →
     OnOk r (Takes old new item)
-takes_entered (Ok a) old new item due p f seat at ok = record { due = due; sound = f p; seat = seat; fits = ok.1; stands = at; entered = ok.0 }
+takes_entered (Ok a) old new item due p f seat at ok = record {
+  due = due;
+  sound = f p;
+  seat = seat;
+  fits = ok.1;
+  stands = at;
+  entered = ok.0;
+}
 takes_entered (Err x) old new item due p f seat at ok = tt
 
 -- no credit is taken between two activations, where all 64 bytes are free
-pub credit_open : (activity : Activity) (node : Node) (j : List Entry) (ended free left n : ℕ) → left ≤ 64 → 3 ≤ n → Pays free left (Item (Credit n)) → Reads node j ended activity free → open_in activity ≡ 1
+pub credit_open : (activity : Activity) (node : Node) (j : List Entry) (ended free left n : ℕ) → left ≤ 64 → 3 ≤ n →
+    Pays free left (Item (Credit n)) → Reads node j ended activity free → open_in activity ≡ 1
 credit_open Between node j ended free left n few some pays h =
     let b = h.begun in
     let later : (place_of j).activation < suc ended = omega (arith, b) in
@@ -61,19 +72,24 @@ credit_open Off node j ended free left n few some pays h = refl
 credit_open OffAndAsked node j ended free left n few some pays h = refl
 
 -- a request that the node took, and one that was dropped, may come there
-pub taken_right : (old new : Node) (j : List Entry) (ended free : ℕ) (filter : _) (request : Request) → Follows old j → Requests old new request (Ok tt) →
+pub taken_right : (old new : Node) (j : List Entry) (ended free : ℕ) (filter : _) (request : Request) → Follows old j →
+    Requests old new request (Ok tt) →
     Reads old j ended (Running filter) free → IsAskedWrongly j → ⊥
-taken_right old new j ended free filter request follows took h (outside between) = let b = h.begun in let s = h.stopped in omega (arith, b, s, between)
+taken_right old new j ended free filter request follows took h (outside between) = let b = h.begun in let s =
+    h.stopped in omega (arith, b, s, between)
 taken_right old new j ended free filter request follows took h (while_held opened on held) =
     let none = (took.1 (record_of j) follows.found follows.stands).1 in
     let yes = held follows.found follows.stands.cut in
     let e : false ≡ true = sym (ap is_held none) ∙ yes in cc
-taken_right old new j ended free filter request follows took h (again_off opened off asked) = let e : true ≡ false = sym off ∙ h.active.0 in cc
+taken_right old new j ended free filter request follows took h (again_off opened off asked) = let e : true ≡ false =
+    sym off ∙ h.active.0 in cc
 
 pub dropped_right : (node : Node) (j : List Entry) (ended free : ℕ) → Reads node j ended Off free → IsAskedWrongly j → ⊥
-dropped_right node j ended free h (outside between) = let b = h.begun in let s = h.stopped in omega (arith, b, s, between)
+dropped_right node j ended free h (outside between) = let b = h.begun in let s = h.stopped in
+    omega (arith, b, s, between)
 dropped_right node j ended free h (while_held opened on held) = let e : true ≡ false = sym h.active.0 ∙ on in cc
-dropped_right node j ended free h (again_off opened off asked) = let P : ℕ → Type 0 = λ n. HasAskedOff (part j (suc n)) in h.active.3 (subst P h.stopped asked)
+dropped_right node j ended free h (again_off opened off asked) = let P : ℕ → Type 0 =
+    λ n. HasAskedOff (part j (suc n)) in h.active.3 (subst P h.stopped asked)
 
 -- a credit that the ledger counted is good: it is of 3 to 13 bytes, and no more than 64 are free with it
 pub credit_good : (activity : Activity) (node : Node) (j : List Entry) (ended free left n : ℕ) → left ≤ 64 → 3 ≤ n →
@@ -103,7 +119,8 @@ may_come j item due other = record { in_order = due; good = λ bytes is bad. oth
 
 -- its entry found no room, where it may come there
 pub refused_full : {A : Type 0} (r : Result A BusFault) (old mid new : Seat) (item : Up) →
-    (link_of mid.ledger).node ≡ (link_of old.ledger).node → mid.journal ≡ old.journal → MayCome old.journal.entries item →
+    (link_of mid.ledger).node ≡ (link_of old.ledger).node → mid.journal ≡ old.journal →
+    MayCome old.journal.entries item →
     IfErr r (λ f. IsFull mid new f) → IfErr r (λ f. Refuses old new item f)
 refused_full (Ok a) old mid new item node journal due full = tt
 refused_full (Err f) old mid new item node journal due full =
@@ -113,15 +130,20 @@ refused_full (Err f) old mid new item node journal due full =
     (full.same ∙ ap (λ (w : Written). w.entries) journal, (refl, subst R journal full.full, due))
 
 -- a node that is on the bus gave a request back: by every cut it holds one
-pub held_by : (old new : Node) (j : List Entry) (request back : Request) → is_on false (record_of j) ≡ true → Follows old j → Requests old new request (Err back) →
+pub held_by : (old new : Node) (j : List Entry) (request back : Request) → is_on false (record_of j) ≡ true →
+    Follows old j → Requests old new request (Err back) →
     (found : List FinishedPiece) (cut : IsCut (record_of j) found) → is_held (now_in cut).held ≡ true
-held_by old new j request back on follows refused found cut = elim (refused.2 (record_of j) follows.found follows.stands) [
-  | inl reset ↦ absurd (cut_away (record_of j) follows.found follows.stands.cut on reset)
-  | inr held ↦ ap (λ (c : ContextValue). is_held c.held) (now_once (record_of j) found follows.found cut follows.stands.cut) ∙ held
-]
+held_by old new j request back on follows refused found cut =
+    elim (refused.2 (record_of j) follows.found follows.stands) [
+      | inl reset ↦ absurd (cut_away (record_of j) follows.found follows.stands.cut on reset)
+      | inr held ↦ ap (λ (c : ContextValue). is_held c.held)
+          (now_once (record_of j) found follows.found cut follows.stands.cut) ∙ held
+    ]
 
 -- the seat runs in an open activation
-pub held_wrongly : (old new : Node) (j : List Entry) (ended free : ℕ) (filter : _) (request back : Request) → Follows old j → Requests old new request (Err back) →
+pub held_wrongly : (old new : Node) (j : List Entry) (ended free : ℕ) (filter : _) (request back : Request) →
+    Follows old j → Requests old new request (Err back) →
     Reads old j ended (Running filter) free → IsAskedWrongly j
 held_wrongly old new j ended free filter request back follows refused h =
-    while_held (open_by (Running filter) old j ended free refl h) h.active.0 (held_by old new j request back h.active.2 follows refused)
+    while_held (open_by (Running filter) old j ended free refl h) h.active.0
+    (held_by old new j request back h.active.2 follows refused)

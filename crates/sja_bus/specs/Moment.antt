@@ -26,8 +26,8 @@ pub record Keeps {E B : Type 0} (e : Ends E) (b : Ports B) (was now : Moment E B
   pub nodes : length now.bus.journals ≡ length was.bus.journals
 
 -- one bit, which went well: it keeps what every bit keeps, and it is counted; the links stand for the journals still;
--- all nodes had the bit, and nothing is untold of any; there is no fault; and what holds of every bus and of every board
--- holds after it
+-- all nodes had the bit, and nothing is untold of any; there is no fault; and what holds of every bus and of every
+-- board holds after it
 pub record OneBit {E B : Type 0} (e : Ends E) (b : Ports B) (was now : Moment E B) : Type 0 where
   pub keeps : Keeps e b was now
   pub run : now.bus.run ≡ was.bus.run + 1

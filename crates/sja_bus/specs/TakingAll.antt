@@ -11,8 +11,8 @@ use Rattle.sja_wire.specs.Wire.{journal_at}
 use Rattle.sja_wire.specs.Links.{per_node, Kept}
 use Rattle.sja_bus.specs.Buses.{AllDry}
 
--- the lists of the link of an activation where nothing was put on it since the first journal, and what was taken from it
--- is what the second one has
+-- the lists of the link of an activation where nothing was put on it since the first journal, and what was taken from
+-- it is what the second one has
 abbrev pub taken_by : List Entry → List Entry → ℕ → Account → Lists
 taken_by before now a h = record (account before a h) { taken = taken_of (part now a) }
 

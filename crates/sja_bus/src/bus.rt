@@ -115,8 +115,9 @@ impl Bus {
         ensures dry { OnOk result (AllDry E.dry self.new.journals links.new) }
         ensures right { OnOk result (self.new.fault ≡ None) }
         ensures fault { IfErr result (λ f. self.new.fault ≡ Some f) }
-        ensures reason { IfErr result (λ f. self.old.fault ≡ None → IsTakenAndRefused E.stands (self.old.run + self.old.left)
-            self.old.journals self.new.journals links.old links.new f) }
+        ensures reason { IfErr result (λ f. self.old.fault ≡ None →
+            IsTakenAndRefused E.stands (self.old.run + self.old.left) self.old.journals self.new.journals links.old
+            links.new f) }
         ensures stays { (f : Fault) → self.old.fault ≡ Some f →
             (result ≡ Err f) × (self.new ≡ self.old) × (links.new ≡ links.old) }
     {

@@ -63,9 +63,10 @@ impl Bus {
         ensures right { OnOk result (self.new.fault ≡ None) }
         ensures fault { IfErr result (λ f. self.new.fault ≡ Some f) }
         ensures reason { IfErr result (λ f. self.old.fault ≡ None →
-            IsTakenAndRefused E.stands (self.old.run + self.old.left) self.old.journals self.new.journals links.old links.new f
-            ⊎ IsFullInStretch E.stands (self.old.run + self.old.left) self.old.left self.old.journals self.new.journals
-            links.old links.new f) }
+            IsTakenAndRefused E.stands (self.old.run + self.old.left) self.old.journals self.new.journals links.old
+            links.new f
+            ⊎ IsFullInStretch E.stands (self.old.run + self.old.left) self.old.left self.old.journals
+            self.new.journals links.old links.new f) }
         ensures stays { (f : Fault) → self.old.fault ≡ Some f →
             (result ≡ Err f) × (self.new ≡ self.old) × (links.new ≡ links.old) }
     {
@@ -103,7 +104,8 @@ impl Bus {
     }
 }
 
-/// Whether every node is at rest, and its port is told all. What the ports order isn't asked: an abort finds no request.
+/// Whether every node is at rest, and its port is told all. What the ports order isn't asked: an abort finds no
+/// request.
 fn are_resting(seats: &[Seat]) -> bool
     requires { AreReady seats.now }
     ensures yes { result ≡ true → AreResting seats.now }

@@ -1,5 +1,6 @@
 -- What a try came to, and how deeds, log and links go on with it while not all eight activations have ended.
-use Rattle.std.proofs.Common.{◌≡◌, ◌+◌, ◌<◌, ◌≤◌, ℕ, suc, Bool, cond, List, [], ◌∷◌, ◌++◌, length, refl, sym, ap, ◌∙◌, subst, append-nil, arith, inl, inr}
+use Rattle.std.proofs.Common.{◌≡◌, ◌+◌, ◌<◌, ◌≤◌, ℕ, suc, Bool, cond, List, [], ◌∷◌, ◌++◌, length, refl, sym, ap, ◌∙◌}
+use Rattle.std.proofs.Common.{subst, append-nil, arith, inl, inr}
 use Rattle.std.specs.Prelude.{slice_index_or, slice_set, ◌⊎◌}
 use Rattle.std.proofs.lemmas.Bool.{cases_eq, eq-eqb, ne_eqb}
 use Rattle.sja_link.specs.declared.driver_ledger.DriverLedger.{DriverLedger}
@@ -21,12 +22,14 @@ use Rattle.sja_driver.specs.AnyDrivers.{IsDriverOf, held_of, off_of, opened_of, 
 use Rattle.sja_driver.specs.Carried.{carried}
 use Rattle.sja_driver.specs.Deeds.{Deed, opened, opens_by, opened_by, given_in, deeds_of, length_in, released_lengths}
 use Rattle.sja_driver.specs.Holding.{Holds, HoldsBy, Goes}
-use Rattle.sja_driver.specs.Logs.{Traces, leaves, done_in, releases_in, left_in, done_by, releases_by, left_by, deeds_by, released_of}
+use Rattle.sja_driver.specs.Logs.{Traces, leaves, done_in, releases_in, left_in, done_by, releases_by, left_by}
+use Rattle.sja_driver.specs.Logs.{deeds_by, released_of}
 use Rattle.sja_driver.specs.Tries.{Tried}
 use Rattle.sja_driver.specs.Tries.Tried.{Unmet, Answered, Released, Ended}
 use Rattle.sja_driver.proofs.Giving.{gives_carried}
 use Rattle.sja_driver.proofs.Going.{holds_deed, gave_of}
-use Rattle.sja_driver.proofs.Left.{leaves_last, leaves_before, leaves_else, leaves_more, released_same, released_one, released_none}
+use Rattle.sja_driver.proofs.Left.{leaves_last, leaves_before, leaves_else, leaves_more, released_same, released_one}
+use Rattle.sja_driver.proofs.Left.{released_none}
 use Rattle.sja_driver.proofs.Sections.{deeds_here, deeds_else}
 use Rattle.sja_driver.proofs.Stepping.{left_count}
 use Rattle.sja_driver.proofs.Traced.{lengths, traces_deed, stands_answered, stands_released, stands_ended, ended_off}
@@ -80,7 +83,8 @@ traces_unmet was nxt log now t done released opens out h =
     })
 
 module _ {E : Type 0} (alike : E → E → Type 0) (stands : E → Lists → Type 0) (dry full : E → Type 0)
-    (was nxt : AnyDriver) (log now : WorkLog) (links : List E) (base node bits : ℕ) (p q : Registers) (step : Step) (d0 new : E) where
+    (was nxt : AnyDriver) (log now : WorkLog) (links : List E) (base node bits : ℕ) (p q : Registers)
+    (step : Step) (d0 new : E) where
   abbrev n : ℕ
   n = length (left_in log)
 

@@ -1,5 +1,6 @@
 -- A driver never holds more messages than 64 bytes have room for.
-use Rattle.std.proofs.Common.{◌≡◌, ℕ, ◌+◌, ◌*◌, ◌≤◌, Bool, true, false, List, [], ◌∷◌, ◌++◌, length, map, refl, sym, ap, ap₂, ◌∙◌, subst, append_assoc, append-nil, arith}
+use Rattle.std.proofs.Common.{◌≡◌, ℕ, ◌+◌, ◌*◌, ◌≤◌, Bool, true, false, List, [], ◌∷◌, ◌++◌, length, map, refl, sym, ap}
+use Rattle.std.proofs.Common.{ap₂, ◌∙◌, subst, append_assoc, append-nil, arith}
 use Rattle.std.specs.Prelude.{◌==◌, if◌then◌else◌}
 use Rattle.sja_link.specs.NodeWords.{ReceivedFrame}
 use Rattle.sja_link.specs.declared.down.Down.{Down}
@@ -22,10 +23,12 @@ use Rattle.sja_link.proofs.Freeing.{total_push, total_append}
 use Rattle.sja_link.proofs.Holding.{told_stored}
 use Rattle.sja_link.proofs.Judging.{kept_stored}
 use Rattle.sja_script.specs.declared.step.Step.{Step}
-use Rattle.sja_script.specs.declared.step.Step.TheVariants.{Start, Stop, Window, Release, Read, Write, Load, Command, Await, Sent}
+use Rattle.sja_script.specs.declared.step.Step.TheVariants.{Start, Stop, Window, Release, Read, Write, Load, Command}
+use Rattle.sja_script.specs.declared.step.Step.TheVariants.{Await, Sent}
 use Rattle.sja_script.specs.declared.step_answer.StepAnswer.{StepAnswer}
 use Rattle.sja_script.specs.declared.step_answer.StepAnswer.TheVariants.{Done, Released}
-use Rattle.sja_driver.specs.Deeds.{Deed, opens_by, Gives, GivesSend, length_in, given_in, released_lengths, section_from, deeds_of}
+use Rattle.sja_driver.specs.Deeds.{Deed, opens_by, Gives, GivesSend, length_in, given_in, released_lengths}
+use Rattle.sja_driver.specs.Deeds.{section_from, deeds_of}
 use Rattle.sja_regs.specs.Commands.{command_of, requests}
 use Rattle.sja_link.proofs.FramesReceived.{AreFrames, all_frames, message_fits}
 

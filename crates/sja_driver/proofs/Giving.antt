@@ -6,9 +6,11 @@ use Rattle.sja_regs.specs.declared.registers.Registers.{Registers}
 use Rattle.sja_regs.specs.Commands.{command_of, requests}
 use Rattle.sja_regs.specs.Registers.{config_of}
 use Rattle.sja_script.specs.declared.step.Step.{Step}
-use Rattle.sja_script.specs.declared.step.Step.TheVariants.{Start, Stop, Window, Release, Read, Write, Load, Command, Await, Sent}
+use Rattle.sja_script.specs.declared.step.Step.TheVariants.{Start, Stop, Window, Release, Read, Write, Load, Command}
+use Rattle.sja_script.specs.declared.step.Step.TheVariants.{Await, Sent}
 use Rattle.sja_script.specs.declared.step_answer.StepAnswer.{StepAnswer}
-use Rattle.sja_script.specs.declared.step_answer.StepAnswer.TheVariants.{Done, NoMessage, Shown, Released, Value, Refused}
+use Rattle.sja_script.specs.declared.step_answer.StepAnswer.TheVariants.{Done, NoMessage, Shown, Released, Value}
+use Rattle.sja_script.specs.declared.step_answer.StepAnswer.TheVariants.{Refused}
 use Rattle.sja_driver.specs.Carried.{carried}
 use Rattle.sja_driver.specs.Deeds.{Gives, GivesSend}
 use Rattle.sja_driver.specs.Ports.{send_of}

@@ -1,5 +1,6 @@
 -- The logged step: from a try at the present link, and what the log then has.
-use Rattle.std.proofs.Common.{rules, ◌≡◌, ◌+◌, ◌<◌, ◌≤◌, ℕ, Bool, false, List, ◌++◌, length, refl, sym, ap, ◌∙◌, subst, arith}
+use Rattle.std.proofs.Common.{rules, ◌≡◌, ◌+◌, ◌<◌, ◌≤◌, ℕ, Bool, false, List, ◌++◌, length, refl, sym, ap, ◌∙◌, subst}
+use Rattle.std.proofs.Common.{arith}
 use Rattle.std.proofs.lemmas.List.{length-append, get_or-set_same, get_or_default}
 use Rattle.std.specs.Prelude.{min, slice_index_or, slice_set}
 use Rattle.sja_link.specs.declared.link_id.LinkId.{LinkId}

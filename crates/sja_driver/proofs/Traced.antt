@@ -1,5 +1,6 @@
 -- The trace of a driver with a deed more, and where that deed stands.
-use Rattle.std.proofs.Common.{◌≡◌, ◌+◌, ℕ, suc, false, List, [], ◌∷◌, ◌++◌, length, map, refl, sym, ap, ◌∙◌, arith, inl, inr}
+use Rattle.std.proofs.Common.{◌≡◌, ◌+◌, ℕ, suc, false, List, [], ◌∷◌, ◌++◌, length, map, refl, sym, ap, ◌∙◌, arith, inl}
+use Rattle.std.proofs.Common.{inr}
 use Rattle.std.specs.Prelude.{◌⊎◌}
 use Rattle.std.proofs.lemmas.List.{map-append}
 use Rattle.sja_link.specs.declared.driver_ledger.DriverLedger.{DriverLedger}
@@ -15,7 +16,8 @@ use Rattle.sja_driver.specs.declared.release.Release.{Release}
 use Rattle.sja_driver.specs.declared.work_log.WorkLog.{WorkLog}
 use Rattle.sja_driver.specs.AnyDrivers.{IsDriverOf, held_of, off_of, opened_of, is_out}
 use Rattle.sja_driver.specs.Carried.{carried}
-use Rattle.sja_driver.specs.Deeds.{Deed, opened, opens_by, opened_by, active_after, is_active, deeds_of, released_lengths, done_of, FitsState, Gives}
+use Rattle.sja_driver.specs.Deeds.{Deed, opened, opens_by, opened_by, active_after, is_active, deeds_of}
+use Rattle.sja_driver.specs.Deeds.{released_lengths, done_of, FitsState, Gives}
 use Rattle.sja_driver.specs.Drivers.{started_in, link_in}
 use Rattle.sja_driver.specs.Logs.{Traces, done_in, releases_in, of_activation, released_of}
 use Rattle.sja_driver.specs.Tries.{IsOf, IsQuiet}

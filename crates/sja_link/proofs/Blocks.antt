@@ -6,7 +6,8 @@ use Rattle.sja_link.specs.declared.code.Code.{Code}
 use Rattle.sja_link.specs.Kept.Codes.{is_bit, bits_before}
 
 -- where the first codes are bits, the bits go on behind them
-pub past_block : (n : ℕ) (codes : List Code) → n ≤ length codes → list_all is_bit (take n codes) ≡ true → n + bits_before (drop n codes) ≡ bits_before codes
+pub past_block : (n : ℕ) (codes : List Code) → n ≤ length codes → list_all is_bit (take n codes) ≡ true →
+    n + bits_before (drop n codes) ≡ bits_before codes
 past_block zero codes few h = omega arith
 past_block (suc n) [] few h = absurd (omega (arith, few))
 past_block (suc n) (code ∷ codes) few h =

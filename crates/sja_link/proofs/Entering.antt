@@ -1,5 +1,6 @@
 -- A journal with an entry more.
-use Rattle.std.proofs.Common.{◌≡◌, ℕ, ◌+◌, ◌<◌, ◌≤◌, Bool, true, false, List, [], ◌∷◌, ◌++◌, length, refl, sym, ap, ◌∙◌, append_assoc, append-nil, arith, inl, inr, cond, zero-add}
+use Rattle.std.proofs.Common.{◌≡◌, ℕ, ◌+◌, ◌<◌, ◌≤◌, Bool, true, false, List, [], ◌∷◌, ◌++◌, length, refl, sym, ap, ◌∙◌}
+use Rattle.std.proofs.Common.{append_assoc, append-nil, arith, inl, inr, cond, zero-add}
 use Rattle.std.specs.Prelude.{◌==◌}
 use Rattle.std.proofs.lemmas.Bool.{cases_eq, eq-eqb, ne_eqb}
 use Rattle.sja_link.specs.NodeWords.{Count, none_yet, counted}
@@ -18,11 +19,14 @@ use Rattle.sja_link.specs.Records.{told, told_at, record_of}
 
 -- ---- lists gathered from lists
 
-pub gathered_append : {A B : Type 0} (f : A → List B) (xs ys : List A) → gathered f (xs ++ ys) ≡ gathered f xs ++ gathered f ys
+pub gathered_append : {A B : Type 0} (f : A → List B) (xs ys : List A) →
+    gathered f (xs ++ ys) ≡ gathered f xs ++ gathered f ys
 gathered_append f [] ys = refl
-gathered_append f (x ∷ xs) ys = ap (λ l. f x ++ l) (gathered_append f xs ys) ∙ sym (append_assoc (f x) (gathered f xs) (gathered f ys))
+gathered_append f (x ∷ xs) ys = ap (λ l. f x ++ l) (gathered_append f xs ys)
+    ∙ sym (append_assoc (f x) (gathered f xs) (gathered f ys))
 
-pub gathered_push : {A B : Type 0} (f : A → List B) (xs : List A) (y : A) → gathered f (xs ++ y ∷ []) ≡ gathered f xs ++ f y
+pub gathered_push : {A B : Type 0} (f : A → List B) (xs : List A) (y : A) →
+    gathered f (xs ++ y ∷ []) ≡ gathered f xs ++ f y
 gathered_push f xs y = gathered_append f xs (y ∷ []) ∙ ap (λ l. gathered f xs ++ l) (append-nil (f y))
 
 -- ---- places
@@ -57,7 +61,8 @@ all_rise p (e ∷ es) =
     let y = all_rise (past p e) es in
     record { activation = omega (arith, x, y); bits = omega (arith, x, y) }
 
-pub placed_push : (p : JournalPlace) (es : List Entry) (e : Entry) → placed_from p (es ++ e ∷ []) ≡ placed_from p es ++ (record { before = past_all p es; entry = e }) ∷ []
+pub placed_push : (p : JournalPlace) (es : List Entry) (e : Entry) → placed_from p (es ++ e ∷ []) ≡ placed_from p es
+    ++ (record { before = past_all p es; entry = e }) ∷ []
 placed_push p [] e = refl
 placed_push p (x ∷ es) e = ap (λ l. (record { before = p; entry = x }) ∷ l) (placed_push (past p x) es e)
 
@@ -65,41 +70,51 @@ placed_push p (x ∷ es) e = ap (λ l. (record { before = p; entry = x }) ∷ l)
 abbrev pub last_of : List Entry → Entry → Placed
 last_of j e = record { before = place_of j; entry = e }
 
-pub placed_end : {B : Type 0} (f : Placed → List B) (j : List Entry) (e : Entry) → gathered f (placed (j ++ e ∷ [])) ≡ gathered f (placed j) ++ f (last_of j e)
+pub placed_end : {B : Type 0} (f : Placed → List B) (j : List Entry) (e : Entry) →
+    gathered f (placed (j ++ e ∷ [])) ≡ gathered f (placed j) ++ f (last_of j e)
 placed_end f j e = ap (gathered f) (placed_push first_place j e) ∙ gathered_push f (placed j) (last_of j e)
 
 -- an entry stands in one activation, and in no other
-pub of_part_here : {B : Type 0} (f : Placed → List B) (j : List Entry) (e : Entry) (a : ℕ) → (past (place_of j) e).activation ≡ a →
+pub of_part_here : {B : Type 0} (f : Placed → List B) (j : List Entry) (e : Entry) (a : ℕ) →
+    (past (place_of j) e).activation ≡ a →
     of_part f (j ++ e ∷ []) a ≡ of_part f j a ++ f (last_of j e)
-of_part_here f j e a h = placed_end (in_part f a) j e ∙ ap (λ b. of_part f j a ++ cond b (f (last_of j e)) []) (eq-eqb _ _ h)
+of_part_here f j e a h = placed_end (in_part f a) j e ∙ ap
+    (λ b. of_part f j a ++ cond b (f (last_of j e)) []) (eq-eqb _ _ h)
 
-pub of_part_else : {B : Type 0} (f : Placed → List B) (j : List Entry) (e : Entry) (a : ℕ) → ((past (place_of j) e).activation ≡ a → ⊥) →
+pub of_part_else : {B : Type 0} (f : Placed → List B) (j : List Entry) (e : Entry) (a : ℕ) →
+    ((past (place_of j) e).activation ≡ a → ⊥) →
     of_part f (j ++ e ∷ []) a ≡ of_part f j a
 of_part_else f j e a h =
-    placed_end (in_part f a) j e ∙ ap (λ b. of_part f j a ++ cond b (f (last_of j e)) []) (ne_eqb _ _ h) ∙ append-nil (of_part f j a)
+    placed_end (in_part f a) j e ∙ ap (λ b. of_part f j a ++ cond b (f (last_of j e)) []) (ne_eqb _ _ h)
+    ∙ append-nil (of_part f j a)
 
 -- one that gives nothing changes nothing
-pub of_part_none : {B : Type 0} (f : Placed → List B) (j : List Entry) (e : Entry) (a : ℕ) → f (last_of j e) ≡ [] → of_part f (j ++ e ∷ []) a ≡ of_part f j a
+pub of_part_none : {B : Type 0} (f : Placed → List B) (j : List Entry) (e : Entry) (a : ℕ) → f (last_of j e) ≡ [] →
+    of_part f (j ++ e ∷ []) a ≡ of_part f j a
 of_part_none f j e a h = elim (cases_eq (past (place_of j) e).activation a) [
   | inl q ↦ of_part_here f j e a q ∙ ap (λ l. of_part f j a ++ l) h ∙ append-nil (of_part f j a)
   | inr n ↦ of_part_else f j e a n
 ]
 
-pub part_here : (j : List Entry) (e : Entry) (a : ℕ) → (past (place_of j) e).activation ≡ a → part (j ++ e ∷ []) a ≡ part j a ++ e ∷ []
+pub part_here : (j : List Entry) (e : Entry) (a : ℕ) → (past (place_of j) e).activation ≡ a →
+    part (j ++ e ∷ []) a ≡ part j a ++ e ∷ []
 part_here j e a h = of_part_here entry_at j e a h
 
-pub part_else : (j : List Entry) (e : Entry) (a : ℕ) → ((past (place_of j) e).activation ≡ a → ⊥) → part (j ++ e ∷ []) a ≡ part j a
+pub part_else : (j : List Entry) (e : Entry) (a : ℕ) → ((past (place_of j) e).activation ≡ a → ⊥) →
+    part (j ++ e ∷ []) a ≡ part j a
 part_else j e a h = of_part_else entry_at j e a h
 
 -- of an activation that hasn't begun there is nothing
-none_later : {B : Type 0} (f : Placed → List B) (p : JournalPlace) (es : List Entry) (a : ℕ) → (past_all p es).activation < a → gathered (in_part f a) (placed_from p es) ≡ []
+none_later : {B : Type 0} (f : Placed → List B) (p : JournalPlace) (es : List Entry) (a : ℕ) →
+    (past_all p es).activation < a → gathered (in_part f a) (placed_from p es) ≡ []
 none_later f p [] a h = refl
 none_later f p (e ∷ es) a h =
     let few = all_rise (past p e) es in
     let t : ((past p e).activation == a) ≡ false = ne_eqb (past p e).activation a (λ q. omega (arith, h, few, q)) in
     rw t (none_later f (past p e) es a h)
 
-pub of_part_later : {B : Type 0} (f : Placed → List B) (j : List Entry) (a : ℕ) → (place_of j).activation < a → of_part f j a ≡ []
+pub of_part_later : {B : Type 0} (f : Placed → List B) (j : List Entry) (a : ℕ) →
+    (place_of j).activation < a → of_part f j a ≡ []
 of_part_later f j a h = none_later f first_place j a h
 
 -- ---- the record
@@ -123,13 +138,16 @@ one_counted p off (Stored m) = refl
 one_counted p off (Overrun m) = refl
 one_counted p off Off = refl
 
-all_counted : (p : JournalPlace) (es : List Entry) → counted (count_of p) (gathered told_at (placed_from p es)) ≡ count_of (past_all p es)
+all_counted : (p : JournalPlace) (es : List Entry) → counted (count_of p)
+    (gathered told_at (placed_from p es)) ≡ count_of (past_all p es)
 all_counted p [] = refl
 all_counted p (e ∷ es) =
     counted_both (count_of p) (told p.off e) (gathered told_at (placed_from (past p e) es))
-    ∙ ap (λ k. counted k (gathered told_at (placed_from (past p e) es))) (one_counted p p.off e) ∙ all_counted (past p e) es
+    ∙ ap (λ k. counted k (gathered told_at (placed_from (past p e) es))) (one_counted p p.off e)
+    ∙ all_counted (past p e) es
 
-pub record_counted : (j : List Entry) → counted none_yet (record_of j) ≡ record { starts = (place_of j).activation; bits = (place_of j).bits }
+pub record_counted : (j : List Entry) → counted none_yet
+    (record_of j) ≡ record { starts = (place_of j).activation; bits = (place_of j).bits }
 record_counted j = all_counted first_place j
 
 -- ---- the bits
@@ -152,27 +170,75 @@ bits_counted j = bits_from first_place j ∙ zero-add (length (bits_of j))
 -- ---- links
 
 lists_same : (l : Lists) → (record l { put = l.put ++ []; taken = l.taken ++ [] }) ≡ l
-lists_same l = ap (λ x. let k : Lists = record { put = x; taken = l.taken ++ []; got = l.got; given = l.given } in k) (append-nil l.put)
-    ∙ ap (λ x. let k : Lists = record { put = l.put; taken = x; got = l.got; given = l.given } in k) (append-nil l.taken)
+lists_same l = ap (λ x. let k : Lists = record {
+  put = x;
+  taken = l.taken ++ [];
+  got = l.got;
+  given =
+      l.given;
+} in k) (append-nil l.put)
+    ∙ ap (λ x. let k : Lists = record { put = l.put; taken = x; got = l.got; given = l.given } in
+    k) (append-nil l.taken)
 
-entry_adds : (l : Lists) (e : Entry) → (record l { put = l.put ++ put_in e; taken = l.taken ++ taken_in e }) ≡ with_entry l e
-entry_adds l (Item u) = ap (λ x. let k : Lists = record { put = x; taken = l.taken ++ u ∷ []; got = l.got; given = l.given } in k) (append-nil l.put)
-entry_adds l (Stored m) = ap (λ x. let k : Lists = record { put = l.put ++ Message m ∷ []; taken = x; got = l.got; given = l.given } in k) (append-nil l.taken)
-entry_adds l Off = ap (λ x. let k : Lists = record { put = l.put ++ OffDown ∷ []; taken = x; got = l.got; given = l.given } in k) (append-nil l.taken)
+entry_adds : (l : Lists) (e : Entry) → (record l {
+  put = l.put ++ put_in e;
+  taken = l.taken
+      ++ taken_in e;
+}) ≡ with_entry l e
+entry_adds l (Item u) = ap (λ x. let k : Lists = record {
+  put = x;
+  taken = l.taken ++ u ∷ [];
+  got = l.got;
+  given =
+      l.given;
+} in k) (append-nil l.put)
+entry_adds l (Stored m) = ap (λ x. let k : Lists = record {
+  put = l.put ++ Message m ∷ [];
+  taken = x;
+  got = l.got;
+  given = l.given;
+} in k) (append-nil l.taken)
+entry_adds l Off = ap (λ x. let k : Lists = record {
+  put = l.put ++ OffDown ∷ [];
+  taken = x;
+  got = l.got;
+  given =
+      l.given;
+} in k) (append-nil l.taken)
 entry_adds l (Bit driven seen) = lists_same l
 entry_adds l Abort = lists_same l
 entry_adds l (Overrun m) = lists_same l
 
 -- an entry of this activation puts and takes
-pub account_here : (j : List Entry) (e : Entry) (a : ℕ) (h : Account) → (past (place_of j) e).activation ≡ a → account (j ++ e ∷ []) a h ≡ with_entry (account j a h) e
+pub account_here : (j : List Entry) (e : Entry) (a : ℕ) (h : Account) → (past (place_of j) e).activation ≡ a →
+    account (j ++ e ∷ []) a h ≡ with_entry (account j a h) e
 account_here j e a h q =
     let p : part (j ++ e ∷ []) a ≡ part j a ++ e ∷ [] = part_here j e a q in
-    let puts : put_of (part (j ++ e ∷ []) a) ≡ put_of (part j a) ++ put_in e = ap put_of p ∙ gathered_push put_in (part j a) e in
-    let takes : taken_of (part (j ++ e ∷ []) a) ≡ taken_of (part j a) ++ taken_in e = ap taken_of p ∙ gathered_push taken_in (part j a) e in
-    ap (λ x. let l : Lists = record { put = x; taken = taken_of (part (j ++ e ∷ []) a); got = h.got; given = h.given } in l) puts
-    ∙ ap (λ x. let l : Lists = record { put = put_of (part j a) ++ put_in e; taken = x; got = h.got; given = h.given } in l) takes
+    let puts : put_of (part (j ++ e ∷ []) a) ≡ put_of (part j a) ++ put_in e = ap put_of p
+    ∙ gathered_push put_in (part j a) e in
+    let takes : taken_of (part (j ++ e ∷ []) a) ≡ taken_of (part j a) ++ taken_in e = ap taken_of p
+    ∙ gathered_push taken_in (part j a) e in
+    ap (λ x. let l : Lists = record {
+      put = x;
+      taken = taken_of (part (j ++ e ∷ []) a);
+      got = h.got;
+      given = h.given;
+    } in l) puts
+    ∙ ap (λ x. let l : Lists = record {
+      put = put_of (part j a) ++ put_in e;
+      taken = x;
+      got = h.got;
+      given = h.given;
+    } in l) takes
     ∙ entry_adds (account j a h) e
 
 -- of any other activation the lists stay
-pub account_else : (j : List Entry) (e : Entry) (a : ℕ) (h : Account) → ((past (place_of j) e).activation ≡ a → ⊥) → account (j ++ e ∷ []) a h ≡ account j a h
-account_else j e a h n = ap (λ p. let l : Lists = record { put = put_of p; taken = taken_of p; got = h.got; given = h.given } in l) (part_else j e a n)
+pub account_else : (j : List Entry) (e : Entry) (a : ℕ) (h : Account) → ((past (place_of j) e).activation ≡ a → ⊥) →
+    account (j ++ e ∷ []) a h ≡ account j a h
+account_else j e a h n = ap (λ p. let l : Lists = record {
+  put = put_of p;
+  taken = taken_of p;
+  got = h.got;
+  given =
+      h.given;
+} in l) (part_else j e a n)

@@ -13,7 +13,10 @@ use Rattle.can_node.specs.Frames.Transmits.{sending, failed, lost}
 use Rattle.can_node.specs.Pieces.{Place, Piece, received_by}
 use Rattle.can_node.specs.Record.{RecordEntry}
 use Rattle.can_node.specs.Table.{Row}
-use Rattle.can_node.specs.Table.Row.{integration, idle, other, own, other_begun, own_begun, last_eof_bit, last_eof_bit_overload, flag, flag_fault, flag_passive, delimiter, delimiter_overload, delimiter_fault, interframe_space, interframe_space_sof, suspend_transmission_sof, intermission_overload, intermission_overload_second}
+use Rattle.can_node.specs.Table.Row.{integration, idle, other, own, other_begun, own_begun, last_eof_bit}
+use Rattle.can_node.specs.Table.Row.{last_eof_bit_overload, flag, flag_fault, flag_passive, delimiter}
+use Rattle.can_node.specs.Table.Row.{delimiter_overload, delimiter_fault, interframe_space, interframe_space_sof}
+use Rattle.can_node.specs.Table.Row.{suspend_transmission_sof, intermission_overload, intermission_overload_second}
 use Rattle.can_node.specs.FinishedPieces.{FinishedPiece, ReceivedFrame, Count, counted, tagged, received_if, received}
 use Rattle.can_node.specs.Cut.{Move, From, IsCut}
 use Rattle.can_node.specs.Cut.Move.{piece, sent, aborted, started, stopped, off_within, off_after}
@@ -93,7 +96,8 @@ frames_from {k = k} (on {entries = first} {ps = ps} {qs = qs} move from) =
     (frames_both (received (tagged (counted k first) ps)) (received qs) (by_move (counted k first) move)
     (frames_from from))
 
-pub all_frames : (entries : List RecordEntry) (found : List FinishedPiece) → IsCut entries found → AreFrames (received found)
+pub all_frames : (entries : List RecordEntry) (found : List FinishedPiece) → IsCut entries found →
+    AreFrames (received found)
 all_frames entries found cut = frames_from cut.from
 
 -- ---- so a message has 3 to 13 bytes

@@ -1,5 +1,6 @@
 -- The bytes that are free in a part with an entry more.
-use Rattle.std.proofs.Common.{◌≡◌, ◌≢◌, ℕ, ◌+◌, ◌<◌, ◌≤◌, List, [], ◌∷◌, ◌++◌, length, refl, sym, ap, ◌∙◌, arith, add_assoc, add-zero, zero-add}
+use Rattle.std.proofs.Common.{◌≡◌, ◌≢◌, ℕ, ◌+◌, ◌<◌, ◌≤◌, List, [], ◌∷◌, ◌++◌, length, refl, sym, ap, ◌∙◌, arith}
+use Rattle.std.proofs.Common.{add_assoc, add-zero, zero-add}
 use Rattle.sja_link.specs.declared.up.Up.{Up}
 use Rattle.sja_link.specs.declared.up.Up.TheVariants.{Start, Credit, Send, Stop}
 use Rattle.sja_link.specs.declared.entry.Entry.{Entry}
@@ -19,18 +20,25 @@ total_push f xs y = total_append f xs (y ∷ []) ∙ ap (λ n. total f xs + n) (
 pub free_is : (p : List Entry) (n : ℕ) → IsFree p n → n ≡ free_of p
 free_is p n h = omega (arith, h)
 
-pub free_push : (p : List Entry) (e : Entry) (n m : ℕ) → IsFree p n → m + bytes_in e ≡ n + credit_in e → IsFree (p ++ e ∷ []) m
+pub free_push : (p : List Entry) (e : Entry) (n m : ℕ) → IsFree p n →
+    m + bytes_in e ≡ n + credit_in e → IsFree (p ++ e ∷ []) m
 free_push p e n m h k = let b = total_push bytes_in p e in let c = total_push credit_in p e in omega (arith, h, k, b, c)
 
 -- an entry that stores nothing and gives nothing back
-pub free_same : (p : List Entry) (e : Entry) (n : ℕ) → bytes_in e ≡ 0 → credit_in e ≡ 0 → IsFree p n → IsFree (p ++ e ∷ []) n
+pub free_same : (p : List Entry) (e : Entry) (n : ℕ) → bytes_in e ≡ 0 → credit_in e ≡ 0 →
+    IsFree p n → IsFree (p ++ e ∷ []) n
 free_same p e n b c h = free_push p e n n h (omega (arith, b, c))
 
 -- a message that fits is stored, and one that doesn't is overrun
-pub stores : (p : List Entry) (m : List ℕ) (n k : ℕ) → IsFree p n → length m ≤ n → k + length m ≡ n → IsFair p (Stored m) × IsFree (p ++ Stored m ∷ []) k
-stores p m n k h fits left = let f = free_is p n h in (omega (arith, f, fits), free_push p (Stored m) n k h (omega (arith, left)))
+pub stores : (p : List Entry) (m : List ℕ) (n k : ℕ) → IsFree p n → length m ≤ n → k + length m ≡ n →
+    IsFair p (Stored m) × IsFree (p ++ Stored m ∷ []) k
+stores p m n k h fits left = let f = free_is p n h in (
+  omega (arith, f, fits),
+  free_push p (Stored m) n k h (omega (arith, left)),
+)
 
-pub overruns : (p : List Entry) (m : List ℕ) (n : ℕ) → IsFree p n → n < length m → IsFair p (Overrun m) × IsFree (p ++ Overrun m ∷ []) n
+pub overruns : (p : List Entry) (m : List ℕ) (n : ℕ) → IsFree p n → n < length m → IsFair p (Overrun m)
+    × IsFree (p ++ Overrun m ∷ []) n
 overruns p m n h long = let f = free_is p n h in (omega (arith, f, long), free_push p (Overrun m) n n h refl)
 
 -- an item that is no credit gives nothing back

@@ -11,7 +11,8 @@ use Rattle.sja_link.proofs.ListCounts.{messages_both}
 use Rattle.sja_link.proofs.Judging.{put_stored}
 
 -- more is got
-pub holds_pull : {E : Type 0} {stands : E → Lists → Type 0} {old new : E} {held now_held : List (List ℕ)} {off now_off : Bool}
+pub holds_pull : {E : Type 0} {stands : E → Lists → Type 0} {old new : E}
+    {held now_held : List (List ℕ)} {off now_off : Bool}
     (got : List Down) (released : List (List ℕ)) → (p : Pulls stands old new held now_held off now_off) →
     Holds got released held → Holds (got ++ p.got) released now_held
 holds_pull {held = held} got released p h =

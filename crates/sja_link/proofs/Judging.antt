@@ -1,5 +1,6 @@
 -- Verdicts of a journal with an entry more.
-use Rattle.std.proofs.Common.{◌≡◌, ℕ, ◌+◌, ◌<◌, ◌≤◌, Bool, true, false, Option, List, [], ◌∷◌, ◌++◌, map, refl, sym, ap, ap₂, cond, ◌∙◌, subst, append_assoc, append-nil, arith, inl, inr}
+use Rattle.std.proofs.Common.{◌≡◌, ℕ, ◌+◌, ◌<◌, ◌≤◌, Bool, true, false, Option, List, [], ◌∷◌, ◌++◌, map, refl, sym, ap}
+use Rattle.std.proofs.Common.{ap₂, cond, ◌∙◌, subst, append_assoc, append-nil, arith, inl, inr}
 use Rattle.std.specs.Prelude.{◌==◌}
 use Rattle.std.proofs.lemmas.Bool.{cases_eq}
 use Rattle.can_frame.specs.declared.filter.Filter.{Filter}
@@ -20,16 +21,19 @@ use Rattle.sja_link.specs.Judged.{Judged, judged_after, judged_at, judged_in, ke
 use Rattle.sja_link.specs.Verdicts.{filter_of, PassesAny, IsAccepted, IsOn, IsDue, HasVerdicts, entry_of}
 use Rattle.sja_link.specs.Picking.{Picks, EachAfter}
 use Rattle.sja_link.specs.Picking.Picks.{nothing, picked, left}
-use Rattle.sja_link.proofs.Entering.{gathered_append, of_part_here, of_part_else, of_part_none, of_part_later, part_here, part_else}
+use Rattle.sja_link.proofs.Entering.{gathered_append, of_part_here, of_part_else, of_part_none, of_part_later}
+use Rattle.sja_link.proofs.Entering.{part_here, part_else}
 
 -- ---- what is picked
 
-pub picks_push : {A B : Type 0} {P : A → Type 0} {R : A → B → Type 0} {xs : List A} {ys : List B} (x : A) (y : B) → P x → R x y → Picks P R xs ys → Picks P R (xs ++ x ∷ []) (ys ++ y ∷ [])
+pub picks_push : {A B : Type 0} {P : A → Type 0} {R : A → B → Type 0} {xs : List A} {ys : List B} (x : A) (y : B) →
+    P x → R x y → Picks P R xs ys → Picks P R (xs ++ x ∷ []) (ys ++ y ∷ [])
 picks_push x y h r nothing = picked x y h r nothing
 picks_push x y h r (picked v w g q more) = picked v w g q (picks_push x y h r more)
 picks_push x y h r (left v g more) = left v g (picks_push x y h r more)
 
-pub leaves_push : {A B : Type 0} {P : A → Type 0} {R : A → B → Type 0} {xs : List A} {ys : List B} (x : A) → (P x → ⊥) → Picks P R xs ys → Picks P R (xs ++ x ∷ []) ys
+pub leaves_push : {A B : Type 0} {P : A → Type 0} {R : A → B → Type 0} {xs : List A} {ys : List B} (x : A) → (P x → ⊥) →
+    Picks P R xs ys → Picks P R (xs ++ x ∷ []) ys
 leaves_push x h nothing = left x h nothing
 leaves_push x h (picked v w g q more) = picked v w g q (leaves_push x h more)
 leaves_push x h (left v g more) = left v g (leaves_push x h more)
@@ -44,17 +48,20 @@ picks_none no_more = nothing
 picks_none (not_this x h more) = left x h (picks_none more)
 
 -- what is picked is one list, as far as the partners are alike
-pub picks_once : {A B C : Type 0} {P : A → Type 0} {R : A → B → Type 0} (g : B → C) → ((x : A) (y z : B) → R x y → R x z → g y ≡ g z) → {xs : List A} {ys zs : List B} →
+pub picks_once : {A B C : Type 0} {P : A → Type 0} {R : A → B → Type 0} (g : B → C) →
+    ((x : A) (y z : B) → R x y → R x z → g y ≡ g z) → {xs : List A} {ys zs : List B} →
     Picks P R xs ys → Picks P R xs zs → map g ys ≡ map g zs
 picks_once g one nothing nothing = refl
-picks_once g one (picked x y h r more) (picked _ z k q others) = ap₂ (λ v l. v ∷ l) (one x y z r q) (picks_once g one more others)
+picks_once g one (picked x y h r more) (picked _ z k q others) =
+    ap₂ (λ v l. v ∷ l) (one x y z r q) (picks_once g one more others)
 picks_once g one (picked x y h r more) (left _ k others) = absurd (k h)
 picks_once g one (left x h more) (picked _ z k q others) = absurd (h k)
 picks_once g one (left x h more) (left _ k others) = picks_once g one more others
 
 -- ---- what stands before each entry
 
-pub each_push : {X : Type 0} (P : List X → X → Type 0) (before xs : List X) (x : X) → EachAfter P before xs → P (before ++ xs) x → EachAfter P before (xs ++ x ∷ [])
+pub each_push : {X : Type 0} (P : List X → X → Type 0) (before xs : List X) (x : X) → EachAfter P before xs →
+    P (before ++ xs) x → EachAfter P before (xs ++ x ∷ [])
 each_push P before [] x h p = (subst (λ b. P b x) (append-nil before) p, tt)
 each_push P before (y ∷ xs) x h p =
     (h.0, each_push P (before ++ y ∷ []) xs x h.1 (subst (λ b. P b x) (sym (append_assoc before (y ∷ []) xs)) p))
@@ -85,33 +92,41 @@ filter_end (Stored m ∷ p) e h = refl
 filter_end (Overrun m ∷ p) e h = refl
 filter_end (Off ∷ p) e h = refl
 
-pub filter_push : (j : List Entry) (e : Entry) (a : ℕ) → StaysIn e → filter_of (part (j ++ e ∷ []) a) ≡ filter_of (part j a)
+pub filter_push : (j : List Entry) (e : Entry) (a : ℕ) → StaysIn e →
+    filter_of (part (j ++ e ∷ []) a) ≡ filter_of (part j a)
 filter_push j e a s = elim (cases_eq (past (place_of j) e).activation a) [
   | inl q ↦ ap filter_of (part_here j e a q) ∙ filter_end (part j a) e s
   | inr n ↦ ap filter_of (part_else j e a n)
 ]
 
 -- the same frames are kept where the filter is the same
-picks_by : (j k : List Entry) (a : ℕ) (frames : List ReceivedFrame) (out : List Judged) → filter_of (part k a) ≡ filter_of (part j a) →
-    Picks (IsAccepted a (filter_of (part j a))) IsOn frames out → Picks (IsAccepted a (filter_of (part k a))) IsOn frames out
-picks_by j k a frames out e h = let P : Option Filter → Type 0 = λ f. Picks (IsAccepted a f) IsOn frames out in subst P (sym e) h
+picks_by : (j k : List Entry) (a : ℕ) (frames : List ReceivedFrame) (out : List Judged) →
+    filter_of (part k a) ≡ filter_of (part j a) →
+    Picks (IsAccepted a (filter_of (part j a))) IsOn frames out →
+    Picks (IsAccepted a (filter_of (part k a))) IsOn frames out
+picks_by j k a frames out e h = let P : Option Filter → Type 0 =
+    λ f. Picks (IsAccepted a f) IsOn frames out in subst P (sym e) h
 
 -- ---- the verdicts of a journal with an entry more
 
-due_push : (j : List Entry) (e : Entry) → IsDue (part j (past (place_of j) e).activation) e → ((a : ℕ) → EachAfter IsDue [] (part j a)) →
+due_push : (j : List Entry) (e : Entry) → IsDue (part j (past (place_of j) e).activation) e →
+    ((a : ℕ) → EachAfter IsDue [] (part j a)) →
     (a : ℕ) → EachAfter IsDue [] (part (j ++ e ∷ []) a)
 due_push j e d was a = elim (cases_eq (past (place_of j) e).activation a) [
-  | inl q ↦ subst (λ (p : List Entry). EachAfter IsDue [] p) (sym (part_here j e a q)) (each_push IsDue [] (part j a) e (was a) (subst (λ (n : ℕ). IsDue (part j n) e) q d))
+  | inl q ↦ subst (λ (p : List Entry). EachAfter IsDue [] p) (sym (part_here j e a q))
+      (each_push IsDue [] (part j a) e (was a) (subst (λ (n : ℕ). IsDue (part j n) e) q d))
   | inr n ↦ subst (λ (p : List Entry). EachAfter IsDue [] p) (sym (part_else j e a n)) (was a)
 ]
 
 -- an entry that is no verdict, and begins no activation
-pub verdicts_quiet : (j : List Entry) (e : Entry) (frames : List ReceivedFrame) → StaysIn e → ((n : ℕ) → judged_after n e ≡ []) → ((before : List Entry) → IsDue before e) →
+pub verdicts_quiet : (j : List Entry) (e : Entry) (frames : List ReceivedFrame) → StaysIn e →
+    ((n : ℕ) → judged_after n e ≡ []) → ((before : List Entry) → IsDue before e) →
     HasVerdicts j frames → HasVerdicts (j ++ e ∷ []) frames
 verdicts_quiet j e frames stays none due h = record {
   are = λ a.
       let P : List Judged → Type 0 = λ l. Picks (IsAccepted a (filter_of (part (j ++ e ∷ []) a))) IsOn frames l in
-      subst P (sym (of_part_none judged_at j e a (none (place_of j).bits))) (picks_by j (j ++ e ∷ []) a frames (judged_in j a) (filter_push j e a stays) (h.are a));
+      subst P (sym (of_part_none judged_at j e a (none (place_of j).bits)))
+      (picks_by j (j ++ e ∷ []) a frames (judged_in j a) (filter_push j e a stays) (h.are a));
   due = due_push j e (due (part j (past (place_of j) e).activation)) h.due;
 }
 
@@ -120,30 +135,37 @@ abbrev pub HasBegun : ℕ → List ReceivedFrame → Type 0
 HasBegun k [] = Unit {0}
 HasBegun k (h ∷ frames) = (h.activation ≤ k) × HasBegun k frames
 
-none_yet_accepted : (j : List Entry) (k a : ℕ) (frames : List ReceivedFrame) → k < a → HasBegun k frames → None_of (IsAccepted a (filter_of (part j a))) frames
+none_yet_accepted : (j : List Entry) (k a : ℕ) (frames : List ReceivedFrame) → k < a → HasBegun k frames →
+    None_of (IsAccepted a (filter_of (part j a))) frames
 none_yet_accepted j k a [] few begun = no_more
 none_yet_accepted j k a (h ∷ frames) few begun =
-    not_this h (λ kept. let x = kept.activation in let y = begun.0 in omega (arith, x, y, few)) (none_yet_accepted j k a frames few begun.1)
+    not_this h (λ kept. let x = kept.activation in let y = begun.0 in omega (arith, x, y, few))
+    (none_yet_accepted j k a frames few begun.1)
 
 -- a start
-pub verdicts_start : (j : List Entry) (config : Config) (frames : List ReceivedFrame) → HasBegun (place_of j).activation frames →
+pub verdicts_start : (j : List Entry) (config : Config) (frames : List ReceivedFrame) →
+    HasBegun (place_of j).activation frames →
     HasVerdicts j frames → HasVerdicts (j ++ Item (Start config) ∷ []) frames
 verdicts_start j config frames begun h = let e : Entry = Item (Start config) in record {
   are = λ a.
       let P : List Judged → Type 0 = λ l. Picks (IsAccepted a (filter_of (part (j ++ e ∷ []) a))) IsOn frames l in
       let same : judged_in (j ++ e ∷ []) a ≡ judged_in j a = of_part_none judged_at j e a refl in
       elim (cases_eq ((place_of j).activation + 1) a) [
-        | inl q ↦ subst P (sym (same ∙ of_part_later judged_at j a (omega (arith, q)))) (picks_none (none_yet_accepted (j ++ e ∷ []) (place_of j).activation a frames (omega (arith, q)) begun))
-        | inr n ↦ subst P (sym same) (picks_by j (j ++ e ∷ []) a frames (judged_in j a) (ap filter_of (part_else j e a n)) (h.are a))
+        | inl q ↦ subst P (sym (same ∙ of_part_later judged_at j a (omega (arith, q))))
+            (picks_none (none_yet_accepted (j ++ e ∷ []) (place_of j).activation a frames (omega (arith, q)) begun))
+        | inr n ↦ subst P (sym same) (picks_by j (j ++ e ∷ []) a frames (judged_in j a)
+            (ap filter_of (part_else j e a n)) (h.are a))
       ];
   due = due_push j e (tt, tt) h.due;
 }
 
 -- a frame more was received, and doesn't pass
-pub verdicts_passed_by : (j : List Entry) (frames : List ReceivedFrame) (x : ReceivedFrame) → (PassesAny (filter_of (part j x.activation)) x.frame → ⊥) →
+pub verdicts_passed_by : (j : List Entry) (frames : List ReceivedFrame) (x : ReceivedFrame) →
+    (PassesAny (filter_of (part j x.activation)) x.frame → ⊥) →
     HasVerdicts j frames → HasVerdicts j (frames ++ x ∷ [])
 verdicts_passed_by j frames x stops h = record {
-  are = λ a. leaves_push x (λ kept. stops (subst (λ (n : ℕ). PassesAny (filter_of (part j n)) x.frame) (sym kept.activation) kept.passes)) (h.are a);
+  are = λ a. leaves_push x (λ kept. stops (subst (λ (n : ℕ). PassesAny (filter_of (part j n)) x.frame)
+      (sym kept.activation) kept.passes)) (h.are a);
   due = h.due;
 }
 
@@ -152,7 +174,8 @@ is_overrun ToStore = false
 is_overrun ToLose = true
 
 -- a frame more was received, and judged
-pub verdicts_judged : (j : List Entry) (frames : List ReceivedFrame) (x : ReceivedFrame) (v : Verdict) → x.activation ≡ (place_of j).activation → x.bits ≡ (place_of j).bits →
+pub verdicts_judged : (j : List Entry) (frames : List ReceivedFrame) (x : ReceivedFrame) (v : Verdict) →
+    x.activation ≡ (place_of j).activation → x.bits ≡ (place_of j).bits →
     PassesAny (filter_of (part j x.activation)) x.frame → IsDue (part j x.activation) (entry_of v (message x.frame)) →
     HasVerdicts j frames → HasVerdicts (j ++ entry_of v (message x.frame) ∷ []) (frames ++ x ∷ [])
 verdicts_judged j frames x v here now passes due h =
@@ -160,18 +183,24 @@ verdicts_judged j frames x v here now passes due h =
     let stays = verdict_stays v (message x.frame) in
     let same : (past (place_of j) e).activation ≡ x.activation = stays (place_of j) ∙ sym here in record {
       are = λ a.
-          let P : List Judged → Type 0 = λ l. Picks (IsAccepted a (filter_of (part (j ++ e ∷ []) a))) IsOn (frames ++ x ∷ []) l in
+          let P : List Judged → Type 0 = λ l. Picks (IsAccepted a (filter_of (part (j ++ e ∷ []) a))) IsOn
+          (frames ++ x ∷ []) l in
           let was = picks_by j (j ++ e ∷ []) a frames (judged_in j a) (filter_push j e a stays) (h.are a) in
           elim (cases_eq x.activation a) [
             | inl q ↦
-                let filter : filter_of (part (j ++ e ∷ []) a) ≡ filter_of (part j x.activation) = filter_push j e a stays ∙ ap (λ n. filter_of (part j n)) (sym q) in
+                let filter : filter_of (part (j ++ e ∷ []) a) ≡ filter_of (part j x.activation) =
+                filter_push j e a stays ∙ ap (λ n. filter_of (part j n)) (sym q) in
                 let F : Option Filter → Type 0 = λ f. PassesAny f x.frame in
-                let kept : IsAccepted a (filter_of (part (j ++ e ∷ []) a)) x = record { activation = q; passes = subst F (sym filter) passes } in
-                let out : judged_in (j ++ e ∷ []) a ≡ judged_in j a ++ (record { bits = (place_of j).bits; bytes = message x.frame; overrun = is_overrun v }) ∷ [] =
-                of_part_here judged_at j e a (same ∙ q) ∙ ap (λ l. judged_in j a ++ l) (verdict_judged v (message x.frame) (place_of j).bits) in
+                let kept : IsAccepted a (filter_of (part (j ++ e ∷ []) a)) x =
+                record { activation = q; passes = subst F (sym filter) passes } in
+                let out : judged_in (j ++ e ∷ []) a ≡ judged_in j a
+                ++ (record { bits = (place_of j).bits; bytes = message x.frame; overrun = is_overrun v }) ∷ [] =
+                of_part_here judged_at j e a (same ∙ q)
+                ∙ ap (λ l. judged_in j a ++ l) (verdict_judged v (message x.frame) (place_of j).bits) in
                 subst P (sym out) (picks_push x _ kept (record { bits = sym now; bytes = refl }) was)
             | inr n ↦
-                let out : judged_in (j ++ e ∷ []) a ≡ judged_in j a = of_part_else judged_at j e a (λ q. n (sym same ∙ q)) in
+                let out : judged_in (j ++ e ∷ []) a ≡ judged_in j a =
+                of_part_else judged_at j e a (λ q. n (sym same ∙ q)) in
                 subst P (sym out) (leaves_push x (λ kept. n kept.activation) was)
           ];
       due = due_push j e (subst (λ (n : ℕ). IsDue (part j n) e) (sym same) due) h.due;
@@ -181,14 +210,16 @@ verdicts_judged j frames x v here now passes due h =
     verdict_stays ToStore m p = refl
     verdict_stays ToLose m p = refl
 
-    verdict_judged : (w : Verdict) (m : List ℕ) (n : ℕ) → judged_after n (entry_of w m) ≡ (record { bits = n; bytes = m; overrun = is_overrun w }) ∷ []
+    verdict_judged : (w : Verdict) (m : List ℕ) (n : ℕ) →
+        judged_after n (entry_of w m) ≡ (record { bits = n; bytes = m; overrun = is_overrun w }) ∷ []
     verdict_judged ToStore m n = refl
     verdict_judged ToLose m n = refl
 
 -- ---- what is kept is what was stored
 
 -- what each of several entries gives, of one part
-pub gathered_part : {B C : Type 0} (f : Placed → List B) (g : B → List C) (h : Placed → List C) → ((q : Placed) → gathered g (f q) ≡ h q) → (j : List Entry) (a : ℕ) →
+pub gathered_part : {B C : Type 0} (f : Placed → List B) (g : B → List C) (h : Placed → List C) →
+    ((q : Placed) → gathered g (f q) ≡ h q) → (j : List Entry) (a : ℕ) →
     gathered g (of_part f j a) ≡ of_part h j a
 gathered_part f g h same j a = over (placed j)
   where
@@ -198,7 +229,8 @@ gathered_part f g h same j a = over (placed j)
 
     over : (qs : List Placed) → gathered g (gathered (in_part f a) qs) ≡ gathered (in_part h a) qs
     over [] = refl
-    over (q ∷ qs) = gathered_append g (in_part f a q) (gathered (in_part f a) qs) ∙ ap₂ (λ x y. x ++ y) (one (activation_of q == a) q) (over qs)
+    over (q ∷ qs) = gathered_append g (in_part f a q) (gathered (in_part f a) qs)
+        ∙ ap₂ (λ x y. x ++ y) (one (activation_of q == a) q) (over qs)
 
 -- the messages of an activation that weren't marked overrun are those that were stored
 pub kept_stored : (j : List Entry) (a : ℕ) → kept (judged_in j a) ≡ stored_of (part j a)

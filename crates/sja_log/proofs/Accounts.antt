@@ -1,5 +1,6 @@
 -- The headline, by what bus, link and driver keep.
-use Rattle.std.proofs.Common.{◌≡◌, ℕ, ◌+◌, ◌-◌, ◌<◌, ◌≤◌, Option, List, ◌∷◌, ◌++◌, length, refl, sym, ap, ◌∙◌, subst, arith}
+use Rattle.std.proofs.Common.{◌≡◌, ℕ, ◌+◌, ◌-◌, ◌<◌, ◌≤◌, Option, List, ◌∷◌, ◌++◌, length, refl, sym, ap, ◌∙◌, subst}
+use Rattle.std.proofs.Common.{arith}
 use Rattle.std.specs.Prelude.{take, slice_index_or}
 use Rattle.can_frame.specs.declared.filter.Filter.{Filter}
 use Rattle.sja_link.specs.NodeWords.{FinishedPiece, received}
@@ -19,12 +20,15 @@ use Rattle.sja_log.specs.Settling.{IsSettled, AreSettled}
 use Rattle.sja_log.specs.Headline.{Headline, IsAccount}
 
 -- what was released, and then what was left unread, is what was judged, less what was marked overrun
-pub told_by : (j : List Entry) (a : ℕ) (act : ActivationValue) → IsSettled j a act → act.released ++ act.unread ≡ kept (judged_in j a)
+pub told_by : (j : List Entry) (a : ℕ) (act : ActivationValue) → IsSettled j a act → act.released
+    ++ act.unread ≡ kept (judged_in j a)
 told_by j a act h =
-    ap (λ l. act.released ++ l) h.unread ∙ told_stored j a h.driver h.down act.released h.held h.put h.holds ∙ sym (kept_stored j a)
+    ap (λ l. act.released ++ l) h.unread ∙ told_stored j a h.driver h.down act.released h.held h.put h.holds
+    ∙ sym (kept_stored j a)
 
 -- the headline of an activation that has begun
-pub headline_of : (found : List FinishedPiece) (j : List Entry) (a : ℕ) (act : ActivationValue) → HasVerdicts j (received found) → 1 ≤ a →
+pub headline_of : (found : List FinishedPiece) (j : List Entry) (a : ℕ) (act : ActivationValue) →
+    HasVerdicts j (received found) → 1 ≤ a →
     a ≤ (place_of j).activation → IsSettled j a act → Headline found j a act
 headline_of found j a act verdicts some begun settled =
     let o = part_opens j a some begun in
@@ -38,11 +42,13 @@ headline_of found j a act verdicts some begun settled =
     }
 
 -- a node whose journal is lawful, and whose activations have begun and are settled
-pub account_of : (node : NodeValue) → IsLawful node.journal → length node.activations ≤ (place_of node.journal).activation →
+pub account_of : (node : NodeValue) → IsLawful node.journal →
+    length node.activations ≤ (place_of node.journal).activation →
     AreSettled node → IsAccount node
 account_of node lawful begun settled = record {
   found = lawful.found;
   cut = lawful.cut;
   headline = λ others a d cut few.
-      headline_of others node.journal (a + 1) (slice_index_or node.activations a d) (lawful.verdicts others cut) (omega arith) (omega (arith, begun, few)) (settled a d few);
+      headline_of others node.journal (a + 1) (slice_index_or node.activations a d) (lawful.verdicts others cut)
+      (omega arith) (omega (arith, begun, few)) (settled a d few);
 }

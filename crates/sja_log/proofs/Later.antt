@@ -1,5 +1,6 @@
 -- What deeds saw and carried, beside a journal in which more was put after more bits.
-use Rattle.std.proofs.Common.{◌≡◌, ℕ, ◌≤◌, Bool, true, false, List, [], ◌∷◌, ◌++◌, length, refl, sym, ap, ◌∙◌, subst, arith}
+use Rattle.std.proofs.Common.{◌≡◌, ℕ, ◌≤◌, Bool, true, false, List, [], ◌∷◌, ◌++◌, length, refl, sym, ap, ◌∙◌, subst}
+use Rattle.std.proofs.Common.{arith}
 use Rattle.std.specs.Prelude.{◌+◌, ◌||◌, not, drop}
 use Rattle.std.specs.List.{fold}
 use Rattle.sja_link.specs.declared.down.Down.{Down}

@@ -94,7 +94,8 @@ pub record AreEnds (plan : PlanValue) (log : RunValue) (logs : List NodeLog) (jo
       (slice_index_or logs k g).rxerr
 
 module _ (plan : PlanValue) (log : RunValue) (logs : List NodeLog) (journals : List (List Entry))
-    (drivers : List LoggedDriver) (left_down : List (List Down)) (h : AreEnds plan log logs journals drivers left_down) where
+    (drivers : List LoggedDriver) (left_down : List (List Down))
+    (h : AreEnds plan log logs journals drivers left_down) where
   pub nodes_count : length log.nodes ≡ length plan.nodes
   nodes_count = h.nodes.count_is ∙ h.drivers_count
 

@@ -33,7 +33,8 @@ pub record AreActivations (driver : LoggedDriver) (left_down : List (List Down))
       slice_index_or logs a d ≡ activation_after driver (slice_index_or left_down (base + a) l) a
 
 -- the log of a node
-pub record IsNodeEnd (log : NodeLog) (driver : LoggedDriver) (left_down : List (List Down)) (base : ℕ) (node : NodeValue) :
+pub record IsNodeEnd (log : NodeLog) (driver : LoggedDriver) (left_down : List (List Down))
+    (base : ℕ) (node : NodeValue) :
     Type 0 where
   pub journal : node.journal ≡ log.journal.entries
   pub txerr : node.txerr ≡ log.txerr

@@ -29,8 +29,8 @@ record_at j before bits = record_of (at_moment bits (length (given_in before)) j
 
 -- ---- the same, as a front of the journal
 
--- an entry is later than so many bits and items, if these came before it: a bit, or an abort before one, where all these
--- bits have come; an item, where all these items have; a verdict and bus-off never
+-- an entry is later than so many bits and items, if these came before it: a bit, or an abort before one, where all
+-- these bits have come; an item, where all these items have; a verdict and bus-off never
 abbrev pub IsLater : ℕ → ℕ → List Entry → Entry → Type 0
 IsLater bits items before (Bit driven seen) = bits ≤ length (bits_of before)
 IsLater bits items before Abort = bits ≤ length (bits_of before)

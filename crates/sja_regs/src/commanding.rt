@@ -42,7 +42,7 @@ impl Port {
         Ok(request)
     }
 
-    /// Does a command that [`plan_command`](Port::plan_command) does not refuse, for a caller that has planned it: it is
+    /// Does a command that [`plan_command`](Port::plan_command) doesn't refuse, for a caller that has planned it. It is
     /// not judged again.
     pub fn obey(&mut self, value: u8)
         requires { first_fault (command_faults self.old (command_of value)) ≡ None }

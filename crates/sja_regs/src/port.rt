@@ -43,8 +43,8 @@ impl Port {
         }
     }
 
-    /// The facts that hold of every port. It does nothing when it runs: a caller that needs them for its own proof calls
-    /// it for its contract.
+    /// The facts that hold of every port. It does nothing when it runs: who needs them in a proof calls it for its
+    /// contract.
     pub fn keeps_its_facts(&self)
         ensures { RegisterFacts self.now }
     {

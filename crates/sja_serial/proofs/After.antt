@@ -1,5 +1,6 @@
 -- A deed more, of which all that it gave was taken.
-use Rattle.std.proofs.Common.{◌≡◌, ◌≢◌, ℕ, ◌+◌, Bool, true, false, List, [], ◌∷◌, ◌++◌, refl, sym, ap, ◌∙◌, subst, append-nil, arith}
+use Rattle.std.proofs.Common.{◌≡◌, ◌≢◌, ℕ, ◌+◌, Bool, true, false, List, [], ◌∷◌, ◌++◌, refl, sym, ap, ◌∙◌, subst}
+use Rattle.std.proofs.Common.{append-nil, arith}
 use Rattle.sja_link.specs.declared.up.Up.{Up}
 use Rattle.sja_link.specs.declared.up.Up.TheVariants.{Start as StartItem, Credit, Send as SendItem, Stop as StopItem}
 use Rattle.sja_link.specs.declared.entry.Entry.{Entry}
@@ -30,7 +31,8 @@ use Rattle.sja_serial.specs.Linking.{IsLevel}
 use Rattle.sja_serial.specs.Porting.{IsPorted}
 use Rattle.sja_log.proofs.Givings.{Kind}
 use Rattle.sja_log.proofs.Givings.Kind.{quiet, starts, credits, sends, stops}
-use Rattle.sja_serial.proofs.Items.{bits_same, stops_push, sends_push, put_item, SamePut, sees_same, each_map, settings_same, when_item, when_none}
+use Rattle.sja_serial.proofs.Items.{bits_same, stops_push, sends_push, put_item, SamePut, sees_same, each_map}
+use Rattle.sja_serial.proofs.Items.{settings_same, when_item, when_none}
 use Rattle.sja_serial.proofs.Ports.{carried_alike}
 use Rattle.sja_serial.proofs.Trying.{IsNext}
 

@@ -1,5 +1,6 @@
 -- What a node holds after an item was taken.
-use Rattle.std.proofs.Common.{◌≡◌, ℕ, ◌≤◌, Bool, true, false, List, [], ◌∷◌, ◌++◌, refl, sym, ap, ◌∙◌, subst, append-nil, arith, inl, inr}
+use Rattle.std.proofs.Common.{◌≡◌, ℕ, ◌≤◌, Bool, true, false, List, [], ◌∷◌, ◌++◌, refl, sym, ap, ◌∙◌, subst}
+use Rattle.std.proofs.Common.{append-nil, arith, inl, inr}
 use Rattle.std.specs.Prelude.{◌⊎◌, not, if◌then◌else◌}
 use Rattle.std.proofs.lemmas.Bool.{eq-eqb}
 use Rattle.can_node.specs.declared.config.Config.{Config}
@@ -72,7 +73,8 @@ more_known p e es a h =
     over true = off_kept (put_of (gathered (in_part entry_at a) (placed_from (past p e) es)))
     over false = h
 
-same_known : (p : JournalPlace) (e : Entry) (es : List Entry) → (past p e).off ≡ p.off → (past p e).activation ≡ p.activation →
+same_known : (p : JournalPlace) (e : Entry) (es : List Entry) → (past p e).off ≡ p.off →
+    (past p e).activation ≡ p.activation →
     Known (past p e) es → Known p (e ∷ es)
 same_known p e es off act (inl before) = inl (sym off ∙ before.0, before.1 ∙ act)
 same_known p e es off act (inr among) = inr (more_known p e es (past_all (past p e) es).activation among)

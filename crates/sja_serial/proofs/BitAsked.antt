@@ -1,5 +1,6 @@
 -- A bit keeps TBS of a node's port beside the request that the node holds.
-use Rattle.std.proofs.Common.{◌≡◌, ℕ, ◌+◌, Bool, true, false, not, Option, Some, None, is_some, List, [], ◌∷◌, ◌++◌, inl, inr, refl, sym, ap, ◌∙◌, subst, append-nil}
+use Rattle.std.proofs.Common.{◌≡◌, ℕ, ◌+◌, Bool, true, false, not, Option, Some, None, is_some, List, [], ◌∷◌, ◌++◌}
+use Rattle.std.proofs.Common.{inl, inr, refl, sym, ap, ◌∙◌, subst, append-nil}
 use Rattle.std.specs.Prelude.{◌||◌, ◌&&◌, ◌==◌, nat_le, if◌then◌else◌, slice_index_or}
 use Rattle.std.proofs.lemmas.Bool.{eq-eqb}
 use Rattle.std.proofs.lemmas.List.{append_cancel_left}
@@ -190,7 +191,8 @@ resets false same is rests = let e : true ≡ false = sym is ∙ rests in absurd
 rests_released : (p : Registers) (turn : BusTurn) → TbsIsRight p → turn.activation ≡ p.activation →
     is_live p turn ≡ false → p.tbs ≡ true
 rests_released p turn buffer same rests =
-    buffer.in_reset (resets p.mode.rm (turn.activation == p.activation) (eq-eqb turn.activation p.activation same) rests)
+    buffer.in_reset (resets p.mode.rm (turn.activation == p.activation)
+    (eq-eqb turn.activation p.activation same) rests)
 
 -- ---- the whole bit
 

@@ -1,5 +1,6 @@
 -- A bit keeps how many entries a journal can have by the deeds of its driver.
-use Rattle.std.proofs.Common.{◌≡◌, ◌≤◌, ℕ, suc, ◌+◌, ◌*◌, Bool, true, false, not, Option, Some, None, List, [], ◌∷◌, ◌++◌, inl, inr, refl, sym, ap, ◌∙◌, subst, append-nil, arith}
+use Rattle.std.proofs.Common.{◌≡◌, ◌≤◌, ℕ, suc, ◌+◌, ◌*◌, Bool, true, false, not, Option, Some, None, List, [], ◌∷◌}
+use Rattle.std.proofs.Common.{◌++◌, inl, inr, refl, sym, ap, ◌∙◌, subst, append-nil, arith}
 use Rattle.std.specs.Prelude.{◌||◌, ◌&&◌, ◌⊎◌, if◌then◌else◌, slice_index_or}
 use Rattle.std.proofs.lemmas.Bool.{cases_eq}
 use Rattle.can_bits.specs.declared.level.Level.{Level}
@@ -31,7 +32,8 @@ use Rattle.sja_bus.specs.Buses.{IsNodeBit}
 use Rattle.sja_wire.specs.Links.{stops_of}
 use Rattle.sja_wire.specs.OneBit.{HasBit, abort_as, judged_as, off_as}
 use Rattle.sja_driver.specs.Deeds.{Deed}
-use Rattle.sja_serial.specs.Counted.{item_in, verdict_in, off_in, abort_in, asks_by, changes_left, pending, off_left, IsCounted}
+use Rattle.sja_serial.specs.Counted.{item_in, verdict_in, off_in, abort_in, asks_by, changes_left, pending, off_left}
+use Rattle.sja_serial.specs.Counted.{IsCounted}
 use Rattle.sja_serial.proofs.OneMore.{abort_more}
 use Rattle.sja_serial.proofs.OnceOff.{is_off, is_off_both, offs, offs_both, left, off_once}
 use Rattle.sja_serial.proofs.Requests.{KeepsRequest}

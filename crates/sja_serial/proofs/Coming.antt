@@ -1,5 +1,7 @@
 -- A run after some turns of its plan: whatever it goes on to, the turns that are left follow these.
-use Rattle.std.proofs.Common.{◌≡◌, ℕ, zero, suc, ◌+◌, ◌<◌, true, false, Bool, List, [], ◌∷◌, ◌++◌, length, map, replicate, take, drop, refl, sym, ap, ◌∙◌, subst, append_assoc, append-nil, arith, inl, inr}
+use Rattle.std.proofs.Common.{◌≡◌, ℕ, zero, suc, ◌+◌, ◌<◌, true, false, Bool, List, [], ◌∷◌, ◌++◌, length, map}
+use Rattle.std.proofs.Common.{replicate, take, drop, refl, sym, ap, ◌∙◌, subst, append_assoc, append-nil, arith, inl}
+use Rattle.std.proofs.Common.{inr}
 use Rattle.std.specs.Prelude.{slice_index_or}
 use Rattle.std.proofs.lemmas.Bool.{cases_eq}
 use Rattle.std.proofs.lemmas.List.{get_or-set_same, get_or-set_other}
@@ -183,7 +185,11 @@ module _ (plan : PlanValue) (turns : List Turn) (was now : SerialValue) (c : Has
       let g = go m few in
       elim (cases_eq k m) [
         | inl e ↦ here g e
-        | inr differ ↦ (g.0, g.1 ∙ ap (λ l. l ++ g.0) (get_or-set_other c.deeds k m (deeds_at c.deeds k ++ more) [] (λ e. differ (sym e))))
+        | inr differ ↦ (
+          g.0,
+          g.1 ∙ ap (λ l. l ++ g.0) (get_or-set_other c.deeds k m (deeds_at c.deeds k ++ more) []
+              (λ e. differ (sym e))),
+        )
       ]
     where
       inside : k < length c.deeds

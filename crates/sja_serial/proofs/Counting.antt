@@ -1,5 +1,6 @@
 -- How many entries of each kind a journal has after a deed more of which all was taken.
-use Rattle.std.proofs.Common.{◌≡◌, ℕ, ◌+◌, ◌*◌, ◌≤◌, Bool, true, false, List, [], ◌∷◌, ◌++◌, length, refl, sym, ap, ◌∙◌, subst, append-nil, arith, inl, inr}
+use Rattle.std.proofs.Common.{◌≡◌, ℕ, ◌+◌, ◌*◌, ◌≤◌, Bool, true, false, List, [], ◌∷◌, ◌++◌, length, refl, sym, ap, ◌∙◌}
+use Rattle.std.proofs.Common.{subst, append-nil, arith, inl, inr}
 use Rattle.std.specs.Prelude.{◌⊎◌, if◌then◌else◌, Option, Some, None}
 use Rattle.can_node.specs.declared.request.Request.{Request}
 use Rattle.can_node.specs.Context.{ContextValue}
@@ -18,7 +19,8 @@ use Rattle.sja_link.proofs.Freeing.{total_push}
 use Rattle.sja_regs.specs.declared.registers.Registers.{Registers}
 use Rattle.sja_driver.specs.Carried.{asks_abort}
 use Rattle.sja_driver.specs.Deeds.{Deed}
-use Rattle.sja_serial.specs.Counted.{item_in, verdict_in, off_in, abort_in, asks_by, gave_by, changes_left, pending, IsCounted}
+use Rattle.sja_serial.specs.Counted.{item_in, verdict_in, off_in, abort_in, asks_by, gave_by, changes_left, pending}
+use Rattle.sja_serial.specs.Counted.{IsCounted}
 
 -- ---- what an abort that stands can change
 

@@ -1,5 +1,6 @@
 -- A run that goes on from where it stands, and what it was then.
-use Rattle.std.proofs.Common.{◌≡◌, ℕ, zero, suc, ◌+◌, ◌<◌, false, List, [], ◌∷◌, ◌++◌, length, map, take, refl, sym, ap, ◌∙◌, arith}
+use Rattle.std.proofs.Common.{◌≡◌, ℕ, zero, suc, ◌+◌, ◌<◌, false, List, [], ◌∷◌, ◌++◌, length, map, take, refl, sym, ap}
+use Rattle.std.proofs.Common.{◌∙◌, arith}
 use Rattle.std.specs.Prelude.{set, slice_index}
 use Rattle.std.proofs.Math.Seq.{take-append_seam}
 use Rattle.sja_link.specs.declared.entry.Entry.{Entry}

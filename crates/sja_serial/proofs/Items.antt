@@ -1,5 +1,6 @@
 -- A journal with at most one item more.
-use Rattle.std.proofs.Common.{◌≡◌, ℕ, ◌+◌, Bool, true, false, List, [], ◌∷◌, ◌++◌, length, refl, sym, ap, ◌∙◌, subst, append-nil, arith, inl, inr}
+use Rattle.std.proofs.Common.{◌≡◌, ℕ, ◌+◌, Bool, true, false, List, [], ◌∷◌, ◌++◌, length, refl, sym, ap, ◌∙◌, subst}
+use Rattle.std.proofs.Common.{append-nil, arith, inl, inr}
 use Rattle.std.specs.Prelude.{◌||◌, not, drop, if◌then◌else◌}
 use Rattle.std.specs.List.{fold}
 use Rattle.std.proofs.lemmas.Bool.{cases_eq, eq-eqb, ne_eqb}
@@ -20,7 +21,8 @@ use Rattle.sja_link.proofs.Entering.{place_push}
 use Rattle.sja_link.proofs.Freeing.{total_push}
 use Rattle.sja_wire.specs.Links.{stops_in, stops_of}
 use Rattle.sja_driver.specs.Carried.{Sees}
-use Rattle.sja_driver.specs.Deeds.{Deed, opens_by, opened_by, active_after, active_from, is_active, deeds_of, released_lengths}
+use Rattle.sja_driver.specs.Deeds.{Deed, opens_by, opened_by, active_after, active_from, is_active, deeds_of}
+use Rattle.sja_driver.specs.Deeds.{released_lengths}
 use Rattle.sja_log.specs.Aborting.{sends_taken}
 use Rattle.sja_log.specs.Settings.{Standing, after_setting, after_deed, settings_of}
 use Rattle.sja_log.specs.Timing.{given_when, taken_when}

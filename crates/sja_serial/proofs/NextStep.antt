@@ -1,5 +1,6 @@
 -- A run in which the next step of a node's driver is tried, and what it gave is taken.
-use Rattle.std.proofs.Common.{◌≡◌, ◌+◌, ◌*◌, ◌<◌, ◌≤◌, ℕ, Bool, true, false, List, [], ◌∷◌, length, refl, sym, ap, ◌∙◌, subst}
+use Rattle.std.proofs.Common.{◌≡◌, ◌+◌, ◌*◌, ◌<◌, ◌≤◌, ℕ, Bool, true, false, List, [], ◌∷◌, length, refl, sym, ap, ◌∙◌}
+use Rattle.std.proofs.Common.{subst}
 use Rattle.std.proofs.Common.{arith}
 use Rattle.std.specs.Prelude.{None, slice_index_or, slice_set}
 use Rattle.std.proofs.lemmas.List.{get_or_default}
@@ -58,7 +59,8 @@ module _ (plan : PlanValue) (bus : BusValue) (drivers : List LoggedDriver) (port
   -- its driver, and its port
   module _ (was : LoggedDriver) (p : Registers) (was_is : was ≡ slice_index_or drivers i was)
       (p_is : p ≡ slice_index_or ports i p) where
-    pub node_at : IsNode plan.version (steps_at plan i) (journal_at bus.journals i) (deeds_at deeds i) was p slice (8 * i)
+    pub node_at : IsNode plan.version (steps_at plan i) (journal_at bus.journals i)
+        (deeds_at deeds i) was p slice (8 * i)
     node_at =
         subst (λ (d : LoggedDriver). IsNode plan.version (steps_at plan i) (journal_at bus.journals i)
         (deeds_at deeds i) d p slice (8 * i)) (sym was_is)

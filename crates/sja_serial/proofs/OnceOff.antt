@@ -1,5 +1,6 @@
 -- Bus-off in a node's record: it drops the request, leaves the node in reset, and comes once in an activation at most.
-use Rattle.std.proofs.Common.{◌≡◌, ◌≤◌, ◌+◌, ℕ, Bool, true, false, None, List, [], ◌∷◌, ◌++◌, inl, inr, refl, sym, ap, ◌∙◌, subst, append_assoc, arith}
+use Rattle.std.proofs.Common.{◌≡◌, ◌≤◌, ◌+◌, ℕ, Bool, true, false, None, List, [], ◌∷◌, ◌++◌, inl, inr, refl, sym, ap}
+use Rattle.std.proofs.Common.{◌∙◌, subst, append_assoc, arith}
 use Rattle.std.specs.Prelude.{if◌then◌else◌}
 use Rattle.std.proofs.lemmas.List.{append-nil, same_from_push}
 use Rattle.can_bits.proofs.Lists.{last_of}
@@ -29,12 +30,14 @@ use Rattle.sja_serial.proofs.OneMore.{none_more}
 
 -- ---- after bus-off no request is held
 
-no_off_between : (c next : ContextValue) (place : Place) (entry : RecordEntry) → Between c place entry next → entry ≡ BusOff →
+no_off_between : (c next : ContextValue) (place : Place) (entry : RecordEntry) →
+    Between c place entry next → entry ≡ BusOff →
     ⊥
 no_off_between c next place entry (send request) e = cc
 no_off_between c next place entry abort e = cc
 
-closed_off : (c next : ContextValue) (slice : List RecordEntry) (place site : Place) (entry : RecordEntry) (ps : List Piece) →
+closed_off : (c next : ContextValue) (slice : List RecordEntry) (place site : Place)
+    (entry : RecordEntry) (ps : List Piece) →
     Closing c slice place entry ps next site →
     entry ≡ BusOff → next.held ≡ None
 closed_off c next slice place site entry ps (by_start config) e = absurd cc
@@ -139,7 +142,8 @@ record GoesRight (k : Count) (b : Bool) (entries : List RecordEntry) (site : Pla
   pub reset : is_off b entries ≡ true → site ≡ AtReset
   pub few : offs entries + left (is_off b entries) + k.starts ≤ (counted k entries).starts + left b
 
-right_quiet : (k : Count) (b : Bool) (l : List RecordEntry) (site : Place) → IsQuiet k b l → (b ≡ true → site ≡ AtReset) →
+right_quiet : (k : Count) (b : Bool) (l : List RecordEntry) (site : Place) → IsQuiet k b l →
+    (b ≡ true → site ≡ AtReset) →
     GoesRight k b l site
 right_quiet k b l site q at =
     let same = ap left q.same in let n = q.none in let s = q.starts in
@@ -164,7 +168,8 @@ right_off k b slice q was =
     let w = ap (λ (j : Count). j.starts) (counted_both k slice (BusOff ∷ [])) in
     record { reset = λ e. refl; few = omega (arith, n, s, a, l, w, was) }
 
-right_closed : (k : Count) (b : Bool) (slice : List RecordEntry) (entry : RecordEntry) (c next : ContextValue) (place site : Place)
+right_closed : (k : Count) (b : Bool) (slice : List RecordEntry) (entry : RecordEntry)
+    (c next : ContextValue) (place site : Place)
     (ps : List Piece) →
     Inner slice → (b ≡ true → place ≡ AtReset) → Closing c slice place entry ps next site → GoesRight k b
     (slice ++ entry ∷ []) site

@@ -67,7 +67,8 @@ ended_by k c next place site entries all ps found later now move same whole none
     let S : ContextValue → Type 0 = λ d. Ends k c place all found d in
     subst S (sym is) (subst R (sym pieces) (subst P same made))
 
-pub ends_with : (k : Count) (c end : ContextValue) (place last : Place) (slice all rest : List RecordEntry) (e : RecordEntry)
+pub ends_with : (k : Count) (c end : ContextValue) (place last : Place)
+    (slice all rest : List RecordEntry) (e : RecordEntry)
     (found : List FinishedPiece) →
     From k c place all found end last rest → IsOpenAt c place slice → all ≡ slice ++ e ∷ [] → Ends k c place all found
     (along end last [] rest)

@@ -1,5 +1,6 @@
 -- The port, what is held and how many entries there are after a deed more.
-use Rattle.std.proofs.Common.{◌≡◌, ℕ, ◌+◌, ◌<◌, Bool, true, false, List, [], ◌∷◌, ◌++◌, refl, sym, ap, ◌∙◌, subst, append_assoc, arith, inl, inr}
+use Rattle.std.proofs.Common.{◌≡◌, ℕ, ◌+◌, ◌<◌, Bool, true, false, List, [], ◌∷◌, ◌++◌, refl, sym, ap, ◌∙◌, subst}
+use Rattle.std.proofs.Common.{append_assoc, arith, inl, inr}
 use Rattle.std.specs.Prelude.{◌⊎◌, ◌||◌, not}
 use Rattle.can_node.specs.declared.request.Request.{Request}
 use Rattle.sja_link.specs.declared.up.Up.{Up}
@@ -31,7 +32,8 @@ use Rattle.sja_serial.proofs.After.Enters.{nothing, item}
 use Rattle.sja_serial.proofs.Asked.{off_known, asked_same, asked_start, asked_credit, asked_send, asked_stop}
 use Rattle.sja_serial.proofs.Counting.{counted_none, counted_item, counted_credit}
 use Rattle.sja_driver.proofs.Registers.TbsAndAbort.{TbsIsRight}
-use Rattle.sja_driver.proofs.Registers.TransmitBuffer.{tbs_by, tbs_step, stop_drops, busy_sends_none, abort_gives_none, reset_sends_none}
+use Rattle.sja_driver.proofs.Registers.TransmitBuffer.{tbs_by, tbs_step, stop_drops, busy_sends_none, abort_gives_none}
+use Rattle.sja_driver.proofs.Registers.TransmitBuffer.{reset_sends_none}
 use Rattle.sja_log.proofs.Givings.{Kind, opened_from}
 use Rattle.sja_log.proofs.Givings.Kind.{quiet, starts, credits, sends, stops}
 use Rattle.sja_serial.proofs.Items.{off_same, settings_same, settings_push}

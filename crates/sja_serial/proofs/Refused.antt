@@ -1,5 +1,6 @@
 -- An item that was refused is the one that was given last.
-use Rattle.std.proofs.Common.{◌≡◌, ℕ, suc, ◌+◌, ◌<◌, List, [], ◌∷◌, ◌++◌, refl, sym, ap, ◌∙◌, cond, append_assoc, append-nil, arith, inl, inr}
+use Rattle.std.proofs.Common.{◌≡◌, ℕ, suc, ◌+◌, ◌<◌, List, [], ◌∷◌, ◌++◌, refl, sym, ap, ◌∙◌, cond, append_assoc}
+use Rattle.std.proofs.Common.{append-nil, arith, inl, inr}
 use Rattle.std.specs.Prelude.{◌==◌, slice_index_or}
 use Rattle.std.proofs.lemmas.Bool.{cases_eq, ne_eqb, eqb-true}
 use Rattle.sja_link.specs.declared.up.Up.{Up}
@@ -17,7 +18,8 @@ use Rattle.sja_driver.specs.declared.any_driver.AnyDriver.{AnyDriver}
 use Rattle.sja_driver.specs.declared.work_log.WorkLog.{WorkLog}
 use Rattle.sja_driver.specs.Deeds.{Deed, given_in, deeds_of}
 use Rattle.sja_driver.specs.Holding.{HoldsBy}
-use Rattle.sja_wire.proofs.Taking.{waiting, adds, taken_adds, AtMostOne, same_front, none_front, none_back, some_none, adds_first, one_is}
+use Rattle.sja_wire.proofs.Taking.{waiting, adds, taken_adds, AtMostOne, same_front, none_front, none_back, some_none}
+use Rattle.sja_wire.proofs.Taking.{adds_first, one_is}
 
 -- nothing waits elsewhere
 none_waits : (b s : ℕ) (gave : List Up) → (b ≡ suc s → ⊥) → waiting b gave (suc s) ≡ []

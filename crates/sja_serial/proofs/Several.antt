@@ -1,5 +1,6 @@
 -- Deeds of one node, one after another.
-use Rattle.std.proofs.Common.{◌≡◌, ℕ, zero, suc, ◌+◌, ◌-◌, ◌<◌, ◌≤◌, List, [], ◌∷◌, ◌++◌, length, refl, sym, ap, ◌∙◌, subst, append_assoc, append-nil, arith, inl, inr}
+use Rattle.std.proofs.Common.{◌≡◌, ℕ, zero, suc, ◌+◌, ◌-◌, ◌<◌, ◌≤◌, List, [], ◌∷◌, ◌++◌, length, refl, sym, ap, ◌∙◌}
+use Rattle.std.proofs.Common.{subst, append_assoc, append-nil, arith, inl, inr}
 use Rattle.std.specs.Prelude.{slice_index_or, slice_set}
 use Rattle.std.proofs.lemmas.Bool.{cases_lt}
 use Rattle.std.proofs.lemmas.List.{length-append, length-map, map-append, get_or-set_same}
@@ -128,7 +129,8 @@ pub turn_waits : (plan : PlanValue) (r m n : SerialValue) (node count most : ℕ
     TakesTurn plan r n node most deeds
 turn_waits plan r m n node count most deeds there s few w =
     let k = s.many in
-    let both : NodeDoes plan r n node deeds (s.more ++ []) = does_both plan r m n node deeds s.more [] there s.does w.0 in
+    let both : NodeDoes plan r n node deeds (s.more ++ []) =
+    does_both plan r m n node deeds s.more [] there s.does w.0 in
     record {
       more = s.more;
       does = subst (λ (l : List Deed). NodeDoes plan r n node deeds l)

@@ -24,7 +24,8 @@ use Rattle.sja_wire.specs.Lawful.{IsBusRun}
 use Rattle.sja_wire.specs.Links.{Kept, stops_of}
 use Rattle.sja_wire.specs.OneBit.{MayHaveItems, abort_as}
 use Rattle.sja_bus.proofs.OutOfRoom.{short_few}
-use Rattle.sja_bus.specs.Reasons.{GivesBack, IsTakenAndRefused, IsNotAborted, IsBrokenOff, IsBrokenFor, StopsBit, room_for}
+use Rattle.sja_bus.specs.Reasons.{GivesBack, IsTakenAndRefused, IsNotAborted, IsBrokenOff, IsBrokenFor, StopsBit}
+use Rattle.sja_bus.specs.Reasons.{room_for}
 use Rattle.sja_bus.specs.Reasons.StopsBit.{spent, not_taken, not_aborted, broken_off}
 use Rattle.sja_bus.specs.Stretches.{recessive_bits, IsFullInStretch}
 use Rattle.sja_wire.specs.Wire.{journal_at}
@@ -116,7 +117,8 @@ module _ (plan : PlanValue) (r : SerialValue) (deeds : List (List Deed)) (h : St
     not_stuck opened j between kept b =
         let ds = deeds_at deeds m in let d = slice_index_or r.drivers m driver in
         let lies : Lies b.end (account j (suc b.place) (acc b.place)) = b.stood acc kept in
-        let few = few_left_down j (suc b.place) (received b.found) ds (node.linked.holds.got b.place) b.end.down b.end.up
+        let few = few_left_down j (suc b.place) (received b.found) ds
+        (node.linked.holds.got b.place) b.end.down b.end.up
         (released_of (releases_in (log_of d)) (suc b.place))
         (slice_index_or (leaves (left_in (log_of d)) (held_of (driver_of d))) b.place []) b.verdicts b.on lies.0
         (node.linked.holds.told b.place b.few) lies.1 node.traced.traces.answered.gives

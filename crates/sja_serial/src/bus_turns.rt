@@ -121,7 +121,8 @@ impl SerialRun {
         }
     }
 
-    /// How many bits are left. What holds of every plan and of every bus is said beside it: by that nothing stops a bit.
+    /// How many bits are left. What holds of every plan and of every bus is said beside it: by that nothing stops a
+    /// bit.
     fn bits_left(&self, plan: &Plan) -> u32
         requires { IsRunOf plan.now self.now }
         ensures left { self.now.bits + result ≡ plan.now.bits }

@@ -71,7 +71,8 @@ pub record GaveBack {E : Type 0} (stands : E → Lists → Type 0) (full : E →
   pub verdicts : HasVerdicts j (received found)
   pub on : HasOff (part j a) → ⊥
 
--- with this fault a part of a node's bit broke off: an entry found no room, and then this holds; or a put was given back
+-- with this fault a part of a node's bit broke off: an entry found no room, and then this holds; or a put was given
+-- back
 abbrev pub BreaksBy : {E : Type 0} → Type 0 → (E → Lists → Type 0) → (E → Type 0) → E → Seat → Seat → BusFault → Type 0
 BreaksBy Unheld stands full end old new (JournalFull k) = (k ≡ (link_of old.ledger).node) × Unheld
 BreaksBy Unheld stands full end old new (Stuck k) = (k ≡ (link_of old.ledger).node)

@@ -1,5 +1,6 @@
 -- A credit that a driver gives is right: of a message of 3 to 13 bytes that was stored and not paid for.
-use Rattle.std.proofs.Common.{◌≡◌, ◌≢◌, ℕ, Bool, true, false, suc, ◌+◌, ◌<◌, ◌≤◌, ◌⊎◌, List, [], ◌∷◌, ◌++◌, length, map, sym, ap, ◌∙◌, subst, arith, inl, inr}
+use Rattle.std.proofs.Common.{◌≡◌, ◌≢◌, ℕ, Bool, true, false, suc, ◌+◌, ◌<◌, ◌≤◌, ◌⊎◌, List, [], ◌∷◌, ◌++◌, length, map}
+use Rattle.std.proofs.Common.{sym, ap, ◌∙◌, subst, arith, inl, inr}
 use Rattle.std.specs.Prelude.{slice_index_or, if◌then◌else◌, Some, None}
 use Rattle.can_node.specs.declared.request.Request.{Request}
 use Rattle.sja_link.specs.declared.up.Up.TheVariants.{Credit}
@@ -18,7 +19,8 @@ use Rattle.sja_link.proofs.Holding.{told_stored}
 use Rattle.sja_regs.specs.declared.registers.Registers.{Registers}
 use Rattle.sja_regs.specs.Commands.{command_of, requests}
 use Rattle.sja_script.specs.declared.step.Step.{Step}
-use Rattle.sja_script.specs.declared.step.Step.TheVariants.{Start, Stop, Window, Release, Read, Write, Load, Command, Await, Sent}
+use Rattle.sja_script.specs.declared.step.Step.TheVariants.{Start, Stop, Window, Release, Read, Write, Load, Command}
+use Rattle.sja_script.specs.declared.step.Step.TheVariants.{Await, Sent}
 use Rattle.sja_script.specs.declared.step_answer.StepAnswer.{StepAnswer}
 use Rattle.sja_script.specs.declared.step_answer.StepAnswer.TheVariants.{Done, Released}
 use Rattle.sja_driver.specs.declared.any_driver.AnyDriver.{AnyDriver}
@@ -30,7 +32,8 @@ use Rattle.sja_driver.specs.Deeds.{Deed, opens_by, opened_by, Gives, length_in, 
 use Rattle.sja_driver.specs.Holding.{HoldsBy}
 use Rattle.sja_driver.specs.Logs.{Traces, releases_in, left_in, released_of, leaves}
 use Rattle.sja_driver.proofs.Sections.{deeds_here}
-use Rattle.sja_driver.proofs.Few.{bytes, all_of, bytes_stored, credits_taken, credits_section, bytes_lengths, AllFit, fit_front, stored_fit}
+use Rattle.sja_driver.proofs.Few.{bytes, all_of, bytes_stored, credits_taken, credits_section, bytes_lengths, AllFit}
+use Rattle.sja_driver.proofs.Few.{fit_front, stored_fit}
 
 -- the last of these lengths is that of a message
 last_fits : (ms : List (List ℕ)) (ls : List ℕ) (n : ℕ) → map (λ (m : List ℕ). length m) ms ≡ ls ++ n ∷ [] → AllFit ms →

@@ -72,7 +72,8 @@ tbs_after_step p n (Command v) r active seen fits tells h = h
 tbs_after_step p n Release r active seen fits tells h = h
 tbs_after_step p n Window r active seen fits tells h = h
 tbs_after_step p n (Read a) r active seen fits tells h = quiet p (Read a) r active seen tells refl refl refl refl h
-tbs_after_step p n (Write a v) r active seen fits tells h = quiet p (Write a v) r active seen tells refl refl refl refl h
+tbs_after_step p n (Write a v) r active seen fits tells h =
+    quiet p (Write a v) r active seen tells refl refl refl refl h
 tbs_after_step p n (Load m) r active seen fits tells h = quiet p (Load m) r active seen tells refl refl refl refl h
 tbs_after_step p n (Await k) r active seen fits tells h = h
 tbs_after_step p n Sent r active seen fits tells h = h

@@ -13,7 +13,8 @@ bit-requires-clause-count c =
 pub bit-requires-clause-ids : goal.bit-requires-clause-ids
 bit-requires-clause-ids c =
     let same : Deques → Deques → Type 0 = λ x y. y.link ≡ x.link in
-    numbered_kept (λ (x : Deques). x.link) same (λ x y h. h) c.loop.links c.quiet_bits.new.links c.quiet_bits.ensures.sames c.loop.invariant.2
+    numbered_kept (λ (x : Deques). x.link) same (λ x y h. h) c.loop.links c.quiet_bits.new.links
+    c.quiet_bits.ensures.sames c.loop.invariant.2
 
 pub bit-requires-clause-ports : goal.bit-requires-clause-ports
 bit-requires-clause-ports c =

@@ -17,30 +17,38 @@ sample_from-requires g c =
       seated = record {
         few = omega (arith, few, seats);
         count = omega (arith, count, seats, links);
-        ids = numbered_kept g.E.BusEnd.link g.E.BusEnd.same g.met.E.BusEnd.same_link c.args.links.now c.open_all.new.links c.open_all.ensures.sames h.ids;
+        ids = numbered_kept g.E.BusEnd.link g.E.BusEnd.same g.met.E.BusEnd.same_link c.args.links.now
+            c.open_all.new.links c.open_all.ensures.sames h.ids;
         ready = did.ready;
         ports = omega (arith, ports, seats);
       };
     }
 
 pub returns-clause-sames : goal.returns-clause-sames
-returns-clause-sames g c = each_trans g.E.BusEnd.same g.met.E.BusEnd.same_trans c.args.links.now c.open_all.new.links c.sample_from.new.links c.open_all.ensures.sames c.sample_from.ensures.sames
+returns-clause-sames g c = each_trans g.E.BusEnd.same g.met.E.BusEnd.same_trans c.args.links.now c.open_all.new.links
+    c.sample_from.new.links c.open_all.ensures.sames c.sample_from.ensures.sames
 
 pub returns-in_err-sample_from-clause-sames : goal.returns-in_err-sample_from-clause-sames
-returns-in_err-sample_from-clause-sames g c = each_trans g.E.BusEnd.same g.met.E.BusEnd.same_trans c.args.links.now c.open_all.new.links c.sample_from.new.links c.open_all.ensures.sames c.sample_from.ensures.sames
+returns-in_err-sample_from-clause-sames g c = each_trans g.E.BusEnd.same g.met.E.BusEnd.same_trans c.args.links.now
+    c.open_all.new.links c.sample_from.new.links c.open_all.ensures.sames c.sample_from.ensures.sames
 
 pub returns-clause-goes : goal.returns-clause-goes
 returns-clause-goes g c =
     let E = g.E.BusEnd in let B = g.B.Board in let seats = c.open_all.new.seats in
-    let row = underway_none E.same E.stands g.met.E.BusEnd.same_refl B.ports B.told B.kept g.met.B.Board.kept_refl c.args.struck c.level_of-level.result seats c.open_all.new.links c.args.board.now c.in_ok-open_all.ensures.ready in
+    let row = underway_none E.same E.stands g.met.E.BusEnd.same_refl B.ports B.told B.kept g.met.B.Board.kept_refl
+    c.args.struck c.level_of-level.result seats c.open_all.new.links c.args.board.now
+    c.in_ok-open_all.ensures.ready in
     let did = c.in_ok-sample_from.ensures.row seats c.open_all.new.links c.args.board.now row in
-    goes_all_trans g.E.BusEnd.same g.E.BusEnd.stands g.met.E.BusEnd.same_trans c.args.seats.now c.open_all.new.seats c.sample_from.new.seats c.args.links.now c.open_all.new.links c.sample_from.new.links
+    goes_all_trans g.E.BusEnd.same g.E.BusEnd.stands g.met.E.BusEnd.same_trans c.args.seats.now c.open_all.new.seats
+    c.sample_from.new.seats c.args.links.now c.open_all.new.links c.sample_from.new.links
     c.open_all.auto.seats c.in_ok-open_all.ensures.goes did.2.goes
 
 pub returns-clause-bit : goal.returns-clause-bit
 returns-clause-bit g c =
     let E = g.E.BusEnd in let B = g.B.Board in let seats = c.open_all.new.seats in
-    let row = underway_none E.same E.stands g.met.E.BusEnd.same_refl B.ports B.told B.kept g.met.B.Board.kept_refl c.args.struck c.level_of-level.result seats c.open_all.new.links c.args.board.now c.in_ok-open_all.ensures.ready in
+    let row = underway_none E.same E.stands g.met.E.BusEnd.same_refl B.ports B.told B.kept g.met.B.Board.kept_refl
+    c.args.struck c.level_of-level.result seats c.open_all.new.links c.args.board.now
+    c.in_ok-open_all.ensures.ready in
     let did = c.in_ok-sample_from.ensures.row seats c.open_all.new.links c.args.board.now row in
     let u = did.2 in let all = did.1 in let count = u.count in record {
       opened = c.open_all.new.seats;
@@ -49,20 +57,26 @@ returns-clause-bit g c =
       opens = c.in_ok-open_all.ensures.opens;
       untold = c.in_ok-open_all.ensures.untold;
       is_level = c.level_of-level.ensures;
-      turns = done_all (SeatTurns (B.told c.args.board.now c.sample_from.new.board) (B.kept c.args.board.now c.sample_from.new.board) c.args.struck c.level_of-level.result) did.0 seats c.sample_from.new.seats (omega (arith, all, count)) u.done;
+      turns = done_all (SeatTurns (B.told c.args.board.now c.sample_from.new.board)
+          (B.kept c.args.board.now c.sample_from.new.board) c.args.struck c.level_of-level.result) did.0 seats
+          c.sample_from.new.seats (omega (arith, all, count)) u.done;
     }
 
 pub returns-clause-rooms : goal.returns-clause-rooms
 returns-clause-rooms g c = λ n h.
     let E = g.E.BusEnd in let B = g.B.Board in let seats = c.open_all.new.seats in
-    let row = underway_none E.same E.stands g.met.E.BusEnd.same_refl B.ports B.told B.kept g.met.B.Board.kept_refl c.args.struck c.level_of-level.result seats c.open_all.new.links c.args.board.now c.in_ok-open_all.ensures.ready in
+    let row = underway_none E.same E.stands g.met.E.BusEnd.same_refl B.ports B.told B.kept g.met.B.Board.kept_refl
+    c.args.struck c.level_of-level.result seats c.open_all.new.links c.args.board.now
+    c.in_ok-open_all.ensures.ready in
     let did = c.in_ok-sample_from.ensures.row seats c.open_all.new.links c.args.board.now row in
     did.2.rooms n (c.in_ok-open_all.ensures.rooms n h)
 
 pub returns-clause-ready : goal.returns-clause-ready
 returns-clause-ready g c =
     let E = g.E.BusEnd in let B = g.B.Board in let seats = c.open_all.new.seats in
-    let row = underway_none E.same E.stands g.met.E.BusEnd.same_refl B.ports B.told B.kept g.met.B.Board.kept_refl c.args.struck c.level_of-level.result seats c.open_all.new.links c.args.board.now c.in_ok-open_all.ensures.ready in
+    let row = underway_none E.same E.stands g.met.E.BusEnd.same_refl B.ports B.told B.kept g.met.B.Board.kept_refl
+    c.args.struck c.level_of-level.result seats c.open_all.new.links c.args.board.now
+    c.in_ok-open_all.ensures.ready in
     let did = c.in_ok-sample_from.ensures.row seats c.open_all.new.links c.args.board.now row in
     did.2.ready
 
@@ -71,22 +85,31 @@ returns-in_err-open_all-clause-board g c = (refl, λ k far. g.met.B.Board.kept_r
 
 pub returns-clause-board : goal.returns-clause-board
 returns-clause-board g c =
-    let seats = c.open_all.auto.seats in (c.sample_from.ensures.board.0, λ k far. c.sample_from.ensures.board.1 k (omega (arith, far, seats)))
+    let seats = c.open_all.auto.seats in (
+      c.sample_from.ensures.board.0,
+      λ k far. c.sample_from.ensures.board.1 k (omega (arith, far, seats)),
+    )
 
 pub returns-in_err-sample_from-clause-board : goal.returns-in_err-sample_from-clause-board
 returns-in_err-sample_from-clause-board g c =
-    let seats = c.open_all.auto.seats in (c.sample_from.ensures.board.0, λ k far. c.sample_from.ensures.board.1 k (omega (arith, far, seats)))
+    let seats = c.open_all.auto.seats in (
+      c.sample_from.ensures.board.0,
+      λ k far. c.sample_from.ensures.board.1 k (omega (arith, far, seats)),
+    )
 
 pub returns-in_err-sample_from-clause-stops : goal.returns-in_err-sample_from-clause-stops
 returns-in_err-sample_from-clause-stops g c =
     let E = g.E.BusEnd in let B = g.B.Board in let seats = c.open_all.new.seats in
-    let row = underway_none E.same E.stands g.met.E.BusEnd.same_refl B.ports B.told B.kept g.met.B.Board.kept_refl c.args.struck c.level_of-level.result seats c.open_all.new.links c.args.board.now c.in_ok-open_all.ensures.ready in
+    let row = underway_none E.same E.stands g.met.E.BusEnd.same_refl B.ports B.told B.kept g.met.B.Board.kept_refl
+    c.args.struck c.level_of-level.result seats c.open_all.new.links c.args.board.now
+    c.in_ok-open_all.ensures.ready in
     let O = g.B.Board.orders_are c.args.board.now in
     let did = c.in_ok-open_all.ensures in let f = c.in_err-sample_from.field-0.0 in
     let was = c.args.seats.now in let now = c.sample_from.new.seats in
     let is : c.from_residual-in_err-sample_from.result ≡ Err f = search rules in
     let P : _ → Type 0 = λ x. (SeatRefuses E.stands was now c.args.links.now c.sample_from.new.links x
-    ⊎ SeatFull E.stands O was now c.args.links.now c.sample_from.new.links x) ⊎ SeatStops E.stands E.full O E.same was now c.args.links.now x in
+    ⊎ SeatFull E.stands O was now c.args.links.now c.sample_from.new.links x)
+    ⊎ SeatStops E.stands E.full O E.same was now c.args.links.now x in
     err_is P c.from_residual-in_err-sample_from.result f is
     (inr (record {
       opened = c.open_all.new.seats;
@@ -102,11 +125,15 @@ pub returns-clause-takes : goal.returns-clause-takes
 returns-clause-takes g c =
     let E = g.E.BusEnd in let B = g.B.Board in let seats = c.open_all.new.seats in
     let opening = c.in_ok-open_all.ensures in let level = c.level_of-level.result in
-    let told = B.told c.args.board.now c.sample_from.new.board in let kept = B.kept c.args.board.now c.sample_from.new.board in
-    let row = underway_none E.same E.stands g.met.E.BusEnd.same_refl B.ports B.told B.kept g.met.B.Board.kept_refl c.args.struck level seats c.open_all.new.links c.args.board.now opening.ready in
+    let told = B.told c.args.board.now c.sample_from.new.board in let kept =
+    B.kept c.args.board.now c.sample_from.new.board in
+    let row = underway_none E.same E.stands g.met.E.BusEnd.same_refl B.ports B.told B.kept g.met.B.Board.kept_refl
+    c.args.struck level seats c.open_all.new.links c.args.board.now opening.ready in
     let did = c.in_ok-sample_from.ensures.row seats c.open_all.new.links c.args.board.now row in
     let u = did.2 in let all = did.1 in let count = u.count in
-    row_takes E (B.orders_are c.args.board.now) told kept c.args.struck level c.args.seats.now seats c.sample_from.new.seats
+    row_takes E (B.orders_are c.args.board.now) told kept c.args.struck level c.args.seats.now seats
+    c.sample_from.new.seats
     c.args.links.now c.open_all.new.links c.open_all.auto.seats count opening.ready u.ready opening.opens
-    (done_all (SeatTurns told kept c.args.struck level) did.0 seats c.sample_from.new.seats (omega (arith, all, count)) u.done)
+    (done_all (SeatTurns told kept c.args.struck level) did.0 seats c.sample_from.new.seats
+    (omega (arith, all, count)) u.done)
     opening.goes opening.dry

@@ -15,38 +15,48 @@ use Rattle.sja_bus.proofs.Results.{err_is}
 use Rattle.sja_bus.proofs.all_nodes.open_all.Goals as goal
 
 pub loop-k-init : goal.loop-k-init
-loop-k-init g c = taken_none g.E.BusEnd.same g.E.BusEnd.stands g.E.BusEnd.dry g.met.E.BusEnd.same_refl (SeatOpens (g.B.Board.orders_are c.args.board.now)) SeatOpensUntold c.args.seats.now c.args.links.now c.requires.ready
+loop-k-init g c = taken_none g.E.BusEnd.same g.E.BusEnd.stands g.E.BusEnd.dry g.met.E.BusEnd.same_refl
+    (SeatOpens (g.B.Board.orders_are c.args.board.now)) SeatOpensUntold c.args.seats.now
+    c.args.links.now c.requires.ready
 
 pub open_bit-requires-clause-at : goal.open_bit-requires-clause-at
 open_bit-requires-clause-at g c =
-    rw c.first_link.ensures (has_links g.E.BusEnd.link g.E.BusEnd.same g.met.E.BusEnd.same_link (length c.args.seats.now) c.loop-k.seats c.args.links.now c.loop-k.links c.loop-k.k c.index-seats-k.result
-    c.requires.count c.loop-k.auto.seats (search rules) c.loop-k.invariant.goes.sames c.requires.ids c.loop-k.invariant.ready)
+    rw c.first_link.ensures (has_links g.E.BusEnd.link g.E.BusEnd.same g.met.E.BusEnd.same_link
+    (length c.args.seats.now) c.loop-k.seats c.args.links.now c.loop-k.links c.loop-k.k c.index-seats-k.result
+    c.requires.count c.loop-k.auto.seats (search rules) c.loop-k.invariant.goes.sames c.requires.ids
+    c.loop-k.invariant.ready)
 
 pub returns-in_err-open_bit-clause-sames : goal.returns-in_err-open_bit-clause-sames
-returns-in_err-open_bit-clause-sames g c = each_trans g.E.BusEnd.same g.met.E.BusEnd.same_trans c.args.links.now c.loop-k.links c.open_bit.new.links c.loop-k.invariant.goes.sames c.open_bit.ensures.stays.sames
+returns-in_err-open_bit-clause-sames g c = each_trans g.E.BusEnd.same g.met.E.BusEnd.same_trans c.args.links.now
+    c.loop-k.links c.open_bit.new.links c.loop-k.invariant.goes.sames c.open_bit.ensures.stays.sames
 
 pub loop-k-preserved : goal.loop-k-preserved
 loop-k-preserved g c =
-    let E = g.E.BusEnd in let k = c.loop-k.k in let s = c.index-seats-k.result in let new = c.open_bit.new.self in let did = c.in_ok-open_bit.ensures in
+    let E = g.E.BusEnd in let k = c.loop-k.k in let s = c.index-seats-k.result in let new = c.open_bit.new.self in
+    let did = c.in_ok-open_bit.ensures in
     let here : k < length c.loop-k.seats = search rules in
     let O = SeatOpens (g.B.Board.orders_are c.args.board.now) in
     let P : ℕ → Type 0 = λ m. O m (slice_index_or c.loop-k.seats k s) new in
     let was = slice_index_or c.loop-k.seats k s in let after = c.open_bit.new.links in
-    let G : ℕ → Type 0 = λ base. Goes E.same E.stands was.journal.entries new.journal.entries c.loop-k.links after base in
+    let G : ℕ → Type 0 = λ base. Goes E.same E.stands was.journal.entries new.journal.entries
+    c.loop-k.links after base in
     let R : ℕ → Type 0 = λ base. (d : _) → new.ended < 8 → E.dry (slice_index_or after (base + new.ended) d) in
     let goes = subst G c.first_link.ensures did.goes in let dry = subst R c.first_link.ensures did.dry in
     let opens = subst P (c.loop-k.invariant.ready k s here).own did.opens in
-    taken_one E.same E.stands E.dry g.met.E.BusEnd.same_trans O SeatOpensUntold c.args.seats.now c.loop-k.seats c.args.links.now c.loop-k.links c.open_bit.new.links k s new here c.loop-k.auto.seats
+    taken_one E.same E.stands E.dry g.met.E.BusEnd.same_trans O SeatOpensUntold c.args.seats.now c.loop-k.seats
+    c.args.links.now c.loop-k.links c.open_bit.new.links k s new here c.loop-k.auto.seats
     did.stays did.ready goes dry opens did.untold c.loop-k.invariant
 
 pub returns-clause-opens : goal.returns-clause-opens
-returns-clause-opens g c = done_all (SeatOpens (g.B.Board.orders_are c.args.board.now)) c.loop-k.k c.args.seats.now c.loop-k.seats (search rules) c.loop-k.invariant.done
+returns-clause-opens g c = done_all (SeatOpens (g.B.Board.orders_are c.args.board.now)) c.loop-k.k c.args.seats.now
+    c.loop-k.seats (search rules) c.loop-k.invariant.done
 
 pub returns-clause-rooms : goal.returns-clause-rooms
 returns-clause-rooms g c = c.loop-k.invariant.rooms
 
 pub returns-clause-untold : goal.returns-clause-untold
-returns-clause-untold g c = done_all SeatOpensUntold c.loop-k.k c.args.seats.now c.loop-k.seats (search rules) c.loop-k.invariant.untold
+returns-clause-untold g c = done_all SeatOpensUntold c.loop-k.k c.args.seats.now c.loop-k.seats (search rules)
+    c.loop-k.invariant.untold
 
 pub returns-in_err-open_bit-clause-stops : goal.returns-in_err-open_bit-clause-stops
 returns-in_err-open_bit-clause-stops g c =
@@ -59,9 +69,14 @@ returns-in_err-open_bit-clause-stops g c =
     let S : ℕ → Type 0 = λ base. RefusesItem E.stands now.journal.room now.journal.entries new.journal.entries
     c.loop-k.links c.open_bit.new.links base (link_of now.ledger).node f
     ⊎ FullForAbort E.stands (orders (link_of now.ledger).node) now new c.loop-k.links c.open_bit.new.links base f in
-    let P : _ → Type 0 = λ x. SeatRefuses E.stands before (slice_set c.loop-k.seats k new) c.args.links.now c.open_bit.new.links x
-    ⊎ SeatFull E.stands (g.B.Board.orders_are c.args.board.now) before (slice_set c.loop-k.seats k new) c.args.links.now c.open_bit.new.links x in
+    let P : _ → Type 0 = λ x. SeatRefuses E.stands before (slice_set c.loop-k.seats k new)
+    c.args.links.now c.open_bit.new.links x
+    ⊎ SeatFull E.stands (g.B.Board.orders_are c.args.board.now) before (slice_set c.loop-k.seats k new) c.args.links.now
+    c.open_bit.new.links x in
     err_is P c.from_residual.result f is (elim (subst S c.first_link.ensures c.in_err-open_bit.ensures.stops) [
-      | inl refused ↦ inl (refuses_seat E.same E.stands O before c.loop-k.seats c.args.links.now c.loop-k.links c.open_bit.new.links k s new f was c.loop-k.auto.seats inv.ready inv.goes inv.done refused)
-      | inr full ↦ inr (full_seat E.same E.stands (g.B.Board.orders_are c.args.board.now) O before c.loop-k.seats c.args.links.now c.loop-k.links c.open_bit.new.links k s new f was c.loop-k.auto.seats inv.ready inv.goes inv.done full)
+      | inl refused ↦ inl (refuses_seat E.same E.stands O before c.loop-k.seats c.args.links.now c.loop-k.links
+          c.open_bit.new.links k s new f was c.loop-k.auto.seats inv.ready inv.goes inv.done refused)
+      | inr full ↦ inr (full_seat E.same E.stands (g.B.Board.orders_are c.args.board.now) O before c.loop-k.seats
+          c.args.links.now c.loop-k.links c.open_bit.new.links k s new f was c.loop-k.auto.seats inv.ready
+          inv.goes inv.done full)
     ])

@@ -23,7 +23,8 @@ use Rattle.sja_bus.proofs.all_nodes.sample_all.Goals as goal
 pub loop-k-init : goal.loop-k-init
 loop-k-init g c =
     let E = g.E.BusEnd in let B = g.B.Board in record {
-      row = underway_none E.same E.stands g.met.E.BusEnd.same_refl B.ports B.told B.kept g.met.B.Board.kept_refl c.args.struck c.args.level c.args.seats.now c.args.links.now c.args.board.now c.requires.seated.ready;
+      row = underway_none E.same E.stands g.met.E.BusEnd.same_refl B.ports B.told B.kept g.met.B.Board.kept_refl
+          c.args.struck c.args.level c.args.seats.now c.args.links.now c.args.board.now c.requires.seated.ready;
       links = refl;
       board = refl;
       free = λ n h m s here. let room = h m s here in omega (arith, room);
@@ -32,18 +33,22 @@ loop-k-init g c =
 
 pub loop-k-preserved : goal.loop-k-preserved
 loop-k-preserved g c =
-    let E = g.E.BusEnd in let B = g.B.Board in let met = g.met.B.Board in let k = c.loop-k.k in let inv = c.loop-k.invariant in
+    let E = g.E.BusEnd in let B = g.B.Board in let met = g.met.B.Board in let k = c.loop-k.k in
+    let inv = c.loop-k.invariant in
     let s = c.index-seats-k.result in let a = c.args.board.now in let links = c.args.links.now in
     let here : k < length c.loop-k.seats = search rules in
     let was : k < length c.args.seats.now = search rules in
     let old = slice_index_or c.loop-k.seats k s in let new = c.sample_quietly.new.self in
     let quiet = c.sample_quietly.ensures.quiet (search rules) in
     let node = (link_of old.ledger).node in
-    let sees : c.seen-sees.result ≡ seen_by c.args.struck c.args.level k = c.seen-sees.ensures ∙ seen_is c.has.result c.args.struck c.args.level k c.has.ensures in
+    let sees : c.seen-sees.result ≡ seen_by c.args.struck c.args.level k = c.seen-sees.ensures
+    ∙ seen_is c.has.result c.args.struck c.args.level k c.has.ensures in
     let goes : Goes E.same E.stands old.journal.entries new.journal.entries links links (8 * k) =
-    rw quiet.whole (goes_quiet E.same E.stands g.met.E.BusEnd.same_refl old.journal.entries (Bit old.drives c.seen-sees.result) links (8 * k) (λ l. refl)) in
+    rw quiet.whole (goes_quiet E.same E.stands g.met.E.BusEnd.same_refl old.journal.entries
+    (Bit old.drives c.seen-sees.result) links (8 * k) (λ l. refl)) in
     record {
-      row = underway_one E.same E.stands g.met.E.BusEnd.same_trans B.ports B.told B.kept met.kept_trans met.told_first met.told_last c.args.struck c.args.level c.seen-sees.result c.args.seats.now c.loop-k.seats
+      row = underway_one E.same E.stands g.met.E.BusEnd.same_trans B.ports B.told B.kept met.kept_trans met.told_first
+          met.told_last c.args.struck c.args.level c.seen-sees.result c.args.seats.now c.loop-k.seats
           links links links a a a k s new here sees
           (record {
             ready = c.sample_quietly.ensures.ready;
@@ -52,7 +57,8 @@ loop-k-preserved g c =
             goes = goes;
             ports_are = refl;
             others = λ m far. met.kept_refl a m;
-            turns = quiet_turns (B.told a a node) (B.kept a a node) c.seen-sees.result old new (met.kept_refl a node) (inv.row.ready k s here).ready quiet;
+            turns = quiet_turns (B.told a a node) (B.kept a a node) c.seen-sees.result old new (met.kept_refl a node)
+                (inv.row.ready k s here).ready quiet;
           }) inv.row;
       links = inv.links;
       board = inv.board;
@@ -79,10 +85,15 @@ sample_quietly-requires-clause-free g c =
 pub sample_from-requires : goal.sample_from-requires
 sample_from-requires g c =
     let E = g.E.BusEnd in let B = g.B.Board in let inv = c.loop-k.invariant in let k = c.loop-k.k in
-    let same : slice_set c.loop-k.seats k c.sample_quietly.new.self ≡ c.loop-k.seats = ap (λ x. slice_set c.loop-k.seats k x) (c.sample_quietly.ensures.same (search rules)) ∙ set-get_or c.loop-k.seats k c.index-seats-k.result in
-    let row = underway_at E.same E.stands B.ports B.told B.kept c.args.struck c.args.level c.args.seats.now c.loop-k.seats (slice_set c.loop-k.seats k c.sample_quietly.new.self) c.args.links.now c.loop-k.links c.args.board.now c.loop-k.board k same inv.links inv.board inv.row in
+    let same : slice_set c.loop-k.seats k c.sample_quietly.new.self ≡ c.loop-k.seats =
+    ap (λ x. slice_set c.loop-k.seats k x) (c.sample_quietly.ensures.same (search rules))
+    ∙ set-get_or c.loop-k.seats k c.index-seats-k.result in
+    let row = underway_at E.same E.stands B.ports B.told B.kept c.args.struck c.args.level c.args.seats.now
+    c.loop-k.seats (slice_set c.loop-k.seats k c.sample_quietly.new.self) c.args.links.now c.loop-k.links
+    c.args.board.now c.loop-k.board k same inv.links inv.board inv.row in
     let h = c.requires.seated in
-    let seats = c.loop-k.auto.seats in let links = c.loop-k.auto.links in let few = h.few in let count = h.count in let ports = h.ports in let p = ap B.ports inv.board in record {
+    let seats = c.loop-k.auto.seats in let links = c.loop-k.auto.links in let few = h.few in let count = h.count in
+    let ports = h.ports in let p = ap B.ports inv.board in record {
       seated = record {
         few = omega (arith, few, seats);
         count = omega (arith, count, seats, links);
@@ -111,7 +122,8 @@ returns-clause-board g c =
 pub returns-clause-turns : goal.returns-clause-turns
 returns-clause-turns g c =
     let B = g.B.Board in let a = c.args.board.now in let all : length c.args.seats.now ≤ c.loop-k.k = search rules in
-    rw c.loop-k.invariant.board (done_all (SeatTurns (B.told a a) (B.kept a a) c.args.struck c.args.level) c.loop-k.k c.args.seats.now c.loop-k.seats all c.loop-k.invariant.row.done)
+    rw c.loop-k.invariant.board (done_all (SeatTurns (B.told a a) (B.kept a a) c.args.struck c.args.level) c.loop-k.k
+    c.args.seats.now c.loop-k.seats all c.loop-k.invariant.row.done)
 
 pub returns-clause-rooms : goal.returns-clause-rooms
 returns-clause-rooms g c =
@@ -131,61 +143,88 @@ returns-clause-free g c = λ none. c.loop-k.invariant.free
 
 pub returns-then-not-sample_quietly-clause-sames : goal.returns-then-not-sample_quietly-clause-sames
 returns-then-not-sample_quietly-clause-sames g c =
-    subst (λ x. EachRelated g.E.BusEnd.same x c.sample_from.new.links) c.loop-k.invariant.links c.sample_from.ensures.sames
+    subst (λ x. EachRelated g.E.BusEnd.same x c.sample_from.new.links) c.loop-k.invariant.links
+    c.sample_from.ensures.sames
 
 pub returns-then-not-sample_quietly-clause-board : goal.returns-then-not-sample_quietly-clause-board
 returns-then-not-sample_quietly-clause-board g c =
-    let b = c.loop-k.invariant.board in let few = c.loop-k.auto.seats in let set = length-set c.loop-k.seats c.loop-k.k c.sample_quietly.new.self in
+    let b = c.loop-k.invariant.board in let few = c.loop-k.auto.seats in let set =
+    length-set c.loop-k.seats c.loop-k.k c.sample_quietly.new.self in
     rw (sym b) (c.sample_from.ensures.board.0, λ m far. c.sample_from.ensures.board.1 m (omega (arith, far, few, set)))
 
 pub returns-then-not-sample_quietly-clause-ready : goal.returns-then-not-sample_quietly-clause-ready
 returns-then-not-sample_quietly-clause-ready g c =
     let E = g.E.BusEnd in let B = g.B.Board in let inv = c.loop-k.invariant in let k = c.loop-k.k in
-    let same : slice_set c.loop-k.seats k c.sample_quietly.new.self ≡ c.loop-k.seats = ap (λ x. slice_set c.loop-k.seats k x) (c.sample_quietly.ensures.same (search rules)) ∙ set-get_or c.loop-k.seats k c.index-seats-k.result in
-    let row = underway_at E.same E.stands B.ports B.told B.kept c.args.struck c.args.level c.args.seats.now c.loop-k.seats (slice_set c.loop-k.seats k c.sample_quietly.new.self) c.args.links.now c.loop-k.links c.args.board.now c.loop-k.board k same inv.links inv.board inv.row in
+    let same : slice_set c.loop-k.seats k c.sample_quietly.new.self ≡ c.loop-k.seats =
+    ap (λ x. slice_set c.loop-k.seats k x) (c.sample_quietly.ensures.same (search rules))
+    ∙ set-get_or c.loop-k.seats k c.index-seats-k.result in
+    let row = underway_at E.same E.stands B.ports B.told B.kept c.args.struck c.args.level c.args.seats.now
+    c.loop-k.seats (slice_set c.loop-k.seats k c.sample_quietly.new.self) c.args.links.now c.loop-k.links
+    c.args.board.now c.loop-k.board k same inv.links inv.board inv.row in
     let did = c.in_ok-sample_from.ensures.row c.args.seats.now c.args.links.now c.args.board.now row in
     did.2.ready
 
 pub returns-then-not-sample_quietly-clause-goes : goal.returns-then-not-sample_quietly-clause-goes
 returns-then-not-sample_quietly-clause-goes g c =
     let E = g.E.BusEnd in let B = g.B.Board in let inv = c.loop-k.invariant in let k = c.loop-k.k in
-    let same : slice_set c.loop-k.seats k c.sample_quietly.new.self ≡ c.loop-k.seats = ap (λ x. slice_set c.loop-k.seats k x) (c.sample_quietly.ensures.same (search rules)) ∙ set-get_or c.loop-k.seats k c.index-seats-k.result in
-    let row = underway_at E.same E.stands B.ports B.told B.kept c.args.struck c.args.level c.args.seats.now c.loop-k.seats (slice_set c.loop-k.seats k c.sample_quietly.new.self) c.args.links.now c.loop-k.links c.args.board.now c.loop-k.board k same inv.links inv.board inv.row in
+    let same : slice_set c.loop-k.seats k c.sample_quietly.new.self ≡ c.loop-k.seats =
+    ap (λ x. slice_set c.loop-k.seats k x) (c.sample_quietly.ensures.same (search rules))
+    ∙ set-get_or c.loop-k.seats k c.index-seats-k.result in
+    let row = underway_at E.same E.stands B.ports B.told B.kept c.args.struck c.args.level c.args.seats.now
+    c.loop-k.seats (slice_set c.loop-k.seats k c.sample_quietly.new.self) c.args.links.now c.loop-k.links
+    c.args.board.now c.loop-k.board k same inv.links inv.board inv.row in
     let did = c.in_ok-sample_from.ensures.row c.args.seats.now c.args.links.now c.args.board.now row in
     did.2.goes
 
 pub returns-then-not-sample_quietly-clause-rooms : goal.returns-then-not-sample_quietly-clause-rooms
 returns-then-not-sample_quietly-clause-rooms g c =
     let E = g.E.BusEnd in let B = g.B.Board in let inv = c.loop-k.invariant in let k = c.loop-k.k in
-    let same : slice_set c.loop-k.seats k c.sample_quietly.new.self ≡ c.loop-k.seats = ap (λ x. slice_set c.loop-k.seats k x) (c.sample_quietly.ensures.same (search rules)) ∙ set-get_or c.loop-k.seats k c.index-seats-k.result in
-    let row = underway_at E.same E.stands B.ports B.told B.kept c.args.struck c.args.level c.args.seats.now c.loop-k.seats (slice_set c.loop-k.seats k c.sample_quietly.new.self) c.args.links.now c.loop-k.links c.args.board.now c.loop-k.board k same inv.links inv.board inv.row in
+    let same : slice_set c.loop-k.seats k c.sample_quietly.new.self ≡ c.loop-k.seats =
+    ap (λ x. slice_set c.loop-k.seats k x) (c.sample_quietly.ensures.same (search rules))
+    ∙ set-get_or c.loop-k.seats k c.index-seats-k.result in
+    let row = underway_at E.same E.stands B.ports B.told B.kept c.args.struck c.args.level c.args.seats.now
+    c.loop-k.seats (slice_set c.loop-k.seats k c.sample_quietly.new.self) c.args.links.now c.loop-k.links
+    c.args.board.now c.loop-k.board k same inv.links inv.board inv.row in
     let did = c.in_ok-sample_from.ensures.row c.args.seats.now c.args.links.now c.args.board.now row in
     did.2.rooms
 
 pub returns-then-not-sample_quietly-clause-turns : goal.returns-then-not-sample_quietly-clause-turns
 returns-then-not-sample_quietly-clause-turns g c =
     let E = g.E.BusEnd in let B = g.B.Board in let inv = c.loop-k.invariant in let k = c.loop-k.k in
-    let same : slice_set c.loop-k.seats k c.sample_quietly.new.self ≡ c.loop-k.seats = ap (λ x. slice_set c.loop-k.seats k x) (c.sample_quietly.ensures.same (search rules)) ∙ set-get_or c.loop-k.seats k c.index-seats-k.result in
-    let row = underway_at E.same E.stands B.ports B.told B.kept c.args.struck c.args.level c.args.seats.now c.loop-k.seats (slice_set c.loop-k.seats k c.sample_quietly.new.self) c.args.links.now c.loop-k.links c.args.board.now c.loop-k.board k same inv.links inv.board inv.row in
+    let same : slice_set c.loop-k.seats k c.sample_quietly.new.self ≡ c.loop-k.seats =
+    ap (λ x. slice_set c.loop-k.seats k x) (c.sample_quietly.ensures.same (search rules))
+    ∙ set-get_or c.loop-k.seats k c.index-seats-k.result in
+    let row = underway_at E.same E.stands B.ports B.told B.kept c.args.struck c.args.level c.args.seats.now
+    c.loop-k.seats (slice_set c.loop-k.seats k c.sample_quietly.new.self) c.args.links.now c.loop-k.links
+    c.args.board.now c.loop-k.board k same inv.links inv.board inv.row in
     let did = c.in_ok-sample_from.ensures.row c.args.seats.now c.args.links.now c.args.board.now row in
     let u = did.2 in let all = did.1 in let count = u.count in
-    done_all (SeatTurns (B.told c.args.board.now c.sample_from.new.board) (B.kept c.args.board.now c.sample_from.new.board) c.args.struck c.args.level) did.0 c.args.seats.now c.sample_from.new.seats (omega (arith, all, count)) u.done
+    done_all (SeatTurns (B.told c.args.board.now c.sample_from.new.board)
+    (B.kept c.args.board.now c.sample_from.new.board) c.args.struck c.args.level) did.0 c.args.seats.now
+    c.sample_from.new.seats (omega (arith, all, count)) u.done
 
 pub returns-in_err-sample_from-clause-sames : goal.returns-in_err-sample_from-clause-sames
 returns-in_err-sample_from-clause-sames g c =
-    subst (λ x. EachRelated g.E.BusEnd.same x c.sample_from.new.links) c.loop-k.invariant.links c.sample_from.ensures.sames
+    subst (λ x. EachRelated g.E.BusEnd.same x c.sample_from.new.links) c.loop-k.invariant.links
+    c.sample_from.ensures.sames
 
 pub returns-in_err-sample_from-clause-board : goal.returns-in_err-sample_from-clause-board
 returns-in_err-sample_from-clause-board g c =
-    let b = c.loop-k.invariant.board in let few = c.loop-k.auto.seats in let set = length-set c.loop-k.seats c.loop-k.k c.sample_quietly.new.self in
+    let b = c.loop-k.invariant.board in let few = c.loop-k.auto.seats in let set =
+    length-set c.loop-k.seats c.loop-k.k c.sample_quietly.new.self in
     rw (sym b) (c.sample_from.ensures.board.0, λ m far. c.sample_from.ensures.board.1 m (omega (arith, far, few, set)))
 
 pub returns-in_err-sample_from-clause-broken : goal.returns-in_err-sample_from-clause-broken
 returns-in_err-sample_from-clause-broken g c =
     let E = g.E.BusEnd in let B = g.B.Board in let inv = c.loop-k.invariant in let k = c.loop-k.k in
-    let same : slice_set c.loop-k.seats k c.sample_quietly.new.self ≡ c.loop-k.seats = ap (λ x. slice_set c.loop-k.seats k x) (c.sample_quietly.ensures.same (search rules)) ∙ set-get_or c.loop-k.seats k c.index-seats-k.result in
-    let row = underway_at E.same E.stands B.ports B.told B.kept c.args.struck c.args.level c.args.seats.now c.loop-k.seats (slice_set c.loop-k.seats k c.sample_quietly.new.self) c.args.links.now c.loop-k.links c.args.board.now c.loop-k.board k same inv.links inv.board inv.row in
+    let same : slice_set c.loop-k.seats k c.sample_quietly.new.self ≡ c.loop-k.seats =
+    ap (λ x. slice_set c.loop-k.seats k x) (c.sample_quietly.ensures.same (search rules))
+    ∙ set-get_or c.loop-k.seats k c.index-seats-k.result in
+    let row = underway_at E.same E.stands B.ports B.told B.kept c.args.struck c.args.level c.args.seats.now
+    c.loop-k.seats (slice_set c.loop-k.seats k c.sample_quietly.new.self) c.args.links.now c.loop-k.links
+    c.args.board.now c.loop-k.board k same inv.links inv.board inv.row in
     let f = c.in_err-sample_from.field-0.0 in
     let is : c.from_residual.result ≡ Err f = search rules in
     let P : _ → Type 0 = λ x. SeatBreaks E.stands E.full c.args.seats.now c.sample_from.new.seats c.args.links.now x in
-    err_is P c.from_residual.result f is (c.in_err-sample_from.ensures.broken c.args.seats.now c.args.links.now c.args.board.now row)
+    err_is P c.from_residual.result f is (c.in_err-sample_from.ensures.broken c.args.seats.now
+    c.args.links.now c.args.board.now row)

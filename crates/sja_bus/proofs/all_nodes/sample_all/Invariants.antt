@@ -8,7 +8,8 @@ use Rattle.sja_bus.proofs.all_nodes.sample_all.Given as goal
 -- those so far had a bit in which nothing happened
 abbrev pub invariant-loop-k : goal.invariant-loop-k
 invariant-loop-k g l = record {
-  row : IsUnderway g.E.BusEnd.same g.E.BusEnd.stands g.B.Board.ports g.B.Board.told g.B.Board.kept l.struck l.level l.initial.seats l.initial.links l.initial.board l.k l.seats l.initial.links l.initial.board;
+  row : IsUnderway g.E.BusEnd.same g.E.BusEnd.stands g.B.Board.ports g.B.Board.told g.B.Board.kept l.struck l.level
+      l.initial.seats l.initial.links l.initial.board l.k l.seats l.initial.links l.initial.board;
   links : l.links ≡ l.initial.links;
   board : l.board ≡ l.initial.board;
   free : (n : ℕ) → AreFree (suc n) l.initial.seats → AreFree n l.seats;

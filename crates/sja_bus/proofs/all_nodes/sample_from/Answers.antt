@@ -26,7 +26,9 @@ loop-k-init g c = record {
 pub sample-requires-clause-at : goal.sample-requires-clause-at
 sample-requires-clause-at g c =
     let h = c.requires.seated in let inv = c.loop-k.invariant in
-    rw c.first_link.ensures (has_links g.E.BusEnd.link g.E.BusEnd.same g.met.E.BusEnd.same_link (length c.args.seats.now) c.loop-k.seats c.args.links.now c.loop-k.links c.loop-k.k c.index-seats-k.result h.count c.loop-k.auto.seats (search rules)
+    rw c.first_link.ensures (has_links g.E.BusEnd.link g.E.BusEnd.same g.met.E.BusEnd.same_link
+    (length c.args.seats.now) c.loop-k.seats c.args.links.now c.loop-k.links c.loop-k.k c.index-seats-k.result
+    h.count c.loop-k.auto.seats (search rules)
     inv.sames h.ids inv.ready)
 
 pub loop-k-preserved : goal.loop-k-preserved
@@ -41,28 +43,43 @@ loop-k-preserved g c =
     let G : ℕ → Type 0 = λ base. Goes E.same E.stands s.journal.entries c.sample.new.self.journal.entries c.loop-k.links
     c.sample.new.links base in
     let goes = subst G c.first_link.ensures did.goes in
-    let sees : c.seen-sees.result ≡ seen_by c.args.struck c.args.level k = c.seen-sees.ensures ∙ seen_is c.has.result c.args.struck c.args.level k c.has.ensures in
+    let sees : c.seen-sees.result ≡ seen_by c.args.struck c.args.level k = c.seen-sees.ensures
+    ∙ seen_is c.has.result c.args.struck c.args.level k c.has.ensures in
     record {
-      ready = ready_one c.loop-k.seats k c.sample.new.self here c.loop-k.invariant.ready (record { ready = did.ready; own = did.stays.node ∙ n });
-      sames = each_trans E.same g.met.E.BusEnd.same_trans c.args.links.now c.loop-k.links c.sample.new.links c.loop-k.invariant.sames c.sample.ensures.stays.sames;
+      ready = ready_one c.loop-k.seats k c.sample.new.self here c.loop-k.invariant.ready
+          (record { ready = did.ready; own = did.stays.node ∙ n });
+      sames = each_trans E.same g.met.E.BusEnd.same_trans c.args.links.now c.loop-k.links c.sample.new.links
+          c.loop-k.invariant.sames c.sample.ensures.stays.sames;
       ports = did.ports ∙ c.loop-k.invariant.ports;
-      others = λ m l. met.kept_trans a b z m (c.loop-k.invariant.others m l) (did.others m (λ e. omega (arith, e, n, l, was)));
+      others = λ m l. met.kept_trans a b z m (c.loop-k.invariant.others m l)
+          (did.others m (λ e. omega (arith, e, n, l, was)));
       row = λ before given then u.
-          underway_one E.same E.stands g.met.E.BusEnd.same_trans B.ports B.told B.kept met.kept_trans met.told_first met.told_last c.args.struck c.args.level c.seen-sees.result before c.loop-k.seats
+          underway_one E.same E.stands g.met.E.BusEnd.same_trans B.ports B.told B.kept met.kept_trans met.told_first
+          met.told_last c.args.struck c.args.level c.seen-sees.result before c.loop-k.seats
           given c.loop-k.links c.sample.new.links then b z k c.index-seats-k.result c.sample.new.self here sees
-          (record { ready = did.ready; node = did.stays.node; room = did.stays.room; goes = goes; ports_are = did.ports; others = did.others; turns = did.turns })
+          (record {
+            ready = did.ready;
+            node = did.stays.node;
+            room = did.stays.room;
+            goes = goes;
+            ports_are = did.ports;
+            others = did.others;
+            turns = did.turns;
+          })
           (c.loop-k.invariant.row before given then u);
     }
 
 pub returns-in_err-sample-clause-sames : goal.returns-in_err-sample-clause-sames
-returns-in_err-sample-clause-sames g c = each_trans g.E.BusEnd.same g.met.E.BusEnd.same_trans c.args.links.now c.loop-k.links c.sample.new.links c.loop-k.invariant.sames c.sample.ensures.stays.sames
+returns-in_err-sample-clause-sames g c = each_trans g.E.BusEnd.same g.met.E.BusEnd.same_trans c.args.links.now
+    c.loop-k.links c.sample.new.links c.loop-k.invariant.sames c.sample.ensures.stays.sames
 
 pub returns-in_err-sample-clause-board : goal.returns-in_err-sample-clause-board
 returns-in_err-sample-clause-board g c =
     let here : c.loop-k.k < length c.args.seats.now = search rules in
     let n = (c.loop-k.invariant.ready c.loop-k.k c.index-seats-k.result (search rules)).own in (
       c.sample.ensures.ports ∙ c.loop-k.invariant.ports,
-      λ m far. g.met.B.Board.kept_trans c.args.board.now c.loop-k.board c.sample.new.board m (c.loop-k.invariant.others m far)
+      λ m far. g.met.B.Board.kept_trans c.args.board.now c.loop-k.board c.sample.new.board m
+          (c.loop-k.invariant.others m far)
           (c.sample.ensures.others m (λ e. omega (arith, e, n, far, here))),
     )
 
@@ -74,7 +91,8 @@ returns-clause-row g c = λ before given was u. (c.loop-k.k, search rules, c.loo
 
 pub returns-in_err-sample-clause-broken : goal.returns-in_err-sample-clause-broken
 returns-in_err-sample-clause-broken g c =
-    let E = g.E.BusEnd in let D = g.B.Board in let k = c.loop-k.k in let s = c.index-seats-k.result in let f = c.in_err-sample.field-0.0 in
+    let E = g.E.BusEnd in let D = g.B.Board in let k = c.loop-k.k in let s = c.index-seats-k.result in let f =
+    c.in_err-sample.field-0.0 in
     let inv = c.loop-k.invariant in let new = c.sample.new.self in
     let near : k < length c.loop-k.seats = search rules in
     let is : c.from_residual.result ≡ Err f = search rules in
@@ -82,8 +100,11 @@ returns-in_err-sample-clause-broken g c =
     let B : ℕ → Type 0 = λ base. IsBrokenFor E.stands E.full (link_of was.ledger).node was.journal.room
     was.journal.entries new.journal.entries c.loop-k.links base f in
     let broken = subst B c.first_link.ensures c.in_err-sample.ensures.broken in
-    let P : _ → Type 0 = λ x. (before : _) (given : _) (was : _) → _ → SeatBreaks E.stands E.full before (slice_set c.loop-k.seats k new) given x in
+    let P : _ → Type 0 = λ x. (before : _) (given : _) (was : _) → _ →
+    SeatBreaks E.stands E.full before (slice_set c.loop-k.seats k new) given x in
     err_is P c.from_residual.result f is
     (λ before given start u.
     let i = inv.row before given start u in let count = i.count in
-    breaks_seat E.same E.stands E.full (SeatTurns (D.told start c.loop-k.board) (D.kept start c.loop-k.board) c.args.struck c.args.level) before c.loop-k.seats given c.loop-k.links k s new f (omega (arith, near, count)) i.count i.ready i.goes i.done broken)
+    breaks_seat E.same E.stands E.full (SeatTurns (D.told start c.loop-k.board) (D.kept start c.loop-k.board)
+    c.args.struck c.args.level) before c.loop-k.seats given c.loop-k.links k s new f (omega (arith, near, count))
+    i.count i.ready i.goes i.done broken)

@@ -13,6 +13,8 @@ invariant-loop-k g l = record {
   ports : g.B.Board.ports l.board ≡ g.B.Board.ports l.initial.board;
   others : (m : ℕ) → length l.initial.seats ≤ m → g.B.Board.kept l.initial.board l.board m;
   row : (before : List Seat) (given : List g.row.E.Denot) (was : g.row.B.Denot) →
-      IsUnderway g.E.BusEnd.same g.E.BusEnd.stands g.B.Board.ports g.B.Board.told g.B.Board.kept l.struck l.level before given was l.first l.initial.seats l.initial.links l.initial.board →
-      IsUnderway g.E.BusEnd.same g.E.BusEnd.stands g.B.Board.ports g.B.Board.told g.B.Board.kept l.struck l.level before given was l.k l.seats l.links l.board;
+      IsUnderway g.E.BusEnd.same g.E.BusEnd.stands g.B.Board.ports g.B.Board.told g.B.Board.kept l.struck l.level before
+      given was l.first l.initial.seats l.initial.links l.initial.board →
+      IsUnderway g.E.BusEnd.same g.E.BusEnd.stands g.B.Board.ports g.B.Board.told g.B.Board.kept l.struck l.level before
+      given was l.k l.seats l.links l.board;
 }

@@ -9,7 +9,8 @@ loop-k-preserved g c =
     let k = c.loop-k.k in let seat = c.index-seats-k.result in
     let few : k < length c.args.seats.now = search rules in
     let node : c.number.result ≡ k =
-    c.number.ensures ∙ ap (λ (x : Seat). (link_of x.ledger).node) c.index-seats-k.is ∙ (c.requires.ready k seat few).own in
+    c.number.ensures ∙ ap (λ (x : Seat). (link_of x.ledger).node) c.index-seats-k.is
+    ∙ (c.requires.ready k seat few).own in
     let O : ℕ → Type 0 = λ m. g.B.Board.orders_are c.args.board.now m c.orders.result in
     let asked : O k = subst O node c.orders.ensures in
     let none : c.orders.result.abort ≡ false = search rules in

@@ -19,8 +19,10 @@ facts g c =
     (subst F (sym c.loop-run.invariant.board) c.requires.facts)
 
 -- the bits so far, and one more that went well
-runs_more : (g : _) (c : In-Ok g) → RowsRun g.E.BusEnd g.B.Board c.args.to_rest c.args.struck.now.script c.args.from c.args.most
-    c.args.seats.now c.sample_all.new.seats c.args.links.now c.sample_all.new.links c.args.board.now c.sample_all.new.board (c.loop-run.run + 1)
+runs_more : (g : _) (c : In-Ok g) → RowsRun g.E.BusEnd g.B.Board c.args.to_rest c.args.struck.now.script
+    c.args.from c.args.most
+    c.args.seats.now c.sample_all.new.seats c.args.links.now c.sample_all.new.links c.args.board.now
+    c.sample_all.new.board (c.loop-run.run + 1)
 runs_more g c =
     let E = g.E.BusEnd in
     let B = g.B.Board in let inv = c.loop-run.invariant in let a = c.loop-run.board in let z = c.sample_all.new.board in
@@ -28,13 +30,21 @@ runs_more g c =
     let within : c.loop-run.run < length c.part-marks.result.now = search rules in
     let count = c.part-marks.ensures.count in let all = c.room_of.ensures.most in
     let early : c.loop-run.run < c.args.most = omega (arith, within, count, all) in
-    let pass = passes B.orders_are (B.told a z) (B.kept a z) c.args.struck.now.script (c.args.from + c.loop-run.run) (length c.args.seats.now) c.none.result (slice_index_or c.part-marks.result.now c.loop-run.run _) c.loop-run.level c.args.board.now a c.loop-run.seats c.sample_all.new.seats
-    c.requires.seated.few c.loop-run.auto.seats c.sample_all.auto.seats inv.board c.requires.may.0 c.none.ensures (c.goes_on.ensures.none goes) (λ node few. c.part-marks.ensures.struck c.loop-run.run node _ within few) inv.level c.in-Ok.ensures.turns c.in-Ok.ensures.ready inv.bus in record {
+    let pass = passes B.orders_are (B.told a z) (B.kept a z) c.args.struck.now.script (c.args.from + c.loop-run.run)
+    (length c.args.seats.now) c.none.result (slice_index_or c.part-marks.result.now c.loop-run.run _)
+    c.loop-run.level c.args.board.now a c.loop-run.seats c.sample_all.new.seats
+    c.requires.seated.few c.loop-run.auto.seats c.sample_all.auto.seats inv.board c.requires.may.0 c.none.ensures
+    (c.goes_on.ensures.none goes) (λ node few. c.part-marks.ensures.struck c.loop-run.run node _ within few)
+    inv.level c.in-Ok.ensures.turns c.in-Ok.ensures.ready inv.bus in record {
       bus = pass.bus (c.args.from + (c.loop-run.run + 1)) (omega arith);
       bits = λ left enough.
-          bits_on E B c.args.to_rest (moment_of c.args.struck.now.script c.args.from left c.args.seats.now c.args.links.now c.args.board.now)
-          c.args.struck.now.script c.args.from c.loop-run.run c.args.most left c.none.result c.loop-run.seats c.sample_all.new.seats c.loop-run.links c.sample_all.new.links a z early enough c.sample_all.auto.seats pass.few pass.at pass.row
-          c.sample_all.ensures.sames c.sample_all.ensures.board c.in-Ok.ensures.goes inv.bus (pass.bus (c.args.from + (c.loop-run.run + 1)) (omega arith)) (facts g c)
+          bits_on E B c.args.to_rest (moment_of c.args.struck.now.script c.args.from left c.args.seats.now
+          c.args.links.now c.args.board.now)
+          c.args.struck.now.script c.args.from c.loop-run.run c.args.most left c.none.result c.loop-run.seats
+          c.sample_all.new.seats c.loop-run.links c.sample_all.new.links a z early enough c.sample_all.auto.seats
+          pass.few pass.at pass.row
+          c.sample_all.ensures.sames c.sample_all.ensures.board c.in-Ok.ensures.goes inv.bus
+          (pass.bus (c.args.from + (c.loop-run.run + 1)) (omega arith)) (facts g c)
           (λ yes. some_work c.loop-run.seats inv.bus.ready (c.goes_on.ensures.works goes yes)) (inv.bits left enough);
     }
 
@@ -49,8 +59,10 @@ loop-run-init g c =
       told = c.requires.may.1;
       sames = each_refl E.same g.met.E.BusEnd.same_refl c.args.links.now;
       rooms = λ n h. h;
-      free = λ k s here. let room = c.room_of.ensures.free k s here in let count = c.part-marks.ensures.count in omega (arith, room, count);
-      bits = λ left enough. none_yet (AnyBit E B) (WorksIf c.args.to_rest) script c.args.from left c.args.seats.now c.args.links.now c.args.board.now;
+      free = λ k s here. let room = c.room_of.ensures.free k s here in let count = c.part-marks.ensures.count in
+          omega (arith, room, count);
+      bits = λ left enough. none_yet (AnyBit E B) (WorksIf c.args.to_rest) script c.args.from left c.args.seats.now
+          c.args.links.now c.args.board.now;
     }
 
 pub sample_all-requires : goal.sample_all-requires
@@ -61,7 +73,8 @@ sample_all-requires g c =
       seated = record {
         few = omega (arith, few, seats);
         count = omega (arith, count, seats, links);
-        ids = numbered_kept g.E.BusEnd.link g.E.BusEnd.same g.met.E.BusEnd.same_link c.args.links.now c.loop-run.links inv.sames h.ids;
+        ids = numbered_kept g.E.BusEnd.link g.E.BusEnd.same g.met.E.BusEnd.same_link c.args.links.now
+            c.loop-run.links inv.sames h.ids;
         ready = inv.bus.ready;
         ports = omega (arith, ports, seats, p);
       };
@@ -73,11 +86,13 @@ sample_all-requires g c =
 
 pub returns-then-end-clause-sames : goal.returns-then-end-clause-sames
 returns-then-end-clause-sames g c =
-    each_trans g.E.BusEnd.same g.met.E.BusEnd.same_trans c.args.links.now c.loop-run.links c.sample_all.new.links c.loop-run.invariant.sames c.sample_all.ensures.sames
+    each_trans g.E.BusEnd.same g.met.E.BusEnd.same_trans c.args.links.now c.loop-run.links c.sample_all.new.links
+    c.loop-run.invariant.sames c.sample_all.ensures.sames
 
 pub returns-in-Err-clause-sames : goal.returns-in-Err-clause-sames
 returns-in-Err-clause-sames g c =
-    each_trans g.E.BusEnd.same g.met.E.BusEnd.same_trans c.args.links.now c.loop-run.links c.sample_all.new.links c.loop-run.invariant.sames c.sample_all.ensures.sames
+    each_trans g.E.BusEnd.same g.met.E.BusEnd.same_trans c.args.links.now c.loop-run.links c.sample_all.new.links
+    c.loop-run.invariant.sames c.sample_all.ensures.sames
 
 pub returns-then-end-clause-rooms : goal.returns-then-end-clause-rooms
 returns-then-end-clause-rooms g c = λ n h. c.in-Ok.ensures.rooms n (c.loop-run.invariant.rooms n h)
@@ -89,7 +104,8 @@ pub returns-then-end-clause-facts : goal.returns-then-end-clause-facts
 returns-then-end-clause-facts g c = facts g (goal.at.returns-then-end-clause-facts g c).In-Ok
 
 pub returns-clause-facts : goal.returns-clause-facts
-returns-clause-facts g c = let F : _ → Type 0 = λ x. g.B.Board.facts x in subst F (sym c.loop-run.invariant.board) c.requires.facts
+returns-clause-facts g c = let F : _ → Type 0 = λ x. g.B.Board.facts x in
+    subst F (sym c.loop-run.invariant.board) c.requires.facts
 
 pub loop-run-preserved : goal.loop-run-preserved
 loop-run-preserved g c =
@@ -100,8 +116,10 @@ loop-run-preserved g c =
       level = c.in-Ok.ensures.level;
       board = c.in-Ok.ensures.untold untold ∙ inv.board;
       bus = more.bus;
-      told = λ k s few. (c.in-Ok.ensures.turns k s (let count = c.sample_all.auto.seats in omega (arith, few, count))).told;
-      sames = each_trans E.same g.met.E.BusEnd.same_trans c.args.links.now c.loop-run.links c.sample_all.new.links inv.sames c.sample_all.ensures.sames;
+      told = λ k s few. (c.in-Ok.ensures.turns k s (let count = c.sample_all.auto.seats in
+          omega (arith, few, count))).told;
+      sames = each_trans E.same g.met.E.BusEnd.same_trans c.args.links.now c.loop-run.links c.sample_all.new.links
+          inv.sames c.sample_all.ensures.sames;
       rooms = λ n h. c.in-Ok.ensures.rooms n (inv.rooms n h);
       free = c.in-Ok.ensures.free untold (length c.part-marks.result.now - (c.loop-run.run + 1))
           (λ k s here. let room = inv.free k s here in omega (arith, within, room));
@@ -118,14 +136,17 @@ returns-in-Err-clause-breaks g c = λ left later enough rooms journals run_is le
     let count = c.part-marks.ensures.count in let all = c.room_of.ensures.most in
     let early : run < c.args.most = omega (arith, within, count, all) in
     let goes : c.goes_on.result ≡ true = search rules in
-    let none = none_still B.orders_are (length c.args.seats.now) c.args.board.now a was c.loop-run.auto.seats inv.board c.requires.may.0 in record {
+    let none = none_still B.orders_are (length c.args.seats.now) c.args.board.now a was c.loop-run.auto.seats inv.board
+    c.requires.may.0 in record {
       mid = moment_of script (from + run) (left - run) was c.loop-run.links a;
       run = run;
       early = early;
       bits = inv.bits left enough;
       before = λ yes. some_work was inv.bus.ready (c.goes_on.ensures.works goes yes);
-      stops = stops_on E.same E.stands E.full (B.orders_are a) script (from + run) (left - run) (from + left) was now c.loop-run.links c.sample_all.new.links c.in-Err.fault later g.met.E.BusEnd.same_refl journals
-          (omega (arith, early, enough)) c.sample_all.auto.seats (inv.rooms (room_for (from + left)) rooms) none c.in-Err.ensures.broken;
+      stops = stops_on E.same E.stands E.full (B.orders_are a) script (from + run) (left - run) (from + left) was now
+          c.loop-run.links c.sample_all.new.links c.in-Err.fault later g.met.E.BusEnd.same_refl journals
+          (omega (arith, early, enough)) c.sample_all.auto.seats (inv.rooms (room_for (from + left)) rooms) none
+          c.in-Err.ensures.broken;
       run_so_far = run_is;
       left_so_far = left_is;
     }

@@ -9,13 +9,16 @@ use Rattle.sja_bus.proofs.idle_bits.all_enter_idle_bits.Goals as goal
 pub returns-clause-rested : goal.returns-clause-rested
 returns-clause-rested c =
     all_after_by c.args.count c.args.seats.now c.loop-k.seats c.loop-k.auto.seats
-    (done_all (λ m old new. new ≡ after_bits c.args.count old) c.loop-k.k c.args.seats.now c.loop-k.seats (search rules) c.loop-k.invariant.done)
+    (done_all (λ m old new. new ≡ after_bits c.args.count old) c.loop-k.k c.args.seats.now c.loop-k.seats (search rules)
+    c.loop-k.invariant.done)
 
 pub returns-in_err-enter_idle_bits-clause-full : goal.returns-in_err-enter_idle_bits-clause-full
 returns-in_err-enter_idle_bits-clause-full c =
-    let n = c.args.count in let k = c.loop-k.k in let before = c.args.seats.now in let f = c.in_err-enter_idle_bits.field-0.0 in
+    let n = c.args.count in let k = c.loop-k.k in let before = c.args.seats.now in let f =
+    c.in_err-enter_idle_bits.field-0.0 in
     let few : k < length before = search rules in
     let is : c.from_residual.result ≡ Err f = search rules in
     let P : _ → Type 0 = λ x. IsFullBy n before (slice_set c.loop-k.seats k c.enter_idle_bits.new.self) x in
     err_is P c.from_residual.result f is
-    (full_by n k before c.loop-k.seats c.index-seats-k.result c.enter_idle_bits.new.self f few c.loop-k.auto.seats c.requires.ready c.loop-k.invariant.done c.in_err-enter_idle_bits.ensures.full)
+    (full_by n k before c.loop-k.seats c.index-seats-k.result c.enter_idle_bits.new.self f few c.loop-k.auto.seats
+    c.requires.ready c.loop-k.invariant.done c.in_err-enter_idle_bits.ensures.full)

@@ -25,9 +25,11 @@ loop-k-preserved c =
     record {
       rest = λ m s h. elim (earlier_or_now m k h) [
         | inl before ↦ c.loop-k.invariant.rest m s before
-        | inr now ↦ subst (λ (n : ℕ). ShowsRest (slice_index_or seats n s).node true) (sym now) (subst (λ (x : Seat). ShowsRest x.node true) (or_same seats k c.index-seats-k.result s few) shows)
+        | inr now ↦ subst (λ (n : ℕ). ShowsRest (slice_index_or seats n s).node true) (sym now)
+            (subst (λ (x : Seat). ShowsRest x.node true) (or_same seats k c.index-seats-k.result s few) shows)
       ];
     }
 
 pub returns-clause-rest : goal.returns-clause-rest
-returns-clause-rest c = λ e k s few. let end = c.loop-k-test.false in c.loop-k.invariant.rest k s (omega (arith, few, end))
+returns-clause-rest c = λ e k s few. let end = c.loop-k-test.false in
+    c.loop-k.invariant.rest k s (omega (arith, few, end))

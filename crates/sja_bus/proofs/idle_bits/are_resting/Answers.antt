@@ -24,5 +24,6 @@ returns-then-not-is_resting-clause-no c = λ no.
     let seats = c.args.seats.now in let k = c.loop-k.k in let d = c.index-seats-k.result in
     let few : k < length seats = search rules in
     let is : c.is_resting.result ≡ false = search rules in
-    let awake : IsAwake (slice_index_or seats k d) = subst (λ (x : Seat). IsAwake x) c.index-seats-k.is (c.is_resting.ensures.no is) in
+    let awake : IsAwake (slice_index_or seats k d) = subst (λ (x : Seat). IsAwake x) c.index-seats-k.is
+    (c.is_resting.ensures.no is) in
     (k, few, λ s. subst (λ (x : Seat). IsAwake x) (or_same seats k d s few) awake)

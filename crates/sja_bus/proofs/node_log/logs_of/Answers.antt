@@ -7,5 +7,7 @@ pub loop-seat-preserved : goal.loop-seat-preserved
 loop-seat-preserved c = record {
   room = search rules;
   done = rw c.push_reserved.ensures.items
-      (logs_push c.args.seats.items (into_iter_items c.loop-seat.seat-iterator) (into_iter_items c.next.new.self) c.loop-seat.logs.items c.in-Some.seat _ c.in-Some.ensures.steps.0 c.into_log.ensures c.loop-seat.invariant.done);
+      (logs_push c.args.seats.items (into_iter_items c.loop-seat.seat-iterator) (into_iter_items c.next.new.self)
+      c.loop-seat.logs.items c.in-Some.seat _ c.in-Some.ensures.steps.0 c.into_log.ensures
+      c.loop-seat.invariant.done);
 }

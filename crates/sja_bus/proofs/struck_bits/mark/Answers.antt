@@ -8,7 +8,8 @@ loop-time-preserved c =
     let s = c.args.strike.now in let time = c.loop-time.time in
     let at = s.bit + time * s.every in
     let few : at < length c.loop-time.bits = search rules in
-    marked_more s time at c.args.bits.now c.loop-time.bits c.add.new.self _ refl few (search rules) c.loop-time.invariant c.add.ensures
+    marked_more s time at c.args.bits.now c.loop-time.bits c.add.new.self _ refl few (search rules)
+    c.loop-time.invariant c.add.ensures
 
 pub returns : goal.returns
 returns c =

@@ -13,5 +13,6 @@ loop-strike-preserved c =
     let few : i < length script = c.loop-strike-test.true in
     let s = slice_index_or script i d in
     let next : take (i + 1) script ≡ take i script ++ s ∷ [] = rw add-one (take-suc script i d few) in
-    let more = struck_more (take i script) s c.loop-strike.bits c.mark.new.bits (search rules) c.loop-strike.invariant c.mark.ensures in
+    let more = struck_more (take i script) s c.loop-strike.bits c.mark.new.bits (search rules)
+    c.loop-strike.invariant c.mark.ensures in
     let P : List Strike → Type 0 = λ l. AreStruck l c.mark.new.bits in subst P (sym next) more

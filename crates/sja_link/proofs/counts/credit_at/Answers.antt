@@ -8,9 +8,11 @@ returns-then-place-items-clause-none c = none_past c.args.items.now c.args.place
 
 pub returns-in-Message-clause-some : goal.returns-in-Message-clause-some
 returns-in-Message-clause-some c =
-    credit_here c.args.items.now c.args.place _ _ c.requires c.if-place-items.false c.index-items-place.is c.in-Message.is
+    credit_here c.args.items.now c.args.place _ _ c.requires c.if-place-items.false
+    c.index-items-place.is c.in-Message.is
     ∙ ap (λ n. Credit n ∷ []) (sym c.len.ensures.value)
 
 pub returns-in-Off-clause-none : goal.returns-in-Off-clause-none
 returns-in-Off-clause-none c =
-    absurd (off_not_here c.args.items.now c.args.place _ c.requires c.if-place-items.false c.index-items-place.is c.in-Off.is)
+    absurd (off_not_here c.args.items.now c.args.place _ c.requires c.if-place-items.false
+    c.index-items-place.is c.in-Off.is)

@@ -8,4 +8,5 @@ returns-in-Stop-clause-yes c = λ _. counted_here is_stop _ _ _ _ c.loop-item-te
 
 pub loop-item-preserved : goal.loop-item-preserved
 loop-item-preserved c =
-    rw add-one (not_counted_here is_stop _ _ _ c.loop-item-test.true c.item-item.is (not_stop _ c.in_default.not-Stop) c.loop-item.invariant)
+    rw add-one (not_counted_here is_stop _ _ _ c.loop-item-test.true c.item-item.is
+    (not_stop _ c.in_default.not-Stop) c.loop-item.invariant)

@@ -8,4 +8,5 @@ returns-in-Off-clause-yes c = λ _. counted_here is_off _ _ _ _ c.loop-item-test
 
 pub loop-item-preserved : goal.loop-item-preserved
 loop-item-preserved c =
-    rw add-one (not_counted_here is_off _ _ _ c.loop-item-test.true c.item-item.is (not_off _ c.in_default.not-Off) c.loop-item.invariant)
+    rw add-one (not_counted_here is_off _ _ _ c.loop-item-test.true c.item-item.is
+    (not_off _ c.in_default.not-Off) c.loop-item.invariant)

@@ -9,7 +9,12 @@ follow-requires g c =
     let r = c.requires in (
       c.type_bounds.send-G,
       begins g.D.DriverEnd.link
-          (record { node = c.args.node; driver = c.new-driver.result; set = c.settings-set.result; links = c.args.links })
+          (record {
+            node = c.args.node;
+            driver = c.new-driver.result;
+            set = c.settings-set.result;
+            links = c.args.links;
+          })
           c.args.node (length c.args.steps.now) c.args.log first.node first.log first.reset first.lawful first.traces
           r.empty r.room r.eight r.ids,
     )

@@ -55,7 +55,8 @@ log_parts c right =
       nodes =
           subst (λ (ns : List NodeValue). AreNodeEnds logs drivers left (length drivers) ns)
           (sym (ap (λ (l : RunValue). l.nodes) is))
-          (subst (λ (l : List (List Down)). AreNodeEnds logs drivers l (length drivers) nodes) c.as_slice-2.ensures.value
+          (subst (λ (l : List (List Down)). AreNodeEnds logs drivers l (length drivers) nodes)
+          c.as_slice-2.ensures.value
           (subst (λ (ds : List LoggedDriver). AreNodeEnds logs ds now (length ds) nodes)
           (c.as_slice.ensures.value ∙ c.in_ok-drivers.ensures.drivers) c.in_ok-nodes.ensures));
       left = subst (λ (es : List RingDriver). AreLeftOn c.args.bus.links.items es (length c.args.bus.links.items) left)

@@ -15,18 +15,22 @@ pub returns-clause-rest : goal.returns-clause-rest
 returns-clause-rest c =
     let b = c.self.inside in let seats = b.seats.items in
     let v : c.as_slice.result.now ≡ seats = c.as_slice.ensures.value in
-    let P : BusValue → Type 0 = λ w. w.fault ≡ None → c.are_at_rest.result ≡ true → (node : ℕ) → node < length w.journals → RestsAs (record_of (journal_at w.journals node)) true in
+    let P : BusValue → Type 0 = λ w. w.fault ≡ None → c.are_at_rest.result ≡ true → (node : ℕ) →
+    node < length w.journals → RestsAs (record_of (journal_at w.journals node)) true in
     let S : List Seat → Type 0 = λ l. (k : ℕ) (s : Seat) → k < length l → ShowsRest (slice_index_or l k s).node true in
     subst P c.self.view_is (λ f yes node few.
     let near : node < length seats = let n = count_is seats in omega (arith, few, n) in
-    rests_at seats true node (c.self.invariant.0.bus f).ready few (λ s. subst S v (c.are_at_rest.ensures.rest yes) node s near))
+    rests_at seats true node (c.self.invariant.0.bus f).ready few
+    (λ s. subst S v (c.are_at_rest.ensures.rest yes) node s near))
 
 pub returns-clause-busy : goal.returns-clause-busy
 returns-clause-busy c =
     let b = c.self.inside in let seats = b.seats.items in
     let v : c.as_slice.result.now ≡ seats = c.as_slice.ensures.value in
-    let P : BusValue → Type 0 = λ w. w.fault ≡ None → c.are_at_rest.result ≡ false → (node : ℕ) × (node < length w.journals) × RestsAs (record_of (journal_at w.journals node)) false in
-    let S : List Seat → Type 0 = λ l. (k : ℕ) × (k < length l) × ((s : Seat) → ShowsRest (slice_index_or l k s).node false) in
+    let P : BusValue → Type 0 = λ w. w.fault ≡ None → c.are_at_rest.result ≡ false → (node : ℕ)
+    × (node < length w.journals) × RestsAs (record_of (journal_at w.journals node)) false in
+    let S : List Seat → Type 0 = λ l. (k : ℕ) × (k < length l)
+    × ((s : Seat) → ShowsRest (slice_index_or l k s).node false) in
     subst P c.self.view_is (λ f no.
     let which = subst S v (c.are_at_rest.ensures.busy no) in
     let few : which.0 < length (journals_of seats) = let n = count_is seats in let m = which.1 in omega (arith, m, n) in

@@ -1,4 +1,5 @@
-use Rattle.std.proofs.Common.{◌≡◌, ◌≢◌, ◌+◌, ◌-◌, false, replicate, None, List, ◌++◌, length, take, drop, sym, ap, ◌∙◌, subst, arith, rules, ℕ, refl, Some}
+use Rattle.std.proofs.Common.{◌≡◌, ◌≢◌, ◌+◌, ◌-◌, false, replicate, None, List, ◌++◌, length, take, drop, sym, ap, ◌∙◌}
+use Rattle.std.proofs.Common.{subst, arith, rules, ℕ, refl, Some}
 use Rattle.std.proofs.lemmas.Grind.{common_steps}
 use Rattle.std.specs.Prelude.{◌⊎◌, Err, vec_capacity}
 use Rattle.sja_link.proofs.Related.{each_refl}
@@ -37,8 +38,12 @@ whole g c =
     let v : c.as_mut_slice.result.now ≡ was = c.as_mut_slice.ensures.value in
     let len : length now ≡ length was = c.bit_of_all.auto.seats ∙ ap (λ (l : List Seat). length l) v in
     let e : take b.seats.len (now ++ drop (length now) was) ≡ now = grind (arith, common_steps) in
-    let T : List Seat → Type 0 = λ l. IsRowBit (g.B.Board.orders_are c.args.board.now) (g.B.Board.told c.args.board.now c.bit_of_all.new.board) (g.B.Board.kept c.args.board.now c.bit_of_all.new.board) c.at-struck.result l now in
-    let row : IsRowBit (g.B.Board.orders_are c.args.board.now) (g.B.Board.told c.args.board.now c.bit_of_all.new.board) (g.B.Board.kept c.args.board.now c.bit_of_all.new.board) c.at-struck.result was now = subst T v c.in-Ok.ensures.bit in
+    let T : List Seat → Type 0 = λ l. IsRowBit (g.B.Board.orders_are c.args.board.now)
+    (g.B.Board.told c.args.board.now c.bit_of_all.new.board)
+    (g.B.Board.kept c.args.board.now c.bit_of_all.new.board) c.at-struck.result l now in
+    let row : IsRowBit (g.B.Board.orders_are c.args.board.now) (g.B.Board.told c.args.board.now c.bit_of_all.new.board)
+    (g.B.Board.kept c.args.board.now c.bit_of_all.new.board) c.at-struck.result was now =
+    subst T v c.in-Ok.ensures.bit in
     let F : BusValue → Type 0 = λ w. (w.fault ≡ None) × (w.left ≢ 0) in
     let some = (subst F (sym c.self.view_is) c.in_ok-goes_on.ensures.ok).1 in let bits = inv.bits in
     let few = inv.few in let logs = inv.logs in
@@ -49,8 +54,12 @@ whole g c =
       most = inv.most;
       bus = λ f. record {
         ready = c.in-Ok.ensures.ready;
-        calm = calm_by now (all_told (g.B.Board.told c.args.board.now c.bit_of_all.new.board) (g.B.Board.kept c.args.board.now c.bit_of_all.new.board) c.at-struck.result was now len row);
-        wired = wired_row (g.B.Board.orders_are c.args.board.now) (g.B.Board.told c.args.board.now c.bit_of_all.new.board) (g.B.Board.kept c.args.board.now c.bit_of_all.new.board) b.struck.script b.run c.at-struck.result was now len few c.at-struck.ensures row (inv.bus f).wired;
+        calm = calm_by now (all_told (g.B.Board.told c.args.board.now c.bit_of_all.new.board)
+            (g.B.Board.kept c.args.board.now c.bit_of_all.new.board) c.at-struck.result was now len row);
+        wired = wired_row (g.B.Board.orders_are c.args.board.now)
+            (g.B.Board.told c.args.board.now c.bit_of_all.new.board)
+            (g.B.Board.kept c.args.board.now c.bit_of_all.new.board) b.struck.script b.run c.at-struck.result was now
+            len few c.at-struck.ensures row (inv.bus f).wired;
       };
       logs = omega (arith, len, logs);
       rooms = λ f. subst H v c.in-Ok.ensures.rooms (room_for b.struck.bits) (inv.rooms f);
@@ -87,33 +96,46 @@ returns-in-Ok-clause-bit g c = record {
   kept =
       let E = g.E.BusEnd in let seats = c.self.inside.seats in
       let all : seats.len ≡ length seats.items = omega arith in
-      keeps_back E.same E.stands seats.items c.as_mut_slice.result.now c.bit_of_all.new.seats seats.len c.args.self.now.journals c.args.links.now
-      c.bit_of_all.new.links all c.as_mut_slice.ensures.value c.bit_of_all.auto.seats (ap (λ (w : BusValue). w.journals) c.self.view_is) c.in-Ok.ensures.goes;
+      keeps_back E.same E.stands seats.items c.as_mut_slice.result.now c.bit_of_all.new.seats seats.len
+      c.args.self.now.journals c.args.links.now
+      c.bit_of_all.new.links all c.as_mut_slice.ensures.value c.bit_of_all.auto.seats
+      (ap (λ (w : BusValue). w.journals) c.self.view_is) c.in-Ok.ensures.goes;
   bit =
       let b = c.self.inside in let inv = c.self.invariant.0 in let few = inv.few in
       let now = c.bit_of_all.new.seats in let was = b.seats.items in
       let v : c.as_mut_slice.result.now ≡ was = c.as_mut_slice.ensures.value in
       let len : length now ≡ length was = c.bit_of_all.auto.seats ∙ ap (λ (l : List Seat). length l) v in
       let e : take b.seats.len (now ++ drop (length now) was) ≡ now = grind (arith, common_steps) in
-      let T : List Seat → Type 0 = λ l. IsRowBit (g.B.Board.orders_are c.args.board.now) (g.B.Board.told c.args.board.now c.bit_of_all.new.board) (g.B.Board.kept c.args.board.now c.bit_of_all.new.board) c.at-struck.result l now in
-      let row : IsRowBit (g.B.Board.orders_are c.args.board.now) (g.B.Board.told c.args.board.now c.bit_of_all.new.board) (g.B.Board.kept c.args.board.now c.bit_of_all.new.board) c.at-struck.result was now = subst T v c.in-Ok.ensures.bit in
+      let T : List Seat → Type 0 = λ l. IsRowBit (g.B.Board.orders_are c.args.board.now)
+      (g.B.Board.told c.args.board.now c.bit_of_all.new.board)
+      (g.B.Board.kept c.args.board.now c.bit_of_all.new.board) c.at-struck.result l now in
+      let row : IsRowBit (g.B.Board.orders_are c.args.board.now)
+      (g.B.Board.told c.args.board.now c.bit_of_all.new.board)
+      (g.B.Board.kept c.args.board.now c.bit_of_all.new.board) c.at-struck.result was now =
+      subst T v c.in-Ok.ensures.bit in
       let orders = g.B.Board.orders_are c.args.board.now in
-      let told = g.B.Board.told c.args.board.now c.bit_of_all.new.board in let kept = g.B.Board.kept c.args.board.now c.bit_of_all.new.board in
+      let told = g.B.Board.told c.args.board.now c.bit_of_all.new.board in let kept =
+      g.B.Board.kept c.args.board.now c.bit_of_all.new.board in
       let P : BusValue → Type 0 = λ w. IsBit orders told kept w.script w.run w.untold w.journals (journals_of now) in
-      let Q : List Seat → Type 0 = λ xs. IsBit orders told kept c.args.self.now.script c.args.self.now.run c.args.self.now.untold c.args.self.now.journals (journals_of xs) in
+      let Q : List Seat → Type 0 = λ xs. IsBit orders told kept c.args.self.now.script c.args.self.now.run
+      c.args.self.now.untold c.args.self.now.journals (journals_of xs) in
       let F : BusValue → Type 0 = λ w. (w.fault ≡ None) × (w.left ≢ 0) in
       let right : b.fault ≡ None = (subst F (sym c.self.view_is) c.in_ok-goes_on.ensures.ok).0 in
-      subst Q (sym e) (subst P c.self.view_is (is_bit orders told kept b.struck.script b.run c.at-struck.result was now len few c.at-struck.ensures (inv.bus right).calm row));
+      subst Q (sym e) (subst P c.self.view_is (is_bit orders told kept b.struck.script b.run c.at-struck.result was now
+      len few c.at-struck.ensures (inv.bus right).calm row));
   told =
       let b = c.self.inside in
       let now = c.bit_of_all.new.seats in let was = b.seats.items in
       let v : c.as_mut_slice.result.now ≡ was = c.as_mut_slice.ensures.value in
       let len : length now ≡ length was = c.bit_of_all.auto.seats ∙ ap (λ (l : List Seat). length l) v in
       let e : take b.seats.len (now ++ drop (length now) was) ≡ now = grind (arith, common_steps) in
-      let told = g.B.Board.told c.args.board.now c.bit_of_all.new.board in let kept = g.B.Board.kept c.args.board.now c.bit_of_all.new.board in
-      let T : List Seat → Type 0 = λ l. IsRowBit (g.B.Board.orders_are c.args.board.now) told kept c.at-struck.result l now in
+      let told = g.B.Board.told c.args.board.now c.bit_of_all.new.board in let kept =
+      g.B.Board.kept c.args.board.now c.bit_of_all.new.board in
+      let T : List Seat → Type 0 = λ l. IsRowBit (g.B.Board.orders_are c.args.board.now) told kept
+      c.at-struck.result l now in
       let row = subst T v c.in-Ok.ensures.bit in
-      let none : untold_of now ≡ replicate (length was) false = none_untold now (all_told told kept c.at-struck.result was now len row) ∙ ap (λ n. replicate n false) len in
+      let none : untold_of now ≡ replicate (length was) false =
+      none_untold now (all_told told kept c.at-struck.result was now len row) ∙ ap (λ n. replicate n false) len in
       let P : BusValue → Type 0 = λ w. untold_of now ≡ replicate (length w.journals) false in
       let Q : List Seat → Type 0 = λ xs. untold_of xs ≡ replicate (length c.args.self.now.journals) false in
       subst Q (sym e) (subst P c.self.view_is (none ∙ ap (λ n. replicate n false) (sym (count_is was))));
@@ -130,12 +152,15 @@ pub returns-in_err-goes_on-clause-reason : goal.returns-in_err-goes_on-clause-re
 returns-in_err-goes_on-clause-reason g c =
     let f = c.in_err-goes_on.field-0.0 in
     let is : c.from_residual.result ≡ Err f = search rules in
-    let P : _ → Type 0 = λ x. c.args.self.now.fault ≡ None → StopsBit g.E.BusEnd.stands g.E.BusEnd.full (g.B.Board.orders_are c.args.board.now) c.args.self.now c.args.self.now c.args.links.now c.args.links.now x in
+    let P : _ → Type 0 = λ x. c.args.self.now.fault ≡ None →
+    StopsBit g.E.BusEnd.stands g.E.BusEnd.full (g.B.Board.orders_are c.args.board.now) c.args.self.now
+    c.args.self.now c.args.links.now c.args.links.now x in
     err_is P c.from_residual.result f is (λ none. let why = c.in_err-goes_on.ensures.why none in spent why.0 why.1)
 
 pub returns-in-Err-clause-reason : goal.returns-in-Err-clause-reason
 returns-in-Err-clause-reason g c = λ none.
-    let E = g.E.BusEnd in let b = c.self.inside in let inv = c.self.invariant.0 in let O = g.B.Board.orders_are c.args.board.now in
+    let E = g.E.BusEnd in let b = c.self.inside in let inv = c.self.invariant.0 in let O =
+    g.B.Board.orders_are c.args.board.now in
     let now = c.bit_of_all.new.seats in let was = b.seats.items in let f = c.in-Err.fault in
     let before = c.args.links.now in let after = c.bit_of_all.new.links in
     let v : c.as_mut_slice.result.now ≡ was = c.as_mut_slice.ensures.value in
@@ -144,17 +169,28 @@ returns-in-Err-clause-reason g c = λ none.
     let right : b.fault ≡ None = ap (λ (w : BusValue). w.fault) c.self.view_is ∙ none in
     let rooms = inv.rooms right in
     let old = c.args.self.now in
-    let new : List Seat → BusValue = λ xs. record { script = b.struck.script; run = b.run; left = b.left; fault = Some f; journals = journals_of xs; untold = untold_of xs } in
+    let new : List Seat → BusValue = λ xs. record {
+      script = b.struck.script;
+      run = b.run;
+      left = b.left;
+      fault =
+          Some f;
+      journals = journals_of xs;
+      untold = untold_of xs;
+    } in
     let P : BusValue → Type 0 = λ w. StopsBit E.stands E.full O w (new now) before after f in
     let Q : List Seat → Type 0 = λ xs. StopsBit E.stands E.full O old (new xs) before after f in
-    let S : List Seat → Type 0 = λ l. (SeatRefuses E.stands l now before after f ⊎ SeatFull E.stands O l now before after f) ⊎ SeatStops E.stands E.full O E.same l now before f in
-    let reason = stops_bit E.same E.stands E.full O b.struck.script b.run b.left b.struck.bits b.fault was now before after f (new now) refl inv.bits len rooms (subst S v c.in-Err.ensures.stops) in
+    let S : List Seat → Type 0 = λ l. (SeatRefuses E.stands l now before after f
+    ⊎ SeatFull E.stands O l now before after f) ⊎ SeatStops E.stands E.full O E.same l now before f in
+    let reason = stops_bit E.same E.stands E.full O b.struck.script b.run b.left b.struck.bits b.fault was now before
+    after f (new now) refl inv.bits len rooms (subst S v c.in-Err.ensures.stops) in
     subst Q (sym e) (subst P c.self.view_is reason)
 
 pub returns-in-Ok-clause-takes : goal.returns-in-Ok-clause-takes
 returns-in-Ok-clause-takes g c =
     let seats = c.self.inside.seats in
     let all : seats.len ≡ length seats.items = omega arith in
-    takes_back g.E.BusEnd seats.items c.as_mut_slice.result.now c.bit_of_all.new.seats seats.len c.args.self.now.journals
+    takes_back g.E.BusEnd seats.items c.as_mut_slice.result.now c.bit_of_all.new.seats seats.len
+    c.args.self.now.journals
     c.args.links.now all c.as_mut_slice.ensures.value c.bit_of_all.auto.seats c.in-Ok.ensures.ready
     (ap (λ (w : BusValue). w.journals) c.self.view_is) c.in-Ok.ensures.takes

@@ -8,12 +8,14 @@ use Rattle.sja_bus.proofs.Results.{err_is}
 use Rattle.sja_bus.proofs.Many.{numbered_kept}
 use Rattle.sja_bus.proofs.SoFar.{keeps_refl, none_yet, and_one, and_more, keeps_trans, still_for, breaks_later}
 use Rattle.sja_bus.proofs.bus.Bus.bits.Goals as goal
-use Rattle.sja_bus.proofs.bus.Bus.bits.Goals.{After-bit, After-run_untaken_bits, else-to_rest-via-then-to_rest+else-at_rest, else-to_rest-via-else-to_rest}
+use Rattle.sja_bus.proofs.bus.Bus.bits.Goals.{After-bit, After-run_untaken_bits}
+use Rattle.sja_bus.proofs.bus.Bus.bits.Goals.{else-to_rest-via-then-to_rest+else-at_rest, else-to_rest-via-else-to_rest}
 
 -- before a bit some node works, where that was asked for
 works : (g : _) (c : After-bit g) → WorksIf c.args.to_rest (moment c.loop-run.self c.loop-run.links c.loop-run.board)
 works g c = λ yes. elim c.else-to_rest.branch [
-  | else-to_rest-via-then-to_rest+else-at_rest w ↦ w.at_rest.ensures.busy c.loop-run.invariant.far.right w.if-at_rest.false
+  | else-to_rest-via-then-to_rest+else-at_rest w ↦ w.at_rest.ensures.busy
+      c.loop-run.invariant.far.right w.if-at_rest.false
   | else-to_rest-via-else-to_rest w ↦ let no = w.if-to_rest.false in absurd cc
 ]
 
@@ -64,7 +66,8 @@ returns-in_err-most-clause-keeps g c = keeps_refl g.E.BusEnd g.B.Board g.met.E.B
 pub loop-run-init : goal.loop-run-init
 loop-run-init g c = record {
   few = omega arith;
-  far = none_yet g.E.BusEnd g.B.Board (BitInOrder g.E.BusEnd g.B.Board) g.met.E.BusEnd.same_refl g.met.B.Board.kept_refl c.args.to_rest
+  far = none_yet g.E.BusEnd g.B.Board (BitInOrder g.E.BusEnd g.B.Board) g.met.E.BusEnd.same_refl
+      g.met.B.Board.kept_refl c.args.to_rest
       (moment c.args.self.now c.args.links.now c.args.board.now) c.in_ok-most.ensures.right;
 }
 
@@ -123,17 +126,21 @@ returns-in_err-run-clause-reason g c =
     err_is P c.from_residual-in_err-run.result f is (λ _. breaks_later E.stands E.full B.orders_are (BitInOrder E B)
     (AnyBit E B) (WorksIf to_rest) was (moment c.bit.new.self c.bit.new.links c.bit.new.board) now (c.loop-run.run + 1)
     (c.in_ok-most.most - (c.loop-run.run + 1)) c.args.count f (omega (arith, more, most))
-    (later g at.After-run_untaken_bits) (one_more g at.After-run_untaken_bits (works g at.After-bit)).bits c.in_err-run.ensures.stops.reason)
+    (later g at.After-run_untaken_bits) (one_more g at.After-run_untaken_bits (works g at.After-bit)).bits
+    c.in_err-run.ensures.stops.reason)
 
 pub loop-run-preserved : goal.loop-run-preserved
 loop-run-preserved g c =
     let at = goal.at.loop-run-preserved g c in
     let more = c.loop-run-test.true in let most = c.in_ok-run.ensures.most in record {
       few = omega (arith, more, most);
-      far = and_more g.E.BusEnd g.B.Board (BitInOrder g.E.BusEnd g.B.Board) g.met.E.BusEnd.same_trans g.met.B.Board.kept_trans c.args.to_rest
+      far = and_more g.E.BusEnd g.B.Board (BitInOrder g.E.BusEnd g.B.Board) g.met.E.BusEnd.same_trans
+          g.met.B.Board.kept_trans c.args.to_rest
           (moment c.args.self.now c.args.links.now c.args.board.now)
           (moment c.bit.new.self c.bit.new.links c.bit.new.board)
-          (moment c.run_untaken_bits.new.self c.run_untaken_bits.new.links c.run_untaken_bits.new.board) (c.loop-run.run + 1)
-          (one_more g at.After-run_untaken_bits (works g at.After-bit)) (AnyBit g.E.BusEnd g.B.Board) c.in_ok-run.field-0
+          (moment c.run_untaken_bits.new.self c.run_untaken_bits.new.links
+          c.run_untaken_bits.new.board) (c.loop-run.run + 1)
+          (one_more g at.After-run_untaken_bits (works g at.After-bit))
+          (AnyBit g.E.BusEnd g.B.Board) c.in_ok-run.field-0
           (later g at.After-run_untaken_bits) c.in_ok-run.ensures.runs;
     }

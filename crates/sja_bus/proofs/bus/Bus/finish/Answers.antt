@@ -19,8 +19,10 @@ returns-clause-lawful c =
     let b = c.self.inside in
     let same = logs_journals b.seats.items c.logs_of.result.items c.logs_of.ensures in
     let Q : List (List Entry) → Type 0 = λ l. IsBusRun b.struck.script b.run l in
-    let P : BusValue → Type 0 = λ w. w.fault ≡ None → IsBusRun w.script w.run (map (λ (g : NodeLog). g.journal.entries) c.logs_of.result.items) in
-    subst P c.self.view_is (λ f. subst Q (sym same) (bus_run b.struck.script b.run b.seats.items (c.self.invariant.0.bus f)))
+    let P : BusValue → Type 0 = λ w. w.fault ≡ None → IsBusRun w.script w.run
+    (map (λ (g : NodeLog). g.journal.entries) c.logs_of.result.items) in
+    subst P c.self.view_is (λ f. subst Q (sym same) (bus_run b.struck.script b.run b.seats.items
+    (c.self.invariant.0.bus f)))
 
 pub returns-clause-counters : goal.returns-clause-counters
 returns-clause-counters c =
@@ -28,4 +30,5 @@ returns-clause-counters c =
     let P : BusValue → Type 0 = λ w. w.fault ≡ None → (node : ℕ) (d : NodeLog) → node < length c.logs_of.result.items →
     let log = slice_index_or c.logs_of.result.items node d in CountersAre log.journal.entries log.txerr log.rxerr in
     subst P c.self.view_is (λ f node d few.
-    logs_counters b.seats.items c.logs_of.result.items c.logs_of.ensures (λ k s near. ((c.self.invariant.0.bus f).ready k s near).ready.sound.follows) node d few)
+    logs_counters b.seats.items c.logs_of.result.items c.logs_of.ensures
+    (λ k s near. ((c.self.invariant.0.bus f).ready k s near).ready.sound.follows) node d few)

@@ -50,8 +50,10 @@ pub returns-in-Ok-clause-kept : goal.returns-in-Ok-clause-kept
 returns-in-Ok-clause-kept g c =
     let E = g.E.BusEnd in let seats = c.self.inside.seats in
     let all : seats.len ≡ length seats.items = omega arith in
-    keeps_back E.same E.stands seats.items c.as_mut_slice.result.now c.gather_all.new.seats seats.len c.args.self.now.journals c.args.links.now
-    c.gather_all.new.links all c.as_mut_slice.ensures.value c.gather_all.auto.seats (ap (λ (w : BusValue). w.journals) c.self.view_is) c.in-Ok.ensures.goes
+    keeps_back E.same E.stands seats.items c.as_mut_slice.result.now c.gather_all.new.seats seats.len
+    c.args.self.now.journals c.args.links.now
+    c.gather_all.new.links all c.as_mut_slice.ensures.value c.gather_all.auto.seats
+    (ap (λ (w : BusValue). w.journals) c.self.view_is) c.in-Ok.ensures.goes
 
 pub returns-in-Ok-clause-items : goal.returns-in-Ok-clause-items
 returns-in-Ok-clause-items g c =
@@ -86,9 +88,12 @@ returns-in-Err-clause-reason g c = λ none.
     let S : List Seat → Type 0 = λ l. SeatRefuses E.stands l now before after f in
     let right : b.fault ≡ None = ap (λ (w : BusValue). w.fault) c.self.view_is ∙ none in
     let N : ℕ → Type 0 = λ n. IsTakenAndRefused E.stands n (journals_of was) (journals_of now) before after f in
-    let reason = subst N (sym inv.bits) (not_taken E.stands b.struck.bits was now before after f len (inv.rooms right) (subst S v c.in-Err.ensures.refused)) in
-    let P : BusValue → Type 0 = λ w. IsTakenAndRefused E.stands (w.run + w.left) w.journals (journals_of now) before after f in
-    let Q : List Seat → Type 0 = λ xs. IsTakenAndRefused E.stands (c.args.self.now.run + c.args.self.now.left) c.args.self.now.journals (journals_of xs) before after f in
+    let reason = subst N (sym inv.bits) (not_taken E.stands b.struck.bits was now before after f len (inv.rooms right)
+    (subst S v c.in-Err.ensures.refused)) in
+    let P : BusValue → Type 0 = λ w. IsTakenAndRefused E.stands (w.run + w.left) w.journals
+    (journals_of now) before after f in
+    let Q : List Seat → Type 0 = λ xs. IsTakenAndRefused E.stands (c.args.self.now.run + c.args.self.now.left)
+    c.args.self.now.journals (journals_of xs) before after f in
     subst Q (sym e) (subst P c.self.view_is reason)
 
 pub returns-in-Ok-clause-untold : goal.returns-in-Ok-clause-untold
@@ -100,5 +105,6 @@ returns-in-Ok-clause-untold g c =
     let e : take b.seats.len (now ++ drop (length now) was) ≡ now = grind (arith, common_steps) in
     let T : List Seat → Type 0 = λ l. EachSeat SeatUntold l now in
     let P : BusValue → Type 0 = λ w. EachUntold w.untold (untold_of now) w.journals (journals_of now) in
-    let Q : List Seat → Type 0 = λ xs. EachUntold c.args.self.now.untold (untold_of xs) c.args.self.now.journals (journals_of xs) in
+    let Q : List Seat → Type 0 = λ xs. EachUntold c.args.self.now.untold (untold_of xs)
+    c.args.self.now.journals (journals_of xs) in
     subst Q (sym e) (subst P c.self.view_is (all_untold was now len (subst T v c.in-Ok.ensures.untold)))

@@ -1,4 +1,5 @@
-use Rattle.std.proofs.Common.{◌≡◌, ℕ, ◌+◌, ◌≤◌, Bool, false, None, List, [], length, replicate, rules, arith, sym, ap, ◌∙◌, subst, vec_capacity}
+use Rattle.std.proofs.Common.{◌≡◌, ℕ, ◌+◌, ◌≤◌, Bool, false, None, List, [], length, replicate, rules, arith, sym, ap}
+use Rattle.std.proofs.Common.{◌∙◌, subst, vec_capacity}
 use Rattle.sja_link.specs.declared.entry.Entry.{Entry}
 use Rattle.sja_bus.specs.declared.seat.Seat.{Seat}
 use Rattle.sja_bus.specs.Buses.{BusValue}
@@ -20,8 +21,11 @@ loop-node-preserved c =
     record {
       count = search rules;
       room = search rules;
-      made = rw c.push_reserved.ensures.items (new_push n c.loop-node.seats.items _ (search rules) (record { is_of = record { ready = made.ready; own = made.own }; empty = made.empty; nothing = made.untold }) c.loop-node.invariant.made);
-      rooms = subst Q (sym c.push_reserved.ensures.items) (rooms_push (room_for c.args.bits) c.loop-node.seats.items _ made.room c.loop-node.invariant.rooms);
+      made = rw c.push_reserved.ensures.items (new_push n c.loop-node.seats.items _ (search rules)
+          (record { is_of = record { ready = made.ready; own = made.own }; empty = made.empty; nothing = made.untold })
+          c.loop-node.invariant.made);
+      rooms = subst Q (sym c.push_reserved.ensures.items)
+          (rooms_push (room_for c.args.bits) c.loop-node.seats.items _ made.room c.loop-node.invariant.rooms);
     }
 
 pub invariant_of-result : goal.invariant_of-result
@@ -50,9 +54,34 @@ returns c =
     let n : length seats ≡ c.args.nodes = search rules in
     let e : c.loop-node.node ≡ length seats = search rules in
     let new : AreNew (length seats) seats = subst (λ (m : ℕ). AreNew m seats) e c.loop-node.invariant.made in
-    let empty : journals_of seats ≡ replicate c.args.nodes [] = new_journals seats (λ k s few. (new k s few).empty) ∙ ap (λ m. replicate m []) n in
-    let told : untold_of seats ≡ replicate c.args.nodes false = none_untold seats (λ k s few. (new k s few).nothing) ∙ ap (λ m. replicate m false) n in
-    let f : Scripted → BusValue = λ x. record { script = x.script; run = 0; left = c.args.bits; fault = None; journals = journals_of seats; untold = untold_of seats } in
-    let h : List (List Entry) → BusValue = λ l. record { script = c.args.script; run = 0; left = c.args.bits; fault = None; journals = l; untold = untold_of seats } in
-    let t : List Bool → BusValue = λ l. record { script = c.args.script; run = 0; left = c.args.bits; fault = None; journals = replicate c.args.nodes []; untold = l } in
+    let empty : journals_of seats ≡ replicate c.args.nodes [] = new_journals seats (λ k s few. (new k s few).empty)
+    ∙ ap (λ m. replicate m []) n in
+    let told : untold_of seats ≡ replicate c.args.nodes false = none_untold seats (λ k s few. (new k s few).nothing)
+    ∙ ap (λ m. replicate m false) n in
+    let f : Scripted → BusValue = λ x. record {
+      script = x.script;
+      run = 0;
+      left = c.args.bits;
+      fault = None;
+      journals =
+          journals_of seats;
+      untold = untold_of seats;
+    } in
+    let h : List (List Entry) → BusValue = λ l. record {
+      script = c.args.script;
+      run = 0;
+      left = c.args.bits;
+      fault =
+          None;
+      journals = l;
+      untold = untold_of seats;
+    } in
+    let t : List Bool → BusValue = λ l. record {
+      script = c.args.script;
+      run = 0;
+      left = c.args.bits;
+      fault = None;
+      journals = replicate c.args.nodes [];
+      untold = l;
+    } in
     ap f c.in_ok-struck.ensures ∙ ap h empty ∙ ap t told

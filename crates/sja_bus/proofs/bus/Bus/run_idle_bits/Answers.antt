@@ -1,4 +1,5 @@
-use Rattle.std.proofs.Common.{◌≡◌, ◌≢◌, ◌+◌, ◌-◌, ◌<◌, ◌≤◌, true, false, replicate, None, List, ◌++◌, length, take, drop, sym, ap, ◌∙◌, subst, arith, rules, refl, ℕ}
+use Rattle.std.proofs.Common.{◌≡◌, ◌≢◌, ◌+◌, ◌-◌, ◌<◌, ◌≤◌, true, false, replicate, None, List, ◌++◌, length, take}
+use Rattle.std.proofs.Common.{drop, sym, ap, ◌∙◌, subst, arith, rules, refl, ℕ}
 use Rattle.std.proofs.lemmas.Grind.{common_steps}
 use Rattle.std.specs.Prelude.{◌⊎◌, vec_capacity}
 use Rattle.sja_regs.specs.declared.orders.Orders.{Orders}
@@ -17,16 +18,20 @@ use Rattle.sja_bus.proofs.RanOn.{bus_with}
 use Rattle.sja_bus.proofs.Running.{count_is}
 use Rattle.sja_bus.proofs.Rests.{ends_awake}
 use Rattle.sja_bus.proofs.Stretches.{after_untold, room_after, bus_after, stretch_after, ends_quiet, out_of_entries}
-use Rattle.sja_bus.proofs.bus.Bus.run_idle_bits.Goals.{After-all_enter_idle_bits, In-Ok, then-bits-eq0-via-then-bits-eq0, then-bits-eq0-via-else-bits-eq0+then-not-are_resting}
+use Rattle.sja_bus.proofs.bus.Bus.run_idle_bits.Goals.{After-all_enter_idle_bits, In-Ok}
+use Rattle.sja_bus.proofs.bus.Bus.run_idle_bits.Goals.{then-bits-eq0-via-then-bits-eq0}
+use Rattle.sja_bus.proofs.bus.Bus.run_idle_bits.Goals.{then-bits-eq0-via-else-bits-eq0+then-not-are_resting}
 use Rattle.sja_bus.proofs.bus.Bus.run_idle_bits.Goals as goal
 
 -- as many seats as before
-same_count : (g : _) (c : After-all_enter_idle_bits g) → length c.all_enter_idle_bits.new.seats ≡ length c.self.inside.seats.items
+same_count : (g : _) (c : After-all_enter_idle_bits g) →
+    length c.all_enter_idle_bits.new.seats ≡ length c.self.inside.seats.items
 same_count g c = c.all_enter_idle_bits.auto.seats ∙ ap (λ (l : List Seat). length l) c.as_mut_slice.ensures.value
 
 -- the seats that are written back are those
 are_back : (g : _) (c : After-all_enter_idle_bits g) → take c.self.inside.seats.len
-    (c.all_enter_idle_bits.new.seats ++ drop (length c.all_enter_idle_bits.new.seats) c.self.inside.seats.items) ≡ c.all_enter_idle_bits.new.seats
+    (c.all_enter_idle_bits.new.seats ++ drop (length c.all_enter_idle_bits.new.seats)
+    c.self.inside.seats.items) ≡ c.all_enter_idle_bits.new.seats
 are_back g c = let len = same_count g c in grind (arith, common_steps)
 
 -- there was no fault
@@ -49,7 +54,8 @@ asked g c node few =
     g.met.B.Board.has_orders c.args.board.now node (omega (arith, few, ports, n))
 
 -- each seat has that many recessive bits more
-grown : (g : _) (c : In-Ok g) → c.all_enter_idle_bits.new.seats ≡ all_after c.quiet_for-bits.result c.self.inside.seats.items
+grown : (g : _) (c : In-Ok g) → c.all_enter_idle_bits.new.seats ≡ all_after c.quiet_for-bits.result
+    c.self.inside.seats.items
 grown g c =
     let A : List Seat → Type 0 = λ l. c.all_enter_idle_bits.new.seats ≡ all_after c.quiet_for-bits.result l in
     subst A c.as_mut_slice.ensures.value c.in-Ok.ensures.rested
@@ -71,7 +77,8 @@ invariant_of-self g c =
       most = inv.most;
       bus = λ f. subst I (sym is)
           (bus_after (g.B.Board.orders_are board) (g.B.Board.told board board) (g.B.Board.kept board board)
-          (λ node. g.met.B.Board.kept_refl board node) was (inv.bus f).ready (rested g at) (asked g at) b.struck.script b.run n few
+          (λ node. g.met.B.Board.kept_refl board node) was (inv.bus f).ready (rested g at) (asked g at)
+          b.struck.script b.run n few
           c.quiet_for-bits.ensures.quiet (inv.bus f));
       logs = omega (arith, len, logs);
       rooms = λ f. subst H (sym is) (room_after n (room_for b.struck.bits) was (inv.rooms f));

@@ -17,12 +17,14 @@ use Rattle.sja_bus.proofs.bus.Bus.run_untaken_bits.Goals.{After-untaken_bits}
 use Rattle.sja_bus.proofs.bus.Bus.run_untaken_bits.Goals as goal
 
 -- as many seats as before
-same_count : (g : _) (c : After-untaken_bits g) → length c.untaken_bits.new.seats ≡ length c.loop-run.self-inside.seats.items
+same_count : (g : _) (c : After-untaken_bits g) → length c.untaken_bits.new.seats ≡ length
+    c.loop-run.self-inside.seats.items
 same_count g c = c.untaken_bits.auto.seats ∙ ap (λ (l : List Seat). length l) c.as_mut_slice-seats.ensures.value
 
 -- the seats that are written back are those
 are_back : (g : _) (c : After-untaken_bits g) → take c.loop-run.self-inside.seats.len
-    (c.untaken_bits.new.seats ++ drop (length c.untaken_bits.new.seats) c.loop-run.self-inside.seats.items) ≡ c.untaken_bits.new.seats
+    (c.untaken_bits.new.seats ++ drop (length c.untaken_bits.new.seats)
+    c.loop-run.self-inside.seats.items) ≡ c.untaken_bits.new.seats
 are_back g c = let len = same_count g c in grind (arith, common_steps)
 
 enough_left : (g : _) (c : After-untaken_bits g) → c.args.count - c.loop-run.run ≤ c.loop-run.self-inside.left
@@ -88,10 +90,12 @@ more g c n run left far bus most run_is left_is far_is end runs =
     let P : ℕ → Type 0 = λ x. bus_of b.struck.script x left now ≡ bus in
     let Q : ℕ → Type 0 = λ x. bus_of b.struck.script (b.run + n) x now ≡ bus in
     let R : ℕ → Type 0 = λ x. IsSoFar E B (AnyBit E B) c.args.to_rest was x new in
-    subst R (sym far_is) (and_more E B (AnyBit E B) g.met.E.BusEnd.same_trans g.met.B.Board.kept_trans c.args.to_rest was mid new
+    subst R (sym far_is) (and_more E B (AnyBit E B) g.met.E.BusEnd.same_trans g.met.B.Board.kept_trans
+    c.args.to_rest was mid new
     c.loop-run.run c.loop-run.invariant.far (AnyBit E B) n (λ k x y one. one)
     (ran E B c.args.to_rest b.struck.script b.run b.left c.as_mut_slice-seats.result.now now c.loop-run.links
-    c.untaken_bits.new.links c.loop-run.board c.untaken_bits.new.board (c.args.count - c.loop-run.run) c.untaken_bits.auto.seats
+    c.untaken_bits.new.links c.loop-run.board c.untaken_bits.new.board (c.args.count - c.loop-run.run)
+    c.untaken_bits.auto.seats
     c.untaken_bits.ensures.sames c.untaken_bits.ensures.others mid.bus (begins g c) n bus most (enough_left g c)
     (subst Q left_is (subst P run_is end)) runs))
 
@@ -104,7 +108,8 @@ loop-run-init g c =
       whole = c.self.invariant.0;
       empty = c.self.invariant.1;
       facts = c.requires.facts;
-      far = subst P c.self.view_is (none_yet g.E.BusEnd g.B.Board (AnyBit g.E.BusEnd g.B.Board) g.met.E.BusEnd.same_refl g.met.B.Board.kept_refl
+      far = subst P c.self.view_is (none_yet g.E.BusEnd g.B.Board (AnyBit g.E.BusEnd g.B.Board) g.met.E.BusEnd.same_refl
+          g.met.B.Board.kept_refl
           c.args.to_rest (moment was c.args.links.now c.args.board.now)
           (ap (λ (w : BusValue). w.fault) c.self.view_is ∙ c.requires.right));
     }
@@ -161,7 +166,8 @@ loop-run-preserved g c =
 pub returns-in-Err-clause-stops : goal.returns-in-Err-clause-stops
 returns-in-Err-clause-stops g c =
     let E = g.E.BusEnd in let B = g.B.Board in let b = c.loop-run.self-inside in let inv = c.loop-run.invariant in
-    let seats = c.as_mut_slice-seats.result.now in let at = (goal.at.returns-in-Err-clause-stops g c).After-untaken_bits in
+    let seats = c.as_mut_slice-seats.result.now in let at =
+    (goal.at.returns-in-Err-clause-stops g c).After-untaken_bits in
     let most = c.args.count - c.loop-run.run in let early = c.loop-run-test.true in
     let was = moment c.args.self.now c.args.links.now c.args.board.now in
     let mid = moment (bus_with b.struck.script b.run b.left b.fault b.seats.items) c.loop-run.links c.loop-run.board in
@@ -170,7 +176,8 @@ returns-in-Err-clause-stops g c =
     let rooms : HaveRoom (room_for (b.run + b.left)) seats =
     subst R (sym c.as_mut_slice-seats.ensures.value) (subst N (sym inv.whole.bits) (inv.whole.rooms inv.far.right)) in
     let stops = stopped E B c.args.to_rest b.struck.script b.run b.left seats c.untaken_bits.new.seats c.loop-run.links
-    c.untaken_bits.new.links c.loop-run.board c.untaken_bits.new.board most c.untaken_bits.auto.seats c.untaken_bits.ensures.sames
+    c.untaken_bits.new.links c.loop-run.board c.untaken_bits.new.board most c.untaken_bits.auto.seats
+    c.untaken_bits.ensures.sames
     c.untaken_bits.ensures.others mid.bus (begins g at) c.in-Err.broken _ (enough_left g at) rooms refl refl refl refl
     (ap (λ (l : List Seat). journals_of l) (are_back g at)) c.in-Err.ensures.breaks in record {
       keeps = keeps_trans E B g.met.E.BusEnd.same_trans g.met.B.Board.kept_trans was mid _ inv.far.keeps stops.keeps;

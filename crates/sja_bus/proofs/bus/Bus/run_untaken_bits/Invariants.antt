@@ -13,7 +13,8 @@ invariant-loop-run g l = let b = l.self-inside in record {
   empty : b.logs.items ≡ [];
   facts : g.B.Board.facts l.board;
   far : IsSoFar g.E.BusEnd g.B.Board (AnyBit g.E.BusEnd g.B.Board) l.to_rest
-      (moment l.fn.self l.fn.links l.fn.board) l.run (moment (bus_with b.struck.script b.run b.left b.fault b.seats.items) l.links l.board);
+      (moment l.fn.self l.fn.links l.fn.board) l.run (moment
+      (bus_with b.struck.script b.run b.left b.fault b.seats.items) l.links l.board);
 }
 
 abbrev pub decreases-loop-run : goal.decreases-loop-run

@@ -8,33 +8,44 @@ use Rattle.sja_bus.specs.Inside.Following.{Reads}
 use Rattle.sja_bus.proofs.Steps.{follows_send, follows_drop}
 use Rattle.sja_bus.proofs.Reading.{reads_ask, reads_drop, here_in}
 use Rattle.sja_bus.specs.declared.seat.Seat.{Seat}
-use Rattle.sja_bus.proofs.Takings.{seat_entered, takes_entered, held_wrongly, taken_right, dropped_right, may_come, refused_full}
+use Rattle.sja_bus.proofs.Takings.{seat_entered, takes_entered, held_wrongly, taken_right, dropped_right, may_come}
+use Rattle.sja_bus.proofs.Takings.{refused_full}
 use Rattle.sja_bus.proofs.seat.Seat.ask.Goals as goal
 
 pub returns-in-Ok-clause-takes : goal.returns-in-Ok-clause-takes
 returns-in-Ok-clause-takes c =
-    let was = c.args.self.now in let j = was.journal.entries in let owed = c.requires.owed in let seat = c.requires.seat in
+    let was = c.args.self.now in let j = was.journal.entries in let owed = c.requires.owed in
+    let seat = c.requires.seat in
     let new = c.enter.new.self in let filter = c.in-Running.field-0 in
     let P : Activity → Type 0 = λ a. Reads was.node j was.ended a owed.free in
     let reads = subst P c.in-Running.is owed.reads in
-    let Q : Activity → Type 0 = λ a. Reads c.request.new.self (j ++ Item (Send c.args.request) ∷ []) was.ended a (free_in was.ledger) in
+    let Q : Activity → Type 0 = λ a. Reads c.request.new.self (j ++ Item (Send c.args.request) ∷ []) was.ended a
+    (free_in was.ledger) in
     let took = rw c.copy.ensures at c.in-Ok.ensures in
-    takes_entered c.enter.result was new (Send c.args.request) (taken_right was.node c.request.new.self j was.ended owed.free filter c.args.request owed.follows took reads) c.enter.ensures.sound
+    takes_entered c.enter.result was new (Send c.args.request)
+    (taken_right was.node c.request.new.self j was.ended owed.free filter c.args.request owed.follows took
+    reads) c.enter.ensures.sound
     (λ f. f (follows_send was.node c.request.new.self j c.args.request reads.active.0 took owed.follows)
-    (subst Q (sym c.in-Running.is) (reads_ask was.node c.request.new.self j c.args.request was.ended filter owed.free (free_in was.ledger) owed.pays reads)))
-    (seat_entered (record was { node = c.request.new.self }) new c.enter.ensures.others (record { own = seat.own; few = seat.few; runs = seat.runs }))
+    (subst Q (sym c.in-Running.is) (reads_ask was.node c.request.new.self j c.args.request was.ended filter owed.free
+    (free_in was.ledger) owed.pays reads)))
+    (seat_entered (record was { node = c.request.new.self }) new c.enter.ensures.others
+    (record { own = seat.own; few = seat.few; runs = seat.runs }))
     (here_in (Running filter) was.node j was.ended owed.free (Item (Send c.args.request)) (λ p. refl) refl reads)
     c.enter.ensures.ok
 
 pub returns-in-Off-clause-takes : goal.returns-in-Off-clause-takes
 returns-in-Off-clause-takes c =
-    let was = c.args.self.now in let j = was.journal.entries in let owed = c.requires.owed in let seat = c.requires.seat in
+    let was = c.args.self.now in let j = was.journal.entries in let owed = c.requires.owed in
+    let seat = c.requires.seat in
     let new = c.enter-in-Off.new.self in
     let P : Activity → Type 0 = λ a. Reads was.node j was.ended a owed.free in
     let reads = subst P c.in-Off.is owed.reads in
-    takes_entered c.enter-in-Off.result was new (Send c.args.request) (dropped_right was.node j was.ended owed.free reads) c.enter-in-Off.ensures.sound
-    (λ f. f (follows_drop was.node j c.args.request reads.active.0 owed.follows) (reads_drop was.node j c.args.request was.ended owed.free (free_in was.ledger) owed.pays reads))
-    (seat_entered (record was { activity = OffAndAsked }) new c.enter-in-Off.ensures.others (record { own = seat.own; few = seat.few; runs = λ o. c.requires.more }))
+    takes_entered c.enter-in-Off.result was new (Send c.args.request)
+    (dropped_right was.node j was.ended owed.free reads) c.enter-in-Off.ensures.sound
+    (λ f. f (follows_drop was.node j c.args.request reads.active.0 owed.follows)
+    (reads_drop was.node j c.args.request was.ended owed.free (free_in was.ledger) owed.pays reads))
+    (seat_entered (record was { activity = OffAndAsked }) new c.enter-in-Off.ensures.others
+    (record { own = seat.own; few = seat.few; runs = λ o. c.requires.more }))
     (here_in Off was.node j was.ended owed.free (Item (Send c.args.request)) (λ p. refl) refl reads)
     c.enter-in-Off.ensures.ok
 
@@ -42,8 +53,14 @@ pub returns-in-Err-clause-refused : goal.returns-in-Err-clause-refused
 returns-in-Err-clause-refused c =
     let was = c.args.self.now in let j = was.journal.entries in let owed = c.requires.owed in
     let P : Activity → Type 0 = λ a. Reads was.node j was.ended a owed.free in
-    let reads = subst P c.in-Running.is owed.reads in
-    (refl, (c.number.ensures, held_wrongly was.node c.request.new.self j was.ended owed.free c.in-Running.field-0 c.copy.result c.in-Err.field-0 owed.follows c.in-Err.ensures reads))
+    let reads = subst P c.in-Running.is owed.reads in (
+      refl,
+      (
+        c.number.ensures,
+        held_wrongly was.node c.request.new.self j was.ended owed.free c.in-Running.field-0
+            c.copy.result c.in-Err.field-0 owed.follows c.in-Err.ensures reads,
+      ),
+    )
 
 pub returns-in-Ok-clause-refused : goal.returns-in-Ok-clause-refused
 returns-in-Ok-clause-refused c =
@@ -51,7 +68,8 @@ returns-in-Ok-clause-refused c =
     let P : Activity → Type 0 = λ a. Reads was.node j was.ended a owed.free in
     let reads = subst P c.in-Running.is owed.reads in
     let took = rw c.copy.ensures at c.in-Ok.ensures in
-    let due = taken_right was.node c.request.new.self j was.ended owed.free c.in-Running.field-0 c.args.request owed.follows
+    let due = taken_right was.node c.request.new.self j was.ended owed.free c.in-Running.field-0
+    c.args.request owed.follows
     took reads in
     let mid : Seat = record was { node = c.request.new.self } in
     refused_full c.enter.result was mid c.enter.new.self (Send c.args.request) refl refl

@@ -12,16 +12,19 @@ use Rattle.sja_bus.proofs.seat.Seat.begin.Goals as goal
 
 pub returns-clause-takes : goal.returns-clause-takes
 returns-clause-takes c =
-    let was = c.args.self.now in let j = was.journal.entries in let owed = c.requires.owed in let seat = c.requires.seat in
+    let was = c.args.self.now in let j = was.journal.entries in let owed = c.requires.owed in
+    let seat = c.requires.seat in
     let P : Activity → Type 0 = λ a. Reads was.node j was.ended a owed.free in
     let reads = subst P c.in-Between.is owed.reads in
     let enters = rw c.copy.ensures at c.start.ensures in
     let new = c.enter.new.self in
     let begun = reads.begun in
-    takes_entered c.enter.result was new (Start c.args.config) (λ opened. let stopped = reads.stopped in omega (arith, begun, stopped, opened)) c.enter.ensures.sound
+    takes_entered c.enter.result was new (Start c.args.config)
+    (λ opened. let stopped = reads.stopped in omega (arith, begun, stopped, opened)) c.enter.ensures.sound
     (λ f. f (follows_start was.node c.start.new.self j c.args.config enters owed.follows)
     (reads_start was.node c.start.new.self j c.args.config was.ended owed.free (free_in was.ledger) owed.pays reads))
-    (seat_entered (record was { node = c.start.new.self; activity = Running c.args.config.filter }) new c.enter.ensures.others
+    (seat_entered (record was { node = c.start.new.self; activity = Running c.args.config.filter })
+    new c.enter.ensures.others
     (record { own = seat.own; few = seat.few; runs = λ o. c.requires.more }))
     (omega (arith, begun))
     c.enter.ensures.ok
@@ -33,5 +36,6 @@ returns-clause-refused c =
     let reads = subst P c.in-Between.is owed.reads in let begun = reads.begun in let stopped = reads.stopped in
     let mid : Seat = record was { node = c.start.new.self; activity = Running c.args.config.filter } in
     refused_full c.enter.result was mid c.enter.new.self (Start c.args.config) refl refl
-    (may_come was.journal.entries (Start c.args.config) (λ opened. omega (arith, begun, stopped, opened)) (λ bytes is. cc))
+    (may_come was.journal.entries (Start c.args.config)
+    (λ opened. omega (arith, begun, stopped, opened)) (λ bytes is. cc))
     c.enter.ensures.full

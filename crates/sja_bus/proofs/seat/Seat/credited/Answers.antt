@@ -14,12 +14,20 @@ pub returns-clause-takes : goal.returns-clause-takes
 returns-clause-takes c =
     let was = c.args.self.now in let j = was.journal.entries in let owed = c.requires.owed in
     let new = c.enter.new.self in
-    let runs = credit_open was.activity was.node j was.ended owed.free (free_in was.ledger) c.args.bytes was.ledger.fits c.requires.some.0 owed.pays owed.reads in
+    let runs = credit_open was.activity was.node j was.ended owed.free (free_in was.ledger) c.args.bytes was.ledger.fits
+    c.requires.some.0 owed.pays owed.reads in
     let p = part j (suc was.ended) in
-    let due : IsOrderly p (Item (Credit c.args.bytes)) = (reads_running was.activity was.node j was.ended owed.free runs owed.reads, c.requires.some.0, c.requires.some.1, paid_now p c.args.bytes (free_in was.ledger) was.ledger.fits (owed.pays p owed.reads.free_is)) in
+    let due : IsOrderly p (Item (Credit c.args.bytes)) = (
+      reads_running was.activity was.node j was.ended owed.free runs owed.reads,
+      c.requires.some.0,
+      c.requires.some.1,
+      paid_now p c.args.bytes (free_in was.ledger) was.ledger.fits
+          (owed.pays p owed.reads.free_is),
+    ) in
     takes_entered c.enter.result was new (Credit c.args.bytes) (λ never. never) c.enter.ensures.sound
     (λ f. f (follows_credit was.node j c.args.bytes owed.follows)
-    (reads_here was.node was.node j (Item (Credit c.args.bytes)) was.ended was.activity owed.free (free_in was.ledger) (λ p. refl) refl runs (λ r. r) owed.pays due owed.reads))
+    (reads_here was.node was.node j (Item (Credit c.args.bytes)) was.ended was.activity owed.free (free_in was.ledger)
+    (λ p. refl) refl runs (λ r. r) owed.pays due owed.reads))
     (seat_entered was new c.enter.ensures.others c.requires.seat)
     (here_in was.activity was.node j was.ended owed.free (Item (Credit c.args.bytes)) (λ p. refl) runs owed.reads)
     c.enter.ensures.ok

@@ -17,13 +17,17 @@ returns-clause-takes c =
     let was = c.args.self.now in let j = was.journal.entries in let owed = c.requires.owed in
     let new = c.enter.new.self in let ledger = c.new-self.result in
     let runs = open_else was.activity c.in_default.not-Between in
-    let s = reads_stop was.node c.stop.new.self j was.ended was.activity owed.free runs c.stop.ensures.reset owed.reads in
+    let s = reads_stop was.node c.stop.new.self j was.ended was.activity owed.free runs
+    c.stop.ensures.reset owed.reads in
     let e : suc was.ended ≡ was.ended + 1 = omega arith in
     let P : ℕ → Type 0 = λ n. Reads c.stop.new.self (j ++ Item Stop ∷ []) n Between 64 in
     let more = c.requires.more in
-    takes_entered c.enter.result was new Stop (λ between. let b = owed.reads.begun in let t = owed.reads.stopped in omega (arith, b, t, runs, between)) c.enter.ensures.sound
-    (λ f. f (follows_stop was.node c.stop.new.self j c.stop.ensures.enters owed.follows) (rw (c.new-self.ensures.free) (subst P e s)))
-    (seat_entered (record was { node = c.stop.new.self; activity = Between; ended = was.ended + 1; ledger = ledger }) new c.enter.ensures.others
+    takes_entered c.enter.result was new Stop (λ between. let b = owed.reads.begun in let t = owed.reads.stopped in
+    omega (arith, b, t, runs, between)) c.enter.ensures.sound
+    (λ f. f (follows_stop was.node c.stop.new.self j c.stop.ensures.enters owed.follows)
+    (rw (c.new-self.ensures.free) (subst P e s)))
+    (seat_entered (record was { node = c.stop.new.self; activity = Between; ended = was.ended + 1; ledger = ledger })
+    new c.enter.ensures.others
     (record {
       own = ap (λ (l : LinkId). l.activation) c.new-self.ensures.id ∙ omega arith;
       few = omega (arith, more);

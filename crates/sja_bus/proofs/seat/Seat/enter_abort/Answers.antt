@@ -12,7 +12,13 @@ returns-clause-ready c =
     let P : Seat → Type 0 = λ s. IsSeat s in
     let Q : Seat → Type 0 = λ s. DrivesNext s.node s.drives in
     let R : Seat → Type 0 = λ s. IsSeat (record s { journal = c.enter.new.self.journal }) in
-    let seat : IsSeat (record was { journal = c.enter.new.self.journal }) = record { own = c.requires.seat.own; few = c.requires.seat.few; runs = c.requires.seat.runs } in
+    let seat : IsSeat (record was { journal = c.enter.new.self.journal }) =
+    record { own = c.requires.seat.own; few = c.requires.seat.few; runs = c.requires.seat.runs } in
     ok_map c.enter.result
-    (λ f. record { sound = f c.requires.follows c.requires.reads; seat = subst P (sym o) seat; drives = subst Q (sym o) c.drive-self.ensures })
+    (λ f. record {
+      sound = f c.requires.follows c.requires.reads;
+      seat = subst P (sym o) seat;
+      drives =
+          subst Q (sym o) c.drive-self.ensures;
+    })
     c.enter.ensures.sound

@@ -10,7 +10,8 @@ abbrev pub invariant-loop-self : goal.invariant-loop-self
 invariant-loop-self g l = record {
   ready : IsReady l.self;
   stays : KeepsLinks g.E.BusEnd.same l.initial.self l.self l.initial.links l.links;
-  goes : Goes g.E.BusEnd.same g.E.BusEnd.stands l.initial.self.journal.entries l.self.journal.entries l.initial.links l.links l.base;
+  goes : Goes g.E.BusEnd.same g.E.BusEnd.stands l.initial.self.journal.entries l.self.journal.entries
+      l.initial.links l.links l.base;
   items : MayHaveItems l.initial.self.journal.entries l.self.journal.entries;
   untold : TakesUntold l.initial.self l.self;
 }

@@ -28,8 +28,10 @@ returns-in_ok-enter-in-Ok-2-clause-judged g c =
     record {
       verdict = v;
       overrun_is = c.is_overrun-overrun.ensures m;
-      whole = c.in_ok-enter-in-Ok-2.ensures.ok.0 ∙ ap (λ (l : List Entry). l ++ c.verdict_entry.result ∷ []) first ∙ ap (λ x. k ++ x ∷ []) c.verdict_entry.ensures;
-      due = due_now j c.args.driven c.args.seen (suc was.ended) v m (free_in was.ledger) at c.requires.reads.free_is (λ p f. (c.in-Ok.ensures.judged p f).0);
+      whole = c.in_ok-enter-in-Ok-2.ensures.ok.0 ∙ ap (λ (l : List Entry). l ++ c.verdict_entry.result ∷ []) first
+          ∙ ap (λ x. k ++ x ∷ []) c.verdict_entry.ensures;
+      due = due_now j c.args.driven c.args.seen (suc was.ended) v m (free_in was.ledger) at c.requires.reads.free_is
+          (λ p f. (c.in-Ok.ensures.judged p f).0);
     }
 
 pub returns-in_ok-enter-in-Ok-2-clause-reads : goal.returns-in_ok-enter-in-Ok-2-clause-reads
@@ -37,30 +39,46 @@ returns-in_ok-enter-in-Ok-2-clause-reads g c =
     let was = c.args.self.now in let j = was.journal.entries in let k = j ++ Bit c.args.driven c.args.seen ∷ [] in
     let v = c.in-Ok.verdict in let m = c.args.message in
     let first = c.in_ok-enter-in-Ok.ensures.ok.0 in
-    let one = reads_quiet was.node was.node j (Bit c.args.driven c.args.seen) was.ended was.activity (free_in was.ledger) (λ p. refl, refl, refl, refl) (λ r. r) c.requires.reads in
+    let one = reads_quiet was.node was.node j (Bit c.args.driven c.args.seen) was.ended was.activity
+    (free_in was.ledger) (λ p. refl, refl, refl, refl) (λ r. r) c.requires.reads in
     let at = runs_at was.activity was.node j was.ended (free_in was.ledger) c.requires.runs c.requires.reads in
-    let fair = due_now j c.args.driven c.args.seen (suc was.ended) v m (free_in was.ledger) at c.requires.reads.free_is (λ p f. (c.in-Ok.ensures.judged p f).0) in
-    let due = verdict_orderly (part k (suc was.ended)) v m (reads_running was.activity was.node k was.ended (free_in was.ledger) c.requires.runs one) (no_off_put (part k (suc was.ended)) (λ off. c.requires.on (off_less j (Bit c.args.driven c.args.seen) (suc was.ended) (λ p. refl) off))) fair.1 in
-    let two = reads_here was.node was.node k (entry_of v m) was.ended was.activity (free_in was.ledger) (free_in c.accept.new.ledger) (verdict_stays v m) (verdict_no_stop v m) c.requires.runs (λ r. r) (λ p f. (c.in-Ok.ensures.judged p f).1) due one in
+    let fair = due_now j c.args.driven c.args.seen (suc was.ended) v m (free_in was.ledger) at c.requires.reads.free_is
+    (λ p f. (c.in-Ok.ensures.judged p f).0) in
+    let due = verdict_orderly (part k (suc was.ended)) v m
+    (reads_running was.activity was.node k was.ended (free_in was.ledger) c.requires.runs one)
+    (no_off_put (part k (suc was.ended)) (λ off. c.requires.on
+    (off_less j (Bit c.args.driven c.args.seen) (suc was.ended) (λ p. refl) off))) fair.1 in
+    let two = reads_here was.node was.node k (entry_of v m) was.ended was.activity (free_in was.ledger)
+    (free_in c.accept.new.ledger) (verdict_stays v m) (verdict_no_stop v m) c.requires.runs (λ r. r)
+    (λ p f. (c.in-Ok.ensures.judged p f).1) due one in
     let o1 = c.in_ok-enter-in-Ok.ensures.others in let o2 = c.in_ok-enter-in-Ok-2.ensures.others in
-    reads_by c.enter-in-Ok.new.self was.node (k ++ entry_of v m ∷ []) was.ended was.activity (free_in c.accept.new.ledger)
+    reads_by c.enter-in-Ok.new.self was.node (k ++ entry_of v m ∷ []) was.ended was.activity
+    (free_in c.accept.new.ledger)
     (ap (λ (s : Seat). s.node) o2 ∙ ap (λ (s : Seat). s.node) o1)
-    (c.in_ok-enter-in-Ok-2.ensures.ok.0 ∙ ap (λ (l : List Entry). l ++ c.verdict_entry.result ∷ []) first ∙ ap (λ x. k ++ x ∷ []) c.verdict_entry.ensures)
+    (c.in_ok-enter-in-Ok-2.ensures.ok.0 ∙ ap (λ (l : List Entry). l ++ c.verdict_entry.result ∷ []) first
+    ∙ ap (λ x. k ++ x ∷ []) c.verdict_entry.ensures)
     (ap (λ (s : Seat). s.ended) o2 ∙ ap (λ (s : Seat). s.ended) o1)
     (ap (λ (s : Seat). s.activity) o2 ∙ ap (λ (s : Seat). s.activity) o1)
     (ap (λ (s : Seat). free_in s.ledger) o2 ∙ ap (λ (s : Seat). free_in s.ledger) o1) two
 
 pub returns-in_ok-enter-in-Ok-2-clause-moves : goal.returns-in_ok-enter-in-Ok-2-clause-moves
 returns-in_ok-enter-in-Ok-2-clause-moves g c =
-    let was = c.args.self.now in let j = was.journal.entries in let b = Bit c.args.driven c.args.seen in let k = j ++ b ∷ [] in
+    let was = c.args.self.now in let j = was.journal.entries in let b =
+    Bit c.args.driven c.args.seen in let k = j ++ b ∷ [] in
     let v = c.in-Ok.verdict in let m = c.args.message in
     let first = c.in_ok-enter-in-Ok.ensures.ok.0 in
     let at = runs_at was.activity was.node j was.ended (free_in was.ledger) c.requires.runs c.requires.reads in
     let then = place_same j b (suc was.ended) (λ p. refl) at in
-    let one = moves_quiet g.E.BusEnd.stands c.args.end.now j b (suc was.ended) (stands_at j b (suc was.ended) (λ p. refl) at) (λ l. refl) in
-    let two = moves_push g.E.BusEnd.stands c.args.end.now c.accept.new.end k (entry_of v m) (suc was.ended) (stands_at k (entry_of v m) (suc was.ended) (stays_of (entry_of v m) (verdict_stays v m)) then) c.in-Ok.ensures.puts in
-    let whole : c.enter-in-Ok.new.self.journal.entries ≡ k ++ entry_of v m ∷ [] = c.in_ok-enter-in-Ok-2.ensures.ok.0 ∙ ap (λ (l : List Entry). l ++ c.verdict_entry.result ∷ []) first ∙ ap (λ x. k ++ x ∷ []) c.verdict_entry.ensures in
-    rw whole (moves_trans g.E.BusEnd.stands c.args.end.now c.args.end.now c.accept.new.end j k (k ++ entry_of v m ∷ []) (suc was.ended) one two)
+    let one = moves_quiet g.E.BusEnd.stands c.args.end.now j b (suc was.ended)
+    (stands_at j b (suc was.ended) (λ p. refl) at) (λ l. refl) in
+    let two = moves_push g.E.BusEnd.stands c.args.end.now c.accept.new.end k (entry_of v m) (suc was.ended)
+    (stands_at k (entry_of v m) (suc was.ended) (stays_of (entry_of v m) (verdict_stays v m)) then)
+    c.in-Ok.ensures.puts in
+    let whole : c.enter-in-Ok.new.self.journal.entries ≡ k ++ entry_of v m ∷ [] = c.in_ok-enter-in-Ok-2.ensures.ok.0
+    ∙ ap (λ (l : List Entry). l ++ c.verdict_entry.result ∷ []) first
+    ∙ ap (λ x. k ++ x ∷ []) c.verdict_entry.ensures in
+    rw whole (moves_trans g.E.BusEnd.stands c.args.end.now c.args.end.now c.accept.new.end j k (k ++ entry_of v m ∷ [])
+    (suc was.ended) one two)
 
 pub returns-in_err-enter-in-Ok-clause-broken : goal.returns-in_err-enter-in-Ok-clause-broken
 returns-in_err-enter-in-Ok-clause-broken g c =
@@ -80,7 +98,8 @@ returns-in_err-enter-in-Ok-clause-broken g c =
 
 pub returns-in_err-enter-in-Ok-2-clause-broken : goal.returns-in_err-enter-in-Ok-2-clause-broken
 returns-in_err-enter-in-Ok-2-clause-broken g c =
-    let E = g.E.BusEnd in let was = c.args.self.now in let j = was.journal.entries in let new = c.enter-in-Ok.new.self in
+    let E = g.E.BusEnd in let was = c.args.self.now in let j = was.journal.entries in let new =
+    c.enter-in-Ok.new.self in
     let x = c.args.driven in let seen = c.args.seen in let v = c.in-Ok.verdict in let m = c.args.message in
     let room = was.journal.room in let a = suc was.ended in
     let at = runs_at was.activity was.node j was.ended (free_in was.ledger) c.requires.runs c.requires.reads in

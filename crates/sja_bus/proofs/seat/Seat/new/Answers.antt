@@ -10,10 +10,24 @@ use Rattle.sja_bus.proofs.seat.Seat.new.Goals as goal
 pub returns-clause-ready : goal.returns-clause-ready
 returns-clause-ready c =
     let node = c.new-node.result in
-    let s : Seat = record { node = node; drives = c.drive-drives.result; ledger = c.new-ledger.result; journal = c.in_ok-journal.journal; ended = 0; activity = Between; untold = Nothing } in
+    let s : Seat = record {
+      node = node;
+      drives = c.drive-drives.result;
+      ledger = c.new-ledger.result;
+      journal =
+          c.in_ok-journal.journal;
+      ended = 0;
+      activity = Between;
+      untold = Nothing;
+    } in
     record {
       sound = sound_by s node [] 0 Between 64 refl c.in_ok-journal.ensures.empty refl refl c.new-ledger.ensures.free
           (follows_new node c.new-node.ensures.stands) (reads_new node c.new-node.ensures.reset);
-      seat = record { own = ap (λ i. i.activation) c.new-ledger.ensures.id; few = omega arith; runs = λ e. omega (arith, e) };
+      seat = record {
+        own = ap (λ i. i.activation) c.new-ledger.ensures.id;
+        few = omega arith;
+        runs =
+            λ e. omega (arith, e);
+      };
       drives = c.drive-drives.ensures;
     }

@@ -9,9 +9,11 @@ use Rattle.sja_bus.proofs.seat.Seat.open_bit.Goals as goal
 pub returns-then-ordered-clause-goes : goal.returns-then-ordered-clause-goes
 returns-then-ordered-clause-goes g c =
     let E = g.E.BusEnd in let met = g.met.E.BusEnd in
-    let j = c.args.self.now.journal.entries in let k = c.gather.new.self.journal.entries in let l = c.abort.new.self.journal.entries in
+    let j = c.args.self.now.journal.entries in let k = c.gather.new.self.journal.entries in let l =
+    c.abort.new.self.journal.entries in
     ok_map c.abort.result
-    (λ a. goes_trans E.same E.stands met.same_trans j k l c.args.links.now c.gather.new.links c.gather.new.links c.args.base c.in_ok-gather.ensures.goes
+    (λ a. goes_trans E.same E.stands met.same_trans j k l c.args.links.now c.gather.new.links c.gather.new.links
+    c.args.base c.in_ok-gather.ensures.goes
     (goes_aborted E.same E.stands met.same_refl k l c.gather.new.links c.args.base a.aborts))
     c.abort.ensures.aborts
 
@@ -20,7 +22,17 @@ returns-then-ordered-clause-opens g c =
     let P : ℕ → Type 0 = λ n. g.B.Board.orders_are c.args.board.now n c.orders-ordered.result in
     let are = subst P (c.number.ensures ∙ c.gather.ensures.stays.node) c.orders-ordered.ensures in
     let yes : c.orders-ordered.result.abort ≡ true = search rules in
-    ok_map c.abort.result (λ a. record { taken = c.gather.new.self.journal.entries; items = c.in_ok-gather.ensures.items; aborts = a.aborts; orders = c.orders-ordered.result; are_orders = are; unasked = λ no. let e : true ≡ false = sym yes ∙ no in absurd cc; applied = λ ordered. a.is }) c.abort.ensures.aborts
+    ok_map c.abort.result (λ a. record {
+      taken = c.gather.new.self.journal.entries;
+      items =
+          c.in_ok-gather.ensures.items;
+      aborts = a.aborts;
+      orders = c.orders-ordered.result;
+      are_orders = are;
+      unasked =
+          λ no. let e : true ≡ false = sym yes ∙ no in absurd cc;
+      applied = λ ordered. a.is;
+    }) c.abort.ensures.aborts
 
 pub returns-else-ordered-clause-opens : goal.returns-else-ordered-clause-opens
 returns-else-ordered-clause-opens g c =
@@ -28,15 +40,26 @@ returns-else-ordered-clause-opens g c =
     let P : ℕ → Type 0 = λ n. g.B.Board.orders_are c.args.board.now n c.orders-ordered.result in
     let are = subst P (c.number.ensures ∙ c.gather.ensures.stays.node) c.orders-ordered.ensures in
     let no : c.orders-ordered.result.abort ≡ false = search rules in
-    record { taken = k; items = c.in_ok-gather.ensures.items; aborts = record { changed = false; whole = sym (append-nil k) }; orders = c.orders-ordered.result; are_orders = are; unasked = λ no. refl; applied = λ ordered. let e : true ≡ false = sym ordered ∙ no in absurd cc }
+    record {
+      taken = k;
+      items = c.in_ok-gather.ensures.items;
+      aborts =
+          record { changed = false; whole = sym (append-nil k) };
+      orders = c.orders-ordered.result;
+      are_orders = are;
+      unasked = λ no. refl;
+      applied = λ ordered. let e : true ≡ false = sym ordered ∙ no in absurd cc;
+    }
 
 pub returns-then-ordered-clause-untold : goal.returns-then-ordered-clause-untold
 returns-then-ordered-clause-untold g c =
-    ok_map c.abort.result (λ a. takes_then c.args.self.now c.gather.new.self c.abort.new.self c.in_ok-gather.ensures.untold c.in_ok-gather.ensures.items a) c.abort.ensures.untold
+    ok_map c.abort.result (λ a. takes_then c.args.self.now c.gather.new.self c.abort.new.self
+    c.in_ok-gather.ensures.untold c.in_ok-gather.ensures.items a) c.abort.ensures.untold
 
 pub returns-else-ordered-clause-untold : goal.returns-else-ordered-clause-untold
 returns-else-ordered-clause-untold g c =
-    takes_then c.args.self.now c.gather.new.self c.gather.new.self c.in_ok-gather.ensures.untold c.in_ok-gather.ensures.items (aborts_none c.gather.new.self c.gather.new.self refl refl)
+    takes_then c.args.self.now c.gather.new.self c.gather.new.self c.in_ok-gather.ensures.untold
+    c.in_ok-gather.ensures.items (aborts_none c.gather.new.self c.gather.new.self refl refl)
 
 pub returns-then-ordered-clause-stops : goal.returns-then-ordered-clause-stops
 returns-then-ordered-clause-stops g c =
@@ -45,7 +68,8 @@ returns-then-ordered-clause-stops g c =
     let are = subst O (c.number.ensures ∙ c.gather.ensures.stays.node) c.orders-ordered.ensures in
     let yes : c.orders-ordered.result.abort ≡ true = search rules in
     err_both c.abort.result
-    (λ due f full. inr (full_for_abort E.same E.stands c.args.self.now mid c.abort.new.self c.args.links.now c.gather.new.links c.args.base f c.gather.ensures.stays.node c.gather.ensures.stays.room
+    (λ due f full. inr (full_for_abort E.same E.stands c.args.self.now mid c.abort.new.self c.args.links.now
+    c.gather.new.links c.args.base f c.gather.ensures.stays.node c.gather.ensures.stays.room
     c.in_ok-gather.ensures.items c.in_ok-gather.ensures.goes
     (g.B.Board.orders_are c.args.board.now (link_of c.args.self.now.ledger).node) c.orders-ordered.result are
     yes due full))

@@ -22,19 +22,27 @@ use Rattle.sja_bus.proofs.seat.Seat.sample_and_judge.Goals as goal
 
 pub returns-in_ok-enter_bit-in-None-clause-mid : goal.returns-in_ok-enter_bit-in-None-clause-mid
 returns-in_ok-enter_bit-in-None-clause-mid g c =
-    let was = c.args.self.now in let j = was.journal.entries in let x = c.args.self.now.drives in let seen = c.args.seen in
+    let was = c.args.self.now in let j = was.journal.entries in let x = c.args.self.now.drives in
+    let seen = c.args.seen in
     let new = c.sample_fully-events.new.self in
     let P : Activity → Type 0 = λ a. Reads was.node j was.ended a (free_in was.ledger) in
     let Q : Activity → Type 0 = λ a. Reads new (j ++ Bit x seen ∷ []) was.ended a (free_in was.ledger) in
     let reads = subst P c.requires.runs.1 c.requires.ready.sound.reads in
     let at = runs_at (Running c.requires.runs.0) was.node j was.ended (free_in was.ledger) refl reads in
     let o = c.enter_bit.ensures.others in
-    let follows = received_quiet was.node new j x seen c.sample_fully-events.result c.requires.runs.0 (suc was.ended) c.requires.ready.drives c.sample_fully-events.ensures.samples at reads.active.1 (c.in-None.ensures c.requires.runs.0 c.requires.runs.1) c.requires.ready.sound.follows in
-    let swapped = reads_quiet new new j (Bit x seen) was.ended (Running c.requires.runs.0) (free_in was.ledger) (λ p. refl, refl, refl, refl) (λ r. r) (reads_swap was.node new j was.ended c.requires.runs.0 (free_in was.ledger) reads) in
+    let follows = received_quiet was.node new j x seen c.sample_fully-events.result c.requires.runs.0 (suc was.ended)
+    c.requires.ready.drives c.sample_fully-events.ensures.samples at reads.active.1
+    (c.in-None.ensures c.requires.runs.0 c.requires.runs.1) c.requires.ready.sound.follows in
+    let swapped = reads_quiet new new j (Bit x seen) was.ended (Running c.requires.runs.0) (free_in was.ledger)
+    (λ p. refl, refl, refl, refl) (λ r. r) (reads_swap was.node new j was.ended c.requires.runs.0
+    (free_in was.ledger) reads) in
     record {
-      follows = follows_by c.enter_bit.new.self new (j ++ Bit x seen ∷ []) c.sample_fully-events.result.went_off (ap (λ (s : Seat). s.node) o) c.in_ok-enter_bit-in-None.ensures.ok.0 follows;
-      reads = reads_by c.enter_bit.new.self new (j ++ Bit x seen ∷ []) was.ended was.activity (free_in was.ledger) (ap (λ (s : Seat). s.node) o) c.in_ok-enter_bit-in-None.ensures.ok.0
-          (ap (λ (s : Seat). s.ended) o) (ap (λ (s : Seat). s.activity) o) (ap (λ (s : Seat). free_in s.ledger) o) (subst Q (sym c.requires.runs.1) swapped);
+      follows = follows_by c.enter_bit.new.self new (j ++ Bit x seen ∷ []) c.sample_fully-events.result.went_off
+          (ap (λ (s : Seat). s.node) o) c.in_ok-enter_bit-in-None.ensures.ok.0 follows;
+      reads = reads_by c.enter_bit.new.self new (j ++ Bit x seen ∷ []) was.ended was.activity (free_in was.ledger)
+          (ap (λ (s : Seat). s.node) o) c.in_ok-enter_bit-in-None.ensures.ok.0
+          (ap (λ (s : Seat). s.ended) o) (ap (λ (s : Seat). s.activity) o) (ap (λ (s : Seat). free_in s.ledger) o)
+          (subst Q (sym c.requires.runs.1) swapped);
     }
 
 pub returns-in_ok-enter_bit-in-None-clause-samples : goal.returns-in_ok-enter_bit-in-None-clause-samples
@@ -46,28 +54,37 @@ returns-in_ok-enter_bit-in-None-clause-samples g c =
 pub returns-in_ok-enter_bit-in-None-clause-off : goal.returns-in_ok-enter_bit-in-None-clause-off
 returns-in_ok-enter_bit-in-None-clause-off g c = λ went.
     let P : Node → Type 0 = λ n. InReset n in
-    subst P (sym (ap (λ (s : Seat). s.node) c.enter_bit.ensures.others)) (c.sample_fully-events.ensures.off (search rules))
+    subst P (sym (ap (λ (s : Seat). s.node) c.enter_bit.ensures.others))
+    (c.sample_fully-events.ensures.off (search rules))
 
 pub returns-in_ok-enter_bit-in-None-clause-moves : goal.returns-in_ok-enter_bit-in-None-clause-moves
 returns-in_ok-enter_bit-in-None-clause-moves g c =
     let was = c.args.self.now in let j = was.journal.entries in let b = Bit c.args.self.now.drives c.args.seen in
-    let at = runs_at was.activity was.node j was.ended (free_in was.ledger) (ap open_in c.requires.runs.1) c.requires.ready.sound.reads in
-    rw c.in_ok-enter_bit-in-None.ensures.ok.0 (moves_quiet g.E.BusEnd.stands c.args.end.now j b (suc was.ended) (stands_at j b (suc was.ended) (λ p. refl) at) (λ l. refl))
+    let at = runs_at was.activity was.node j was.ended (free_in was.ledger) (ap open_in c.requires.runs.1)
+    c.requires.ready.sound.reads in
+    rw c.in_ok-enter_bit-in-None.ensures.ok.0 (moves_quiet g.E.BusEnd.stands c.args.end.now j b (suc was.ended)
+    (stands_at j b (suc was.ended) (λ p. refl) at) (λ l. refl))
 
 pub returns-in_ok-enter_bit-in-None-clause-verdict : goal.returns-in_ok-enter_bit-in-None-clause-verdict
-returns-in_ok-enter_bit-in-None-clause-verdict g c = has_alone c.args.self.now.journal.entries c.enter_bit.new.self.journal.entries c.args.self.now.drives c.args.seen c.in_ok-enter_bit-in-None.ensures.ok.0
+returns-in_ok-enter_bit-in-None-clause-verdict g c = has_alone c.args.self.now.journal.entries
+    c.enter_bit.new.self.journal.entries c.args.self.now.drives c.args.seen c.in_ok-enter_bit-in-None.ensures.ok.0
 
 pub returns-in_ok-overrun-in-Some-clause-mid : goal.returns-in_ok-overrun-in-Some-clause-mid
 returns-in_ok-overrun-in-Some-clause-mid g c =
-    let was = c.args.self.now in let j = was.journal.entries in let x = c.args.self.now.drives in let seen = c.args.seen in
+    let was = c.args.self.now in let j = was.journal.entries in let x = c.args.self.now.drives in
+    let seen = c.args.seen in
     let new = c.sample_fully-events.new.self in
     let P : Activity → Type 0 = λ a. Reads was.node j was.ended a (free_in was.ledger) in
     let reads = subst P c.requires.runs.1 c.requires.ready.sound.reads in
     let at = runs_at (Running c.requires.runs.0) was.node j was.ended (free_in was.ledger) refl reads in
-    let follows = received_judged was.node new j c.judge.new.self.journal.entries x seen c.sample_fully-events.result c.requires.runs.0 (suc was.ended) c.in-Some.message c.in_ok-overrun-in-Some.overrun c.requires.ready.drives c.sample_fully-events.ensures.samples at reads.active.1
-    (c.in-Some.ensures c.requires.runs.0 c.requires.runs.1) c.in_ok-overrun-in-Some.ensures.judged c.requires.ready.sound.follows in
+    let follows = received_judged was.node new j c.judge.new.self.journal.entries x seen c.sample_fully-events.result
+    c.requires.runs.0 (suc was.ended) c.in-Some.message c.in_ok-overrun-in-Some.overrun c.requires.ready.drives
+    c.sample_fully-events.ensures.samples at reads.active.1
+    (c.in-Some.ensures c.requires.runs.0 c.requires.runs.1) c.in_ok-overrun-in-Some.ensures.judged
+    c.requires.ready.sound.follows in
     record {
-      follows = follows_by c.judge.new.self new c.judge.new.self.journal.entries c.sample_fully-events.result.went_off c.judge.ensures.kept.0 refl follows;
+      follows = follows_by c.judge.new.self new c.judge.new.self.journal.entries c.sample_fully-events.result.went_off
+          c.judge.ensures.kept.0 refl follows;
       reads = c.in_ok-overrun-in-Some.ensures.reads;
     }
 
@@ -84,7 +101,9 @@ returns-in_ok-overrun-in-Some-clause-off g c = λ went.
 
 pub returns-in_ok-overrun-in-Some-clause-verdict : goal.returns-in_ok-overrun-in-Some-clause-verdict
 returns-in_ok-overrun-in-Some-clause-verdict g c =
-    has_judged c.args.self.now.journal.entries c.judge.new.self.journal.entries c.args.self.now.drives c.args.seen (suc c.args.self.now.ended) c.in-Some.message c.in_ok-overrun-in-Some.overrun c.in_ok-overrun-in-Some.ensures.judged
+    has_judged c.args.self.now.journal.entries c.judge.new.self.journal.entries c.args.self.now.drives c.args.seen
+    (suc c.args.self.now.ended) c.in-Some.message c.in_ok-overrun-in-Some.overrun
+    c.in_ok-overrun-in-Some.ensures.judged
 
 pub returns-in_err-enter_bit-in-None-clause-broken : goal.returns-in_err-enter_bit-in-None-clause-broken
 returns-in_err-enter_bit-in-None-clause-broken g c =
@@ -95,7 +114,8 @@ returns-in_err-enter_bit-in-None-clause-broken g c =
     let reads = subst P c.requires.runs.1 ready.sound.reads in
     let at = runs_at (Running filter) was.node j was.ended (free_in was.ledger) refl reads in
     let follows = received_quiet was.node new j was.drives seen events filter (suc was.ended) ready.drives
-    c.sample_fully-events.ensures.samples at reads.active.1 (c.in-None.ensures filter c.requires.runs.1) ready.sound.follows in
+    c.sample_fully-events.ensures.samples at reads.active.1
+    (c.in-None.ensures filter c.requires.runs.1) ready.sound.follows in
     let f = c.in_err-enter_bit-in-None.field-0.0 in let full = c.in_err-enter_bit-in-None.ensures.full in
     let is : c.from_residual.result ≡ Err f = search rules in
     let Q : _ → Type 0 = λ x. BreaksHere E.stands E.full c.args.end.now was c.enter_bit.new.self x in
@@ -122,7 +142,8 @@ returns-in_err-overrun-in-Some-clause-broken g c =
     (breaks_by E.stands E.full c.args.end.now was c.judge.new.self f
     (λ (short : IsJudgedShort was.journal.room j was.drives seen a message now).
     judged_short new was.journal.room j now was.drives seen a message events.went_off short
-    (received_judged was.node new j (now ++ short.due ∷ short.later) was.drives seen events filter a message short.overrun
+    (received_judged was.node new j (now ++ short.due ∷ short.later) was.drives seen events filter
+    a message short.overrun
     ready.drives c.sample_fully-events.ensures.samples at reads.active.1
     (c.in-Some.ensures filter c.requires.runs.1) short.judged ready.sound.follows))
     c.in_err-overrun-in-Some.ensures.broken)

@@ -20,24 +20,30 @@ returns-in_default-clause-stays g c = record {
 pub returns-in_default-clause-goes : goal.returns-in_default-clause-goes
 returns-in_default-clause-goes g c =
     ok_map c.sample_in_reset.result
-    (λ e. rw e (goes_quiet g.E.BusEnd.same g.E.BusEnd.stands g.met.E.BusEnd.same_refl c.args.self.now.journal.entries (Bit c.args.self.now.drives c.args.seen) c.args.links.now c.args.base (λ l. refl)))
+    (λ e. rw e (goes_quiet g.E.BusEnd.same g.E.BusEnd.stands g.met.E.BusEnd.same_refl c.args.self.now.journal.entries
+    (Bit c.args.self.now.drives c.args.seen) c.args.links.now c.args.base (λ l. refl)))
     c.sample_in_reset.ensures.entered
 
 pub returns-in_default-clause-brings : goal.returns-in_default-clause-brings
 returns-in_default-clause-brings g c =
-    rest_brings c.sample_in_reset.result c.args.self.now.journal.entries c.sample_in_reset.new.self.journal.entries c.args.self.now.drives c.args.seen c.sample_in_reset.ensures.entered c.sample_in_reset.ensures.quiet
+    rest_brings c.sample_in_reset.result c.args.self.now.journal.entries c.sample_in_reset.new.self.journal.entries
+    c.args.self.now.drives c.args.seen c.sample_in_reset.ensures.entered c.sample_in_reset.ensures.quiet
 
 pub returns-clause-stays : goal.returns-clause-stays
 returns-clause-stays g c =
     let few = c.requires.at.ready.seat.runs (ap open_in c.in-Running.is) in
-    stays_one g.E.BusEnd.same g.met.E.BusEnd.same_refl c.args.self.now c.sample_running.new.self c.args.links.now (c.args.base + c.args.self.now.ended) c.index-links-here.result c.sample_running.new.end (omega (arith, few, c.requires.at.room))
+    stays_one g.E.BusEnd.same g.met.E.BusEnd.same_refl c.args.self.now c.sample_running.new.self c.args.links.now
+    (c.args.base + c.args.self.now.ended) c.index-links-here.result c.sample_running.new.end
+    (omega (arith, few, c.requires.at.room))
     c.sample_running.ensures.same (ap (λ l. l.node) c.sample_running.ensures.id) c.sample_running.ensures.room
 
 pub returns-clause-goes : goal.returns-clause-goes
 returns-clause-goes g c =
     let few = c.requires.at.ready.seat.runs (ap open_in c.in-Running.is) in
     ok_map c.sample_running.result
-    (λ m. goes_one g.E.BusEnd.same g.E.BusEnd.stands g.met.E.BusEnd.same_refl c.args.self.now.journal.entries c.sample_running.new.self.journal.entries c.args.links.now c.args.base c.args.self.now.ended c.index-links-here.result c.sample_running.new.end
+    (λ m. goes_one g.E.BusEnd.same g.E.BusEnd.stands g.met.E.BusEnd.same_refl c.args.self.now.journal.entries
+    c.sample_running.new.self.journal.entries c.args.links.now c.args.base c.args.self.now.ended
+    c.index-links-here.result c.sample_running.new.end
     few c.requires.at.room c.sample_running.ensures.same m)
     c.sample_running.ensures.moves
 
@@ -45,7 +51,8 @@ pub returns-clause-broken : goal.returns-clause-broken
 returns-clause-broken g c =
     let E = g.E.BusEnd in let few = c.requires.at.ready.seat.runs (ap open_in c.in-Running.is) in
     err_map c.sample_running.result
-    (λ f b. broken_link E.stands E.full c.args.self.now c.sample_running.new.self c.args.links.now c.args.base c.index-links-here.result f few b)
+    (λ f b. broken_link E.stands E.full c.args.self.now c.sample_running.new.self c.args.links.now c.args.base
+    c.index-links-here.result f few b)
     c.sample_running.ensures.broken
 
 pub returns-in_default-clause-broken : goal.returns-in_default-clause-broken

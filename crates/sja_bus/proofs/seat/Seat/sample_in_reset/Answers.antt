@@ -16,13 +16,16 @@ use Rattle.sja_bus.proofs.seat.Seat.sample_in_reset.Goals as goal
 
 pub returns-clause-sound : goal.returns-clause-sound
 returns-clause-sound c =
-    let was = c.args.self.now in let j = was.journal.entries in let x = c.args.self.now.drives in let seen = c.args.seen in
+    let was = c.args.self.now in let j = was.journal.entries in let x = c.args.self.now.drives in
+    let seen = c.args.seen in
     let new = c.sample-events.new.self in let follows = c.requires.ready.sound.follows in
     let rest = c.sample-events.ensures.rests c.requires.rests (record_of j) follows.found follows.stands in
-    let bit = follows_bit was.node new j x seen c.sample-events.result c.requires.ready.drives c.sample-events.ensures.samples rest.nothing follows in
+    let bit = follows_bit was.node new j x seen c.sample-events.result c.requires.ready.drives
+    c.sample-events.ensures.samples rest.nothing follows in
     let P : Bool → Type 0 = λ w. FollowsBit new (j ++ Bit x seen ∷ []) w in
     c.in_ok-enter.ensures.sound (follows_on new (j ++ Bit x seen ∷ []) (subst P rest.stays bit))
-    (reads_quiet was.node new j (Bit x seen) was.ended was.activity (free_in was.ledger) (λ p. refl, refl, refl, refl) (λ r. rest.reset) c.requires.ready.sound.reads)
+    (reads_quiet was.node new j (Bit x seen) was.ended was.activity (free_in was.ledger) (λ p. refl, refl, refl, refl)
+    (λ r. rest.reset) c.requires.ready.sound.reads)
 
 pub returns-clause-samples : goal.returns-clause-samples
 returns-clause-samples c =
@@ -31,8 +34,11 @@ returns-clause-samples c =
 
 pub returns-clause-quiet : goal.returns-clause-quiet
 returns-clause-quiet c =
-    let follows = c.requires.ready.sound.follows in
-    ((c.sample-events.ensures.rests c.requires.rests (record_of c.args.self.now.journal.entries) follows.found follows.stands).stays, refl)
+    let follows = c.requires.ready.sound.follows in (
+      (c.sample-events.ensures.rests c.requires.rests (record_of c.args.self.now.journal.entries) follows.found
+          follows.stands).stays,
+      refl,
+    )
 
 pub returns-in_err-enter-clause-short : goal.returns-in_err-enter-clause-short
 returns-in_err-enter-clause-short c =

@@ -23,16 +23,20 @@ returns-then-not-outcome-clause-sound g c =
 pub returns-then-not-outcome-clause-brings : goal.returns-then-not-outcome-clause-brings
 returns-then-not-outcome-clause-brings g c =
     let off : c.in_ok-outcome.outcome.events.went_off ≡ false = search rules in
-    has_on c.args.self.now.journal.entries c.sample_and_judge.new.self.journal.entries c.args.self.now.drives c.args.seen c.in_ok-outcome.outcome off c.in_ok-outcome.ensures.verdict
+    has_on c.args.self.now.journal.entries c.sample_and_judge.new.self.journal.entries c.args.self.now.drives
+    c.args.seen c.in_ok-outcome.outcome off c.in_ok-outcome.ensures.verdict
 
 pub returns-clause-brings : goal.returns-clause-brings
 returns-clause-brings g c =
     let off : c.in_ok-outcome.outcome.events.went_off ≡ true = search rules in
-    has_off c.args.self.now.journal.entries c.sample_and_judge.new.self.journal.entries c.go_off.new.self.journal.entries c.args.self.now.drives c.args.seen c.in_ok-outcome.outcome off c.in_ok-go_off.ensures.entered c.in_ok-outcome.ensures.verdict
+    has_off c.args.self.now.journal.entries c.sample_and_judge.new.self.journal.entries
+    c.go_off.new.self.journal.entries c.args.self.now.drives c.args.seen c.in_ok-outcome.outcome off
+    c.in_ok-go_off.ensures.entered c.in_ok-outcome.ensures.verdict
 
 pub returns-in_err-go_off-clause-broken : goal.returns-in_err-go_off-clause-broken
 returns-in_err-go_off-clause-broken g c =
-    let E = g.E.BusEnd in let was = c.args.self.now in let mid = c.sample_and_judge.new.self in let new = c.go_off.new.self in let f = c.in_err-go_off.field-0.0 in
+    let E = g.E.BusEnd in let was = c.args.self.now in let mid = c.sample_and_judge.new.self in let new =
+    c.go_off.new.self in let f = c.in_err-go_off.field-0.0 in
     let outcome = c.in_ok-outcome.ensures in let kept = outcome.kept in
     let is : c.from_residual-in_err-go_off.result ≡ Err f = search rules in
     let P : _ → Type 0 = λ x. BreaksHere E.stands E.full c.args.end.now was new x in
@@ -40,7 +44,8 @@ returns-in_err-go_off-clause-broken g c =
     let W : Bool → Type 0 = λ w. FollowsBit mid.node mid.journal.entries w in
     let off : c.in_ok-outcome.outcome.events.went_off ≡ true = search rules in
     err_is P c.from_residual-in_err-go_off.result f is
-    (breaks_after E.stands E.full c.args.end.now c.sample_and_judge.new.end was mid new f (ap (λ l. l.node) kept.2) kept.0
+    (breaks_after E.stands E.full c.args.end.now c.sample_and_judge.new.end was mid new f
+    (ap (λ l. l.node) kept.2) kept.0
     (λ used. off_short mid.node was.journal.room was.journal.entries mid.journal.entries new.journal.entries was.drives
     c.args.seen outcome.verdict.verdict c.in_err-go_off.ensures.unentered (subst R outcome.room used)
     (subst W off outcome.mid.follows))
@@ -57,4 +62,5 @@ returns-clause-moves g c =
     let mid = c.sample_and_judge.new.self.journal.entries in let new = c.go_off.new.self.journal.entries in
     let outcome = c.in_ok-outcome.ensures in
     let M : ℕ → Type 0 = λ n. Moves stands c.sample_and_judge.new.end c.go_off.new.end mid new (suc n) in
-    moves_trans stands c.args.end.now c.sample_and_judge.new.end c.go_off.new.end j mid new (suc c.args.self.now.ended) outcome.moves (subst M outcome.kept.0 c.in_ok-go_off.ensures.moves)
+    moves_trans stands c.args.end.now c.sample_and_judge.new.end c.go_off.new.end j mid new (suc c.args.self.now.ended)
+    outcome.moves (subst M outcome.kept.0 c.in_ok-go_off.ensures.moves)

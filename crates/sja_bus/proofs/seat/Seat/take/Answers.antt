@@ -12,18 +12,31 @@ pub returns-in_ok-note-in-Ok-Some-clause-moves : goal.returns-in_ok-note-in-Ok-S
 returns-in_ok-note-in-Ok-Some-clause-moves g c =
     let was = c.args.self.now in let told = c.in_ok-note-in-Ok-Some.ensures in
     let took = rw c.in-Ok-Some.field-0-is at c.in-Ok-Some.ensures.item in
-    rw told.takes.entered (moves_push g.E.BusEnd.stands c.args.end.now c.collect.new.end was.journal.entries (Item c.in-Ok-Some.item) (suc was.ended) told.takes.stands took)
+    rw told.takes.entered (moves_push g.E.BusEnd.stands c.args.end.now c.collect.new.end was.journal.entries
+    (Item c.in-Ok-Some.item) (suc was.ended) told.takes.stands took)
 
 pub returns-in_ok-note-in-Ok-Some-clause-some : goal.returns-in_ok-note-in-Ok-Some-clause-some
-returns-in_ok-note-in-Ok-Some-clause-some g c = λ e. (c.in-Ok-Some.item, c.in_ok-note-in-Ok-Some.ensures.takes.entered, c.in_ok-note-in-Ok-Some.ensures.takes.fits, c.in_ok-note-in-Ok-Some.ensures.takes.stands, c.in_ok-note-in-Ok-Some.ensures.takes.due)
+returns-in_ok-note-in-Ok-Some-clause-some g c = λ e. (
+  c.in-Ok-Some.item,
+  c.in_ok-note-in-Ok-Some.ensures.takes.entered,
+  c.in_ok-note-in-Ok-Some.ensures.takes.fits,
+  c.in_ok-note-in-Ok-Some.ensures.takes.stands,
+  c.in_ok-note-in-Ok-Some.ensures.takes.due,
+)
 
 pub returns-in_err-note-in-Ok-Some-clause-refused : goal.returns-in_err-note-in-Ok-Some-clause-refused
 returns-in_err-note-in-Ok-Some-clause-refused g c =
     let took = rw c.in-Ok-Some.field-0-is at c.in-Ok-Some.ensures.item in
     let f = c.in_err-note-in-Ok-Some.field-0.0 in
-    let P : BusFault → Type 0 = λ x. RefusesHere g.E.BusEnd.stands c.args.end.now c.collect.new.end c.args.self.now c.note.new.self x in
+    let P : BusFault → Type 0 = λ x. RefusesHere g.E.BusEnd.stands c.args.end.now c.collect.new.end
+    c.args.self.now c.note.new.self x in
     let is : c.from_residual.result ≡ Err f = search rules in
     let was = c.args.self.now in let r = c.in_err-note-in-Ok-Some.ensures.refused in
     let Q : LinkId → Type 0 = λ l. IsRefusedFor l.node was.journal.room was.journal.entries c.in-Ok-Some.item f in
-    let here : P f = record { item = c.in-Ok-Some.item; refuses = (r.0, subst Q c.in-Ok-Some.ensures.id r.1); shown = took } in
+    let here : P f = record {
+      item = c.in-Ok-Some.item;
+      refuses =
+          (r.0, subst Q c.in-Ok-Some.ensures.id r.1);
+      shown = took;
+    } in
     err_is P c.from_residual.result f is here

@@ -6,7 +6,8 @@ pub returns : goal.returns
 returns c =
     let follows = c.requires.follows.follows in
     let counts = c.counters-counters.ensures.counts in
-    let below = c.counters-counters.ensures.below (record_of c.args.self.now.journal.entries) follows.found follows.stands in
+    let below = c.counters-counters.ensures.below (record_of c.args.self.now.journal.entries)
+    follows.found follows.stands in
     let same : c.min.result ≡ c.counters-counters.result.tec = search (rules, below) in record {
       activation = c.activation.ensures;
       events_are = refl;

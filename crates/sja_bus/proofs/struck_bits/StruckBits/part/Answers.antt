@@ -9,6 +9,7 @@ returns-clause-struck c =
     let items = c.self.inside.bits.items in
     let within : c.args.from + c.args.most ≤ length items = search rules in
     let count : c.args.from + c.args.most - c.args.from ≡ c.args.most = omega arith in
-    let P : List Strike → Type 0 = λ script. AreStruckFrom script c.args.from (take c.args.most (drop c.args.from items)) in
+    let P : List Strike → Type 0 = λ script. AreStruckFrom script c.args.from
+    (take c.args.most (drop c.args.from items)) in
     rw count (rw c.deref.ensures.value (subst P (ap (λ s. s.script) c.self.view_is)
     (struck_from c.self.inside.script items c.args.from c.args.most c.self.invariant.0 within)))

@@ -19,7 +19,8 @@ pub returns-clause-steps : goal.returns-clause-steps
 returns-clause-steps g c = λ p.
     let e = g.E.DriverEnd in
     let release = c.release_step-attempt in
-    steps_of e.same e.stands e.dry e.full c.args.self.now _ c.args.links.now c.args.base c.args.bits c.link_place.result p
+    steps_of e.same e.stands e.dry e.full c.args.self.now _ c.args.links.now c.args.base
+    c.args.bits c.link_place.result p
     p step.Release c.index-links-here.result release.new.end (tried_of release.result) c.enter.result c.requires.lawful
     c.requires.eight c.link_place.ensures (release.ensures.acts p) c.enter.ensures
 

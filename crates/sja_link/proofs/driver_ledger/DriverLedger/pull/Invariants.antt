@@ -6,7 +6,8 @@ abbrev pub invariant-loop : goal.invariant-loop
 invariant-loop g l = record {
   id : l.self.id ≡ l.initial.self.id;
   same : g.E.DriverEnd.same l.initial.end l.end;
-  got : Pulls g.E.DriverEnd.stands l.initial.end l.end l.initial.self.held.items l.self.held.items l.initial.self.off l.self.off;
+  got : Pulls g.E.DriverEnd.stands l.initial.end l.end l.initial.self.held.items l.self.held.items
+      l.initial.self.off l.self.off;
 }
 
 abbrev pub decreases-loop : goal.decreases-loop

@@ -10,4 +10,8 @@ invariant_of-self c =
 pub returns : goal.returns
 returns c =
     let s = skips _ _ _ _ _ c.self.invariant in
-    rw (← c.self.view_is, take_rest c.self.inside.codes.now c.leading_bits.result, c.leading_bits.ensures.count) s.entries
+    rw (
+      ← c.self.view_is,
+      take_rest c.self.inside.codes.now c.leading_bits.result,
+      c.leading_bits.ensures.count,
+    ) s.entries

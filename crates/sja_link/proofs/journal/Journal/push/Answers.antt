@@ -12,8 +12,10 @@ invariant_of-self c =
     let f = c.self.inside in
     let own = c.requires.alone in
     let whole = whole_push c.args.code f.codes.items f.starts.items f.starts.items f.credits.items f.credits.items
-    f.requests.items f.requests.items f.messages.items f.messages.items c.self.invariant.0 (let k = own.starts_are in omega (arith, k))
-    (let k = own.credits_are in omega (arith, k)) (let k = own.requests_are in omega (arith, k)) (let k = own.messages_are in omega (arith, k)) in (
+    f.requests.items f.requests.items f.messages.items f.messages.items c.self.invariant.0
+    (let k = own.starts_are in omega (arith, k))
+    (let k = own.credits_are in omega (arith, k)) (let k = own.requests_are in omega (arith, k))
+    (let k = own.messages_are in omega (arith, k)) in (
       rw c.push_reserved.ensures.items whole,
       rw c.push_reserved.ensures.capacity c.self.invariant.1,
       c.self.invariant.2,

@@ -17,7 +17,11 @@ pub invariant_of-self : goal.invariant_of-self
 invariant_of-self c =
     let f = c.self.inside in
     let own = c.requires.one in
-    let whole = whole_push c.args.code f.codes.items f.starts.items f.starts.items f.credits.items f.credits.items f.requests.items f.requests.items f.messages.items (f.messages.items ++ c.args.message ∷ []) c.self.invariant.0 (let k = own.starts_are in omega (arith, k)) (let k = own.credits_are in omega (arith, k)) (let k = own.requests_are in omega (arith, k)) (let n = length-append f.messages.items (c.args.message ∷ []) in let k = own.messages_are in omega (arith, n, k)) in (
+    let whole = whole_push c.args.code f.codes.items f.starts.items f.starts.items f.credits.items f.credits.items
+    f.requests.items f.requests.items f.messages.items (f.messages.items ++ c.args.message ∷ []) c.self.invariant.0
+    (let k = own.starts_are in omega (arith, k)) (let k = own.credits_are in omega (arith, k))
+    (let k = own.requests_are in omega (arith, k)) (let n = length-append f.messages.items (c.args.message ∷ []) in
+    let k = own.messages_are in omega (arith, n, k)) in (
       rw (c.push_reserved-2.ensures.items, c.push_reserved.ensures.items) whole,
       rw c.push_reserved-2.ensures.capacity c.self.invariant.1,
       c.self.invariant.2,

@@ -12,7 +12,10 @@ push_reserved-requires c =
 pub invariant_of-self : goal.invariant_of-self
 invariant_of-self c =
     let f = c.self.inside in
-    let whole = whole_push Send f.codes.items f.starts.items f.starts.items f.credits.items f.credits.items f.requests.items (f.requests.items ++ c.args.request ∷ []) f.messages.items f.messages.items c.self.invariant.0 (omega arith) (omega arith) (let n = length-append f.requests.items (c.args.request ∷ []) in omega (arith, n)) (omega arith) in (
+    let whole = whole_push Send f.codes.items f.starts.items f.starts.items f.credits.items f.credits.items
+    f.requests.items (f.requests.items ++ c.args.request ∷ []) f.messages.items f.messages.items c.self.invariant.0
+    (omega arith) (omega arith) (let n = length-append f.requests.items (c.args.request ∷ []) in
+    omega (arith, n)) (omega arith) in (
       rw (c.push_reserved-2.ensures.items, c.push_reserved.ensures.items) whole,
       rw c.push_reserved-2.ensures.capacity c.self.invariant.1,
       c.self.invariant.2,

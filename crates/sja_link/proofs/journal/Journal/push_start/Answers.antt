@@ -17,7 +17,10 @@ push_reserved-requires c =
 pub invariant_of-self : goal.invariant_of-self
 invariant_of-self c =
     let f = c.self.inside in
-    let whole = whole_push Start f.codes.items f.starts.items (f.starts.items ++ c.args.config ∷ []) f.credits.items f.credits.items f.requests.items f.requests.items f.messages.items f.messages.items c.self.invariant.0 (let n = length-append f.starts.items (c.args.config ∷ []) in omega (arith, n)) (omega arith) (omega arith) (omega arith) in (
+    let whole = whole_push Start f.codes.items f.starts.items (f.starts.items ++ c.args.config ∷ []) f.credits.items
+    f.credits.items f.requests.items f.requests.items f.messages.items f.messages.items c.self.invariant.0
+    (let n = length-append f.starts.items (c.args.config ∷ []) in omega (arith, n)) (omega arith)
+    (omega arith) (omega arith) in (
       rw (c.push_reserved-2.ensures.items, c.push_reserved.ensures.items) whole,
       rw c.push_reserved-2.ensures.capacity c.self.invariant.1,
       rw c.push_reserved.ensures.capacity c.self.invariant.2,

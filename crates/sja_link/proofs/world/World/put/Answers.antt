@@ -15,5 +15,6 @@ invariant_of-self-2 c =
     let may : Allowed (world_of f.put.items f.got f.given.items f.taken f.may_send) (Put c.args.message) =
     (record { started = search rules; running = search rules; on = search rules }, omega (arith, is, few, free_is)) in
     rw c.in_ok-push.ensures.items (
-    put_stored _ _ _ _ _ _ _ _ (Message c.args.message) h (world_next _ (Put c.args.message) h.world (omega (arith, is, within)) may)
+    put_stored _ _ _ _ _ _ _ _ (Message c.args.message) h
+    (world_next _ (Put c.args.message) h.world (omega (arith, is, within)) may)
     (ap (λ n. n - c.len-bytes.result) h.free_is ∙ rw is (free_put f.put.items c.args.message _)))

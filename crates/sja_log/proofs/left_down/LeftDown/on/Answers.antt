@@ -7,7 +7,8 @@ pub loop-item-preserved : goal.loop-item-preserved
 loop-item-preserved c =
     let e = taken_off c.loop-item.end c.get.new.self c.in-Some.item c.in-Some.ensures.item in
     subst (λ (l : List Down). l ++ c.get.new.self.down ≡ c.args.link.down) (sym c.in_ok-push.ensures.items)
-    (gathers_more c.loop-item.items.items c.loop-item.end.down c.get.new.self.down c.args.link.down c.in-Some.item e c.loop-item.invariant)
+    (gathers_more c.loop-item.items.items c.loop-item.end.down c.get.new.self.down c.args.link.down c.in-Some.item
+    e c.loop-item.invariant)
 
 pub loop-item-smaller : goal.loop-item-smaller
 loop-item-smaller c =

@@ -18,7 +18,8 @@ loop-run-init c = record {
 pub returns-then-bits_left-eq0-clause-turn : goal.returns-then-bits_left-eq0-clause-turn
 returns-then-bits_left-eq0-clause-turn c = λ deeds h.
     let s = some_since c.args.plan.now deeds c.args.self.now c.run_busy_bits-run.new.self c.loop-run.self
-    c.run_busy_bits-run.result c.loop-run.run h (c.run_busy_bits-run.ensures.bits deeds h) (c.loop-run.invariant.some deeds) in
+    c.run_busy_bits-run.result c.loop-run.run h (c.run_busy_bits-run.ensures.bits deeds h)
+    (c.loop-run.invariant.some deeds) in
     let few = c.loop-run-test.true in let all = c.bits_left.ensures.left in
     let none : c.bits_left.result ≡ 0 = search rules in
     bus_spent c.args.plan.now deeds c.args.self.now c.loop-run.self c.loop-run.run c.args.count (omega (arith, few))
@@ -79,9 +80,11 @@ loop-run-preserved c =
             x.0 + c.run_resting_bits-run.result + c.run_busy_bits-run-in-loop-run.result,
             omega (arith, is),
             some_then c.args.plan.now deeds (λ (r : SerialValue). Unit {0}) c.run_busy_bits-run.new.self
-                c.run_resting_bits-run.new.self c.run_busy_bits-run-in-loop-run.new.self (x.0 + c.run_resting_bits-run.result)
+                c.run_resting_bits-run.new.self c.run_busy_bits-run-in-loop-run.new.self
+                (x.0 + c.run_resting_bits-run.result)
                 c.run_busy_bits-run-in-loop-run.result s (bits_freely c.args.plan.now deeds (SomeWorks c.args.plan.now)
-                c.run_resting_bits-run.new.self c.run_busy_bits-run-in-loop-run.new.self c.run_busy_bits-run-in-loop-run.result
+                c.run_resting_bits-run.new.self c.run_busy_bits-run-in-loop-run.new.self
+                c.run_busy_bits-run-in-loop-run.result
                 (c.run_busy_bits-run-in-loop-run.ensures.bits deeds s.stands)),
           );
     }
@@ -89,7 +92,8 @@ loop-run-preserved c =
 pub returns-clause-turn : goal.returns-clause-turn
 returns-clause-turn c = λ deeds h.
     let s = some_since c.args.plan.now deeds c.args.self.now c.run_busy_bits-run.new.self c.loop-run.self
-    c.run_busy_bits-run.result c.loop-run.run h (c.run_busy_bits-run.ensures.bits deeds h) (c.loop-run.invariant.some deeds) in
+    c.run_busy_bits-run.result c.loop-run.run h (c.run_busy_bits-run.ensures.bits deeds h)
+    (c.loop-run.invariant.some deeds) in
     let most = c.loop-run-test.false in let few = c.loop-run.invariant.most in
     bus_all c.args.plan.now deeds c.args.self.now c.loop-run.self c.loop-run.run c.args.count
     (omega (arith, most, few)) s

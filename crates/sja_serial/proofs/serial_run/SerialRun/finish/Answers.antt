@@ -37,7 +37,13 @@ returns c =
     (c.as_slice-2.ensures.value ∙ c.in_ok-lists.ensures)
     (subst (λ (ds : List LoggedDriver). AreNodeEnds logs ds c.as_slice-2.result.now
     (length ds) nodes) c.as_slice.ensures.value c.in_ok-nodes.ensures) in
-    let is : c.of.result ≡ record { version = c.version.result; bits = b.bits; end = c.args.end; nodes = nodes } = c.of.ensures in
+    let is : c.of.result ≡ record {
+      version = c.version.result;
+      bits = b.bits;
+      end = c.args.end;
+      nodes =
+          nodes;
+    } = c.of.ensures in
     record {
       log = subst P c.self.view_is (λ deeds h.
           log_of_run c.args.plan.now now deeds c.args.end c.of.result logs h (ap (λ (l : RunValue). l.version) is

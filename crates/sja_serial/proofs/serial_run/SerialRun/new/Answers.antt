@@ -7,6 +7,7 @@ pub returns-clause-stands : goal.returns-clause-stands
 returns-clause-stands c =
     stands_new c.args.plan.now c.in_ok-bus.bus c.in_ok-drivers.drivers.items c.in_ok-board.board.ports.items
     c.in_ok-links.links.items c.nodes-nodes.result c.bits.result c.in_ok-script.script
-    c.nodes-nodes.ensures.value c.in_ok-script.ensures c.bits.ensures.value c.in_ok-bus.ensures c.in_ok-drivers.ensures.count
+    c.nodes-nodes.ensures.value c.in_ok-script.ensures c.bits.ensures.value c.in_ok-bus.ensures
+    c.in_ok-drivers.ensures.count
     c.in_ok-drivers.ensures.new (c.in_ok-board.ensures
     ∙ ap (λ v. replicate c.nodes-nodes.result (at_power_on v)) c.version.ensures.value) c.in_ok-links.ensures

@@ -22,7 +22,8 @@ run_one_bit-requires-clause-lawful c =
 pub returns-then-bits-eq0-clause-bits : goal.returns-then-bits-eq0-clause-bits
 returns-then-bits-eq0-clause-bits c = λ deeds h.
     let once = c.run_idle_bits-bits.ensures deeds h in let none : c.run_idle_bits-bits.result ≡ 0 = search rules in
-    none_then_one c.args.plan.now deeds c.args.self.now c.run_idle_bits-bits.new.self c.run_one_bit.new.self c.args.count
+    none_then_one c.args.plan.now deeds c.args.self.now c.run_idle_bits-bits.new.self
+    c.run_one_bit.new.self c.args.count
     c.run_idle_bits-bits.result once none (c.run_one_bit.ensures deeds once.stands)
 
 pub returns-clause-most : goal.returns-clause-most

@@ -124,7 +124,8 @@ did c deeds h node there done less =
     (subst (λ (x : SerialValue). IsTried plan c.args.self.now x i deeds c.step-done.result) (now_is c)
     (subst (λ (x : SerialValue). IsTried plan x
     (run_now c.gather.new.self (slice_set b.drivers.items i c.step-done.new.self)
-    (slice_set b.board.ports.items i c.step-done.new.port) c.gather.new.links b.bits) i deeds c.step-done.result) was t))
+    (slice_set b.board.ports.items i c.step-done.new.port) c.gather.new.links b.bits) i deeds
+    c.step-done.result) was t))
 
 pub returns-clause-done : goal.returns-clause-done
 returns-clause-done c = λ yes deeds h.
