@@ -17,7 +17,7 @@ use Rattle.can_bits.specs.Streaming.{IsReadable, IsLineButFor, IsOver}
 use Rattle.can_bits.specs.Acknowledging.{IsAckDue}
 use Rattle.can_bits.specs.Machine.FrameParts.{IsInside, IsPast, ReadsAt}
 use Rattle.can_bits.specs.Shifts.{Broke, StandsBy, StandsFor}
-use Rattle.can_bits.proofs.Lists.{last_of, append-cancel}
+use Rattle.lemmas.proofs.Lists.{last_of, append-cancel}
 use Rattle.can_bits.proofs.Ending.{same_part, same_spelling}
 use Rattle.can_bits.proofs.Readables.{readable_front}
 use Rattle.can_bits.proofs.Reader.Past.{past_but_for}

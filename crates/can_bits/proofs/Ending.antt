@@ -8,7 +8,7 @@ use Rattle.can_bits.specs.declared.level.Level.TheVariants.{Dominant, Recessive}
 use Rattle.can_bits.specs.Fields.{level_at}
 use Rattle.can_bits.specs.Line.{StuffedPart, Line, tail}
 use Rattle.can_bits.specs.Reading.{Begins, IsPastPart}
-use Rattle.can_bits.proofs.Lists.{reverse-cons, reverse-push, fronts, last_of, append-cancel}
+use Rattle.lemmas.proofs.Lists.{reverse-cons, reverse-push, fronts, last_of, append-cancel}
 use Rattle.can_bits.proofs.Runs.{run, IsShort}
 use Rattle.can_bits.proofs.Parts.{plain, IsPart, part_to, spelt, beyond, part_once, unstuffed-later}
 use Rattle.can_bits.proofs.Going.{IsInside}

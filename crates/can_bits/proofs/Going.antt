@@ -11,7 +11,7 @@ use Rattle.can_bits.specs.Fields.{level_at, says_count, IsWhole}
 use Rattle.can_bits.specs.Line.{StuffedPart, Line, tail}
 use Rattle.can_bits.specs.Reading.{Begins, IsOpen}
 use Rattle.can_bits.specs.Stuffing.{Stuffed}
-use Rattle.can_bits.proofs.Lists.{reverse-cons}
+use Rattle.lemmas.proofs.Lists.{reverse-cons}
 use Rattle.can_bits.proofs.Runs.{run, run-other, run_one_more, IsShort}
 use Rattle.can_bits.proofs.Stuffs.{unstuffed, unstuffed-kept, unstuffed-dropped}
 use Rattle.can_bits.proofs.Stuffs.{opposite-other, IsStuffed, stuffed_from}

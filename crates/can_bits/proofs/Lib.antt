@@ -1,5 +1,4 @@
 -- Lists, digits and runs of levels.
-pub mod Lists
 pub mod Values
 pub mod Ranges
 pub mod Runs

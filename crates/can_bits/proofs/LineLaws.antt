@@ -12,7 +12,7 @@ use Rattle.can_bits.specs.Stuffing.{HasNoSixEqual}
 use Rattle.can_bits.specs.Line.{Line, tail, IsSentLine}
 use Rattle.can_bits.specs.Reading.{IsReceived, IsPastPart, IsOpen, BeginsDominant}
 use Rattle.can_bits.specs.Fields.{says_count}
-use Rattle.can_bits.proofs.Lists.{reverse-cons}
+use Rattle.lemmas.proofs.Lists.{reverse-cons}
 use Rattle.can_bits.proofs.Runs.{run, run_one_more, IsShort, short_from}
 use Rattle.can_bits.proofs.Ending.{line_at}
 use Rattle.can_bits.proofs.Going.{inside_open}

@@ -8,7 +8,7 @@ use Rattle.can_bits.specs.declared.level.Level.{Level}
 use Rattle.can_bits.specs.Fields.{says_count, IsWhole}
 use Rattle.can_bits.specs.Spelling.{Spells}
 use Rattle.can_bits.specs.Line.{StuffedPart}
-use Rattle.can_bits.proofs.Lists.{reverse-cons, fronts}
+use Rattle.lemmas.proofs.Lists.{reverse-cons, fronts}
 use Rattle.can_bits.proofs.Runs.{run, IsShort}
 use Rattle.can_bits.proofs.Stuffs.{unstuffed, unstuffed-kept, unstuffed-dropped, stuffed_from, stuffed_to}
 use Rattle.can_bits.proofs.SaidCounts.{whole_of, says_count-more, whole_has_fields}

@@ -11,7 +11,7 @@ use Rattle.can_bits.specs.Line.{StuffedPart}
 use Rattle.can_bits.specs.Places.{begins_in_five, is_full, unless_stuff, plain_after}
 use Rattle.can_bits.specs.Places.{plain_count, place_code, is_early_stuff}
 use Rattle.can_bits.proofs.SaidCounts.{length_body, dlc_place-least}
-use Rattle.can_bits.proofs.Lists.{reverse-cons, reverse-push}
+use Rattle.lemmas.proofs.Lists.{reverse-cons, reverse-push}
 use Rattle.can_bits.proofs.Parts.{plain, unstuffed-later}
 use Rattle.can_bits.proofs.Runs.{same, lead, run}
 use Rattle.can_bits.proofs.Stuffs.{unstuffed, unstuffed-kept, unstuffed-dropped, stuffed_to}

@@ -12,7 +12,7 @@ use Rattle.can_bits.specs.Check.{Crc}
 use Rattle.can_bits.specs.Line.{StuffedPart, Line, tail}
 use Rattle.can_bits.specs.Reading.{IsFaultless, IsOpen}
 use Rattle.can_bits.specs.Streaming.{IsReadable, IsLineButFor, EndsInWrongCheck, BreaksWith, ShowsFrame}
-use Rattle.can_bits.proofs.Lists.{fronts, append-cancel, cases_list}
+use Rattle.lemmas.proofs.Lists.{fronts, append-cancel, cases_list}
 use Rattle.can_bits.proofs.Ending.{line_at, begins_front}
 use Rattle.can_bits.proofs.Reader.Past.{missing}
 

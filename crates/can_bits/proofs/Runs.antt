@@ -6,7 +6,7 @@ use Rattle.std.proofs.lemmas.List.{append-nil, reverse-append, reverse-reverse}
 use Rattle.can_bits.specs.declared.level.Level.{Level}
 use Rattle.can_bits.specs.declared.level.Level.TheVariants.{Dominant, Recessive}
 use Rattle.can_bits.specs.Stuffing.{EndsInEqual, HasNoSixEqual}
-use Rattle.can_bits.proofs.Lists.{reverse-cons, reverse-replicate}
+use Rattle.lemmas.proofs.Lists.{reverse-cons, reverse-replicate}
 
 -- whether two levels are equal
 abbrev pub same : Level → Level → Bool

@@ -8,7 +8,7 @@ use Rattle.can_bits.specs.declared.level.Level.TheVariants.{Dominant, Recessive}
 use Rattle.can_bits.specs.Digits.{opposite}
 use Rattle.can_bits.specs.Stuffing.{EndsInEqual, HasNoSixEqual, IsUnstuffed, Stuffed}
 use Rattle.can_bits.specs.Stuffing.IsUnstuffed.{nothing, kept, dropped}
-use Rattle.can_bits.proofs.Lists.{reverse-cons, reverse-push}
+use Rattle.lemmas.proofs.Lists.{reverse-cons, reverse-push}
 use Rattle.can_bits.proofs.Runs.{run, run-same, run-other, IsShort, ends_in_run, run_ends, short_from, no_six_from}
 
 -- past without each level whose five predecessors are equal; both have the newest level first

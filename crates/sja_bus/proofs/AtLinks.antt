@@ -4,7 +4,7 @@ use Rattle.std.specs.Prelude.{slice_index_or, slice_set}
 use Rattle.sja_link.specs.BusLedgers.{link_of}
 use Rattle.sja_bus.specs.declared.seat.Seat.{Seat}
 use Rattle.sja_bus.specs.Inside.AtLinks.{KeepsLinks}
-use Rattle.sja_link.proofs.Related.{each_refl, each_trans, each_one}
+use Rattle.lemmas.proofs.Related.{each_refl, each_trans, each_one}
 
 pub stays_refl : {E : Type 0} (same : E → E → Type 0) → ((x : E) → same x x) → (s : Seat) (links : List E) →
     KeepsLinks same s s links links

@@ -8,7 +8,7 @@ use Rattle.sja_link.specs.declared.entry.Entry.TheVariants.{Bit}
 use Rattle.sja_link.specs.Places.{JournalPlace, past, place_of}
 use Rattle.sja_link.specs.Parts.{part}
 use Rattle.sja_link.specs.Carried.{put_of}
-use Rattle.sja_link.specs.Gathering.{total}
+use Rattle.lemmas.specs.Gathering.{total}
 use Rattle.sja_link.specs.World.{is_off}
 use Rattle.sja_link.specs.Free.{IsFree}
 use Rattle.sja_link.specs.Verdicts.{EndsInBit, IsPrompt, IsFair, IsDue, entry_of}

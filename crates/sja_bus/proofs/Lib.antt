@@ -1,4 +1,3 @@
-pub mod Results
 pub mod Retrying
 pub mod Begun
 pub mod Steps

@@ -9,8 +9,8 @@ use Rattle.sja_link.specs.declared.link_id.LinkId.{LinkId}
 use Rattle.sja_link.specs.declared.entry.Entry.{Entry}
 use Rattle.sja_link.specs.Lists.{Lists}
 use Rattle.sja_link.specs.Accounts.{Account}
-use Rattle.sja_link.specs.Related.{EachRelated}
-use Rattle.sja_link.proofs.Related.{each_refl, each_trans, each_at}
+use Rattle.lemmas.specs.Related.{EachRelated}
+use Rattle.lemmas.proofs.Related.{each_refl, each_trans, each_at}
 use Rattle.sja_bus.specs.declared.seat.Seat.{Seat}
 use Rattle.sja_bus.proofs.Moving.{grows_refl, grows_trans}
 use Rattle.sja_wire.specs.Links.{Grows, Goes, Kept, Numbered}

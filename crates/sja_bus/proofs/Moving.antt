@@ -11,7 +11,7 @@ use Rattle.sja_link.specs.Places.{past, place_of}
 use Rattle.sja_link.specs.Parts.{part}
 use Rattle.sja_link.specs.Accounts.{Account, account, with_entry}
 use Rattle.sja_link.proofs.Entering.{account_here, account_else, part_else}
-use Rattle.sja_link.proofs.Related.{each_refl, each_trans, each_one}
+use Rattle.lemmas.proofs.Related.{each_refl, each_trans, each_one}
 use Rattle.sja_wire.specs.Links.{Moves, Goes, Grows}
 use Rattle.sja_wire.specs.OneBit.{MayHaveAbort, abort_as}
 

@@ -18,9 +18,9 @@ use Rattle.sja_link.specs.Places.{place_of}
 use Rattle.sja_link.specs.Parts.{part}
 use Rattle.sja_link.specs.Carried.{bits_of, bit_in}
 use Rattle.sja_link.specs.Verdicts.{filter_of, PassesAny, IsDue, entry_of}
-use Rattle.sja_link.specs.Gathering.{total}
-use Rattle.sja_link.proofs.Freeing.{total_append}
-use Rattle.sja_link.proofs.Entering.{gathered_push, gathered_append}
+use Rattle.lemmas.specs.Gathering.{total}
+use Rattle.lemmas.proofs.Gathered.{total_append}
+use Rattle.lemmas.proofs.Gathered.{gathered_push, gathered_append}
 use Rattle.sja_wire.specs.OneBit.{IsRead, AreRead, MayHaveItems, MayHaveAbort, abort_as, entries_of_items, judged_as}
 use Rattle.sja_wire.specs.OneBit.{off_as, HasBit, AreInOrder}
 use Rattle.sja_wire.specs.OutOfOrder.{IsOutOfOrder}

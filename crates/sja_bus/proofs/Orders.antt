@@ -6,13 +6,14 @@ use Rattle.sja_link.specs.declared.entry.Entry.{Entry}
 use Rattle.sja_link.specs.declared.entry.Entry.TheVariants.{Bit, Up as Item, Abort, Stored, Overrun, Off}
 use Rattle.sja_link.specs.Carried.{put_of, taken_in, taken_of}
 use Rattle.sja_link.specs.Free.{IsFree, credit_in, bytes_in}
-use Rattle.sja_link.specs.Gathering.{total}
+use Rattle.lemmas.specs.Gathering.{total}
 use Rattle.sja_link.specs.Parts.{part}
-use Rattle.sja_link.specs.Picking.{EachAfter}
+use Rattle.lemmas.specs.Picking.{EachAfter}
 use Rattle.sja_link.specs.Places.{past, place_of}
 use Rattle.sja_link.specs.World.{is_off, is_start, is_stop}
-use Rattle.sja_link.proofs.Entering.{gathered_push, part_here, part_else}
-use Rattle.sja_link.proofs.Freeing.{total_append, total_push}
+use Rattle.lemmas.proofs.Gathered.{gathered_push}
+use Rattle.sja_link.proofs.Entering.{part_here, part_else}
+use Rattle.lemmas.proofs.Gathered.{total_append, total_push}
 use Rattle.sja_link.proofs.Judging.{each_push}
 use Rattle.sja_link.proofs.Openings.{part_opens}
 use Rattle.sja_wire.specs.Links.{stops_in}

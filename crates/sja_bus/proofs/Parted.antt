@@ -12,7 +12,8 @@ use Rattle.sja_link.specs.Records.{told, record_of}
 use Rattle.sja_link.specs.Parts.{part}
 use Rattle.sja_link.specs.Free.{IsFree, credit_in, bytes_in}
 use Rattle.sja_link.proofs.Entering.{place_push, record_push, part_here, part_else}
-use Rattle.sja_link.proofs.Freeing.{free_push, total_push}
+use Rattle.lemmas.proofs.Gathered.{total_push}
+use Rattle.sja_link.proofs.Freeing.{free_push}
 use Rattle.sja_link.proofs.Judging.{StaysIn, filter_push}
 use Rattle.sja_bus.specs.declared.activity.Activity.{Activity}
 use Rattle.sja_bus.specs.declared.activity.Activity.TheVariants.{Between, Running, Off as IsOff, OffAndAsked}

@@ -13,12 +13,12 @@ use Rattle.sja_link.specs.Places.{JournalPlace, past, place_of}
 use Rattle.sja_link.specs.Records.{told, record_of}
 use Rattle.sja_link.specs.Parts.{part, entry_at}
 use Rattle.sja_link.specs.Carried.{taken_of}
-use Rattle.sja_link.specs.Gathering.{total}
+use Rattle.lemmas.specs.Gathering.{total}
 use Rattle.sja_link.specs.World.{is_stop}
 use Rattle.sja_link.specs.Free.{IsFree, credit_in, bytes_in}
 use Rattle.sja_link.specs.Verdicts.{filter_of}
 use Rattle.sja_link.proofs.Entering.{place_push, record_push, part_here, of_part_later}
-use Rattle.sja_link.proofs.Freeing.{total_push}
+use Rattle.lemmas.proofs.Gathered.{total_push}
 use Rattle.sja_link.proofs.Judging.{StaysIn, filter_push}
 use Rattle.sja_bus.specs.declared.activity.Activity.{Activity}
 use Rattle.sja_bus.specs.declared.activity.Activity.TheVariants.{Between, Running, Off as IsOff, OffAndAsked}

@@ -8,7 +8,7 @@ use Rattle.can_node.specs.Stands.{ShowsRest}
 use Rattle.sja_link.specs.declared.entry.Entry.{Entry}
 use Rattle.sja_link.specs.declared.bus_end.BusEnd.{Ghosts as Ends}
 use Rattle.sja_link.specs.Lists.{Lists}
-use Rattle.sja_link.specs.Related.{EachRelated}
+use Rattle.lemmas.specs.Related.{EachRelated}
 use Rattle.sja_regs.specs.declared.orders.Orders.{Orders}
 use Rattle.sja_regs.specs.declared.bus_turn.BusTurn.{BusTurn}
 use Rattle.sja_script.specs.declared.strike.Strike.{Strike}

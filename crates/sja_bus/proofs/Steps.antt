@@ -28,7 +28,7 @@ use Rattle.sja_link.specs.Parts.{part}
 use Rattle.sja_link.specs.Records.{told, record_of}
 use Rattle.sja_link.specs.Judged.{judged_after}
 use Rattle.sja_link.specs.Verdicts.{filter_of, PassesAny, IsDue, HasVerdicts, entry_of}
-use Rattle.sja_link.specs.Picking.Picks.{nothing}
+use Rattle.lemmas.specs.Picking.Picks.{nothing}
 use Rattle.sja_link.proofs.Entering.{record_push, record_counted, place_push}
 use Rattle.sja_link.proofs.Judging.{StaysIn, HasBegun, filter_push, verdicts_quiet, verdicts_start, verdicts_passed_by}
 use Rattle.sja_link.proofs.Judging.{verdicts_judged}

@@ -11,12 +11,13 @@ use Rattle.sja_link.specs.declared.verdict.Verdict.TheVariants.{Stored as ToStor
 use Rattle.sja_link.specs.declared.entry.Entry.{Entry}
 use Rattle.sja_link.specs.declared.entry.Entry.TheVariants.{Bit, Up as Item, Abort, Stored, Overrun, Off}
 use Rattle.sja_link.specs.Accounts.{account}
-use Rattle.sja_link.specs.Gathering.{gathered}
+use Rattle.lemmas.specs.Gathering.{gathered}
 use Rattle.sja_link.specs.Parts.{part}
 use Rattle.sja_link.specs.Places.{past, place_of}
 use Rattle.sja_link.specs.Carried.{taken_in, taken_of, put_in, put_of}
-use Rattle.sja_link.proofs.Entering.{gathered_push, part_here, part_else}
-use Rattle.sja_link.proofs.Freeing.{total_push}
+use Rattle.lemmas.proofs.Gathered.{gathered_push}
+use Rattle.sja_link.proofs.Entering.{part_here, part_else}
+use Rattle.lemmas.proofs.Gathered.{total_push}
 use Rattle.sja_regs.specs.declared.orders.Orders.{Orders}
 use Rattle.sja_regs.specs.declared.bus_turn.BusTurn.{BusTurn}
 use Rattle.sja_bus.specs.declared.struck_nodes.StruckNodes.{StruckNodes}

@@ -18,7 +18,7 @@ use Rattle.sja_link.specs.Parts.{part, entry_at}
 use Rattle.sja_link.specs.Records.{record_of}
 use Rattle.sja_link.specs.Written.{Written}
 use Rattle.sja_link.proofs.Entering.{of_part_later}
-use Rattle.sja_link.proofs.Freeing.{total_push}
+use Rattle.lemmas.proofs.Gathered.{total_push}
 use Rattle.sja_bus.specs.declared.activity.Activity.{Activity}
 use Rattle.sja_bus.specs.declared.activity.Activity.TheVariants.{Between, Running, Off, OffAndAsked}
 use Rattle.sja_link.specs.declared.entry.Entry.TheVariants.{Up as Item}

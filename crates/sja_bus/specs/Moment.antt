@@ -1,7 +1,7 @@
 -- A bus with its links and its ports, before a bit and after it (this project's own rule).
 use Rattle.std.specs.Prelude.{◌≡◌, ◌+◌, List, length, None}
 use Rattle.sja_link.specs.declared.bus_end.BusEnd.{Ghosts as Ends}
-use Rattle.sja_link.specs.Related.{EachRelated}
+use Rattle.lemmas.specs.Related.{EachRelated}
 use Rattle.sja_bus.specs.declared.board.Board.{Ghosts as Ports}
 use Rattle.sja_bus.specs.Boards.{KeepsOthers}
 use Rattle.sja_bus.specs.Buses.{BusValue, KeepsAll, AllTold, IsBitOf}

@@ -2,7 +2,7 @@
 
 ghost use Rattle.std.specs.Prelude.{◌≡◌, ◌*◌, ◌≤◌, ℕ, List, suc, false};
 ghost use Rattle.std.specs.Prelude.{length, IfOk, OnOk, IfErr, ◌⊎◌};
-ghost use Rattle.sja_link.specs.Related.{EachRelated};
+ghost use Rattle.lemmas.specs.Related.{EachRelated};
 ghost use Rattle.sja_wire.specs.Wire.{wired};
 ghost use Rattle.sja_wire.specs.Links.{Numbered};
 ghost use Rattle.sja_bus.specs.Inside.Rows.{AreReady, AreSeated, AreTold, EachSeat, SeatTakes, SeatUntold};

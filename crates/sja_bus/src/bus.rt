@@ -62,7 +62,7 @@ impl Bus {
     ghost use Rattle.sja_wire.specs.OneBit.{MayHaveItems};
     ghost use Rattle.sja_link.specs.Places.{place_of};
     ghost use Rattle.sja_link.specs.Records.{record_of};
-    ghost use Rattle.sja_link.specs.Related.{EachRelated};
+    ghost use Rattle.lemmas.specs.Related.{EachRelated};
     ghost use Rattle.sja_wire.specs.declared.node_log.NodeLog.{NodeLog as Log};
     ghost use Rattle.sja_wire.specs.Wire.{journal_at};
     ghost use Rattle.sja_bus.specs.Resting.{RestsAs};

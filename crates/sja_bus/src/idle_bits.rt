@@ -17,7 +17,7 @@ use sja_wire::BusFault;
 impl Bus {
     ghost use Rattle.std.specs.Prelude.{◌≡◌, ◌≢◌, ◌+◌, ◌*◌, ◌≤◌, ◌⊎◌, None, Some, Ok, Err, length, OnOk, IfOk};
     ghost use Rattle.std.specs.Prelude.{IfErr, true, false};
-    ghost use Rattle.sja_link.specs.Related.{EachRelated};
+    ghost use Rattle.lemmas.specs.Related.{EachRelated};
     ghost use Rattle.sja_wire.specs.declared.bus_fault.BusFault.{BusFault as Fault};
     ghost use Rattle.sja_wire.specs.Links.{Numbered};
     ghost use Rattle.sja_wire.specs.OneBit.{MayHaveItems};
@@ -149,7 +149,7 @@ fn all_enter_idle_bits(seats: &mut [Seat], count: u32) -> Result<(), BusFault>
 impl Seat {
     ghost use Rattle.std.specs.Prelude.{◌≡◌, ◌≢◌, ◌+◌, ◌*◌, ◌≤◌, ◌⊎◌, None, Some, Ok, Err, length, OnOk, IfOk};
     ghost use Rattle.std.specs.Prelude.{IfErr, true, false};
-    ghost use Rattle.sja_link.specs.Related.{EachRelated};
+    ghost use Rattle.lemmas.specs.Related.{EachRelated};
     ghost use Rattle.sja_wire.specs.declared.bus_fault.BusFault.{BusFault as Fault};
     ghost use Rattle.sja_wire.specs.Links.{Numbered};
     ghost use Rattle.sja_wire.specs.OneBit.{MayHaveItems};

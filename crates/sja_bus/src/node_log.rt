@@ -1,7 +1,7 @@
 //! What is left of a controller at the end of a run.
 
 ghost use Rattle.std.specs.Prelude.{◌≡◌, ◌≤◌, [], vec_len, vec_capacity};
-ghost use Rattle.sja_link.specs.Related.{EachRelated};
+ghost use Rattle.lemmas.specs.Related.{EachRelated};
 ghost use Rattle.sja_bus.specs.Inside.Ending.{IsLog};
 
 use super::seat::Seat;

@@ -5,7 +5,7 @@ use Rattle.std.specs.Prelude.{slice_index_or, ◌==◌}
 use Rattle.std.proofs.lemmas.Bool.{eq-eqb, ne_eqb}
 use Rattle.sja_link.specs.declared.driver_ledger.DriverLedger.{DriverLedger}
 use Rattle.sja_link.specs.DriverLedgers.{held_by}
-use Rattle.sja_link.proofs.Entering.{gathered_append}
+use Rattle.lemmas.proofs.Gathered.{gathered_append}
 use Rattle.sja_driver.specs.declared.release.Release.{Release}
 use Rattle.sja_driver.specs.Logs.{leaves, releases_by, of_activation, released_of}
 use Rattle.sja_driver.specs.Tries.Tried.{Released}

@@ -5,7 +5,7 @@ use Rattle.std.proofs.lemmas.List.{length-append, get_or-set_same, get_or_defaul
 use Rattle.std.specs.Prelude.{min, slice_index_or, slice_set}
 use Rattle.sja_link.specs.declared.link_id.LinkId.{LinkId}
 use Rattle.sja_link.specs.Lists.{Lists}
-use Rattle.sja_link.proofs.Related.{each_one}
+use Rattle.lemmas.proofs.Related.{each_one}
 use Rattle.sja_regs.specs.declared.registers.Registers.{Registers}
 use Rattle.sja_script.specs.declared.step.Step.{Step}
 use Rattle.sja_driver.specs.declared.any_driver.AnyDriver.{AnyDriver}

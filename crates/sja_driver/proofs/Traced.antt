@@ -4,7 +4,7 @@ use Rattle.std.proofs.Common.{inr}
 use Rattle.std.specs.Prelude.{◌⊎◌}
 use Rattle.std.proofs.lemmas.List.{map-append}
 use Rattle.sja_link.specs.declared.driver_ledger.DriverLedger.{DriverLedger}
-use Rattle.sja_link.proofs.Entering.{gathered_append}
+use Rattle.lemmas.proofs.Gathered.{gathered_append}
 use Rattle.sja_link.proofs.Judging.{each_push}
 use Rattle.sja_regs.specs.declared.registers.Registers.{Registers}
 use Rattle.sja_script.specs.declared.step.Step.{Step}

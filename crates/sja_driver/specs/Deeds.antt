@@ -5,8 +5,8 @@ use Rattle.can_node.specs.declared.config.Config.{Config}
 use Rattle.can_node.specs.declared.request.Request.{Request}
 use Rattle.sja_link.specs.declared.up.Up.{Up}
 use Rattle.sja_link.specs.declared.up.Up.TheVariants.{Start as StartItem, Credit, Send, Stop as StopItem}
-use Rattle.sja_link.specs.Gathering.{gathered, total}
-use Rattle.sja_link.specs.Picking.{EachAfter}
+use Rattle.lemmas.specs.Gathering.{gathered, total}
+use Rattle.lemmas.specs.Picking.{EachAfter}
 use Rattle.sja_regs.specs.Commands.{command_of, requests}
 use Rattle.sja_script.specs.declared.step.Step.{Step}
 use Rattle.sja_script.specs.declared.step.Step.TheVariants.{Start, Stop, Window, Release, Load, Command, Await, Sent}

@@ -8,7 +8,7 @@ use Rattle.sja_link.specs.declared.down.Down.{Down}
 use Rattle.sja_link.specs.declared.down.Down.TheVariants.{Message, Off}
 use Rattle.sja_link.specs.declared.up.Up.{Up}
 use Rattle.sja_link.specs.declared.up.Up.TheVariants.{Start, Credit, Send, Stop}
-use Rattle.sja_link.specs.Gathering.{total}
+use Rattle.lemmas.specs.Gathering.{total}
 use Rattle.sja_link.specs.Lists.{messages}
 use Rattle.sja_link.specs.World.{is_start, is_send, is_stop, is_off}
 use Rattle.sja_link.specs.WorldEvents.{first_credit}

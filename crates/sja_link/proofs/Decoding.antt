@@ -11,9 +11,9 @@ use Rattle.sja_link.specs.declared.code.Code.{Code}
 use Rattle.sja_link.specs.declared.code.Code.TheVariants.{DominantAsDriven, DominantSeenRecessive}
 use Rattle.sja_link.specs.declared.code.Code.TheVariants.{RecessiveSeenDominant, RecessiveAsDriven, Start, Credit, Send}
 use Rattle.sja_link.specs.declared.code.Code.TheVariants.{Stop, Abort, Stored, Overrun, Off}
-use Rattle.sja_link.specs.Gathering.{total}
+use Rattle.lemmas.specs.Gathering.{total}
 use Rattle.sja_link.specs.Kept.Codes.{decoded, has_start, has_credit, has_request, has_message, AreWhole, HasContents}
-use Rattle.sja_link.proofs.Freeing.{total_push}
+use Rattle.lemmas.proofs.Gathered.{total_push}
 
 -- ---- what the codes after the first one have
 

@@ -10,24 +10,13 @@ use Rattle.sja_link.specs.declared.up.Up.TheVariants.{Start, Credit, Send, Stop}
 use Rattle.sja_link.specs.declared.entry.Entry.{Entry}
 use Rattle.sja_link.specs.declared.entry.Entry.TheVariants.{Bit, Up as Item, Abort, Stored, Overrun, Off}
 use Rattle.sja_link.specs.Lists.{Lists}
-use Rattle.sja_link.specs.Gathering.{gathered}
+use Rattle.lemmas.specs.Gathering.{gathered}
 use Rattle.sja_link.specs.Places.{JournalPlace, first_place, past, past_all, place_of, Placed, placed_from, placed}
 use Rattle.sja_link.specs.Parts.{in_part, of_part, entry_at, part}
 use Rattle.sja_link.specs.Carried.{bits_of, taken_in, put_in, taken_of, put_of}
 use Rattle.sja_link.specs.Accounts.{Account, account, with_entry}
 use Rattle.sja_link.specs.Records.{told, told_at, record_of}
-
--- ---- lists gathered from lists
-
-pub gathered_append : {A B : Type 0} (f : A → List B) (xs ys : List A) →
-    gathered f (xs ++ ys) ≡ gathered f xs ++ gathered f ys
-gathered_append f [] ys = refl
-gathered_append f (x ∷ xs) ys = ap (λ l. f x ++ l) (gathered_append f xs ys)
-    ∙ sym (append_assoc (f x) (gathered f xs) (gathered f ys))
-
-pub gathered_push : {A B : Type 0} (f : A → List B) (xs : List A) (y : A) →
-    gathered f (xs ++ y ∷ []) ≡ gathered f xs ++ f y
-gathered_push f xs y = gathered_append f xs (y ∷ []) ∙ ap (λ l. gathered f xs ++ l) (append-nil (f y))
+use Rattle.lemmas.proofs.Gathered.{gathered_append, gathered_push}
 
 -- ---- places
 

@@ -6,15 +6,9 @@ use Rattle.sja_link.specs.declared.up.Up.TheVariants.{Start, Credit, Send, Stop}
 use Rattle.sja_link.specs.declared.entry.Entry.{Entry}
 use Rattle.sja_link.specs.declared.entry.Entry.TheVariants.{Up as Item, Stored, Overrun}
 use Rattle.sja_link.specs.Verdicts.{IsFair}
-use Rattle.sja_link.specs.Gathering.{total}
+use Rattle.lemmas.specs.Gathering.{total}
 use Rattle.sja_link.specs.Free.{credit_in, bytes_in, free_of, IsFree}
-
-pub total_append : {A : Type 0} (f : A → ℕ) (xs ys : List A) → total f (xs ++ ys) ≡ total f xs + total f ys
-total_append f [] ys = sym (zero-add (total f ys))
-total_append f (x ∷ xs) ys = ap (λ n. f x + n) (total_append f xs ys) ∙ sym (add_assoc (f x) (total f xs) (total f ys))
-
-pub total_push : {A : Type 0} (f : A → ℕ) (xs : List A) (y : A) → total f (xs ++ y ∷ []) ≡ total f xs + f y
-total_push f xs y = total_append f xs (y ∷ []) ∙ ap (λ n. total f xs + n) (add-zero (f y))
+use Rattle.lemmas.proofs.Gathered.{total_append, total_push}
 
 -- what is free is the definition's number
 pub free_is : (p : List Entry) (n : ℕ) → IsFree p n → n ≡ free_of p

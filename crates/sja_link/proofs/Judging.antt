@@ -12,16 +12,17 @@ use Rattle.sja_link.specs.declared.verdict.Verdict.{Verdict}
 use Rattle.sja_link.specs.declared.verdict.Verdict.TheVariants.{Stored as ToStore, Overrun as ToLose}
 use Rattle.sja_link.specs.declared.entry.Entry.{Entry}
 use Rattle.sja_link.specs.declared.entry.Entry.TheVariants.{Bit, Up as Item, Abort, Stored, Overrun, Off}
-use Rattle.sja_link.specs.Gathering.{gathered}
+use Rattle.lemmas.specs.Gathering.{gathered}
 use Rattle.sja_link.specs.Places.{JournalPlace, first_place, past, place_of, Placed, placed, activation_of}
 use Rattle.sja_link.specs.Parts.{part, in_part, of_part, entry_at}
 use Rattle.sja_link.specs.Carried.{stored_in, stored_of, put_of}
 use Rattle.sja_link.specs.Lists.{messages}
 use Rattle.sja_link.specs.Judged.{Judged, judged_after, judged_at, judged_in, kept_in, kept}
 use Rattle.sja_link.specs.Verdicts.{filter_of, PassesAny, IsAccepted, IsOn, IsDue, HasVerdicts, entry_of}
-use Rattle.sja_link.specs.Picking.{Picks, EachAfter}
-use Rattle.sja_link.specs.Picking.Picks.{nothing, picked, left}
-use Rattle.sja_link.proofs.Entering.{gathered_append, of_part_here, of_part_else, of_part_none, of_part_later}
+use Rattle.lemmas.specs.Picking.{Picks, EachAfter}
+use Rattle.lemmas.specs.Picking.Picks.{nothing, picked, left}
+use Rattle.lemmas.proofs.Gathered.{gathered_append}
+use Rattle.sja_link.proofs.Entering.{of_part_here, of_part_else, of_part_none, of_part_later}
 use Rattle.sja_link.proofs.Entering.{part_here, part_else}
 
 -- ---- what is picked

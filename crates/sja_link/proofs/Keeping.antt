@@ -7,7 +7,7 @@ use Rattle.sja_link.specs.declared.down.Down.{Down}
 use Rattle.sja_link.specs.declared.up.Up.{Up}
 use Rattle.sja_link.specs.declared.event.Event.{Event}
 use Rattle.sja_link.specs.declared.event.Event.TheVariants.{Get, Release, Take}
-use Rattle.sja_link.specs.Gathering.{total}
+use Rattle.lemmas.specs.Gathering.{total}
 use Rattle.sja_link.specs.Lists.{messages}
 use Rattle.sja_link.specs.Free.{credit_of}
 use Rattle.sja_link.specs.World.{WorldValue, bytes_of, credits_of, free, is_off, is_stop}
@@ -17,7 +17,7 @@ use Rattle.sja_link.specs.declared.up.Up.TheVariants.{Credit}
 use Rattle.sja_link.proofs.ListCounts.{credits_both, messages_both}
 use Rattle.sja_link.proofs.WorldBudget.{budget}
 use Rattle.sja_link.proofs.Worlds.{world_next}
-use Rattle.sja_link.proofs.Freeing.{total_push}
+use Rattle.lemmas.proofs.Gathered.{total_push}
 use Rattle.sja_link.specs.declared.down.Down.TheVariants.{Message, Off}
 
 -- ---- what a step answers

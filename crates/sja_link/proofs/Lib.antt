@@ -1,11 +1,9 @@
 pub mod Small
-pub mod Pushed
 pub mod Entering
 pub mod Freeing
 pub mod Judging
 pub mod Openings
 pub mod ListCounts
-pub mod Related
 pub mod WorldBudget
 pub mod LongMessages
 pub mod Worlds

@@ -4,7 +4,7 @@ use Rattle.sja_link.specs.declared.down.Down.{Down}
 use Rattle.sja_link.specs.declared.down.Down.TheVariants.{Message, Off as OffDown}
 use Rattle.sja_link.specs.declared.up.Up.{Up}
 use Rattle.sja_link.specs.declared.up.Up.TheVariants.{Start as StartUp, Credit, Send as SendUp, Stop as StopUp}
-use Rattle.sja_link.specs.Gathering.{total}
+use Rattle.lemmas.specs.Gathering.{total}
 use Rattle.sja_link.specs.Free.{credit_of}
 use Rattle.sja_link.specs.World.{bytes_of, credits_of, is_off, is_start, is_send, is_stop}
 use Rattle.sja_link.specs.Lists.{messages}

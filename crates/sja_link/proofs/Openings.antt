@@ -6,7 +6,7 @@ use Rattle.can_node.specs.declared.config.Config.{Config}
 use Rattle.sja_link.specs.declared.up.Up.TheVariants.{Start, Credit, Send, Stop}
 use Rattle.sja_link.specs.declared.entry.Entry.{Entry}
 use Rattle.sja_link.specs.declared.entry.Entry.TheVariants.{Bit, Up as Item, Abort, Stored, Overrun, Off}
-use Rattle.sja_link.specs.Gathering.{gathered}
+use Rattle.lemmas.specs.Gathering.{gathered}
 use Rattle.sja_link.specs.Places.{JournalPlace, first_place, past, past_all, place_of, placed_from}
 use Rattle.sja_link.specs.Parts.{in_part, entry_at, part}
 use Rattle.sja_link.specs.Verdicts.{filter_of}

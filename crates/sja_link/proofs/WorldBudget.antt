@@ -5,13 +5,13 @@ use Rattle.std.proofs.lemmas.List.{length-map}
 use Rattle.std.proofs.Math.Seq.{drop-append_seam}
 use Rattle.sja_link.specs.declared.down.Down.{Down}
 use Rattle.sja_link.specs.declared.up.Up.{Up}
-use Rattle.sja_link.specs.Gathering.{total}
+use Rattle.lemmas.specs.Gathering.{total}
 use Rattle.sja_link.specs.Free.{credit_of}
 use Rattle.sja_link.specs.World.{WorldValue, bytes_of, credits_of, is_off, is_start, is_stop, unreleased, held, on_way}
 use Rattle.sja_link.specs.Lists.{messages}
 use Rattle.sja_link.specs.Budget.{IsBudget}
 use Rattle.sja_link.specs.Kept.Fields.{AreBig, lengths, sends_left, IsWorld}
-use Rattle.sja_link.proofs.Freeing.{total_append}
+use Rattle.lemmas.proofs.Gathered.{total_append}
 use Rattle.sja_link.proofs.ListCounts.{messages_both, credits_both, big_after, big_before, big_sum}
 use Rattle.sja_link.proofs.ListCounts.{lengths_both, bytes_sum, credit_sum, down_count, up_count}
 

@@ -9,7 +9,7 @@ use Rattle.sja_link.specs.declared.up.Up.{Up}
 use Rattle.sja_link.specs.declared.up.Up.TheVariants.{Start as StartUp, Credit, Send as SendUp, Stop as StopUp}
 use Rattle.sja_link.specs.declared.event.Event.{Event}
 use Rattle.sja_link.specs.declared.event.Event.TheVariants.{Start, Put, Off, Get, Release, Send, SendDone, Stop, Take}
-use Rattle.sja_link.specs.Gathering.{total}
+use Rattle.lemmas.specs.Gathering.{total}
 use Rattle.sja_link.specs.Free.{credit_of}
 use Rattle.sja_link.specs.World.{WorldValue, new_world, bytes_of, credits_of}
 use Rattle.sja_link.specs.World.{is_off, is_start, is_send, is_stop, unreleased}
@@ -17,7 +17,7 @@ use Rattle.sja_link.specs.Lists.{messages}
 use Rattle.sja_link.specs.WorldEvents.{Allowed, first_credit, done, Reached}
 use Rattle.sja_link.specs.Kept.Fields.{AreBig, lengths, sends_left, IsWorld}
 use Rattle.sja_link.specs.WorldEvents.Reached.{begun, next}
-use Rattle.sja_link.proofs.Freeing.{total_push}
+use Rattle.lemmas.proofs.Gathered.{total_push}
 use Rattle.sja_link.proofs.ListCounts.{messages_both, credits_both, big_push, lengths_both}
 use Rattle.sja_link.proofs.WorldBudget.{rest_is, way_is}
 use Rattle.sja_link.proofs.LongMessages.{IsLong, event_long}

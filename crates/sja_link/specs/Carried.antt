@@ -6,7 +6,7 @@ use Rattle.sja_link.specs.declared.down.Down.TheVariants.{Message, Off as OffDow
 use Rattle.sja_link.specs.declared.up.Up.{Up}
 use Rattle.sja_link.specs.declared.entry.Entry.{Entry}
 use Rattle.sja_link.specs.declared.entry.Entry.TheVariants.{Bit, Up as Item, Abort, Stored, Overrun, Off}
-use Rattle.sja_link.specs.Gathering.{gathered}
+use Rattle.lemmas.specs.Gathering.{gathered}
 
 -- the two levels of a bit
 abbrev pub bit_in : Entry → List NodeBit

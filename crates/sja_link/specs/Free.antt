@@ -4,7 +4,7 @@ use Rattle.sja_link.specs.declared.up.Up.{Up}
 use Rattle.sja_link.specs.declared.up.Up.TheVariants.{Start, Credit, Send, Stop}
 use Rattle.sja_link.specs.declared.entry.Entry.{Entry}
 use Rattle.sja_link.specs.declared.entry.Entry.TheVariants.{Bit, Up as Item, Abort, Stored, Overrun, Off}
-use Rattle.sja_link.specs.Gathering.{total}
+use Rattle.lemmas.specs.Gathering.{total}
 
 -- the bytes that an item gives back
 abbrev pub credit_of : Up → ℕ

@@ -1,7 +1,5 @@
 pub mod NodeWords
-pub mod Gathering
 pub mod Lists
-pub mod Related
 pub mod Deques
 pub mod Places
 pub mod Parts
@@ -9,7 +7,6 @@ pub mod Carried
 pub mod Accounts
 pub mod Records
 pub mod Free
-pub mod Picking
 pub mod Judged
 pub mod Verdicts
 pub mod BusLedgers

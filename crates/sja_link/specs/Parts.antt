@@ -1,7 +1,7 @@
 -- The part of a journal that one activation is (this project's own rule).
 use Rattle.std.specs.Prelude.{ℕ, ◌==◌, if◌then◌else◌, List, [], ◌∷◌}
 use Rattle.sja_link.specs.declared.entry.Entry.{Entry}
-use Rattle.sja_link.specs.Gathering.{gathered}
+use Rattle.lemmas.specs.Gathering.{gathered}
 use Rattle.sja_link.specs.Places.{Placed, placed, activation_of}
 
 -- what the entries of one activation give, in order

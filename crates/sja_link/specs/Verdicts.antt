@@ -14,7 +14,7 @@ use Rattle.sja_link.specs.declared.entry.Entry.TheVariants.{Bit, Up as Item, Abo
 use Rattle.sja_link.specs.Parts.{part}
 use Rattle.sja_link.specs.Records.{record_of}
 use Rattle.sja_link.specs.Free.{free_of}
-use Rattle.sja_link.specs.Picking.{Picks, EachAfter}
+use Rattle.lemmas.specs.Picking.{Picks, EachAfter}
 use Rattle.sja_link.specs.Judged.{Judged, judged_in}
 
 -- the filter in the start of a part

@@ -1,7 +1,7 @@
 //! What is among the items of a link.
 
 ghost use Rattle.std.specs.Prelude.{◌≡◌, ◌≢◌, true, false, [], ◌∷◌, drop, IfSome, IfNone};
-ghost use Rattle.sja_link.specs.Gathering.{total};
+ghost use Rattle.lemmas.specs.Gathering.{total};
 ghost use Rattle.sja_link.specs.Free.{credit_of};
 ghost use Rattle.sja_link.specs.declared.up.Up.TheVariants.{Credit};
 ghost use Rattle.sja_link.specs.Lists.{messages};

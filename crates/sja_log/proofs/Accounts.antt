@@ -10,7 +10,7 @@ use Rattle.sja_link.specs.Parts.{part}
 use Rattle.sja_link.specs.Carried.{put_of, taken_of}
 use Rattle.sja_link.specs.Accounts.{Account}
 use Rattle.sja_link.specs.Judged.{judged_in, kept}
-use Rattle.sja_link.specs.Picking.{Picks}
+use Rattle.lemmas.specs.Picking.{Picks}
 use Rattle.sja_link.specs.Verdicts.{IsAccepted, IsOn, HasVerdicts, IsLawful}
 use Rattle.sja_link.proofs.Judging.{kept_stored}
 use Rattle.sja_link.proofs.Holding.{told_stored}

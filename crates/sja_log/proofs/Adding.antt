@@ -10,11 +10,12 @@ use Rattle.sja_link.specs.declared.verdict.Verdict.TheVariants.{Stored as ToStor
 use Rattle.sja_link.specs.declared.entry.Entry.{Entry}
 use Rattle.sja_link.specs.declared.entry.Entry.TheVariants.{Bit, Abort, Stored, Overrun, Off}
 use Rattle.sja_link.specs.Looking.{off_among}
-use Rattle.sja_link.specs.Picking.{EachAfter}
+use Rattle.lemmas.specs.Picking.{EachAfter}
 use Rattle.sja_link.specs.Places.{JournalPlace, past, place_of}
 use Rattle.sja_link.specs.Parts.{part}
 use Rattle.sja_link.specs.Carried.{put_in, put_of}
-use Rattle.sja_link.proofs.Entering.{place_push, gathered_append}
+use Rattle.lemmas.proofs.Gathered.{gathered_append}
+use Rattle.sja_link.proofs.Entering.{place_push}
 use Rattle.sja_link.proofs.Pullings.{off_both}
 use Rattle.sja_wire.specs.OneBit.{abort_as, judged_as, off_as, HasBit}
 use Rattle.sja_driver.specs.Deeds.{Deed}

@@ -6,8 +6,8 @@ use Rattle.std.proofs.lemmas.List.{length-append}
 use Rattle.sja_link.specs.declared.entry.Entry.{Entry}
 use Rattle.sja_link.specs.declared.entry.Entry.TheVariants.{Bit, Up as Item, Abort, Stored, Overrun, Off}
 use Rattle.sja_link.specs.Carried.{bit_in, bits_of, taken_in, taken_of}
-use Rattle.sja_link.specs.Picking.{EachAfter}
-use Rattle.sja_link.proofs.Entering.{gathered_push}
+use Rattle.lemmas.specs.Picking.{EachAfter}
+use Rattle.lemmas.proofs.Gathered.{gathered_push}
 use Rattle.sja_log.specs.Moments.{at_moment, IsLater, IsFront}
 
 -- ---- how a moment goes on at an entry, where so many bits and items are left

@@ -7,7 +7,7 @@ use Rattle.sja_link.specs.declared.down.Down.{Down}
 use Rattle.sja_link.specs.declared.entry.Entry.{Entry}
 use Rattle.sja_link.specs.Lists.{messages}
 use Rattle.sja_link.specs.Looking.{off_among}
-use Rattle.sja_link.specs.Picking.{EachAfter}
+use Rattle.lemmas.specs.Picking.{EachAfter}
 use Rattle.sja_regs.specs.declared.registers.Registers.{Registers}
 use Rattle.sja_driver.specs.Carried.{Sees, carried}
 use Rattle.sja_driver.specs.Deeds.{Deed, opens_by, opened_by, active_after, is_active, deeds_of, released_lengths}

@@ -13,7 +13,7 @@ use Rattle.sja_driver.specs.Logs.{leaves}
 use Rattle.sja_log.specs.Log.{ActivationValue, NodeValue}
 use Rattle.sja_log.proofs.Logs.{index_map}
 use Rattle.sja_log.specs.Finishing.{activation_after, AreActivations, IsNodeEnd, AreNodeEnds}
-use Rattle.sja_link.proofs.Pushed.{push_here, push_front}
+use Rattle.lemmas.proofs.Pushed.{push_here, push_front}
 
 -- what an activation that ended left, and what the present one holds
 pub leaves_ended : (left : List DriverLedger) (held : List (List ℕ)) (a : ℕ) (d : DriverLedger) → a < length left →

@@ -4,13 +4,13 @@ use Rattle.std.proofs.Common.{ap, ◌∙◌, subst, cond, append_assoc, append-n
 use Rattle.std.specs.Prelude.{◌==◌, if◌then◌else◌}
 use Rattle.sja_driver.proofs.Sections.{active_push}
 use Rattle.std.proofs.lemmas.Bool.{cases_eq, cases_lt, eq-eqb, ne_eqb}
-use Rattle.can_bits.proofs.Lists.{last_of}
+use Rattle.lemmas.proofs.Lists.{last_of}
 use Rattle.can_node.proofs.OneCut.Entries.{some_not_none}
 use Rattle.sja_link.specs.declared.up.Up.{Up}
 use Rattle.sja_link.specs.declared.up.Up.TheVariants.{Start as StartItem, Credit, Send as SendItem, Stop as StopItem}
 use Rattle.sja_link.specs.declared.entry.Entry.{Entry}
-use Rattle.sja_link.specs.Picking.{EachAfter}
-use Rattle.sja_link.proofs.Freeing.{total_push}
+use Rattle.lemmas.specs.Picking.{EachAfter}
+use Rattle.lemmas.proofs.Gathered.{total_push}
 use Rattle.sja_driver.specs.Deeds.{Deed, opened, opens_by, opened_by, active_after, is_active, FitsState, Gives}
 use Rattle.sja_driver.specs.Deeds.{given_in, deeds_of}
 use Rattle.sja_log.proofs.Orders.{HasStop, StopsLast, GivesInOrder, TakesInOrder}

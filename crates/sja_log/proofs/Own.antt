@@ -5,13 +5,14 @@ use Rattle.std.proofs.lemmas.Bool.{cases_eq}
 use Rattle.sja_link.specs.declared.up.Up.{Up}
 use Rattle.sja_link.specs.declared.entry.Entry.{Entry}
 use Rattle.sja_link.specs.declared.entry.Entry.TheVariants.{Bit, Up as Item, Abort, Stored, Overrun, Off}
-use Rattle.sja_link.specs.Gathering.{total}
+use Rattle.lemmas.specs.Gathering.{total}
 use Rattle.sja_link.specs.Places.{JournalPlace, past, place_of}
 use Rattle.sja_link.specs.Parts.{part}
 use Rattle.sja_link.specs.Carried.{taken_in, taken_of}
 use Rattle.sja_link.specs.World.{is_send}
-use Rattle.sja_link.proofs.Entering.{place_push, of_part_none, part_here, part_else, gathered_push}
-use Rattle.sja_link.proofs.Freeing.{total_push}
+use Rattle.lemmas.proofs.Gathered.{gathered_push}
+use Rattle.sja_link.proofs.Entering.{place_push, of_part_none, part_here, part_else}
+use Rattle.lemmas.proofs.Gathered.{total_push}
 use Rattle.sja_wire.specs.Links.{stops_in, stops_of}
 use Rattle.sja_log.specs.Aborting.{sends_taken}
 use Rattle.sja_log.specs.Timing.{taken_when, timed}

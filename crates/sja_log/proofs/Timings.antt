@@ -4,7 +4,7 @@ use Rattle.std.proofs.Common.{◌∙◌, subst, append_assoc, append-nil, arith,
 use Rattle.std.specs.Prelude.{nat_le, ◌==◌, if◌then◌else◌}
 use Rattle.std.proofs.lemmas.Bool.{cases_eq, cases_lt, le-leb, lt-leb}
 use Rattle.std.proofs.lemmas.List.{map-append}
-use Rattle.can_bits.proofs.Lists.{last_of}
+use Rattle.lemmas.proofs.Lists.{last_of}
 use Rattle.can_bits.specs.declared.level.Level.{Level}
 use Rattle.can_node.proofs.OneCut.Entries.{some_not_none}
 use Rattle.sja_link.specs.declared.down.Down.{Down}
@@ -12,13 +12,13 @@ use Rattle.sja_link.specs.declared.up.Up.{Up}
 use Rattle.sja_link.specs.declared.up.Up.TheVariants.{Start, Credit, Send, Stop}
 use Rattle.sja_link.specs.declared.entry.Entry.{Entry}
 use Rattle.sja_link.specs.declared.entry.Entry.TheVariants.{Bit, Up as Item, Abort, Stored, Overrun, Off}
-use Rattle.sja_link.specs.Gathering.{gathered}
+use Rattle.lemmas.specs.Gathering.{gathered}
 use Rattle.sja_link.specs.Places.{JournalPlace, first_place, past, past_all, place_of, Placed, placed_from}
 use Rattle.sja_link.specs.Parts.{in_part, entry_at, part}
 use Rattle.sja_link.specs.Carried.{taken_in, put_in, taken_of, put_of}
-use Rattle.sja_link.specs.Picking.{EachAfter}
+use Rattle.lemmas.specs.Picking.{EachAfter}
 use Rattle.sja_link.proofs.Entering.{place_push, of_part_here, of_part_else, of_part_none, part_here, part_else}
-use Rattle.sja_link.proofs.Entering.{gathered_push}
+use Rattle.lemmas.proofs.Gathered.{gathered_push}
 use Rattle.sja_link.proofs.Judging.{each_push}
 use Rattle.sja_driver.specs.Deeds.{Deed}
 use Rattle.sja_log.specs.Timing.{Timed, timed, taken_when}

@@ -11,7 +11,7 @@ use Rattle.sja_link.specs.declared.entry.Entry.TheVariants.{Up as Item}
 use Rattle.sja_link.specs.Parts.{part}
 use Rattle.sja_link.specs.Records.{record_of}
 use Rattle.sja_link.specs.Judged.{judged_in, kept}
-use Rattle.sja_link.specs.Picking.{Picks, EachAfter}
+use Rattle.lemmas.specs.Picking.{Picks, EachAfter}
 use Rattle.sja_link.specs.Verdicts.{IsAccepted, IsOn, IsDue}
 use Rattle.sja_log.specs.Log.{ActivationValue, NodeValue}
 

@@ -2,7 +2,7 @@
 -- was put.
 use Rattle.std.specs.Prelude.{◌≡◌, ◌≢◌, ℕ, List, []}
 use Rattle.sja_link.specs.declared.entry.Entry.{Entry}
-use Rattle.sja_link.specs.Picking.{EachAfter}
+use Rattle.lemmas.specs.Picking.{EachAfter}
 use Rattle.sja_script.specs.declared.refusal.Refusal.TheVariants.{Closed}
 use Rattle.sja_script.specs.declared.step_answer.StepAnswer.TheVariants.{Refused}
 use Rattle.sja_driver.specs.Deeds.{Deed, is_active}

@@ -5,7 +5,7 @@ use Rattle.sja_link.specs.NodeWords.{NodeEntry}
 use Rattle.sja_link.specs.declared.entry.Entry.{Entry}
 use Rattle.sja_link.specs.declared.entry.Entry.TheVariants.{Bit, Up as Item, Abort, Stored, Overrun, Off}
 use Rattle.sja_link.specs.Carried.{bits_of, taken_of}
-use Rattle.sja_link.specs.Picking.{EachAfter}
+use Rattle.lemmas.specs.Picking.{EachAfter}
 use Rattle.sja_link.specs.Records.{record_of}
 use Rattle.sja_driver.specs.Deeds.{Deed, given_in}
 

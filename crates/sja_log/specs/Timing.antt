@@ -2,7 +2,7 @@
 use Rattle.std.specs.Prelude.{ℕ, List, map}
 use Rattle.sja_link.specs.declared.up.Up.{Up}
 use Rattle.sja_link.specs.declared.entry.Entry.{Entry}
-use Rattle.sja_link.specs.Gathering.{gathered}
+use Rattle.lemmas.specs.Gathering.{gathered}
 use Rattle.sja_link.specs.Parts.{of_part}
 use Rattle.sja_link.specs.Carried.{taken_in}
 use Rattle.sja_driver.specs.Deeds.{Deed, deeds_of}

@@ -2,7 +2,7 @@
 use Rattle.std.proofs.Common.{◌≡◌, ℕ, ◌+◌, ◌<◌, ◌≤◌, zero, suc, List, [], ◌∷◌, ◌++◌, length, map, drop, get_or}
 use Rattle.std.proofs.Common.{refl, sym, ap, ◌∙◌, arith, append_assoc, drop-cons}
 use Rattle.std.specs.Prelude.{slice_index_or}
-use Rattle.sja_link.proofs.Entering.{gathered_append}
+use Rattle.lemmas.proofs.Gathered.{gathered_append}
 use Rattle.sja_report.specs.ReportLines.{words_text, line_text, lines_text, numbered}
 use Rattle.sja_report.specs.Inside.Spacing.{all_spaced}
 use Rattle.sja_report.specs.Inside.Tallies.{TallyValue, no_tally, tally_value}

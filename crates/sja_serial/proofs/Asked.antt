@@ -13,14 +13,15 @@ use Rattle.sja_link.specs.declared.down.Down.TheVariants.{Message, Off as OffDow
 use Rattle.sja_link.specs.declared.up.Up.TheVariants.{Start as StartItem, Credit, Send as SendItem, Stop as StopItem}
 use Rattle.sja_link.specs.declared.entry.Entry.{Entry}
 use Rattle.sja_link.specs.declared.entry.Entry.TheVariants.{Bit, Up as Item, Abort, Stored, Overrun, Off}
-use Rattle.sja_link.specs.Gathering.{gathered}
+use Rattle.lemmas.specs.Gathering.{gathered}
 use Rattle.sja_link.specs.Looking.{off_among}
 use Rattle.sja_link.specs.Parts.{in_part, entry_at}
 use Rattle.sja_link.specs.Carried.{put_in, put_of}
 use Rattle.sja_link.specs.Places.{JournalPlace, first_place, past, past_all, placed_from, place_of}
 use Rattle.sja_link.specs.Records.{told, record_of}
 use Rattle.sja_link.specs.Verdicts.{IsLawful}
-use Rattle.sja_link.proofs.Entering.{record_push, gathered_append}
+use Rattle.lemmas.proofs.Gathered.{gathered_append}
+use Rattle.sja_link.proofs.Entering.{record_push}
 use Rattle.sja_link.proofs.Pullings.{off_both}
 use Rattle.sja_log.specs.Windows.{off_by}
 use Rattle.sja_log.proofs.Timings.{put_now}

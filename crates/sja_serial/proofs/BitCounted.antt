@@ -17,11 +17,11 @@ use Rattle.sja_link.specs.declared.verdict.Verdict.TheVariants.{Stored as ToStor
 use Rattle.sja_link.specs.declared.up.Up.TheVariants.{Start, Credit, Send, Stop}
 use Rattle.sja_link.specs.declared.entry.Entry.{Entry}
 use Rattle.sja_link.specs.declared.entry.Entry.TheVariants.{Bit, Up as Item, Abort, Stored, Overrun, Off}
-use Rattle.sja_link.specs.Gathering.{gathered, total}
+use Rattle.lemmas.specs.Gathering.{gathered, total}
 use Rattle.sja_link.specs.Places.{JournalPlace as Point, first_place, past, past_all, place_of, placed_from}
 use Rattle.sja_link.specs.Records.{told, told_at, record_of}
 use Rattle.sja_link.proofs.Entering.{record_push, record_counted}
-use Rattle.sja_link.proofs.Freeing.{total_append, total_push}
+use Rattle.lemmas.proofs.Gathered.{total_append, total_push}
 use Rattle.sja_regs.specs.declared.bus_turn.BusTurn.{BusTurn}
 use Rattle.sja_regs.specs.declared.orders.Orders.{Orders}
 use Rattle.sja_regs.specs.declared.registers.Registers.{Registers}

@@ -6,8 +6,8 @@ use Rattle.can_bits.specs.declared.level.Level.{Level}
 use Rattle.can_bits.specs.declared.level.Level.TheVariants.{Recessive}
 use Rattle.sja_link.specs.declared.entry.Entry.{Entry}
 use Rattle.sja_link.specs.Deques.{Deques, Lies}
-use Rattle.sja_link.specs.Related.{EachRelated}
-use Rattle.sja_link.proofs.Related.{each_at}
+use Rattle.lemmas.specs.Related.{EachRelated}
+use Rattle.lemmas.proofs.Related.{each_at}
 use Rattle.sja_regs.specs.declared.bus_turn.BusTurn.{BusTurn}
 use Rattle.sja_regs.specs.declared.orders.Orders.{Orders}
 use Rattle.sja_regs.specs.declared.registers.Registers.{Registers}

@@ -10,12 +10,12 @@ use Rattle.sja_link.specs.declared.up.Up.{Up}
 use Rattle.sja_link.specs.declared.up.Up.TheVariants.{Start as StartItem, Credit, Send as SendItem, Stop as StopItem}
 use Rattle.sja_link.specs.declared.entry.Entry.{Entry}
 use Rattle.sja_link.specs.declared.entry.Entry.TheVariants.{Up as Item}
-use Rattle.sja_link.specs.Gathering.{total}
+use Rattle.lemmas.specs.Gathering.{total}
 use Rattle.sja_link.specs.Places.{JournalPlace, past, place_of}
 use Rattle.sja_link.specs.Records.{record_of}
 use Rattle.sja_link.specs.Verdicts.{IsLawful}
 use Rattle.sja_link.proofs.Entering.{place_push, record_push}
-use Rattle.sja_link.proofs.Freeing.{total_push}
+use Rattle.lemmas.proofs.Gathered.{total_push}
 use Rattle.sja_regs.specs.declared.registers.Registers.{Registers}
 use Rattle.sja_driver.specs.Carried.{asks_abort}
 use Rattle.sja_driver.specs.Deeds.{Deed}

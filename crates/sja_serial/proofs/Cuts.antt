@@ -4,7 +4,7 @@ use Rattle.std.proofs.Common.{append-nil, inl, inr}
 use Rattle.std.specs.Prelude.{◌⊎◌, ◌&&◌, not, if◌then◌else◌, Option, Some, None}
 use Rattle.std.proofs.lemmas.List.{same_from_push}
 use Rattle.can_bits.specs.declared.level.Level.{Level}
-use Rattle.can_bits.proofs.Lists.{last_of}
+use Rattle.lemmas.proofs.Lists.{last_of}
 use Rattle.can_node.specs.declared.config.Config.{Config}
 use Rattle.can_node.specs.declared.phase.Phase.TheVariants.{Reset}
 use Rattle.can_node.specs.declared.request.Request.{Request}

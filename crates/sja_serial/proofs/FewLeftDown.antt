@@ -10,7 +10,7 @@ use Rattle.sja_link.specs.declared.down.Down.TheVariants.{Message, Off as OffDow
 use Rattle.sja_link.specs.declared.up.Up.{Up}
 use Rattle.sja_link.specs.declared.entry.Entry.{Entry}
 use Rattle.sja_link.specs.declared.entry.Entry.TheVariants.{Bit, Up as Item, Abort, Stored, Overrun, Off}
-use Rattle.sja_link.specs.Gathering.{total}
+use Rattle.lemmas.specs.Gathering.{total}
 use Rattle.sja_link.specs.Lists.{messages}
 use Rattle.sja_link.specs.Looking.{Holds}
 use Rattle.sja_link.specs.Accounts.{Account}
@@ -18,10 +18,10 @@ use Rattle.sja_link.specs.Parts.{part}
 use Rattle.sja_link.specs.Carried.{put_of, taken_of, stored_of}
 use Rattle.sja_link.specs.Free.{credit_of}
 use Rattle.sja_link.specs.Judged.{Judged, judged_in, kept}
-use Rattle.sja_link.specs.Picking.{Picks, EachAfter}
-use Rattle.sja_link.specs.Picking.Picks.{nothing, picked, left}
+use Rattle.lemmas.specs.Picking.{Picks, EachAfter}
+use Rattle.lemmas.specs.Picking.Picks.{nothing, picked, left}
 use Rattle.sja_link.specs.Verdicts.{IsOn, HasVerdicts}
-use Rattle.sja_link.proofs.Freeing.{total_append}
+use Rattle.lemmas.proofs.Gathered.{total_append}
 use Rattle.sja_link.proofs.Holding.{told_stored}
 use Rattle.sja_link.proofs.Judging.{kept_stored}
 use Rattle.sja_link.proofs.ListCounts.{messages_both}

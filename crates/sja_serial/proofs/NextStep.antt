@@ -7,7 +7,7 @@ use Rattle.std.proofs.lemmas.List.{get_or_default}
 use Rattle.sja_link.specs.declared.entry.Entry.{Entry}
 use Rattle.sja_link.specs.Deques.{Deques, Lies}
 use Rattle.sja_link.specs.Places.{place_of}
-use Rattle.sja_link.specs.Related.{EachRelated}
+use Rattle.lemmas.specs.Related.{EachRelated}
 use Rattle.sja_link.proofs.Entering.{bits_counted}
 use Rattle.sja_regs.specs.declared.registers.Registers.{Registers}
 use Rattle.sja_regs.specs.Registers.{at_power_on}

@@ -3,7 +3,7 @@ use Rattle.std.proofs.Common.{◌≡◌, ◌≤◌, ◌+◌, ℕ, Bool, true, fa
 use Rattle.std.proofs.Common.{◌∙◌, subst, append_assoc, arith}
 use Rattle.std.specs.Prelude.{if◌then◌else◌}
 use Rattle.std.proofs.lemmas.List.{append-nil, same_from_push}
-use Rattle.can_bits.proofs.Lists.{last_of}
+use Rattle.lemmas.proofs.Lists.{last_of}
 use Rattle.can_node.specs.declared.phase.Phase.TheVariants.{Reset}
 use Rattle.can_node.specs.Bits.{Bit}
 use Rattle.can_node.specs.Context.{ContextValue, fresh}

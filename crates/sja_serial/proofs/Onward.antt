@@ -13,12 +13,12 @@ use Rattle.sja_link.specs.declared.verdict.Verdict.{Verdict}
 use Rattle.sja_link.specs.declared.verdict.Verdict.TheVariants.{Stored as ToStore, Overrun as ToLose}
 use Rattle.sja_link.specs.declared.entry.Entry.{Entry}
 use Rattle.sja_link.specs.declared.entry.Entry.TheVariants.{Bit, Up as Item, Abort, Stored, Overrun, Off}
-use Rattle.sja_link.specs.Gathering.{gathered}
+use Rattle.lemmas.specs.Gathering.{gathered}
 use Rattle.sja_link.specs.Places.{JournalPlace, first_place, past, past_all, place_of, Placed, placed_from, placed}
 use Rattle.sja_link.specs.Parts.{in_part}
 use Rattle.sja_link.specs.Carried.{bits_of, taken_of, put_in}
 use Rattle.sja_link.specs.Verdicts.{entry_of}
-use Rattle.sja_link.proofs.Entering.{gathered_append}
+use Rattle.lemmas.proofs.Gathered.{gathered_append}
 use Rattle.sja_wire.specs.OneBit.{entries_of_items, abort_as, judged_as, off_as}
 use Rattle.sja_log.specs.Moments.{at_moment}
 use Rattle.sja_log.specs.Windows.{put_by}

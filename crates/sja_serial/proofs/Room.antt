@@ -5,8 +5,8 @@ use Rattle.sja_link.specs.declared.up.Up.{Up}
 use Rattle.sja_link.specs.declared.up.Up.TheVariants.{Start as StartItem, Credit, Send as SendItem, Stop as StopItem}
 use Rattle.sja_link.specs.declared.entry.Entry.{Entry}
 use Rattle.sja_link.specs.declared.entry.Entry.TheVariants.{Bit, Up as Item, Abort, Stored, Overrun, Off}
-use Rattle.sja_link.specs.Gathering.{total}
-use Rattle.sja_link.specs.Picking.{EachAfter}
+use Rattle.lemmas.specs.Gathering.{total}
+use Rattle.lemmas.specs.Picking.{EachAfter}
 use Rattle.sja_link.specs.Places.{JournalPlace, first_place, past, past_all, place_of}
 use Rattle.sja_link.specs.Verdicts.{IsLawful}
 use Rattle.sja_bus.specs.Reasons.{room_for}

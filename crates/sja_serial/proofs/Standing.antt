@@ -15,8 +15,8 @@ use Rattle.sja_wire.specs.Telling.{IsUntold}
 use Rattle.sja_wire.specs.Wire.{journal_at}
 use Rattle.sja_link.specs.Places.{place_of}
 use Rattle.sja_link.specs.Verdicts.{IsLawful as IsLawfulJournal}
-use Rattle.sja_link.specs.Related.{EachRelated}
-use Rattle.sja_link.proofs.Related.{each_at}
+use Rattle.lemmas.specs.Related.{EachRelated}
+use Rattle.lemmas.proofs.Related.{each_at}
 use Rattle.sja_plan.specs.Plan.{PlanValue}
 use Rattle.sja_script.specs.declared.step.Step.{Step}
 use Rattle.sja_regs.specs.declared.registers.Registers.{Registers}

@@ -8,7 +8,7 @@ use Rattle.can_node.specs.NextBit.{now_in}
 use Rattle.sja_link.specs.NodeWords.{FinishedPiece, IsCut}
 use Rattle.sja_link.specs.declared.entry.Entry.{Entry}
 use Rattle.sja_link.specs.declared.entry.Entry.TheVariants.{Bit, Up as Item, Abort, Stored, Overrun, Off}
-use Rattle.sja_link.specs.Gathering.{total}
+use Rattle.lemmas.specs.Gathering.{total}
 use Rattle.sja_link.specs.Places.{place_of}
 use Rattle.sja_link.specs.Records.{record_of}
 use Rattle.sja_regs.specs.declared.registers.Registers.{Registers}

@@ -3,9 +3,9 @@ use Rattle.std.proofs.Common.{◌≡◌, ℕ, ◌+◌, ◌<◌, ◌≤◌, ◌�
 use Rattle.std.proofs.Common.{◌∙◌, append-nil, arith, inl, inr}
 use Rattle.std.specs.Prelude.{◌==◌, if◌then◌else◌}
 use Rattle.std.proofs.lemmas.Bool.{ne_eqb}
-use Rattle.sja_link.specs.Gathering.{total}
-use Rattle.sja_link.specs.Picking.{EachAfter}
-use Rattle.sja_link.proofs.Entering.{gathered_append}
+use Rattle.lemmas.specs.Gathering.{total}
+use Rattle.lemmas.specs.Picking.{EachAfter}
+use Rattle.lemmas.proofs.Gathered.{gathered_append}
 use Rattle.sja_script.specs.declared.step.Step.{Step}
 use Rattle.sja_driver.specs.Deeds.{Deed, opens_by, opened_by, active_after, is_active, FitsState, Gives, given_in}
 use Rattle.sja_driver.specs.Deeds.{section_from, deeds_of, AreDeeds}

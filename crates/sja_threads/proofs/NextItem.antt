@@ -7,7 +7,7 @@ use Rattle.sja_link.specs.declared.up.Up.TheVariants.{Start as StartUp, Credit, 
 use Rattle.sja_link.specs.declared.entry.Entry.{Entry}
 use Rattle.sja_link.specs.Carried.{put_of}
 use Rattle.sja_link.specs.Free.{credit_of, bytes_in}
-use Rattle.sja_link.specs.Gathering.{total}
+use Rattle.lemmas.specs.Gathering.{total}
 use Rattle.sja_link.specs.Lists.{messages}
 use Rattle.sja_link.specs.World.{is_off, bytes_of, credits_of}
 use Rattle.sja_link.proofs.Judging.{put_stored}

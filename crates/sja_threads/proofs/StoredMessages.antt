@@ -7,8 +7,8 @@ use Rattle.sja_link.specs.declared.entry.Entry.{Entry}
 use Rattle.sja_link.specs.Carried.{stored_of}
 use Rattle.sja_link.specs.Judged.{Judged, judged_in, kept}
 use Rattle.sja_link.specs.Parts.{part}
-use Rattle.sja_link.specs.Picking.{Picks}
-use Rattle.sja_link.specs.Picking.Picks.{nothing, picked, left}
+use Rattle.lemmas.specs.Picking.{Picks}
+use Rattle.lemmas.specs.Picking.Picks.{nothing, picked, left}
 use Rattle.sja_link.specs.Records.{record_of}
 use Rattle.sja_link.specs.Verdicts.{IsOn, IsLawful}
 use Rattle.sja_link.proofs.Judging.{kept_stored}

@@ -4,7 +4,7 @@ use Rattle.sja_link.specs.declared.entry.Entry.{Entry}
 use Rattle.sja_link.specs.declared.entry.Entry.TheVariants.{Bit, Up as Item, Abort, Stored, Overrun, Off as OffEntry}
 use Rattle.sja_link.specs.declared.event.Event.{Event}
 use Rattle.sja_link.specs.declared.event.Event.TheVariants.{Start, Put, Off, Get, Release, Send, SendDone, Stop, Take}
-use Rattle.sja_link.specs.Gathering.{gathered}
+use Rattle.lemmas.specs.Gathering.{gathered}
 use Rattle.sja_link.specs.Lists.{Lists}
 use Rattle.sja_link.specs.Accounts.{account}
 use Rattle.sja_link.specs.Parts.{part}

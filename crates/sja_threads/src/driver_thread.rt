@@ -1,7 +1,7 @@
 //! [`DriverThread`]: a driver in a thread of its own, and the steps of its script, each tried as the gate lets it.
 
 ghost use Rattle.std.specs.Prelude.{◌≡◌, ◌≤◌, false, length};
-ghost use Rattle.sja_link.specs.Related.{EachRelated};
+ghost use Rattle.lemmas.specs.Related.{EachRelated};
 ghost use Rattle.sja_regs.specs.DriverSettings.{SettingsValue};
 ghost use Rattle.sja_driver.specs.Holding.{NumberedFrom};
 ghost use Rattle.sja_driver.specs.LoggedDrivers.{log_of};

@@ -1,7 +1,7 @@
 //! [`JoinedRun`]: a run once all its drivers' threads are joined, and how they are.
 
 ghost use Rattle.std.specs.Prelude.{◌≡◌, ◌≤◌, [], map, vec_len, vec_capacity};
-ghost use Rattle.sja_link.specs.Related.{EachRelated};
+ghost use Rattle.lemmas.specs.Related.{EachRelated};
 ghost use Rattle.sja_threads.specs.Inside.Promised.{IsPromised};
 
 use super::bus_thread::BusThread;

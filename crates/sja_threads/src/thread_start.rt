@@ -1,7 +1,7 @@
 //! [`ThreadStart`]: what the thread of a driver begins with, and how the threads of all drivers are started.
 
 ghost use Rattle.std.specs.Prelude.{◌≡◌, ◌≤◌, [], length, map, vec_len, vec_capacity, All, IfOk, IfErr};
-ghost use Rattle.sja_link.specs.Related.{EachRelated};
+ghost use Rattle.lemmas.specs.Related.{EachRelated};
 ghost use Rattle.sja_log.specs.declared.run_fault.RunFault.TheVariants.{Thread};
 ghost use Rattle.sja_threads.specs.Inside.Started.{IsThreadStart, Serves};
 ghost use Rattle.sja_threads.specs.Inside.Promised.{IsFor};

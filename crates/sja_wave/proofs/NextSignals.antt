@@ -4,11 +4,11 @@ use Rattle.std.proofs.Common.{length, map, refl, sym, ap, ap₂, ◌∙◌, appe
 use Rattle.can_bits.specs.declared.level.Level.{Level}
 use Rattle.can_bits.specs.declared.level.Level.TheVariants.{Recessive}
 use Rattle.can_node.specs.Bits.{Bit as NodeBit, recessive_bit}
-use Rattle.sja_link.proofs.Entering.{gathered_push}
+use Rattle.lemmas.proofs.Gathered.{gathered_push}
 use Rattle.sja_link.specs.declared.up.Up.TheVariants.{Start, Credit, Send, Stop}
 use Rattle.sja_link.specs.declared.entry.Entry.{Entry}
 use Rattle.sja_link.specs.declared.entry.Entry.TheVariants.{Bit, Up as Item, Abort, Stored, Overrun, Off}
-use Rattle.sja_link.specs.Gathering.{gathered}
+use Rattle.lemmas.specs.Gathering.{gathered}
 use Rattle.sja_link.specs.Carried.{bit_in, stored_in, overrun_in, stored_of, overrun_of}
 use Rattle.sja_log.specs.Log.{NodeValue}
 use Rattle.sja_wave.specs.declared.cursor.Cursor.{Cursor}

@@ -4,8 +4,8 @@ use Rattle.std.proofs.Common.{drop, get_or, codes, decimal, refl, sym, ap, ap₂
 use Rattle.std.proofs.lemmas.List.{drop_more}
 use Rattle.can_bits.specs.declared.level.Level.{Level}
 use Rattle.can_bits.specs.Fields.{is_recessive}
-use Rattle.sja_link.proofs.Entering.{gathered_append}
-use Rattle.sja_link.specs.Gathering.{gathered}
+use Rattle.lemmas.proofs.Gathered.{gathered_append}
+use Rattle.lemmas.specs.Gathering.{gathered}
 use Rattle.sja_wire.specs.Wire.{wired}
 use Rattle.sja_log.specs.Log.{NodeValue, RunValue}
 use Rattle.sja_report.specs.ReportLines.{numbered}

@@ -6,7 +6,7 @@ use Rattle.can_node.specs.Bits.{Bit as NodeBit, recessive_bit}
 use Rattle.sja_link.specs.declared.up.Up.TheVariants.{Start, Credit, Send, Stop}
 use Rattle.sja_link.specs.declared.entry.Entry.{Entry}
 use Rattle.sja_link.specs.declared.entry.Entry.TheVariants.{Bit, Up as Item, Abort, Stored, Overrun, Off}
-use Rattle.sja_link.specs.Gathering.{gathered}
+use Rattle.lemmas.specs.Gathering.{gathered}
 use Rattle.sja_link.specs.Carried.{bits_of, stored_of, overrun_of}
 
 -- the last element, or this one where there is none

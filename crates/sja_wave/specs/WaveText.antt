@@ -1,7 +1,7 @@
 -- The text of a wave: a value change dump (IEEE 1364-2005, section 18).
 -- A bit lasts one microsecond, ten units of 100 ns.
 use Rattle.std.specs.Prelude.{◌*◌, ℕ, zero, suc, Bool, true, false, List, [], ◌∷◌, ◌++◌, codes, decimal}
-use Rattle.sja_link.specs.Gathering.{gathered}
+use Rattle.lemmas.specs.Gathering.{gathered}
 use Rattle.sja_log.specs.Log.{NodeValue, RunValue}
 use Rattle.sja_report.specs.ReportLines.{line_text, numbered}
 use Rattle.sja_wave.specs.Wires.{Wire, bus_wire, node_wires, wires_of}

@@ -4,10 +4,10 @@ use Rattle.sja_link.specs.declared.up.Up.TheVariants.{Start, Credit, Send, Stop}
 use Rattle.sja_link.specs.declared.entry.Entry.{Entry}
 use Rattle.sja_link.specs.declared.entry.Entry.TheVariants.{Bit, Up as Item, Abort, Stored, Overrun, Off}
 use Rattle.sja_link.specs.declared.link_id.LinkId.{LinkId}
-use Rattle.sja_link.specs.Gathering.{total}
+use Rattle.lemmas.specs.Gathering.{total}
 use Rattle.sja_link.specs.Lists.{Lists}
 use Rattle.sja_link.specs.Parts.{part}
-use Rattle.sja_link.specs.Related.{EachRelated}
+use Rattle.lemmas.specs.Related.{EachRelated}
 use Rattle.sja_link.specs.Accounts.{Account, account}
 
 -- how many links, and so activations, a node has

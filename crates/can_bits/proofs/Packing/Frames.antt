@@ -10,7 +10,7 @@ use Rattle.can_bits.specs.declared.level.Level.{Level}
 use Rattle.can_bits.specs.Digits.{bits, value}
 use Rattle.can_bits.specs.Data.{data_place, says_bytes, data_levels}
 use Rattle.can_bits.specs.Spelling.{Spells}
-use Rattle.can_bits.proofs.Lists.{append-split, length_range}
+use Rattle.lemmas.proofs.Lists.{append-split, length_range}
 use Rattle.can_bits.proofs.Values.{bits-value, value-lt}
 use Rattle.can_bits.proofs.Whole.Bytes.{Writes}
 use Rattle.can_bits.proofs.SaidCounts.{whole_of}

@@ -10,7 +10,7 @@ use Rattle.can_bits.specs.declared.level.Level.TheVariants.{Dominant, Recessive}
 use Rattle.can_bits.specs.Digits.{digit, level_of, value}
 use Rattle.can_bits.specs.Fields.{level_at}
 use Rattle.can_bits.specs.Packing.{Packs}
-use Rattle.can_bits.proofs.Lists.{length_range}
+use Rattle.lemmas.proofs.Lists.{length_range}
 use Rattle.can_bits.proofs.Values.{value-append, value-lt, value-push}
 
 -- a number in three parts, of which the one in the middle is wanted

@@ -15,7 +15,7 @@ use Rattle.can_bits.specs.Machine.Gathering.{Gathers}
 use Rattle.can_bits.specs.Machine.PartSoFar.{EndsInRun, IsPartSoFar, BeginsPart}
 use Rattle.can_bits.specs.Machine.FrameParts.{IsInside, IsPast}
 use Rattle.can_bits.specs.Machine.PartSoFar.EndsInRun.{longer, other}
-use Rattle.can_bits.proofs.Lists.{reverse-push, fronts, append-cancel}
+use Rattle.lemmas.proofs.Lists.{reverse-push, fronts, append-cancel}
 use Rattle.can_bits.proofs.Runs.{run, run-same, run-other, run_one_more, IsShort}
 use Rattle.can_bits.proofs.Stuffs.{unstuffed, unstuffed-kept, unstuffed-dropped, run-leads}
 use Rattle.can_bits.proofs.Parts.{plain, part_of, part_to}

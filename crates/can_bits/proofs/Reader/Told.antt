@@ -16,7 +16,7 @@ use Rattle.can_bits.specs.Segments.{IsNext}
 use Rattle.can_bits.specs.Streaming.{IsReadable, BreaksWith, ShowsFrame, IsEventOf, Tells, TellsCheck}
 use Rattle.can_bits.specs.Machine.FrameParts.{IsInside, IsPast, ReadsAt}
 use Rattle.can_bits.specs.Shifts.{Broke, StandsBy, JudgesAt, fault_event}
-use Rattle.can_bits.proofs.Lists.{fronts, append-cancel, cases_list}
+use Rattle.lemmas.proofs.Lists.{fronts, append-cancel, cases_list}
 use Rattle.can_bits.proofs.Ending.{same_part, same_spelling}
 use Rattle.can_bits.proofs.Readables.{readable_front, part_readable, breaks_not_readable, wrong_shows_none, first_once}
 use Rattle.can_bits.proofs.Reader.Past.{past_readable, past_hides, past_with}

@@ -7,7 +7,7 @@ use Rattle.std.proofs.lemmas.List.Elements.{All-nil, All-cons}
 use Rattle.can_bits.specs.declared.level.Level.{Level}
 use Rattle.can_bits.specs.Digits.{bits, value}
 use Rattle.can_bits.proofs.Values.{length-bits, bits-value, bits-injective, value-lt}
-use Rattle.can_bits.proofs.Lists.{append-split}
+use Rattle.lemmas.proofs.Lists.{append-split}
 
 -- eight levels a byte
 pub length_bytes : (bytes : List ℕ) → length (flat_map (bits 8) bytes) ≡ 8 * length bytes

@@ -13,7 +13,7 @@ use Rattle.can_bits.specs.Fields.{level_at, is_recessive, says_ext, rtr_place}
 use Rattle.can_bits.specs.Fields.{dlc_place, says_rtr, four_from, says_dlc, IsWhole}
 use Rattle.can_bits.specs.Data.{id_by, says_id, data_place, says_bytes, data_levels}
 use Rattle.can_bits.specs.Spelling.{Spells}
-use Rattle.can_bits.proofs.Lists.{append-split, length_range}
+use Rattle.lemmas.proofs.Lists.{append-split, length_range}
 use Rattle.can_bits.proofs.Values.{length-bits, digit-lt, value-append, value-lt, bits-value, bits-split}
 use Rattle.can_bits.proofs.Whole.Bytes.{Writes, bytes_of}
 use Rattle.can_bits.proofs.FieldLemmas.{four-same, four-value}

@@ -9,7 +9,7 @@ use Rattle.can_bits.specs.declared.level.Level.TheVariants.{Dominant, Recessive}
 use Rattle.can_bits.specs.Check.{Crc}
 use Rattle.can_bits.specs.Line.{StuffedPart, Line, tail}
 use Rattle.can_bits.specs.Reading.{IsReceived, Begins, IsPastPart, IsFaultless}
-use Rattle.can_bits.proofs.Lists.{fronts, append-cancel, append-split, cases_list}
+use Rattle.lemmas.proofs.Lists.{fronts, append-cancel, append-split, cases_list}
 use Rattle.can_bits.proofs.Ending.{line_at, begins_front}
 use Rattle.can_bits.proofs.Going.{inside_open}
 use Rattle.can_bits.proofs.Whole.Steps.{Holds-nothing, IsBefore-nothing, inside_of}

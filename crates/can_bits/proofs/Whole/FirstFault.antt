@@ -15,7 +15,7 @@ use Rattle.can_bits.specs.Reading.{IsReceived, Begins, IsPastPart, IsFaultless, 
 use Rattle.can_bits.specs.Reading.{HasWrongCheck, IsNotAcknowledged, IsFirstFault}
 use Rattle.can_bits.specs.Streaming.{IsOver, IsLineButFor, BreaksWith}
 use Rattle.can_bits.specs.Machine.FrameParts.{IsPast}
-use Rattle.can_bits.proofs.Lists.{cases_list}
+use Rattle.lemmas.proofs.Lists.{cases_list}
 use Rattle.can_bits.proofs.Ending.{line_at}
 use Rattle.can_bits.proofs.Reader.Past.{past_with}
 use Rattle.can_bits.proofs.Readables.{wrong_whole}

@@ -10,7 +10,7 @@ use Rattle.can_bits.specs.Digits.{level_of, bits}
 use Rattle.can_bits.specs.Body.{head_bits, IsBody}
 use Rattle.can_bits.specs.Fields.{dlc_place}
 use Rattle.can_bits.specs.Spelling.{Spells}
-use Rattle.can_bits.proofs.Lists.{append-split}
+use Rattle.lemmas.proofs.Lists.{append-split}
 use Rattle.can_bits.proofs.Values.{length-bits, bits-injective, bits-split}
 use Rattle.can_bits.proofs.Whole.Bytes.{bytes-injective}
 use Rattle.can_bits.proofs.FieldLemmas.{says_spelled}

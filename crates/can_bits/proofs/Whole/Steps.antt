@@ -7,7 +7,7 @@ use Rattle.can_frame.specs.Frame.{data_count}
 use Rattle.can_bits.specs.declared.level.Level.{Level}
 use Rattle.can_bits.specs.declared.level.Level.TheVariants.{Dominant}
 use Rattle.can_bits.specs.Fields.{level_at, says_ext, says_rtr, says_dlc, dlc_place, says_count}
-use Rattle.can_bits.proofs.Lists.{reverse-cons, cases_list}
+use Rattle.lemmas.proofs.Lists.{reverse-cons, cases_list}
 use Rattle.can_bits.proofs.Runs.{run, IsShort}
 use Rattle.can_bits.proofs.Stuffs.{unstuffed, unstuffed-kept, unstuffed-dropped}
 use Rattle.can_bits.proofs.Stuffs.{Leads, run-leads, lead-same, lead-other}

@@ -7,7 +7,7 @@ use Rattle.can_bits.specs.declared.level.Level.{Level}
 use Rattle.can_bits.specs.declared.level.Level.TheVariants.{Dominant}
 use Rattle.can_bits.specs.Line.{StuffedPart, Line, tail}
 use Rattle.can_bits.specs.Reading.{IsReceived, Begins, IsFaultless, IsOpen}
-use Rattle.can_bits.proofs.Lists.{fronts, append-cancel, cases_list}
+use Rattle.lemmas.proofs.Lists.{fronts, append-cancel, cases_list}
 use Rattle.can_bits.proofs.Ending.{same_part, same_spelling, begins_front}
 use Rattle.can_bits.proofs.Whole.Faultless.{whole_ends}
 

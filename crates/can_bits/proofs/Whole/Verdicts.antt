@@ -11,7 +11,7 @@ use Rattle.can_bits.specs.Check.{Crc}
 use Rattle.can_bits.specs.Line.{StuffedPart}
 use Rattle.can_bits.specs.Reading.{IsReceived, Begins, IsFaultless, IsOpen, IsInPart}
 use Rattle.can_bits.specs.Reading.{BreaksAfter, HasWrongCheck, IsNotAcknowledged, IsFirstFault}
-use Rattle.can_bits.proofs.Lists.{longer_not}
+use Rattle.lemmas.proofs.Lists.{longer_not}
 use Rattle.can_bits.proofs.Ending.{same_part, same_spelling}
 use Rattle.can_bits.proofs.Whole.Faultless.{faultless_whole, whole_ends, faultless_check, faultless_ack}
 use Rattle.can_bits.proofs.Whole.Stops.{Stops, stops_once, reaches, open_not_whole, received_once}

@@ -7,7 +7,7 @@ use Rattle.can_bits.specs.Line.{StuffedPart}
 use Rattle.can_bits.specs.Reading.{IsPastPart}
 use Rattle.can_bits.specs.Segments.{IsNext, segment_at, segment_after}
 use Rattle.can_bits.specs.Segments.IsNext.{bit, stuff_bit, after_part}
-use Rattle.can_bits.proofs.Lists.{append-cancel}
+use Rattle.lemmas.proofs.Lists.{append-cancel}
 use Rattle.can_bits.proofs.Stuffs.{IsUnstuffed-unique}
 use Rattle.can_bits.proofs.Ending.{same_part}
 

@@ -7,7 +7,7 @@ use Rattle.can_bits.specs.declared.level.Level.{Level}
 use Rattle.can_bits.specs.declared.level.Level.TheVariants.{Dominant, Recessive}
 use Rattle.can_bits.specs.declared.segment.Segment.{Segment}
 use Rattle.can_bits.specs.Line.{tail}
-use Rattle.can_bits.proofs.Lists.{append-cancel}
+use Rattle.lemmas.proofs.Lists.{append-cancel}
 use Rattle.can_node.specs.declared.role.Role.{Role}
 use Rattle.can_node.specs.declared.role.Role.TheVariants.{Transmitter, Receiver}
 use Rattle.can_node.specs.declared.flag_kind.FlagKind.{FlagKind}

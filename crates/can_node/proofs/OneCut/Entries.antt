@@ -1,7 +1,7 @@
 -- Lists of entries: where a record has a start, a stop or bus-off, and where a slice ends.
 use Rattle.std.proofs.Common.{◌≡◌, ◌≢◌, ◌⊎◌, inl, inr, List, [], ◌∷◌, ◌++◌, refl, ap, sym, subst, ◌∙◌, append_assoc}
 use Rattle.std.proofs.lemmas.List.{append-nil, append_cancel_left, same_from_push}
-use Rattle.can_bits.proofs.Lists.{fronts, last_of}
+use Rattle.lemmas.proofs.Lists.{fronts, last_of}
 use Rattle.can_node.specs.declared.config.Config.{Config}
 use Rattle.can_node.specs.Bits.{recessive_bit, recessive_bits}
 use Rattle.can_node.specs.Context.{ContextValue}

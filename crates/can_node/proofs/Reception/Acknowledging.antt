@@ -9,7 +9,7 @@ use Rattle.can_bits.specs.declared.level.Level.TheVariants.{Dominant, Recessive}
 use Rattle.can_bits.specs.Check.{Crc}
 use Rattle.can_bits.specs.Line.{StuffedPart, tail, IsSentLine}
 use Rattle.can_bits.specs.Streaming.{EndsInWrongCheck}
-use Rattle.can_bits.proofs.Lists.{append-cancel}
+use Rattle.lemmas.proofs.Lists.{append-cancel}
 use Rattle.can_bits.proofs.Ending.{same_part, same_spelling, part_begins}
 use Rattle.can_node.specs.Bits.{Bit, recessive_bit, dominant_bit, recessive_bits, seen_of}
 use Rattle.can_node.specs.Context.{ContextValue}

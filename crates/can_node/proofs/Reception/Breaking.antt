@@ -12,7 +12,7 @@ use Rattle.can_bits.specs.Line.{Line}
 use Rattle.can_bits.specs.Reading.{Begins, IsPastPart}
 use Rattle.can_bits.specs.Segments.{IsNext}
 use Rattle.can_bits.specs.Streaming.{IsReadable, EndsInWrongCheck, BreaksWith}
-use Rattle.can_bits.proofs.Lists.{last_of, cases_list}
+use Rattle.lemmas.proofs.Lists.{last_of, cases_list}
 use Rattle.can_bits.proofs.Ending.{line_at, begins_in}
 use Rattle.can_bits.proofs.Readables.{readable_front, wrong_whole}
 use Rattle.can_node.specs.declared.cause.Cause.{Cause}

@@ -12,7 +12,7 @@ use Rattle.can_bits.specs.Line.{StuffedPart, Line, tail}
 use Rattle.can_bits.specs.Reading.{IsPastPart}
 use Rattle.can_bits.specs.Streaming.{IsReadable, IsLineButFor, IsOver}
 use Rattle.can_bits.proofs.Readables.{readable_but}
-use Rattle.can_bits.proofs.Lists.{fronts, last_of, cases_list, append-cancel}
+use Rattle.lemmas.proofs.Lists.{fronts, last_of, cases_list, append-cancel}
 use Rattle.can_bits.proofs.Going.{IsInside, inside_begun}
 use Rattle.can_node.specs.Bits.{Bit, dominant_bit, seen_of}
 use Rattle.can_node.specs.Pieces.Place.{AtLastEofBit}

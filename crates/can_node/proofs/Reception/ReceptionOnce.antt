@@ -8,7 +8,7 @@ use Rattle.can_bits.specs.declared.level.Level.TheVariants.{Recessive}
 use Rattle.can_bits.specs.declared.segment.Segment.{Segment}
 use Rattle.can_bits.specs.Line.{Line}
 use Rattle.can_bits.specs.Segments.{IsNext}
-use Rattle.can_bits.proofs.Lists.{fronts, last_of}
+use Rattle.lemmas.proofs.Lists.{fronts, last_of}
 use Rattle.can_bits.proofs.LineLaws.{lines_agree}
 use Rattle.can_node.specs.declared.cause.Cause.{Cause}
 use Rattle.can_node.specs.Bits.{Bit, seen_of}

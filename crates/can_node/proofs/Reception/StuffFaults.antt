@@ -7,7 +7,7 @@ use Rattle.can_bits.specs.declared.level.Level.TheVariants.{Recessive}
 use Rattle.can_bits.specs.declared.segment.Segment.{Segment}
 use Rattle.can_bits.specs.Reading.{Begins, IsPastPart}
 use Rattle.can_bits.specs.Segments.{IsNext}
-use Rattle.can_bits.proofs.Lists.{last_of}
+use Rattle.lemmas.proofs.Lists.{last_of}
 use Rattle.can_bits.proofs.Ending.{begins_front}
 use Rattle.can_node.specs.declared.cause.Cause.{Cause}
 use Rattle.can_node.specs.declared.cause.Cause.TheVariants.{Stuff as StuffError}

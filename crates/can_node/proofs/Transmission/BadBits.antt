@@ -3,7 +3,7 @@ use Rattle.std.proofs.Common.{◌≡◌, ◌+◌, ◌<◌, inl, inr, Bool, List,
 use Rattle.std.proofs.Common.{length, refl, ap, sym, subst, ◌∙◌, arith, append_assoc}
 use Rattle.std.proofs.lemmas.List.{append-nil, length-append}
 use Rattle.can_bits.specs.declared.level.Level.{Level}
-use Rattle.can_bits.proofs.Lists.{fronts, append-cancel}
+use Rattle.lemmas.proofs.Lists.{fronts, append-cancel}
 use Rattle.can_node.specs.Bits.{Bit}
 use Rattle.can_node.specs.Frames.{GoesWell}
 use Rattle.can_node.proofs.Transmission.SentBits.{well_front}

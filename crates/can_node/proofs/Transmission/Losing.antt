@@ -14,7 +14,7 @@ use Rattle.can_bits.specs.Stuffing.{HasNoSixEqual}
 use Rattle.can_bits.proofs.Ending.{part_begins}
 use Rattle.can_bits.proofs.SaidCounts.{length_body, dlc_place-least}
 use Rattle.can_bits.proofs.LineLaws.{can_go_on}
-use Rattle.can_bits.proofs.Lists.{fronts, append-cancel, reverse-cons, reverse-push}
+use Rattle.lemmas.proofs.Lists.{fronts, append-cancel, reverse-cons, reverse-push}
 use Rattle.can_bits.proofs.Parts.{unstuffed-later}
 use Rattle.can_bits.proofs.Runs.{run, run_one_more, IsShort, short_from, no_six_from}
 use Rattle.can_bits.proofs.Stuffs.{unstuffed, unstuffed-kept, stuffed_to}

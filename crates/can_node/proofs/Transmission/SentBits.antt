@@ -6,7 +6,7 @@ use Rattle.can_bits.specs.declared.level.Level.{Level}
 use Rattle.can_bits.specs.declared.level.Level.TheVariants.{Dominant, Recessive}
 use Rattle.can_bits.specs.Fields.{rtr_place}
 use Rattle.can_bits.specs.Places.{plain_count}
-use Rattle.can_bits.proofs.Lists.{append-split}
+use Rattle.lemmas.proofs.Lists.{append-split}
 use Rattle.can_bits.proofs.PlaceLemmas.{part_late, stuff_early}
 use Rattle.can_node.specs.declared.cause.Cause.{Cause}
 use Rattle.can_node.specs.declared.request.Request.{Request}

@@ -6,7 +6,7 @@ use Rattle.std.proofs.lemmas.List.{append-nil, length-append, length-map, map-ap
 use Rattle.can_bits.specs.declared.level.Level.{Level}
 use Rattle.can_bits.specs.declared.level.Level.TheVariants.{Dominant, Recessive}
 use Rattle.can_bits.specs.Line.{tail}
-use Rattle.can_bits.proofs.Lists.{append-split}
+use Rattle.lemmas.proofs.Lists.{append-split}
 use Rattle.can_bits.proofs.PlaceLemmas.{code_early}
 use Rattle.can_node.specs.declared.request.Request.{Request}
 use Rattle.can_node.specs.Bits.{Bit, recessive_bit, seen_of, driven_of}

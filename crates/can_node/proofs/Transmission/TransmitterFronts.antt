@@ -9,7 +9,7 @@ use Rattle.can_bits.specs.Body.{sent_body}
 use Rattle.can_bits.specs.Check.{Crc}
 use Rattle.can_bits.specs.Line.{StuffedPart, tail}
 use Rattle.can_bits.proofs.Ending.{part_begins}
-use Rattle.can_bits.proofs.Lists.{cases_list}
+use Rattle.lemmas.proofs.Lists.{cases_list}
 use Rattle.can_node.specs.declared.request.Request.{Request}
 use Rattle.can_node.specs.declared.role.Role.TheVariants.{Transmitter}
 use Rattle.can_node.specs.Bits.{Bit, seen_of, driven_of}

@@ -11,7 +11,7 @@ use Rattle.can_bits.specs.Line.{tail}
 use Rattle.can_bits.specs.Streaming.{IsReadable, IsOver}
 use Rattle.can_bits.proofs.DueLemmas.{over_part}
 use Rattle.can_bits.proofs.Ending.{same_part}
-use Rattle.can_bits.proofs.Lists.{append-cancel, cases_list}
+use Rattle.lemmas.proofs.Lists.{append-cancel, cases_list}
 use Rattle.can_node.specs.Bits.{Bit, seen_of, driven_of}
 use Rattle.can_node.specs.Frames.{AckFits, SentPart, GoesWell}
 use Rattle.can_node.proofs.Transmission.SentBits.{same_place, seen_at_slot}

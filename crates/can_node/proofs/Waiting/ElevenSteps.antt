@@ -8,7 +8,7 @@ use Rattle.std.proofs.lemmas.List.{append-nil, length-append, length-replicate}
 use Rattle.std.proofs.lemmas.List.Sums.{fold_push}
 use Rattle.can_bits.specs.declared.level.Level.{Level}
 use Rattle.can_bits.specs.declared.level.Level.TheVariants.{Dominant, Recessive}
-use Rattle.can_bits.proofs.Lists.{fronts, append-cancel}
+use Rattle.lemmas.proofs.Lists.{fronts, append-cancel}
 use Rattle.can_node.specs.Bits.{Bit, recessive_bit, recessive_bits, seen_of, IsFirst}
 use Rattle.can_node.specs.Context.{ContextValue}
 use Rattle.can_node.specs.Record.RecordEntry.{OneBit}

@@ -5,7 +5,7 @@ use Rattle.std.proofs.Common.{refl, ap, sym, subst, ◌∙◌, arith, append_ass
 use Rattle.std.proofs.lemmas.List.{append-nil, append_cancel_left, replicate_more}
 use Rattle.std.proofs.lemmas.List.{same_from_push, length-append, nil_from_length}
 use Rattle.can_bits.specs.declared.level.Level.{Level}
-use Rattle.can_bits.proofs.Lists.{fronts}
+use Rattle.lemmas.proofs.Lists.{fronts}
 use Rattle.can_node.specs.Bits.{IsFirst}
 
 -- no front of the list has the property

@@ -4,7 +4,7 @@ use Rattle.std.proofs.Common.{◌≡◌, ◌≢◌, ◌<◌, inl, inr, ℕ, zero
 use Rattle.std.proofs.Common.{◌∷◌, ◌++◌, replicate, refl, ap, sym, ◌∙◌, arith}
 use Rattle.std.proofs.lemmas.List.{append_assoc, append-nil}
 use Rattle.can_bits.specs.declared.level.Level.{Level}
-use Rattle.can_bits.proofs.Lists.{fronts, append-cancel}
+use Rattle.lemmas.proofs.Lists.{fronts, append-cancel}
 use Rattle.can_node.specs.Bits.{IsFirst}
 use Rattle.can_node.specs.Table.{EndsInEleven, Elevens}
 use Rattle.can_node.specs.Table.Elevens.{none_left, one_more}

@@ -9,7 +9,7 @@ use Rattle.sja_link.specs.Places.{place_of}
 use Rattle.sja_link.specs.Parts.{part}
 use Rattle.sja_link.specs.Records.{record_of}
 use Rattle.sja_link.specs.Free.{IsFree}
-use Rattle.sja_link.specs.Gathering.{total}
+use Rattle.lemmas.specs.Gathering.{total}
 use Rattle.sja_link.specs.Carried.{taken_of}
 use Rattle.sja_link.specs.World.{is_stop}
 use Rattle.sja_link.specs.Verdicts.{filter_of, HasVerdicts}

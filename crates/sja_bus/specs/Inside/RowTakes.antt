@@ -2,7 +2,7 @@
 use Rattle.std.specs.Prelude.{◌*◌, ◌<◌, ℕ, List, length, slice_index_or}
 use Rattle.sja_link.specs.declared.bus_end.BusEnd.{Ghosts as Ends}
 use Rattle.sja_link.specs.Accounts.{Account}
-use Rattle.sja_link.specs.Related.{EachRelated}
+use Rattle.lemmas.specs.Related.{EachRelated}
 use Rattle.sja_bus.specs.declared.seat.Seat.{Seat}
 use Rattle.sja_wire.specs.Links.{per_node, Kept}
 use Rattle.sja_bus.specs.TakingAll.{HasTaken}

@@ -5,16 +5,16 @@ use Rattle.std.specs.Prelude.{slice_index_or, if◌then◌else◌, Some, None}
 use Rattle.can_node.specs.declared.request.Request.{Request}
 use Rattle.sja_link.specs.declared.up.Up.TheVariants.{Credit}
 use Rattle.sja_link.specs.declared.entry.Entry.{Entry}
-use Rattle.sja_link.specs.Gathering.{total}
+use Rattle.lemmas.specs.Gathering.{total}
 use Rattle.sja_link.specs.Lists.{messages}
 use Rattle.sja_link.specs.Accounts.{Account}
 use Rattle.sja_link.specs.Deques.{Deques, Lies}
 use Rattle.sja_link.specs.Parts.{part}
 use Rattle.sja_link.specs.Carried.{taken_of, stored_of}
 use Rattle.sja_link.specs.Free.{credit_of, credit_in, bytes_in}
-use Rattle.sja_link.specs.Picking.{EachAfter}
+use Rattle.lemmas.specs.Picking.{EachAfter}
 use Rattle.sja_link.specs.Verdicts.{IsLawful}
-use Rattle.sja_link.proofs.Freeing.{total_append, total_push}
+use Rattle.lemmas.proofs.Gathered.{total_append, total_push}
 use Rattle.sja_link.proofs.Holding.{told_stored}
 use Rattle.sja_regs.specs.declared.registers.Registers.{Registers}
 use Rattle.sja_regs.specs.Commands.{command_of, requests}

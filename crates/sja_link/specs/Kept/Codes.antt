@@ -12,7 +12,7 @@ use Rattle.sja_link.specs.declared.code.Code.{Code}
 use Rattle.sja_link.specs.declared.code.Code.TheVariants.{DominantAsDriven, DominantSeenRecessive}
 use Rattle.sja_link.specs.declared.code.Code.TheVariants.{RecessiveSeenDominant, RecessiveAsDriven, Start}
 use Rattle.sja_link.specs.declared.code.Code.TheVariants.{Credit, Send, Stop, Abort, Stored, Overrun, Off}
-use Rattle.sja_link.specs.Gathering.{total}
+use Rattle.lemmas.specs.Gathering.{total}
 
 -- the entries of these codes; a code with contents takes the next ones of its list
 abbrev pub decoded : List Code → List Config → List ℕ → List Request → List (List ℕ) → List Entry

@@ -1,6 +1,6 @@
 -- Words that are written one after another.
 use Rattle.std.specs.Prelude.{ℕ, List, ◌∷◌}
-use Rattle.sja_link.specs.Gathering.{gathered}
+use Rattle.lemmas.specs.Gathering.{gathered}
 
 -- a word behind a space
 abbrev pub spaced : List ℕ → List ℕ

@@ -4,7 +4,7 @@ use Rattle.std.proofs.Common.{length, map, refl, sym, ap, ◌∙◌, subst, arit
 use Rattle.std.proofs.lemmas.List.{length-append, map-append}
 use Rattle.std.proofs.lemmas.Slice.Zip.{AllZip-long}
 use Rattle.sja_link.specs.declared.driver_end.DriverEnd.{Ghosts as Ends}
-use Rattle.sja_link.proofs.Related.{each_refl, each_trans}
+use Rattle.lemmas.proofs.Related.{each_refl, each_trans}
 use Rattle.sja_regs.specs.declared.registers.Registers.{Registers}
 use Rattle.sja_regs.specs.DriverSettings.{settings_in, HasSettings}
 use Rattle.sja_script.specs.declared.step.Step.{Step}

@@ -8,7 +8,7 @@ use Rattle.sja_link.specs.Verdicts.{IsLawful}
 use Rattle.sja_link.specs.Carried.{stored_of, put_of, taken_of}
 use Rattle.sja_link.specs.Lists.{Lists}
 use Rattle.sja_link.specs.Parts.{part}
-use Rattle.sja_link.specs.Picking.{EachAfter}
+use Rattle.lemmas.specs.Picking.{EachAfter}
 use Rattle.sja_link.specs.World.{credits_of}
 use Rattle.sja_threads.proofs.StoredMessages.{AreMessages, stored_real}
 use Rattle.sja_script.specs.declared.step.Step.{Step}

@@ -5,8 +5,8 @@ use Rattle.sja_link.specs.declared.up.Up.TheVariants.{Start as StartUp, Credit, 
 use Rattle.sja_link.specs.declared.entry.Entry.{Entry}
 use Rattle.sja_link.specs.declared.entry.Entry.TheVariants.{Bit, Up as Item, Abort, Stored, Overrun, Off as OffEntry}
 use Rattle.sja_link.specs.Carried.{put_of, taken_in, taken_of}
-use Rattle.sja_link.specs.Gathering.{total}
-use Rattle.sja_link.specs.Picking.{EachAfter}
+use Rattle.lemmas.specs.Gathering.{total}
+use Rattle.lemmas.specs.Picking.{EachAfter}
 use Rattle.sja_link.specs.World.{is_stop}
 use Rattle.sja_wire.specs.Orderly.{IsRunning, IsOrderly}
 use Rattle.sja_threads.specs.Linked.{IsLinked}

@@ -8,12 +8,12 @@ use Rattle.sja_link.specs.declared.entry.Entry.{Entry}
 use Rattle.sja_link.specs.declared.entry.Entry.TheVariants.{Bit, Up as Item, Abort, Stored, Overrun, Off as OffEntry}
 use Rattle.sja_link.specs.Carried.{stored_of, put_of, taken_in, taken_of}
 use Rattle.sja_threads.proofs.StoredMessages.{AreMessages}
-use Rattle.sja_link.specs.Gathering.{gathered, total}
+use Rattle.lemmas.specs.Gathering.{gathered, total}
 use Rattle.sja_link.specs.Lists.{messages}
-use Rattle.sja_link.specs.Picking.{EachAfter}
+use Rattle.lemmas.specs.Picking.{EachAfter}
 use Rattle.sja_link.specs.World.{is_stop, credits_of}
-use Rattle.sja_link.proofs.Entering.{gathered_push}
-use Rattle.sja_link.proofs.Freeing.{total_append, total_push}
+use Rattle.lemmas.proofs.Gathered.{gathered_push}
+use Rattle.lemmas.proofs.Gathered.{total_append, total_push}
 use Rattle.sja_wire.specs.Orderly.{IsOrderly}
 use Rattle.sja_threads.specs.Linked.{event_in, IsLinked}
 use Rattle.sja_threads.proofs.Events.Comes.{comes_first, comes_start, comes_stop, comes_send}

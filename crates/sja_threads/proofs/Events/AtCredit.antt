@@ -10,11 +10,11 @@ use Rattle.sja_link.specs.declared.entry.Entry.{Entry}
 use Rattle.sja_link.specs.declared.entry.Entry.TheVariants.{Up as Item}
 use Rattle.sja_link.specs.declared.event.Event.TheVariants.{Take}
 use Rattle.sja_link.specs.Carried.{put_in, put_of, taken_in, taken_of}
-use Rattle.sja_link.specs.Gathering.{gathered, total}
+use Rattle.lemmas.specs.Gathering.{gathered, total}
 use Rattle.sja_link.specs.Lists.{messages}
 use Rattle.sja_link.specs.World.{is_off, is_stop, bytes_of, credits_of}
-use Rattle.sja_link.proofs.Entering.{gathered_append, gathered_push}
-use Rattle.sja_link.proofs.Freeing.{total_append, total_push}
+use Rattle.lemmas.proofs.Gathered.{gathered_append, gathered_push}
+use Rattle.lemmas.proofs.Gathered.{total_append, total_push}
 use Rattle.sja_link.proofs.ListCounts.{messages_both, credits_both}
 use Rattle.sja_wire.specs.Orderly.{IsOrderly}
 use Rattle.sja_threads.specs.Linked.{event_in}

@@ -11,11 +11,11 @@ use Rattle.sja_link.specs.declared.event.Event.TheVariants.{Put, Off}
 use Rattle.sja_link.specs.Carried.{put_in, put_of, taken_in, taken_of}
 use Rattle.can_frame.specs.Message.{IsMessage}
 use Rattle.sja_link.specs.Free.{free_of}
-use Rattle.sja_link.specs.Gathering.{gathered, total}
+use Rattle.lemmas.specs.Gathering.{gathered, total}
 use Rattle.sja_link.specs.Lists.{messages}
 use Rattle.sja_link.specs.World.{is_off, credits_of, free}
-use Rattle.sja_link.proofs.Entering.{gathered_push}
-use Rattle.sja_link.proofs.Freeing.{total_append}
+use Rattle.lemmas.proofs.Gathered.{gathered_push}
+use Rattle.lemmas.proofs.Gathered.{total_append}
 use Rattle.sja_link.proofs.ListCounts.{credits_both}
 use Rattle.sja_wire.specs.Orderly.{IsOrderly}
 use Rattle.sja_threads.specs.Linked.{event_in}

@@ -9,12 +9,12 @@ use Rattle.sja_link.specs.declared.up.Up.{Up}
 use Rattle.sja_link.specs.declared.up.Up.TheVariants.{Start as StartUp, Credit, Send as SendUp, Stop as StopUp}
 use Rattle.sja_link.specs.declared.event.Event.{Event}
 use Rattle.sja_link.specs.declared.event.Event.TheVariants.{Start, Get, Release, Send, SendDone, Stop, Take}
-use Rattle.sja_link.specs.Gathering.{gathered, total}
+use Rattle.lemmas.specs.Gathering.{gathered, total}
 use Rattle.sja_link.specs.Lists.{messages}
 use Rattle.sja_link.specs.World.{WorldValue, new_world, is_off, is_start, is_send, is_stop, credits_of}
 use Rattle.sja_link.specs.WorldEvents.{Allowed, done, first_credit, IsEvent, Reached}
 use Rattle.sja_link.specs.WorldEvents.Reached.{begun, next}
-use Rattle.sja_link.proofs.Entering.{gathered_push}
+use Rattle.lemmas.proofs.Gathered.{gathered_push}
 use Rattle.sja_threads.specs.Linked.{bus_event}
 
 -- a world with these lists

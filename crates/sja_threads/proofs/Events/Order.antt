@@ -5,8 +5,8 @@ use Rattle.sja_link.specs.declared.up.Up.{Up}
 use Rattle.sja_link.specs.declared.entry.Entry.{Entry}
 use Rattle.sja_link.specs.declared.event.Event.{Event}
 use Rattle.sja_link.specs.Carried.{put_in, put_of, taken_in, taken_of}
-use Rattle.sja_link.specs.Gathering.{gathered}
-use Rattle.sja_link.proofs.Entering.{gathered_push}
+use Rattle.lemmas.specs.Gathering.{gathered}
+use Rattle.lemmas.proofs.Gathered.{gathered_push}
 use Rattle.sja_threads.specs.Linked.{event_in}
 use Rattle.sja_threads.proofs.Events.Comes.{world, Comes}
 

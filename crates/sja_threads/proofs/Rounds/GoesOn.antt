@@ -4,8 +4,8 @@ use Rattle.std.specs.Prelude.{None, Result, Ok, Err, OnOk}
 use Rattle.std.proofs.lemmas.Slice.Zip.{AllZip-long}
 use Rattle.sja_link.specs.declared.entry.Entry.{Entry}
 use Rattle.sja_link.specs.Records.{record_of}
-use Rattle.sja_link.specs.Related.{EachRelated}
-use Rattle.sja_link.proofs.Related.{each_refl, each_trans}
+use Rattle.lemmas.specs.Related.{EachRelated}
+use Rattle.lemmas.proofs.Related.{each_refl, each_trans}
 use Rattle.sja_rings.specs.declared.ring_bus.RingBus.{RingBus}
 use Rattle.sja_rings.specs.Ends.{BusLists, SameBus, link_of_bus}
 use Rattle.sja_rings.proofs.SameEnd.{bus_refl, bus_trans}

@@ -1,6 +1,6 @@
 -- The threads of the drivers: what each begins with, and what it hands back.
 use Rattle.std.specs.Prelude.{◌≡◌, ◌<◌, ℕ, Bool, false, List, length}
-use Rattle.sja_link.specs.Related.{EachRelated}
+use Rattle.lemmas.specs.Related.{EachRelated}
 use Rattle.sja_rings.specs.declared.ring_driver.RingDriver.{RingDriver}
 use Rattle.sja_rings.specs.Ends.{DriverLists, SameDriver, link_of_driver}
 use Rattle.sja_regs.specs.DriverSettings.{settings_in}

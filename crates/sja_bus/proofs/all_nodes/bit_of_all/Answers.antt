@@ -1,12 +1,12 @@
 use Rattle.std.proofs.Common.{◌≡◌, refl, arith, rules, inr}
 use Rattle.std.specs.Prelude.{◌⊎◌, Err}
-use Rattle.sja_link.proofs.Related.{each_trans}
+use Rattle.lemmas.proofs.Related.{each_trans}
 use Rattle.sja_bus.specs.Inside.Refusing.{SeatRefuses, SeatFull, SeatStops}
 use Rattle.sja_bus.specs.Inside.Rows.{SeatTurns}
 use Rattle.sja_bus.proofs.Many.{goes_all_trans, numbered_kept, done_all}
 use Rattle.sja_bus.proofs.Underway.{underway_none}
 use Rattle.sja_bus.proofs.TakenBefore.{row_takes}
-use Rattle.sja_bus.proofs.Results.{err_is}
+use Rattle.lemmas.proofs.Results.{err_is}
 use Rattle.sja_bus.proofs.all_nodes.bit_of_all.Goals as goal
 
 pub sample_from-requires : goal.sample_from-requires

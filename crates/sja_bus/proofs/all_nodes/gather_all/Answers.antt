@@ -5,8 +5,8 @@ use Rattle.sja_wire.specs.Links.{Goes}
 use Rattle.sja_bus.specs.Reasons.{RefusesItem}
 use Rattle.sja_bus.specs.Inside.Rows.{SeatTakes, SeatUntold}
 use Rattle.sja_bus.specs.Inside.Refusing.{SeatRefuses}
-use Rattle.sja_link.proofs.Related.{each_trans}
-use Rattle.sja_bus.proofs.Results.{err_is}
+use Rattle.lemmas.proofs.Related.{each_trans}
+use Rattle.lemmas.proofs.Results.{err_is}
 use Rattle.sja_bus.proofs.Many.{done_all}
 use Rattle.sja_bus.proofs.Rows.{has_links, taken_none, taken_one}
 use Rattle.sja_bus.proofs.Refusing.{refuses_seat}

@@ -1,7 +1,7 @@
 use Rattle.std.proofs.Common.{◌≡◌, ℕ, ◌<◌, ◌+◌, length, rules, subst, inl, inr}
 use Rattle.std.specs.Prelude.{◌⊎◌, Err, slice_index_or, slice_set}
 use Rattle.sja_link.specs.BusLedgers.{link_of}
-use Rattle.sja_link.proofs.Related.{each_trans}
+use Rattle.lemmas.proofs.Related.{each_trans}
 use Rattle.sja_wire.specs.Links.{Goes}
 use Rattle.sja_bus.specs.Reasons.{RefusesItem}
 use Rattle.sja_bus.specs.Inside.Taking.{FullForAbort}
@@ -11,7 +11,7 @@ use Rattle.sja_bus.proofs.Many.{done_all}
 use Rattle.sja_bus.proofs.Rows.{has_links, taken_none, taken_one}
 use Rattle.sja_bus.proofs.Refusing.{refuses_seat}
 use Rattle.sja_bus.proofs.Breaking.{full_seat}
-use Rattle.sja_bus.proofs.Results.{err_is}
+use Rattle.lemmas.proofs.Results.{err_is}
 use Rattle.sja_bus.proofs.all_nodes.open_all.Goals as goal
 
 pub loop-k-init : goal.loop-k-init

@@ -4,7 +4,7 @@ use Rattle.std.proofs.Math.ListN.{length-set}
 use Rattle.std.proofs.lemmas.List.{take_all, set-get_or, get_or-set_same as set_here}
 use Rattle.sja_link.specs.declared.entry.Entry.TheVariants.{Bit}
 use Rattle.sja_link.specs.BusLedgers.{link_of}
-use Rattle.sja_link.specs.Related.{EachRelated}
+use Rattle.lemmas.specs.Related.{EachRelated}
 use Rattle.sja_bus.specs.declared.seat.Seat.{Seat}
 use Rattle.sja_wire.specs.Wire.{wired}
 use Rattle.sja_wire.specs.Links.{Goes}
@@ -17,7 +17,7 @@ use Rattle.sja_bus.proofs.Refusing.{free_one}
 use Rattle.sja_bus.proofs.Running.{seen_is}
 use Rattle.sja_bus.proofs.Turning.{quiet_turns}
 use Rattle.sja_bus.proofs.Underway.{underway_none, underway_one, underway_at}
-use Rattle.sja_bus.proofs.Results.{err_is}
+use Rattle.lemmas.proofs.Results.{err_is}
 use Rattle.sja_bus.proofs.all_nodes.sample_all.Goals as goal
 
 pub loop-k-init : goal.loop-k-init

@@ -6,8 +6,8 @@ use Rattle.sja_bus.specs.Reasons.{IsBrokenFor}
 use Rattle.sja_bus.specs.Inside.Rows.{SeatTurns, seen_by}
 use Rattle.sja_bus.specs.Inside.Refusing.{SeatBreaks}
 use Rattle.sja_bus.proofs.Breaking.{breaks_seat}
-use Rattle.sja_link.proofs.Related.{each_refl, each_trans}
-use Rattle.sja_bus.proofs.Results.{err_is}
+use Rattle.lemmas.proofs.Related.{each_refl, each_trans}
+use Rattle.lemmas.proofs.Results.{err_is}
 use Rattle.sja_bus.proofs.Many.{ready_one}
 use Rattle.sja_bus.proofs.Rows.{has_links}
 use Rattle.sja_bus.proofs.Running.{seen_is}

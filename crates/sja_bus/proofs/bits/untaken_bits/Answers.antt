@@ -1,6 +1,6 @@
 use Rattle.std.proofs.Common.{◌≡◌, ℕ, ◌+◌, ◌-◌, ◌<◌, false, true, length, rules, arith, refl, sym, ap, ◌∙◌, subst}
 use Rattle.std.specs.Prelude.{slice_index_or}
-use Rattle.sja_link.proofs.Related.{each_refl, each_trans}
+use Rattle.lemmas.proofs.Related.{each_refl, each_trans}
 use Rattle.sja_bus.specs.Reasons.{room_for}
 use Rattle.sja_bus.specs.Several.{WorksIf}
 use Rattle.sja_bus.specs.Inside.Rows.{IsBus}

@@ -1,5 +1,5 @@
 use Rattle.std.proofs.Common.{◌≡◌, ℕ, ◌+◌, ◌-◌, ◌≤◌, length}
-use Rattle.sja_link.specs.Related.{EachRelated}
+use Rattle.lemmas.specs.Related.{EachRelated}
 use Rattle.sja_bus.specs.Several.{AreBits, WorksIf}
 use Rattle.sja_wire.specs.Wire.{wired}
 use Rattle.sja_bus.specs.Inside.Refusing.{HaveRoom, AreFree}

@@ -3,7 +3,7 @@ use Rattle.std.specs.Prelude.{Err, slice_set}
 use Rattle.sja_bus.specs.Inside.Idling.{after_bits, IsFullBy}
 use Rattle.sja_bus.proofs.Many.{done_all}
 use Rattle.sja_bus.proofs.Stretches.{all_after_by, full_by}
-use Rattle.sja_bus.proofs.Results.{err_is}
+use Rattle.lemmas.proofs.Results.{err_is}
 use Rattle.sja_bus.proofs.idle_bits.all_enter_idle_bits.Goals as goal
 
 pub returns-clause-rested : goal.returns-clause-rested

@@ -1,7 +1,7 @@
 use Rattle.std.proofs.Common.{rules, ◌≡◌, ◌∷◌, ◌++◌, ◌+◌, ℕ, List, [], map, take, drop, vec_len, sym, ap, ◌∙◌, subst}
 use Rattle.std.specs.Vec.Iter.{into_iter_items}
 use Rattle.std.proofs.lemmas.List.{map_more}
-use Rattle.sja_link.specs.Related.{EachRelated}
+use Rattle.lemmas.specs.Related.{EachRelated}
 use Rattle.sja_log.proofs.Logging.{next_of}
 use Rattle.sja_threads.specs.Inside.Promised.{IsPromised}
 use Rattle.sja_threads.proofs.Start.Threads.{each_push}

@@ -1,7 +1,7 @@
 use Rattle.std.proofs.Common.{◌≡◌, ◌≤◌, ◌+◌, length, map, take, drop, vec_len, vec_capacity}
 use Rattle.std.specs.Prelude.{All}
 use Rattle.std.specs.Vec.Iter.{into_iter_items, into_iter_len}
-use Rattle.sja_link.specs.Related.{EachRelated}
+use Rattle.lemmas.specs.Related.{EachRelated}
 use Rattle.sja_threads.specs.Inside.Promised.{IsFor}
 use Rattle.sja_threads.specs.Inside.Started.{IsThreadStart}
 use Rattle.sja_threads.proofs.thread_start.start_all.Given as goal

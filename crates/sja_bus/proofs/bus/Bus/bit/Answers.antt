@@ -2,7 +2,7 @@ use Rattle.std.proofs.Common.{◌≡◌, ◌≢◌, ◌+◌, ◌-◌, false, rep
 use Rattle.std.proofs.Common.{subst, arith, rules, ℕ, refl, Some}
 use Rattle.std.proofs.lemmas.Grind.{common_steps}
 use Rattle.std.specs.Prelude.{◌⊎◌, Err, vec_capacity}
-use Rattle.sja_link.proofs.Related.{each_refl}
+use Rattle.lemmas.proofs.Related.{each_refl}
 use Rattle.sja_bus.specs.declared.seat.Seat.{Seat}
 use Rattle.sja_bus.specs.Buses.{BusValue, IsBit}
 use Rattle.sja_bus.specs.Inside.Rows.{journals_of, untold_of}
@@ -16,7 +16,7 @@ use Rattle.sja_bus.proofs.Running.{count_is, bus_run}
 use Rattle.sja_bus.proofs.WrittenBack.{keeps_back, keeps_still}
 use Rattle.sja_bus.proofs.TakenBefore.{takes_back}
 use Rattle.sja_bus.proofs.Breaking.{stops_bit}
-use Rattle.sja_bus.proofs.Results.{err_is}
+use Rattle.lemmas.proofs.Results.{err_is}
 use Rattle.sja_bus.proofs.bus.Bus.bit.Goals.{In-Ok}
 use Rattle.sja_bus.proofs.bus.Bus.bit.Goals as goal
 

@@ -1,7 +1,7 @@
 use Rattle.std.proofs.Common.{◌≡◌, List, ◌++◌, length, take, drop, sym, ap, ◌∙◌, subst, arith, ◌+◌, ℕ, None}
 use Rattle.std.proofs.lemmas.Grind.{common_steps}
 use Rattle.std.specs.Prelude.{vec_capacity}
-use Rattle.sja_link.proofs.Related.{each_refl}
+use Rattle.lemmas.proofs.Related.{each_refl}
 use Rattle.sja_bus.specs.declared.seat.Seat.{Seat}
 use Rattle.sja_wire.specs.OneBit.{MayHaveItems}
 use Rattle.sja_bus.specs.Buses.{BusValue, EachJournal, EachUntold, AllDry}

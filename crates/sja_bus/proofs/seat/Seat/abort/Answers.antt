@@ -11,7 +11,7 @@ use Rattle.sja_bus.specs.declared.untold.Untold.TheVariants.{Changed, Dropped as
 use Rattle.sja_bus.proofs.Aborting.{marked_leaves, dropped_leaves}
 use Rattle.sja_bus.proofs.Turning.{aborts_none, aborts_one}
 use Rattle.sja_bus.proofs.Reading.{reads_swap, reads_quiet}
-use Rattle.sja_bus.proofs.Results.{ok_map, err_on}
+use Rattle.lemmas.proofs.Results.{ok_map, err_on}
 use Rattle.sja_bus.proofs.seat.Seat.abort.Goals as goal
 
 pub enter_abort-requires-clause-follows : goal.enter_abort-requires-clause-follows

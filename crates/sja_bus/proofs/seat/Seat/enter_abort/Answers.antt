@@ -2,7 +2,7 @@ use Rattle.std.proofs.Common.{sym, subst}
 use Rattle.can_node.specs.Stands.{DrivesNext}
 use Rattle.sja_bus.specs.declared.seat.Seat.{Seat}
 use Rattle.sja_bus.specs.Inside.Seats.{IsSeat}
-use Rattle.sja_bus.proofs.Results.{ok_map}
+use Rattle.lemmas.proofs.Results.{ok_map}
 use Rattle.sja_bus.proofs.seat.Seat.enter_abort.Goals as goal
 
 pub returns-clause-ready : goal.returns-clause-ready

@@ -1,9 +1,9 @@
 use Rattle.std.proofs.Common.{◌≡◌, suc, ◌+◌, ◌<◌, ◌≤◌, length, rules, arith, refl, sym, ap, ◌∙◌, inl}
 use Rattle.std.specs.Prelude.{Err, slice_set}
 use Rattle.sja_link.specs.BusLedgers.{link_of}
-use Rattle.sja_link.proofs.Related.{each_at}
+use Rattle.lemmas.proofs.Related.{each_at}
 use Rattle.sja_bus.specs.Reasons.{RefusesItem}
-use Rattle.sja_bus.proofs.Results.{err_is}
+use Rattle.lemmas.proofs.Results.{err_is}
 use Rattle.sja_bus.proofs.AtLinks.{stays_refl, stays_trans, stays_one}
 use Rattle.sja_bus.proofs.Moving.{goes_refl, goes_trans, goes_one}
 use Rattle.sja_bus.proofs.Refusing.{refuses_link}

@@ -14,7 +14,7 @@ use Rattle.sja_bus.proofs.Steps.{follows_off}
 use Rattle.sja_bus.proofs.Parted.{stands_at}
 use Rattle.sja_bus.proofs.Reading.{reads_off, runs_at}
 use Rattle.sja_bus.proofs.Moving.{moves_push}
-use Rattle.sja_bus.proofs.Results.{ok_map}
+use Rattle.lemmas.proofs.Results.{ok_map}
 use Rattle.sja_bus.proofs.seat.Seat.go_off.Goals as goal
 
 pub returns-in-Ok-clause-sound : goal.returns-in-Ok-clause-sound

@@ -16,7 +16,7 @@ use Rattle.sja_bus.proofs.Judging.{due_now, verdict_stays, verdict_no_stop, verd
 use Rattle.sja_bus.proofs.Orders.{no_off_put}
 use Rattle.sja_bus.proofs.Moving.{moves_push, moves_quiet, moves_trans}
 use Rattle.sja_bus.proofs.OutOfRoom.{bit_unjudged, verdict_unjudged}
-use Rattle.sja_bus.proofs.Results.{err_is}
+use Rattle.lemmas.proofs.Results.{err_is}
 use Rattle.sja_bus.proofs.seat.Seat.judge.Goals as goal
 
 pub returns-in_ok-enter-in-Ok-2-clause-judged : goal.returns-in_ok-enter-in-Ok-2-clause-judged

@@ -3,7 +3,7 @@ use Rattle.sja_bus.proofs.Breaking.{full_for_abort}
 use Rattle.sja_bus.proofs.Moving.{goes_trans, goes_aborted}
 use Rattle.sja_bus.proofs.Turning.{aborts_none, takes_then}
 use Rattle.sja_link.specs.BusLedgers.{link_of}
-use Rattle.sja_bus.proofs.Results.{ok_map, err_both}
+use Rattle.lemmas.proofs.Results.{ok_map, err_both}
 use Rattle.sja_bus.proofs.seat.Seat.open_bit.Goals as goal
 
 pub returns-then-ordered-clause-goes : goal.returns-then-ordered-clause-goes

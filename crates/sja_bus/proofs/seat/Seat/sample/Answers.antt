@@ -3,7 +3,7 @@ use Rattle.sja_link.specs.declared.entry.Entry.TheVariants.{Bit}
 use Rattle.sja_bus.specs.declared.seat.Seat.{Seat}
 use Rattle.sja_bus.specs.Inside.Seats.{IsReady}
 use Rattle.sja_bus.specs.Inside.Turning.{Turns}
-use Rattle.sja_link.proofs.Related.{each_refl}
+use Rattle.lemmas.proofs.Related.{each_refl}
 use Rattle.sja_bus.proofs.Moving.{goes_quiet}
 use Rattle.sja_link.specs.BusLedgers.{link_of}
 use Rattle.sja_bus.proofs.Turning.{quiet_turns, full_turns}

@@ -17,7 +17,7 @@ use Rattle.sja_bus.specs.Inside.Taking.{BreaksHere, IsJudgedShort}
 use Rattle.sja_bus.proofs.Breaking.{breaks_by}
 use Rattle.sja_bus.proofs.Lawfuls.{lawful_of}
 use Rattle.sja_bus.proofs.OutOfRoom.{bit_short, judged_short}
-use Rattle.sja_bus.proofs.Results.{err_is}
+use Rattle.lemmas.proofs.Results.{err_is}
 use Rattle.sja_bus.proofs.seat.Seat.sample_and_judge.Goals as goal
 
 pub returns-in_ok-enter_bit-in-None-clause-mid : goal.returns-in_ok-enter_bit-in-None-clause-mid

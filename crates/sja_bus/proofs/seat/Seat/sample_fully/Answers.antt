@@ -2,8 +2,8 @@ use Rattle.std.proofs.Common.{◌+◌, arith, refl, ap}
 use Rattle.sja_link.specs.declared.entry.Entry.TheVariants.{Bit}
 use Rattle.sja_link.specs.BusLedgers.{link_of}
 use Rattle.sja_bus.specs.Inside.Following.{open_in}
-use Rattle.sja_link.proofs.Related.{each_refl}
-use Rattle.sja_bus.proofs.Results.{ok_map, err_map}
+use Rattle.lemmas.proofs.Related.{each_refl}
+use Rattle.lemmas.proofs.Results.{ok_map, err_map}
 use Rattle.sja_bus.proofs.AtLinks.{stays_one}
 use Rattle.sja_bus.proofs.Breaking.{broken_link, broken_short}
 use Rattle.sja_bus.proofs.Moving.{goes_one, goes_quiet}

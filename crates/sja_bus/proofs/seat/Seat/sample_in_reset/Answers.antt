@@ -11,7 +11,7 @@ use Rattle.sja_bus.proofs.Reading.{reads_quiet}
 use Rattle.sja_bus.proofs.OutOfRoom.{bit_short}
 use Rattle.std.specs.Prelude.{Err}
 use Rattle.sja_bus.specs.Inside.Taking.{IsBitShort}
-use Rattle.sja_bus.proofs.Results.{err_is}
+use Rattle.lemmas.proofs.Results.{err_is}
 use Rattle.sja_bus.proofs.seat.Seat.sample_in_reset.Goals as goal
 
 pub returns-clause-sound : goal.returns-clause-sound

@@ -9,7 +9,7 @@ use Rattle.sja_bus.proofs.Breaking.{breaks_after}
 use Rattle.sja_bus.proofs.OutOfRoom.{off_short}
 use Rattle.sja_bus.proofs.Steps.{follows_on}
 use Rattle.sja_bus.proofs.NodeBit.{has_on, has_off}
-use Rattle.sja_bus.proofs.Results.{err_is}
+use Rattle.lemmas.proofs.Results.{err_is}
 use Rattle.sja_bus.proofs.seat.Seat.sample_running.Goals as goal
 
 pub returns-then-not-outcome-clause-sound : goal.returns-then-not-outcome-clause-sound

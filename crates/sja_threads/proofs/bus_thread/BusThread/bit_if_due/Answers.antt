@@ -1,7 +1,7 @@
 use Rattle.std.proofs.Common.{rules, ◌≡◌, Err, refl, arith}
 use Rattle.std.specs.Vec.{with_items}
 use Rattle.std.proofs.lemmas.List.{with_items_is}
-use Rattle.sja_bus.proofs.Results.{err_is}
+use Rattle.lemmas.proofs.Results.{err_is}
 use Rattle.sja_threads.specs.Stopping.{StopsFor}
 use Rattle.sja_threads.proofs.Rounds.GoesOn.{after_bit, stays_on, spent_now, all_rest}
 use Rattle.sja_threads.proofs.Rounds.Stops.{stops_bit}

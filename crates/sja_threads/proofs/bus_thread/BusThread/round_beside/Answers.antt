@@ -1,5 +1,5 @@
 use Rattle.std.proofs.Common.{rules, ◌≡◌, Err}
-use Rattle.sja_bus.proofs.Results.{err_is}
+use Rattle.lemmas.proofs.Results.{err_is}
 use Rattle.sja_threads.specs.Stopping.{StopsFor}
 use Rattle.sja_threads.proofs.Rounds.GoesOn.{on_then}
 use Rattle.sja_threads.proofs.bus_thread.BusThread.round_beside.Goals as goal

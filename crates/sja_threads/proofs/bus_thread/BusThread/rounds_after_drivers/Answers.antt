@@ -1,5 +1,5 @@
 use Rattle.std.proofs.Common.{rules, ◌≡◌, Ok, Err, refl, ap, ◌∙◌, arith, inl, inr}
-use Rattle.sja_bus.proofs.Results.{err_is}
+use Rattle.lemmas.proofs.Results.{err_is}
 use Rattle.sja_threads.specs.declared.round.Round.{Round}
 use Rattle.sja_threads.specs.Stopping.{StopsFor}
 use Rattle.sja_threads.specs.Inside.Rounds.{GoesOn}

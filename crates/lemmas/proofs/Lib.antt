@@ -1,0 +1,5 @@
+pub mod Lists
+pub mod Pushed
+pub mod Related
+pub mod Gathered
+pub mod Results
