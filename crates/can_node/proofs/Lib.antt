@@ -7,3 +7,4 @@ pub mod OneCut
 pub mod Contending
 pub mod Machine
 pub mod Examples
+pub mod Requests

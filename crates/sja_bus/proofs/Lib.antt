@@ -1,5 +1,4 @@
 pub mod Retrying
-pub mod Begun
 pub mod Steps
 pub mod OnBus
 pub mod AskingOff

@@ -34,7 +34,7 @@ use Rattle.sja_link.proofs.Judging.{StaysIn, HasBegun, filter_push, verdicts_qui
 use Rattle.sja_link.proofs.Judging.{verdicts_judged}
 use Rattle.sja_bus.specs.Inside.Following.{Follows, FollowsBit, off_left}
 use Rattle.can_node.proofs.OneCut.Longer.{received_more}
-use Rattle.sja_bus.proofs.Begun.{stands_begun}
+use Rattle.sja_link.proofs.Begun.{stands_begun}
 
 -- ---- an entry that the node was told of, or that it isn't told of
 

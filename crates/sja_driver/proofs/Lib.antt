@@ -14,3 +14,4 @@ pub mod Few
 -- the registers after a step, and what deeds are
 pub mod Registers
 pub mod Deeds
+pub mod GivenKinds

@@ -1,4 +1,3 @@
-pub mod Untouched
 pub mod TransmitBuffer
 pub mod Activation
 pub mod TbsAndAbort

@@ -15,3 +15,5 @@ pub mod Holding
 pub mod Skipping
 pub mod Blocks
 pub mod FramesReceived
+pub mod Begun
+pub mod Orders

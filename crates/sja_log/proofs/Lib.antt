@@ -1,9 +1,7 @@
 pub mod Accounts
 pub mod Waiting
-pub mod Orders
 pub mod Timings
 pub mod Stepping
-pub mod Givings
 pub mod Ordering
 pub mod Windows
 pub mod Moments
@@ -20,3 +18,10 @@ pub mod Adding
 pub mod OffLinks
 pub mod Logging
 pub mod NodeEnds
+pub mod Counts
+pub mod Dry
+pub mod FewLeftDown
+pub mod Items
+pub mod Looks
+pub mod SawPut
+pub mod Seeing

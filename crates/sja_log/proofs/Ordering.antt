@@ -13,11 +13,11 @@ use Rattle.lemmas.specs.Picking.{EachAfter}
 use Rattle.lemmas.proofs.Gathered.{total_push}
 use Rattle.sja_driver.specs.Deeds.{Deed, opened, opens_by, opened_by, active_after, is_active, FitsState, Gives}
 use Rattle.sja_driver.specs.Deeds.{given_in, deeds_of}
-use Rattle.sja_log.proofs.Orders.{HasStop, StopsLast, GivesInOrder, TakesInOrder}
+use Rattle.sja_link.proofs.Orders.{HasStop, StopsLast, GivesInOrder, TakesInOrder}
 use Rattle.sja_log.specs.Timing.{given_when}
 use Rattle.sja_log.proofs.Waiting.{WaitsInTime}
-use Rattle.sja_log.proofs.Givings.{Kind, kind_of}
-use Rattle.sja_log.proofs.Givings.Kind.{quiet, starts, credits, sends, stops}
+use Rattle.sja_driver.proofs.GivenKinds.{Kind, kind_of}
+use Rattle.sja_driver.proofs.GivenKinds.Kind.{quiet, starts, credits, sends, stops}
 use Rattle.sja_log.proofs.Timings.{no_stop_push, nothing_waits}
 use Rattle.sja_log.proofs.Stepping.{given_push, given_lies}
 

@@ -23,7 +23,7 @@ use Rattle.sja_link.proofs.Judging.{each_push}
 use Rattle.sja_driver.specs.Deeds.{Deed}
 use Rattle.sja_log.specs.Timing.{Timed, timed, taken_when}
 use Rattle.sja_log.proofs.Waiting.{WaitsInTime}
-use Rattle.sja_log.proofs.Orders.{HasStop, GivesInOrder, TakesInOrder}
+use Rattle.sja_link.proofs.Orders.{HasStop, GivesInOrder, TakesInOrder}
 use Rattle.sja_log.specs.Windows.{put_by}
 use Rattle.sja_log.specs.Aborting.{IsCommanded, AbortIsDue}
 

@@ -3,3 +3,4 @@ pub mod CallLemmas
 pub mod HistoryLemmas
 pub mod TurnLemmas
 pub mod SaysTheSame
+pub mod Untouched

@@ -29,10 +29,10 @@ use Rattle.sja_log.specs.Windows.{put_by, SeesIf}
 use Rattle.sja_log.proofs.Timings.{aborts_on, aborts_push}
 use Rattle.sja_serial.specs.Linking.{IsLevel}
 use Rattle.sja_serial.specs.Porting.{IsPorted}
-use Rattle.sja_log.proofs.Givings.{Kind}
-use Rattle.sja_log.proofs.Givings.Kind.{quiet, starts, credits, sends, stops}
-use Rattle.sja_serial.proofs.Items.{bits_same, stops_push, sends_push, put_item, SamePut, sees_same, each_map}
-use Rattle.sja_serial.proofs.Items.{settings_same, when_item, when_none}
+use Rattle.sja_driver.proofs.GivenKinds.{Kind}
+use Rattle.sja_driver.proofs.GivenKinds.Kind.{quiet, starts, credits, sends, stops}
+use Rattle.sja_log.proofs.Items.{bits_same, stops_push, sends_push, put_item, SamePut, sees_same, each_map}
+use Rattle.sja_log.proofs.Items.{settings_same, when_item, when_none}
 use Rattle.sja_serial.proofs.Ports.{carried_alike}
 use Rattle.sja_serial.proofs.Trying.{IsNext}
 

@@ -27,7 +27,7 @@ use Rattle.sja_log.specs.Windows.{off_by}
 use Rattle.sja_log.proofs.Timings.{put_now}
 use Rattle.sja_regs.specs.declared.registers.Registers.{Registers}
 use Rattle.sja_serial.specs.Asking.{IsAsked}
-use Rattle.sja_serial.proofs.Cuts.{sent_holds, stopped_holds, started_holds}
+use Rattle.can_node.proofs.Requests.Cuts.{sent_holds, stopped_holds, started_holds}
 
 -- ---- bus-off at the end of a journal was put in its activation
 

@@ -23,7 +23,7 @@ use Rattle.sja_serial.specs.Bits.{TakesBits, TakesAtOnce}
 use Rattle.sja_serial.specs.Serial.{SerialValue, StandsAt, run_now}
 use Rattle.sja_driver.specs.Deeds.{deeds_at}
 use Rattle.sja_serial.proofs.BitRun.{some_of, no_link}
-use Rattle.sja_serial.proofs.Dry.{none_taken}
+use Rattle.sja_log.proofs.Dry.{none_taken}
 use Rattle.sja_serial.proofs.GoingOn.{stands_bits}
 use Rattle.sja_serial.proofs.Standing.{none_untold}
 use Rattle.sja_serial.proofs.StillBits.{with_none, keeps_still, run_at, stands_still, all_at_once}

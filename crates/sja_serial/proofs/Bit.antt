@@ -39,7 +39,7 @@ use Rattle.sja_serial.proofs.BitAsked.{HasCut, bit_asked}
 use Rattle.sja_serial.proofs.BitCounted.{bit_counted}
 use Rattle.sja_log.proofs.TbsAndAbort.{tbs_right}
 use Rattle.sja_serial.proofs.BitPort.{ported_bit}
-use Rattle.sja_serial.proofs.Dry.{none_taken_own}
+use Rattle.sja_log.proofs.Dry.{none_taken_own}
 use Rattle.sja_log.proofs.Later.{SameBy, done_more, all_see, all_carry, settings_by_then}
 use Rattle.sja_serial.proofs.Shown.{as_told, shows_told}
 use Rattle.sja_log.proofs.Own.{AreOwn, own_activation, own_stopped, own_sends, own_when, own_taken}

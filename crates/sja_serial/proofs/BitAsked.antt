@@ -36,9 +36,9 @@ use Rattle.sja_wire.specs.Telling.{IsTurn}
 use Rattle.sja_bus.specs.Inside.Following.{off_left}
 use Rattle.sja_bus.proofs.Turning.{record_bit}
 use Rattle.sja_serial.specs.Asking.{IsAsked}
-use Rattle.sja_serial.proofs.OneMore.{bit_more, abort_more}
-use Rattle.sja_serial.proofs.OnceOff.{off_more}
-use Rattle.sja_serial.proofs.Requests.{KeepsRequest, step_keeps, held_alike, ended_is}
+use Rattle.can_node.proofs.Requests.OneMore.{bit_more, abort_more}
+use Rattle.can_node.proofs.Requests.OnceOff.{off_more}
+use Rattle.can_node.proofs.Requests.Requests.{KeepsRequest, step_keeps, held_alike, ended_is}
 
 -- a journal whose record has a cut
 pub record HasCut (j : List Entry) : Type 0 where

@@ -34,9 +34,9 @@ use Rattle.sja_wire.specs.OneBit.{HasBit, abort_as, judged_as, off_as}
 use Rattle.sja_driver.specs.Deeds.{Deed}
 use Rattle.sja_serial.specs.Counted.{item_in, verdict_in, off_in, abort_in, asks_by, changes_left, pending, off_left}
 use Rattle.sja_serial.specs.Counted.{IsCounted}
-use Rattle.sja_serial.proofs.OneMore.{abort_more}
-use Rattle.sja_serial.proofs.OnceOff.{is_off, is_off_both, offs, offs_both, left, off_once}
-use Rattle.sja_serial.proofs.Requests.{KeepsRequest}
+use Rattle.can_node.proofs.Requests.OneMore.{abort_more}
+use Rattle.can_node.proofs.Requests.OnceOff.{is_off, is_off_both, offs, offs_both, left, off_once}
+use Rattle.can_node.proofs.Requests.Requests.{KeepsRequest}
 use Rattle.sja_serial.proofs.BitAsked.{HasCut, place_abort, place_bit, opened_as, bit_keeps}
 
 -- ---- bus-off, of every journal whose record has a cut

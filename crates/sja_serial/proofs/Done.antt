@@ -27,8 +27,8 @@ use Rattle.sja_driver.proofs.Giving.{gives_carried}
 use Rattle.sja_log.proofs.Stepping.{given_push, given_taken}
 use Rattle.sja_serial.specs.Linking.{IsLevel}
 use Rattle.sja_serial.specs.Nodes.{IsNode}
-use Rattle.sja_log.proofs.Givings.{Kind, kind_of}
-use Rattle.sja_log.proofs.Givings.Kind.{quiet, starts, credits, sends, stops}
+use Rattle.sja_driver.proofs.GivenKinds.{Kind, kind_of}
+use Rattle.sja_driver.proofs.GivenKinds.Kind.{quiet, starts, credits, sends, stops}
 use Rattle.sja_wire.proofs.Taking.{waiting, AtMostOne}
 use Rattle.sja_serial.proofs.Trying.{alike, shows_none, takes_none, Comes, comes}
 

@@ -23,7 +23,7 @@ use Rattle.sja_serial.specs.Bits.{TakesBit, TakesBits}
 use Rattle.sja_serial.specs.Bits.TakesBits.{no_bit, one_more}
 use Rattle.sja_serial.specs.Serial.{SerialValue, StandsAt}
 use Rattle.sja_driver.specs.Deeds.{deeds_at}
-use Rattle.sja_serial.proofs.Counts.{as_many}
+use Rattle.sja_log.proofs.Counts.{as_many}
 use Rattle.sja_serial.proofs.Onward.{Extends, moment_then, put_then, extends_bit, bits_bit, aborts_bit}
 
 -- a run of the plan with these journals and deeds

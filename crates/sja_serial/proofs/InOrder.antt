@@ -23,8 +23,8 @@ use Rattle.sja_driver.proofs.Registers.TbsAndAbort.{TbsIsRight}
 use Rattle.sja_serial.specs.Asking.{IsAsked}
 use Rattle.sja_serial.specs.Linking.{IsLevel}
 use Rattle.sja_serial.specs.Porting.{IsPorted}
-use Rattle.sja_log.proofs.Givings.{Kind}
-use Rattle.sja_log.proofs.Givings.Kind.{quiet, starts, credits, sends, stops}
+use Rattle.sja_driver.proofs.GivenKinds.{Kind}
+use Rattle.sja_driver.proofs.GivenKinds.Kind.{quiet, starts, credits, sends, stops}
 use Rattle.sja_serial.proofs.After.{enters, level_after}
 use Rattle.sja_serial.proofs.Ported.{was_on, on_bus}
 use Rattle.sja_link.proofs.Small.{no_item, one_item, neither}

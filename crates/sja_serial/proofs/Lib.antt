@@ -1,11 +1,6 @@
 pub mod Slices
-pub mod Cuts
-pub mod Looks
 pub mod Ports
-pub mod Seeing
-pub mod SawPut
 pub mod Trying
-pub mod Items
 pub mod Asked
 pub mod Counting
 pub mod After
@@ -14,8 +9,6 @@ pub mod Ported
 pub mod Gathered
 pub mod Done
 -- what a port shows
-pub mod OneMore
-pub mod OnceOff
 pub mod Shown
 pub mod Turned
 pub mod Standing
@@ -25,24 +18,20 @@ pub mod InOrder
 pub mod Taken
 pub mod Several
 pub mod Newly
-pub mod Requests
 pub mod BitAsked
 pub mod BitCounted
 -- a bit
-pub mod Dry
 pub mod BitPort
 pub mod Bit
 pub mod BitRun
 pub mod StillBits
 pub mod AtOnce
-pub mod FewLeftDown
 pub mod Unstopped
 pub mod SomeBits
 pub mod ManyBits
 pub mod Borrowed
 pub mod NextStep
 -- the turns of a whole run
-pub mod Counts
 pub mod Onward
 pub mod GoingOn
 pub mod AfterBusTurn

@@ -33,7 +33,7 @@ use Rattle.sja_plan.specs.Plan.{steps_at}
 use Rattle.sja_serial.specs.Shown.{ShowsRecord}
 use Rattle.lemmas.proofs.Pushed.{push_here, push_front}
 use Rattle.sja_driver.proofs.NothingDone.{nothing_known, nothing_told}
-use Rattle.sja_serial.proofs.Cuts.{none_held_first}
+use Rattle.can_node.proofs.Requests.Cuts.{none_held_first}
 use Rattle.sja_serial.proofs.Shown.{shows_first}
 
 -- one driver more

@@ -34,9 +34,9 @@ use Rattle.sja_serial.proofs.Counting.{counted_none, counted_item, counted_credi
 use Rattle.sja_driver.proofs.Registers.TbsAndAbort.{TbsIsRight}
 use Rattle.sja_driver.proofs.Registers.TransmitBuffer.{tbs_by, tbs_step, stop_drops, busy_sends_none, abort_gives_none}
 use Rattle.sja_driver.proofs.Registers.TransmitBuffer.{reset_sends_none}
-use Rattle.sja_log.proofs.Givings.{Kind, opened_from}
-use Rattle.sja_log.proofs.Givings.Kind.{quiet, starts, credits, sends, stops}
-use Rattle.sja_serial.proofs.Items.{off_same, settings_same, settings_push}
+use Rattle.sja_driver.proofs.GivenKinds.{Kind, opened_from}
+use Rattle.sja_driver.proofs.GivenKinds.Kind.{quiet, starts, credits, sends, stops}
+use Rattle.sja_log.proofs.Items.{off_same, settings_same, settings_push}
 use Rattle.sja_driver.proofs.Modes.{rm_step, closed_step, abort_step}
 use Rattle.sja_serial.proofs.Ports.{alike_step}
 use Rattle.sja_link.proofs.Small.{not_true, not_false, neither, or_true, no_item, one_item}

@@ -40,8 +40,8 @@ use Rattle.sja_script.specs.declared.step_answer.StepAnswer.{StepAnswer}
 use Rattle.sja_script.specs.declared.step_answer.StepAnswer.TheVariants.{Done}
 use Rattle.sja_driver.specs.Carried.{carried, ported}
 use Rattle.sja_serial.specs.Shown.{ShowsRecord}
-use Rattle.sja_serial.proofs.Cuts.{now_first, reset_first}
-use Rattle.sja_serial.proofs.OnceOff.{off_resets}
+use Rattle.can_node.proofs.Requests.Cuts.{now_first, reset_first}
+use Rattle.can_node.proofs.Requests.OnceOff.{off_resets}
 
 -- ---- turns that say what stands at the end of one record
 

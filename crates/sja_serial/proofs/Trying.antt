@@ -35,12 +35,12 @@ use Rattle.sja_log.specs.Registering.{seen_now}
 use Rattle.sja_log.specs.Windows.{SeesIf}
 use Rattle.sja_serial.specs.Asking.{IsAsked}
 use Rattle.sja_serial.specs.Waiting.{HasToWait}
-use Rattle.sja_serial.proofs.Seeing.{seen_as, seen_by_now, tells_seen, seen_shown, no_release, no_stop}
+use Rattle.sja_log.proofs.Seeing.{seen_as, seen_by_now, tells_seen, seen_shown, no_release, no_stop}
 use Rattle.sja_wire.proofs.Taking.{same_front}
-use Rattle.sja_serial.proofs.Looks.{IsShown, is_shown}
+use Rattle.sja_log.proofs.Looks.{IsShown, is_shown}
 use Rattle.sja_driver.proofs.Few.{few_held}
 use Rattle.sja_driver.proofs.Deeds.Patience.{never_closed}
-use Rattle.sja_serial.proofs.SawPut.{sees_shown, if_looking}
+use Rattle.sja_log.proofs.SawPut.{sees_shown, if_looking}
 
 -- two states of one link
 abbrev pub alike : Deques → Deques → Type 0

@@ -43,8 +43,8 @@ use Rattle.sja_driver.specs.Deeds.{deeds_at}
 use Rattle.sja_plan.specs.Plan.{steps_at}
 use Rattle.sja_log.proofs.Adding.{one_abort}
 use Rattle.sja_serial.proofs.BitRun.{some_of, no_link}
-use Rattle.sja_serial.proofs.Dry.{none_beyond, none_taken, none_taken_own}
-use Rattle.sja_serial.proofs.FewLeftDown.{few_left_down}
+use Rattle.sja_log.proofs.Dry.{none_beyond, none_taken, none_taken_own}
+use Rattle.sja_log.proofs.FewLeftDown.{few_left_down}
 use Rattle.sja_log.proofs.Own.{AreOwn}
 use Rattle.sja_serial.proofs.Room.{has_room}
 use Rattle.sja_serial.proofs.Done.{opened_most}

@@ -10,8 +10,8 @@ use Rattle.sja_script.specs.declared.step.Step.{Step}
 use Rattle.sja_driver.specs.Deeds.{Deed, opens_by, opened_by, active_after, is_active, FitsState, Gives, given_in}
 use Rattle.sja_driver.specs.Deeds.{section_from, deeds_of, AreDeeds}
 use Rattle.sja_driver.proofs.Sections.{active_push, opened_push}
-use Rattle.sja_log.proofs.Givings.{Kind, kind_of}
-use Rattle.sja_log.proofs.Givings.Kind.{quiet, starts, credits, sends, stops}
+use Rattle.sja_driver.proofs.GivenKinds.{Kind, kind_of}
+use Rattle.sja_driver.proofs.GivenKinds.Kind.{quiet, starts, credits, sends, stops}
 use Rattle.sja_link.proofs.Small.{neither}
 
 -- an activation that was opened before, or one that isn't opened, has no more deeds

@@ -26,7 +26,7 @@ use Rattle.can_node.proofs.OneCut.Ways.{Between, Closing, Way, way_of}
 use Rattle.can_node.proofs.OneCut.Ways.Between.{send, abort}
 use Rattle.can_node.proofs.OneCut.Ways.Closing.{by_start, by_stop, by_off, by_off_after}
 use Rattle.can_node.proofs.OneCut.Ways.Way.{finishes, comes, closes}
-use Rattle.sja_serial.proofs.OneMore.{none_more}
+use Rattle.can_node.proofs.Requests.OneMore.{none_more}
 
 -- ---- after bus-off no request is held
 

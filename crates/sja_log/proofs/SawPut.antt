@@ -10,7 +10,7 @@ use Rattle.sja_driver.specs.Acting.{IfLooking}
 use Rattle.sja_driver.specs.Carried.{Sees}
 use Rattle.sja_driver.specs.Deeds.{Deed, opened_by}
 use Rattle.sja_log.specs.Windows.{off_by, window_of}
-use Rattle.sja_serial.proofs.Looks.{IsShown}
+use Rattle.sja_log.proofs.Looks.{IsShown}
 
 sees_off : (one : Step) (answer : StepAnswer) (window other : List (List ℕ)) → Sees one true window answer →
     Sees one true other answer

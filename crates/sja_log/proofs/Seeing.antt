@@ -18,7 +18,7 @@ use Rattle.sja_driver.specs.Deeds.{Deed, active_after, opened_by}
 use Rattle.sja_driver.specs.Drivers.{nothing_seen}
 use Rattle.sja_log.specs.Registering.{seen_now}
 use Rattle.sja_log.specs.Windows.{off_by, window_of}
-use Rattle.sja_serial.proofs.Looks.{IsShown}
+use Rattle.sja_log.proofs.Looks.{IsShown}
 
 -- out of reset by what is known of bus-off and by the window, in reset nothing
 abbrev pub seen_as : Bool → Bool → List (List ℕ) → Seen
