@@ -19,7 +19,7 @@ ghost use Rattle.sja_log.specs.Runs.{IsTrace, IsRun};
 
 /// A law: where a node's journal is lawful, and each of its activations has begun there and is settled, the node's
 /// record has a cut, and by every cut of it the headline holds of each activation.
-#[tactic(auto, using(crate::proofs::Accounts::account_of))]
+#[tactic(auto, using(crate::proofs::Account::Accounts::account_of))]
 pub fn a_settled_node_has_the_headline()
     ensures { (node : NodeValue) → IsLawful node.journal →
         length node.activations ≤ (place_of node.journal).activation →

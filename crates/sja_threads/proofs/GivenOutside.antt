@@ -9,10 +9,10 @@ use Rattle.lemmas.proofs.Gathered.{gathered_append}
 use Rattle.sja_script.specs.declared.step.Step.{Step}
 use Rattle.sja_driver.specs.Deeds.{Deed, opens_by, opened_by, active_after, is_active, FitsState, Gives, given_in}
 use Rattle.sja_driver.specs.Deeds.{section_from, deeds_of, AreDeeds}
-use Rattle.sja_driver.proofs.Sections.{active_push, opened_push}
-use Rattle.sja_driver.proofs.GivenKinds.{Kind, kind_of}
-use Rattle.sja_driver.proofs.GivenKinds.Kind.{quiet, starts, credits, sends, stops}
-use Rattle.sja_link.proofs.Small.{neither}
+use Rattle.sja_driver.proofs.LogOfSteps.Sections.{active_push, opened_push}
+use Rattle.sja_driver.proofs.Step.GivenKinds.{Kind, kind_of}
+use Rattle.sja_driver.proofs.Step.GivenKinds.Kind.{quiet, starts, credits, sends, stops}
+use Rattle.sja_link.proofs.Ledger.Small.{neither}
 
 -- an activation that was opened before, or one that isn't opened, has no more deeds
 section_past : (n : ℕ) (ds : List Deed) (a : ℕ) → a < n → section_from opens_by n ds a ≡ []

@@ -10,8 +10,8 @@ use Rattle.sja_link.specs.Free.{credit_of, bytes_in}
 use Rattle.lemmas.specs.Gathering.{total}
 use Rattle.sja_link.specs.Lists.{messages}
 use Rattle.sja_link.specs.World.{is_off, bytes_of, credits_of}
-use Rattle.sja_link.proofs.Judging.{put_stored}
-use Rattle.sja_driver.proofs.Few.{bytes_stored}
+use Rattle.sja_link.proofs.Ledger.Judging.{put_stored}
+use Rattle.sja_driver.proofs.Step.Few.{bytes_stored}
 
 -- ---- bytes
 

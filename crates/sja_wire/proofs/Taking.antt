@@ -10,7 +10,7 @@ use Rattle.sja_link.specs.Places.{past, place_of}
 use Rattle.sja_link.specs.Parts.{part}
 use Rattle.sja_link.specs.Carried.{taken_in, taken_of}
 use Rattle.lemmas.proofs.Gathered.{gathered_push}
-use Rattle.sja_link.proofs.Entering.{part_here, part_else}
+use Rattle.sja_link.proofs.JournalEntries.Entering.{part_here, part_else}
 use Rattle.sja_wire.specs.Links.{stops_of}
 use Rattle.sja_wire.specs.OneBit.{entries_of_items, IsRead, AreRead}
 

@@ -15,7 +15,7 @@ use Rattle.sja_link.specs.Free.{credit_of, credit_in, bytes_in}
 use Rattle.lemmas.specs.Picking.{EachAfter}
 use Rattle.sja_link.specs.Verdicts.{IsLawful}
 use Rattle.lemmas.proofs.Gathered.{total_append, total_push}
-use Rattle.sja_link.proofs.Holding.{told_stored}
+use Rattle.sja_link.proofs.Ledger.Holding.{told_stored}
 use Rattle.sja_regs.specs.declared.registers.Registers.{Registers}
 use Rattle.sja_regs.specs.Commands.{command_of, requests}
 use Rattle.sja_script.specs.declared.step.Step.{Step}
@@ -31,9 +31,10 @@ use Rattle.sja_driver.specs.Ports.{send_of}
 use Rattle.sja_driver.specs.Deeds.{Deed, opens_by, opened_by, Gives, length_in, given_in, released_lengths, deeds_of}
 use Rattle.sja_driver.specs.Holding.{HoldsBy}
 use Rattle.sja_driver.specs.Logs.{Traces, releases_in, left_in, released_of, leaves}
-use Rattle.sja_driver.proofs.Sections.{deeds_here}
-use Rattle.sja_driver.proofs.Few.{bytes, all_of, bytes_stored, credits_taken, credits_section, bytes_lengths, AllFit}
-use Rattle.sja_driver.proofs.Few.{fit_front, stored_fit}
+use Rattle.sja_driver.proofs.LogOfSteps.Sections.{deeds_here}
+use Rattle.sja_driver.proofs.Step.Few.{bytes, all_of, bytes_stored, credits_taken, credits_section, bytes_lengths}
+use Rattle.sja_driver.proofs.Step.Few.{AllFit}
+use Rattle.sja_driver.proofs.Step.Few.{fit_front, stored_fit}
 
 -- the last of these lengths is that of a message
 last_fits : (ms : List (List ℕ)) (ls : List ℕ) (n : ℕ) → map (λ (m : List ℕ). length m) ms ≡ ls ++ n ∷ [] → AllFit ms →

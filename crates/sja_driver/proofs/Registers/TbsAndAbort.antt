@@ -13,7 +13,7 @@ use Rattle.sja_script.specs.declared.step_answer.StepAnswer.{StepAnswer}
 use Rattle.sja_script.specs.declared.step_answer.StepAnswer.TheVariants.{Done, Released}
 use Rattle.sja_driver.specs.Carried.{Tells, carried, ported, asks_abort}
 use Rattle.sja_driver.specs.Deeds.{FitsState, opened, active_after}
-use Rattle.sja_driver.proofs.Modes.{rm_step, abort_step}
+use Rattle.sja_driver.proofs.Step.Modes.{rm_step, abort_step}
 use Rattle.sja_driver.proofs.Registers.TransmitBuffer.{tbs_by, tbs_step, accepted_out}
 
 pub record TbsIsRight (p : Registers) : Type 0 where

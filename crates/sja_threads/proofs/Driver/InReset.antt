@@ -11,8 +11,8 @@ use Rattle.sja_script.specs.declared.step_answer.StepAnswer.{StepAnswer}
 use Rattle.sja_script.specs.declared.step_answer.StepAnswer.TheVariants.{Done}
 use Rattle.sja_driver.specs.Carried.{ported}
 use Rattle.sja_driver.specs.Deeds.{Deed, opened, active_after, is_active}
-use Rattle.sja_driver.proofs.Sections.{active_push}
-use Rattle.sja_driver.proofs.Modes.{rm_step}
+use Rattle.sja_driver.proofs.LogOfSteps.Sections.{active_push}
+use Rattle.sja_driver.proofs.Step.Modes.{rm_step}
 use Rattle.sja_threads.specs.Setting.{LeadToSettings}
 use Rattle.sja_threads.specs.Setting.LeadToSettings.{nothing_done, step_done}
 

@@ -13,7 +13,7 @@ use Rattle.sja_driver.specs.Deeds.{Deed, done_of}
 use Rattle.sja_driver.specs.Holding.{HoldsBy, NumberedFrom}
 use Rattle.sja_driver.specs.LoggedDrivers.{node_of, driver_of, log_of, IsLawful}
 use Rattle.sja_driver.specs.Logs.{HasRoom, IsEmpty, Traces, done_in}
-use Rattle.sja_driver.proofs.NothingDone.{nothing_known, nothing_told}
+use Rattle.sja_driver.proofs.Step.NothingDone.{nothing_known, nothing_told}
 use Rattle.sja_threads.specs.declared.driver_thread.DriverThread.{DriverThread}
 use Rattle.sja_threads.specs.Setting.LeadToSettings.{nothing_done}
 use Rattle.sja_threads.specs.Working.{AreUntouched, HasWorked}

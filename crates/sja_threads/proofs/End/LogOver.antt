@@ -24,8 +24,8 @@ use Rattle.sja_log.specs.Log.{NodeValue, RunValue}
 use Rattle.sja_log.specs.Runs.{IsTrace, IsRun}
 use Rattle.sja_log.specs.Settling.{AreSettled}
 use Rattle.sja_log.specs.Finishing.{IsNodeEnd, AreNodeEnds}
-use Rattle.sja_log.proofs.NodeEnds.{AreEnds, any_of, trace_of, settled_of, nodes_count, some_log, some_driver}
-use Rattle.sja_log.proofs.NodeEnds.{node_end, journal_is, journals_in_log, run_of_ends}
+use Rattle.sja_log.proofs.NodeLog.NodeEnds.{AreEnds, any_of, trace_of, settled_of, nodes_count, some_log, some_driver}
+use Rattle.sja_log.proofs.NodeLog.NodeEnds.{node_end, journal_is, journals_in_log, run_of_ends}
 use Rattle.sja_threads.specs.declared.worked.Worked.{Worked}
 use Rattle.sja_threads.specs.Inside.Ended.{IsOverAt, IsOver}
 use Rattle.sja_threads.specs.Inside.Settling.{all_drivers, all_ends, IsLeftOn, AreLeftOn, IsSettledLog}

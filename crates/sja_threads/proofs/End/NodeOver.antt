@@ -20,7 +20,7 @@ use Rattle.sja_driver.specs.Logs.{releases_in, released_of}
 use Rattle.sja_log.specs.Log.{ActivationValue}
 use Rattle.sja_log.specs.Settling.{IsSettled}
 use Rattle.sja_log.specs.Finishing.{held_after, activation_after}
-use Rattle.sja_log.proofs.NodeEnds.{opened_few}
+use Rattle.sja_log.proofs.NodeLog.NodeEnds.{opened_few}
 use Rattle.sja_threads.specs.declared.worked.Worked.{Worked}
 use Rattle.sja_threads.specs.Inside.Ended.{IsOverAt}
 use Rattle.sja_threads.specs.Inside.Settling.{IsLeftOn}

@@ -12,7 +12,7 @@ use Rattle.sja_driver.specs.Logs.{done_in}
 use Rattle.sja_log.specs.declared.end.End.{End}
 use Rattle.sja_log.specs.Log.{RunValue, journals_in}
 use Rattle.sja_log.specs.Runs.{IsRun}
-use Rattle.sja_log.proofs.NodeEnds.{any_of}
+use Rattle.sja_log.proofs.NodeLog.NodeEnds.{any_of}
 use Rattle.sja_threads.specs.declared.bus_thread.BusThread.{BusThread}
 use Rattle.sja_threads.specs.declared.joined_run.JoinedRun.{JoinedRun}
 use Rattle.sja_threads.specs.declared.thread_start.ThreadStart.{ThreadStart}

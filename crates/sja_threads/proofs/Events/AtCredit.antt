@@ -15,13 +15,13 @@ use Rattle.sja_link.specs.Lists.{messages}
 use Rattle.sja_link.specs.World.{is_off, is_stop, bytes_of, credits_of}
 use Rattle.lemmas.proofs.Gathered.{gathered_append, gathered_push}
 use Rattle.lemmas.proofs.Gathered.{total_append, total_push}
-use Rattle.sja_link.proofs.ListCounts.{messages_both, credits_both}
+use Rattle.sja_link.proofs.JournalEntries.ListCounts.{messages_both, credits_both}
 use Rattle.sja_wire.specs.Orderly.{IsOrderly}
 use Rattle.sja_threads.specs.Linked.{event_in}
 use Rattle.sja_threads.proofs.Events.Comes.{world, Comes, comes_get, comes_gets, comes_release}
 use Rattle.sja_threads.proofs.NextItem.{bytes_put, credits_sum, IsOffLast, next_message}
 use Rattle.sja_threads.proofs.Events.Order.{Order, with_taken, put_same}
-use Rattle.sja_driver.proofs.Few.{credits_taken}
+use Rattle.sja_driver.proofs.Step.Few.{credits_taken}
 use Rattle.sja_threads.proofs.Events.AtEntry.{IsAt}
 
 module _ (p : List Entry) (got down : List Down) (held : List (List ℕ)) (all : put_of p ≡ got ++ down) where

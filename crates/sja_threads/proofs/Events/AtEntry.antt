@@ -16,13 +16,13 @@ use Rattle.sja_link.specs.Lists.{messages}
 use Rattle.sja_link.specs.World.{is_off, credits_of, free}
 use Rattle.lemmas.proofs.Gathered.{gathered_push}
 use Rattle.lemmas.proofs.Gathered.{total_append}
-use Rattle.sja_link.proofs.ListCounts.{credits_both}
+use Rattle.sja_link.proofs.JournalEntries.ListCounts.{credits_both}
 use Rattle.sja_wire.specs.Orderly.{IsOrderly}
 use Rattle.sja_threads.specs.Linked.{event_in}
 use Rattle.sja_threads.proofs.Events.Comes.{world, comes_act}
 use Rattle.sja_threads.proofs.NextItem.{bytes_put, IsOffLast, off_last_push}
 use Rattle.sja_threads.proofs.Events.Order.{Order, with_put, with_quiet, put_same, taken_same}
-use Rattle.sja_driver.proofs.Few.{credits_taken}
+use Rattle.sja_driver.proofs.Step.Few.{credits_taken}
 
 -- where the driver stands right after these entries: it got just the messages whose credits were taken; of what it
 -- gets still these are released

@@ -14,7 +14,7 @@ use Rattle.sja_regs.specs.declared.bus_turn.BusTurn.{BusTurn}
 use Rattle.sja_regs.specs.declared.orders.Orders.{Orders}
 use Rattle.sja_bus.specs.Buses.{EachJournal, KeepsAll, IsBit}
 use Rattle.sja_bus.specs.Resting.{RestsAs}
-use Rattle.sja_bus.proofs.Many.{numbered_kept}
+use Rattle.sja_bus.proofs.AllNodes.Many.{numbered_kept}
 use Rattle.sja_wire.specs.declared.bus_fault.BusFault.{BusFault}
 use Rattle.sja_wire.specs.Lawful.{IsBusRun}
 use Rattle.sja_wire.specs.OneBit.{MayHaveItems}

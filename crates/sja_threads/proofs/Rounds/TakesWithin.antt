@@ -15,8 +15,8 @@ use Rattle.sja_regs.specs.declared.orders.Orders.{Orders}
 use Rattle.sja_bus.specs.Buses.{IsNodeBit}
 use Rattle.sja_wire.specs.Links.{stops_of, Grows}
 use Rattle.sja_wire.specs.OneBit.{AreRead, MayHaveItems, abort_as, entries_of_items}
-use Rattle.sja_log.proofs.Adding.{added, added_own, bit_whole}
-use Rattle.sja_log.proofs.Own.{own_taken}
+use Rattle.sja_log.proofs.NodeLog.Adding.{added, added_own, bit_whole}
+use Rattle.sja_log.proofs.Account.Own.{own_taken}
 use Rattle.sja_wire.proofs.Taking.{adds, taken_adds}
 use Rattle.sja_threads.specs.Inside.Rounds.{TakesWithin}
 

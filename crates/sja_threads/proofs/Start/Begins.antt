@@ -12,7 +12,7 @@ use Rattle.sja_rings.specs.Ends.{BusLists}
 use Rattle.sja_plan.specs.Plan.{PlanValue}
 use Rattle.sja_bus.specs.Buses.{BusValue, new_bus}
 use Rattle.sja_wire.specs.Wire.{journal_at}
-use Rattle.sja_log.proofs.NodeEnds.{any_of}
+use Rattle.sja_log.proofs.NodeLog.NodeEnds.{any_of}
 use Rattle.sja_threads.specs.declared.bus_thread.BusThread.{BusThread}
 use Rattle.sja_threads.specs.declared.thread_start.ThreadStart.{ThreadStart}
 use Rattle.sja_threads.specs.Inside.Making.{AreNewEnds, AreMade}

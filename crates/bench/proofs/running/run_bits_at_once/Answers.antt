@@ -1,7 +1,7 @@
 use Rattle.std.proofs.Common.{◌≡◌, ◌*◌, ℕ, length, arith, sym, ap, ◌∙◌}
 use Rattle.std.proofs.lemmas.Slice.Zip.{AllZip-long}
 use Rattle.sja_link.specs.Deques.{Deques}
-use Rattle.sja_bus.proofs.Many.{numbered_kept}
+use Rattle.sja_bus.proofs.AllNodes.Many.{numbered_kept}
 use Rattle.bench.proofs.running.run_bits_at_once.Goals as goal
 
 pub bit-requires-clause-count : goal.bit-requires-clause-count

@@ -3,9 +3,9 @@ use Rattle.std.specs.Prelude.{◌⊎◌, Err}
 use Rattle.lemmas.proofs.Related.{each_trans}
 use Rattle.sja_bus.specs.Inside.Refusing.{SeatRefuses, SeatFull, SeatStops}
 use Rattle.sja_bus.specs.Inside.Rows.{SeatTurns}
-use Rattle.sja_bus.proofs.Many.{goes_all_trans, numbered_kept, done_all}
-use Rattle.sja_bus.proofs.Underway.{underway_none}
-use Rattle.sja_bus.proofs.TakenBefore.{row_takes}
+use Rattle.sja_bus.proofs.AllNodes.Many.{goes_all_trans, numbered_kept, done_all}
+use Rattle.sja_bus.proofs.AllNodes.Underway.{underway_none}
+use Rattle.sja_bus.proofs.ItemsTaken.TakenBefore.{row_takes}
 use Rattle.lemmas.proofs.Results.{err_is}
 use Rattle.sja_bus.proofs.all_nodes.bit_of_all.Goals as goal
 

@@ -7,9 +7,9 @@ use Rattle.sja_bus.specs.Inside.Rows.{SeatTakes, SeatUntold}
 use Rattle.sja_bus.specs.Inside.Refusing.{SeatRefuses}
 use Rattle.lemmas.proofs.Related.{each_trans}
 use Rattle.lemmas.proofs.Results.{err_is}
-use Rattle.sja_bus.proofs.Many.{done_all}
-use Rattle.sja_bus.proofs.Rows.{has_links, taken_none, taken_one}
-use Rattle.sja_bus.proofs.Refusing.{refuses_seat}
+use Rattle.sja_bus.proofs.AllNodes.Many.{done_all}
+use Rattle.sja_bus.proofs.AllNodes.Rows.{has_links, taken_none, taken_one}
+use Rattle.sja_bus.proofs.ItemsTaken.Refusing.{refuses_seat}
 use Rattle.sja_bus.proofs.all_nodes.gather_all.Goals as goal
 
 pub loop-k-init : goal.loop-k-init

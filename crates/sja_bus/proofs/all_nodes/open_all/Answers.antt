@@ -7,10 +7,10 @@ use Rattle.sja_bus.specs.Reasons.{RefusesItem}
 use Rattle.sja_bus.specs.Inside.Taking.{FullForAbort}
 use Rattle.sja_bus.specs.Inside.Rows.{SeatOpens, SeatOpensUntold}
 use Rattle.sja_bus.specs.Inside.Refusing.{SeatRefuses, SeatFull}
-use Rattle.sja_bus.proofs.Many.{done_all}
-use Rattle.sja_bus.proofs.Rows.{has_links, taken_none, taken_one}
-use Rattle.sja_bus.proofs.Refusing.{refuses_seat}
-use Rattle.sja_bus.proofs.Breaking.{full_seat}
+use Rattle.sja_bus.proofs.AllNodes.Many.{done_all}
+use Rattle.sja_bus.proofs.AllNodes.Rows.{has_links, taken_none, taken_one}
+use Rattle.sja_bus.proofs.ItemsTaken.Refusing.{refuses_seat}
+use Rattle.sja_bus.proofs.ItemsTaken.Breaking.{full_seat}
 use Rattle.lemmas.proofs.Results.{err_is}
 use Rattle.sja_bus.proofs.all_nodes.open_all.Goals as goal
 

@@ -1,5 +1,5 @@
 use Rattle.sja_bus.specs.Inside.Rows.{SeatOpens, SeatOpensUntold}
-use Rattle.sja_bus.proofs.Rows.{HaveTaken}
+use Rattle.sja_bus.proofs.AllNodes.Rows.{HaveTaken}
 use Rattle.sja_bus.proofs.all_nodes.open_all.Given as goal
 
 abbrev pub invariant-loop-k : goal.invariant-loop-k

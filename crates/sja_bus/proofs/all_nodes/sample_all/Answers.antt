@@ -10,13 +10,13 @@ use Rattle.sja_wire.specs.Wire.{wired}
 use Rattle.sja_wire.specs.Links.{Goes}
 use Rattle.sja_bus.specs.Inside.Rows.{SeatTurns, seen_by, driven_by}
 use Rattle.sja_bus.specs.Inside.Refusing.{SeatBreaks}
-use Rattle.sja_bus.proofs.Levels.{level_now}
-use Rattle.sja_bus.proofs.Many.{done_all}
-use Rattle.sja_bus.proofs.Moving.{goes_quiet}
-use Rattle.sja_bus.proofs.Refusing.{free_one}
-use Rattle.sja_bus.proofs.Running.{seen_is}
-use Rattle.sja_bus.proofs.Turning.{quiet_turns}
-use Rattle.sja_bus.proofs.Underway.{underway_none, underway_one, underway_at}
+use Rattle.sja_bus.proofs.AllNodes.Levels.{level_now}
+use Rattle.sja_bus.proofs.AllNodes.Many.{done_all}
+use Rattle.sja_bus.proofs.Links.Moving.{goes_quiet}
+use Rattle.sja_bus.proofs.ItemsTaken.Refusing.{free_one}
+use Rattle.sja_bus.proofs.AllNodes.Running.{seen_is}
+use Rattle.sja_bus.proofs.AtPorts.Turning.{quiet_turns}
+use Rattle.sja_bus.proofs.AllNodes.Underway.{underway_none, underway_one, underway_at}
 use Rattle.lemmas.proofs.Results.{err_is}
 use Rattle.sja_bus.proofs.all_nodes.sample_all.Goals as goal
 

@@ -5,13 +5,13 @@ use Rattle.sja_wire.specs.Links.{Goes}
 use Rattle.sja_bus.specs.Reasons.{IsBrokenFor}
 use Rattle.sja_bus.specs.Inside.Rows.{SeatTurns, seen_by}
 use Rattle.sja_bus.specs.Inside.Refusing.{SeatBreaks}
-use Rattle.sja_bus.proofs.Breaking.{breaks_seat}
+use Rattle.sja_bus.proofs.ItemsTaken.Breaking.{breaks_seat}
 use Rattle.lemmas.proofs.Related.{each_refl, each_trans}
 use Rattle.lemmas.proofs.Results.{err_is}
-use Rattle.sja_bus.proofs.Many.{ready_one}
-use Rattle.sja_bus.proofs.Rows.{has_links}
-use Rattle.sja_bus.proofs.Running.{seen_is}
-use Rattle.sja_bus.proofs.Underway.{underway_one}
+use Rattle.sja_bus.proofs.AllNodes.Many.{ready_one}
+use Rattle.sja_bus.proofs.AllNodes.Rows.{has_links}
+use Rattle.sja_bus.proofs.AllNodes.Running.{seen_is}
+use Rattle.sja_bus.proofs.AllNodes.Underway.{underway_one}
 use Rattle.sja_bus.proofs.all_nodes.sample_from.Goals as goal
 
 pub loop-k-init : goal.loop-k-init

@@ -1,7 +1,7 @@
 use Rattle.std.proofs.Common.{◌≡◌, ℕ, ◌<◌, false, length, rules, sym, ap, subst, ◌∙◌, inl, inr}
 use Rattle.sja_link.specs.BusLedgers.{link_of}
 use Rattle.sja_bus.specs.declared.seat.Seat.{Seat}
-use Rattle.sja_bus.proofs.Rests.{earlier_or_now}
+use Rattle.sja_bus.proofs.Resting.Rests.{earlier_or_now}
 use Rattle.sja_bus.proofs.bits.may_run_untaken.Goals as goal
 
 pub loop-k-preserved : goal.loop-k-preserved

@@ -2,7 +2,7 @@ use Rattle.std.proofs.Common.{◌≡◌, ◌-◌, ◌<◌, ◌≤◌, length, ru
 use Rattle.std.specs.Prelude.{slice_index_or}
 use Rattle.std.proofs.lemmas.List.{get_or_default as or_same}
 use Rattle.sja_bus.specs.declared.seat.Seat.{Seat}
-use Rattle.sja_bus.proofs.Rests.{earlier_or_now}
+use Rattle.sja_bus.proofs.Resting.Rests.{earlier_or_now}
 use Rattle.sja_bus.proofs.bits.room_of.Goals as goal
 
 pub loop-k-preserved : goal.loop-k-preserved

@@ -5,8 +5,8 @@ use Rattle.sja_bus.specs.Reasons.{room_for}
 use Rattle.sja_bus.specs.Several.{WorksIf}
 use Rattle.sja_bus.specs.Inside.Rows.{IsBus}
 use Rattle.sja_bus.specs.Inside.RunningOn.{moment_of, AnyBit, RowsRun}
-use Rattle.sja_bus.proofs.Many.{numbered_kept}
-use Rattle.sja_bus.proofs.RunningOn.{facts_of_bit, passes, none_still, some_work, none_yet, bits_on, stops_on}
+use Rattle.sja_bus.proofs.AllNodes.Many.{numbered_kept}
+use Rattle.sja_bus.proofs.AllNodes.RunningOn.{facts_of_bit, passes, none_still, some_work, none_yet, bits_on, stops_on}
 use Rattle.sja_bus.proofs.bits.untaken_bits.Goals.{In-Ok}
 use Rattle.sja_bus.proofs.bits.untaken_bits.Goals as goal
 

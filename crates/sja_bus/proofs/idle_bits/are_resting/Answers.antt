@@ -3,7 +3,7 @@ use Rattle.std.specs.Prelude.{slice_index_or}
 use Rattle.std.proofs.lemmas.List.{get_or_default as or_same}
 use Rattle.sja_bus.specs.declared.seat.Seat.{Seat}
 use Rattle.sja_bus.specs.Inside.Idling.{IsResting, IsAwake}
-use Rattle.sja_bus.proofs.Rests.{earlier_or_now}
+use Rattle.sja_bus.proofs.Resting.Rests.{earlier_or_now}
 use Rattle.sja_bus.proofs.idle_bits.are_resting.Goals as goal
 
 pub loop-k-preserved : goal.loop-k-preserved

@@ -1,5 +1,5 @@
 use Rattle.std.proofs.Common.{◌≡◌, vec_len, vec_capacity}
-use Rattle.sja_bus.proofs.Linking.{AreLinked}
+use Rattle.sja_bus.proofs.Links.Linking.{AreLinked}
 use Rattle.sja_bus.proofs.node_links.serial_links.Given as goal
 
 -- so many links were made, and there is room for all

@@ -1,6 +1,6 @@
 use Rattle.std.proofs.Common.{rules}
 use Rattle.std.specs.Vec.Iter.{into_iter_items}
-use Rattle.sja_bus.proofs.Logs.{logs_push}
+use Rattle.sja_bus.proofs.WholeBus.Logs.{logs_push}
 use Rattle.sja_bus.proofs.node_log.logs_of.Goals as goal
 
 pub loop-seat-preserved : goal.loop-seat-preserved

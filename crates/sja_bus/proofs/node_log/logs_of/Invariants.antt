@@ -1,6 +1,6 @@
 use Rattle.std.proofs.Common.{◌+◌, ◌≤◌, vec_len, vec_capacity}
 use Rattle.std.specs.Vec.Iter.{into_iter_items, into_iter_len}
-use Rattle.sja_bus.proofs.Logs.{LogsSoFar}
+use Rattle.sja_bus.proofs.WholeBus.Logs.{LogsSoFar}
 use Rattle.sja_bus.proofs.node_log.logs_of.Given as goal
 
 abbrev pub invariant-loop-seat : goal.invariant-loop-seat

@@ -1,4 +1,4 @@
-use Rattle.sja_bus.proofs.Retrying.{IsRetried}
+use Rattle.sja_bus.proofs.ItemsTaken.Retrying.{IsRetried}
 use Rattle.sja_bus.proofs.verdict.accept.Given as goal
 
 abbrev pub invariant-loop : goal.invariant-loop

@@ -1,7 +1,7 @@
 use Rattle.std.proofs.Common.{◌≡◌, suc, ◌+◌, drop, arith, sym, ap, ◌∙◌}
 use Rattle.sja_wire.specs.Wire.{wired}
 use Rattle.sja_bus.specs.Inside.Rows.{driven_by}
-use Rattle.sja_bus.proofs.Levels.{dominant_here, recessive_here, none_left, not_dominant}
+use Rattle.sja_bus.proofs.AllNodes.Levels.{dominant_here, recessive_here, none_left, not_dominant}
 use Rattle.sja_bus.proofs.wire.level_of.Goals as goal
 
 pub loop-k-preserved : goal.loop-k-preserved

@@ -1,6 +1,6 @@
 use Rattle.std.proofs.Common.{ap}
 use Rattle.std.specs.Prelude.{Err}
-use Rattle.sja_driver.proofs.Releasing.{released_acts, unmet_acts}
+use Rattle.sja_driver.proofs.Step.Releasing.{released_acts, unmet_acts}
 use Rattle.sja_driver.proofs.active_steps.release_step.Goals as goal
 
 pub returns-in-Ok-clause-acts : goal.returns-in-Ok-clause-acts

@@ -1,6 +1,6 @@
 use Rattle.std.proofs.Common.{◌∷◌, [], ap, ◌∙◌, sym}
 use Rattle.sja_link.specs.declared.up.Up.TheVariants.{Credit}
-use Rattle.sja_link.proofs.Counting.{credit_here, off_not_here, none_past}
+use Rattle.sja_link.proofs.JournalEntries.Counting.{credit_here, off_not_here, none_past}
 use Rattle.sja_link.proofs.counts.credit_at.Goals as goal
 
 pub returns-then-place-items-clause-none : goal.returns-then-place-items-clause-none

@@ -1,6 +1,6 @@
 use Rattle.std.proofs.Common.{refl, add-one}
 use Rattle.sja_link.specs.World.{is_stop}
-use Rattle.sja_link.proofs.Counting.{counted_here, not_counted_here, not_stop}
+use Rattle.sja_link.proofs.JournalEntries.Counting.{counted_here, not_counted_here, not_stop}
 use Rattle.sja_link.proofs.counts.stops.Goals as goal
 
 pub returns-in-Stop-clause-yes : goal.returns-in-Stop-clause-yes

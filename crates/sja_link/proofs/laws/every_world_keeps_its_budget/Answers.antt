@@ -1,5 +1,5 @@
-use Rattle.sja_link.proofs.WorldBudget.{budget}
-use Rattle.sja_link.proofs.Worlds.{reached_world}
+use Rattle.sja_link.proofs.WorldSteps.WorldBudget.{budget}
+use Rattle.sja_link.proofs.WorldSteps.Worlds.{reached_world}
 use Rattle.sja_link.proofs.laws.every_world_keeps_its_budget.Goals as goal
 
 pub returns : goal.returns

@@ -5,8 +5,8 @@ use Rattle.sja_link.specs.declared.down.Down.{Down}
 use Rattle.sja_driver.specs.LoggedDrivers.{node_of, driver_of, ended_of}
 use Rattle.sja_log.specs.Log.{ActivationValue}
 use Rattle.sja_log.specs.Finishing.{activation_after, AreActivations}
-use Rattle.sja_log.proofs.NodeEnds.{opened_few}
-use Rattle.sja_log.proofs.Logging.{activations_push}
+use Rattle.sja_log.proofs.NodeLog.NodeEnds.{opened_few}
+use Rattle.sja_log.proofs.NodeLog.Logging.{activations_push}
 use Rattle.sja_log.proofs.activation_logs.activation_logs.Goals as goal
 
 pub loop-ended-preserved : goal.loop-ended-preserved

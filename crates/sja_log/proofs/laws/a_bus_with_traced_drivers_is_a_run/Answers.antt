@@ -1,4 +1,4 @@
-use Rattle.sja_log.proofs.Logs.{run_of}
+use Rattle.sja_log.proofs.NodeLog.Logs.{run_of}
 use Rattle.sja_log.proofs.laws.a_bus_with_traced_drivers_is_a_run.Goals as goal
 
 pub returns : goal.returns

@@ -6,7 +6,7 @@ use Rattle.sja_wire.specs.declared.node_log.NodeLog.{NodeLog}
 use Rattle.sja_driver.specs.declared.logged_driver.LoggedDriver.{LoggedDriver}
 use Rattle.sja_log.specs.Log.{NodeValue}
 use Rattle.sja_log.specs.Finishing.{IsNodeEnd, AreNodeEnds}
-use Rattle.sja_log.proofs.Logging.{nodes_push, next_of}
+use Rattle.sja_log.proofs.NodeLog.Logging.{nodes_push, next_of}
 use Rattle.sja_log.proofs.nodes.node_runs.Goals as goal
 
 pub loop-log-preserved : goal.loop-log-preserved

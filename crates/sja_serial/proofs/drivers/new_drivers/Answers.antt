@@ -5,7 +5,7 @@ use Rattle.sja_script.specs.declared.step.Step.{Step}
 use Rattle.sja_driver.specs.Logs.{IsEmpty, HasRoom}
 use Rattle.sja_serial.specs.Beginning.{IsNewDriver, AreNew}
 use Rattle.sja_plan.specs.Plan.{steps_at}
-use Rattle.sja_serial.proofs.Newly.{new_push}
+use Rattle.sja_serial.proofs.AllNodes.Newly.{new_push}
 use Rattle.sja_serial.proofs.drivers.new_drivers.Goals as goal
 
 pub loop-node-preserved : goal.loop-node-preserved

@@ -1,5 +1,5 @@
 use Rattle.sja_log.specs.Runs.{IsSerialRun}
-use Rattle.sja_serial.proofs.Whole.{serial_of}
+use Rattle.sja_serial.proofs.WholeRun.Whole.{serial_of}
 use Rattle.sja_serial.proofs.run.run_serial.Goals as goal
 
 pub finish-requires : goal.finish-requires

@@ -4,7 +4,7 @@ use Rattle.std.specs.Prelude.{slice_index_or}
 use Rattle.sja_plan.specs.Plan.{NamesNode}
 use Rattle.sja_plan.specs.declared.turn.Turn.{Turn}
 use Rattle.sja_plan.specs.declared.turn.Turn.TheVariants.{Bus}
-use Rattle.sja_serial.proofs.Coming.{come_first, come_at, come_one, whole_at, end_one, end_all}
+use Rattle.sja_serial.proofs.WholeRun.Coming.{come_first, come_at, come_one, whole_at, end_one, end_all}
 use Rattle.sja_serial.proofs.run.take_turns.Goals.{In-loop-turn}
 use Rattle.sja_serial.proofs.run.take_turns.Goals as goal
 

@@ -1,5 +1,5 @@
 use Rattle.std.proofs.Common.{take}
-use Rattle.sja_serial.proofs.Coming.{HasCome}
+use Rattle.sja_serial.proofs.WholeRun.Coming.{HasCome}
 use Rattle.sja_serial.proofs.run.take_turns.Given as goal
 
 abbrev pub invariant-loop-turn : goal.invariant-loop-turn

@@ -6,7 +6,7 @@ use Rattle.sja_link.specs.declared.down.Down.{Down}
 use Rattle.sja_rings.specs.declared.ring_bus.RingBus.{RingBus}
 use Rattle.sja_rings.specs.declared.ring_driver.RingDriver.{RingDriver}
 use Rattle.sja_rings.specs.Ends.{OneLink}
-use Rattle.sja_log.proofs.Logging.{next_of}
+use Rattle.sja_log.proofs.NodeLog.Logging.{next_of}
 use Rattle.sja_threads.specs.Inside.Settling.{IsLeftOn, AreLeftOn}
 use Rattle.sja_threads.proofs.End.LeftOnLinks.{left_push}
 use Rattle.sja_threads.proofs.left_on_links.settle_all.Goals as goal

@@ -2,7 +2,7 @@ use Rattle.std.proofs.Common.{rules, ◌≡◌, ◌∷◌, ◌++◌, ◌+◌, �
 use Rattle.std.specs.Vec.Iter.{into_iter_items}
 use Rattle.std.proofs.lemmas.List.{map_push, take_more}
 use Rattle.lemmas.specs.Related.{EachRelated}
-use Rattle.sja_log.proofs.Logging.{next_of}
+use Rattle.sja_log.proofs.NodeLog.Logging.{next_of}
 use Rattle.sja_threads.specs.Inside.Promised.{IsFor}
 use Rattle.sja_threads.proofs.Start.Threads.{each_push, starts_rest}
 use Rattle.sja_threads.proofs.thread_start.start_all.Goals as goal

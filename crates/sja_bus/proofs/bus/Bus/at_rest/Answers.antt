@@ -7,8 +7,8 @@ use Rattle.sja_bus.specs.Buses.{BusValue}
 use Rattle.sja_wire.specs.Wire.{journal_at}
 use Rattle.sja_bus.specs.Resting.{RestsAs}
 use Rattle.sja_bus.specs.Inside.Rows.{journals_of}
-use Rattle.sja_bus.proofs.Running.{count_is}
-use Rattle.sja_bus.proofs.Rests.{rests_at}
+use Rattle.sja_bus.proofs.AllNodes.Running.{count_is}
+use Rattle.sja_bus.proofs.Resting.Rests.{rests_at}
 use Rattle.sja_bus.proofs.bus.Bus.at_rest.Goals as goal
 
 pub returns-clause-rest : goal.returns-clause-rest

@@ -10,12 +10,12 @@ use Rattle.sja_bus.specs.Inside.Whole.{IsWhole, IsRowBit}
 use Rattle.sja_bus.specs.Reasons.{room_for, StopsBit}
 use Rattle.sja_bus.specs.Reasons.StopsBit.{spent}
 use Rattle.sja_bus.specs.Inside.Refusing.{HaveRoom, SeatRefuses, SeatFull, SeatStops}
-use Rattle.sja_bus.proofs.Journals.{wired_row, is_bit, all_told}
-use Rattle.sja_bus.proofs.Logs.{calm_by, none_untold}
-use Rattle.sja_bus.proofs.Running.{count_is, bus_run}
-use Rattle.sja_bus.proofs.WrittenBack.{keeps_back, keeps_still}
-use Rattle.sja_bus.proofs.TakenBefore.{takes_back}
-use Rattle.sja_bus.proofs.Breaking.{stops_bit}
+use Rattle.sja_bus.proofs.AllNodes.Journals.{wired_row, is_bit, all_told}
+use Rattle.sja_bus.proofs.WholeBus.Logs.{calm_by, none_untold}
+use Rattle.sja_bus.proofs.AllNodes.Running.{count_is, bus_run}
+use Rattle.sja_bus.proofs.Links.WrittenBack.{keeps_back, keeps_still}
+use Rattle.sja_bus.proofs.ItemsTaken.TakenBefore.{takes_back}
+use Rattle.sja_bus.proofs.ItemsTaken.Breaking.{stops_bit}
 use Rattle.lemmas.proofs.Results.{err_is}
 use Rattle.sja_bus.proofs.bus.Bus.bit.Goals.{In-Ok}
 use Rattle.sja_bus.proofs.bus.Bus.bit.Goals as goal

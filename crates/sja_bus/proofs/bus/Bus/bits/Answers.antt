@@ -5,8 +5,8 @@ use Rattle.sja_bus.specs.Moment.{Moment, moment, Keeps}
 use Rattle.sja_bus.specs.Several.{BitInOrder, WorksIf, StopsBits}
 use Rattle.sja_bus.specs.Inside.RunningOn.{AnyBit, IsSoFar}
 use Rattle.lemmas.proofs.Results.{err_is}
-use Rattle.sja_bus.proofs.Many.{numbered_kept}
-use Rattle.sja_bus.proofs.SoFar.{keeps_refl, none_yet, and_one, and_more, keeps_trans, still_for, breaks_later}
+use Rattle.sja_bus.proofs.AllNodes.Many.{numbered_kept}
+use Rattle.sja_bus.proofs.AllNodes.SoFar.{keeps_refl, none_yet, and_one, and_more, keeps_trans, still_for, breaks_later}
 use Rattle.sja_bus.proofs.bus.Bus.bits.Goals as goal
 use Rattle.sja_bus.proofs.bus.Bus.bits.Goals.{After-bit, After-run_untaken_bits}
 use Rattle.sja_bus.proofs.bus.Bus.bits.Goals.{else-to_rest-via-then-to_rest+else-at_rest, else-to_rest-via-else-to_rest}

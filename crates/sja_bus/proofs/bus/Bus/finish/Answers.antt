@@ -4,8 +4,8 @@ use Rattle.sja_link.specs.declared.entry.Entry.{Entry}
 use Rattle.sja_wire.specs.declared.node_log.NodeLog.{NodeLog}
 use Rattle.sja_bus.specs.Buses.{BusValue}
 use Rattle.sja_wire.specs.Lawful.{IsBusRun, CountersAre}
-use Rattle.sja_bus.proofs.Running.{bus_run}
-use Rattle.sja_bus.proofs.Logs.{logs_journals, logs_counters}
+use Rattle.sja_bus.proofs.AllNodes.Running.{bus_run}
+use Rattle.sja_bus.proofs.WholeBus.Logs.{logs_journals, logs_counters}
 use Rattle.sja_bus.proofs.bus.Bus.finish.Goals as goal
 
 pub returns-clause-journals : goal.returns-clause-journals

@@ -9,10 +9,10 @@ use Rattle.sja_bus.specs.Inside.Rows.{journals_of, untold_of, EachSeat, SeatTake
 use Rattle.sja_bus.specs.Inside.Whole.{IsWhole}
 use Rattle.sja_bus.specs.Reasons.{room_for, IsTakenAndRefused}
 use Rattle.sja_bus.specs.Inside.Refusing.{HaveRoom, SeatRefuses}
-use Rattle.sja_bus.proofs.Running.{wired_taken}
-use Rattle.sja_bus.proofs.Journals.{all_items, all_dry, all_untold, calm_taken}
-use Rattle.sja_bus.proofs.Refusing.{not_taken}
-use Rattle.sja_bus.proofs.WrittenBack.{keeps_back}
+use Rattle.sja_bus.proofs.AllNodes.Running.{wired_taken}
+use Rattle.sja_bus.proofs.AllNodes.Journals.{all_items, all_dry, all_untold, calm_taken}
+use Rattle.sja_bus.proofs.ItemsTaken.Refusing.{not_taken}
+use Rattle.sja_bus.proofs.Links.WrittenBack.{keeps_back}
 use Rattle.sja_bus.proofs.bus.Bus.gather.Goals as goal
 
 pub returns-in-Some-clause-sames : goal.returns-in-Some-clause-sames

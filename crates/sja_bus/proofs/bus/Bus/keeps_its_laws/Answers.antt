@@ -1,7 +1,7 @@
 use Rattle.std.proofs.Common.{◌≡◌, None, subst}
 use Rattle.sja_wire.specs.Lawful.{IsBusRun}
 use Rattle.sja_bus.specs.Buses.{BusValue}
-use Rattle.sja_bus.proofs.Running.{bus_run}
+use Rattle.sja_bus.proofs.AllNodes.Running.{bus_run}
 use Rattle.sja_bus.proofs.bus.Bus.keeps_its_laws.Goals as goal
 
 pub returns : goal.returns

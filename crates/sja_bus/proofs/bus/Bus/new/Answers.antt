@@ -8,8 +8,8 @@ use Rattle.sja_bus.specs.Inside.Rows.{journals_of, untold_of}
 use Rattle.sja_bus.specs.Inside.Whole.{IsWhole}
 use Rattle.sja_bus.specs.Reasons.{room_for}
 use Rattle.sja_bus.specs.Inside.Refusing.{HaveRoom}
-use Rattle.sja_bus.proofs.Refusing.{rooms_push}
-use Rattle.sja_bus.proofs.Logs.{AreNew, new_push, new_journals, new_bus, none_untold}
+use Rattle.sja_bus.proofs.ItemsTaken.Refusing.{rooms_push}
+use Rattle.sja_bus.proofs.WholeBus.Logs.{AreNew, new_push, new_journals, new_bus, none_untold}
 use Rattle.sja_bus.proofs.bus.Bus.new.Goals as goal
 
 pub loop-node-preserved : goal.loop-node-preserved

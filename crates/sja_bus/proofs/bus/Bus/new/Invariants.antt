@@ -1,7 +1,7 @@
 use Rattle.std.proofs.Common.{◌≡◌, vec_len, vec_capacity}
 use Rattle.sja_bus.specs.Reasons.{room_for}
 use Rattle.sja_bus.specs.Inside.Refusing.{HaveRoom}
-use Rattle.sja_bus.proofs.Logs.{AreNew}
+use Rattle.sja_bus.proofs.WholeBus.Logs.{AreNew}
 use Rattle.sja_bus.proofs.bus.Bus.new.Given as goal
 
 -- so many seats were made, and there is room for all

@@ -6,7 +6,7 @@ use Rattle.sja_bus.specs.Buses.{BusValue, AllTold, EachJournal, EachUntold}
 use Rattle.sja_bus.specs.Stretches.{IsStretch, IsOutOfEntries}
 use Rattle.sja_bus.specs.Inside.AtOnce.{RunsAtOnce}
 use Rattle.lemmas.proofs.Results.{err_map}
-use Rattle.sja_bus.proofs.QuietBits.{keeps_rest, dry_rest, stretch_rest}
+use Rattle.sja_bus.proofs.Resting.QuietBits.{keeps_rest, dry_rest, stretch_rest}
 use Rattle.sja_bus.proofs.bus.Bus.quiet_bits.Goals.{After-run_idle_bits}
 use Rattle.sja_bus.proofs.bus.Bus.quiet_bits.Goals as goal
 

@@ -13,11 +13,12 @@ use Rattle.sja_bus.specs.Inside.AtOnce.{RunsAtOnce}
 use Rattle.sja_bus.specs.Inside.Idling.{AreResting, IsOneAwake, IsFullBy, all_after}
 use Rattle.sja_bus.specs.Inside.Refusing.{HaveRoom}
 use Rattle.sja_bus.specs.Reasons.{room_for}
-use Rattle.sja_bus.proofs.Logs.{none_untold}
-use Rattle.sja_bus.proofs.RanOn.{bus_with}
-use Rattle.sja_bus.proofs.Running.{count_is}
-use Rattle.sja_bus.proofs.Rests.{ends_awake}
-use Rattle.sja_bus.proofs.Stretches.{after_untold, room_after, bus_after, stretch_after, ends_quiet, out_of_entries}
+use Rattle.sja_bus.proofs.WholeBus.Logs.{none_untold}
+use Rattle.sja_bus.proofs.AllNodes.RanOn.{bus_with}
+use Rattle.sja_bus.proofs.AllNodes.Running.{count_is}
+use Rattle.sja_bus.proofs.Resting.Rests.{ends_awake}
+use Rattle.sja_bus.proofs.Resting.Stretches.{after_untold, room_after, bus_after, stretch_after, ends_quiet}
+use Rattle.sja_bus.proofs.Resting.Stretches.{out_of_entries}
 use Rattle.sja_bus.proofs.bus.Bus.run_idle_bits.Goals.{After-all_enter_idle_bits, In-Ok}
 use Rattle.sja_bus.proofs.bus.Bus.run_idle_bits.Goals.{then-bits-eq0-via-then-bits-eq0}
 use Rattle.sja_bus.proofs.bus.Bus.run_idle_bits.Goals.{then-bits-eq0-via-else-bits-eq0+then-not-are_resting}

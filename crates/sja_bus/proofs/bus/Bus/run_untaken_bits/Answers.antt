@@ -10,9 +10,9 @@ use Rattle.sja_bus.specs.Inside.Refusing.{HaveRoom}
 use Rattle.sja_bus.specs.Inside.Rows.{AreSeated, IsBus, journals_of}
 use Rattle.sja_bus.specs.Inside.RunningOn.{bus_of, AnyBit, RowsRun, IsSoFar}
 use Rattle.sja_bus.specs.Inside.Whole.{IsWhole}
-use Rattle.sja_bus.proofs.RanOn.{bus_with, bus_is, ran, stopped}
-use Rattle.sja_bus.proofs.Running.{count_is}
-use Rattle.sja_bus.proofs.SoFar.{none_yet, and_more, keeps_trans, still_for, breaks_later}
+use Rattle.sja_bus.proofs.AllNodes.RanOn.{bus_with, bus_is, ran, stopped}
+use Rattle.sja_bus.proofs.AllNodes.Running.{count_is}
+use Rattle.sja_bus.proofs.AllNodes.SoFar.{none_yet, and_more, keeps_trans, still_for, breaks_later}
 use Rattle.sja_bus.proofs.bus.Bus.run_untaken_bits.Goals.{After-untaken_bits}
 use Rattle.sja_bus.proofs.bus.Bus.run_untaken_bits.Goals as goal
 

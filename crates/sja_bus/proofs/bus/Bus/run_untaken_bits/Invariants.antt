@@ -3,7 +3,7 @@ use Rattle.std.specs.Prelude.{vec_capacity}
 use Rattle.sja_bus.specs.Moment.{moment}
 use Rattle.sja_bus.specs.Inside.RunningOn.{AnyBit, IsSoFar}
 use Rattle.sja_bus.specs.Inside.Whole.{IsWhole}
-use Rattle.sja_bus.proofs.RanOn.{bus_with}
+use Rattle.sja_bus.proofs.AllNodes.RanOn.{bus_with}
 use Rattle.sja_bus.proofs.bus.Bus.run_untaken_bits.Given as goal
 
 abbrev pub invariant-loop-run : goal.invariant-loop-run

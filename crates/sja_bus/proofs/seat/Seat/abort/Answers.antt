@@ -5,12 +5,12 @@ use Rattle.sja_link.specs.BusLedgers.{free_in}
 use Rattle.sja_bus.specs.declared.activity.Activity.{Activity}
 use Rattle.sja_bus.specs.declared.activity.Activity.TheVariants.{Running}
 use Rattle.sja_bus.specs.Inside.Following.{Reads}
-use Rattle.sja_bus.proofs.Applying.{applied_running, applied_resting, applies_none, applies_one}
-use Rattle.sja_bus.proofs.Steps.{follows_abort}
+use Rattle.sja_bus.proofs.AtPorts.Applying.{applied_running, applied_resting, applies_none, applies_one}
+use Rattle.sja_bus.proofs.Journal.Steps.{follows_abort}
 use Rattle.sja_bus.specs.declared.untold.Untold.TheVariants.{Changed, Dropped as DroppedUntold}
-use Rattle.sja_bus.proofs.Aborting.{marked_leaves, dropped_leaves}
-use Rattle.sja_bus.proofs.Turning.{aborts_none, aborts_one}
-use Rattle.sja_bus.proofs.Reading.{reads_swap, reads_quiet}
+use Rattle.sja_bus.proofs.AtPorts.Aborting.{marked_leaves, dropped_leaves}
+use Rattle.sja_bus.proofs.AtPorts.Turning.{aborts_none, aborts_one}
+use Rattle.sja_bus.proofs.Journal.Reading.{reads_swap, reads_quiet}
 use Rattle.lemmas.proofs.Results.{ok_map, err_on}
 use Rattle.sja_bus.proofs.seat.Seat.abort.Goals as goal
 

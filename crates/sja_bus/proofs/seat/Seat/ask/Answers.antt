@@ -5,11 +5,12 @@ use Rattle.sja_link.specs.declared.entry.Entry.TheVariants.{Up as Item}
 use Rattle.sja_bus.specs.declared.activity.Activity.{Activity}
 use Rattle.sja_bus.specs.declared.activity.Activity.TheVariants.{Running, Off, OffAndAsked}
 use Rattle.sja_bus.specs.Inside.Following.{Reads}
-use Rattle.sja_bus.proofs.Steps.{follows_send, follows_drop}
-use Rattle.sja_bus.proofs.Reading.{reads_ask, reads_drop, here_in}
+use Rattle.sja_bus.proofs.Journal.Steps.{follows_send, follows_drop}
+use Rattle.sja_bus.proofs.Journal.Reading.{reads_ask, reads_drop, here_in}
 use Rattle.sja_bus.specs.declared.seat.Seat.{Seat}
-use Rattle.sja_bus.proofs.Takings.{seat_entered, takes_entered, held_wrongly, taken_right, dropped_right, may_come}
-use Rattle.sja_bus.proofs.Takings.{refused_full}
+use Rattle.sja_bus.proofs.ItemsTaken.Takings.{seat_entered, takes_entered, held_wrongly, taken_right, dropped_right}
+use Rattle.sja_bus.proofs.ItemsTaken.Takings.{may_come}
+use Rattle.sja_bus.proofs.ItemsTaken.Takings.{refused_full}
 use Rattle.sja_bus.proofs.seat.Seat.ask.Goals as goal
 
 pub returns-in-Ok-clause-takes : goal.returns-in-Ok-clause-takes

@@ -4,10 +4,10 @@ use Rattle.sja_link.specs.BusLedgers.{free_in}
 use Rattle.sja_bus.specs.declared.activity.Activity.{Activity}
 use Rattle.sja_bus.specs.declared.activity.Activity.TheVariants.{Running}
 use Rattle.sja_bus.specs.Inside.Following.{Reads}
-use Rattle.sja_bus.proofs.Steps.{follows_start}
-use Rattle.sja_bus.proofs.Reading.{reads_start}
+use Rattle.sja_bus.proofs.Journal.Steps.{follows_start}
+use Rattle.sja_bus.proofs.Journal.Reading.{reads_start}
 use Rattle.sja_bus.specs.declared.seat.Seat.{Seat}
-use Rattle.sja_bus.proofs.Takings.{seat_entered, takes_entered, may_come, refused_full}
+use Rattle.sja_bus.proofs.ItemsTaken.Takings.{seat_entered, takes_entered, may_come, refused_full}
 use Rattle.sja_bus.proofs.seat.Seat.begin.Goals as goal
 
 pub returns-clause-takes : goal.returns-clause-takes

@@ -5,11 +5,11 @@ use Rattle.sja_link.specs.declared.link_id.LinkId.{LinkId}
 use Rattle.sja_link.specs.BusLedgers.{link_of}
 use Rattle.sja_bus.specs.declared.activity.Activity.TheVariants.{Between}
 use Rattle.sja_bus.specs.Inside.Following.{Reads}
-use Rattle.sja_bus.proofs.Seating.{open_else}
-use Rattle.sja_bus.proofs.Steps.{follows_stop}
-use Rattle.sja_bus.proofs.Reading.{reads_stop, here_in}
+use Rattle.sja_bus.proofs.Links.Seating.{open_else}
+use Rattle.sja_bus.proofs.Journal.Steps.{follows_stop}
+use Rattle.sja_bus.proofs.Journal.Reading.{reads_stop, here_in}
 use Rattle.sja_bus.specs.declared.seat.Seat.{Seat}
-use Rattle.sja_bus.proofs.Takings.{seat_entered, takes_entered, may_come, refused_full}
+use Rattle.sja_bus.proofs.ItemsTaken.Takings.{seat_entered, takes_entered, may_come, refused_full}
 use Rattle.sja_bus.proofs.seat.Seat.end.Goals as goal
 
 pub returns-clause-takes : goal.returns-clause-takes

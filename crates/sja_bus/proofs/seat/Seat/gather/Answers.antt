@@ -4,11 +4,11 @@ use Rattle.sja_link.specs.BusLedgers.{link_of}
 use Rattle.lemmas.proofs.Related.{each_at}
 use Rattle.sja_bus.specs.Reasons.{RefusesItem}
 use Rattle.lemmas.proofs.Results.{err_is}
-use Rattle.sja_bus.proofs.AtLinks.{stays_refl, stays_trans, stays_one}
-use Rattle.sja_bus.proofs.Moving.{goes_refl, goes_trans, goes_one}
-use Rattle.sja_bus.proofs.Refusing.{refuses_link}
-use Rattle.sja_bus.proofs.NodeBit.{items_none, items_push}
-use Rattle.sja_bus.proofs.Turning.{takes_one}
+use Rattle.sja_bus.proofs.Links.AtLinks.{stays_refl, stays_trans, stays_one}
+use Rattle.sja_bus.proofs.Links.Moving.{goes_refl, goes_trans, goes_one}
+use Rattle.sja_bus.proofs.ItemsTaken.Refusing.{refuses_link}
+use Rattle.sja_bus.proofs.AllNodes.NodeBit.{items_none, items_push}
+use Rattle.sja_bus.proofs.AtPorts.Turning.{takes_one}
 use Rattle.sja_bus.proofs.seat.Seat.gather.Goals as goal
 
 pub loop-self-init : goal.loop-self-init

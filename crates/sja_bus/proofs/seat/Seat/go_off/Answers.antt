@@ -4,16 +4,16 @@ use Rattle.can_node.specs.Cut.{IsCut}
 use Rattle.sja_link.specs.declared.entry.Entry.TheVariants.{Off}
 use Rattle.sja_link.specs.BusLedgers.{link_of, free_in}
 use Rattle.sja_link.specs.Accounts.{account}
-use Rattle.sja_link.proofs.Entering.{record_push}
+use Rattle.sja_link.proofs.JournalEntries.Entering.{record_push}
 use Rattle.sja_bus.specs.declared.activity.Activity.{Activity}
 use Rattle.sja_bus.specs.declared.activity.Activity.TheVariants.{Off as ActivityOff}
 use Rattle.sja_bus.specs.declared.seat.Seat.{Seat}
 use Rattle.sja_bus.specs.Inside.Following.{Follows, Reads, open_in}
 use Rattle.sja_bus.specs.Inside.Taking.{GaveBack}
-use Rattle.sja_bus.proofs.Steps.{follows_off}
-use Rattle.sja_bus.proofs.Parted.{stands_at}
-use Rattle.sja_bus.proofs.Reading.{reads_off, runs_at}
-use Rattle.sja_bus.proofs.Moving.{moves_push}
+use Rattle.sja_bus.proofs.Journal.Steps.{follows_off}
+use Rattle.sja_bus.proofs.Journal.Parted.{stands_at}
+use Rattle.sja_bus.proofs.Journal.Reading.{reads_off, runs_at}
+use Rattle.sja_bus.proofs.Links.Moving.{moves_push}
 use Rattle.lemmas.proofs.Results.{ok_map}
 use Rattle.sja_bus.proofs.seat.Seat.go_off.Goals as goal
 

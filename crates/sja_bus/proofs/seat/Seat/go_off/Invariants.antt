@@ -1,5 +1,5 @@
 use Rattle.std.proofs.Common.{◌≡◌}
-use Rattle.sja_bus.proofs.Retrying.{IsRetried}
+use Rattle.sja_bus.proofs.ItemsTaken.Retrying.{IsRetried}
 use Rattle.sja_bus.proofs.seat.Seat.go_off.Given as goal
 
 -- the seat is as it was, and the end gave bus-off back each time

@@ -1,5 +1,5 @@
 use Rattle.std.proofs.Common.{arith}
-use Rattle.sja_bus.proofs.Seating.{open_else}
+use Rattle.sja_bus.proofs.Links.Seating.{open_else}
 use Rattle.sja_bus.proofs.seat.Seat.has_begun.Goals as goal
 
 pub returns-in_default-clause-yes : goal.returns-in_default-clause-yes

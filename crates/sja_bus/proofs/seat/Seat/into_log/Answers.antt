@@ -1,7 +1,7 @@
 use Rattle.std.proofs.Common.{◌≡◌, ℕ, rules, refl, sym, subst}
 use Rattle.sja_link.specs.Records.{record_of}
 use Rattle.sja_wire.specs.Lawful.{CountersAre}
-use Rattle.sja_bus.proofs.Lawfuls.{counters_of}
+use Rattle.sja_bus.proofs.WholeBus.Lawfuls.{counters_of}
 use Rattle.sja_bus.proofs.seat.Seat.into_log.Goals as goal
 
 pub returns : goal.returns

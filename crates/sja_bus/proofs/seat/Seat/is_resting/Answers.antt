@@ -1,6 +1,6 @@
 use Rattle.std.proofs.Common.{Bool, true, subst, inr}
 use Rattle.can_node.specs.Stands.{ShowsRest}
-use Rattle.sja_bus.proofs.Rests.{rest_recessive}
+use Rattle.sja_bus.proofs.Resting.Rests.{rest_recessive}
 use Rattle.sja_bus.proofs.seat.Seat.is_resting.Goals as goal
 
 pub returns-in-Nothing-clause-yes : goal.returns-in-Nothing-clause-yes

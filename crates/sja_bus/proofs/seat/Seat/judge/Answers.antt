@@ -9,13 +9,13 @@ use Rattle.sja_link.specs.Verdicts.{entry_of}
 use Rattle.sja_wire.specs.declared.bus_fault.BusFault.TheVariants.{JournalFull}
 use Rattle.sja_bus.specs.declared.seat.Seat.{Seat}
 use Rattle.sja_bus.specs.Inside.Taking.{BreaksBy, IsJudgedShort}
-use Rattle.sja_bus.proofs.Seating.{reads_by}
-use Rattle.sja_bus.proofs.Parted.{stays_of, stands_at, place_same, off_less}
-use Rattle.sja_bus.proofs.Reading.{reads_quiet, reads_here, runs_at, reads_running}
-use Rattle.sja_bus.proofs.Judging.{due_now, verdict_stays, verdict_no_stop, verdict_orderly}
-use Rattle.sja_bus.proofs.Orders.{no_off_put}
-use Rattle.sja_bus.proofs.Moving.{moves_push, moves_quiet, moves_trans}
-use Rattle.sja_bus.proofs.OutOfRoom.{bit_unjudged, verdict_unjudged}
+use Rattle.sja_bus.proofs.Links.Seating.{reads_by}
+use Rattle.sja_bus.proofs.Journal.Parted.{stays_of, stands_at, place_same, off_less}
+use Rattle.sja_bus.proofs.Journal.Reading.{reads_quiet, reads_here, runs_at, reads_running}
+use Rattle.sja_bus.proofs.Journal.Judging.{due_now, verdict_stays, verdict_no_stop, verdict_orderly}
+use Rattle.sja_bus.proofs.Journal.Orders.{no_off_put}
+use Rattle.sja_bus.proofs.Links.Moving.{moves_push, moves_quiet, moves_trans}
+use Rattle.sja_bus.proofs.ItemsTaken.OutOfRoom.{bit_unjudged, verdict_unjudged}
 use Rattle.lemmas.proofs.Results.{err_is}
 use Rattle.sja_bus.proofs.seat.Seat.judge.Goals as goal
 

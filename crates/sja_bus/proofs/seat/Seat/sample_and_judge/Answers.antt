@@ -7,16 +7,16 @@ use Rattle.sja_bus.specs.declared.seat.Seat.{Seat}
 use Rattle.sja_bus.specs.Inside.Following.{Reads, open_in}
 use Rattle.can_node.specs.declared.node.Node.{Node}
 use Rattle.can_node.specs.Stands.{InReset, Samples}
-use Rattle.sja_bus.proofs.Seating.{reads_by, follows_by}
-use Rattle.sja_bus.proofs.NodeBit.{received_quiet, received_judged, has_alone, has_judged}
-use Rattle.sja_bus.proofs.Parted.{stands_at}
-use Rattle.sja_bus.proofs.Reading.{reads_quiet, reads_swap, runs_at}
-use Rattle.sja_bus.proofs.Moving.{moves_quiet}
+use Rattle.sja_bus.proofs.Links.Seating.{reads_by, follows_by}
+use Rattle.sja_bus.proofs.AllNodes.NodeBit.{received_quiet, received_judged, has_alone, has_judged}
+use Rattle.sja_bus.proofs.Journal.Parted.{stands_at}
+use Rattle.sja_bus.proofs.Journal.Reading.{reads_quiet, reads_swap, runs_at}
+use Rattle.sja_bus.proofs.Links.Moving.{moves_quiet}
 use Rattle.std.specs.Prelude.{Err}
 use Rattle.sja_bus.specs.Inside.Taking.{BreaksHere, IsJudgedShort}
-use Rattle.sja_bus.proofs.Breaking.{breaks_by}
-use Rattle.sja_bus.proofs.Lawfuls.{lawful_of}
-use Rattle.sja_bus.proofs.OutOfRoom.{bit_short, judged_short}
+use Rattle.sja_bus.proofs.ItemsTaken.Breaking.{breaks_by}
+use Rattle.sja_bus.proofs.WholeBus.Lawfuls.{lawful_of}
+use Rattle.sja_bus.proofs.ItemsTaken.OutOfRoom.{bit_short, judged_short}
 use Rattle.lemmas.proofs.Results.{err_is}
 use Rattle.sja_bus.proofs.seat.Seat.sample_and_judge.Goals as goal
 

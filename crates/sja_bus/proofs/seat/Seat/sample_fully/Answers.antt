@@ -4,10 +4,10 @@ use Rattle.sja_link.specs.BusLedgers.{link_of}
 use Rattle.sja_bus.specs.Inside.Following.{open_in}
 use Rattle.lemmas.proofs.Related.{each_refl}
 use Rattle.lemmas.proofs.Results.{ok_map, err_map}
-use Rattle.sja_bus.proofs.AtLinks.{stays_one}
-use Rattle.sja_bus.proofs.Breaking.{broken_link, broken_short}
-use Rattle.sja_bus.proofs.Moving.{goes_one, goes_quiet}
-use Rattle.sja_bus.proofs.NodeBit.{rest_brings}
+use Rattle.sja_bus.proofs.Links.AtLinks.{stays_one}
+use Rattle.sja_bus.proofs.ItemsTaken.Breaking.{broken_link, broken_short}
+use Rattle.sja_bus.proofs.Links.Moving.{goes_one, goes_quiet}
+use Rattle.sja_bus.proofs.AllNodes.NodeBit.{rest_brings}
 use Rattle.sja_bus.proofs.seat.Seat.sample_fully.Goals as goal
 
 pub returns-in_default-clause-stays : goal.returns-in_default-clause-stays

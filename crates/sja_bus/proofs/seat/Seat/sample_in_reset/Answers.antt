@@ -6,9 +6,9 @@ use Rattle.can_node.specs.declared.node.Node.{Node}
 use Rattle.can_node.specs.Stands.{Samples}
 use Rattle.sja_bus.specs.declared.seat.Seat.{Seat}
 use Rattle.sja_bus.specs.Inside.Following.{FollowsBit}
-use Rattle.sja_bus.proofs.Steps.{follows_bit, follows_on}
-use Rattle.sja_bus.proofs.Reading.{reads_quiet}
-use Rattle.sja_bus.proofs.OutOfRoom.{bit_short}
+use Rattle.sja_bus.proofs.Journal.Steps.{follows_bit, follows_on}
+use Rattle.sja_bus.proofs.Journal.Reading.{reads_quiet}
+use Rattle.sja_bus.proofs.ItemsTaken.OutOfRoom.{bit_short}
 use Rattle.std.specs.Prelude.{Err}
 use Rattle.sja_bus.specs.Inside.Taking.{IsBitShort}
 use Rattle.lemmas.proofs.Results.{err_is}

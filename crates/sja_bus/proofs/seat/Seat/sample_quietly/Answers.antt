@@ -1,7 +1,7 @@
 use Rattle.std.proofs.Common.{rules, refl}
 use Rattle.can_node.specs.Stands.{is_receiving}
 use Rattle.sja_bus.specs.declared.seat.Seat.{Seat}
-use Rattle.sja_bus.proofs.Quiet.{quiet_sound}
+use Rattle.sja_bus.proofs.Journal.Quiet.{quiet_sound}
 use Rattle.sja_bus.proofs.seat.Seat.sample_quietly.Goals as goal
 
 pub returns-then-sample_quietly-clause-ready : goal.returns-then-sample_quietly-clause-ready

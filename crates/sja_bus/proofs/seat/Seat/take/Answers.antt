@@ -4,7 +4,7 @@ use Rattle.sja_link.specs.declared.link_id.LinkId.{LinkId}
 use Rattle.sja_bus.specs.Reasons.{IsRefusedFor}
 use Rattle.sja_bus.specs.Inside.Taking.{RefusesHere}
 use Rattle.sja_link.specs.declared.entry.Entry.TheVariants.{Up as Item}
-use Rattle.sja_bus.proofs.Moving.{moves_push}
+use Rattle.sja_bus.proofs.Links.Moving.{moves_push}
 use Rattle.lemmas.proofs.Results.{err_is}
 use Rattle.sja_bus.proofs.seat.Seat.take.Goals as goal
 

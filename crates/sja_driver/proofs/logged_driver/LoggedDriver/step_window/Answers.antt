@@ -2,8 +2,8 @@ use Rattle.std.proofs.Common.{refl}
 use Rattle.sja_script.specs.declared.step.Step.TheVariants as step
 use Rattle.sja_regs.specs.Registers.{at_power_on}
 use Rattle.sja_driver.specs.Tries.{tried_of}
-use Rattle.sja_driver.proofs.Logged.{stays_lawful, steps_of}
-use Rattle.sja_driver.proofs.Stepping.{at_most}
+use Rattle.sja_driver.proofs.LogOfSteps.Logged.{stays_lawful, steps_of}
+use Rattle.sja_driver.proofs.LogOfSteps.Stepping.{at_most}
 use Rattle.sja_driver.proofs.logged_driver.LoggedDriver.step_window.Goals as goal
 
 pub returns-clause-stays : goal.returns-clause-stays

@@ -1,4 +1,4 @@
-use Rattle.sja_link.proofs.Skipping.{next_between, steps_go}
+use Rattle.sja_link.proofs.JournalEntries.Skipping.{next_between, steps_go}
 use Rattle.sja_link.proofs.between_bits.BetweenBitsIterator.next.Goals as goal
 
 pub returns-clause-steps : goal.returns-clause-steps

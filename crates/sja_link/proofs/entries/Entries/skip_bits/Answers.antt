@@ -1,5 +1,5 @@
 use Rattle.std.proofs.lemmas.List.{take_rest}
-use Rattle.sja_link.proofs.Skipping.{skips}
+use Rattle.sja_link.proofs.JournalEntries.Skipping.{skips}
 use Rattle.sja_link.proofs.entries.Entries.skip_bits.Goals as goal
 
 pub invariant_of-self : goal.invariant_of-self

@@ -1,7 +1,7 @@
 use Rattle.std.proofs.Common.{arith, ap}
 use Rattle.std.specs.Prelude.{length}
-use Rattle.sja_link.proofs.Decoding.{decoded_length}
-use Rattle.sja_link.proofs.Skipping.{between_few}
+use Rattle.sja_link.proofs.JournalEntries.Decoding.{decoded_length}
+use Rattle.sja_link.proofs.JournalEntries.Skipping.{between_few}
 use Rattle.sja_link.proofs.journal.Journal.between_bits.Goals as goal
 
 pub returns-clause-few : goal.returns-clause-few

@@ -1,5 +1,5 @@
 use Rattle.std.proofs.Common.{arith}
-use Rattle.sja_link.proofs.Decoding.{decoded_length}
+use Rattle.sja_link.proofs.JournalEntries.Decoding.{decoded_length}
 use Rattle.sja_link.proofs.journal.Journal.free.Goals as goal
 
 pub returns : goal.returns

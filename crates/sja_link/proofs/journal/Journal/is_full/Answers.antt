@@ -1,6 +1,6 @@
 use Rattle.std.proofs.Common.{arith}
 use Rattle.std.proofs.lemmas.Bool.{leb-true, leb-false}
-use Rattle.sja_link.proofs.Decoding.{decoded_length}
+use Rattle.sja_link.proofs.JournalEntries.Decoding.{decoded_length}
 use Rattle.sja_link.proofs.journal.Journal.is_full.Goals as goal
 
 pub returns-clause-full : goal.returns-clause-full

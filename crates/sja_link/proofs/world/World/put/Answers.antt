@@ -3,8 +3,8 @@ use Rattle.sja_link.specs.declared.down.Down.TheVariants.{Message}
 use Rattle.sja_link.specs.declared.event.Event.TheVariants.{Put}
 use Rattle.sja_link.specs.WorldEvents.{Allowed}
 use Rattle.sja_link.specs.Kept.Fields.{world_of}
-use Rattle.sja_link.proofs.Worlds.{world_next}
-use Rattle.sja_link.proofs.Keeping.{put_stored, free_put}
+use Rattle.sja_link.proofs.WorldSteps.Worlds.{world_next}
+use Rattle.sja_link.proofs.JournalEntries.Keeping.{put_stored, free_put}
 use Rattle.sja_link.proofs.world.World.put.Goals as goal
 
 pub invariant_of-self-2 : goal.invariant_of-self-2

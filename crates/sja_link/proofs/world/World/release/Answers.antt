@@ -4,8 +4,8 @@ use Rattle.lemmas.specs.Gathering.{total}
 use Rattle.sja_link.specs.Lists.{messages}
 use Rattle.sja_link.specs.World.{credits_of, is_off, is_stop}
 use Rattle.sja_link.specs.WorldEvents.{first_credit}
-use Rattle.sja_link.proofs.ListCounts.{up_count}
-use Rattle.sja_link.proofs.Keeping.{release_stored}
+use Rattle.sja_link.proofs.JournalEntries.ListCounts.{up_count}
+use Rattle.sja_link.proofs.JournalEntries.Keeping.{release_stored}
 use Rattle.sja_link.proofs.world.World.release.Goals as goal
 
 pub overflow_add-self : goal.overflow_add-self

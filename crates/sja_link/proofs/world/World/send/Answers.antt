@@ -3,8 +3,8 @@ use Rattle.sja_link.specs.declared.up.Up.TheVariants.{Send as SendUp}
 use Rattle.sja_link.specs.declared.event.Event.TheVariants.{Send}
 use Rattle.sja_link.specs.WorldEvents.{Allowed}
 use Rattle.sja_link.specs.Kept.Fields.{world_of}
-use Rattle.sja_link.proofs.Worlds.{world_next}
-use Rattle.sja_link.proofs.Keeping.{give_stored, credits_same}
+use Rattle.sja_link.proofs.WorldSteps.Worlds.{world_next}
+use Rattle.sja_link.proofs.JournalEntries.Keeping.{give_stored, credits_same}
 use Rattle.sja_link.proofs.world.World.send.Goals as goal
 
 pub invariant_of-self-2 : goal.invariant_of-self-2

@@ -1,6 +1,6 @@
 use Rattle.std.proofs.Common.{subst}
 use Rattle.sja_link.specs.Budget.{IsBudget}
-use Rattle.sja_link.proofs.WorldBudget.{budget}
+use Rattle.sja_link.proofs.WorldSteps.WorldBudget.{budget}
 use Rattle.sja_link.proofs.world.World.step.Goals as goal
 
 pub returns-clause-budget : goal.returns-clause-budget

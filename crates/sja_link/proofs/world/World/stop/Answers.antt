@@ -3,8 +3,8 @@ use Rattle.sja_link.specs.declared.up.Up.TheVariants.{Stop as StopUp}
 use Rattle.sja_link.specs.declared.event.Event.TheVariants.{Stop}
 use Rattle.sja_link.specs.WorldEvents.{IsOpen}
 use Rattle.sja_link.specs.Kept.Fields.{world_of}
-use Rattle.sja_link.proofs.Worlds.{world_next}
-use Rattle.sja_link.proofs.Keeping.{give_stored, credits_same}
+use Rattle.sja_link.proofs.WorldSteps.Worlds.{world_next}
+use Rattle.sja_link.proofs.JournalEntries.Keeping.{give_stored, credits_same}
 use Rattle.sja_link.proofs.world.World.stop.Goals as goal
 
 pub invariant_of-self-2 : goal.invariant_of-self-2

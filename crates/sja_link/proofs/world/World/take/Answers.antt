@@ -1,5 +1,5 @@
 use Rattle.std.proofs.Common.{◌<◌, length, arith}
-use Rattle.sja_link.proofs.Keeping.{take_stored, take_free, take_fits}
+use Rattle.sja_link.proofs.JournalEntries.Keeping.{take_stored, take_free, take_fits}
 use Rattle.sja_link.proofs.world.World.take.Goals as goal
 
 pub overflow_add-self : goal.overflow_add-self

@@ -1,6 +1,6 @@
 use Rattle.std.proofs.Common.{◌≡◌, ◌++◌, List, length, ap, subst, sym, arith}
 use Rattle.sja_link.specs.declared.down.Down.{Down}
-use Rattle.sja_log.proofs.OffLinks.{taken_off, none_left, gathers_more, gathers_all}
+use Rattle.sja_log.proofs.Account.OffLinks.{taken_off, none_left, gathers_more, gathers_all}
 use Rattle.sja_log.proofs.left_down.LeftDown.on.Goals as goal
 
 pub loop-item-preserved : goal.loop-item-preserved

@@ -9,7 +9,7 @@ use Rattle.sja_log.specs.Log.{NodeValue, RunValue}
 use Rattle.sja_log.specs.Finishing.{all_down, AreNodeEnds}
 use Rattle.sja_serial.specs.Ending.{IsLogOf}
 use Rattle.sja_serial.specs.Serial.{SerialValue, StandsAt, run_now}
-use Rattle.sja_serial.proofs.Ended.{log_of_run}
+use Rattle.sja_serial.proofs.WholeRun.Ended.{log_of_run}
 use Rattle.sja_serial.proofs.serial_run.SerialRun.finish.Goals as goal
 
 pub node_runs-requires-clause-lawful : goal.node_runs-requires-clause-lawful

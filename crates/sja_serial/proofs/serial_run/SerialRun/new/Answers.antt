@@ -1,6 +1,6 @@
 use Rattle.std.proofs.Common.{◌∙◌, ap, replicate}
 use Rattle.sja_regs.specs.Registers.{at_power_on}
-use Rattle.sja_serial.proofs.Newly.{stands_new}
+use Rattle.sja_serial.proofs.AllNodes.Newly.{stands_new}
 use Rattle.sja_serial.proofs.serial_run.SerialRun.new.Goals as goal
 
 pub returns-clause-stands : goal.returns-clause-stands

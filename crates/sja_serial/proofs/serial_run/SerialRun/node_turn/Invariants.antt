@@ -1,7 +1,7 @@
 use Rattle.std.proofs.Common.{List}
 use Rattle.sja_driver.specs.Deeds.{Deed}
 use Rattle.sja_serial.specs.Serial.{StandsAt}
-use Rattle.sja_serial.proofs.Several.{SoFar}
+use Rattle.sja_serial.proofs.AllNodes.Several.{SoFar}
 use Rattle.sja_serial.proofs.serial_run.SerialRun.node_turn.Given as goal
 
 -- so many steps are done

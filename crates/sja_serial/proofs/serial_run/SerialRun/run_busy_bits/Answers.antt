@@ -3,8 +3,8 @@ use Rattle.std.proofs.lemmas.List.{with_items_is}
 use Rattle.std.specs.Vec.{with_items}
 use Rattle.sja_bus.specs.Moment.{moment}
 use Rattle.sja_serial.specs.Serial.{run_now}
-use Rattle.sja_serial.proofs.Borrowed.{run_is}
-use Rattle.sja_serial.proofs.ManyBits.{SerialMoment, no_break, busy_bits, busy_whole}
+use Rattle.sja_serial.proofs.ManyBits.Borrowed.{run_is}
+use Rattle.sja_serial.proofs.ManyBits.ManyBits.{SerialMoment, no_break, busy_bits, busy_whole}
 use Rattle.sja_serial.proofs.serial_run.SerialRun.run_busy_bits.Goals.{After-bits}
 use Rattle.sja_serial.proofs.serial_run.SerialRun.run_busy_bits.Goals as goal
 

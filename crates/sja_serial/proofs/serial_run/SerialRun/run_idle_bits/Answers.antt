@@ -4,9 +4,9 @@ use Rattle.std.proofs.lemmas.List.{with_items_is}
 use Rattle.std.specs.Vec.{with_items}
 use Rattle.sja_serial.specs.Bits.{TakesAtOnce}
 use Rattle.sja_serial.specs.Serial.{SerialValue, StandsAt, run_now}
-use Rattle.sja_serial.proofs.AtOnce.{takes_at_once}
-use Rattle.sja_serial.proofs.Borrowed.{run_is, stands_there, lawful_there}
-use Rattle.sja_serial.proofs.Unstopped.{never_refused}
+use Rattle.sja_serial.proofs.ManyBits.AtOnce.{takes_at_once}
+use Rattle.sja_serial.proofs.ManyBits.Borrowed.{run_is, stands_there, lawful_there}
+use Rattle.sja_serial.proofs.ManyBits.Unstopped.{never_refused}
 use Rattle.sja_serial.proofs.serial_run.SerialRun.run_idle_bits.Goals as goal
 
 pub returns : goal.returns

@@ -4,9 +4,9 @@ use Rattle.std.specs.Vec.{with_items}
 use Rattle.sja_bus.specs.Boards.{HasOrders}
 use Rattle.sja_serial.specs.Bits.{TakesBit}
 use Rattle.sja_serial.specs.Serial.{SerialValue, StandsAt, run_now}
-use Rattle.sja_serial.proofs.BitRun.{cuts_of, takes_bit}
-use Rattle.sja_serial.proofs.Borrowed.{run_is, stands_there, lawful_there}
-use Rattle.sja_serial.proofs.Unstopped.{never_stops}
+use Rattle.sja_serial.proofs.OneBit.BitRun.{cuts_of, takes_bit}
+use Rattle.sja_serial.proofs.ManyBits.Borrowed.{run_is, stands_there, lawful_there}
+use Rattle.sja_serial.proofs.ManyBits.Unstopped.{never_stops}
 use Rattle.sja_serial.proofs.serial_run.SerialRun.run_one_bit.Goals as goal
 
 pub returns : goal.returns

@@ -7,9 +7,9 @@ use Rattle.sja_driver.specs.Deeds.{Deed, deeds_at}
 use Rattle.sja_driver.specs.LoggedDrivers.{log_of}
 use Rattle.sja_driver.specs.Logs.{done_in}
 use Rattle.sja_serial.specs.Serial.{SerialValue, run_now, StandsAt, CannotStep}
-use Rattle.sja_serial.proofs.Borrowed.{run_is}
-use Rattle.sja_serial.proofs.NextStep.{IsTried, steps_done, node_at, none_refused, is_tried}
-use Rattle.sja_serial.proofs.Several.{does_none}
+use Rattle.sja_serial.proofs.ManyBits.Borrowed.{run_is}
+use Rattle.sja_serial.proofs.OneNode.NextStep.{IsTried, steps_done, node_at, none_refused, is_tried}
+use Rattle.sja_serial.proofs.AllNodes.Several.{does_none}
 use Rattle.sja_serial.proofs.serial_run.SerialRun.try_next.Goals.{After-done-next, In-Ok}
 use Rattle.sja_serial.proofs.serial_run.SerialRun.try_next.Goals as goal
 

@@ -1,0 +1,12 @@
+-- The bit of all nodes, and bits one after the other.
+pub mod NodeBit
+pub mod Wires
+pub mod Many
+pub mod Rows
+pub mod Running
+pub mod Underway
+pub mod Levels
+pub mod Journals
+pub mod RunningOn
+pub mod RanOn
+pub mod SoFar

@@ -1,0 +1,89 @@
+-- A bus after bits in which nothing was taken, as contracts see it.
+use Rattle.std.proofs.Common.{◌≡◌, ℕ, ◌+◌, ◌-◌, ◌≤◌, Bool, Option, Some, None, List, length, refl, sym, ap, ◌∙◌, subst}
+use Rattle.std.proofs.Common.{arith}
+use Rattle.sja_link.specs.declared.bus_end.BusEnd.{Ghosts as Ends}
+use Rattle.lemmas.specs.Related.{EachRelated}
+use Rattle.sja_script.specs.declared.strike.Strike.{Strike}
+use Rattle.sja_bus.specs.declared.board.Board.{Ghosts as Ports}
+use Rattle.sja_bus.specs.declared.broken_off.BrokenOff.{BrokenOff}
+use Rattle.sja_wire.specs.declared.bus_fault.BusFault.{BusFault}
+use Rattle.sja_bus.specs.declared.seat.Seat.{Seat}
+use Rattle.sja_bus.specs.Boards.{KeepsOthers}
+use Rattle.sja_bus.specs.Buses.{BusValue}
+use Rattle.sja_bus.specs.Reasons.{room_for}
+use Rattle.sja_bus.specs.Moment.{moment, Keeps}
+use Rattle.sja_bus.specs.Inside.Refusing.{HaveRoom}
+use Rattle.sja_bus.specs.Inside.Rows.{journals_of, untold_of}
+use Rattle.sja_bus.specs.Inside.RunningOn.{bus_of, AnyBit, RowsRun, RowsStop, IsSoFar, IsStopped}
+use Rattle.sja_bus.proofs.AllNodes.Running.{count_is}
+
+-- what contracts see of a bus with these seats
+abbrev pub bus_with : List Strike → ℕ → ℕ → Option BusFault → List Seat → BusValue
+bus_with script run left fault seats =
+    record {
+      script = script;
+      run = run;
+      left = left;
+      fault = fault;
+      journals = journals_of seats;
+      untold = untold_of seats;
+    }
+
+-- without a fault
+pub bus_is : (script : List Strike) (run left : ℕ) (fault : Option BusFault) (seats same : List Seat) (bus : BusValue) →
+    same ≡ seats → fault ≡ None → bus_with script run left fault seats ≡ bus → bus_of script run left same ≡ bus
+bus_is script run left fault seats same bus is none view =
+    let P : List Seat → Type 0 = λ l. bus_with script run left None l ≡ bus in
+    let Q : Option BusFault → Type 0 = λ f. bus_with script run left f seats ≡ bus in
+    subst P (sym is) (subst Q none view)
+
+module _ {E B : Type 0} (e : Ends E) (b : Ports B) (to_rest : Bool) (script : List Strike) (run left : ℕ)
+    (was now : List Seat) (links after : List E) (board told : B) (count : ℕ) (len : length now ≡ length was)
+    (sames : EachRelated e.same links after) (others : KeepsOthers b.ports b.kept (length was) board told)
+    (old : BusValue) (start : bus_of script run left was ≡ old) where
+  -- what they keep
+  keeps : (new : BusValue) → new.script ≡ script → new.journals ≡ journals_of now →
+      Keeps e b (moment old links board) (moment new after told)
+  keeps new script_is journals =
+      let K : ℕ → Type 0 = λ m. KeepsOthers b.ports b.kept m board told in
+      let P : BusValue → Type 0 = λ w. Keeps e b (moment w links board) (moment new after told) in
+      subst P start (record {
+        sames = sames;
+        others = subst K (sym (count_is was)) others;
+        script = script_is;
+        nodes = ap (λ (l : List _). length l) journals ∙ count_is now ∙ len ∙ sym (count_is was);
+      })
+
+  -- so many
+  pub ran : (n : ℕ) (new : BusValue) → n ≤ count → count ≤ left → bus_of script (run + n) (left - n) now ≡ new →
+      RowsRun e b to_rest script run count was now links after board told n →
+      IsSoFar e b (AnyBit e b) to_rest (moment old links board) n (moment new after told)
+  ran n new few enough end runs =
+      let P : BusValue → Type 0 = λ w. IsSoFar e b (AnyBit e b) to_rest (moment w links board) n
+      (moment new after told) in
+      let Q : BusValue → Type 0 = λ w. IsSoFar e b (AnyBit e b) to_rest
+      (moment (bus_of script run left was) links board) n
+      (moment w after told) in
+      let O : BusValue → Type 0 = λ w. Keeps e b (moment w links board)
+      (moment (bus_of script (run + n) (left - n) now) after told) in
+      subst P start (subst Q end (record {
+        keeps = subst O (sym start) (keeps (bus_of script (run + n) (left - n) now) refl refl);
+        left = omega (arith, few, enough);
+        right = refl;
+        bits = runs.bits left enough;
+      }))
+
+  -- and one that didn't come to its end
+  pub stopped : (f : BrokenOff) (new : BusValue) → count ≤ left → HaveRoom (room_for (run + left)) was →
+      new.script ≡ script → new.run ≡ run + f.after → new.left ≡ left - f.after → new.fault ≡ Some f.fault →
+      new.journals ≡ journals_of now → RowsStop e b to_rest script run count was now links after board told f →
+      IsStopped e b to_rest count (moment old links board) (moment new after told) f.fault
+  stopped f new enough rooms script_is run_is left_is fault journals stops =
+      let P : BusValue → Type 0 = λ w. IsStopped e b to_rest count (moment w links board) (moment new after told)
+      f.fault in
+      let O : BusValue → Type 0 = λ w. Keeps e b (moment w links board) (moment new after told) in
+      subst P start (record {
+        keeps = subst O (sym start) (keeps new script_is journals);
+        fault = fault;
+        reason = stops left new enough rooms journals run_is left_is;
+      })

@@ -1,0 +1,260 @@
+-- Bits in which nothing is taken and nothing aborted.
+use Rattle.std.proofs.Common.{◌≡◌, ℕ, suc, ◌+◌, ◌-◌, ◌<◌, ◌≤◌, Bool, true, false, None, List, [], ◌∷◌, length}
+use Rattle.std.proofs.Common.{replicate, inl, inr, refl, sym, ap, ◌∙◌, subst, append-nil, arith}
+use Rattle.std.specs.Prelude.{slice_index_or, ◌↔◌, ◌⊎◌}
+use Rattle.std.proofs.lemmas.Bool.{cases_lt}
+use Rattle.can_bits.specs.declared.level.Level.{Level}
+use Rattle.can_node.specs.Stands.{ShowsRest}
+use Rattle.sja_link.specs.declared.entry.Entry.{Entry}
+use Rattle.sja_link.specs.declared.bus_end.BusEnd.{Ghosts as Ends}
+use Rattle.sja_link.specs.Lists.{Lists}
+use Rattle.lemmas.specs.Related.{EachRelated}
+use Rattle.sja_regs.specs.declared.orders.Orders.{Orders}
+use Rattle.sja_regs.specs.declared.bus_turn.BusTurn.{BusTurn}
+use Rattle.sja_script.specs.declared.strike.Strike.{Strike}
+use Rattle.sja_script.specs.Striking.{Strikes}
+use Rattle.sja_bus.specs.declared.board.Board.{Ghosts as Ports}
+use Rattle.sja_wire.specs.declared.bus_fault.BusFault.{BusFault}
+use Rattle.sja_bus.specs.declared.struck_nodes.StruckNodes.{StruckNodes}
+use Rattle.sja_bus.specs.declared.seat.Seat.{Seat}
+use Rattle.sja_bus.specs.StrikesByBit.{IsAmong}
+use Rattle.sja_wire.specs.Wire.{wired}
+use Rattle.sja_bus.specs.Boards.{KeepsOthers}
+use Rattle.sja_bus.specs.Buses.{BusValue}
+use Rattle.sja_wire.specs.OneBit.{Opens}
+use Rattle.sja_bus.specs.Reasons.{room_for, StopsBit}
+use Rattle.sja_bus.specs.Moment.{Moment, OneBit}
+use Rattle.sja_bus.specs.Several.{SomeWork, AreBits, WorksIf}
+use Rattle.sja_bus.specs.Several.AreBits.{no_bit, one_more}
+use Rattle.sja_bus.specs.Inside.Refusing.{HaveRoom, SeatBreaks}
+use Rattle.sja_bus.specs.Inside.Rows.{AreReady, EachSeat, SeatTurns, GoesAll, IsBus, driven_by, journals_of}
+use Rattle.sja_bus.specs.Inside.RunningOn.{NoneAborts, moment_of, bus_of, AnyBit}
+use Rattle.sja_bus.specs.Inside.Whole.{IsRowBit}
+use Rattle.sja_bus.proofs.Resting.AtRest.{untold_none}
+use Rattle.sja_bus.proofs.AllNodes.NodeBit.{items_none}
+use Rattle.sja_bus.proofs.ItemsTaken.Breaking.{stops_bit}
+use Rattle.sja_bus.proofs.AllNodes.Journals.{keeps_all, is_bit, all_told, wired_row}
+use Rattle.sja_bus.proofs.WholeBus.Logs.{none_untold, calm_by}
+use Rattle.sja_bus.proofs.AllNodes.Many.{goes_all_refl}
+use Rattle.sja_bus.proofs.Resting.Rests.{rests_at}
+use Rattle.sja_bus.proofs.AllNodes.Running.{count_is, bus_run}
+
+-- ---- one bit
+
+-- no item was taken, and no abort is ordered
+opens_none : (has_orders : Orders → Type 0) (j : List Entry) (o : Orders) → has_orders o →
+    o.abort ≡ false → Opens has_orders j j
+opens_none has_orders j o has none = record {
+  taken = j;
+  items = items_none j;
+  aborts = record { changed = false; whole = sym (append-nil j) };
+  orders = o;
+  are_orders = has;
+  unasked = λ no. refl;
+  applied = λ yes. let wrong : true ≡ false = sym yes ∙ none in absurd cc;
+}
+
+-- of all seats
+pub row_on : (orders_are : ℕ → Orders → Type 0) (was_told : ℕ → BusTurn → Type 0) (was_kept : ℕ → Type 0)
+    (struck : StruckNodes) (level : Level) (seats after : List Seat) →
+    NoneAborts orders_are (length seats) → level ≡ wired (driven_by seats) →
+    EachSeat (SeatTurns was_told was_kept struck level) seats after →
+    IsRowBit orders_are was_told was_kept struck seats after
+row_on orders_are was_told was_kept struck level seats after none is turns = record {
+  opened = seats;
+  level = level;
+  count = refl;
+  opens = λ m s few. let o = none m few in opens_none (orders_are m)
+      (slice_index_or seats m s).journal.entries o.0 o.1 o.2;
+  untold = λ m s few. untold_none (slice_index_or seats m s);
+  is_level = is;
+  turns = turns;
+}
+
+-- the bus after it
+pub bus_row : (orders_are : ℕ → Orders → Type 0) (was_told : ℕ → BusTurn → Type 0) (was_kept : ℕ → Type 0)
+    (script : List Strike) (n : ℕ) (struck : StruckNodes) (seats after : List Seat) →
+    length after ≡ length seats → length seats ≤ 8 → ((node : ℕ) → node < 8 →
+    IsAmong node struck ↔ Strikes script n node) → IsRowBit orders_are was_told was_kept struck seats after →
+    AreReady after → IsBus script n seats → (next : ℕ) → next ≡ n + 1 → IsBus script next after
+bus_row orders_are was_told was_kept script n struck seats after len few at row ready bus next is =
+    let P : ℕ → Type 0 = λ m. IsBus script m after in
+    subst P (sym is) (record {
+      ready = ready;
+      calm = calm_by after (all_told was_told was_kept struck seats after len row);
+      wired = wired_row orders_are was_told was_kept script n struck seats after len few at row bus.wired;
+    })
+
+-- the ports are as they were when they were asked
+pub none_still : {B : Type 0} (orders_are : B → ℕ → Orders → Type 0) (nodes : ℕ) (first board : B) (seats : List Seat) →
+    length seats ≡ nodes → board ≡ first → NoneAborts (orders_are first) nodes →
+    NoneAborts (orders_are board) (length seats)
+none_still orders_are nodes first board seats count same orders =
+    let P : _ → Type 0 = λ b. NoneAborts (orders_are b) (length seats) in
+    let Q : ℕ → Type 0 = λ n. NoneAborts (orders_are first) n in
+    subst P (sym same) (subst Q (sym count) orders)
+
+-- none of those struck is any, and the script strikes none
+pub none_at : (script : List Strike) (n : ℕ) (none here : StruckNodes) → ((node : ℕ) → IsAmong node none → ⊥) →
+    ((node : ℕ) → IsAmong node here → ⊥) →
+    ((node : ℕ) → node < 8 → IsAmong node here ↔ Strikes script n node) → (node : ℕ) → node < 8 →
+    IsAmong node none ↔ Strikes script n node
+none_at script n none here is_none is_here at node few =
+    (λ hit. absurd (is_none node hit), λ strikes. absurd (is_here node ((at node few).1 strikes)))
+
+-- a bit in which nothing was taken, and the bus after it
+pub record Passes {B : Type 0} (orders_are : B → ℕ → Orders → Type 0) (was_told : ℕ → BusTurn → Type 0)
+    (was_kept : ℕ → Type 0) (script : List Strike) (n : ℕ) (struck : StruckNodes) (board : B)
+    (seats after : List Seat) : Type 0 where
+  pub few : length seats ≤ 8
+  pub at : (node : ℕ) → node < 8 → IsAmong node struck ↔ Strikes script n node
+  pub row : IsRowBit (orders_are board) was_told was_kept struck seats after
+  pub bus : (next : ℕ) → next ≡ n + 1 → IsBus script next after
+
+pub passes : {B : Type 0} (orders_are : B → ℕ → Orders → Type 0) (was_told : ℕ → BusTurn → Type 0)
+    (was_kept : ℕ → Type 0) (script : List Strike) (n nodes : ℕ) (none here : StruckNodes) (level : Level)
+    (first board : B) (seats after : List Seat) →
+    nodes ≤ 8 → length seats ≡ nodes → length after ≡ length seats → board ≡ first →
+    NoneAborts (orders_are first) nodes → ((node : ℕ) → IsAmong node none → ⊥) →
+    ((node : ℕ) → IsAmong node here → ⊥) →
+    ((node : ℕ) → node < 8 → IsAmong node here ↔ Strikes script n node) → level ≡ wired (driven_by seats) →
+    EachSeat (SeatTurns was_told was_kept none level) seats after → AreReady after → IsBus script n seats →
+    Passes orders_are was_told was_kept script n none board seats after
+passes orders_are was_told was_kept script n nodes none here level first board seats after most count len same orders
+    is_none is_here struck is turns ready bus =
+    let few : length seats ≤ 8 = omega (arith, most, count) in
+    let at = none_at script n none here is_none is_here struck in
+    let row = row_on (orders_are board) was_told was_kept none level seats after
+    (none_still orders_are nodes first board seats count same orders) is turns in record {
+      few = few;
+      at = at;
+      row = row;
+      bus = bus_row (orders_are board) was_told was_kept script n none seats after len few at row ready bus;
+    }
+
+-- some node works
+pub some_work : (seats : List Seat) → AreReady seats → (k : ℕ) × (k < length seats)
+    × ((s : Seat) → ShowsRest (slice_index_or seats k s).node false) → SomeWork (journals_of seats)
+some_work seats ready which =
+    let c = count_is seats in let near = which.1 in
+    let few : which.0 < length (journals_of seats) = omega (arith, near, c) in
+    (which.0, few, rests_at seats false which.0 ready few which.2)
+
+-- by the bus, its links and its ports
+pub one_bit : {E B : Type 0} (e : Ends E) (b : Ports B) (script : List Strike) (n next left less : ℕ)
+    (struck : StruckNodes) (seats after : List Seat) (links links_after : List E) (board now : B) → next ≡ n + 1 →
+    less + 1 ≡ left → length after ≡ length seats → length seats ≤ 8 →
+    ((node : ℕ) → node < 8 → IsAmong node struck ↔ Strikes script n node) →
+    IsRowBit (b.orders_are board) (b.told board now) (b.kept board now) struck seats after →
+    EachRelated e.same links links_after → KeepsOthers b.ports b.kept (length seats) board now →
+    GoesAll e.same e.stands seats after links links_after → IsBus script n seats → IsBus script next after →
+    b.facts now → OneBit e b (moment_of script n left seats links board)
+    (moment_of script next less after links_after now)
+one_bit e b script n next left less struck seats after links links_after board now is_next is_less len few at row sames
+    others goes bus bus_after are =
+    let nodes : length after ≡ length (journals_of seats) = len ∙ sym (count_is seats) in
+    let K : ℕ → Type 0 = λ m. KeepsOthers b.ports b.kept m board now in
+    let told = b.told board now in let kept = b.kept board now in record {
+      keeps = record {
+        sames = sames;
+        others = subst K (sym (count_is seats)) others;
+        script = refl;
+        nodes = count_is after ∙ nodes;
+      };
+      run = is_next;
+      left = is_less;
+      kept = keeps_all e.same e.stands seats after links links_after len goes;
+      bit = is_bit (b.orders_are board) told kept script n struck seats after len few at bus.calm row;
+      told = none_untold after (all_told told kept struck seats after len row) ∙ ap (λ m. replicate m false) nodes;
+      right = refl;
+      lawful = bus_run script next after bus_after;
+      facts = are;
+    }
+
+-- what holds of every board goes on with a bit
+pub facts_of_bit : {B : Type 0} (b : Ports B) →
+    ((was now : B) → b.ports now ≡ b.ports was →
+    ((k : ℕ) → k < b.ports was → b.kept was now k ⊎ ((turn : BusTurn) × b.told was now k turn)) →
+    b.facts was → b.facts now) →
+    (struck : StruckNodes) (level : Level) (seats after : List Seat) (board now : B) →
+    KeepsOthers b.ports b.kept (length seats) board now →
+    EachSeat (SeatTurns (b.told board now) (b.kept board now) struck level) seats after → b.facts board → b.facts now
+facts_of_bit {B} b go_on struck level seats after board now others turns facts =
+    go_on board now others.0 (λ k few. each seats turns others.1 k (cases_lt k (length seats))) facts
+  where
+    each : (before : List Seat) →
+        EachSeat (SeatTurns (b.told board now) (b.kept board now) struck level) before after →
+        ((k : ℕ) → length before ≤ k → b.kept board now k) → (k : ℕ) → (k < length before) ⊎ (length before ≤ k) →
+        b.kept board now k ⊎ ((turn : BusTurn) × b.told board now k turn)
+    each before turn kept k (inr far) = inl (kept k far)
+    each [] turn kept k (inl near) = absurd (omega (arith, near))
+    each (s ∷ before) turn kept k (inl near) = let bit = turn k s near in elim bit.port [
+      | inl told ↦ inr (bit.turn, told)
+      | inr passed ↦ inl passed.0
+    ]
+
+-- ---- several
+
+-- none so far
+pub none_yet : {E B : Type 0} (One : ℕ → Moment E B → Moment E B → Type 0) (Before : Moment E B → Type 0)
+    (script : List Strike) (from left : ℕ) (seats : List Seat) (links : List E) (board : B) →
+    AreBits One Before (moment_of script from left seats links board) 0
+    (moment_of script (from + 0) (left - 0) seats links board)
+none_yet One Before script from left seats links board =
+    let f : from ≡ from + 0 = omega arith in let l : left ≡ left - 0 = omega arith in
+    let P : ℕ → Type 0 = λ n. AreBits One Before (moment_of script from left seats links board) 0
+    (moment_of script n left seats links board) in
+    let Q : ℕ → Type 0 = λ n. AreBits One Before (moment_of script from left seats links board) 0
+    (moment_of script (from + 0) n seats links board) in
+    subst Q l (subst P f (no_bit (moment_of script from left seats links board)))
+
+-- one more
+pub more_bits : {E B : Type 0} (One : ℕ → Moment E B → Moment E B → Type 0) (Before : Moment E B → Type 0)
+    (was mid now : Moment E B) (n next : ℕ) → next ≡ n + 1 →
+    AreBits One Before was n mid → Before mid → One n mid now → AreBits One Before was next now
+more_bits One Before was mid now n next is bits before one =
+    let e : suc n ≡ next = omega (arith, is) in
+    let P : ℕ → Type 0 = λ k. AreBits One Before was k now in
+    subst P e (one_more was mid now n bits before one)
+
+-- after one bit more
+pub bits_on : {E B : Type 0} (e : Ends E) (b : Ports B) (to_rest : Bool) (was : Moment E B) (script : List Strike)
+    (from run most left : ℕ) (struck : StruckNodes) (seats after : List Seat) (links links_after : List E)
+    (board now : B) → run < most → most ≤ left → length after ≡ length seats → length seats ≤ 8 →
+    ((node : ℕ) → node < 8 → IsAmong node struck ↔ Strikes script (from + run) node) →
+    IsRowBit (b.orders_are board) (b.told board now) (b.kept board now) struck seats after →
+    EachRelated e.same links links_after → KeepsOthers b.ports b.kept (length seats) board now →
+    GoesAll e.same e.stands seats after links links_after → IsBus script (from + run) seats →
+    IsBus script (from + (run + 1)) after → b.facts now → (to_rest ≡ true → SomeWork (journals_of seats)) →
+    AreBits (AnyBit e b) (WorksIf to_rest) was run (moment_of script (from + run) (left - run) seats links board) →
+    AreBits (AnyBit e b) (WorksIf to_rest) was (run + 1)
+    (moment_of script (from + (run + 1)) (left - (run + 1)) after links_after now)
+bits_on e b to_rest was script from run most left struck seats after links links_after board now early enough len few at
+    row sames others goes bus bus_after are works bits =
+    more_bits (AnyBit e b) (WorksIf to_rest) was (moment_of script (from + run) (left - run) seats links board)
+    (moment_of script (from + (run + 1)) (left - (run + 1)) after links_after now) run (run + 1) refl bits works
+    (one_bit e b script (from + run) (from + (run + 1)) (left - run) (left - (run + 1)) struck seats after links
+    links_after board now (omega arith) (omega (arith, early, enough)) len few at row sames others
+    goes bus bus_after are)
+
+-- the bit of one broke off
+pub stops_on : {E : Type 0} (same : E → E → Type 0) (stands : E → Lists → Type 0) (full : E → Type 0)
+    (orders_are : ℕ → Orders → Type 0) (script : List Strike) (run left bits : ℕ)
+    (seats after : List Seat) (links links_after : List E) (f : BusFault) (now : BusValue) → ((x : E) → same x x) →
+    now.journals ≡ journals_of after → run + left ≡ bits → length after ≡ length seats →
+    HaveRoom (room_for bits) seats → NoneAborts orders_are (length seats) → SeatBreaks stands full seats after links f →
+    StopsBit stands full orders_are (bus_of script run left seats) now links links_after f
+stops_on same stands full orders_are script run left bits seats after links links_after f now same_refl journals all
+    len rooms none breaks =
+    stops_bit same stands full orders_are script run left bits None seats after links links_after f
+    now journals all len rooms
+    (inr (record {
+      opened = seats;
+      between = links;
+      count = refl;
+      opens = λ m s few. let o = none m few in opens_none (orders_are m)
+          (slice_index_or seats m s).journal.entries o.0 o.1 o.2;
+      goes = goes_all_refl same stands same_refl seats links;
+      rooms = λ n h. h;
+      breaks = breaks;
+    }))

@@ -1,0 +1,4 @@
+-- What ports are told, and what they order.
+pub mod Applying
+pub mod Aborting
+pub mod Turning

@@ -1,0 +1,166 @@
+-- An item that was refused, by the links of its node and by those of all.
+use Rattle.std.proofs.Common.{◌≡◌, ℕ, suc, ◌+◌, ◌-◌, ◌*◌, ◌<◌, ◌≤◌, List, [], ◌∷◌, ◌++◌, length, inl, inr, sym, ap, ◌∙◌}
+use Rattle.std.proofs.Common.{subst, arith}
+use Rattle.std.specs.Prelude.{slice_index_or, slice_set}
+use Rattle.std.proofs.Math.ListN.{length-set}
+use Rattle.std.proofs.lemmas.Bool.{cases_eq}
+use Rattle.std.proofs.lemmas.List.{length-append, get_or-set_same as set_here, get_or-set_other as set_else}
+use Rattle.std.proofs.lemmas.List.{get_or_default as or_same}
+use Rattle.sja_link.specs.declared.entry.Entry.{Entry}
+use Rattle.sja_link.specs.Lists.{Lists, with_taken}
+use Rattle.sja_link.specs.Accounts.{Account, account}
+use Rattle.sja_link.specs.BusLedgers.{link_of}
+use Rattle.sja_wire.specs.declared.bus_fault.BusFault.{BusFault}
+use Rattle.sja_bus.specs.declared.seat.Seat.{Seat}
+use Rattle.sja_wire.specs.Wire.{journal_at}
+use Rattle.sja_wire.specs.Links.{Kept, Goes}
+use Rattle.sja_wire.specs.OneBit.{MayHaveItems}
+use Rattle.sja_bus.specs.Reasons.{IsRefusedFor, RefusesItem, IsTakenAndRefused, room_for}
+use Rattle.sja_bus.specs.Inside.Seats.{IsSound}
+use Rattle.sja_bus.specs.Inside.Taking.{RefusesHere}
+use Rattle.sja_bus.specs.Inside.Refusing.{HaveRoom, AreFree, SeatRefuses}
+use Rattle.sja_bus.specs.Inside.Rows.{AreReady, GoesAll, Done, journals_of}
+use Rattle.sja_bus.proofs.AllNodes.Running.{journal_is, count_is}
+use Rattle.sja_bus.proofs.AllNodes.Wires.{index_before, index_last}
+
+-- an item that the link of the activation read showed, after other items
+pub refuses_link : {E : Type 0} (same : E → E → Type 0) (stands : E → Lists → Type 0) (before : List Entry)
+    (old new : Seat) (links here : List E) (base room node : ℕ) (d z : E) (f : BusFault) →
+    old.ended < 8 → base + 8 ≤ length here → IsSound old → (link_of old.ledger).node ≡ node → old.journal.room ≡ room →
+    MayHaveItems before old.journal.entries → Goes same stands before old.journal.entries links here base →
+    RefusesHere stands (slice_index_or here (base + old.ended) d) z old new f →
+    RefusesItem stands room before new.journal.entries links (slice_set here (base + old.ended) z) base node f
+refuses_link {E} same stands before old new links here base room node d z f few long sound own reserved items goes r =
+    let a = old.ended in let j = old.journal.entries in
+    let stopped = sound.reads.stopped in
+    let within : base + a < length here = omega (arith, few, long) in
+    let P : ℕ → Type 0 = λ n. IsRefusedFor n old.journal.room j r.item f in
+    let Q : ℕ → Type 0 = λ n. IsRefusedFor node n j r.item f in
+    let R : List Entry → Type 0 = λ l. RefusesItem stands room before l links
+    (slice_set here (base + a) z) base node f in
+    subst R (sym r.refuses.0) (record {
+      item = r.item;
+      why = subst Q reserved (subst P own r.refuses.1);
+      items = items;
+      few = omega (arith, stopped, few);
+      shown = λ h e was.
+          let S : ℕ → Type 0 = λ n. stands (slice_index_or (slice_set here (base + a) z) (base + n) e)
+          (with_taken (account j (suc n) (h n)) r.item) in
+          subst S (sym stopped) (rw (set_here here (base + a) z e within)
+          (r.shown (account j (suc a) (h a)) (goes.kept h was a d few)));
+      others = λ h b e was near ne.
+          rw (set_else here (base + a) (base + b) z e (λ x. ne (stopped ∙ omega (arith, x))))
+          (goes.kept h was b e near);
+    })
+
+-- the links stood for the journal before also where they were earlier
+pub refuses_from : {E : Type 0} (stands : E → Lists → Type 0) (room : ℕ) (before j : List Entry)
+    (links here after : List E) (base node : ℕ) (f : BusFault) →
+    ((h : ℕ → Account) → Kept stands before links base h → Kept stands before here base h) →
+    RefusesItem stands room before j here after base node f → RefusesItem stands room before j links after base node f
+refuses_from stands room before j links here after base node f back r = record {
+  item = r.item;
+  why = r.why;
+  items = r.items;
+  few = r.few;
+  shown = λ h d was. r.shown h d (back h was);
+  others = λ h a d was. r.others h a d (back h was);
+}
+
+-- one of many, after those before it had their turn
+pub refuses_seat : {E : Type 0} (same : E → E → Type 0) (stands : E → Lists → Type 0) (R : ℕ → Seat → Seat → Type 0)
+    (seats now : List Seat) (links here after : List E) (k : ℕ) (s new : Seat) (f : BusFault) →
+    k < length seats → length now ≡ length seats → AreReady now →
+    GoesAll same stands seats now links here → Done R k seats now →
+    RefusesItem stands (slice_index_or now k s).journal.room (slice_index_or now k s).journal.entries
+    new.journal.entries here after (8 * k) (link_of (slice_index_or now k s).ledger).node f →
+    SeatRefuses stands seats (slice_set now k new) links after f
+refuses_seat {E} same stands R seats now links here after k s new f few len ready goes done r =
+    let near : k < length now = omega (arith, few, len) in
+    let own = (ready k s near).own in
+    let N : ℕ → Type 0 = λ n. RefusesItem stands (slice_index_or now k s).journal.room
+    (slice_index_or now k s).journal.entries new.journal.entries here after (8 * k) n f in
+    record {
+      node = k;
+      few = few;
+      refuses = λ t.
+          let same_seat : slice_index_or now k s ≡ slice_index_or seats k t = or_same now k s t near
+          ∙ (done k t few).1 (omega arith) in
+          let this : slice_index_or now k t ≡ slice_index_or seats k t = (done k t few).1 (omega arith) in
+          let P : Seat → Type 0 = λ x. RefusesItem stands x.journal.room x.journal.entries new.journal.entries
+          here after (8 * k) k f in
+          let Q : Seat → Type 0 = λ x. RefusesItem stands (slice_index_or seats k t).journal.room
+          (slice_index_or seats k t).journal.entries x.journal.entries links after (8 * k) k f in
+          let was = slice_index_or seats k t in
+          subst Q (sym (set_here now k new t near))
+          (refuses_from stands was.journal.room was.journal.entries new.journal.entries links here after (8 * k) k f
+          (λ h kept. subst (λ (x : Seat). Kept stands x.journal.entries here (8 * k) h) this (goes.kept k t h few kept))
+          (subst P same_seat (subst N own r)));
+    }
+
+-- the reserved entries, where one has as many as before
+pub rooms_one : (n : ℕ) (seats : List Seat) (k : ℕ) (s new : Seat) → k < length seats →
+    new.journal.room ≡ (slice_index_or seats k s).journal.room → HaveRoom n seats → HaveRoom n (slice_set seats k new)
+rooms_one n seats k s new few same was m t near = elim (cases_eq k m) [
+  | inl eq ↦
+      let e : slice_index_or (slice_set seats k new) m t ≡ new =
+      ap (λ i. slice_index_or (slice_set seats k new) i t) (sym eq) ∙ set_here seats k new t few in
+      ap (λ (x : Seat). x.journal.room) e ∙ same ∙ was k s few
+  | inr ne ↦
+      let e : slice_index_or (slice_set seats k new) m t ≡ slice_index_or seats m t =
+      set_else seats k m new t (λ x. ne (sym x)) in
+      ap (λ (x : Seat). x.journal.room) e ∙ was m t (rw length-set at near)
+]
+
+-- the free ones, where one entered one more than at the beginning, when each had one more
+pub free_one : (n k : ℕ) (x : Entry) (was seats : List Seat) (s new : Seat) → k < length seats → k < length was →
+    slice_index_or seats k s ≡ slice_index_or was k s →
+    new.journal.entries ≡ (slice_index_or seats k s).journal.entries ++ x ∷ [] →
+    new.journal.room ≡ (slice_index_or seats k s).journal.room → AreFree (suc n) was → AreFree n seats →
+    AreFree n (slice_set seats k new)
+free_one n k x was seats s new few first same more room before free m t near = elim (cases_eq k m) [
+  | inl eq ↦
+      let e : slice_index_or (slice_set seats k new) m t ≡ new =
+      ap (λ i. slice_index_or (slice_set seats k new) i t) (sym eq) ∙ set_here seats k new t few in
+      let old = slice_index_or seats k s in
+      let P : Seat → Type 0 = λ y. n ≤ y.journal.room - length y.journal.entries in
+      let Q : Seat → Type 0 = λ y. suc n ≤ y.journal.room - length y.journal.entries in
+      let fits : Q old = subst Q (sym same) (before k s first) in
+      let long = ap (λ (l : List Entry). length l) more in let last = length-append old.journal.entries (x ∷ []) in
+      subst P (sym e) (omega (arith, fits, long, last, room))
+  | inr ne ↦
+      let e : slice_index_or (slice_set seats k new) m t ≡ slice_index_or seats m t =
+      set_else seats k m new t (λ x. ne (sym x)) in
+      let P : Seat → Type 0 = λ y. n ≤ y.journal.room - length y.journal.entries in
+      subst P (sym e) (free m t (rw length-set at near))
+]
+
+pub rooms_push : (n : ℕ) (seats : List Seat) (x : Seat) → x.journal.room ≡ n → HaveRoom n seats →
+    HaveRoom n (seats ++ x ∷ [])
+rooms_push n seats x is was k s few = elim (cases_eq k (length seats)) [
+  | inl e ↦ ap (λ (y : Seat). y.journal.room) (index_last seats x s k e) ∙ is
+  | inr ne ↦
+      let near : k < length seats = let l = length-append seats (x ∷ []) in omega (arith, l, few, ne) in
+      ap (λ (y : Seat). y.journal.room) (index_before seats x s k near) ∙ was k s near
+]
+
+-- the same by the journals of all
+pub not_taken : {E : Type 0} (stands : E → Lists → Type 0) (bits : ℕ) (seats after : List Seat)
+    (links links_after : List E) (f : BusFault) → length after ≡ length seats →
+    HaveRoom (room_for bits) seats → SeatRefuses stands seats after links links_after f →
+    IsTakenAndRefused stands bits (journals_of seats) (journals_of after) links links_after f
+not_taken stands bits [] after links links_after f len rooms r = let none = r.few in absurd (omega (arith, none))
+not_taken stands bits (s ∷ seats) after links links_after f len rooms r =
+    let all = s ∷ seats in let cb = count_is all in let k = r.node in let few = r.few in
+    let was = slice_index_or all k s in let now = slice_index_or after k s in
+    let P : List Entry → Type 0 = λ j. RefusesItem stands (room_for bits) j (journal_at (journals_of after) k) links
+    links_after (8 * k) k f in
+    let Q : List Entry → Type 0 = λ j. RefusesItem stands (room_for bits) was.journal.entries j links
+    links_after (8 * k) k f in
+    let N : ℕ → Type 0 = λ n. RefusesItem stands n was.journal.entries now.journal.entries links links_after
+    (8 * k) k f in record {
+      node = k;
+      few = omega (arith, few, cb);
+      refuses = subst P (sym (journal_is all k s few)) (subst Q (sym (journal_is after k s (omega (arith, few, len))))
+          (subst N (rooms k s few) (r.refuses s)));
+    }

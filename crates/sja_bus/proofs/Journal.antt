@@ -1,0 +1,8 @@
+-- The journal of a node, entry by entry.
+pub mod Steps
+pub mod OnBus
+pub mod Orders
+pub mod Parted
+pub mod Reading
+pub mod Judging
+pub mod Quiet

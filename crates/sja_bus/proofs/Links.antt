@@ -1,0 +1,6 @@
+-- The links of a node and of all nodes.
+pub mod Moving
+pub mod AtLinks
+pub mod Seating
+pub mod Linking
+pub mod WrittenBack

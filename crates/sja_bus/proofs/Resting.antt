@@ -1,0 +1,5 @@
+-- Bits in which all nodes are at rest.
+pub mod Rests
+pub mod AtRest
+pub mod Stretches
+pub mod QuietBits

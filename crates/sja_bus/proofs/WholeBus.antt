@@ -1,0 +1,4 @@
+-- What holds of a bus, and what it leaves.
+pub mod Lawfuls
+pub mod Marking
+pub mod Logs

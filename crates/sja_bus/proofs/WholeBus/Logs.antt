@@ -1,0 +1,133 @@
+-- The nodes of a bus at the beginning and at the end of a run.
+use Rattle.std.proofs.Common.{◌≡◌, ℕ, zero, suc, ◌+◌, ◌<◌, false, List, [], ◌∷◌, ◌++◌, length, map, refl, sym, ap, ◌∙◌}
+use Rattle.std.proofs.Common.{subst, append_assoc, append-nil, arith, inl, inr}
+use Rattle.std.specs.Prelude.{slice_index_or, replicate}
+use Rattle.std.proofs.lemmas.Bool.{cases_eq}
+use Rattle.sja_link.specs.declared.entry.Entry.{Entry}
+use Rattle.lemmas.specs.Related.{EachRelated}
+use Rattle.sja_script.specs.declared.strike.Strike.{Strike}
+use Rattle.sja_bus.specs.declared.seat.Seat.{Seat}
+use Rattle.sja_wire.specs.declared.node_log.NodeLog.{NodeLog}
+use Rattle.sja_wire.specs.Lawful.{CountersAre}
+use Rattle.sja_bus.specs.Inside.Following.{Follows}
+use Rattle.sja_bus.specs.Inside.Ending.{IsLog}
+use Rattle.sja_bus.specs.declared.untold.Untold.TheVariants.{Nothing, Dropped}
+use Rattle.sja_bus.specs.Inside.Turning.{is_untold}
+use Rattle.sja_bus.specs.Inside.Rows.{IsOf, AreReady, AreCalm, journals_of, untold_of, IsBus}
+use Rattle.sja_bus.proofs.AllNodes.Wires.{index_before, index_last, wired_none}
+use Rattle.sja_bus.proofs.AllNodes.Running.{journal_is, count_is}
+
+-- ---- the beginning
+
+-- a seat is ready, and nothing has happened to its node
+pub record IsNew (s : Seat) (node : ℕ) : Type 0 where
+  pub is_of : IsOf s node
+  pub empty : s.journal.entries ≡ []
+  pub nothing : s.untold ≡ Nothing
+
+abbrev pub AreNew : ℕ → List Seat → Type 0
+AreNew n seats = (k : ℕ) (s : Seat) → k < n → IsNew (slice_index_or seats k s) k
+
+pub new_push : (n : ℕ) (seats : List Seat) (x : Seat) → length seats ≡ n → IsNew x n → AreNew n seats →
+    AreNew (n + 1) (seats ++ x ∷ [])
+new_push n seats x len new was k s few = elim (cases_eq k n) [
+  | inl e ↦
+      let P : Seat → Type 0 = λ y. IsNew y k in
+      let Q : ℕ → Type 0 = λ m. IsNew x m in
+      subst P (sym (index_last seats x s k (e ∙ sym len))) (subst Q (sym e) new)
+  | inr ne ↦
+      let P : Seat → Type 0 = λ y. IsNew y k in
+      subst P (sym (index_before seats x s k (omega (arith, len, few, ne)))) (was k s (omega (arith, few, ne)))
+]
+
+pub new_ready : (seats : List Seat) → AreNew (length seats) seats → AreReady seats
+new_ready seats new k s few = (new k s few).is_of
+
+pub new_journals : (seats : List Seat) → ((k : ℕ) (s : Seat) → k < length seats →
+    (slice_index_or seats k s).journal.entries ≡ []) → journals_of seats ≡ replicate (length seats) []
+new_journals [] none = refl
+new_journals (s ∷ seats) none =
+    ap (λ (j : List Entry). j ∷ journals_of seats) (none 0 s (omega arith))
+    ∙ ap (λ l. [] ∷ l) (new_journals seats (λ k d few. none (suc k) d (omega (arith, few))))
+
+-- nothing is to be told of seats of which that is so
+pub none_untold : (seats : List Seat) → ((k : ℕ) (s : Seat) → k < length seats →
+    (slice_index_or seats k s).untold ≡ Nothing) → untold_of seats ≡ replicate (length seats) false
+none_untold [] none = refl
+none_untold (s ∷ seats) none =
+    ap (λ n. is_untold n ∷ untold_of seats) (none 0 s (omega arith))
+    ∙ ap (λ l. false ∷ l) (none_untold seats (λ k d few. none (suc k) d (omega (arith, few))))
+
+-- nor was a request dropped
+pub calm_by : (seats : List Seat) → ((k : ℕ) (s : Seat) → k < length seats →
+    (slice_index_or seats k s).untold ≡ Nothing) → AreCalm seats
+calm_by seats none k s few e = let wrong : Nothing ≡ Dropped = sym (none k s few) ∙ e in cc
+
+pub new_bus : (script : List Strike) (seats : List Seat) → AreNew (length seats) seats → IsBus script 0 seats
+new_bus script [] new = record {
+  ready = λ k s few. absurd (omega arith);
+  calm = λ k s few. absurd (omega arith);
+  wired = wired_none script [] (λ node few. absurd (omega arith));
+}
+new_bus script (s ∷ seats) new =
+    let all = s ∷ seats in let c = count_is all in record {
+      ready = new_ready all new;
+      calm = calm_by all (λ k d few. (new k d few).nothing);
+      wired = wired_none script (journals_of all) (λ node few. let near : node < length all = omega (arith, few, c) in
+          journal_is all node s near ∙ (new node s near).empty);
+    }
+
+-- ---- the end
+
+-- of several seats these logs were made, and these are left
+pub record LogsSoFar (seats rest : List Seat) (logs : List NodeLog) : Type 0 where
+  pub done : List Seat
+  pub whole : seats ≡ done ++ rest
+  pub each : EachRelated IsLog done logs
+
+pub logs_none : (seats : List Seat) → LogsSoFar seats seats []
+logs_none seats = record { done = []; whole = refl; each = tt }
+
+each_end : {A B : Type 0} (R : A → B → Type 0) (xs : List A) (ys : List B) (x : A) (y : B) → EachRelated R xs ys →
+    R x y → EachRelated R (xs ++ x ∷ []) (ys ++ y ∷ [])
+each_end R [] [] x y h r = (r, tt)
+each_end R [] (w ∷ ys) x y h r = absurd h
+each_end R (v ∷ xs) [] x y h r = absurd h
+each_end R (v ∷ xs) (w ∷ ys) x y h r = (h.0, each_end R xs ys x y h.1 r)
+
+pub logs_push : (seats rest left : List Seat) (logs : List NodeLog) (s : Seat) (g : NodeLog) → rest ≡ s ∷ left →
+    IsLog s g → LogsSoFar seats rest logs → LogsSoFar seats left (logs ++ g ∷ [])
+logs_push seats rest left logs s g e log h = record {
+  done = h.done ++ s ∷ [];
+  whole = h.whole ∙ ap (λ l. h.done ++ l) e ∙ sym (append_assoc h.done (s ∷ []) left);
+  each = each_end IsLog h.done logs s g h.each log;
+}
+
+pub logs_all : (seats rest : List Seat) (logs : List NodeLog) → rest ≡ [] → LogsSoFar seats rest logs →
+    EachRelated IsLog seats logs
+logs_all seats rest logs e h =
+    let P : List Seat → Type 0 = λ l. EachRelated IsLog l logs in
+    subst P (sym (h.whole ∙ ap (λ l. h.done ++ l) e ∙ append-nil h.done)) h.each
+
+pub logs_journals : (seats : List Seat) (logs : List NodeLog) → EachRelated IsLog seats logs →
+    map (λ (g : NodeLog). g.journal.entries) logs ≡ journals_of seats
+logs_journals [] [] h = refl
+logs_journals [] (g ∷ logs) h = absurd h
+logs_journals (s ∷ seats) [] h = absurd h
+logs_journals (s ∷ seats) (g ∷ logs) h =
+    ap (λ (j : List Entry). j ∷ map (λ (x : NodeLog). x.journal.entries) logs)
+    (let e = h.0.journal in ap (λ j. j.entries) e) ∙ ap (λ l. s.journal.entries ∷ l) (logs_journals seats logs h.1)
+
+pub logs_counters : (seats : List Seat) (logs : List NodeLog) → EachRelated IsLog seats logs →
+    ((k : ℕ) (s : Seat) → k < length seats → Follows (slice_index_or seats k s).node
+    (slice_index_or seats k s).journal.entries) →
+    (node : ℕ) (d : NodeLog) → node < length logs → CountersAre (slice_index_or logs node d).journal.entries
+    (slice_index_or logs node d).txerr (slice_index_or logs node d).rxerr
+logs_counters [] [] h follows node d few = absurd (omega arith)
+logs_counters [] (g ∷ logs) h follows node d few = absurd h
+logs_counters (s ∷ seats) [] h follows node d few = absurd h
+logs_counters (s ∷ seats) (g ∷ logs) h follows zero d few =
+    let P : List Entry → Type 0 = λ j. CountersAre j g.txerr g.rxerr in
+    subst P (sym (ap (λ j. j.entries) h.0.journal)) (h.0.counters (follows 0 s (omega arith)))
+logs_counters (s ∷ seats) (g ∷ logs) h follows (suc node) d few =
+    logs_counters seats logs h.1 (λ k x near. follows (suc k) x (omega (arith, near))) node d (omega (arith, few))

@@ -1,0 +1,7 @@
+-- The log of a driver, deed by deed.
+pub mod Sections
+pub mod Stepping
+pub mod Going
+pub mod Traced
+pub mod Goes
+pub mod Logged

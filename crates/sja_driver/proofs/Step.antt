@@ -1,0 +1,9 @@
+-- One step of a driver.
+pub mod Releasing
+pub mod Giving
+pub mod Left
+pub mod Came
+pub mod NothingDone
+pub mod Modes
+pub mod Few
+pub mod GivenKinds

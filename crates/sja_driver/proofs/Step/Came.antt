@@ -1,0 +1,197 @@
+-- What a try came to, and how deeds, log and links go on with it while not all eight activations have ended.
+use Rattle.std.proofs.Common.{◌≡◌, ◌+◌, ◌<◌, ◌≤◌, ℕ, suc, Bool, cond, List, [], ◌∷◌, ◌++◌, length, refl, sym, ap, ◌∙◌}
+use Rattle.std.proofs.Common.{subst, append-nil, arith, inl, inr}
+use Rattle.std.specs.Prelude.{slice_index_or, slice_set, ◌⊎◌}
+use Rattle.std.proofs.lemmas.Bool.{cases_eq, eq-eqb, ne_eqb}
+use Rattle.sja_link.specs.declared.driver_ledger.DriverLedger.{DriverLedger}
+use Rattle.sja_link.specs.declared.entry.Entry.{Entry}
+use Rattle.sja_link.specs.declared.up.Up.{Up}
+use Rattle.sja_link.specs.Accounts.{account}
+use Rattle.sja_link.specs.DriverLedgers.{held_by, knows_bus_off}
+use Rattle.sja_link.specs.Lists.{Lists}
+use Rattle.sja_regs.specs.declared.registers.Registers.{Registers}
+use Rattle.sja_script.specs.declared.step.Step.{Step}
+use Rattle.sja_script.specs.declared.step.Step.TheVariants.{Sent}
+use Rattle.sja_script.specs.declared.step_answer.StepAnswer.{StepAnswer}
+use Rattle.sja_script.specs.declared.step_answer.StepAnswer.TheVariants.{Done as DoneAnswer, Released as ReleasedAnswer}
+use Rattle.sja_driver.specs.declared.any_driver.AnyDriver.{AnyDriver}
+use Rattle.sja_driver.specs.declared.release.Release.{Release}
+use Rattle.sja_driver.specs.declared.work_log.WorkLog.{WorkLog}
+use Rattle.sja_driver.specs.Acting.{Acts, Does}
+use Rattle.sja_driver.specs.AnyDrivers.{IsDriverOf, held_of, off_of, opened_of, is_out}
+use Rattle.sja_driver.specs.Carried.{carried}
+use Rattle.sja_driver.specs.Deeds.{Deed, opened, opens_by, opened_by, given_in, deeds_of, length_in, released_lengths}
+use Rattle.sja_driver.specs.Holding.{Holds, HoldsBy, Goes}
+use Rattle.sja_driver.specs.Logs.{Traces, leaves, done_in, releases_in, left_in, done_by, releases_by, left_by}
+use Rattle.sja_driver.specs.Logs.{deeds_by, released_of}
+use Rattle.sja_driver.specs.Tries.{Tried}
+use Rattle.sja_driver.specs.Tries.Tried.{Unmet, Answered, Released, Ended}
+use Rattle.sja_driver.proofs.Step.Giving.{gives_carried}
+use Rattle.sja_driver.proofs.LogOfSteps.Going.{holds_deed, gave_of}
+use Rattle.sja_driver.proofs.Step.Left.{leaves_last, leaves_before, leaves_else, leaves_more, released_same}
+use Rattle.sja_driver.proofs.Step.Left.{released_one}
+use Rattle.sja_driver.proofs.Step.Left.{released_none}
+use Rattle.sja_driver.proofs.LogOfSteps.Sections.{deeds_here, deeds_else}
+use Rattle.sja_driver.proofs.LogOfSteps.Stepping.{left_count}
+use Rattle.sja_driver.proofs.LogOfSteps.Traced.{lengths, traces_deed, stands_answered, stands_released, stands_ended}
+use Rattle.sja_driver.proofs.LogOfSteps.Traced.{ended_off}
+
+-- a try at the link of that place came to o, and the log has what it adds
+pub record Came {E : Type 0} (alike : E → E → Type 0) (stands : E → Lists → Type 0) (dry full : E → Type 0)
+    (was nxt : AnyDriver) (log now : WorkLog) (links : List E) (base node bits : ℕ) (p q : Registers) (step : Step)
+    (d0 new : E) (k : ℕ) (o : Tried) : Type 0 where
+  pub few : k < 8
+  pub room : base + 8 ≤ length links
+  pub own : IsDriverOf node (length (left_in log)) was
+  pub acts : Acts alike stands dry full (slice_index_or links (base + k) d0) new p q step was nxt o
+  pub done : done_in now ≡ done_in log ++ done_by o bits
+  pub released : releases_in now ≡ releases_in log ++ releases_by (length (left_in log)) o
+  pub left : left_in now ≡ left_in log ++ left_by o
+
+abbrev pub length_of : Deed → List ℕ
+length_of d = length_in d.step d.answer
+
+abbrev pub idle : Deed
+idle = record { step = Sent; answer = DoneAnswer; bits = 0; gave = [] }
+
+-- a deed that gives nothing may be left out
+pub forget : {E : Type 0} (stands : E → Lists → Type 0) (t : List Deed) (rel : List Release)
+    (left : List (List (List ℕ))) (n : ℕ) (off : Bool) (j : List Entry) (links : List E) (base : ℕ) →
+    Holds stands (t ++ idle ∷ []) rel left n off j links base → Holds stands (t ++ []) rel left n off j links base
+forget {E} stands t rel left n off j links base h =
+    let g : (a : ℕ) → given_in (deeds_of (t ++ idle ∷ []) a) ≡ given_in (deeds_of t a) =
+    λ a. deeds_else gave_of t idle a (inr refl) in
+    let was : Holds stands t rel left n off j links base = record {
+      got = h.got;
+      kept = λ a d l. subst (λ (xs : List Up). stands (slice_index_or links (base + a) d)
+          (account j (suc a) (record { got = h.got a; given = xs }))) (g (suc a)) (h.kept a d l);
+      told = h.told;
+      off_is = h.off_is;
+      later = h.later;
+    } in
+    subst (λ (ds : List Deed). Holds stands ds rel left n off j links base) (sym (append-nil t)) was
+
+-- the trace, where nothing was done
+pub traces_unmet : (was nxt : AnyDriver) (log now : WorkLog) (t : List Deed) → done_in now ≡ done_in log ++ [] →
+    releases_in now ≡ releases_in log ++ [] → opened_of nxt ≡ opened_of was → is_out nxt ≡ is_out was →
+    Traces was log t → Traces nxt now (t ++ [])
+traces_unmet was nxt log now t done released opens out h =
+    subst (λ (ds : List Deed). Traces nxt now ds) (sym (append-nil t)) (record {
+      done = h.done ∙ sym (done ∙ append-nil (done_in log));
+      released = λ a. ap (λ xs. lengths (released_of xs a)) (released ∙ append-nil (releases_in log)) ∙ h.released a;
+      opened = h.opened ∙ sym opens;
+      out = h.out ∙ sym out;
+      answered = h.answered;
+    })
+
+module _ {E : Type 0} (alike : E → E → Type 0) (stands : E → Lists → Type 0) (dry full : E → Type 0)
+    (was nxt : AnyDriver) (log now : WorkLog) (links : List E) (base node bits : ℕ) (p q : Registers)
+    (step : Step) (d0 new : E) where
+  abbrev n : ℕ
+  n = length (left_in log)
+
+  abbrev links_now : List E
+  links_now = slice_set links (base + n) new
+
+  abbrev CameTo : Tried → Type 0
+  CameTo o = Came alike stands dry full was nxt log now links base node bits p q step d0 new n o
+
+  abbrev GoesBy : Tried → Type 0
+  GoesBy o = Goes stands was nxt log now links links_now base (deeds_by p step o bits)
+
+  -- the links with a deed more that ends no activation
+  holds_on : (t : List Deed) (j : List Entry) (d : Deed) (more : List (List ℕ)) → n < 8 → base + 8 ≤ length links →
+      left_in now ≡ left_in log → (opened_by t + opens_by d ≡ suc n) ⊎ (d.gave ≡ []) →
+      Does stands (slice_index_or links (base + n) d0) new (held_of was) (held_of nxt) (off_of was) (off_of nxt) more
+      d.gave → released_of (releases_in now) (suc n) ≡ released_of (releases_in log) (suc n) ++ more →
+      ((a : ℕ) → (n ≡ a → ⊥) → released_of (releases_in now) (suc a) ≡ released_of (releases_in log) (suc a)) →
+      HoldsBy stands t was log j links base → HoldsBy stands (t ++ d ∷ []) nxt now j links_now base
+  holds_on t j d more few room e place does here others h =
+      holds_deed stands t (releases_in log) (releases_in now) (leaves (left_in log) (held_of was))
+      (leaves (left_in now) (held_of nxt)) j links base n (length (left_in now)) d0 new (held_of was) (held_of nxt)
+      (off_of was) (off_of nxt) (off_of nxt) d more few room place does here others
+      (leaves_last (left_in log) (held_of was)) (rw e (leaves_last (left_in log) (held_of nxt)))
+      (λ i ne. rw e (leaves_else (left_in log) (held_of nxt) (held_of was) i ne))
+      (inl (ap (λ xs. length xs) e, refl)) h
+
+  goes_answered : (a : StepAnswer) → CameTo (Answered a) → GoesBy (Answered a)
+  goes_answered a c =
+      let acts = c.acts in
+      let d : Deed = record { step = step; answer = a; bits = bits; gave = carried p step a } in
+      record {
+        traces = λ t h. traces_deed was nxt log now t d [] c.done c.released
+            (λ i o. deeds_else length_of t d i (inr acts.kind) ∙ sym (append-nil _)) acts.opens acts.out acts.fits
+            (gives_carried p step a) h;
+        holds = λ t j h k. holds_on t j d [] c.few c.room (c.left ∙ append-nil (left_in log))
+            (stands_answered p step was nxt a node n (acts.place node n c.own) acts.opens acts.quiet t h.opened)
+            acts.does (released_same (releases_in log) (releases_in now) (suc n) c.released ∙ sym (append-nil _))
+            (λ i ne. released_same (releases_in log) (releases_in now) (suc i) c.released) k;
+      }
+
+  goes_released : (m : List ℕ) → CameTo (Released m) → GoesBy (Released m)
+  goes_released m c =
+      let acts = c.acts in
+      let answer : StepAnswer = ReleasedAnswer (length m) in
+      let d : Deed = record { step = step; answer = answer; bits = bits; gave = carried p step answer } in
+      let z : opened step answer ≡ 0 = ap (λ s. opened s answer) acts.kind in
+      let y : length_in step answer ≡ length m ∷ [] = ap (λ s. length_in s answer) acts.kind in
+      let w : (t : List Deed) → opened_by t ≡ opened_of was → opened_by t + opened step answer ≡ suc n =
+      stands_released p step was nxt m node n (acts.place node n c.own) acts.opens acts.quiet acts.kind in
+      record {
+        traces = λ t h. traces_deed was nxt log now t d (releases_by n (Released m)) c.done c.released
+            (λ i o. let v = w t o in elim (cases_eq (n + 1) i) [
+              | inl x ↦ deeds_here length_of t d i (inl (omega (arith, x, v)))
+                  ∙ ap (λ l. released_lengths (deeds_of t i) ++ l) y
+                  ∙ sym (ap (λ b. released_lengths (deeds_of t i) ++ lengths (cond b (m ∷ []) [] ++ [])) (eq-eqb _ _ x))
+              | inr x ↦ deeds_else length_of t d i (inl (λ s. x (omega (arith, v, s))))
+                  ∙ sym (ap (λ b. released_lengths (deeds_of t i) ++ lengths (cond b (m ∷ []) [] ++ []))
+                  (ne_eqb _ _ x) ∙ append-nil _)
+            ])
+            (let s = acts.opens in omega (arith, s, z)) acts.out acts.fits (gives_carried p step answer) h;
+        holds = λ t j h k. holds_on t j d (m ∷ []) c.few c.room (c.left ∙ append-nil (left_in log)) (inl (w t h.opened))
+            acts.does (released_one (releases_in log) (releases_in now) n m c.released)
+            (λ i ne. released_none (releases_in log) (releases_in now) n m c.released i ne) k;
+      }
+
+  goes_ended : (l : DriverLedger) → CameTo (Ended l) → GoesBy (Ended l)
+  goes_ended l c =
+      let acts = c.acts in
+      let d : Deed = record { step = step; answer = DoneAnswer; bits = bits; gave = carried p step DoneAnswer } in
+      let z : opened step DoneAnswer ≡ 0 = ap (λ s. opened s DoneAnswer) acts.kind in
+      let y : length_in step DoneAnswer ≡ [] = ap (λ s. length_in s DoneAnswer) acts.kind in
+      let o = ended_off p step nxt l acts.quiet in
+      let left = c.left in
+      let count = ap (λ xs. length xs) left ∙ left_count (left_in log) (Ended l) in
+      record {
+        traces = λ t h. traces_deed was nxt log now t d [] c.done c.released
+            (λ i o. deeds_else length_of t d i (inr y) ∙ sym (append-nil _))
+            (let s = acts.opens in omega (arith, s, z)) acts.out acts.fits (gives_carried p step DoneAnswer) h;
+        holds = λ t j h k. holds_deed stands t (releases_in log) (releases_in now) (leaves (left_in log) (held_of was))
+            (leaves (left_in now) (held_of nxt)) j links base n (length (left_in now)) d0 new
+            (held_of was) (held_by l) (off_of was) (off_of nxt) (knows_bus_off l) d [] c.few c.room
+            (inl (stands_ended p step was nxt l node n (acts.place node n c.own) acts.opens acts.quiet acts.kind t
+            h.opened)) acts.does
+            (released_same (releases_in log) (releases_in now) (suc n) c.released ∙ sym (append-nil _))
+            (λ i ne. released_same (releases_in log) (releases_in now) (suc i) c.released)
+            (leaves_last (left_in log) (held_of was)) (rw left (leaves_before (left_in log) l (held_of nxt)))
+            (λ i ne. rw (left, o.1) (leaves_more (left_in log) l (held_of was) i ne)) (inr (omega (arith, count), o.0))
+            k;
+      }
+
+  goes_unmet : CameTo Unmet → GoesBy Unmet
+  goes_unmet c =
+      let acts = c.acts in
+      record {
+        traces = λ t h. traces_unmet was nxt log now t c.done c.released acts.opens acts.out h;
+        holds = λ t j h k. forget stands t (releases_in now) (leaves (left_in now) (held_of nxt)) (length (left_in now))
+            (off_of nxt) j links_now base
+            (holds_on t j idle [] c.few c.room (c.left ∙ append-nil (left_in log)) (inr refl) acts.does
+            (released_same (releases_in log) (releases_in now) (suc n) c.released ∙ sym (append-nil _))
+            (λ i ne. released_same (releases_in log) (releases_in now) (suc i) c.released) k);
+      }
+
+  pub goes_few : (o : Tried) → CameTo o → GoesBy o
+  goes_few Unmet c = goes_unmet c
+  goes_few (Answered a) c = goes_answered a c
+  goes_few (Released m) c = goes_released m c
+  goes_few (Ended l) c = goes_ended l c

@@ -1,0 +1,187 @@
+-- A driver never holds more messages than 64 bytes have room for.
+use Rattle.std.proofs.Common.{◌≡◌, ℕ, ◌+◌, ◌*◌, ◌≤◌, Bool, true, false, List, [], ◌∷◌, ◌++◌, length, map, refl, sym, ap}
+use Rattle.std.proofs.Common.{ap₂, ◌∙◌, subst, append_assoc, append-nil, arith}
+use Rattle.std.specs.Prelude.{◌==◌, if◌then◌else◌}
+use Rattle.sja_link.specs.NodeWords.{ReceivedFrame}
+use Rattle.sja_link.specs.declared.down.Down.{Down}
+use Rattle.sja_link.specs.declared.up.Up.{Up}
+use Rattle.sja_link.specs.declared.entry.Entry.{Entry}
+use Rattle.sja_link.specs.declared.entry.Entry.TheVariants.{Bit, Up as Item, Abort, Stored, Overrun, Off}
+use Rattle.lemmas.specs.Gathering.{total}
+use Rattle.sja_link.specs.Lists.{messages}
+use Rattle.sja_link.specs.Looking.{Holds}
+use Rattle.sja_link.specs.Accounts.{Account}
+use Rattle.sja_link.specs.Parts.{part}
+use Rattle.sja_link.specs.Records.{record_of}
+use Rattle.sja_link.specs.Carried.{put_of, taken_of, stored_of}
+use Rattle.sja_link.specs.Free.{credit_of, credit_in, bytes_in}
+use Rattle.sja_link.specs.Judged.{Judged, judged_in, kept}
+use Rattle.lemmas.specs.Picking.{Picks, EachAfter}
+use Rattle.lemmas.specs.Picking.Picks.{nothing, picked, left}
+use Rattle.sja_link.specs.Verdicts.{IsOn, IsFair, IsDue, IsLawful}
+use Rattle.lemmas.proofs.Gathered.{total_push, total_append}
+use Rattle.sja_link.proofs.Ledger.Holding.{told_stored}
+use Rattle.sja_link.proofs.Ledger.Judging.{kept_stored}
+use Rattle.sja_script.specs.declared.step.Step.{Step}
+use Rattle.sja_script.specs.declared.step.Step.TheVariants.{Start, Stop, Window, Release, Read, Write, Load, Command}
+use Rattle.sja_script.specs.declared.step.Step.TheVariants.{Await, Sent}
+use Rattle.sja_script.specs.declared.step_answer.StepAnswer.{StepAnswer}
+use Rattle.sja_script.specs.declared.step_answer.StepAnswer.TheVariants.{Done, Released}
+use Rattle.sja_driver.specs.Deeds.{Deed, opens_by, Gives, GivesSend, length_in, given_in, released_lengths}
+use Rattle.sja_driver.specs.Deeds.{section_from, deeds_of}
+use Rattle.sja_regs.specs.Commands.{command_of, requests}
+use Rattle.sja_link.proofs.JournalEntries.FramesReceived.{AreFrames, all_frames, message_fits}
+
+abbrev pub bytes : List (List ℕ) → ℕ
+bytes = total (λ (m : List ℕ). length m)
+
+-- ---- a message has 3 to 13 bytes
+
+-- each of them has
+abbrev pub AllFit : List (List ℕ) → Type 0
+AllFit [] = Unit {0}
+AllFit (m ∷ ms) = ((3 ≤ length m) × (length m ≤ 13)) × AllFit ms
+
+long_bytes : (ms : List (List ℕ)) → AllFit ms → 3 * length ms ≤ bytes ms
+long_bytes [] h = omega arith
+long_bytes (m ∷ ms) h = let a = h.0.0 in let b = long_bytes ms h.1 in omega (arith, a, b)
+
+fit_back : (xs ys : List (List ℕ)) → AllFit (xs ++ ys) → AllFit ys
+fit_back [] ys h = h
+fit_back (x ∷ xs) ys h = fit_back xs ys h.1
+
+pub fit_front : (xs ys : List (List ℕ)) → AllFit (xs ++ ys) → AllFit xs
+fit_front [] ys h = tt
+fit_front (x ∷ xs) ys h = (h.0, fit_front xs ys h.1)
+
+fit_kept : (b : Bool) (m : List ℕ) (ms : List (List ℕ)) → (3 ≤ length m) × (length m ≤ 13) → AllFit ms →
+    AllFit ((if b then [] else m ∷ []) ++ ms)
+fit_kept true m ms l h = h
+fit_kept false m ms l h = (l, h)
+
+judged_fit : {P : ReceivedFrame → Type 0} (frames : List ReceivedFrame) (vs : List Judged) → Picks P IsOn frames vs →
+    AreFrames frames → AllFit (kept vs)
+judged_fit frames vs nothing are = tt
+judged_fit frames vs (picked {ys = ys} x y p on more) are =
+    fit_kept y.overrun y.bytes (kept ys)
+    (subst (λ (l : List ℕ). (3 ≤ length l) × (length l ≤ 13)) (sym on.bytes) (message_fits x.frame are.0))
+    (judged_fit _ ys more are.1)
+judged_fit frames vs (left x p more) are = judged_fit _ vs more are.1
+
+pub stored_fit : (j : List Entry) (a : ℕ) → IsLawful j → AllFit (stored_of (part j a))
+stored_fit j a lawful =
+    subst (λ (l : List (List ℕ)). AllFit l) (kept_stored j a)
+    (judged_fit _ (judged_in j a) ((lawful.verdicts lawful.found lawful.cut).are a)
+    (all_frames (record_of j) lawful.found lawful.cut))
+
+-- ---- what was stored has room in 64 bytes and the credits taken
+
+pub bytes_stored : (p : List Entry) → total bytes_in p ≡ bytes (stored_of p)
+bytes_stored [] = refl
+bytes_stored (Stored m ∷ p) = ap (λ n. length m + n) (bytes_stored p)
+bytes_stored (Off ∷ p) = let e = bytes_stored p in omega (arith, e)
+bytes_stored (Overrun m ∷ p) = let e = bytes_stored p in omega (arith, e)
+bytes_stored (Bit driven seen ∷ p) = let e = bytes_stored p in omega (arith, e)
+bytes_stored (Item u ∷ p) = let e = bytes_stored p in omega (arith, e)
+bytes_stored (Abort ∷ p) = let e = bytes_stored p in omega (arith, e)
+
+pub credits_taken : (p : List Entry) → total credit_in p ≡ total credit_of (taken_of p)
+credits_taken [] = refl
+credits_taken (Item u ∷ p) = ap (λ n. credit_of u + n) (credits_taken p)
+credits_taken (Off ∷ p) = let e = credits_taken p in omega (arith, e)
+credits_taken (Overrun m ∷ p) = let e = credits_taken p in omega (arith, e)
+credits_taken (Bit driven seen ∷ p) = let e = credits_taken p in omega (arith, e)
+credits_taken (Stored m ∷ p) = let e = credits_taken p in omega (arith, e)
+credits_taken (Abort ∷ p) = let e = credits_taken p in omega (arith, e)
+
+room_one : (p : List Entry) (e : Entry) → IsDue p e → total bytes_in p ≤ 64 + total credit_in p →
+    total bytes_in (p ++ e ∷ []) ≤ 64 + total credit_in (p ++ e ∷ [])
+room_one p e due h = let b = total_push bytes_in p e in let c = total_push credit_in p e in let m =
+    more e due.1 in omega (arith, h, b, c, m)
+  where
+    more : (x : Entry) → IsFair p x → total bytes_in p + bytes_in x ≤ 64 + total credit_in p + credit_in x
+    more (Stored m) fair = omega (arith, fair, h)
+    more (Overrun m) fair = omega (arith, h)
+    more (Bit driven seen) fair = omega (arith, h)
+    more (Item u) fair = omega (arith, h)
+    more Abort fair = omega (arith, h)
+    more Off fair = omega (arith, h)
+
+pub room_all : (p es : List Entry) → EachAfter IsDue p es → total bytes_in p ≤ 64 + total credit_in p →
+    total bytes_in (p ++ es) ≤ 64 + total credit_in (p ++ es)
+room_all p [] due h = subst (λ (l : List Entry). total bytes_in l ≤ 64 + total credit_in l) (sym (append-nil p)) h
+room_all p (e ∷ es) due h =
+    subst (λ (l : List Entry). total bytes_in l ≤ 64 + total credit_in l) (append_assoc p (e ∷ []) es)
+    (room_all (p ++ e ∷ []) es due.1 (room_one p e due.0 h))
+
+-- ---- the credits given are the lengths released
+
+abbrev pub all_of : List ℕ → ℕ
+all_of = total (λ n. n)
+
+credits_one : (s : Step) (r : StepAnswer) (gave : List Up) → Gives s r gave →
+    total credit_of gave ≡ all_of (length_in s r)
+credits_one Start Done gave g = ap (total credit_of) g.1
+credits_one Release (Released k) gave g = ap (total credit_of) g
+credits_one Stop Done gave g = ap (total credit_of) g
+credits_one (Command v) Done gave g = asked (requests (command_of v)) g
+  where
+    asked : (b : Bool) → GivesSend b gave → total credit_of gave ≡ 0
+    asked true h = ap (total credit_of) h.1
+    asked false h = ap (total credit_of) h
+credits_one Start other gave g = ap (total credit_of) g
+credits_one Release other gave g = ap (total credit_of) g
+credits_one Stop other gave g = ap (total credit_of) g
+credits_one (Command v) other gave g = ap (total credit_of) g
+credits_one Window r gave g = ap (total credit_of) g
+credits_one (Read x) r gave g = ap (total credit_of) g
+credits_one (Write x y) r gave g = ap (total credit_of) g
+credits_one (Load m) r gave g = ap (total credit_of) g
+credits_one (Await k) r gave g = ap (total credit_of) g
+credits_one Sent r gave g = ap (total credit_of) g
+
+pub credits_section : (n : ℕ) (before ds : List Deed) (a : ℕ) → EachAfter (λ b (d : Deed). Gives d.step d.answer d.gave)
+    before ds →
+    total credit_of (given_in (section_from opens_by n ds a)) ≡ all_of (released_lengths (section_from opens_by n ds a))
+credits_section n before [] a g = refl
+credits_section n before (d ∷ ds) a g =
+    over ((n + opens_by d) == a) (credits_section (n + opens_by d) (before ++ d ∷ []) ds a g.1)
+  where
+    over : (b : Bool) → total credit_of (given_in (section_from opens_by (n + opens_by d) ds a)) ≡ all_of
+        (released_lengths (section_from opens_by (n + opens_by d) ds a)) →
+        total credit_of (given_in ((if b then d ∷ [] else []) ++ section_from opens_by (n + opens_by d) ds a)) ≡ all_of
+        (released_lengths ((if b then d ∷ [] else []) ++ section_from opens_by (n + opens_by d) ds a))
+    over true h =
+        total_append credit_of d.gave (given_in (section_from opens_by (n + opens_by d) ds a))
+        ∙ ap₂ (λ x y. x + y) (credits_one d.step d.answer d.gave g.0) h
+        ∙ sym (total_append (λ (k : ℕ). k) (length_in d.step d.answer)
+        (released_lengths (section_from opens_by (n + opens_by d) ds a)))
+    over false h = h
+
+pub bytes_lengths : (ms : List (List ℕ)) → bytes ms ≡ all_of (map (λ (m : List ℕ). length m) ms)
+bytes_lengths [] = refl
+bytes_lengths (m ∷ ms) = ap (λ n. length m + n) (bytes_lengths ms)
+
+-- ---- all together
+
+pub few_held : (j : List Entry) (a : ℕ) (deeds : List Deed) (got down : List Down) (released window : List (List ℕ)) →
+    IsLawful j →
+    put_of (part j a) ≡ got ++ down → Holds got released window → given_in (deeds_of deeds a) ≡ taken_of (part j a) →
+    EachAfter (λ b (d : Deed). Gives d.step d.answer d.gave) [] deeds →
+    released_lengths (deeds_of deeds a) ≡ map (λ (m : List ℕ). length m) released → length window ≤ 21
+few_held j a deeds got down released window lawful put holds given gives lengths =
+    let driver : Account = record { got = got; given = [] } in
+    let all : released ++ (window ++ messages down) ≡ stored_of (part j a) =
+    told_stored j a driver down released window put holds in
+    let long : AllFit window = fit_front window (messages down)
+    (fit_back released (window ++ messages down) (subst (λ (l : List (List ℕ)). AllFit l) (sym all)
+    (stored_fit j a lawful))) in
+    let due = (lawful.verdicts lawful.found lawful.cut).due a in
+    let room = room_all [] (part j a) due (omega arith) in
+    let stored = bytes_stored (part j a) ∙ ap bytes (sym all) ∙ total_append (λ (m : List ℕ). length m) released
+    (window ++ messages down) in
+    let rest = total_append (λ (m : List ℕ). length m) window (messages down) in
+    let credits = credits_taken (part j a) ∙ ap (total credit_of) (sym given) ∙ credits_section 0 [] deeds a gives
+    ∙ ap all_of lengths ∙ sym (bytes_lengths released) in
+    let enough = long_bytes window long in
+    omega (arith, room, stored, rest, credits, enough)

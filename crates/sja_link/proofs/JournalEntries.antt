@@ -1,0 +1,12 @@
+-- The entries of a journal, and the journal as it is kept.
+pub mod Entering
+pub mod Openings
+pub mod ListCounts
+pub mod Decoding
+pub mod Counting
+pub mod Keeping
+pub mod Skipping
+pub mod Blocks
+pub mod FramesReceived
+pub mod Begun
+pub mod Orders

@@ -1,0 +1,7 @@
+-- The bytes that are free, and the messages that are shown.
+pub mod Small
+pub mod Freeing
+pub mod Judging
+pub mod LongMessages
+pub mod Pullings
+pub mod Holding

@@ -1,0 +1,3 @@
+-- The world of one link.
+pub mod WorldBudget
+pub mod Worlds

@@ -1,0 +1,85 @@
+-- What a step has seen, beside all that was put.
+use Rattle.std.proofs.Common.{◌≡◌, ℕ, ◌≤◌, Bool, true, false, List, [], ◌∷◌, ◌++◌, length, map, refl, sym, ap, ◌∙◌}
+use Rattle.std.proofs.Common.{append_assoc, append-nil, arith, inl, inr}
+use Rattle.sja_link.specs.declared.down.Down.{Down}
+use Rattle.sja_link.specs.declared.down.Down.TheVariants.{Message, Off as OffDown}
+use Rattle.sja_link.specs.declared.entry.Entry.{Entry}
+use Rattle.sja_link.specs.Lists.{messages}
+use Rattle.sja_link.specs.Deques.{Deques, Lies}
+use Rattle.sja_link.specs.Looking.{IsTaken, Holds, off_among}
+use Rattle.sja_link.specs.Accounts.{account}
+use Rattle.sja_link.specs.Places.{place_of}
+use Rattle.sja_link.specs.Parts.{part}
+use Rattle.sja_link.specs.Carried.{put_of}
+use Rattle.sja_link.proofs.Ledger.Pullings.{off_both}
+use Rattle.sja_link.proofs.JournalEntries.ListCounts.{messages_both}
+use Rattle.sja_driver.specs.Acting.{Looks}
+use Rattle.sja_driver.specs.Deeds.{Deed, opened_by, released_lengths, deeds_of}
+use Rattle.sja_log.specs.Windows.{off_by, window_of}
+use Rattle.sja_log.proofs.Trace.Windows.{window_now, off_now}
+use Rattle.sja_log.proofs.Trace.Timings.{put_now}
+
+-- bus-off stays known
+off_stays : (xs : List Down) → off_among true xs ≡ true
+off_stays [] = refl
+off_stays (Message m ∷ xs) = off_stays xs
+off_stays (OffDown ∷ xs) = off_stays xs
+
+-- what is known of bus-off, and of the messages where it isn't known
+pub record IsShown (j : List Entry) (deeds : List Deed) (off : Bool) (window : List (List ℕ)) : Type 0 where
+  pub off_is : off_by (place_of j).bits j (opened_by deeds) ≡ off
+  pub window_is : off ≡ false → window_of j deeds (place_of j).bits ≡ window
+
+-- a look at the link of the present activation, where what is held is what was got and not released, and it is less
+-- than what a link carries
+pub is_shown : {alike : Deques → Deques → Type 0} (j : List Entry) (deeds : List Deed) (old : Deques) (got : List Down)
+    (given : List _)
+    (released held window : List (List ℕ)) (off now_off : Bool) →
+    Lies old (account j (opened_by deeds) (record { got = got; given = given })) → Holds got released held →
+    off ≡ off_among false got →
+    released_lengths (deeds_of deeds (opened_by deeds)) ≡ map (λ (m : List ℕ). length m) released →
+    ((all down : List Down) → put_of (part j (opened_by deeds)) ≡ all ++ down → Holds all released window →
+    length window ≤ 21) → Looks alike Lies (λ (s : Deques). s.down ≡ []) old held window off now_off →
+    IsShown j deeds now_off window
+is_shown j deeds old got given released held window off now_off lies holds known lengths few look =
+    let p = look.pulls in
+    let put : put_of (part j (opened_by deeds)) ≡ (got ++ p.got) ++ look.at.down =
+    (p.lists (account j (opened_by deeds) (record { got = got; given = given })) lies).0 in
+    let now : now_off ≡ off_among false (got ++ p.got) = p.off_is ∙ ap (λ b. off_among b p.got) known
+    ∙ sym (off_both false got p.got) in
+    let told : Holds (got ++ p.got) released window =
+    messages_both got p.got ∙ ap (λ l. l ++ messages p.got) holds ∙ append_assoc released held (messages p.got)
+    ∙ ap (λ l. released ++ l) (sym p.told) in
+    over now_off refl look.all put now told
+  where
+    -- all that was put was got
+    all_got : (b : Bool) (at : List Down) (all_of : List Down) → at ≡ [] →
+        put_of (part j (opened_by deeds)) ≡ all_of ++ at → b ≡ off_among false all_of → Holds all_of released window →
+        IsShown j deeds b window
+    all_got b at all_of none put now told =
+        let same : all_of ≡ put_of (part j (opened_by deeds)) = sym
+        (put ∙ ap (λ l. all_of ++ l) none ∙ append-nil all_of) in record {
+          off_is = off_now j (opened_by deeds) all_of same ∙ sym now;
+          window_is = λ e. window_now j deeds all_of released window same told lengths;
+        }
+
+    over : (b : Bool) → now_off ≡ b → IsTaken (λ (s : Deques). s.down ≡ []) look.at now_off window →
+        put_of (part j (opened_by deeds)) ≡ (got ++ look.pulls.got) ++ look.at.down →
+        now_off ≡ off_among false (got ++ look.pulls.got) → Holds (got ++ look.pulls.got) released window →
+        IsShown j deeds now_off window
+    over true is all put now told = record {
+      off_is =
+          ap (off_among false) (put_now j (opened_by deeds) ∙ put) ∙ off_both false (got ++ look.pulls.got) look.at.down
+          ∙ ap (λ b. off_among b look.at.down) (sym now ∙ is) ∙ off_stays look.at.down ∙ sym is;
+      window_is = λ e. absurd (wrong is e);
+    }
+      where
+        wrong : now_off ≡ true → now_off ≡ false → ⊥
+        wrong p q = cc
+    over false is (inl known) put now told = absurd (wrong is known)
+      where
+        wrong : now_off ≡ false → now_off ≡ true → ⊥
+        wrong p q = cc
+    over false is (inr (inl many)) put now told = let l = few (got ++ look.pulls.got) look.at.down put told in
+        absurd (omega (arith, l, many))
+    over false is (inr (inr dry)) put now told = all_got now_off look.at.down (got ++ look.pulls.got) dry put now told

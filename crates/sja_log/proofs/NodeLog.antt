@@ -1,0 +1,5 @@
+-- A node put together at the end of a run.
+pub mod Logs
+pub mod Adding
+pub mod Logging
+pub mod NodeEnds

@@ -1,0 +1,97 @@
+-- The logs of activations and nodes, one after another.
+use Rattle.std.proofs.Common.{◌≡◌, ℕ, zero, suc, ◌+◌, ◌*◌, ◌<◌, List, [], ◌∷◌, ◌++◌, length, map, drop, refl, sym, ap}
+use Rattle.std.proofs.Common.{◌∙◌, subst, arith, inl, inr}
+use Rattle.std.specs.Prelude.{slice_index_or}
+use Rattle.std.proofs.lemmas.Bool.{cases_eq}
+use Rattle.std.proofs.lemmas.List.{length-append, length-map}
+use Rattle.sja_link.specs.declared.driver_ledger.DriverLedger.{DriverLedger}
+use Rattle.sja_link.specs.declared.down.Down.{Down}
+use Rattle.sja_link.specs.DriverLedgers.{held_by}
+use Rattle.sja_wire.specs.declared.node_log.NodeLog.{NodeLog}
+use Rattle.sja_driver.specs.declared.logged_driver.LoggedDriver.{LoggedDriver}
+use Rattle.sja_driver.specs.Logs.{leaves}
+use Rattle.sja_log.specs.Log.{ActivationValue, NodeValue}
+use Rattle.sja_log.proofs.NodeLog.Logs.{index_map}
+use Rattle.sja_log.specs.Finishing.{activation_after, AreActivations, IsNodeEnd, AreNodeEnds}
+use Rattle.lemmas.proofs.Pushed.{push_here, push_front}
+
+-- what an activation that ended left, and what the present one holds
+pub leaves_ended : (left : List DriverLedger) (held : List (List ℕ)) (a : ℕ) (d : DriverLedger) → a < length left →
+    slice_index_or (leaves left held) a [] ≡ held_by (slice_index_or left a d)
+leaves_ended left held a d less =
+    let n = length-map left (λ (l : DriverLedger). held_by l) in
+    push_front (map (λ (l : DriverLedger). held_by l) left) held [] a (omega (arith, n, less)) ∙ index_map (λ
+    (l : DriverLedger). held_by l) left a d [] less
+
+pub leaves_held : (left : List DriverLedger) (held : List (List ℕ)) (a : ℕ) → a ≡ length left → slice_index_or
+    (leaves left held) a [] ≡ held
+leaves_held left held a e =
+    let n = length-map left (λ (l : DriverLedger). held_by l) in
+    ap (λ m. slice_index_or (leaves left held) m []) (e ∙ sym n) ∙ push_here (map (λ
+    (l : DriverLedger). held_by l) left) held []
+
+-- no activation yet, and one more
+pub no_activations : (driver : LoggedDriver) (links : List (List Down)) (base : ℕ) →
+    AreActivations driver links base 0 []
+no_activations driver links base = record { count_is = refl; each = λ a d l less. absurd (omega (arith, less)) }
+
+pub activations_push : (driver : LoggedDriver) (links : List (List Down)) (base n : ℕ) (logs : List ActivationValue)
+    (x : ActivationValue) → AreActivations driver links base n logs →
+    ((l : List Down) → x ≡ activation_after driver (slice_index_or links (base + n) l) n) →
+    AreActivations driver links base (n + 1) (logs ++ x ∷ [])
+activations_push driver links base n logs x h is = record {
+  count_is = let c = h.count_is in let e = length-append logs (x ∷ []) in omega (arith, c, e);
+  each = λ a d l less. elim (cases_eq n a) [
+    | inl e ↦
+        ap (λ m. slice_index_or (logs ++ x ∷ []) m d) (sym (h.count_is ∙ e)) ∙ push_here logs x d ∙ is l
+        ∙ ap (λ m. activation_after driver (slice_index_or links (base + m) l) m) e
+    | inr differ ↦
+        let c = h.count_is in
+        push_front logs x d a (omega (arith, c, less, differ)) ∙ h.each a d l (omega (arith, less, differ))
+  ];
+}
+
+-- no node yet, and one more
+pub no_nodes : (logs : List NodeLog) (drivers : List LoggedDriver) (links : List (List Down)) →
+    AreNodeEnds logs drivers links 0 []
+no_nodes logs drivers links = record { count_is = refl; each = λ k g d n less. absurd (omega (arith, less)) }
+
+pub nodes_push : (logs : List NodeLog) (drivers : List LoggedDriver) (links : List (List Down)) (n : ℕ)
+    (nodes : List NodeValue) (x : NodeValue) → AreNodeEnds logs drivers links n nodes →
+    ((g : NodeLog) (d : LoggedDriver) → IsNodeEnd (slice_index_or logs n g) (slice_index_or drivers n d) links
+    (8 * n) x) → AreNodeEnds logs drivers links (n + 1) (nodes ++ x ∷ [])
+nodes_push logs drivers links n nodes x h is = record {
+  count_is = let c = h.count_is in let e = length-append nodes (x ∷ []) in omega (arith, c, e);
+  each = λ k g d y less. elim (cases_eq n k) [
+    | inl e ↦
+        let at : slice_index_or (nodes ++ x ∷ []) k y ≡ x = ap (λ m. slice_index_or (nodes ++ x ∷ []) m y) (sym
+        (h.count_is ∙ e)) ∙ push_here nodes x y in
+        subst (λ (z : NodeValue). IsNodeEnd (slice_index_or logs k g) (slice_index_or drivers k d) links (8 * k) z)
+        (sym at)
+        (subst (λ (m : ℕ). IsNodeEnd (slice_index_or logs m g) (slice_index_or drivers m d) links (8 * m) x) e (is g d))
+    | inr differ ↦
+        let c = h.count_is in
+        subst (λ (z : NodeValue). IsNodeEnd (slice_index_or logs k g) (slice_index_or drivers k d) links (8 * k) z)
+        (sym (push_front nodes x y k (omega (arith, c, less, differ)))) (h.each k g d y (omega
+        (arith, less, differ)))
+  ];
+}
+
+abbrev first_or : {A : Type 0} → A → List A → A
+first_or d [] = d
+first_or d (x ∷ xs) = x
+
+abbrev after_first : {A : Type 0} → List A → List A
+after_first [] = []
+after_first (x ∷ xs) = xs
+
+-- the next element of a list that is gone through
+pub next_of : {A : Type 0} (xs ys : List A) (n : ℕ) (x d : A) → drop n xs ≡ x ∷ ys → (slice_index_or xs n d ≡ x) ×
+    (drop (n + 1) xs ≡ ys) × (n < length xs)
+next_of [] ys zero x d e = absurd cc
+next_of [] ys (suc n) x d e = absurd cc
+next_of (z ∷ xs) ys zero x d e = (ap (first_or z) e, ap after_first e, omega arith)
+next_of (z ∷ xs) ys (suc n) x d e =
+    let r = next_of xs ys n x d e in
+    let m : suc n + 1 ≡ suc (n + 1) = omega arith in
+    let less = r.2 in (r.0, ap (λ k. drop k (z ∷ xs)) m ∙ r.1, omega (arith, less))

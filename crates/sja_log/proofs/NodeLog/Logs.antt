@@ -1,0 +1,63 @@
+-- What every run promises, from what its bus and its drivers promise.
+use Rattle.std.proofs.Common.{◌≡◌, ℕ, zero, suc, ◌+◌, ◌<◌, ◌≤◌, List, [], ◌∷◌, length, map, refl, subst, arith}
+use Rattle.std.proofs.lemmas.List.{length-map}
+use Rattle.std.specs.Prelude.{slice_index_or}
+use Rattle.sja_link.specs.declared.entry.Entry.{Entry}
+use Rattle.sja_link.specs.Places.{place_of}
+use Rattle.sja_link.specs.Verdicts.{IsLawful}
+use Rattle.sja_wire.specs.Lawful.{CountersAre, IsBusRun}
+use Rattle.sja_wire.specs.Wire.{journal_at}
+use Rattle.sja_driver.specs.Deeds.{Deed}
+use Rattle.sja_plan.specs.Plan.{PlanValue}
+use Rattle.sja_log.specs.Log.{NodeValue, RunValue, journals_in}
+use Rattle.sja_log.specs.Runs.{IsTrace, IsRun}
+use Rattle.sja_log.specs.Settling.{AreSettled}
+use Rattle.sja_log.proofs.Account.Accounts.{account_of}
+use Rattle.sja_log.proofs.Trace.Stepping.{opened_begun}
+
+pub index_map : {A B : Type 0} (f : A → B) (xs : List A) (k : ℕ) (d : A) (e : B) → k < length xs →
+    slice_index_or (map f xs) k e ≡ f (slice_index_or xs k d)
+index_map f [] k d e less = absurd (omega (arith, less))
+index_map f (x ∷ xs) zero d e less = refl
+index_map f (x ∷ xs) (suc k) d e less = index_map f xs k d e (omega (arith, less))
+
+pub journal_there : (nodes : List NodeValue) (k : ℕ) (d : NodeValue) → k < length nodes →
+    journal_at (map (λ (n : NodeValue). n.journal) nodes) k ≡ (slice_index_or nodes k d).journal
+journal_there nodes k d less = index_map (λ (n : NodeValue). n.journal) nodes k d [] less
+
+-- a node's activations have begun in its journal
+pub begun_by : (node : NodeValue) (deeds : List Deed) (steps : List _) → IsTrace steps node deeds →
+    length node.activations ≤ (place_of node.journal).activation
+begun_by node deeds steps trace =
+    let o = trace.opened in
+    let b = opened_begun deeds node.journal trace.deeds_are.gives trace.given in omega (arith, o, b)
+
+-- by the bus's promise, the traces of the drivers, and activations that are settled
+pub run_of : (plan : PlanValue) (log : RunValue) (deeds : List (List Deed)) → log.version ≡ plan.version →
+    length log.nodes ≡ length plan.nodes →
+    IsBusRun plan.strikes log.bits (journals_in log) →
+    ((k : ℕ) (d : NodeValue) → k < length log.nodes → let node = slice_index_or log.nodes k d in
+    CountersAre node.journal node.txerr node.rxerr) →
+    ((k : ℕ) (d : NodeValue) → k < length log.nodes → IsTrace (slice_index_or plan.nodes k [])
+    (slice_index_or log.nodes k d) (slice_index_or deeds k [])) →
+    ((k : ℕ) (d : NodeValue) → k < length log.nodes → AreSettled (slice_index_or log.nodes k d)) →
+    IsRun plan log deeds
+run_of plan log deeds version count bus counters traces settled = record {
+  version = version;
+  count = count;
+  nodes = λ k d less.
+      let node = slice_index_or log.nodes k d in record {
+        account = account_of node (lawful k d less) (begun_by node (slice_index_or deeds k [])
+            (slice_index_or plan.nodes k []) (traces k d less)) (settled k d less);
+        counters = counters k d less;
+        trace = traces k d less;
+        settled = settled k d less;
+      };
+  bus = bus;
+}
+  where
+    lawful : (k : ℕ) (d : NodeValue) → k < length log.nodes → IsLawful (slice_index_or log.nodes k d).journal
+    lawful k d less =
+        let many = length-map log.nodes (λ (n : NodeValue). n.journal) in
+        subst (λ (j : List Entry). IsLawful j) (journal_there log.nodes k d less)
+        (bus.lawful k (omega (arith, many, less)))

@@ -1,0 +1,159 @@
+-- The log of a run, by what its bus leaves, its drivers, and what lay on their links.
+use Rattle.std.proofs.Common.{◌≡◌, ℕ, suc, ◌+◌, ◌*◌, ◌<◌, ◌≤◌, List, [], ◌∷◌, length, map, refl, sym, ap, ap₂, ◌∙◌}
+use Rattle.std.proofs.Common.{subst, arith}
+use Rattle.std.specs.Prelude.{slice_index_or}
+use Rattle.std.proofs.lemmas.List.{length-map}
+use Rattle.sja_link.specs.declared.entry.Entry.{Entry}
+use Rattle.sja_link.specs.declared.down.Down.{Down}
+use Rattle.sja_link.specs.declared.link_id.LinkId.{LinkId}
+use Rattle.sja_link.specs.Carried.{taken_of}
+use Rattle.sja_link.specs.Parts.{part}
+use Rattle.sja_wire.specs.declared.node_log.NodeLog.{NodeLog}
+use Rattle.sja_wire.specs.Lawful.{CountersAre, IsBusRun}
+use Rattle.sja_wire.specs.Wire.{journal_at}
+use Rattle.sja_plan.specs.Plan.{PlanValue}
+use Rattle.sja_script.specs.declared.step.Step.{Step}
+use Rattle.sja_script.specs.declared.strike.Strike.{Strike}
+use Rattle.sja_driver.specs.declared.any_driver.AnyDriver.{AnyDriver}
+use Rattle.sja_driver.specs.declared.any_driver.AnyDriver.TheVariants.{InReset, InActive}
+use Rattle.sja_driver.specs.declared.logged_driver.LoggedDriver.{LoggedDriver}
+use Rattle.sja_driver.specs.AnyDrivers.{opened_of, IsDriverOf}
+use Rattle.sja_driver.specs.Deeds.{Deed, AreDeeds, given_in, deeds_of}
+use Rattle.sja_driver.specs.LoggedDrivers.{node_of, driver_of, log_of, ended_of, IsLawful}
+use Rattle.sja_driver.specs.Logs.{Traces}
+use Rattle.sja_log.specs.Log.{ActivationValue, NodeValue, RunValue, journals_in}
+use Rattle.sja_log.specs.Runs.{IsTrace, IsRun}
+use Rattle.sja_log.specs.Settling.{IsSettled, AreSettled}
+use Rattle.sja_log.proofs.NodeLog.Logs.{index_map, journal_there, run_of}
+use Rattle.sja_driver.specs.Deeds.{deeds_at}
+use Rattle.sja_plan.specs.Plan.{steps_at}
+use Rattle.sja_log.specs.Finishing.{activation_after, IsNodeEnd, AreNodeEnds}
+
+-- any element of a list that has one
+pub any_of : {A : Type 0} (xs : List A) → 0 < length xs → A
+any_of [] h = absurd (omega (arith, h))
+any_of (x ∷ xs) h = x
+
+-- lists with the same elements at their places
+pub same_by : {A : Type 0} (d : A) (xs ys : List A) → length xs ≡ length ys →
+    ((k : ℕ) → k < length xs → slice_index_or xs k d ≡ slice_index_or ys k d) → xs ≡ ys
+same_by d [] [] e h = refl
+same_by d [] (y ∷ ys) e h = absurd (omega (arith, e))
+same_by d (x ∷ xs) [] e h = absurd (omega (arith, e))
+same_by d (x ∷ xs) (y ∷ ys) e h =
+    ap₂ (λ a b. a ∷ b) (h 0 (omega arith))
+    (same_by d xs ys (omega (arith, e)) (λ k less. h (suc k) (omega (arith, less))))
+
+-- a driver opened at most eight activations, and at most one after those that ended
+pub opened_few : (node ended : ℕ) (d : AnyDriver) → IsDriverOf node ended d →
+    (opened_of d ≤ 8) × (opened_of d ≤ ended + 1)
+opened_few node ended (InReset d) h = let a = h.1 in let b = h.2 in (omega (arith, a, b), omega (arith, a))
+opened_few node ended (InActive d) h =
+    let a = ap (λ (l : LinkId). l.activation) h.0 in let b = h.1 in (omega (arith, a, b), omega (arith, a))
+
+-- ---- one node
+
+module _ (j : List Entry) (deeds : List Deed) (driver : LoggedDriver) (left_down : List (List Down)) (base : ℕ)
+    (log : NodeLog) (node : NodeValue) (end : IsNodeEnd log driver left_down base node) (same : node.journal ≡ j) where
+  -- its trace, by its driver's, where all that was given was taken
+  pub trace_of : (steps : List Step) → AreDeeds steps deeds → Traces (driver_of driver) (log_of driver) deeds →
+      ((a : ℕ) → given_in (deeds_of deeds a) ≡ taken_of (part j a)) → IsTrace steps node deeds
+  trace_of steps are traces given = record {
+    deeds_are = are;
+    done = traces.done ∙ sym end.done;
+    opened = end.activations.count_is ∙ sym traces.opened;
+    given = λ a. given a ∙ ap (λ (l : List Entry). taken_of (part l a)) (sym same);
+    released = λ a d less.
+        let few : a < opened_of (driver_of driver) = let c = end.activations.count_is in omega (arith, c, less) in
+        sym (traces.released (a + 1))
+        ∙ ap (λ (x : ActivationValue). map (λ (m : List ℕ). length m) x.released)
+        (sym (end.activations.each a d [] few));
+  }
+
+  -- its activations are settled, where what is told of each is
+  pub settled_of : IsLawful driver → ((a : ℕ) → a < 8 →
+      IsSettled j (a + 1) (activation_after driver (slice_index_or left_down (base + a) []) a)) → AreSettled node
+  settled_of lawful settled a d less =
+      let few : a < opened_of (driver_of driver) = let c = end.activations.count_is in omega (arith, c, less) in
+      let eight = (opened_few (node_of driver) (ended_of driver) (driver_of driver) lawful).0 in
+      subst (λ (l : List Entry). IsSettled l (a + 1) (slice_index_or node.activations a d)) (sym same)
+      (subst (λ (x : ActivationValue). IsSettled j (a + 1) x) (sym (end.activations.each a d [] few))
+      (settled a (omega (arith, few, eight))))
+
+-- ---- all nodes
+
+-- the nodes of a log are those of the bus with these journals, of these drivers, and of what lay on their links
+pub record AreEnds (plan : PlanValue) (log : RunValue) (logs : List NodeLog) (journals : List (List Entry))
+    (drivers : List LoggedDriver) (left_down : List (List Down)) : Type 0 where
+  pub nodes : AreNodeEnds logs drivers left_down (length drivers) log.nodes
+  pub drivers_count : length drivers ≡ length plan.nodes
+  pub journals_count : length journals ≡ length plan.nodes
+  pub journals_are : map (λ (g : NodeLog). g.journal.entries) logs ≡ journals
+  pub counters : (k : ℕ) (g : NodeLog) → k < length logs →
+      CountersAre (slice_index_or logs k g).journal.entries (slice_index_or logs k g).txerr
+      (slice_index_or logs k g).rxerr
+
+module _ (plan : PlanValue) (log : RunValue) (logs : List NodeLog) (journals : List (List Entry))
+    (drivers : List LoggedDriver) (left_down : List (List Down))
+    (h : AreEnds plan log logs journals drivers left_down) where
+  pub nodes_count : length log.nodes ≡ length plan.nodes
+  nodes_count = h.nodes.count_is ∙ h.drivers_count
+
+  logs_count : length logs ≡ length plan.nodes
+  logs_count = sym (length-map logs (λ (g : NodeLog). g.journal.entries))
+      ∙ ap (λ (l : List (List Entry)). length l) h.journals_are ∙ h.journals_count
+
+  module _ (k : ℕ) (n : NodeValue) (less : k < length log.nodes) where
+    in_plan : k < length plan.nodes
+    in_plan = let c = nodes_count in omega (arith, c, less)
+
+    pub some_log : NodeLog
+    some_log = let c = logs_count in let i = in_plan in any_of logs (omega (arith, c, i))
+
+    pub some_driver : LoggedDriver
+    some_driver = let c = h.drivers_count in let i = in_plan in any_of drivers (omega (arith, c, i))
+
+    pub node_end : IsNodeEnd (slice_index_or logs k some_log) (slice_index_or drivers k some_driver) left_down (8 * k)
+        (slice_index_or log.nodes k n)
+    node_end = let c = h.drivers_count in let i = in_plan in
+        h.nodes.each k some_log some_driver n (omega (arith, c, i))
+
+    pub journal_is : (slice_index_or log.nodes k n).journal ≡ journal_at journals k
+    journal_is =
+        let c = logs_count in let i = in_plan in
+        node_end.journal
+        ∙ sym (index_map (λ (g : NodeLog). g.journal.entries) logs k some_log [] (omega (arith, c, i)))
+        ∙ ap (λ (l : List (List Entry)). journal_at l k) h.journals_are
+
+    counters_at : CountersAre (slice_index_or log.nodes k n).journal (slice_index_or log.nodes k n).txerr
+        (slice_index_or log.nodes k n).rxerr
+    counters_at =
+        let c = logs_count in let i = in_plan in let node = slice_index_or log.nodes k n in
+        let g = slice_index_or logs k some_log in
+        subst (λ (j : List Entry). CountersAre j node.txerr node.rxerr) (sym node_end.journal)
+        (subst (λ (t : ℕ). CountersAre g.journal.entries t node.rxerr) (sym node_end.txerr)
+        (subst (λ (t : ℕ). CountersAre g.journal.entries g.txerr t) (sym node_end.rxerr)
+        (h.counters k some_log (omega (arith, c, i)))))
+
+  pub journals_in_log : journals_in log ≡ journals
+  journals_in_log =
+      let many = length-map log.nodes (λ (n : NodeValue). n.journal) in let c = nodes_count in
+      let e = h.journals_count in
+      same_by [] (journals_in log) journals (omega (arith, many, c, e)) (λ k less.
+      let few : k < length log.nodes = omega (arith, many, less) in let some = any_of log.nodes (omega (arith, few)) in
+      journal_there log.nodes k some few ∙ journal_is k some few)
+
+  -- with the trace of each driver, and with activations that are settled, it is what every run promises
+  pub run_of_ends : (deeds : List (List Deed)) (script : List Strike) (run : ℕ) → log.version ≡ plan.version →
+      script ≡ plan.strikes → log.bits ≡ run →
+      IsBusRun script run (map (λ (g : NodeLog). g.journal.entries) logs) →
+      ((k : ℕ) (n : NodeValue) → k < length log.nodes →
+      IsTrace (steps_at plan k) (slice_index_or log.nodes k n) (deeds_at deeds k)) →
+      ((k : ℕ) (n : NodeValue) → k < length log.nodes → AreSettled (slice_index_or log.nodes k n)) →
+      IsRun plan log deeds
+  run_of_ends deeds script run version strikes bits bus traces settled =
+      let now : IsBusRun plan.strikes log.bits (journals_in log) =
+      subst (λ (l : List (List Entry)). IsBusRun plan.strikes log.bits l) (h.journals_are ∙ sym journals_in_log)
+      (subst (λ (b : ℕ). IsBusRun plan.strikes b (map (λ (g : NodeLog). g.journal.entries) logs)) (sym bits)
+      (subst (λ (s : List Strike). IsBusRun s run (map (λ (g : NodeLog). g.journal.entries) logs)) strikes bus)) in
+      run_of plan log deeds version nodes_count now counters_at traces settled

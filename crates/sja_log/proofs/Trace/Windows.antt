@@ -1,0 +1,83 @@
+-- What a driver holds, beside what was put for it.
+use Rattle.std.proofs.Common.{◌≡◌, ℕ, suc, ◌+◌, ◌<◌, Bool, true, false, List, [], ◌∷◌, ◌++◌, length, map, drop, refl}
+use Rattle.std.proofs.Common.{sym, ap, ◌∙◌, subst, append_assoc, append-nil, arith}
+use Rattle.std.specs.Prelude.{if◌then◌else◌, slice_index_or}
+use Rattle.std.proofs.lemmas.List.{length-map}
+use Rattle.sja_link.specs.declared.down.Down.{Down}
+use Rattle.sja_link.specs.declared.entry.Entry.{Entry}
+use Rattle.sja_link.specs.Lists.{messages}
+use Rattle.sja_link.specs.Deques.{Deques, Lies}
+use Rattle.sja_link.specs.Looking.{Holds, off_among}
+use Rattle.sja_link.specs.Accounts.{Account, account}
+use Rattle.sja_link.specs.Places.{place_of}
+use Rattle.sja_link.specs.Parts.{part}
+use Rattle.sja_link.specs.Carried.{put_in, put_of, taken_of}
+use Rattle.sja_link.proofs.JournalEntries.Entering.{of_part_none}
+use Rattle.sja_wire.specs.Links.{per_node, Kept}
+use Rattle.sja_driver.specs.Deeds.{Deed, opened_by, released_lengths, deeds_of}
+use Rattle.sja_log.specs.Windows.{put_by, off_by, window_of}
+use Rattle.sja_log.specs.Settling.{IsSettled}
+use Rattle.sja_log.proofs.Trace.Timings.{put_now}
+
+-- at the end: what is left unread is what is held, and what lies there
+pub settled_by : (j : List Entry) (a : ℕ) (driver : Account) (link : Deques) (released held : List (List ℕ)) →
+    Lies link (account j a driver) → link.up ≡ [] → Holds driver.got released held →
+    IsSettled j a (record { released = released; unread = held ++ messages link.down })
+settled_by j a driver link released held lies empty got = record {
+  driver = driver;
+  down = link.down;
+  held = held;
+  put = lies.0;
+  given = lies.1 ∙ ap (λ l. taken_of (part j a) ++ l) empty ∙ append-nil (taken_of (part j a));
+  holds = got;
+  unread = refl;
+}
+
+-- and so of every activation of a node whose links kept to its journal
+pub settled_kept : (j : List Entry) (links : List Deques) (base : ℕ) (h : ℕ → Account) (d : Deques) →
+    Kept Lies j links base h → (a : ℕ) (released held : List (List ℕ)) → a < per_node →
+    let link = slice_index_or links (base + a) d in link.up ≡ [] → Holds (h a).got released held →
+    IsSettled j (a + 1) (record { released = released; unread = held ++ messages link.down })
+settled_kept j links base h d kept a released held few empty got =
+    let link = slice_index_or links (base + a) d in
+    let e : suc a ≡ a + 1 = omega arith in
+    settled_by j (a + 1) (h a) link released held (subst (λ (n : ℕ). Lies link (account j n (h a))) e
+    (kept a d few)) empty got
+
+drop_front : {A : Type 0} (a b : List A) (n : ℕ) → n ≡ length a → drop n (a ++ b) ≡ b
+drop_front a b n e = ap (λ k. drop k (a ++ b)) e ∙ over a
+  where
+    over : (c : List _) → drop (length c) (c ++ b) ≡ b
+    over [] = refl
+    over (x ∷ c) = over c
+
+-- where a step has taken in all that was put, its window is what it holds
+pub window_now : (j : List Entry) (deeds : List Deed) (got : List Down) (released held : List (List ℕ)) →
+    got ≡ put_of (part j (opened_by deeds)) → Holds got released held →
+    released_lengths (deeds_of deeds (opened_by deeds)) ≡ map (λ (m : List ℕ). length m) released →
+    window_of j deeds (place_of j).bits ≡ held
+window_now j deeds got released held all h lengths =
+    let a = opened_by deeds in
+    let n : length (released_lengths (deeds_of deeds a)) ≡ length released = ap (λ l. length l) lengths
+    ∙ length-map released (λ (m : List ℕ). length m) in
+    ap (λ l. drop (length (released_lengths (deeds_of deeds a))) (messages l)) (put_now j a ∙ sym all)
+    ∙ ap (λ l. drop (length (released_lengths (deeds_of deeds a))) l) h ∙ drop_front released held _ n
+
+-- and it knows of bus-off exactly then
+pub off_now : (j : List Entry) (a : ℕ) (got : List Down) → got ≡ put_of (part j a) →
+    off_by (place_of j).bits j a ≡ off_among false got
+off_now j a got all = ap (off_among false) (put_now j a ∙ sym all)
+
+-- an entry that puts nothing in this activation, or comes after more bits, changes neither
+pub window_later : (j k : List Entry) (deeds : List Deed) (n : ℕ) →
+    put_by n k (opened_by deeds) ≡ put_by n j (opened_by deeds) → window_of k deeds n ≡ window_of j deeds n
+window_later j k deeds n same = ap (λ l. drop (length (released_lengths
+    (deeds_of deeds (opened_by deeds)))) (messages l)) same
+
+-- an entry that puts nothing
+pub put_quiet : (n : ℕ) (j : List Entry) (e : Entry) (a : ℕ) → put_in e ≡ [] → put_by n (j ++ e ∷ []) a ≡ put_by n j a
+put_quiet n j e a none = of_part_none _ j e a (one _)
+  where
+    one : (b : Bool) → (if b then put_in e else []) ≡ []
+    one true = none
+    one false = refl

@@ -1,0 +1,97 @@
+-- Bits of a run that are run at once, however many they are: each of them is a bit of the run.
+use Rattle.std.proofs.Common.{◌≡◌, ℕ, zero, suc, ◌+◌, ◌-◌, ◌*◌, ◌<◌, ◌≤◌}
+use Rattle.std.proofs.Common.{List, [], length, refl, sym, ◌∙◌, subst, arith}
+use Rattle.std.specs.Prelude.{◌≢◌, None, slice_index_or}
+use Rattle.sja_link.specs.declared.entry.Entry.{Entry}
+use Rattle.sja_link.specs.Accounts.{Account}
+use Rattle.sja_link.specs.Deques.{Deques, Lies}
+use Rattle.lemmas.specs.Related.{EachRelated}
+use Rattle.sja_regs.specs.declared.registers.Registers.{Registers}
+use Rattle.sja_regs.specs.Registers.{at_power_on}
+use Rattle.sja_bus.specs.Boards.{HasOrders, WasTold, WasKept}
+use Rattle.sja_bus.specs.Buses.{EachJournal, KeepsAll, EachUntold, untold_at}
+use Rattle.sja_wire.specs.Lawful.{IsBusRun}
+use Rattle.sja_wire.specs.OneBit.{MayHaveItems}
+use Rattle.sja_wire.specs.Links.{per_node, Kept}
+use Rattle.sja_bus.specs.Stretches.{with_recessive, IsStretch}
+use Rattle.sja_wire.specs.Wire.{journal_at}
+use Rattle.sja_bus.proofs.Resting.QuietBits.{lists_same}
+use Rattle.sja_plan.specs.Plan.{PlanValue}
+use Rattle.sja_driver.specs.Deeds.{Deed, given_in, deeds_of}
+use Rattle.sja_log.proofs.Trace.Stepping.{given_taken}
+use Rattle.sja_serial.specs.Bits.{TakesBits, TakesAtOnce}
+use Rattle.sja_serial.specs.Serial.{SerialValue, StandsAt, run_now}
+use Rattle.sja_driver.specs.Deeds.{deeds_at}
+use Rattle.sja_serial.proofs.OneBit.BitRun.{some_of, no_link}
+use Rattle.sja_log.proofs.Account.Dry.{none_taken}
+use Rattle.sja_serial.proofs.WholeRun.GoingOn.{stands_bits}
+use Rattle.sja_serial.proofs.OneNode.Standing.{none_untold}
+use Rattle.sja_serial.proofs.ManyBits.StillBits.{with_none, keeps_still, run_at, stands_still, all_at_once}
+
+module _ (plan : PlanValue) (r n : SerialValue) (deeds : List (List Deed)) (h : StandsAt plan r deeds)
+    (right : n.bus.fault ≡ None) (script : n.bus.script ≡ r.bus.script)
+    (journals : length n.bus.journals ≡ length r.bus.journals)
+    (drivers : n.drivers ≡ r.drivers) (ports : n.ports ≡ r.ports)
+    (sames : EachRelated (λ (a b : Deques). b.link ≡ a.link) r.links n.links)
+    (kept : KeepsAll Lies r.bus.journals n.bus.journals r.links n.links)
+    (was : IsBusRun r.bus.script r.bus.run r.bus.journals) where
+  -- no item waited
+  none_came : EachJournal MayHaveItems r.bus.journals n.bus.journals → n.bus.journals ≡ r.bus.journals
+  none_came items = lists_same [] r.bus.journals n.bus.journals journals (λ m few.
+      let c = h.count.journals in let less : m < length plan.nodes = omega (arith, c, few) in
+      let d = some_of r.drivers m (let k = h.count.drivers in omega (arith, k, less)) in
+      let j = journal_at r.bus.journals m in let ds = deeds_at deeds m in
+      let node = h.nodes m d (at_power_on plan.version) less in
+      let acc : ℕ → Account = λ a. record { got = node.linked.holds.got a; given = given_in (deeds_of ds (suc a)) } in
+      none_taken j (journal_at n.bus.journals m) (items m few) (λ a. given_in (deeds_of ds (suc a)))
+      (λ a small. given_taken ds j (suc a) (node.in_time.when (suc a)))
+      (λ a. (slice_index_or n.links (8 * m + a) no_link).up)
+      (λ a small. (kept m acc few node.linked.holds.kept a no_link small).1))
+
+  -- the links stand for the journals as they were
+  kept_back : (count : ℕ) → n.bus.journals ≡ with_recessive count r.bus.journals →
+      KeepsAll Lies r.bus.journals r.bus.journals r.links n.links
+  kept_back count grown m acc few before =
+      let now = subst (λ (l : List (List Entry)). Kept Lies (journal_at l m) n.links (per_node * m) acc) grown
+      (kept m acc few before) in
+      subst (λ (l : List (List Entry)). Kept Lies (journal_at l m) n.links (per_node * m) acc)
+      (with_none r.bus.journals) (keeps_still count 0 r.bus.journals n.links m acc few now)
+
+  pub takes_at_once : (most count : ℕ) → count ≤ most → n.bus.run ≡ r.bus.run + count →
+      n.bus.left + count ≡ r.bus.left → n.bits ≡ r.bits + count →
+      (count ≡ 0 → EachJournal MayHaveItems r.bus.journals n.bus.journals) →
+      (count ≡ 0 → EachUntold r.bus.untold n.bus.untold r.bus.journals n.bus.journals) →
+      (count ≢ 0 → IsStretch (HasOrders r.ports) (WasTold r.ports r.ports)
+      (WasKept r.ports r.ports) r.bus.script r.bus.run count r.bus.untold r.bus.journals n.bus.journals) →
+      TakesAtOnce plan deeds r n most count
+  takes_at_once most zero within run left bits items untold stretch =
+      let same = none_came (items refl) in record {
+        within = within;
+        stands = stands_still plan r deeds h n.links sames
+            (kept_back 0 (same ∙ sym (with_none r.bus.journals))) n (λ m less e.
+            let c = h.count.journals in let few : m < length r.bus.journals = omega (arith, c, less) in
+            (none_untold (untold_at r.bus.untold m) (untold_at n.bus.untold m) (journal_at r.bus.journals m)
+            (journal_at n.bus.journals m) (items refl m few) (untold refl m few) e).0) right script (omega (arith, run))
+            (omega (arith, left)) (omega (arith, bits)) same drivers ports refl;
+        none = λ zero. (omega (arith, bits), same);
+        some = λ ne. absurd (ne refl);
+      }
+  takes_at_once most (suc k) within run left bits items untold stretch =
+      let s = stretch (λ z. absurd (omega (arith, z))) in
+      let less : r.bus.left - suc k ≡ n.bus.left = omega (arith, left) in
+      let all = all_at_once plan r deeds h n.links sames (kept_back (suc k) s.grown) (suc k) n.bus.journals
+      (omega (arith, left)) was s n.bus.untold k refl in
+      let is : run_at r n.links n.bus.untold (suc k) ≡ n = λ i. run_now (record {
+        script = sym script i;
+        run = sym run i;
+        left = less i;
+        fault = (h.right ∙ sym right) i;
+        journals = sym s.grown i;
+        untold = n.bus.untold;
+      }) (sym drivers i) (sym ports i) n.links (sym bits i) in
+      let taken = subst (λ (x : SerialValue). TakesBits plan deeds (λ y. Unit {0}) r (suc k) x) is all in record {
+        within = within;
+        stands = stands_bits plan deeds _ r n (suc k) taken h;
+        none = λ zero. absurd (omega (arith, zero));
+        some = λ ne. taken;
+      }

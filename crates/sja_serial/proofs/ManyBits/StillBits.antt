@@ -1,0 +1,238 @@
+-- Recessive bits that are run at once while nothing is taken: each of them is a bit of the run.
+use Rattle.std.proofs.Common.{◌≡◌, ℕ, zero, suc, ◌+◌, ◌-◌, ◌*◌, ◌<◌, ◌≤◌, Bool, List, []}
+use Rattle.std.proofs.Common.{◌∷◌, ◌++◌, length, refl, sym, ap, ◌∙◌, subst, append-nil, arith}
+use Rattle.std.specs.Prelude.{None, false, slice_index_or}
+use Rattle.std.proofs.lemmas.List.{length-map}
+use Rattle.std.proofs.lemmas.Slice.Zip.{AllZip-long}
+use Rattle.sja_link.specs.declared.entry.Entry.{Entry}
+use Rattle.sja_link.specs.declared.up.Up.{Up}
+use Rattle.sja_link.specs.Accounts.{Account, account}
+use Rattle.sja_link.specs.Deques.{Deques, Lies}
+use Rattle.sja_link.specs.Lists.{Lists}
+use Rattle.sja_link.specs.Parts.{part}
+use Rattle.sja_link.specs.Carried.{taken_of}
+use Rattle.lemmas.specs.Related.{EachRelated}
+use Rattle.lemmas.proofs.Related.{each_at, each_refl}
+use Rattle.sja_regs.specs.declared.registers.Registers.{Registers}
+use Rattle.sja_bus.specs.Boards.{HasOrders, WasTold, WasKept}
+use Rattle.sja_bus.specs.Buses.{KeepsAll, untold_at}
+use Rattle.sja_wire.specs.Lawful.{IsBusRun}
+use Rattle.sja_wire.specs.Links.{per_node, Kept}
+use Rattle.sja_bus.specs.Stretches.{recessive_bits, with_recessive, IsStretch}
+use Rattle.sja_wire.specs.Wire.{journal_at}
+use Rattle.sja_bus.proofs.Resting.QuietBits.{longer_at, account_still}
+use Rattle.sja_plan.specs.Plan.{PlanValue}
+use Rattle.sja_driver.specs.declared.logged_driver.LoggedDriver.{LoggedDriver}
+use Rattle.sja_driver.specs.Deeds.{Deed, given_in, deeds_of}
+use Rattle.sja_driver.specs.LoggedDrivers.{node_of}
+use Rattle.sja_log.proofs.Trace.Stepping.{given_taken}
+use Rattle.sja_serial.specs.Bits.{HasOneBit, TakesBit, TakesBits}
+use Rattle.sja_serial.specs.Bits.TakesBits.{no_bit, one_more}
+use Rattle.sja_serial.specs.Linking.{IsLinked}
+use Rattle.sja_serial.specs.Nodes.{IsNode}
+use Rattle.sja_serial.specs.Serial.{SerialValue, StandsAt, run_now}
+use Rattle.sja_driver.specs.Deeds.{deeds_at}
+use Rattle.sja_plan.specs.Plan.{steps_at}
+use Rattle.sja_serial.specs.Shown.{ShowsRecord}
+use Rattle.sja_serial.proofs.OneBit.BitAsked.{HasCut}
+use Rattle.sja_serial.proofs.OneBit.BitRun.{cuts_of, takes_bit}
+use Rattle.sja_wire.proofs.Taking.{same_front}
+
+-- ---- recessive bits and what the links stand for
+
+pub with_none : (journals : List (List Entry)) → with_recessive 0 journals ≡ journals
+with_none [] = refl
+with_none (j ∷ journals) = ap (λ x. x ∷ with_recessive 0 journals) (append-nil j) ∙ ap (λ l. j ∷ l) (with_none journals)
+
+account_at : (n : ℕ) (journals : List (List Entry)) (m a : ℕ) (h : Account) → m < length journals →
+    account (journal_at (with_recessive n journals) m) a h ≡ account (journal_at journals m) a h
+account_at n journals m a h few = ap (λ j. account j a h) (longer_at n journals m few)
+    ∙ account_still n (journal_at journals m) a h
+
+-- they stand for the journals with more of them, or fewer
+pub keeps_still : (n k : ℕ) (journals : List (List Entry)) (links : List Deques) (m : ℕ) (h : ℕ → Account) →
+    m < length journals →
+    Kept Lies (journal_at (with_recessive n journals) m) links (per_node * m) h →
+    Kept Lies (journal_at (with_recessive k journals) m) links (per_node * m) h
+keeps_still n k journals links m h few kept a d near =
+    let same = account_at n journals m (suc a) (h a) few ∙ sym (account_at k journals m (suc a) (h a) few) in
+    subst (λ (x : Lists). Lies (slice_index_or links (per_node * m + a) d) x) same (kept a d near)
+
+-- a run after so many of them, with these links, of which this is untold
+abbrev pub run_at : SerialValue → List Deques → List Bool → ℕ → SerialValue
+run_at r links untold i = run_now (record {
+  script = r.bus.script;
+  run = r.bus.run + i;
+  left = r.bus.left - i;
+  fault = r.bus.fault;
+  journals = with_recessive i r.bus.journals;
+  untold = untold;
+}) r.drivers r.ports links (r.bits + i)
+
+-- ---- a run whose links were looked at, and nothing was taken
+
+none_more : (xs ys : List Up) → xs ≡ xs ++ ys → ys ≡ []
+none_more xs ys e = sym (same_front xs [] ys (append-nil xs ∙ e))
+
+module _ (plan : PlanValue) (r : SerialValue) (deeds : List (List Deed)) (h : StandsAt plan r deeds)
+    (links : List Deques)
+    (sames : EachRelated (λ (a b : Deques). b.link ≡ a.link) r.links links)
+    (kept : KeepsAll Lies r.bus.journals r.bus.journals r.links links) where
+  many : length links ≡ length r.links
+  many = AllZip-long (λ (a b : Deques). b.link ≡ a.link) r.links links sames
+
+  module _ (m : ℕ) (d : LoggedDriver) (p : Registers) (less : m < length plan.nodes) where
+    abbrev j : List Entry
+    j = journal_at r.bus.journals m
+
+    abbrev ds : List Deed
+    ds = deeds_at deeds m
+
+    was : IsNode plan.version (steps_at plan m) j ds (slice_index_or r.drivers m d)
+        (slice_index_or r.ports m p) r.links (8 * m)
+    was = h.nodes m d p less
+
+    lies : (a : ℕ) (s : Deques) → a < 8 → Lies (slice_index_or links (8 * m + a) s)
+        (account j (suc a) (record { got = was.linked.holds.got a; given = given_in (deeds_of ds (suc a)) }))
+    lies = kept m (λ a. record { got = was.linked.holds.got a; given = given_in (deeds_of ds (suc a)) })
+        (let c = h.count.journals in omega (arith, c, less)) was.linked.holds.kept
+
+    linked_still : IsLinked j ds (slice_index_or r.drivers m d) links (8 * m)
+    linked_still =
+        let holds = was.linked.holds in record {
+          holds = record {
+            got = holds.got;
+            kept = lies;
+            told = holds.told;
+            off_is = holds.off_is;
+            later = holds.later;
+          };
+          taken = λ a s few. none_more (taken_of (part j (suc a))) (slice_index_or links (8 * m + a) s).up
+              (sym (given_taken ds j (suc a) (was.in_time.when (suc a))) ∙ (lies a s few).1);
+          level = was.linked.level;
+        }
+
+    node_still : IsNode plan.version (steps_at plan m) j ds (slice_index_or r.drivers m d)
+        (slice_index_or r.ports m p) links (8 * m)
+    node_still = record {
+      traced = was.traced;
+      linked = linked_still;
+      ported = was.ported;
+      asked = was.asked;
+      counted = was.counted;
+      done = was.done;
+      in_time = was.in_time;
+      registers = was.registers;
+    }
+
+  -- it stands where it stood, where nothing more is told
+  pub stands_still : (n : SerialValue) → ((m : ℕ) → m < length plan.nodes → untold_at n.bus.untold m ≡ false →
+      untold_at r.bus.untold m ≡ false) → n.bus.fault ≡ None → n.bus.script ≡ r.bus.script → n.bus.run ≡ r.bus.run →
+      n.bus.left ≡ r.bus.left → n.bits ≡ r.bits → n.bus.journals ≡ r.bus.journals → n.drivers ≡ r.drivers →
+      n.ports ≡ r.ports → n.links ≡ links →
+      StandsAt plan n deeds
+  stands_still n told right script run left bits journals drivers ports links_are = record {
+    right = right;
+    script = script ∙ h.script;
+    all_bits = let a = h.all_bits in omega (arith, a, run, left);
+    bits = bits ∙ h.bits ∙ sym run;
+    count = record {
+      journals = ap (λ l. length l) journals ∙ h.count.journals;
+      drivers = ap (λ l. length l) drivers ∙ h.count.drivers;
+      ports = ap (λ l. length l) ports ∙ h.count.ports;
+      links = ap (λ l. length l) links_are ∙ many ∙ h.count.links;
+    };
+    deeds_count = h.deeds_count;
+    ids = λ m a d few less.
+        ap (λ (l : List Deques). (slice_index_or l (per_node * m + a) d).link) links_are
+        ∙ each_at (λ (x y : Deques). y.link ≡ x.link) (λ (s : Deques). s.link) (λ x y e. e) r.links links
+        (per_node * m + a) d sames
+        ∙ h.ids m a d few (subst (λ (k : ℕ). per_node * m + a < k) (ap (λ l. length l) links_are ∙ many) less);
+    own = λ m d less. subst (λ (l : List LoggedDriver). node_of (slice_index_or l m d) ≡ m) (sym drivers)
+        (h.own m d less);
+    nodes = λ m d p less.
+        subst (λ (l : List Deques). IsNode plan.version (steps_at plan m) (journal_at n.bus.journals m)
+        (deeds_at deeds m) (slice_index_or n.drivers m d) (slice_index_or n.ports m p) l (8 * m)) (sym links_are)
+        (subst (λ (l : List Registers). IsNode plan.version (steps_at plan m) (journal_at n.bus.journals m)
+        (deeds_at deeds m) (slice_index_or n.drivers m d) (slice_index_or l m p) links (8 * m)) (sym ports)
+        (subst (λ (l : List LoggedDriver). IsNode plan.version (steps_at plan m) (journal_at n.bus.journals m)
+        (deeds_at deeds m) (slice_index_or l m d) (slice_index_or r.ports m p) links (8 * m)) (sym drivers)
+        (subst (λ (l : List (List Entry)). IsNode plan.version (steps_at plan m) (journal_at l m) (deeds_at deeds m)
+        (slice_index_or r.drivers m d) (slice_index_or r.ports m p) links (8 * m)) (sym journals)
+        (node_still m d p less))));
+    shown = λ m p less none.
+        subst (λ (l : List Registers). ShowsRecord (journal_at n.bus.journals m) (slice_index_or l m p)) (sym ports)
+        (subst (λ (l : List (List Entry)). ShowsRecord (journal_at l m) (slice_index_or r.ports m p)) (sym journals)
+        (h.shown m p less (told m less none)));
+  }
+
+  -- ---- the bits
+
+  module _ (count : ℕ) (after : List (List Entry)) (most : count ≤ r.bus.left)
+      (was : IsBusRun r.bus.script r.bus.run r.bus.journals)
+      (stretch : IsStretch (HasOrders r.ports) (WasTold r.ports r.ports)
+      (WasKept r.ports r.ports) r.bus.script r.bus.run count r.bus.untold r.bus.journals after) where
+    abbrev at : List Bool → ℕ → SerialValue
+    at untold i = run_at r links untold i
+
+    inside : (i m : ℕ) → m < length (with_recessive i r.bus.journals) → m < length r.bus.journals
+    inside i m few = let c = length-map r.bus.journals (λ j. j ++ recessive_bits i) in omega (arith, few, c)
+
+    cuts : (i : ℕ) → i ≤ count → (m : ℕ) → m < length (with_recessive i r.bus.journals) →
+        HasCut (journal_at (with_recessive i r.bus.journals) m)
+    cuts zero early m few =
+        subst (λ (l : List (List Entry)). HasCut (journal_at l m)) (sym (with_none r.bus.journals))
+        (cuts_of was m (inside 0 m few))
+    cuts (suc i) early m few =
+        let c = length-map r.bus.journals (λ j. j ++ recessive_bits i) in
+        let near = inside (suc i) m few in
+        let says = ((stretch.bits i (omega (arith, early))).nodes m (omega (arith, near, c))).is_turn.says in
+        record { found = says.found; cut = says.cut }
+
+    first : StandsAt plan (at r.bus.untold 0) deeds
+    first = stands_still (at r.bus.untold 0) (λ m less e. e) h.right refl (omega arith) (omega arith) (omega arith)
+        (with_none r.bus.journals) refl refl refl
+
+    takes : (untold : List Bool) (i : ℕ) → i < count → StandsAt plan (at r.bus.untold i) deeds →
+        TakesBit plan deeds (at r.bus.untold i) (at untold (suc i))
+    takes untold i early stood =
+        let a = length-map r.bus.journals (λ j. j ++ recessive_bits i) in
+        let b = length-map r.bus.journals (λ j. j ++ recessive_bits (suc i)) in
+        takes_bit plan (at r.bus.untold i) (at untold (suc i)) deeds stood h.right refl (omega arith)
+        (omega (arith, early, most)) (omega (arith, a, b)) refl (omega arith) refl
+        (λ m acc few kept. keeps_still i (suc i) r.bus.journals links m acc (inside i m few) kept)
+        (each_refl (λ (x y : Deques). y.link ≡ x.link) (λ x. refl) links) (stretch.bits i early)
+        (cuts i (omega (arith, early)))
+
+    stands : (i : ℕ) → i ≤ count → StandsAt plan (at r.bus.untold i) deeds
+    stands zero early = first
+    stands (suc i) early = (takes r.bus.untold i (omega (arith, early)) (stands i (omega (arith, early)))).stands
+
+    -- one of them, where other things were untold
+    one : (before untold : List Bool) (i : ℕ) → i < count → TakesBit plan deeds (at before i) (at untold (suc i))
+    one before untold i early =
+        let t = takes untold i early (stands i (omega (arith, early))) in
+        record { stands = t.stands; bits = t.bits; nodes = t.nodes }
+
+    -- the first, from the run as it was
+    one_first : (untold : List Bool) → 0 < count → TakesBit plan deeds r (at untold 1)
+    one_first untold early =
+        let t = one r.bus.untold untold 0 early in let b = t.bits in record {
+          stands = t.stands;
+          bits = omega arith;
+          nodes = λ m less. subst (λ (l : List (List Entry)). HasOneBit (journal_at l m)
+              (journal_at (with_recessive 1 r.bus.journals) m)) (with_none r.bus.journals) (t.nodes m less);
+        }
+
+    chain : (untold : List Bool) (i : ℕ) → i < count →
+        TakesBits plan deeds (λ x. Unit {0}) r (suc i) (at untold (suc i))
+    chain untold zero early = one_more r r (at untold 1) 0 (no_bit r) tt (one_first untold early)
+    chain untold (suc i) early =
+        one_more r (at untold (suc i)) (at untold (suc (suc i))) (suc i) (chain untold i (omega (arith, early))) tt
+        (one untold untold (suc i) early)
+
+    -- all of them, where there are any
+    pub all_at_once : (untold : List Bool) (k : ℕ) → count ≡ suc k →
+        TakesBits plan deeds (λ x. Unit {0}) r count (at untold count)
+    all_at_once untold k e = subst (λ (n : ℕ). TakesBits plan deeds (λ x. Unit {0}) r n (at untold n)) (sym e)
+        (chain untold k (omega (arith, e)))

@@ -1,0 +1,6 @@
+-- A node before and after one bit.
+pub mod BitAsked
+pub mod BitCounted
+pub mod BitPort
+pub mod Bit
+pub mod BitRun

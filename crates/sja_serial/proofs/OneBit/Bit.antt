@@ -1,0 +1,219 @@
+-- A node after a bit.
+use Rattle.std.proofs.Common.{◌≡◌, ℕ, suc, ◌+◌, ◌<◌, ◌≤◌, Bool, true, false, List, [], ◌++◌, refl, sym, ap, ◌∙◌, subst}
+use Rattle.std.proofs.Common.{append_assoc, append-nil, arith}
+use Rattle.std.specs.Prelude.{slice_index_or}
+use Rattle.can_bits.specs.declared.level.Level.{Level}
+use Rattle.sja_link.specs.declared.up.Up.{Up}
+use Rattle.sja_link.specs.declared.entry.Entry.{Entry}
+use Rattle.sja_link.specs.Accounts.{Account, account}
+use Rattle.sja_link.specs.Deques.{Deques, Lies}
+use Rattle.sja_link.specs.Parts.{part}
+use Rattle.sja_link.specs.Carried.{taken_of}
+use Rattle.lemmas.specs.Picking.{EachAfter}
+use Rattle.sja_link.specs.Places.{place_of}
+use Rattle.sja_regs.specs.declared.orders.Orders.{Orders}
+use Rattle.sja_regs.specs.declared.registers.Registers.{Registers}
+use Rattle.sja_regs.specs.Turns.{after_turn}
+use Rattle.sja_wire.specs.Aborting.{IsApplied}
+use Rattle.sja_bus.specs.Buses.{IsNodeBit}
+use Rattle.sja_wire.specs.Links.{Kept, stops_of}
+use Rattle.sja_wire.specs.OneBit.{HasBit, abort_as}
+use Rattle.sja_wire.specs.Telling.{IsTurn}
+use Rattle.sja_script.specs.declared.step.Step.{Step}
+use Rattle.sja_driver.specs.declared.logged_driver.LoggedDriver.{LoggedDriver}
+use Rattle.sja_driver.specs.Deeds.{Deed, opened_by, given_in, deeds_of}
+use Rattle.sja_log.specs.Aborting.{IsCommanded, AbortIsDue, sends_taken}
+use Rattle.sja_log.specs.InTime.{IsInTime}
+use Rattle.sja_log.specs.Registering.{IsPortBit}
+use Rattle.sja_log.specs.Registering.LeadTo.{bit}
+use Rattle.sja_log.specs.Timing.{taken_when}
+use Rattle.sja_log.specs.Windows.{put_by, off_by}
+use Rattle.sja_log.proofs.Trace.Stepping.{given_taken}
+use Rattle.sja_serial.specs.Bits.{HasOneBit}
+use Rattle.sja_serial.specs.Linking.{IsLinked, IsLevel}
+use Rattle.sja_serial.specs.Nodes.{IsNode}
+use Rattle.sja_serial.specs.Porting.{IsPorted}
+use Rattle.sja_serial.specs.Shown.{ShowsRecord}
+use Rattle.sja_log.proofs.NodeLog.Adding.{added, added_own, bit_whole, added_bits, added_put, added_due, added_off}
+use Rattle.sja_serial.proofs.OneBit.BitAsked.{HasCut, bit_asked}
+use Rattle.sja_serial.proofs.OneBit.BitCounted.{bit_counted}
+use Rattle.sja_log.proofs.Trace.TbsAndAbort.{tbs_right}
+use Rattle.sja_serial.proofs.OneBit.BitPort.{ported_bit}
+use Rattle.sja_log.proofs.Account.Dry.{none_taken_own}
+use Rattle.sja_log.proofs.Trace.Later.{SameBy, done_more, all_see, all_carry, settings_by_then}
+use Rattle.sja_serial.proofs.OneNode.Shown.{as_told, shows_told}
+use Rattle.sja_log.proofs.Account.Own.{AreOwn, own_activation, own_stopped, own_sends, own_when, own_taken}
+use Rattle.sja_wire.proofs.Taking.{same_front}
+
+none_more : (xs ys : List Up) → xs ≡ xs ++ ys → ys ≡ []
+none_more xs ys e = sym (same_front xs [] ys (append-nil xs ∙ e))
+
+-- the orders of a port, and what it is told
+abbrev pub OrdersOf : Registers → Orders → Type 0
+OrdersOf p orders = orders ≡ record { abort = p.abort; ended = p.ended }
+
+abbrev pub BitOf : Registers → Registers → Bool → List Entry → List Entry → Level → Level → Type 0
+BitOf p q untold j k driven seen = IsNodeBit (OrdersOf p) (λ turn. q ≡ after_turn p turn) (q ≡ p) untold j k driven seen
+
+module _ (version : ℕ) (steps : List Step) (j k : List Entry) (deeds : List Deed) (driver : LoggedDriver)
+    (p q : Registers) (links after : List Deques) (base : ℕ) (none : Deques) (untold : Bool) (driven seen : Level)
+    (h : IsNode version steps j deeds driver p links base) (b : BitOf p q untold j k driven seen)
+    (kept : (acc : ℕ → Account) → Kept Lies j links base acc → Kept Lies k after base acc) where
+  abbrev changed : Bool
+  changed = b.opens.aborts.changed
+
+  abbrev es : List Entry
+  es = added changed driven seen b.bit.verdict b.bit.off
+
+  own : AreOwn es
+  own = added_own changed driven seen b.bit.verdict b.bit.off
+
+  lies_after : (a : ℕ) (d : Deques) → a < 8 → Lies (slice_index_or after (base + a) d)
+      (account k (suc a) (record { got = h.linked.holds.got a; given = given_in (deeds_of deeds (suc a)) }))
+  lies_after = kept (λ a. record { got = h.linked.holds.got a; given = given_in (deeds_of deeds (suc a)) })
+      h.linked.holds.kept
+
+  before : (a : ℕ) → given_in (deeds_of deeds a) ≡ taken_of (part j a)
+  before a = given_taken deeds j a (h.in_time.when a)
+
+  from_taken : k ≡ b.opens.taken ++ es
+  from_taken =
+      bit_whole b.opened k driven seen b.bit ∙ ap
+      (λ (l : List Entry). l ++ added false driven seen b.bit.verdict b.bit.off) b.opens.aborts.whole
+      ∙ append_assoc b.opens.taken (abort_as changed) (added false driven seen b.bit.verdict b.bit.off)
+
+  none_taken : b.opens.taken ≡ j
+  none_taken =
+      none_taken_own j b.opens.taken b.opens.items (λ a. given_in (deeds_of deeds (suc a)))
+      (λ a few. before (suc a)) k es own from_taken
+      (λ a. (slice_index_or after (base + a) none).up) (λ a few. (lies_after a none few).1)
+
+  opened_is : b.opened ≡ j ++ abort_as changed
+  opened_is = b.opens.aborts.whole ∙ ap (λ (l : List Entry). l ++ abort_as changed) none_taken
+
+  pub whole : k ≡ j ++ es
+  whole = from_taken ∙ ap (λ (l : List Entry). l ++ es) none_taken
+
+  -- the journal has one bit more
+  pub one_bit : HasOneBit j k
+  one_bit = record {
+    changed = changed;
+    driven = driven;
+    seen = seen;
+    bit = subst
+        (λ (l : List Entry). HasBit l driven seen k) opened_is b.bit;
+  }
+
+  -- an abort that changed the node was commanded
+  commanded : changed ≡ true → IsCommanded deeds j
+  commanded is = over p.abort (sym (ap (λ (o : Orders). o.abort) b.opens.are_orders)) (λ e. h.ported.commanded e)
+    where
+      over : (stands : Bool) → stands ≡ b.opens.orders.abort → (stands ≡ true → IsCommanded deeds j) →
+          IsCommanded deeds j
+      over true e c = c refl
+      over false e c = let x = sym is ∙ b.opens.unasked (sym e) in absurd cc
+
+  activation : (place_of k).activation ≡ (place_of j).activation
+  activation = ap (λ (l : List Entry). (place_of l).activation) whole ∙ own_activation j es own
+
+  bits : (place_of k).bits ≡ (place_of j).bits + 1
+  bits = ap (λ (l : List Entry). (place_of l).bits) whole ∙ added_bits j changed driven seen b.bit.verdict b.bit.off
+
+  more : (place_of j).bits ≤ (place_of k).bits
+  more = let n = bits in omega (arith, n)
+
+  same : SameBy (place_of j).bits j k
+  same n a few = ap (λ (l : List Entry). put_by n l a) whole
+      ∙ added_put j changed driven seen b.bit.verdict b.bit.off n a few
+
+  level : IsLevel k deeds
+  level =
+      let s = ap (λ (l : List Entry). stops_of l) whole ∙ own_stopped j es own in let e = h.linked.level.ended in
+      record {
+        begun = activation ∙ h.linked.level.begun;
+        ended = omega (arith, s, e);
+        asked = ap (λ (l : List Entry). sends_taken l) whole ∙ own_sends j es own ∙ h.linked.level.asked;
+      }
+
+  linked : IsLinked k deeds driver after base
+  linked =
+      let holds = h.linked.holds in record {
+        holds = record {
+          got = holds.got;
+          kept = lies_after;
+          told = holds.told;
+          off_is = holds.off_is;
+          later = holds.later;
+        };
+        taken = λ a d few. none_more (taken_of (part k (suc a))) (slice_index_or after (base + a) d).up
+            (ap (λ (l : List Entry). taken_of (part l (suc a))) whole ∙ own_taken j es (suc a) own
+            ∙ sym (before (suc a)) ∙ (lies_after a d few).1);
+        level = level;
+      }
+
+  ported : IsPorted version k deeds q
+  ported =
+      ported_bit untold changed j b.opened k driven seen b.bit b.turn b.is_turn p q b.port version deeds
+      (settings_by_then version (place_of j).bits j k same deeds h.done) level.begun more
+      (ap (λ (l : List Entry). sends_taken l) whole ∙ own_sends j es own)
+      (ap (λ (l : List Entry). off_by (place_of l).bits l (opened_by deeds)) whole
+      ∙ added_off j changed driven seen b.bit.verdict b.bit.off (opened_by deeds) h.linked.level.begun) h.ported
+
+  in_time : IsInTime version k deeds
+  in_time = record {
+    when = λ a. h.in_time.when a ∙ sym (ap (λ (l : List Entry). taken_when l a) whole ∙ own_when j es a own);
+    sees = all_see (place_of j).bits j k same [] deeds h.done h.in_time.sees;
+    carries = all_carry version (place_of j).bits j k same [] deeds tt h.done h.in_time.carries;
+    aborts = subst (λ (l : List Entry). EachAfter (AbortIsDue deeds) [] l) (sym whole)
+        (added_due j changed driven seen b.bit.verdict b.bit.off deeds commanded h.in_time.aborts);
+    patient = h.in_time.patient;
+  }
+
+  -- where nothing was untold its port has shown what the record says
+  module _ (shown : untold ≡ false → ShowsRecord j p) where
+    told : q ≡ after_turn p b.turn
+    told = as_told untold j b.opened p q b.turn b.port shown
+
+    -- the port shows it after the bit, whatever is untold
+    pub shows : ShowsRecord k q
+    shows = shows_told changed b.opened k driven seen b.bit b.turn b.is_turn p q told
+
+    -- an abort that stands is applied as the bit begins
+    abort_is : p.abort ≡ b.opens.orders.abort
+    abort_is = sym (ap (λ (o : Orders). o.abort) b.opens.are_orders)
+
+    -- the bit and its turn, after the journal as it was
+    came : (x : HasBit (j ++ abort_as changed) driven seen k)
+        × IsTurn changed (j ++ abort_as changed) driven seen k x b.turn
+    came = subst (λ (l : List Entry). (x : HasBit l driven seen k) × IsTurn changed l driven seen k x b.turn) opened_is
+        (b.bit, b.is_turn)
+
+    port_bit : IsPortBit p q j k
+    port_bit = record {
+      changed = changed;
+      applied = λ stands. subst (λ (l : List Entry). IsApplied l changed) none_taken
+          (b.opens.applied (sym abort_is ∙ stands));
+      unasked = λ none. b.opens.unasked (sym abort_is ∙ none);
+      driven = driven;
+      seen = seen;
+      bit = came.0;
+      turn = b.turn;
+      is_turn = came.1;
+      told = told;
+    }
+
+    -- its record had a cut
+    pub after_one_bit : HasCut j → IsNode version steps k deeds driver q after base
+    after_one_bit lawful = record {
+      traced = h.traced;
+      linked = linked;
+      ported = ported;
+      asked = bit_asked untold j k driven seen p q b none_taken (λ t e. e) (λ e. e) lawful
+          (tbs_right version j deeds p h.registers h.traced.traces.answered.states)
+          (h.ported.activation ∙ sym h.linked.level.begun) h.asked;
+      counted = bit_counted untold j k driven seen deeds p q b none_taken (λ o e. ap (λ (x : Orders). x.abort) e)
+          (λ t e. e) (λ e. e) lawful h.counted;
+      done = done_more (place_of j).bits (place_of k).bits deeds more h.done;
+      in_time = in_time;
+      registers = bit j k deeds p q h.registers port_bit;
+    }

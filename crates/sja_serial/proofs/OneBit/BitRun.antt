@@ -1,0 +1,154 @@
+-- A run after a bit.
+use Rattle.std.proofs.Common.{◌≡◌, ℕ, ◌+◌, ◌*◌, ◌<◌, Bool, List, [], ◌∷◌, length, sym, ap, ◌∙◌, subst, arith, inl, inr}
+use Rattle.std.specs.Prelude.{None, slice_index_or}
+use Rattle.std.proofs.lemmas.Slice.Zip.{AllZip-long}
+use Rattle.can_bits.specs.declared.level.Level.{Level}
+use Rattle.can_bits.specs.declared.level.Level.TheVariants.{Recessive}
+use Rattle.sja_link.specs.declared.entry.Entry.{Entry}
+use Rattle.sja_link.specs.Deques.{Deques, Lies}
+use Rattle.lemmas.specs.Related.{EachRelated}
+use Rattle.lemmas.proofs.Related.{each_at}
+use Rattle.sja_regs.specs.declared.bus_turn.BusTurn.{BusTurn}
+use Rattle.sja_regs.specs.declared.orders.Orders.{Orders}
+use Rattle.sja_regs.specs.declared.registers.Registers.{Registers}
+use Rattle.sja_regs.specs.Registers.{at_power_on}
+use Rattle.sja_regs.specs.Turns.{after_turn}
+use Rattle.sja_bus.specs.Boards.{HasOrders, WasTold, WasKept}
+use Rattle.sja_bus.specs.Buses.{KeepsAll, IsBit, IsNodeBit, untold_at}
+use Rattle.sja_wire.specs.Lawful.{IsBusRun}
+use Rattle.sja_wire.specs.Links.{per_node}
+use Rattle.sja_wire.specs.Wire.{journal_at}
+use Rattle.sja_script.specs.declared.strike.Strike.{Strike}
+use Rattle.sja_plan.specs.Plan.{PlanValue}
+use Rattle.sja_driver.specs.declared.logged_driver.LoggedDriver.{LoggedDriver}
+use Rattle.sja_driver.specs.Deeds.{Deed}
+use Rattle.sja_driver.specs.LoggedDrivers.{node_of}
+use Rattle.sja_serial.specs.Bits.{HasOneBit, TakesBit}
+use Rattle.sja_serial.specs.Nodes.{IsNode}
+use Rattle.sja_serial.specs.Serial.{SerialValue, StandsAt}
+use Rattle.sja_driver.specs.Deeds.{deeds_at}
+use Rattle.sja_plan.specs.Plan.{steps_at}
+use Rattle.sja_serial.specs.Shown.{ShowsRecord}
+use Rattle.sja_serial.proofs.OneBit.BitAsked.{HasCut}
+use Rattle.sja_serial.proofs.OneBit.Bit.{BitOf, after_one_bit, one_bit, shows}
+
+-- each journal of a lawful bus has a cut
+pub cuts_of : {script : List Strike} {run : ℕ} {journals : List (List Entry)} → IsBusRun script run journals →
+    (m : ℕ) → m < length journals → HasCut (journal_at journals m)
+cuts_of h m less = let l = h.lawful m less in record { found = l.found; cut = l.cut }
+
+-- some element
+pub some_of : {A : Type 0} (xs : List A) (i : ℕ) → i < length xs → A
+some_of [] i less = absurd (omega (arith, less))
+some_of (x ∷ xs) i less = x
+
+pub no_link : Deques
+no_link = record { link = record { node = 0; activation = 0 }; down = []; up = [] }
+
+-- a bit of a node by its port alone
+bit_of : (has_orders : Orders → Type 0) (was_told : BusTurn → Type 0) (was_kept : Type 0) (p q : Registers)
+    (untold : Bool) (j k : List Entry) (driven seen : Level) →
+    ((o : Orders) → has_orders o → o ≡ record { abort = p.abort; ended = p.ended }) →
+    ((t : BusTurn) → was_told t → q ≡ after_turn p t) → (was_kept → q ≡ p) →
+    IsNodeBit has_orders was_told was_kept untold j k driven seen → BitOf p q untold j k driven seen
+bit_of has_orders was_told was_kept p q untold j k driven seen f g c b = record {
+  opened = b.opened;
+  opens = record {
+    taken = b.opens.taken;
+    items = b.opens.items;
+    aborts = b.opens.aborts;
+    orders = b.opens.orders;
+    are_orders = f b.opens.orders b.opens.are_orders;
+    unasked = b.opens.unasked;
+    applied = b.opens.applied;
+  };
+  bit = b.bit;
+  turn = b.turn;
+  is_turn = b.is_turn;
+  port = elim b.port [
+    | inl told ↦ inl (g b.turn told)
+    | inr over ↦ inr (record { kept = c over.kept; told = over.told; same = over.same; alone = over.alone })
+  ];
+}
+
+module _ (plan : PlanValue) (r n : SerialValue) (deeds : List (List Deed)) (h : StandsAt plan r deeds)
+    (right : n.bus.fault ≡ None) (script : n.bus.script ≡ r.bus.script)
+    (run : n.bus.run ≡ r.bus.run + 1) (left : n.bus.left + 1 ≡ r.bus.left)
+    (journals : length n.bus.journals ≡ length r.bus.journals) (drivers_are : n.drivers ≡ r.drivers)
+    (bits_are : n.bits ≡ r.bits + 1)
+    (ports : length n.ports ≡ length r.ports) (kept : KeepsAll Lies r.bus.journals n.bus.journals r.links n.links)
+    (sames : EachRelated (λ (a b : Deques). b.link ≡ a.link) r.links n.links)
+    (bit : IsBit (HasOrders r.ports) (WasTold r.ports n.ports)
+    (WasKept r.ports n.ports) r.bus.script r.bus.run r.bus.untold r.bus.journals n.bus.journals)
+    (cuts : (m : ℕ) → m < length r.bus.journals → HasCut (journal_at r.bus.journals m)) where
+  many : length n.links ≡ length r.links
+  many = AllZip-long (λ (a b : Deques). b.link ≡ a.link) r.links n.links sames
+
+  inside : (m : ℕ) → m < length plan.nodes → m < length r.bus.journals
+  inside m less = let c = h.count.journals in omega (arith, c, less)
+
+  module _ (m : ℕ) (d : LoggedDriver) (p : Registers) (less : m < length plan.nodes) where
+    here : BitOf (slice_index_or r.ports m p) (slice_index_or n.ports m p) (untold_at r.bus.untold m)
+        (journal_at r.bus.journals m) (journal_at n.bus.journals m) (slice_index_or bit.driven m Recessive) (bit.seen m)
+    here =
+        bit_of (HasOrders r.ports m) (WasTold r.ports n.ports m) (WasKept r.ports n.ports m)
+        (slice_index_or r.ports m p) (slice_index_or n.ports m p) (untold_at r.bus.untold m)
+        (journal_at r.bus.journals m) (journal_at n.bus.journals m) (slice_index_or bit.driven m Recessive)
+        (bit.seen m) (λ o x. x p) (λ t x. x p) (λ x. x p) (bit.nodes m (inside m less))
+
+    one : HasOneBit (journal_at r.bus.journals m) (journal_at n.bus.journals m)
+    one =
+        one_bit plan.version (steps_at plan m) (journal_at r.bus.journals m) (journal_at n.bus.journals m)
+        (deeds_at deeds m) (slice_index_or r.drivers m d) (slice_index_or r.ports m p) (slice_index_or n.ports m p)
+        r.links n.links (8 * m) no_link (untold_at r.bus.untold m) (slice_index_or bit.driven m Recessive)
+        (bit.seen m) (h.nodes m d p less) here (λ acc. kept m acc (inside m less))
+
+    node_now : IsNode plan.version (steps_at plan m) (journal_at n.bus.journals m) (deeds_at deeds m)
+        (slice_index_or r.drivers m d) (slice_index_or n.ports m p) n.links (8 * m)
+    node_now =
+        after_one_bit plan.version (steps_at plan m) (journal_at r.bus.journals m) (journal_at n.bus.journals m)
+        (deeds_at deeds m) (slice_index_or r.drivers m d) (slice_index_or r.ports m p) (slice_index_or n.ports m p)
+        r.links n.links (8 * m) no_link (untold_at r.bus.untold m) (slice_index_or bit.driven m Recessive)
+        (bit.seen m) (h.nodes m d p less) here (λ acc. kept m acc (inside m less))
+        (h.shown m p less) (cuts m (inside m less))
+
+    shows_now : ShowsRecord (journal_at n.bus.journals m) (slice_index_or n.ports m p)
+    shows_now =
+        shows plan.version (steps_at plan m) (journal_at r.bus.journals m) (journal_at n.bus.journals m)
+        (deeds_at deeds m) (slice_index_or r.drivers m d) (slice_index_or r.ports m p) (slice_index_or n.ports m p)
+        r.links n.links (8 * m) no_link (untold_at r.bus.untold m) (slice_index_or bit.driven m Recessive)
+        (bit.seen m) (h.nodes m d p less) here (λ acc. kept m acc (inside m less)) (h.shown m p less)
+
+  driver_at : (m : ℕ) → m < length plan.nodes → LoggedDriver
+  driver_at m less = some_of r.drivers m (let c = h.count.drivers in omega (arith, c, less))
+
+  stands_now : StandsAt plan n deeds
+  stands_now = record {
+    right = right;
+    script = script ∙ h.script;
+    all_bits = let a = h.all_bits in omega (arith, a, run, left);
+    bits = let b = h.bits in omega (arith, bits_are, b, run);
+    count = record {
+      journals = journals ∙ h.count.journals;
+      drivers = ap (λ l. length l) drivers_are ∙ h.count.drivers;
+      ports = ports ∙ h.count.ports;
+      links = many ∙ h.count.links;
+    };
+    deeds_count = h.deeds_count;
+    ids = λ m a d few less. each_at (λ (x y : Deques). y.link ≡ x.link) (λ (s : Deques). s.link)
+        (λ x y e. e) r.links n.links (per_node * m + a) d sames
+        ∙ h.ids m a d few (subst (λ (k : ℕ). per_node * m + a < k) many less);
+    own = λ m d less. ap (λ (l : List LoggedDriver). node_of (slice_index_or l m d)) drivers_are ∙ h.own m d less;
+    nodes = λ m d p less. subst (λ (l : List LoggedDriver). IsNode plan.version (steps_at plan m)
+        (journal_at n.bus.journals m) (deeds_at deeds m) (slice_index_or l m d) (slice_index_or n.ports m p) n.links
+        (8 * m)) (sym drivers_are)
+        (node_now m d p less);
+    shown = λ m p less told. shows_now m (driver_at m less) p less;
+  }
+
+  pub takes_bit : TakesBit plan deeds r n
+  takes_bit = record {
+    stands = stands_now;
+    bits = bits_are;
+    nodes = λ m less. one m (driver_at m less) (at_power_on plan.version) less;
+  }

@@ -1,0 +1,8 @@
+-- A run from its beginning to its log.
+pub mod Onward
+pub mod GoingOn
+pub mod AfterBusTurn
+pub mod AfterNodeTurn
+pub mod Coming
+pub mod Ended
+pub mod Whole

@@ -1,0 +1,142 @@
+-- The log of a run in one thread, by what its bus leaves and what drivers and links hold at the end.
+use Rattle.std.proofs.Common.{◌≡◌, ℕ, zero, suc, ◌+◌, ◌*◌, ◌<◌, List, [], ◌∷◌, ◌++◌, length, map, refl, sym, ap}
+use Rattle.std.proofs.Common.{◌∙◌, subst, arith}
+use Rattle.std.specs.Prelude.{slice_index_or}
+use Rattle.sja_link.specs.declared.entry.Entry.{Entry}
+use Rattle.sja_link.specs.Accounts.{Account}
+use Rattle.sja_link.specs.declared.down.Down.{Down}
+use Rattle.sja_link.specs.Deques.{Deques}
+use Rattle.sja_wire.specs.declared.node_log.NodeLog.{NodeLog}
+use Rattle.sja_wire.specs.Lawful.{CountersAre, IsBusRun}
+use Rattle.sja_wire.specs.Wire.{journal_at}
+use Rattle.sja_plan.specs.Plan.{PlanValue}
+use Rattle.sja_regs.specs.declared.registers.Registers.{Registers}
+use Rattle.sja_regs.specs.Registers.{at_power_on}
+use Rattle.sja_script.specs.declared.step.Step.{Step}
+use Rattle.sja_driver.specs.declared.logged_driver.LoggedDriver.{LoggedDriver}
+use Rattle.sja_driver.specs.Deeds.{Deed, given_in, deeds_of}
+use Rattle.sja_driver.specs.LoggedDrivers.{log_of}
+use Rattle.sja_driver.specs.Logs.{releases_in, released_of}
+use Rattle.sja_log.specs.declared.end.End.{End}
+use Rattle.sja_log.specs.InTime.{IsInTime}
+use Rattle.sja_log.specs.Registering.{LeadTo}
+use Rattle.sja_log.specs.Log.{NodeValue, RunValue}
+use Rattle.sja_log.specs.Runs.{IsTrace}
+use Rattle.sja_log.specs.Settling.{IsSettled, AreSettled}
+use Rattle.sja_log.proofs.Trace.Stepping.{given_taken}
+use Rattle.sja_log.proofs.Trace.Windows.{settled_kept}
+use Rattle.sja_serial.specs.Nodes.{IsNode}
+use Rattle.sja_serial.specs.Serial.{SerialValue, StandsAt}
+use Rattle.sja_driver.specs.Deeds.{deeds_at}
+use Rattle.sja_plan.specs.Plan.{steps_at}
+use Rattle.sja_log.specs.Finishing.{all_down, held_after, activation_after, IsNodeEnd, AreNodeEnds}
+use Rattle.sja_serial.specs.Ending.{IsLogOf}
+use Rattle.sja_log.proofs.NodeLog.NodeEnds.{AreEnds, trace_of, settled_of, nodes_count, some_driver, node_end}
+use Rattle.sja_log.proofs.NodeLog.NodeEnds.{journal_is}
+use Rattle.sja_log.proofs.NodeLog.NodeEnds.{journals_in_log, run_of_ends}
+
+-- what lies downward on one of these links
+down_at : (links : List Deques) (k : ℕ) (d : Deques) →
+    slice_index_or (all_down links) k d.down ≡ (slice_index_or links k d).down
+down_at [] k d = refl
+down_at (x ∷ links) zero d = refl
+down_at (x ∷ links) (suc k) d = down_at links k d
+
+abbrev no_link : Deques
+no_link = record { link = record { node = 0; activation = 0 }; down = []; up = [] }
+
+-- ---- one node
+
+module _ (version : ℕ) (steps : List Step) (j : List Entry) (deeds : List Deed) (driver : LoggedDriver)
+    (port : Registers) (links : List Deques) (base : ℕ) (h : IsNode version steps j deeds driver port links base)
+    (log : NodeLog) (node : NodeValue) (end : IsNodeEnd log driver (all_down links) base node)
+    (same : node.journal ≡ j) where
+  trace_at : IsTrace steps node deeds
+  trace_at =
+      trace_of j deeds driver (all_down links) base log node end same steps
+      (record {
+        first = h.traced.first;
+        states = h.traced.traces.answered.states;
+        gives = h.traced.traces.answered.gives;
+      })
+      h.traced.traces (λ a. given_taken deeds j a (h.in_time.when a))
+
+  settled_at : AreSettled node
+  settled_at =
+      settled_of j deeds driver (all_down links) base log node end same h.traced.lawful (λ a few.
+      let link = slice_index_or links (base + a) no_link in
+      let holds = h.linked.holds in
+      let accounts : ℕ → Account = λ b. record { got = holds.got b; given = given_in (deeds_of deeds (suc b)) } in
+      let one : suc a ≡ a + 1 = omega arith in
+      let told = holds.told a few
+      ∙ ap (λ n. released_of (releases_in (log_of driver)) n ++ held_after driver a) one in
+      subst (λ (l : List Down). IsSettled j (a + 1) (activation_after driver l a))
+      (sym (down_at links (base + a) no_link))
+      (settled_kept j links base accounts no_link holds.kept a (released_of (releases_in (log_of driver)) (a + 1))
+      (held_after driver a) few (h.linked.taken a no_link few) told))
+
+-- ---- all nodes
+
+module _ (plan : PlanValue) (r : SerialValue) (deeds : List (List Deed)) (end : End) (log : RunValue)
+    (logs : List NodeLog) (h : StandsAt plan r deeds) (version : log.version ≡ plan.version) (bits : log.bits ≡ r.bits)
+    (ends : log.end ≡ end)
+    (all : AreNodeEnds logs r.drivers (all_down r.links) (length r.drivers) log.nodes)
+    (journals : map (λ (g : NodeLog). g.journal.entries) logs ≡ r.bus.journals)
+    (bus : IsBusRun r.bus.script r.bus.run (map (λ (g : NodeLog). g.journal.entries) logs))
+    (counters : (k : ℕ) (g : NodeLog) → k < length logs →
+    CountersAre (slice_index_or logs k g).journal.entries (slice_index_or logs k g).txerr
+    (slice_index_or logs k g).rxerr) where
+  are : AreEnds plan log logs r.bus.journals r.drivers (all_down r.links)
+  are = record {
+    nodes = all;
+    drivers_count = h.count.drivers;
+    journals_count = h.count.journals;
+    journals_are = journals;
+    counters = counters;
+  }
+
+  module _ (k : ℕ) (n : NodeValue) (less : k < length log.nodes) where
+    abbrev driver : LoggedDriver
+    driver = slice_index_or r.drivers k
+        (some_driver plan log logs r.bus.journals r.drivers (all_down r.links) are k n less)
+
+    node_is : IsNode plan.version (steps_at plan k) (journal_at r.bus.journals k) (deeds_at deeds k) driver
+        (slice_index_or r.ports k (at_power_on 1)) r.links (8 * k)
+    node_is =
+        let c = nodes_count plan log logs r.bus.journals r.drivers (all_down r.links) are in
+        h.nodes k (some_driver plan log logs r.bus.journals r.drivers (all_down r.links) are k n less) (at_power_on 1)
+        (omega (arith, c, less))
+
+    same : (slice_index_or log.nodes k n).journal ≡ journal_at r.bus.journals k
+    same = journal_is plan log logs r.bus.journals r.drivers (all_down r.links) are k n less
+
+    trace_there : IsTrace (steps_at plan k) (slice_index_or log.nodes k n) (deeds_at deeds k)
+    trace_there = trace_at plan.version (steps_at plan k) (journal_at r.bus.journals k) (deeds_at deeds k) driver _
+        r.links (8 * k) node_is _ (slice_index_or log.nodes k n)
+        (node_end plan log logs r.bus.journals r.drivers (all_down r.links) are k n less) same
+
+    settled_there : AreSettled (slice_index_or log.nodes k n)
+    settled_there = settled_at plan.version (steps_at plan k) (journal_at r.bus.journals k) (deeds_at deeds k) driver _
+        r.links (8 * k) node_is _ (slice_index_or log.nodes k n)
+        (node_end plan log logs r.bus.journals r.drivers (all_down r.links) are k n less) same
+
+    in_time_there : IsInTime plan.version (slice_index_or log.nodes k n).journal (deeds_at deeds k)
+    in_time_there = subst (λ (j : List Entry). IsInTime plan.version j (deeds_at deeds k)) (sym same) node_is.in_time
+
+    registers_there : (p : Registers) × LeadTo plan.version (slice_index_or log.nodes k n).journal (deeds_at deeds k) p
+    registers_there = (
+      slice_index_or r.ports k (at_power_on 1),
+      subst (λ (j : List Entry). LeadTo plan.version j
+          (deeds_at deeds k) (slice_index_or r.ports k (at_power_on 1))) (sym same) node_is.registers,
+    )
+
+  pub log_of_run : IsLogOf plan r deeds end log
+  log_of_run = record {
+    run = run_of_ends plan log logs r.bus.journals r.drivers (all_down r.links) are deeds r.bus.script r.bus.run version
+        h.script (bits ∙ h.bits) bus trace_there settled_there;
+    bits = bits;
+    ends = ends;
+    journals = journals_in_log plan log logs r.bus.journals r.drivers (all_down r.links) are;
+    in_time = in_time_there;
+    registers = registers_there;
+  }

@@ -1,0 +1,56 @@
+-- A whole run in one thread, by its turns and by its log.
+use Rattle.std.proofs.Common.{◌≡◌, ◌<◌, List, [], length, map, sym, ap, ◌∙◌, subst, arith}
+use Rattle.std.specs.Prelude.{replicate}
+use Rattle.std.proofs.lemmas.List.{length-map}
+use Rattle.sja_link.specs.declared.entry.Entry.{Entry}
+use Rattle.sja_plan.specs.Plan.{PlanValue}
+use Rattle.sja_driver.specs.Deeds.{Deed, done_of}
+use Rattle.sja_log.specs.declared.end.End.{End}
+use Rattle.sja_log.specs.Log.{NodeValue, RunValue}
+use Rattle.sja_log.specs.Runs.{IsSerialRun}
+use Rattle.sja_log.specs.Turns.{Acts, Progress, RunsTo}
+use Rattle.sja_log.proofs.NodeLog.Logs.{index_map}
+use Rattle.sja_serial.specs.Serial.{SerialValue}
+use Rattle.sja_driver.specs.Deeds.{deeds_at}
+use Rattle.sja_serial.specs.Ending.{IsLogOf, TakesTurns, progress}
+use Rattle.sja_log.proofs.NodeLog.NodeEnds.{any_of, same_by}
+
+module _ (plan : PlanValue) (r : SerialValue) (end : End) (log : RunValue) (t : TakesTurns plan r end)
+    (l : IsLogOf plan r t.deeds end log) where
+  -- as many steps are done as there are deeds
+  steps_same : map (λ (ds : List Deed). length ds) t.deeds ≡ map (λ (n : NodeValue). length n.done) log.nodes
+  steps_same =
+      let m = length-map t.deeds (λ (ds : List Deed). length ds) in
+      let n = length-map log.nodes (λ (x : NodeValue). length x.done) in
+      let c = t.stands.deeds_count in let e = l.run.count in
+      same_by 0 (map (λ (ds : List Deed). length ds) t.deeds) (map (λ (x : NodeValue). length x.done) log.nodes)
+      (omega (arith, m, n, c, e)) (λ k less.
+      let there : k < length t.deeds = omega (arith, m, less) in
+      let few : k < length log.nodes = omega (arith, there, c, e) in
+      let some = any_of log.nodes (omega (arith, few)) in
+      index_map (λ (ds : List Deed). length ds) t.deeds k [] 0 there
+      ∙ sym (length-map (deeds_at t.deeds k) done_of) ∙ ap (λ ds. length ds) (l.run.nodes k some few).trace.done
+      ∙ sym (index_map (λ (x : NodeValue). length x.done) log.nodes k some 0 few))
+
+  ends_there : progress r t.deeds ≡ record { bits = log.bits; done = map (λ (n : NodeValue). length n.done) log.nodes }
+  ends_there = λ i. let p : Progress = record { bits = sym l.bits i; done = steps_same i } in p
+
+  pub serial_of : IsSerialRun plan log
+  serial_of =
+      let first : Progress = record { bits = 0; done = replicate (length plan.nodes) 0 } in
+      let last : Progress = record { bits = log.bits; done = map (λ (n : NodeValue). length n.done) log.nodes } in
+      record {
+        deeds = t.deeds;
+        run = l.run;
+        in_time = l.in_time;
+        registers = l.registers;
+        turns = subst (λ (js : List (List Entry)). RunsTo
+            (let a : Acts = record { plan = plan; journals = js; deeds = t.deeds } in a) first plan.turns last
+            log.end) (sym l.journals)
+            (subst (λ (q : Progress). RunsTo (let a : Acts =
+            record { plan = plan; journals = r.bus.journals; deeds = t.deeds } in a) first plan.turns q log.end)
+            ends_there
+            (subst (λ (e : End). RunsTo (let a : Acts =
+            record { plan = plan; journals = r.bus.journals; deeds = t.deeds } in a) first plan.turns
+            (progress r t.deeds) e) (sym l.ends) t.turns));
+      }
