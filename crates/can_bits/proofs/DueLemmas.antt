@@ -15,7 +15,7 @@ use Rattle.can_bits.specs.Line.{StuffedPart, tail}
 use Rattle.can_bits.specs.Reading.{SaysWhetherRight}
 use Rattle.can_bits.specs.Streaming.{IsReadable, IsLineButFor, IsOver}
 use Rattle.can_bits.specs.Acknowledging.{IsAckDue}
-use Rattle.can_bits.specs.Machine.FrameParts.{IsInside, IsPast, ReadsAt}
+use Rattle.can_bits.specs.Inside.FrameParts.{IsInside, IsPast, ReadsAt}
 use Rattle.can_bits.specs.Shifts.{Broke, StandsBy, StandsFor}
 use Rattle.lemmas.proofs.Lists.{last_of, append-cancel}
 use Rattle.can_bits.proofs.Ending.{same_part, same_spelling}

@@ -19,8 +19,8 @@ use Rattle.can_bits.specs.Fields.{level_at}
 use Rattle.can_bits.specs.Line.{StuffedPart, tail}
 use Rattle.can_bits.specs.Reading.{IsPastPart}
 use Rattle.can_bits.specs.Streaming.{IsReadable}
-use Rattle.can_bits.specs.Machine.PartSoFar.{BeginsPart}
-use Rattle.can_bits.specs.Machine.FrameParts.{IsPast}
+use Rattle.can_bits.specs.Inside.PartSoFar.{BeginsPart}
+use Rattle.can_bits.specs.Inside.FrameParts.{IsPast}
 use Rattle.lemmas.proofs.Lists.{fronts, append-split, cases_list, reverse-cons}
 use Rattle.can_bits.proofs.Values.{value-append, value-lt}
 use Rattle.can_bits.proofs.Packing.Numbers.{digit-level}

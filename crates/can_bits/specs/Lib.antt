@@ -19,5 +19,5 @@ pub mod Arbitration
 -- Levels kept as one number.
 pub mod Packing
 -- What a reader of one level at a time was given, and what its private fields stand for.
-pub mod Machine
+pub mod Inside
 pub mod Shifts

@@ -6,7 +6,7 @@ use Rattle.can_bits.specs.declared.shift_fault.ShiftFault.{ShiftFault}
 use Rattle.can_bits.specs.declared.shift.Shift.{Shift}
 use Rattle.can_bits.specs.Segments.{IsNext}
 use Rattle.can_bits.specs.Streaming.{IsReadable, IsEventOf, BreaksWith}
-use Rattle.can_bits.specs.Machine.FrameParts.{ReadsAt}
+use Rattle.can_bits.specs.Inside.FrameParts.{ReadsAt}
 
 -- the event of a wrong level
 abbrev pub fault_event : ShiftFault → ShiftEvent

@@ -33,7 +33,7 @@ impl Gathered {
     ghost use Rattle.can_bits.specs.Fields.{says_count};
     ghost use Rattle.can_bits.specs.Reading.{SaysWhetherRight};
     ghost use Rattle.can_bits.specs.Packing.{Packs};
-    ghost use Rattle.can_bits.specs.Machine.Gathering.{Gathers, mark_of};
+    ghost use Rattle.can_bits.specs.Inside.Gathering.{Gathers, mark_of};
 
     /// Nothing has come.
     pub fn new() -> Gathered

@@ -52,7 +52,7 @@ impl Shift {
     ghost use Rattle.can_bits.specs.Acknowledging.{IsAckDue};
     ghost use Rattle.can_bits.specs.Line.{StuffedPart};
     ghost use Rattle.can_frame.specs.Frame.{FrameValue};
-    ghost use Rattle.can_bits.specs.Machine.FrameParts.{IsPast, is_stuff_next};
+    ghost use Rattle.can_bits.specs.Inside.FrameParts.{IsPast, is_stuff_next};
     ghost use Rattle.can_bits.specs.Shifts.{StandsFor, JudgesAt};
 
     /// A reader that has been given no level.

@@ -23,4 +23,4 @@ pub mod Contending
 -- ---- a record worked by hand
 pub mod WorkedReception
 -- ---- how the code keeps a cut: definitions of the private contracts alone
-pub mod Machine
+pub mod Inside

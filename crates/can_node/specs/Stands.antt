@@ -31,8 +31,8 @@ use Rattle.can_node.specs.Cut.{FinishedPiece, IsCut, ReceivedFrame, received, Co
 use Rattle.can_node.specs.Events.{Step, events_of}
 use Rattle.can_node.specs.Events.Step.{Within, Finishes}
 use Rattle.can_node.specs.NextBit.{now_in, open_bits, phase_in, DrivesIn, is_at_rest}
-use Rattle.can_node.specs.Machine.Standing.{context_of, HasBody}
-use Rattle.can_node.specs.Machine.Stages.{At}
+use Rattle.can_node.specs.Inside.Standing.{context_of, HasBody}
+use Rattle.can_node.specs.Inside.Stages.{At}
 
 -- by its fields the node stands at this record, cut into these finished pieces, with a piece perhaps that isn't
 -- finished at its end: they say the context of the next bit, and how far that piece has come

@@ -11,7 +11,7 @@ pub enum AfterBit {
 
 impl AfterBit {
     ghost use Rattle.std.specs.Prelude.{◌≡◌};
-    ghost use Rattle.can_node.specs.Machine.Quiet.{stage_in};
+    ghost use Rattle.can_node.specs.Inside.Quiet.{stage_in};
 
     /// The stage, where the piece goes on.
     pub fn stage(&self) -> Option<Stage>

@@ -11,8 +11,8 @@ impl Node {
     ghost use Rattle.can_node.specs.Context.{ContextValue};
     ghost use Rattle.can_node.specs.Pieces.{Place};
     ghost use Rattle.can_node.specs.Events.{lost_in};
-    ghost use Rattle.can_node.specs.Machine.Standing.{context_of, IsKept};
-    ghost use Rattle.can_node.specs.Machine.Stages.{At, IsReading};
+    ghost use Rattle.can_node.specs.Inside.Standing.{context_of, IsKept};
+    ghost use Rattle.can_node.specs.Inside.Stages.{At, IsReading};
 
     /// The place code where a transmitter loses arbitration in this bit (SJA1000 data sheet, 6.4.8).
     pub(crate) fn lost_arbitration(&self, driven: Level, seen: Level) -> Option<u8>
@@ -54,7 +54,7 @@ impl Context {
     ghost use Rattle.can_bits.specs.declared.level.Level.{Level as Bus};
     ghost use Rattle.can_node.specs.declared.role.Role.TheVariants.{Transmitter};
     ghost use Rattle.can_node.specs.Counting.{frame_bit, lost_by, lose};
-    ghost use Rattle.can_node.specs.Machine.Standing.{context_of};
+    ghost use Rattle.can_node.specs.Inside.Standing.{context_of};
 
     /// A bit of a frame, in which arbitration was lost or not: who loses goes on as receiver, and a receiver may have
     /// acknowledged.

@@ -1,6 +1,6 @@
 //! One bit of a node: what it makes of the piece under way, by the node's stage.
 ghost use Rattle.std.specs.Prelude.{◌≡◌, ◌&&◌, not};
-ghost use Rattle.can_node.specs.Machine.Turns.{after_last_eof};
+ghost use Rattle.can_node.specs.Inside.Turns.{after_last_eof};
 
 use super::after_bit::AfterBit;
 use super::bit_events::BitEvents;
@@ -26,10 +26,10 @@ impl Node {
     ghost use Rattle.can_node.specs.Pieces.{sent_at};
     ghost use Rattle.can_node.specs.Pieces.Place.{AtIdle};
     ghost use Rattle.can_node.specs.Driving.{Drives};
-    ghost use Rattle.can_node.specs.Machine.Standing.{context_of, HasBody};
+    ghost use Rattle.can_node.specs.Inside.Standing.{context_of, HasBody};
     ghost use Rattle.can_node.specs.Stands.{InReset, Samples};
-    ghost use Rattle.can_node.specs.Machine.Stages.{At, IsReading};
-    ghost use Rattle.can_node.specs.Machine.Turns.{IsTurn, TurnsFrom};
+    ghost use Rattle.can_node.specs.Inside.Stages.{At, IsReading};
+    ghost use Rattle.can_node.specs.Inside.Turns.{IsTurn, TurnsFrom};
 
     /// Sees the level of the bus in this bit, as [`sample`](Node::sample) does, by the general way alone: for a bit
     /// that isn't quiet.
@@ -155,8 +155,8 @@ impl Context {
     ghost use Rattle.can_node.specs.Pieces.{Place};
     ghost use Rattle.can_node.specs.Counting.{at_bit};
     ghost use Rattle.can_node.specs.Events.{lost_in};
-    ghost use Rattle.can_node.specs.Machine.Standing.{context_of};
-    ghost use Rattle.can_node.specs.Machine.Stages.{At};
+    ghost use Rattle.can_node.specs.Inside.Standing.{context_of};
+    ghost use Rattle.can_node.specs.Inside.Stages.{At};
 
     /// The steps of the bit itself in counters, role and request, by the node's stage; arbitration is lost in it or
     /// not.

@@ -3,8 +3,8 @@ ghost use Rattle.std.specs.Prelude.{List};
 ghost use Rattle.can_node.specs.Bits.{Bit, recessive_bit};
 ghost use Rattle.can_node.specs.Context.{ContextValue};
 ghost use Rattle.can_node.specs.Pieces.Place.{AtIntegration};
-ghost use Rattle.can_node.specs.Machine.Stages.{IsIntegrating};
-ghost use Rattle.can_node.specs.Machine.Turns.{IsTurn};
+ghost use Rattle.can_node.specs.Inside.Stages.{IsIntegrating};
+ghost use Rattle.can_node.specs.Inside.Turns.{IsTurn};
 
 use super::after_bit::AfterBit;
 use super::ending::Ending;

@@ -30,7 +30,7 @@ impl Context {
     ghost use Rattle.can_node.specs.Pieces.Place.{AtIdle};
     ghost use Rattle.can_node.specs.Effects.{with_start, with_stop, role_after_sof};
     ghost use Rattle.can_node.specs.Counting.{drop_failed, first_bit};
-    ghost use Rattle.can_node.specs.Machine.Standing.{context_of};
+    ghost use Rattle.can_node.specs.Inside.Standing.{context_of};
 
     /// Before anything happened.
     pub fn new() -> Context

@@ -4,8 +4,8 @@ ghost use Rattle.std.specs.Prelude.{◌≡◌, ◌==◌, ◌&&◌, List};
 ghost use Rattle.can_node.specs.Bits.{Bit, recessive_bit};
 ghost use Rattle.can_node.specs.Context.{ContextValue};
 ghost use Rattle.can_node.specs.Pieces.Place.{AtDelimiter};
-ghost use Rattle.can_node.specs.Machine.Stages.{IsInDelimiter};
-ghost use Rattle.can_node.specs.Machine.Turns.{IsTurn};
+ghost use Rattle.can_node.specs.Inside.Stages.{IsInDelimiter};
+ghost use Rattle.can_node.specs.Inside.Turns.{IsTurn};
 
 use super::after_bit::AfterBit;
 use super::cause::Cause;

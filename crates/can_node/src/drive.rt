@@ -13,8 +13,8 @@ impl Node {
     ghost use Rattle.can_node.specs.Pieces.{Place};
     ghost use Rattle.can_node.specs.Frames.{Acknowledges};
     ghost use Rattle.can_node.specs.Driving.{Drives};
-    ghost use Rattle.can_node.specs.Machine.Standing.{context_of, HasBody, IsKept};
-    ghost use Rattle.can_node.specs.Machine.Stages.{At, IsReading};
+    ghost use Rattle.can_node.specs.Inside.Standing.{context_of, HasBody, IsKept};
+    ghost use Rattle.can_node.specs.Inside.Stages.{At, IsReading};
 
     /// The level that the node drives in the next bit.
     pub(crate) fn next_level(&self) -> Level

@@ -11,7 +11,7 @@ use can_frame::Frame;
 impl AfterBit {
     ghost use Rattle.std.specs.Prelude.{◌≡◌};
     ghost use Rattle.can_node.specs.Events.{fault_in, received_in, sends_in};
-    ghost use Rattle.can_node.specs.Machine.Turns.{step_of};
+    ghost use Rattle.can_node.specs.Inside.Turns.{step_of};
 
     /// The frame that is valid from this bit on: another node's, or an own one that was to be received too.
     pub fn received(self) -> Option<Frame>
@@ -61,7 +61,7 @@ impl Node {
     ghost use Rattle.std.specs.Prelude.{◌≡◌};
     ghost use Rattle.can_node.specs.Context.{ContextValue, is_held};
     ghost use Rattle.can_node.specs.Events.{Step, ended_in, sends_in};
-    ghost use Rattle.can_node.specs.Machine.Standing.{context_of};
+    ghost use Rattle.can_node.specs.Inside.Standing.{context_of};
 
     /// How a request ended that was held before the bit or not.
     pub(crate) fn ended(&self, held: bool, sent: bool) -> Option<Outcome>

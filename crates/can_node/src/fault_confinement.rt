@@ -29,8 +29,8 @@ impl Context {
     ghost use Rattle.can_node.specs.Counting.{more_rec, more_tec, more_by, integration_bit, next_run, if_ack_step_owed};
     ghost use Rattle.can_node.specs.Counting.{delimiter_level, are_dominant, after_error_flag, if_acknowledged};
     ghost use Rattle.can_node.specs.Effects.{with_off, recounted, own_step, fault_step, transmitter_fault};
-    ghost use Rattle.can_node.specs.Machine.Standing.{context_of, is_nil};
-    ghost use Rattle.can_node.specs.Machine.Turns.{piece_of};
+    ghost use Rattle.can_node.specs.Inside.Standing.{context_of, is_nil};
+    ghost use Rattle.can_node.specs.Inside.Turns.{piece_of};
 
     // ---- steps
 

@@ -4,9 +4,9 @@ ghost use Rattle.can_bits.specs.declared.level.Level.TheVariants.{Dominant, Rece
 ghost use Rattle.can_node.specs.Bits.{Bit, recessive_bit, dominant_bit};
 ghost use Rattle.can_node.specs.Context.{ContextValue, flag_level};
 ghost use Rattle.can_node.specs.Pieces.Place.{AtFlag};
-ghost use Rattle.can_node.specs.Machine.Stages.{IsInDominantFlag, IsInPassiveFlag};
+ghost use Rattle.can_node.specs.Inside.Stages.{IsInDominantFlag, IsInPassiveFlag};
 ghost use Rattle.can_node.specs.Table.{flag_segment};
-ghost use Rattle.can_node.specs.Machine.Turns.{IsTurn, one_more};
+ghost use Rattle.can_node.specs.Inside.Turns.{IsTurn, one_more};
 
 use super::after_bit::AfterBit;
 use super::cause::Cause;
@@ -80,8 +80,8 @@ impl Node {
     ghost use Rattle.std.specs.Prelude.{◌≡◌, List};
     ghost use Rattle.can_bits.specs.declared.level.Level.{Level as Bus};
     ghost use Rattle.can_bits.specs.declared.shift.Shift.{Shift as Reader};
-    ghost use Rattle.can_node.specs.Machine.Standing.{context_of, IsKept};
-    ghost use Rattle.can_node.specs.Machine.Stages.{IsInFlag};
+    ghost use Rattle.can_node.specs.Inside.Standing.{context_of, IsKept};
+    ghost use Rattle.can_node.specs.Inside.Stages.{IsInFlag};
 
     /// A bit of a flag, by the level that the node drives in it.
     pub(crate) fn after_flag_bit(&self, bits: u8, last: Level, seen: Level) -> AfterBit

@@ -28,9 +28,9 @@ impl Node {
     ghost use Rattle.can_node.specs.Pieces.Piece.{InterframeSpaceWithSof};
     ghost use Rattle.can_node.specs.Counting.{at_bit};
     ghost use Rattle.can_node.specs.Effects.{closed};
-    ghost use Rattle.can_node.specs.Machine.Standing.{context_of, HasBody};
-    ghost use Rattle.can_node.specs.Machine.Stages.{At};
-    ghost use Rattle.can_node.specs.Machine.Turns.{next_of, piece_of, IsTurn, resulted, AtAfter, off_if};
+    ghost use Rattle.can_node.specs.Inside.Standing.{context_of, HasBody};
+    ghost use Rattle.can_node.specs.Inside.Stages.{At};
+    ghost use Rattle.can_node.specs.Inside.Turns.{next_of, piece_of, IsTurn, resulted, AtAfter, off_if};
 
     /// Stands in the piece under way, or at the place after it.
     pub(crate) fn go_to(&mut self, after: &AfterBit)
@@ -113,8 +113,8 @@ impl Context {
     ghost use Rattle.std.specs.Prelude.{◌≡◌, ◌<◌};
     ghost use Rattle.can_node.specs.Context.{ContextValue};
     ghost use Rattle.can_node.specs.Effects.{closed, error_flag, entering};
-    ghost use Rattle.can_node.specs.Machine.Standing.{context_of};
-    ghost use Rattle.can_node.specs.Machine.Turns.{piece_of, next_of};
+    ghost use Rattle.can_node.specs.Inside.Standing.{context_of};
+    ghost use Rattle.can_node.specs.Inside.Turns.{piece_of, next_of};
 
     /// The end of a piece: its own step, and what the next place sets.
     fn end_piece(&mut self, ending: &Ending)

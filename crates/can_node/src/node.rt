@@ -34,8 +34,8 @@ impl Node {
     ghost use Rattle.can_node.specs.Context.{ContextValue};
     ghost use Rattle.can_node.specs.Pieces.{Place};
     ghost use Rattle.can_node.specs.Effects.{is_in_progress};
-    ghost use Rattle.can_node.specs.Machine.Standing.{context_of};
-    ghost use Rattle.can_node.specs.Machine.Stages.{At};
+    ghost use Rattle.can_node.specs.Inside.Standing.{context_of};
+    ghost use Rattle.can_node.specs.Inside.Stages.{At};
     ghost use Rattle.can_node.specs.Cut.{FinishedPiece};
     ghost use Rattle.can_node.specs.Stands.{StandsAt, InReset, Enters, DrivesNext, Samples, StaysReset};
     ghost use Rattle.can_node.specs.Stands.{ShowsPhase, ShowsCounters, ShowsRest, Requests, Aborts};

@@ -14,7 +14,7 @@ impl Node {
     ghost use Rattle.std.specs.Prelude.{◌≡◌, Some, true, false};
     ghost use Rattle.can_node.specs.declared.role.Role.TheVariants.{Transmitter, Receiver};
     ghost use Rattle.can_node.specs.declared.stage.Stage.TheVariants.{InFrame as StageInFrame};
-    ghost use Rattle.can_node.specs.Machine.Quiet.{TurnsQuietly};
+    ghost use Rattle.can_node.specs.Inside.Quiet.{TurnsQuietly};
     ghost use Rattle.can_node.specs.Stands.{Samples, ShowsSame, nothing, is_receiving};
 
     /// Sees the level of the bus where the bit changes nothing that the node shows: no event, and the same error

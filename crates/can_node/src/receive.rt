@@ -3,9 +3,9 @@ ghost use Rattle.std.specs.Prelude.{◌≡◌, ◌&&◌, not, List, ◌++◌, �
 ghost use Rattle.can_bits.specs.Fields.{is_recessive};
 ghost use Rattle.can_bits.specs.declared.level.Level.{Level as Bus};
 ghost use Rattle.can_bits.specs.Shifts.{StandsFor};
-ghost use Rattle.can_node.specs.Machine.Causes.{cause_by};
+ghost use Rattle.can_node.specs.Inside.Causes.{cause_by};
 ghost use Rattle.can_node.specs.Bits.{Bit};
-ghost use Rattle.can_node.specs.Machine.Turns.{ReceivesBit};
+ghost use Rattle.can_node.specs.Inside.Turns.{ReceivesBit};
 
 use super::after_bit::AfterBit;
 use super::cause::Cause;

@@ -6,8 +6,8 @@ ghost use Rattle.can_bits.specs.Places.{is_early_stuff};
 ghost use Rattle.can_bits.specs.Shifts.{StandsFor};
 ghost use Rattle.can_bits.specs.Streaming.{IsReadable};
 ghost use Rattle.can_node.specs.Bits.{Bit};
-ghost use Rattle.can_node.specs.Machine.TransmitterCauses.{cause_of_bit, kind_of};
-ghost use Rattle.can_node.specs.Machine.Turns.{TransmitsBit};
+ghost use Rattle.can_node.specs.Inside.TransmitterCauses.{cause_of_bit, kind_of};
+ghost use Rattle.can_node.specs.Inside.Turns.{TransmitsBit};
 
 use super::after_bit::AfterBit;
 use super::cause::Cause;

@@ -18,4 +18,4 @@ pub mod Between
 pub mod World
 pub mod WorldEvents
 pub mod Budget
-pub mod Kept
+pub mod Inside

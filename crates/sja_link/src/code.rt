@@ -3,7 +3,7 @@
 ghost use Rattle.std.specs.Prelude.{◌≡◌, ◌≤◌, [], ◌∷◌, length};
 ghost use Rattle.std.specs.List.{list_all};
 ghost use Rattle.sja_link.specs.declared.entry.Entry.TheVariants.{Bit};
-ghost use Rattle.sja_link.specs.Kept.Codes.{bits_before, is_bit};
+ghost use Rattle.sja_link.specs.Inside.Codes.{bits_before, is_bit};
 
 use can_bits::Level;
 use std::mem::size_of;
@@ -45,7 +45,7 @@ pub(crate) enum Code {
 }
 
 impl Code {
-    ghost use Rattle.sja_link.specs.Kept.Codes.{decoded, is_bit, HasContents};
+    ghost use Rattle.sja_link.specs.Inside.Codes.{decoded, is_bit, HasContents};
 
     /// The code of a bit: the level driven, and the level seen.
     pub(crate) fn of_bit(driven: Level, seen: Level) -> Code

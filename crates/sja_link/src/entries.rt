@@ -27,7 +27,7 @@ impl<'a> Model for Entries<'a> {
 
     ghost Value = { List Entry };
 
-    ghost use Rattle.sja_link.specs.Kept.Codes.{decoded, AreWhole};
+    ghost use Rattle.sja_link.specs.Inside.Codes.{decoded, AreWhole};
 
     ghost view = { λ s. decoded s.codes.now s.starts.now s.credits.now s.requests.now s.messages.now };
 

@@ -5,7 +5,7 @@ ghost use Rattle.std.specs.Prelude.{length, true, false, IfOk, IfErr, OnOk, OnEr
 ghost use Rattle.sja_link.specs.declared.entry.Entry.TheVariants.{Bit, Up as Item};
 ghost use Rattle.sja_link.specs.declared.up.Up.TheVariants.{Start, Credit, Send};
 ghost use Rattle.sja_link.specs.Between.{between_bits};
-ghost use Rattle.sja_link.specs.Kept.Codes.{decoded, HasContents};
+ghost use Rattle.sja_link.specs.Inside.Codes.{decoded, HasContents};
 
 use super::between_bits::BetweenBits;
 use super::code::Code;
@@ -40,7 +40,7 @@ impl Model for Journal {
 
     ghost Value = { Written };
 
-    ghost use Rattle.sja_link.specs.Kept.Codes.{decoded, AreWhole};
+    ghost use Rattle.sja_link.specs.Inside.Codes.{decoded, AreWhole};
 
     ghost view = { λ j. record {
       entries = decoded j.codes.items j.starts.items j.credits.items j.requests.items j.messages.items;

@@ -34,7 +34,7 @@ impl Model for World {
 
     ghost Value = { WorldValue };
 
-    ghost use Rattle.sja_link.specs.Kept.Fields.{world_of, IsStored};
+    ghost use Rattle.sja_link.specs.Inside.Fields.{world_of, IsStored};
 
     ghost view = { λ w. world_of w.put.items w.got w.given.items w.taken w.may_send };
 

@@ -8,7 +8,7 @@ use Rattle.sja_regs.specs.ErrorStates.{causes_between}
 use Rattle.sja_regs.specs.Registers.{error_state_of, error_causes}
 use Rattle.sja_regs.specs.Turns.{bs_after, with_node, after_turn}
 use Rattle.sja_regs.specs.Keeping.{SaysTheSame}
-use Rattle.sja_regs.specs.Machine.TurnParts.{with_counters, with_role, BringsNoNews}
+use Rattle.sja_regs.specs.Inside.TurnParts.{with_counters, with_role, BringsNoNews}
 use Rattle.sja_regs.proofs.TurnLemmas.{nothing_else}
 
 and_true : (a : Bool) → (a && true) ≡ a

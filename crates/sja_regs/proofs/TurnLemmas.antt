@@ -8,7 +8,7 @@ use Rattle.sja_regs.specs.Interrupting.{pending_after}
 use Rattle.sja_regs.specs.Turns.{is_live, is_sent, ends, goes_off, dos_after, tbs_after, abort_after}
 use Rattle.sja_regs.specs.Turns.{code_of_fault, lost_in, fault_in, causes, after_turn}
 use Rattle.sja_regs.specs.Keeping.{OnlyEnabled}
-use Rattle.sja_regs.specs.Machine.TurnParts.{activity, with_counters, with_role, with_news, BringsNoNews}
+use Rattle.sja_regs.specs.Inside.TurnParts.{activity, with_counters, with_role, with_news, BringsNoNews}
 
 -- ---- interrupts that are pending
 

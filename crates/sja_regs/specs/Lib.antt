@@ -16,4 +16,4 @@ pub mod Turns
 pub mod Keeping
 pub mod Calls
 pub mod Histories
-pub mod Machine
+pub mod Inside

@@ -13,8 +13,8 @@ use Rattle.can_bits.specs.Reading.{Begins, IsPastPart}
 use Rattle.can_bits.specs.Segments.{IsNext, segment_at}
 use Rattle.can_bits.specs.Segments.IsNext.{bit, stuff_bit}
 use Rattle.can_bits.specs.Streaming.{IsOver, BreaksWith}
-use Rattle.can_bits.specs.Machine.PartSoFar.{EndsInRun, IsPartSoFar, BeginsPart}
-use Rattle.can_bits.specs.Machine.PartSoFar.EndsInRun.{nothing, longer, other}
+use Rattle.can_bits.specs.Inside.PartSoFar.{EndsInRun, IsPartSoFar, BeginsPart}
+use Rattle.can_bits.specs.Inside.PartSoFar.EndsInRun.{nothing, longer, other}
 use Rattle.lemmas.proofs.Lists.{reverse-push}
 use Rattle.can_bits.proofs.Runs.{run, IsShort, ends_in_run, run_ends, short_from, no_six_from}
 use Rattle.can_bits.proofs.Stuffs.{unstuffed_by, is_unstuffed, Leads, run-leads, lead-same, lead-other}

@@ -15,7 +15,7 @@ use Rattle.can_bits.specs.Reading.{IsPastPart}
 use Rattle.can_bits.specs.Segments.{IsNext, segment_after}
 use Rattle.can_bits.specs.Segments.IsNext.{after_part}
 use Rattle.can_bits.specs.Streaming.{IsReadable, IsLineButFor, BreaksWith, ShowsFrame, ShowsFrameBut}
-use Rattle.can_bits.specs.Machine.FrameParts.{IsPast}
+use Rattle.can_bits.specs.Inside.FrameParts.{IsPast}
 use Rattle.can_bits.proofs.Ranges.{at_push}
 use Rattle.can_bits.proofs.Ending.{line_at}
 

@@ -13,8 +13,8 @@ use Rattle.can_bits.specs.Fields.{rtr_place}
 use Rattle.can_bits.specs.Line.{tail}
 use Rattle.can_bits.specs.Places.{is_full, plain_count}
 use Rattle.can_bits.specs.Streaming.{IsReadable}
-use Rattle.can_bits.specs.Machine.PartSoFar.{BeginsPart}
-use Rattle.can_bits.specs.Machine.FrameParts.{IsInside, IsPast, ReadsAt}
+use Rattle.can_bits.specs.Inside.PartSoFar.{BeginsPart}
+use Rattle.can_bits.specs.Inside.FrameParts.{IsInside, IsPast, ReadsAt}
 use Rattle.can_bits.specs.Shifts.{StandsBy, StandsFor}
 use Rattle.can_bits.proofs.Runs.{run}
 use Rattle.can_bits.proofs.Stuffs.{unstuffed_by, run-leads}

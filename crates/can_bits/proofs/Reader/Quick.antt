@@ -13,7 +13,7 @@ use Rattle.can_bits.specs.declared.shift_fault.ShiftFault.{ShiftFault}
 use Rattle.can_bits.specs.Line.{StuffedPart, tail}
 use Rattle.can_bits.specs.Streaming.{IsReadable, IsRightInside, IsOver, ShowsFrame}
 use Rattle.can_bits.specs.Acknowledging.{IsAckDue}
-use Rattle.can_bits.specs.Machine.FrameParts.{ReadsAt}
+use Rattle.can_bits.specs.Inside.FrameParts.{ReadsAt}
 use Rattle.can_bits.specs.Shifts.{StandsBy, StandsFor}
 use Rattle.can_bits.proofs.Readables.{readable_front, breaks_not_readable}
 use Rattle.can_bits.proofs.Reader.Past.{past_is_past}

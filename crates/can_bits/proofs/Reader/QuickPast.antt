@@ -8,7 +8,7 @@ use Rattle.can_bits.specs.declared.line_fault.LineFault.TheVariants.{Form}
 use Rattle.can_bits.specs.declared.gathered.Gathered.{Gathered}
 use Rattle.can_bits.specs.Line.{tail}
 use Rattle.can_bits.specs.Streaming.{IsReadable, IsLineButFor, IsRightPast}
-use Rattle.can_bits.specs.Machine.FrameParts.{IsPast}
+use Rattle.can_bits.specs.Inside.FrameParts.{IsPast}
 use Rattle.can_bits.proofs.Readables.{breaks_not_readable}
 use Rattle.can_bits.proofs.Reader.Past.{past_is_past, past_readable, past_form, past_recessive, past_but_for}
 use Rattle.can_bits.proofs.DueLemmas.{past_count, over_part, sixth_part}

@@ -11,10 +11,10 @@ use Rattle.can_bits.specs.Fields.{says_count}
 use Rattle.can_bits.specs.Line.{StuffedPart, tail}
 use Rattle.can_bits.specs.Spelling.{Spells}
 use Rattle.can_bits.specs.Streaming.{IsReadable, ShowsFrame}
-use Rattle.can_bits.specs.Machine.Gathering.{Gathers}
-use Rattle.can_bits.specs.Machine.PartSoFar.{EndsInRun, IsPartSoFar, BeginsPart}
-use Rattle.can_bits.specs.Machine.FrameParts.{IsInside, IsPast}
-use Rattle.can_bits.specs.Machine.PartSoFar.EndsInRun.{longer, other}
+use Rattle.can_bits.specs.Inside.Gathering.{Gathers}
+use Rattle.can_bits.specs.Inside.PartSoFar.{EndsInRun, IsPartSoFar, BeginsPart}
+use Rattle.can_bits.specs.Inside.FrameParts.{IsInside, IsPast}
+use Rattle.can_bits.specs.Inside.PartSoFar.EndsInRun.{longer, other}
 use Rattle.lemmas.proofs.Lists.{reverse-push, fronts, append-cancel}
 use Rattle.can_bits.proofs.Runs.{run, run-same, run-other, run_one_more, IsShort}
 use Rattle.can_bits.proofs.Stuffs.{unstuffed, unstuffed-kept, unstuffed-dropped, run-leads}

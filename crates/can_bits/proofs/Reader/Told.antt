@@ -14,7 +14,7 @@ use Rattle.can_bits.specs.Line.{StuffedPart, tail}
 use Rattle.can_bits.specs.Reading.{IsPastPart, SaysWhetherRight}
 use Rattle.can_bits.specs.Segments.{IsNext}
 use Rattle.can_bits.specs.Streaming.{IsReadable, BreaksWith, ShowsFrame, IsEventOf, Tells, TellsCheck}
-use Rattle.can_bits.specs.Machine.FrameParts.{IsInside, IsPast, ReadsAt}
+use Rattle.can_bits.specs.Inside.FrameParts.{IsInside, IsPast, ReadsAt}
 use Rattle.can_bits.specs.Shifts.{Broke, StandsBy, JudgesAt, fault_event}
 use Rattle.lemmas.proofs.Lists.{fronts, append-cancel, cases_list}
 use Rattle.can_bits.proofs.Ending.{same_part, same_spelling}

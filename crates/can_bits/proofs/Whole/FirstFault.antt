@@ -14,7 +14,7 @@ use Rattle.can_bits.specs.Line.{Line, tail}
 use Rattle.can_bits.specs.Reading.{IsReceived, Begins, IsPastPart, IsFaultless, IsOpen}
 use Rattle.can_bits.specs.Reading.{HasWrongCheck, IsNotAcknowledged, IsFirstFault}
 use Rattle.can_bits.specs.Streaming.{IsOver, IsLineButFor, BreaksWith}
-use Rattle.can_bits.specs.Machine.FrameParts.{IsPast}
+use Rattle.can_bits.specs.Inside.FrameParts.{IsPast}
 use Rattle.lemmas.proofs.Lists.{cases_list}
 use Rattle.can_bits.proofs.Ending.{line_at}
 use Rattle.can_bits.proofs.Reader.Past.{past_with}

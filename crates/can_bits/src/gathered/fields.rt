@@ -16,7 +16,7 @@ impl Gathered {
     ghost use Rattle.can_bits.specs.Data.{says_id, says_bytes, data_place, data_levels};
     ghost use Rattle.can_bits.specs.Spelling.{Spells};
     ghost use Rattle.can_bits.specs.Packing.{Packs};
-    ghost use Rattle.can_bits.specs.Machine.Gathering.{Gathers};
+    ghost use Rattle.can_bits.specs.Inside.Gathering.{Gathers};
 
     /// The frame, once all levels have come.
     #[inline(never)]

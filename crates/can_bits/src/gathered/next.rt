@@ -17,7 +17,7 @@ impl Gathered {
     ghost use Rattle.can_bits.specs.Segments.{segment_at};
     ghost use Rattle.can_frame.specs.Frame.{FrameValue};
     ghost use Rattle.can_bits.specs.Packing.{IsSentBody};
-    ghost use Rattle.can_bits.specs.Machine.Gathering.{Gathers};
+    ghost use Rattle.can_bits.specs.Inside.Gathering.{Gathers};
 
     /// The segment of the next level.
     pub fn next_segment(&self) -> Segment

@@ -13,10 +13,10 @@ impl Shift {
     ghost use Rattle.can_bits.specs.declared.level.Level.{Level as Bus};
     ghost use Rattle.can_bits.specs.Streaming.{BreaksWith};
     ghost use Rattle.can_bits.specs.Segments.{IsNext};
-    ghost use Rattle.can_bits.specs.Machine.PartSoFar.{IsPartSoFar};
-    ghost use Rattle.can_bits.specs.Machine.FrameParts.{ReadsAt};
+    ghost use Rattle.can_bits.specs.Inside.PartSoFar.{IsPartSoFar};
+    ghost use Rattle.can_bits.specs.Inside.FrameParts.{ReadsAt};
     ghost use Rattle.can_bits.specs.Shifts.{StandsFor, JudgesAt};
-    ghost use Rattle.can_bits.specs.Machine.Gathering.{Gathers};
+    ghost use Rattle.can_bits.specs.Inside.Gathering.{Gathers};
     ghost use Rattle.can_bits.specs.Fields.{says_count};
 
     /// Takes a level of the stuffed part.

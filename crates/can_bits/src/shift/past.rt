@@ -11,7 +11,7 @@ impl Shift {
     ghost use Rattle.std.specs.Prelude.{◌≡◌, ◌+◌, ◌∷◌, ◌++◌, [], List, None, IfSome};
     ghost use Rattle.can_bits.specs.declared.level.Level.{Level as Bus};
     ghost use Rattle.can_bits.specs.Streaming.{BreaksWith};
-    ghost use Rattle.can_bits.specs.Machine.FrameParts.{ReadsAt, IsPast};
+    ghost use Rattle.can_bits.specs.Inside.FrameParts.{ReadsAt, IsPast};
     ghost use Rattle.can_bits.specs.Shifts.{StandsFor, JudgesAt};
 
     /// Takes a level after the stuffed part, of which n have come before.

@@ -9,7 +9,7 @@ impl Shift {
     ghost use Rattle.can_frame.specs.Frame.{FrameValue};
     ghost use Rattle.can_bits.specs.declared.level.Level.{Level as Bus};
     ghost use Rattle.can_bits.specs.Streaming.{IsReadable, IsRightPast, IsLineButFor};
-    ghost use Rattle.can_bits.specs.Machine.FrameParts.{ReadsAt};
+    ghost use Rattle.can_bits.specs.Inside.FrameParts.{ReadsAt};
     ghost use Rattle.can_bits.specs.Shifts.{StandsFor};
 
     /// Takes the next level where it is right and stands after the stuffed part, before the last one of the line.

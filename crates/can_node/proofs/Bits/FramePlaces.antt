@@ -5,8 +5,8 @@ use Rattle.can_node.specs.Bits.{Bit, seen_of}
 use Rattle.can_node.specs.Context.{ContextValue}
 use Rattle.can_node.specs.Frames.{Transmits}
 use Rattle.can_node.specs.Pieces.{Place, Piece, sent_at}
-use Rattle.can_node.specs.Machine.Stages.{IsFramePlace, frame_bits}
-use Rattle.can_node.specs.Machine.Stages.IsFramePlace.{idle_place, sof_place}
+use Rattle.can_node.specs.Inside.Stages.{IsFramePlace, frame_bits}
+use Rattle.can_node.specs.Inside.Stages.IsFramePlace.{idle_place, sof_place}
 use Rattle.can_node.specs.Table.{Row}
 use Rattle.can_node.specs.Table.Row.{own, own_begun}
 use Rattle.can_node.proofs.Bits.Seen.{seen-append}

@@ -21,7 +21,7 @@ use Rattle.can_node.specs.Pieces.Place.{AtReset, AtIntegration, AtIdle, AfterSof
 use Rattle.can_node.specs.Pieces.Place.{AtLastEofBit, AtFlag, AtDelimiter, AtInterframeSpace}
 use Rattle.can_node.specs.Record.{RecordEntry, bits_in}
 use Rattle.can_node.specs.Record.RecordEntry.{Start, Stop, OneBit, Send, Abort, BusOff}
-use Rattle.can_node.specs.Machine.Standing.{IsKept}
+use Rattle.can_node.specs.Inside.Standing.{IsKept}
 
 -- the bits among two lists of entries
 pub bits_both : (a b : List RecordEntry) → bits_in (a ++ b) ≡ bits_in a ++ bits_in b

@@ -16,10 +16,10 @@ use Rattle.can_node.specs.Pieces.{Place}
 use Rattle.can_node.specs.Pieces.Place.{AtIntegration, AtIdle, AtLastEofBit, AtFlag, AtDelimiter, AtInterframeSpace}
 use Rattle.can_node.specs.Table.Row.{last_eof_bit, last_eof_bit_overload}
 use Rattle.can_node.specs.Driving.{Drives}
-use Rattle.can_node.specs.Machine.Standing.{IsKept}
-use Rattle.can_node.specs.Machine.Stages.{At, IsIntegrating, IsInFlag, IsInDominantFlag}
-use Rattle.can_node.specs.Machine.Stages.{IsInPassiveFlag, IsInDelimiter, IsInInterframeSpace}
-use Rattle.can_node.specs.Machine.Turns.{IsTurn, after_last_eof}
+use Rattle.can_node.specs.Inside.Standing.{IsKept}
+use Rattle.can_node.specs.Inside.Stages.{At, IsIntegrating, IsInFlag, IsInDominantFlag}
+use Rattle.can_node.specs.Inside.Stages.{IsInPassiveFlag, IsInDelimiter, IsInInterframeSpace}
+use Rattle.can_node.specs.Inside.Turns.{IsTurn, after_last_eof}
 
 -- the stage is this one
 pub at_is : (s : Stage) (stage : Stage) (shift : Shift) (c now : ContextValue) (place : Place) (bits : List Bit) →

@@ -26,9 +26,9 @@ use Rattle.can_node.specs.Effects.{along}
 use Rattle.can_node.specs.Cut.{IsUnfinished, IsOpenAt, IsOnBus, Move, From, FinishedPiece, none_yet}
 use Rattle.can_node.specs.Cut.IsOpenAt.{rests, nothing, begun}
 use Rattle.can_node.specs.Cut.Move.{sent, aborted}
-use Rattle.can_node.specs.Machine.Standing.{context_of}
-use Rattle.can_node.specs.Machine.Stages.{At, ByRole, IsInFlag, IsInFrame, IsReading}
-use Rattle.can_node.specs.Machine.Stages.IsInFrame.{from_idle, from_sof}
+use Rattle.can_node.specs.Inside.Standing.{context_of}
+use Rattle.can_node.specs.Inside.Stages.{At, ByRole, IsInFlag, IsInFrame, IsReading}
+use Rattle.can_node.specs.Inside.Stages.IsInFrame.{from_idle, from_sof}
 use Rattle.can_node.specs.Stands.{StandsAt, FollowsAt}
 use Rattle.can_node.proofs.Machine.Along.{along_both, bits_both}
 use Rattle.can_node.proofs.OneCut.GoOn.{open_end, stays_end, move_on, open_on, inner_both}

@@ -17,8 +17,8 @@ use Rattle.can_node.specs.Table.{Row}
 use Rattle.can_node.specs.Cut.{IsUnfinished, IsOnBus, Move, From, FinishedPiece, Count, none_yet, counted, tagged}
 use Rattle.can_node.specs.Cut.Move.{piece, off_within, off_after}
 use Rattle.can_node.specs.Driving.{Drives}
-use Rattle.can_node.specs.Machine.Standing.{context_of}
-use Rattle.can_node.specs.Machine.Stages.{At}
+use Rattle.can_node.specs.Inside.Standing.{context_of}
+use Rattle.can_node.specs.Inside.Stages.{At}
 use Rattle.can_node.specs.Stands.{StandsAt, FollowsAt}
 use Rattle.can_node.proofs.Machine.Along.{along-bit}
 use Rattle.can_node.proofs.OneCut.GoOn.{counted_both, open_end, stays_end, move_on, open_on, no_rest_piece, slice_open}

@@ -16,8 +16,8 @@ use Rattle.can_node.specs.Effects.{along, with_start, with_stop}
 use Rattle.can_node.specs.Cut.{IsOpenAt, IsOnBus, Move, From, FinishedPiece, none_yet}
 use Rattle.can_node.specs.Cut.IsOpenAt.{nothing}
 use Rattle.can_node.specs.Cut.Move.{started, stopped}
-use Rattle.can_node.specs.Machine.Standing.{context_of, HasBody}
-use Rattle.can_node.specs.Machine.Stages.{At}
+use Rattle.can_node.specs.Inside.Standing.{context_of, HasBody}
+use Rattle.can_node.specs.Inside.Stages.{At}
 use Rattle.can_node.specs.Stands.{StandsAt, FollowsAt}
 use Rattle.can_node.proofs.OneCut.GoOn.{open_end, stays_end, move_on, rest_open}
 use Rattle.can_node.proofs.Waiting.Integrations.{integrates_from}

@@ -13,8 +13,8 @@ use Rattle.can_node.specs.Pieces.{Place}
 use Rattle.can_node.specs.Counting.{at_bit, integration_bit, next_run, frame_bit}
 use Rattle.can_node.specs.Counting.{lost_by, delimiter_level, are_dominant}
 use Rattle.can_node.specs.Events.{lost_in, lost_as}
-use Rattle.can_node.specs.Machine.Standing.{is_nil}
-use Rattle.can_node.specs.Machine.Stages.{At, IsInDelimiter, frame_bits}
+use Rattle.can_node.specs.Inside.Standing.{is_nil}
+use Rattle.can_node.specs.Inside.Stages.{At, IsInDelimiter, frame_bits}
 use Rattle.can_node.proofs.Machine.Ats.{at_is}
 use Rattle.can_node.proofs.Waiting.Delimiters.{eighth_is, first_is, first_only, not_none}
 use Rattle.can_node.proofs.Machine.FrameTurns.{frame_at, lost_at}

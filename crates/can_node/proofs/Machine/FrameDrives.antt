@@ -21,7 +21,7 @@ use Rattle.can_node.specs.Counting.{lost_by}
 use Rattle.can_node.specs.Events.{lost_in, lost_as}
 use Rattle.can_node.specs.Frames.{Acknowledges}
 use Rattle.can_node.specs.Driving.{Drives, FrameDrives, TransmitsNext}
-use Rattle.can_node.specs.Machine.Stages.{IsReading, IsTransmitting, frame_bits}
+use Rattle.can_node.specs.Inside.Stages.{IsReading, IsTransmitting, frame_bits}
 use Rattle.can_node.proofs.Machine.FrameTurns.{drives_frame, lost_at, transmitting_by, transmitting_readable}
 use Rattle.can_node.proofs.Transmission.TransmitterFronts.{transmitting_next}
 

@@ -12,8 +12,8 @@ use Rattle.can_node.specs.Context.{ContextValue, is_held, is_transmitter, owes_s
 use Rattle.can_node.specs.Effects.{closed, role_after_sof}
 use Rattle.can_node.specs.Pieces.Place.{AfterSof}
 use Rattle.can_node.specs.Pieces.Piece.{InterframeSpaceWithSof}
-use Rattle.can_node.specs.Machine.Stages.{ByRole, IsReading}
-use Rattle.can_node.specs.Machine.Stages.IsInFrame.{from_sof}
+use Rattle.can_node.specs.Inside.Stages.{ByRole, IsReading}
+use Rattle.can_node.specs.Inside.Stages.IsInFrame.{from_sof}
 use Rattle.can_node.proofs.Reception.Beginnings.{receives_after_sof}
 use Rattle.can_node.proofs.Transmission.TransmitterFronts.{transmits_after_sof}
 

@@ -19,12 +19,12 @@ use Rattle.can_node.specs.Counting.{at_bit, frame_bit, lost_by, lose, if_acknowl
 use Rattle.can_node.specs.Events.{lost_in, lost_as}
 use Rattle.can_node.specs.Frames.{Acknowledges}
 use Rattle.can_node.specs.Driving.{Drives, FrameDrives}
-use Rattle.can_node.specs.Machine.Standing.{IsKept}
-use Rattle.can_node.specs.Machine.Stages.{At, ByRole, IsFramePlace, IsInFrame, IsReading}
-use Rattle.can_node.specs.Machine.Stages.{IsReceiving, IsTransmitting, frame_bits}
-use Rattle.can_node.specs.Machine.Stages.IsFramePlace.{idle_place, sof_place}
-use Rattle.can_node.specs.Machine.Stages.IsInFrame.{from_idle, from_sof}
-use Rattle.can_node.specs.Machine.Turns.{IsMade, IsTurn, ReceivesOn, TransmitsOn, TransmitsBit, ReceivesBit}
+use Rattle.can_node.specs.Inside.Standing.{IsKept}
+use Rattle.can_node.specs.Inside.Stages.{At, ByRole, IsFramePlace, IsInFrame, IsReading}
+use Rattle.can_node.specs.Inside.Stages.{IsReceiving, IsTransmitting, frame_bits}
+use Rattle.can_node.specs.Inside.Stages.IsFramePlace.{idle_place, sof_place}
+use Rattle.can_node.specs.Inside.Stages.IsInFrame.{from_idle, from_sof}
+use Rattle.can_node.specs.Inside.Turns.{IsMade, IsTurn, ReceivesOn, TransmitsOn, TransmitsBit, ReceivesBit}
 use Rattle.can_node.proofs.Bits.FramePlaces.{frame_seen}
 use Rattle.can_node.proofs.Transmission.TransmitterFronts.{transmitting_kept, drives_sends}
 use Rattle.can_node.proofs.Transmission.WellNext.{well_readable}

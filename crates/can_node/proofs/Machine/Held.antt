@@ -27,7 +27,7 @@ use Rattle.can_node.specs.Counting.{at_bit, next_run, ends_eleven, first_bit, fr
 use Rattle.can_node.specs.Counting.{drop_failed, if_acknowledged, if_ack_step_owed, delimiter_level}
 use Rattle.can_node.specs.Counting.{if_eighth, are_dominant, after_error_flag, more_by}
 use Rattle.can_node.specs.Effects.{closed, own_step, transmitter_fault, fault_step, entering, with_off}
-use Rattle.can_node.specs.Machine.Turns.{resulted, off_if, piece_of, next_of}
+use Rattle.can_node.specs.Inside.Turns.{resulted, off_if, piece_of, next_of}
 
 -- the second context holds no request but that of the first
 abbrev pub HoldsBack : ContextValue → ContextValue → Type 0

@@ -22,10 +22,10 @@ use Rattle.can_node.specs.Counting.{first_bit, lost_by}
 use Rattle.can_node.specs.Table.{Row}
 use Rattle.can_node.specs.Table.Row.{idle}
 use Rattle.can_node.specs.Driving.{IdleDrives, TransmitsNext}
-use Rattle.can_node.specs.Machine.Stages.{ByRole, IsReading, IsReceiving}
-use Rattle.can_node.specs.Machine.Stages.IsFramePlace.{idle_place}
-use Rattle.can_node.specs.Machine.Stages.IsInFrame.{from_idle}
-use Rattle.can_node.specs.Machine.Turns.{IsMade, IsTurn, TransmitsBit}
+use Rattle.can_node.specs.Inside.Stages.{ByRole, IsReading, IsReceiving}
+use Rattle.can_node.specs.Inside.Stages.IsFramePlace.{idle_place}
+use Rattle.can_node.specs.Inside.Stages.IsInFrame.{from_idle}
+use Rattle.can_node.specs.Inside.Turns.{IsMade, IsTurn, TransmitsBit}
 use Rattle.can_node.proofs.Machine.FrameTurns.{one_request, transmitted_made}
 use Rattle.can_node.proofs.Transmission.TransmitterFronts.{transmits_from_idle, sends_start}
 use Rattle.can_node.proofs.Reception.Beginnings.{receives_from_idle}

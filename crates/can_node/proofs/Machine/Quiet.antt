@@ -29,9 +29,9 @@ use Rattle.can_node.specs.Events.Step.{Within, Finishes}
 use Rattle.can_node.specs.Driving.{Drives, IdleDrives}
 use Rattle.can_node.specs.NextBit.{now_in, open_bits}
 use Rattle.can_node.specs.Effects.{along, closed}
-use Rattle.can_node.specs.Machine.Standing.{context_of, HasBody, IsKept}
-use Rattle.can_node.specs.Machine.Stages.{At}
-use Rattle.can_node.specs.Machine.Quiet.{IsQuietTurn, TurnsQuietly}
+use Rattle.can_node.specs.Inside.Standing.{context_of, HasBody, IsKept}
+use Rattle.can_node.specs.Inside.Stages.{At}
+use Rattle.can_node.specs.Inside.Quiet.{IsQuietTurn, TurnsQuietly}
 use Rattle.can_node.specs.Stands.{StandsAt, Leads, Samples, closed_by, nothing, is_receiving}
 use Rattle.can_node.proofs.OneCut.GoOn.{stays_end}
 use Rattle.can_node.proofs.Machine.Ats.{at_is}

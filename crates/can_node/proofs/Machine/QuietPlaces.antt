@@ -21,10 +21,10 @@ use Rattle.can_node.specs.Pieces.Place.{AtReset, AtIntegration, AtFlag, AtDelimi
 use Rattle.can_node.specs.Counting.{at_bit, integration_bit, next_run, ends_eleven, if_ack_step_owed}
 use Rattle.can_node.specs.Counting.{delimiter_level, if_eighth, after_error_flag, unless_listening, more_by}
 use Rattle.can_node.specs.Events.{lost_in}
-use Rattle.can_node.specs.Machine.Standing.{is_nil}
-use Rattle.can_node.specs.Machine.Stages.{At, IsInDelimiter}
-use Rattle.can_node.specs.Machine.Quiet.{IsQuietTurn, stage_in}
-use Rattle.can_node.specs.Machine.Turns.{IsTurn}
+use Rattle.can_node.specs.Inside.Standing.{is_nil}
+use Rattle.can_node.specs.Inside.Stages.{At, IsInDelimiter}
+use Rattle.can_node.specs.Inside.Quiet.{IsQuietTurn, stage_in}
+use Rattle.can_node.specs.Inside.Turns.{IsTurn}
 use Rattle.can_node.proofs.Machine.Ats.{at_is}
 use Rattle.can_node.proofs.Machine.Counts.{count_integration, first_bit_is}
 use Rattle.can_node.proofs.Waiting.Delimiters.{eighth_is}

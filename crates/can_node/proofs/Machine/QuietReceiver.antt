@@ -24,8 +24,8 @@ use Rattle.can_node.specs.Counting.{at_bit, frame_bit, if_acknowledged, rec_ackn
 use Rattle.can_node.specs.Events.{lost_in, lost_as}
 use Rattle.can_node.specs.Frames.{Acknowledges}
 use Rattle.can_node.specs.Driving.{Drives, FrameDrives}
-use Rattle.can_node.specs.Machine.Standing.{context_of, IsKept}
-use Rattle.can_node.specs.Machine.Stages.{At, IsReading, IsReceiving, frame_bits}
+use Rattle.can_node.specs.Inside.Standing.{context_of, IsKept}
+use Rattle.can_node.specs.Inside.Stages.{At, IsReading, IsReceiving, frame_bits}
 use Rattle.can_node.proofs.Bits.FramePlaces.{frame_seen}
 use Rattle.can_node.proofs.Machine.Ats.{at_is}
 use Rattle.can_node.proofs.Machine.FrameDrives.{receiving_drives}

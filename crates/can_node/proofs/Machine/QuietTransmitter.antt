@@ -26,9 +26,9 @@ use Rattle.can_node.specs.Pieces.{Place}
 use Rattle.can_node.specs.Counting.{at_bit, frame_bit, lost_by, lose}
 use Rattle.can_node.specs.Events.{lost_in, lost_as}
 use Rattle.can_node.specs.Driving.{Drives, TransmitsNext}
-use Rattle.can_node.specs.Machine.Standing.{context_of, HasBody, IsKept}
-use Rattle.can_node.specs.Machine.Stages.{At, IsFramePlace, IsReading, IsTransmitting, frame_bits}
-use Rattle.can_node.specs.Machine.TransmitterCauses.{cause_of_bit, kind_of}
+use Rattle.can_node.specs.Inside.Standing.{context_of, HasBody, IsKept}
+use Rattle.can_node.specs.Inside.Stages.{At, IsFramePlace, IsReading, IsTransmitting, frame_bits}
+use Rattle.can_node.specs.Inside.TransmitterCauses.{cause_of_bit, kind_of}
 use Rattle.can_node.proofs.Machine.Ats.{at_is}
 use Rattle.can_node.proofs.Machine.FrameDrives.{transmitting_drives}
 use Rattle.can_node.proofs.Machine.FrameTurns.{frame_at, lost_at, transmit_turn, transmitting_by}

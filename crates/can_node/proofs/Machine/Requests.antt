@@ -20,9 +20,9 @@ use Rattle.can_node.specs.Record.{RecordEntry, bits_in}
 use Rattle.can_node.specs.Record.RecordEntry.{Send, Abort}
 use Rattle.can_node.specs.Effects.{with_send, with_abort, keep_first, is_in_progress}
 use Rattle.can_node.specs.Cut.{FinishedPiece}
-use Rattle.can_node.specs.Machine.Standing.{context_of}
-use Rattle.can_node.specs.Machine.Stages.{At, ByRole, IsInFrame, IsReading, IsTransmitting}
-use Rattle.can_node.specs.Machine.Stages.IsInFrame.{from_idle, from_sof}
+use Rattle.can_node.specs.Inside.Standing.{context_of}
+use Rattle.can_node.specs.Inside.Stages.{At, ByRole, IsInFrame, IsReading, IsTransmitting}
+use Rattle.can_node.specs.Inside.Stages.IsInFrame.{from_idle, from_sof}
 use Rattle.can_node.specs.NextBit.{now_in}
 use Rattle.can_node.specs.Stands.{FollowsAt, StandsAt, abort_of}
 use Rattle.can_node.proofs.Machine.Between.{changed, send_between, abort_between, between_stands}

@@ -28,7 +28,7 @@ use Rattle.can_node.specs.Events.{Step, received_in}
 use Rattle.can_node.specs.Events.Step.{Within, Finishes}
 use Rattle.can_node.specs.Driving.{Drives}
 use Rattle.can_node.specs.NextBit.{now_in, DrivesIn}
-use Rattle.can_node.specs.Machine.Stages.{At, IsInFrame}
+use Rattle.can_node.specs.Inside.Stages.{At, IsInFrame}
 use Rattle.can_node.specs.Stands.{StandsAt, Leads, InReset, Rests, closed_by}
 use Rattle.can_node.proofs.Machine.Ats.{at_is}
 use Rattle.can_node.proofs.OneCut.GoOn.{open_end, rest_open, no_rest_piece}

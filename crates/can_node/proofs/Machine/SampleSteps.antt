@@ -22,9 +22,9 @@ use Rattle.can_node.specs.Cut.{FinishedPiece, IsOnBus}
 use Rattle.can_node.specs.Events.{Step, lost_in, received_in, fault_in, sends_in, ended_in}
 use Rattle.can_node.specs.Driving.{Drives}
 use Rattle.can_bits.specs.declared.sent_body.SentBody.{SentBody}
-use Rattle.can_node.specs.Machine.Standing.{context_of, IsKept, HasBody}
-use Rattle.can_node.specs.Machine.Stages.{At}
-use Rattle.can_node.specs.Machine.Turns.{IsMade, IsTurn, AtAfter, step_of, resulted, off_if}
+use Rattle.can_node.specs.Inside.Standing.{context_of, IsKept, HasBody}
+use Rattle.can_node.specs.Inside.Stages.{At}
+use Rattle.can_node.specs.Inside.Turns.{IsMade, IsTurn, AtAfter, step_of, resulted, off_if}
 use Rattle.can_node.specs.NextBit.{DrivesIn}
 use Rattle.can_node.specs.Stands.{StandsAt, Leads}
 use Rattle.can_node.proofs.OneCut.GoOn.{stays_end}

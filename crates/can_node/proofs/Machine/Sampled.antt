@@ -20,9 +20,9 @@ use Rattle.can_node.specs.Effects.{along, closed, with_off}
 use Rattle.can_node.specs.Cut.{IsCut, FinishedPiece, none_yet, counted, tagged}
 use Rattle.can_node.specs.Events.{events_of}
 use Rattle.can_node.specs.Driving.{Drives}
-use Rattle.can_node.specs.Machine.Standing.{context_of, HasBody}
+use Rattle.can_node.specs.Inside.Standing.{context_of, HasBody}
 use Rattle.can_node.specs.NextBit.{now_in, open_bits}
-use Rattle.can_node.specs.Machine.Turns.{IsTurn, AtAfter, piece_of, next_of, step_of, resulted, off_if}
+use Rattle.can_node.specs.Inside.Turns.{IsTurn, AtAfter, piece_of, next_of, step_of, resulted, off_if}
 use Rattle.can_node.specs.Stands.{StandsAt, FollowsAt, Leads, closed_by, entries_of}
 use Rattle.can_node.proofs.Machine.Shown.{DrivesBy, stands_up}
 use Rattle.can_node.proofs.Machine.BitStands.{goes_stands, closes_stands, off_goes, off_closes}

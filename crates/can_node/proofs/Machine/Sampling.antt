@@ -24,7 +24,7 @@ use Rattle.can_node.specs.Effects.{along}
 use Rattle.can_node.specs.Cut.{IsUnfinished, IsOpenAt}
 use Rattle.can_node.specs.Cut.IsOpenAt.{rests, begun}
 use Rattle.can_node.specs.Driving.{Drives}
-use Rattle.can_node.specs.Machine.Stages.{At, ByRole, IsInFrame}
+use Rattle.can_node.specs.Inside.Stages.{At, ByRole, IsInFrame}
 use Rattle.can_node.proofs.Machine.Along.{bits_both}
 use Rattle.can_node.proofs.OneCut.GoOn.{inner_both, inner_open, begins_open, rest_open}
 use Rattle.can_node.proofs.Waiting.Integrations.{open_integrating}

@@ -22,9 +22,9 @@ use Rattle.can_node.specs.Pieces.Place.{AtIdle, AtInterframeSpace}
 use Rattle.can_node.specs.Record.{RecordEntry, bits_in}
 use Rattle.can_node.specs.Cut.{FinishedPiece}
 use Rattle.can_node.specs.Driving.{Drives, phase_at}
-use Rattle.can_node.specs.Machine.Standing.{context_of, HasBody, IsKept}
-use Rattle.can_node.specs.Machine.Stages.{At, IsInFrame, IsInInterframeSpace}
-use Rattle.can_node.specs.Machine.Stages.IsInFrame.{from_idle, from_sof}
+use Rattle.can_node.specs.Inside.Standing.{context_of, HasBody, IsKept}
+use Rattle.can_node.specs.Inside.Stages.{At, IsInFrame, IsInInterframeSpace}
+use Rattle.can_node.specs.Inside.Stages.IsInFrame.{from_idle, from_sof}
 use Rattle.can_node.specs.NextBit.{now_in, rests_in}
 use Rattle.can_node.specs.Stands.{FollowsAt, StandsAt, phase_of_stage}
 use Rattle.can_node.proofs.Machine.Along.{is_kept}

@@ -28,7 +28,7 @@ use Rattle.can_node.specs.Counting.{lose, drop_failed, if_acknowledged, if_ack_s
 use Rattle.can_node.specs.Counting.{delimiter_level, if_eighth, are_dominant, after_error_flag, more_by}
 use Rattle.can_node.specs.Events.{Step, stepped, received_in, fault_in, ended_in, lost_in, events_of}
 use Rattle.can_node.specs.Driving.{Drives, FrameDrives, IdleDrives, TransmitsNext}
-use Rattle.can_node.specs.Machine.Turns.{step_of, resulted}
+use Rattle.can_node.specs.Inside.Turns.{step_of, resulted}
 use Rattle.can_node.proofs.Transmission.SentLines.{sent_part_once}
 use Rattle.can_node.proofs.Reception.Acknowledging.{acknowledges_once}
 

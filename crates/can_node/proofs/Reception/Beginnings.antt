@@ -17,7 +17,7 @@ use Rattle.can_node.specs.Pieces.Place.{AtIdle, AfterSof}
 use Rattle.can_node.specs.Frames.{IsWithin, Receives}
 use Rattle.can_node.specs.Table.{Row}
 use Rattle.can_node.specs.Table.Row.{other, other_begun}
-use Rattle.can_node.specs.Machine.Stages.{IsReceiving, frame_bits}
+use Rattle.can_node.specs.Inside.Stages.{IsReceiving, frame_bits}
 use Rattle.can_node.proofs.Bits.Seen.{acknowledges_none}
 use Rattle.can_node.proofs.Reception.Completing.{part_within}
 use Rattle.can_node.proofs.Reception.Breaking.{right_nothing}

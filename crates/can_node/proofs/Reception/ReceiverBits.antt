@@ -21,7 +21,7 @@ use Rattle.can_node.specs.declared.cause.Cause.{Cause}
 use Rattle.can_node.specs.declared.cause.Cause.TheVariants.{Bit as BitError}
 use Rattle.can_node.specs.declared.fault_site.FaultSite.TheVariants.{InReception}
 use Rattle.can_node.specs.Bits.{Bit, dominant_bit, seen_of}
-use Rattle.can_node.specs.Machine.Causes.{cause_by}
+use Rattle.can_node.specs.Inside.Causes.{cause_by}
 use Rattle.can_node.specs.Context.{ContextValue}
 use Rattle.can_node.specs.Pieces.{Place, Piece}
 use Rattle.can_node.specs.Pieces.Place.{AtReset, AtIntegration, AtIdle, AfterSof}
@@ -31,7 +31,7 @@ use Rattle.can_node.specs.Frames.{Acknowledges, AllAcknowledge, IsWithin, Breaks
 use Rattle.can_node.specs.Frames.Breaks.{own_ack}
 use Rattle.can_node.specs.Frames.Receives.{broken}
 use Rattle.can_node.specs.Table.{Row}
-use Rattle.can_node.specs.Machine.Stages.{IsReceiving, AllRight, frame_bits}
+use Rattle.can_node.specs.Inside.Stages.{IsReceiving, AllRight, frame_bits}
 use Rattle.can_node.proofs.Bits.Seen.{seen-append, seen_on, acknowledges_push}
 use Rattle.can_node.proofs.Reception.Breaking.{right_next, breaks_off_now, stuff_breaks, form_breaks, check_breaks}
 use Rattle.can_node.proofs.Reception.Completing.{within_here, receives_now}

@@ -28,7 +28,7 @@ use Rattle.can_node.specs.Table.Row.{integration, idle, other, own, other_begun,
 use Rattle.can_node.specs.Table.Row.{last_eof_bit_overload, flag, flag_fault, flag_passive, delimiter}
 use Rattle.can_node.specs.Table.Row.{delimiter_overload, delimiter_fault, interframe_space, interframe_space_sof}
 use Rattle.can_node.specs.Table.Row.{suspend_transmission_sof, intermission_overload, intermission_overload_second}
-use Rattle.can_node.specs.Machine.Stages.{IsReceiving, frame_bits}
+use Rattle.can_node.specs.Inside.Stages.{IsReceiving, frame_bits}
 use Rattle.can_node.proofs.Reception.StuffFaults.{stuff_fault}
 
 -- one bit that is seen recessive isn't seen dominant

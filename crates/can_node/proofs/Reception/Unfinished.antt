@@ -22,7 +22,7 @@ use Rattle.can_node.specs.Frames.{Acknowledges}
 use Rattle.can_node.specs.Frames.Breaks.{form}
 use Rattle.can_node.specs.Table.{Row}
 use Rattle.can_node.specs.Cut.{IsUnfinished}
-use Rattle.can_node.specs.Machine.Stages.{IsReceiving, frame_bits}
+use Rattle.can_node.specs.Inside.Stages.{IsReceiving, frame_bits}
 use Rattle.can_node.proofs.Reception.Acknowledging.{quiet}
 use Rattle.can_node.proofs.Bits.Nexts.{past_here}
 use Rattle.can_node.proofs.Reception.ReceiverBits.{fault_row, frame_push, receiving_next, receiving_push}

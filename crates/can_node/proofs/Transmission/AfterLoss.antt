@@ -13,7 +13,7 @@ use Rattle.can_node.specs.Context.{ContextValue}
 use Rattle.can_node.specs.Frames.{Receives, IsWithin}
 use Rattle.can_node.specs.Frames.Transmits.{lost}
 use Rattle.can_node.specs.Pieces.{Place}
-use Rattle.can_node.specs.Machine.Stages.{IsReceiving, IsTransmitting, IsFramePlace, frame_bits}
+use Rattle.can_node.specs.Inside.Stages.{IsReceiving, IsTransmitting, IsFramePlace, frame_bits}
 use Rattle.can_node.proofs.Bits.Seen.{acknowledges_none}
 use Rattle.can_node.proofs.Reception.Breaking.{right_nothing}
 use Rattle.can_node.proofs.Bits.FramePlaces.{row_own, frame_more, frame_seen}

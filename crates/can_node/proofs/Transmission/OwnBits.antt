@@ -13,9 +13,9 @@ use Rattle.can_node.specs.Context.{ContextValue}
 use Rattle.can_node.specs.Counting.{lost_by}
 use Rattle.can_node.specs.Driving.{TransmitsNext}
 use Rattle.can_node.specs.Pieces.{Place}
-use Rattle.can_node.specs.Machine.Stages.{IsTransmitting, IsFramePlace, frame_bits}
+use Rattle.can_node.specs.Inside.Stages.{IsTransmitting, IsFramePlace, frame_bits}
 use Rattle.can_node.specs.declared.own_bit.OwnBit.{OwnBit}
-use Rattle.can_node.specs.Machine.TransmitterCauses.{cause_of_bit, kind_of}
+use Rattle.can_node.specs.Inside.TransmitterCauses.{cause_of_bit, kind_of}
 use Rattle.can_node.proofs.Transmission.SentLines.{sent_part_once}
 use Rattle.can_node.proofs.Transmission.WellNext.{due_at_slot, slot_at_due}
 

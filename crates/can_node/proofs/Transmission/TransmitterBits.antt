@@ -19,10 +19,10 @@ use Rattle.can_node.specs.Frames.Transmits.{failed}
 use Rattle.can_node.specs.Pieces.{Place}
 use Rattle.can_node.specs.Pieces.Place.{AtFlag, AtInterframeSpace}
 use Rattle.can_node.specs.Pieces.Piece.{Transmission, Fault}
-use Rattle.can_node.specs.Machine.Stages.{IsTransmitting, frame_bits}
+use Rattle.can_node.specs.Inside.Stages.{IsTransmitting, frame_bits}
 use Rattle.can_node.specs.Table.{Row}
-use Rattle.can_node.specs.Machine.TransmitterCauses.{cause_of_bit, kind_of}
-use Rattle.can_node.specs.Machine.Turns.{GoesOnAs}
+use Rattle.can_node.specs.Inside.TransmitterCauses.{cause_of_bit, kind_of}
+use Rattle.can_node.specs.Inside.Turns.{GoesOnAs}
 use Rattle.can_node.proofs.Transmission.AfterLoss.{receives_on, lost_not_over}
 use Rattle.can_node.proofs.Bits.FramePlaces.{row_own, frame_more, frame_seen}
 use Rattle.can_node.proofs.Transmission.TransmitterFronts.{sends_all}

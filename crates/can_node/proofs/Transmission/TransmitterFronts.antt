@@ -21,7 +21,7 @@ use Rattle.can_node.specs.Frames.Transmits.{sending}
 use Rattle.can_node.specs.Pieces.{Place, sent_at}
 use Rattle.can_node.specs.Pieces.Place.{AtIdle, AfterSof, AtInterframeSpace}
 use Rattle.can_node.specs.Pieces.Piece.{Transmission}
-use Rattle.can_node.specs.Machine.Stages.{IsTransmitting, IsFramePlace, frame_bits}
+use Rattle.can_node.specs.Inside.Stages.{IsTransmitting, IsFramePlace, frame_bits}
 use Rattle.can_node.specs.Table.{Row}
 use Rattle.can_node.proofs.Bits.FramePlaces.{row_own, frame_more}
 use Rattle.can_node.proofs.Transmission.SentLines.{sent_part_of}

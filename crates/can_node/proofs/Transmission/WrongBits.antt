@@ -11,7 +11,7 @@ use Rattle.can_node.specs.Bits.{Bit, dominant_bit, recessive_bit, seen_of}
 use Rattle.can_node.specs.Counting.{lost_by}
 use Rattle.can_node.specs.Frames.{AckFits, Fails}
 use Rattle.can_node.specs.Frames.Fails.{no_ack, stuff_bit, unseen, overdriven}
-use Rattle.can_node.specs.Machine.TransmitterCauses.{cause_of_bit, kind_of}
+use Rattle.can_node.specs.Inside.TransmitterCauses.{cause_of_bit, kind_of}
 
 -- an option that isn't some is none
 none_of : (o : Option ℕ) → false ≡ is_some o → o ≡ None

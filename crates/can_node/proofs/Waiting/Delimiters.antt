@@ -17,8 +17,8 @@ use Rattle.can_node.specs.Table.{Row}
 use Rattle.can_node.specs.Table.Row.{delimiter, delimiter_overload, delimiter_fault}
 use Rattle.can_node.specs.Counting.{are_dominant}
 use Rattle.can_node.specs.Cut.{IsUnfinished}
-use Rattle.can_node.specs.Machine.Stages.{IsInDelimiter, IsCycle}
-use Rattle.can_node.specs.Machine.Stages.IsCycle.{nothing, some}
+use Rattle.can_node.specs.Inside.Stages.{IsInDelimiter, IsCycle}
+use Rattle.can_node.specs.Inside.Stages.IsCycle.{nothing, some}
 use Rattle.can_node.proofs.Bits.DrivenAlike.{receives_on, receives_length, seen_received}
 
 -- no bit came yet

@@ -20,8 +20,8 @@ use Rattle.can_node.specs.Pieces.Piece.{Fault, Flag}
 use Rattle.can_node.specs.Table.{Row, flag_segment}
 use Rattle.can_node.specs.Table.Row.{flag, flag_fault}
 use Rattle.can_node.specs.Cut.{IsUnfinished}
-use Rattle.can_node.specs.Machine.Stages.{IsInDominantFlag, IsInFlag}
-use Rattle.can_node.specs.Machine.Turns.{IsTurn, one_more}
+use Rattle.can_node.specs.Inside.Stages.{IsInDominantFlag, IsInFlag}
+use Rattle.can_node.specs.Inside.Turns.{IsTurn, one_more}
 use Rattle.can_node.proofs.Bits.DrivenAlike.{forces_on}
 
 -- six dominant levels are a flag

@@ -7,7 +7,7 @@ use Rattle.can_node.specs.Bits.{Bit}
 use Rattle.can_node.specs.Context.{ContextValue, flag_level}
 use Rattle.can_node.specs.Pieces.Place.{AtFlag}
 use Rattle.can_node.specs.Cut.{IsUnfinished}
-use Rattle.can_node.specs.Machine.Stages.{IsInFlag}
+use Rattle.can_node.specs.Inside.Stages.{IsInFlag}
 use Rattle.can_node.proofs.Waiting.Firsts.{first_by_length}
 use Rattle.can_node.proofs.Waiting.DominantFlags.{open_dominant_flag}
 use Rattle.can_node.proofs.Waiting.PassiveFlags.{six_long, open_passive_flag}

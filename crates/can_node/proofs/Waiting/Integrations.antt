@@ -15,7 +15,7 @@ use Rattle.can_node.specs.Table.{Row, EndsInEleven, Elevens}
 use Rattle.can_node.specs.Table.Elevens.{none_left, one_more}
 use Rattle.can_node.specs.Table.Row.{integration}
 use Rattle.can_node.specs.Cut.{IsUnfinished}
-use Rattle.can_node.specs.Machine.Stages.{IsIntegrating}
+use Rattle.can_node.specs.Inside.Stages.{IsIntegrating}
 use Rattle.can_node.proofs.Bits.DrivenAlike.{receives_on, seen_both, dominant-other}
 use Rattle.can_node.proofs.Waiting.Firsts.{no_front_yet, one_on, last_on, first_run, ends_as}
 use Rattle.can_node.proofs.OneCut.Slices.{first_eleven}

@@ -13,7 +13,7 @@ use Rattle.can_node.specs.Table.{Row}
 use Rattle.can_node.specs.Table.Row.{interframe_space, interframe_space_sof, suspend_transmission_sof}
 use Rattle.can_node.specs.Table.Row.{intermission_overload, intermission_overload_second}
 use Rattle.can_node.specs.Cut.{IsUnfinished}
-use Rattle.can_node.specs.Machine.Stages.{IsInInterframeSpace}
+use Rattle.can_node.specs.Inside.Stages.{IsInInterframeSpace}
 use Rattle.can_node.proofs.Bits.DrivenAlike.{receives_on, receives_length}
 use Rattle.can_node.proofs.OneCut.InterframeSpaces.{interframe_long, interframe_owed, interframe_short}
 

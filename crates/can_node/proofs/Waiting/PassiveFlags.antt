@@ -17,8 +17,8 @@ use Rattle.can_node.specs.Pieces.Piece.{Flag}
 use Rattle.can_node.specs.Table.{Row}
 use Rattle.can_node.specs.Table.Row.{flag_passive}
 use Rattle.can_node.specs.Cut.{IsUnfinished}
-use Rattle.can_node.specs.Machine.Stages.{IsInPassiveFlag, IsInFlag}
-use Rattle.can_node.specs.Machine.Turns.{IsTurn, one_more}
+use Rattle.can_node.specs.Inside.Stages.{IsInPassiveFlag, IsInFlag}
+use Rattle.can_node.specs.Inside.Turns.{IsTurn, one_more}
 use Rattle.can_node.proofs.Bits.DrivenAlike.{receives_on}
 use Rattle.can_node.proofs.Waiting.Firsts.{no_front_yet, one_on, last_on, first_run}
 use Rattle.can_node.proofs.Waiting.Firsts.{same_end, ends_as, before_end, end_as, push_run}

@@ -21,8 +21,8 @@ use Rattle.can_node.specs.Events.{lost_in}
 use Rattle.can_node.specs.Effects.{is_in_progress}
 use Rattle.can_node.specs.Driving.{Drives}
 use Rattle.can_node.specs.NextBit.{now_in, open_bits, rests_in}
-use Rattle.can_node.specs.Machine.Standing.{context_of}
-use Rattle.can_node.specs.Machine.Stages.{At}
+use Rattle.can_node.specs.Inside.Standing.{context_of}
+use Rattle.can_node.specs.Inside.Stages.{At}
 use Rattle.can_node.specs.Stands.{DrivesNext, Samples, ShowsRest, ShowsSame, abort_of, nothing, is_receiving}
 use Rattle.can_node.specs.Stands.{phase_of_stage}
 use Rattle.can_node.proofs.Machine.Ats.{at_is}

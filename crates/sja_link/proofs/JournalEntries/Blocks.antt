@@ -3,7 +3,7 @@ use Rattle.std.proofs.Common.{◌≡◌, ◌≤◌, ℕ, ◌+◌, zero, suc, tru
 use Rattle.std.proofs.lemmas.Bool.{and_parts}
 use Rattle.std.specs.List.{list_all}
 use Rattle.sja_link.specs.declared.code.Code.{Code}
-use Rattle.sja_link.specs.Kept.Codes.{is_bit, bits_before}
+use Rattle.sja_link.specs.Inside.Codes.{is_bit, bits_before}
 
 -- where the first codes are bits, the bits go on behind them
 pub past_block : (n : ℕ) (codes : List Code) → n ≤ length codes → list_all is_bit (take n codes) ≡ true →

@@ -12,7 +12,7 @@ use Rattle.sja_link.specs.declared.code.Code.TheVariants.{DominantAsDriven, Domi
 use Rattle.sja_link.specs.declared.code.Code.TheVariants.{RecessiveSeenDominant, RecessiveAsDriven, Start, Credit, Send}
 use Rattle.sja_link.specs.declared.code.Code.TheVariants.{Stop, Abort, Stored, Overrun, Off}
 use Rattle.lemmas.specs.Gathering.{total}
-use Rattle.sja_link.specs.Kept.Codes.{decoded, has_start, has_credit, has_request, has_message, AreWhole, HasContents}
+use Rattle.sja_link.specs.Inside.Codes.{decoded, has_start, has_credit, has_request, has_message, AreWhole, HasContents}
 use Rattle.lemmas.proofs.Gathered.{total_push}
 
 -- ---- what the codes after the first one have

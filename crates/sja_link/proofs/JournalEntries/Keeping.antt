@@ -12,7 +12,7 @@ use Rattle.sja_link.specs.Lists.{messages}
 use Rattle.sja_link.specs.Free.{credit_of}
 use Rattle.sja_link.specs.World.{WorldValue, bytes_of, credits_of, free, is_off, is_stop}
 use Rattle.sja_link.specs.WorldEvents.{Allowed, MayRelease, first_credit, done, Steps}
-use Rattle.sja_link.specs.Kept.Fields.{world_of, IsWorld, IsStored}
+use Rattle.sja_link.specs.Inside.Fields.{world_of, IsWorld, IsStored}
 use Rattle.sja_link.specs.declared.up.Up.TheVariants.{Credit}
 use Rattle.sja_link.proofs.JournalEntries.ListCounts.{credits_both, messages_both}
 use Rattle.sja_link.proofs.WorldSteps.WorldBudget.{budget}

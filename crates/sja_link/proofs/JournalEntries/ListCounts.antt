@@ -8,7 +8,7 @@ use Rattle.lemmas.specs.Gathering.{total}
 use Rattle.sja_link.specs.Free.{credit_of}
 use Rattle.sja_link.specs.World.{bytes_of, credits_of, is_off, is_start, is_send, is_stop}
 use Rattle.sja_link.specs.Lists.{messages}
-use Rattle.sja_link.specs.Kept.Fields.{AreBig, lengths}
+use Rattle.sja_link.specs.Inside.Fields.{AreBig, lengths}
 
 pub messages_both : (xs ys : List Down) → messages (xs ++ ys) ≡ messages xs ++ messages ys
 messages_both [] ys = refl

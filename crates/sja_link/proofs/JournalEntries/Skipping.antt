@@ -12,7 +12,7 @@ use Rattle.sja_link.specs.declared.code.Code.TheVariants.{DominantAsDriven, Domi
 use Rattle.sja_link.specs.declared.code.Code.TheVariants.{RecessiveSeenDominant, RecessiveAsDriven, Start, Credit, Send}
 use Rattle.sja_link.specs.declared.code.Code.TheVariants.{Stop, Abort, Stored, Overrun, Off}
 use Rattle.sja_link.specs.Between.{between_bits, past_bits}
-use Rattle.sja_link.specs.Kept.Codes.{decoded, bits_before, AreWhole}
+use Rattle.sja_link.specs.Inside.Codes.{decoded, bits_before, AreWhole}
 use Rattle.sja_link.proofs.JournalEntries.Decoding.{plain, plain_rest}
 
 -- ---- the codes after the first bits

@@ -10,7 +10,7 @@ use Rattle.sja_link.specs.Free.{credit_of}
 use Rattle.sja_link.specs.World.{WorldValue, bytes_of, credits_of, is_off, is_start, is_stop, unreleased, held, on_way}
 use Rattle.sja_link.specs.Lists.{messages}
 use Rattle.sja_link.specs.Budget.{IsBudget}
-use Rattle.sja_link.specs.Kept.Fields.{AreBig, lengths, sends_left, IsWorld}
+use Rattle.sja_link.specs.Inside.Fields.{AreBig, lengths, sends_left, IsWorld}
 use Rattle.lemmas.proofs.Gathered.{total_append}
 use Rattle.sja_link.proofs.JournalEntries.ListCounts.{messages_both, credits_both, big_after, big_before, big_sum}
 use Rattle.sja_link.proofs.JournalEntries.ListCounts.{lengths_both, bytes_sum, credit_sum, down_count, up_count}

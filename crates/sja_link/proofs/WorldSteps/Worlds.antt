@@ -15,7 +15,7 @@ use Rattle.sja_link.specs.World.{WorldValue, new_world, bytes_of, credits_of}
 use Rattle.sja_link.specs.World.{is_off, is_start, is_send, is_stop, unreleased}
 use Rattle.sja_link.specs.Lists.{messages}
 use Rattle.sja_link.specs.WorldEvents.{Allowed, first_credit, done, Reached}
-use Rattle.sja_link.specs.Kept.Fields.{AreBig, lengths, sends_left, IsWorld}
+use Rattle.sja_link.specs.Inside.Fields.{AreBig, lengths, sends_left, IsWorld}
 use Rattle.sja_link.specs.WorldEvents.Reached.{begun, next}
 use Rattle.lemmas.proofs.Gathered.{total_push}
 use Rattle.sja_link.proofs.JournalEntries.ListCounts.{messages_both, credits_both, big_push, lengths_both}

@@ -4,7 +4,7 @@ use Rattle.can_bits.specs.declared.shift_fault.ShiftFault.{ShiftFault}
 use Rattle.can_bits.specs.Streaming.{ShowsFrame}
 use Rattle.can_bits.specs.Shifts.{JudgesAt}
 use Rattle.can_node.specs.Bits.{Bit, seen_of}
-use Rattle.can_node.specs.Machine.Stages.{frame_bits}
+use Rattle.can_node.specs.Inside.Stages.{frame_bits}
 use Rattle.can_node.proofs.Reception.Completing.{lost_if}
 use Rattle.can_node.proofs.Reception.ReceiverBits.{kept_if, readable_if, receiving_readable}
 use Rattle.can_node.proofs.Reception.ReceiverBits.{lost_row, wrong_row, received_row, goes_on}

@@ -1,6 +1,6 @@
 use Rattle.std.proofs.Common.{◌≡◌, ◌&&◌, drop}
 use Rattle.std.specs.List.{list_all}
-use Rattle.sja_link.specs.Kept.Codes.{is_bit}
+use Rattle.sja_link.specs.Inside.Codes.{is_bit}
 use Rattle.sja_link.proofs.code.are_bits.Given as goal
 
 -- whether the codes so far are bits

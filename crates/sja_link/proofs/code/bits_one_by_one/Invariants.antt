@@ -1,5 +1,5 @@
 use Rattle.std.proofs.Common.{◌≡◌, ◌+◌, drop}
-use Rattle.sja_link.specs.Kept.Codes.{bits_before}
+use Rattle.sja_link.specs.Inside.Codes.{bits_before}
 use Rattle.sja_link.proofs.code.bits_one_by_one.Given as goal
 
 -- the codes so far are bits

@@ -1,6 +1,6 @@
 use Rattle.std.proofs.Common.{◌≡◌, ◌+◌, ◌-◌, ◌≤◌, length, drop, sym, ap, ◌∙◌, arith}
 use Rattle.std.proofs.lemmas.List.{length-drop, drop-drop}
-use Rattle.sja_link.specs.Kept.Codes.{bits_before}
+use Rattle.sja_link.specs.Inside.Codes.{bits_before}
 use Rattle.sja_link.proofs.JournalEntries.Blocks.{past_block}
 use Rattle.sja_link.proofs.code.leading_bits.Goals as goal
 

@@ -1,5 +1,5 @@
 use Rattle.std.proofs.Common.{◌≡◌, ◌+◌, ◌-◌, ◌≤◌, drop, length}
-use Rattle.sja_link.specs.Kept.Codes.{bits_before}
+use Rattle.sja_link.specs.Inside.Codes.{bits_before}
 use Rattle.sja_link.proofs.code.leading_bits.Given as goal
 
 -- the codes so far are bits

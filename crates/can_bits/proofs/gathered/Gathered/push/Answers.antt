@@ -4,7 +4,7 @@ use Rattle.can_bits.specs.declared.level.Level.{Level}
 use Rattle.can_bits.specs.declared.gathered.Gathered.{Gathered}
 use Rattle.can_bits.specs.Digits.{digit}
 use Rattle.can_bits.specs.Packing.{Packs}
-use Rattle.can_bits.specs.Machine.Gathering.{Gathers, mark_of}
+use Rattle.can_bits.specs.Inside.Gathering.{Gathers, mark_of}
 use Rattle.can_bits.proofs.Packing.Numbers.{packs_push, packs_small}
 use Rattle.can_bits.proofs.Packing.Marks.{mark_stays, mark_least}
 use Rattle.can_bits.proofs.gathered.Gathered.push.Goals as goal

@@ -5,7 +5,7 @@ use Rattle.can_bits.specs.declared.frame_part.FramePart.{FramePart}
 use Rattle.can_bits.specs.declared.shift.Shift.{Shift}
 use Rattle.can_bits.specs.declared.shift_fault.ShiftFault.{ShiftFault}
 use Rattle.can_bits.specs.Segments.{IsNext}
-use Rattle.can_bits.specs.Machine.FrameParts.{ReadsAt}
+use Rattle.can_bits.specs.Inside.FrameParts.{ReadsAt}
 use Rattle.can_bits.specs.Shifts.{StandsFor, JudgesAt}
 use Rattle.can_bits.proofs.Reader.Past.{past_next, past_readable}
 use Rattle.can_bits.proofs.Reader.Told.{wrong_event, broke_here}

@@ -1,6 +1,6 @@
 use Rattle.std.proofs.Common.{[], refl}
 use Rattle.can_bits.specs.declared.level.Level.TheVariants.{Recessive}
-use Rattle.can_bits.specs.Machine.PartSoFar.EndsInRun.{nothing}
+use Rattle.can_bits.specs.Inside.PartSoFar.EndsInRun.{nothing}
 use Rattle.can_bits.proofs.Whole.Steps.{Holds-nothing, IsBefore-nothing}
 use Rattle.can_bits.proofs.Reader.Inside.{so_far_by}
 use Rattle.can_bits.proofs.shift.Shift.new.Goals as goal

@@ -1,4 +1,4 @@
-use Rattle.can_bits.specs.Machine.FrameParts.{is_stuff_next}
+use Rattle.can_bits.specs.Inside.FrameParts.{is_stuff_next}
 use Rattle.can_bits.proofs.shift.Shift.next_segment.Goals as goal
 
 pub returns : goal.returns

@@ -7,9 +7,9 @@ use Rattle.can_bits.specs.declared.level.Level.TheVariants.{Dominant}
 use Rattle.can_bits.specs.declared.gathered.Gathered.{Gathered}
 use Rattle.can_bits.specs.declared.frame_part.FramePart.{FramePart}
 use Rattle.can_bits.specs.declared.shift.Shift.{Shift}
-use Rattle.can_bits.specs.Machine.Gathering.{Gathers}
-use Rattle.can_bits.specs.Machine.PartSoFar.{IsPartSoFar}
-use Rattle.can_bits.specs.Machine.FrameParts.{IsInside, ReadsAt}
+use Rattle.can_bits.specs.Inside.Gathering.{Gathers}
+use Rattle.can_bits.specs.Inside.PartSoFar.{IsPartSoFar}
+use Rattle.can_bits.specs.Inside.FrameParts.{IsInside, ReadsAt}
 use Rattle.can_bits.proofs.Whole.Steps.{room_left}
 use Rattle.can_bits.proofs.Reader.Inside.{holds_by, before_by}
 use Rattle.can_bits.proofs.Reader.Take.{count_small, so_far_next, part_here}

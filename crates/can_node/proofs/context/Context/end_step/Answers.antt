@@ -1,7 +1,7 @@
 use Rattle.std.proofs.Common.{sym, ap, ◌∙◌}
 use Rattle.can_node.specs.Effects.{own_step}
-use Rattle.can_node.specs.Machine.Standing.{context_of}
-use Rattle.can_node.specs.Machine.Turns.{piece_of}
+use Rattle.can_node.specs.Inside.Standing.{context_of}
+use Rattle.can_node.specs.Inside.Turns.{piece_of}
 use Rattle.can_node.proofs.context.Context.end_step.Goals as goal
 
 -- src/fault_confinement.rt

@@ -1,7 +1,7 @@
 use Rattle.std.proofs.Common.{ap, nat_le, subst, sym}
 use Rattle.can_node.specs.declared.node.Node.{Node}
 use Rattle.can_node.specs.declared.bit_events.BitEvents.{BitEvents}
-use Rattle.can_node.specs.Machine.Standing.{context_of}
+use Rattle.can_node.specs.Inside.Standing.{context_of}
 use Rattle.can_node.specs.Stands.{Samples}
 use Rattle.can_node.proofs.Machine.SampleSteps.{Counts, sampled}
 use Rattle.can_node.proofs.node.Node.sample_fully.Goals as goal

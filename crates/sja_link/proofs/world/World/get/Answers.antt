@@ -2,7 +2,7 @@ use Rattle.std.proofs.Common.{◌<◌, length, arith, rules}
 use Rattle.std.proofs.lemmas.List.{length-take-le}
 use Rattle.sja_link.specs.declared.event.Event.TheVariants.{Get}
 use Rattle.sja_link.specs.WorldEvents.{Allowed}
-use Rattle.sja_link.specs.Kept.Fields.{world_of}
+use Rattle.sja_link.specs.Inside.Fields.{world_of}
 use Rattle.sja_link.proofs.JournalEntries.Keeping.{stepped, get_stored, get_done}
 use Rattle.sja_link.proofs.world.World.get.Goals as goal
 

@@ -2,7 +2,7 @@ use Rattle.std.proofs.Common.{◌∙◌, rules}
 use Rattle.sja_link.specs.declared.down.Down.TheVariants.{Off as OffDown}
 use Rattle.sja_link.specs.declared.event.Event.TheVariants.{Off}
 use Rattle.sja_link.specs.WorldEvents.{MayPut}
-use Rattle.sja_link.specs.Kept.Fields.{world_of}
+use Rattle.sja_link.specs.Inside.Fields.{world_of}
 use Rattle.sja_link.proofs.WorldSteps.Worlds.{world_next}
 use Rattle.sja_link.proofs.JournalEntries.Keeping.{put_stored, free_same_off}
 use Rattle.sja_link.proofs.world.World.off.Goals as goal

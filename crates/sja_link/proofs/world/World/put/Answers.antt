@@ -2,7 +2,7 @@ use Rattle.std.proofs.Common.{◌-◌, ◌∙◌, ap, arith, rules}
 use Rattle.sja_link.specs.declared.down.Down.TheVariants.{Message}
 use Rattle.sja_link.specs.declared.event.Event.TheVariants.{Put}
 use Rattle.sja_link.specs.WorldEvents.{Allowed}
-use Rattle.sja_link.specs.Kept.Fields.{world_of}
+use Rattle.sja_link.specs.Inside.Fields.{world_of}
 use Rattle.sja_link.proofs.WorldSteps.Worlds.{world_next}
 use Rattle.sja_link.proofs.JournalEntries.Keeping.{put_stored, free_put}
 use Rattle.sja_link.proofs.world.World.put.Goals as goal

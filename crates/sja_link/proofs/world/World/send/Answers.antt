@@ -2,7 +2,7 @@ use Rattle.std.proofs.Common.{refl, ◌∙◌, sym, rules}
 use Rattle.sja_link.specs.declared.up.Up.TheVariants.{Send as SendUp}
 use Rattle.sja_link.specs.declared.event.Event.TheVariants.{Send}
 use Rattle.sja_link.specs.WorldEvents.{Allowed}
-use Rattle.sja_link.specs.Kept.Fields.{world_of}
+use Rattle.sja_link.specs.Inside.Fields.{world_of}
 use Rattle.sja_link.proofs.WorldSteps.Worlds.{world_next}
 use Rattle.sja_link.proofs.JournalEntries.Keeping.{give_stored, credits_same}
 use Rattle.sja_link.proofs.world.World.send.Goals as goal

@@ -12,8 +12,8 @@ use Rattle.can_node.specs.Pieces.{Place}
 use Rattle.can_node.specs.Counting.{at_bit}
 use Rattle.can_node.specs.Driving.{Drives}
 use Rattle.can_node.specs.Events.{lost_in}
-use Rattle.can_node.specs.Machine.Standing.{context_of, IsKept}
-use Rattle.can_node.specs.Machine.Stages.{At}
+use Rattle.can_node.specs.Inside.Standing.{context_of, IsKept}
+use Rattle.can_node.specs.Inside.Stages.{At}
 
 -- the piece under way goes on with the bit, to this stage and reader; arbitration isn't lost, and no counter, role or
 -- request changes

@@ -2,7 +2,7 @@
 use Rattle.can_node.specs.declared.request.Request.{Request}
 use Rattle.can_node.specs.declared.node.Node.{Node}
 use Rattle.can_bits.specs.Shifts.{StandsFor}
-use Rattle.can_node.specs.Machine.Standing.{context_of, HasBody, IsKept}
+use Rattle.can_node.specs.Inside.Standing.{context_of, HasBody, IsKept}
 use Rattle.can_node.specs.Driving.{Drives, TransmitsNext}
 use Rattle.can_node.specs.Frames.{Acknowledges}
 use Rattle.std.specs.Prelude.{◌≡◌, ◌+◌, ℕ, Bool, nat_le, nat_lt, true, false}
@@ -34,7 +34,7 @@ use Rattle.can_node.specs.Effects.{closed, with_off}
 use Rattle.can_node.specs.declared.stage.Stage.{Stage}
 use Rattle.can_node.specs.Events.{Step, lost_in}
 use Rattle.can_node.specs.Events.Step.{Within, Finishes}
-use Rattle.can_node.specs.Machine.Stages.{At, IsReceiving, IsTransmitting, IsFramePlace, frame_bits}
+use Rattle.can_node.specs.Inside.Stages.{At, IsReceiving, IsTransmitting, IsFramePlace, frame_bits}
 
 -- the piece that ended with an overload condition
 abbrev pub overloaded : OverloadCondition → Piece

@@ -8,8 +8,8 @@ use Rattle.can_bits.specs.declared.gathered.Gathered.{Gathered}
 use Rattle.can_bits.specs.declared.shift.Shift.{Shift}
 use Rattle.can_bits.specs.Check.{Crc}
 use Rattle.can_bits.specs.Line.{StuffedPart, tail}
-use Rattle.can_bits.specs.Machine.Gathering.{Gathers}
-use Rattle.can_bits.specs.Machine.PartSoFar.{BeginsPart}
+use Rattle.can_bits.specs.Inside.Gathering.{Gathers}
+use Rattle.can_bits.specs.Inside.PartSoFar.{BeginsPart}
 
 -- a reader with these fields is in a stuffed part
 pub record IsInside (g : Gathered) (came : ℕ) (last : Level) (run : ℕ) (l : List Level) : Type 0 where
