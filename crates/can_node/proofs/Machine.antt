@@ -10,6 +10,7 @@ pub mod FrameStarts
 pub mod IdleTurns
 pub mod Sampling
 pub mod BitStands
+pub mod Changes
 pub mod Held
 pub mod Told
 pub mod Sampled

@@ -22,6 +22,7 @@ use Rattle.can_node.specs.Pieces.Place.{AtLastEofBit, AtFlag, AtDelimiter, AtInt
 use Rattle.can_node.specs.Record.{RecordEntry, bits_in}
 use Rattle.can_node.specs.Record.RecordEntry.{Start, Stop, OneBit, Send, Abort, BusOff}
 use Rattle.can_node.specs.Inside.Standing.{IsKept}
+use Rattle.can_node.proofs.Machine.Changes.{bit_changes}
 
 -- the bits among two lists of entries
 pub bits_both : (a b : List RecordEntry) → bits_in (a ++ b) ≡ bits_in a ++ bits_in b
@@ -59,78 +60,10 @@ AreKept c d = (d.listen ≡ c.listen) × (d.self_test ≡ c.self_test) × (d.off
 same : (c : ContextValue) → AreKept c c
 same c = (refl, refl, refl, refl)
 
--- of two contexts the one that a test chooses
-chosen : (test : Bool) (c d e : ContextValue) → AreKept c d → AreKept c e → AreKept c (if test then d else e)
-chosen true c d e h k = h
-chosen false c d e h k = k
-
--- a request that is dropped or not
-dropped : (held : Option Request) (c d : ContextValue) → AreKept c d → AreKept c (drop_failed held d)
-dropped None c d h = h
-dropped (Some request) c d h =
-    chosen (request.single_shot || d.aborted) c (record d { held = None; aborted = false }) d h h
-
--- steps of the counters by the role
-stepped : (role : Role) (c d : ContextValue) → AreKept c d → AreKept c (more_by role 8 8 d)
-stepped Transmitter c d h = h
-stepped Receiver c d h = h
-
--- a bit of a frame
-in_frame : (role : Role) (c : ContextValue) (l : List Level) (b : Bit) → AreKept c (frame_bit role c l b)
-in_frame Transmitter c l b =
-    chosen (is_some (lost_by c.held l b.driven b.seen)) c (lose c) c (let h = dropped c.held c c (same c) in h) (same c)
-in_frame Receiver c l b = acknowledged b.driven b.seen
-  where
-    acknowledged : (x y : Level) → AreKept c (if_acknowledged x y c)
-    acknowledged Dominant Dominant = same c
-    acknowledged Dominant Recessive = same c
-    acknowledged Recessive y = same c
-
--- the first bit at an idle place
-at_first : (request : Option Request) (c : ContextValue) → AreKept c (first_bit request c)
-at_first None c = same c
-at_first (Some request) c = same c
-
--- a bit of a flag
-in_flag : (x : Level) (c : ContextValue) → AreKept c (if_ack_step_owed x c)
-in_flag Dominant c = chosen c.ack_step_owed c (record (more_tec 8 c) { ack_step_owed = false }) c (same c) (same c)
-in_flag Recessive c = same c
-
--- a bit after a flag
-after_flag : (done : List Bit) (role : Role) (flag : FlagKind) (c : ContextValue) →
-    AreKept c (after_error_flag done role flag c)
-after_flag [] Receiver ActiveError c = same c
-after_flag [] Receiver PassiveError c = same c
-after_flag [] Receiver Overload c = same c
-after_flag [] Transmitter flag c = same c
-after_flag (b ∷ done) role flag c = same c
-
--- the eighth dominant level
-eighth : (done : List Bit) (c d : ContextValue) → AreKept c d → AreKept c (if_eighth done d)
-eighth done c d h =
-    chosen (are_dominant (seen_of done) && (length done + 1) % 8 == 0) c (more_by d.role 8 8 d) d (stepped d.role c d h)
-    h
-
--- a level after a flag
-tail_kept : (x : Level) (done : List Bit) (c : ContextValue) → AreKept c (delimiter_level x done c)
-tail_kept Dominant done c =
-    let first = after_error_flag done c.role c.flag c in
-    chosen c.listen c c (if_eighth done first) (same c) (eighth done c first (after_flag done c.role c.flag c))
-tail_kept Recessive done c = same c
-
 -- one bit
 one_bit : (c : ContextValue) (place : Place) (done : List Bit) (b : Bit) → AreKept c (at_bit c place done b)
-one_bit c AtReset done b = same c
-one_bit c AtIntegration done b =
-    chosen ((c.off && not c.listen) && ends_eleven (fold next_run 0 (seen_of done)) b.seen) c
-    (record c { tec = c.tec - 1 }) c (same c) (same c)
-one_bit c AtIdle [] b = at_first (sent_at c AtIdle) c
-one_bit c AtIdle (x ∷ done) b = in_frame c.role c (seen_of (x ∷ done)) b
-one_bit c AfterSof done b = in_frame c.role c (Dominant ∷ seen_of done) b
-one_bit c AtLastEofBit done b = same c
-one_bit c AtFlag done b = in_flag b.seen c
-one_bit c AtDelimiter done b = tail_kept b.seen done c
-one_bit c AtInterframeSpace done b = same c
+one_bit c place done b =
+    let h = bit_changes c place done b in (h.listen, h.self_test, h.off, h.flag)
 
 -- two steps
 pub kept_both : (c d e : ContextValue) → AreKept c d → AreKept d e → AreKept c e
@@ -138,8 +71,11 @@ kept_both c d e h k = (k.0 ∙ h.0, k.1 ∙ h.1, k.2 ∙ h.2, k.3 ∙ h.3)
 
 -- an abort
 aborted : (c : ContextValue) (place : Place) → AreKept c (with_abort place c)
-aborted c place = chosen (is_in_progress c place) c (record c { aborted = true }) (record c { held = None }) (same c)
-    (same c)
+aborted c place = by (is_in_progress c place)
+  where
+    by : (test : Bool) → AreKept c (if test then record c { aborted = true } else record c { held = None })
+    by true = same c
+    by false = same c
 
 -- all entries of a piece
 pub all_kept : (c : ContextValue) (place : Place) (done : List Bit) (slice : List RecordEntry) →

@@ -22,7 +22,7 @@ use Rattle.sja_serial.specs.Bits.TakesBits.{no_bit, one_more}
 use Rattle.sja_serial.specs.Serial.{SerialValue, StandsAt, IsRunOf, run_now}
 use Rattle.sja_serial.proofs.OneBit.BitRun.{cuts_of, takes_bit}
 use Rattle.sja_serial.proofs.WholeRun.GoingOn.{bits_run}
-use Rattle.sja_serial.proofs.ManyBits.ManyBits.SomeBits.{all_rest, some_works}
+use Rattle.sja_serial.proofs.ManyBits.SomeBits.{all_rest, some_works}
 use Rattle.sja_serial.proofs.ManyBits.Unstopped.{never_stops}
 
 -- a moment of a bus in one thread

@@ -38,7 +38,8 @@ use Rattle.sja_bus.proofs.AtPorts.Turning.{record_bit}
 use Rattle.sja_serial.specs.Asking.{IsAsked}
 use Rattle.can_node.proofs.Requests.OneMore.{bit_more, abort_more}
 use Rattle.can_node.proofs.Requests.OnceOff.{off_more}
-use Rattle.can_node.proofs.Requests.Requests.{KeepsRequest, step_keeps, held_alike, ended_is}
+use Rattle.can_node.proofs.Machine.Changes.{KeepsRequest}
+use Rattle.can_node.proofs.Requests.Requests.{step_keeps, held_alike, ended_is}
 
 -- a journal whose record has a cut
 pub record HasCut (j : List Entry) : Type 0 where

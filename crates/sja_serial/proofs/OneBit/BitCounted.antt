@@ -36,7 +36,7 @@ use Rattle.sja_serial.specs.Counted.{item_in, verdict_in, off_in, abort_in, asks
 use Rattle.sja_serial.specs.Counted.{IsCounted}
 use Rattle.can_node.proofs.Requests.OneMore.{abort_more}
 use Rattle.can_node.proofs.Requests.OnceOff.{is_off, is_off_both, offs, offs_both, left, off_once}
-use Rattle.can_node.proofs.Requests.Requests.{KeepsRequest}
+use Rattle.can_node.proofs.Machine.Changes.{KeepsRequest}
 use Rattle.sja_serial.proofs.OneBit.BitAsked.{HasCut, place_abort, place_bit, opened_as, bit_keeps}
 
 -- ---- bus-off, of every journal whose record has a cut

@@ -1,7 +1,7 @@
 use Rattle.std.proofs.Common.{◌≡◌, ℕ, List, ◌+◌, ◌≤◌, ◌-◌}
 use Rattle.sja_driver.specs.Deeds.{Deed}
 use Rattle.sja_serial.specs.Serial.{SerialValue, StandsAt}
-use Rattle.sja_serial.proofs.ManyBits.ManyBits.SomeBits.{SomeBits}
+use Rattle.sja_serial.proofs.ManyBits.SomeBits.{SomeBits}
 use Rattle.sja_serial.proofs.serial_run.SerialRun.bus_turn.Given as goal
 
 abbrev pub invariant-loop-run : goal.invariant-loop-run

@@ -2,7 +2,7 @@ use Rattle.std.proofs.Common.{sym, subst}
 use Rattle.sja_serial.specs.Bits.{AllRestIn, SomeWorks}
 use Rattle.sja_serial.specs.Serial.{SerialValue, StandsAt, run_now}
 use Rattle.sja_serial.proofs.WholeRun.GoingOn.{stands_bits}
-use Rattle.sja_serial.proofs.ManyBits.ManyBits.SomeBits.{all_rest, some_works, rest_so}
+use Rattle.sja_serial.proofs.ManyBits.SomeBits.{all_rest, some_works, rest_so}
 use Rattle.sja_serial.proofs.serial_run.SerialRun.rest_turn.Goals as goal
 
 pub returns-clause-turn : goal.returns-clause-turn

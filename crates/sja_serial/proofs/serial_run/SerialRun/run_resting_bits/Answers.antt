@@ -1,6 +1,6 @@
 use Rattle.std.proofs.Common.{rules, ◌≡◌, arith}
 use Rattle.std.specs.Prelude.{◌≢◌}
-use Rattle.sja_serial.proofs.ManyBits.ManyBits.SomeBits.{still_lawful, none_then_one}
+use Rattle.sja_serial.proofs.ManyBits.SomeBits.{still_lawful, none_then_one}
 use Rattle.sja_serial.proofs.serial_run.SerialRun.run_resting_bits.Goals as goal
 
 pub run_one_bit-requires-clause-run : goal.run_one_bit-requires-clause-run
