@@ -1,8 +1,9 @@
 -- The ports of a board, and those of one in one thread, by node (this project's own rule).
-use Rattle.std.specs.Prelude.{◌≡◌, ◌≤◌, ℕ, true, List, slice_index_or}
+use Rattle.std.specs.Prelude.{◌≡◌, ◌<◌, ◌≤◌, ℕ, true, List, length, slice_index_or}
 use Rattle.sja_regs.specs.declared.bus_turn.BusTurn.{BusTurn}
 use Rattle.sja_regs.specs.declared.orders.Orders.{Orders}
 use Rattle.sja_regs.specs.declared.registers.Registers.{Registers}
+use Rattle.sja_regs.specs.Facts.{RegisterFacts}
 use Rattle.sja_regs.specs.Turns.{after_turn}
 
 -- the port of this node, as it was and as it is, is so related
@@ -13,6 +14,10 @@ AtPort R old new node = (d : Registers) → R (slice_index_or old node d) (slice
 abbrev pub HasOrders : List Registers → ℕ → Orders → Type 0
 HasOrders ports node orders =
     (d : Registers) → let p = slice_index_or ports node d in orders ≡ record { abort = p.abort; ended = p.ended }
+
+-- what holds of every port holds of it
+abbrev pub HasFacts : List Registers → ℕ → Type 0
+HasFacts ports node = (d : Registers) → node < length ports → RegisterFacts (slice_index_or ports node d)
 
 -- it shows already what the turn says: the turn would leave it as it is
 abbrev pub ShowsTurn : List Registers → ℕ → BusTurn → Type 0

@@ -1,5 +1,5 @@
 -- A bus with its links and its ports, before a bit and after it (this project's own rule).
-use Rattle.std.specs.Prelude.{◌≡◌, ◌+◌, List, length, None}
+use Rattle.std.specs.Prelude.{◌≡◌, ◌+◌, ◌<◌, ℕ, List, length, None}
 use Rattle.sja_link.specs.declared.bus_end.BusEnd.{Ghosts as Ends}
 use Rattle.lemmas.specs.Related.{EachRelated}
 use Rattle.sja_bus.specs.declared.board.Board.{Ghosts as Ports}
@@ -27,7 +27,7 @@ pub record Keeps {E B : Type 0} (e : Ends E) (b : Ports B) (was now : Moment E B
 
 -- one bit, which went well: it keeps what every bit keeps, and it is counted; the links stand for the journals still;
 -- all nodes had the bit, and nothing is untold of any; there is no fault; and what holds of every bus and of every
--- board holds after it
+-- node's port holds after it
 pub record OneBit {E B : Type 0} (e : Ends E) (b : Ports B) (was now : Moment E B) : Type 0 where
   pub keeps : Keeps e b was now
   pub run : now.bus.run ≡ was.bus.run + 1
@@ -37,4 +37,4 @@ pub record OneBit {E B : Type 0} (e : Ends E) (b : Ports B) (was now : Moment E 
   pub told : AllTold (length was.bus.journals) now.bus.untold
   pub right : now.bus.fault ≡ None
   pub lawful : IsBusRun now.bus.script now.bus.run now.bus.journals
-  pub facts : b.facts now.board
+  pub facts : (node : ℕ) → node < length was.bus.journals → b.facts now.board node

@@ -1,6 +1,6 @@
 //! What all nodes of a bus do in one bit, node after node.
 
-ghost use Rattle.std.specs.Prelude.{◌≡◌, ◌*◌, ◌≤◌, ℕ, List, suc, false};
+ghost use Rattle.std.specs.Prelude.{◌≡◌, ◌*◌, ◌<◌, ◌≤◌, ℕ, List, suc, false};
 ghost use Rattle.std.specs.Prelude.{length, IfOk, OnOk, IfErr, ◌⊎◌};
 ghost use Rattle.lemmas.specs.Related.{EachRelated};
 ghost use Rattle.sja_wire.specs.Wire.{wired};
@@ -63,6 +63,7 @@ pub(crate) fn bit_of_all<E: BusEnd, B: Board>(
         (B.told board.old board.new) (B.kept board.old board.new) struck seats.old seats.new) }
     ensures takes { OnOk result (RowTakesAll E.BusEnd seats.old seats.new links.old) }
     ensures rooms { OnOk result ((n : ℕ) → HaveRoom n seats.old → HaveRoom n seats.new) }
+    ensures facts { OnOk result ((k : ℕ) → k < length seats.old → B.facts board.new k) }
     ensures stops { IfErr result (λ f. (SeatRefuses E.stands seats.old seats.new links.old links.new f
         ⊎ SeatFull E.stands (B.orders_are board.old) seats.old seats.new links.old links.new f)
         ⊎ SeatStops E.stands E.full (B.orders_are board.old) E.same seats.old seats.new links.old f) }
@@ -92,6 +93,7 @@ fn open_all<E: BusEnd, B: Board>(
     ensures untold { OnOk result (EachSeat SeatOpensUntold seats.old seats.new) }
     ensures dry { OnOk result (AllRead E.dry seats.new links.new) }
     ensures rooms { OnOk result ((n : ℕ) → HaveRoom n seats.old → HaveRoom n seats.new) }
+    ensures facts { OnOk result ((k : ℕ) → k < length seats.old → B.facts board.now k) }
     ensures stops { IfErr result (λ f. SeatRefuses E.stands seats.old seats.new links.old links.new f
         ⊎ SeatFull E.stands (B.orders_are board.now) seats.old seats.new links.old links.new f) }
 {

@@ -111,7 +111,6 @@ impl Bus {
     ) -> Result<u32, BusFault>
         requires fit { AreFor E.link links.old (length self.old.journals) (B.ports board.old) }
         requires right { self.old.fault ≡ None }
-        requires facts { B.facts board.old }
         requires most { count ≤ self.old.left }
         ensures most { IfOk result (λ n. n ≤ count) }
         ensures runs { IfOk result (λ n. IsSoFar E.BusEnd B.Board (AnyBit E.BusEnd B.Board) to_rest
@@ -150,6 +149,7 @@ fn may_run_untaken<B: Board>(seats: &[Seat], board: &B) -> bool
     requires ports { length seats.now ≤ B.ports board.now }
     ensures orders { result ≡ true → NoneAborts (B.orders_are board.now) (length seats.now) }
     ensures told { result ≡ true → AreTold seats.now }
+    ensures facts { result ≡ true → (k : ℕ) → k < length seats.now → B.facts board.now k }
 {
     for k in 0..seats.len() {
         if board.orders(seats[k].number()).abort {
@@ -175,10 +175,9 @@ fn untaken_bits<E: BusEnd, B: Board>(
     requires may { NoneAborts (B.orders_are board.old) (length seats.old) × AreTold seats.old }
     requires bus { IsBus struck.now.script from seats.old }
     requires within { (from + most ≤ struck.now.bits) × (struck.now.bits ≤ 200000) }
-    requires facts { B.facts board.old }
+    requires facts { (k : ℕ) → k < length seats.old → B.facts board.old k }
     ensures sames { EachRelated E.same links.old links.new }
     ensures others { KeepsOthers B.ports B.kept (length seats.old) board.old board.new }
-    ensures facts { OnOk result (B.facts board.new) }
     ensures most { MatchResult result (λ n. n ≤ most) (λ f. f.after < most) }
     ensures rooms { OnOk result ((n : ℕ) → HaveRoom n seats.old → HaveRoom n seats.new) }
     ensures runs { IfOk result (λ n. RowsRun E.BusEnd B.Board to_rest struck.now.script from most

@@ -26,17 +26,14 @@ pub trait Board {
     /// The port of this node is as it was.
     ghost kept: { Self → Self → ℕ → Type 0 };
 
-    /// What holds of every board.
-    ghost facts: { Self → Type 0 };
+    /// What holds of every port, of that of this node.
+    ghost facts: { Self → ℕ → Type 0 };
 
-    /// What holds of every board. It does nothing: a caller calls it for its contract.
-    fn keeps_its_facts(&self)
-        ensures { facts self.now };
-
-    /// What the driver of this node wants of the bus.
+    /// What the driver of this node wants of the bus. What holds of every port is said beside it.
     fn orders(&self, node: u8) -> Orders
         requires { node < ports self.now }
-        ensures { orders_are self.now node result };
+        ensures orders { orders_are self.now node result }
+        ensures facts { facts self.now node };
 
     /// Tells the port of this node what a bit brought.
     fn bus_turn(&mut self, node: u8, turn: &BusTurn)
@@ -69,7 +66,7 @@ pub trait Board {
     /// Each port has orders, whether it is asked for them or not.
     ghost has_orders: { (b : Self) (k : ℕ) → k < ports b → (o : Orders) × orders_are b k o };
 
-    /// What holds of every board goes on where each port was told a turn or is as it was.
-    ghost facts_go_on: { (a b : Self) → ports b ≡ ports a →
-        ((k : ℕ) → k < ports a → kept a b k ⊎ ((t : BusTurn) × told a b k t)) → facts a → facts b };
+    /// What holds of every port goes on where it was told a turn or is as it was.
+    ghost facts_go_on: { (a b : Self) (k : ℕ) → ports b ≡ ports a → k < ports a →
+        kept a b k ⊎ ((t : BusTurn) × told a b k t) → facts a k → facts b k };
 }

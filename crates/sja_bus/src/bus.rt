@@ -99,12 +99,14 @@ impl Bus {
     }
 
     /// Takes what the drivers gave: of each node in order all that its links show, one link after the other. `links`
-    /// are eight a node, by node and activation.
+    /// are eight a node, by node and activation. What holds of every bus is said of the one before it.
     ///
     /// Error: [`BusFault::BadCredit`], [`BusFault::BadOrder`] or [`BusFault::JournalFull`], and then the same always.
     pub fn gather<E: BusEnd>(&mut self, links: &mut [E]) -> Result<(), BusFault>
         requires count { length links.old ≡ 8 * length self.old.journals }
         requires ids { Numbered E.link links.old }
+        ensures lawful { self.old.fault ≡ None →
+            IsBusRun self.old.script self.old.run self.old.journals }
         ensures sames { EachRelated E.same links.old links.new }
         ensures script { self.new.script ≡ self.old.script }
         ensures bits { (self.new.run ≡ self.old.run) × (self.new.left ≡ self.old.left) }
@@ -185,7 +187,6 @@ impl Bus {
             Ok(()) => {
                 self.run += 1;
                 self.left -= 1;
-                board.keeps_its_facts();
                 Ok(())
             }
             Err(fault) => {
@@ -195,16 +196,18 @@ impl Bus {
         }
     }
 
-    /// What holds of every bus without such a fault: by every cut of each node's record the verdicts are right, and
-    /// what each node saw in each bit is what the wire had. It does nothing: a caller calls it for its contract.
-    pub fn keeps_its_laws(&self)
-        ensures { self.now.fault ≡ None → IsBusRun self.now.script self.now.run self.now.journals }
+    /// How many bits were run. What holds of every bus without a fault is said beside it: by every cut of each node's
+    /// record the verdicts are right, and what each node saw in each bit is what the wire had.
+    pub fn bits_run(&self) -> u32
+        ensures value { result ≡ self.now.run }
+        ensures lawful { self.now.fault ≡ None → IsBusRun self.now.script self.now.run self.now.journals }
     {
-        let _ = &self.fault;
+        self.run
     }
 
-    /// Whether every node is at rest: in reset, or idle with no request.
+    /// Whether every node is at rest: in reset, or idle with no request. What holds of every bus is said beside it.
     pub fn at_rest(&self) -> bool
+        ensures lawful { self.now.fault ≡ None → IsBusRun self.now.script self.now.run self.now.journals }
         ensures rest { self.now.fault ≡ None → result ≡ true → (node : ℕ) → node < length self.now.journals →
             RestsAs (record_of (journal_at self.now.journals node)) true }
         ensures busy { self.now.fault ≡ None → result ≡ false → (node : ℕ) × (node < length self.now.journals)

@@ -43,6 +43,7 @@ impl Seat {
         ensures opens { OnOk result (Opens (B.orders_are board.now (link_of self.old.ledger).node)
             self.old.journal.entries self.new.journal.entries) }
         ensures untold { OnOk result (OpensUntold self.old self.new) }
+        ensures facts { OnOk result (B.facts board.now (link_of self.old.ledger).node) }
         ensures dry { OnOk result
             ((d : E) → self.new.ended < 8 → E.dry (slice_index_or links.new (base + self.new.ended) d)) }
         ensures stops { IfErr result (λ f. RefusesItem E.stands self.old.journal.room self.old.journal.entries

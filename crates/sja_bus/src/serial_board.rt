@@ -1,8 +1,6 @@
 //! The ports of a bus in one thread.
 
-ghost use Rattle.std.specs.Prelude.{◌≡◌, ◌<◌, ℕ, replicate, length, slice_index_or, IfOk};
-ghost use Rattle.sja_regs.specs.declared.registers.Registers.{Registers};
-ghost use Rattle.sja_regs.specs.Facts.{RegisterFacts};
+ghost use Rattle.std.specs.Prelude.{◌≡◌, replicate, IfOk};
 ghost use Rattle.sja_regs.specs.Registers.{at_power_on};
 
 use super::board::Board;
@@ -33,22 +31,11 @@ impl SerialBoard {
     }
 }
 
-/// What holds of every port, of each of these. It does nothing.
-fn keep_their_facts(ports: &[Port])
-    ensures { (node : ℕ) (d : Registers) → node < length ports.now → RegisterFacts (slice_index_or ports.now node d) }
-{
-    for node in 0..ports.len() {
-        ports[node].keeps_its_facts();
-    }
-}
-
 impl Board for SerialBoard {
-    ghost use Rattle.std.specs.Prelude.{◌≡◌, ◌≢◌, ◌<◌, ℕ, List, length, slice_index_or, refl};
+    ghost use Rattle.std.specs.Prelude.{◌≡◌, ◌≢◌, ◌<◌, ℕ, List, length, refl};
     ghost use Rattle.std.proofs.Common.{◌∙◌, sym, ap};
     ghost use Rattle.sja_regs.specs.Turns.{after_turn};
-    ghost use Rattle.sja_regs.specs.declared.registers.Registers.{Registers};
-    ghost use Rattle.sja_regs.specs.Facts.{RegisterFacts};
-    ghost use Rattle.sja_bus.specs.Boards.{HasOrders, ShowsTurn, WasTold, WasClosed, WasKept};
+    ghost use Rattle.sja_bus.specs.Boards.{HasOrders, HasFacts, ShowsTurn, WasTold, WasClosed, WasKept};
     ghost use Rattle.sja_bus.specs.Inside.SerialBoards.{orders_at, facts_after};
 
     ghost ports = { λ b. length b.ports.items };
@@ -63,12 +50,7 @@ impl Board for SerialBoard {
 
     ghost kept = { λ a b node. WasKept a.ports.items b.ports.items node };
 
-    ghost facts = { λ b. (node : ℕ) (d : Registers) → node < length b.ports.items →
-        RegisterFacts (slice_index_or b.ports.items node d) };
-
-    fn keeps_its_facts(&self) {
-        keep_their_facts(self.ports.as_slice());
-    }
+    ghost facts = { λ b node. HasFacts b.ports.items node };
 
     fn orders(&self, node: u8) -> Orders {
         self.ports[node as usize].orders()
@@ -94,5 +76,5 @@ impl Board for SerialBoard {
 
     ghost has_orders = { λ b k few. orders_at b.ports.items k few };
 
-    ghost facts_go_on = { λ a b count each facts. facts_after a.ports.items b.ports.items count each facts };
+    ghost facts_go_on = { λ a b k count few so facts. facts_after a.ports.items b.ports.items k count few so facts };
 }

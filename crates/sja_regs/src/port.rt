@@ -43,14 +43,6 @@ impl Port {
         }
     }
 
-    /// The facts that hold of every port. It does nothing when it runs: who needs them in a proof calls it for its
-    /// contract.
-    pub fn keeps_its_facts(&self)
-        ensures { RegisterFacts self.now }
-    {
-        let _ = &self.registers;
-    }
-
     /// How the controller starts: acceptance filter, self test mode and listen only mode.
     pub fn config(&self) -> Config
         ensures { result ≡ config_of self.now }

@@ -129,8 +129,6 @@ impl SerialRun {
         ensures limits { IsInLimits plan.now }
         ensures lawful { IsBusRun self.now.bus.script self.now.bus.run self.now.bus.journals }
     {
-        // What holds of every bus, for the clause `lawful`.
-        self.bus.keeps_its_laws();
-        plan.bits() - self.bits
+        plan.bits() - self.bus.bits_run()
     }
 }

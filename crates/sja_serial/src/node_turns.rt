@@ -42,8 +42,6 @@ impl SerialRun {
         if next >= steps.len() {
             return false;
         }
-        // What holds of every bus: of a journal as it has them no item of its driver is refused.
-        self.bus.keeps_its_laws();
         let links = self.links.as_mut_slice();
         let port = &mut self.board.ports[index];
         let done = self.drivers[index].step(

@@ -45,7 +45,6 @@ impl BusThread {
         ensures run { self.new.run ≡ self.old.run }
         ensures fault { IfErr result (λ f. (plan : PlanValue) → IsUnderWay plan self.old → StopsFor plan f) }
     {
-        self.bus.keeps_its_laws();
         self.bus.gather(self.links.as_mut_slice())
     }
 
@@ -69,7 +68,6 @@ impl BusThread {
         if self.bus.at_rest() {
             return Ok(Round::Rests);
         }
-        self.bus.keeps_its_laws();
         if self.run >= plan.bits() {
             self.spent = true;
             return Ok(Round::Spent);

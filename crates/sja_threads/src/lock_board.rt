@@ -30,9 +30,7 @@ impl<'a, R: Wait> Board for LockBoard<'a, R> {
 
     ghost kept = { λ a b node. Unit {0} };
 
-    ghost facts = { λ b. Unit {0} };
-
-    fn keeps_its_facts(&self) {}
+    ghost facts = { λ b node. Unit {0} };
 
     fn orders(&self, node: u8) -> Orders {
         self.ports[node as usize].lock(self.rt).orders()
@@ -58,5 +56,5 @@ impl<'a, R: Wait> Board for LockBoard<'a, R> {
 
     ghost has_orders = { λ b k few. (record { abort = false; ended = false }, tt) };
 
-    ghost facts_go_on = { λ a b count each facts. tt };
+    ghost facts_go_on = { λ a b k count few so facts. tt };
 }

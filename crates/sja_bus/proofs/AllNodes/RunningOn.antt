@@ -148,7 +148,7 @@ pub one_bit : {E B : Type 0} (e : Ends E) (b : Ports B) (script : List Strike) (
     IsRowBit (b.orders_are board) (b.told board now) (b.kept board now) struck seats after →
     EachRelated e.same links links_after → KeepsOthers b.ports b.kept (length seats) board now →
     GoesAll e.same e.stands seats after links links_after → IsBus script n seats → IsBus script next after →
-    b.facts now → OneBit e b (moment_of script n left seats links board)
+    ((k : ℕ) → k < length seats → b.facts now k) → OneBit e b (moment_of script n left seats links board)
     (moment_of script next less after links_after now)
 one_bit e b script n next left less struck seats after links links_after board now is_next is_less len few at row sames
     others goes bus bus_after are =
@@ -168,27 +168,25 @@ one_bit e b script n next left less struck seats after links links_after board n
       told = none_untold after (all_told told kept struck seats after len row) ∙ ap (λ m. replicate m false) nodes;
       right = refl;
       lawful = bus_run script next after bus_after;
-      facts = are;
+      facts = λ k few. are k (let n = count_is seats in omega (arith, few, n));
     }
 
--- what holds of every board goes on with a bit
+-- what holds of the port of each node goes on with a bit
 pub facts_of_bit : {B : Type 0} (b : Ports B) →
-    ((was now : B) → b.ports now ≡ b.ports was →
-    ((k : ℕ) → k < b.ports was → b.kept was now k ⊎ ((turn : BusTurn) × b.told was now k turn)) →
-    b.facts was → b.facts now) →
-    (struck : StruckNodes) (level : Level) (seats after : List Seat) (board now : B) →
+    ((was now : B) (k : ℕ) → b.ports now ≡ b.ports was → k < b.ports was →
+    b.kept was now k ⊎ ((turn : BusTurn) × b.told was now k turn) → b.facts was k → b.facts now k) →
+    (struck : StruckNodes) (level : Level) (seats after : List Seat) (board now : B) → length seats ≤ b.ports board →
     KeepsOthers b.ports b.kept (length seats) board now →
-    EachSeat (SeatTurns (b.told board now) (b.kept board now) struck level) seats after → b.facts board → b.facts now
-facts_of_bit {B} b go_on struck level seats after board now others turns facts =
-    go_on board now others.0 (λ k few. each seats turns others.1 k (cases_lt k (length seats))) facts
+    EachSeat (SeatTurns (b.told board now) (b.kept board now) struck level) seats after →
+    ((k : ℕ) → k < length seats → b.facts board k) → (k : ℕ) → k < length seats → b.facts now k
+facts_of_bit {B} b go_on struck level seats after board now ports others turns facts k few =
+    go_on board now k others.0 (omega (arith, ports, few)) (each seats turns k few) (facts k few)
   where
     each : (before : List Seat) →
         EachSeat (SeatTurns (b.told board now) (b.kept board now) struck level) before after →
-        ((k : ℕ) → length before ≤ k → b.kept board now k) → (k : ℕ) → (k < length before) ⊎ (length before ≤ k) →
-        b.kept board now k ⊎ ((turn : BusTurn) × b.told board now k turn)
-    each before turn kept k (inr far) = inl (kept k far)
-    each [] turn kept k (inl near) = absurd (omega (arith, near))
-    each (s ∷ before) turn kept k (inl near) = let bit = turn k s near in elim bit.port [
+        (k : ℕ) → k < length before → b.kept board now k ⊎ ((turn : BusTurn) × b.told board now k turn)
+    each [] turn k near = absurd (omega (arith, near))
+    each (s ∷ before) turn k near = let bit = turn k s near in elim bit.port [
       | inl told ↦ inr (bit.turn, told)
       | inr passed ↦ inl passed.0
     ]
@@ -225,7 +223,8 @@ pub bits_on : {E B : Type 0} (e : Ends E) (b : Ports B) (to_rest : Bool) (was : 
     IsRowBit (b.orders_are board) (b.told board now) (b.kept board now) struck seats after →
     EachRelated e.same links links_after → KeepsOthers b.ports b.kept (length seats) board now →
     GoesAll e.same e.stands seats after links links_after → IsBus script (from + run) seats →
-    IsBus script (from + (run + 1)) after → b.facts now → (to_rest ≡ true → SomeWork (journals_of seats)) →
+    IsBus script (from + (run + 1)) after → ((k : ℕ) → k < length seats → b.facts now k) →
+    (to_rest ≡ true → SomeWork (journals_of seats)) →
     AreBits (AnyBit e b) (WorksIf to_rest) was run (moment_of script (from + run) (left - run) seats links board) →
     AreBits (AnyBit e b) (WorksIf to_rest) was (run + 1)
     (moment_of script (from + (run + 1)) (left - (run + 1)) after links_after now)

@@ -9,7 +9,7 @@ use Rattle.sja_regs.specs.declared.orders.Orders.{Orders}
 use Rattle.sja_regs.specs.declared.registers.Registers.{Registers}
 use Rattle.sja_regs.specs.Facts.{RegisterFacts}
 use Rattle.sja_regs.specs.Turns.{is_live, is_sent, ends, goes_off, after_turn}
-use Rattle.sja_bus.specs.Boards.{HasOrders, WasKept, WasTold}
+use Rattle.sja_bus.specs.Boards.{HasFacts, HasOrders, WasKept, WasTold}
 
 -- ---- orders
 
@@ -79,15 +79,13 @@ turn_keeps p turn h =
       buffer = h.buffer;
     }
 
--- each port that was told a turn or kept has them still
-pub facts_after : (old new : List Registers) → length new ≡ length old →
-    ((node : ℕ) → node < length old → WasKept old new node ⊎ ((turn : BusTurn) × WasTold old new node turn)) →
-    ((node : ℕ) (d : Registers) → node < length old → RegisterFacts (slice_index_or old node d)) →
-    (node : ℕ) (d : Registers) → node < length new → RegisterFacts (slice_index_or new node d)
-facts_after old new count each facts node d few =
-    let near : node < length old = omega (arith, few, count) in let was = facts node d near in
+-- a port that was told a turn or kept has them still
+pub facts_after : (old new : List Registers) (node : ℕ) → length new ≡ length old → node < length old →
+    WasKept old new node ⊎ ((turn : BusTurn) × WasTold old new node turn) → HasFacts old node → HasFacts new node
+facts_after old new node count near so facts d few =
+    let was = facts d near in
     let F : Registers → Type 0 = λ p. RegisterFacts p in
-    elim (each node near) [
+    elim so [
       | inl kept ↦ subst F (sym (kept d)) was
       | inr told ↦ subst F (sym (told.1 d)) (turn_keeps (slice_index_or old node d) told.0 was)
     ]

@@ -1,15 +1,13 @@
 -- Bits that a bus ran one after another: each of them is a bit of the run.
 use Rattle.std.proofs.Common.{◌≡◌, ℕ, ◌+◌, ◌<◌, ◌≤◌, true, List, [], length, refl, sym, ◌∙◌, subst, arith, inl, inr}
-use Rattle.std.specs.Prelude.{◌⊎◌, None, min, slice_index_or}
+use Rattle.std.specs.Prelude.{◌⊎◌, None, min}
 use Rattle.std.proofs.lemmas.Bool.{cases_lt}
 use Rattle.sja_link.specs.declared.bus_end.BusEnd.{Ghosts as Ends}
 use Rattle.sja_link.specs.Deques.{Deques, Lies}
-use Rattle.sja_regs.specs.declared.registers.Registers.{Registers}
-use Rattle.sja_regs.specs.Facts.{RegisterFacts}
 use Rattle.sja_bus.specs.declared.board.Board.{Ghosts as Ports}
 use Rattle.sja_wire.specs.declared.bus_fault.BusFault.{BusFault}
 use Rattle.sja_bus.specs.declared.serial_board.SerialBoard.{SerialBoard}
-use Rattle.sja_bus.specs.Boards.{HasOrders, ShowsTurn, WasTold, WasClosed, WasKept}
+use Rattle.sja_bus.specs.Boards.{HasOrders, HasFacts, ShowsTurn, WasTold, WasClosed, WasKept}
 use Rattle.sja_wire.specs.Lawful.{IsBusRun}
 use Rattle.sja_bus.specs.Moment.{Moment, OneBit}
 use Rattle.sja_bus.specs.Several.{AllRest as AllAtRest, BitInOrder, AreBits, WorksIf, BreaksOff}
@@ -29,11 +27,6 @@ use Rattle.sja_serial.proofs.ManyBits.Unstopped.{never_stops}
 abbrev pub SerialMoment : Type 0
 SerialMoment = Moment Deques SerialBoard
 
--- what holds of every register of its ports
-abbrev pub PortFacts : SerialBoard → Type 0
-PortFacts b = (node : ℕ) (d : Registers) → node < length b.ports.items → RegisterFacts
-    (slice_index_or b.ports.items node d)
-
 -- the ends of its links, and its ports
 abbrev pub ends : Ends Deques
 ends = record {
@@ -52,7 +45,7 @@ ports = record {
   told = λ (a b : SerialBoard). WasTold a.ports.items b.ports.items;
   shut = λ (a b : SerialBoard). WasClosed a.ports.items b.ports.items;
   kept = λ (a b : SerialBoard). WasKept a.ports.items b.ports.items;
-  facts = PortFacts;
+  facts = λ (b : SerialBoard). HasFacts b.ports.items;
 }
 
 -- the bit of this number of one call

@@ -75,7 +75,6 @@ fn entering_reset_mode_releases_the_transmit_buffer(rt: HostRuntime) -> Result<(
 #[test]
 fn driver_and_bus_leave_marks(rt: HostRuntime) {
     let mut port = Port::new(1);
-    port.keeps_its_facts();
     assert!(rt; !port.closed());
     assert!(rt; !port.orders().ended);
     port.close();

@@ -4,6 +4,7 @@ use Rattle.lemmas.proofs.Related.{each_trans}
 use Rattle.sja_bus.specs.Inside.Refusing.{SeatRefuses, SeatFull, SeatStops}
 use Rattle.sja_bus.specs.Inside.Rows.{SeatTurns}
 use Rattle.sja_bus.proofs.AllNodes.Many.{goes_all_trans, numbered_kept, done_all}
+use Rattle.sja_bus.proofs.AllNodes.RunningOn.{facts_of_bit}
 use Rattle.sja_bus.proofs.AllNodes.Underway.{underway_none}
 use Rattle.sja_bus.proofs.ItemsTaken.TakenBefore.{row_takes}
 use Rattle.lemmas.proofs.Results.{err_is}
@@ -137,3 +138,19 @@ returns-clause-takes g c =
     (done_all (SeatTurns told kept c.args.struck level) did.0 seats c.sample_from.new.seats
     (omega (arith, all, count)) u.done)
     opening.goes opening.dry
+
+pub returns-clause-facts : goal.returns-clause-facts
+returns-clause-facts g c =
+    let E = g.E.BusEnd in let B = g.B.Board in let seats = c.open_all.new.seats in
+    let level = c.level_of-level.result in
+    let row = underway_none E.same E.stands g.met.E.BusEnd.same_refl B.ports B.told B.kept g.met.B.Board.kept_refl
+    c.args.struck level seats c.open_all.new.links c.args.board.now c.in_ok-open_all.ensures.ready in
+    let did = c.in_ok-sample_from.ensures.row seats c.open_all.new.links c.args.board.now row in
+    let all = did.1 in let count = did.2.count in let same = c.open_all.auto.seats in
+    let ports = c.requires.seated.ports in
+    let turns = done_all (SeatTurns (B.told c.args.board.now c.sample_from.new.board)
+    (B.kept c.args.board.now c.sample_from.new.board) c.args.struck level) did.0 seats c.sample_from.new.seats
+    (omega (arith, all, count)) did.2.done in λ k few.
+    facts_of_bit B g.met.B.Board.facts_go_on c.args.struck level seats c.sample_from.new.seats c.args.board.now
+    c.sample_from.new.board (omega (arith, ports, same)) c.sample_from.ensures.board turns
+    (λ m near. c.in_ok-open_all.ensures.facts m (omega (arith, near, same))) k (omega (arith, few, same))

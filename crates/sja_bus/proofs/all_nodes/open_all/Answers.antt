@@ -1,4 +1,4 @@
-use Rattle.std.proofs.Common.{◌≡◌, ℕ, ◌<◌, ◌+◌, length, rules, subst, inl, inr}
+use Rattle.std.proofs.Common.{◌≡◌, ℕ, ◌<◌, ◌≤◌, ◌+◌, length, arith, rules, sym, subst, inl, inr}
 use Rattle.std.specs.Prelude.{◌⊎◌, Err, slice_index_or, slice_set}
 use Rattle.sja_link.specs.BusLedgers.{link_of}
 use Rattle.lemmas.proofs.Related.{each_trans}
@@ -9,26 +9,30 @@ use Rattle.sja_bus.specs.Inside.Rows.{SeatOpens, SeatOpensUntold}
 use Rattle.sja_bus.specs.Inside.Refusing.{SeatRefuses, SeatFull}
 use Rattle.sja_bus.proofs.AllNodes.Many.{done_all}
 use Rattle.sja_bus.proofs.AllNodes.Rows.{has_links, taken_none, taken_one}
+use Rattle.sja_bus.proofs.Resting.Rests.{earlier_or_now}
 use Rattle.sja_bus.proofs.ItemsTaken.Refusing.{refuses_seat}
 use Rattle.sja_bus.proofs.ItemsTaken.Breaking.{full_seat}
 use Rattle.lemmas.proofs.Results.{err_is}
 use Rattle.sja_bus.proofs.all_nodes.open_all.Goals as goal
 
 pub loop-k-init : goal.loop-k-init
-loop-k-init g c = taken_none g.E.BusEnd.same g.E.BusEnd.stands g.E.BusEnd.dry g.met.E.BusEnd.same_refl
-    (SeatOpens (g.B.Board.orders_are c.args.board.now)) SeatOpensUntold c.args.seats.now
-    c.args.links.now c.requires.ready
+loop-k-init g c = record {
+  taken = taken_none g.E.BusEnd.same g.E.BusEnd.stands g.E.BusEnd.dry g.met.E.BusEnd.same_refl
+      (SeatOpens (g.B.Board.orders_are c.args.board.now)) SeatOpensUntold c.args.seats.now c.args.links.now
+      c.requires.ready;
+  facts = λ m none. absurd (omega (arith, none));
+}
 
 pub open_bit-requires-clause-at : goal.open_bit-requires-clause-at
 open_bit-requires-clause-at g c =
     rw c.first_link.ensures (has_links g.E.BusEnd.link g.E.BusEnd.same g.met.E.BusEnd.same_link
     (length c.args.seats.now) c.loop-k.seats c.args.links.now c.loop-k.links c.loop-k.k c.index-seats-k.result
-    c.requires.count c.loop-k.auto.seats (search rules) c.loop-k.invariant.goes.sames c.requires.ids
-    c.loop-k.invariant.ready)
+    c.requires.count c.loop-k.auto.seats (search rules) c.loop-k.invariant.taken.goes.sames c.requires.ids
+    c.loop-k.invariant.taken.ready)
 
 pub returns-in_err-open_bit-clause-sames : goal.returns-in_err-open_bit-clause-sames
 returns-in_err-open_bit-clause-sames g c = each_trans g.E.BusEnd.same g.met.E.BusEnd.same_trans c.args.links.now
-    c.loop-k.links c.open_bit.new.links c.loop-k.invariant.goes.sames c.open_bit.ensures.stays.sames
+    c.loop-k.links c.open_bit.new.links c.loop-k.invariant.taken.goes.sames c.open_bit.ensures.stays.sames
 
 pub loop-k-preserved : goal.loop-k-preserved
 loop-k-preserved g c =
@@ -42,26 +46,34 @@ loop-k-preserved g c =
     c.loop-k.links after base in
     let R : ℕ → Type 0 = λ base. (d : _) → new.ended < 8 → E.dry (slice_index_or after (base + new.ended) d) in
     let goes = subst G c.first_link.ensures did.goes in let dry = subst R c.first_link.ensures did.dry in
-    let opens = subst P (c.loop-k.invariant.ready k s here).own did.opens in
-    taken_one E.same E.stands E.dry g.met.E.BusEnd.same_trans O SeatOpensUntold c.args.seats.now c.loop-k.seats
-    c.args.links.now c.loop-k.links c.open_bit.new.links k s new here c.loop-k.auto.seats
-    did.stays did.ready goes dry opens did.untold c.loop-k.invariant
+    let opens = subst P (c.loop-k.invariant.taken.ready k s here).own did.opens in
+    let F : ℕ → Type 0 = λ m. g.B.Board.facts c.args.board.now m in
+    let fact : F k = subst F (c.loop-k.invariant.taken.ready k s here).own did.facts in
+    record {
+      taken = taken_one E.same E.stands E.dry g.met.E.BusEnd.same_trans O SeatOpensUntold c.args.seats.now
+          c.loop-k.seats c.args.links.now c.loop-k.links c.open_bit.new.links k s new here c.loop-k.auto.seats did.stays
+          did.ready goes dry opens did.untold c.loop-k.invariant.taken;
+      facts = λ m less. elim (earlier_or_now m k less) [
+        | inl before ↦ c.loop-k.invariant.facts m before
+        | inr now ↦ subst F (sym now) fact
+      ];
+    }
 
 pub returns-clause-opens : goal.returns-clause-opens
 returns-clause-opens g c = done_all (SeatOpens (g.B.Board.orders_are c.args.board.now)) c.loop-k.k c.args.seats.now
-    c.loop-k.seats (search rules) c.loop-k.invariant.done
+    c.loop-k.seats (search rules) c.loop-k.invariant.taken.done
 
 pub returns-clause-rooms : goal.returns-clause-rooms
-returns-clause-rooms g c = c.loop-k.invariant.rooms
+returns-clause-rooms g c = c.loop-k.invariant.taken.rooms
 
 pub returns-clause-untold : goal.returns-clause-untold
 returns-clause-untold g c = done_all SeatOpensUntold c.loop-k.k c.args.seats.now c.loop-k.seats (search rules)
-    c.loop-k.invariant.untold
+    c.loop-k.invariant.taken.untold
 
 pub returns-in_err-open_bit-clause-stops : goal.returns-in_err-open_bit-clause-stops
 returns-in_err-open_bit-clause-stops g c =
     let E = g.E.BusEnd in let k = c.loop-k.k in let s = c.index-seats-k.result in let f = c.in_err-open_bit.field-0.0 in
-    let before = c.args.seats.now in let inv = c.loop-k.invariant in let new = c.open_bit.new.self in
+    let before = c.args.seats.now in let inv = c.loop-k.invariant.taken in let new = c.open_bit.new.self in
     let was : k < length before = search rules in
     let O = SeatOpens (g.B.Board.orders_are c.args.board.now) in
     let is : c.from_residual.result ≡ Err f = search rules in
@@ -80,3 +92,8 @@ returns-in_err-open_bit-clause-stops g c =
           c.args.links.now c.loop-k.links c.open_bit.new.links k s new f was c.loop-k.auto.seats inv.ready
           inv.goes inv.done full)
     ])
+
+pub returns-clause-facts : goal.returns-clause-facts
+returns-clause-facts g c = λ k few.
+    let all : length c.args.seats.now ≤ c.loop-k.k = search rules in
+    c.loop-k.invariant.facts k (omega (arith, few, all))

@@ -12,9 +12,17 @@ loop-k-preserved g c =
     c.number.ensures ∙ ap (λ (x : Seat). (link_of x.ledger).node) c.index-seats-k.is
     ∙ (c.requires.ready k seat few).own in
     let O : ℕ → Type 0 = λ m. g.B.Board.orders_are c.args.board.now m c.orders.result in
-    let asked : O k = subst O node c.orders.ensures in
+    let asked : O k = subst O node c.orders.ensures.orders in
+    let F : ℕ → Type 0 = λ m. g.B.Board.facts c.args.board.now m in
+    let fact : F k = subst F node c.orders.ensures.facts in
     let none : c.orders.result.abort ≡ false = search rules in
-    λ m h. elim (earlier_or_now m k h) [
-      | inl before ↦ c.loop-k.invariant m before
-      | inr now ↦ (c.orders.result, subst O (sym now) asked, none)
-    ]
+    record {
+      orders = λ m h. elim (earlier_or_now m k h) [
+        | inl before ↦ c.loop-k.invariant.orders m before
+        | inr now ↦ (c.orders.result, subst O (sym now) asked, none)
+      ];
+      facts = λ m h. elim (earlier_or_now m k h) [
+        | inl before ↦ c.loop-k.invariant.facts m before
+        | inr now ↦ subst F (sym now) fact
+      ];
+    }

@@ -10,13 +10,16 @@ use Rattle.sja_bus.proofs.AllNodes.RunningOn.{facts_of_bit, passes, none_still, 
 use Rattle.sja_bus.proofs.bits.untaken_bits.Goals.{In-Ok}
 use Rattle.sja_bus.proofs.bits.untaken_bits.Goals as goal
 
--- what holds of every board held before that bit, and does after it
-facts : (g : _) (c : In-Ok g) → g.B.Board.facts c.sample_all.new.board
+-- what holds of the port of each node held before that bit, and does after it
+facts : (g : _) (c : In-Ok g) → (k : ℕ) → k < length c.loop-run.seats → g.B.Board.facts c.sample_all.new.board k
 facts g c =
-    let B = g.B.Board in let F : _ → Type 0 = λ x. B.facts x in
+    let B = g.B.Board in let same = c.loop-run.auto.seats in let before = c.loop-run.invariant.board in
+    let ports = c.requires.seated.ports in let p = ap B.ports before in
     facts_of_bit B g.met.B.Board.facts_go_on c.none.result c.loop-run.level c.loop-run.seats c.sample_all.new.seats
-    c.loop-run.board c.sample_all.new.board c.sample_all.ensures.board c.in-Ok.ensures.turns
-    (subst F (sym c.loop-run.invariant.board) c.requires.facts)
+    c.loop-run.board c.sample_all.new.board (omega (arith, ports, same, p)) c.sample_all.ensures.board
+    c.in-Ok.ensures.turns
+    (λ k few. let F : _ → Type 0 = λ x. B.facts x k in
+    subst F (sym before) (c.requires.facts k (omega (arith, few, same))))
 
 -- the bits so far, and one more that went well
 runs_more : (g : _) (c : In-Ok g) → RowsRun g.E.BusEnd g.B.Board c.args.to_rest c.args.struck.now.script
@@ -99,13 +102,6 @@ returns-then-end-clause-rooms g c = λ n h. c.in-Ok.ensures.rooms n (c.loop-run.
 
 pub returns-then-end-clause-runs : goal.returns-then-end-clause-runs
 returns-then-end-clause-runs g c = runs_more g (goal.at.returns-then-end-clause-runs g c).In-Ok
-
-pub returns-then-end-clause-facts : goal.returns-then-end-clause-facts
-returns-then-end-clause-facts g c = facts g (goal.at.returns-then-end-clause-facts g c).In-Ok
-
-pub returns-clause-facts : goal.returns-clause-facts
-returns-clause-facts g c = let F : _ → Type 0 = λ x. g.B.Board.facts x in
-    subst F (sym c.loop-run.invariant.board) c.requires.facts
 
 pub loop-run-preserved : goal.loop-run-preserved
 loop-run-preserved g c =

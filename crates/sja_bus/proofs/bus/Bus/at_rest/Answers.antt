@@ -5,11 +5,18 @@ use Rattle.sja_link.specs.Records.{record_of}
 use Rattle.sja_bus.specs.declared.seat.Seat.{Seat}
 use Rattle.sja_bus.specs.Buses.{BusValue}
 use Rattle.sja_wire.specs.Wire.{journal_at}
+use Rattle.sja_wire.specs.Lawful.{IsBusRun}
 use Rattle.sja_bus.specs.Resting.{RestsAs}
 use Rattle.sja_bus.specs.Inside.Rows.{journals_of}
-use Rattle.sja_bus.proofs.AllNodes.Running.{count_is}
+use Rattle.sja_bus.proofs.AllNodes.Running.{count_is, bus_run}
 use Rattle.sja_bus.proofs.Resting.Rests.{rests_at}
 use Rattle.sja_bus.proofs.bus.Bus.at_rest.Goals as goal
+
+pub returns-clause-lawful : goal.returns-clause-lawful
+returns-clause-lawful c =
+    let b = c.self.inside in
+    let P : BusValue → Type 0 = λ w. w.fault ≡ None → IsBusRun w.script w.run w.journals in
+    subst P c.self.view_is (λ f. bus_run b.struck.script b.run b.seats.items (c.self.invariant.0.bus f))
 
 pub returns-clause-rest : goal.returns-clause-rest
 returns-clause-rest c =

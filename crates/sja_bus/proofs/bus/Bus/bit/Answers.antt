@@ -145,7 +145,11 @@ returns-in-Ok-clause-bit g c = record {
       let F : BusValue → Type 0 = λ w. (w.fault ≡ None) × (w.left ≢ 0) in
       let right : b.fault ≡ None = (subst F (sym c.self.view_is) c.in_ok-goes_on.ensures.ok).0 in
       bus_run b.struck.script (b.run + 1) _ ((whole g (goal.at.returns-in-Ok-clause-bit g c).In-Ok).bus right);
-  facts = c.keeps_its_facts.ensures;
+  facts = λ k few.
+      let seats = c.self.inside.seats.items in let nodes = count_is seats in
+      let same = ap (λ (l : List Seat). length l) c.as_mut_slice.ensures.value in
+      let journals = ap (λ (w : BusValue). length w.journals) c.self.view_is in
+      c.in-Ok.ensures.facts k (omega (arith, few, nodes, same, journals));
 }
 
 pub returns-in_err-goes_on-clause-reason : goal.returns-in_err-goes_on-clause-reason

@@ -106,9 +106,6 @@ run_untaken_bits-requires-clause-fit g c = let fit = c.requires in
     (kept g (goal.at.run_untaken_bits-requires-clause-fit g c).After-bit)
     (record { count = fit.count; ids = fit.ids; ports = fit.ports })
 
-pub run_untaken_bits-requires-clause-facts : goal.run_untaken_bits-requires-clause-facts
-run_untaken_bits-requires-clause-facts g c = c.in_ok-bit.ensures.bit.facts
-
 pub returns-in_err-run-clause-keeps : goal.returns-in_err-run-clause-keeps
 returns-in_err-run-clause-keeps g c =
     let at = goal.at.returns-in_err-run-clause-keeps g c in

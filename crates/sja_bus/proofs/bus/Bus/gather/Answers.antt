@@ -3,17 +3,36 @@ use Rattle.std.proofs.lemmas.Grind.{common_steps}
 use Rattle.std.specs.Prelude.{vec_capacity}
 use Rattle.lemmas.proofs.Related.{each_refl}
 use Rattle.sja_bus.specs.declared.seat.Seat.{Seat}
+use Rattle.sja_wire.specs.Lawful.{IsBusRun}
 use Rattle.sja_wire.specs.OneBit.{MayHaveItems}
 use Rattle.sja_bus.specs.Buses.{BusValue, EachJournal, EachUntold, AllDry}
 use Rattle.sja_bus.specs.Inside.Rows.{journals_of, untold_of, EachSeat, SeatTakes, SeatUntold}
 use Rattle.sja_bus.specs.Inside.Whole.{IsWhole}
 use Rattle.sja_bus.specs.Reasons.{room_for, IsTakenAndRefused}
 use Rattle.sja_bus.specs.Inside.Refusing.{HaveRoom, SeatRefuses}
-use Rattle.sja_bus.proofs.AllNodes.Running.{wired_taken}
+use Rattle.sja_bus.proofs.AllNodes.Running.{wired_taken, bus_run}
 use Rattle.sja_bus.proofs.AllNodes.Journals.{all_items, all_dry, all_untold, calm_taken}
 use Rattle.sja_bus.proofs.ItemsTaken.Refusing.{not_taken}
 use Rattle.sja_bus.proofs.Links.WrittenBack.{keeps_back}
 use Rattle.sja_bus.proofs.bus.Bus.gather.Goals as goal
+
+pub returns-in-Some-clause-lawful : goal.returns-in-Some-clause-lawful
+returns-in-Some-clause-lawful g c =
+    let b = c.self.inside in
+    let P : BusValue → Type 0 = λ w. w.fault ≡ None → IsBusRun w.script w.run w.journals in
+    subst P c.self.view_is (λ f. bus_run b.struck.script b.run b.seats.items (c.self.invariant.0.bus f))
+
+pub returns-in-Ok-clause-lawful : goal.returns-in-Ok-clause-lawful
+returns-in-Ok-clause-lawful g c =
+    let b = c.self.inside in
+    let P : BusValue → Type 0 = λ w. w.fault ≡ None → IsBusRun w.script w.run w.journals in
+    subst P c.self.view_is (λ f. bus_run b.struck.script b.run b.seats.items (c.self.invariant.0.bus f))
+
+pub returns-in-Err-clause-lawful : goal.returns-in-Err-clause-lawful
+returns-in-Err-clause-lawful g c =
+    let b = c.self.inside in
+    let P : BusValue → Type 0 = λ w. w.fault ≡ None → IsBusRun w.script w.run w.journals in
+    subst P c.self.view_is (λ f. bus_run b.struck.script b.run b.seats.items (c.self.invariant.0.bus f))
 
 pub returns-in-Some-clause-sames : goal.returns-in-Some-clause-sames
 returns-in-Some-clause-sames g c = each_refl g.E.BusEnd.same g.met.E.BusEnd.same_refl c.args.links.now

@@ -1,4 +1,5 @@
-use Rattle.std.proofs.Common.{◌≡◌, ◌+◌, ◌-◌, ◌≤◌, ℕ, List, ◌++◌, length, take, drop, refl, sym, ap, ◌∙◌, subst, arith}
+use Rattle.std.proofs.Common.{◌≡◌, ◌+◌, ◌-◌, ◌≤◌, ℕ, true, List, ◌++◌, length, take, drop, refl, sym, ap, ◌∙◌, subst}
+use Rattle.std.proofs.Common.{arith, rules}
 use Rattle.std.proofs.lemmas.Grind.{common_steps}
 use Rattle.std.specs.Prelude.{vec_capacity}
 use Rattle.sja_bus.specs.declared.seat.Seat.{Seat}
@@ -107,7 +108,6 @@ loop-run-init g c =
       few = omega arith;
       whole = c.self.invariant.0;
       empty = c.self.invariant.1;
-      facts = c.requires.facts;
       far = subst P c.self.view_is (none_yet g.E.BusEnd g.B.Board (AnyBit g.E.BusEnd g.B.Board) g.met.E.BusEnd.same_refl
           g.met.B.Board.kept_refl
           c.args.to_rest (moment was c.args.links.now c.args.board.now)
@@ -131,6 +131,13 @@ untaken_bits-requires-clause-seated g c =
       ready = (inv.whole.bus inv.far.right).ready;
       ports = omega (arith, nodes, ports);
     })
+
+pub untaken_bits-requires-clause-facts : goal.untaken_bits-requires-clause-facts
+untaken_bits-requires-clause-facts g c = λ k few.
+    let may : c.may_run_untaken.result ≡ true = search rules in
+    let old = ap (λ (l : List Seat). length l) c.as_slice.ensures.value in
+    let new = ap (λ (l : List Seat). length l) c.as_mut_slice-seats.ensures.value in
+    c.may_run_untaken.ensures.facts may k (omega (arith, few, old, new))
 
 pub invariant_of-self-in-Ok-eq0 : goal.invariant_of-self-in-Ok-eq0
 invariant_of-self-in-Ok-eq0 g c =
@@ -158,7 +165,6 @@ loop-run-preserved g c =
       few = omega (arith, early, most);
       whole = still_whole g at n (b.run + n) (b.left - n) most refl refl c.in-Ok.ensures.runs.bus c.in-Ok.ensures.rooms;
       empty = c.loop-run.invariant.empty;
-      facts = c.in-Ok.ensures.facts;
       far = more g at n (b.run + n) (b.left - n) (c.loop-run.run + n) _ most refl refl refl
           (ends g at (b.run + n) (b.left - n) _ (are_back g at)) c.in-Ok.ensures.runs;
     }

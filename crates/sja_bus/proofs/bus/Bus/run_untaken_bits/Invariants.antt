@@ -11,7 +11,6 @@ invariant-loop-run g l = let b = l.self-inside in record {
   few : l.run ≤ l.count;
   whole : IsWhole b.struck b.run b.left b.fault b.seats.items (vec_capacity b.logs);
   empty : b.logs.items ≡ [];
-  facts : g.B.Board.facts l.board;
   far : IsSoFar g.E.BusEnd g.B.Board (AnyBit g.E.BusEnd g.B.Board) l.to_rest
       (moment l.fn.self l.fn.links l.fn.board) l.run (moment
       (bus_with b.struck.script b.run b.left b.fault b.seats.items) l.links l.board);

@@ -20,7 +20,7 @@ returns-then-ordered-clause-goes g c =
 pub returns-then-ordered-clause-opens : goal.returns-then-ordered-clause-opens
 returns-then-ordered-clause-opens g c =
     let P : ℕ → Type 0 = λ n. g.B.Board.orders_are c.args.board.now n c.orders-ordered.result in
-    let are = subst P (c.number.ensures ∙ c.gather.ensures.stays.node) c.orders-ordered.ensures in
+    let are = subst P (c.number.ensures ∙ c.gather.ensures.stays.node) c.orders-ordered.ensures.orders in
     let yes : c.orders-ordered.result.abort ≡ true = search rules in
     ok_map c.abort.result (λ a. record {
       taken = c.gather.new.self.journal.entries;
@@ -38,7 +38,7 @@ pub returns-else-ordered-clause-opens : goal.returns-else-ordered-clause-opens
 returns-else-ordered-clause-opens g c =
     let k = c.gather.new.self.journal.entries in
     let P : ℕ → Type 0 = λ n. g.B.Board.orders_are c.args.board.now n c.orders-ordered.result in
-    let are = subst P (c.number.ensures ∙ c.gather.ensures.stays.node) c.orders-ordered.ensures in
+    let are = subst P (c.number.ensures ∙ c.gather.ensures.stays.node) c.orders-ordered.ensures.orders in
     let no : c.orders-ordered.result.abort ≡ false = search rules in
     record {
       taken = k;
@@ -65,7 +65,7 @@ pub returns-then-ordered-clause-stops : goal.returns-then-ordered-clause-stops
 returns-then-ordered-clause-stops g c =
     let E = g.E.BusEnd in let mid = c.gather.new.self in
     let O : ℕ → Type 0 = λ n. g.B.Board.orders_are c.args.board.now n c.orders-ordered.result in
-    let are = subst O (c.number.ensures ∙ c.gather.ensures.stays.node) c.orders-ordered.ensures in
+    let are = subst O (c.number.ensures ∙ c.gather.ensures.stays.node) c.orders-ordered.ensures.orders in
     let yes : c.orders-ordered.result.abort ≡ true = search rules in
     err_both c.abort.result
     (λ due f full. inr (full_for_abort E.same E.stands c.args.self.now mid c.abort.new.self c.args.links.now
@@ -74,3 +74,14 @@ returns-then-ordered-clause-stops g c =
     (g.B.Board.orders_are c.args.board.now (link_of c.args.self.now.ledger).node) c.orders-ordered.result are
     yes due full))
     c.abort.ensures.due c.abort.ensures.full
+
+pub returns-then-ordered-clause-facts : goal.returns-then-ordered-clause-facts
+returns-then-ordered-clause-facts g c =
+    let F : ℕ → Type 0 = λ n. g.B.Board.facts c.args.board.now n in
+    ok_map c.abort.result (λ a. subst F (c.number.ensures ∙ c.gather.ensures.stays.node) c.orders-ordered.ensures.facts)
+    c.abort.ensures.aborts
+
+pub returns-else-ordered-clause-facts : goal.returns-else-ordered-clause-facts
+returns-else-ordered-clause-facts g c =
+    let F : ℕ → Type 0 = λ n. g.B.Board.facts c.args.board.now n in
+    subst F (c.number.ensures ∙ c.gather.ensures.stays.node) c.orders-ordered.ensures.facts

@@ -74,7 +74,7 @@ unreachable-requires c =
     none_refused c.args.plan.now b.bus b.drivers.items b.board.ports.items c.as_mut_slice-links.result.now
     b.links.items b.bits c.args.self.now c.as_mut_slice-links.ensures.value c.self.view_is deeds h c.from-index.result
     (there at) c.index_mut.result.now c.index_mut-port.result.now c.index_mut.ensures.value
-    c.index_mut-port.ensures.value c.keeps_its_laws.ensures (left at deeds h c.if-next-steps.false)
+    c.index_mut-port.ensures.value c.gather.ensures.lawful (left at deeds h c.if-next-steps.false)
     c.step-done.new.self c.step-done.new.port c.step-done.new.links c.gather.new.links c.first_link.result
     c.index-steps-next.result c.step-done.result c.first_link.ensures c.step-done.ensures.steps
     c.step-done.ensures.stays c.gather.new.self.journals c.in-Err.field-0 most c.in-Err.ensures.reason
@@ -115,7 +115,7 @@ did c deeds h node there done less =
     c.args.self.now c.as_mut_slice-links.ensures.value c.self.view_is in
     let t = is_tried plan b.bus b.drivers.items b.board.ports.items slice b.links.items b.bits c.args.self.now
     c.as_mut_slice-links.ensures.value c.self.view_is deeds h i there c.index_mut.result.now
-    c.index_mut-port.result.now c.index_mut.ensures.value c.index_mut-port.ensures.value c.keeps_its_laws.ensures less
+    c.index_mut-port.result.now c.index_mut.ensures.value c.index_mut-port.ensures.value c.gather.ensures.lawful less
     c.step-done.new.self c.step-done.new.port c.step-done.new.links c.gather.new.links c.first_link.result one
     c.step-done.result c.first_link.ensures c.step-done.ensures.steps c.step-done.ensures.stays c.gather.new.self is
     ok.right g.bits.0 g.script g.bits.1 g.nodes ok.kept ok.items ok.untold ok.dry g.sames

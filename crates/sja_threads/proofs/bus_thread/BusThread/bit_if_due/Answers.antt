@@ -17,7 +17,7 @@ returns-then-at_rest-clause-rests g c = λ rests.
 pub returns-then-self-bits-clause-on : goal.returns-then-self-bits-clause-on
 returns-then-self-bits-clause-on g c =
     let w = c.requires.way in
-    spent_now c.args.plan.now c.args.self.now w (search rules) (c.keeps_its_laws.ensures w.right)
+    spent_now c.args.plan.now c.args.self.now w (search rules) (c.at_rest.ensures.lawful w.right)
     (c.at_rest.ensures.busy w.right c.if-at_rest.false)
 
 pub returns-clause-on : goal.returns-clause-on
@@ -29,7 +29,7 @@ returns-clause-on g c =
     let those : (with_items links c.bit.new.links).items ≡ c.bit.new.links =
     with_items_is links c.bit.new.links (omega (arith, c.bit.auto.links, c.as_mut_slice.ensures.len)) in
     after_bit c.args.self.now _ c.as_mut_slice.result.now c.bit.new.links c.as_mut_slice.ensures.value those k.script
-    k.nodes k.sames c.args.plan.now w o.right o.kept _ _ _ (o.run, o.left) (c.keeps_its_laws.ensures w.right)
+    k.nodes k.sames c.args.plan.now w o.right o.kept _ _ _ (o.run, o.left) (c.at_rest.ensures.lawful w.right)
     (c.at_rest.ensures.busy w.right c.if-at_rest.false) (search rules) o.bit refl refl
 
 pub returns-in_err-bit-clause-fault : goal.returns-in_err-bit-clause-fault
@@ -39,4 +39,4 @@ returns-in_err-bit-clause-fault g c =
     let is : c.from_residual.result ≡ Err f = search rules in
     err_is (StopsFor c.args.plan.now) c.from_residual.result f is
     (stops_bit c.args.plan.now c.args.self.now c.bit.new.self c.as_mut_slice.result.now c.bit.new.links f w
-    (c.keeps_its_laws.ensures w.right) (search rules) (c.in_err-bit.ensures.reason w.right))
+    (c.at_rest.ensures.lawful w.right) (search rules) (c.in_err-bit.ensures.reason w.right))

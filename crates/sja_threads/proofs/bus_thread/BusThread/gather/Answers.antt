@@ -17,4 +17,4 @@ returns-clause-on c =
 pub returns-clause-fault : goal.returns-clause-fault
 returns-clause-fault c =
     stops_gather c.args.self.now c.gather.new.self c.as_mut_slice.result.now c.gather.new.links c.gather.result
-    c.keeps_its_laws.ensures c.gather.ensures.reason
+    c.gather.ensures.lawful c.gather.ensures.reason
