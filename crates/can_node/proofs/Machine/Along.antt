@@ -1,24 +1,14 @@
 -- The context along the entries of a piece.
-use Rattle.std.proofs.Common.{◌≡◌, Bool, true, false, ◌&&◌, ◌||◌, ◌==◌, ◌+◌, ◌-◌, ◌%◌}
-use Rattle.std.proofs.Common.{length, not, Option, Some, None, is_some, List, [], ◌∷◌, ◌++◌}
-use Rattle.std.proofs.Common.{fold, refl, ap, sym, subst, ◌∙◌, append_assoc, if◌then◌else◌}
+use Rattle.std.proofs.Common.{◌≡◌, Bool, true, false}
+use Rattle.std.proofs.Common.{None, List, [], ◌∷◌, ◌++◌}
+use Rattle.std.proofs.Common.{refl, ap, sym, subst, ◌∙◌, append_assoc, if◌then◌else◌}
 use Rattle.std.proofs.lemmas.List.{append-nil}
-use Rattle.can_bits.specs.declared.level.Level.{Level}
-use Rattle.can_bits.specs.declared.level.Level.TheVariants.{Dominant, Recessive}
-use Rattle.can_node.specs.declared.role.Role.{Role}
-use Rattle.can_node.specs.declared.role.Role.TheVariants.{Transmitter, Receiver}
-use Rattle.can_node.specs.declared.flag_kind.FlagKind.{FlagKind}
-use Rattle.can_node.specs.declared.flag_kind.FlagKind.TheVariants.{ActiveError, PassiveError, Overload}
-use Rattle.can_node.specs.declared.request.Request.{Request}
-use Rattle.can_node.specs.Bits.{Bit, seen_of}
+use Rattle.can_node.specs.Bits.{Bit}
 use Rattle.can_node.specs.Context.{ContextValue, owes_suspension}
-use Rattle.can_node.specs.Counting.{at_bit, next_run, ends_eleven, are_dominant, first_bit, frame_bit}
-use Rattle.can_node.specs.Counting.{lost_by, lose, drop_failed, if_acknowledged, if_ack_step_owed}
-use Rattle.can_node.specs.Counting.{delimiter_level, if_eighth, after_error_flag, more_by, more_tec}
+use Rattle.can_node.specs.Counting.{at_bit}
 use Rattle.can_node.specs.Effects.{along, with_send, with_abort, is_in_progress}
-use Rattle.can_node.specs.Pieces.{Place, sent_at}
-use Rattle.can_node.specs.Pieces.Place.{AtReset, AtIntegration, AtIdle, AfterSof}
-use Rattle.can_node.specs.Pieces.Place.{AtLastEofBit, AtFlag, AtDelimiter, AtInterframeSpace}
+use Rattle.can_node.specs.Pieces.{Place}
+use Rattle.can_node.specs.Pieces.Place.{AtInterframeSpace}
 use Rattle.can_node.specs.Record.{RecordEntry, bits_in}
 use Rattle.can_node.specs.Record.RecordEntry.{Start, Stop, OneBit, Send, Abort, BusOff}
 use Rattle.can_node.specs.Inside.Standing.{IsKept}

@@ -1,33 +1,16 @@
 -- A bit takes no request: one that is held after it was held before it.
-use Rattle.std.proofs.Common.{◌≡◌, ◌%◌, ◌+◌, ◌==◌, ◌&&◌, ◌||◌, not, fold, length, Bool, true, false, nat_le, Option}
-use Rattle.std.proofs.Common.{Some, None, is_some, ℕ, min, ◌-◌, List, [], ◌∷◌, inl, inr, refl, sym, ◌∙◌}
+use Rattle.std.proofs.Common.{◌≡◌, Bool, true, false, nat_le}
+use Rattle.std.proofs.Common.{Some, None, List, inl, inr, sym, ◌∙◌}
 use Rattle.std.proofs.Common.{if◌then◌else◌}
-use Rattle.can_bits.specs.declared.level.Level.{Level}
-use Rattle.can_bits.specs.declared.level.Level.TheVariants.{Dominant, Recessive}
 use Rattle.can_node.specs.declared.after_bit.AfterBit.{AfterBit}
 use Rattle.can_node.specs.declared.after_bit.AfterBit.TheVariants.{InPiece, Ended}
 use Rattle.can_node.specs.declared.ending.Ending.{Ending}
-use Rattle.can_node.specs.declared.cause.Cause.{Cause}
-use Rattle.can_node.specs.declared.cause.Cause.TheVariants.{Bit as BitError, Stuff as StuffError}
-use Rattle.can_node.specs.declared.cause.Cause.TheVariants.{Form as FormError, Crc as CrcError, Ack as AckError}
-use Rattle.can_node.specs.declared.fault_site.FaultSite.{FaultSite}
-use Rattle.can_node.specs.declared.fault_site.FaultSite.TheVariants.{InTransmission, InReception, InFlag, InDelimiter}
-use Rattle.can_node.specs.declared.flag_kind.FlagKind.{FlagKind}
-use Rattle.can_node.specs.declared.flag_kind.FlagKind.TheVariants.{ActiveError, PassiveError, Overload}
-use Rattle.can_node.specs.declared.role.Role.{Role}
-use Rattle.can_node.specs.declared.role.Role.TheVariants.{Transmitter, Receiver}
 use Rattle.can_node.specs.declared.request.Request.{Request}
-use Rattle.can_node.specs.Bits.{Bit, seen_of}
-use Rattle.can_node.specs.Context.{ContextValue, is_passive}
-use Rattle.can_node.specs.Pieces.{Place, Piece, sent_at}
-use Rattle.can_node.specs.Pieces.Place.{AtReset, AtIntegration, AtIdle, AfterSof}
-use Rattle.can_node.specs.Pieces.Place.{AtLastEofBit, AtFlag, AtDelimiter, AtInterframeSpace}
-use Rattle.can_node.specs.Pieces.Piece.{Integration, IdleBit, Reception, Transmission, Fault, LastEofBit, Flag}
-use Rattle.can_node.specs.Pieces.Piece.{Delimiter, InterframeSpace, InterframeSpaceWithSof, InterframeSpaceBroken}
-use Rattle.can_node.specs.Counting.{at_bit, next_run, ends_eleven, first_bit, frame_bit, lost_by}
-use Rattle.can_node.specs.Counting.{drop_failed, if_acknowledged, if_ack_step_owed, delimiter_level}
-use Rattle.can_node.specs.Counting.{if_eighth, are_dominant, after_error_flag, more_by}
-use Rattle.can_node.specs.Effects.{closed, own_step, transmitter_fault, fault_step, entering, with_off}
+use Rattle.can_node.specs.Bits.{Bit}
+use Rattle.can_node.specs.Context.{ContextValue}
+use Rattle.can_node.specs.Pieces.{Place}
+use Rattle.can_node.specs.Counting.{at_bit}
+use Rattle.can_node.specs.Effects.{closed, with_off}
 use Rattle.can_node.specs.Inside.Turns.{resulted, off_if, piece_of, next_of}
 use Rattle.can_node.proofs.Machine.Changes.{KeepsRequest, bit_changes, end_keeps}
 

@@ -1,32 +1,16 @@
 -- What a bit does to the request that a node holds: it stays with its mark, or it ends.
-use Rattle.std.proofs.Common.{◌≡◌, ◌%◌, ◌+◌, ◌==◌, ◌&&◌, ◌||◌, ◌⊎◌, not, fold, length, Bool, true, false, nat_le}
-use Rattle.std.proofs.Common.{Option, Some, None, is_some, ℕ, min, ◌-◌, List, [], ◌∷◌, inl, inr, refl, sym, ap, ◌∙◌}
+use Rattle.std.proofs.Common.{◌≡◌, ◌&&◌, ◌||◌, not, Bool, true, false, nat_le}
+use Rattle.std.proofs.Common.{Some, None, is_some, List, inl, inr, refl, sym, ap, ◌∙◌}
 use Rattle.std.proofs.Common.{if◌then◌else◌}
 use Rattle.std.specs.Prelude.{slice_index_or}
-use Rattle.can_bits.specs.declared.level.Level.{Level}
-use Rattle.can_bits.specs.declared.level.Level.TheVariants.{Dominant, Recessive}
-use Rattle.can_node.specs.declared.cause.Cause.{Cause}
-use Rattle.can_node.specs.declared.cause.Cause.TheVariants.{Bit as BitError, Stuff as StuffError, Form as FormError}
-use Rattle.can_node.specs.declared.cause.Cause.TheVariants.{Crc as CrcError, Ack as AckError}
-use Rattle.can_node.specs.declared.fault_site.FaultSite.{FaultSite}
-use Rattle.can_node.specs.declared.fault_site.FaultSite.TheVariants.{InTransmission, InReception, InFlag, InDelimiter}
-use Rattle.can_node.specs.declared.flag_kind.FlagKind.{FlagKind}
-use Rattle.can_node.specs.declared.flag_kind.FlagKind.TheVariants.{ActiveError, PassiveError, Overload}
-use Rattle.can_node.specs.declared.role.Role.{Role}
-use Rattle.can_node.specs.declared.role.Role.TheVariants.{Transmitter, Receiver}
-use Rattle.can_node.specs.declared.request.Request.{Request}
 use Rattle.can_node.specs.declared.outcome.Outcome.TheVariants.{Sent, Failed}
-use Rattle.can_node.specs.Bits.{Bit, seen_of}
-use Rattle.can_node.specs.Context.{ContextValue, is_passive, is_held}
-use Rattle.can_node.specs.Pieces.{Place, Piece, sent_at}
-use Rattle.can_node.specs.Pieces.Place.{AtReset, AtIntegration, AtIdle, AfterSof, AtLastEofBit, AtFlag, AtDelimiter}
-use Rattle.can_node.specs.Pieces.Place.{AtInterframeSpace}
+use Rattle.can_node.specs.Bits.{Bit}
+use Rattle.can_node.specs.Context.{ContextValue, is_held}
+use Rattle.can_node.specs.Pieces.{Place, Piece}
 use Rattle.can_node.specs.Pieces.Piece.{Integration, IdleBit, Reception, Transmission, Fault, LastEofBit, Flag}
 use Rattle.can_node.specs.Pieces.Piece.{Delimiter, InterframeSpace, InterframeSpaceWithSof, InterframeSpaceBroken}
-use Rattle.can_node.specs.Counting.{at_bit, next_run, ends_eleven, first_bit, frame_bit, lost_by, drop_failed}
-use Rattle.can_node.specs.Counting.{if_acknowledged, if_ack_step_owed, delimiter_level, if_eighth, are_dominant}
-use Rattle.can_node.specs.Counting.{after_error_flag, more_by}
-use Rattle.can_node.specs.Effects.{closed, own_step, transmitter_fault, fault_step, entering}
+use Rattle.can_node.specs.Counting.{at_bit}
+use Rattle.can_node.specs.Effects.{closed, own_step}
 use Rattle.can_node.specs.Events.{Step, stepped, sends_by, sends_in, ended_in}
 use Rattle.can_node.specs.Events.Step.{Within, Finishes}
 use Rattle.can_node.specs.FinishedPieces.{Count, FinishedPiece}

@@ -1,6 +1,6 @@
 -- What a step leaves of TBS, of a standing abort and of the activation, by what it gives.
 use Rattle.std.proofs.Common.{◌≡◌, ◌≢◌, ℕ, Bool, true, false, List, [], ◌∷◌, refl}
-use Rattle.std.specs.Prelude.{◌&&◌, not, if◌then◌else◌, Option, Some, None}
+use Rattle.std.specs.Prelude.{◌&&◌, not, if◌then◌else◌, Some, None}
 use Rattle.can_frame.specs.declared.seen.Seen.{Seen}
 use Rattle.can_node.specs.declared.request.Request.{Request}
 use Rattle.sja_link.specs.declared.up.Up.{Up}

@@ -1,6 +1,6 @@
 -- A journal with an entry more.
-use Rattle.std.proofs.Common.{◌≡◌, ℕ, ◌+◌, ◌<◌, ◌≤◌, Bool, true, false, List, [], ◌∷◌, ◌++◌, length, refl, sym, ap, ◌∙◌}
-use Rattle.std.proofs.Common.{append_assoc, append-nil, arith, inl, inr, cond, zero-add}
+use Rattle.std.proofs.Common.{◌≡◌, ℕ, ◌+◌, ◌<◌, ◌≤◌, Bool, true, false, List, [], ◌∷◌, ◌++◌, length, refl, ap, ◌∙◌}
+use Rattle.std.proofs.Common.{append-nil, arith, inl, inr, cond, zero-add}
 use Rattle.std.specs.Prelude.{◌==◌}
 use Rattle.std.proofs.lemmas.Bool.{cases_eq, eq-eqb, ne_eqb}
 use Rattle.sja_link.specs.NodeWords.{Count, none_yet, counted}
@@ -16,7 +16,7 @@ use Rattle.sja_link.specs.Parts.{in_part, of_part, entry_at, part}
 use Rattle.sja_link.specs.Carried.{bits_of, taken_in, put_in, taken_of, put_of}
 use Rattle.sja_link.specs.Accounts.{Account, account, with_entry}
 use Rattle.sja_link.specs.Records.{told, told_at, record_of}
-use Rattle.lemmas.proofs.Gathered.{gathered_append, gathered_push}
+use Rattle.lemmas.proofs.Gathered.{gathered_push}
 
 -- ---- places
 

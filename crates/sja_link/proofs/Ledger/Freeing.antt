@@ -1,14 +1,12 @@
 -- The bytes that are free in a part with an entry more.
-use Rattle.std.proofs.Common.{◌≡◌, ◌≢◌, ℕ, ◌+◌, ◌<◌, ◌≤◌, List, [], ◌∷◌, ◌++◌, length, refl, sym, ap, ◌∙◌, arith}
-use Rattle.std.proofs.Common.{add_assoc, add-zero, zero-add}
+use Rattle.std.proofs.Common.{◌≡◌, ◌≢◌, ℕ, ◌+◌, ◌<◌, ◌≤◌, List, [], ◌∷◌, ◌++◌, length, refl, arith}
 use Rattle.sja_link.specs.declared.up.Up.{Up}
 use Rattle.sja_link.specs.declared.up.Up.TheVariants.{Start, Credit, Send, Stop}
 use Rattle.sja_link.specs.declared.entry.Entry.{Entry}
 use Rattle.sja_link.specs.declared.entry.Entry.TheVariants.{Up as Item, Stored, Overrun}
 use Rattle.sja_link.specs.Verdicts.{IsFair}
-use Rattle.lemmas.specs.Gathering.{total}
 use Rattle.sja_link.specs.Free.{credit_in, bytes_in, free_of, IsFree}
-use Rattle.lemmas.proofs.Gathered.{total_append, total_push}
+use Rattle.lemmas.proofs.Gathered.{total_push}
 
 -- what is free is the definition's number
 pub free_is : (p : List Entry) (n : ℕ) → IsFree p n → n ≡ free_of p
