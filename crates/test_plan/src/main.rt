@@ -1,18 +1,17 @@
 //! Plans row by row: each line of the input is made a document, and what reading it answers is printed behind it.
 //!
-//! A line that begins with `== ` is the title of the rows below it, and one that begins with `-- ` their form. [`row`]
-//! says what document a row is, and [`answer`] how the answer is written. The answers that are wanted stand in the file
-//! `stdout`, and are written by hand from the format of plans.
+//! A line that begins with `== ` is the title of the rows below it, and one that begins with `-- ` their form.
+//! `test_rows` says what document a row is, and [`answer`] how the answer is written. The answers that are wanted stand
+//! in the file `stdout`, and are written by hand from the format of plans.
 #![tactic(auto)]
 
 mod answer;
-mod row;
 
 use answer::answer;
-use row::document;
 use std::alloc::Global;
 use std::io;
 use std::process::ExitCode;
+use test_rows::document;
 
 /// Answers the exit status: 0 for done, 1 where memory was refused or a read or a write failed.
 fn main(rt: HostRuntime) -> ExitCode {

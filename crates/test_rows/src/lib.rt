@@ -1,4 +1,7 @@
-//! Documents of rows.
+//! Documents of plans that stand in rows of text, for the programs `test_plan`, `test_plan_text` and `test_check`.
+//!
+//! A row is put into a form, which the lines of `stdin` with `-- ` before them give. `docs/CARRY-ON.md` has an example.
+#![tactic(auto)]
 
 use percent_encoding::percent_decode_str;
 use std::alloc::{AllocError, Global};
