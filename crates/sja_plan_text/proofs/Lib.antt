@@ -1,0 +1,12 @@
+mod Words
+mod Messages
+mod Steps
+mod Turns
+mod Strikes
+mod Lists
+mod ReadPlans
+mod Values
+mod Shapes
+mod Plans
+mod Lines
+mod Parsed

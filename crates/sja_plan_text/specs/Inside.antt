@@ -1,0 +1,2 @@
+-- The table that stands for a plan while it is written.
+pub mod Table

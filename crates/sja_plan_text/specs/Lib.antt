@@ -1,0 +1,4 @@
+pub mod Texts
+pub mod HasTexts
+pub mod Document
+pub mod Inside

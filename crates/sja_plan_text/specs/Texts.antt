@@ -1,0 +1,53 @@
+-- The texts in which steps, turns and strikes are written (this project's own rule): words with one space between two,
+-- numbers in decimal without leading zeros, and bytes with two hexadecimal digits each, in lower case.
+use Rattle.std.specs.Prelude.{◌==◌, ◌&&◌, if◌then◌else◌, List, [], ◌∷◌, codes, decimal}
+use Rattle.std.specs.List.{join_with_byte}
+use Rattle.hex.specs.Hex.{encode_lower}
+use Rattle.sja_plan.specs.Words.{Text}
+use Rattle.sja_script.specs.declared.step.Step.{Step}
+use Rattle.sja_script.specs.declared.step.Step.TheVariants.{Start, Stop, Window, Release, Read}
+use Rattle.sja_script.specs.declared.step.Step.TheVariants.{Write, Load, Command, Await, Sent}
+use Rattle.sja_script.specs.declared.strike.Strike.{Strike}
+use Rattle.sja_plan.specs.declared.turn.Turn.{Turn}
+use Rattle.sja_plan.specs.declared.turn.Turn.TheVariants.{Bus, Rest, Node}
+
+-- words with one space between two
+abbrev pub joined : List Text → Text
+joined words = join_with_byte 32 words
+
+-- the words of a step
+abbrev pub step_words : Step → List Text
+step_words Start = codes "start" ∷ []
+step_words Stop = codes "stop" ∷ []
+step_words Window = codes "window" ∷ []
+step_words Release = codes "release" ∷ []
+step_words (Read address) = codes "read" ∷ decimal address ∷ []
+step_words (Write address value) = codes "write" ∷ decimal address ∷ encode_lower (value ∷ []) ∷ []
+step_words (Load message) = codes "load" ∷ encode_lower message ∷ []
+step_words (Command value) = codes "command" ∷ encode_lower (value ∷ []) ∷ []
+step_words (Await count) = codes "await" ∷ decimal count ∷ []
+step_words Sent = codes "sent" ∷ []
+
+-- the text of a step
+abbrev pub step_text : Step → Text
+step_text step = joined (step_words step)
+
+-- the words of a turn
+abbrev pub turn_words : Turn → List Text
+turn_words (Bus bits) = codes "bus" ∷ decimal bits ∷ []
+turn_words Rest = codes "rest" ∷ []
+turn_words (Node node steps) = codes "node" ∷ decimal node ∷ decimal steps ∷ []
+
+-- the text of a turn
+abbrev pub turn_text : Turn → Text
+turn_text turn = joined (turn_words turn)
+
+-- the words of a strike: two numbers where it strikes one bit and says so with a distance of 1, and else four
+abbrev pub strike_words : Strike → List Text
+strike_words s =
+    if s.every == 1 && s.times == 1 then decimal s.node ∷ decimal s.bit ∷ []
+    else decimal s.node ∷ decimal s.bit ∷ decimal s.every ∷ decimal s.times ∷ []
+
+-- the text of a strike
+abbrev pub strike_text : Strike → Text
+strike_text s = joined (strike_words s)

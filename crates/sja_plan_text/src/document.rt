@@ -1,0 +1,106 @@
+//! A plan written as a document.
+
+ghost use Rattle.std.specs.Prelude.{◌≡◌, ◌⊎◌, ◌<◌, ℕ, List, length, IfOk, IfErr, OnOk, string_bytes};
+ghost use Rattle.toml.specs.Data.{member, no_members};
+ghost use Rattle.toml.specs.View.{view};
+ghost use Rattle.sja_plan.specs.Faults.{IsPlanOf};
+ghost use Rattle.sja_plan_text.specs.HasTexts.{HasTexts};
+ghost use Rattle.sja_plan_text.specs.Document.{IsDocumentOf};
+ghost use Rattle.sja_plan_text.specs.Inside.Table.{with_strikes, Adds};
+ghost use Rattle.sja_plan_text.specs.declared.plan_text_fault.PlanTextFault.TheVariants.{NoMemory, TooLong};
+
+use super::plan_text_fault::PlanTextFault;
+use super::spelled::text_list;
+use super::table::{node_list, one_member};
+use can_frame::OutOfMemory;
+use sja_plan::{MOST_BYTES, Plan};
+use sja_script::Strike;
+use std::alloc::Global;
+use toml::{Value, table_to_string, table_to_string_pretty};
+
+/// The plan as a TOML document, which `read_plan` reads as this plan. The plan has to have texts, by
+/// [`has_texts`](crate::has_texts), as each one that was read has.
+///
+/// The keys come in the order `version`, `bits`, `turns`, `faults` where there are strikes, and the nodes. Of a list
+/// with two items or more each has a line of its own, or all have one line where the document would be too long.
+///
+/// Errors: [`PlanTextFault::NoMemory`] where memory was refused; [`PlanTextFault::TooLong`] where the document has more
+/// than 65,536 bytes (this project's own rule).
+pub fn plan_text(alloc: Global, plan: &Plan) -> Result<String, PlanTextFault>
+    requires { HasTexts plan.now }
+    ensures ok { IfOk result (λ text. IsPlanOf (string_bytes text) plan.now) }
+    ensures err { IfErr result (λ e. (e ≡ NoMemory) ⊎ ((e ≡ TooLong)
+        × ((text : List ℕ) × (65536 < length text) × IsDocumentOf text plan.now))) }
+{
+    let text = document(alloc, plan, true)?;
+    if text.len() <= MOST_BYTES {
+        return Ok(text);
+    }
+    let text = document(alloc, plan, false)?;
+    if text.len() <= MOST_BYTES {
+        return Ok(text);
+    }
+    Err(PlanTextFault::TooLong)
+}
+
+/// The document of a plan, however long it is. Where it is pretty, each item of a list has a line of its own.
+fn document(alloc: Global, plan: &Plan, pretty: bool) -> Result<String, OutOfMemory>
+    requires { HasTexts plan.now }
+    ensures { IfOk result (λ text. IsDocumentOf (string_bytes text) plan.now) }
+{
+    let mut text = String::new(alloc);
+    add(
+        alloc,
+        &mut text,
+        pretty,
+        "version",
+        Value::from(plan.version()),
+    )?;
+    add(alloc, &mut text, pretty, "bits", Value::from(plan.bits()))?;
+    let turns = text_list(alloc, plan.turns())?;
+    add(alloc, &mut text, pretty, "turns", turns)?;
+    add_strikes(alloc, &mut text, pretty, plan.strikes())?;
+    text.push_str("\n")?;
+    add(alloc, &mut text, pretty, "node", node_list(alloc, plan)?)?;
+    Ok(text)
+}
+
+/// Writes the strikes, where there are some.
+fn add_strikes(
+    alloc: Global,
+    text: &mut String,
+    pretty: bool,
+    strikes: &[Strike],
+) -> Result<(), OutOfMemory>
+    ensures { OnOk result (Adds pretty (with_strikes strikes.now no_members)
+        (string_bytes text.old) (string_bytes text.new)) }
+{
+    if strikes.is_empty() {
+        return Ok(());
+    }
+    let strikes = text_list(alloc, strikes)?;
+    add(alloc, text, pretty, "faults", strikes)
+}
+
+/// Writes a value with its key.
+fn add(
+    alloc: Global,
+    text: &mut String,
+    pretty: bool,
+    key: &str,
+    value: Value,
+) -> Result<(), OutOfMemory>
+    ensures { OnOk result (Adds pretty (member key.now (view value) no_members)
+        (string_bytes text.old) (string_bytes text.new)) }
+{
+    let table = one_member(alloc, key, value)?;
+    let more = if pretty {
+        table_to_string_pretty(alloc, &table)
+    } else {
+        table_to_string(alloc, &table)
+    };
+    match more {
+        Ok(more) => Ok(text.push_str(more.as_str())?),
+        Err(_) => Err(OutOfMemory),
+    }
+}

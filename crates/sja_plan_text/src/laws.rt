@@ -1,0 +1,61 @@
+//! Laws of texts. Each is the contract of a function that does nothing.
+
+ghost use Rattle.std.specs.Prelude.{◌↔◌, ℕ, List};
+ghost use Rattle.sja_plan.specs.Words.{Text};
+ghost use Rattle.sja_plan.specs.StepTexts.{SaysStep};
+ghost use Rattle.sja_plan.specs.TurnTexts.{SaysTurn};
+ghost use Rattle.sja_plan.specs.StrikeTexts.{SaysStrike};
+ghost use Rattle.sja_plan.specs.Plan.{PlanValue, NamesNode, IsStrikeOn};
+ghost use Rattle.sja_plan.specs.Faults.{IsText, IsPlanOf};
+ghost use Rattle.sja_plan_text.specs.Texts.{step_text, turn_text, strike_text};
+ghost use Rattle.sja_plan_text.specs.HasTexts.{HasStepText, HasTurnText, HasStrikeText, HasTexts};
+ghost use Rattle.sja_plan_text.specs.Document.{IsDocumentOf};
+
+use sja_plan::Turn;
+use sja_script::{Step, Strike};
+
+/// The text of a step says it, where a text can.
+#[tactic(auto, using(crate::proofs::Steps::step_said))]
+pub fn a_step_has_a_text()
+    ensures { (s : Step) → HasStepText s → SaysStep (step_text s) s }
+{}
+
+/// A step that a text says is one that has a text.
+#[tactic(auto, using(crate::proofs::Steps::has_step_text))]
+pub fn said_steps_have_texts()
+    ensures { (text : Text) (s : Step) → SaysStep text s → HasStepText s }
+{}
+
+/// The text of a turn says it, where a text can, in a plan that has its node.
+#[tactic(auto, using(crate::proofs::Turns::turn_said))]
+pub fn a_turn_has_a_text()
+    ensures { (nodes : ℕ) (t : Turn) → NamesNode nodes t → HasTurnText t → SaysTurn nodes (turn_text t) t }
+{}
+
+/// A turn that a text says is one that has a text.
+#[tactic(auto, using(crate::proofs::Turns::has_turn_text))]
+pub fn said_turns_have_texts()
+    ensures { (nodes : ℕ) (text : Text) (t : Turn) → SaysTurn nodes text t → NamesNode nodes t × HasTurnText t }
+{}
+
+/// The text of a strike says it, where a text can, in a plan that has its node.
+#[tactic(auto, using(crate::proofs::Strikes::strike_said))]
+pub fn a_strike_has_a_text()
+    ensures { (nodes : ℕ) (s : Strike) → IsStrikeOn nodes s → HasStrikeText s → SaysStrike nodes (strike_text s) s }
+{}
+
+/// A strike that a text says is one that has a text.
+#[tactic(auto, using(crate::proofs::Strikes::has_strike_text))]
+pub fn said_strikes_have_texts()
+    ensures { (nodes : ℕ) (text : Text) (s : Strike) → SaysStrike nodes text s → IsStrikeOn nodes s × HasStrikeText s }
+{}
+
+/// A plan that was read has texts.
+pub fn a_plan_has_texts()
+    ensures { (bytes : List ℕ) (p : PlanValue) → IsPlanOf bytes p → HasTexts p }
+{}
+
+/// Bytes are a plan where they are a document of it, and a text of at most 65,536 bytes.
+pub fn a_plan_is_a_short_document()
+    ensures { (bytes : List ℕ) (p : PlanValue) → IsPlanOf bytes p ↔ (IsText bytes × IsDocumentOf bytes p) }
+{}

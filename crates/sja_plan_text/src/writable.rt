@@ -1,0 +1,112 @@
+//! Whether a plan can be written at all.
+
+ghost use Rattle.std.specs.Prelude.{◌↔◌, IsTrue, All};
+ghost use Rattle.sja_plan_text.specs.HasTexts.{HasStepText, HasTurnText, HasStrikeText, HasTexts};
+
+use sja_plan::{GREATEST_NUMBER, Plan, Turn};
+use sja_script::{Step, Strike};
+
+/// Whether each step, turn and strike of a plan has a text that says it. So it is for each plan that was read
+/// ([`a_plan_has_texts`](crate::a_plan_has_texts)), and for each other one whose numbers texts can spell (this
+/// project's own rule).
+pub fn has_texts(plan: &Plan) -> bool
+    ensures { IsTrue result ↔ HasTexts plan.now }
+{
+    for node in 0..plan.nodes() {
+        if !steps_have_texts(plan.steps(node)) {
+            return false;
+        }
+    }
+    turns_have_texts(plan.turns()) && strikes_have_texts(plan.strikes())
+}
+
+/// Whether a text says each of these steps.
+fn steps_have_texts(steps: &[Step]) -> bool
+    ensures { IsTrue result ↔ All HasStepText steps.now }
+{
+    for step in steps {
+        if !has_step_text(step) {
+            return false;
+        }
+    }
+    true
+}
+
+/// Whether a text says each of these turns.
+fn turns_have_texts(turns: &[Turn]) -> bool
+    ensures { IsTrue result ↔ All HasTurnText turns.now }
+{
+    for turn in turns {
+        if !has_turn_text(turn) {
+            return false;
+        }
+    }
+    true
+}
+
+/// Whether a text says each of these strikes.
+fn strikes_have_texts(strikes: &[Strike]) -> bool
+    ensures { IsTrue result ↔ All HasStrikeText strikes.now }
+{
+    for strike in strikes {
+        if !has_strike_text(strike) {
+            return false;
+        }
+    }
+    true
+}
+
+/// Whether a text says this step: all but an `Await` of 0 or of more than 21 messages (this project's own rule).
+pub fn has_step_text(step: &Step) -> bool
+    ensures { IsTrue result ↔ HasStepText step.now }
+{
+    // Bytes and messages are read, and not judged: what their types say of them is known by that.
+    match step {
+        Step::Start | Step::Stop | Step::Window | Step::Release | Step::Sent => true,
+        Step::Read(address) => {
+            let _address = *address;
+            true
+        }
+        Step::Write(address, value) => {
+            let (_address, _value) = (*address, *value);
+            true
+        }
+        Step::Load(message) => {
+            let _frame = message.frame();
+            true
+        }
+        Step::Command(value) => {
+            let _value = *value;
+            true
+        }
+        Step::Await(count) => 1 <= *count && *count <= 21,
+    }
+}
+
+/// Whether a text says this turn: its numbers have seven digits at most, and the bus runs a bit (this project's own
+/// rule).
+pub fn has_turn_text(turn: &Turn) -> bool
+    ensures { IsTrue result ↔ HasTurnText turn.now }
+{
+    match turn {
+        Turn::Bus(bits) => 1 <= *bits && *bits <= GREATEST_NUMBER,
+        Turn::Rest => true,
+        Turn::Node(node, steps) => {
+            let _node = *node;
+            *steps <= GREATEST_NUMBER
+        }
+    }
+}
+
+/// Whether a text says this strike: its numbers have seven digits at most (this project's own rule).
+pub fn has_strike_text(strike: &Strike) -> bool
+    ensures { IsTrue result ↔ HasStrikeText strike.now }
+{
+    let Strike {
+        node: _node,
+        bit,
+        every,
+        times,
+    } = *strike;
+    bit <= GREATEST_NUMBER && every <= GREATEST_NUMBER && times <= GREATEST_NUMBER
+}
