@@ -1,0 +1,76 @@
+//! What a run left out of a node's steps.
+
+ghost use Rattle.std.specs.Prelude.{◌<◌, length};
+
+use super::super::phrase::placed;
+use super::remedy::remedy_of;
+use super::source::Source;
+use super::undone::undone_hint;
+use sja_log::RunLog;
+use sja_plan::Plan;
+use sja_script::{Done, Refusal, Step, StepAnswer};
+use std::alloc::{AllocError, Global};
+
+/// Adds what there is to say of a node: that it is never started, the steps that were refused, and the first one that
+/// wasn't done.
+///
+/// Error: memory was refused.
+pub(crate) fn node_hints(
+    alloc: Global,
+    source: &Source,
+    plan: &Plan,
+    log: &RunLog,
+    node: usize,
+    found: &mut Vec<String>,
+) -> Result<(), AllocError>
+    requires { node < length plan.now.nodes }
+{
+    let steps = plan.steps(node);
+    let Some(run) = log.nodes().get(node) else {
+        return Ok(());
+    };
+    if !steps.contains(&Step::Start) {
+        let words = format!(in alloc; "node {node} is never started: it has no step \"start\"")?;
+        found.push(placed(alloc, source.line_of_node(node), words.as_str())?)?;
+    }
+    refused_hints(alloc, source, node, steps, run.done(), found)?;
+    if run.done().len() < steps.len() {
+        found.push(undone_hint(alloc, source, plan, log.end(), node, run.done().len())?)?;
+    }
+    Ok(())
+}
+
+/// Adds the steps that were refused, with what to do.
+fn refused_hints(
+    alloc: Global,
+    source: &Source,
+    node: usize,
+    steps: &[Step],
+    done: &[Done],
+    found: &mut Vec<String>,
+) -> Result<(), AllocError> {
+    let mut started = false;
+    for (place, one) in done.iter().enumerate() {
+        let step = steps.get(place);
+        if let StepAnswer::Refused(refusal) = &one.answer {
+            let remedy = remedy_of(*refusal, step, started);
+            found.push(refused_hint(alloc, source, node, place, *refusal, remedy)?)?;
+        } else if let Some(Step::Start) = step {
+            started = true;
+        }
+    }
+    Ok(())
+}
+
+/// That a step was refused, and what to do.
+fn refused_hint(
+    alloc: Global,
+    source: &Source,
+    node: usize,
+    place: usize,
+    refusal: Refusal,
+    remedy: &str,
+) -> Result<String, AllocError> {
+    let behind = format!(in alloc; " was refused {refusal}: {remedy}")?;
+    source.of_step(alloc, node, place, behind.as_str())
+}

@@ -1,0 +1,51 @@
+//! What to do about a refused step.
+
+use sja_script::{Refusal, Step};
+
+/// What to do about a step that was refused so, in a node that was started before or wasn't (the table of refused steps
+/// in docs/REPORT.md).
+pub(crate) fn remedy_of(refusal: Refusal, step: Option<&Step>, started: bool) -> &'static str {
+    match refusal {
+        Refusal::WrongState => state_remedy(step, started),
+        Refusal::NoActivationLeft => "a node has eight starts",
+        Refusal::Empty => "no message is there; let the bus run",
+        Refusal::Stopped => "bus-off came: \"stop\", then \"start\"",
+        Refusal::ActiveOnly => "bus-off came: \"stop\", then \"start\"",
+        Refusal::Locked => "a request is open; put \"sent\" before",
+        Refusal::UseTyped => typed_remedy(step),
+        Refusal::ResetOnly => "only before \"start\" or after \"stop\"",
+        Refusal::NotInVersion => "it needs version = 2",
+        Refusal::ListenOnly => "\"stop\", bit 1 of MOD to 0, \"start\"",
+        Refusal::ReadOnly => "that register can't be written",
+        Refusal::NoRegister => register_remedy(step),
+        Refusal::Closed => "the bits were spent",
+    }
+}
+
+/// What to do about a step that needs the other state.
+fn state_remedy(step: Option<&Step>, started: bool) -> &'static str {
+    match step {
+        Some(Step::Start) => "put \"stop\" before it",
+        _ if started => "put \"start\" again before it",
+        _ => "put \"start\" before it",
+    }
+}
+
+/// Which step does what this one tried.
+fn typed_remedy(step: Option<&Step>) -> &'static str {
+    match step {
+        Some(Step::Write(0, _)) => "only \"start\" and \"stop\" change bit 0",
+        Some(Step::Write(_, _)) => "write CMR by \"command VALUE\"",
+        _ => "bit 2 of CMR is the step \"release\"",
+    }
+}
+
+/// Which registers there are.
+fn register_remedy(step: Option<&Step>) -> &'static str {
+    match step {
+        Some(Step::Read(1)) => "CMR can't be read",
+        Some(Step::Read(6 | 7 | 8 | 31) | Step::Write(6 | 7 | 8 | 31, _)) =>
+            "BTR0, BTR1, OCR, CDR are left out",
+        _ => "no register; addresses are decimal",
+    }
+}
