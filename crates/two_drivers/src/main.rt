@@ -1,0 +1,66 @@
+//! Two drivers on one bus, called by hand: that of node 0 sends a message, and that of node 1 releases it.
+//!
+//! It is the shortest way to drive a bus without a plan by the calls of these crates, to be copied.
+#![tactic(auto)]
+
+ghost use Rattle.std.specs.Prelude.{◌≡◌};
+
+use can_frame::Message;
+use sja_bus::{Bus, SerialBoard, serial_links};
+use sja_driver::Driver;
+use sja_link::{DequeLink, first_link};
+use sja_regs::{Port, letters};
+use sja_script::FaultScript;
+use std::alloc::Global;
+use std::process::ExitCode;
+
+/// The message of the frame with the identifier 123 (hexadecimal) and the data 11 22.
+const SENT: [u8; 5] = [0x02, 0x24, 0x60, 0x11, 0x22];
+
+/// The command that requests a transmission (SJA1000 data sheet, 6.4.4).
+const TRANSMIT: u8 = 1 << letters::TR;
+
+/// Answers the exit status: 0 where the message was released and printed, else 1.
+fn main(rt: HostRuntime) -> ExitCode {
+    match pass_and_print(&rt) {
+        Some(()) => ExitCode::from(0),
+        None => ExitCode::from(1),
+    }
+}
+
+/// Has the message sent and released, and prints the bytes that were released. Nothing where that fails.
+fn pass_and_print(rt: &HostRuntime) -> Option<()> {
+    let message = Message::from_bytes(&SENT).ok()?;
+    let released = passed_on(rt.alloc(), &message)?;
+    print!(rt; "node 1 released").ok()?;
+    for byte in released.bytes() {
+        print!(rt; " {byte:02x}").ok()?;
+    }
+    println!(rt; "").ok()
+}
+
+/// What the driver of node 1 releases after 100 bits, where that of node 0 sends this message. Nothing where a call is
+/// refused.
+fn passed_on(alloc: Global, message: &Message) -> Option<Message> {
+    let mut bus = Bus::new(alloc, 2, 1000, FaultScript::of(Vec::new(alloc))).ok()?;
+    let mut links = serial_links(alloc, 2).ok()?;
+    let mut board = SerialBoard::new(alloc, 2, 1).ok()?;
+    // each node has eight links, one for each activation: these are the first ones
+    let (near, far) = (first_link(0), first_link(1));
+    send(&mut links[near], &mut board.ports[0], message)?;
+    let mut receiver = Driver::new(1)
+        .start(&mut links[far], &mut board.ports[1])
+        .ok()?;
+    bus.bits(links.as_mut_slice(), &mut board, 100, false).ok()?;
+    receiver.release_message(&mut links[far]).ok()
+}
+
+/// Starts the driver of node 0 over its first link, and asks it to send this message. Nothing where a call is refused.
+fn send(link: &mut DequeLink, port: &mut Port, message: &Message) -> Option<()>
+    requires { link.old.link ≡ record { node = 0; activation = 1 } }
+    ensures { link.new.link ≡ link.old.link }
+{
+    let mut driver = Driver::new(0).start(link, port).ok()?;
+    driver.load(port, message).ok()?;
+    driver.command(link, port, TRANSMIT).ok()
+}
