@@ -13,8 +13,8 @@ const NO_TEXT: &str = "error: invalid UTF-8 was detected in one or more argument
 const WAITING: &str =
     "sja: the plan is waited for on standard input; from a file: sja run < plan.toml";
 
-/// Answers the exit status: 0 for done, 1 for refused, 2 for words that don't parse. Where words ask for the run of a
-/// plan and standard input is a terminal, a line on standard error says that the plan is waited for.
+/// Answers the exit status: 0 for done, 1 for refused, 2 for words that don't parse. Where words ask about a plan and
+/// standard input is a terminal, a line on standard error says that the plan is waited for.
 fn main(rt: HostRuntime) -> ExitCode {
     let mut out = Output::new(rt.stdout());
     let mut err = Output::new(rt.stderr());
@@ -37,10 +37,10 @@ fn main(rt: HostRuntime) -> ExitCode {
     ExitCode::from(status)
 }
 
-/// Whether the words, the program's name first, ask for the run of a plan.
+/// Whether the words, the program's name first, ask for the run of a plan, or for its mistakes.
 fn asks_for_plan(words: &[String]) -> bool {
     match words {
-        [_, command] => command.as_str() == "run" || command.as_str() == "wave",
+        [_, command] => matches!(command.as_str(), "run" | "wave" | "check"),
         [_, command, flag] => command.as_str() == "run" && flag.as_str() == "--threads",
         _ => false,
     }

@@ -4,14 +4,17 @@ use Rattle.std.proofs.Common.{arith, inl, inr, false}
 use Rattle.std.specs.Io.KnownBytes.{Consumes}
 use Rattle.std.proofs.KnownBytes.{Consumes-nil, Consumes-trans}
 use Rattle.sja_plan.specs.Plan.{PlanValue}
-use Rattle.sja_words.specs.Words.{Request, ParsesAs, run, wave}
+use Rattle.sja_words.specs.Words.{Request, ParsesAs, run, wave, check}
 use Rattle.sja_log.specs.declared.run_fault.RunFault.{RunFault}
 use Rattle.sja_log.specs.declared.run_fault.RunFault.TheVariants.{Memory}
 use Rattle.sja_threads.specs.Stopping.{IsFaultOf}
 use Rattle.sja_texts.specs.declared.command_refusal.CommandRefusal.{CommandRefusal}
 use Rattle.sja_texts.specs.declared.command_refusal.CommandRefusal.TheVariants as refusal
 use Rattle.sja_run.specs.Answer.{AsksForRun, IsPrinted, IsRefused}
-use Rattle.sja_run.specs.Input.{ReadsFew}
+use Rattle.sja_run.specs.Check.{IsChecked, HasHints}
+use Rattle.sja_run.specs.declared.plan_check.PlanCheck.{PlanCheck}
+use Rattle.sja_run.specs.declared.plan_check.PlanCheck.TheVariants.{Hints, Mistake}
+use Rattle.sja_run.specs.Input.{ReadsFew, RefusesInput}
 use Rattle.sja_run.specs.Run.{IsRunning, RefusesBy, RefusesRun}
 use Rattle.sja_run.specs.ThreadedRun.{IsRunningThreads, RefusesThreads}
 use Rattle.sja_run.specs.Wave.{IsWaving}
@@ -33,6 +36,29 @@ few_running before after text runs = (runs.0, runs.1.0, runs.1.1)
 -- there is a waveform
 few_waving : (before after : Option (List ℕ)) (text : List ℕ) → IsWaving before after text → ReadsFew before after
 few_waving before after text waves = (waves.0, waves.1.0, waves.1.1)
+
+-- there are hints
+few_hinted : (before after : Option (List ℕ)) (text : List ℕ) → HasHints before after text → ReadsFew before after
+few_hinted before after text has = (has.0, has.3.0, has.3.1)
+
+-- there is something to be said of the plan
+pub few_checked : (before after : Option (List ℕ)) (said : PlanCheck) → IsChecked before after said →
+    ReadsFew before after
+few_checked before after (Hints text) has = (has.0, has.3.0, has.3.1)
+few_checked before after (Mistake text) has = (has.0, has.3.0, has.3.1)
+
+-- there is nothing
+pub few_unchecked : (before after : Option (List ℕ)) (r : CommandRefusal) → RefusesInput before after r →
+    ReadsFew before after
+few_unchecked before after refusal.OutOfMemory h = h
+few_unchecked before after refusal.Read h = (h.0, h.1, omega arith)
+few_unchecked before after (refusal.Plan fault) h = absurd h
+few_unchecked before after (refusal.Run fault) h = absurd h
+few_unchecked before after refusal.NotHexadecimal h = absurd h
+few_unchecked before after refusal.NotALine h = absurd h
+few_unchecked before after (refusal.Layout fault) h = absurd h
+few_unchecked before after (refusal.Line fault) h = absurd h
+few_unchecked before after (refusal.Notation fault) h = absurd h
 
 -- there is a report of a run in threads
 pub few_running_threads : (before after : Option (List ℕ)) (text : List ℕ) → IsRunningThreads before after text →
@@ -56,6 +82,19 @@ pub few_refused_threads : (before after : Option (List ℕ)) (r : CommandRefusal
     RefusesThreads before after r → ReadsFew before after
 few_refused_threads before after r h = few_refused IsFaultOf before after r h
 
+-- where the input isn't read there is no report
+pub refused_input : (before after : Option (List ℕ)) (r : CommandRefusal) → RefusesInput before after r →
+    RefusesRun before after r
+refused_input before after refusal.OutOfMemory h = h
+refused_input before after refusal.Read h = h
+refused_input before after (refusal.Plan fault) h = absurd h
+refused_input before after (refusal.Run fault) h = absurd h
+refused_input before after refusal.NotHexadecimal h = absurd h
+refused_input before after refusal.NotALine h = absurd h
+refused_input before after (refusal.Layout fault) h = absurd h
+refused_input before after (refusal.Line fault) h = absurd h
+refused_input before after (refusal.Notation fault) h = absurd h
+
 -- what is refused before any run is refused of each
 pub refused_threads : (before after : Option (List ℕ)) (r : CommandRefusal) → RefusesRun before after r →
     RefusesThreads before after r
@@ -75,8 +114,10 @@ pub few_printed : (r : Request) (before after : Option (List ℕ)) (text : List 
     IsPrinted r before after text → ReadsFew before after
 few_printed r before after text (inl (inl is)) printed =
     few_running before after text (subst (λ q. IsPrinted q before after text) is printed)
-few_printed r before after text (inl (inr is)) printed =
+few_printed r before after text (inl (inr (inl is))) printed =
     few_waving before after text (subst (λ q. IsPrinted q before after text) is printed)
+few_printed r before after text (inl (inr (inr is))) printed =
+    few_hinted before after text (subst (λ q. IsPrinted q before after text) is printed)
 few_printed r before after text (inr same) printed = subst (ReadsFew before) (sym same) (unread before)
 
 -- and whatever is refused
@@ -84,13 +125,19 @@ pub few_turned_down : (r : Request) (before after : Option (List ℕ)) (why : Co
     AsksForRun r ⊎ (after ≡ before) → IsRefused r before after why → ReadsFew before after
 few_turned_down r before after why (inl (inl is)) refused =
     few_refused (λ plan fault. fault ≡ Memory) before after why (subst (λ q. IsRefused q before after why) is refused)
-few_turned_down r before after why (inl (inr is)) refused =
+few_turned_down r before after why (inl (inr (inl is))) refused =
     few_refused (λ plan fault. fault ≡ Memory) before after why (subst (λ q. IsRefused q before after why) is refused)
+few_turned_down r before after why (inl (inr (inr is))) refused =
+    few_unchecked before after why (subst (λ q. IsRefused q before after why) is refused)
 few_turned_down r before after why (inr same) refused = subst (ReadsFew before) (sym same) (unread before)
 
--- words that ask for no run leave the input as it is
+-- words that ask about no plan leave the input as it is
 pub only_runs_read : (words : List (List ℕ)) (r : Request) (Same : Type 0) → ParsesAs words r → AsksForRun r ⊎ Same →
-    ¬ ParsesAs words (run false) → ¬ ParsesAs words wave → Same
-only_runs_read words r Same parses (inl (inl is)) no_run no_wave = absurd (no_run (subst (ParsesAs words) is parses))
-only_runs_read words r Same parses (inl (inr is)) no_run no_wave = absurd (no_wave (subst (ParsesAs words) is parses))
-only_runs_read words r Same parses (inr same) no_run no_wave = same
+    ¬ ParsesAs words (run false) → ¬ ParsesAs words wave → ¬ ParsesAs words check → Same
+only_runs_read words r Same parses (inl (inl is)) no_run no_wave no_check =
+    absurd (no_run (subst (ParsesAs words) is parses))
+only_runs_read words r Same parses (inl (inr (inl is))) no_run no_wave no_check =
+    absurd (no_wave (subst (ParsesAs words) is parses))
+only_runs_read words r Same parses (inl (inr (inr is))) no_run no_wave no_check =
+    absurd (no_check (subst (ParsesAs words) is parses))
+only_runs_read words r Same parses (inr same) no_run no_wave no_check = same

@@ -1,7 +1,7 @@
 -- What words ask for, and what becomes of a run in threads.
 use Rattle.std.proofs.Common.{◌≡◌, ◌⊎◌, ℕ, Bool, List, Option, Some, true, false, refl, sym, inl, inr}
 use Rattle.std.specs.Io.KnownBytes.{Keeps}
-use Rattle.sja_words.specs.Words.{Request, ParsesAs, encode, decode, filter, arbitrate, message, run, wave}
+use Rattle.sja_words.specs.Words.{Request, ParsesAs, encode, decode, filter, arbitrate, message, run, wave, check}
 use Rattle.sja_texts.specs.declared.command_refusal.CommandRefusal.TheVariants.{OutOfMemory}
 use Rattle.sja_run.specs.Answer.{Shows, IsLeft}
 use Rattle.sja_run.specs.Input.{ReadsFew}
@@ -20,6 +20,7 @@ is_threads (filter single acr amr digits) = inr (λ is. cc)
 is_threads (arbitrate messages) = inr (λ is. cc)
 is_threads (message given) = inr (λ is. cc)
 is_threads wave = inr (λ is. cc)
+is_threads check = inr (λ is. cc)
 
 -- a run in threads that isn't left to another call, since memory was refused
 pub left_shows : (status : ℕ) (failed : Bool) (in_old in_new out_old out_new err_old err_new : Option (List ℕ)) →
@@ -27,7 +28,7 @@ pub left_shows : (status : ℕ) (failed : Bool) (in_old in_new out_old out_new e
     Shows (run true) (Some status) in_old in_new out_old out_new err_old err_new
 left_shows status failed in_old in_new out_old out_new err_old err_new (inl none) few keeps wrote = cc
 left_shows status failed in_old in_new out_old out_new err_old err_new (inr told) few keeps wrote =
-    inr (OutOfMemory, few, told.0, keeps, told.1 wrote)
+    inr (inl (OutOfMemory, few, told.0, keeps, told.1 wrote))
 
 -- what is shown from where another call left all as it was
 pub shows_from : (r q : Request) (status : Option ℕ) (a b c x y z i o e : Option (List ℕ)) → r ≡ q →

@@ -1,7 +1,7 @@
 -- What the program does, by what the words ask for (this project's own rule).
 use Rattle.std.specs.Prelude.{◌≡◌, ◌⊎◌, ℕ, Bool, true, false, List, Option, Some, None}
 use Rattle.std.specs.Io.KnownBytes.{Appends, Keeps}
-use Rattle.sja_words.specs.Words.{Request, encode, decode, filter, arbitrate, message, run, wave}
+use Rattle.sja_words.specs.Words.{Request, encode, decode, filter, arbitrate, message, run, wave, check}
 use Rattle.sja_texts.specs.declared.command_refusal.CommandRefusal.{CommandRefusal}
 use Rattle.sja_texts.specs.declared.command_refusal.CommandRefusal.TheVariants as refusal
 use Rattle.sja_texts.specs.Arbitrate.{IsArbitration, RefusesMessages}
@@ -11,13 +11,15 @@ use Rattle.sja_texts.specs.Filter.{IsFiltering, RefusesFilter}
 use Rattle.sja_texts.specs.Message.{RefusesMessage}
 use Rattle.sja_texts.specs.Notation.{IsTranslation, RefusesTranslation}
 use Rattle.sja_texts.specs.Refusal.{refusal_line}
+use Rattle.sja_run.specs.Check.{HasHints, HasMistake}
+use Rattle.sja_run.specs.Input.{RefusesInput}
 use Rattle.sja_run.specs.Run.{IsRunning, RefusesRun}
 use Rattle.sja_run.specs.ThreadedRun.{IsRunningThreads, RefusesThreads}
 use Rattle.sja_run.specs.Wave.{IsWaving}
 
--- a run is asked for: its report, or its waveform. For these alone the input is read
+-- a plan is asked about: its report, its waveform, or whether it is one. For these alone the input is read
 abbrev pub AsksForRun : Request → Type 0
-AsksForRun r = (r ≡ run false) ⊎ (r ≡ wave)
+AsksForRun r = (r ≡ run false) ⊎ (r ≡ wave) ⊎ (r ≡ check)
 
 -- the request, what the input held before and holds after, and the text that answers the request
 abbrev pub IsPrinted : Request → Option (List ℕ) → Option (List ℕ) → List ℕ → Type 0
@@ -29,6 +31,7 @@ IsPrinted (message given) before after text = IsTranslation given text
 IsPrinted (run false) before after text = IsRunning before after text
 IsPrinted (run true) before after text = IsRunningThreads before after text
 IsPrinted wave before after text = IsWaving before after text
+IsPrinted check before after text = HasHints before after text
 
 -- the same, and why the request has no answer
 abbrev pub IsRefused : Request → Option (List ℕ) → Option (List ℕ) → CommandRefusal → Type 0
@@ -40,10 +43,11 @@ IsRefused (message given) before after r = RefusesTranslation given r
 IsRefused (run false) before after r = RefusesRun before after r
 IsRefused (run true) before after r = RefusesThreads before after r
 IsRefused wave before after r = RefusesRun before after r
+IsRefused check before after r = RefusesInput before after r
 
 -- The request, the exit status, and what the input, the output and the error output held before and hold after.
--- Either the text is on the output and the status is 0, or the refusal's line is on the error output and the status
--- is 1; the other writer keeps what it held.
+-- Either the text is on the output and the status is 0; or the refusal's line, or what `check` says of a mistake, is on
+-- the error output and the status is 1. The other writer keeps what it held.
 abbrev pub Shows :
     Request → Option ℕ → Option (List ℕ) → Option (List ℕ) → Option (List ℕ) → Option (List ℕ) → Option (List ℕ)
     → Option (List ℕ) → Type 0
@@ -52,6 +56,8 @@ Shows request status in_old in_new out_old out_new err_old err_new =
     × Keeps err_old err_new)
     ⊎ ((r : CommandRefusal) × IsRefused request in_old in_new r × (status ≡ Some 1) × Keeps out_old out_new
     × Appends err_old err_new (refusal_line r))
+    ⊎ ((text : List ℕ) × (request ≡ check) × HasMistake in_old in_new text × (status ≡ Some 1) × Keeps out_old out_new
+    × Appends err_old err_new text)
 
 -- The words ask for a run in threads, which is left to another call: there is no status; or memory was refused, and
 -- where no write to the error output failed it has that refusal's line.

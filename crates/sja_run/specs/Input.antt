@@ -1,6 +1,8 @@
 -- What is read of the input, by what it held before and holds after, where that is known (this project's own rule).
 use Rattle.std.specs.Prelude.{◌<◌, ◌≤◌, ℕ, List, Option, length}
 use Rattle.std.specs.Io.KnownBytes.{Consumes, IsAtEnd}
+use Rattle.sja_texts.specs.declared.command_refusal.CommandRefusal.{CommandRefusal}
+use Rattle.sja_texts.specs.declared.command_refusal.CommandRefusal.TheVariants as refusal
 
 -- these bytes were read: all that the input gives, or the first 65,537 of them, one more than a plan may have
 abbrev pub IsRead : Option (List ℕ) → Option (List ℕ) → List ℕ → Type 0
@@ -14,3 +16,15 @@ ReadsFew before after = (bytes : List ℕ) × Consumes before after bytes × (le
 -- the reading came to an end before the bytes were 65,537
 abbrev pub BreaksOff : Option (List ℕ) → Option (List ℕ) → Type 0
 BreaksOff before after = (bytes : List ℕ) × Consumes before after bytes × (length bytes < 65537)
+
+-- why the bytes of the input aren't there: memory may be refused at any time, and a read may fail
+abbrev pub RefusesInput : Option (List ℕ) → Option (List ℕ) → CommandRefusal → Type 0
+RefusesInput before after refusal.OutOfMemory = ReadsFew before after
+RefusesInput before after refusal.Read = BreaksOff before after
+RefusesInput before after refusal.NotHexadecimal = ⊥
+RefusesInput before after refusal.NotALine = ⊥
+RefusesInput before after (refusal.Layout fault) = ⊥
+RefusesInput before after (refusal.Line fault) = ⊥
+RefusesInput before after (refusal.Notation fault) = ⊥
+RefusesInput before after (refusal.Plan fault) = ⊥
+RefusesInput before after (refusal.Run fault) = ⊥

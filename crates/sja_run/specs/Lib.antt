@@ -2,4 +2,5 @@ pub mod Input
 pub mod Run
 pub mod Wave
 pub mod ThreadedRun
+pub mod Check
 pub mod Answer

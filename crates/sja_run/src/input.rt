@@ -2,6 +2,7 @@
 
 ghost use Rattle.std.specs.Prelude.{◌≡◌, ◌<◌, ◌≤◌, ◌+◌, ℕ, List, Option, IfOk, IfErr, length};
 ghost use Rattle.std.specs.Io.KnownBytes.{Consumes, IsAtEnd};
+ghost use Rattle.sja_run.specs.Input.{RefusesInput};
 ghost use Rattle.sja_run.specs.Run.{HoldsPlan, RefusesRun};
 
 use sja_plan::{MOST_BYTES, Plan, read_plan};
@@ -21,6 +22,7 @@ const ROOM: usize = 1_024;
 /// The plan that the bytes of the input are.
 ///
 /// Errors: those of [`read_input`]; [`CommandRefusal::Plan`] where they are no plan.
+#[tactic(auto, using(crate::proofs::FewBytes::refused_input))]
 pub(crate) fn plan_of_input<R: Read>(alloc: Global, input: &mut R) -> Result<Plan, CommandRefusal>
     ensures ok { IfOk result (HoldsPlan (R.remaining input.old) (R.remaining input.new)) }
     ensures err { IfErr result (RefusesRun (R.remaining input.old) (R.remaining input.new)) }
@@ -35,11 +37,11 @@ pub(crate) fn plan_of_input<R: Read>(alloc: Global, input: &mut R) -> Result<Pla
 ///
 /// Errors: [`CommandRefusal::Read`] where a read fails, or where that many reads come neither to the end nor to 65,537
 /// bytes; [`CommandRefusal::OutOfMemory`].
-fn read_input<R: Read>(alloc: Global, input: &mut R) -> Result<Vec<u8>, CommandRefusal>
+pub(crate) fn read_input<R: Read>(alloc: Global, input: &mut R) -> Result<Vec<u8>, CommandRefusal>
     ensures taken { IfOk result (λ bytes. Consumes (R.remaining input.old) (R.remaining input.new) bytes.items) }
     ensures bound { IfOk result (λ bytes. length bytes.items ≤ 65537) }
     ensures whole { IfOk result (λ bytes. length bytes.items < 65537 → IsAtEnd (R.remaining input.new)) }
-    ensures err { IfErr result (RefusesRun (R.remaining input.old) (R.remaining input.new)) }
+    ensures err { IfErr result (RefusesInput (R.remaining input.old) (R.remaining input.new)) }
 {
     let mut bytes = Vec::new(alloc);
     let mut buffer = [0u8; ROOM];
@@ -67,7 +69,7 @@ fn read_once<R: Read>(
     ensures bound { IfOk result (λ count. count ≤ length buffer.old) }
     ensures end { IfOk result (λ count. count ≡ 0 → 0 < length buffer.old → IsAtEnd (R.remaining input.new)) }
     ensures err { (before : Option (List ℕ)) → Consumes before (R.remaining input.old) bytes.old.items
-        → IfErr result (RefusesRun before (R.remaining input.new)) }
+        → IfErr result (RefusesInput before (R.remaining input.new)) }
 {
     let Ok(count) = input.read(buffer) else {
         return Err(CommandRefusal::Read);

@@ -5,14 +5,17 @@
 //! What the words ask for is a [`Task`], from the crate `sja_words`. For `run` it reads a [`Plan`] from its input
 //! ([`read_plan`]), runs it in one thread ([`run_serial`]) and writes the report of the run's log ([`report`]); these
 //! calls are those of `sja_plan`, `sja_serial` and `sja_report`. For `wave` it writes the run's waveform ([`wave`]),
-//! that of `sja_wave`. The texts of the other commands, and of each refusal, are those of `sja_texts`.
+//! that of `sja_wave`. For `check` it explains the plan's first fault, or says what the run left out ([`mistake`],
+//! [`hints`]), by `sja_check`. The texts of the other commands, and of each refusal, are those of `sja_texts`.
 //!
 //! Its tests stand in `crates/test_program/src/program`.
 #![tactic(auto)]
 
 mod answer;
+mod check;
 mod input;
 mod output;
+mod plan_check;
 mod program;
 mod run;
 mod serial;
@@ -23,6 +26,7 @@ mod waveform;
 pub use output::Output;
 pub use program::sja;
 pub use serial::sja_serial;
+pub use sja_check::{hints, mistake};
 pub use sja_log::{ActivationLog, End, NodeRun, RunFault, RunLog};
 pub use sja_plan::{Plan, PlanFault, Turn, read_plan};
 pub use sja_report::report;

@@ -1,7 +1,7 @@
 //! [`sja`]: the whole program over words, a reader and two writers.
 
 ghost use Rattle.std.specs.Prelude.{◌≡◌, ◌⊎◌, Some, false, true, map};
-ghost use Rattle.sja_words.specs.Words.{Request, ParsesAs, run, wave};
+ghost use Rattle.sja_words.specs.Words.{Request, ParsesAs, check, run, wave};
 ghost use Rattle.sja_run.specs.Answer.{Shows, IsTurnedAway};
 ghost use Rattle.sja_run.specs.Input.{ReadsFew};
 
@@ -20,8 +20,8 @@ use std::thread::Threads;
 /// The status is 0 where the text was written, 1 where an argument, the plan or memory was refused, a run failed, or a
 /// read or a write failed, and 2 where the words don't parse, or ask for help or the version; then `err` has the
 /// parser's own text.
-/// `input` is read for `run`, with `--threads` or without, and for `wave` alone: at most 65,537 bytes of it, in at most
-/// 131,074 reads.
+/// `input` is read for `run`, with `--threads` or without, and for `wave` and `check` alone: at most 65,537 bytes of
+/// it, in at most 131,074 reads.
 /// For `run --threads` alone it starts threads, and waits for them.
 /// The words, texts and statuses are this project's own rule.
 pub fn sja<T: Threads + Wait + Sync, S: AsStr, R: Read, O: Write, E: Write>(
@@ -45,7 +45,7 @@ pub fn sja<T: Threads + Wait + Sync, S: AsStr, R: Read, O: Write, E: Write>(
     ensures failed { out.old.failed ≡ false → err.old.failed ≡ false
         → (out.new.failed ≡ true) ⊎ (err.new.failed ≡ true) → result ≡ 1 }
     ensures unread { ¬ ParsesAs (map S.text words.now) (run false) → ¬ ParsesAs (map S.text words.now) (run true)
-        → ¬ ParsesAs (map S.text words.now) wave → input.new ≡ input.old }
+        → ¬ ParsesAs (map S.text words.now) wave → ¬ ParsesAs (map S.text words.now) check → input.new ≡ input.old }
     ensures few { ReadsFew (R.remaining input.old) (R.remaining input.new) }
 {
     match sja_serial(alloc, words, input, out, err) {

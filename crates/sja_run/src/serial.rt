@@ -1,12 +1,14 @@
 //! [`sja_serial`]: the program without threads, over words, a reader and two writers.
 
 ghost use Rattle.std.specs.Prelude.{◌≡◌, ◌⊎◌, None, Some, IsSome, false, true, map};
-ghost use Rattle.sja_words.specs.Words.{Request, ParsesAs, request_of, run, wave};
+ghost use Rattle.sja_words.specs.Words.{Request, ParsesAs, check, request_of, run, wave};
 ghost use Rattle.sja_run.specs.Answer.{AsksForRun, Shows, IsLeft, IsTurnedAway};
 ghost use Rattle.sja_run.specs.Input.{ReadsFew};
 
 use super::answer::printed;
+use super::check::checked;
 use super::output::Output;
+use super::plan_check::PlanCheck;
 use sja_texts::CommandRefusal;
 use sja_words::{Task, WordsFault, parse};
 use std::alloc::Global;
@@ -19,7 +21,7 @@ use std::io::{Read, Write};
 ///
 /// The status is 0 where the text was written, 1 where an argument, the plan or memory was refused or a read or a write
 /// failed, and 2 where the words don't parse, or ask for help or the version; then `err` has the parser's own text.
-/// `input` is read for `run` and `wave` alone: at most 65,537 bytes of it, in at most 131,074 reads.
+/// `input` is read for `run`, `wave` and `check` alone: at most 65,537 bytes of it, in at most 131,074 reads.
 /// The words, texts and statuses are this project's own rule.
 #[tactic(auto, using(crate::proofs::FewBytes::unread))]
 pub fn sja_serial<S: AsStr, R: Read, O: Write, E: Write>(
@@ -46,7 +48,7 @@ pub fn sja_serial<S: AsStr, R: Read, O: Write, E: Write>(
     ensures failed { out.old.failed ≡ false → err.old.failed ≡ false
         → (out.new.failed ≡ true) ⊎ (err.new.failed ≡ true) → result ≡ Some 1 }
     ensures unread { ¬ ParsesAs (map S.text words.now) (run false) → ¬ ParsesAs (map S.text words.now) wave
-        → input.new ≡ input.old }
+        → ¬ ParsesAs (map S.text words.now) check → input.new ≡ input.old }
     ensures few { ReadsFew (R.remaining input.old) (R.remaining input.new) }
 {
     match parse(alloc, words) {
@@ -88,11 +90,52 @@ fn reply<R: Read, O: Write, E: Write>(
     ensures unread { AsksForRun (request_of task.entry) ⊎ (input.new ≡ input.old) }
     ensures few { ReadsFew (R.remaining input.old) (R.remaining input.new) }
 {
+    if is_check(&task) {
+        return reply_check(alloc, input, out, err);
+    }
     match printed(alloc, task, input) {
         Ok(text) => {
             out.put(text.as_slice());
             if out.failed { 1 } else { 0 }
         }
         Err(refusal) => err.refuse(refusal),
+    }
+}
+
+/// Whether a task is `check`.
+fn is_check(task: &Task<'_>) -> bool
+    ensures check { result ≡ true → request_of task.now ≡ check }
+    ensures other { result ≡ false → ¬ (request_of task.now ≡ check) }
+{
+    matches!(task, Task::Check)
+}
+
+/// Does `check`, and gives the exit status: 1 where the plan has a mistake, which goes to the error output.
+#[tactic(auto, using(crate::proofs::FewBytes::few_checked, crate::proofs::FewBytes::few_unchecked))]
+fn reply_check<R: Read, O: Write, E: Write>(
+    alloc: Global,
+    input: &mut R,
+    out: &mut Output<O>,
+    err: &mut Output<E>,
+) -> u8
+    ensures answered { out.new.failed ≡ false → err.new.failed ≡ false
+        → Shows check (Some result) (R.remaining input.old) (R.remaining input.new)
+        (O.contents out.old.writer) (O.contents out.new.writer)
+        (E.contents err.old.writer) (E.contents err.new.writer) }
+    ensures one_writer { (out.new ≡ out.old) ⊎ (err.new ≡ err.old) }
+    ensures failed { out.old.failed ≡ false → err.old.failed ≡ false
+        → (out.new.failed ≡ true) ⊎ (err.new.failed ≡ true) → result ≡ 1 }
+    ensures few { ReadsFew (R.remaining input.old) (R.remaining input.new) }
+{
+    match checked(alloc, input) {
+        Ok(PlanCheck::Hints(text)) => {
+            out.put(text.as_slice());
+            if out.failed { 1 } else { 0 }
+        }
+        Ok(PlanCheck::Mistake(text)) => {
+            err.put(text.as_slice());
+            1
+        }
+        Err(why) => err.refuse(why),
     }
 }

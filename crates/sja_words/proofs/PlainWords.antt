@@ -2,7 +2,7 @@
 use Rattle.std.proofs.Common.{◌≡◌, ◌==◌, ℕ, List, [], ◌∷◌, codes, refl, false, true, Some}
 use Rattle.clap.proofs.OnLiterals.{clap_on_literals}
 use Rattle.clap.specs.declared.error.kind.ErrorKind.TheVariants.{DisplayVersion}
-use Rattle.sja_words.specs.Words.{Request, ParsesAs, decode, encode, message, run, wave, asked, faults}
+use Rattle.sja_words.specs.Words.{Request, ParsesAs, decode, encode, message, run, wave, check, asked, faults}
 
 -- `encode` and the empty text
 pub empty_text : (name : List ℕ) → ParsesAs (name ∷ codes "encode" ∷ [] ∷ []) (encode [])
@@ -92,6 +92,11 @@ run_in_threads name = record { taken = refl; asks = refl }
 pub wave_alone : (name : List ℕ) → ParsesAs (name ∷ codes "wave" ∷ []) wave
 unfolding clap_on_literals asked faults
 wave_alone name = record { taken = refl; asks = refl }
+
+-- `check`
+pub check_alone : (name : List ℕ) → ParsesAs (name ∷ codes "check" ∷ []) check
+unfolding clap_on_literals asked faults
+check_alone name = record { taken = refl; asks = refl }
 
 -- `encode` and such a text, both together
 pub text : (name rest : List ℕ) (x : ℕ) → (x == 45) ≡ false →

@@ -63,6 +63,14 @@ run_app = with_rule (new_app (codes "run")) (flag_rule (codes "threads"))
 abbrev pub wave_app : App
 wave_app = new_app (codes "wave")
 
+-- `check`, which has none either
+abbrev pub check_app : App
+check_app = new_app (codes "check")
+
+-- those and the commands over the run of a plan: `run` and `wave`
+abbrev pub plan_app : App
+plan_app = with_subcommand (with_subcommand notation_app run_app.top) wave_app.top
+
 -- the whole
 abbrev pub sja_app : App
-sja_app = with_subcommand (with_subcommand notation_app run_app.top) wave_app.top
+sja_app = with_subcommand plan_app check_app.top

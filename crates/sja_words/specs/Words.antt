@@ -7,6 +7,7 @@ use Rattle.std.specs.Str.{bytes_eq}
 use Rattle.clap.specs.Words.{Kinds, Row, Text, all_of, fault_of, first_of, subcommand_of}
 use Rattle.sja_words.specs.declared.task.Task.{Task}
 use Rattle.sja_words.specs.declared.task.Task.TheVariants.{Encode, Decode, Filter, Arbitrate, Message, Run, Wave}
+use Rattle.sja_words.specs.declared.task.Task.TheVariants.{Check}
 use Rattle.sja_words.specs.CommandLine.{sja_app}
 
 -- the text begins with `-` (45), as a flag does
@@ -27,6 +28,7 @@ pub data Request : Type 0 where
   message : List ℕ → Request
   run : Bool → Request
   wave : Request
+  check : Request
 
 -- a task as what it asks for
 abbrev pub request_of : Task → Request
@@ -37,6 +39,7 @@ request_of (Arbitrate messages) = arbitrate (map (λ digits. digits.now) message
 request_of (Message text) = message text.now
 request_of (Run threads) = run threads
 request_of Wave = wave
+request_of Check = check
 
 -- a mode: whether it is that of a single filter
 abbrev pub single_in : Text → Option Bool
@@ -77,6 +80,7 @@ request_by name rows =
     else if bytes_eq name (codes "message") then option_map message (first_of (codes "TEXT") rows)
     else if bytes_eq name (codes "run") then Some (run (flag_in (first_of (codes "threads") rows)))
     else if bytes_eq name (codes "wave") then Some wave
+    else if bytes_eq name (codes "check") then Some check
     else None
 
 -- what the subcommand that was found asks for

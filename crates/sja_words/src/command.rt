@@ -5,7 +5,7 @@ ghost use Rattle.clap.specs.Words.{app_of, rule_of};
 ghost use Rattle.clap.specs.declared.builder.command.Command.TheViews.{out-Command};
 ghost use Rattle.sja_words.specs.CommandLine.{text_rule, text_app, filter_app, arbitrate_app};
 ghost use Rattle.sja_words.specs.CommandLine.{empty_app, line_app, frame_app, notation_app};
-ghost use Rattle.sja_words.specs.CommandLine.{flag_rule, run_app, wave_app, sja_app};
+ghost use Rattle.sja_words.specs.CommandLine.{flag_rule, run_app, wave_app, check_app, plan_app, sja_app};
 
 use super::help::{
     ACR_HELP, AMR_HELP, LINE_HELP, MESSAGE_HELP, MODE_HELP, TEXT_HELP, THREADS_HELP,
@@ -148,11 +148,29 @@ fn wave_command<'a>(alloc: Global) -> Command<'a>
     )
 }
 
-/// The whole: a subcommand has to be given.
-pub fn sja_command<'a>(alloc: Global) -> Result<Command<'a>, AllocError>
-    ensures { IfOk result (λ command. app_of command ≡ sja_app) }
+/// `check`.
+fn check_command<'a>(alloc: Global) -> Command<'a>
+    ensures app { app_of result ≡ check_app }
+    ensures local { (out-Command result).has_globals ≡ false }
+{
+    Command::new(alloc, "check").about(
+        "Print the first mistake in the plan on standard input, or what its run left out",
+    )
+}
+
+/// Those and the commands over the run of a plan.
+fn plan_command<'a>(alloc: Global) -> Result<Command<'a>, AllocError>
+    ensures app { IfOk result (λ command. app_of command ≡ plan_app) }
+    ensures local { IfOk result (λ command. (out-Command command).has_globals ≡ false) }
 {
     notation_command(alloc)?
         .subcommand(run_command(alloc)?)?
         .subcommand(wave_command(alloc))
+}
+
+/// The whole: a subcommand has to be given.
+pub fn sja_command<'a>(alloc: Global) -> Result<Command<'a>, AllocError>
+    ensures { IfOk result (λ command. app_of command ≡ sja_app) }
+{
+    plan_command(alloc)?.subcommand(check_command(alloc))
 }

@@ -30,6 +30,7 @@ fn task_by<'a>(name: &str, arguments: &ArgMatches<'a>) -> Option<Task<'a>>
         "message" => message_task(arguments),
         "run" => Some(run_task(arguments)),
         "wave" => Some(Task::Wave),
+        "check" => Some(Task::Check),
         _ => None,
     }
 }

@@ -15,7 +15,7 @@ mod task;
 mod words_fault;
 
 pub use laws::{
-    a_message_is_needed, arbitrate_and_texts_parse, decode_and_a_text_parse,
+    a_message_is_needed, arbitrate_and_texts_parse, check_parses, decode_and_a_text_parse,
     encode_and_a_text_parse, filter_and_texts_parse, message_and_a_text_parses, run_parses,
     version_is_asked_for, wave_parses,
 };

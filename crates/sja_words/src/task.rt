@@ -35,4 +35,6 @@ pub enum Task<'a> {
     },
     /// `wave`: the waveform of the run of the plan on the input.
     Wave,
+    /// `check`: the first mistake in the plan on the input, or what its run left out.
+    Check,
 }

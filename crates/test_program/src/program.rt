@@ -2,6 +2,7 @@
 
 mod answer;
 mod arbitrate;
+mod checks;
 mod cut_words;
 mod decode;
 mod each_write;

@@ -9,12 +9,11 @@ use std::alloc::{AllocError, Global};
 ///
 /// Error: memory was refused.
 pub(crate) fn too_long(alloc: Global, bytes: &[u8]) -> Result<Option<Words>, AllocError> {
-    let count = bytes.len();
-    if count <= MOST_BYTES {
+    if bytes.len() <= MOST_BYTES {
         return Ok(None);
     }
     Ok(Some(Words::one(format!(in alloc;
-        "the plan has {count} bytes, and at most {MOST_BYTES} are read"
+        "the plan has more than {MOST_BYTES} bytes, the most that a plan may have"
     )?)))
 }
 

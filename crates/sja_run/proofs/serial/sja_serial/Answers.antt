@@ -1,4 +1,4 @@
-use Rattle.std.proofs.Common.{rules, inr, ap, Some}
+use Rattle.std.proofs.Common.{rules, inl, inr, ap, Some}
 use Rattle.sja_words.specs.Words.{request_of}
 use Rattle.sja_texts.specs.declared.command_refusal.CommandRefusal.TheVariants as refusal
 use Rattle.sja_run.proofs.FewBytes.{unread, only_runs_read}
@@ -25,13 +25,13 @@ returns-in-Ok-clause-untouched g c = λ none. absurd (none (request_of c.in-Ok.t
 -- memory may be refused while the words are parsed
 pub returns-in-Err-OutOfMemory-clause-answered : goal.returns-in-Err-OutOfMemory-clause-answered
 returns-in-Err-OutOfMemory-clause-answered g c = λ r _ _ _ told.
-    inr (
+    inr (inl (
       refusal.OutOfMemory,
       memory_refused r _ _ (unread _),
       ap Some c.refuse.ensures.status,
       search rules,
       (c.refuse.ensures.written told).1,
-    )
+    ))
 
 -- only words that ask for a run have the input read
 pub returns-in-Ok-2-clause-unread : goal.returns-in-Ok-2-clause-unread

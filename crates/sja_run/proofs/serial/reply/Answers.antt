@@ -1,0 +1,6 @@
+use Rattle.sja_run.proofs.serial.reply.Goals as goal
+
+-- the task is `check`
+pub returns-then-is_check-clause-answered : goal.returns-then-is_check-clause-answered
+returns-then-is_check-clause-answered g c = λ wrote told.
+    rw (c.is_check.ensures.check c.if-is_check.true) (c.reply_check.ensures.answered wrote told)

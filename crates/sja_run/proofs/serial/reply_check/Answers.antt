@@ -1,0 +1,16 @@
+use Rattle.std.proofs.Common.{rules, refl, subst, inr}
+use Rattle.std.specs.Io.KnownBytes.{Appends}
+use Rattle.std.proofs.KnownBytes.{Keeps-refl}
+use Rattle.sja_run.specs.Check.{HasMistake}
+use Rattle.sja_run.proofs.serial.reply_check.Goals as goal
+
+-- a mistake goes to the error output
+pub returns-in-Ok-Mistake-clause-answered : goal.returns-in-Ok-Mistake-clause-answered
+returns-in-Ok-Mistake-clause-answered g c = λ wrote told.
+    let text = c.in-Ok-Mistake.text.items in
+    let mistake : HasMistake (g.R.Read.remaining c.args.input.now) (g.R.Read.remaining c.checked.new.input) text =
+    search rules in
+    let written = subst (λ bytes. Appends (g.E.Write.contents c.args.err.now.writer)
+    (g.E.Write.contents c.put-in-Ok-Mistake.new.self.writer) bytes) c.as_slice-in-Ok-Mistake.ensures.value
+    (c.put-in-Ok-Mistake.ensures.written told).1 in
+    inr (inr (text, refl, mistake, refl, Keeps-refl _, written))

@@ -1,0 +1,62 @@
+//! `check`: the first mistake in the plan on the input, or what its run left out.
+
+ghost use Rattle.std.specs.Prelude.{◌≡◌, ◌++◌, ℕ, List, IfOk, IfErr};
+ghost use Rattle.sja_plan.specs.declared.plan_fault.PlanFault.TheVariants.{Memory};
+ghost use Rattle.sja_log.specs.Log.{RunValue};
+ghost use Rattle.sja_log.specs.Runs.{IsSerialRun};
+ghost use Rattle.sja_check.specs.Lines.{AreHints, IsBrief};
+ghost use Rattle.sja_texts.specs.Refusal.{refusal_line};
+ghost use Rattle.sja_texts.specs.declared.command_refusal.CommandRefusal.TheVariants as refusal;
+ghost use Rattle.sja_run.specs.Check.{IsChecked};
+ghost use Rattle.sja_run.specs.Input.{RefusesInput};
+
+use super::input::read_input;
+use super::plan_check::PlanCheck;
+use can_frame::OutOfMemory;
+use sja_check::{hints, mistake};
+use sja_log::RunFault;
+use sja_plan::{Plan, PlanFault, read_plan};
+use sja_serial::run_serial;
+use sja_texts::CommandRefusal;
+use std::alloc::Global;
+use std::io::Read;
+
+/// What there is to be said of the plan on the input. A plan is run in one thread.
+///
+/// Errors: those of [`read_input`]; [`CommandRefusal::OutOfMemory`].
+pub(crate) fn checked<R: Read>(alloc: Global, input: &mut R) -> Result<PlanCheck, CommandRefusal>
+    ensures ok { IfOk result (IsChecked (R.remaining input.old) (R.remaining input.new)) }
+    ensures err { IfErr result (RefusesInput (R.remaining input.old) (R.remaining input.new)) }
+{
+    let bytes = read_input(alloc, input)?;
+    match read_plan(alloc, bytes.as_slice()) {
+        Ok(plan) => Ok(PlanCheck::Hints(hinted(alloc, bytes.as_slice(), &plan)?)),
+        Err(PlanFault::Memory) => Err(CommandRefusal::OutOfMemory),
+        Err(fault) => Ok(PlanCheck::Mistake(explained(alloc, bytes.as_slice(), fault)?)),
+    }
+}
+
+/// A line for each thing that the run of this plan left out.
+///
+/// Error: [`OutOfMemory`] where memory was refused.
+fn hinted(alloc: Global, bytes: &[u8], plan: &Plan) -> Result<Vec<u8>, OutOfMemory>
+    ensures { IfOk result (λ text. ((log : RunValue) × IsSerialRun plan.now log) × AreHints text.items) }
+{
+    let Ok(log) = run_serial(alloc, plan) else {
+        return Err(OutOfMemory);
+    };
+    let text = hints(alloc, bytes, plan, &log)?;
+    Ok(text.into_bytes())
+}
+
+/// The line that `run` has for a fault of these bytes, and then what explains it.
+///
+/// Error: [`OutOfMemory`] where memory was refused.
+fn explained(alloc: Global, bytes: &[u8], fault: PlanFault) -> Result<Vec<u8>, OutOfMemory>
+    ensures { IfOk result (λ text. (words : List ℕ)
+        × (text.items ≡ refusal_line (refusal.Plan fault) ++ words) × IsBrief words) }
+{
+    let words = mistake(alloc, bytes, fault)?;
+    let text = format!(in alloc; "sja: {}\n{words}", CommandRefusal::Plan(fault))?;
+    Ok(text.into_bytes())
+}
