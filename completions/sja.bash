@@ -1,0 +1,38 @@
+# Completion of the words of sja in bash. A package has it as /usr/share/bash-completion/completions/sja; else
+# `. completions/sja.bash`. checks/completions compares it with what the program's help names.
+
+# _sja: of the words typed so far, which may come next; behind < or > the names of files
+_sja() {
+    local current=${COMP_WORDS[COMP_CWORD]} before=${COMP_WORDS[COMP_CWORD - 1]}
+    local at command= place=0
+    COMPREPLY=()
+    case $before in
+    '<' | '>' | '>>')
+        compopt -o filenames 2>/dev/null
+        mapfile -t COMPREPLY < <(compgen -f -- "$current")
+        return
+        ;;
+    esac
+    for ((at = 1; at < COMP_CWORD; at++)); do
+        case ${COMP_WORDS[at]} in
+        '<' | '>' | '>>') at=$((at + 1)) ;;
+        -*) ;;
+        *) if [ -n "$command" ]; then place=$((place + 1)); else command=${COMP_WORDS[at]}; fi ;;
+        esac
+    done
+    mapfile -t COMPREPLY < <(compgen -W "$(_sja_words "$command" "$place")" -- "$current")
+}
+
+# _sja_words COMMAND PLACE: the words that may stand behind this command and so many arguments
+_sja_words() {
+    local commands="encode decode filter arbitrate message run wave check help"
+    case $1 in
+    '') echo "$commands -h --help -V --version" ;;
+    encode | decode | arbitrate | message | wave | check) echo "-h --help" ;;
+    run) echo "--threads -h --help" ;;
+    filter) if [ "$2" = 0 ]; then echo "single dual -h --help"; else echo "-h --help"; fi ;;
+    help) if [ "$2" = 0 ]; then echo "$commands"; fi ;;
+    esac
+}
+
+complete -F _sja sja

@@ -1,0 +1,51 @@
+"""What the program's help names: its commands, and the options and arguments of each. checks/man and checks/completions
+read it. SJA names another program; without it ./prove makes that of the sources."""
+
+import os
+import re
+import subprocess
+import sys
+
+TOP = os.path.dirname(os.path.dirname(os.path.abspath(__file__)))
+
+
+def program():
+    """The path of the program, which is there."""
+    path = os.environ.get("SJA", f"{TOP}/crates/sja/out/sja")
+    if "SJA" not in os.environ and subprocess.run([f"{TOP}/prove"]).returncode:
+        sys.exit(1)
+    return path if os.access(path, os.X_OK) else sys.exit(f"no program {path}")
+
+
+def told(path, *words):
+    """What the parser says of these words. Its texts go to the error output."""
+    return subprocess.run([path, *words], stdin=subprocess.DEVNULL, stderr=subprocess.PIPE, text=True).stderr
+
+
+class Help:
+    """The help of these words: the line at its head, and of commands, options and arguments the line behind each."""
+
+    def __init__(self, path, *words):
+        text = told(path, *words, "--help")
+        self.about = text.partition("\n")[0]
+        self.commands = dict(re.findall(r"^  (\w+) +(.*)", self.part(text, "Commands"), re.M))
+        self.arguments = dict(re.findall(r"^  <(\w+)>(?:\.\.\.)? +(.*)", self.part(text, "Arguments"), re.M))
+        self.options = {}
+        for short, long, line in re.findall(r"^ +(?:(-\w), )?(--\w+) +(.*)", self.part(text, "Options"), re.M):
+            self.options.update({option: line for option in (short, long) if option})
+        if not self.options:
+            sys.exit(f"{path} {' '.join(words)} --help names no option:\n{text}")
+
+    @staticmethod
+    def part(text, title):
+        """The lines below a title."""
+        found = re.search(rf"^{title}:\n((?: .*\n)+)", text, re.M)
+        return found[1] if found else ""
+
+
+def helps(path):
+    """The help of the program, and that of each of its commands but help itself."""
+    whole = Help(path)
+    if not whole.commands:
+        sys.exit(f"{path} --help names no command")
+    return whole, {name: Help(path, name) for name in whole.commands if name != "help"}
