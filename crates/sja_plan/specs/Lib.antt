@@ -5,6 +5,7 @@ pub mod StrikeTexts
 pub mod Texts
 pub mod Document
 pub mod Plan
+pub mod Struck
 pub mod Checks
 pub mod Faults
 pub mod Inside

@@ -11,6 +11,7 @@ mod laws;
 mod limits;
 mod list_fault;
 mod members;
+mod one_more_strike;
 mod plan;
 mod plan_bytes;
 mod plan_fault;

@@ -4,7 +4,7 @@ use Rattle.std.proofs.Common.{refl, sym, ap, ◌∙◌, arith, append_assoc, dro
 use Rattle.std.specs.Prelude.{slice_index_or}
 use Rattle.lemmas.proofs.Gathered.{gathered_append}
 use Rattle.sja_report.specs.ReportLines.{words_text, line_text, lines_text, numbered}
-use Rattle.sja_report.specs.Inside.Spacing.{all_spaced}
+use Rattle.sja_report.specs.Spacing.{all_spaced}
 use Rattle.sja_report.specs.Inside.Tallies.{TallyValue, no_tally, tally_value}
 use Rattle.sja_report.specs.declared.tally.Tally.{Tally}
 

@@ -1,3 +1,2 @@
 -- How the writer of a report counts and writes.
 pub mod Tallies
-pub mod Spacing

@@ -1,4 +1,5 @@
 pub mod ReportWords
+pub mod Spacing
 pub mod ReportLines
 -- ---- how the writer of a report counts and writes: definitions of private contracts alone
 pub mod Inside

@@ -1,7 +1,8 @@
 //! The report of a run: the text of its log.
 //!
 //! [`report`] makes it of a [`RunLog`](sja_log::RunLog), in one pass over each journal. The text stands line by line in
-//! `specs/ReportLines.antt`. The tests stand in `crates/test_runs`.
+//! `specs/ReportLines.antt`. [`put_answer`] and [`put_bytes`] write its words, for other texts of runs. The tests stand
+//! in `crates/test_runs`.
 #![tactic(auto)]
 
 mod lines;
@@ -11,3 +12,4 @@ mod tally;
 mod words;
 
 pub use report_text::report;
+pub use words::{put_answer, put_bytes};

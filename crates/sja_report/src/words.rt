@@ -4,7 +4,7 @@ ghost use Rattle.std.specs.Prelude.{◌≡◌, ◌<◌, ◌++◌, false, string_
 ghost use Rattle.std.specs.Fmt.{digit_glyph};
 ghost use Rattle.std.specs.Str.{IsAscii};
 ghost use Rattle.sja_report.specs.ReportWords.{byte_word, message_words, answer_words};
-ghost use Rattle.sja_report.specs.Inside.Spacing.{spaced, all_spaced};
+ghost use Rattle.sja_report.specs.Spacing.{spaced, all_spaced};
 
 use arrayvec::ArrayVec;
 use can_frame::Message;
@@ -16,8 +16,10 @@ use std::str;
 /// How many characters the words of a message have at most: of 13 bytes each has two digits behind a space.
 const CHARACTERS: usize = 39;
 
-/// What a step answers.
-pub(crate) fn put_answer(text: &mut String, answer: &StepAnswer) -> Result<(), AllocError>
+/// Writes what a step answers, each word behind a space: as REPORT.md has it.
+///
+/// Error: memory was refused.
+pub fn put_answer(text: &mut String, answer: &StepAnswer) -> Result<(), AllocError>
     ensures { OnOk result (string_bytes text.new ≡ string_bytes text.old ++ all_spaced (answer_words answer.now)) }
 {
     match answer {
@@ -30,8 +32,10 @@ pub(crate) fn put_answer(text: &mut String, answer: &StepAnswer) -> Result<(), A
     }
 }
 
-/// The bytes of a message.
-pub(crate) fn put_bytes(text: &mut String, message: &Message) -> Result<(), AllocError>
+/// Writes the bytes of a message, 3 to 13, each as two hexadecimal digits behind a space.
+///
+/// Error: memory was refused.
+pub fn put_bytes(text: &mut String, message: &Message) -> Result<(), AllocError>
     ensures { OnOk result (string_bytes text.new ≡ string_bytes text.old ++ all_spaced (message_words message.now)) }
 {
     let mut words = ArrayVec::<u8, CHARACTERS>::new();

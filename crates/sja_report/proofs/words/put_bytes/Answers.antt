@@ -3,7 +3,7 @@ use Rattle.std.proofs.Common.{append_assoc, drop-cons, get_or, subst}
 use Rattle.std.specs.Str.{IsAscii}
 use Rattle.std.proofs.lemmas.Str.Ascii.{IsAscii-push}
 use Rattle.sja_report.specs.ReportWords.{message_words}
-use Rattle.sja_report.specs.Inside.Spacing.{all_spaced}
+use Rattle.sja_report.specs.Spacing.{all_spaced}
 use Rattle.sja_report.proofs.words.put_bytes.Goals as goal
 
 -- three more at the end of a list, before the rest

@@ -1,7 +1,7 @@
 use Rattle.std.proofs.Common.{◌≡◌, ◌*◌, ◌++◌, ◌≤◌, length, drop}
 use Rattle.std.specs.Str.{IsAscii}
 use Rattle.sja_report.specs.ReportWords.{message_words}
-use Rattle.sja_report.specs.Inside.Spacing.{all_spaced}
+use Rattle.sja_report.specs.Spacing.{all_spaced}
 use Rattle.sja_report.proofs.words.put_bytes.Given as goal
 
 -- what was gathered, and the words of the rest of the bytes, are the whole

@@ -1,4 +1,4 @@
--- Words that are written one after another.
+-- Words that are written one after another, each behind a space (this project's own rule).
 use Rattle.std.specs.Prelude.{ℕ, List, ◌∷◌}
 use Rattle.lemmas.specs.Gathering.{gathered}
 

@@ -1,0 +1,80 @@
+-- Strikes that were tried, one after another, and their logs.
+use Rattle.std.proofs.Common.{◌≡◌, ℕ, ◌+◌, ◌*◌, ◌<◌, ◌≤◌, false, List, [], ◌∷◌, ◌++◌, length, map, take}
+use Rattle.std.proofs.Common.{get_or, refl, sym, ap, ap₂, ◌∙◌, subst}
+use Rattle.std.proofs.lemmas.List.{map-append, take_more}
+use Rattle.sja_sweep.specs.declared.told.Told.{Told}
+use Rattle.sja_sweep.specs.declared.sweeping.Sweeping.{Sweeping}
+use Rattle.sja_sweep.specs.SweepText.{sweep_text, sweep_rows}
+use Rattle.sja_sweep.specs.Sweeps.{strikes_tried, IsSweep}
+use Rattle.sja_sweep.specs.Inside.Reaching.{told_value, NamesNodeBelow}
+use Rattle.std.specs.List.{AllZip}
+use Rattle.sja_plan.specs.Plan.{PlanValue}
+use Rattle.sja_plan.specs.Struck.{struck_at}
+use Rattle.sja_log.specs.Log.{RunValue}
+use Rattle.sja_log.specs.Runs.{IsSerialRun}
+use Rattle.sja_sweep.specs.declared.target.Target.{Target}
+use Rattle.sja_sweep.specs.Outcome.{Outcome, outcome_of, outcomes_of}
+use Rattle.sja_sweep.specs.Inside.Tried.{IsTried, AreTried}
+
+-- one more at the end of each list
+pub zip_push : {A B : Type 0} (R : A → B → Type 0) (xs : List A) (ys : List B) (x : A) (y : B) → AllZip R xs ys →
+    R x y → AllZip R (xs ++ x ∷ []) (ys ++ y ∷ [])
+zip_push R [] [] x y all here = (here, tt)
+zip_push R [] (b ∷ ys) x y all here = absurd all
+zip_push R (a ∷ xs) [] x y all here = absurd all
+zip_push R (a ∷ xs) (b ∷ ys) x y all here = (all.0, zip_push R xs ys x y all.1 here)
+
+-- the logs of strikes that were tried
+pub record HaveLogs (plan : PlanValue) (planned : RunValue) (ts : List Target) (os : List Outcome) : Type 0 where
+  pub logs : List RunValue
+  pub runs : AllZip (λ (t : Target) (log : RunValue). IsSerialRun (struck_at plan t.node t.bit) log) ts logs
+  pub outcomes : os ≡ outcomes_of planned ts logs
+
+pub have_logs : (plan : PlanValue) (planned : RunValue) (ts : List Target) (os : List Outcome) →
+    AreTried plan planned ts os → HaveLogs plan planned ts os
+have_logs plan planned [] [] all = record { logs = []; runs = tt; outcomes = refl }
+have_logs plan planned [] (o ∷ os) all = absurd all
+have_logs plan planned (t ∷ ts) [] all = absurd all
+have_logs plan planned (t ∷ ts) (o ∷ os) all =
+    let rest = have_logs plan planned ts os all.1 in record {
+      logs = all.0.log ∷ rest.logs;
+      runs = (all.0.run, rest.runs);
+      outcomes = ap₂ (λ a b. a ∷ b) all.0.outcome rest.outcomes;
+    }
+
+-- one more strike was tried
+pub tried_more : (plan : PlanValue) (planned : RunValue) (targets : List Target) (old new : List Told) (i : ℕ)
+    (d : Target) (told : Told) → i < length targets → new ≡ old ++ told ∷ [] →
+    AreTried plan planned (take i targets) (map told_value old) →
+    IsTried plan planned (get_or targets i d) (told_value told) →
+    AreTried plan planned (take (i + 1) targets) (map told_value new)
+tried_more plan planned targets old new i d told less pushed so_far one =
+    let item = get_or targets i d in
+    let ts : take (i + 1) targets ≡ take i targets ++ item ∷ [] = take_more targets i d less in
+    let os : map told_value new ≡ map told_value old ++ told_value told ∷ [] =
+    ap (map told_value) pushed ∙ map-append told_value old (told ∷ []) in
+    let P : List Target → Type 0 = λ l. AreTried plan planned l (map told_value new) in
+    let Q : List Outcome → Type 0 = λ l. AreTried plan planned (take i targets ++ item ∷ []) l in
+    subst P (sym ts) (subst Q (sym os)
+    (zip_push (IsTried plan planned) (take i targets) (map told_value old) item (told_value told) so_far one))
+
+-- a sweep whose strikes were tried, and whose texts tell their outcomes
+pub sweep_is : (plan : PlanValue) (s : Sweeping) (planned : RunValue) (targets : List Target) (outcomes : List Outcome)
+    (text rows : List ℕ) → IsSerialRun plan planned → targets ≡ strikes_tried plan s planned →
+    AreTried plan planned targets outcomes → text ≡ sweep_text s.changed planned outcomes → rows ≡ sweep_rows outcomes →
+    (s.meant ≡ false → (length targets ≤ 20000) × (length targets * plan.bits ≤ 2000000000)) →
+    NamesNodeBelow s (length plan.nodes) → IsSweep plan s text rows
+sweep_is plan s planned targets outcomes text rows run is tried text_is rows_are few node =
+    let P : List Target → Type 0 = λ ts. AreTried plan planned ts outcomes in
+    let Few : List Target → Type 0 = λ ts.
+    s.meant ≡ false → (length ts ≤ 20000) × (length ts * plan.bits ≤ 2000000000) in
+    let found = have_logs plan planned (strikes_tried plan s planned) outcomes (subst P is tried) in record {
+      planned = planned;
+      logs = found.logs;
+      as_planned = run;
+      as_struck = found.runs;
+      text_is = text_is ∙ ap (sweep_text s.changed planned) found.outcomes;
+      rows_are = rows_are ∙ ap sweep_rows found.outcomes;
+      few = subst Few is few;
+      node = node;
+    }

@@ -1,0 +1,12 @@
+use Rattle.std.proofs.Common.{◌≡◌, ◌++◌, string_bytes}
+use Rattle.std.specs.List.{range_with_len}
+use Rattle.lemmas.specs.Gathering.{gathered}
+use Rattle.sja_sweep.specs.Nodes.{node_at}
+use Rattle.sja_sweep.specs.Outcome.{counters_item}
+use Rattle.sja_sweep.proofs.counters.put_counters.Given as goal
+
+-- what was written of those so far
+abbrev pub invariant-loop-number : goal.invariant-loop-number
+invariant-loop-number l =
+    string_bytes l.text ≡ string_bytes l.fn.text
+    ++ gathered (λ k. counters_item k (node_at l.nodes k)) (range_with_len 0 l.number)

@@ -1,0 +1,18 @@
+use Rattle.std.proofs.Common.{◌≡◌, ◌<◌, ◌++◌, length, string_bytes, arith, sym, ap₂, ◌∙◌}
+use Rattle.sja_log.specs.Log.{NodeValue}
+use Rattle.sja_sweep.specs.Nodes.{no_node, node_at}
+use Rattle.sja_sweep.specs.Changes.{node_items}
+use Rattle.sja_sweep.proofs.Ranges.{text_more, read_is}
+use Rattle.sja_sweep.proofs.nodes.put_nodes.Goals as goal
+
+pub loop-node-preserved : goal.loop-node-preserved
+loop-node-preserved c =
+    let k = c.loop-node.node in
+    let less : k < length c.args.now.now = omega arith in
+    let there : k < length c.args.without.now = omega (arith, c.requires) in
+    text_more (λ n. node_items n (node_at c.args.without.now n) (node_at c.args.now.now n)) k _ _ _
+    c.loop-node.invariant
+    (c.in_ok-put_node.ensures
+    ∙ sym (ap₂ (λ (a b : NodeValue). string_bytes c.loop-node.text ++ node_items k a b)
+    (read_is c.args.without.now k c.index-without-node.result no_node there c.index-without-node.is)
+    (read_is c.args.now.now k c.index-now-node.result no_node less c.index-now-node.is)))

@@ -1,0 +1,8 @@
+use Rattle.std.proofs.Common.{map, take}
+use Rattle.sja_sweep.specs.Inside.Reaching.{told_value}
+use Rattle.sja_sweep.specs.Inside.Tried.{AreTried}
+use Rattle.sja_sweep.proofs.runs.all_tried.Given as goal
+
+-- those so far were tried
+abbrev pub invariant-loop-target : goal.invariant-loop-target
+invariant-loop-target l = AreTried l.plan l.planned (take l.target-index l.targets) (map told_value l.tolds.items)

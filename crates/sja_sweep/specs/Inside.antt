@@ -1,0 +1,3 @@
+-- What private contracts speak of: the views of private types, and parts of the texts.
+pub mod Reaching
+pub mod Tried

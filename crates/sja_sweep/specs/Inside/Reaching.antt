@@ -1,0 +1,76 @@
+-- The views of private types, and parts of the texts.
+use Rattle.std.specs.Prelude.{◌≡◌, ◌==◌, ◌<◌, ◌≤◌, ℕ, if◌then◌else◌, Option, Some, List, [], ◌++◌, length}
+use Rattle.std.specs.Prelude.{codes, decimal, string_bytes}
+use Rattle.std.specs.List.{range_with_len}
+use Rattle.std.specs.Option.{option_map}
+use Rattle.lemmas.specs.Gathering.{gathered}
+use Rattle.sja_plan.specs.Plan.{PlanValue, times_in}
+use Rattle.sja_log.specs.Log.{NodeValue}
+use Rattle.sja_log.specs.declared.run_fault.RunFault.TheVariants.{Memory as NoMemory}
+use Rattle.sja_sweep.specs.declared.parting.Parting.{Parting}
+use Rattle.sja_sweep.specs.declared.span.Span.{Span}
+use Rattle.sja_sweep.specs.declared.sweep_fault.SweepFault.{SweepFault}
+use Rattle.sja_sweep.specs.declared.sweep_fault.SweepFault.TheVariants.{NoNode, TooMany, StrikeCount, Run, Memory}
+use Rattle.sja_sweep.specs.declared.sweeping.Sweeping.{Sweeping}
+use Rattle.sja_sweep.specs.declared.told.Told.{Told}
+use Rattle.sja_sweep.specs.Nodes.{node_at}
+use Rattle.sja_sweep.specs.Changes.{node_items}
+use Rattle.sja_sweep.specs.Outcome.{Outcome}
+use Rattle.sja_sweep.specs.Spans.{SpanValue}
+use Rattle.sja_sweep.specs.SweepText.{short_node}
+
+-- what is kept of a run
+abbrev pub told_value : Told → Outcome
+told_value t = record {
+  target = t.target;
+  parting = t.parting;
+  words = string_bytes t.words;
+  changed = t.changed;
+}
+
+-- a run of bits, with the bytes of its words
+abbrev pub span_value : Span → SpanValue
+span_value s = record {
+  node = s.node;
+  first = s.first;
+  last = s.last;
+  from = s.from;
+  to = s.to;
+  words = s.words.now;
+  changed = s.changed;
+}
+
+-- the bit of a node, if there is one
+abbrev pub part_of : ℕ → Option ℕ → Option Parting
+part_of node bit = option_map (λ b. record { node = node; bit = b }) bit
+
+-- how often a node went bus-off, by the two numbers
+abbrev pub off_item_by : ℕ → ℕ → ℕ → List ℕ
+off_item_by k without now =
+    if without == now then [] else codes "; node " ++ (decimal k ++ (codes " bus-off " ++ decimal now))
+
+-- what is otherwise at each node
+abbrev pub nodes_items : List NodeValue → List NodeValue → List ℕ
+nodes_items without now =
+    gathered (λ k. node_items k (node_at without k) (node_at now k)) (range_with_len 0 (length now))
+
+-- the activations of each node, in short
+abbrev pub short_nodes : List NodeValue → List ℕ
+short_nodes nodes = gathered (λ k. short_node k (node_at nodes k)) (range_with_len 0 (length nodes))
+
+-- the node that a sweep names is one of so many, and isn't
+abbrev pub NamesNodeBelow : Sweeping → ℕ → Type 0
+NamesNodeBelow s nodes = (node : ℕ) → s.node ≡ Some node → node < nodes
+
+pub record NamesNodePast (s : Sweeping) (nodes : ℕ) : Type 0 where
+  pub node : ℕ
+  pub named : s.node ≡ Some node
+  pub past : nodes ≤ node
+
+-- why a strike can't be tried
+abbrev pub IsTrialFault : PlanValue → SweepFault → Type 0
+IsTrialFault plan Memory = Unit {0}
+IsTrialFault plan (Run f) = f ≡ NoMemory
+IsTrialFault plan StrikeCount = 1000 ≤ times_in plan.strikes
+IsTrialFault plan NoNode = ⊥
+IsTrialFault plan (TooMany runs bits) = ⊥

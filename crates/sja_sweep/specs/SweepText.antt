@@ -1,0 +1,95 @@
+-- The texts of a sweep (this project's own rule).
+use Rattle.std.specs.Prelude.{◌+◌, ◌==◌, ◌&&◌, ℕ, Bool, true, false, not, if◌then◌else◌, Option, Some, None}
+use Rattle.std.specs.Prelude.{List, [], ◌∷◌, ◌++◌, length, codes, decimal}
+use Rattle.std.specs.List.{range_with_len}
+use Rattle.lemmas.specs.Gathering.{gathered, total}
+use Rattle.sja_log.specs.Log.{ActivationValue, NodeValue, RunValue}
+use Rattle.sja_log.specs.EndWord.{end_word}
+use Rattle.sja_sweep.specs.declared.parting.Parting.{Parting}
+use Rattle.sja_sweep.specs.Nodes.{node_at, activation_at}
+use Rattle.sja_sweep.specs.Outcome.{Outcome, counters}
+use Rattle.sja_sweep.specs.Spans.{SpanValue, spans}
+
+-- ---- the plan as it is
+
+-- of an activation, counted from 1, its place from 0: how many messages were released, and how many left unread
+abbrev pub short_activation : ℕ → ℕ → ActivationValue → List ℕ
+short_activation k a act =
+    codes "; node " ++ (decimal k ++ (codes " activation " ++ (decimal (a + 1) ++ (codes " released "
+    ++ (decimal (length act.released) ++ (codes " unread " ++ decimal (length act.unread)))))))
+
+abbrev pub short_node : ℕ → NodeValue → List ℕ
+short_node k n =
+    gathered (λ a. short_activation k a (activation_at n.activations a)) (range_with_len 0 (length n.activations))
+
+-- how many bits were run, why the run ended, the activations of each node, and the error counters
+abbrev pub planned_line : RunValue → List ℕ
+planned_line log =
+    (codes "as planned: bits " ++ (decimal log.bits ++ (codes " end " ++ end_word log.end)))
+    ++ gathered (λ k. short_node k (node_at log.nodes k)) (range_with_len 0 (length log.nodes))
+    ++ counters log.nodes
+    ++ 10 ∷ []
+
+-- ---- the strikes
+
+-- where a run parts from the one without the strike
+abbrev pub parting_words : Option Parting → List ℕ
+parting_words None = codes "no bit"
+parting_words (Some p) = codes "node " ++ (decimal p.node ++ (codes " bit " ++ decimal p.bit))
+
+-- whether both are the same
+abbrev pub same_parting : Option Parting → Option Parting → Bool
+same_parting None None = true
+same_parting None (Some q) = false
+same_parting (Some p) None = false
+same_parting (Some p) (Some q) = (p.node == q.node) && (p.bit == q.bit)
+
+-- where the first one of several parts, and where the last one does
+abbrev pub partings_words : Option Parting → Option Parting → List ℕ
+partings_words from to =
+    codes ": parts at " ++ parting_words from
+    ++ (if same_parting from to then [] else codes " to " ++ parting_words to)
+
+-- the bits that are struck
+abbrev pub bits_words : ℕ → ℕ → List ℕ
+bits_words first last =
+    if first == last then codes " struck at bit " ++ decimal first
+    else codes " struck at bits " ++ (decimal first ++ (45 ∷ decimal last))
+
+abbrev pub span_line : SpanValue → List ℕ
+span_line s =
+    (codes "node " ++ decimal s.node) ++ bits_words s.first s.last ++ partings_words s.from s.to ++ s.words ++ 10 ∷ []
+
+-- the line, unless it is as without a strike and lines with another outcome alone are asked for
+abbrev pub shown_line : Bool → SpanValue → List ℕ
+shown_line changed s = if changed && not s.changed then [] else span_line s
+
+-- ---- how many there are
+
+abbrev pub changed_in : Outcome → ℕ
+changed_in o = if o.changed then 1 else 0
+
+abbrev pub last_line : List Outcome → List ℕ
+last_line os =
+    codes "runs " ++ (decimal (length os) ++ (codes ", with another outcome "
+    ++ (decimal (total changed_in os) ++ 10 ∷ [])))
+
+-- ---- the texts
+
+-- the plan as it is, a line for each run of bits with one outcome, and how many runs there were
+abbrev pub sweep_text : Bool → RunValue → List Outcome → List ℕ
+sweep_text changed planned os = planned_line planned ++ gathered (shown_line changed) (spans os) ++ last_line os
+
+-- a row: the node, the bit, whether the outcome is another one, where the run parts, and the outcome
+abbrev pub kind_word : Bool → List ℕ
+kind_word true = codes "other"
+kind_word false = codes "same"
+
+abbrev pub row_line : Outcome → List ℕ
+row_line o =
+    (decimal o.target.node ++ (32 ∷ (decimal o.target.bit ++ (32 ∷ kind_word o.changed))))
+    ++ partings_words o.parting o.parting ++ o.words ++ 10 ∷ []
+
+-- a row for each run, in order
+abbrev pub sweep_rows : List Outcome → List ℕ
+sweep_rows os = gathered row_line os

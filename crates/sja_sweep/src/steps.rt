@@ -1,0 +1,91 @@
+//! What is said of steps.
+
+ghost use Rattle.std.specs.Prelude.{◌≡◌, ◌++◌, string_bytes, slice_get, OnOk, IfOk};
+ghost use Rattle.std.specs.Option.{option_copied};
+ghost use Rattle.std.specs.Str.{bytes_eq};
+ghost use Rattle.sja_sweep.specs.Steps.{step_words, answer_text, step_item, step_items};
+
+use sja_report::put_answer;
+use sja_script::Done;
+use std::alloc::{AllocError, Global};
+use std::fmt::Write;
+
+/// The steps of a node that aren't done any more, or that answer otherwise.
+pub(crate) fn put_steps(
+    alloc: Global,
+    text: &mut String,
+    node: usize,
+    without: &[Done],
+    now: &[Done],
+) -> Result<(), AllocError>
+    ensures { OnOk result (string_bytes text.new ≡ string_bytes text.old ++ step_items node without.now now.now) }
+{
+    for place in 0..without.len().max(now.len()) {
+        let (before, after) = (done_at(without, place), done_at(now, place));
+        put_step(alloc, text, node, place, before, after)?;
+    }
+    Ok(())
+}
+
+/// The step done at a place; none past the end.
+fn done_at(done: &[Done], place: usize) -> Option<&Done>
+    ensures { option_copied result ≡ slice_get done.now place }
+{
+    done.get(place)
+}
+
+/// A step, if it isn't done any more, or answers otherwise.
+fn put_step(
+    alloc: Global,
+    text: &mut String,
+    node: usize,
+    place: usize,
+    without: Option<&Done>,
+    now: Option<&Done>,
+) -> Result<(), AllocError>
+    ensures { OnOk result (string_bytes text.new ≡ string_bytes text.old
+        ++ step_item node place (option_copied without.entry) (option_copied now.entry)) }
+{
+    match (without, now) {
+        (None, None) => Ok(()),
+        (Some(_), None) => {
+            put_step_words(text, node, place)?;
+            text.push_str(" not done")
+        }
+        (None, Some(now)) => put_answered(text, node, place, now),
+        (Some(without), Some(now)) => {
+            if same_answer(alloc, without, now)? {
+                return Ok(());
+            }
+            put_answered(text, node, place, now)
+        }
+    }
+}
+
+/// A step with its answer.
+fn put_answered(text: &mut String, node: usize, place: usize, done: &Done) -> Result<(), AllocError>
+    ensures { OnOk result (string_bytes text.new ≡ string_bytes text.old
+        ++ (step_words node place ++ answer_text done.now)) }
+{
+    put_step_words(text, node, place)?;
+    put_answer(text, &done.answer)
+}
+
+/// A step of a node.
+fn put_step_words(text: &mut String, node: usize, place: usize) -> Result<(), AllocError>
+    ensures { OnOk result (string_bytes text.new ≡ string_bytes text.old ++ step_words node place) }
+{
+    let number = place as u128 + 1;
+    write!(text, "; node {node} step {number}")
+}
+
+/// Whether two steps answer the same words.
+fn same_answer(alloc: Global, first: &Done, second: &Done) -> Result<bool, AllocError>
+    ensures { IfOk result (λ same. same ≡ bytes_eq (answer_text first.now) (answer_text second.now)) }
+{
+    let mut one = String::new(alloc);
+    put_answer(&mut one, &first.answer)?;
+    let mut other = String::new(alloc);
+    put_answer(&mut other, &second.answer)?;
+    Ok(one.as_bytes() == other.as_bytes())
+}

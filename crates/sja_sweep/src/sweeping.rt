@@ -1,0 +1,34 @@
+//! [`Sweeping`]: what is asked of a sweep.
+
+/// What is asked of a sweep (this project's own rule).
+#[derive(Clone, Copy, Debug, PartialEq, Eq)]
+pub struct Sweeping {
+    /// The one node that is struck, counted from 0; each node in turn where there is none.
+    pub node: Option<u8>,
+    /// The first bit that is struck, counted from 0.
+    pub first: u32,
+    /// The last bit that is struck, counted from 0. The bits of the plan's run end before, where it has no more.
+    pub last: u32,
+    /// Whether only lines with another outcome are told.
+    pub changed: bool,
+    /// Whether more runs than [`MOST_RUNS`](super::limits::MOST_RUNS), or more bits than
+    /// [`MOST_SWEPT_BITS`](super::limits::MOST_SWEPT_BITS), are meant.
+    pub meant: bool,
+}
+
+impl Sweeping {
+    ghost use Rattle.std.specs.Prelude.{◌≡◌, false, None};
+
+    /// Each node in each bit, and every line; not more runs and bits than the limits.
+    pub fn all() -> Sweeping
+        ensures { result ≡ record { node = None; first = 0; last = 4294967295; changed = false; meant = false } }
+    {
+        Sweeping {
+            node: None,
+            first: 0,
+            last: u32::MAX,
+            changed: false,
+            meant: false,
+        }
+    }
+}

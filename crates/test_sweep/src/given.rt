@@ -1,0 +1,35 @@
+//! Sweeps of plans that are given as text.
+
+use sja_plan::read_plan;
+use sja_sweep::{SweepFault, Sweeping, Swept, sweep};
+use std::alloc::{AllocError, Global};
+use std::test::Fail;
+
+/// Node 0 sends a frame, and node 1 releases it. It releases once more, which is refused.
+pub fn one_frame() -> &'static str {
+    "version = 1
+bits = 400
+turns = [\"node 0 3\", \"node 1 1\", \"rest\", \"node 1 2\"]
+[[node]]
+steps = [\"start\", \"load 000000\", \"command 01\"]
+[[node]]
+steps = [\"start\", \"release\", \"release\"]
+"
+}
+
+/// The texts of the sweep of a plan.
+pub fn swept(alloc: Global, plan: &str, sweeping: Sweeping) -> Result<Swept, Fail> {
+    let plan = read_plan(alloc, plan.as_bytes())?;
+    Ok(sweep(alloc, &plan, &sweeping)?)
+}
+
+/// Why there is no sweep of a plan; nothing where there is one.
+pub fn refused(alloc: Global, plan: &str, sweeping: Sweeping) -> Result<Option<SweepFault>, Fail> {
+    let plan = read_plan(alloc, plan.as_bytes())?;
+    Ok(sweep(alloc, &plan, &sweeping).err())
+}
+
+/// The text with each item in a line of its own, four spaces in.
+pub fn unfolded(alloc: Global, text: &str) -> Result<String, AllocError> {
+    text.replace(alloc, "; ", "\n    ; ")
+}
