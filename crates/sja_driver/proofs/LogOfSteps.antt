@@ -5,3 +5,4 @@ pub mod Going
 pub mod Traced
 pub mod Goes
 pub mod Logged
+pub mod Looking

@@ -11,4 +11,5 @@ pub mod Acting
 pub mod Logs
 pub mod Holding
 pub mod LoggedDrivers
+pub mod Observing
 pub mod Inside

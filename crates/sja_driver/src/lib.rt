@@ -11,6 +11,7 @@
 //! record, `Steps` of `specs/LoggedDrivers.antt`: what was got, given and released, the answer by state, window and
 //! registers, the registers after it, why it is to be tried again, and how log and links go on with all steps before
 //! it. When it may be made is the record `MayStep`, and what is in order after it, whatever the step, `StaysLawful`.
+//! [`LoggedDriver::irq`] looks at the interrupt line, which is no step: `specs/Observing.antt` says what it takes in.
 //!
 //! `WorkLog::new` alone takes memory. The tests stand in `crates/test_controller`.
 #![tactic(auto)]
@@ -26,6 +27,7 @@ mod command_fault;
 mod driver;
 mod logged_driver;
 mod logged_step;
+mod observing;
 mod register_steps;
 mod release;
 mod reset;

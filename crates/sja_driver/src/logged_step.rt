@@ -92,7 +92,7 @@ impl LoggedDriver {
 
     /// The place of the present activation's link among the node's eight, from 0: of the next one's in reset, and the
     /// last once eight were used.
-    fn link_place(&self) -> usize
+    pub(crate) fn link_place(&self) -> usize
         ensures { result ≡ min (ended_of self.now) 7 }
     {
         self.log.left.len().min(LINKS_PER_NODE - 1)

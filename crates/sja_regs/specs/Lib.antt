@@ -8,6 +8,7 @@ pub mod Captures
 pub mod Registers
 pub mod Facts
 pub mod DriverSettings
+pub mod InterruptLine
 pub mod Refusals
 pub mod Reading
 pub mod Writing

@@ -19,6 +19,7 @@ mod commanding;
 mod driver_settings;
 mod error_code;
 mod error_state;
+mod interrupt_line;
 mod interrupts;
 mod laws;
 pub mod letters;

@@ -22,10 +22,10 @@ use Rattle.sja_driver.specs.Tries.Tried.{Unmet, Answered, Released, Ended}
 use Rattle.sja_driver.proofs.LogOfSteps.Goes.{goes_step}
 use Rattle.sja_driver.proofs.LogOfSteps.Stepping.{left_count}
 
-min_few : (n : ℕ) → n < 8 → min n 7 ≡ n
+pub min_few : (n : ℕ) → n < 8 → min n 7 ≡ n
 min_few n few = grind arith
 
-min_less : (n : ℕ) → min n 7 < 8
+pub min_less : (n : ℕ) → min n 7 < 8
 min_less n = grind arith
 
 -- a try adds one step and one release at most

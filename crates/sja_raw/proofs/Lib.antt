@@ -1,0 +1,6 @@
+pub mod Keeping
+pub mod Chain
+pub mod After
+pub mod ModeBytes
+pub mod CommandBytes
+pub mod ReadBack

@@ -1,0 +1,64 @@
+use Rattle.std.proofs.Common.{ap, sym, ◌∙◌, arith, false}
+use Rattle.sja_regs.specs.declared.mode.Mode.{Mode}
+use Rattle.sja_raw.specs.CommandWrites.{releases, command_byte, command_steps}
+use Rattle.sja_raw.proofs.After.{commanded}
+use Rattle.sja_raw.proofs.Chain.{nothing_left, waits_at, then_at, commands_so, commands_off}
+use Rattle.sja_raw.proofs.Keeping.{keeps_none, keeps_more, keeps_then}
+use Rattle.sja_raw.proofs.command_write.write_command.Goals as goal
+
+pub returns-then-mode_in-clause-keeps : goal.returns-then-mode_in-clause-keeps
+returns-then-mode_in-clause-keeps g c =
+    keeps_none g.E.DriverEnd.link g.E.DriverEnd.same g.met.E.DriverEnd.same_refl c.args.typed.now
+    c.args.links.now c.args.base 2
+
+pub returns-then-mode_in-clause-writes : goal.returns-then-mode_in-clause-writes
+returns-then-mode_in-clause-writes g c =
+    let rm = ap (λ (m : Mode). m.rm) (sym c.mode_in.ensures) ∙ c.if-mode_in.true in
+    rw (commands_off c.args.port.now _ rm) nothing_left
+
+pub returns-then-byte-eq0-clause-keeps : goal.returns-then-byte-eq0-clause-keeps
+returns-then-byte-eq0-clause-keeps g c =
+    keeps_more g.E.DriverEnd.link g.E.DriverEnd.same c.args.typed.now _ c.args.links.now _
+    c.args.base 1 2 (omega arith) c.release_if.ensures.keeps
+
+pub release_if-requires-then-try_step-clause-room : goal.release_if-requires-then-try_step-clause-room
+release_if-requires-then-try_step-clause-room g c =
+    c.try_step.ensures.keeps.goes_on 1 c.requires
+
+pub release_if-requires-then-try_step-clause-operating : goal.release_if-requires-then-try_step-clause-operating
+release_if-requires-then-try_step-clause-operating g c =
+    let eight = c.requires.eight in
+    ap (λ (m : Mode). m.rm) (commanded c.try_step.ensures.steps (omega (arith, eight)))
+    ∙ (ap (λ (m : Mode). m.rm) (sym c.mode_in.ensures) ∙ c.if-mode_in.false)
+
+pub returns-then-try_step-clause-keeps : goal.returns-then-try_step-clause-keeps
+returns-then-try_step-clause-keeps g c =
+    keeps_then g.E.DriverEnd.link g.E.DriverEnd.same g.met.E.DriverEnd.same_trans
+    c.args.typed.now _ _ c.args.links.now _ _ c.args.base 1 c.try_step.ensures.keeps
+    c.release_if-then-try_step.ensures.keeps
+
+pub returns-then-try_step-clause-writes : goal.returns-then-try_step-clause-writes
+returns-then-try_step-clause-writes g c =
+    rw (ap (λ x. command_steps c.args.port.now x) (sym c.of-command.ensures)
+    ∙ commands_so c.args.port.now c.of-command.result c.command_byte-byte.result
+    (ap (λ (m : Mode). m.rm) (sym c.mode_in.ensures) ∙ c.if-mode_in.false)
+    (c.command_byte-byte.ensures ∙ ap (λ x. command_byte x) c.doable.ensures) c.if-byte-eq0.false)
+    (then_at c.try_step.ensures.steps c.if-try_step.true c.release_if-then-try_step.ensures.writes)
+
+pub returns-else-try_step-clause-keeps : goal.returns-else-try_step-clause-keeps
+returns-else-try_step-clause-keeps g c =
+    keeps_more g.E.DriverEnd.link g.E.DriverEnd.same c.args.typed.now _ c.args.links.now _
+    c.args.base 1 2 (omega arith) c.try_step.ensures.keeps
+
+pub returns-else-try_step-clause-writes : goal.returns-else-try_step-clause-writes
+returns-else-try_step-clause-writes g c =
+    let eight = c.requires.eight in
+    rw (ap (λ x. command_steps c.args.port.now x) (sym c.of-command.ensures)
+    ∙ commands_so c.args.port.now c.of-command.result c.command_byte-byte.result
+    (ap (λ (m : Mode). m.rm) (sym c.mode_in.ensures) ∙ c.if-mode_in.false)
+    (c.command_byte-byte.ensures ∙ ap (λ x. command_byte x) c.doable.ensures) c.if-byte-eq0.false)
+    (waits_at c.try_step.ensures.steps c.if-try_step.false (omega (arith, eight)) 1 c.args.value
+    (releases c.of-command.result.rrb) (ap (λ x. command_steps c.args.port.now x) (sym c.of-command.ensures)
+    ∙ commands_so c.args.port.now c.of-command.result c.command_byte-byte.result
+    (ap (λ (m : Mode). m.rm) (sym c.mode_in.ensures) ∙ c.if-mode_in.false)
+    (c.command_byte-byte.ensures ∙ ap (λ x. command_byte x) c.doable.ensures) c.if-byte-eq0.false))

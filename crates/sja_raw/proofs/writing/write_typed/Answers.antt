@@ -1,0 +1,21 @@
+use Rattle.std.proofs.Common.{arith}
+use Rattle.sja_raw.proofs.Keeping.{keeps_more, may_less}
+use Rattle.sja_raw.proofs.writing.write_typed.Goals as goal
+
+pub write_command-requires : goal.write_command-requires
+write_command-requires g c =
+    may_less g.E.DriverEnd.link c.args.typed.now c.args.links.now c.args.base 2 3 (omega arith) c.requires
+
+pub single-requires : goal.single-requires
+single-requires g c =
+    may_less g.E.DriverEnd.link c.args.typed.now c.args.links.now c.args.base 1 3 (omega arith) c.requires
+
+pub returns-in-1-clause-keeps : goal.returns-in-1-clause-keeps
+returns-in-1-clause-keeps g c =
+    keeps_more g.E.DriverEnd.link g.E.DriverEnd.same c.args.typed.now _ c.args.links.now _
+    c.args.base 2 3 (omega arith) c.write_command.ensures.keeps
+
+pub returns-in_default-clause-keeps : goal.returns-in_default-clause-keeps
+returns-in_default-clause-keeps g c =
+    keeps_more g.E.DriverEnd.link g.E.DriverEnd.same c.args.typed.now _ c.args.links.now _
+    c.args.base 1 3 (omega arith) c.single.ensures.keeps

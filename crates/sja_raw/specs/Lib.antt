@@ -1,0 +1,10 @@
+pub mod ClockDivider
+pub mod StartAddress
+pub mod Kept
+pub mod Reads
+pub mod ModeWrites
+pub mod CommandWrites
+pub mod Writes
+pub mod Trying
+pub mod RawDrivers
+pub mod Inside

@@ -1,0 +1,118 @@
+//! Writes of CMR.
+
+ghost use Rattle.std.specs.Prelude.{◌≡◌, ◌&&◌, not, ◌<◌, false};
+ghost use Rattle.sja_regs.specs.Commands.{command_of};
+ghost use Rattle.sja_regs.specs.Writing.{is_first_version};
+ghost use Rattle.sja_raw.specs.CommandWrites.{command_byte, doable, releases, command_steps};
+ghost use Rattle.sja_raw.specs.RawDrivers.{Writes};
+ghost use Rattle.sja_raw.specs.Trying.{MayTry, Keeps};
+
+use super::trying::{mode_in, single, try_step};
+use sja_driver::LoggedDriver;
+use sja_link::DriverEnd;
+use sja_regs::bits::bit_at;
+use sja_regs::letters::{AT, CDO, RRB, SRR, TR};
+use sja_regs::{Command, Port, RegFault};
+use sja_script::Step;
+
+/// CMR with TR alone.
+const TRANSMIT: u8 = 1 << TR;
+/// CMR with RRB alone.
+const RELEASE: u8 = 1 << RRB;
+/// CMR with SRR alone.
+const RECEIVE_OWN: u8 = 1 << SRR;
+
+/// Writes CMR.
+pub(crate) fn write_command<E: DriverEnd>(
+    typed: &mut LoggedDriver,
+    links: &mut [E],
+    base: usize,
+    port: &mut Port,
+    value: u8,
+    bits: u32,
+) -> Option<u8>
+    requires { MayTry E.link typed.old links.old base 2 }
+    ensures keeps { Keeps E.link E.same typed.old typed.new links.old links.new base 2 }
+    ensures writes { Writes E.same E.stands E.dry E.full base bits typed.old typed.new links.old links.new
+        port.old port.new 1 (command_steps port.old (command_of value)) result }
+{
+    if mode_in(port).rm {
+        return None;
+    }
+    let command = Command::of(value);
+    let byte = command_byte(doable(port, command));
+    if byte == 0 {
+        return release_if(typed, links, base, port, command.rrb, bits);
+    }
+    if try_step(typed, links, base, port, &Step::Command(byte), bits) {
+        release_if(typed, links, base, port, command.rrb, bits)
+    } else {
+        Some(value)
+    }
+}
+
+/// Releases the first unread message, where it is asked for.
+fn release_if<E: DriverEnd>(
+    typed: &mut LoggedDriver,
+    links: &mut [E],
+    base: usize,
+    port: &mut Port,
+    rrb: bool,
+    bits: u32,
+) -> Option<u8>
+    requires room { MayTry E.link typed.old links.old base 1 }
+    requires operating { port.old.mode.rm ≡ false }
+    ensures keeps { Keeps E.link E.same typed.old typed.new links.old links.new base 1 }
+    ensures writes { Writes E.same E.stands E.dry E.full base bits typed.old typed.new links.old links.new
+        port.old port.new 1 (releases rrb) result }
+{
+    if rrb {
+        single(typed, links, base, port, &Step::Release, RELEASE, bits)
+    } else {
+        None
+    }
+}
+
+/// Of a command what can be done, but for RRB.
+fn doable(port: &Port, command: Command) -> Command
+    requires { port.now.mode.rm ≡ false }
+    ensures { result ≡ doable port.now command }
+{
+    let first = is_first_version(port);
+    let free = is_free(port);
+    let may = (command.tr || !first) && free;
+    Command {
+        tr: command.tr && may,
+        at: command.at && (may || !command.requests()),
+        rrb: false,
+        cdo: command.cdo,
+        srr: command.srr && !first && may,
+    }
+}
+
+/// Whether the port has no self reception, as version 1.
+fn is_first_version(port: &Port) -> bool
+    requires { port.now.mode.rm ≡ false }
+    ensures { result ≡ is_first_version port.now }
+{
+    matches!(port.plan_command(RECEIVE_OWN), Err(RegFault::NotInVersion))
+}
+
+/// Whether a transmission can be requested: not in listen only mode, and where TBS is 1.
+fn is_free(port: &Port) -> bool
+    requires { port.now.mode.rm ≡ false }
+    ensures { result ≡ (not port.now.mode.lom && port.now.tbs) }
+{
+    port.plan_command(TRANSMIT).is_ok()
+}
+
+/// The byte of a command.
+fn command_byte(command: Command) -> u8
+    ensures { result ≡ command_byte command }
+{
+    bit_at(TR, command.tr)
+        + bit_at(AT, command.at)
+        + bit_at(RRB, command.rrb)
+        + bit_at(CDO, command.cdo)
+        + bit_at(SRR, command.srr)
+}

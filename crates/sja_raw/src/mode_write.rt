@@ -1,0 +1,138 @@
+//! Writes of MOD.
+
+ghost use Rattle.std.specs.Prelude.{◌≡◌, ◌++◌, [], ◌∷◌, true, false};
+ghost use Rattle.sja_regs.specs.Writing.{is_other_mode};
+ghost use Rattle.sja_script.specs.declared.step.Step.TheVariants.{Start, Write};
+ghost use Rattle.sja_driver.specs.AnyDrivers.{is_out};
+ghost use Rattle.sja_driver.specs.LoggedDrivers.{driver_of};
+ghost use Rattle.sja_raw.specs.ModeWrites.{reset_byte, operating_byte, closing, leaving, mode_steps};
+ghost use Rattle.sja_raw.specs.RawDrivers.{Writes};
+ghost use Rattle.sja_raw.specs.Trying.{MayTry, Keeps};
+
+use super::trying::{is_out, mode_in, single, try_step};
+use sja_driver::LoggedDriver;
+use sja_link::DriverEnd;
+use sja_regs::address::MOD;
+use sja_regs::bits::differ;
+use sja_regs::{Mode, Port};
+use sja_script::Step;
+
+/// Writes MOD.
+pub(crate) fn write_mode<E: DriverEnd>(
+    typed: &mut LoggedDriver,
+    links: &mut [E],
+    base: usize,
+    port: &mut Port,
+    value: u8,
+    bits: u32,
+) -> Option<u8>
+    requires { MayTry E.link typed.old links.old base 3 }
+    ensures keeps { Keeps E.link E.same typed.old typed.new links.old links.new base 3 }
+    ensures writes { Writes E.same E.stands E.dry E.full base bits typed.old typed.new links.old links.new
+        port.old port.new 0 (mode_steps port.old.mode (is_out (driver_of typed.old)) value) result }
+{
+    let new = Mode::of(value);
+    if mode_in(port).rm == new.rm {
+        let written = Step::Write(MOD, value);
+        return single(typed, links, base, port, &written, value, bits);
+    }
+    if new.rm {
+        single(typed, links, base, port, &Step::Stop, value, bits)
+    } else {
+        leave_reset(typed, links, base, port, new, bits)
+    }
+}
+
+/// Leaves reset mode: closes the activation that bus-off ended, if there is one, and begins the next in this mode.
+fn leave_reset<E: DriverEnd>(
+    typed: &mut LoggedDriver,
+    links: &mut [E],
+    base: usize,
+    port: &mut Port,
+    new: Mode,
+    bits: u32,
+) -> Option<u8>
+    requires room { MayTry E.link typed.old links.old base 3 }
+    requires reset { port.old.mode.rm ≡ true }
+    ensures keeps { Keeps E.link E.same typed.old typed.new links.old links.new base 3 }
+    ensures writes { Writes E.same E.stands E.dry E.full base bits typed.old typed.new links.old links.new
+        port.old port.new 0 (closing (is_out (driver_of typed.old)) ++ leaving port.old.mode new) result }
+{
+    if !is_out(typed) {
+        return begin(typed, links, base, port, new, bits);
+    }
+    if try_step(typed, links, base, port, &Step::Stop, bits) {
+        begin(typed, links, base, port, new, bits)
+    } else {
+        Some(operating_byte(new))
+    }
+}
+
+/// Takes LOM, STM and AFM where one of them changes, and begins an activation.
+fn begin<E: DriverEnd>(
+    typed: &mut LoggedDriver,
+    links: &mut [E],
+    base: usize,
+    port: &mut Port,
+    new: Mode,
+    bits: u32,
+) -> Option<u8>
+    requires room { MayTry E.link typed.old links.old base 2 }
+    requires reset { port.old.mode.rm ≡ true }
+    requires closed { is_out (driver_of typed.old) ≡ false }
+    ensures keeps { Keeps E.link E.same typed.old typed.new links.old links.new base 2 }
+    ensures writes { Writes E.same E.stands E.dry E.full base bits typed.old typed.new links.old links.new
+        port.old port.new 0 (leaving port.old.mode new) result }
+{
+    let now = mode_in(port);
+    if !is_other_mode(now, new) {
+        return start(typed, links, base, port, bits);
+    }
+    let taken = Step::Write(MOD, reset_byte(new));
+    if try_step(typed, links, base, port, &taken, bits) {
+        start(typed, links, base, port, bits)
+    } else {
+        Some(operating_byte(new))
+    }
+}
+
+/// Begins an activation in the mode that MOD has. Where that isn't done the byte of this mode is left, with RM at 0: a
+/// write of it takes nothing more, and is that start alone.
+fn start<E: DriverEnd>(
+    typed: &mut LoggedDriver,
+    links: &mut [E],
+    base: usize,
+    port: &mut Port,
+    bits: u32,
+) -> Option<u8>
+    requires room { MayTry E.link typed.old links.old base 1 }
+    requires reset { port.old.mode.rm ≡ true }
+    requires closed { is_out (driver_of typed.old) ≡ false }
+    ensures keeps { Keeps E.link E.same typed.old typed.new links.old links.new base 1 }
+    ensures writes { Writes E.same E.stands E.dry E.full base bits typed.old typed.new links.old links.new
+        port.old port.new 0 (Start ∷ []) result }
+{
+    let rest = operating_byte(mode_in(port));
+    single(typed, links, base, port, &Step::Start, rest, bits)
+}
+
+/// Whether LOM, STM or AFM differ.
+fn is_other_mode(now: Mode, new: Mode) -> bool
+    ensures { result ≡ is_other_mode now new }
+{
+    differ(now.lom, new.lom) || differ(now.stm, new.stm) || differ(now.afm, new.afm)
+}
+
+/// The byte of MOD with RM at 1 that has these other bits.
+fn reset_byte(mode: Mode) -> u8
+    ensures { result ≡ reset_byte mode }
+{
+    Mode { rm: true, ..mode }.byte()
+}
+
+/// The byte of MOD with RM at 0 that has these other bits.
+fn operating_byte(mode: Mode) -> u8
+    ensures { result ≡ operating_byte mode }
+{
+    Mode { rm: false, ..mode }.byte()
+}

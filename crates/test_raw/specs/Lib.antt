@@ -1,0 +1,2 @@
+-- ---- that a driver and its log go together
+pub mod Lawful
