@@ -13,3 +13,4 @@ mod OnePlan
 mod FirstBad
 mod DocumentFaults
 mod OneFault
+mod SetSteps

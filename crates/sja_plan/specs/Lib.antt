@@ -6,6 +6,7 @@ pub mod Texts
 pub mod Document
 pub mod Plan
 pub mod Struck
+pub mod Growing
 pub mod Checks
 pub mod Faults
 pub mod Inside

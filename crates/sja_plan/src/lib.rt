@@ -7,6 +7,7 @@
 
 mod checks;
 mod document;
+mod growing;
 mod laws;
 mod limits;
 mod list_fault;

@@ -11,6 +11,7 @@ pub mod Done
 pub mod Shown
 pub mod Turned
 pub mod Standing
+pub mod Tried
 pub mod Room
 pub mod Refused
 pub mod InOrder

@@ -14,5 +14,6 @@ pub mod Bits
 -- ---- the whole run
 pub mod Serial
 pub mod Beginning
+pub mod Stepping
 -- ---- its end
 pub mod Ending

@@ -3,10 +3,10 @@
 //! [`run_serial`] runs a plan and gives the log of the run, with all that is promised of it.
 //!
 //! A [`SerialRun`] has the bus, and of each node its port, its eight links and its driver with the log of what it did.
-//! It is made of a plan ([`SerialRun::new`]), takes the turns of its nodes ([`SerialRun::node_turn`]) and of the bus
-//! ([`SerialRun::bus_turn`], [`SerialRun::rest_turn`]), and ends with its log ([`SerialRun::finish`]). After each step
-//! of a driver the bus takes what was given, so between two steps nothing waits on a link: each item is taken after
-//! just the bits before its step, and no link is ever full upward.
+//! It is made of a plan ([`SerialRun::new`]), takes the turns of its nodes ([`SerialRun::node_turn`]), or a step of one
+//! ([`SerialRun::try_next`]), and those of the bus ([`SerialRun::bus_turn`], [`SerialRun::rest_turn`]), and ends with
+//! its log ([`SerialRun::finish`]). After each step of a driver the bus takes what was given, so between two steps
+//! nothing waits on a link: each item is taken after just the bits before its step, and no link is ever full upward.
 //!
 //! Contracts say at which deeds of the drivers a run stands, `StandsAt` of `specs/Serial.antt`: of each node its driver
 //! did these deeds, of the steps that the plan has for it; its links carried what its journal and its deeds say; its
@@ -20,6 +20,7 @@ mod bus_turns;
 mod drivers;
 mod finish;
 mod left_on_links;
+mod looking;
 mod node_turns;
 mod run;
 mod serial_run;

@@ -1,13 +1,14 @@
-//! The turns of a node: steps of its driver, each with the taking of what it gave.
+//! The steps of a node's driver, each with the taking of what it gave: one, or those of a turn.
 
 use super::serial_run::SerialRun;
 use sja_link::first_link;
 use sja_plan::Plan;
 
 impl SerialRun {
-    ghost use Rattle.std.specs.Prelude.{◌≡◌, ◌<◌, List, [], ◌∷◌, true, false, length};
+    ghost use Rattle.std.specs.Prelude.{◌≡◌, ◌<◌, List, true, false, length};
     ghost use Rattle.sja_driver.specs.Deeds.{Deed};
-    ghost use Rattle.sja_serial.specs.Serial.{StandsAt, IsRunOf, NodeDoes, CannotStep, TakesTurn};
+    ghost use Rattle.sja_serial.specs.Serial.{StandsAt, IsRunOf, TakesTurn};
+    ghost use Rattle.sja_serial.specs.Stepping.{DoesNext, DoesNothing};
 
     /// One turn of a node, counted from 0: so many steps of its driver, one after the other, or as many as it has left,
     /// or up to one that has to wait. No bit is run, and what the driver gives is taken at once: the bus refuses no
@@ -26,15 +27,16 @@ impl SerialRun {
         }
     }
 
-    /// Tries the next step of a node's driver, and takes what it gave: the bus refuses no item of it. It says whether
-    /// the step is done; else there is none left, or it has to wait.
-    fn try_next(&mut self, plan: &Plan, node: u8) -> bool
+    /// Tries the next step of the driver of a node, counted from 0, and takes what it gave: the bus refuses no item of
+    /// it. It says whether the step is done; else there is none left, or it has to wait, and nothing happened. No bit
+    /// is run.
+    pub fn try_next(&mut self, plan: &Plan, node: u8) -> bool
         requires run { IsRunOf plan.now self.old }
         requires node { node < length plan.now.nodes }
         ensures done { result ≡ true → (deeds : List (List Deed)) → StandsAt plan.now self.old deeds →
-            (d : Deed) × NodeDoes plan.now self.old self.new node deeds (d ∷ []) }
+            DoesNext plan.now self.old self.new node deeds }
         ensures waits { result ≡ false → (deeds : List (List Deed)) → StandsAt plan.now self.old deeds →
-            NodeDoes plan.now self.old self.new node deeds [] × CannotStep plan.now self.new deeds node }
+            DoesNothing plan.now self.old self.new node deeds }
     {
         let index = usize::from(node);
         let steps = plan.steps(index);

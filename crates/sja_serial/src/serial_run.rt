@@ -13,8 +13,8 @@ use std::marker::Model;
 /// A run in one thread, as far as it has come (this project's own rule).
 ///
 /// What a driver gives is taken at once, so that between two steps nothing waits on any link. Contracts see it as its
-/// bus, drivers, ports and links, and the bits that were run, and say at which deeds of the drivers it stands. Beside
-/// [`run_serial`](super::run::run_serial) tests alone make and turn one.
+/// bus, drivers, ports and links, and the bits that were run, and say at which deeds of the drivers it stands.
+/// [`run_serial`](super::run::run_serial) makes and turns one, and so do sessions and tests.
 #[derive(Debug, Drop)]
 pub struct SerialRun {
     pub(crate) bus: Bus,

@@ -1,5 +1,5 @@
 -- A run in which the next step of a node's driver is tried, and what it gave is taken.
-use Rattle.std.proofs.Common.{◌≡◌, ◌+◌, ◌*◌, ◌<◌, ◌≤◌, ℕ, Bool, true, false, List, [], ◌∷◌, length, refl, sym, ap, ◌∙◌}
+use Rattle.std.proofs.Common.{◌≡◌, ◌+◌, ◌*◌, ◌<◌, ◌≤◌, ℕ, Bool, true, false, List, [], length, refl, sym, ap, ◌∙◌}
 use Rattle.std.proofs.Common.{subst}
 use Rattle.std.proofs.Common.{arith}
 use Rattle.std.specs.Prelude.{None, slice_index_or, slice_set}
@@ -24,19 +24,19 @@ use Rattle.sja_driver.specs.Deeds.{Deed, deeds_at}
 use Rattle.sja_driver.specs.LoggedDrivers.{node_of, log_of, StaysLawful, Steps}
 use Rattle.sja_driver.specs.Logs.{done_in}
 use Rattle.sja_serial.specs.Nodes.{IsNode}
-use Rattle.sja_serial.specs.Serial.{SerialValue, run_now, StandsAt, NodeDoes, CannotStep}
+use Rattle.sja_serial.specs.Serial.{SerialValue, run_now, StandsAt}
+use Rattle.sja_serial.specs.Stepping.{DoesNext, DoesNothing}
 use Rattle.sja_serial.proofs.OneBit.BitRun.{no_link}
 use Rattle.sja_serial.proofs.ManyBits.Borrowed.{run_is}
 use Rattle.sja_serial.proofs.AllNodes.Several.{done_count}
-use Rattle.sja_serial.proofs.OneNode.Standing.{next_tried}
+use Rattle.sja_serial.proofs.OneNode.Tried.{next_tried}
 use Rattle.sja_serial.proofs.OneNode.Taken.{gather_takes}
 use Rattle.sja_serial.proofs.OneNode.Trying.{alike, shows_none, takes_none}
 
 -- the step was done, or it has to wait
 abbrev pub IsTried : PlanValue → SerialValue → SerialValue → ℕ → List (List Deed) → Bool → Type 0
 IsTried plan was now node deeds done =
-    (done ≡ true → (d : Deed) × NodeDoes plan was now node deeds (d ∷ []))
-    × (done ≡ false → NodeDoes plan was now node deeds [] × CannotStep plan now deeds node)
+    (done ≡ true → DoesNext plan was now node deeds) × (done ≡ false → DoesNothing plan was now node deeds)
 
 -- a run, which stands at these deeds, and the links of which a call has as a slice
 module _ (plan : PlanValue) (bus : BusValue) (drivers : List LoggedDriver) (ports : List Registers)

@@ -17,6 +17,7 @@ use Rattle.sja_regs.specs.declared.registers.Registers.{Registers}
 use Rattle.sja_script.specs.declared.step.Step.{Step}
 use Rattle.sja_driver.specs.declared.logged_driver.LoggedDriver.{LoggedDriver}
 use Rattle.sja_driver.specs.Acting.{Acts}
+use Rattle.sja_driver.specs.Carried.{Tells, ported}
 use Rattle.sja_driver.specs.Deeds.{Deed, opens_by, opened_by, is_active}
 use Rattle.sja_driver.specs.Holding.{HoldsBy, place_after}
 use Rattle.sja_driver.specs.LoggedDrivers.{node_of, driver_of, log_of, ended_of, IsLawful, Steps}
@@ -24,7 +25,7 @@ use Rattle.sja_driver.specs.Logs.{HasRoom, Traces, deeds_by}
 use Rattle.sja_driver.specs.Tries.{Tried, is_met}
 use Rattle.sja_driver.specs.Tries.Tried.{Unmet, Answered, Released, Ended}
 use Rattle.sja_log.specs.InTime.{IsInTime}
-use Rattle.sja_log.specs.Registering.{LeadTo}
+use Rattle.sja_log.specs.Registering.{LeadTo, seen_now}
 use Rattle.sja_log.specs.Registering.LeadTo.{step}
 use Rattle.sja_log.proofs.Trace.Stepping.{given_taken}
 use Rattle.sja_serial.specs.Asking.{IsAsked}
@@ -66,6 +67,9 @@ module _ (version : ℕ) (steps : List Step) (j k : List Entry) (deeds : List De
   pub record Stepped : Type 0 where
     pub deed : Deed
     pub bits : deed.bits ≡ (place_of j).bits
+    pub step_is : deed.step ≡ one
+    pub tells : Tells deed.step (is_active deeds) p (seen_now (is_active deeds) j deeds) deed.answer
+    pub left_port : q ≡ ported p deed.step deed.answer
     pub node : IsNode version steps k (deeds ++ deed ∷ []) now q after base
     -- where nothing was taken the port shows what it has shown
     pub shows : k ≡ j → ShowsRecord j p → ShowsRecord k q
@@ -88,6 +92,9 @@ module _ (version : ℕ) (steps : List Step) (j k : List Entry) (deeds : List De
       let in_time = in_time_after version j k deeds d p q e next h.ported h.in_time in record {
         deed = d;
         bits = next.now;
+        step_is = c.step_is;
+        tells = next.tells;
+        left_port = next.left;
         node = record {
           traced = record {
             lawful = now_lawful;

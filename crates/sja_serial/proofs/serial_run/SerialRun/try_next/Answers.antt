@@ -4,7 +4,6 @@ use Rattle.std.specs.Vec.{with_items}
 use Rattle.std.proofs.lemmas.List.{with_items_is}
 use Rattle.sja_plan.specs.Plan.{steps_at}
 use Rattle.sja_driver.specs.Deeds.{Deed, deeds_at}
-use Rattle.sja_driver.specs.LoggedDrivers.{log_of}
 use Rattle.sja_driver.specs.Logs.{done_in}
 use Rattle.sja_serial.specs.Serial.{SerialValue, run_now, StandsAt, CannotStep}
 use Rattle.sja_serial.proofs.ManyBits.Borrowed.{run_is}
@@ -38,10 +37,12 @@ returns-then-next-steps-clause-waits c = λ e deeds h.
     let at = (goal.at.returns-then-next-steps-clause-waits c).After-done-next in
     let done = many_done at deeds h in let all = all_steps at in let none = c.if-next-steps.true in
     let stuck : CannotStep c.args.plan.now c.args.self.now deeds c.from-index.result =
-    inl (omega (arith, done, all, none)) in (
-      does_none c.args.plan.now c.args.self.now c.args.node deeds h,
-      subst (λ (m : ℕ). CannotStep c.args.plan.now c.args.self.now deeds m) (node_is at) stuck,
-    )
+    inl (omega (arith, done, all, none)) in record {
+      does = does_none c.args.plan.now c.args.self.now c.args.node deeds h;
+      why = subst (λ (m : ℕ). CannotStep c.args.plan.now c.args.self.now deeds m) (node_is at) stuck;
+      ports = refl;
+      journals = λ m less. refl;
+    }
 
 -- one is left
 left : (c : After-done-next) (deeds : List (List Deed)) → StandsAt c.args.plan.now c.args.self.now deeds →

@@ -1,0 +1,89 @@
+//! Plans that are written while a run of them goes on: made blank, and then set step by step.
+
+ghost use Rattle.std.specs.Prelude.{◌≡◌, replicate, IfOk};
+ghost use Rattle.sja_script.specs.declared.step.Step.TheVariants.{Window};
+
+use super::plan::Plan;
+use super::turn::Turn;
+use can_frame::OutOfMemory;
+use sja_script::{Step, Strike};
+use std::alloc::Global;
+
+/// So many steps that look at the window.
+///
+/// Error: [`OutOfMemory`] where memory was refused.
+fn blank_steps(alloc: Global, steps: u16) -> Result<Vec<Step>, OutOfMemory>
+    ensures { IfOk result (λ list. list.items ≡ replicate steps Window) }
+{
+    let mut list = Vec::with_capacity(alloc, usize::from(steps))?;
+    for _ in 0..steps {
+        list.push_reserved(Step::Window);
+    }
+    Ok(list)
+}
+
+impl Plan {
+    ghost use Rattle.std.specs.Prelude.{◌≡◌, ◌<◌, ◌≤◌, map, IfOk, length};
+    ghost use Rattle.sja_plan.specs.Plan.{IsInLimits, steps_at};
+    ghost use Rattle.sja_plan.specs.Growing.{plan_of, blank_plan, with_step};
+
+    /// The plan of these five: its version, its bits, of each node its steps, its turns and its strikes.
+    pub fn of(
+        version: u8,
+        bits: u32,
+        nodes: Vec<Vec<Step>>,
+        turns: Vec<Turn>,
+        strikes: Vec<Strike>,
+    ) -> Plan
+        requires { IsInLimits (plan_of version bits (map (λ steps. steps.items) nodes.items) turns.items
+            strikes.items) }
+        ensures { result ≡ plan_of version bits (map (λ steps. steps.items) nodes.items) turns.items strikes.items }
+    {
+        Plan {
+            version,
+            bits,
+            nodes,
+            turns,
+            strikes,
+        }
+    }
+
+    /// A plan of so many nodes, each with so many steps that look at the window, with no turn and no strike: room for
+    /// steps that are set later.
+    ///
+    /// Error: [`OutOfMemory`] where memory was refused.
+    pub fn blank(
+        alloc: Global,
+        version: u8,
+        bits: u32,
+        nodes: u8,
+        steps: u16,
+    ) -> Result<Plan, OutOfMemory>
+        requires version { (1 ≤ version) × (version ≤ 2) }
+        requires bits { (1 ≤ bits) × (bits ≤ 200000) }
+        requires nodes { (1 ≤ nodes) × (nodes ≤ 8) }
+        requires steps { steps ≤ 1000 }
+        ensures { IfOk result (λ p. p ≡ blank_plan version bits nodes steps) }
+    {
+        let mut lists = Vec::with_capacity(alloc, usize::from(nodes))?;
+        for _ in 0..nodes {
+            lists.push_reserved(blank_steps(alloc, steps)?);
+        }
+        Ok(Plan {
+            version,
+            bits,
+            nodes: lists,
+            turns: Vec::new(alloc),
+            strikes: Vec::new(alloc),
+        })
+    }
+
+    /// Sets the step of a node, counted from 0, at this place, in place of the one that stands there.
+    pub fn set_step(&mut self, node: usize, at: usize, step: Step)
+        requires node { node < length self.old.nodes }
+        requires at { at < length (steps_at self.old node) }
+        ensures { self.new ≡ with_step self.old node at step }
+    {
+        self.nodes[node][at] = step;
+    }
+}

@@ -1,0 +1,9 @@
+pub mod Written
+pub mod Plans
+pub mod Turned
+pub mod Taken
+pub mod Within
+pub mod Stepped
+pub mod BitsRun
+pub mod Finished
+pub mod LastAnswer

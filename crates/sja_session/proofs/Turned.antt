@@ -1,0 +1,214 @@
+-- Turns with one more, and where they led.
+use Rattle.std.proofs.Common.{◌≡◌, ℕ, zero, suc, ◌+◌, ◌-◌, ◌<◌, ◌≤◌, Bool, true, false, List, [], ◌∷◌, length}
+use Rattle.std.proofs.Common.{refl, sym, ap, ◌∙◌, subst, All, arith, inl, inr}
+use Rattle.std.specs.Prelude.{◌⊎◌, ◌==◌, if◌then◌else◌, reverse, set, slice_index_or}
+use Rattle.std.proofs.lemmas.Bool.{cases_lt}
+use Rattle.std.proofs.lemmas.List.{length-set, length-reverse, get_or-set_same, reverse-append, reverse-reverse}
+use Rattle.std.proofs.lemmas.List.Elements.{All-push}
+use Rattle.sja_plan.specs.declared.turn.Turn.{Turn}
+use Rattle.sja_plan.specs.declared.turn.Turn.TheVariants.{Bus, Rest, Node}
+use Rattle.sja_plan.specs.Plan.{NamesNode}
+use Rattle.sja_driver.specs.Deeds.{Deed, deeds_at}
+use Rattle.sja_log.specs.Turns.{Progress, with_bits, with_steps, steps_done}
+use Rattle.sja_session.specs.Sessions.{Took, AreNamed}
+use Rattle.sja_session.specs.Sessions.Took.{none, bus, node}
+use Rattle.sja_session.specs.Turning.{goes_on, size_of, enlarged, on_latest, with_turn, goes_on_latest, latest_size}
+
+-- latest first, the turns with one more are those before it with the turn on the latest
+pub latest_of : (turns : List Turn) (t : Turn) → reverse (with_turn turns t) ≡ on_latest t (reverse turns)
+latest_of turns t = reverse-reverse (on_latest t (reverse turns))
+
+-- ---- how many there are, and whose they are
+
+by_choice : (P : List Turn → Type 0) (b : Bool) (xs ys : List Turn) → (b ≡ true → P xs) → (b ≡ false → P ys) →
+    P (if b then xs else ys)
+by_choice P true xs ys goes stays = goes refl
+by_choice P false xs ys goes stays = stays refl
+
+few_latest : (t : Turn) (l : List Turn) → (length l < 10000) ⊎ (goes_on_latest l t ≡ true) → length l ≤ 10000 →
+    length (on_latest t l) ≤ 10000
+few_latest t [] left few = omega arith
+few_latest t (u ∷ earlier) left few = by_choice (λ l. length l ≤ 10000) (goes_on u t) (enlarged u (size_of t) ∷ earlier)
+    (t ∷ u ∷ earlier) (λ goes. omega (arith, few)) (λ stays. new left stays)
+  where
+    new : (length (u ∷ earlier) < 10000) ⊎ (goes_on u t ≡ true) → goes_on u t ≡ false →
+        length (t ∷ u ∷ earlier) ≤ 10000
+    new (inl less) stays = omega (arith, less)
+    new (inr goes) stays = absurd cc
+
+-- a session whose turns have one more has few still
+pub few_turns : (t : Turn) (turns : List Turn) → (length turns < 10000) ⊎ (goes_on_latest (reverse turns) t ≡ true) →
+    length turns ≤ 10000 → length (with_turn turns t) ≤ 10000
+few_turns t turns left few =
+    let n = length-reverse turns in let m = length-reverse (on_latest t (reverse turns)) in
+    let f = few_latest t (reverse turns) (by left) (omega (arith, n, few)) in omega (arith, m, f)
+  where
+    by : (length turns < 10000) ⊎ (goes_on_latest (reverse turns) t ≡ true) →
+        (length (reverse turns) < 10000) ⊎ (goes_on_latest (reverse turns) t ≡ true)
+    by (inl less) = let n = length-reverse turns in inl (omega (arith, n, less))
+    by (inr goes) = inr goes
+
+named_enlarged : (nodes : ℕ) (u : Turn) (m : ℕ) → NamesNode nodes u → NamesNode nodes (enlarged u m)
+named_enlarged nodes (Bus n) m h = tt
+named_enlarged nodes (Node k n) m h = h
+named_enlarged nodes Rest m h = tt
+
+named_latest : (nodes : ℕ) (t : Turn) (l : List Turn) → NamesNode nodes t → AreNamed nodes l →
+    AreNamed nodes (on_latest t l)
+named_latest nodes t [] one h = (one, tt)
+named_latest nodes t (u ∷ earlier) one h = by_choice (AreNamed nodes) (goes_on u t)
+    (enlarged u (size_of t) ∷ earlier) (t ∷ u ∷ earlier) (λ goes. (named_enlarged nodes u (size_of t) h.0, h.1))
+    (λ stays. (one, h))
+
+pub named_turns : (nodes : ℕ) (t : Turn) (turns : List Turn) → NamesNode nodes t → AreNamed nodes (reverse turns) →
+    AreNamed nodes (reverse (with_turn turns t))
+named_turns nodes t turns one h =
+    subst (AreNamed nodes) (sym (latest_of turns t)) (named_latest nodes t (reverse turns) one h)
+
+-- in their order, each is of a node that is there
+all_named : (nodes : ℕ) (l : List Turn) → AreNamed nodes l → All (NamesNode nodes) (reverse l)
+all_named nodes [] h = λ k d less. absurd (omega (arith, less))
+all_named nodes (t ∷ l) h = subst (All (NamesNode nodes)) (sym (reverse-append (t ∷ []) l))
+    (All-push (NamesNode nodes) (reverse l) t (all_named nodes l h.1) h.0)
+
+pub all_turns_named : (nodes : ℕ) (turns : List Turn) → AreNamed nodes (reverse turns) → All (NamesNode nodes) turns
+all_turns_named nodes turns h =
+    subst (All (NamesNode nodes)) (reverse-reverse turns) (all_named nodes (reverse turns) h)
+
+-- whether bits go on hangs on no number
+pub bits_go_on : (l : List Turn) (n m : ℕ) → goes_on_latest l (Bus n) ≡ goes_on_latest l (Bus m)
+bits_go_on [] n m = refl
+bits_go_on (Bus x ∷ l) n m = refl
+bits_go_on (Node k x ∷ l) n m = refl
+bits_go_on (Rest ∷ l) n m = refl
+
+-- ---- where they led
+
+-- the last turn, by what it was
+abbrev Ends : List (List Deed) → Progress → List Turn → Progress → Type 0
+Ends deeds first [] p = Unit {0}
+Ends deeds first (Bus n ∷ earlier) p = (q : Progress) × Took deeds first earlier q × (p ≡ with_bits q n)
+Ends deeds first (Node k n ∷ earlier) p = (q : Progress) × Took deeds first earlier q
+    × (steps_done q k + n ≤ length (deeds_at deeds k))
+    × ((i : ℕ) (d : Deed) → i < n → (slice_index_or (deeds_at deeds k) (steps_done q k + i) d).bits ≡ q.bits)
+    × (p ≡ with_steps q k n)
+Ends deeds first (Rest ∷ earlier) p = ⊥
+
+ends : (deeds : List (List Deed)) (first : Progress) (l : List Turn) (p : Progress) → Took deeds first l p →
+    Ends deeds first l p
+ends deeds first l p none = tt
+ends deeds first l p (bus earlier q n h) = (q, h, refl)
+ends deeds first l p (node earlier q k n h exist now) = (q, h, exist, now, refl)
+
+set_twice : (xs : List ℕ) (i y z : ℕ) → set (set xs i y) i z ≡ set xs i z
+set_twice [] i y z = refl
+set_twice (x ∷ xs) zero y z = refl
+set_twice (x ∷ xs) (suc i) y z = ap (λ l. x ∷ l) (set_twice xs i y z)
+
+-- a turn of the bus that goes on
+more_bits : (deeds : List (List Deed)) (first : Progress) (earlier : List Turn) (p : Progress) (n m : ℕ) →
+    Took deeds first (Bus m ∷ Bus n ∷ earlier) p → Took deeds first (Bus (n + m) ∷ earlier) p
+more_bits deeds first earlier p n m h =
+    let x = ends deeds first (Bus m ∷ Bus n ∷ earlier) p h in
+    let y = ends deeds first (Bus n ∷ earlier) x.0 x.1 in
+    let sum : y.0.bits + n + m ≡ y.0.bits + (n + m) = omega arith in
+    let both : with_bits (with_bits y.0 n) m ≡ with_bits y.0 (n + m) = ap (λ b. let q : Progress =
+    record { bits = b; done = y.0.done } in q) sum in
+    subst (λ (q : Progress). Took deeds first (Bus (n + m) ∷ earlier) q)
+    (sym (x.2 ∙ ap (λ q. with_bits q m) y.2 ∙ both)) (bus earlier y.0 (n + m) y.1)
+
+-- a turn of a node that goes on
+more_steps : (deeds : List (List Deed)) (first : Progress) (earlier : List Turn) (p : Progress) (k n m : ℕ) →
+    k < length p.done → Took deeds first (Node k m ∷ Node k n ∷ earlier) p →
+    Took deeds first (Node k (n + m) ∷ earlier) p
+more_steps deeds first earlier p k n m there h =
+    let x = ends deeds first (Node k m ∷ Node k n ∷ earlier) p h in
+    let y = ends deeds first (Node k n ∷ earlier) x.0 x.1 in
+    joined x.0 y.0 x.2 x.3 x.4 y.1 y.2 y.3 y.4
+  where
+    joined : (mid q : Progress) → steps_done mid k + m ≤ length (deeds_at deeds k) →
+        ((i : ℕ) (d : Deed) → i < m → (slice_index_or (deeds_at deeds k) (steps_done mid k + i) d).bits ≡ mid.bits) →
+        p ≡ with_steps mid k m → Took deeds first earlier q → steps_done q k + n ≤ length (deeds_at deeds k) →
+        ((i : ℕ) (d : Deed) → i < n → (slice_index_or (deeds_at deeds k) (steps_done q k + i) d).bits ≡ q.bits) →
+        mid ≡ with_steps q k n → Took deeds first (Node k (n + m) ∷ earlier) p
+    joined mid q exist now to took exist_before now_before from =
+        subst (λ (z : Progress). Took deeds first (Node k (n + m) ∷ earlier) z) (sym whole)
+        (node earlier q k (n + m) took (omega (arith, exist, so_far)) at)
+      where
+        inside : k < length q.done
+        inside =
+            let a = ap (λ (z : Progress). length z.done) to in let b = length-set mid.done k (steps_done mid k + m) in
+            let c = ap (λ (z : Progress). length z.done) from in let d = length-set q.done k (steps_done q k + n) in
+            omega (arith, there, a, b, c, d)
+
+        so_far : steps_done mid k ≡ steps_done q k + n
+        so_far = ap (λ (z : Progress). steps_done z k) from
+            ∙ get_or-set_same q.done k (steps_done q k + n) 0 inside
+
+        whole : p ≡ with_steps q k (n + m)
+        whole =
+            let sum : steps_done mid k + m ≡ steps_done q k + (n + m) = let s = so_far in omega (arith, s) in
+            let done : set mid.done k (steps_done mid k + m) ≡ set q.done k (steps_done q k + (n + m)) =
+            ap (λ (z : Progress). set z.done k (steps_done mid k + m)) from
+            ∙ set_twice q.done k (steps_done q k + n) (steps_done mid k + m)
+            ∙ ap (λ s. set q.done k s) sum in
+            let bits : mid.bits ≡ q.bits = ap (λ (z : Progress). z.bits) from in
+            to ∙ (λ i. let z : Progress = record { bits = bits i; done = done i } in z)
+
+        at : (i : ℕ) (d : Deed) → i < n + m →
+            (slice_index_or (deeds_at deeds k) (steps_done q k + i) d).bits ≡ q.bits
+        at i d less = elim (cases_lt i n) [
+          | inl few ↦ now_before i d few
+          | inr more ↦
+              let s = so_far in
+              let place : steps_done q k + i ≡ steps_done mid k + (i - n) = omega (arith, s, more) in
+              ap (λ j. (slice_index_or (deeds_at deeds k) j d).bits) place
+              ∙ now (i - n) d (omega (arith, less, more)) ∙ ap (λ (z : Progress). z.bits) from
+        ]
+
+same_node : (j k : ℕ) → (j == k) ≡ true → j ≡ k
+same_node j k goes = grind arith
+
+joins : (deeds : List (List Deed)) (first : Progress) (t u : Turn) (earlier : List Turn) (p : Progress) →
+    ((k n : ℕ) → t ≡ Node k n → k < length p.done) → goes_on u t ≡ true → Took deeds first (t ∷ u ∷ earlier) p →
+    Took deeds first (enlarged u (size_of t) ∷ earlier) p
+joins deeds first (Bus m) (Bus n) earlier p there goes h = more_bits deeds first earlier p n m h
+joins deeds first (Node k m) (Node j n) earlier p there goes h =
+    let e = same_node j k goes in
+    subst (λ x. Took deeds first (Node x (n + m) ∷ earlier) p) (sym e)
+    (more_steps deeds first earlier p k n m (there k m refl)
+    (subst (λ x. Took deeds first (Node k m ∷ Node x n ∷ earlier) p) e h))
+joins deeds first (Node k m) (Bus n) earlier p there goes h = absurd cc
+joins deeds first Rest (Bus n) earlier p there goes h = absurd cc
+joins deeds first (Bus m) (Node j n) earlier p there goes h = absurd cc
+joins deeds first Rest (Node j n) earlier p there goes h = absurd cc
+joins deeds first (Bus m) Rest earlier p there goes h = absurd cc
+joins deeds first (Node k m) Rest earlier p there goes h = absurd cc
+joins deeds first Rest Rest earlier p there goes h = absurd cc
+
+took_latest : (deeds : List (List Deed)) (first : Progress) (t : Turn) (l : List Turn) (p : Progress) →
+    ((k n : ℕ) → t ≡ Node k n → k < length p.done) → Took deeds first (t ∷ l) p → Took deeds first (on_latest t l) p
+took_latest deeds first t [] p there h = h
+took_latest deeds first t (u ∷ earlier) p there h = by_choice (λ l. Took deeds first l p) (goes_on u t)
+    (enlarged u (size_of t) ∷ earlier) (t ∷ u ∷ earlier) (λ goes. joins deeds first t u earlier p there goes h)
+    (λ stays. h)
+
+-- turns that led to a point with one more behind them led there too where that one goes on with the last
+pub took_turn : (deeds : List (List Deed)) (first : Progress) (t : Turn) (turns : List Turn) (p : Progress) →
+    ((k n : ℕ) → t ≡ Node k n → k < length p.done) → Took deeds first (t ∷ reverse turns) p →
+    Took deeds first (reverse (with_turn turns t)) p
+took_turn deeds first t turns p there h = subst (λ (l : List Turn). Took deeds first l p) (sym (latest_of turns t))
+    (took_latest deeds first t (reverse turns) p there h)
+
+-- ---- how large they are
+
+-- the last turn has no more bits than were run, and no more steps than were done
+pub latest_few : (deeds : List (List Deed)) (first : Progress) (l : List Turn) (p : Progress) (most : ℕ) →
+    p.bits ≤ most → ((k : ℕ) → length (deeds_at deeds k) ≤ most) → Took deeds first l p → latest_size l ≤ most
+latest_few deeds first [] p most bits steps h = omega arith
+latest_few deeds first (Bus n ∷ earlier) p most bits steps h =
+    let x = ends deeds first (Bus n ∷ earlier) p h in
+    let e = ap (λ (q : Progress). q.bits) x.2 in omega (arith, e, bits)
+latest_few deeds first (Node k n ∷ earlier) p most bits steps h =
+    let x = ends deeds first (Node k n ∷ earlier) p h in let e = x.2 in let s = steps k in omega (arith, e, s)
+latest_few deeds first (Rest ∷ earlier) p most bits steps h = omega arith

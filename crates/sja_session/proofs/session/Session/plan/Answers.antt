@@ -1,0 +1,35 @@
+use Rattle.std.proofs.Common.{◌≤◌, List, Vec, Global, length, map, All, sym, ap, ◌∙◌, subst}
+use Rattle.sja_plan.specs.declared.turn.Turn.{Turn}
+use Rattle.sja_plan.specs.Plan.{NamesNode, IsStrikeOn, times_in}
+use Rattle.sja_script.specs.declared.step.Step.{Step}
+use Rattle.sja_script.specs.declared.strike.Strike.{Strike}
+use Rattle.sja_session.specs.Sessions.{SessionValue}
+use Rattle.sja_session.specs.Writing.{done_counts, fronts}
+use Rattle.sja_session.proofs.Turned.{all_turns_named}
+use Rattle.sja_session.proofs.Written.{fronts_few, length_fronts, counts_many}
+use Rattle.sja_session.proofs.session.Session.plan.Goals as goal
+
+pub of-requires : goal.of-requires
+of-requires c =
+    let b = c.self.inside in let inv = c.self.invariant in let limits = c.bits-bits.ensures.limits in
+    let counts = done_counts b.run in
+    let nodes = c.in_ok-nodes.ensures
+    ∙ ap (λ (x : SessionValue). fronts (done_counts x.run) x.plan.nodes) (sym c.self.view_is) in
+    let count = ap (λ (l : List (List Step)). length l) nodes
+    ∙ length_fronts counts b.plan.nodes (counts_many b.plan b.run inv.deeds inv.at.stands) in
+    let turns = c.in_ok-turns.ensures ∙ c.as_slice.ensures.value in let strikes = c.in_ok-strikes.ensures in record {
+      version = (c.version.ensures.least, c.version.ensures.most);
+      bits = (c.bits-bits.ensures.some, c.bits-bits.ensures.few);
+      nodes = subst (λ n. (1 ≤ n) × (n ≤ 8)) (sym count) limits.nodes;
+      steps = subst (λ (l : List (List Step)). All (λ (x : List Step). length x ≤ 1000) l) (sym nodes)
+          (fronts_few 1000 counts b.plan.nodes limits.steps);
+      turn_count = subst (λ (l : List Turn). length l ≤ 10000) (sym turns) inv.few;
+      turns = subst (λ (l : List Turn). All (NamesNode
+          (length (map (λ (v : Vec Step Global). v.items) c.in_ok-nodes.nodes.items))) l) (sym turns)
+          (subst (λ n. All (NamesNode n) b.turns.items) (sym count)
+          (all_turns_named (length b.plan.nodes) b.turns.items inv.names));
+      strike_count = subst (λ (l : List Strike). times_in l ≤ 1000) (sym strikes) c.strikes.ensures.few;
+      strikes = subst (λ (l : List Strike). All (IsStrikeOn
+          (length (map (λ (v : Vec Step Global). v.items) c.in_ok-nodes.nodes.items))) l) (sym strikes)
+          (subst (λ n. All (IsStrikeOn n) c.strikes.result.now) (sym count) c.strikes.ensures.there);
+    }

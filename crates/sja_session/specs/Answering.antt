@@ -1,0 +1,14 @@
+-- The last answer of a driver (this project's own rule).
+use Rattle.std.specs.Prelude.{Option, Some, None, List, [], ◌∷◌}
+use Rattle.sja_script.specs.declared.step_answer.StepAnswer.{StepAnswer}
+use Rattle.sja_driver.specs.Deeds.{Deed}
+
+-- this of the last of a list, if there is one
+abbrev pub last_of : {X Y : Type 0} → (X → Y) → List X → Option Y
+last_of f [] = None
+last_of f (x ∷ []) = Some (f x)
+last_of f (x ∷ y ∷ xs) = last_of f (y ∷ xs)
+
+-- what the last of these deeds answered
+abbrev pub last_answer : List Deed → Option StepAnswer
+last_answer deeds = last_of (λ (d : Deed). d.answer) deeds

@@ -1,0 +1,10 @@
+-- ---- the plan that is written
+pub mod Turning
+pub mod Writing
+-- ---- where a session stands
+pub mod Sessions
+-- ---- what its calls do
+pub mod Beginning
+pub mod Answering
+pub mod Stepping
+pub mod Running

@@ -1,0 +1,62 @@
+-- A session: a run in one thread that its holder drives (this project's own rule).
+use Rattle.std.specs.Prelude.{◌≡◌, ◌+◌, ◌<◌, ◌≤◌, ℕ, List, [], ◌∷◌, length, replicate, reverse}
+use Rattle.std.specs.Prelude.{slice_index_or}
+use Rattle.sja_plan.specs.declared.turn.Turn.{Turn}
+use Rattle.sja_plan.specs.declared.turn.Turn.TheVariants.{Bus, Node}
+use Rattle.sja_plan.specs.Growing.{plan_of}
+use Rattle.sja_plan.specs.Plan.{PlanValue, NamesNode, steps_at}
+use Rattle.sja_driver.specs.Deeds.{Deed, deeds_at}
+use Rattle.sja_log.specs.Turns.{Progress, with_bits, with_steps, steps_done}
+use Rattle.sja_serial.specs.Ending.{progress}
+use Rattle.sja_serial.specs.Serial.{SerialValue, StandsAt}
+use Rattle.sja_session.specs.Writing.{done_counts, fronts}
+
+-- what a contract sees of a session: its run, the plan that the run is given, which has places for 1,000 steps of each
+-- node, and the turns that were taken
+pub record SessionValue : Type 0 where
+  pub run : SerialValue
+  pub plan : PlanValue
+  pub turns : List Turn
+
+abbrev pub session_of : SerialValue → PlanValue → List Turn → SessionValue
+session_of run plan turns = record { run = run; plan = plan; turns = turns }
+
+-- the plan that the session wrote: the steps that were done, and the turns that were taken
+abbrev pub written : SessionValue → PlanValue
+written s = plan_of s.plan.version s.plan.bits (fronts (done_counts s.run) s.plan.nodes) s.turns s.plan.strikes
+
+-- these turns, latest first, led from the first point of the run to this one, and each was taken whole: its bits were
+-- run, or its steps were done, all after the same bits
+pub data Took (deeds : List (List Deed)) (first : Progress) : List Turn → Progress → Type 0 where
+  none : Took deeds first [] first
+  bus : (earlier : List Turn) (p : Progress) (n : ℕ) → Took deeds first earlier p →
+      Took deeds first (Bus n ∷ earlier) (with_bits p n)
+  node : (earlier : List Turn) (p : Progress) (k n : ℕ) → Took deeds first earlier p →
+      steps_done p k + n ≤ length (deeds_at deeds k) →
+      ((i : ℕ) (d : Deed) → i < n → (slice_index_or (deeds_at deeds k) (steps_done p k + i) d).bits ≡ p.bits) →
+      Took deeds first (Node k n ∷ earlier) (with_steps p k n)
+
+-- where every run begins
+abbrev pub start_of : ℕ → Progress
+start_of nodes = record { bits = 0; done = replicate nodes 0 }
+
+-- the session stands where its drivers did these deeds: its run does, and its turns led there
+pub record IsAt (s : SessionValue) (deeds : List (List Deed)) : Type 0 where
+  pub stands : StandsAt s.plan s.run deeds
+  pub took : Took deeds (start_of (length s.plan.nodes)) (reverse s.turns) (progress s.run deeds)
+
+-- each of these turns is of a node that is there
+abbrev pub AreNamed : ℕ → List Turn → Type 0
+AreNamed nodes [] = Unit {0}
+AreNamed nodes (t ∷ turns) = NamesNode nodes t × AreNamed nodes turns
+
+-- what holds of every session: it stands at some deeds, its bits are within the limit of a plan, each node has places
+-- for 1,000 steps, and there is room for 10,000 turns and one more, each of a node that is there
+pub record IsSession (s : SessionValue) (capacity : ℕ) : Type 0 where
+  pub deeds : List (List Deed)
+  pub at : IsAt s deeds
+  pub bits : s.plan.bits ≤ 200000
+  pub places : (node : ℕ) → node < length s.plan.nodes → length (steps_at s.plan node) ≡ 1000
+  pub room : 10001 ≤ capacity
+  pub few : length s.turns ≤ 10000
+  pub names : AreNamed (length s.plan.nodes) (reverse s.turns)

@@ -1,0 +1,75 @@
+-- A step that a session does (this project's own rule).
+use Rattle.std.specs.Prelude.{◌≡◌, ◌<◌, ◌≤◌, ◌⊎◌, ℕ, true, false, List, [], ◌∷◌, length, reverse}
+use Rattle.std.specs.Prelude.{slice_index, slice_index_or, slice_set}
+use Rattle.sja_wire.specs.Wire.{journal_at}
+use Rattle.sja_plan.specs.declared.turn.Turn.{Turn}
+use Rattle.sja_plan.specs.declared.turn.Turn.TheVariants.{Node}
+use Rattle.sja_regs.specs.declared.registers.Registers.{Registers}
+use Rattle.sja_script.specs.declared.step.Step.{Step}
+use Rattle.sja_script.specs.declared.step_answer.StepAnswer.{StepAnswer}
+use Rattle.sja_driver.specs.Carried.{Tells, ported}
+use Rattle.sja_driver.specs.Deeds.{Deed, deeds_at, is_active}
+use Rattle.sja_log.specs.Registering.{seen_now}
+use Rattle.sja_serial.specs.Serial.{with_deeds}
+use Rattle.sja_serial.specs.Waiting.{HasToWait}
+use Rattle.sja_session.specs.declared.step_fault.StepFault.{StepFault}
+use Rattle.sja_session.specs.declared.step_fault.StepFault.TheVariants.{NoNode, StepsUsed, TurnsUsed}
+use Rattle.sja_session.specs.Sessions.{SessionValue, IsAt, written}
+use Rattle.sja_session.specs.Turning.{goes_on_latest}
+use Rattle.sja_session.specs.Writing.{done_counts, with_step_done}
+
+-- ---- whether it may be tried
+
+-- a turn is left, or this one goes on with the last one; and no turn is left for it
+abbrev pub HasTurn : SessionValue → Turn → Type 0
+HasTurn s t = (length s.turns < 10000) ⊎ (goes_on_latest (reverse s.turns) t ≡ true)
+
+abbrev pub LacksTurn : SessionValue → Turn → Type 0
+LacksTurn s t = (10000 ≤ length s.turns) × (goes_on_latest (reverse s.turns) t ≡ false)
+
+-- how many steps of a node are done
+abbrev pub steps_done_of : SessionValue → ℕ → ℕ
+steps_done_of s node = slice_index (done_counts s.run) node
+
+-- the node is there, fewer than 1,000 steps of it are done, and there is a turn for one more
+pub record MayStep (s : SessionValue) (node : ℕ) : Type 0 where
+  pub there : node < length s.plan.nodes
+  pub left : steps_done_of s node < 1000
+  pub turn : HasTurn s (Node node 1)
+
+-- why it may not be tried: the first of the three that doesn't hold
+abbrev pub IsStepFault : SessionValue → ℕ → StepFault → Type 0
+IsStepFault s node NoNode = length s.plan.nodes ≤ node
+IsStepFault s node StepsUsed = (node < length s.plan.nodes) × (1000 ≤ steps_done_of s node)
+IsStepFault s node TurnsUsed =
+    (node < length s.plan.nodes) × (steps_done_of s node < 1000) × LacksTurn s (Node node 1)
+
+-- ---- what comes of it
+
+-- the step was done with this answer, after the bits that had run: by the registers of the node's port as they were and
+-- by what its driver sees of the messages. No bit was run, the port is as the step leaves it, each other port as it
+-- was, and the plan has the step more
+pub record DoesStep (was now : SessionValue) (node : ℕ) (step : Step) (answer : StepAnswer)
+    (deeds : List (List Deed)) : Type 0 where
+  pub deed : Deed
+  pub is : deed.step ≡ step
+  pub answered : deed.answer ≡ answer
+  pub when : deed.bits ≡ was.run.bits
+  pub tells : (p : Registers) → Tells step (is_active (deeds_at deeds node)) (slice_index_or was.run.ports node p)
+      (seen_now (is_active (deeds_at deeds node)) (journal_at was.run.bus.journals node) (deeds_at deeds node)) answer
+  pub ports : (p : Registers) →
+      now.run.ports ≡ slice_set was.run.ports node (ported (slice_index_or was.run.ports node p) step answer)
+  pub at : IsAt now (with_deeds deeds node (deed ∷ []))
+  pub bits : now.run.bits ≡ was.run.bits
+  pub wrote : written now ≡ with_step_done (written was) node step
+
+-- the step has to wait, and nothing happened: no deed was done, no bit was run, no port and no journal changed, and the
+-- plan is the same
+pub record Waits (was now : SessionValue) (node : ℕ) (step : Step) (deeds : List (List Deed)) : Type 0 where
+  pub why : HasToWait (journal_at was.run.bus.journals node) (deeds_at deeds node) step
+  pub at : IsAt now deeds
+  pub bits : now.run.bits ≡ was.run.bits
+  pub ports : now.run.ports ≡ was.run.ports
+  pub journals : (m : ℕ) → m < length was.plan.nodes →
+      journal_at now.run.bus.journals m ≡ journal_at was.run.bus.journals m
+  pub wrote : written now ≡ written was

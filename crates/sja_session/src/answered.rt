@@ -1,0 +1,12 @@
+//! What comes of a step.
+
+use sja_script::StepAnswer;
+
+/// What comes of a step that was tried (this project's own rule).
+#[derive(Debug, PartialEq, Eq, Drop)]
+pub enum Answered {
+    /// The step is done, and this is its answer. A step that its driver or its controller refuses is done too.
+    Answer(StepAnswer),
+    /// The step has to wait, and nothing happened: too few messages have come, or the transmit buffer isn't released.
+    Waits,
+}

@@ -1,0 +1,57 @@
+//! The last answer of a node.
+
+ghost use Rattle.std.specs.Prelude.{◌≡◌, ◌<◌, length, slice_index_or};
+ghost use Rattle.sja_driver.specs.declared.logged_driver.LoggedDriver.{LoggedDriver};
+ghost use Rattle.sja_driver.specs.LoggedDrivers.{log_of};
+ghost use Rattle.sja_driver.specs.Logs.{done_in};
+ghost use Rattle.sja_script.specs.declared.done.Done.{Done};
+ghost use Rattle.sja_session.specs.Answering.{last_of};
+
+use super::session::Session;
+use sja_script::StepAnswer;
+use sja_serial::SerialRun;
+
+impl Session {
+    ghost use Rattle.std.specs.Prelude.{◌≡◌, List};
+    ghost use Rattle.sja_driver.specs.Deeds.{Deed, deeds_at};
+    ghost use Rattle.sja_session.specs.Answering.{last_answer};
+    ghost use Rattle.sja_session.specs.Sessions.{IsAt};
+
+    /// What the last step of a node, counted from 0, answered that is done. None where none is done, or there is no
+    /// such node.
+    pub fn answer(&self, node: u8) -> Option<StepAnswer>
+        ensures { (deeds : List (List Deed)) → IsAt self.now deeds → result ≡ last_answer (deeds_at deeds node) }
+    {
+        let place = usize::from(node);
+        if place >= self.plan.nodes() {
+            return None;
+        }
+        last_answer(&self.run, place)
+    }
+}
+
+/// What the last step answered that the log of this driver has, if it has one.
+pub(crate) fn last_answer(run: &SerialRun, node: usize) -> Option<StepAnswer>
+    requires { node < length run.now.drivers }
+    ensures { (d : LoggedDriver) →
+        result ≡ last_of (λ (x : Done). x.answer) (done_in (log_of (slice_index_or run.now.drivers node d))) }
+{
+    match run.driver(node).log().done().last() {
+        Some(last) => Some(copied_answer(&last.answer)),
+        None => None,
+    }
+}
+
+/// An equal answer.
+fn copied_answer(answer: &StepAnswer) -> StepAnswer
+    ensures { result ≡ answer.now }
+{
+    match answer {
+        StepAnswer::Done => StepAnswer::Done,
+        StepAnswer::NoMessage => StepAnswer::NoMessage,
+        StepAnswer::Shown(message) => StepAnswer::Shown(message.copy()),
+        StepAnswer::Released(bytes) => StepAnswer::Released(*bytes),
+        StepAnswer::Value(value) => StepAnswer::Value(*value),
+        StepAnswer::Refused(refusal) => StepAnswer::Refused(*refusal),
+    }
+}

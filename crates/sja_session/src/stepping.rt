@@ -1,0 +1,80 @@
+//! The steps of a session.
+
+use super::answered::Answered;
+use super::answers::last_answer;
+use super::session::Session;
+use super::step_fault::StepFault;
+use super::turns::{goes_on_last, push_turn};
+use sja_plan::{MOST_STEPS, MOST_TURNS, Turn};
+use sja_script::Step;
+
+impl Session {
+    ghost use Rattle.std.specs.Prelude.{◌≡◌, List, Ok, IfErr, OnOk, OnErr};
+    ghost use Rattle.sja_driver.specs.Deeds.{Deed};
+    ghost use Rattle.sja_script.specs.declared.step_answer.StepAnswer.{StepAnswer as AnswerOfStep};
+    ghost use Rattle.sja_session.specs.declared.answered.Answered.TheVariants.{Answer, Waits as HasToWait};
+    ghost use Rattle.sja_session.specs.Sessions.{IsAt};
+    ghost use Rattle.sja_session.specs.Stepping.{MayStep, IsStepFault, DoesStep, Waits};
+
+    /// Does a step of the driver of a node, counted from 0, now, after the bits that were run, and gives its answer. A
+    /// step that has to wait says so, and nothing happened: it can be tried again. No bit is run.
+    ///
+    /// Errors, the first that holds, and nothing changed: [`StepFault::NoNode`] where there is no such node;
+    /// [`StepFault::StepsUsed`] where 1,000 steps of it are done; [`StepFault::TurnsUsed`] where 10,000 turns were
+    /// taken, and the last one isn't of this node.
+    pub fn step(&mut self, node: u8, step: Step) -> Result<Answered, StepFault>
+        ensures done { (answer : AnswerOfStep) → result ≡ Ok (Answer answer) → (deeds : List (List Deed)) →
+            IsAt self.old deeds → DoesStep self.old self.new node step answer deeds }
+        ensures waits { result ≡ Ok HasToWait → (deeds : List (List Deed)) → IsAt self.old deeds →
+            Waits self.old self.new node step deeds }
+        ensures may { OnOk result (MayStep self.old node) }
+        ensures err { IfErr result (IsStepFault self.old node) }
+        ensures kept { OnErr result (self.new ≡ self.old) }
+    {
+        self.may_step(node)?;
+        let place = usize::from(node);
+        let at = self.done(place);
+        self.plan.set_step(place, at, step);
+        if !self.run.try_next(&self.plan, node) {
+            return Ok(Answered::Waits);
+        }
+        push_turn(&mut self.turns, Turn::Node(node, 1));
+        match last_answer(&self.run, place) {
+            Some(answer) => Ok(Answered::Answer(answer)),
+            None => unreachable!(),
+        }
+    }
+
+    /// Whether a step of this node may be tried.
+    ///
+    /// Errors: as [`step`](Session::step) tells them.
+    fn may_step(&self, node: u8) -> Result<(), StepFault>
+        ensures ok { OnOk result (MayStep self.now node) }
+        ensures err { IfErr result (IsStepFault self.now node) }
+    {
+        let place = usize::from(node);
+        if place >= self.plan.nodes() {
+            return Err(StepFault::NoNode);
+        }
+        if self.done(place) >= MOST_STEPS {
+            return Err(StepFault::StepsUsed);
+        }
+        if !self.has_turn(Turn::Node(node, 1)) {
+            return Err(StepFault::TurnsUsed);
+        }
+        Ok(())
+    }
+}
+
+impl Session {
+    ghost use Rattle.std.specs.Prelude.{◌≡◌, true, false};
+    ghost use Rattle.sja_session.specs.Stepping.{HasTurn, LacksTurn};
+
+    /// Whether a turn is left for this one, or it goes on with the last one.
+    pub(crate) fn has_turn(&self, turn: Turn) -> bool
+        ensures yes { result ≡ true → HasTurn self.now turn }
+        ensures no { result ≡ false → LacksTurn self.now turn }
+    {
+        self.turns.len() < MOST_TURNS || goes_on_last(self.turns.as_slice(), turn)
+    }
+}

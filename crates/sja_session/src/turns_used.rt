@@ -1,0 +1,8 @@
+//! Why no bit is run.
+
+use thiserror::Error;
+
+/// 10,000 turns were taken, as many as a plan has, and the last one isn't of the bus (this project's own rule).
+#[derive(Clone, Copy, Debug, PartialEq, Eq, Error)]
+#[error("all turns are used")]
+pub struct TurnsUsed;
