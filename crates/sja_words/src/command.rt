@@ -49,7 +49,7 @@ fn decode_command<'a>(alloc: Global) -> Result<Command<'a>, AllocError>
 }
 
 /// `filter MODE ACR AMR MESSAGE`.
-pub fn filter_command<'a>(alloc: Global) -> Result<Command<'a>, AllocError>
+pub(crate) fn filter_command<'a>(alloc: Global) -> Result<Command<'a>, AllocError>
     ensures app { IfOk result (λ command. app_of command ≡ filter_app) }
     ensures local { IfOk result (λ command. (out-Command command).has_globals ≡ false) }
 {
@@ -169,7 +169,7 @@ fn plan_command<'a>(alloc: Global) -> Result<Command<'a>, AllocError>
 }
 
 /// The whole: a subcommand has to be given.
-pub fn sja_command<'a>(alloc: Global) -> Result<Command<'a>, AllocError>
+pub(crate) fn sja_command<'a>(alloc: Global) -> Result<Command<'a>, AllocError>
     ensures { IfOk result (λ command. app_of command ≡ sja_app) }
 {
     plan_command(alloc)?.subcommand(check_command(alloc))

@@ -11,7 +11,7 @@ use clap::ArgMatches;
 
 /// The task of the subcommand that was found, with its arguments; nothing where its mode is none, or where there aren't
 /// one to eight messages.
-pub fn task_of<'a>(matches: &ArgMatches<'a>) -> Option<Task<'a>>
+pub(crate) fn task_of<'a>(matches: &ArgMatches<'a>) -> Option<Task<'a>>
     ensures { option_map request_of result ≡ request_in (subcommand_rows_of matches.now) }
 {
     let (name, arguments) = matches.subcommand()?;

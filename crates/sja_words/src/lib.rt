@@ -20,5 +20,5 @@ pub use laws::{
     version_is_asked_for, wave_parses,
 };
 pub use parsing::parse;
-pub use task::Task;
+pub use task::{MOST_MESSAGES, Task};
 pub use words_fault::WordsFault;
