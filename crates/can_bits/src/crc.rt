@@ -26,7 +26,7 @@ pub fn crc_of(levels: &[Level]) -> u16
 
 /// The CRC register after one level more: where the generator divides the levels followed by the register, it divides
 /// the levels with this one more, followed by the result.
-pub fn crc_step(crc: u16, level: Level) -> u16
+pub(crate) fn crc_step(crc: u16, level: Level) -> u16
     requires { crc < 32768 }
     ensures fits { result < 32768 }
     ensures divides { (b : List Bus) → IsMultiple (value b * 32768 + crc)

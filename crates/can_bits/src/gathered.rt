@@ -14,7 +14,7 @@ const HIGHEST: u128 = 1 << 127;
 
 /// The levels of a body and its CRC sequence as far as they have come, without stuff bits, as one number.
 #[derive(Clone, Copy, Debug)]
-pub struct Gathered {
+pub(crate) struct Gathered {
     /// The number that the levels write in binary, the last one lowest.
     word: u128,
     /// The CRC register over all levels that have come.
@@ -36,7 +36,7 @@ impl Gathered {
     ghost use Rattle.can_bits.specs.Inside.Gathering.{Gathers, mark_of};
 
     /// Nothing has come.
-    pub fn new() -> Gathered
+    pub(crate) fn new() -> Gathered
         ensures { Gathers result [] }
     {
         Gathered {
@@ -49,7 +49,7 @@ impl Gathered {
 
     /// Takes one level more.
     #[inline(always)]
-    pub fn push(&mut self, level: Level)
+    pub(crate) fn push(&mut self, level: Level)
         ensures { (w : List Bus) → Gathers self.old w → length w < 118 → Gathers self.new (w ++ level ∷ []) }
     {
         self.word = 2 * (self.word % HIGHEST) + u128::from(level.digit());
@@ -90,7 +90,7 @@ impl Gathered {
 
     /// Whether all levels have come.
     #[inline(always)]
-    pub fn is_whole(&self) -> bool
+    pub(crate) fn is_whole(&self) -> bool
         ensures { (w : List Bus) → Gathers self.now w → IsTrue result ↔ (length w ≡ says_count w) }
     {
         self.place == self.mark
@@ -98,7 +98,7 @@ impl Gathered {
 
     /// Whether the CRC sequence is right, once all levels have come.
     #[inline(always)]
-    pub fn check_is_right(&self) -> bool
+    pub(crate) fn check_is_right(&self) -> bool
         ensures { (w b c : List Bus) → Gathers self.now w → w ≡ b ++ c → length c ≡ 15 → SaysWhetherRight result b c }
     {
         self.register == 0

@@ -20,17 +20,17 @@ ghost use Rattle.can_bits.specs.Fields.{rtr_place, dlc_place};
 use can_frame::DATA_BYTES;
 
 /// The place of IDE, in both formats.
-pub const IDE_PLACE: u8 = 13;
+pub(crate) const IDE_PLACE: u8 = 13;
 
 /// How many levels the CRC sequence has.
-pub const CRC_LEVELS: u8 = 15;
+pub(crate) const CRC_LEVELS: u8 = 15;
 
 /// How many data bytes a frame has at most.
-pub const MOST_BYTES: u8 = DATA_BYTES as u8;
+pub(crate) const MOST_BYTES: u8 = DATA_BYTES as u8;
 
 /// The place of RTR, the last bit of the arbitration field.
 #[inline(always)]
-pub fn rtr_place(ext: bool) -> u8
+pub(crate) fn rtr_place(ext: bool) -> u8
     ensures value { result ≡ rtr_place ext }
     ensures most { result ≤ 32 }
 {
@@ -39,7 +39,7 @@ pub fn rtr_place(ext: bool) -> u8
 
 /// The place of the DLC's first bit.
 #[inline(always)]
-pub fn dlc_place(ext: bool) -> u8
+pub(crate) fn dlc_place(ext: bool) -> u8
     ensures value { result ≡ dlc_place ext }
     ensures least { 15 ≤ result }
     ensures most { result ≤ 35 }
@@ -49,7 +49,7 @@ pub fn dlc_place(ext: bool) -> u8
 
 /// The place of the first data bit, after the four bits of the DLC.
 #[inline(always)]
-pub fn data_place(ext: bool) -> u8
+pub(crate) fn data_place(ext: bool) -> u8
     ensures value { result ≡ dlc_place ext + 4 }
     ensures least { 19 ≤ result }
     ensures most { result ≤ 39 }

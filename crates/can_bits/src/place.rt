@@ -7,7 +7,7 @@ use super::layout::CRC_LEVELS;
 use super::segment::Segment;
 
 /// The segment of the level at a place of a body and its CRC sequence, which have `count` levels in all.
-pub fn segment_of(ext: bool, count: u8, place: u8) -> Segment
+pub(crate) fn segment_of(ext: bool, count: u8, place: u8) -> Segment
     ensures { result ≡ segment_in (segments_of ext count) place }
 {
     match place {
@@ -62,7 +62,7 @@ fn late_segment(count: u8, place: u8) -> Segment
 }
 
 /// The segment of the n-th level after the stuffed part, counted from 0.
-pub fn segment_after(n: u8) -> Segment
+pub(crate) fn segment_after(n: u8) -> Segment
     ensures { result ≡ segment_after n }
 {
     match n {

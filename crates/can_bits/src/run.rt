@@ -5,7 +5,7 @@ ghost use Rattle.std.specs.Prelude.{◌≡◌, ◌≢◌, ◌<◌, ◌+◌};
 use super::level::Level;
 
 /// How many levels like the last one end a list, with a level more.
-pub fn run_after(run: u8, last: Level, level: Level) -> u8
+pub(crate) fn run_after(run: u8, last: Level, level: Level) -> u8
     ensures same { level ≡ last → run < 5 → result ≡ run + 1 }
     ensures other { level ≢ last → result ≡ 1 }
 {

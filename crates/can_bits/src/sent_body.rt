@@ -94,7 +94,7 @@ impl SentBody {
 }
 
 /// The body that a transmitter of this frame sends, level by level.
-pub fn body_of(frame: &Frame) -> ArrayVec<Level, 118>
+pub(crate) fn body_of(frame: &Frame) -> ArrayVec<Level, 118>
     ensures value { result.items ≡ sent_body frame.now }
     ensures valid { IsFrame frame.now }
     ensures room { length result.items ≤ 103 }
@@ -106,7 +106,7 @@ pub fn body_of(frame: &Frame) -> ArrayVec<Level, 118>
 }
 
 /// The lowest `count` binary digits of a number, most significant first.
-pub fn push_bits(body: &mut ArrayVec<Level, 118>, count: u8, number: u128)
+pub(crate) fn push_bits(body: &mut ArrayVec<Level, 118>, count: u8, number: u128)
     requires { length body.old.items + count ≤ 118 }
     ensures value { body.new.items ≡ body.old.items ++ bits count number }
     ensures room { length body.new.items ≡ length body.old.items + count }

@@ -10,7 +10,7 @@ const RUN: u8 = 5;
 
 /// These levels with their stuff bits: one of the other level after each five equal ones, stuff bits counted (Bosch CAN
 /// 2.0 part A section 5), also after the last (this project's own reading).
-pub fn push_stuffed(line: &mut Vec<Level>, levels: &[Level])
+pub(crate) fn push_stuffed(line: &mut Vec<Level>, levels: &[Level])
     requires empty { line.old.items ≡ [] }
     requires room { 5 * length levels.now ≤ 4 * vec_capacity line.old }
     ensures stuffed { Stuffed levels.now line.new.items }

@@ -133,7 +133,7 @@ fn id_limit(ext: bool) -> u32
 }
 
 /// How many data bytes a frame of this kind and DLC has.
-pub fn data_count(rtr: bool, dlc: u8) -> usize
+pub(crate) fn data_count(rtr: bool, dlc: u8) -> usize
     ensures { result ≡ data_count rtr dlc }
 {
     if rtr {

@@ -7,27 +7,27 @@ use super::frame::data_count;
 use super::layout_fault::LayoutFault;
 
 /// How many bytes stand before the data of a standard frame: frame information and 11 bits of identifier.
-pub const STANDARD_HEAD: usize = 3;
+pub(crate) const STANDARD_HEAD: usize = 3;
 
 /// The same of an extended frame: frame information and 29 bits of identifier.
-pub const EXTENDED_HEAD: usize = 5;
+pub(crate) const EXTENDED_HEAD: usize = 5;
 
 /// Bit 7 of the first byte: the frame is extended.
-pub fn said_ext(first: u8) -> bool
+pub(crate) fn said_ext(first: u8) -> bool
     ensures { result ≡ (first / 128 % 2 == 1) }
 {
     (first >> 7) & 1 == 1
 }
 
 /// Bit 6 of the first byte: the frame is a remote frame.
-pub fn said_rtr(first: u8) -> bool
+pub(crate) fn said_rtr(first: u8) -> bool
     ensures { result ≡ (first / 64 % 2 == 1) }
 {
     (first >> 6) & 1 == 1
 }
 
 /// Bits 3 to 0 of the first byte: the DLC.
-pub fn said_dlc(first: u8) -> u8
+pub(crate) fn said_dlc(first: u8) -> u8
     ensures { result ≡ first % 16 }
 {
     first & 0x0f
@@ -72,7 +72,7 @@ fn rtr_agrees(bytes: &[u8]) -> bool
 }
 
 /// Judges these bytes as a message: the first fault that holds, or none.
-pub fn judged(bytes: &[u8]) -> Result<(), LayoutFault>
+pub(crate) fn judged(bytes: &[u8]) -> Result<(), LayoutFault>
     ensures ok { OnOk result (IsSized bytes.now × UnusedAreZero bytes.now × RtrAgrees bytes.now) }
     ensures short { (result ≡ Err LayoutFault.Short) ↔ IsShort bytes.now }
     ensures long { (result ≡ Err LayoutFault.Long) ↔ IsLong bytes.now }

@@ -164,7 +164,7 @@ fn head_of(frame: &Frame) -> ArrayVec<u8, MESSAGE_BYTES>
 }
 
 /// ID.28 to ID.18, from a standard frame's message.
-pub fn standard_id(bytes: &[u8]) -> u32
+pub(crate) fn standard_id(bytes: &[u8]) -> u32
     requires { 3 ≤ length bytes.now }
     ensures { result ≡ slice_index bytes.now 1 * 8 + slice_index bytes.now 2 / 32 }
 {
@@ -172,7 +172,7 @@ pub fn standard_id(bytes: &[u8]) -> u32
 }
 
 /// ID.28 to ID.0, from an extended frame's message.
-pub fn extended_id(bytes: &[u8]) -> u32
+pub(crate) fn extended_id(bytes: &[u8]) -> u32
     requires { 5 ≤ length bytes.now }
     ensures { result ≡ slice_index bytes.now 1 * 2097152 + slice_index bytes.now 2 * 8192 + slice_index bytes.now 3 * 32
         + slice_index bytes.now 4 / 8 }

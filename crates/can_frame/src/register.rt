@@ -7,16 +7,16 @@ ghost use Rattle.can_frame.specs.Filter.{Matches, MatchesByte, MatchesHalves};
 ///
 /// A mask bit of 1 means "don't care": its code bit isn't compared.
 #[derive(Clone, Copy)]
-pub struct Register {
+pub(crate) struct Register {
     /// The acceptance code.
-    pub code: u8,
+    pub(crate) code: u8,
     /// The acceptance mask.
-    pub mask: u8,
+    pub(crate) mask: u8,
 }
 
 impl Register {
     /// Whether the lowest `count` bits of the number are the code bits from bit `low` on, where these are compared.
-    pub fn matches(self, low: u32, count: u32, number: u32) -> bool
+    pub(crate) fn matches(self, low: u32, count: u32, number: u32) -> bool
         requires { low + count ≤ 8 }
         ensures { IsTrue result ↔ Matches self.code self.mask low count number }
     {
@@ -26,7 +26,7 @@ impl Register {
     }
 
     /// Whether the code is this byte of the data, where it is compared; an absent byte isn't.
-    pub fn matches_byte(self, byte: Option<u8>) -> bool
+    pub(crate) fn matches_byte(self, byte: Option<u8>) -> bool
         ensures { IsTrue result ↔ MatchesByte self.code self.mask byte }
     {
         match byte {
@@ -38,7 +38,7 @@ impl Register {
 
 /// Whether bits 3 to 0 of two codes are the halves of this byte of the data, the high half first, where these are
 /// compared; an absent byte isn't.
-pub fn halves_match(high: Register, low: Register, byte: Option<u8>) -> bool
+pub(crate) fn halves_match(high: Register, low: Register, byte: Option<u8>) -> bool
     ensures { IsTrue result ↔ MatchesHalves high.code high.mask low.code low.mask byte }
 {
     match byte {

@@ -4,7 +4,7 @@ use super::stage::Stage;
 
 /// The piece goes on, and the node stands in it at this stage; or it ended.
 #[derive(Debug, Drop)]
-pub enum AfterBit {
+pub(crate) enum AfterBit {
     InPiece(Stage),
     Ended(Ending),
 }
@@ -14,7 +14,7 @@ impl AfterBit {
     ghost use Rattle.can_node.specs.Inside.Quiet.{stage_in};
 
     /// The stage, where the piece goes on.
-    pub fn stage(&self) -> Option<Stage>
+    pub(crate) fn stage(&self) -> Option<Stage>
         ensures { result ≡ stage_in self.now }
     {
         match self {

@@ -58,7 +58,7 @@ impl Context {
 
     /// A bit of a frame, in which arbitration was lost or not: who loses goes on as receiver, and a receiver may have
     /// acknowledged.
-    pub fn frame_bit(&mut self, lost: bool, driven: Level, seen: Level)
+    pub(crate) fn frame_bit(&mut self, lost: bool, driven: Level, seen: Level)
         ensures { (l : List Bus) → (self.old.role ≡ Transmitter → lost ≡ is_some (lost_by self.old.held l driven seen))
             → context_of self.new
             ≡ frame_bit self.old.role (context_of self.old) l (record { driven = driven; seen = seen }) }

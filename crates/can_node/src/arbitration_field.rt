@@ -17,11 +17,11 @@ use can_bits::Level;
 use can_frame::Frame;
 
 /// How many levels the longest arbitration field has.
-pub const LONGEST_FIELD: u8 = 32;
+pub(crate) const LONGEST_FIELD: u8 = 32;
 
 /// The level at a place of a frame's arbitration field, counted from the first bit of the identifier; nothing past the
 /// end of the field.
-pub fn field_level(frame: &Frame, place: u8) -> Option<Level>
+pub(crate) fn field_level(frame: &Frame, place: u8) -> Option<Level>
     ensures { result ≡ slice_get (arbitration_field frame.now) place }
 {
     if frame.ext() {

@@ -16,7 +16,7 @@ const LAST_OF_ELEVEN: u8 = 10;
 
 /// A bit while the bus is waited for: eleven successive recessive levels, so many times; a dominant one begins the
 /// present eleven anew.
-pub fn after_integration_bit(left: u8, run: u8, seen: Level) -> AfterBit
+pub(crate) fn after_integration_bit(left: u8, run: u8, seen: Level) -> AfterBit
     ensures { (shift : Shift) (c now : ContextValue) (bits : List Bit) → IsIntegrating left run c bits
         → IsTurn shift c now AtIntegration bits (recessive_bit seen) result }
 {

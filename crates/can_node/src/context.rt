@@ -9,18 +9,18 @@ use can_bits::Level;
 /// The context of a node's next bit: configuration, request, role, error counters and flag. How far the piece under way
 /// has come is the [`Stage`](super::stage::Stage)'s.
 #[derive(Debug, Drop)]
-pub struct Context {
-    pub listen: bool,
-    pub self_test: bool,
+pub(crate) struct Context {
+    pub(crate) listen: bool,
+    pub(crate) self_test: bool,
     /// The request, and whether it was aborted in progress.
-    pub held: Option<Request>,
-    pub aborted: bool,
-    pub role: Role,
-    pub counters: Counters,
+    pub(crate) held: Option<Request>,
+    pub(crate) aborted: bool,
+    pub(crate) role: Role,
+    pub(crate) counters: Counters,
     /// The flag that is due, or that came last.
-    pub flag: FlagKind,
+    pub(crate) flag: FlagKind,
     /// A passive transmitter's step for a missing acknowledgement is owed.
-    pub ack_step_owed: bool,
+    pub(crate) ack_step_owed: bool,
 }
 
 impl Context {
@@ -33,7 +33,7 @@ impl Context {
     ghost use Rattle.can_node.specs.Inside.Standing.{context_of};
 
     /// Before anything happened.
-    pub fn new() -> Context
+    pub(crate) fn new() -> Context
         ensures { context_of result ≡ fresh }
     {
         Context {
@@ -49,7 +49,7 @@ impl Context {
     }
 
     /// Whether it sends the frame that is on the bus, or sent the one that came last.
-    pub fn is_transmitter(&self) -> bool
+    pub(crate) fn is_transmitter(&self) -> bool
         ensures { result ≡ is_transmitter self.now.role }
     {
         match self.role {
@@ -59,21 +59,21 @@ impl Context {
     }
 
     /// Suspend transmission is owed: an error passive transmitter waits eight bits more after intermission.
-    pub fn owes_suspension(&self) -> bool
+    pub(crate) fn owes_suspension(&self) -> bool
         ensures { result ≡ owes_suspension (context_of self.now) }
     {
         self.is_transmitter() && self.is_passive()
     }
 
     /// Whether it starts its own frame where the bus is idle.
-    pub fn sends(&self) -> bool
+    pub(crate) fn sends(&self) -> bool
         ensures { result ≡ is_some (sent_at (context_of self.now) AtIdle) }
     {
         !self.listen && self.held.is_some()
     }
 
     /// The first bit where the bus is idle: the holder of a request is transmitter from its SOF on.
-    pub fn begin_own_frame(&mut self)
+    pub(crate) fn begin_own_frame(&mut self)
         ensures { context_of self.new ≡ first_bit (sent_at (context_of self.old) AtIdle) (context_of self.old) }
     {
         if self.sends() {
@@ -82,7 +82,7 @@ impl Context {
     }
 
     /// What the node drives in its flag.
-    pub fn flag_level(&self) -> Level
+    pub(crate) fn flag_level(&self) -> Level
         ensures { result ≡ flag_level (context_of self.now) }
     {
         if self.listen {
@@ -95,7 +95,7 @@ impl Context {
     }
 
     /// Takes the configuration; while bus-off stands the waiting begins anew, unless the node only listens.
-    pub fn start(&mut self, config: &Config)
+    pub(crate) fn start(&mut self, config: &Config)
         ensures { context_of self.new ≡ with_start config.now (context_of self.old) }
     {
         self.listen = config.listen;
@@ -104,7 +104,7 @@ impl Context {
     }
 
     /// Drops the request.
-    pub fn stop(&mut self)
+    pub(crate) fn stop(&mut self)
         ensures { context_of self.new ≡ with_stop (context_of self.old) }
     {
         self.held = None;
@@ -113,7 +113,7 @@ impl Context {
     }
 
     /// Drops a request that is tried once, or was aborted in progress, where it fails or loses.
-    pub fn drop_failed(&mut self)
+    pub(crate) fn drop_failed(&mut self)
         ensures { context_of self.new ≡ drop_failed self.old.held (context_of self.old) }
     {
         if self.drops() {
@@ -123,7 +123,7 @@ impl Context {
     }
 
     /// Whether the request is dropped where it fails or loses: it is tried once, or was aborted in progress.
-    pub fn drops(&self) -> bool
+    pub(crate) fn drops(&self) -> bool
         ensures none { self.now.held ≡ None → result ≡ false }
         ensures some { (request : Request) → self.now.held ≡ Some request
             → result ≡ (request.single_shot || self.now.aborted) }
@@ -136,7 +136,7 @@ impl Context {
 
     /// The role where SOF came in interframe space: the holder of a request transmits, unless it owes suspend
     /// transmission or only listens.
-    pub fn role_after_sof(&self) -> Role
+    pub(crate) fn role_after_sof(&self) -> Role
         ensures { result ≡ role_after_sof (context_of self.now) }
     {
         if self.held.is_some() && !(self.listen || self.owes_suspension()) {

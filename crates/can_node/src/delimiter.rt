@@ -20,7 +20,7 @@ const BEFORE_LAST: u8 = 7;
 
 /// A bit after a flag: dominant levels of others' flags, and then eight recessive ones; a dominant level at the eighth
 /// is an overload condition, and one before it a form error.
-pub fn after_delimiter_bit(dominant: u8, recessive: u8, seen: Level) -> AfterBit
+pub(crate) fn after_delimiter_bit(dominant: u8, recessive: u8, seen: Level) -> AfterBit
     ensures { (shift : Shift) (c now : ContextValue) (bits : List Bit) → IsInDelimiter dominant recessive bits
         → IsTurn shift c now AtDelimiter bits (recessive_bit seen) result }
 {
@@ -55,14 +55,14 @@ pub fn after_delimiter_bit(dominant: u8, recessive: u8, seen: Level) -> AfterBit
 }
 
 /// Whether no bit came after the flag.
-pub fn is_first(dominant: u8, recessive: u8) -> bool
+pub(crate) fn is_first(dominant: u8, recessive: u8) -> bool
     ensures { result ≡ (dominant == 0 && recessive == 0) }
 {
     dominant == 0 && recessive == 0
 }
 
 /// Whether a dominant level makes eight, sixteen .. of them, none other among them.
-pub fn is_eighth(dominant: u8, recessive: u8) -> bool
+pub(crate) fn is_eighth(dominant: u8, recessive: u8) -> bool
     ensures { result ≡ (recessive == 0 && dominant == 7) }
 {
     recessive == 0 && dominant == 7

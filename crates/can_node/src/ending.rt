@@ -8,7 +8,7 @@ use can_frame::Frame;
 
 /// How a piece ended, with what the end tells.
 #[derive(Debug, Drop)]
-pub enum Ending {
+pub(crate) enum Ending {
     /// The bus was waited for.
     Integration,
     /// A recessive bit of an idle bus.

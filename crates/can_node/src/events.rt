@@ -14,7 +14,7 @@ impl AfterBit {
     ghost use Rattle.can_node.specs.Inside.Turns.{step_of};
 
     /// The frame that is valid from this bit on: another node's, or an own one that was to be received too.
-    pub fn received(self) -> Option<Frame>
+    pub(crate) fn received(self) -> Option<Frame>
         ensures { result ≡ received_in (step_of self) }
     {
         match self {
@@ -31,7 +31,7 @@ impl AfterBit {
     }
 
     /// Whether the own frame was sent with this bit.
-    pub fn is_sent(&self) -> bool
+    pub(crate) fn is_sent(&self) -> bool
         ensures { result ≡ sends_in (step_of self.now) }
     {
         match self {
@@ -41,7 +41,7 @@ impl AfterBit {
     }
 
     /// The error that was found in this bit, with its segment.
-    pub fn fault(&self) -> Option<(Cause, Segment)>
+    pub(crate) fn fault(&self) -> Option<(Cause, Segment)>
         ensures { result ≡ fault_in (step_of self.now) }
     {
         match self {

@@ -59,7 +59,7 @@ impl Context {
     }
 
     /// Error passive: a counter has come to 128.
-    pub fn is_passive(&self) -> bool
+    pub(crate) fn is_passive(&self) -> bool
         ensures { result ≡ is_passive (context_of self.now) }
     {
         self.counters.tec >= ERROR_PASSIVE || u16::from(self.counters.rec) >= ERROR_PASSIVE
@@ -68,7 +68,7 @@ impl Context {
     // ---- bits
 
     /// A bit of bus integration, after a run of so many recessive levels: after bus-off each eleven take one from TEC.
-    pub fn integration_bit(&mut self, run: u8, seen: Level)
+    pub(crate) fn integration_bit(&mut self, run: u8, seen: Level)
         ensures { (done : List Bit) (b : Bit) → fold next_run 0 (seen_of done) ≡ run → b.seen ≡ seen
             → context_of self.new ≡ integration_bit (context_of self.old) done b }
     {
@@ -78,7 +78,7 @@ impl Context {
     }
 
     /// A receiver's bit of a frame: a dominant level of its own is its acknowledgement, which takes one from REC.
-    pub fn acknowledged(&mut self, driven: Level, seen: Level)
+    pub(crate) fn acknowledged(&mut self, driven: Level, seen: Level)
         ensures { context_of self.new ≡ if_acknowledged driven seen (context_of self.old) }
     {
         if !driven.is_recessive() && !seen.is_recessive() {
@@ -92,7 +92,7 @@ impl Context {
 
     /// A bit of a flag: the step that a passive transmitter owes for a missing acknowledgement comes with a dominant
     /// level.
-    pub fn flag_bit(&mut self, seen: Level)
+    pub(crate) fn flag_bit(&mut self, seen: Level)
         ensures { self.old.counters.tec < 1000 → context_of self.new ≡ if_ack_step_owed seen (context_of self.old) }
     {
         if !seen.is_recessive() && self.ack_step_owed {
@@ -102,7 +102,7 @@ impl Context {
     }
 
     /// A bit after a flag: the first one or not, and one that makes eight, sixteen .. dominant levels or not.
-    pub fn delimiter_bit(&mut self, first: bool, eighth: bool, seen: Level)
+    pub(crate) fn delimiter_bit(&mut self, first: bool, eighth: bool, seen: Level)
         ensures { (done : List Bit) → self.old.counters.tec < 1000 → first ≡ is_nil done
             → eighth ≡ (are_dominant (seen_of done) && (length done + 1) % 8 == 0)
             → context_of self.new ≡ delimiter_level seen done (context_of self.old) }
@@ -134,7 +134,7 @@ impl Context {
     // ---- ends of pieces
 
     /// The step of a piece's end, beside those of its bits.
-    pub fn end_step(&mut self, ending: &Ending)
+    pub(crate) fn end_step(&mut self, ending: &Ending)
         ensures { self.old.counters.tec < 900
             → context_of self.new ≡ own_step (piece_of ending.now) (context_of self.old) }
     {
@@ -215,7 +215,7 @@ impl Context {
     // ---- bus-off
 
     /// Goes bus-off: the request is dropped, TEC reads 127 and REC 0.
-    pub fn go_off(&mut self)
+    pub(crate) fn go_off(&mut self)
         ensures { context_of self.new ≡ with_off (context_of self.old) }
     {
         self.stop();
@@ -227,7 +227,7 @@ impl Context {
     }
 
     /// While bus-off stands a start makes the count of 128 begin anew, unless the node only listens.
-    pub fn recount(&mut self)
+    pub(crate) fn recount(&mut self)
         ensures { context_of self.new ≡ recounted (context_of self.old) }
     {
         if self.counters.off && !self.listen {
@@ -237,7 +237,7 @@ impl Context {
     }
 
     /// How often eleven recessive levels are waited for after a start.
-    pub fn integration_count(&self) -> u8
+    pub(crate) fn integration_count(&self) -> u8
         ensures { result ≡ integration_count (context_of self.now) }
     {
         if self.counters.off { BUS_OFF_COUNT } else { 1 }

@@ -2,7 +2,7 @@
 
 /// In which piece a fault was.
 #[derive(Clone, Copy, Debug)]
-pub enum FaultSite {
+pub(crate) enum FaultSite {
     InTransmission,
     InReception,
     /// In an active error flag or an overload flag.

@@ -47,7 +47,7 @@ fn one_more(bits: u8, seen: Level) -> AfterBit
 
 /// A bit of an active error flag or overload flag, of which so many came: six of them are a flag, and a recessive level
 /// is a bit error.
-pub fn after_dominant_flag_bit(kind: FlagKind, bits: u8, seen: Level) -> AfterBit
+pub(crate) fn after_dominant_flag_bit(kind: FlagKind, bits: u8, seen: Level) -> AfterBit
     ensures { (shift : Shift) (c now : ContextValue) (done : List Bit) → flag_level c ≡ Dominant → kind ≡ c.flag
         → IsInDominantFlag bits c done
         → IsTurn shift c now AtFlag done (dominant_bit seen) result }
@@ -64,7 +64,7 @@ pub fn after_dominant_flag_bit(kind: FlagKind, bits: u8, seen: Level) -> AfterBi
 
 /// A bit of a passive error flag, which ends with six equal levels; so many like this one came. Any flag of a node that
 /// only listens goes so.
-pub fn after_passive_flag_bit(bits: u8, last: Level, seen: Level) -> AfterBit
+pub(crate) fn after_passive_flag_bit(bits: u8, last: Level, seen: Level) -> AfterBit
     ensures { (shift : Shift) (c now : ContextValue) (done : List Bit) → flag_level c ≡ Recessive
         → IsInPassiveFlag bits last c done
         → IsTurn shift c now AtFlag done (recessive_bit seen) result }

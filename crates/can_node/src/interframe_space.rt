@@ -19,7 +19,7 @@ const LAST_OF_SUSPENSION: u8 = 10;
 
 /// A bit of interframe space: three recessive levels, eleven where suspend transmission is owed; a dominant first or
 /// second level is an overload condition, and a later one SOF.
-pub fn after_interframe_bit(bits: u8, owed: bool, seen: Level) -> AfterBit
+pub(crate) fn after_interframe_bit(bits: u8, owed: bool, seen: Level) -> AfterBit
     ensures { (shift : Shift) (c now : ContextValue) (done : List Bit) → owed ≡ owes_suspension c
         → IsInInterframeSpace bits c done
         → IsTurn shift c now AtInterframeSpace done (recessive_bit seen) result }

@@ -2,7 +2,7 @@
 
 /// The kinds of bits in which a transmitter may see another level than it drives, or may not see its own.
 #[derive(Clone, Copy, Debug)]
-pub enum OwnBit {
+pub(crate) enum OwnBit {
     /// The ACK slot: it drives recessive, and waits for dominant.
     AckSlot,
     /// In this bit of the arbitration field it loses arbitration.

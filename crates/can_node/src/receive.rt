@@ -47,7 +47,7 @@ fn error(cause: Cause, segment: Segment) -> AfterBit
 /// A bit of a frame for its receiver: the frame goes on, or it is received with the sixth bit of EOF, or there is an
 /// error: a level with which no line goes on (stuff error or form error), the ACK delimiter after a wrong CRC sequence
 /// (CRC error), or an acknowledgement of its own that isn't seen (bit error).
-pub fn receive(shift: &mut Shift, driven: Level, seen: Level) -> AfterBit
+pub(crate) fn receive(shift: &mut Shift, driven: Level, seen: Level) -> AfterBit
     ensures stands { (l : List Bus) → StandsFor shift.old l → StandsFor shift.new (l ++ seen ∷ []) }
     ensures turn { ReceivesBit shift.old driven seen result }
 {

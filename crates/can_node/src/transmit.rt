@@ -56,7 +56,7 @@ fn error_in(driven: Level, seen: Level, kind: OwnBit, self_test: bool) -> Option
 
 /// A bit of a frame for its transmitter: the frame goes on, or it is sent with the last bit of EOF, or arbitration is
 /// lost and the node goes on as receiver, or there is an error.
-pub fn transmit(
+pub(crate) fn transmit(
     shift: &mut Shift,
     request: &Request,
     self_test: bool,

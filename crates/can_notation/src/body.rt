@@ -14,7 +14,7 @@ use can_frame::DATA_BYTES;
 const LONG_TEXT: usize = 18;
 
 /// DLC and data bytes of a data frame, from what stands behind the `#`.
-pub fn data(behind: &[u8]) -> Option<(u8, ArrayVec<u8, DATA_BYTES>)>
+pub(crate) fn data(behind: &[u8]) -> Option<(u8, ArrayVec<u8, DATA_BYTES>)>
     ensures some { IfSome result (λ d. IsRest false d.0 d.1.items
         × (capitals behind.now ≡ rest_text false d.0 d.1.items)) }
     ensures none { IfNone result ((dlc : ℕ) (bytes : List ℕ) → IsRest false dlc bytes

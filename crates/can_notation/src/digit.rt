@@ -4,7 +4,7 @@ ghost use Rattle.std.specs.Prelude.{◌≡◌, ◌≢◌, ◌<◌, ℕ, IfSome, 
 ghost use Rattle.can_notation.specs.Digits.{digit_of, capital};
 
 /// The upper-case digit of a number.
-pub fn digit_of(n: u8) -> u8
+pub(crate) fn digit_of(n: u8) -> u8
     requires { n < 16 }
     ensures { result ≡ digit_of n }
 {
@@ -12,7 +12,7 @@ pub fn digit_of(n: u8) -> u8
 }
 
 /// The number that a digit stands for, in either case.
-pub fn value_of(digit: u8) -> Option<u8>
+pub(crate) fn value_of(digit: u8) -> Option<u8>
     ensures some { IfSome result (λ n. (n < 16) × (capital digit ≡ digit_of n)) }
     ensures none { IfNone result ((n : ℕ) → n < 16 → capital digit ≢ digit_of n) }
 {

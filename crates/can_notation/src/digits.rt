@@ -11,7 +11,7 @@ use arrayvec::ArrayVec;
 pub const TEXT_BYTES: usize = 27;
 
 /// Writes the last `count` digits of a number behind a text.
-pub fn push_digits(text: &mut ArrayVec<u8, TEXT_BYTES>, count: usize, n: u32)
+pub(crate) fn push_digits(text: &mut ArrayVec<u8, TEXT_BYTES>, count: usize, n: u32)
     requires { array_vec_len text.old + count ≤ 27 }
     ensures items { text.new.items ≡ text.old.items ++ digits_of count n }
     ensures len { array_vec_len text.new ≡ array_vec_len text.old + count }
@@ -23,7 +23,7 @@ pub fn push_digits(text: &mut ArrayVec<u8, TEXT_BYTES>, count: usize, n: u32)
 }
 
 /// The number of at most 8 digits, in either case.
-pub fn number_of(digits: &[u8]) -> Option<u32>
+pub(crate) fn number_of(digits: &[u8]) -> Option<u32>
     requires { length digits.now ≤ 8 }
     ensures some { IfSome result (λ n. (n < 16 ^ length digits.now)
         × (capitals digits.now ≡ digits_of (length digits.now) n)) }

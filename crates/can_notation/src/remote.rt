@@ -7,7 +7,7 @@ ghost use Rattle.can_notation.specs.Text.{count_text, long_dlc_text};
 use super::digit::value_of;
 
 /// The DLC of a remote frame, from what stands behind the `R`.
-pub fn remote_dlc(behind: &[u8]) -> Option<u8>
+pub(crate) fn remote_dlc(behind: &[u8]) -> Option<u8>
     ensures some { IfSome result (λ dlc. (dlc < 16)
         × (capitals behind.now ≡ count_text (min dlc 8) ++ long_dlc_text dlc)) }
     ensures none { IfNone result ((dlc : ℕ) → dlc < 16
@@ -31,7 +31,7 @@ fn short_dlc(digit: u8) -> Option<u8>
 }
 
 /// The DLC of 9 to 15 that `_` and a digit say.
-pub fn long_dlc(text: &[u8]) -> Option<u8>
+pub(crate) fn long_dlc(text: &[u8]) -> Option<u8>
     ensures some { IfSome result (λ dlc. (8 < dlc) × (dlc < 16) × (capitals text.now ≡ long_dlc_text dlc)) }
     ensures none { IfNone result ((dlc : ℕ) → 8 < dlc → dlc < 16 → capitals text.now ≢ long_dlc_text dlc) }
 {

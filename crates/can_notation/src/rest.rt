@@ -12,17 +12,17 @@ use can_frame::DATA_BYTES;
 
 /// Kind, DLC and data bytes of a frame, which its text has behind the `#`.
 #[derive(Drop)]
-pub struct Rest {
+pub(crate) struct Rest {
     /// The frame is a remote frame.
-    pub rtr: bool,
+    pub(crate) rtr: bool,
     /// The data length code.
-    pub dlc: u8,
+    pub(crate) dlc: u8,
     /// The data bytes.
-    pub bytes: ArrayVec<u8, DATA_BYTES>,
+    pub(crate) bytes: ArrayVec<u8, DATA_BYTES>,
 }
 
 /// What stands behind the `#`, where it is that of some frame.
-pub fn rest_of(behind: &[u8]) -> Option<Rest>
+pub(crate) fn rest_of(behind: &[u8]) -> Option<Rest>
     ensures some { IfSome result (λ rest. IsRest rest.rtr rest.dlc rest.bytes.items
         × (capitals behind.now ≡ rest_text rest.rtr rest.dlc rest.bytes.items)) }
     ensures none { IfNone result ((rtr : Bool) (dlc : ℕ) (bytes : List ℕ) → IsRest rtr dlc bytes

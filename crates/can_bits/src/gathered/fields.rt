@@ -20,7 +20,7 @@ impl Gathered {
 
     /// The frame, once all levels have come.
     #[inline(never)]
-    pub fn frame(&self) -> Option<Frame>
+    pub(crate) fn frame(&self) -> Option<Frame>
         ensures { (f : FrameValue) (w b c : List Bus) → Gathers self.now w → Spells f b c w → result ≡ Some f }
     {
         let data = self.data_bytes();

@@ -20,28 +20,28 @@ impl Gathered {
     ghost use Rattle.can_bits.specs.Inside.Gathering.{Gathers};
 
     /// The segment of the next level.
-    pub fn next_segment(&self) -> Segment
+    pub(crate) fn next_segment(&self) -> Segment
         ensures { (w : List Bus) → Gathers self.now w → result ≡ segment_at w (length w) }
     {
         segment_of(self.ext(), self.mark, self.place)
     }
 
     /// The segment of the last level.
-    pub fn last_segment(&self) -> Segment
+    pub(crate) fn last_segment(&self) -> Segment
         ensures { (w : List Bus) → Gathers self.now w → result ≡ segment_at w (length w - 1) }
     {
         segment_of(self.ext(), self.mark, self.place.saturating_sub(1))
     }
 
     /// Whether the next level isn't past RTR of that format.
-    pub fn is_early(&self, ext: bool) -> bool
+    pub(crate) fn is_early(&self, ext: bool) -> bool
         ensures { (w : List Bus) → Gathers self.now w → result ≡ nat_le (length w) (rtr_place ext) }
     {
         self.place <= rtr_place(ext)
     }
 
     /// The place code of the next level.
-    pub fn place_code(&self, ext: bool) -> Option<u8>
+    pub(crate) fn place_code(&self, ext: bool) -> Option<u8>
         ensures { (w : List Bus) → Gathers self.now w
             → result ≡ (if nat_lt 0 (length w) && nat_le (length w) (rtr_place ext) then Some (length w - 1)
             else None) }
@@ -55,7 +55,7 @@ impl Gathered {
 
     /// The next level of the body that a transmitter sends, or of its CRC sequence, where its body is given packed.
     #[inline(always)]
-    pub fn next_of(&self, body: &SentBody) -> Level
+    pub(crate) fn next_of(&self, body: &SentBody) -> Level
         ensures { (f : FrameValue) (w c t : List Bus) (x : Bus) → IsSentBody body.now f → Gathers self.now w
             → Crc (sent_body f) c
             → sent_body f ++ c ≡ w ++ x ∷ t → result ≡ x }
