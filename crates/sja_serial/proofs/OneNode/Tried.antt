@@ -18,7 +18,7 @@ use Rattle.sja_plan.specs.Plan.{PlanValue, steps_at}
 use Rattle.sja_script.specs.declared.step.Step.{Step}
 use Rattle.sja_regs.specs.declared.registers.Registers.{Registers}
 use Rattle.sja_driver.specs.declared.logged_driver.LoggedDriver.{LoggedDriver}
-use Rattle.sja_driver.specs.Carried.{Tells, ported}
+use Rattle.sja_driver.specs.Carried.{Tells, carried, ported}
 use Rattle.sja_driver.specs.Deeds.{Deed, deeds_at, is_active}
 use Rattle.sja_driver.specs.Holding.{place_after, NumberedFrom as NumberedAt}
 use Rattle.sja_driver.specs.LoggedDrivers.{node_of, log_of, ended_of, IsLawful, Steps}
@@ -105,6 +105,11 @@ module _ (plan : PlanValue) (r n : SerialValue) (deeds : List (List Deed)) (node
         step = λ x. s.step_is ∙ is ∙ get_or_default (steps_at plan node) (length ds) one x left;
         tells = λ x. subst (λ (g : Registers). Tells d.step (is_active ds) g (seen_now (is_active ds) j ds) d.answer)
             (sym (port x)) s.tells;
+        fits = s.fits;
+        sees = s.sees;
+        gave = λ x. s.gave ∙ ap (λ (g : Registers). carried g d.step d.answer) (sym (port x));
+        journal = s.entered;
+        others = λ m less differ. other m was p differ less;
         ports = λ x. ports_are ∙ ap (λ (g : Registers). slice_set r.ports node g)
             (s.left_port ∙ ap (λ (g : Registers). ported g d.step d.answer) (sym (port x)));
       }

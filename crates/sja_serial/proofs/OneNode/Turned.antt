@@ -17,8 +17,8 @@ use Rattle.sja_regs.specs.declared.registers.Registers.{Registers}
 use Rattle.sja_script.specs.declared.step.Step.{Step}
 use Rattle.sja_driver.specs.declared.logged_driver.LoggedDriver.{LoggedDriver}
 use Rattle.sja_driver.specs.Acting.{Acts}
-use Rattle.sja_driver.specs.Carried.{Tells, ported}
-use Rattle.sja_driver.specs.Deeds.{Deed, opens_by, opened_by, is_active}
+use Rattle.sja_driver.specs.Carried.{Tells, carried, ported}
+use Rattle.sja_driver.specs.Deeds.{Deed, opens_by, opened_by, is_active, FitsState}
 use Rattle.sja_driver.specs.Holding.{HoldsBy, place_after}
 use Rattle.sja_driver.specs.LoggedDrivers.{node_of, driver_of, log_of, ended_of, IsLawful, Steps}
 use Rattle.sja_driver.specs.Logs.{HasRoom, Traces, deeds_by}
@@ -27,6 +27,7 @@ use Rattle.sja_driver.specs.Tries.Tried.{Unmet, Answered, Released, Ended}
 use Rattle.sja_log.specs.InTime.{IsInTime}
 use Rattle.sja_log.specs.Registering.{LeadTo, seen_now}
 use Rattle.sja_log.specs.Registering.LeadTo.{step}
+use Rattle.sja_log.specs.Windows.{SeesIf}
 use Rattle.sja_log.proofs.Trace.Stepping.{given_taken}
 use Rattle.sja_serial.specs.Asking.{IsAsked}
 use Rattle.sja_serial.specs.Counted.{IsCounted}
@@ -69,6 +70,10 @@ module _ (version : ℕ) (steps : List Step) (j k : List Entry) (deeds : List De
     pub bits : deed.bits ≡ (place_of j).bits
     pub step_is : deed.step ≡ one
     pub tells : Tells deed.step (is_active deeds) p (seen_now (is_active deeds) j deeds) deed.answer
+    pub fits : FitsState (is_active deeds) (opened_by deeds) deed.step deed.answer
+    pub sees : SeesIf (is_active deeds) j deeds deed
+    pub gave : deed.gave ≡ carried p deed.step deed.answer
+    pub entered : k ≡ j ++ entries_of_items deed.gave
     pub left_port : q ≡ ported p deed.step deed.answer
     pub node : IsNode version steps k (deeds ++ deed ∷ []) now q after base
     -- where nothing was taken the port shows what it has shown
@@ -94,6 +99,10 @@ module _ (version : ℕ) (steps : List Step) (j k : List Entry) (deeds : List De
         bits = next.now;
         step_is = c.step_is;
         tells = next.tells;
+        fits = next.fits;
+        sees = next.sees;
+        gave = next.gave;
+        entered = entered;
         left_port = next.left;
         node = record {
           traced = record {
