@@ -11,8 +11,8 @@ use Rattle.sja_log.specs.Registering.{seen_now}
 use Rattle.sja_log.specs.Windows.{SeesIf}
 use Rattle.sja_serial.specs.Serial.{SerialValue, NodeDoes, CannotStep}
 
--- the driver of a node did the next step of its plan: one deed more, answered by its driver's state, by the registers of
--- its port as they were and by what is seen of the messages. It gave what the step gives by those registers, which was
+-- the driver of a node did the next step of its plan: one deed more, answered by its state, by the registers of its
+-- port as they were and by what is seen of the messages. It gave what the step gives by those registers, which was
 -- taken at once: the node's journal has just these items more, and each other journal is as it was. The port is as the
 -- step leaves it, and each other port as it was
 pub record DoesNext (plan : PlanValue) (was now : SerialValue) (node : ℕ) (deeds : List (List Deed)) : Type 0 where

@@ -14,8 +14,8 @@ use Rattle.sja_script.specs.declared.done.Done.{Done}
 use Rattle.sja_script.specs.declared.step.Step.{Step}
 use Rattle.sja_script.specs.declared.step_answer.StepAnswer.{StepAnswer}
 use Rattle.sja_driver.specs.declared.logged_driver.LoggedDriver.{LoggedDriver}
-use Rattle.sja_driver.specs.Carried.{Tells, ported}
-use Rattle.sja_driver.specs.Deeds.{Deed, deeds_at, is_active, done_of}
+use Rattle.sja_driver.specs.Carried.{Tells, carried, ported}
+use Rattle.sja_driver.specs.Deeds.{Deed, deeds_at, opened_by, is_active, FitsState, done_of}
 use Rattle.sja_driver.specs.LoggedDrivers.{log_of}
 use Rattle.sja_driver.specs.Logs.{done_in}
 use Rattle.sja_log.specs.Registering.{seen_now}
@@ -146,6 +146,13 @@ module _ (plan : PlanValue) (was now : SerialValue) (turns : List Turn) (deeds :
           (subst (λ (a : StepAnswer). Tells d.step (is_active (deeds_at deeds node)) (slice_index_or was.ports node p)
           (seen_now (is_active (deeds_at deeds node)) (journal_at was.bus.journals node) (deeds_at deeds node)) a)
           same (t.tells p));
+      fits = let active = is_active (deeds_at deeds node) in let opened = opened_by (deeds_at deeds node) in
+          subst (λ (s : Step). FitsState active opened s answer) step_is
+          (subst (λ (a : StepAnswer). FitsState active opened d.step a) same t.fits);
+      sees = t.sees;
+      gave = λ p. t.gave p ∙ (λ i. carried (slice_index_or was.ports node p) (step_is i) (same i));
+      journal = t.journal;
+      others = λ m less differ. t.others m (let n = nodes_same in omega (arith, n, less)) differ;
       ports = λ p. t.ports p
           ∙ (λ i. slice_set was.ports node (ported (slice_index_or was.ports node p) (step_is i) (same i)));
       at = at_it;

@@ -1,9 +1,30 @@
 -- Bits that a session runs (this project's own rule).
-use Rattle.std.specs.Prelude.{◌≡◌, ◌≤◌, ◌⊎◌, ℕ, List}
+use Rattle.std.specs.Prelude.{◌≡◌, ◌<◌, ◌≤◌, ◌⊎◌, ℕ, List}
+use Rattle.sja_plan.specs.declared.turn.Turn.TheVariants.{Bus}
 use Rattle.sja_driver.specs.Deeds.{Deed}
 use Rattle.sja_serial.specs.Bits.{TakesBits}
 use Rattle.sja_session.specs.Sessions.{SessionValue, IsAt, written}
+use Rattle.sja_session.specs.Stepping.{HasTurn, LacksTurn}
 use Rattle.sja_session.specs.Writing.{with_bits_run}
+
+-- ---- whether they may be run
+
+-- bits are due: some are asked for, and some are left; and none is
+abbrev pub AreDue : SessionValue → ℕ → Type 0
+AreDue s count = (1 ≤ count) × (s.run.bits < s.plan.bits)
+
+abbrev pub AreNotDue : SessionValue → ℕ → Type 0
+AreNotDue s count = (count < 1) ⊎ (s.plan.bits ≤ s.run.bits)
+
+-- where bits are due there is a turn for them; no bits are no turn, and none is asked for
+abbrev pub MayRun : SessionValue → ℕ → Type 0
+MayRun s count = AreNotDue s count ⊎ HasTurn s (Bus count)
+
+-- bits are due, and no turn is left for them
+abbrev pub LacksBusTurn : SessionValue → ℕ → Type 0
+LacksBusTurn s count = AreDue s count × LacksTurn s (Bus count)
+
+-- ---- what comes of it
 
 -- so many bits were run, of those that were asked for, and no step was done: all of them, or up to the last bit of the
 -- plan

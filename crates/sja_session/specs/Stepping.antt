@@ -1,15 +1,17 @@
 -- A step that a session does (this project's own rule).
-use Rattle.std.specs.Prelude.{◌≡◌, ◌<◌, ◌≤◌, ◌⊎◌, ℕ, true, false, List, [], ◌∷◌, length, reverse}
+use Rattle.std.specs.Prelude.{◌≡◌, ◌≢◌, ◌<◌, ◌≤◌, ◌⊎◌, ◌++◌, ℕ, true, false, List, [], ◌∷◌, length, reverse}
 use Rattle.std.specs.Prelude.{slice_index, slice_index_or, slice_set}
+use Rattle.sja_wire.specs.OneBit.{entries_of_items}
 use Rattle.sja_wire.specs.Wire.{journal_at}
 use Rattle.sja_plan.specs.declared.turn.Turn.{Turn}
 use Rattle.sja_plan.specs.declared.turn.Turn.TheVariants.{Node}
 use Rattle.sja_regs.specs.declared.registers.Registers.{Registers}
 use Rattle.sja_script.specs.declared.step.Step.{Step}
 use Rattle.sja_script.specs.declared.step_answer.StepAnswer.{StepAnswer}
-use Rattle.sja_driver.specs.Carried.{Tells, ported}
-use Rattle.sja_driver.specs.Deeds.{Deed, deeds_at, is_active}
+use Rattle.sja_driver.specs.Carried.{Tells, carried, ported}
+use Rattle.sja_driver.specs.Deeds.{Deed, deeds_at, opened_by, is_active, FitsState}
 use Rattle.sja_log.specs.Registering.{seen_now}
+use Rattle.sja_log.specs.Windows.{SeesIf}
 use Rattle.sja_serial.specs.Serial.{with_deeds}
 use Rattle.sja_serial.specs.Waiting.{HasToWait}
 use Rattle.sja_session.specs.declared.step_fault.StepFault.{StepFault}
@@ -46,9 +48,10 @@ IsStepFault s node TurnsUsed =
 
 -- ---- what comes of it
 
--- the step was done with this answer, after the bits that had run: by the registers of the node's port as they were and
--- by what its driver sees of the messages. No bit was run, the port is as the step leaves it, each other port as it
--- was, and the plan has the step more
+-- the step was done with this answer, after the bits that had run: by the state of the node's driver, by the registers
+-- of its port as they were and by what it sees of the messages. No bit was run. The driver gave what the step gives by
+-- those registers, and it was taken: the node's journal has just these items more, and each other journal is as it was.
+-- The port is as the step leaves it, each other port as it was, and the plan has the step more
 pub record DoesStep (was now : SessionValue) (node : ℕ) (step : Step) (answer : StepAnswer)
     (deeds : List (List Deed)) : Type 0 where
   pub deed : Deed
@@ -57,6 +60,13 @@ pub record DoesStep (was now : SessionValue) (node : ℕ) (step : Step) (answer 
   pub when : deed.bits ≡ was.run.bits
   pub tells : (p : Registers) → Tells step (is_active (deeds_at deeds node)) (slice_index_or was.run.ports node p)
       (seen_now (is_active (deeds_at deeds node)) (journal_at was.run.bus.journals node) (deeds_at deeds node)) answer
+  pub fits : FitsState (is_active (deeds_at deeds node)) (opened_by (deeds_at deeds node)) step answer
+  pub sees : SeesIf (is_active (deeds_at deeds node)) (journal_at was.run.bus.journals node) (deeds_at deeds node) deed
+  pub gave : (p : Registers) → deed.gave ≡ carried (slice_index_or was.run.ports node p) step answer
+  pub journal : journal_at now.run.bus.journals node
+      ≡ journal_at was.run.bus.journals node ++ entries_of_items deed.gave
+  pub others : (m : ℕ) → m < length was.plan.nodes → m ≢ node →
+      journal_at now.run.bus.journals m ≡ journal_at was.run.bus.journals m
   pub ports : (p : Registers) →
       now.run.ports ≡ slice_set was.run.ports node (ported (slice_index_or was.run.ports node p) step answer)
   pub at : IsAt now (with_deeds deeds node (deed ∷ []))

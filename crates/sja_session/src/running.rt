@@ -7,23 +7,22 @@ use sja_plan::Turn;
 
 impl Session {
     ghost use Rattle.std.specs.Prelude.{◌≡◌, List, IfOk, OnOk, OnErr};
-    ghost use Rattle.sja_plan.specs.declared.turn.Turn.TheVariants.{Bus};
     ghost use Rattle.sja_driver.specs.Deeds.{Deed};
-    ghost use Rattle.sja_session.specs.Running.{RunsBits};
+    ghost use Rattle.sja_session.specs.Running.{RunsBits, MayRun, LacksBusTurn};
     ghost use Rattle.sja_session.specs.Sessions.{IsAt};
-    ghost use Rattle.sja_session.specs.Stepping.{HasTurn, LacksTurn};
 
     /// Runs so many bits, or as many as the plan has left, and says how many were run.
     ///
-    /// Error: [`TurnsUsed`] where 10,000 turns were taken, and the last one isn't of the bus; nothing changed.
+    /// Error: [`TurnsUsed`] where 10,000 turns were taken, the last one isn't of the bus, and a bit is to be run: some
+    /// are asked for, and some are left. Nothing changed.
     pub fn bits(&mut self, count: u32) -> Result<u32, TurnsUsed>
         ensures bits { IfOk result (λ run. (deeds : List (List Deed)) → IsAt self.old deeds →
             RunsBits self.old self.new count run deeds) }
-        ensures may { OnOk result (HasTurn self.old (Bus count)) }
-        ensures err { OnErr result (LacksTurn self.old (Bus count)) }
+        ensures may { OnOk result (MayRun self.old count) }
+        ensures err { OnErr result (LacksBusTurn self.old count) }
         ensures kept { OnErr result (self.new ≡ self.old) }
     {
-        if !self.has_turn(Turn::Bus(count)) {
+        if self.lacks_bus_turn(count) {
             return Err(TurnsUsed);
         }
         let before = self.run.bits();
@@ -33,5 +32,19 @@ impl Session {
             push_turn(&mut self.turns, Turn::Bus(run));
         }
         Ok(run)
+    }
+}
+
+impl Session {
+    ghost use Rattle.std.specs.Prelude.{◌≡◌, true, false};
+    ghost use Rattle.sja_session.specs.Running.{MayRun, LacksBusTurn};
+
+    /// Whether so many bits are refused: a bit is to be run, and no turn is left for it.
+    fn lacks_bus_turn(&self, count: u32) -> bool
+        ensures yes { result ≡ true → LacksBusTurn self.now count }
+        ensures no { result ≡ false → MayRun self.now count }
+    {
+        let due = count >= 1 && self.run.bits() < self.plan.bits();
+        due && !self.has_turn(Turn::Bus(count))
     }
 }

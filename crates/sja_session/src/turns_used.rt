@@ -2,7 +2,8 @@
 
 use thiserror::Error;
 
-/// 10,000 turns were taken, as many as a plan has, and the last one isn't of the bus (this project's own rule).
+/// A bit is to be run, 10,000 turns were taken, as many as a plan has, and the last one isn't of the bus (this
+/// project's own rule).
 #[derive(Clone, Copy, Debug, PartialEq, Eq, Error)]
 #[error("all turns are used")]
 pub struct TurnsUsed;

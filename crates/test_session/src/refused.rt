@@ -73,25 +73,40 @@ fn a_session_has_10000_turns(rt: HostRuntime) -> Result<(), Fail> {
     Ok(())
 }
 
-/// The same with steps last: they go on, and no bit is run.
+/// The same with steps last: they go on, and no bit is run. No bits ask for no turn.
 #[test]
 fn bits_need_a_turn(rt: HostRuntime) -> Result<(), Fail> {
     let mut session = Session::new(rt.alloc(), 1, 10_000, 8)?;
-    assert!(rt; session.bits(1) == Ok(1));
-    for node in 0..5 {
-        for _ in 0..999 {
-            assert!(rt; reads(&mut session, node) && session.bits(1) == Ok(1));
-        }
-    }
-    // 9,991 turns are taken
-    for _ in 0..4 {
-        assert!(rt; reads(&mut session, 6) && session.bits(1) == Ok(1));
-    }
-    assert!(rt; reads(&mut session, 7));
+    assert!(rt; ends_with_a_node(&mut session));
     assert!(rt; session.bits(1) == Err(TurnsUsed));
-    assert!(rt; session.bits(0) == Err(TurnsUsed));
+    assert!(rt; session.bits(0) == Ok(0));
     assert!(rt; session.step(6, Step::Read(2)) == Err(StepFault::TurnsUsed));
     assert!(rt; reads(&mut session, 7));
     assert!(rt; session.now() == 5000);
     Ok(())
+}
+
+/// Where all bits are run no turn is asked for either: there is no bit for it.
+#[test]
+fn spent_bits_need_no_turn(rt: HostRuntime) -> Result<(), Fail> {
+    let mut session = Session::new(rt.alloc(), 1, 5000, 8)?;
+    assert!(rt; ends_with_a_node(&mut session));
+    assert!(rt; session.bits(5) == Ok(0));
+    assert!(rt; session.now() == 5000);
+    Ok(())
+}
+
+/// Takes 10,000 turns with 5,000 bits, the last one of node 7. It says whether each call did what it should.
+fn ends_with_a_node(session: &mut Session) -> bool {
+    let mut right = session.bits(1) == Ok(1);
+    for node in 0..5 {
+        for _ in 0..999 {
+            right = right && reads(session, node) && session.bits(1) == Ok(1);
+        }
+    }
+    // 9,991 turns are taken
+    for _ in 0..4 {
+        right = right && reads(session, 6) && session.bits(1) == Ok(1);
+    }
+    right && reads(session, 7)
 }

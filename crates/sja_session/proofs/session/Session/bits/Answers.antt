@@ -5,11 +5,11 @@ use Rattle.sja_plan.specs.declared.turn.Turn.TheVariants.{Bus}
 use Rattle.sja_driver.specs.Deeds.{Deed}
 use Rattle.sja_serial.specs.Bits.{TakesBusTurn}
 use Rattle.sja_serial.proofs.WholeRun.GoingOn.{bits_run}
-use Rattle.sja_session.specs.Running.{RunsBits}
+use Rattle.sja_session.specs.Running.{RunsBits, MayRun}
 use Rattle.sja_session.specs.Sessions.{SessionValue, session_of, IsAt, AreNamed}
 use Rattle.sja_session.specs.Stepping.{HasTurn}
 use Rattle.sja_session.specs.Turning.{with_turn}
-use Rattle.sja_session.proofs.BitsRun.{at_some, at_none, runs_some, runs_none}
+use Rattle.sja_session.proofs.BitsRun.{many, at_some, at_none, runs_some, runs_none}
 use Rattle.sja_session.proofs.Turned.{few_turns, named_turns, bits_go_on}
 use Rattle.sja_session.proofs.Within.{bits_few, last_few}
 use Rattle.sja_session.proofs.session.Session.bits.Goals.{After-bits}
@@ -29,14 +29,9 @@ turn : (c : After-bits) (deeds : List (List Deed)) → IsAt (was c) deeds →
     TakesBusTurn c.self.inside.plan deeds c.self.inside.run c.bus_turn.new.self c.args.count c.bus_turn.result
 turn c deeds h = c.bus_turn.ensures.turn deeds h.stands
 
--- a turn is left for these bits too
-left : (c : After-bits) → HasTurn (was c) (Bus (run c))
-left c = by (subst (λ (s : SessionValue). HasTurn s (Bus c.args.count)) (sym c.self.view_is)
-    (c.has_turn.ensures.yes (search rules)))
-  where
-    by : HasTurn (was c) (Bus c.args.count) → HasTurn (was c) (Bus (run c))
-    by (inl less) = inl less
-    by (inr on) = inr (bits_go_on (reverse c.self.inside.turns.items) (run c) c.args.count ∙ on)
+may : (c : After-bits) → MayRun (was c) c.args.count
+may c = subst (λ (s : SessionValue). MayRun s c.args.count) (sym c.self.view_is)
+    (c.lacks_bus_turn.ensures.no (search rules))
 
 some_at : (c : After-bits) (deeds : List (List Deed)) → IsAt (was c) deeds →
     IsAt (session_of c.bus_turn.new.self c.self.inside.plan (with_turn c.self.inside.turns.items (Bus (run c)))) deeds
@@ -48,6 +43,24 @@ some_run : (c : After-bits) (deeds : List (List Deed)) → IsAt (was c) deeds �
     c.args.count (run c) deeds
 some_run c deeds h some = runs_some c.self.inside.plan c.self.inside.run c.bus_turn.new.self c.self.inside.turns.items
     deeds c.args.count (run c) c.bus_turn.result h (turn c deeds h) (run_is c) some
+
+-- where some were run they were due, and so a turn is left for them
+left : (c : After-bits) → 0 < run c → HasTurn (was c) (Bus (run c))
+left c some = by (may c)
+  where
+    by : MayRun (was c) c.args.count → HasTurn (was c) (Bus (run c))
+    by (inl (inl none)) =
+        let inv = c.self.invariant in let m = (some_run c inv.deeds inv.at some).most in
+        absurd (omega (arith, none, some, m))
+    by (inl (inr over)) =
+        let inv = c.self.invariant in
+        let e = many c.self.inside.plan c.self.inside.run c.bus_turn.new.self c.self.inside.turns.items inv.deeds
+        c.args.count (run c) c.bus_turn.result inv.at (turn c inv.deeds inv.at) (run_is c) in
+        let b = bits_few (session_of c.bus_turn.new.self c.self.inside.plan
+        (with_turn c.self.inside.turns.items (Bus (run c)))) inv.deeds (some_at c inv.deeds inv.at) inv.bits
+        inv.places in absurd (omega (arith, over, some, e, b))
+    by (inr (inl less)) = inl less
+    by (inr (inr on)) = inr (bits_go_on (reverse c.self.inside.turns.items) (run c) c.args.count ∙ on)
 
 none_at : (c : After-bits) (deeds : List (List Deed)) → IsAt (was c) deeds → run c ≡ 0 →
     IsAt (session_of c.bus_turn.new.self c.self.inside.plan c.self.inside.turns.items) deeds
@@ -84,7 +97,8 @@ invariant_of-self c =
       places = inv.places;
       room = let r = inv.room in let p = c.push_turn.ensures.capacity in omega (arith, r, p);
       few = subst (λ (l : List Turn). length l ≤ 10000) items
-          (few_turns (Bus (run at)) c.self.inside.turns.items (left at) inv.few);
+          (few_turns (Bus (run at)) c.self.inside.turns.items (left at (let s = c.if-run-gt0.true in omega (arith, s)))
+          inv.few);
       names = subst (λ (l : List Turn). AreNamed (length c.self.inside.plan.nodes) (reverse l)) items
           (named_turns (length c.self.inside.plan.nodes) (Bus (run at)) c.self.inside.turns.items tt inv.names);
     }

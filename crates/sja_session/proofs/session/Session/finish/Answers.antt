@@ -1,10 +1,10 @@
 use Rattle.std.proofs.Common.{◌∙◌, sym, ap, subst}
 use Rattle.sja_plan.specs.Plan.{PlanValue}
 use Rattle.sja_log.specs.declared.end.End.TheVariants.{Turns as TurnsDone}
-use Rattle.sja_serial.specs.Ending.{TakesTurns}
+use Rattle.sja_serial.specs.Ending.{TakesTurns, IsLogOf}
 use Rattle.sja_serial.specs.Serial.{StandsAt}
 use Rattle.sja_serial.proofs.WholeRun.Whole.{serial_of}
-use Rattle.sja_session.specs.Sessions.{session_of, written}
+use Rattle.sja_session.specs.Sessions.{SessionValue, session_of, IsAt, written}
 use Rattle.sja_session.proofs.Finished.{all_taken}
 use Rattle.sja_session.proofs.Plans.{stands_written}
 use Rattle.sja_session.proofs.session.Session.finish.Goals as goal
@@ -19,6 +19,16 @@ finish-requires c =
             (sym (c.in_ok-plan.ensures ∙ ap written (sym c.self.view_is))) (stands_written s inv.deeds inv.at.stands),
       );
     }
+
+pub returns-clause-own : goal.returns-clause-own
+returns-clause-own c = λ deeds h.
+    let b = c.self.inside in let plan = c.in_ok-plan.plan in
+    let s = session_of b.run b.plan b.turns.items in
+    let at = subst (λ (x : SessionValue). IsAt x deeds) (sym c.self.view_is) h in
+    let stands = subst (λ (p : PlanValue). StandsAt p b.run deeds)
+    (sym (c.in_ok-plan.ensures ∙ ap written (sym c.self.view_is))) (stands_written s deeds at.stands) in
+    subst (λ (x : SessionValue). IsLogOf plan x.run deeds TurnsDone c.in_ok-log.log) c.self.view_is
+    (c.in_ok-log.ensures.log deeds stands)
 
 pub returns-clause-headline : goal.returns-clause-headline
 returns-clause-headline c = λ k d less.
