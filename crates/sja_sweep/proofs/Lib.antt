@@ -2,7 +2,8 @@ pub mod Ranges
 pub mod Searches
 pub mod Texts
 pub mod Entries
+pub mod Gathers
 pub mod SpanLemmas
+pub mod TrialLemmas
 pub mod TriedLemmas
-pub mod TargetLemmas
-pub mod Faults
+pub mod JobLemmas

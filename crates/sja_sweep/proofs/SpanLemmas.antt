@@ -1,9 +1,7 @@
 -- Runs of bits, one strike after another.
 use Rattle.std.proofs.Common.{◌≡◌, ℕ, ◌+◌, Bool, true, false, cond, ◌&&◌, List, [], ◌∷◌, ◌++◌}
 use Rattle.std.proofs.Common.{refl, sym, ap, ap₂, ◌∙◌, append-nil, append_assoc}
-use Rattle.std.specs.Prelude.{◌==◌}
 use Rattle.std.specs.Str.{bytes_eq}
-use Rattle.std.proofs.lemmas.Bool.{eqb-true}
 use Rattle.std.proofs.lemmas.Slice.Eq.{bytes_eq-Decides}
 use Rattle.lemmas.specs.Gathering.{gathered}
 use Rattle.std.proofs.Common.{◌<◌, length, map, drop, get_or}
@@ -11,33 +9,25 @@ use Rattle.std.proofs.lemmas.List.{drop_more}
 use Rattle.sja_sweep.specs.declared.told.Told.{Told}
 use Rattle.sja_sweep.specs.Inside.Reaching.{told_value}
 use Rattle.sja_sweep.specs.Outcome.{Outcome}
-use Rattle.sja_sweep.specs.Spans.{SpanValue, span_of, goes_on, joined, before_all, spans}
+use Rattle.sja_sweep.specs.Spans.{SpanValue, is_next, are_next, span_of, goes_on, joined, before_all, spans}
 
--- three tests that hold together
-first_holds : (x y z : Bool) → ((x && y) && z) ≡ true → x ≡ true
-first_holds true y z h = refl
-first_holds false y z h = h
+-- the last one of two tests that hold together
+last_holds : (x z : Bool) → (x && z) ≡ true → z ≡ true
+last_holds true z h = h
+last_holds false z h = cc
 
-last_holds : (x y z : Bool) → ((x && y) && z) ≡ true → z ≡ true
-last_holds true true z h = h
-last_holds true false z h = cc
-last_holds false y z h = cc
-
--- where one goes on in another, both have one node and one outcome
-same_node : (a b : SpanValue) → goes_on a b ≡ true → a.node ≡ b.node
-same_node a b h =
-    eqb-true a.node b.node (first_holds (a.node == b.node) (a.last + 1 == b.first) (bytes_eq a.words b.words) h)
-
+-- where one goes on in another, both have one outcome
 same_words : (a b : SpanValue) → goes_on a b ≡ true → a.words ≡ b.words
 same_words a b h =
     (bytes_eq-Decides a.words b.words).0
-    (last_holds (a.node == b.node) (a.last + 1 == b.first) (bytes_eq a.words b.words) h)
+    (last_holds (is_next a.last.first b.first.first && are_next a.last.second b.first.second)
+    (bytes_eq a.words b.words) h)
 
 -- whether one goes on in two that are joined is whether it goes on in the first of them
 joined_front : (o a b : SpanValue) → goes_on a b ≡ true → goes_on o (joined a b) ≡ goes_on o a
 joined_front o a b h =
-    ap₂ (λ k w. ((o.node == k) && (o.last + 1 == a.first)) && bytes_eq o.words w)
-    (sym (same_node a b h)) (sym (same_words a b h))
+    ap (λ w. (is_next o.last.first a.first.first && are_next o.last.second a.first.second) && bytes_eq o.words w)
+    (sym (same_words a b h))
 
 -- one that goes on in the next, before all others
 before_joined : (o n : SpanValue) (ss : List SpanValue) → goes_on o n ≡ true →

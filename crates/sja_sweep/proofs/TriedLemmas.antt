@@ -6,15 +6,15 @@ use Rattle.sja_sweep.specs.declared.told.Told.{Told}
 use Rattle.sja_sweep.specs.declared.sweeping.Sweeping.{Sweeping}
 use Rattle.sja_sweep.specs.SweepText.{sweep_text, sweep_rows}
 use Rattle.sja_sweep.specs.Sweeps.{strikes_tried, IsSweep}
-use Rattle.sja_sweep.specs.Inside.Reaching.{told_value, NamesNodeBelow}
+use Rattle.sja_sweep.specs.Inside.Reaching.{told_value}
 use Rattle.std.specs.List.{AllZip}
 use Rattle.sja_plan.specs.Plan.{PlanValue}
-use Rattle.sja_plan.specs.Struck.{struck_at}
 use Rattle.sja_log.specs.Log.{RunValue}
 use Rattle.sja_log.specs.Runs.{IsSerialRun}
-use Rattle.sja_sweep.specs.declared.target.Target.{Target}
+use Rattle.sja_sweep.specs.declared.trial.Trial.{Trial}
+use Rattle.sja_sweep.specs.Targets.{struck_by}
 use Rattle.sja_sweep.specs.Outcome.{Outcome, outcome_of, outcomes_of}
-use Rattle.sja_sweep.specs.Inside.Tried.{IsTried, AreTried}
+use Rattle.sja_sweep.specs.Inside.Tried.{IsTried, AreTried, IsBegun}
 
 -- one more at the end of each list
 pub zip_push : {A B : Type 0} (R : A → B → Type 0) (xs : List A) (ys : List B) (x : A) (y : B) → AllZip R xs ys →
@@ -25,12 +25,12 @@ zip_push R (a ∷ xs) [] x y all here = absurd all
 zip_push R (a ∷ xs) (b ∷ ys) x y all here = (all.0, zip_push R xs ys x y all.1 here)
 
 -- the logs of strikes that were tried
-pub record HaveLogs (plan : PlanValue) (planned : RunValue) (ts : List Target) (os : List Outcome) : Type 0 where
+pub record HaveLogs (plan : PlanValue) (planned : RunValue) (ts : List Trial) (os : List Outcome) : Type 0 where
   pub logs : List RunValue
-  pub runs : AllZip (λ (t : Target) (log : RunValue). IsSerialRun (struck_at plan t.node t.bit) log) ts logs
+  pub runs : AllZip (λ (t : Trial) (log : RunValue). IsSerialRun (struck_by plan t) log) ts logs
   pub outcomes : os ≡ outcomes_of planned ts logs
 
-pub have_logs : (plan : PlanValue) (planned : RunValue) (ts : List Target) (os : List Outcome) →
+pub have_logs : (plan : PlanValue) (planned : RunValue) (ts : List Trial) (os : List Outcome) →
     AreTried plan planned ts os → HaveLogs plan planned ts os
 have_logs plan planned [] [] all = record { logs = []; runs = tt; outcomes = refl }
 have_logs plan planned [] (o ∷ os) all = absurd all
@@ -43,8 +43,8 @@ have_logs plan planned (t ∷ ts) (o ∷ os) all =
     }
 
 -- one more strike was tried
-pub tried_more : (plan : PlanValue) (planned : RunValue) (targets : List Target) (old new : List Told) (i : ℕ)
-    (d : Target) (told : Told) → i < length targets → new ≡ old ++ told ∷ [] →
+pub tried_more : (plan : PlanValue) (planned : RunValue) (targets : List Trial) (old new : List Told) (i : ℕ)
+    (d : Trial) (told : Told) → i < length targets → new ≡ old ++ told ∷ [] →
     AreTried plan planned (take i targets) (map told_value old) →
     IsTried plan planned (get_or targets i d) (told_value told) →
     AreTried plan planned (take (i + 1) targets) (map told_value new)
@@ -53,28 +53,46 @@ tried_more plan planned targets old new i d told less pushed so_far one =
     let ts : take (i + 1) targets ≡ take i targets ++ item ∷ [] = take_more targets i d less in
     let os : map told_value new ≡ map told_value old ++ told_value told ∷ [] =
     ap (map told_value) pushed ∙ map-append told_value old (told ∷ []) in
-    let P : List Target → Type 0 = λ l. AreTried plan planned l (map told_value new) in
+    let P : List Trial → Type 0 = λ l. AreTried plan planned l (map told_value new) in
     let Q : List Outcome → Type 0 = λ l. AreTried plan planned (take i targets ++ item ∷ []) l in
     subst P (sym ts) (subst Q (sym os)
     (zip_push (IsTried plan planned) (take i targets) (map told_value old) item (told_value told) so_far one))
 
--- a sweep whose strikes were tried, and whose texts tell their outcomes
-pub sweep_is : (plan : PlanValue) (s : Sweeping) (planned : RunValue) (targets : List Target) (outcomes : List Outcome)
-    (text rows : List ℕ) → IsSerialRun plan planned → targets ≡ strikes_tried plan s planned →
-    AreTried plan planned targets outcomes → text ≡ sweep_text s.changed planned outcomes → rows ≡ sweep_rows outcomes →
-    (s.meant ≡ false → (length targets ≤ 20000) × (length targets * plan.bits ≤ 2000000000)) →
-    NamesNodeBelow s (length plan.nodes) → IsSweep plan s text rows
-sweep_is plan s planned targets outcomes text rows run is tried text_is rows_are few node =
-    let P : List Target → Type 0 = λ ts. AreTried plan planned ts outcomes in
-    let Few : List Target → Type 0 = λ ts.
+-- the trials of two parts, one after the other
+zip_append : {A B : Type 0} (R : A → B → Type 0) (xs xs' : List A) (ys ys' : List B) → AllZip R xs ys →
+    AllZip R xs' ys' → AllZip R (xs ++ xs') (ys ++ ys')
+zip_append R [] xs' [] ys' all rest = rest
+zip_append R [] xs' (b ∷ ys) ys' all rest = absurd all
+zip_append R (a ∷ xs) xs' [] ys' all rest = absurd all
+zip_append R (a ∷ xs) xs' (b ∷ ys) ys' all rest = (all.0, zip_append R xs xs' ys ys' all.1 rest)
+
+pub tried_both : (plan : PlanValue) (planned : RunValue) (ts part whole : List Trial) (old tolds new : List Told) →
+    whole ≡ ts ++ part → new ≡ old ++ tolds → AreTried plan planned ts (map told_value old) →
+    AreTried plan planned part (map told_value tolds) → AreTried plan planned whole (map told_value new)
+tried_both plan planned ts part whole old tolds new both added so_far more =
+    let os : map told_value new ≡ map told_value old ++ map told_value tolds =
+    ap (map told_value) added ∙ map-append told_value old tolds in
+    let P : List Trial → Type 0 = λ l. AreTried plan planned l (map told_value new) in
+    let Q : List Outcome → Type 0 = λ l. AreTried plan planned (ts ++ part) l in
+    subst P (sym both) (subst Q (sym os)
+    (zip_append (IsTried plan planned) ts part (map told_value old) (map told_value tolds) so_far more))
+
+-- a sweep whose trials were made, and whose texts tell their outcomes
+pub sweep_is : (plan : PlanValue) (s : Sweeping) (planned : RunValue) (trials : List Trial) (outcomes : List Outcome)
+    (text rows : List ℕ) → IsBegun plan s planned trials → AreTried plan planned trials outcomes →
+    text ≡ sweep_text s.changed planned outcomes → rows ≡ sweep_rows outcomes → IsSweep plan s text rows
+sweep_is plan s planned trials outcomes text rows begun tried text_is rows_are =
+    let P : List Trial → Type 0 = λ ts. AreTried plan planned ts outcomes in
+    let Few : List Trial → Type 0 = λ ts.
     s.meant ≡ false → (length ts ≤ 20000) × (length ts * plan.bits ≤ 2000000000) in
-    let found = have_logs plan planned (strikes_tried plan s planned) outcomes (subst P is tried) in record {
+    let found = have_logs plan planned (strikes_tried plan s planned) outcomes (subst P begun.trials_are tried) in
+    record {
       planned = planned;
       logs = found.logs;
-      as_planned = run;
+      as_planned = begun.as_planned;
       as_struck = found.runs;
       text_is = text_is ∙ ap (sweep_text s.changed planned) found.outcomes;
       rows_are = rows_are ∙ ap sweep_rows found.outcomes;
-      few = subst Few is few;
-      node = node;
+      few = subst Few begun.trials_are begun.few;
+      node = begun.node;
     }

@@ -1,35 +1,47 @@
--- Runs of successive bits of one node with one outcome (this project's own rule).
-use Rattle.std.specs.Prelude.{◌+◌, ◌==◌, ◌&&◌, ℕ, Bool, if◌then◌else◌, Option, List, [], ◌∷◌}
+-- Runs of successive bits of one node, or of two, with one outcome (this project's own rule).
+use Rattle.std.specs.Prelude.{◌+◌, ◌==◌, ◌&&◌, ℕ, Bool, true, false, if◌then◌else◌, Option, Some, None, List, [], ◌∷◌}
 use Rattle.std.specs.Str.{bytes_eq}
 use Rattle.sja_sweep.specs.declared.parting.Parting.{Parting}
+use Rattle.sja_sweep.specs.declared.target.Target.{Target}
+use Rattle.sja_sweep.specs.declared.trial.Trial.{Trial}
 use Rattle.sja_sweep.specs.Outcome.{Outcome}
 
--- a node, the first and the last of the bits in which it's struck, where the first and the last of their runs part from
--- the one without a strike, and the outcome of each
+-- the first and the last of the trials, where the first and the last of their runs part from the one as planned, and
+-- the outcome of each
 pub record SpanValue : Type 0 where
-  pub node : ℕ
-  pub first : ℕ
-  pub last : ℕ
+  pub first : Trial
+  pub last : Trial
   pub from : Option Parting
   pub to : Option Parting
   pub words : List ℕ
   pub changed : Bool
 
--- one strike alone
+-- one trial alone
 abbrev pub span_of : Outcome → SpanValue
 span_of o = record {
-  node = o.target.node;
-  first = o.target.bit;
-  last = o.target.bit;
+  first = o.trial;
+  last = o.trial;
   from = o.parting;
   to = o.parting;
   words = o.words;
   changed = o.changed;
 }
 
--- whether one goes on in another: the same node, the next bit, and the same outcome
+-- whether a strike is of the same node as another one, in the next bit
+abbrev pub is_next : Target → Target → Bool
+is_next t u = (t.node == u.node) && (t.bit + 1 == u.bit)
+
+-- the same of the second strikes of two runs, where there are some
+abbrev pub are_next : Option Target → Option Target → Bool
+are_next None None = true
+are_next None (Some u) = false
+are_next (Some t) None = false
+are_next (Some t) (Some u) = is_next t u
+
+-- whether one goes on in another: the same nodes, the next bits, and the same outcome
 abbrev pub goes_on : SpanValue → SpanValue → Bool
-goes_on a b = (a.node == b.node) && (a.last + 1 == b.first) && bytes_eq a.words b.words
+goes_on a b =
+    (is_next a.last.first b.first.first && are_next a.last.second b.first.second) && bytes_eq a.words b.words
 
 -- both as one
 abbrev pub joined : SpanValue → SpanValue → SpanValue

@@ -6,6 +6,8 @@ use Rattle.lemmas.specs.Gathering.{gathered, total}
 use Rattle.sja_log.specs.Log.{ActivationValue, NodeValue, RunValue}
 use Rattle.sja_log.specs.EndWord.{end_word}
 use Rattle.sja_sweep.specs.declared.parting.Parting.{Parting}
+use Rattle.sja_sweep.specs.declared.target.Target.{Target}
+use Rattle.sja_sweep.specs.declared.trial.Trial.{Trial}
 use Rattle.sja_sweep.specs.Nodes.{node_at, activation_at}
 use Rattle.sja_sweep.specs.Outcome.{Outcome, counters}
 use Rattle.sja_sweep.specs.Spans.{SpanValue, spans}
@@ -53,12 +55,23 @@ partings_words from to =
 -- the bits that are struck
 abbrev pub bits_words : ℕ → ℕ → List ℕ
 bits_words first last =
-    if first == last then codes " struck at bit " ++ decimal first
-    else codes " struck at bits " ++ (decimal first ++ (45 ∷ decimal last))
+    if first == last then codes " at bit " ++ decimal first
+    else codes " at bits " ++ (decimal first ++ (45 ∷ decimal last))
+
+-- the second node of a pair, and its bits
+abbrev pub second_words : Option Target → Option Target → List ℕ
+second_words None u = []
+second_words (Some t) None = []
+second_words (Some t) (Some u) = (codes ", node " ++ decimal t.node) ++ bits_words t.bit u.bit
+
+-- the nodes and bits that are struck, from the first trial to the last one
+abbrev pub struck_words : Trial → Trial → List ℕ
+struck_words t u =
+    (codes "node " ++ (decimal t.first.node ++ codes " struck")) ++ bits_words t.first.bit u.first.bit
+    ++ second_words t.second u.second
 
 abbrev pub span_line : SpanValue → List ℕ
-span_line s =
-    (codes "node " ++ decimal s.node) ++ bits_words s.first s.last ++ partings_words s.from s.to ++ s.words ++ 10 ∷ []
+span_line s = struck_words s.first s.last ++ partings_words s.from s.to ++ s.words ++ 10 ∷ []
 
 -- the line, unless it is as without a strike and lines with another outcome alone are asked for
 abbrev pub shown_line : Bool → SpanValue → List ℕ
@@ -80,15 +93,27 @@ last_line os =
 abbrev pub sweep_text : Bool → RunValue → List Outcome → List ℕ
 sweep_text changed planned os = planned_line planned ++ gathered (shown_line changed) (spans os) ++ last_line os
 
--- a row: the node, the bit, whether the outcome is another one, where the run parts, and the outcome
+-- a row: the node, the bit, of a pair the second ones too, whether the outcome is another one, where the run parts,
+-- and the outcome
 abbrev pub kind_word : Bool → List ℕ
 kind_word true = codes "other"
 kind_word false = codes "same"
 
+-- a node and a bit
+abbrev pub target_row : Target → List ℕ
+target_row t = decimal t.node ++ (32 ∷ (decimal t.bit ++ 32 ∷ []))
+
+-- of a pair the second node and its bit
+abbrev pub second_row : Option Target → List ℕ
+second_row None = []
+second_row (Some t) = target_row t
+
+abbrev pub row_beginning : Trial → Bool → List ℕ
+row_beginning t changed = target_row t.first ++ second_row t.second ++ kind_word changed
+
 abbrev pub row_line : Outcome → List ℕ
 row_line o =
-    (decimal o.target.node ++ (32 ∷ (decimal o.target.bit ++ (32 ∷ kind_word o.changed))))
-    ++ partings_words o.parting o.parting ++ o.words ++ 10 ∷ []
+    row_beginning o.trial o.changed ++ partings_words o.parting o.parting ++ o.words ++ 10 ∷ []
 
 -- a row for each run, in order
 abbrev pub sweep_rows : List Outcome → List ℕ

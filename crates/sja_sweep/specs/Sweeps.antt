@@ -1,33 +1,32 @@
 -- What is promised of a sweep (this project's own rule).
-use Rattle.std.specs.Prelude.{◌≡◌, ◌*◌, ◌<◌, ◌≤◌, ◌⊎◌, ℕ, true, false, Some, List, length}
+use Rattle.std.specs.Prelude.{◌≡◌, ◌+◌, ◌*◌, ◌<◌, ◌≤◌, ◌⊎◌, ℕ, true, false, Some, List, length}
 use Rattle.std.specs.List.{AllZip}
 use Rattle.sja_plan.specs.Plan.{PlanValue, times_in}
-use Rattle.sja_plan.specs.Struck.{struck_at}
 use Rattle.sja_log.specs.Log.{RunValue}
 use Rattle.sja_log.specs.Runs.{IsSerialRun}
 use Rattle.sja_log.specs.declared.run_fault.RunFault.TheVariants.{Memory as NoMemory}
 use Rattle.sja_sweep.specs.declared.sweeping.Sweeping.{Sweeping}
-use Rattle.sja_sweep.specs.declared.target.Target.{Target}
+use Rattle.sja_sweep.specs.declared.trial.Trial.{Trial}
 use Rattle.sja_sweep.specs.declared.sweep_fault.SweepFault.{SweepFault}
 use Rattle.sja_sweep.specs.declared.sweep_fault.SweepFault.TheVariants.{NoNode, TooMany, StrikeCount, Run, Memory}
-use Rattle.sja_sweep.specs.Targets.{targets_of}
+use Rattle.sja_sweep.specs.Targets.{trials_of, strikes_a_run, struck_by}
 use Rattle.sja_sweep.specs.Outcome.{outcomes_of}
 use Rattle.sja_sweep.specs.SweepText.{sweep_text, sweep_rows}
 
--- the strikes of a sweep of a plan whose run as planned is this one
-abbrev pub strikes_tried : PlanValue → Sweeping → RunValue → List Target
-strikes_tried plan s planned = targets_of s (length plan.nodes) planned.bits
+-- what a sweep tries of a plan whose run as planned is this one
+abbrev pub strikes_tried : PlanValue → Sweeping → RunValue → List Trial
+strikes_tried plan s planned = trials_of s (length plan.nodes) planned.bits
 
 -- so many runs of this plan are more than 20,000, or may come to more than 2,000,000,000 bits
 abbrev pub AreTooMany : PlanValue → ℕ → Type 0
 AreTooMany plan runs = (20000 < runs) ⊎ (2000000000 < runs * plan.bits)
 
--- there is a log of the plan as it is, and one of the plan with each of the strikes more, and these are the texts
+-- there is a log of the plan as it is, and one of the plan with each of what is tried, and these are the texts
 pub record IsSweep (plan : PlanValue) (s : Sweeping) (text rows : List ℕ) : Type 0 where
   pub planned : RunValue
   pub logs : List RunValue
   pub as_planned : IsSerialRun plan planned
-  pub as_struck : AllZip (λ (t : Target) (log : RunValue). IsSerialRun (struck_at plan t.node t.bit) log)
+  pub as_struck : AllZip (λ (t : Trial) (log : RunValue). IsSerialRun (struck_by plan t) log)
       (strikes_tried plan s planned) logs
   pub text_is : text ≡ sweep_text s.changed planned (outcomes_of planned (strikes_tried plan s planned) logs)
   pub rows_are : rows ≡ sweep_rows (outcomes_of planned (strikes_tried plan s planned) logs)
@@ -50,12 +49,12 @@ pub record NamesNoNode (plan : PlanValue) (s : Sweeping) : Type 0 where
   pub named : s.node ≡ Some node
   pub past : length plan.nodes ≤ node
 
--- the plan strikes as many bits as a plan may, and there is a run with one strike more to make
+-- the plan strikes so many bits that those of a run more are above the 1,000 of a plan, and there is a run to make
 pub record HasNoRoom (plan : PlanValue) (s : Sweeping) : Type 0 where
   pub planned : RunValue
   pub as_planned : IsSerialRun plan planned
   pub some : 0 < length (strikes_tried plan s planned)
-  pub full : 1000 ≤ times_in plan.strikes
+  pub full : 1000 < times_in plan.strikes + strikes_a_run s.pairs
 
 -- why there is no sweep; memory may be refused at any time, in a run too
 abbrev pub IsSweepFault : PlanValue → Sweeping → SweepFault → Type 0

@@ -1,23 +1,30 @@
 //! Sweeps: a plan's run again for each node and each bit of it, with that node struck in that bit, and what came of it.
 //!
-//! [`sweep`] runs the plan as it is, and then with one strike more, node after node and bit after bit. Its answer has
-//! two texts: one with a line for each run of successive bits that have one outcome, and one with a row a run.
+//! [`sweep`] runs the plan as it is, and then with one strike more, node after node and bit after bit, or with each two
+//! strikes that are some bits apart. [`sweep_jobs`] makes the same runs in several threads. The answer has two texts:
+//! one with a line for each run of successive bits that have one outcome, and one with a row a run.
 //! `specs/Targets.antt` says which strikes are tried, `specs/Changes.antt` what is otherwise, `specs/SweepText.antt`
 //! how the texts say it, and `specs/Sweeps.antt` what is promised of them. A [`Sweeping`] says what is asked for, and a
 //! [`SweepFault`] why there is no answer. The tests stand in `crates/test_sweep`.
 #![tactic(auto)]
 
 mod activations;
+mod asked;
+mod begun;
 mod between;
 mod counters;
+mod jobs;
 mod limits;
 mod messages;
 mod moved;
 mod nodes;
+mod pair_count;
+mod pairs;
 mod parting;
 mod parts;
 mod planned;
 mod runs;
+mod singles;
 mod span;
 mod spans;
 mod steps;
@@ -26,6 +33,8 @@ mod sweeping;
 mod swept;
 mod target;
 mod told;
+mod trial;
+mod trials;
 mod whole_sweep;
 mod written;
 
@@ -33,4 +42,4 @@ pub use limits::{MOST_RUNS, MOST_SWEPT_BITS};
 pub use sweep_fault::SweepFault;
 pub use sweeping::Sweeping;
 pub use swept::Swept;
-pub use whole_sweep::sweep;
+pub use whole_sweep::{sweep, sweep_jobs};

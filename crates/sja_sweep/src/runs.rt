@@ -1,60 +1,76 @@
-//! The runs of a sweep, each with one strike.
+//! The runs of a sweep, each with one strike, or two.
 
-ghost use Rattle.std.specs.Prelude.{◌≡◌, ◌<◌, length, map, All, IfOk, IfErr};
+ghost use Rattle.std.specs.Prelude.{◌≡◌, ◌+◌, ◌<◌, ◌≤◌, length, All, IfOk, IfErr, map};
+ghost use Rattle.sja_plan.specs.Plan.{times_in};
 ghost use Rattle.sja_plan.specs.Struck.{struck_at};
 ghost use Rattle.sja_log.specs.Runs.{IsSerialRun};
-ghost use Rattle.sja_sweep.specs.Inside.Reaching.{told_value, IsTrialFault};
+ghost use Rattle.sja_sweep.specs.declared.sweep_fault.SweepFault.TheVariants.{Memory};
+ghost use Rattle.sja_sweep.specs.Targets.{struck_by};
+ghost use Rattle.sja_sweep.specs.Inside.Reaching.{told_value, IsThere, IsTrialFault};
 ghost use Rattle.sja_sweep.specs.Inside.Tried.{IsTried, AreTried};
 
 use super::sweep_fault::SweepFault;
 use super::target::Target;
 use super::told::{Told, told_of};
+use super::trial::Trial;
 use sja_log::RunLog;
-use sja_plan::{Plan, PlanFault};
+use sja_plan::Plan;
 use sja_serial::run_serial;
 use std::alloc::Global;
 
-/// What came of each strike, in order.
+/// What came of each trial, in order.
 pub(crate) fn all_tried(
     alloc: Global,
     plan: &Plan,
     planned: &RunLog,
-    targets: &[Target],
+    trials: &[Trial],
 ) -> Result<Vec<Told>, SweepFault>
     requires planned { IsSerialRun plan.now planned.now }
-    requires there { All (λ (t : Target). t.node < length plan.now.nodes) targets.now }
-    ensures ok { IfOk result (λ tolds. AreTried plan.now planned.now targets.now (map told_value tolds.items)) }
-    ensures err { IfErr result (IsTrialFault plan.now) }
-    ensures some { IfErr result (λ _. 0 < length targets.now) }
+    requires there { All (IsThere plan.now) trials.now }
+    ensures ok { IfOk result (λ tolds. AreTried plan.now planned.now trials.now (map told_value tolds.items)) }
+    ensures err { IfErr result IsTrialFault }
 {
     let mut tolds = Vec::new(alloc);
-    for target in targets {
-        tolds.push(tried(alloc, plan, planned, *target)?)?;
+    for trial in trials {
+        tolds.push(tried(alloc, plan, planned, *trial)?)?;
     }
     Ok(tolds)
 }
 
-/// What came of one strike: the plan is run with it, and the log is dropped once its outcome is told.
-fn tried(alloc: Global, plan: &Plan, planned: &RunLog, target: Target) -> Result<Told, SweepFault>
+/// What came of one trial: the plan is run with it, and the log is dropped once its outcome is told.
+fn tried(alloc: Global, plan: &Plan, planned: &RunLog, trial: Trial) -> Result<Told, SweepFault>
     requires planned { IsSerialRun plan.now planned.now }
-    requires there { target.node < length plan.now.nodes }
-    ensures ok { IfOk result (λ told. IsTried plan.now planned.now target (told_value told)) }
-    ensures err { IfErr result (IsTrialFault plan.now) }
+    requires there { IsThere plan.now trial }
+    ensures ok { IfOk result (λ told. IsTried plan.now planned.now trial (told_value told)) }
+    ensures err { IfErr result IsTrialFault }
 {
-    let struck = struck_at(alloc, plan, target)?;
+    let struck = struck_by(alloc, plan, trial)?;
     let log = run_serial(alloc, &struck)?;
-    Ok(told_of(alloc, planned, target, &log)?)
+    Ok(told_of(alloc, planned, trial, &log)?)
 }
 
-/// The plan with the strike more.
-fn struck_at(alloc: Global, plan: &Plan, target: Target) -> Result<Plan, SweepFault>
-    requires { target.node < length plan.now.nodes }
-    ensures ok { IfOk result (λ struck. struck ≡ struck_at plan.now target.node target.bit) }
-    ensures err { IfErr result (IsTrialFault plan.now) }
+/// The plan with one strike more, or two.
+fn struck_by(alloc: Global, plan: &Plan, trial: Trial) -> Result<Plan, SweepFault>
+    requires { IsThere plan.now trial }
+    ensures ok { IfOk result (λ struck. struck ≡ struck_by plan.now trial) }
+    ensures nodes { IfOk result (λ struck. length struck.nodes ≡ length plan.now.nodes) }
+    ensures err { IfErr result (λ fault. fault ≡ Memory) }
 {
-    match plan.with_strike(alloc, target.node, target.bit) {
-        Ok(struck) => Ok(struck),
-        Err(PlanFault::StrikeCount) => Err(SweepFault::StrikeCount),
-        Err(_) => Err(SweepFault::Memory),
+    let once = struck_at(alloc, plan, trial.first)?;
+    match trial.second {
+        None => Ok(once),
+        Some(second) => struck_at(alloc, &once, second),
     }
+}
+
+/// The plan with one strike more.
+fn struck_at(alloc: Global, plan: &Plan, target: Target) -> Result<Plan, SweepFault>
+    requires there { target.node < length plan.now.nodes }
+    requires room { times_in plan.now.strikes < 1000 }
+    ensures ok { IfOk result (λ struck. struck ≡ struck_at plan.now target.node target.bit) }
+    ensures err { IfErr result (λ fault. fault ≡ Memory) }
+{
+    // there is room: memory was refused
+    plan.with_strike(alloc, target.node, target.bit)
+        .map_err(|_| SweepFault::Memory)
 }

@@ -1,28 +1,28 @@
-//! [`Span`]: successive bits of one node with one outcome.
+//! [`Span`]: successive bits of one node, or of two, with one outcome.
 
 ghost use Rattle.std.specs.Prelude.{◌≡◌, ◌+◌, ◌==◌, ◌&&◌};
-ghost use Rattle.sja_sweep.specs.Spans.{span_of, goes_on, joined};
+ghost use Rattle.sja_sweep.specs.Spans.{is_next, are_next, span_of, goes_on, joined};
 ghost use Rattle.sja_sweep.specs.Inside.Reaching.{told_value, span_value};
 
 use super::parting::Parting;
+use super::target::Target;
 use super::told::Told;
+use super::trial::Trial;
 
-/// Successive bits of one node with one outcome.
+/// Successive bits of one node, or of two, with one outcome.
 #[derive(Clone, Copy, Debug)]
 pub(crate) struct Span<'a> {
-    /// The node.
-    pub(crate) node: u8,
-    /// The first bit.
-    pub(crate) first: u32,
-    /// The last one.
-    pub(crate) last: u32,
-    /// Where the run of the first one parts from the run without a strike.
+    /// What is struck in the first run.
+    pub(crate) first: Trial,
+    /// What is struck in the last one.
+    pub(crate) last: Trial,
+    /// Where the first run parts from the one as planned.
     pub(crate) from: Option<Parting>,
-    /// Where that of the last one does.
+    /// Where the last one does.
     pub(crate) to: Option<Parting>,
     /// The outcome.
     pub(crate) words: &'a str,
-    /// Whether it is another one than without a strike.
+    /// Whether it is another one than that of the plan as it is.
     pub(crate) changed: bool,
 }
 
@@ -31,14 +31,13 @@ impl<'a> Span<'a> {
     ghost use Rattle.sja_sweep.specs.Spans.{span_of, goes_on, joined};
     ghost use Rattle.sja_sweep.specs.Inside.Reaching.{told_value, span_value};
 
-    /// One strike alone.
+    /// One trial alone.
     pub(crate) fn of(told: &'a Told) -> Span<'a>
         ensures { span_value result ≡ span_of (told_value told.now) }
     {
         Span {
-            node: told.target.node,
-            first: told.target.bit,
-            last: told.target.bit,
+            first: told.trial,
+            last: told.trial,
             from: told.parting,
             to: told.parting,
             words: told.words.as_str(),
@@ -46,12 +45,12 @@ impl<'a> Span<'a> {
         }
     }
 
-    /// Whether it goes on in another one: the same node, the next bit, and the same outcome.
+    /// Whether it goes on in another one: the same nodes, the next bits, and the same outcome.
     pub(crate) fn goes_on(self, next: Span<'a>) -> bool
         ensures { result ≡ goes_on (span_value self.entry) (span_value next.entry) }
     {
-        self.node == next.node
-            && u64::from(self.last) + 1 == u64::from(next.first)
+        is_next(self.last.first, next.first.first)
+            && are_next(self.last.second, next.first.second)
             && self.words.as_bytes() == next.words.as_bytes()
     }
 
@@ -60,7 +59,6 @@ impl<'a> Span<'a> {
         ensures { span_value result ≡ joined (span_value self.entry) (span_value next.entry) }
     {
         Span {
-            node: next.node,
             first: self.first,
             last: next.last,
             from: self.from,
@@ -68,5 +66,23 @@ impl<'a> Span<'a> {
             words: next.words,
             changed: next.changed,
         }
+    }
+}
+
+/// Whether a strike is of the same node as another one, in the next bit.
+fn is_next(target: Target, next: Target) -> bool
+    ensures { result ≡ is_next target next }
+{
+    target.node == next.node && u64::from(target.bit) + 1 == u64::from(next.bit)
+}
+
+/// The same of the second strikes of two runs, where there are some.
+fn are_next(target: Option<Target>, next: Option<Target>) -> bool
+    ensures { result ≡ are_next target next }
+{
+    match (target, next) {
+        (None, None) => true,
+        (Some(target), Some(next)) => is_next(target, next),
+        _ => false,
     }
 }

@@ -3,12 +3,16 @@
 ghost use Rattle.std.specs.Prelude.{◌≡◌, ◌++◌, map, decimal, codes, string_bytes, OnOk};
 ghost use Rattle.lemmas.specs.Gathering.{gathered};
 ghost use Rattle.sja_sweep.specs.Spans.{spans};
-ghost use Rattle.sja_sweep.specs.SweepText.{bits_words, span_line, shown_line, kind_word, row_line, sweep_rows};
+ghost use Rattle.sja_sweep.specs.SweepText.{bits_words, second_words, struck_words, span_line, shown_line};
+ghost use Rattle.sja_sweep.specs.SweepText.{target_row, second_row, row_beginning, row_line};
+ghost use Rattle.sja_sweep.specs.SweepText.{sweep_rows};
 ghost use Rattle.sja_sweep.specs.Inside.Reaching.{told_value, span_value};
 
 use super::parts::put_partings;
 use super::span::Span;
+use super::target::Target;
 use super::told::Told;
+use super::trial::Trial;
 use std::alloc::AllocError;
 use std::fmt::Write;
 
@@ -48,13 +52,39 @@ fn put_shown(text: &mut String, changed: bool, span: Span<'_>) -> Result<(), All
 fn put_span(text: &mut String, span: Span<'_>) -> Result<(), AllocError>
     ensures { OnOk result (string_bytes text.new ≡ string_bytes text.old ++ span_line (span_value span.entry)) }
 {
-    let node = span.node;
-    write!(text, "node {node}")?;
-    put_bits(text, span.first, span.last)?;
+    put_struck(text, span.first, span.last)?;
     put_partings(text, span.from, span.to)?;
     text.push_str(span.words)?;
     text.push('\n')?;
     Ok(())
+}
+
+/// The nodes and bits that are struck, from the first trial to the last one.
+fn put_struck(text: &mut String, first: Trial, last: Trial) -> Result<(), AllocError>
+    ensures { OnOk result (string_bytes text.new ≡ string_bytes text.old ++ struck_words first last) }
+{
+    let node = first.first.node;
+    write!(text, "node {node} struck")?;
+    put_bits(text, first.first.bit, last.first.bit)?;
+    put_second(text, first.second, last.second)
+}
+
+/// The second node of a pair, and its bits.
+fn put_second(
+    text: &mut String,
+    first: Option<Target>,
+    last: Option<Target>,
+) -> Result<(), AllocError>
+    ensures { OnOk result (string_bytes text.new ≡ string_bytes text.old ++ second_words first last) }
+{
+    match (first, last) {
+        (Some(first), Some(last)) => {
+            let node = first.node;
+            write!(text, ", node {node}")?;
+            put_bits(text, first.bit, last.bit)
+        }
+        _ => Ok(()),
+    }
 }
 
 /// The bits that are struck.
@@ -62,9 +92,9 @@ fn put_bits(text: &mut String, first: u32, last: u32) -> Result<(), AllocError>
     ensures { OnOk result (string_bytes text.new ≡ string_bytes text.old ++ bits_words first last) }
 {
     if first == last {
-        return write!(text, " struck at bit {first}");
+        return write!(text, " at bit {first}");
     }
-    write!(text, " struck at bits {first}-{last}")
+    write!(text, " at bits {first}-{last}")
 }
 
 /// A row for each run.
@@ -81,11 +111,36 @@ pub(crate) fn put_rows(text: &mut String, tolds: &[Told]) -> Result<(), AllocErr
 fn put_row(text: &mut String, told: &Told) -> Result<(), AllocError>
     ensures { OnOk result (string_bytes text.new ≡ string_bytes text.old ++ row_line (told_value told.now)) }
 {
-    let (node, bit) = (told.target.node, told.target.bit);
-    write!(text, "{node} {bit} ")?;
-    text.push_str(if told.changed { "other" } else { "same" })?;
+    put_kind(text, told.trial, told.changed)?;
     put_partings(text, told.parting, told.parting)?;
     text.push_str(told.words.as_str())?;
     text.push('\n')?;
     Ok(())
+}
+
+/// What was tried, and whether the outcome is another one.
+fn put_kind(text: &mut String, trial: Trial, changed: bool) -> Result<(), AllocError>
+    ensures { OnOk result (string_bytes text.new ≡ string_bytes text.old ++ row_beginning trial changed) }
+{
+    put_target(text, trial.first)?;
+    put_second_row(text, trial.second)?;
+    text.push_str(if changed { "other" } else { "same" })
+}
+
+/// Of a pair the second node and its bit.
+fn put_second_row(text: &mut String, second: Option<Target>) -> Result<(), AllocError>
+    ensures { OnOk result (string_bytes text.new ≡ string_bytes text.old ++ second_row second) }
+{
+    match second {
+        None => Ok(()),
+        Some(target) => put_target(text, target),
+    }
+}
+
+/// A node and a bit.
+fn put_target(text: &mut String, target: Target) -> Result<(), AllocError>
+    ensures { OnOk result (string_bytes text.new ≡ string_bytes text.old ++ target_row target) }
+{
+    let (node, bit) = (target.node, target.bit);
+    write!(text, "{node} {bit} ")
 }

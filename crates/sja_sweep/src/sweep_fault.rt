@@ -12,8 +12,8 @@ pub enum SweepFault {
     NoNode,
     /// There are more runs than 20,000, or they may come to more than 2,000,000,000 bits, and it isn't said that so
     /// many are meant: how many runs, and how many bits they may come to.
-    TooMany(usize, u128),
-    /// The strikes of the plan strike 1,000 bits already.
+    TooMany(u128, u128),
+    /// With those of a run more the strikes would strike more than 1,000 bits, as many as a plan may have.
     StrikeCount,
     /// A run failed.
     Run(RunFault),
@@ -28,7 +28,7 @@ impl fmt::Display for SweepFault {
             SweepFault::TooMany(runs, bits) => {
                 write!(f, "the sweep has {runs} runs of {bits} bits in all")
             }
-            SweepFault::StrikeCount => f.write_str("the plan has 1000 strikes already"),
+            SweepFault::StrikeCount => f.write_str("the plan has no room for the strikes of a run"),
             SweepFault::Run(fault) => write!(f, "{fault}"),
             SweepFault::Memory => f.write_str("out of memory"),
         }

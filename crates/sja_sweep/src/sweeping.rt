@@ -9,6 +9,8 @@ pub struct Sweeping {
     pub first: u32,
     /// The last bit that is struck, counted from 0. The bits of the plan's run end before, where it has no more.
     pub last: u32,
+    /// No number: each run has one strike more. A number: each run has two, which are at most so many bits apart.
+    pub pairs: Option<u32>,
     /// Whether only lines with another outcome are told.
     pub changed: bool,
     /// Whether more runs than [`MOST_RUNS`](super::limits::MOST_RUNS), or more bits than
@@ -19,14 +21,22 @@ pub struct Sweeping {
 impl Sweeping {
     ghost use Rattle.std.specs.Prelude.{◌≡◌, false, None};
 
-    /// Each node in each bit, and every line; not more runs and bits than the limits.
+    /// Each node in each bit, one strike a run, and every line; not more runs and bits than the limits.
     pub fn all() -> Sweeping
-        ensures { result ≡ record { node = None; first = 0; last = 4294967295; changed = false; meant = false } }
+        ensures { result ≡ record {
+          node = None;
+          first = 0;
+          last = 4294967295;
+          pairs = None;
+          changed = false;
+          meant = false;
+        } }
     {
         Sweeping {
             node: None,
             first: 0,
             last: u32::MAX,
+            pairs: None,
             changed: false,
             meant: false,
         }

@@ -1,4 +1,4 @@
-//! [`Told`]: what came of one strike.
+//! [`Told`]: what came of one trial.
 
 ghost use Rattle.std.specs.Prelude.{◌≡◌, ◌++◌, length, string_bytes, IfOk, OnOk};
 ghost use Rattle.sja_sweep.specs.Outcome.{outcome_words, outcome_of};
@@ -7,16 +7,16 @@ ghost use Rattle.sja_sweep.specs.Inside.Reaching.{told_value};
 use super::counters::put_counters;
 use super::nodes::put_all;
 use super::parting::{Parting, parting_of};
-use super::target::Target;
+use super::trial::Trial;
 use sja_log::{NodeRun, RunLog};
 use std::alloc::{AllocError, Global};
 
-/// What came of one strike. It keeps words alone of the run.
+/// What came of one trial. It keeps words alone of the run.
 #[derive(Debug, Drop)]
 pub(crate) struct Told {
     /// What was struck.
-    pub(crate) target: Target,
-    /// Where the run parts from the one without the strike.
+    pub(crate) trial: Trial,
+    /// Where the run parts from the one as planned.
     pub(crate) parting: Option<Parting>,
     /// What is otherwise, and the error counters.
     pub(crate) words: String,
@@ -24,15 +24,15 @@ pub(crate) struct Told {
     pub(crate) changed: bool,
 }
 
-/// What came of a strike, by the log without it and the log with it.
+/// What came of a trial, by the log without it and the log with it.
 pub(crate) fn told_of(
     alloc: Global,
     without: &RunLog,
-    target: Target,
+    trial: Trial,
     now: &RunLog,
 ) -> Result<Told, AllocError>
     requires { length without.now.nodes ≡ length now.now.nodes }
-    ensures { IfOk result (λ told. told_value told ≡ outcome_of without.now target now.now) }
+    ensures { IfOk result (λ told. told_value told ≡ outcome_of without.now trial now.now) }
 {
     let mut items = String::new(alloc);
     put_all(alloc, &mut items, without, now)?;
@@ -44,7 +44,7 @@ pub(crate) fn told_of(
         without.bits()
     };
     Ok(Told {
-        target,
+        trial,
         parting: parting_of(without.nodes(), now.nodes(), bits),
         words,
         changed: !items.as_str().is_empty(),

@@ -1,68 +1,70 @@
-//! [`sweep`]: a whole sweep in one thread.
+//! [`sweep`] and [`sweep_jobs`]: whole sweeps, in one thread and in several.
 
-ghost use Rattle.std.specs.Prelude.{◌≡◌, ◌*◌, ◌≤◌, true, false, length, string_bytes, IfOk, IfErr};
-ghost use Rattle.sja_sweep.specs.declared.sweep_fault.SweepFault.TheVariants.{TooMany};
-ghost use Rattle.sja_sweep.specs.Sweeps.{IsSweep, IsSweepFault, AreTooMany};
+ghost use Rattle.std.specs.Prelude.{string_bytes, IfOk, IfErr};
+ghost use Rattle.sja_sweep.specs.Sweeps.{IsSweep, IsSweepFault};
 
-use super::limits::{MOST_RUNS, MOST_SWEPT_BITS};
+use super::begun::begin;
+use super::jobs::tried_in_jobs;
 use super::runs::all_tried;
 use super::sweep_fault::SweepFault;
 use super::sweeping::Sweeping;
 use super::swept::Swept;
-use super::target::{Target, check_node, targets_of};
 use super::written::written;
 use sja_plan::Plan;
-use sja_serial::run_serial;
-use std::alloc::Global;
+use std::alloc::{AllocGlobal, Global};
+use std::thread::Threads;
 
-/// Runs a plan as it is, and then with one strike more: each node, or the one that is asked for, in each of the bits,
-/// one after the other. It tells what came of each strike, against the run without it.
+/// Runs a plan as it is, and then with what is tried: one strike more, or two, one run after the other. It tells what
+/// came of each trial, against the run of the plan as it is.
 ///
-/// The texts are those of the logs of just these runs, each a log as [`run_serial`] promises it.
+/// The texts are those of the logs of just these runs, each a log as [`run_serial`](sja_serial::run_serial) promises
+/// it.
 ///
 /// Errors: [`SweepFault::NoNode`] where a node is asked for that the plan doesn't have; [`SweepFault::TooMany`] where
 /// there are more runs than 20,000, or where these times the plan's bits are more than 2,000,000,000, unless so many
-/// are meant; [`SweepFault::StrikeCount`] where there is a run to make and the plan's strikes strike 1,000 bits
-/// already; [`SweepFault::Run`] where a run failed, and [`SweepFault::Memory`], where memory was refused.
+/// are meant; [`SweepFault::StrikeCount`] where there is a run to make and the plan's strikes, with those of the run
+/// more, strike more than 1,000 bits; [`SweepFault::Run`] where a run failed, and [`SweepFault::Memory`], where memory
+/// was refused.
 pub fn sweep(alloc: Global, plan: &Plan, sweeping: &Sweeping) -> Result<Swept, SweepFault>
     ensures ok { IfOk result (λ swept. IsSweep plan.now sweeping.now (string_bytes swept.text)
         (string_bytes swept.rows)) }
     ensures err { IfErr result (IsSweepFault plan.now sweeping.now) }
 {
-    check_node(sweeping, plan.nodes())?;
-    let planned = run_serial(alloc, plan)?;
-    let targets = targets_of(alloc, sweeping, plan.nodes(), planned.bits())?;
-    let strikes = targets.as_slice();
-    if !are_allowed(sweeping, plan, strikes) {
-        return Err(too_many(plan, strikes));
-    }
-    let tolds = all_tried(alloc, plan, &planned, strikes)?;
-    let swept = written(alloc, sweeping.changed, &planned, tolds.as_slice())?;
+    let begun = begin(alloc, plan, sweeping)?;
+    let tolds = all_tried(alloc, plan, &begun.planned, begun.trials.as_slice())?;
+    let swept = written(alloc, sweeping.changed, &begun.planned, tolds.as_slice())?;
     Ok(swept)
 }
 
-/// Whether there are few strikes to try, or so many are meant.
-fn are_allowed(sweeping: &Sweeping, plan: &Plan, strikes: &[Target]) -> bool
-    ensures yes { result ≡ true → sweeping.now.meant ≡ false → (length strikes.now ≤ 20000)
-        × (length strikes.now * plan.now.bits ≤ 2000000000) }
-    ensures no { result ≡ false → (sweeping.now.meant ≡ false) × AreTooMany plan.now (length strikes.now) }
+/// The same in so many threads, 0 as 1: what is tried is cut into so many parts of equal length, the last one maybe
+/// shorter, and each part is a thread's own, where a thread can be made. The texts are the same for each number.
+///
+/// A log is dropped once its outcome is told, so that there are no more logs at one time than threads, beside that of
+/// the plan as it is. The errors are those of [`sweep`].
+pub fn sweep_jobs<R: Threads + AllocGlobal + Sync>(
+    rt: &R,
+    plan: &Plan,
+    sweeping: &Sweeping,
+    jobs: usize,
+) -> Result<Swept, SweepFault>
+    ensures ok { IfOk result (λ swept. IsSweep plan.now sweeping.now (string_bytes swept.text)
+        (string_bytes swept.rows)) }
+    ensures err { IfErr result (IsSweepFault plan.now sweeping.now) }
 {
-    if sweeping.meant {
-        return true;
-    }
-    strikes.len() <= MOST_RUNS && bits_of(plan, strikes) <= MOST_SWEPT_BITS
-}
-
-/// How many runs there are, and how many bits they may come to.
-fn too_many(plan: &Plan, strikes: &[Target]) -> SweepFault
-    ensures { result ≡ TooMany (length strikes.now) (length strikes.now * plan.now.bits) }
-{
-    SweepFault::TooMany(strikes.len(), bits_of(plan, strikes))
-}
-
-/// How many bits the runs may come to.
-fn bits_of(plan: &Plan, strikes: &[Target]) -> u128
-    ensures { result ≡ length strikes.now * plan.now.bits }
-{
-    strikes.len() as u128 * u128::from(plan.bits())
+    let begun = begin(rt.alloc(), plan, sweeping)?;
+    let tolds = tried_in_jobs(
+        rt,
+        rt.alloc(),
+        plan,
+        &begun.planned,
+        begun.trials.as_slice(),
+        jobs,
+    )?;
+    let swept = written(
+        rt.alloc(),
+        sweeping.changed,
+        &begun.planned,
+        tolds.as_slice(),
+    )?;
+    Ok(swept)
 }

@@ -1,9 +1,10 @@
 //! Sweeps of plans that are given as text.
 
 use sja_plan::read_plan;
-use sja_sweep::{SweepFault, Sweeping, Swept, sweep};
-use std::alloc::{AllocError, Global};
+use sja_sweep::{SweepFault, Sweeping, Swept, sweep, sweep_jobs};
+use std::alloc::{AllocError, AllocGlobal, Global};
 use std::test::Fail;
+use std::thread::Threads;
 
 /// Node 0 sends a frame, and node 1 releases it. It releases once more, which is refused.
 pub fn one_frame() -> &'static str {
@@ -21,6 +22,17 @@ steps = [\"start\", \"release\", \"release\"]
 pub fn swept(alloc: Global, plan: &str, sweeping: Sweeping) -> Result<Swept, Fail> {
     let plan = read_plan(alloc, plan.as_bytes())?;
     Ok(sweep(alloc, &plan, &sweeping)?)
+}
+
+/// The texts of the sweep of a plan in so many threads.
+pub fn swept_in<R: Threads + AllocGlobal + Sync>(
+    rt: &R,
+    plan: &str,
+    sweeping: Sweeping,
+    jobs: usize,
+) -> Result<Swept, Fail> {
+    let plan = read_plan(rt.alloc(), plan.as_bytes())?;
+    Ok(sweep_jobs(rt, &plan, &sweeping, jobs)?)
 }
 
 /// Why there is no sweep of a plan; nothing where there is one.

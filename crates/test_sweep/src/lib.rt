@@ -9,8 +9,12 @@
 #[cfg(test)]
 mod given;
 #[cfg(test)]
+mod jobs;
+#[cfg(test)]
 mod lines;
 #[cfg(test)]
 mod one_frame;
+#[cfg(test)]
+mod pairs;
 #[cfg(test)]
 mod refusals;

@@ -81,6 +81,7 @@ fn from_to(node: u8, first: u32, last: u32) -> Sweeping {
         node: Some(node),
         first,
         last,
+        pairs: None,
         changed: false,
         meant: false,
     }

@@ -184,6 +184,7 @@ fn a_sweep_strikes_what_is_asked_for(rt: HostRuntime) -> Result<(), Fail> {
         node: Some(0),
         first: 58,
         last: 60,
+        pairs: None,
         changed: true,
         meant: false,
     };

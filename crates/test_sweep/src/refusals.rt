@@ -20,6 +20,15 @@ turns = [\"bus 20001\"]
 steps = [\"start\"]
 ";
 
+/// A node that is struck 999 times: there is room for one strike more, and not for two.
+const ROOM_FOR_ONE: &str = "version = 1
+bits = 2000
+turns = [\"node 0 1\", \"bus 20\"]
+faults = [\"0 1000 1 999\"]
+[[node]]
+steps = [\"start\"]
+";
+
 /// A node that is struck 1,000 times.
 const STRUCK: &str = "version = 1
 bits = 2000
@@ -68,5 +77,27 @@ fn a_plan_with_all_its_strikes_is_told(rt: HostRuntime) -> Result<(), Fail> {
     sweeping.first = 20;
     let none = refused(rt.alloc(), STRUCK, sweeping)?;
     assert!(rt; none == None);
+    Ok(())
+}
+
+/// Two strikes more need room for two.
+#[test]
+fn a_pair_has_no_room_where_one_strike_has(rt: HostRuntime) -> Result<(), Fail> {
+    let none = refused(rt.alloc(), ROOM_FOR_ONE, Sweeping::all())?;
+    assert!(rt; none == None);
+    let mut sweeping = Sweeping::all();
+    sweeping.pairs = Some(1);
+    let fault = refused(rt.alloc(), ROOM_FOR_ONE, sweeping)?;
+    assert!(rt; fault == Some(SweepFault::StrikeCount));
+    Ok(())
+}
+
+/// Of 20,001 bits each two that are one or two bits apart: 20,000 pairs and 19,999.
+#[test]
+fn too_many_pairs_are_told(rt: HostRuntime) -> Result<(), Fail> {
+    let mut sweeping = Sweeping::all();
+    sweeping.pairs = Some(2);
+    let pairs = refused(rt.alloc(), MANY_RUNS, sweeping)?;
+    assert!(rt; pairs == Some(SweepFault::TooMany(39_999, 800_019_999)));
     Ok(())
 }

@@ -1,5 +1,5 @@
 -- The views of private types, and parts of the texts.
-use Rattle.std.specs.Prelude.{◌≡◌, ◌==◌, ◌<◌, ◌≤◌, ℕ, if◌then◌else◌, Option, Some, List, [], ◌++◌, length}
+use Rattle.std.specs.Prelude.{◌≡◌, ◌==◌, ◌+◌, ◌<◌, ◌≤◌, ℕ, if◌then◌else◌, Option, Some, None, List, [], ◌++◌, length}
 use Rattle.std.specs.Prelude.{codes, decimal, string_bytes}
 use Rattle.std.specs.List.{range_with_len}
 use Rattle.std.specs.Option.{option_map}
@@ -13,6 +13,8 @@ use Rattle.sja_sweep.specs.declared.sweep_fault.SweepFault.{SweepFault}
 use Rattle.sja_sweep.specs.declared.sweep_fault.SweepFault.TheVariants.{NoNode, TooMany, StrikeCount, Run, Memory}
 use Rattle.sja_sweep.specs.declared.sweeping.Sweeping.{Sweeping}
 use Rattle.sja_sweep.specs.declared.told.Told.{Told}
+use Rattle.sja_sweep.specs.declared.target.Target.{Target}
+use Rattle.sja_sweep.specs.declared.trial.Trial.{Trial}
 use Rattle.sja_sweep.specs.Nodes.{node_at}
 use Rattle.sja_sweep.specs.Changes.{node_items}
 use Rattle.sja_sweep.specs.Outcome.{Outcome}
@@ -22,7 +24,7 @@ use Rattle.sja_sweep.specs.SweepText.{short_node}
 -- what is kept of a run
 abbrev pub told_value : Told → Outcome
 told_value t = record {
-  target = t.target;
+  trial = t.trial;
   parting = t.parting;
   words = string_bytes t.words;
   changed = t.changed;
@@ -31,7 +33,6 @@ told_value t = record {
 -- a run of bits, with the bytes of its words
 abbrev pub span_value : Span → SpanValue
 span_value s = record {
-  node = s.node;
   first = s.first;
   last = s.last;
   from = s.from;
@@ -67,10 +68,26 @@ pub record NamesNodePast (s : Sweeping) (nodes : ℕ) : Type 0 where
   pub named : s.node ≡ Some node
   pub past : nodes ≤ node
 
--- why a strike can't be tried
-abbrev pub IsTrialFault : PlanValue → SweepFault → Type 0
-IsTrialFault plan Memory = Unit {0}
-IsTrialFault plan (Run f) = f ≡ NoMemory
-IsTrialFault plan StrikeCount = 1000 ≤ times_in plan.strikes
-IsTrialFault plan NoNode = ⊥
-IsTrialFault plan (TooMany runs bits) = ⊥
+-- the second strike of a trial, if there is one, is of a node of so many
+abbrev pub IsThereToo : ℕ → Option Target → Type 0
+IsThereToo nodes None = Unit {0}
+IsThereToo nodes (Some t) = t.node < nodes
+
+-- how many strikes a trial has
+abbrev pub strikes_in : Option Target → ℕ
+strikes_in None = 1
+strikes_in (Some t) = 2
+
+-- the nodes of a trial are those of a plan, and there is room for its strikes
+pub record IsThere (plan : PlanValue) (t : Trial) : Type 0 where
+  pub first : t.first.node < length plan.nodes
+  pub second : IsThereToo (length plan.nodes) t.second
+  pub room : times_in plan.strikes + strikes_in t.second ≤ 1000
+
+-- why a trial has no outcome
+abbrev pub IsTrialFault : SweepFault → Type 0
+IsTrialFault Memory = Unit {0}
+IsTrialFault (Run f) = f ≡ NoMemory
+IsTrialFault StrikeCount = ⊥
+IsTrialFault NoNode = ⊥
+IsTrialFault (TooMany runs bits) = ⊥

@@ -4,5 +4,5 @@ use Rattle.sja_sweep.specs.Inside.Tried.{AreTried}
 use Rattle.sja_sweep.proofs.runs.all_tried.Given as goal
 
 -- those so far were tried
-abbrev pub invariant-loop-target : goal.invariant-loop-target
-invariant-loop-target l = AreTried l.plan l.planned (take l.target-index l.targets) (map told_value l.tolds.items)
+abbrev pub invariant-loop-trial : goal.invariant-loop-trial
+invariant-loop-trial l = AreTried l.plan l.planned (take l.trial-index l.trials) (map told_value l.tolds.items)
