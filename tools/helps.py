@@ -31,7 +31,7 @@ class Help:
         self.commands = dict(re.findall(r"^  (\w+) +(.*)", self.part(text, "Commands"), re.M))
         self.arguments = dict(re.findall(r"^  <(\w+)>(?:\.\.\.)? +(.*)", self.part(text, "Arguments"), re.M))
         self.options = {}
-        for short, long, line in re.findall(r"^ +(?:(-\w), )?(--\w+) +(.*)", self.part(text, "Options"), re.M):
+        for short, long, line in re.findall(r"^ +(?:(-\w), )?(--\w+)(?: <\w+>)* +(.*)", self.part(text, "Options"), re.M):
             self.options.update({option: line for option in (short, long) if option})
         if not self.options:
             sys.exit(f"{path} {' '.join(words)} --help names no option:\n{text}")

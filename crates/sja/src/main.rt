@@ -37,11 +37,20 @@ fn main(rt: HostRuntime) -> ExitCode {
     ExitCode::from(status)
 }
 
-/// Whether the words, the program's name first, ask for the run of a plan, or for its mistakes.
+/// Whether the words, the program's name first, ask for the run of a plan, for its mistakes or for its sweep. The
+/// options of a sweep aren't judged.
 fn asks_for_plan(words: &[String]) -> bool {
     match words {
-        [_, command] => matches!(command.as_str(), "run" | "wave" | "check"),
-        [_, command, flag] => command.as_str() == "run" && flag.as_str() == "--threads",
+        [_, command] => matches!(command.as_str(), "run" | "wave" | "check" | "sweep"),
+        [_, command, flag] if command.as_str() == "run" => flag.as_str() == "--threads",
+        [_, command, options @ ..] if command.as_str() == "sweep" => !asks_for_help(options),
         _ => false,
     }
+}
+
+/// Whether one of the words asks for help.
+fn asks_for_help(words: &[String]) -> bool {
+    words
+        .iter()
+        .any(|word| matches!(word.as_str(), "-h" | "--help"))
 }

@@ -1,23 +1,29 @@
 -- Whatever becomes of a request, few bytes are read for it.
 use Rattle.std.proofs.Common.{◌≡◌, ◌≤◌, ◌+◌, ◌⊎◌, ◌++◌, List, ℕ, [], Option, length, length-append, sym, subst}
-use Rattle.std.proofs.Common.{arith, inl, inr, false}
+use Rattle.std.proofs.Common.{arith, inl, inr, false, true}
 use Rattle.std.specs.Io.KnownBytes.{Consumes}
 use Rattle.std.proofs.KnownBytes.{Consumes-nil, Consumes-trans}
 use Rattle.sja_plan.specs.Plan.{PlanValue}
-use Rattle.sja_words.specs.Words.{Request, ParsesAs, run, wave, check}
+use Rattle.sja_words.specs.Words.{Request, ParsesAs, encode, decode, filter, arbitrate, message, run, wave, check}
+use Rattle.sja_words.specs.Words.{sweep, struck_plan}
 use Rattle.sja_log.specs.declared.run_fault.RunFault.{RunFault}
 use Rattle.sja_log.specs.declared.run_fault.RunFault.TheVariants.{Memory}
 use Rattle.sja_threads.specs.Stopping.{IsFaultOf}
 use Rattle.sja_texts.specs.declared.command_refusal.CommandRefusal.{CommandRefusal}
 use Rattle.sja_texts.specs.declared.command_refusal.CommandRefusal.TheVariants as refusal
-use Rattle.sja_run.specs.Answer.{AsksForRun, IsPrinted, IsRefused}
+use Rattle.sja_run.specs.Answer.{AsksForRun, IsPrinted, IsRefused, request_left}
 use Rattle.sja_run.specs.Check.{IsChecked, HasHints}
 use Rattle.sja_run.specs.declared.plan_check.PlanCheck.{PlanCheck}
 use Rattle.sja_run.specs.declared.plan_check.PlanCheck.TheVariants.{Hints, Mistake}
 use Rattle.sja_run.specs.Input.{ReadsFew, RefusesInput}
 use Rattle.sja_run.specs.Run.{IsRunning, RefusesBy, RefusesRun}
 use Rattle.sja_run.specs.ThreadedRun.{IsRunningThreads, RefusesThreads}
+use Rattle.sja_run.specs.Sweep.{IsOfPlan, IsStruck, IsSwept, RefusesOfPlan, RefusesStruck, RefusesSwept}
+use Rattle.sja_run.specs.declared.threaded.Threaded.{Threaded}
+use Rattle.sja_run.specs.declared.threaded.Threaded.TheVariants.{Run, Sweep}
 use Rattle.sja_run.specs.Wave.{IsWaving}
+use Rattle.sja_texts.specs.declared.sweep_refusal.SweepRefusal.{SweepRefusal}
+use Rattle.sja_run.proofs.PlanRefusals.{few_of_plan}
 
 -- nothing was read
 pub unread : (input : Option (List ℕ)) → ReadsFew input input
@@ -54,6 +60,7 @@ few_unchecked before after refusal.OutOfMemory h = h
 few_unchecked before after refusal.Read h = (h.0, h.1, omega arith)
 few_unchecked before after (refusal.Plan fault) h = absurd h
 few_unchecked before after (refusal.Run fault) h = absurd h
+few_unchecked before after (refusal.Sweep why) h = absurd h
 few_unchecked before after refusal.NotHexadecimal h = absurd h
 few_unchecked before after refusal.NotALine h = absurd h
 few_unchecked before after (refusal.Layout fault) h = absurd h
@@ -72,6 +79,7 @@ few_refused May before after refusal.OutOfMemory h = h
 few_refused May before after refusal.Read h = (h.0, h.1, omega arith)
 few_refused May before after (refusal.Plan fault) h = (h.0, h.1.0, h.1.1)
 few_refused May before after (refusal.Run fault) h = (h.0, h.2.0, h.2.1)
+few_refused May before after (refusal.Sweep why) h = absurd h
 few_refused May before after refusal.NotHexadecimal h = absurd h
 few_refused May before after refusal.NotALine h = absurd h
 few_refused May before after (refusal.Layout fault) h = absurd h
@@ -89,6 +97,7 @@ refused_input before after refusal.OutOfMemory h = h
 refused_input before after refusal.Read h = h
 refused_input before after (refusal.Plan fault) h = absurd h
 refused_input before after (refusal.Run fault) h = absurd h
+refused_input before after (refusal.Sweep why) h = absurd h
 refused_input before after refusal.NotHexadecimal h = absurd h
 refused_input before after refusal.NotALine h = absurd h
 refused_input before after (refusal.Layout fault) h = absurd h
@@ -108,36 +117,71 @@ refused_threads before after refusal.NotALine h = absurd h
 refused_threads before after (refusal.Layout fault) h = absurd h
 refused_threads before after (refusal.Line fault) h = absurd h
 refused_threads before after (refusal.Notation fault) h = absurd h
+refused_threads before after (refusal.Sweep why) h = absurd h
 
--- whatever is printed: only for a run anything is read
+-- there is a sweep, or a plan with a strike more
+few_of : (Is : PlanValue → List ℕ → Type 0) (before after : Option (List ℕ)) (text : List ℕ) →
+    IsOfPlan Is before after text → ReadsFew before after
+few_of Is before after text has = (has.0, has.2.0, has.2.1)
+
+-- there is none
+few_of_none : (May : PlanValue → SweepRefusal → Type 0) (before after : Option (List ℕ)) (r : CommandRefusal) →
+    RefusesOfPlan May before after r → ReadsFew before after
+few_of_none May before after r h = few_of_plan May before after r (few_refused (λ p f. f ≡ Memory) before after r) h
+
+-- nothing was read
+few_same : (before after : Option (List ℕ)) → after ≡ before → ReadsFew before after
+few_same before after same = subst (ReadsFew before) (sym same) (unread before)
+
+-- whatever is printed: only for a plan anything is read
 pub few_printed : (r : Request) (before after : Option (List ℕ)) (text : List ℕ) → AsksForRun r ⊎ (after ≡ before) →
     IsPrinted r before after text → ReadsFew before after
-few_printed r before after text (inl (inl is)) printed =
-    few_running before after text (subst (λ q. IsPrinted q before after text) is printed)
-few_printed r before after text (inl (inr (inl is))) printed =
-    few_waving before after text (subst (λ q. IsPrinted q before after text) is printed)
-few_printed r before after text (inl (inr (inr is))) printed =
-    few_hinted before after text (subst (λ q. IsPrinted q before after text) is printed)
-few_printed r before after text (inr same) printed = subst (ReadsFew before) (sym same) (unread before)
+few_printed r before after text (inr same) printed = few_same before after same
+few_printed (run false) before after text (inl asks) printed = few_running before after text printed
+few_printed wave before after text (inl asks) printed = few_waving before after text printed
+few_printed check before after text (inl asks) printed = few_hinted before after text printed
+few_printed (sweep w) before after text (inl asks) printed = few_of (IsSwept w) before after text printed
+few_printed (struck_plan node bit) before after text (inl asks) printed =
+    few_of (IsStruck node bit) before after text printed
+few_printed (run true) before after text (inl asks) printed = few_running_threads before after text printed
+few_printed (encode digits) before after text (inl asks) printed = absurd asks
+few_printed (decode digits) before after text (inl asks) printed = absurd asks
+few_printed (filter single acr amr digits) before after text (inl asks) printed = absurd asks
+few_printed (arbitrate messages) before after text (inl asks) printed = absurd asks
+few_printed (message given) before after text (inl asks) printed = absurd asks
 
 -- and whatever is refused
 pub few_turned_down : (r : Request) (before after : Option (List ℕ)) (why : CommandRefusal) →
     AsksForRun r ⊎ (after ≡ before) → IsRefused r before after why → ReadsFew before after
-few_turned_down r before after why (inl (inl is)) refused =
-    few_refused (λ plan fault. fault ≡ Memory) before after why (subst (λ q. IsRefused q before after why) is refused)
-few_turned_down r before after why (inl (inr (inl is))) refused =
-    few_refused (λ plan fault. fault ≡ Memory) before after why (subst (λ q. IsRefused q before after why) is refused)
-few_turned_down r before after why (inl (inr (inr is))) refused =
-    few_unchecked before after why (subst (λ q. IsRefused q before after why) is refused)
-few_turned_down r before after why (inr same) refused = subst (ReadsFew before) (sym same) (unread before)
+few_turned_down r before after why (inr same) refused = few_same before after same
+few_turned_down (run false) before after why (inl asks) refused =
+    few_refused (λ plan fault. fault ≡ Memory) before after why refused
+few_turned_down wave before after why (inl asks) refused =
+    few_refused (λ plan fault. fault ≡ Memory) before after why refused
+few_turned_down check before after why (inl asks) refused = few_unchecked before after why refused
+few_turned_down (sweep w) before after why (inl asks) refused = few_of_none (RefusesSwept w) before after why refused
+few_turned_down (struck_plan node bit) before after why (inl asks) refused =
+    few_of_none (RefusesStruck node bit) before after why refused
+few_turned_down (run true) before after why (inl asks) refused = few_refused_threads before after why refused
+few_turned_down (encode digits) before after why (inl asks) refused = absurd asks
+few_turned_down (decode digits) before after why (inl asks) refused = absurd asks
+few_turned_down (filter single acr amr digits) before after why (inl asks) refused = absurd asks
+few_turned_down (arbitrate messages) before after why (inl asks) refused = absurd asks
+few_turned_down (message given) before after why (inl asks) refused = absurd asks
+
+-- of what is left to threads
+pub few_left_printed : (left : Threaded) (before after : Option (List ℕ)) (text : List ℕ) →
+    IsPrinted (request_left left) before after text → ReadsFew before after
+few_left_printed Run before after text printed = few_running_threads before after text printed
+few_left_printed (Sweep w) before after text printed = few_of (IsSwept w) before after text printed
+
+pub few_left_refused : (left : Threaded) (before after : Option (List ℕ)) (why : CommandRefusal) →
+    IsRefused (request_left left) before after why → ReadsFew before after
+few_left_refused Run before after why refused = few_refused_threads before after why refused
+few_left_refused (Sweep w) before after why refused = few_of_none (RefusesSwept w) before after why refused
 
 -- words that ask about no plan leave the input as it is
 pub only_runs_read : (words : List (List ℕ)) (r : Request) (Same : Type 0) → ParsesAs words r → AsksForRun r ⊎ Same →
-    ¬ ParsesAs words (run false) → ¬ ParsesAs words wave → ¬ ParsesAs words check → Same
-only_runs_read words r Same parses (inl (inl is)) no_run no_wave no_check =
-    absurd (no_run (subst (ParsesAs words) is parses))
-only_runs_read words r Same parses (inl (inr (inl is))) no_run no_wave no_check =
-    absurd (no_wave (subst (ParsesAs words) is parses))
-only_runs_read words r Same parses (inl (inr (inr is))) no_run no_wave no_check =
-    absurd (no_check (subst (ParsesAs words) is parses))
-only_runs_read words r Same parses (inr same) no_run no_wave no_check = same
+    ((q : Request) → ParsesAs words q → ¬ AsksForRun q) → Same
+only_runs_read words r Same parses (inl asks) none = absurd (none r parses asks)
+only_runs_read words r Same parses (inr same) none = same

@@ -1,3 +1,4 @@
 pub mod FewBytes
+pub mod PlanRefusals
 pub mod RefusedMemory
 pub mod Requests

@@ -1,7 +1,8 @@
 -- What the program does, by what the words ask for (this project's own rule).
-use Rattle.std.specs.Prelude.{◌≡◌, ◌⊎◌, ℕ, Bool, true, false, List, Option, Some, None}
+use Rattle.std.specs.Prelude.{◌≡◌, ◌⊎◌, ◌<◌, ℕ, Bool, true, false, List, Option, Some, None, Result, Ok, Err}
 use Rattle.std.specs.Io.KnownBytes.{Appends, Keeps}
 use Rattle.sja_words.specs.Words.{Request, encode, decode, filter, arbitrate, message, run, wave, check}
+use Rattle.sja_words.specs.Words.{sweep, struck_plan}
 use Rattle.sja_texts.specs.declared.command_refusal.CommandRefusal.{CommandRefusal}
 use Rattle.sja_texts.specs.declared.command_refusal.CommandRefusal.TheVariants as refusal
 use Rattle.sja_texts.specs.Arbitrate.{IsArbitration, RefusesMessages}
@@ -14,12 +15,37 @@ use Rattle.sja_texts.specs.Refusal.{refusal_line}
 use Rattle.sja_run.specs.Check.{HasHints, HasMistake}
 use Rattle.sja_run.specs.Input.{RefusesInput}
 use Rattle.sja_run.specs.Run.{IsRunning, RefusesRun}
+use Rattle.sja_run.specs.Sweep.{IsOfPlan, IsStruck, IsSwept, RefusesOfPlan, RefusesStruck, RefusesSwept}
+use Rattle.sja_run.specs.declared.threaded.Threaded.{Threaded}
+use Rattle.sja_run.specs.declared.threaded.Threaded.TheVariants.{Run, Sweep}
 use Rattle.sja_run.specs.ThreadedRun.{IsRunningThreads, RefusesThreads}
 use Rattle.sja_run.specs.Wave.{IsWaving}
 
--- a plan is asked about: its report, its waveform, or whether it is one. For these alone the input is read
+-- a plan is asked about: its report, its waveform, whether it is one, its sweep, or the plan with a strike more. For
+-- these alone the input is read
 abbrev pub AsksForRun : Request → Type 0
-AsksForRun r = (r ≡ run false) ⊎ (r ≡ wave) ⊎ (r ≡ check)
+AsksForRun (run threads) = Unit {0}
+AsksForRun wave = Unit {0}
+AsksForRun check = Unit {0}
+AsksForRun (sweep w) = Unit {0}
+AsksForRun (struck_plan node bit) = Unit {0}
+AsksForRun other = ⊥
+
+-- threads are asked for: a run with each driver in a thread of its own, or a sweep in more than one thread
+abbrev pub AsksForThreads : Request → Type 0
+AsksForThreads (run true) = Unit {0}
+AsksForThreads (sweep w) = 1 < w.jobs
+AsksForThreads other = ⊥
+
+-- what is left to threads, as what was asked for
+abbrev pub request_left : Threaded → Request
+request_left Run = run true
+request_left (Sweep w) = sweep w
+
+-- the exit status, where nothing is left to threads
+abbrev pub status_in : Result ℕ Threaded → Option ℕ
+status_in (Ok status) = Some status
+status_in (Err left) = None
 
 -- the request, what the input held before and holds after, and the text that answers the request
 abbrev pub IsPrinted : Request → Option (List ℕ) → Option (List ℕ) → List ℕ → Type 0
@@ -32,6 +58,8 @@ IsPrinted (run false) before after text = IsRunning before after text
 IsPrinted (run true) before after text = IsRunningThreads before after text
 IsPrinted wave before after text = IsWaving before after text
 IsPrinted check before after text = HasHints before after text
+IsPrinted (sweep w) before after text = IsOfPlan (IsSwept w) before after text
+IsPrinted (struck_plan node bit) before after text = IsOfPlan (IsStruck node bit) before after text
 
 -- the same, and why the request has no answer
 abbrev pub IsRefused : Request → Option (List ℕ) → Option (List ℕ) → CommandRefusal → Type 0
@@ -44,6 +72,8 @@ IsRefused (run false) before after r = RefusesRun before after r
 IsRefused (run true) before after r = RefusesThreads before after r
 IsRefused wave before after r = RefusesRun before after r
 IsRefused check before after r = RefusesInput before after r
+IsRefused (sweep w) before after r = RefusesOfPlan (RefusesSwept w) before after r
+IsRefused (struck_plan node bit) before after r = RefusesOfPlan (RefusesStruck node bit) before after r
 
 -- The request, the exit status, and what the input, the output and the error output held before and hold after.
 -- Either the text is on the output and the status is 0; or the refusal's line, or what `check` says of a mistake, is on
@@ -59,8 +89,8 @@ Shows request status in_old in_new out_old out_new err_old err_new =
     ⊎ ((text : List ℕ) × (request ≡ check) × HasMistake in_old in_new text × (status ≡ Some 1) × Keeps out_old out_new
     × Appends err_old err_new text)
 
--- The words ask for a run in threads, which is left to another call: there is no status; or memory was refused, and
--- where no write to the error output failed it has that refusal's line.
+-- What the words ask for is left to threads: there is no status; or memory was refused, and where no write to the error
+-- output failed it has that refusal's line.
 abbrev pub IsLeft : Option ℕ → Bool → Option (List ℕ) → Option (List ℕ) → Type 0
 IsLeft status failed err_old err_new =
     (status ≡ None)

@@ -28,3 +28,4 @@ RefusesInput before after (refusal.Line fault) = ⊥
 RefusesInput before after (refusal.Notation fault) = ⊥
 RefusesInput before after (refusal.Plan fault) = ⊥
 RefusesInput before after (refusal.Run fault) = ⊥
+RefusesInput before after (refusal.Sweep why) = ⊥

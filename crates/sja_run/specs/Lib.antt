@@ -3,4 +3,5 @@ pub mod Run
 pub mod Wave
 pub mod ThreadedRun
 pub mod Check
+pub mod Sweep
 pub mod Answer

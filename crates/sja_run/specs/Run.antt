@@ -38,6 +38,7 @@ RefusesBy May before after refusal.NotALine = ⊥
 RefusesBy May before after (refusal.Layout fault) = ⊥
 RefusesBy May before after (refusal.Line fault) = ⊥
 RefusesBy May before after (refusal.Notation fault) = ⊥
+RefusesBy May before after (refusal.Sweep why) = ⊥
 
 -- in one thread: in the run memory was refused
 abbrev pub RefusesRun : Option (List ℕ) → Option (List ℕ) → CommandRefusal → Type 0

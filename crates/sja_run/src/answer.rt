@@ -1,24 +1,26 @@
 //! What is written for a task.
 
-ghost use Rattle.std.specs.Prelude.{◌≡◌, ◌⊎◌, IfOk, IfErr, true};
-ghost use Rattle.sja_words.specs.Words.{check, request_of, run};
-ghost use Rattle.sja_run.specs.Answer.{AsksForRun, IsPrinted, IsRefused};
+ghost use Rattle.std.specs.Prelude.{◌≡◌, ◌⊎◌, IfOk, IfErr};
+ghost use Rattle.sja_words.specs.Words.{check, request_of};
+ghost use Rattle.sja_run.specs.Answer.{AsksForRun, AsksForThreads, IsPrinted, IsRefused};
 
 use super::run::reported;
+use super::struck_plan::struck;
+use super::sweeps::told_sweep;
 use super::waveform::waved;
 use sja_texts::{CommandRefusal, arbitrated, decoded, encoded, filtered, translated};
 use sja_words::Task;
 use std::alloc::Global;
 use std::io::Read;
 
-/// The text that answers the task, which is neither a run in threads nor `check`. Only for `run` and `wave` the input
-/// is read.
+/// The text that answers the task, which asks for no threads and isn't `check`. Only for `run`, `wave` and `sweep` the
+/// input is read.
 pub(crate) fn printed<R: Read>(
     alloc: Global,
     task: Task<'_>,
     input: &mut R,
 ) -> Result<Vec<u8>, CommandRefusal>
-    requires alone { ¬ (request_of task ≡ run true) }
+    requires alone { ¬ AsksForThreads (request_of task) }
     requires printed { ¬ (request_of task ≡ check) }
     ensures ok { IfOk result (λ text.
         IsPrinted (request_of task.entry) (R.remaining input.old) (R.remaining input.new) text.items) }
@@ -40,5 +42,7 @@ pub(crate) fn printed<R: Read>(
         Task::Run { threads: true } => unreachable!(),
         Task::Wave => waved(alloc, input),
         Task::Check => unreachable!(),
+        Task::Sweep(words) => told_sweep(alloc, words, input),
+        Task::StruckPlan { node, bit } => struck(alloc, node, bit, input),
     }
 }

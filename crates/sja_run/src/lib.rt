@@ -6,7 +6,9 @@
 //! ([`read_plan`]), runs it in one thread ([`run_serial`]) and writes the report of the run's log ([`report`]); these
 //! calls are those of `sja_plan`, `sja_serial` and `sja_report`. For `wave` it writes the run's waveform ([`wave`]),
 //! that of `sja_wave`. For `check` it explains the plan's first fault, or says what the run left out ([`mistake`],
-//! [`hints`]), by `sja_check`. The texts of the other commands, and of each refusal, are those of `sja_texts`.
+//! [`hints`]), by `sja_check`. For `sweep` it says what each single bit error does to the run ([`sweep`]), by
+//! `sja_sweep`, or writes the plan with a strike more ([`plan_text`]), by `sja_plan_text`. The texts of the other
+//! commands, and of each refusal, are those of `sja_texts`.
 //!
 //! Its tests stand in `crates/test_program/src/program`.
 #![tactic(auto)]
@@ -19,6 +21,9 @@ mod plan_check;
 mod program;
 mod run;
 mod serial;
+mod struck_plan;
+mod sweeps;
+mod threaded;
 mod threaded_run;
 mod tries;
 mod waveform;
@@ -29,10 +34,13 @@ pub use serial::sja_serial;
 pub use sja_check::{hints, mistake};
 pub use sja_log::{ActivationLog, End, NodeRun, RunFault, RunLog};
 pub use sja_plan::{Plan, PlanFault, Turn, read_plan};
+pub use sja_plan_text::plan_text;
 pub use sja_report::report;
 pub use sja_serial::run_serial;
-pub use sja_texts::CommandRefusal;
+pub use sja_sweep::{Sweeping, Swept, sweep, sweep_jobs};
+pub use sja_texts::{CommandRefusal, SweepRefusal};
 pub use sja_threads::run_threads;
 pub use sja_wave::wave;
-pub use sja_words::{Task, WordsFault, parse};
+pub use sja_words::{SweepWords, Task, WordsFault, parse};
+pub use threaded::Threaded;
 pub use tries::Tries;

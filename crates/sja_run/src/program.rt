@@ -1,13 +1,16 @@
 //! [`sja`]: the whole program over words, a reader and two writers.
 
-ghost use Rattle.std.specs.Prelude.{◌≡◌, ◌⊎◌, Some, false, true, map};
-ghost use Rattle.sja_words.specs.Words.{Request, ParsesAs, check, run, wave};
-ghost use Rattle.sja_run.specs.Answer.{Shows, IsTurnedAway};
+ghost use Rattle.std.specs.Prelude.{◌≡◌, ◌⊎◌, IfOk, IfErr, Some, false, true, map};
+ghost use Rattle.sja_words.specs.Words.{Request, ParsesAs};
+ghost use Rattle.sja_run.specs.Answer.{AsksForRun, IsPrinted, IsRefused, IsTurnedAway, Shows, request_left};
 ghost use Rattle.sja_run.specs.Input.{ReadsFew};
 
 use super::output::Output;
 use super::serial::sja_serial;
+use super::sweeps::told_sweep_jobs;
+use super::threaded::Threaded;
 use super::threaded_run::reported_threads;
+use sja_texts::CommandRefusal;
 use std::alloc::Global;
 use std::convert::AsStr;
 use std::io::{Read, Write};
@@ -20,9 +23,9 @@ use std::thread::Threads;
 /// The status is 0 where the text was written, 1 where an argument, the plan or memory was refused, a run failed, or a
 /// read or a write failed, and 2 where the words don't parse, or ask for help or the version; then `err` has the
 /// parser's own text.
-/// `input` is read for `run`, with `--threads` or without, and for `wave` and `check` alone: at most 65,537 bytes of
-/// it, in at most 131,074 reads.
-/// For `run --threads` alone it starts threads, and waits for them.
+/// `input` is read for `run`, with `--threads` or without, and for `wave`, `check` and `sweep` alone: at most 65,537
+/// bytes of it, in at most 131,074 reads.
+/// For `run --threads`, and for `sweep --jobs` with more than one, alone it starts threads, and waits for them.
 /// The words, texts and statuses are this project's own rule.
 pub fn sja<T: Threads + Wait + Sync, S: AsStr, R: Read, O: Write, E: Write>(
     rt: &T,
@@ -44,27 +47,27 @@ pub fn sja<T: Threads + Wait + Sync, S: AsStr, R: Read, O: Write, E: Write>(
     ensures one_writer { (out.new ≡ out.old) ⊎ (err.new ≡ err.old) }
     ensures failed { out.old.failed ≡ false → err.old.failed ≡ false
         → (out.new.failed ≡ true) ⊎ (err.new.failed ≡ true) → result ≡ 1 }
-    ensures unread { ¬ ParsesAs (map S.text words.now) (run false) → ¬ ParsesAs (map S.text words.now) (run true)
-        → ¬ ParsesAs (map S.text words.now) wave → ¬ ParsesAs (map S.text words.now) check → input.new ≡ input.old }
+    ensures unread { ((r : Request) → ParsesAs (map S.text words.now) r → ¬ AsksForRun r) → input.new ≡ input.old }
     ensures few { ReadsFew (R.remaining input.old) (R.remaining input.new) }
 {
     match sja_serial(alloc, words, input, out, err) {
-        Some(status) => status,
-        None => reply_threads(rt, alloc, input, out, err),
+        Ok(status) => status,
+        Err(threaded) => reply_threads(rt, alloc, threaded, input, out, err),
     }
 }
 
-/// Does `run --threads`, and gives the exit status.
-#[tactic(auto, using(crate::proofs::FewBytes::few_running_threads, crate::proofs::FewBytes::few_refused_threads))]
+/// Does what is left to threads, and gives the exit status.
+#[tactic(auto, using(crate::proofs::FewBytes::few_left_printed, crate::proofs::FewBytes::few_left_refused))]
 fn reply_threads<T: Threads + Wait + Sync, R: Read, O: Write, E: Write>(
     rt: &T,
     alloc: Global,
+    threaded: Threaded,
     input: &mut R,
     out: &mut Output<O>,
     err: &mut Output<E>,
 ) -> u8
     ensures answered { out.new.failed ≡ false → err.new.failed ≡ false
-        → Shows (run true) (Some result) (R.remaining input.old) (R.remaining input.new)
+        → Shows (request_left threaded) (Some result) (R.remaining input.old) (R.remaining input.new)
         (O.contents out.old.writer) (O.contents out.new.writer)
         (E.contents err.old.writer) (E.contents err.new.writer) }
     ensures one_writer { (out.new ≡ out.old) ⊎ (err.new ≡ err.old) }
@@ -72,11 +75,29 @@ fn reply_threads<T: Threads + Wait + Sync, R: Read, O: Write, E: Write>(
         → (out.new.failed ≡ true) ⊎ (err.new.failed ≡ true) → result ≡ 1 }
     ensures few { ReadsFew (R.remaining input.old) (R.remaining input.new) }
 {
-    match reported_threads(rt, alloc, input) {
+    match printed_threads(rt, alloc, threaded, input) {
         Ok(text) => {
             out.put(text.as_slice());
             if out.failed { 1 } else { 0 }
         }
         Err(refusal) => err.refuse(refusal),
+    }
+}
+
+/// The text that answers what is left to threads.
+fn printed_threads<T: Threads + Wait + Sync, R: Read>(
+    rt: &T,
+    alloc: Global,
+    threaded: Threaded,
+    input: &mut R,
+) -> Result<Vec<u8>, CommandRefusal>
+    ensures ok { IfOk result (λ text.
+        IsPrinted (request_left threaded) (R.remaining input.old) (R.remaining input.new) text.items) }
+    ensures err { IfErr result
+        (IsRefused (request_left threaded) (R.remaining input.old) (R.remaining input.new)) }
+{
+    match threaded {
+        Threaded::Run => reported_threads(rt, alloc, input),
+        Threaded::Sweep(words) => told_sweep_jobs(rt, alloc, words, input),
     }
 }

@@ -1,14 +1,16 @@
 //! [`sja_serial`]: the program without threads, over words, a reader and two writers.
 
-ghost use Rattle.std.specs.Prelude.{◌≡◌, ◌⊎◌, None, Some, IsSome, false, true, map};
-ghost use Rattle.sja_words.specs.Words.{Request, ParsesAs, check, request_of, run, wave};
-ghost use Rattle.sja_run.specs.Answer.{AsksForRun, Shows, IsLeft, IsTurnedAway};
+ghost use Rattle.std.specs.Prelude.{◌≡◌, ◌⊎◌, None, Some, IfSome, IfErr, false, true, map};
+ghost use Rattle.sja_words.specs.Words.{Request, ParsesAs, check, request_of};
+ghost use Rattle.sja_run.specs.Answer.{AsksForRun, AsksForThreads, Shows, IsLeft, IsTurnedAway, request_left};
+ghost use Rattle.sja_run.specs.Answer.{status_in};
 ghost use Rattle.sja_run.specs.Input.{ReadsFew};
 
 use super::answer::printed;
 use super::check::checked;
 use super::output::Output;
 use super::plan_check::PlanCheck;
+use super::threaded::Threaded;
 use sja_texts::CommandRefusal;
 use sja_words::{Task, WordsFault, parse};
 use std::alloc::Global;
@@ -16,12 +18,12 @@ use std::convert::AsStr;
 use std::io::{Read, Write};
 
 /// The program, without threads: does what the words ask for, writes the text to `out` or one line to `err`, and
-/// answers the exit status. The first word is the program's name. Where the words ask for a run in threads it answers
-/// nothing, and nothing was read or written.
+/// answers the exit status. The first word is the program's name. Where the words ask for threads it answers for what,
+/// and nothing was read or written.
 ///
 /// The status is 0 where the text was written, 1 where an argument, the plan or memory was refused or a read or a write
 /// failed, and 2 where the words don't parse, or ask for help or the version; then `err` has the parser's own text.
-/// `input` is read for `run`, `wave` and `check` alone: at most 65,537 bytes of it, in at most 131,074 reads.
+/// `input` is read for `run`, `wave`, `check` and `sweep` alone: at most 65,537 bytes of it, in at most 131,074 reads.
 /// The words, texts and statuses are this project's own rule.
 #[tactic(auto, using(crate::proofs::FewBytes::unread))]
 pub fn sja_serial<S: AsStr, R: Read, O: Write, E: Write>(
@@ -30,47 +32,51 @@ pub fn sja_serial<S: AsStr, R: Read, O: Write, E: Write>(
     input: &mut R,
     out: &mut Output<O>,
     err: &mut Output<E>,
-) -> Option<u8>
-    ensures answered { (r : Request) → ParsesAs (map S.text words.now) r → ¬ (r ≡ run true)
+) -> Result<u8, Threaded>
+    ensures answered { (r : Request) → ParsesAs (map S.text words.now) r → ¬ AsksForThreads r
         → out.new.failed ≡ false → err.new.failed ≡ false
-        → Shows r result (R.remaining input.old) (R.remaining input.new)
+        → Shows r (status_in result) (R.remaining input.old) (R.remaining input.new)
         (O.contents out.old.writer) (O.contents out.new.writer)
         (E.contents err.old.writer) (E.contents err.new.writer) }
     ensures unparsed { ((r : Request) → ¬ ParsesAs (map S.text words.now) r)
         → out.new.failed ≡ false → err.new.failed ≡ false
-        → IsTurnedAway result (E.contents err.old.writer) (E.contents err.new.writer) }
+        → IsTurnedAway (status_in result) (E.contents err.old.writer) (E.contents err.new.writer) }
     ensures untouched { ((r : Request) → ¬ ParsesAs (map S.text words.now) r) → out.new ≡ out.old }
-    ensures threads { ParsesAs (map S.text words.now) (run true)
-        → IsLeft result err.new.failed (E.contents err.old.writer) (E.contents err.new.writer)
+    ensures threads { (r : Request) → ParsesAs (map S.text words.now) r → AsksForThreads r
+        → IsLeft (status_in result) err.new.failed (E.contents err.old.writer) (E.contents err.new.writer)
         × (input.new ≡ input.old) × (out.new ≡ out.old) }
-    ensures left { result ≡ None → ParsesAs (map S.text words.now) (run true) × (err.new ≡ err.old) }
+    ensures left { IfErr result (λ threaded. ParsesAs (map S.text words.now) (request_left threaded)
+        × AsksForThreads (request_left threaded) × (err.new ≡ err.old)) }
     ensures one_writer { (out.new ≡ out.old) ⊎ (err.new ≡ err.old) }
     ensures failed { out.old.failed ≡ false → err.old.failed ≡ false
-        → (out.new.failed ≡ true) ⊎ (err.new.failed ≡ true) → result ≡ Some 1 }
-    ensures unread { ¬ ParsesAs (map S.text words.now) (run false) → ¬ ParsesAs (map S.text words.now) wave
-        → ¬ ParsesAs (map S.text words.now) check → input.new ≡ input.old }
+        → (out.new.failed ≡ true) ⊎ (err.new.failed ≡ true) → status_in result ≡ Some 1 }
+    ensures unread { ((r : Request) → ParsesAs (map S.text words.now) r → ¬ AsksForRun r) → input.new ≡ input.old }
     ensures few { ReadsFew (R.remaining input.old) (R.remaining input.new) }
 {
     match parse(alloc, words) {
-        Ok(task) if is_threaded(&task) => None,
-        Ok(task) => Some(reply(alloc, task, input, out, err)),
-        Err(WordsFault::OutOfMemory) => Some(err.refuse(CommandRefusal::OutOfMemory)),
-        Err(WordsFault::Unparsed(text)) => Some(err.turn_away(text.as_bytes())),
+        Ok(task) => match threads_for(&task) {
+            Some(threaded) => Err(threaded),
+            None => Ok(reply(alloc, task, input, out, err)),
+        },
+        Err(WordsFault::OutOfMemory) => Ok(err.refuse(CommandRefusal::OutOfMemory)),
+        Err(WordsFault::Unparsed(text)) => Ok(err.turn_away(text.as_bytes())),
     }
 }
 
-/// Whether a task is a run in threads.
-fn is_threaded(task: &Task<'_>) -> bool
-    ensures threads { result ≡ true → request_of task.now ≡ run true }
-    ensures other { result ≡ false → ¬ (request_of task.now ≡ run true) }
+/// What a task asks for in threads; nothing where it doesn't.
+fn threads_for(task: &Task<'_>) -> Option<Threaded>
+    ensures some { IfSome result (λ threaded. (request_of task.now ≡ request_left threaded)
+        × AsksForThreads (request_left threaded)) }
+    ensures none { result ≡ None → ¬ AsksForThreads (request_of task.now) }
 {
     match task {
-        Task::Run { threads } => *threads,
-        _ => false,
+        Task::Run { threads: true } => Some(Threaded::Run),
+        Task::Sweep(words) if words.jobs > 1 => Some(Threaded::Sweep(*words)),
+        _ => None,
     }
 }
 
-/// Does the task, which isn't a run in threads, and gives the exit status.
+/// Does the task, which asks for no threads, and gives the exit status.
 #[tactic(auto, using(crate::proofs::FewBytes::few_printed, crate::proofs::FewBytes::few_turned_down))]
 fn reply<R: Read, O: Write, E: Write>(
     alloc: Global,
@@ -79,7 +85,7 @@ fn reply<R: Read, O: Write, E: Write>(
     out: &mut Output<O>,
     err: &mut Output<E>,
 ) -> u8
-    requires alone { ¬ (request_of task ≡ run true) }
+    requires alone { ¬ AsksForThreads (request_of task) }
     ensures answered { out.new.failed ≡ false → err.new.failed ≡ false
         → Shows (request_of task.entry) (Some result) (R.remaining input.old) (R.remaining input.new)
         (O.contents out.old.writer) (O.contents out.new.writer)

@@ -5,5 +5,6 @@ pub mod Entries
 pub mod Gathers
 pub mod SpanLemmas
 pub mod TrialLemmas
+pub mod ErrorLemmas
 pub mod TriedLemmas
 pub mod JobLemmas

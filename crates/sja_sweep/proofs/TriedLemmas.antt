@@ -1,4 +1,4 @@
--- Strikes that were tried, one after another, and their logs.
+-- Strikes that were tried, one after another, and their runs.
 use Rattle.std.proofs.Common.{◌≡◌, ℕ, ◌+◌, ◌*◌, ◌<◌, ◌≤◌, false, List, [], ◌∷◌, ◌++◌, length, map, take}
 use Rattle.std.proofs.Common.{get_or, refl, sym, ap, ap₂, ◌∙◌, subst}
 use Rattle.std.proofs.lemmas.List.{map-append, take_more}
@@ -8,11 +8,10 @@ use Rattle.sja_sweep.specs.SweepText.{sweep_text, sweep_rows}
 use Rattle.sja_sweep.specs.Sweeps.{strikes_tried, IsSweep}
 use Rattle.sja_sweep.specs.Inside.Reaching.{told_value}
 use Rattle.std.specs.List.{AllZip}
-use Rattle.sja_plan.specs.Plan.{PlanValue}
-use Rattle.sja_log.specs.Log.{RunValue}
-use Rattle.sja_log.specs.Runs.{IsSerialRun}
+use Rattle.sja_plan.specs.Plan.{PlanValue, times_in}
+use Rattle.sja_sweep.specs.Errors.{RanValue, IsRan}
 use Rattle.sja_sweep.specs.declared.trial.Trial.{Trial}
-use Rattle.sja_sweep.specs.Targets.{struck_by}
+use Rattle.sja_sweep.specs.Targets.{strikes_a_run, struck_by}
 use Rattle.sja_sweep.specs.Outcome.{Outcome, outcome_of, outcomes_of}
 use Rattle.sja_sweep.specs.Inside.Tried.{IsTried, AreTried, IsBegun}
 
@@ -24,26 +23,26 @@ zip_push R [] (b ∷ ys) x y all here = absurd all
 zip_push R (a ∷ xs) [] x y all here = absurd all
 zip_push R (a ∷ xs) (b ∷ ys) x y all here = (all.0, zip_push R xs ys x y all.1 here)
 
--- the logs of strikes that were tried
-pub record HaveLogs (plan : PlanValue) (planned : RunValue) (ts : List Trial) (os : List Outcome) : Type 0 where
-  pub logs : List RunValue
-  pub runs : AllZip (λ (t : Trial) (log : RunValue). IsSerialRun (struck_by plan t) log) ts logs
-  pub outcomes : os ≡ outcomes_of planned ts logs
+-- the runs of strikes that were tried
+pub record HaveRuns (plan : PlanValue) (planned : RanValue) (ts : List Trial) (os : List Outcome) : Type 0 where
+  pub runs : List RanValue
+  pub are : AllZip (λ (t : Trial) (r : RanValue). IsRan (struck_by plan t) r) ts runs
+  pub outcomes : os ≡ outcomes_of planned ts runs
 
-pub have_logs : (plan : PlanValue) (planned : RunValue) (ts : List Trial) (os : List Outcome) →
-    AreTried plan planned ts os → HaveLogs plan planned ts os
-have_logs plan planned [] [] all = record { logs = []; runs = tt; outcomes = refl }
-have_logs plan planned [] (o ∷ os) all = absurd all
-have_logs plan planned (t ∷ ts) [] all = absurd all
-have_logs plan planned (t ∷ ts) (o ∷ os) all =
-    let rest = have_logs plan planned ts os all.1 in record {
-      logs = all.0.log ∷ rest.logs;
-      runs = (all.0.run, rest.runs);
+pub have_runs : (plan : PlanValue) (planned : RanValue) (ts : List Trial) (os : List Outcome) →
+    AreTried plan planned ts os → HaveRuns plan planned ts os
+have_runs plan planned [] [] all = record { runs = []; are = tt; outcomes = refl }
+have_runs plan planned [] (o ∷ os) all = absurd all
+have_runs plan planned (t ∷ ts) [] all = absurd all
+have_runs plan planned (t ∷ ts) (o ∷ os) all =
+    let rest = have_runs plan planned ts os all.1 in record {
+      runs = all.0.ran ∷ rest.runs;
+      are = (all.0.run, rest.are);
       outcomes = ap₂ (λ a b. a ∷ b) all.0.outcome rest.outcomes;
     }
 
 -- one more strike was tried
-pub tried_more : (plan : PlanValue) (planned : RunValue) (targets : List Trial) (old new : List Told) (i : ℕ)
+pub tried_more : (plan : PlanValue) (planned : RanValue) (targets : List Trial) (old new : List Told) (i : ℕ)
     (d : Trial) (told : Told) → i < length targets → new ≡ old ++ told ∷ [] →
     AreTried plan planned (take i targets) (map told_value old) →
     IsTried plan planned (get_or targets i d) (told_value told) →
@@ -66,7 +65,7 @@ zip_append R [] xs' (b ∷ ys) ys' all rest = absurd all
 zip_append R (a ∷ xs) xs' [] ys' all rest = absurd all
 zip_append R (a ∷ xs) xs' (b ∷ ys) ys' all rest = (all.0, zip_append R xs xs' ys ys' all.1 rest)
 
-pub tried_both : (plan : PlanValue) (planned : RunValue) (ts part whole : List Trial) (old tolds new : List Told) →
+pub tried_both : (plan : PlanValue) (planned : RanValue) (ts part whole : List Trial) (old tolds new : List Told) →
     whole ≡ ts ++ part → new ≡ old ++ tolds → AreTried plan planned ts (map told_value old) →
     AreTried plan planned part (map told_value tolds) → AreTried plan planned whole (map told_value new)
 tried_both plan planned ts part whole old tolds new both added so_far more =
@@ -78,21 +77,23 @@ tried_both plan planned ts part whole old tolds new both added so_far more =
     (zip_append (IsTried plan planned) ts part (map told_value old) (map told_value tolds) so_far more))
 
 -- a sweep whose trials were made, and whose texts tell their outcomes
-pub sweep_is : (plan : PlanValue) (s : Sweeping) (planned : RunValue) (trials : List Trial) (outcomes : List Outcome)
+pub sweep_is : (plan : PlanValue) (s : Sweeping) (planned : RanValue) (trials : List Trial) (outcomes : List Outcome)
     (text rows : List ℕ) → IsBegun plan s planned trials → AreTried plan planned trials outcomes →
-    text ≡ sweep_text s.changed planned outcomes → rows ≡ sweep_rows outcomes → IsSweep plan s text rows
+    text ≡ sweep_text s.changed planned.log outcomes → rows ≡ sweep_rows outcomes → IsSweep plan s text rows
 sweep_is plan s planned trials outcomes text rows begun tried text_is rows_are =
     let P : List Trial → Type 0 = λ ts. AreTried plan planned ts outcomes in
     let Few : List Trial → Type 0 = λ ts.
     s.meant ≡ false → (length ts ≤ 20000) × (length ts * plan.bits ≤ 2000000000) in
-    let found = have_logs plan planned (strikes_tried plan s planned) outcomes (subst P begun.trials_are tried) in
+    let Room : List Trial → Type 0 = λ ts. 0 < length ts → times_in plan.strikes + strikes_a_run s.pairs ≤ 1000 in
+    let found = have_runs plan planned (strikes_tried plan s planned.log) outcomes (subst P begun.trials_are tried) in
     record {
       planned = planned;
-      logs = found.logs;
+      runs = found.runs;
       as_planned = begun.as_planned;
-      as_struck = found.runs;
-      text_is = text_is ∙ ap (sweep_text s.changed planned) found.outcomes;
+      as_struck = found.are;
+      text_is = text_is ∙ ap (sweep_text s.changed planned.log) found.outcomes;
       rows_are = rows_are ∙ ap sweep_rows found.outcomes;
       few = subst Few begun.trials_are begun.few;
+      room = subst Room begun.trials_are begun.room;
       node = begun.node;
     }

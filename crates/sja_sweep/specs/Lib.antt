@@ -2,7 +2,8 @@
 pub mod Targets
 -- ---- what came of a strike
 pub mod Nodes
-pub mod Parting
+pub mod Errors
+pub mod FirstErrors
 pub mod Messages
 pub mod Steps
 pub mod Changes

@@ -1,18 +1,18 @@
 -- Runs of successive bits of one node, or of two, with one outcome (this project's own rule).
 use Rattle.std.specs.Prelude.{◌+◌, ◌==◌, ◌&&◌, ℕ, Bool, true, false, if◌then◌else◌, Option, Some, None, List, [], ◌∷◌}
 use Rattle.std.specs.Str.{bytes_eq}
-use Rattle.sja_sweep.specs.declared.parting.Parting.{Parting}
+use Rattle.sja_sweep.specs.declared.first_error.FirstError.{FirstError}
 use Rattle.sja_sweep.specs.declared.target.Target.{Target}
 use Rattle.sja_sweep.specs.declared.trial.Trial.{Trial}
 use Rattle.sja_sweep.specs.Outcome.{Outcome}
 
--- the first and the last of the trials, where the first and the last of their runs part from the one as planned, and
--- the outcome of each
+-- the first and the last of the trials, the first errors of the first and the last of their runs, and the outcome of
+-- each
 pub record SpanValue : Type 0 where
   pub first : Trial
   pub last : Trial
-  pub from : Option Parting
-  pub to : Option Parting
+  pub from : Option FirstError
+  pub to : Option FirstError
   pub words : List ℕ
   pub changed : Bool
 
@@ -21,8 +21,8 @@ abbrev pub span_of : Outcome → SpanValue
 span_of o = record {
   first = o.trial;
   last = o.trial;
-  from = o.parting;
-  to = o.parting;
+  from = o.error;
+  to = o.error;
   words = o.words;
   changed = o.changed;
 }

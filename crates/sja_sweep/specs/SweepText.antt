@@ -2,10 +2,13 @@
 use Rattle.std.specs.Prelude.{◌+◌, ◌==◌, ◌&&◌, ℕ, Bool, true, false, not, if◌then◌else◌, Option, Some, None}
 use Rattle.std.specs.Prelude.{List, [], ◌∷◌, ◌++◌, length, codes, decimal}
 use Rattle.std.specs.List.{range_with_len}
+use Rattle.std.specs.Str.{bytes_eq}
+use Rattle.can_node.specs.declared.cause.Cause.{Cause}
+use Rattle.can_node.specs.declared.cause.Cause.TheVariants.{Bit, Stuff, Form, Crc, Ack}
 use Rattle.lemmas.specs.Gathering.{gathered, total}
 use Rattle.sja_log.specs.Log.{ActivationValue, NodeValue, RunValue}
 use Rattle.sja_log.specs.EndWord.{end_word}
-use Rattle.sja_sweep.specs.declared.parting.Parting.{Parting}
+use Rattle.sja_sweep.specs.declared.first_error.FirstError.{FirstError}
 use Rattle.sja_sweep.specs.declared.target.Target.{Target}
 use Rattle.sja_sweep.specs.declared.trial.Trial.{Trial}
 use Rattle.sja_sweep.specs.Nodes.{node_at, activation_at}
@@ -34,23 +37,35 @@ planned_line log =
 
 -- ---- the strikes
 
--- where a run parts from the one without the strike
-abbrev pub parting_words : Option Parting → List ℕ
-parting_words None = codes "no bit"
-parting_words (Some p) = codes "node " ++ (decimal p.node ++ (codes " bit " ++ decimal p.bit))
+-- the kinds of error (Bosch CAN 2.0 part A, section 6.1)
+abbrev pub cause_word : Cause → List ℕ
+cause_word Bit = codes "bit"
+cause_word Stuff = codes "stuff"
+cause_word Form = codes "form"
+cause_word Crc = codes "CRC"
+cause_word Ack = codes "acknowledgement"
+
+-- where an error is
+abbrev pub place_words : FirstError → List ℕ
+place_words e = codes " error at node " ++ (decimal e.node ++ (codes " bit " ++ decimal e.bit))
+
+-- the first error of a run, and that there is none
+abbrev pub error_words : Option FirstError → List ℕ
+error_words None = codes "no error"
+error_words (Some e) = cause_word e.cause ++ place_words e
 
 -- whether both are the same
-abbrev pub same_parting : Option Parting → Option Parting → Bool
-same_parting None None = true
-same_parting None (Some q) = false
-same_parting (Some p) None = false
-same_parting (Some p) (Some q) = (p.node == q.node) && (p.bit == q.bit)
+abbrev pub same_error : Option FirstError → Option FirstError → Bool
+same_error None None = true
+same_error None (Some q) = false
+same_error (Some p) None = false
+same_error (Some p) (Some q) =
+    ((p.node == q.node) && (p.bit == q.bit)) && bytes_eq (cause_word p.cause) (cause_word q.cause)
 
--- where the first one of several parts, and where the last one does
-abbrev pub partings_words : Option Parting → Option Parting → List ℕ
-partings_words from to =
-    codes ": parts at " ++ parting_words from
-    ++ (if same_parting from to then [] else codes " to " ++ parting_words to)
+-- the first error of the first one of several runs, and that of the last one where it is another
+abbrev pub errors_words : Option FirstError → Option FirstError → List ℕ
+errors_words from to =
+    codes ": " ++ error_words from ++ (if same_error from to then [] else codes " to " ++ error_words to)
 
 -- the bits that are struck
 abbrev pub bits_words : ℕ → ℕ → List ℕ
@@ -71,7 +86,7 @@ struck_words t u =
     ++ second_words t.second u.second
 
 abbrev pub span_line : SpanValue → List ℕ
-span_line s = struck_words s.first s.last ++ partings_words s.from s.to ++ s.words ++ 10 ∷ []
+span_line s = struck_words s.first s.last ++ errors_words s.from s.to ++ s.words ++ 10 ∷ []
 
 -- the line, unless it is as without a strike and lines with another outcome alone are asked for
 abbrev pub shown_line : Bool → SpanValue → List ℕ
@@ -93,8 +108,8 @@ last_line os =
 abbrev pub sweep_text : Bool → RunValue → List Outcome → List ℕ
 sweep_text changed planned os = planned_line planned ++ gathered (shown_line changed) (spans os) ++ last_line os
 
--- a row: the node, the bit, of a pair the second ones too, whether the outcome is another one, where the run parts,
--- and the outcome
+-- a row: the node, the bit, of a pair the second ones too, whether the outcome is another one, the first error, and
+-- the outcome
 abbrev pub kind_word : Bool → List ℕ
 kind_word true = codes "other"
 kind_word false = codes "same"
@@ -113,7 +128,7 @@ row_beginning t changed = target_row t.first ++ second_row t.second ++ kind_word
 
 abbrev pub row_line : Outcome → List ℕ
 row_line o =
-    row_beginning o.trial o.changed ++ partings_words o.parting o.parting ++ o.words ++ 10 ∷ []
+    row_beginning o.trial o.changed ++ errors_words o.error o.error ++ o.words ++ 10 ∷ []
 
 -- a row for each run, in order
 abbrev pub sweep_rows : List Outcome → List ℕ

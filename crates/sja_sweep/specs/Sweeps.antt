@@ -10,6 +10,7 @@ use Rattle.sja_sweep.specs.declared.trial.Trial.{Trial}
 use Rattle.sja_sweep.specs.declared.sweep_fault.SweepFault.{SweepFault}
 use Rattle.sja_sweep.specs.declared.sweep_fault.SweepFault.TheVariants.{NoNode, TooMany, StrikeCount, Run, Memory}
 use Rattle.sja_sweep.specs.Targets.{trials_of, strikes_a_run, struck_by}
+use Rattle.sja_sweep.specs.Errors.{RanValue, IsRan}
 use Rattle.sja_sweep.specs.Outcome.{outcomes_of}
 use Rattle.sja_sweep.specs.SweepText.{sweep_text, sweep_rows}
 
@@ -21,17 +22,21 @@ strikes_tried plan s planned = trials_of s (length plan.nodes) planned.bits
 abbrev pub AreTooMany : PlanValue → ℕ → Type 0
 AreTooMany plan runs = (20000 < runs) ⊎ (2000000000 < runs * plan.bits)
 
--- there is a log of the plan as it is, and one of the plan with each of what is tried, and these are the texts
+-- there is a run of the plan as it is, and one of the plan with each of what is tried, and these are the texts, by the
+-- logs and the errors of these runs; so many runs may be made, and with the strikes of a run more the plan strikes at
+-- most 1,000 bits
 pub record IsSweep (plan : PlanValue) (s : Sweeping) (text rows : List ℕ) : Type 0 where
-  pub planned : RunValue
-  pub logs : List RunValue
-  pub as_planned : IsSerialRun plan planned
-  pub as_struck : AllZip (λ (t : Trial) (log : RunValue). IsSerialRun (struck_by plan t) log)
-      (strikes_tried plan s planned) logs
-  pub text_is : text ≡ sweep_text s.changed planned (outcomes_of planned (strikes_tried plan s planned) logs)
-  pub rows_are : rows ≡ sweep_rows (outcomes_of planned (strikes_tried plan s planned) logs)
-  pub few : s.meant ≡ false → (length (strikes_tried plan s planned) ≤ 20000)
-      × (length (strikes_tried plan s planned) * plan.bits ≤ 2000000000)
+  pub planned : RanValue
+  pub runs : List RanValue
+  pub as_planned : IsRan plan planned
+  pub as_struck : AllZip (λ (t : Trial) (r : RanValue). IsRan (struck_by plan t) r)
+      (strikes_tried plan s planned.log) runs
+  pub text_is : text
+      ≡ sweep_text s.changed planned.log (outcomes_of planned (strikes_tried plan s planned.log) runs)
+  pub rows_are : rows ≡ sweep_rows (outcomes_of planned (strikes_tried plan s planned.log) runs)
+  pub few : s.meant ≡ false → (length (strikes_tried plan s planned.log) ≤ 20000)
+      × (length (strikes_tried plan s planned.log) * plan.bits ≤ 2000000000)
+  pub room : 0 < length (strikes_tried plan s planned.log) → times_in plan.strikes + strikes_a_run s.pairs ≤ 1000
   pub node : (node : ℕ) → s.node ≡ Some node → node < length plan.nodes
 
 -- too many runs, and it isn't said that they are meant

@@ -5,41 +5,41 @@ ghost use Rattle.sja_plan.specs.Plan.{times_in};
 ghost use Rattle.sja_sweep.specs.declared.sweep_fault.SweepFault.TheVariants.{NoNode, TooMany, StrikeCount};
 ghost use Rattle.sja_sweep.specs.Targets.{strikes_a_run};
 ghost use Rattle.sja_sweep.specs.Sweeps.{IsSweepFault, AreTooMany};
-ghost use Rattle.sja_sweep.specs.Inside.Reaching.{NamesNodeBelow, NamesNodePast};
+ghost use Rattle.sja_sweep.specs.Inside.Reaching.{ran_value, NamesNodeBelow, NamesNodePast};
 ghost use Rattle.sja_sweep.specs.Inside.Tried.{IsBegun};
 
 use super::asked::asked_of;
 use super::limits::{MOST_RUNS, MOST_SWEPT_BITS};
+use super::ran::{Ran, run_plan};
 use super::sweep_fault::SweepFault;
 use super::sweeping::Sweeping;
 use super::trial::Trial;
 use super::trials::{run_count, trials_of};
-use sja_log::RunLog;
 use sja_plan::{MOST_STRIKES, Plan};
-use sja_serial::run_serial;
 use std::alloc::Global;
 
 /// The beginning of a sweep: the run of the plan as it is, and what is to be tried.
 #[derive(Drop)]
 pub(crate) struct Begun {
-    /// The log of the plan as it is.
-    pub(crate) planned: RunLog,
+    /// The run of the plan as it is.
+    pub(crate) planned: Ran,
     /// What is to be tried.
     pub(crate) trials: Vec<Trial>,
 }
 
 /// Runs the plan as it is, and lists what is to be tried.
 pub(crate) fn begin(alloc: Global, plan: &Plan, sweeping: &Sweeping) -> Result<Begun, SweepFault>
-    ensures ok { IfOk result (λ b. IsBegun plan.now sweeping.now b.planned b.trials.items) }
+    ensures ok { IfOk result (λ b. IsBegun plan.now sweeping.now (ran_value b.planned) b.trials.items) }
     ensures err { IfErr result (IsSweepFault plan.now sweeping.now) }
 {
     check_node(sweeping, plan.nodes())?;
-    let planned = run_serial(alloc, plan)?;
-    let asked = asked_of(sweeping, plan.nodes(), planned.bits());
-    let runs = run_count(sweeping, plan.nodes(), planned.bits(), asked);
+    let planned = run_plan(alloc, plan)?;
+    let bits = planned.log.bits();
+    let asked = asked_of(sweeping, plan.nodes(), bits);
+    let runs = run_count(sweeping, plan.nodes(), bits, asked);
     check_runs(sweeping, plan, runs)?;
     check_room(sweeping, plan, runs)?;
-    let trials = trials_of(alloc, sweeping, plan.nodes(), planned.bits(), asked)?;
+    let trials = trials_of(alloc, sweeping, plan.nodes(), bits, asked)?;
     Ok(Begun { planned, trials })
 }
 

@@ -1,15 +1,15 @@
 //! The runs of a sweep in several threads.
 
 ghost use Rattle.std.specs.Prelude.{◌≡◌, ◌<◌, ◌≤◌, length, All, IfOk, IfErr, map};
-ghost use Rattle.sja_log.specs.Runs.{IsSerialRun};
-ghost use Rattle.sja_sweep.specs.Inside.Reaching.{told_value, IsThere, IsTrialFault};
+ghost use Rattle.sja_sweep.specs.Errors.{IsRan};
+ghost use Rattle.sja_sweep.specs.Inside.Reaching.{ran_value, told_value, IsThere, IsTrialFault};
 ghost use Rattle.sja_sweep.specs.Inside.Tried.{AreTried};
 
+use super::ran::Ran;
 use super::runs::all_tried;
 use super::sweep_fault::SweepFault;
 use super::told::Told;
 use super::trial::Trial;
-use sja_log::RunLog;
 use sja_plan::Plan;
 use std::alloc::Global;
 use std::thread::{Threads, map_chunks};
@@ -20,20 +20,21 @@ pub(crate) fn tried_in_jobs<R: Threads + Sync>(
     rt: &R,
     alloc: Global,
     plan: &Plan,
-    planned: &RunLog,
+    planned: &Ran,
     trials: &[Trial],
     jobs: usize,
 ) -> Result<Vec<Told>, SweepFault>
-    requires planned { IsSerialRun plan.now planned.now }
+    requires planned { IsRan plan.now (ran_value planned.now) }
     requires there { All (IsThere plan.now) trials.now }
-    ensures ok { IfOk result (λ tolds. AreTried plan.now planned.now trials.now (map told_value tolds.items)) }
+    ensures ok { IfOk result (λ tolds.
+        AreTried plan.now (ran_value planned.now) trials.now (map told_value tolds.items)) }
     ensures err { IfErr result IsTrialFault }
 {
     let size = trials.len().div_ceil(jobs.max(1)).max(1);
     let part = |_: usize, trials: &[Trial]| -> Result<Vec<Told>, SweepFault>
-        requires { IsSerialRun plan.now planned.now × All (IsThere plan.now) trials.now }
+        requires { IsRan plan.now (ran_value planned.now) × All (IsThere plan.now) trials.now }
         ensures { IfOk result (λ tolds.
-            AreTried plan.entry.now planned.entry.now trials.entry.now (map told_value tolds.items))
+            AreTried plan.entry.now (ran_value planned.entry.now) trials.entry.now (map told_value tolds.items))
             × IfErr result IsTrialFault }
     { all_tried(alloc, plan, planned, trials) };
     let parts = map_chunks(rt, alloc, trials, size, &part)?;

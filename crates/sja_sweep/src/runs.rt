@@ -3,31 +3,31 @@
 ghost use Rattle.std.specs.Prelude.{◌≡◌, ◌+◌, ◌<◌, ◌≤◌, length, All, IfOk, IfErr, map};
 ghost use Rattle.sja_plan.specs.Plan.{times_in};
 ghost use Rattle.sja_plan.specs.Struck.{struck_at};
-ghost use Rattle.sja_log.specs.Runs.{IsSerialRun};
+ghost use Rattle.sja_sweep.specs.Errors.{IsRan};
 ghost use Rattle.sja_sweep.specs.declared.sweep_fault.SweepFault.TheVariants.{Memory};
 ghost use Rattle.sja_sweep.specs.Targets.{struck_by};
-ghost use Rattle.sja_sweep.specs.Inside.Reaching.{told_value, IsThere, IsTrialFault};
+ghost use Rattle.sja_sweep.specs.Inside.Reaching.{ran_value, told_value, IsThere, IsTrialFault};
 ghost use Rattle.sja_sweep.specs.Inside.Tried.{IsTried, AreTried};
 
+use super::ran::{Ran, run_plan};
 use super::sweep_fault::SweepFault;
 use super::target::Target;
 use super::told::{Told, told_of};
 use super::trial::Trial;
-use sja_log::RunLog;
 use sja_plan::Plan;
-use sja_serial::run_serial;
 use std::alloc::Global;
 
 /// What came of each trial, in order.
 pub(crate) fn all_tried(
     alloc: Global,
     plan: &Plan,
-    planned: &RunLog,
+    planned: &Ran,
     trials: &[Trial],
 ) -> Result<Vec<Told>, SweepFault>
-    requires planned { IsSerialRun plan.now planned.now }
+    requires planned { IsRan plan.now (ran_value planned.now) }
     requires there { All (IsThere plan.now) trials.now }
-    ensures ok { IfOk result (λ tolds. AreTried plan.now planned.now trials.now (map told_value tolds.items)) }
+    ensures ok { IfOk result (λ tolds.
+        AreTried plan.now (ran_value planned.now) trials.now (map told_value tolds.items)) }
     ensures err { IfErr result IsTrialFault }
 {
     let mut tolds = Vec::new(alloc);
@@ -37,16 +37,16 @@ pub(crate) fn all_tried(
     Ok(tolds)
 }
 
-/// What came of one trial: the plan is run with it, and the log is dropped once its outcome is told.
-fn tried(alloc: Global, plan: &Plan, planned: &RunLog, trial: Trial) -> Result<Told, SweepFault>
-    requires planned { IsSerialRun plan.now planned.now }
+/// What came of one trial: the plan is run with it, and the run is dropped once its outcome is told.
+fn tried(alloc: Global, plan: &Plan, planned: &Ran, trial: Trial) -> Result<Told, SweepFault>
+    requires planned { IsRan plan.now (ran_value planned.now) }
     requires there { IsThere plan.now trial }
-    ensures ok { IfOk result (λ told. IsTried plan.now planned.now trial (told_value told)) }
+    ensures ok { IfOk result (λ told. IsTried plan.now (ran_value planned.now) trial (told_value told)) }
     ensures err { IfErr result IsTrialFault }
 {
     let struck = struck_by(alloc, plan, trial)?;
-    let log = run_serial(alloc, &struck)?;
-    Ok(told_of(alloc, planned, trial, &log)?)
+    let now = run_plan(alloc, &struck)?;
+    Ok(told_of(alloc, planned, trial, &now)?)
 }
 
 /// The plan with one strike more, or two.

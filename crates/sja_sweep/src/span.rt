@@ -4,7 +4,7 @@ ghost use Rattle.std.specs.Prelude.{◌≡◌, ◌+◌, ◌==◌, ◌&&◌};
 ghost use Rattle.sja_sweep.specs.Spans.{is_next, are_next, span_of, goes_on, joined};
 ghost use Rattle.sja_sweep.specs.Inside.Reaching.{told_value, span_value};
 
-use super::parting::Parting;
+use super::first_error::FirstError;
 use super::target::Target;
 use super::told::Told;
 use super::trial::Trial;
@@ -16,10 +16,10 @@ pub(crate) struct Span<'a> {
     pub(crate) first: Trial,
     /// What is struck in the last one.
     pub(crate) last: Trial,
-    /// Where the first run parts from the one as planned.
-    pub(crate) from: Option<Parting>,
-    /// Where the last one does.
-    pub(crate) to: Option<Parting>,
+    /// The first error of the first run.
+    pub(crate) from: Option<FirstError>,
+    /// That of the last one.
+    pub(crate) to: Option<FirstError>,
     /// The outcome.
     pub(crate) words: &'a str,
     /// Whether it is another one than that of the plan as it is.
@@ -38,8 +38,8 @@ impl<'a> Span<'a> {
         Span {
             first: told.trial,
             last: told.trial,
-            from: told.parting,
-            to: told.parting,
+            from: told.error,
+            to: told.error,
             words: told.words.as_str(),
             changed: told.changed,
         }

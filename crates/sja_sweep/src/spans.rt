@@ -8,7 +8,7 @@ ghost use Rattle.sja_sweep.specs.SweepText.{target_row, second_row, row_beginnin
 ghost use Rattle.sja_sweep.specs.SweepText.{sweep_rows};
 ghost use Rattle.sja_sweep.specs.Inside.Reaching.{told_value, span_value};
 
-use super::parts::put_partings;
+use super::error_words::put_errors;
 use super::span::Span;
 use super::target::Target;
 use super::told::Told;
@@ -53,7 +53,7 @@ fn put_span(text: &mut String, span: Span<'_>) -> Result<(), AllocError>
     ensures { OnOk result (string_bytes text.new ≡ string_bytes text.old ++ span_line (span_value span.entry)) }
 {
     put_struck(text, span.first, span.last)?;
-    put_partings(text, span.from, span.to)?;
+    put_errors(text, span.from, span.to)?;
     text.push_str(span.words)?;
     text.push('\n')?;
     Ok(())
@@ -112,7 +112,7 @@ fn put_row(text: &mut String, told: &Told) -> Result<(), AllocError>
     ensures { OnOk result (string_bytes text.new ≡ string_bytes text.old ++ row_line (told_value told.now)) }
 {
     put_kind(text, told.trial, told.changed)?;
-    put_partings(text, told.parting, told.parting)?;
+    put_errors(text, told.error, told.error)?;
     text.push_str(told.words.as_str())?;
     text.push('\n')?;
     Ok(())

@@ -2,13 +2,14 @@
 
 ghost use Rattle.std.specs.Prelude.{◌≡◌, ◌++◌, length, string_bytes, IfOk, OnOk};
 ghost use Rattle.sja_sweep.specs.Outcome.{outcome_words, outcome_of};
-ghost use Rattle.sja_sweep.specs.Inside.Reaching.{told_value};
+ghost use Rattle.sja_sweep.specs.Inside.Reaching.{ran_value, told_value};
 
 use super::counters::put_counters;
+use super::first_error::{FirstError, first_error};
 use super::nodes::put_all;
-use super::parting::{Parting, parting_of};
+use super::ran::Ran;
 use super::trial::Trial;
-use sja_log::{NodeRun, RunLog};
+use sja_log::NodeRun;
 use std::alloc::{AllocError, Global};
 
 /// What came of one trial. It keeps words alone of the run.
@@ -16,36 +17,33 @@ use std::alloc::{AllocError, Global};
 pub(crate) struct Told {
     /// What was struck.
     pub(crate) trial: Trial,
-    /// Where the run parts from the one as planned.
-    pub(crate) parting: Option<Parting>,
+    /// The first error that the run has and the one as planned hasn't.
+    pub(crate) error: Option<FirstError>,
     /// What is otherwise, and the error counters.
     pub(crate) words: String,
     /// Whether anything is otherwise but levels and error counters.
     pub(crate) changed: bool,
 }
 
-/// What came of a trial, by the log without it and the log with it.
+/// What came of a trial, by the run without it and the run with it.
 pub(crate) fn told_of(
     alloc: Global,
-    without: &RunLog,
+    without: &Ran,
     trial: Trial,
-    now: &RunLog,
+    now: &Ran,
 ) -> Result<Told, AllocError>
-    requires { length without.now.nodes ≡ length now.now.nodes }
-    ensures { IfOk result (λ told. told_value told ≡ outcome_of without.now trial now.now) }
+    requires nodes { length without.now.log.nodes ≡ length now.now.log.nodes }
+    requires errors { length without.now.errors.items ≡ length now.now.errors.items }
+    ensures { IfOk result (λ told. told_value told
+        ≡ outcome_of (ran_value without.now) trial (ran_value now.now)) }
 {
     let mut items = String::new(alloc);
-    put_all(alloc, &mut items, without, now)?;
+    put_all(alloc, &mut items, &without.log, &now.log)?;
     let mut words = String::new(alloc);
-    put_words(&mut words, items.as_str(), now.nodes())?;
-    let bits = if now.bits() < without.bits() {
-        now.bits()
-    } else {
-        without.bits()
-    };
+    put_words(&mut words, items.as_str(), now.log.nodes())?;
     Ok(Told {
         trial,
-        parting: parting_of(without.nodes(), now.nodes(), bits),
+        error: first_error(without.errors.as_slice(), now.errors.as_slice()),
         words,
         changed: !items.as_str().is_empty(),
     })

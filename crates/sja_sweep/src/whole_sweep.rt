@@ -11,14 +11,14 @@ use super::sweeping::Sweeping;
 use super::swept::Swept;
 use super::written::written;
 use sja_plan::Plan;
-use std::alloc::{AllocGlobal, Global};
+use std::alloc::Global;
 use std::thread::Threads;
 
 /// Runs a plan as it is, and then with what is tried: one strike more, or two, one run after the other. It tells what
 /// came of each trial, against the run of the plan as it is.
 ///
-/// The texts are those of the logs of just these runs, each a log as [`run_serial`](sja_serial::run_serial) promises
-/// it.
+/// The texts are those of just these runs: of their logs, each as [`run_serial`](sja_serial::run_serial) promises it,
+/// and of the errors in each bit of each node.
 ///
 /// Errors: [`SweepFault::NoNode`] where a node is asked for that the plan doesn't have; [`SweepFault::TooMany`] where
 /// there are more runs than 20,000, or where these times the plan's bits are more than 2,000,000,000, unless so many
@@ -32,17 +32,23 @@ pub fn sweep(alloc: Global, plan: &Plan, sweeping: &Sweeping) -> Result<Swept, S
 {
     let begun = begin(alloc, plan, sweeping)?;
     let tolds = all_tried(alloc, plan, &begun.planned, begun.trials.as_slice())?;
-    let swept = written(alloc, sweeping.changed, &begun.planned, tolds.as_slice())?;
+    let swept = written(
+        alloc,
+        sweeping.changed,
+        &begun.planned.log,
+        tolds.as_slice(),
+    )?;
     Ok(swept)
 }
 
 /// The same in so many threads, 0 as 1: what is tried is cut into so many parts of equal length, the last one maybe
 /// shorter, and each part is a thread's own, where a thread can be made. The texts are the same for each number.
 ///
-/// A log is dropped once its outcome is told, so that there are no more logs at one time than threads, beside that of
+/// A run is dropped once its outcome is told, so that there are no more runs at one time than threads, beside that of
 /// the plan as it is. The errors are those of [`sweep`].
-pub fn sweep_jobs<R: Threads + AllocGlobal + Sync>(
+pub fn sweep_jobs<R: Threads + Sync>(
     rt: &R,
+    alloc: Global,
     plan: &Plan,
     sweeping: &Sweeping,
     jobs: usize,
@@ -51,19 +57,13 @@ pub fn sweep_jobs<R: Threads + AllocGlobal + Sync>(
         (string_bytes swept.rows)) }
     ensures err { IfErr result (IsSweepFault plan.now sweeping.now) }
 {
-    let begun = begin(rt.alloc(), plan, sweeping)?;
-    let tolds = tried_in_jobs(
-        rt,
-        rt.alloc(),
-        plan,
-        &begun.planned,
-        begun.trials.as_slice(),
-        jobs,
-    )?;
+    let begun = begin(alloc, plan, sweeping)?;
+    let trials = begun.trials.as_slice();
+    let tolds = tried_in_jobs(rt, alloc, plan, &begun.planned, trials, jobs)?;
     let swept = written(
-        rt.alloc(),
+        alloc,
         sweeping.changed,
-        &begun.planned,
+        &begun.planned.log,
         tolds.as_slice(),
     )?;
     Ok(swept)

@@ -10,6 +10,8 @@ use Rattle.sja_plan.specs.declared.plan_fault.PlanFault.{PlanFault}
 use Rattle.sja_plan.specs.declared.plan_fault.PlanFault.TheVariants as plan
 use Rattle.sja_log.specs.declared.run_fault.RunFault.{RunFault}
 use Rattle.sja_log.specs.declared.run_fault.RunFault.TheVariants as run
+use Rattle.sja_texts.specs.declared.sweep_refusal.SweepRefusal.{SweepRefusal}
+use Rattle.sja_texts.specs.declared.sweep_refusal.SweepRefusal.TheVariants as sweep
 use Rattle.sja_texts.specs.declared.command_refusal.CommandRefusal.{CommandRefusal}
 use Rattle.sja_texts.specs.declared.command_refusal.CommandRefusal.TheVariants as refusal
 
@@ -60,6 +62,17 @@ run_fault_text (run.Bus fault) = codes "run fault 3 Bus"
 run_fault_text run.Thread = codes "run fault 4 Thread"
 run_fault_text run.Unsettled = codes "run fault 5 Unsettled"
 
+-- why there is no sweep, or no plan with a strike more: of too many runs, how many they are, and how many bits they may
+-- come to
+abbrev pub sweep_refusal_text : SweepRefusal → List ℕ
+sweep_refusal_text sweep.NoNode = codes "sweep fault 1 NoNode"
+sweep_refusal_text (sweep.TooMany runs bits) =
+    codes "sweep fault 2 TooMany: " ++ (decimal runs ++ (codes " runs, " ++ (decimal bits
+    ++ codes " bits, which --yes makes")))
+sweep_refusal_text sweep.StrikeCount = codes "sweep fault 3 StrikeCount"
+sweep_refusal_text sweep.Bit = codes "sweep fault 4 Bit"
+sweep_refusal_text sweep.TooLong = codes "sweep fault 5 TooLong"
+
 -- each refusal's own text
 abbrev pub refusal_text : CommandRefusal → List ℕ
 refusal_text refusal.OutOfMemory = codes "out of memory"
@@ -71,6 +84,7 @@ refusal_text (refusal.Line fault) = line_fault_text fault
 refusal_text (refusal.Notation fault) = notation_fault_text fault
 refusal_text (refusal.Plan fault) = plan_fault_text fault
 refusal_text (refusal.Run fault) = run_fault_text fault
+refusal_text (refusal.Sweep why) = sweep_refusal_text why
 
 -- its line: the program's name before it, a line feed after it
 abbrev pub refusal_line : CommandRefusal → List ℕ

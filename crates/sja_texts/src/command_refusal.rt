@@ -4,6 +4,7 @@ ghost use Rattle.std.specs.Prelude.{◌≡◌};
 ghost use Rattle.sja_texts.specs.Refusal.{layout_fault_text, notation_fault_text, run_fault_text};
 
 use super::plan_fault_text::PlanFaultText;
+use super::sweep_refusal::SweepRefusal;
 use can_bits::LineFault;
 use can_frame::{LayoutFault, OutOfMemory};
 use can_notation::NotationFault;
@@ -34,6 +35,8 @@ pub enum CommandRefusal {
     Plan(PlanFault),
     /// A run has no log.
     Run(RunFault),
+    /// A plan has no sweep, or not with a strike more.
+    Sweep(SweepRefusal),
 }
 
 impl fmt::Display for CommandRefusal {
@@ -61,6 +64,7 @@ impl fmt::Display for CommandRefusal {
             CommandRefusal::Notation(fault) => f.write_str(notation_fault_text(*fault)),
             CommandRefusal::Plan(fault) => write!(f, "{}", PlanFaultText(*fault)),
             CommandRefusal::Run(fault) => f.write_str(run_fault_text(*fault)),
+            CommandRefusal::Sweep(why) => write!(f, "{why}"),
         }
     }
 }

@@ -17,6 +17,7 @@ mod line_text;
 mod message;
 mod notation;
 mod plan_fault_text;
+mod sweep_refusal;
 
 pub use arbitrate::arbitrated;
 pub use command_refusal::CommandRefusal;
@@ -24,3 +25,4 @@ pub use decode::decoded;
 pub use encode::encoded;
 pub use filter::filtered;
 pub use notation::translated;
+pub use sweep_refusal::SweepRefusal;

@@ -5,3 +5,5 @@ pub mod NoFlag
 pub mod Filters
 pub mod Messages
 pub mod Several
+pub mod Numbers
+pub mod PlainSweeps

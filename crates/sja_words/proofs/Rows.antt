@@ -1,5 +1,6 @@
 -- From what the calls on a parse's matches answer to the rows of its subcommand.
-use Rattle.std.proofs.Common.{◌≡◌, ℕ, Bool, true, false, List, [], ◌∷◌, Option, Some, None, refl}
+use Rattle.std.proofs.Common.{◌≡◌, ◌<◌, ◌≤◌, ℕ, Bool, true, false, List, [], ◌∷◌, Option, Some, None, refl, arith}
+use Rattle.std.proofs.Common.{length, slice_index_or}
 use Rattle.std.specs.Prelude.{option_map, option_and_then, find, slice_get, map, Box}
 use Rattle.std.specs.Str.{bytes_eq}
 use Rattle.std.specs.Box.{box_value}
@@ -64,3 +65,16 @@ all_of-entries (x ∷ xs) id = go (bytes_eq x.0.now id) refl (all_of-entries xs 
 pub raw_values-rows : (n : ArgMatches) (id : Text) →
     option_map raw_values (matched_of (found_of n) id) ≡ all_of id (rows_of (found_of n))
 raw_values-rows n id = rw (all_of-entries (found_of n).entries.items id) refl
+
+-- the second of two texts or more behind references
+pub second_now : (vs : List (Bor (List ℕ))) (d : Bor (List ℕ)) → 2 ≤ length vs →
+    slice_get (map (λ v. v.now) vs) 1 ≡ Some (slice_index_or vs 1 d).now
+second_now [] d h = absurd (omega arith)
+second_now (v ∷ []) d h = absurd (omega arith)
+second_now (v ∷ w ∷ vs) d h = refl
+
+-- there is none
+pub no_second : (vs : List (Bor (List ℕ))) → length vs < 2 → slice_get (map (λ v. v.now) vs) 1 ≡ None
+no_second [] h = refl
+no_second (v ∷ []) h = refl
+no_second (v ∷ w ∷ vs) h = absurd (omega arith)

@@ -1,7 +1,8 @@
 -- The command line of `sja`, as the parser's own description of commands (this project's own rule).
-use Rattle.std.specs.Prelude.{codes, true, Some}
+use Rattle.std.specs.Prelude.{ℕ, codes, true, Some}
 use Rattle.clap.specs.Words.{App, Rule, Text, new_app, new_rule, with_rule, with_subcommand}
 use Rattle.clap.specs.declared.builder.action.ArgAction.TheVariants.{Set, SetTrue}
+use Rattle.clap.specs.declared.builder.value_parser.ValueParser.TheVariants.{Unsigned}
 
 -- an argument without a flag, which must be given and takes one text
 abbrev pub text_rule : Text → Rule
@@ -67,10 +68,51 @@ wave_app = new_app (codes "wave")
 abbrev pub check_app : App
 check_app = new_app (codes "check")
 
+-- an option of this name, which takes a number in decimal digits, from the least to the most one
+abbrev pub number_rule : Text → ℕ → ℕ → Rule
+number_rule name least most = record (new_rule name) {
+  long = Some name;
+  action = Some Set;
+  value_names = 1;
+  parser = Some (Unsigned least most);
+}
+
+-- `--plan K B`, which takes two of them, as many digits as the texts of strikes have
+abbrev pub strike_rule : Rule
+strike_rule = record (number_rule (codes "plan") 0 9999999) { value_names = 2 }
+
+-- `sweep`, with the node, the bits and the pairs of bits that are struck
+abbrev pub struck_app : App
+struck_app =
+    with_rule
+    (with_rule
+    (with_rule
+    (with_rule
+    (new_app (codes "sweep"))
+    (number_rule (codes "only") 0 7))
+    (number_rule (codes "from") 0 9999999))
+    (number_rule (codes "to") 0 9999999))
+    (number_rule (codes "pairs") 0 9999999)
+
+-- with what is told of them, and whether so many are meant
+abbrev pub told_app : App
+told_app =
+    with_rule
+    (with_rule
+    (with_rule
+    struck_app
+    (flag_rule (codes "changed")))
+    (flag_rule (codes "rows")))
+    (flag_rule (codes "yes"))
+
+-- with the number of threads, and `--plan K B`
+abbrev pub sweep_app : App
+sweep_app = with_rule (with_rule told_app (number_rule (codes "jobs") 1 64)) strike_rule
+
 -- those and the commands over the run of a plan: `run` and `wave`
 abbrev pub plan_app : App
 plan_app = with_subcommand (with_subcommand notation_app run_app.top) wave_app.top
 
--- the whole
+-- the whole: those, `check` and `sweep`
 abbrev pub sja_app : App
-sja_app = with_subcommand plan_app check_app.top
+sja_app = with_subcommand (with_subcommand plan_app check_app.top) sweep_app.top

@@ -1,13 +1,16 @@
 -- What words ask for (this project's own rule).
 use Rattle.std.specs.Prelude.{◌≡◌, ◌==◌, ◌&&◌, ◌∷◌}
 use Rattle.std.specs.Prelude.{ℕ, Bool, true, false, List, [], length, map, Option, Some, None, codes, option_map}
-use Rattle.std.specs.Prelude.{if◌then◌else◌, nat_lt, nat_le}
+use Rattle.std.specs.Prelude.{if◌then◌else◌, nat_lt, nat_le, not, is_some, option_and_then, slice_get}
 use Rattle.std.specs.List.{list_any}
 use Rattle.std.specs.Str.{bytes_eq}
+use Rattle.std.specs.Str.Parse.{digits_value, without_leading_plus}
+use Rattle.clap.specs.ValueTests.{is_unsigned_in}
 use Rattle.clap.specs.Words.{Kinds, Row, Text, all_of, fault_of, first_of, subcommand_of}
 use Rattle.sja_words.specs.declared.task.Task.{Task}
 use Rattle.sja_words.specs.declared.task.Task.TheVariants.{Encode, Decode, Filter, Arbitrate, Message, Run, Wave}
-use Rattle.sja_words.specs.declared.task.Task.TheVariants.{Check}
+use Rattle.sja_words.specs.declared.task.Task.TheVariants.{Check, Sweep, StruckPlan}
+use Rattle.sja_words.specs.declared.sweep_words.SweepWords.{SweepWords}
 use Rattle.sja_words.specs.CommandLine.{sja_app}
 
 -- the text begins with `-` (45), as a flag does
@@ -29,6 +32,8 @@ pub data Request : Type 0 where
   run : Bool → Request
   wave : Request
   check : Request
+  sweep : SweepWords → Request
+  struck_plan : ℕ → ℕ → Request
 
 -- a task as what it asks for
 abbrev pub request_of : Task → Request
@@ -40,6 +45,8 @@ request_of (Message text) = message text.now
 request_of (Run threads) = run threads
 request_of Wave = wave
 request_of Check = check
+request_of (Sweep asked_for) = sweep asked_for
+request_of (StruckPlan node bit) = struck_plan node bit
 
 -- a mode: whether it is that of a single filter
 abbrev pub single_in : Text → Option Bool
@@ -68,6 +75,100 @@ abbrev pub flag_in : Option Text → Bool
 flag_in None = false
 flag_in (Some value) = bytes_eq value (codes "true")
 
+-- a text as a number in decimal digits, from the least to the most one; a `+` may stand before it
+abbrev pub number_in : ℕ → ℕ → Text → Option ℕ
+number_in least most text =
+    if is_unsigned_in least most text then Some (digits_value 10 (without_leading_plus text)) else None
+
+-- the number of an option, from the least to the most one: another one, where the option doesn't stand
+abbrev pub number_or : ℕ → ℕ → ℕ → Option Text → Option ℕ
+number_or otherwise least most None = Some otherwise
+number_or otherwise least most (Some text) = number_in least most text
+
+-- the number of an option up to the most one: none, where it doesn't stand
+abbrev pub optional_in : ℕ → Option Text → Option (Option ℕ)
+optional_in most None = Some None
+optional_in most (Some text) = option_map Some (number_in 0 most text)
+
+-- a sweep of each node in each bit, one bit a run, of which every line is told, in one thread
+abbrev pub all_swept : SweepWords
+all_swept = record {
+  node = None;
+  first = 0;
+  last = 4294967295;
+  pairs = None;
+  changed = false;
+  rows = false;
+  meant = false;
+  jobs = 1;
+}
+
+-- what `sweep` asks for, by its node, its first and its last bit, how far two bits are apart, the number of threads,
+-- and the flags among the values of its arguments
+abbrev pub words_by : Option (Option ℕ) → Option ℕ → Option ℕ → Option (Option ℕ) → Option ℕ → List Row
+    → Option SweepWords
+words_by (Some only) (Some first) (Some last) (Some pairs) (Some jobs) rows = Some (record {
+  node = only;
+  first = first;
+  last = last;
+  pairs = pairs;
+  changed = flag_in (first_of (codes "changed") rows);
+  rows = flag_in (first_of (codes "rows") rows);
+  meant = flag_in (first_of (codes "yes") rows);
+  jobs = jobs;
+})
+words_by (Some only) (Some first) (Some last) (Some pairs) None rows = None
+words_by (Some only) (Some first) (Some last) None jobs rows = None
+words_by (Some only) (Some first) None pairs jobs rows = None
+words_by (Some only) None last pairs jobs rows = None
+words_by None first last pairs jobs rows = None
+
+-- by the values of its arguments
+abbrev pub words_in : List Row → Option SweepWords
+words_in rows =
+    words_by (optional_in 7 (first_of (codes "only") rows)) (number_or 0 0 9999999 (first_of (codes "from") rows))
+    (number_or 4294967295 0 9999999 (first_of (codes "to") rows))
+    (optional_in 9999999 (first_of (codes "pairs") rows)) (number_or 1 1 64 (first_of (codes "jobs") rows)) rows
+
+-- no option with a number stands beside `--plan`
+abbrev pub has_no_number : List Row → Bool
+has_no_number rows =
+    not (is_some (first_of (codes "only") rows)) && not (is_some (first_of (codes "from") rows))
+    && not (is_some (first_of (codes "to") rows)) && not (is_some (first_of (codes "pairs") rows))
+    && not (is_some (first_of (codes "jobs") rows))
+
+-- no flag does
+abbrev pub has_no_flag : List Row → Bool
+has_no_flag rows =
+    not (flag_in (first_of (codes "changed") rows)) && not (flag_in (first_of (codes "rows") rows))
+    && not (flag_in (first_of (codes "yes") rows))
+
+-- no option stands beside it
+abbrev pub is_alone : List Row → Bool
+is_alone rows = has_no_number rows && has_no_flag rows
+
+-- the second value of an argument
+abbrev pub second_of : Text → List Row → Option Text
+second_of id rows = option_and_then (λ values. slice_get values 1) (all_of id rows)
+
+-- what `--plan K B` asks for, where both are numbers
+abbrev pub struck_by : Option ℕ → Option ℕ → Option Request
+struck_by (Some node) (Some bit) = Some (struck_plan node bit)
+struck_by (Some node) None = None
+struck_by None bit = None
+
+-- what `sweep` asks for, by the first value of `--plan` and the values of its arguments
+abbrev pub sweep_by : Option Text → List Row → Option Request
+sweep_by None rows = option_map sweep (words_in rows)
+sweep_by (Some node) rows =
+    if is_alone rows then struck_by (number_in 0 9999999 node)
+    (option_and_then (number_in 0 9999999) (second_of (codes "plan") rows))
+    else None
+
+-- by the values of its arguments alone
+abbrev pub sweep_in : List Row → Option Request
+sweep_in rows = sweep_by (first_of (codes "plan") rows) rows
+
 -- what a subcommand asks for, by its name and the values of its arguments
 abbrev pub request_by : Text → List Row → Option Request
 request_by name rows =
@@ -81,6 +182,7 @@ request_by name rows =
     else if bytes_eq name (codes "run") then Some (run (flag_in (first_of (codes "threads") rows)))
     else if bytes_eq name (codes "wave") then Some wave
     else if bytes_eq name (codes "check") then Some check
+    else if bytes_eq name (codes "sweep") then sweep_in rows
     else None
 
 -- what the subcommand that was found asks for

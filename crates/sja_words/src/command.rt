@@ -10,6 +10,7 @@ ghost use Rattle.sja_words.specs.CommandLine.{flag_rule, run_app, wave_app, chec
 use super::help::{
     ACR_HELP, AMR_HELP, LINE_HELP, MESSAGE_HELP, MODE_HELP, TEXT_HELP, THREADS_HELP,
 };
+use super::sweep_command::sweep_command;
 use super::task::MOST_MESSAGES;
 use clap::{Arg, ArgAction, Command};
 use std::alloc::{AllocError, Global};
@@ -120,12 +121,15 @@ fn notation_command<'a>(alloc: Global) -> Result<Command<'a>, AllocError>
     frame_command(alloc)?.subcommand(message_command(alloc)?)
 }
 
-/// A flag of this name, which stands or doesn't.
-fn flag<'a>(alloc: Global, name: &'a str) -> Arg<'a>
+/// A flag of this name, which stands or doesn't, with the line of help behind it.
+pub(crate) fn flag<'a>(alloc: Global, name: &'a str, help: &'a str) -> Arg<'a>
     ensures rule { rule_of result ≡ flag_rule name.entry.now }
     ensures local { result.global ≡ false }
 {
-    Arg::new(alloc, name).long(name).action(ArgAction::SetTrue)
+    Arg::new(alloc, name)
+        .long(name)
+        .action(ArgAction::SetTrue)
+        .help(help)
 }
 
 /// `run`, or `run --threads`.
@@ -135,7 +139,7 @@ fn run_command<'a>(alloc: Global) -> Result<Command<'a>, AllocError>
 {
     Command::new(alloc, "run")
         .about("Print the report of a run of the plan on standard input: sja run < plan.toml")
-        .arg(flag(alloc, "threads").help(THREADS_HELP))
+        .arg(flag(alloc, "threads", THREADS_HELP))
 }
 
 /// `wave`.
@@ -172,5 +176,7 @@ fn plan_command<'a>(alloc: Global) -> Result<Command<'a>, AllocError>
 pub(crate) fn sja_command<'a>(alloc: Global) -> Result<Command<'a>, AllocError>
     ensures { IfOk result (λ command. app_of command ≡ sja_app) }
 {
-    plan_command(alloc)?.subcommand(check_command(alloc))
+    plan_command(alloc)?
+        .subcommand(check_command(alloc))?
+        .subcommand(sweep_command(alloc)?)
 }

@@ -5,12 +5,13 @@ ghost use Rattle.clap.specs.Words.{all_of, first_of, found_of, rows_of, subcomma
 ghost use Rattle.sja_words.specs.Words.{arbitrate_in, decode, encode, filter_in, message, request_by, request_in};
 ghost use Rattle.sja_words.specs.Words.{flag_in, request_of, run, single_in};
 
+use super::sweep_found::sweep_task;
 use super::task::Task;
 use arrayvec::ArrayVec;
 use clap::ArgMatches;
 
-/// The task of the subcommand that was found, with its arguments; nothing where its mode is none, or where there aren't
-/// one to eight messages.
+/// The task of the subcommand that was found, with its arguments; nothing where its mode is none, where there aren't
+/// one to eight messages, or where an option stands beside `--plan`.
 pub(crate) fn task_of<'a>(matches: &ArgMatches<'a>) -> Option<Task<'a>>
     ensures { option_map request_of result ≡ request_in (subcommand_rows_of matches.now) }
 {
@@ -31,6 +32,7 @@ fn task_by<'a>(name: &str, arguments: &ArgMatches<'a>) -> Option<Task<'a>>
         "run" => Some(run_task(arguments)),
         "wave" => Some(Task::Wave),
         "check" => Some(Task::Check),
+        "sweep" => sweep_task(arguments),
         _ => None,
     }
 }
@@ -95,11 +97,19 @@ fn message_task<'a>(arguments: &ArgMatches<'a>) -> Option<Task<'a>>
 fn run_task<'a>(arguments: &ArgMatches<'a>) -> Task<'a>
     ensures { request_of result ≡ run (flag_in (first_of (codes "threads") (rows_of (found_of arguments.now)))) }
 {
-    let threads = match text_at(arguments, "threads") {
+    Task::Run {
+        threads: flag_at(arguments, "threads"),
+    }
+}
+
+/// Whether a flag stands.
+pub(crate) fn flag_at<'a>(arguments: &ArgMatches<'a>, id: &str) -> bool
+    ensures { result ≡ flag_in (first_of id.now (rows_of (found_of arguments.now))) }
+{
+    match text_at(arguments, id) {
         Some(value) => value == "true",
         None => false,
-    };
-    Task::Run { threads }
+    }
 }
 
 /// Whether this mode is that of a single filter; nothing where it is no mode.
@@ -114,7 +124,7 @@ fn single_of(mode: &str) -> Option<bool>
 }
 
 /// The text of an argument.
-fn text_at<'a>(arguments: &ArgMatches<'a>, id: &str) -> Option<&'a str>
+pub(crate) fn text_at<'a>(arguments: &ArgMatches<'a>, id: &str) -> Option<&'a str>
     ensures { option_map (λ text. text.now) result ≡ first_of id.now (rows_of (found_of arguments.now)) }
 {
     arguments.get_str(id)

@@ -22,3 +22,30 @@ pub(crate) const TEXT_HELP: &str = "The message, in hexadecimal or in can-utils'
 
 /// `--threads`.
 pub(crate) const THREADS_HELP: &str = "Run each node's driver in a thread of its own";
+
+/// `--only`.
+pub(crate) const ONLY_HELP: &str = "Strike this node alone, counted from 0";
+
+/// `--from`.
+pub(crate) const FROM_HELP: &str = "Strike no bit before this one, counted from 0";
+
+/// `--to`.
+pub(crate) const TO_HELP: &str = "Strike no bit behind this one, counted from 0";
+
+/// `--pairs`.
+pub(crate) const PAIRS_HELP: &str = "Strike two bits in each run, at most D bits apart";
+
+/// `--jobs`.
+pub(crate) const JOBS_HELP: &str = "Make the runs in N threads";
+
+/// `--changed`.
+pub(crate) const CHANGED_HELP: &str = "Print only lines with another outcome";
+
+/// `--rows`.
+pub(crate) const ROWS_HELP: &str = "Print a row for each run instead, for scripts";
+
+/// `--yes`.
+pub(crate) const YES_HELP: &str = "Make more than 20000 runs, or of more than 2000000000 bits";
+
+/// `--plan`.
+pub(crate) const PLAN_HELP: &str = "Print the plan with a strike more instead, of node K in bit B";

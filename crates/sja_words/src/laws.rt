@@ -1,9 +1,9 @@
 //! Laws of the words. Each stands as the contract of a function that does nothing.
 
-ghost use Rattle.std.specs.Prelude.{◌≡◌, ◌==◌, ◌<◌, ◌≤◌, ◌∷◌, [], ℕ, List, codes, false, length, true};
+ghost use Rattle.std.specs.Prelude.{◌≡◌, ◌==◌, ◌<◌, ◌≤◌, ◌∷◌, [], ℕ, List, Some, codes, false, length, true};
 ghost use Rattle.sja_words.specs.Words.{HasNoFlag, ParsesAs, Request, arbitrate, decode, encode, filter, message};
 ghost use Rattle.clap.specs.declared.error.kind.ErrorKind.TheVariants.{DisplayVersion};
-ghost use Rattle.sja_words.specs.Words.{check, faults, run, wave};
+ghost use Rattle.sja_words.specs.Words.{all_swept, check, faults, run, struck_plan, sweep, wave};
 
 /// The program's name, `encode` and a text that doesn't begin with `-` (45) ask for the levels of this message.
 pub fn encode_and_a_text_parse()
@@ -67,6 +67,36 @@ pub fn wave_parses()
 /// The program's name and `check` ask for the first mistake in the plan on the input, or what its run left out.
 pub fn check_parses()
     ensures { (name : List ℕ) → ParsesAs (name ∷ codes "check" ∷ []) check }
+{}
+
+/// The program's name and `sweep` ask for a sweep of the plan on the input: of each node in each bit, where nothing
+/// follows; of the node and the bits that are named; of two bits a run, and in several threads; with what the flags ask
+/// for. A node that no plan has is refused.
+pub fn sweep_parses()
+    ensures all { (name : List ℕ) → ParsesAs (name ∷ codes "sweep" ∷ [])
+        (sweep all_swept) }
+    ensures named { (name : List ℕ) → ParsesAs
+        (name ∷ codes "sweep" ∷ codes "--only" ∷ codes "1" ∷ codes "--from" ∷ codes "23" ∷ codes "--to=60" ∷ [])
+        (sweep (record all_swept { node = Some 1; first = 23; last = 60 })) }
+    ensures pairs { (name : List ℕ) → ParsesAs
+        (name ∷ codes "sweep" ∷ codes "--pairs" ∷ codes "2" ∷ codes "--jobs=4" ∷ [])
+        (sweep (record all_swept { pairs = Some 2; jobs = 4 })) }
+    ensures flags { (name : List ℕ) → ParsesAs
+        (name ∷ codes "sweep" ∷ codes "--changed" ∷ codes "--rows" ∷ codes "--yes" ∷ [])
+        (sweep (record all_swept { changed = true; rows = true; meant = true })) }
+    ensures past { (name : List ℕ) (r : Request)
+        → ¬ ParsesAs (name ∷ codes "sweep" ∷ codes "--only" ∷ codes "8" ∷ []) r }
+{}
+
+/// The program's name, `sweep`, `--plan` and two numbers ask for the plan on the input with a strike more. With one
+/// number, or with another option beside it, they ask for nothing.
+pub fn a_struck_plan_parses()
+    ensures numbers { (name : List ℕ)
+        → ParsesAs (name ∷ codes "sweep" ∷ codes "--plan" ∷ codes "1" ∷ codes "59" ∷ []) (struck_plan 1 59) }
+    ensures one { (name : List ℕ) (r : Request)
+        → ¬ ParsesAs (name ∷ codes "sweep" ∷ codes "--plan" ∷ codes "1" ∷ []) r }
+    ensures beside { (name : List ℕ) (r : Request) → ¬ ParsesAs
+        (name ∷ codes "sweep" ∷ codes "--rows" ∷ codes "--plan" ∷ codes "1" ∷ codes "59" ∷ []) r }
 {}
 
 /// The program's name and `--version` or `-V`, whatever follows, ask for the version: that is all that the parser says

@@ -11,14 +11,18 @@ mod found;
 mod help;
 mod laws;
 mod parsing;
+mod sweep_command;
+mod sweep_found;
+mod sweep_words;
 mod task;
 mod words_fault;
 
 pub use laws::{
-    a_message_is_needed, arbitrate_and_texts_parse, check_parses, decode_and_a_text_parse,
-    encode_and_a_text_parse, filter_and_texts_parse, message_and_a_text_parses, run_parses,
-    version_is_asked_for, wave_parses,
+    a_message_is_needed, a_struck_plan_parses, arbitrate_and_texts_parse, check_parses,
+    decode_and_a_text_parse, encode_and_a_text_parse, filter_and_texts_parse,
+    message_and_a_text_parses, run_parses, sweep_parses, version_is_asked_for, wave_parses,
 };
 pub use parsing::parse;
+pub use sweep_words::SweepWords;
 pub use task::{MOST_MESSAGES, Task};
 pub use words_fault::WordsFault;

@@ -5,8 +5,10 @@ ghost use Rattle.sja_words.specs.Words.{Request, ParsesAs, request_of};
 
 use super::command::{filter_command, sja_command};
 use super::found::task_of;
+use super::sweep_command::sweep_command;
 use super::task::Task;
 use super::words_fault::WordsFault;
+use clap::ArgMatches;
 use clap::error::ErrorKind;
 use std::alloc::{AllocError, Global};
 use std::convert::AsStr;
@@ -24,11 +26,35 @@ pub fn parse<'a, S: AsStr>(alloc: Global, words: &'a [S]) -> Result<Task<'a>, Wo
     match command.try_get_matches_from_mut(words) {
         Ok(matches) => match task_of(&matches) {
             Some(task) => Ok(task),
-            None => Err(WordsFault::Unparsed(mode_text(alloc, shown_name(words))?)),
+            None => Err(WordsFault::Unparsed(refused_text(alloc, shown_name(words), &matches)?)),
         },
         Err(error) if error.kind() == ErrorKind::OutOfMemory => Err(WordsFault::OutOfMemory),
         Err(error) => Err(WordsFault::Unparsed(error.to_string(alloc)?)),
     }
+}
+
+/// What the parser would say of words that it took, and that give no task all the same.
+fn refused_text<'a>(
+    alloc: Global,
+    program: &str,
+    matches: &ArgMatches<'a>,
+) -> Result<String, AllocError> {
+    match matches.subcommand_name() {
+        Some("sweep") => plan_text(alloc, program),
+        _ => mode_text(alloc, program),
+    }
+}
+
+/// What the parser would say, under the program's name `program`, of an option beside `--plan`: with the usage of
+/// `sweep`.
+fn plan_text(alloc: Global, program: &str) -> Result<String, AllocError> {
+    let name = format!(in alloc; "{program} sweep")?;
+    let mut command = sweep_command(alloc)?.bin_name(name.as_str())?;
+    let error = command.error(
+        ErrorKind::ArgumentConflict,
+        "'--plan <K> <B>' can't be used with another option",
+    )?;
+    error.to_string(alloc)
 }
 
 /// What the parser would say, under the program's name `program`, of a MODE that is none: with the usage of `filter`.

@@ -1,5 +1,6 @@
 //! [`Task`]: what the program is asked to do.
 
+use super::sweep_words::SweepWords;
 use arrayvec::ArrayVec;
 
 /// How many messages `arbitrate` takes at most: a bus has one to eight controllers (this project's own rule).
@@ -37,4 +38,13 @@ pub enum Task<'a> {
     Wave,
     /// `check`: the first mistake in the plan on the input, or what its run left out.
     Check,
+    /// `sweep`: what came of each single bit error in the run of the plan on the input.
+    Sweep(SweepWords),
+    /// `sweep --plan K B`: the plan on the input with one strike more.
+    StruckPlan {
+        /// The node that is struck, counted from 0, at most 9,999,999.
+        node: u32,
+        /// The bit that is struck, counted from 0, at most 9,999,999.
+        bit: u32,
+    },
 }

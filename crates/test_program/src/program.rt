@@ -13,5 +13,6 @@ mod message;
 mod refused_memory;
 mod row;
 mod runs;
+mod sweeps;
 mod threads;
 mod waves;

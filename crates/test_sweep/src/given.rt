@@ -32,7 +32,7 @@ pub fn swept_in<R: Threads + AllocGlobal + Sync>(
     jobs: usize,
 ) -> Result<Swept, Fail> {
     let plan = read_plan(rt.alloc(), plan.as_bytes())?;
-    Ok(sweep_jobs(rt, &plan, &sweeping, jobs)?)
+    Ok(sweep_jobs(rt, rt.alloc(), &plan, &sweeping, jobs)?)
 }
 
 /// Why there is no sweep of a plan; nothing where there is one.

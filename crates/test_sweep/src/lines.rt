@@ -25,7 +25,7 @@ const ANOTHER_RECEIVER: &str = "as planned: bits 64 end turns
     ; node 0 tec 0 rec 0
     ; node 1 tec 0 rec 0
     ; node 2 tec 0 rec 0
-node 1 struck at bit 59: parts at node 1 bit 60
+node 1 struck at bit 59: form error at node 1 bit 59
     ; node 2 activation 1 unread more 00 00 00
     ; node 0 tec 7 rec 0
     ; node 1 tec 0 rec 8
@@ -50,12 +50,12 @@ const LOST: &str = "as planned: bits 64 end turns
     ; node 1 activation 1 released 1 unread 0
     ; node 0 tec 0 rec 0
     ; node 1 tec 0 rec 0
-node 0 struck at bits 57-58: parts at node 0 bit 58 to node 0 bit 59
+node 0 struck at bits 57-58: bit error at node 0 bit 57 to bit error at node 0 bit 58
     ; node 1 activation 1 released less 00 00 00
     ; node 1 step 2 refused Empty
     ; node 0 tec 8 rec 0
     ; node 1 tec 0 rec 1
-node 0 struck at bits 59-60: parts at node 0 bit 60 to node 0 bit 61
+node 0 struck at bits 59-60: bit error at node 0 bit 59 to bit error at node 0 bit 60
     ; as without it
     ; node 0 tec 8 rec 0
     ; node 1 tec 0 rec 0

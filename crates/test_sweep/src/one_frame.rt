@@ -31,104 +31,104 @@ const LINES: &str = "as planned: bits 64 end turns
     ; node 1 activation 1 released 1 unread 0
     ; node 0 tec 0 rec 0
     ; node 1 tec 0 rec 0
-node 0 struck at bits 0-10: parts at node 0 bit 11
+node 0 struck at bits 0-10: no error
     ; as without it
     ; node 0 tec 0 rec 0
     ; node 1 tec 0 rec 0
-node 0 struck at bits 11-15: parts at node 0 bit 16
+node 0 struck at bits 11-15: bit error at node 0 bit 11 to bit error at node 0 bit 15
     ; as without it
     ; node 0 tec 7 rec 0
     ; node 1 tec 0 rec 0
-node 0 struck at bit 16: parts at node 0 bit 22
+node 0 struck at bit 16: stuff error at node 0 bit 16
     ; as without it
     ; node 0 tec 0 rec 0
     ; node 1 tec 0 rec 0
-node 0 struck at bits 17-21: parts at node 0 bit 22
+node 0 struck at bits 17-21: bit error at node 0 bit 17 to bit error at node 0 bit 21
     ; as without it
     ; node 0 tec 7 rec 0
     ; node 1 tec 0 rec 0
-node 0 struck at bit 22: parts at node 0 bit 28
+node 0 struck at bit 22: stuff error at node 0 bit 22
     ; as without it
     ; node 0 tec 0 rec 0
     ; node 1 tec 0 rec 0
-node 0 struck at bits 23-58: parts at node 0 bit 28 to node 0 bit 59
+node 0 struck at bits 23-58: bit error at node 0 bit 23 to bit error at node 0 bit 58
     ; as without it
     ; node 0 tec 7 rec 0
     ; node 1 tec 0 rec 0
-node 0 struck at bits 59-60: parts at node 0 bit 60 to node 0 bit 61
+node 0 struck at bits 59-60: bit error at node 0 bit 59 to bit error at node 0 bit 60
     ; node 1 activation 1 released more 00 00 00
     ; node 1 step 3 3
     ; node 0 tec 7 rec 0
     ; node 1 tec 0 rec 0
-node 0 struck at bit 61: parts at node 0 bit 62
+node 0 struck at bit 61: no error
     ; as without it
     ; node 0 tec 0 rec 0
     ; node 1 tec 0 rec 0
-node 0 struck at bit 62: parts at node 0 bit 63
+node 0 struck at bit 62: stuff error at node 1 bit 68
     ; as without it
     ; node 0 tec 0 rec 0
     ; node 1 tec 0 rec 1
-node 0 struck at bit 63: parts at no bit
+node 0 struck at bit 63: stuff error at node 0 bit 69
     ; as without it
     ; node 0 tec 0 rec 9
     ; node 1 tec 0 rec 1
-node 1 struck at bits 0-11: parts at node 1 bit 52
+node 1 struck at bits 0-11: acknowledgement error at node 0 bit 52
     ; as without it
     ; node 0 tec 7 rec 0
     ; node 1 tec 0 rec 0
-node 1 struck at bits 12-15: parts at node 1 bit 51
+node 1 struck at bits 12-15: form error at node 1 bit 50
     ; as without it
     ; node 0 tec 7 rec 0
     ; node 1 tec 0 rec 8
-node 1 struck at bit 16: parts at node 1 bit 17
+node 1 struck at bit 16: stuff error at node 1 bit 16
     ; as without it
     ; node 0 tec 0 rec 0
     ; node 1 tec 0 rec 8
-node 1 struck at bits 17-22: parts at node 1 bit 51 to node 1 bit 23
+node 1 struck at bits 17-22: form error at node 1 bit 50 to stuff error at node 1 bit 22
     ; as without it
     ; node 0 tec 7 rec 0
     ; node 1 tec 0 rec 8
-node 1 struck at bits 23-24: parts at node 1 bit 52
+node 1 struck at bits 23-24: acknowledgement error at node 0 bit 52
     ; as without it
     ; node 0 tec 7 rec 0
     ; node 1 tec 0 rec 0
-node 1 struck at bit 25: parts at node 1 bit 51
+node 1 struck at bit 25: form error at node 1 bit 50
     ; as without it
     ; node 0 tec 7 rec 0
     ; node 1 tec 0 rec 8
-node 1 struck at bits 26-27: parts at node 1 bit 52
+node 1 struck at bits 26-27: acknowledgement error at node 0 bit 52
     ; as without it
     ; node 0 tec 7 rec 0
     ; node 1 tec 0 rec 0
-node 1 struck at bit 28: parts at node 1 bit 29
+node 1 struck at bit 28: stuff error at node 1 bit 28
     ; as without it
     ; node 0 tec 7 rec 0
     ; node 1 tec 0 rec 8
-node 1 struck at bits 29-32: parts at node 1 bit 52
+node 1 struck at bits 29-32: acknowledgement error at node 0 bit 52
     ; as without it
     ; node 0 tec 7 rec 0
     ; node 1 tec 0 rec 0
-node 1 struck at bits 33-46: parts at node 1 bit 51 to node 1 bit 47
+node 1 struck at bits 33-46: form error at node 1 bit 50 to stuff error at node 1 bit 46
     ; as without it
     ; node 0 tec 7 rec 0
     ; node 1 tec 0 rec 8
-node 1 struck at bits 47-50: parts at node 1 bit 52
+node 1 struck at bits 47-50: acknowledgement error at node 0 bit 52
     ; as without it
     ; node 0 tec 7 rec 0
     ; node 1 tec 0 rec 0
-node 1 struck at bits 51-59: parts at node 1 bit 53 to node 1 bit 60
+node 1 struck at bits 51-59: form error at node 1 bit 51 to form error at node 1 bit 59
     ; as without it
     ; node 0 tec 7 rec 0
     ; node 1 tec 0 rec 8
-node 1 struck at bits 60-61: parts at node 1 bit 61 to node 1 bit 62
+node 1 struck at bits 60-61: no error
     ; as without it
     ; node 0 tec 0 rec 0
     ; node 1 tec 0 rec 0
-node 1 struck at bit 62: parts at node 1 bit 63
+node 1 struck at bit 62: stuff error at node 0 bit 68
     ; as without it
     ; node 0 tec 0 rec 1
     ; node 1 tec 0 rec 0
-node 1 struck at bit 63: parts at no bit
+node 1 struck at bit 63: stuff error at node 1 bit 69
     ; as without it
     ; node 0 tec 0 rec 1
     ; node 1 tec 0 rec 9
@@ -141,7 +141,7 @@ const TWICE: &str = "as planned: bits 64 end turns
     ; node 1 activation 1 released 1 unread 0
     ; node 0 tec 0 rec 0
     ; node 1 tec 0 rec 0
-node 0 struck at bits 59-60: parts at node 0 bit 60 to node 0 bit 61
+node 0 struck at bits 59-60: bit error at node 0 bit 59 to bit error at node 0 bit 60
     ; node 1 activation 1 released more 00 00 00
     ; node 1 step 3 3
     ; node 0 tec 7 rec 0
@@ -150,16 +150,16 @@ runs 3, with another outcome 2
 ";
 
 /// And its rows.
-const ROWS: &str = "0 58 same: parts at node 0 bit 59
+const ROWS: &str = "0 58 same: bit error at node 0 bit 58
     ; as without it
     ; node 0 tec 7 rec 0
     ; node 1 tec 0 rec 0
-0 59 other: parts at node 0 bit 60
+0 59 other: bit error at node 0 bit 59
     ; node 1 activation 1 released more 00 00 00
     ; node 1 step 3 3
     ; node 0 tec 7 rec 0
     ; node 1 tec 0 rec 0
-0 60 other: parts at node 0 bit 61
+0 60 other: bit error at node 0 bit 60
     ; node 1 activation 1 released more 00 00 00
     ; node 1 step 3 3
     ; node 0 tec 7 rec 0

@@ -13,11 +13,11 @@ const BOTH: &str = "as planned: bits 64 end turns
     ; node 1 activation 1 released 1 unread 0
     ; node 0 tec 0 rec 0
     ; node 1 tec 0 rec 0
-node 0 struck at bits 58-59, node 1 at bits 58-59: parts at node 0 bit 59 to node 0 bit 60
+node 0 struck at bits 58-59, node 1 at bits 58-59: bit error at node 0 bit 58 to bit error at node 0 bit 59
     ; as without it
     ; node 0 tec 7 rec 0
     ; node 1 tec 0 rec 0
-node 0 struck at bit 60, node 1 at bit 60: parts at node 0 bit 61
+node 0 struck at bit 60, node 1 at bit 60: bit error at node 0 bit 60
     ; node 1 activation 1 released more 00 00 00
     ; node 1 step 3 3
     ; node 0 tec 7 rec 0
@@ -26,15 +26,15 @@ runs 3, with another outcome 1
 ";
 
 /// And its rows.
-const BOTH_ROWS: &str = "0 58 1 58 same: parts at node 0 bit 59
+const BOTH_ROWS: &str = "0 58 1 58 same: bit error at node 0 bit 58
     ; as without it
     ; node 0 tec 7 rec 0
     ; node 1 tec 0 rec 0
-0 59 1 59 same: parts at node 0 bit 60
+0 59 1 59 same: bit error at node 0 bit 59
     ; as without it
     ; node 0 tec 7 rec 0
     ; node 1 tec 0 rec 0
-0 60 1 60 other: parts at node 0 bit 61
+0 60 1 60 other: bit error at node 0 bit 60
     ; node 1 activation 1 released more 00 00 00
     ; node 1 step 3 3
     ; node 0 tec 7 rec 0
@@ -57,23 +57,23 @@ const SIX: &str = "as planned: bits 2 end turns
     ; node 1 activation 1 released 0 unread 0
     ; node 0 tec 0 rec 0
     ; node 1 tec 0 rec 0
-node 0 struck at bit 0, node 0 at bit 1: parts at no bit
+node 0 struck at bit 0, node 0 at bit 1: no error
     ; as without it
     ; node 0 tec 0 rec 0
     ; node 1 tec 0 rec 0
-node 0 struck at bits 0-1, node 1 at bits 0-1: parts at no bit
+node 0 struck at bits 0-1, node 1 at bits 0-1: no error
     ; as without it
     ; node 0 tec 0 rec 0
     ; node 1 tec 0 rec 0
-node 0 struck at bit 0, node 1 at bit 1: parts at no bit
+node 0 struck at bit 0, node 1 at bit 1: no error
     ; as without it
     ; node 0 tec 0 rec 0
     ; node 1 tec 0 rec 0
-node 1 struck at bit 0, node 0 at bit 1: parts at no bit
+node 1 struck at bit 0, node 0 at bit 1: no error
     ; as without it
     ; node 0 tec 0 rec 0
     ; node 1 tec 0 rec 0
-node 1 struck at bit 0, node 1 at bit 1: parts at no bit
+node 1 struck at bit 0, node 1 at bit 1: no error
     ; as without it
     ; node 0 tec 0 rec 0
     ; node 1 tec 0 rec 0

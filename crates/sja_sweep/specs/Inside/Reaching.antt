@@ -1,13 +1,15 @@
 -- The views of private types, and parts of the texts.
 use Rattle.std.specs.Prelude.{◌≡◌, ◌==◌, ◌+◌, ◌<◌, ◌≤◌, ℕ, if◌then◌else◌, Option, Some, None, List, [], ◌++◌, length}
+use Rattle.std.specs.Prelude.{map}
 use Rattle.std.specs.Prelude.{codes, decimal, string_bytes}
-use Rattle.std.specs.List.{range_with_len}
-use Rattle.std.specs.Option.{option_map}
+use Rattle.std.specs.List.{AllZip, range_with_len}
 use Rattle.lemmas.specs.Gathering.{gathered}
 use Rattle.sja_plan.specs.Plan.{PlanValue, times_in}
 use Rattle.sja_log.specs.Log.{NodeValue}
 use Rattle.sja_log.specs.declared.run_fault.RunFault.TheVariants.{Memory as NoMemory}
-use Rattle.sja_sweep.specs.declared.parting.Parting.{Parting}
+use Rattle.can_node.specs.declared.cause.Cause.{Cause}
+use Rattle.sja_sweep.specs.declared.ran.Ran.{Ran}
+use Rattle.sja_sweep.specs.Errors.{HasErrors, RanValue}
 use Rattle.sja_sweep.specs.declared.span.Span.{Span}
 use Rattle.sja_sweep.specs.declared.sweep_fault.SweepFault.{SweepFault}
 use Rattle.sja_sweep.specs.declared.sweep_fault.SweepFault.TheVariants.{NoNode, TooMany, StrikeCount, Run, Memory}
@@ -25,7 +27,7 @@ use Rattle.sja_sweep.specs.SweepText.{short_node}
 abbrev pub told_value : Told → Outcome
 told_value t = record {
   trial = t.trial;
-  parting = t.parting;
+  error = t.error;
   words = string_bytes t.words;
   changed = t.changed;
 }
@@ -41,9 +43,14 @@ span_value s = record {
   changed = s.changed;
 }
 
--- the bit of a node, if there is one
-abbrev pub part_of : ℕ → Option ℕ → Option Parting
-part_of node bit = option_map (λ b. record { node = node; bit = b }) bit
+-- a run and its errors, as lists
+abbrev pub ran_value : Ran → RanValue
+ran_value r = record { log = r.log; errors = map (λ v. v.items) r.errors.items }
+
+-- the errors of each node
+abbrev pub HaveErrors : List NodeValue → List (List (Option Cause)) → Type 0
+HaveErrors nodes all =
+    AllZip (λ (n : NodeValue) (errors : List (Option Cause)). HasErrors n.journal errors) nodes all
 
 -- how often a node went bus-off, by the two numbers
 abbrev pub off_item_by : ℕ → ℕ → ℕ → List ℕ

@@ -1,52 +1,52 @@
 -- What was tried, and their outcomes.
-use Rattle.std.specs.Prelude.{◌≡◌, ◌*◌, ◌≤◌, ℕ, false, List, [], ◌∷◌, ◌++◌, length, All, map, take, drop}
+use Rattle.std.specs.Prelude.{◌≡◌, ◌+◌, ◌*◌, ◌<◌, ◌≤◌, ℕ, false, List, [], ◌∷◌, ◌++◌, length, All, map, take, drop}
 use Rattle.std.specs.Prelude.{Result, IfOk, IfErr}
 use Rattle.std.specs.List.{AllZip}
-use Rattle.sja_plan.specs.Plan.{PlanValue}
-use Rattle.sja_log.specs.Log.{RunValue}
-use Rattle.sja_log.specs.Runs.{IsSerialRun}
+use Rattle.sja_plan.specs.Plan.{PlanValue, times_in}
+use Rattle.sja_sweep.specs.Errors.{RanValue, IsRan}
 use Rattle.sja_sweep.specs.declared.sweep_fault.SweepFault.{SweepFault}
 use Rattle.sja_sweep.specs.declared.told.Told.{Told}
 use Rattle.sja_sweep.specs.declared.trial.Trial.{Trial}
-use Rattle.sja_sweep.specs.Targets.{struck_by}
+use Rattle.sja_sweep.specs.Targets.{strikes_a_run, struck_by}
 use Rattle.sja_sweep.specs.declared.sweeping.Sweeping.{Sweeping}
 use Rattle.sja_sweep.specs.Sweeps.{strikes_tried}
 use Rattle.sja_sweep.specs.Inside.Reaching.{told_value, IsThere, IsTrialFault, NamesNodeBelow}
 use Rattle.sja_sweep.specs.Outcome.{Outcome, outcome_of}
 
 -- the outcome is that of a run of the plan with what is tried, against the run as planned
-pub record IsTried (plan : PlanValue) (planned : RunValue) (t : Trial) (o : Outcome) : Type 0 where
-  pub log : RunValue
-  pub run : IsSerialRun (struck_by plan t) log
-  pub outcome : o ≡ outcome_of planned t log
+pub record IsTried (plan : PlanValue) (planned : RanValue) (t : Trial) (o : Outcome) : Type 0 where
+  pub ran : RanValue
+  pub run : IsRan (struck_by plan t) ran
+  pub outcome : o ≡ outcome_of planned t ran
 
 -- each of them
-abbrev pub AreTried : PlanValue → RunValue → List Trial → List Outcome → Type 0
+abbrev pub AreTried : PlanValue → RanValue → List Trial → List Outcome → Type 0
 AreTried plan planned targets outcomes = AllZip (IsTried plan planned) targets outcomes
 
--- a sweep is begun: the run of the plan as it is, and what is to be tried, which is not too much
-pub record IsBegun (plan : PlanValue) (s : Sweeping) (planned : RunValue) (trials : List Trial) : Type 0 where
-  pub as_planned : IsSerialRun plan planned
-  pub trials_are : trials ≡ strikes_tried plan s planned
+-- a sweep is begun: the run of the plan as it is, and what is to be tried, which is not too much and has room in a plan
+pub record IsBegun (plan : PlanValue) (s : Sweeping) (planned : RanValue) (trials : List Trial) : Type 0 where
+  pub as_planned : IsRan plan planned
+  pub trials_are : trials ≡ strikes_tried plan s planned.log
   pub there : All (IsThere plan) trials
   pub few : s.meant ≡ false → (length trials ≤ 20000) × (length trials * plan.bits ≤ 2000000000)
+  pub room : 0 < length trials → times_in plan.strikes + strikes_a_run s.pairs ≤ 1000
   pub node : NamesNodeBelow s (length plan.nodes)
 
 -- what came of the trials of a part, or why nothing came
-abbrev pub IsPartTried : {V : Type 0} → (V → List Told) → PlanValue → RunValue → List Trial → Result V SweepFault →
+abbrev pub IsPartTried : {V : Type 0} → (V → List Told) → PlanValue → RanValue → List Trial → Result V SweepFault →
     Type 0
 IsPartTried items plan planned trials r =
     IfOk r (λ tolds. AreTried plan planned trials (map told_value (items tolds))) × IfErr r IsTrialFault
 
 -- of all parts, each of so many trials but the last one, which may have fewer
-abbrev pub ArePartsTried : {V : Type 0} → (V → List Told) → PlanValue → RunValue → ℕ → List Trial →
+abbrev pub ArePartsTried : {V : Type 0} → (V → List Told) → PlanValue → RanValue → ℕ → List Trial →
     List (Result V SweepFault) → Type 0
 ArePartsTried items plan planned size trials [] = trials ≡ []
 ArePartsTried items plan planned size trials (p ∷ ps) =
     IsPartTried items plan planned (take size trials) p × ArePartsTried items plan planned size (drop size trials) ps
 
 -- what came of the first trials, and the parts that are left
-pub record AreJoined {V : Type 0} (items : V → List Told) (plan : PlanValue) (planned : RunValue) (size : ℕ)
+pub record AreJoined {V : Type 0} (items : V → List Told) (plan : PlanValue) (planned : RanValue) (size : ℕ)
     (trials : List Trial) (all : List Told) (parts : List (Result V SweepFault)) : Type 0 where
   pub done : List Trial
   pub left : List Trial

@@ -7,7 +7,7 @@ use std::io::{Read, Write};
 /// What the program answered, and what it wrote to memory.
 #[derive(Drop)]
 pub struct Answer {
-    /// The exit status; none where the words ask for a run in threads.
+    /// The exit status; none where the words ask for threads.
     pub status: Option<u8>,
     /// What is on the output.
     pub written: Vec<u8>,
@@ -25,7 +25,7 @@ pub fn call<R: Read, O: Write, E: Write>(
     out: &mut Output<O>,
     err: &mut Output<E>,
 ) -> Option<u8> {
-    sja_serial(alloc, words, input, out, err)
+    sja_serial(alloc, words, input, out, err).ok()
 }
 
 /// What the program answers to these words, its name first, over this input.

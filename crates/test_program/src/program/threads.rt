@@ -115,6 +115,20 @@ fn a_run_in_threads_prints_its_report(rt: HostRuntime) -> Result<(), Fail> {
     Ok(())
 }
 
+#[test]
+fn a_sweep_in_threads_prints_that_of_one_thread(rt: HostRuntime) -> Result<(), Fail> {
+    let alone = printed(&rt, rt.alloc(), &["sja", "sweep", "--to", "4"], ALONE)?;
+    let among = printed(
+        &rt,
+        rt.alloc(),
+        &["sja", "sweep", "--to", "4", "--jobs", "3"],
+        ALONE,
+    )?;
+    assert!(rt; alone.ends_with(b"runs 5, with another outcome 0\n"));
+    assert!(rt; among == alone);
+    Ok(())
+}
+
 /// Each driver waits for what it needs, so no schedule changes the report but for what it ends with.
 #[test]
 fn a_plan_without_a_race_has_the_report_of_one_thread(rt: HostRuntime) -> Result<(), Fail> {

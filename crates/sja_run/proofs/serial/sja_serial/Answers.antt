@@ -1,7 +1,7 @@
 use Rattle.std.proofs.Common.{rules, inl, inr, ap, Some}
 use Rattle.sja_words.specs.Words.{request_of}
 use Rattle.sja_texts.specs.declared.command_refusal.CommandRefusal.TheVariants as refusal
-use Rattle.sja_run.proofs.FewBytes.{unread, only_runs_read}
+use Rattle.sja_run.proofs.FewBytes.{unread}
 use Rattle.sja_run.proofs.RefusedMemory.{memory_refused}
 use Rattle.sja_run.proofs.Requests.{asks_one}
 use Rattle.sja_run.proofs.serial.sja_serial.Goals as goal
@@ -11,16 +11,9 @@ pub returns-in-Err-Unparsed-clause-answered : goal.returns-in-Err-Unparsed-claus
 returns-in-Err-Unparsed-clause-answered g c = λ r parses _ _ _. search (rules, c.parse.ensures.refused r parses)
 
 -- the words ask for nothing but the task
-pub returns-in-Ok-2-clause-answered : goal.returns-in-Ok-2-clause-answered
-returns-in-Ok-2-clause-answered g c = λ r parses _ wrote told.
+pub returns-in-None-clause-answered : goal.returns-in-None-clause-answered
+returns-in-None-clause-answered g c = λ r parses _ wrote told.
     rw (asks_one _ r (request_of c.in-Ok.task) parses c.in-Ok.ensures.ok) (c.reply.ensures.answered wrote told)
-
--- words that gave a task parse
-pub returns-in-Ok-clause-unparsed : goal.returns-in-Ok-clause-unparsed
-returns-in-Ok-clause-unparsed g c = λ none _ _. absurd (none (request_of c.in-Ok.task) c.in-Ok.ensures.ok)
-
-pub returns-in-Ok-clause-untouched : goal.returns-in-Ok-clause-untouched
-returns-in-Ok-clause-untouched g c = λ none. absurd (none (request_of c.in-Ok.task) c.in-Ok.ensures.ok)
 
 -- memory may be refused while the words are parsed
 pub returns-in-Err-OutOfMemory-clause-answered : goal.returns-in-Err-OutOfMemory-clause-answered
@@ -32,7 +25,3 @@ returns-in-Err-OutOfMemory-clause-answered g c = λ r _ _ _ told.
       search rules,
       (c.refuse.ensures.written told).1,
     ))
-
--- only words that ask for a run have the input read
-pub returns-in-Ok-2-clause-unread : goal.returns-in-Ok-2-clause-unread
-returns-in-Ok-2-clause-unread g c = only_runs_read _ _ _ c.in-Ok.ensures.ok c.reply.ensures.unread

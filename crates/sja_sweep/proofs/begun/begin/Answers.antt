@@ -9,20 +9,22 @@ pub returns-clause-ok : goal.returns-clause-ok
 returns-clause-ok c =
     let plan = c.args.plan.now in
     let s = c.args.sweeping.now in
-    let bits = c.in_ok-planned.planned.bits in
+    let bits = c.in_ok-planned.planned.log.bits in
     let asked = subst (λ (n : ℕ). NamesNodeBelow s n) c.nodes.ensures.value c.in_ok-check_node.ensures.ok in
     let trials : c.in_ok-trials.trials.items ≡ trials_of s (length plan.nodes) bits =
-    c.in_ok-trials.ensures ∙ ap₂ (λ n b. trials_of s n b) c.nodes-4.ensures.value c.bits-3.ensures in
+    c.in_ok-trials.ensures ∙ ap₂ (λ n b. trials_of s n b) c.nodes-4.ensures.value c.bits-bits.ensures in
     let count : c.run_count-runs.result ≡ length (trials_of s (length plan.nodes) bits) =
     c.run_count-runs.ensures.is
-    ∙ ap₂ (λ n b. length (trials_of s n b)) c.nodes-3.ensures.value c.bits-2.ensures in
+    ∙ ap₂ (λ n b. length (trials_of s n b)) c.nodes-3.ensures.value c.bits-bits.ensures in
     record {
-      as_planned = c.in_ok-planned.ensures.run;
+      as_planned = c.in_ok-planned.ensures.ok;
       trials_are = trials;
       there = subst (λ (l : List Trial). All (IsThere plan) l) (sym trials)
           (all_there_if plan s bits asked
           (λ some. c.in_ok-check_room.ensures.ok (omega (arith, some, count))));
       few = subst (λ (n : ℕ). s.meant ≡ false → (n ≤ 20000) × (n * plan.bits ≤ 2000000000))
           (count ∙ ap (λ (l : List Trial). length l) (sym trials)) c.in_ok-check_runs.ensures.ok;
+      room = λ some. c.in_ok-check_room.ensures.ok
+          (omega (arith, some, count, ap (λ (l : List Trial). length l) trials));
       node = asked;
     }

@@ -4,7 +4,7 @@ use Rattle.std.proofs.lemmas.List.{take-append-drop}
 use Rattle.std.specs.Vec.Iter.{into_iter_items}
 use Rattle.sja_sweep.specs.declared.trial.Trial.{Trial}
 use Rattle.sja_sweep.specs.declared.told.Told.{Told}
-use Rattle.sja_sweep.specs.Inside.Reaching.{told_value}
+use Rattle.sja_sweep.specs.Inside.Reaching.{ran_value, told_value}
 use Rattle.sja_sweep.specs.Inside.Tried.{AreTried, IsPartTried, ArePartsTried}
 use Rattle.sja_sweep.proofs.TriedLemmas.{tried_both}
 use Rattle.sja_sweep.proofs.JobLemmas.{parts_cover, parts_tried, ok_part}
@@ -13,7 +13,7 @@ use Rattle.sja_sweep.proofs.jobs.tried_in_jobs.Goals as goal
 pub loop-part-init : goal.loop-part-init
 loop-part-init g c =
     let plan = c.args.plan.now in
-    let planned = c.args.planned.now in
+    let planned = ran_value c.args.planned.now in
     let trials = c.args.trials.now in
     let size = c.max-size.result in
     let parts = c.in_ok-parts.parts.items in
@@ -34,7 +34,7 @@ loop-part-init g c =
 pub loop-part-preserved : goal.loop-part-preserved
 loop-part-preserved g c =
     let plan = c.args.plan.now in
-    let planned = c.args.planned.now in
+    let planned = ran_value c.args.planned.now in
     let size = c.max-size.result in
     let so_far = c.loop-part.invariant in
     let left = so_far.left in

@@ -1,0 +1,11 @@
+use Rattle.std.proofs.Common.{List, [], length}
+use Rattle.sja_link.specs.declared.entry.Entry.{Entry}
+use Rattle.sja_replay.specs.Replaying.{left_of, IsAt, GoesOn}
+use Rattle.sja_replay.proofs.replay.Replay.next.Given as goal
+
+-- no bit came so far
+abbrev pub invariant-loop-entry : goal.invariant-loop-entry
+invariant-loop-entry l = (before : List Entry) → IsAt l.fn.self before → GoesOn l.fn.self l.self before []
+
+abbrev pub decreases-loop-entry : goal.decreases-loop-entry
+decreases-loop-entry l = length (left_of l.self)

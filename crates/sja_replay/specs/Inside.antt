@@ -1,0 +1,2 @@
+-- How a replay goes from entry to entry.
+pub mod Walking

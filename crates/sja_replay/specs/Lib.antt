@@ -1,0 +1,10 @@
+-- ---- what comes between two bits, and after a bit
+pub mod Taking
+pub mod Closing
+-- ---- what a bit brought, and the bits of a whole journal
+pub mod Happening
+pub mod Happened
+-- ---- a replay, and the journal that it has come through
+pub mod Replaying
+-- ---- how a replay goes from entry to entry: definitions of private contracts alone
+pub mod Inside

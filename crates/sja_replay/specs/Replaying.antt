@@ -1,0 +1,40 @@
+-- A replay, and the journal that it has come through (this project's own rule).
+use Rattle.std.specs.Prelude.{◌≡◌, ◌≤◌, ◌+◌, Option, Some, None, List, [], ◌∷◌, ◌++◌, length}
+use Rattle.can_node.specs.Stands.{StandsAt}
+use Rattle.sja_link.specs.NodeWords.{FinishedPiece}
+use Rattle.sja_link.specs.declared.entry.Entry.{Entry}
+use Rattle.sja_link.specs.Free.{IsFree}
+use Rattle.sja_link.specs.Places.{place_of}
+use Rattle.sja_link.specs.Records.{record_of}
+use Rattle.sja_replay.specs.declared.happening.Happening.{Happening}
+use Rattle.sja_replay.specs.declared.replay.Replay.{Replay}
+use Rattle.sja_replay.specs.Happened.{Happened}
+use Rattle.sja_replay.specs.Taking.{last_part, ends_in_abort}
+
+-- the entry that was looked at, before the others
+abbrev pub with_ahead : Option Entry → List Entry → List Entry
+with_ahead None es = es
+with_ahead (Some e) es = e ∷ es
+
+-- the entries that are left
+abbrev pub left_of : Replay → List Entry
+left_of r = with_ahead r.ahead r.entries
+
+-- the replay has come through these entries: its node stands at their record, and it knows how many bits they have,
+-- whether the activation begun last went bus-off, whether the last entry is an abort, and the bytes that are free
+pub record IsAt (r : Replay) (before : List Entry) : Type 0 where
+  pub found : List FinishedPiece
+  pub stands : StandsAt r.node (record_of before) found
+  pub bits : r.bits ≡ (place_of before).bits
+  pub off : r.off ≡ (place_of before).off
+  pub aborted : r.aborted ≡ ends_in_abort before
+  pub free : IsFree (last_part before) r.free
+  pub looked : r.ahead ≡ None → r.entries ≡ []
+
+-- it went on to more entries, and whatever happenings those that are left have then, these come before them. Each bit
+-- takes an entry at least
+pub record GoesOn (old new : Replay) (before : List Entry) (hs : List Happening) : Type 0 where
+  pub now : List Entry
+  pub at : IsAt new now
+  pub fewer : length (left_of new) + length hs ≤ length (left_of old)
+  pub leads : (more : List Happening) → Happened now (left_of new) more → Happened before (left_of old) (hs ++ more)

@@ -1,0 +1,22 @@
+//! What one bit brought to a node.
+
+use super::fate::Fate;
+use can_bits::Level;
+use can_node::BitEvents;
+
+/// What one bit of the bus brought to a node.
+#[derive(Debug, PartialEq, Eq, Drop)]
+pub struct Happening {
+    /// The number of the bit, counted from 0.
+    pub bit: u32,
+    /// The level that the node drove in it.
+    pub driven: Level,
+    /// The level that it saw.
+    pub seen: Level,
+    /// Whether an abort changed the node right before the bit.
+    pub aborted: bool,
+    /// What the bit told.
+    pub events: BitEvents,
+    /// What became of the frame, where one was received with the bit.
+    pub fate: Option<Fate>,
+}

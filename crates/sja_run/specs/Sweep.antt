@@ -1,0 +1,82 @@
+-- What `sweep` prints and refuses, by what the input held before and holds after (this project's own rule).
+use Rattle.std.specs.Prelude.{◌≡◌, ◌<◌, ◌≤◌, ℕ, List, Option, if◌then◌else◌, length}
+use Rattle.sja_plan.specs.Plan.{PlanValue, times_in}
+use Rattle.sja_plan.specs.Faults.{IsPlanOf}
+use Rattle.sja_plan.specs.Struck.{struck_at}
+use Rattle.sja_plan_text.specs.Document.{IsDocumentOf}
+use Rattle.sja_sweep.specs.declared.sweeping.Sweeping.{Sweeping}
+use Rattle.sja_sweep.specs.Sweeps.{IsSweep, IsRefused, NamesNoNode, HasNoRoom}
+use Rattle.sja_words.specs.declared.sweep_words.SweepWords.{SweepWords}
+use Rattle.sja_texts.specs.declared.command_refusal.CommandRefusal.{CommandRefusal}
+use Rattle.sja_texts.specs.declared.command_refusal.CommandRefusal.TheVariants as refusal
+use Rattle.sja_texts.specs.declared.sweep_refusal.SweepRefusal.{SweepRefusal}
+use Rattle.sja_texts.specs.declared.sweep_refusal.SweepRefusal.TheVariants.{NoNode, TooMany, StrikeCount, Bit, TooLong}
+use Rattle.sja_run.specs.Input.{IsRead}
+use Rattle.sja_run.specs.Run.{RefusesRun}
+
+-- ---- the sweep
+
+-- what is asked of a sweep by these words
+abbrev pub sweeping_of : SweepWords → Sweeping
+sweeping_of w = record {
+  node = w.node;
+  first = w.first;
+  last = w.last;
+  pairs = w.pairs;
+  changed = w.changed;
+  meant = w.meant;
+}
+
+-- there is such a sweep of the plan, and the text is its lines, or its rows where these are asked for
+abbrev pub IsSwept : SweepWords → PlanValue → List ℕ → Type 0
+IsSwept w plan text =
+    (lines : List ℕ) × (rows : List ℕ) × IsSweep plan (sweeping_of w) lines rows
+    × (text ≡ (if w.rows then rows else lines))
+
+-- why there is no such sweep of the plan
+abbrev pub RefusesSwept : SweepWords → PlanValue → SweepRefusal → Type 0
+RefusesSwept w plan NoNode = NamesNoNode plan (sweeping_of w)
+RefusesSwept w plan (TooMany runs bits) = IsRefused plan (sweeping_of w) runs bits
+RefusesSwept w plan StrikeCount = HasNoRoom plan (sweeping_of w)
+RefusesSwept w plan Bit = ⊥
+RefusesSwept w plan TooLong = ⊥
+
+-- ---- the plan with a strike more
+
+-- the text is a document of the plan with a strike more, of this node in this bit
+abbrev pub IsStruck : ℕ → ℕ → PlanValue → List ℕ → Type 0
+IsStruck node bit plan text = (node < length plan.nodes) × IsPlanOf text (struck_at plan node bit)
+
+-- why there is no such document
+abbrev pub RefusesStruck : ℕ → ℕ → PlanValue → SweepRefusal → Type 0
+RefusesStruck node bit plan NoNode = length plan.nodes ≤ node
+RefusesStruck node bit plan (TooMany runs bits) = ⊥
+RefusesStruck node bit plan StrikeCount = 1000 ≤ times_in plan.strikes
+RefusesStruck node bit plan Bit = 9999999 < bit
+RefusesStruck node bit plan TooLong =
+    (text : List ℕ) × (65536 < length text) × IsDocumentOf text (struck_at plan node bit)
+
+-- such a document of a plan is too long, and nothing else is wrong
+abbrev pub IsLong : PlanValue → SweepRefusal → Type 0
+IsLong plan TooLong = (text : List ℕ) × (65536 < length text) × IsDocumentOf text plan
+IsLong plan other = ⊥
+
+-- ---- of the plan on the input
+
+-- the text is such a one of the plan that the bytes which were read are
+abbrev pub IsOfPlan : (PlanValue → List ℕ → Type 0) → Option (List ℕ) → Option (List ℕ) → List ℕ → Type 0
+IsOfPlan Is before after text =
+    (bytes : List ℕ) × (plan : PlanValue) × IsRead before after bytes × IsPlanOf bytes plan × Is plan text
+
+-- why there is no text of a plan: this, or memory was refused
+abbrev pub RefusesPlan : (PlanValue → SweepRefusal → Type 0) → PlanValue → CommandRefusal → Type 0
+RefusesPlan May plan refusal.OutOfMemory = Unit {0}
+RefusesPlan May plan (refusal.Sweep why) = May plan why
+RefusesPlan May plan other = ⊥
+
+-- why there is no text of that plan: this, or, as for its run, there is no plan, or memory was refused
+abbrev pub RefusesOfPlan :
+    (PlanValue → SweepRefusal → Type 0) → Option (List ℕ) → Option (List ℕ) → CommandRefusal → Type 0
+RefusesOfPlan May before after (refusal.Sweep why) =
+    (bytes : List ℕ) × (plan : PlanValue) × IsRead before after bytes × IsPlanOf bytes plan × May plan why
+RefusesOfPlan May before after other = RefusesRun before after other

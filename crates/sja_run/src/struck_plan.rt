@@ -1,0 +1,64 @@
+//! `sweep --plan`: the plan on the input with one strike more.
+
+ghost use Rattle.std.specs.Prelude.{IfOk, IfErr, string_bytes};
+ghost use Rattle.sja_plan.specs.Faults.{IsPlanOf};
+ghost use Rattle.sja_plan_text.specs.HasTexts.{HasTexts};
+ghost use Rattle.sja_run.specs.Sweep.{IsLong, IsOfPlan, IsStruck, RefusesOfPlan, RefusesPlan, RefusesStruck};
+
+use super::input::plan_of_input;
+use sja_plan::{GREATEST_NUMBER, Plan, PlanFault};
+use sja_plan_text::{PlanTextFault, a_plan_has_texts, plan_text};
+use sja_texts::{CommandRefusal, SweepRefusal};
+use std::alloc::Global;
+use std::io::Read;
+
+/// The plan that the bytes of the input are, with a strike more of this node in this bit, as a document.
+#[tactic(auto, using(crate::proofs::PlanRefusals::of_plan_refused, crate::proofs::PlanRefusals::plan_refused))]
+pub(crate) fn struck<R: Read>(
+    alloc: Global,
+    node: u32,
+    bit: u32,
+    input: &mut R,
+) -> Result<Vec<u8>, CommandRefusal>
+    ensures ok { IfOk result (λ text.
+        IsOfPlan (IsStruck node bit) (R.remaining input.old) (R.remaining input.new) text.items) }
+    ensures err { IfErr result
+        (RefusesOfPlan (RefusesStruck node bit) (R.remaining input.old) (R.remaining input.new)) }
+{
+    let plan = plan_of_input(alloc, input)?;
+    a_plan_has_texts();
+    let text = struck_text(alloc, node, bit, &plan)?;
+    Ok(text.into_bytes())
+}
+
+/// The document of the plan with this strike more.
+fn struck_text(alloc: Global, node: u32, bit: u32, plan: &Plan) -> Result<String, CommandRefusal>
+    requires { HasTexts plan.now }
+    ensures ok { IfOk result (λ text. IsStruck node bit plan.now (string_bytes text)) }
+    ensures err { IfErr result (RefusesPlan (RefusesStruck node bit) plan.now) }
+{
+    if node as usize >= plan.nodes() {
+        return Err(CommandRefusal::Sweep(SweepRefusal::NoNode));
+    }
+    if bit > GREATEST_NUMBER {
+        return Err(CommandRefusal::Sweep(SweepRefusal::Bit));
+    }
+    match plan.with_strike(alloc, node as u8, bit) {
+        Ok(struck) => document(alloc, &struck),
+        Err(PlanFault::StrikeCount) => Err(CommandRefusal::Sweep(SweepRefusal::StrikeCount)),
+        Err(_) => Err(CommandRefusal::OutOfMemory),
+    }
+}
+
+/// The document of a plan.
+fn document(alloc: Global, plan: &Plan) -> Result<String, CommandRefusal>
+    requires { HasTexts plan.now }
+    ensures ok { IfOk result (λ text. IsPlanOf (string_bytes text) plan.now) }
+    ensures err { IfErr result (RefusesPlan IsLong plan.now) }
+{
+    match plan_text(alloc, plan) {
+        Ok(text) => Ok(text),
+        Err(PlanTextFault::TooLong) => Err(CommandRefusal::Sweep(SweepRefusal::TooLong)),
+        Err(PlanTextFault::NoMemory) => Err(CommandRefusal::OutOfMemory),
+    }
+}

@@ -1,0 +1,40 @@
+//! [`SweepRefusal`]: why there is no sweep of a plan that was read, or no plan with a strike more.
+
+use std::fmt;
+
+/// Why there is no sweep of a plan that was read, or no plan with a strike more. It shows as the text that the program
+/// writes of it (this project's own rule).
+#[derive(Clone, Copy, Debug, PartialEq, Eq)]
+pub enum SweepRefusal {
+    /// The plan doesn't have the node that is named.
+    NoNode,
+    /// There are more runs than 20,000, or they may come to more than 2,000,000,000 bits, and it isn't said that so
+    /// many are meant: how many runs, and how many bits they may come to.
+    TooMany(u128, u128),
+    /// The strikes of the plan strike 1,000 bits already.
+    StrikeCount,
+    /// No strike's text says the bit, which is past 9,999,999.
+    Bit,
+    /// The document of the plan with a strike more has more than 65,536 bytes.
+    TooLong,
+}
+
+impl fmt::Display for SweepRefusal {
+    ghost use Rattle.std.specs.Prelude.{Some};
+    ghost use Rattle.sja_texts.specs.Refusal.{sweep_refusal_text};
+
+    ghost output = { λ refusal. Some (sweep_refusal_text refusal) };
+
+    fn fmt<W: fmt::Write>(&self, f: &mut fmt::Formatter<W>) -> fmt::Result {
+        match *self {
+            SweepRefusal::NoNode => f.write_str("sweep fault 1 NoNode"),
+            SweepRefusal::TooMany(runs, bits) => write!(
+                f,
+                "sweep fault 2 TooMany: {runs} runs, {bits} bits, which --yes makes"
+            ),
+            SweepRefusal::StrikeCount => f.write_str("sweep fault 3 StrikeCount"),
+            SweepRefusal::Bit => f.write_str("sweep fault 4 Bit"),
+            SweepRefusal::TooLong => f.write_str("sweep fault 5 TooLong"),
+        }
+    }
+}

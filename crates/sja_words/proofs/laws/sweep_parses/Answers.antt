@@ -1,0 +1,17 @@
+use Rattle.sja_words.proofs.PlainSweeps.{all, named, pairs, flags, past}
+use Rattle.sja_words.proofs.laws.sweep_parses.Goals as goal
+
+pub returns-clause-all : goal.returns-clause-all
+returns-clause-all c = all
+
+pub returns-clause-named : goal.returns-clause-named
+returns-clause-named c = named
+
+pub returns-clause-pairs : goal.returns-clause-pairs
+returns-clause-pairs c = pairs
+
+pub returns-clause-flags : goal.returns-clause-flags
+returns-clause-flags c = flags
+
+pub returns-clause-past : goal.returns-clause-past
+returns-clause-past c = past

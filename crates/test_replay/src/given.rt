@@ -1,0 +1,84 @@
+//! Journals to begin with, and what is said of one bit.
+
+use can_bits::Level;
+use can_frame::Message;
+use sja_link::{Entry, Journal, Up};
+use sja_replay::{Happening, Replay};
+use std::alloc::Global;
+use std::test::Fail;
+use test_frames::nodes::PLAIN;
+
+/// A journal of a node that was started, and then waited for the bus for 11 bits.
+pub fn on_the_bus(alloc: Global) -> Result<Journal, Fail> {
+    let mut journal = Journal::new(alloc, 200)?;
+    enter(&mut journal, Entry::Up(Up::Start(PLAIN)))?;
+    for _ in 0..11 {
+        bit(&mut journal, Level::Recessive, Level::Recessive)?;
+    }
+    Ok(journal)
+}
+
+/// An entry more.
+pub fn enter(journal: &mut Journal, entry: Entry) -> Result<(), Fail> {
+    match journal.enter(entry) {
+        Ok(()) => Ok(()),
+        Err(_) => Err(Fail::from("the journal is full")),
+    }
+}
+
+/// A bit more.
+pub fn bit(journal: &mut Journal, driven: Level, seen: Level) -> Result<(), Fail> {
+    enter(journal, Entry::Bit(driven, seen))
+}
+
+/// A message of these bytes.
+pub fn message(bytes: &[u8]) -> Result<Message, Fail> {
+    Ok(Message::from_bytes(bytes)?)
+}
+
+/// The bits of a line from one place up to another, as a receiver has them: it drives recessive but in the ACK slot,
+/// which is the level at place `slot`.
+pub fn received(
+    journal: &mut Journal,
+    line: &str,
+    from: usize,
+    to: usize,
+    slot: usize,
+) -> Result<(), Fail> {
+    for (place, digit) in line.bytes().enumerate() {
+        if place >= from && place < to {
+            let seen = if digit == b'0' {
+                Level::Dominant
+            } else {
+                Level::Recessive
+            };
+            let driven = if place == slot {
+                Level::Dominant
+            } else {
+                Level::Recessive
+            };
+            bit(journal, driven, seen)?;
+        }
+    }
+    Ok(())
+}
+
+/// What the bit of this number brought.
+pub fn happening(journal: &Journal, number: u32) -> Option<Happening> {
+    let mut replay = Replay::of(journal);
+    for _ in 0..number {
+        replay.next()?;
+    }
+    replay.next()
+}
+
+/// How many bits are told.
+pub fn count(journal: &Journal) -> u32 {
+    let mut replay = Replay::of(journal);
+    for told in 0..10_000 {
+        if replay.next().is_none() {
+            return told;
+        }
+    }
+    10_000
+}

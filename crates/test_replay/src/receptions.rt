@@ -1,0 +1,71 @@
+//! A frame that is received, bit by bit.
+
+use super::given::{bit, count, enter, happening, message, on_the_bus, received};
+use can_bits::Level;
+use sja_link::{Entry, Journal, Up};
+use sja_replay::{Fate, Happening};
+use std::alloc::Global;
+use std::test::Fail;
+use test_frames::{TWO_BYTES, TWO_BYTES_RECEIVED};
+
+/// SOF in bit 11, the ACK slot in bit 64, the sixth bit of EOF in bit 71 and the seventh in bit 72; the message is
+/// stored after bit 71.
+fn reception(alloc: Global) -> Result<Journal, Fail> {
+    let mut journal = on_the_bus(alloc)?;
+    received(&mut journal, TWO_BYTES_RECEIVED, 0, 61, 53)?;
+    enter(&mut journal, Entry::Stored(message(&TWO_BYTES)?))?;
+    received(&mut journal, TWO_BYTES_RECEIVED, 61, 62, 53)?;
+    for _ in 0..3 {
+        bit(&mut journal, Level::Recessive, Level::Recessive)?;
+    }
+    Ok(journal)
+}
+
+fn told(alloc: Global, number: u32) -> Result<Happening, Fail> {
+    match happening(&reception(alloc)?, number) {
+        Some(happening) => Ok(happening),
+        None => Err(Fail::from("the bit isn't told")),
+    }
+}
+
+#[test]
+fn each_bit_is_told(rt: HostRuntime) -> Result<(), Fail> {
+    assert!(rt; count(&reception(rt.alloc())?) == 76);
+    Ok(())
+}
+
+#[test]
+fn the_acknowledgement_and_the_reception_are_told(rt: HostRuntime) -> Result<(), Fail> {
+    assert!(rt; told(rt.alloc(), 64)?.driven == Level::Dominant);
+    let valid = told(rt.alloc(), 71)?;
+    assert!(rt; valid.bit == 71);
+    assert!(rt; valid.events.received == Some(message(&TWO_BYTES)?.frame()));
+    assert!(rt; valid.fate == Some(Fate::Stored));
+    assert!(rt; told(rt.alloc(), 70)?.fate.is_none());
+    Ok(())
+}
+
+/// Without a verdict behind bit 71 the filter stopped the frame.
+#[test]
+fn a_frame_without_a_verdict_was_stopped(rt: HostRuntime) -> Result<(), Fail> {
+    let mut journal = on_the_bus(rt.alloc())?;
+    received(&mut journal, TWO_BYTES_RECEIVED, 0, 62, 53)?;
+    let Some(valid) = happening(&journal, 71) else {
+        return Err(Fail::from("the bit isn't told"));
+    };
+    assert!(rt; valid.fate == Some(Fate::Stopped));
+    Ok(())
+}
+
+/// The 5 bytes that were stored come back before bit 75, and no more than that.
+#[test]
+fn a_credit_is_taken_between_two_bits(rt: HostRuntime) -> Result<(), Fail> {
+    let mut journal = reception(rt.alloc())?;
+    enter(&mut journal, Entry::Up(Up::Credit(5)))?;
+    bit(&mut journal, Level::Recessive, Level::Recessive)?;
+    assert!(rt; count(&journal) == 77);
+    enter(&mut journal, Entry::Up(Up::Credit(1)))?;
+    bit(&mut journal, Level::Recessive, Level::Recessive)?;
+    assert!(rt; count(&journal) == 77);
+    Ok(())
+}
