@@ -40,6 +40,8 @@ fn started() -> Node {
         filter: EVERY_FRAME,
         self_test: false,
         listen: false,
+        tec: None,
+        rec: None,
     });
     node
 }

@@ -40,6 +40,8 @@ impl Wire {
                 filter: EVERY_FRAME,
                 self_test,
                 listen: false,
+                tec: None,
+                rec: None,
             });
             nodes.push(node).ok()?;
         }

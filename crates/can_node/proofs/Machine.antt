@@ -15,6 +15,7 @@ pub mod Held
 pub mod Told
 pub mod Sampled
 pub mod SampleSteps
+pub mod Segments
 pub mod Shown
 pub mod Along
 pub mod Quiet

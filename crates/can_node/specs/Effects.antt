@@ -1,6 +1,6 @@
 -- What a request, an abort, a start, a stop, bus-off and the end of a piece change in the context. "Rule n" is the rule
 -- of that number of Bosch CAN 2.0 part A section 7, "Fault confinement".
-use Rattle.std.specs.Prelude.{◌-◌, ◌&&◌, ◌||◌, not, Bool, true, false}
+use Rattle.std.specs.Prelude.{◌-◌, ◌==◌, ◌&&◌, ◌||◌, not, min, ℕ, Bool, true, false}
 use Rattle.std.specs.Prelude.{if◌then◌else◌, Option, Some, None, List, [], ◌∷◌, ◌++◌}
 use Rattle.can_node.specs.declared.cause.Cause.{Cause}
 use Rattle.can_node.specs.declared.cause.Cause.TheVariants.{Bit as BitError, Stuff as StuffError}
@@ -54,9 +54,22 @@ with_abort place c = if is_in_progress c place then record c { aborted = true } 
 abbrev pub recounted : ContextValue → ContextValue
 recounted c = if c.off && not c.listen then record c { tec = 127; rec = 0 } else c
 
--- a start takes the configuration (SJA1000 data sheet, 6.4.3)
+-- a start takes the transmit error counter that was written in reset mode, if one was: 255 is a bus-off, and any other
+-- value ends one (SJA1000 data sheet, 6.4.12)
+abbrev pub with_tec : Option ℕ → ContextValue → ContextValue
+with_tec None c = c
+with_tec (Some n) c =
+    if n == 255 then record c { tec = 127; rec = 0; off = true } else record c { tec = min n 254; off = false }
+
+-- and then the receive error counter, unless bus-off stands (SJA1000 data sheet, 6.4.11)
+abbrev pub with_rec : Option ℕ → ContextValue → ContextValue
+with_rec None c = c
+with_rec (Some n) c = if c.off then c else record c { rec = min n 255 }
+
+-- a start takes the configuration (SJA1000 data sheet, 6.4.3); where bus-off stands its counters begin anew
 abbrev pub with_start : Config → ContextValue → ContextValue
-with_start config c = recounted (record c { listen = config.listen; self_test = config.self_test })
+with_start config c = recounted (with_rec config.rec (with_tec config.tec
+    (record c { listen = config.listen; self_test = config.self_test })))
 
 -- a stop drops the request, and keeps counters and role (this project's own rule)
 abbrev pub with_stop : ContextValue → ContextValue

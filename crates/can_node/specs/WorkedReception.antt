@@ -1,6 +1,6 @@
 -- A record worked by hand, with its finished pieces: a node starts, waits for eleven recessive levels, receives the
 -- frame of another node and acknowledges it (by Bosch CAN 2.0 part A section 3.1 and ISO 11898-1).
-use Rattle.std.specs.Prelude.{false, List, [], ◌∷◌, ◌++◌, map, replicate}
+use Rattle.std.specs.Prelude.{None, false, List, [], ◌∷◌, ◌++◌, map, replicate}
 use Rattle.can_frame.specs.Frame.{FrameValue}
 use Rattle.can_bits.specs.declared.level.Level.{Level}
 use Rattle.can_bits.specs.declared.level.Level.TheVariants.{Dominant, Recessive}
@@ -36,7 +36,7 @@ answered =
 -- the record: the seventh bit of EOF and intermission follow
 abbrev pub record_of_reception : Config → List RecordEntry
 record_of_reception config =
-    Start (record config { listen = false; self_test = false })
+    Start (record config { listen = false; self_test = false; tec = None; rec = None })
     ∷ map OneBit (recessive_bits (replicate 11 Recessive)
     ++ ((recessive_bit Dominant ∷ answered) ++ recessive_bits (replicate 4 Recessive)))
 

@@ -100,6 +100,8 @@ impl Context {
     {
         self.listen = config.listen;
         self.self_test = config.self_test;
+        self.take_tec(config.tec);
+        self.take_rec(config.rec);
         self.recount();
     }
 

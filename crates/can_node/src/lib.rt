@@ -34,6 +34,7 @@ mod flag;
 mod flag_kind;
 mod interframe_space;
 mod laws;
+mod next_field;
 mod next_place;
 mod node;
 mod outcome;
@@ -55,6 +56,7 @@ pub use config::Config;
 pub use contention::contend;
 pub use contention_laws::{contention_has_one_answer, some_frame_goes_on};
 pub use counters::{BUS_OFF, Counters, ERROR_PASSIVE};
+pub use flag_kind::FlagKind;
 pub use laws::{
     a_frame_of_another_node_is_received, a_record_has_one_cut, each_eleven_takes_one,
     pieces_are_told_apart,

@@ -4,3 +4,4 @@ pub mod IdentifierLemmas
 pub mod RestLemmas
 pub mod HashLemmas
 pub mod FrameLemmas
+pub mod AsciiLemmas

@@ -1,6 +1,7 @@
 //! The text of a frame.
 
 ghost use Rattle.std.specs.Prelude.{◌≡◌, ◌<◌, ◌≤◌, ◌+◌, ◌*◌, ◌++◌, All, length, min};
+ghost use Rattle.std.specs.Str.{IsAscii};
 ghost use Rattle.arrayvec.specs.ArrayVec.{array_vec_len};
 ghost use Rattle.can_notation.specs.Text.{data_text, count_text, long_dlc_text, body_text, text};
 
@@ -13,9 +14,11 @@ use can_frame::Frame;
 ///
 /// The identifier comes first, 3 upper-case hexadecimal digits where it is standard and 8 where it is extended, and
 /// then `#`. Behind it stand the data bytes, two digits each, or `R` and the number of bytes that a remote frame asks
-/// for, one digit, left out where it is 0. A DLC of 9 to 15 follows as `_` and one digit.
+/// for, one digit, left out where it is 0. A DLC of 9 to 15 follows as `_` and one digit. Each character is ASCII.
+#[tactic(auto, using(crate::proofs::AsciiLemmas::ascii_text))]
 pub fn text_of(frame: &Frame) -> ArrayVec<u8, TEXT_BYTES>
-    ensures { result.items ≡ text frame.now }
+    ensures text { result.items ≡ text frame.now }
+    ensures ascii { IsAscii result.items }
 {
     let mut text = ArrayVec::new();
     let count = if frame.ext() { 8 } else { 3 };

@@ -27,6 +27,8 @@ const PLAIN: Config = Config {
     filter: EVERY_FRAME,
     self_test: false,
     listen: false,
+    tec: None,
+    rec: None,
 };
 
 /// A request for this frame, to be tried until it is sent.

@@ -48,6 +48,7 @@ impl Seat {
             events: outcome.events,
             txerr: counters.tec.min(255) as u8,
             rxerr: counters.rec,
+            off: counters.off,
             phase: self.node.phase(),
             aborted: self.has_dropped(),
             overrun: outcome.overrun,

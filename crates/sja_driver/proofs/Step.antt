@@ -4,6 +4,7 @@ pub mod Giving
 pub mod Left
 pub mod Came
 pub mod NothingDone
+pub mod Written
 pub mod Modes
 pub mod Few
 pub mod GivenKinds

@@ -34,9 +34,10 @@ pub record IsStrikeOn (nodes : ℕ) (s : Strike) : Type 0 where
 abbrev pub times_in : List Strike → ℕ
 times_in strikes = sum_by (λ (s : Strike). s.times) strikes
 
--- a plan is within the limits
+-- a plan is within the limits. Its document is of version 1 or 2 (`SaysPlan`): version 3 is for plans that were written
+-- while a run went on
 pub record IsInLimits (p : PlanValue) : Type 0 where
-  pub version : (1 ≤ p.version) × (p.version ≤ 2)
+  pub version : (1 ≤ p.version) × (p.version ≤ 3)
   pub bits : (1 ≤ p.bits) × (p.bits ≤ 200000)
   pub nodes : (1 ≤ length p.nodes) × (length p.nodes ≤ 8)
   pub steps : All (λ steps. length steps ≤ 1000) p.nodes

@@ -59,7 +59,7 @@ impl Plan {
         nodes: u8,
         steps: u16,
     ) -> Result<Plan, OutOfMemory>
-        requires version { (1 ≤ version) × (version ≤ 2) }
+        requires version { (1 ≤ version) × (version ≤ 3) }
         requires bits { (1 ≤ bits) × (bits ≤ 200000) }
         requires nodes { (1 ≤ nodes) × (nodes ≤ 8) }
         requires steps { steps ≤ 1000 }

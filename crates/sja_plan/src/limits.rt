@@ -4,7 +4,7 @@
 /// How many bytes a plan's document has at most (this project's own rule).
 pub const MOST_BYTES: usize = 65_536;
 
-/// The last version of a plan's rules; the first one is 1 (this project's own rule).
+/// The last version of the rules that a plan's document can ask for; the first one is 1 (this project's own rule).
 pub const LAST_VERSION: u32 = 2;
 
 /// How many bits a run has at most (this project's own rule).

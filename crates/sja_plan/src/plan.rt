@@ -11,7 +11,7 @@ use std::marker::Model;
 ///
 /// | What | Limit |
 /// |---|---|
-/// | version | 1 or 2 |
+/// | version | 1 to 3; that of a document is 1 or 2 |
 /// | bits of a run | 1 to 200,000 |
 /// | nodes | 1 to 8 |
 /// | steps of a node | at most 1,000 |
@@ -52,11 +52,12 @@ impl Model for Plan {
 }
 
 impl Plan {
-    /// The version of the plan's rules, 1 or 2: 2 has self test, self reception and listen only beside all of 1.
+    /// The version of the plan's rules, 1 to 3: 2 has self test, self reception and listen only beside all of 1, and 3
+    /// is for drivers that know addresses and bytes alone. A plan that was read is of version 1 or 2.
     pub fn version(&self) -> u8
         ensures value { result ≡ self.now.version }
         ensures least { 1 ≤ result }
-        ensures most { result ≤ 2 }
+        ensures most { result ≤ 3 }
     {
         self.version
     }

@@ -42,7 +42,7 @@ pub plan_said : (p : PlanValue) → IsInLimits p → HasTexts p → SaysPlan (pl
 plan_said p limits texts =
     let count = length-map p.nodes (λ steps. map step_text steps) in
     record {
-      version = (refl, limits.version.0, limits.version.1);
+      version = (refl, limits.version.0, texts.version);
       bits = (refl, limits.bits.0, limits.bits.1);
       node_count = (omega (arith, count, limits.nodes.0), omega (arith, count, limits.nodes.1));
       step_counts = All-map (λ (steps : List Text). length steps ≤ 1000) (map step_text) p.nodes

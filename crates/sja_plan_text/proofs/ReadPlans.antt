@@ -15,6 +15,7 @@ use Rattle.sja_plan_text.proofs.Strikes.{has_strike_text}
 
 pub read_has_texts : (bytes : List ℕ) (p : PlanValue) → IsPlanOf bytes p → HasTexts p
 read_has_texts bytes p (d, h, s) = record {
+  version = s.version.2;
   steps = all_said (AllZip SaysStep) (λ (steps : List Step). All HasStepText steps)
       (λ texts steps. all_said SaysStep HasStepText has_step_text texts steps) d.nodes p.nodes s.steps;
   turns = all_said (SaysTurn (length d.nodes)) HasTurnText

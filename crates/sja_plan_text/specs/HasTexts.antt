@@ -1,4 +1,5 @@
--- Which steps, turns and strikes a text can say (this project's own rule). The laws show that it is these and no other.
+-- Which steps, turns and strikes a text can say, and which plans (this project's own rule). The laws show that it is
+-- these and no other.
 use Rattle.std.specs.Prelude.{◌<◌, ◌≤◌, All}
 use Rattle.can_frame.specs.Message.{IsMessage}
 use Rattle.sja_plan.specs.Words.{greatest}
@@ -36,8 +37,9 @@ pub record HasStrikeText (s : Strike) : Type 0 where
   pub every : s.every ≤ greatest
   pub times : s.times ≤ greatest
 
--- each step, turn and strike of a plan has a text
+-- a document can ask for the version of a plan, and each of its steps, turns and strikes has a text
 pub record HasTexts (p : PlanValue) : Type 0 where
+  pub version : p.version ≤ 2
   pub steps : All (λ steps. All HasStepText steps) p.nodes
   pub turns : All HasTurnText p.turns
   pub strikes : All HasStrikeText p.strikes

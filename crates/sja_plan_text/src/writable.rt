@@ -3,15 +3,18 @@
 ghost use Rattle.std.specs.Prelude.{◌↔◌, IsTrue, All};
 ghost use Rattle.sja_plan_text.specs.HasTexts.{HasStepText, HasTurnText, HasStrikeText, HasTexts};
 
-use sja_plan::{GREATEST_NUMBER, Plan, Turn};
+use sja_plan::{GREATEST_NUMBER, LAST_VERSION, Plan, Turn};
 use sja_script::{Step, Strike};
 
-/// Whether each step, turn and strike of a plan has a text that says it. So it is for each plan that was read
-/// ([`a_plan_has_texts`](crate::a_plan_has_texts)), and for each other one whose numbers texts can spell (this
-/// project's own rule).
+/// Whether a document can ask for the version of a plan, and each of its steps, turns and strikes has a text that says
+/// it. So it is for each plan that was read ([`a_plan_has_texts`](crate::a_plan_has_texts)), and for each other one of
+/// version 1 or 2 whose numbers texts can spell (this project's own rule).
 pub fn has_texts(plan: &Plan) -> bool
     ensures { IsTrue result ↔ HasTexts plan.now }
 {
+    if u32::from(plan.version()) > LAST_VERSION {
+        return false;
+    }
     for node in 0..plan.nodes() {
         if !steps_have_texts(plan.steps(node)) {
             return false;

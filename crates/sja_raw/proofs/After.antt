@@ -1,9 +1,13 @@
 -- Registers and driver after a step that was tried.
-use Rattle.std.proofs.Common.{◌≡◌, ◌≤◌, ℕ, Bool, true, false, List, [], ◌∷◌, length, refl, sym, ap, ◌∙◌, subst, arith}
+use Rattle.std.proofs.Common.{◌≡◌, ◌≤◌, ◌&&◌, not, ℕ, Bool, true, false, List, [], ◌∷◌, length, refl, sym, ap, ◌∙◌}
+use Rattle.std.proofs.Common.{subst, arith}
+use Rattle.std.specs.Prelude.{if◌then◌else◌}
 use Rattle.sja_link.specs.Lists.{Lists}
 use Rattle.sja_regs.specs.declared.registers.Registers.{Registers}
-use Rattle.sja_regs.specs.Registers.{after_entering_reset}
+use Rattle.sja_regs.specs.declared.mode.Mode.{Mode}
+use Rattle.sja_regs.specs.Registers.{asks_off, is_forced, after_entering_reset}
 use Rattle.sja_regs.specs.Modes.{mode_of}
+use Rattle.sja_regs.specs.Writing.{after_forced_off}
 use Rattle.sja_script.specs.declared.step.Step.{Step}
 use Rattle.sja_script.specs.declared.step.Step.TheVariants.{Start, Stop, Window, Release, Read}
 use Rattle.sja_script.specs.declared.step.Step.TheVariants.{Write, Load, Command, Await, Sent}
@@ -72,35 +76,61 @@ pub stopped : {E : Type 0} {alike : E → E → Type 0} {stands : E → Lists �
     is_out (driver_of was) ≡ true → (q ≡ after_entering_reset p) × (is_out (driver_of now) ≡ false)
 stopped s e n out = let d = some_of _ n in stopped_by s.tried (sym s.met ∙ e) out (s.acts d d)
 
--- ---- a write of MOD that has RM at 1 leaves it there
+-- ---- whether a bus-off is asked for hangs on no other bit of MOD
 
-mode_kept : (p : Registers) (value : ℕ) (answer : StepAnswer) → (mode_of value).rm ≡ true → p.mode.rm ≡ true →
-    (ported p (Write 0 value) answer).mode.rm ≡ true
-mode_kept p value Done new rm = new
-mode_kept p value NoMessage new rm = rm
-mode_kept p value (Shown m) new rm = rm
-mode_kept p value (ReleasedAnswer n) new rm = rm
-mode_kept p value (Value n) new rm = rm
-mode_kept p value (Refused r) new rm = rm
+forced_with : (p : Registers) (m : Mode) → m.rm ≡ p.mode.rm → is_forced (record p { mode = m }) ≡ is_forced p
+forced_with p m e = ap (λ (b : Bool). b && asks_off p) e
+
+-- entered again, reset mode keeps what was written
+pub entered_again : (p q : Registers) → q ≡ after_entering_reset p → p.mode.rm ≡ true → is_forced p ≡ false →
+    is_forced q ≡ false
+entered_again p q e rm none =
+    ap (λ (r : Registers). is_forced r) e ∙ forced_with p (record p.mode { rm = true }) (sym rm) ∙ none
+
+-- ---- a write of MOD that has RM at 1 leaves it there, and brings no bus-off
+
+mode_taken : (off : Bool) (p : Registers) (m : Mode) → off ≡ false →
+    (if off then after_forced_off (record p { mode = record m { rm = true } }) else record p { mode = m })
+    ≡ record p { mode = m }
+mode_taken false p m e = refl
+mode_taken true p m e = absurd cc
+
+-- RM is 1, and no bus-off is asked for
+abbrev pub StaysInReset : Registers → Type 0
+StaysInReset p = (p.mode.rm ≡ true) × (is_forced p ≡ false)
+
+mode_kept : (p : Registers) (value : ℕ) (answer : StepAnswer) → (mode_of value).rm ≡ true → StaysInReset p →
+    StaysInReset (ported p (Write 0 value) answer)
+mode_kept p value Done new h =
+    let m = mode_of value in
+    let e = mode_taken (is_forced p && not m.rm) p m (ap (λ (b : Bool). b && not m.rm) (h.1)) in (
+      ap (λ (r : Registers). r.mode.rm) e ∙ new,
+      ap (λ (r : Registers). is_forced r) e ∙ forced_with p m (new ∙ sym (h.0)) ∙ h.1,
+    )
+mode_kept p value NoMessage new h = h
+mode_kept p value (Shown m) new h = h
+mode_kept p value (ReleasedAnswer n) new h = h
+mode_kept p value (Value n) new h = h
+mode_kept p value (Refused r) new h = h
 
 written_by : {E : Type 0} {alike : E → E → Type 0} {stands : E → Lists → Type 0} {dry full : E → Type 0} {old new : E}
     {p q : Registers} (value : ℕ) {was now : AnyDriver} (o : Tried) → is_met o ≡ true →
-    (mode_of value).rm ≡ true → p.mode.rm ≡ true →
+    (mode_of value).rm ≡ true → StaysInReset p →
     Acts alike stands dry full old new p q (Write 0 value) was now o →
-    (q.mode.rm ≡ true) × (is_out now ≡ is_out was)
-written_by value Unmet e new rm a = absurd cc
-written_by {p = p} value (Answered answer) e new rm a =
-    (ap (λ (r : Registers). r.mode.rm) a.port ∙ mode_kept p value answer new rm, a.out)
-written_by value (Released m) e new rm a = absurd (omega (arith, ap kind_of a.kind))
-written_by value (Ended l) e new rm a = absurd (omega (arith, ap kind_of a.kind))
+    StaysInReset q × (is_out now ≡ is_out was)
+written_by value Unmet e new h a = absurd cc
+written_by {p = p} value (Answered answer) e new h a =
+    (subst StaysInReset (sym a.port) (mode_kept p value answer new h), a.out)
+written_by value (Released m) e new h a = absurd (omega (arith, ap kind_of a.kind))
+written_by value (Ended l) e new h a = absurd (omega (arith, ap kind_of a.kind))
 
 pub written : {E : Type 0} {alike : E → E → Type 0} {stands : E → Lists → Type 0} {dry full : E → Type 0}
     {was now : LoggedDriver} {links links_now : List E} {base bits : ℕ} {p q : Registers} {value : ℕ} {done : Bool} →
     Steps alike stands dry full was now links links_now base p q (Write 0 value) bits done → done ≡ true →
-    1 ≤ length links → (mode_of value).rm ≡ true → p.mode.rm ≡ true →
-    (q.mode.rm ≡ true) × (is_out (driver_of now) ≡ is_out (driver_of was))
-written {value = value} s e n new rm =
-    let d = some_of _ n in written_by value s.tried (sym s.met ∙ e) new rm (s.acts d d)
+    1 ≤ length links → (mode_of value).rm ≡ true → StaysInReset p →
+    StaysInReset q × (is_out (driver_of now) ≡ is_out (driver_of was))
+written {value = value} s e n new h =
+    let d = some_of _ n in written_by value s.tried (sym s.met ∙ e) new h (s.acts d d)
 
 -- ---- a command leaves MOD as it is
 

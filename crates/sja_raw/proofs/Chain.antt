@@ -1,12 +1,15 @@
 -- Steps that are tried one after the other, and the byte that is left.
-use Rattle.std.proofs.Common.{◌≡◌, ◌≤◌, ◌+◌, ℕ, Bool, true, false, Option, Some, None, List, [], ◌∷◌, ◌++◌, length}
+use Rattle.std.proofs.Common.{◌≡◌, ◌≤◌, ℕ, Bool, true, false, Option, Some, None, List, [], ◌∷◌, ◌++◌, length}
 use Rattle.std.proofs.Common.{refl, sym, ap, ◌∙◌, subst, arith}
-use Rattle.std.specs.Prelude.{nat_eq, if◌then◌else◌}
+use Rattle.std.specs.Prelude.{◌==◌, ◌||◌, ◌&&◌, not, nat_eq, if◌then◌else◌}
 use Rattle.sja_link.specs.Lists.{Lists}
 use Rattle.sja_regs.specs.declared.command.Command.{Command as CommandBits}
 use Rattle.sja_regs.specs.declared.mode.Mode.{Mode}
 use Rattle.sja_regs.specs.declared.registers.Registers.{Registers}
+use Rattle.sja_regs.specs.Commands.{command_of}
 use Rattle.sja_regs.specs.Modes.{mode_of}
+use Rattle.sja_regs.specs.Bits.{differ}
+use Rattle.sja_regs.specs.Registers.{asks_off, is_forced}
 use Rattle.sja_regs.specs.Writing.{is_other_mode}
 use Rattle.sja_script.specs.declared.step.Step.{Step}
 use Rattle.sja_script.specs.declared.step.Step.TheVariants.{Start, Stop, Release, Write, Command}
@@ -15,6 +18,7 @@ use Rattle.sja_driver.specs.AnyDrivers.{is_out}
 use Rattle.sja_driver.specs.LoggedDrivers.{driver_of, Steps}
 use Rattle.sja_raw.specs.CommandWrites.{command_byte, doable, commands, releases, command_steps}
 use Rattle.sja_raw.specs.ModeWrites.{reset_byte, operating_byte, closing, leaving, mode_steps}
+use Rattle.sja_raw.specs.Inside.WrittenMode.{is_written}
 use Rattle.sja_raw.specs.RawDrivers.{Writes}
 use Rattle.sja_raw.specs.Trying.Tries.{none, waits, done}
 use Rattle.sja_raw.specs.Writes.{write_steps}
@@ -68,32 +72,35 @@ then_at {E} {alike} {stands} {dry} {full} {base} {bits} {was} {mid} {now} {links
 -- ---- which steps a byte is
 
 -- RM 0 with these other bits, in reset mode
-pub leaves_so : (p : Registers) (out : Bool) (m : Mode) → p.mode.rm ≡ true →
+pub leaves_so : (p : Registers) (out : Bool) (m : Mode) → p.mode.rm ≡ true → is_forced p ≡ false →
     write_steps p out 0 (operating_byte m) ≡ closing out ++ leaving p.mode m
-leaves_so p out m rm =
+leaves_so p out m rm free =
     let value = operating_byte m in
     let back : mode_of value ≡ record m { rm = false } = mode_back (record m { rm = false }) in
-    ap (λ (b : Bool). if b then if (mode_of value).rm then Write 0 value ∷ [] else closing out ++ leaving p.mode
-    (mode_of value) else if (mode_of value).rm then Stop ∷ [] else Write 0 value ∷ []) rm
-    ∙ ap (λ (n : Mode). if n.rm then Write 0 value ∷ [] else closing out ++ leaving p.mode n) back
+    ap (λ (b : Bool). if b then if (mode_of value).rm || is_forced p then Write 0 value ∷ []
+    else closing out ++ leaving p.mode (mode_of value)
+    else if (mode_of value).rm then Stop ∷ [] else Write 0 value ∷ []) rm
+    ∙ ap (λ (n : Mode). if n.rm || is_forced p then Write 0 value ∷ [] else closing out ++ leaving p.mode n) back
+    ∙ ap (λ (b : Bool). if b then Write 0 value ∷ [] else closing out ++ leaving p.mode m) free
 
 -- the present mode with RM 0: the start alone
-pub starts_so : (p : Registers) (out : Bool) → p.mode.rm ≡ true → out ≡ false →
+pub starts_so : (p : Registers) (out : Bool) → p.mode.rm ≡ true → is_forced p ≡ false → out ≡ false →
     write_steps p out 0 (operating_byte p.mode) ≡ Start ∷ []
-starts_so p out rm closed = leaves_so p out p.mode rm ∙ ap (λ (b : Bool). closing b ++ leaving p.mode p.mode) closed
+starts_so p out rm free closed = leaves_so p out p.mode rm free
+    ∙ ap (λ (b : Bool). closing b ++ leaving p.mode p.mode) closed
     ∙ ap (λ (b : Bool). (if b then Write 0 (reset_byte p.mode) ∷ [] else []) ++ Start ∷ [])
     (same_mode p.mode p.mode.rm)
 
 -- the same by the mode and the byte that were asked for
 pub started : (p : Registers) (out : Bool) (mode : Mode) (rest : ℕ) → mode ≡ p.mode → rest ≡ operating_byte mode →
-    p.mode.rm ≡ true → out ≡ false → write_steps p out 0 rest ≡ Start ∷ []
-started p out mode rest now is rm closed =
-    ap (λ n. write_steps p out 0 n) (is ∙ ap (λ (m : Mode). operating_byte m) now) ∙ starts_so p out rm closed
+    p.mode.rm ≡ true → is_forced p ≡ false → out ≡ false → write_steps p out 0 rest ≡ Start ∷ []
+started p out mode rest now is rm free closed =
+    ap (λ n. write_steps p out 0 n) (is ∙ ap (λ (m : Mode). operating_byte m) now) ∙ starts_so p out rm free closed
 
 -- RM 0 with these other bits, in reset mode, by the byte
 pub left_so : (p : Registers) (out : Bool) (m : Mode) (rest : ℕ) → rest ≡ operating_byte m → p.mode.rm ≡ true →
-    write_steps p out 0 rest ≡ closing out ++ leaving p.mode m
-left_so p out m rest is rm = ap (λ n. write_steps p out 0 n) is ∙ leaves_so p out m rm
+    is_forced p ≡ false → write_steps p out 0 rest ≡ closing out ++ leaving p.mode m
+left_so p out m rest is rm free = ap (λ n. write_steps p out 0 n) is ∙ leaves_so p out m rm free
 
 -- where a mode is another one it is taken first, else the start is all
 pub takes : (p : Registers) (new : Mode) (other : Bool) (byte : ℕ) → other ≡ is_other_mode p.mode new → other ≡ true →
@@ -110,75 +117,104 @@ takes_none p new other told none_of =
 -- neither closed nor taken yet
 pub both_left : (p : Registers) (out : Bool) (new : Mode) (other : Bool) (byte rest : ℕ) →
     other ≡ is_other_mode p.mode new → other ≡ true → byte ≡ reset_byte new → rest ≡ operating_byte new →
-    p.mode.rm ≡ true → out ≡ false → write_steps p out 0 rest ≡ Write 0 byte ∷ Start ∷ []
-both_left p out new other byte rest told so is left rm closed =
-    left_so p out new rest left rm ∙ ap (λ (b : Bool). closing b ++ leaving p.mode new) closed
+    p.mode.rm ≡ true → is_forced p ≡ false → out ≡ false → write_steps p out 0 rest ≡ Write 0 byte ∷ Start ∷ []
+both_left p out new other byte rest told so is left rm free closed =
+    left_so p out new rest left rm free ∙ ap (λ (b : Bool). closing b ++ leaving p.mode new) closed
     ∙ takes p new other byte told so is
 
 pub all_left : (p : Registers) (out : Bool) (new : Mode) (rest : ℕ) → rest ≡ operating_byte new → p.mode.rm ≡ true →
-    out ≡ true → write_steps p out 0 rest ≡ Stop ∷ leaving p.mode new
-all_left p out new rest left rm opened =
-    left_so p out new rest left rm ∙ ap (λ (b : Bool). closing b ++ leaving p.mode new) opened
+    is_forced p ≡ false → out ≡ true → write_steps p out 0 rest ≡ Stop ∷ leaving p.mode new
+all_left p out new rest left rm free opened =
+    left_so p out new rest left rm free ∙ ap (λ (b : Bool). closing b ++ leaving p.mode new) opened
 
-by_rm : (now new : Bool) (same enter leave : List Step) → now ≡ new →
-    (if now then if new then same else leave else if new then enter else same) ≡ same
-by_rm true true same enter leave e = refl
-by_rm false false same enter leave e = refl
-by_rm true false same enter leave e = absurd cc
-by_rm false true same enter leave e = absurd cc
+-- which of the three a write of MOD is, by RM as it is and as it is written, and by whether a bus-off is asked for
+typed_by : (now new forced written : Bool) (same enter leave : List Step) →
+    written ≡ (not (differ now new) || forced) → (forced ≡ true → now ≡ true) → written ≡ true →
+    (if now then if new || forced then same else leave else if new then enter else same) ≡ same
+typed_by true true forced written same enter leave told h is = refl
+typed_by false false forced written same enter leave told h is = refl
+typed_by true false true written same enter leave told h is = refl
+typed_by true false false written same enter leave told h is = absurd cc
+typed_by false true true written same enter leave told h is = let out : false ≡ true = h refl in absurd cc
+typed_by false true false written same enter leave told h is = absurd cc
 
--- RM is written as it is
-pub stays_so : (p : Registers) (out : Bool) (value : ℕ) → p.mode.rm ≡ (mode_of value).rm →
-    mode_steps p.mode out value ≡ Write 0 value ∷ []
-stays_so p out value e = by_rm p.mode.rm (mode_of value).rm (Write 0 value ∷ []) (Stop ∷ [])
-    (closing out ++ leaving p.mode (mode_of value)) e
+forced_in_reset : (rm asks : Bool) → (rm && asks) ≡ true → rm ≡ true
+forced_in_reset true asks e = refl
+forced_in_reset false asks e = absurd cc
 
-not_same : (now new : Bool) → (now ≡ new → ⊥) → new ≡ true → now ≡ false
-not_same true true ne e = absurd (ne refl)
-not_same false new ne e = refl
-not_same true false ne e = absurd cc
+-- RM is written as it is, or a bus-off is asked for
+pub stays_so : (p : Registers) (out : Bool) (value : ℕ) (new : Mode) (written : Bool) → new ≡ mode_of value →
+    written ≡ is_written p new → written ≡ true → mode_steps p.mode (is_forced p) out value ≡ Write 0 value ∷ []
+stays_so p out value new written of told is =
+    typed_by p.mode.rm (mode_of value).rm (is_forced p) written (Write 0 value ∷ []) (Stop ∷ [])
+    (closing out ++ leaving p.mode (mode_of value)) (told ∙ ap (λ (m : Mode). is_written p m) of)
+    (forced_in_reset p.mode.rm (asks_off p)) is
 
-not_same_left : (now new : Bool) → (now ≡ new → ⊥) → new ≡ false → now ≡ true
-not_same_left false false ne e = absurd (ne refl)
-not_same_left true new ne e = refl
-not_same_left false true ne e = absurd cc
+entered_by : (now new forced written : Bool) (same enter leave : List Step) →
+    written ≡ (not (differ now new) || forced) → written ≡ false → new ≡ true →
+    (if now then if new || forced then same else leave else if new then enter else same) ≡ enter
+entered_by false true forced written same enter leave told is rm = refl
+entered_by true true forced written same enter leave told is rm = absurd cc
+entered_by now false forced written same enter leave told is rm = absurd cc
 
 -- RM 0 to 1
-pub enters_so : (p : Registers) (out : Bool) (value : ℕ) → (p.mode.rm ≡ (mode_of value).rm → ⊥) →
-    (mode_of value).rm ≡ true → mode_steps p.mode out value ≡ Stop ∷ []
-enters_so p out value ne rm =
-    ap (λ (b : Bool). if b then if (mode_of value).rm then Write 0 value ∷ [] else closing out ++ leaving p.mode
-    (mode_of value) else if (mode_of value).rm then Stop ∷ [] else Write 0 value ∷ [])
-    (not_same p.mode.rm (mode_of value).rm ne rm)
-    ∙ ap (λ (b : Bool). if b then Stop ∷ [] else Write 0 value ∷ []) rm
+pub enters_so : (p : Registers) (out : Bool) (value : ℕ) (new : Mode) (written : Bool) → new ≡ mode_of value →
+    written ≡ is_written p new → written ≡ false → new.rm ≡ true →
+    mode_steps p.mode (is_forced p) out value ≡ Stop ∷ []
+enters_so p out value new written of told is rm =
+    entered_by p.mode.rm (mode_of value).rm (is_forced p) written (Write 0 value ∷ []) (Stop ∷ [])
+    (closing out ++ leaving p.mode (mode_of value)) (told ∙ ap (λ (m : Mode). is_written p m) of) is
+    (ap (λ (m : Mode). m.rm) (sym of) ∙ rm)
+
+-- reset mode stands, no bus-off is asked for, and the steps are those that leave it
+pub record Leaves (now forced : Bool) (steps leave : List Step) : Type 0 where
+  pub reset : now ≡ true
+  pub unforced : forced ≡ false
+  pub so : steps ≡ leave
+
+left_by : (now new forced written : Bool) (same enter leave : List Step) →
+    written ≡ (not (differ now new) || forced) → written ≡ false → new ≡ false →
+    Leaves now forced (if now then if new || forced then same else leave else if new then enter else same) leave
+left_by true false false written same enter leave told is rm = record { reset = refl; unforced = refl; so = refl }
+left_by true false true written same enter leave told is rm = absurd cc
+left_by false false forced written same enter leave told is rm = absurd cc
+left_by now true forced written same enter leave told is rm = absurd cc
 
 -- RM 1 to 0
-pub rm_stood : (p : Registers) (value : ℕ) → (p.mode.rm ≡ (mode_of value).rm → ⊥) → (mode_of value).rm ≡ false →
-    p.mode.rm ≡ true
-rm_stood p value ne rm = not_same_left p.mode.rm (mode_of value).rm ne rm
+pub leaves_as : (p : Registers) (out : Bool) (value : ℕ) (new : Mode) (written : Bool) → new ≡ mode_of value →
+    written ≡ is_written p new → written ≡ false → new.rm ≡ false →
+    Leaves p.mode.rm (is_forced p) (mode_steps p.mode (is_forced p) out value) (closing out ++ leaving p.mode new)
+leaves_as p out value new written of told is rm =
+    subst (λ (m : Mode). Leaves p.mode.rm (is_forced p) (mode_steps p.mode (is_forced p) out value)
+    (closing out ++ leaving p.mode m)) (sym of)
+    (left_by p.mode.rm (mode_of value).rm (is_forced p) written (Write 0 value ∷ []) (Stop ∷ [])
+    (closing out ++ leaving p.mode (mode_of value)) (told ∙ ap (λ (m : Mode). is_written p m) of) is
+    (ap (λ (m : Mode). m.rm) (sym of) ∙ rm))
 
-pub leaves_as : (p : Registers) (out : Bool) (value : ℕ) → (p.mode.rm ≡ (mode_of value).rm → ⊥) →
-    (mode_of value).rm ≡ false → mode_steps p.mode out value ≡ closing out ++ leaving p.mode (mode_of value)
-leaves_as p out value ne rm =
-    ap (λ (b : Bool). if b then if (mode_of value).rm then Write 0 value ∷ [] else closing out ++ leaving p.mode
-    (mode_of value) else if (mode_of value).rm then Stop ∷ [] else Write 0 value ∷ [])
-    (rm_stood p value ne rm)
-    ∙ ap (λ (b : Bool). if b then Write 0 value ∷ [] else closing out ++ leaving p.mode (mode_of value)) rm
+not_at : (n m : ℕ) → (n ≡ m → ⊥) → nat_eq n m ≡ false
+not_at n m h = grind (arith, h)
+
+-- any other address than those of MOD and CMR
+pub others_so : (p : Registers) (out : Bool) (address value : ℕ) → (address ≡ 0 → ⊥) → (address ≡ 1 → ⊥) →
+    write_steps p out address value ≡ Write address value ∷ []
+others_so p out address value not_mode not_command =
+    ap (λ (b : Bool). if b then mode_steps p.mode (is_forced p) out value
+    else if address == 1 then command_steps p (command_of value) else Write address value ∷ [])
+    (not_at address 0 not_mode)
+    ∙ ap (λ (b : Bool). if b then command_steps p (command_of value) else Write address value ∷ [])
+    (not_at address 1 not_command)
 
 -- RRB alone, out of reset mode
 pub releases_so : (p : Registers) (out : Bool) → p.mode.rm ≡ false → write_steps p out 1 4 ≡ Release ∷ []
 releases_so p out rm = ap (λ (b : Bool). if b then [] else Release ∷ []) rm
 
-not_zero : (n : ℕ) → (n ≡ 0 → ⊥) → nat_eq n 0 ≡ false
-not_zero n h = grind (arith, h)
-
--- CMR out of reset mode: a command of at least one bit, or none
+-- CMR out of reset mode: a command of at least one bit, or free
 pub commands_so : (p : Registers) (c : CommandBits) (n : ℕ) → p.mode.rm ≡ false → n ≡ command_byte (doable p c) →
     (n ≡ 0 → ⊥) → command_steps p c ≡ Command n ∷ releases c.rrb
 commands_so p c n rm told some =
     ap (λ (b : Bool). if b then [] else commands (command_byte (doable p c)) ++ releases c.rrb) rm
     ∙ ap (λ m. commands m ++ releases c.rrb) (sym told)
-    ∙ ap (λ (b : Bool). (if b then [] else Command n ∷ []) ++ releases c.rrb) (not_zero n some)
+    ∙ ap (λ (b : Bool). (if b then [] else Command n ∷ []) ++ releases c.rrb) (not_at n 0 some)
 
 pub commands_none : (p : Registers) (c : CommandBits) (n : ℕ) → p.mode.rm ≡ false → n ≡ command_byte (doable p c) →
     n ≡ 0 → command_steps p c ≡ releases c.rrb
@@ -186,7 +222,7 @@ commands_none p c n rm told zero =
     ap (λ (b : Bool). if b then [] else commands (command_byte (doable p c)) ++ releases c.rrb) rm
     ∙ ap (λ m. commands m ++ releases c.rrb) (sym told ∙ zero)
 
--- and none in reset mode
+-- and free in reset mode
 pub commands_off : (p : Registers) (c : CommandBits) → p.mode.rm ≡ true → command_steps p c ≡ []
 commands_off p c rm =
     ap (λ (b : Bool). if b then [] else commands (command_byte (doable p c)) ++ releases c.rrb) rm

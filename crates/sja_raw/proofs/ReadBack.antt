@@ -1,5 +1,5 @@
 -- What a step that reads a register answered.
-use Rattle.std.proofs.Common.{◌≡◌, ◌≤◌, ◌+◌, ◌-◌, ℕ, Bool, true, Option, Some, None, List, [], ◌∷◌, ◌++◌}
+use Rattle.std.proofs.Common.{◌≡◌, ◌≤◌, ◌-◌, ℕ, Bool, true, Option, Some, None, List, [], ◌∷◌, ◌++◌}
 use Rattle.std.proofs.Common.{length, refl, sym, ap, ◌∙◌, subst, arith}
 use Rattle.std.proofs.lemmas.List.{length-append}
 use Rattle.std.specs.Prelude.{slice_get, unwrap_or}
@@ -85,7 +85,7 @@ last_is xs was d e =
     subst (λ (n : ℕ). slice_get xs n ≡ Some d) (sym count)
     (subst (λ (l : List Done). slice_get l (length was) ≡ Some d) (sym e) (last_at was d))
 
-value_is : (v : Option ℕ) (other : ℕ) → value_or (value_answer (or_no_register v)) other ≡ unwrap_or v other
+pub value_is : (v : Option ℕ) (other : ℕ) → value_or (value_answer (or_no_register v)) other ≡ unwrap_or v other
 value_is None other = refl
 value_is (Some n) other = refl
 

@@ -5,6 +5,7 @@ pub mod Reads
 pub mod ModeWrites
 pub mod CommandWrites
 pub mod Writes
+pub mod WriteLists
 pub mod Trying
 pub mod RawDrivers
 pub mod Inside

@@ -1,5 +1,5 @@
 -- The steps of a typed driver that a write of MOD is (SJA1000 data sheet, 6.4.3).
-use Rattle.std.specs.Prelude.{◌++◌, ℕ, Bool, true, false, if◌then◌else◌, List, [], ◌∷◌}
+use Rattle.std.specs.Prelude.{◌++◌, ◌||◌, ℕ, Bool, true, false, if◌then◌else◌, List, [], ◌∷◌}
 use Rattle.sja_regs.specs.declared.mode.Mode.{Mode}
 use Rattle.sja_regs.specs.Modes.{mode_of, mode_byte}
 use Rattle.sja_regs.specs.Writing.{is_other_mode}
@@ -26,9 +26,10 @@ abbrev pub leaving : Mode → Mode → List Step
 leaving now new = taking now new ++ Start ∷ []
 
 -- by RM as it is and as it is written. RM 0 to 1 enters reset mode, and bits 1 to 3 aren't taken then, since they can
--- be written only where reset mode was entered before
-abbrev pub mode_steps : Mode → Bool → ℕ → List Step
-mode_steps now out value =
+-- be written only where reset mode was entered before. Where a bus-off is asked for (`forced`: TXERR was written 255,
+-- 6.4.12) RM 1 to 0 brings it in place of leaving reset mode, and no activation begins or is closed
+abbrev pub mode_steps : Mode → Bool → Bool → ℕ → List Step
+mode_steps now forced out value =
     if now.rm
-    then if (mode_of value).rm then Write 0 value ∷ [] else closing out ++ leaving now (mode_of value)
+    then if (mode_of value).rm || forced then Write 0 value ∷ [] else closing out ++ leaving now (mode_of value)
     else if (mode_of value).rm then Stop ∷ [] else Write 0 value ∷ []

@@ -3,6 +3,7 @@
 use Rattle.std.specs.Prelude.{◌==◌, ℕ, Bool, if◌then◌else◌, List, [], ◌∷◌}
 use Rattle.sja_regs.specs.declared.registers.Registers.{Registers}
 use Rattle.sja_regs.specs.Commands.{command_of}
+use Rattle.sja_regs.specs.Registers.{is_forced}
 use Rattle.sja_script.specs.declared.step.Step.{Step}
 use Rattle.sja_script.specs.declared.step.Step.TheVariants.{Write}
 use Rattle.sja_raw.specs.ModeWrites.{mode_steps}
@@ -12,5 +13,5 @@ use Rattle.sja_raw.specs.CommandWrites.{command_steps}
 -- or in it. Any other address is written by that step, and where its port refuses it nothing changes there
 abbrev pub write_steps : Registers → Bool → ℕ → ℕ → List Step
 write_steps p out address value =
-    if address == 0 then mode_steps p.mode out value
+    if address == 0 then mode_steps p.mode (is_forced p) out value
     else if address == 1 then command_steps p (command_of value) else Write address value ∷ []

@@ -74,7 +74,7 @@ fn release_if<E: DriverEnd>(
 }
 
 /// Of a command what can be done, but for RRB.
-fn doable(port: &Port, command: Command) -> Command
+pub(crate) fn doable(port: &Port, command: Command) -> Command
     requires { port.now.mode.rm ≡ false }
     ensures { result ≡ doable port.now command }
 {
@@ -107,7 +107,7 @@ fn is_free(port: &Port) -> bool
 }
 
 /// The byte of a command.
-fn command_byte(command: Command) -> u8
+pub(crate) fn command_byte(command: Command) -> u8
     ensures { result ≡ command_byte command }
 {
     bit_at(TR, command.tr)

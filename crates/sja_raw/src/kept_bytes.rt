@@ -2,11 +2,12 @@
 
 ghost use Rattle.std.specs.Prelude.{◌≡◌, ◌%◌, ◌+◌, drop};
 ghost use Rattle.sja_raw.specs.ClockDivider.{divider_after};
-ghost use Rattle.sja_raw.specs.Kept.{at_power_on, kept_at, kept_after, moved};
+ghost use Rattle.sja_raw.specs.Kept.{at_power_on, kept_at, kept_after, moved, moved_by_answer};
 ghost use Rattle.sja_raw.specs.StartAddress.{start_after};
 
 use super::address::{BTR0, BTR1, CDR, OCR, RBSA};
 use sja_driver::Release;
+use sja_script::StepAnswer;
 
 /// The registers that are kept for a driver and have no effect on the bus (SJA1000 data sheet, 6.4.17 and 6.5.1 to
 /// 6.5.4).
@@ -64,6 +65,15 @@ impl KeptBytes {
             RBSA if reset => self.rbsa = value % 64,
             CDR => self.cdr = divider_after(self.cdr, reset, value),
             _ => {}
+        }
+    }
+
+    /// Moves RBSA on by what a step released, if it released a message.
+    pub fn answered(&mut self, answer: &StepAnswer)
+        ensures { self.new ≡ moved_by_answer self.old answer.now }
+    {
+        if let StepAnswer::Released(length) = answer {
+            self.rbsa = moved_by(self.rbsa, *length);
         }
     }
 

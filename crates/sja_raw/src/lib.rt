@@ -19,8 +19,11 @@ mod mode_write;
 mod raw_driver;
 mod reading;
 mod trying;
+mod write_steps;
 mod writing;
 
 pub use kept_bytes::KeptBytes;
 pub use laws::no_command_is_refused;
 pub use raw_driver::RawDriver;
+pub use trying::is_reset;
+pub use write_steps::{WriteSteps, steps_of_write};

@@ -1,10 +1,12 @@
 //! Writes of MOD.
 
 ghost use Rattle.std.specs.Prelude.{◌≡◌, ◌++◌, [], ◌∷◌, true, false};
+ghost use Rattle.sja_regs.specs.Registers.{is_forced};
 ghost use Rattle.sja_regs.specs.Writing.{is_other_mode};
 ghost use Rattle.sja_script.specs.declared.step.Step.TheVariants.{Start, Write};
 ghost use Rattle.sja_driver.specs.AnyDrivers.{is_out};
 ghost use Rattle.sja_driver.specs.LoggedDrivers.{driver_of};
+ghost use Rattle.sja_raw.specs.Inside.WrittenMode.{is_written};
 ghost use Rattle.sja_raw.specs.ModeWrites.{reset_byte, operating_byte, closing, leaving, mode_steps};
 ghost use Rattle.sja_raw.specs.RawDrivers.{Writes};
 ghost use Rattle.sja_raw.specs.Trying.{MayTry, Keeps};
@@ -29,10 +31,11 @@ pub(crate) fn write_mode<E: DriverEnd>(
     requires { MayTry E.link typed.old links.old base 3 }
     ensures keeps { Keeps E.link E.same typed.old typed.new links.old links.new base 3 }
     ensures writes { Writes E.same E.stands E.dry E.full base bits typed.old typed.new links.old links.new
-        port.old port.new 0 (mode_steps port.old.mode (is_out (driver_of typed.old)) value) result }
+        port.old port.new 0 (mode_steps port.old.mode (is_forced port.old) (is_out (driver_of typed.old)) value)
+        result }
 {
     let new = Mode::of(value);
-    if mode_in(port).rm == new.rm {
+    if is_written(port, new) {
         let written = Step::Write(MOD, value);
         return single(typed, links, base, port, &written, value, bits);
     }
@@ -41,6 +44,13 @@ pub(crate) fn write_mode<E: DriverEnd>(
     } else {
         leave_reset(typed, links, base, port, new, bits)
     }
+}
+
+/// Whether this mode is written by the typed driver's write: RM as it is, or a bus-off is asked for.
+pub(crate) fn is_written(port: &Port, new: Mode) -> bool
+    ensures { result ≡ is_written port.now new }
+{
+    !differ(mode_in(port).rm, new.rm) || port.is_forced()
 }
 
 /// Leaves reset mode: closes the activation that bus-off ended, if there is one, and begins the next in this mode.
@@ -54,6 +64,7 @@ fn leave_reset<E: DriverEnd>(
 ) -> Option<u8>
     requires room { MayTry E.link typed.old links.old base 3 }
     requires reset { port.old.mode.rm ≡ true }
+    requires forced { is_forced port.old ≡ false }
     ensures keeps { Keeps E.link E.same typed.old typed.new links.old links.new base 3 }
     ensures writes { Writes E.same E.stands E.dry E.full base bits typed.old typed.new links.old links.new
         port.old port.new 0 (closing (is_out (driver_of typed.old)) ++ leaving port.old.mode new) result }
@@ -79,6 +90,7 @@ fn begin<E: DriverEnd>(
 ) -> Option<u8>
     requires room { MayTry E.link typed.old links.old base 2 }
     requires reset { port.old.mode.rm ≡ true }
+    requires forced { is_forced port.old ≡ false }
     requires closed { is_out (driver_of typed.old) ≡ false }
     ensures keeps { Keeps E.link E.same typed.old typed.new links.old links.new base 2 }
     ensures writes { Writes E.same E.stands E.dry E.full base bits typed.old typed.new links.old links.new
@@ -107,6 +119,7 @@ fn start<E: DriverEnd>(
 ) -> Option<u8>
     requires room { MayTry E.link typed.old links.old base 1 }
     requires reset { port.old.mode.rm ≡ true }
+    requires forced { is_forced port.old ≡ false }
     requires closed { is_out (driver_of typed.old) ≡ false }
     ensures keeps { Keeps E.link E.same typed.old typed.new links.old links.new base 1 }
     ensures writes { Writes E.same E.stands E.dry E.full base bits typed.old typed.new links.old links.new
@@ -117,14 +130,14 @@ fn start<E: DriverEnd>(
 }
 
 /// Whether LOM, STM or AFM differ.
-fn is_other_mode(now: Mode, new: Mode) -> bool
+pub(crate) fn is_other_mode(now: Mode, new: Mode) -> bool
     ensures { result ≡ is_other_mode now new }
 {
     differ(now.lom, new.lom) || differ(now.stm, new.stm) || differ(now.afm, new.afm)
 }
 
 /// The byte of MOD with RM at 1 that has these other bits.
-fn reset_byte(mode: Mode) -> u8
+pub(crate) fn reset_byte(mode: Mode) -> u8
     ensures { result ≡ reset_byte mode }
 {
     Mode { rm: true, ..mode }.byte()

@@ -12,6 +12,7 @@ ghost use Rattle.sja_raw.specs.RawDrivers.{typed_of, kept_of};
 ghost use Rattle.sja_raw.specs.Reads.{raw_value};
 ghost use Rattle.sja_raw.specs.Trying.{MayTry, Keeps};
 
+use super::kept_bytes::KeptBytes;
 use super::raw_driver::RawDriver;
 use sja_link::DriverEnd;
 use sja_regs::Port;
@@ -45,6 +46,27 @@ impl RawDriver {
         self.typed
             .step(links, base, port, &Step::Read(address), bits);
         last_value(self.typed.log().done(), other)
+    }
+}
+
+impl KeptBytes {
+    ghost use Rattle.std.specs.Prelude.{◌≡◌};
+    ghost use Rattle.can_frame.specs.declared.seen.Seen.{Seen as SeenMessages};
+    ghost use Rattle.sja_regs.specs.declared.registers.Registers.{Registers};
+    ghost use Rattle.sja_regs.specs.Addresses.{register_at};
+    ghost use Rattle.sja_regs.specs.Reading.{or_no_register, value_at};
+    ghost use Rattle.sja_driver.specs.Answers.{value_answer};
+    ghost use Rattle.sja_raw.specs.Reads.{raw_value};
+
+    /// What an address reads as, where the step `Read` of a typed driver answered this: its value, or else what is kept
+    /// there, or 0.
+    #[tactic(auto, using(crate::proofs::ReadBack::value_is))]
+    pub fn read_by(&self, address: u8, answer: &StepAnswer) -> u8
+        ensures { (p : Registers) (seen : SeenMessages)
+            → answer.now ≡ value_answer (or_no_register (value_at p seen (register_at p.mode.rm address)))
+            → result ≡ raw_value p self.now seen address }
+    {
+        value_of(answer, self.read(address))
     }
 }
 

@@ -73,8 +73,8 @@ pub(crate) fn mode_in(port: &Port) -> Mode
     }
 }
 
-/// Whether the port is in reset mode: it refuses every command then, even one without a bit.
-fn is_reset(port: &Port) -> bool
+/// Whether a controller is in reset mode, by its registers: it refuses every command then, even one without a bit.
+pub fn is_reset(port: &Port) -> bool
     ensures { result ≡ port.now.mode.rm }
 {
     matches!(port.plan_command(0), Err(RegFault::ActiveOnly))

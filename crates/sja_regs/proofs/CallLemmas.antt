@@ -1,6 +1,7 @@
 -- What each call does to the capture registers, to IR and to TBS.
 use Rattle.std.proofs.Common.{◌≡◌, ◌≢◌, ◌||◌, ◌&&◌, not, ℕ, Bool, true, false}
-use Rattle.std.proofs.Common.{if◌then◌else◌, Option, Some, None, [], ◌∷◌, refl, ap}
+use Rattle.std.proofs.Common.{if◌then◌else◌, Option, Some, None, [], ◌∷◌, refl, ap, ◌∙◌}
+use Rattle.std.specs.Prelude.{◌==◌, unwrap_or, nat_le}
 use Rattle.sja_regs.specs.declared.interrupts.Interrupts.{Interrupts}
 use Rattle.sja_regs.specs.declared.register.Register.{Register}
 use Rattle.sja_regs.specs.declared.register.Register.TheVariants.{Mode, Command, Status, Interrupt, InterruptEnable}
@@ -11,16 +12,22 @@ use Rattle.sja_regs.specs.declared.register.Register.TheVariants.{AcceptanceMask
 use Rattle.sja_regs.specs.declared.reg_fault.RegFault.{RegFault}
 use Rattle.sja_regs.specs.declared.reg_fault.RegFault.TheVariants.{ResetOnly}
 use Rattle.sja_regs.specs.declared.registers.Registers.{Registers}
-use Rattle.sja_regs.specs.Registers.{error_causes, after_leaving_reset, after_entering_reset}
-use Rattle.sja_regs.specs.Interrupting.{no_interrupt}
+use Rattle.sja_regs.specs.ErrorStates.{causes_between}
+use Rattle.sja_regs.specs.Modes.{mode_of}
+use Rattle.sja_regs.specs.Registers.{is_raw, error_state_of, error_causes, without_reset, after_leaving_reset}
+use Rattle.sja_regs.specs.Registers.{is_forced, gone_off, after_entering_reset}
+use Rattle.sja_regs.specs.Turns.{goes_off, causes}
+use Rattle.sja_regs.specs.Interrupting.{no_interrupt, pending_after}
 use Rattle.sja_regs.specs.Captures.{after_capture}
 use Rattle.sja_regs.specs.Refusals.{first_fault}
 use Rattle.sja_regs.specs.Reading.{after_reading}
-use Rattle.sja_regs.specs.Writing.{write_faults, after_writing, load_faults, after_loading}
+use Rattle.sja_regs.specs.Writing.{mode_faults, after_forced_off, write_faults, after_writing}
+use Rattle.sja_regs.specs.Writing.{load_faults, after_loading}
 use Rattle.sja_regs.specs.Commands.{requests, command_faults, after_command}
 use Rattle.sja_regs.specs.Calls.{Call, Turn, Read, Write, Load, Give, LeaveReset}
 use Rattle.sja_regs.specs.Calls.{EnterReset, Restore, Close, Finish, unless_refused, after_call}
-use Rattle.sja_regs.specs.Histories.{IsNoRequest, lost_by, fault_by, either, both, causes_by, releases}
+use Rattle.sja_regs.specs.Histories.{IsNoRequest, lost_by, fault_by, either, both, if_done, causes_by, enters_reset}
+use Rattle.sja_regs.specs.Histories.{IsEarlier, releases}
 use Rattle.sja_regs.proofs.KeepLemmas.{read_keeps, write_keeps, leaving_keeps}
 
 -- a refused call keeps what a call keeps that is done
@@ -97,7 +104,16 @@ written : (p : Registers) (register : Register) (value : ℕ) →
     (after_call p (Write register value)).pending
     ≡ either (both (causes_by p (Write register value)) p.enabled) p.pending
 written p Mode value =
-    unless_keeps (λ q. q.pending) (first_fault (write_faults p Mode value)) p (after_writing p Mode value) refl
+    mode_pending (first_fault (mode_faults p (mode_of value))) (is_forced p && not (mode_of value).rm)
+  where
+    mode_pending : (fault : Option RegFault) (test : Bool) → (unless_refused fault p (if test
+        then after_forced_off (record p { mode = record (mode_of value) { rm = true } })
+        else record p { mode = mode_of value })).pending
+        ≡ either (both (if_done fault (if test then causes_between true p.frozen (error_state_of (gone_off p))
+        else no_interrupt)) p.enabled) p.pending
+    mode_pending None true = refl
+    mode_pending None false = refl
+    mode_pending (Some fault) test = refl
 written p Command value = refl
 written p Status value = refl
 written p Interrupt value = refl
@@ -106,8 +122,18 @@ written p ArbitrationLostCapture value = refl
 written p ErrorCodeCapture value = refl
 written p ErrorWarningLimit value =
     limited p.mode.rm p (after_writing p ErrorWarningLimit value) (error_causes p (record p { ewlr = value })) refl
-written p ReceiveErrorCounter value = refl
-written p TransmitErrorCounter value = refl
+written p ReceiveErrorCounter value =
+    unless_keeps (λ q. q.pending) (first_fault (write_faults p ReceiveErrorCounter value)) p
+    (after_writing p ReceiveErrorCounter value) refl
+written p TransmitErrorCounter value =
+    unless_keeps (λ q. q.pending) (first_fault (write_faults p TransmitErrorCounter value)) p
+    (after_writing p TransmitErrorCounter value) (txerr_pending (value == 255))
+  where
+    txerr_pending : (test : Bool) → (if test then record p { txerr = value; set_tec = Some value } else
+        record p { txerr = value; rxerr = unwrap_or p.set_rec p.rxerr; bs = false; set_tec = Some value }).pending
+        ≡ p.pending
+    txerr_pending true = refl
+    txerr_pending false = refl
 written p (AcceptanceCode i) value = refl
 written p (AcceptanceMask i) value = refl
 written p (Buffer i) value =
@@ -115,20 +141,61 @@ written p (Buffer i) value =
     refl
 written p ReceiveMessageCounter value = refl
 
+-- reset mode is left, or the port isn't in it
+left_pending : (rm : Bool) (p q : Registers) (causes : Interrupts) →
+    q.pending ≡ either (both causes p.enabled) p.pending →
+    (if rm then q else p).pending ≡ either (both (if rm then causes else no_interrupt) p.enabled) p.pending
+left_pending true p q causes h = h
+left_pending false p q causes h = refl
+
+-- what is pending stays, where reset mode isn't entered or doesn't clear it
+stays_pending : (raw enters : Bool) (pending : Interrupts) → (raw && enters) ≡ false →
+    (if enters then (if raw then record no_interrupt { ei = pending.ei } else pending) else pending) ≡ pending
+stays_pending true true pending h = absurd cc
+stays_pending true false pending h = refl
+stays_pending false true pending h = refl
+stays_pending false false pending h = refl
+
+restored_pending : (p : Registers) (enters : Bool) → (is_raw p && enters) ≡ false →
+    (if enters then after_entering_reset p else p).pending ≡ p.pending
+restored_pending p true h = stays_pending (is_raw p) true p.pending h
+restored_pending p false h = refl
+
 -- IR takes the interrupts that have a cause and are enabled
-pub pending_by : (p : Registers) (call : Call) → call ≢ Read Interrupt →
+pub pending_by : (p : Registers) (call : Call) → call ≢ Read Interrupt → (is_raw p && enters_reset p call) ≡ false →
     (after_call p call).pending ≡ either (both (causes_by p call) p.enabled) p.pending
-pending_by p (Turn turn) h = refl
-pending_by p (Read register) h = unread_pending p register (λ e. h (ap Read e))
-pending_by p (Write register value) h = written p register value
-pending_by p (Load m) h = unless_keeps (λ q. q.pending) (first_fault (load_faults p)) p (after_loading p m) refl
-pending_by p (Give c) h = unless_keeps (λ q. q.pending) (first_fault (command_faults p c)) p (after_command p c) refl
-pending_by p LeaveReset h = leaving_keeps (λ q. q.pending) p.mode.rm p (after_leaving_reset p) refl
-pending_by p EnterReset h = refl
-pending_by p (Restore s) h =
-    leaving_keeps (λ q. q.pending) (s.mode.rm && not p.mode.rm) p (after_entering_reset p) refl
-pending_by p Close h = refl
-pending_by p Finish h = refl
+pending_by p (Turn turn) h keeps =
+    stays_pending (is_raw p) (goes_off p turn) (pending_after p.pending p.enabled (causes p turn)) keeps
+pending_by p (Read register) h keeps = unread_pending p register (λ e. h (ap Read e))
+pending_by p (Write register value) h keeps = written p register value
+pending_by p (Load m) h keeps = unless_keeps (λ q. q.pending) (first_fault (load_faults p)) p (after_loading p m) refl
+pending_by p (Give c) h keeps =
+    unless_keeps (λ q. q.pending) (first_fault (command_faults p c)) p (after_command p c) refl
+pending_by p LeaveReset h keeps =
+    left_pending p.mode.rm p (after_leaving_reset p) (error_causes p (without_reset p)) refl
+pending_by p EnterReset h keeps = stays_pending (is_raw p) true p.pending keeps
+pending_by p (Restore s) h keeps = restored_pending p (s.mode.rm && not p.mode.rm) keeps
+pending_by p Close h keeps = refl
+pending_by p Finish h keeps = refl
+
+-- the version stays below 3
+pub earlier_by : (p : Registers) (call : Call) → IsEarlier call → is_raw p ≡ false → is_raw (after_call p call) ≡ false
+earlier_by p (Turn turn) is raw = raw
+earlier_by p (Read register) is raw =
+    ap (nat_le 3) (read_keeps (λ q. q.version) (λ q i a c. refl) (Some register) p) ∙ raw
+earlier_by p (Write register value) is raw =
+    ap (nat_le 3) (unless_keeps (λ q. q.version) (first_fault (write_faults p register value)) p
+    (after_writing p register value) (write_keeps (λ q. q.version) (λ q s i. refl) (Some register) value p)) ∙ raw
+earlier_by p (Load m) is raw =
+    ap (nat_le 3) (unless_keeps (λ q. q.version) (first_fault (load_faults p)) p (after_loading p m) refl) ∙ raw
+earlier_by p (Give c) is raw =
+    ap (nat_le 3) (unless_keeps (λ q. q.version) (first_fault (command_faults p c)) p (after_command p c) refl) ∙ raw
+earlier_by p LeaveReset is raw =
+    ap (nat_le 3) (leaving_keeps (λ q. q.version) p.mode.rm p (after_leaving_reset p) refl) ∙ raw
+earlier_by p EnterReset is raw = raw
+earlier_by p (Restore s) is raw = is
+earlier_by p Close is raw = raw
+earlier_by p Finish is raw = raw
 
 -- a bit stays where no request is made
 stays : (b request : Bool) → request ≡ false → (b && not request) ≡ b

@@ -1,5 +1,5 @@
 -- What stands in a register after several calls.
-use Rattle.std.proofs.Common.{◌≡◌, ◌≢◌, ◌||◌, ◌∙◌, ℕ, Bool, true, false}
+use Rattle.std.proofs.Common.{◌≡◌, ◌≢◌, ◌||◌, ◌&&◌, ◌∙◌, ℕ, Bool, true, false}
 use Rattle.std.proofs.Common.{Option, Some, None, List, [], ◌∷◌, refl, ap, All}
 use Rattle.std.proofs.lemmas.List.Elements.{All-head, All-tail}
 use Rattle.sja_regs.specs.declared.capture.Capture.{Capture}
@@ -10,8 +10,10 @@ use Rattle.sja_regs.specs.declared.registers.Registers.{Registers}
 use Rattle.sja_regs.specs.Captures.{after_capture}
 use Rattle.sja_regs.specs.Calls.{Call, Read, after_call, after_calls}
 use Rattle.sja_regs.specs.Histories.{IsUnread, IsNoRequest, or_else, lost_by, first_lost, fault_by, first_error}
-use Rattle.sja_regs.specs.Histories.{either, both, causes_by, enabled_causes, releases, some_release}
-use Rattle.sja_regs.proofs.CallLemmas.{alc_by, ecc_by, pending_by, tbs_by}
+use Rattle.sja_regs.specs.Histories.{either, both, causes_by, enabled_causes, enters_reset, KeepPending, IsEarlier}
+use Rattle.sja_regs.specs.Histories.{releases, some_release}
+use Rattle.sja_regs.specs.Registers.{is_raw}
+use Rattle.sja_regs.proofs.CallLemmas.{alc_by, ecc_by, pending_by, earlier_by, tbs_by}
 
 -- the first call, and those after it
 first_unread : (register : Register) (call : Call) (calls : List Call) → IsUnread register (call ∷ calls) →
@@ -76,14 +78,23 @@ all_turned l n b =
     )
     refl
 
-pub pending_latched : (p : Registers) (calls : List Call) → IsUnread Interrupt calls →
+pub pending_latched : (p : Registers) (calls : List Call) → IsUnread Interrupt calls → KeepPending p calls →
     (after_calls p calls).pending ≡ either (enabled_causes p calls) p.pending
-pending_latched p [] h = refl
-pending_latched p (call ∷ calls) h =
+pending_latched p [] h keep = refl
+pending_latched p (call ∷ calls) h keep =
     let next = after_call p call in
-    pending_latched next calls (rest_unread Interrupt call calls h)
-    ∙ ap (either (enabled_causes next calls)) (pending_by p call (first_unread Interrupt call calls h))
+    pending_latched next calls (rest_unread Interrupt call calls h) keep.1
+    ∙ ap (either (enabled_causes next calls)) (pending_by p call (first_unread Interrupt call calls h) keep.0)
     ∙ all_turned (enabled_causes next calls) (both (causes_by p call) p.enabled) p.pending
+
+-- before version 3 no call clears what is pending
+pub keep_pending : (p : Registers) (calls : List Call) → is_raw p ≡ false → All IsEarlier calls → KeepPending p calls
+keep_pending p [] raw h = record {}
+keep_pending p (call ∷ calls) raw h = (
+  ap (λ r. r && enters_reset p call) raw,
+  keep_pending (after_call p call) calls (earlier_by p call (All-head IsEarlier call calls h) raw)
+      (All-tail IsEarlier call calls h),
+)
 
 pub tbs_waits : (p : Registers) (calls : List Call) → All IsNoRequest calls →
     (after_calls p calls).tbs ≡ (some_release p calls || p.tbs)

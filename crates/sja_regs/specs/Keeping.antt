@@ -2,7 +2,7 @@
 use Rattle.std.specs.Prelude.{◌≢◌, ◌⊎◌, ◌≡◌, ◌||◌, true, false, None}
 use Rattle.sja_regs.specs.declared.bus_turn.BusTurn.{BusTurn}
 use Rattle.sja_regs.specs.declared.registers.Registers.{Registers}
-use Rattle.sja_regs.specs.Turns.{rs_told, ts_told}
+use Rattle.sja_regs.specs.Turns.{rxerr_after, txerr_after, rs_after, ts_after, bs_after}
 
 -- each interrupt that is pending now was pending before, or it is enabled
 pub record OnlyEnabled (old new : Registers) : Type 0 where
@@ -31,16 +31,16 @@ pub record KeepsActivation (old new : Registers) : Type 0 where
   pub ali : new.pending.ali ≡ old.pending.ali
   pub bei : new.pending.bei ≡ old.pending.bei
 
--- the turn has no event, and says what the port shows already
+-- the turn brings nothing to its activation, and says what the port shows already, where the port is the node's
 pub record SaysTheSame (p : Registers) (turn : BusTurn) : Type 0 where
   pub ended : turn.events.ended ≡ None
   pub lost : turn.events.lost ≡ None
   pub fault : turn.events.fault ≡ None
   pub went_off : turn.events.went_off ≡ false
-  pub recovered : turn.events.recovered ≡ false
   pub aborted : turn.aborted ≡ false
   pub overrun : turn.overrun ≡ false
-  pub rxerr : turn.rxerr ≡ p.rxerr
-  pub txerr : turn.txerr ≡ p.txerr
-  pub rs : rs_told turn ≡ p.rs
-  pub ts : ts_told turn ≡ p.ts
+  pub rxerr : rxerr_after p turn ≡ p.rxerr
+  pub txerr : txerr_after p turn ≡ p.txerr
+  pub rs : rs_after p turn ≡ p.rs
+  pub ts : ts_after p turn ≡ p.ts
+  pub bs : bs_after p turn ≡ p.bs

@@ -7,11 +7,12 @@ use Rattle.can_node.specs.declared.outcome.Outcome.TheVariants.{Sent, Failed}
 use Rattle.can_node.specs.declared.phase.Phase.{Phase}
 use Rattle.can_node.specs.declared.phase.Phase.TheVariants.{Reset, Waiting, Idle, Frame, Flag}
 use Rattle.can_node.specs.declared.phase.Phase.TheVariants.{Delimiter, Intermission, Suspension}
-use Rattle.can_node.specs.declared.bit_events.BitEvents.{BitEvents}
 use Rattle.sja_regs.specs.declared.interrupts.Interrupts.{Interrupts}
 use Rattle.sja_regs.specs.declared.bus_turn.BusTurn.{BusTurn}
 use Rattle.sja_regs.specs.declared.registers.Registers.{Registers}
-use Rattle.sja_regs.specs.Registers.{error_causes}
+use Rattle.sja_regs.specs.declared.capture.Capture.{Capture}
+use Rattle.sja_regs.specs.declared.error_state.ErrorState.{ErrorState}
+use Rattle.sja_regs.specs.Registers.{is_raw, error_causes, shown_state, pending_in_reset}
 use Rattle.sja_regs.specs.Interrupting.{no_interrupt, pending_after}
 use Rattle.sja_regs.specs.Captures.{after_capture, error_code}
 
@@ -36,10 +37,6 @@ abbrev pub goes_off : Registers → BusTurn → Bool
 goes_off p turn = is_live p turn && turn.events.went_off
 
 -- ---- status bits (6.4.5)
-
--- BS: 1 from bus-off until its end
-abbrev pub bs_after : Registers → BitEvents → Bool
-bs_after p events = events.went_off || p.bs && not events.recovered
 
 -- RS for a receiver and TS for a transmitter: both are 1 in reset and while waiting; in a frame, a flag or a delimiter
 -- the one of the node's role is 1; else both are 0 (this project's own rule)
@@ -77,15 +74,44 @@ tcs_after p turn = is_live p turn && is_sent turn.events.ended || p.tcs
 abbrev pub abort_after : Registers → BusTurn → Bool
 abort_after p turn = not (ends p turn || goes_off p turn) && p.abort
 
--- what is the node's in every turn, also in reset mode and after the activation was left
+-- from version 3 on RS and TS stand at 1 in reset mode (SJA1000 data sheet, 6.4.2), and a late turn of an activation
+-- that the driver has left moves them in no mode (this project's own rule)
+abbrev pub stands_still : Registers → BusTurn → Bool
+stands_still p turn = is_raw p && (p.mode.rm || not (turn.activation == p.activation))
+
+abbrev pub rs_after : Registers → BusTurn → Bool
+rs_after p turn = if stands_still p turn then p.rs else rs_told turn
+
+abbrev pub ts_after : Registers → BusTurn → Bool
+ts_after p turn = if stands_still p turn then p.ts else ts_told turn
+
+-- counters and BS are the node's: in versions 1 and 2 in every turn (this project's own rule); from version 3 on in the
+-- turns of the present activation, until a counter is written in reset mode (SJA1000 data sheet, 6.4.11 and 6.4.12)
+abbrev pub follows_node : Registers → BusTurn → Bool
+follows_node p turn =
+    not (is_raw p) || ((turn.activation == p.activation) && not (is_some p.set_tec || is_some p.set_rec))
+
+abbrev pub rxerr_after : Registers → BusTurn → ℕ
+rxerr_after p turn = if follows_node p turn then turn.rxerr else p.rxerr
+
+abbrev pub txerr_after : Registers → BusTurn → ℕ
+txerr_after p turn = if follows_node p turn then turn.txerr else p.txerr
+
+-- BS: 1 from bus-off until its end (6.4.5). A turn says whether bus-off stands, and not only that it began or ended,
+-- so a turn that isn't followed takes nothing along
+abbrev pub bs_after : Registers → BusTurn → Bool
+bs_after p turn = if follows_node p turn then turn.off else p.bs
+
+-- what is the node's: in versions 1 and 2 also in reset mode and after the activation was left; from version 3 on in
+-- turns of the present activation alone, RS and TS out of reset mode, counters and BS until a counter is written
 abbrev pub with_node : Registers → BusTurn → Registers
 with_node p turn =
     record p {
-      rxerr = turn.rxerr;
-      txerr = turn.txerr;
-      rs = rs_told turn;
-      ts = ts_told turn;
-      bs = bs_after p turn.events;
+      rxerr = rxerr_after p turn;
+      txerr = txerr_after p turn;
+      rs = rs_after p turn;
+      ts = ts_after p turn;
+      bs = bs_after p turn;
     }
 
 -- ---- captures (6.4.8 and 6.4.9)
@@ -105,6 +131,11 @@ fault_in p turn = if is_live p turn then code_of_fault turn.events.fault turn.ev
 
 -- ---- interrupts (6.4.6)
 
+-- an event gives its interrupt: from version 3 on only where it is captured, so that the register has to be read before
+-- the next one comes (SJA1000 data sheet, 6.4.8 and 6.4.9); in the others always (this project's own rule)
+abbrev pub may_tell : Registers → Capture → Bool
+may_tell p c = c.was_read || not (is_raw p)
+
 -- which interrupts have a cause
 abbrev pub causes : Registers → BusTurn → Interrupts
 causes p turn =
@@ -118,10 +149,20 @@ causes p turn =
       -- error passive begins or ends
       epi = (error_causes p (with_node p turn)).epi;
       -- arbitration was lost
-      ali = is_live p turn && is_some turn.events.lost;
+      ali = (is_live p turn && is_some turn.events.lost) && may_tell p p.alc;
       -- there was a fault
-      bei = is_live p turn && is_some turn.events.fault;
+      bei = (is_live p turn && is_some turn.events.fault) && may_tell p p.ecc;
     }
+
+-- what is pending after the turn: bus-off enters reset mode
+abbrev pub pending_told : Registers → BusTurn → Interrupts
+pending_told p turn =
+    if goes_off p turn then pending_in_reset p (pending_after p.pending p.enabled (causes p turn))
+    else pending_after p.pending p.enabled (causes p turn)
+
+-- the error state that stands still from bus-off on
+abbrev pub frozen_after : Registers → BusTurn → ErrorState
+frozen_after p turn = if goes_off p turn then shown_state (with_node p turn) else p.frozen
 
 -- ---- all of it
 
@@ -133,13 +174,14 @@ after_turn p turn =
       dos = dos_after p turn;
       tbs = tbs_after p turn;
       tcs = tcs_after p turn;
-      rs = goes_off p turn || rs_told turn;
-      ts = goes_off p turn || ts_told turn;
-      bs = bs_after p turn.events;
-      pending = pending_after p.pending p.enabled (causes p turn);
+      rs = goes_off p turn || rs_after p turn;
+      ts = goes_off p turn || ts_after p turn;
+      bs = bs_after p turn;
+      pending = pending_told p turn;
+      frozen = frozen_after p turn;
       alc = after_capture p.alc (lost_in p turn);
       ecc = after_capture p.ecc (fault_in p turn);
-      rxerr = turn.rxerr;
-      txerr = turn.txerr;
+      rxerr = rxerr_after p turn;
+      txerr = txerr_after p turn;
       abort = abort_after p turn;
     }

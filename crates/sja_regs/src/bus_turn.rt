@@ -13,6 +13,8 @@ pub struct BusTurn {
     pub txerr: u8,
     /// The receive error counter after the bit, as RXERR shows it.
     pub rxerr: u8,
+    /// The node is bus-off after the bit, as BS shows it: its recovery isn't over.
+    pub off: bool,
     /// Where the node is with its next bit.
     pub phase: Phase,
     /// A standing abort dropped the request at the beginning of the bit.

@@ -7,8 +7,9 @@ use super::registers::Registers;
 use std::marker::Model;
 
 /// What the driver alone sets of a port's registers (this project's own rule): the version of the model, MOD, IER,
-/// EWLR, the acceptance codes and masks, and the transmit buffer. A turn of the bus changes none of it but RM, at
-/// bus-off. A driver whose port stands behind a lock keeps them beside it.
+/// EWLR, what it wrote to TXERR and RXERR in reset mode, the acceptance codes and masks, and the transmit buffer. A
+/// turn of the bus changes none of it but RM, at bus-off. A driver whose port stands behind a lock keeps them beside
+/// it.
 ///
 /// Contracts see them as `SettingsValue`.
 #[derive(Debug, Drop)]
@@ -17,14 +18,15 @@ pub struct DriverSettings {
     pub(crate) mode: Mode,
     pub(crate) enabled: Interrupts,
     pub(crate) ewlr: u8,
+    pub(crate) set_tec: Option<u8>,
+    pub(crate) set_rec: Option<u8>,
     pub(crate) acr: [u8; 4],
     pub(crate) amr: [u8; 4],
     pub(crate) buffer: [u8; 13],
 }
 
 impl Model for DriverSettings {
-    ghost use Rattle.std.specs.Prelude.{◌≡◌, false, length};
-    ghost use Rattle.sja_regs.specs.DriverSettings.{SettingsValue};
+    ghost use Rattle.sja_regs.specs.DriverSettings.{SettingsValue, SettingsFacts};
 
     ghost Value = { SettingsValue };
 
@@ -33,12 +35,14 @@ impl Model for DriverSettings {
       mode = s.mode;
       enabled = s.enabled;
       ewlr = s.ewlr;
+      set_tec = s.set_tec;
+      set_rec = s.set_rec;
       acr = s.acr;
       amr = s.amr;
       buffer = s.buffer;
     } };
 
-    ghost invariant = { λ s. s.version ≡ 1 → (s.mode.lom ≡ false) × (s.mode.stm ≡ false) };
+    ghost invariant = { λ s. SettingsFacts s.version s.mode s.set_tec s.set_rec };
 }
 
 impl DriverSettings {
@@ -69,6 +73,8 @@ impl Port {
             mode: registers.mode,
             enabled: registers.enabled,
             ewlr: registers.ewlr,
+            set_tec: registers.set_tec,
+            set_rec: registers.set_rec,
             acr: registers.acr,
             amr: registers.amr,
             buffer: registers.buffer,
@@ -92,6 +98,8 @@ impl Port {
         };
         registers.enabled = settings.enabled;
         registers.ewlr = settings.ewlr;
+        registers.set_tec = settings.set_tec;
+        registers.set_rec = settings.set_rec;
         registers.acr = settings.acr;
         registers.amr = settings.amr;
         registers.buffer = settings.buffer;

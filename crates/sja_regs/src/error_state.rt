@@ -7,7 +7,7 @@ use super::bits::differ;
 use super::interrupts::Interrupts;
 
 /// What the two error interrupts hang on (SJA1000 data sheet, 6.4.6).
-#[derive(Clone, Copy)]
+#[derive(Debug, Clone, Copy)]
 pub(crate) struct ErrorState {
     /// ES: an error counter has come to the warning limit.
     pub es: bool,
@@ -18,13 +18,14 @@ pub(crate) struct ErrorState {
 }
 
 impl ErrorState {
-    /// Which of EI and EPI have a cause, where this state becomes a new one.
-    pub(crate) fn causes(self, new: ErrorState) -> Interrupts
-        ensures { result ≡ causes_between self new }
+    /// Which of EI and EPI have a cause, where this state becomes a new one, in a version for drivers that know
+    /// addresses and bytes alone (`raw`) or in another: in those EPI doesn't come with bus-off.
+    pub(crate) fn causes(self, raw: bool, new: ErrorState) -> Interrupts
+        ensures { result ≡ causes_between raw self new }
     {
         Interrupts {
             ei: differ(self.es, new.es) | differ(self.bs, new.bs),
-            epi: differ(self.passive, new.passive),
+            epi: differ(self.passive, new.passive) & !(raw & (!self.bs & new.bs)),
             ..Interrupts::none()
         }
     }

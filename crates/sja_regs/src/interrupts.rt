@@ -45,6 +45,16 @@ impl Interrupts {
         }
     }
 
+    /// EI of these alone, which stays as reset mode is entered (SJA1000 data sheet, 6.4.2, reset values).
+    pub(crate) fn in_reset(self) -> Interrupts
+        ensures { result ≡ record no_interrupt { ei = self.ei } }
+    {
+        Interrupts {
+            ei: self.ei,
+            ..Interrupts::none()
+        }
+    }
+
     /// The interrupts that a byte says.
     pub fn of(value: u8) -> Interrupts
         ensures { result ≡ interrupts_of value }

@@ -1,7 +1,7 @@
 //! Laws of registers over several calls, and of what is written and read. Each is the contract of a function that does
 //! nothing.
 
-ghost use Rattle.std.specs.Prelude.{◌≡◌, ◌||◌, ◌<◌, ◌^◌, ℕ, List, Some, All};
+ghost use Rattle.std.specs.Prelude.{◌≡◌, ◌||◌, ◌<◌, ◌^◌, ℕ, false, List, Some, All};
 ghost use Rattle.can_frame.specs.declared.seen.Seen.{Seen};
 ghost use Rattle.sja_regs.specs.declared.register.Register.{Register};
 ghost use Rattle.sja_regs.specs.declared.register.Register.TheVariants.{Interrupt, ArbitrationLostCapture};
@@ -14,7 +14,8 @@ ghost use Rattle.sja_regs.specs.Reading.{value_of};
 ghost use Rattle.sja_regs.specs.Writing.{after_writing};
 ghost use Rattle.sja_regs.specs.Calls.{Call, after_calls};
 ghost use Rattle.sja_regs.specs.Histories.{IsUnread, IsNoRequest, first_lost, first_error};
-ghost use Rattle.sja_regs.specs.Histories.{either, enabled_causes, some_release};
+ghost use Rattle.sja_regs.specs.Histories.{either, enabled_causes, KeepPending, IsEarlier, some_release};
+ghost use Rattle.sja_regs.specs.Registers.{is_raw};
 ghost use Rattle.sja_regs.specs.Histories.{read_back};
 
 /// Until ALC is read it has the first place where arbitration was lost since it was read last.
@@ -29,9 +30,13 @@ pub fn ecc_keeps_the_first_fault()
         → (after_calls p calls).ecc ≡ after_capture p.ecc (first_error p calls) }
 {}
 
-/// Until IR is read it has each interrupt that was pending, and each whose cause came while it was enabled.
+/// Until IR is read it has each interrupt that was pending, and each whose cause came while it was enabled; from
+/// version 3 on where reset mode isn't entered.
 pub fn ir_keeps_what_was_raised()
-    ensures { (p : Registers) (calls : List Call) → IsUnread Interrupt calls
+    ensures kept { (p : Registers) (calls : List Call) → IsUnread Interrupt calls → KeepPending p calls
+        → (after_calls p calls).pending ≡ either (enabled_causes p calls) p.pending }
+    ensures earlier { (p : Registers) (calls : List Call) → is_raw p ≡ false → All IsEarlier calls
+        → IsUnread Interrupt calls
         → (after_calls p calls).pending ≡ either (enabled_causes p calls) p.pending }
 {}
 
@@ -44,6 +49,6 @@ pub fn tbs_waits_for_the_end()
 /// What is written to IER, EWLR, ACR0 to ACR3 and AMR0 to AMR3 is read back, and of MOD its four bits.
 pub fn what_is_written_is_read_back()
     ensures { (p : Registers) (seen : Seen) (register : Register) (value read : ℕ)
-        → RegisterFacts p → IsPlace register → value < 2 ^ 8 → read_back register value ≡ Some read
+        → RegisterFacts p → IsPlace register → value < 2 ^ 8 → read_back p register value ≡ Some read
         → value_of (after_writing p register value) seen register ≡ Some read }
 {}

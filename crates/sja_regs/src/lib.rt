@@ -17,7 +17,7 @@ mod capture;
 mod command;
 mod commanding;
 mod driver_settings;
-mod error_code;
+mod error_capture;
 mod error_state;
 mod interrupt_line;
 mod interrupts;
@@ -38,6 +38,7 @@ pub use bus_turn::BusTurn;
 pub use can_frame::Seen;
 pub use command::Command;
 pub use driver_settings::DriverSettings;
+pub use error_capture::error_code;
 pub use interrupts::Interrupts;
 pub use laws::{
     alc_keeps_the_first_loss, ecc_keeps_the_first_fault, ir_keeps_what_was_raised,

@@ -31,6 +31,7 @@ impl Model for Port {
 
 impl Port {
     ghost use Rattle.sja_regs.specs.Registers.{at_power_on, config_of, after_leaving_reset, after_entering_reset};
+    ghost use Rattle.sja_regs.specs.Registers.{is_forced};
     ghost use Rattle.sja_regs.specs.Facts.{RegisterFacts};
 
     /// A port after power-on: in reset mode, before its first activation. Version 1 of the model has no listen only
@@ -43,30 +44,55 @@ impl Port {
         }
     }
 
-    /// How the controller starts: acceptance filter, self test mode and listen only mode.
+    /// How the controller starts: acceptance filter, self test mode, listen only mode, and the error counters that were
+    /// written in reset mode, in version 3 alone.
     pub fn config(&self) -> Config
         ensures { result ≡ config_of self.now }
     {
         self.registers.config()
     }
 
-    /// Leaves reset mode for the next activation. They are numbered from 1, and the number stays at 255. A port that
-    /// isn't in reset mode stays as it is.
+    /// Whether a write of MOD with RM 0 brings a bus-off in place of leaving reset mode: from version 3 on, where TXERR
+    /// was written 255 in it (SJA1000 data sheet, 6.4.12).
+    pub fn is_forced(&self) -> bool
+        ensures { result ≡ is_forced self.now }
+    {
+        self.registers.is_forced()
+    }
+
+    /// Leaves reset mode for the next activation. They are numbered from 1, and the number stays at 255. From version 3
+    /// on what was written to EWLR, RXERR and TXERR shows from now on, and EI and EPI follow; TXERR written 255 is a
+    /// bus-off from now on. A port that isn't in reset mode stays as it is.
     pub fn leave_reset(&mut self)
         ensures { self.new ≡ (if self.old.mode.rm then after_leaving_reset self.old else self.old) }
     {
-        if self.registers.mode.rm {
-            self.registers.mode.rm = false;
-            self.registers.activation = self.registers.activation.saturating_add(1);
+        if !self.registers.mode.rm {
+            return;
         }
+        let before = self.registers.shown_state();
+        let registers = &mut self.registers;
+        if registers.is_forced() {
+            registers.go_off();
+        }
+        registers.mode.rm = false;
+        registers.activation = registers.activation.saturating_add(1);
+        registers.set_tec = None;
+        registers.set_rec = None;
+        let causes = registers.error_causes(before);
+        self.raise(causes);
     }
 
     /// Enters reset mode: the transmit buffer is released with no interrupt, no abort stands any more, DOS is 0, and RS
-    /// and TS are 1. TCS, ALC, ECC and pending interrupts stay.
+    /// and TS are 1. TCS, ALC and ECC stay, and so do pending interrupts, from version 3 on EI alone.
     pub fn enter_reset(&mut self)
         ensures { self.new ≡ after_entering_reset self.old }
     {
+        let shown = self.registers.shown_state();
         let registers = &mut self.registers;
+        registers.frozen = shown;
+        if registers.is_raw() {
+            registers.pending = registers.pending.in_reset();
+        }
         registers.mode.rm = true;
         registers.dos = false;
         registers.tbs = true;

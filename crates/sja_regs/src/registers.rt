@@ -1,7 +1,9 @@
 //! All that a port keeps, register by register.
 
 ghost use Rattle.std.specs.Prelude.{◌≡◌};
-ghost use Rattle.sja_regs.specs.Registers.{at_power_on, error_state_of, status_of, interrupts_in, config_of};
+ghost use Rattle.sja_regs.specs.ErrorStates.{causes_between};
+ghost use Rattle.sja_regs.specs.Registers.{at_power_on, is_raw, error_state_of, shown_state, status_of, interrupts_in};
+ghost use Rattle.sja_regs.specs.Registers.{is_forced, gone_off, config_of};
 ghost use Rattle.sja_regs.specs.Writing.{is_first_version};
 
 use super::capture::Capture;
@@ -14,6 +16,12 @@ use can_node::{Config, ERROR_PASSIVE};
 
 /// A counter of this or more makes a node error passive.
 const PASSIVE: u8 = ERROR_PASSIVE as u8;
+
+/// The versions for drivers that know addresses and bytes alone begin here (this project's own rule).
+const RAW_FROM: u8 = 3;
+
+/// TXERR written so asks for a bus-off (SJA1000 data sheet, 6.4.12).
+pub(crate) const FORCES_OFF: u8 = 255;
 
 /// All that a port keeps, in the data sheet's letters. Not kept is what follows: RBS, RI and RMC from what the driver
 /// sees, and ES from the error counters.
@@ -51,6 +59,12 @@ pub(crate) struct Registers {
     pub rxerr: u8,
     /// TXERR.
     pub txerr: u8,
+    /// What was written to TXERR since reset mode was entered, if anything.
+    pub set_tec: Option<u8>,
+    /// What was written to RXERR since reset mode was entered, if anything.
+    pub set_rec: Option<u8>,
+    /// The error state as it was when reset mode was entered: from version 3 on it is shown until reset mode is left.
+    pub frozen: ErrorState,
     /// ACR0 to ACR3.
     pub acr: [u8; 4],
     /// AMR0 to AMR3.
@@ -87,6 +101,13 @@ impl Registers {
             ewlr: 0x60,
             rxerr: 0,
             txerr: 0,
+            set_tec: None,
+            set_rec: None,
+            frozen: ErrorState {
+                es: false,
+                bs: false,
+                passive: false,
+            },
             acr: [0; 4],
             amr: [0xff; 4],
             buffer: [0; 13],
@@ -103,6 +124,29 @@ impl Registers {
         self.version == 1
     }
 
+    /// Whether this version is one for drivers that know addresses and bytes alone.
+    pub fn is_raw(&self) -> bool
+        ensures { result ≡ is_raw self.now }
+    {
+        self.version >= RAW_FROM
+    }
+
+    /// Whether a bus-off is asked for: TXERR was written 255 in reset mode.
+    pub fn is_forced(&self) -> bool
+        ensures { result ≡ is_forced self.now }
+    {
+        self.mode.rm && (self.is_raw() && (self.set_tec.is_some() && self.txerr == FORCES_OFF))
+    }
+
+    /// Bus-off, as the counters and BS show it.
+    pub fn go_off(&mut self)
+        ensures { self.new ≡ gone_off self.old }
+    {
+        self.txerr = 127;
+        self.rxerr = 0;
+        self.bs = true;
+    }
+
     /// How the controller starts.
     pub(crate) fn config(&self) -> Config
         ensures { result ≡ config_of self.now }
@@ -115,24 +159,45 @@ impl Registers {
             },
             self_test: self.mode.stm,
             listen: self.mode.lom,
+            tec: self.set_tec,
+            rec: self.set_rec,
         }
     }
 
-    /// ES, BS and error passive.
+    /// ES, BS and error passive, as the counters, the limit and bus-off make them.
     pub(crate) fn error_state(&self) -> ErrorState
         ensures { result ≡ error_state_of self.now }
     {
         ErrorState {
-            es: self.txerr >= self.ewlr || self.rxerr >= self.ewlr,
+            es: (self.txerr >= self.ewlr || self.rxerr >= self.ewlr) || (self.is_raw() && self.bs),
             bs: self.bs,
             passive: self.txerr >= PASSIVE || self.rxerr >= PASSIVE,
         }
+    }
+
+    /// What is shown of them: from version 3 on they stand still in reset mode.
+    pub fn shown_state(&self) -> ErrorState
+        ensures { result ≡ shown_state self.now }
+    {
+        if self.is_raw() && self.mode.rm {
+            self.frozen
+        } else {
+            self.error_state()
+        }
+    }
+
+    /// Which of EI and EPI have a cause, where the error state that was shown becomes the one that is shown now.
+    pub fn error_causes(&self, before: ErrorState) -> Interrupts
+        ensures { result ≡ causes_between (is_raw self.now) before (shown_state self.now) }
+    {
+        before.causes(self.is_raw(), self.shown_state())
     }
 
     /// The status register.
     pub(crate) fn status(&self, seen: &Seen) -> Status
         ensures { result ≡ status_of self.now seen.now }
     {
+        let shown = self.shown_state();
         Status {
             rbs: seen.first.is_some(),
             dos: self.dos,
@@ -140,8 +205,8 @@ impl Registers {
             tcs: self.tcs,
             rs: self.rs,
             ts: self.ts,
-            es: self.error_state().es,
-            bs: self.bs,
+            es: shown.es,
+            bs: shown.bs,
         }
     }
 

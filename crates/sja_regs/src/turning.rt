@@ -2,14 +2,16 @@
 
 ghost use Rattle.std.specs.Prelude.{◌≡◌, ◌↔◌, not, is_some, true, false};
 ghost use Rattle.sja_regs.specs.Interrupting.{pending_after};
-ghost use Rattle.sja_regs.specs.Turns.{is_live, is_sent, bs_after, code_of_fault, after_turn};
+ghost use Rattle.sja_regs.specs.Turns.{is_live, is_sent, may_tell, stands_still, follows_node, code_of_fault};
+ghost use Rattle.sja_regs.specs.Turns.{after_turn};
 ghost use Rattle.sja_regs.specs.Keeping.{OnlyEnabled, HasLeft, KeepsActivation, SaysTheSame};
 ghost use Rattle.sja_regs.specs.Inside.TurnParts.{with_role, with_counters, with_news, HasCounted};
 ghost use Rattle.sja_regs.specs.Inside.TurnParts.{BringsNoNews};
 ghost use Rattle.sja_regs.specs.Inside.TurnParts.{activity, with_captures, after_settling};
 
 use super::bus_turn::BusTurn;
-use super::error_code::error_code;
+use super::capture::Capture;
+use super::error_capture::error_code;
 use super::interrupts::Interrupts;
 use super::port::Port;
 use can_bits::Segment;
@@ -19,8 +21,8 @@ impl Port {
     /// Takes what one bit of the bus brought.
     ///
     /// In reset mode, or where the turn is of an activation that was left, the driver's transmission and what was
-    /// captured stay as they are: RM, TBS, TCS, DOS, ALC, ECC and the interrupts TI, DOI, ALI and BEI. A turn with no
-    /// event that says what the port shows already changes nothing.
+    /// captured stay as they are: RM, TBS, TCS, DOS, ALC, ECC and the interrupts TI, DOI, ALI and BEI. A turn that
+    /// brings nothing and says what the port shows already changes nothing.
     #[tactic(auto, using(crate::proofs::TurnLemmas::only_enabled, crate::proofs::TurnLemmas::nothing_else))]
     pub fn bus_turn(&mut self, turn: &BusTurn)
         ensures turn { self.new ≡ after_turn self.old turn.now }
@@ -76,20 +78,20 @@ impl Port {
         Interrupts {
             ti: (events.ended.is_some() | turn.aborted) & !self.registers.tbs,
             doi: turn.overrun & !self.registers.dos & !events.went_off,
-            ali: events.lost.is_some(),
-            bei: events.fault.is_some(),
+            ali: events.lost.is_some() & self.may_tell(self.registers.alc),
+            bei: events.fault.is_some() & self.may_tell(self.registers.ecc),
             ..Interrupts::none()
         }
     }
 
-    /// BS once the bit is over.
-    fn bs_after(&self, events: &BitEvents) -> bool
-        ensures { result ≡ bs_after self.now events.now }
+    /// Whether an event gives its interrupt, by the register that captures it.
+    fn may_tell(&self, capture: Capture) -> bool
+        ensures { result ≡ may_tell self.now capture }
     {
-        events.went_off || (self.registers.bs && !events.recovered)
+        capture.was_read || !self.registers.is_raw()
     }
 
-    /// RS and TS, which are the node's in every turn.
+    /// RS and TS, which are the node's in every turn, but where they stand still.
     fn follow(&mut self, turn: &BusTurn)
         ensures { self.new ≡ with_role self.old turn.now }
     {
@@ -99,36 +101,58 @@ impl Port {
             Phase::Frame | Phase::Flag | Phase::Delimiter => (receiving, !receiving),
             Phase::Idle | Phase::Intermission | Phase::Suspension => (false, false),
         };
+        if self.stands_still(turn) {
+            return;
+        }
         self.registers.rs = rs;
         self.registers.ts = ts;
     }
 
-    /// RXERR, TXERR and BS, which are the node's in every turn, and the interrupts that hang on them.
+    /// Whether RS and TS stay as they are: from version 3 on in reset mode, and in turns of an activation that was
+    /// left.
+    fn stands_still(&self, turn: &BusTurn) -> bool
+        ensures { result ≡ stands_still self.now turn.now }
+    {
+        let registers = &self.registers;
+        registers.is_raw() && (registers.mode.rm || turn.activation != registers.activation)
+    }
+
+    /// RXERR, TXERR and BS, where they are the node's, and the interrupts that hang on them.
     fn count(&mut self, turn: &BusTurn)
         ensures { self.new ≡ with_counters self.old turn.now }
     {
-        if self.has_counted(turn) {
+        if !self.follows_node(turn) || self.has_counted(turn) {
             return;
         }
-        let before = self.registers.error_state();
-        let bs = self.bs_after(&turn.events);
+        let before = self.registers.shown_state();
         let registers = &mut self.registers;
         registers.rxerr = turn.rxerr;
         registers.txerr = turn.txerr;
-        registers.bs = bs;
-        let errors = before.causes(registers.error_state());
+        registers.bs = turn.off;
+        let errors = registers.error_causes(before);
         if errors.ei | errors.epi {
             self.raise(errors);
         }
     }
 
-    /// Whether the counters stand already at what a turn says, and bus-off neither began nor ended.
+    /// Whether counters and BS are the node's in this turn: from version 3 on in those of the present activation, until
+    /// a counter is written in reset mode.
+    fn follows_node(&self, turn: &BusTurn) -> bool
+        ensures { result ≡ follows_node self.now turn.now }
+    {
+        let registers = &self.registers;
+        !registers.is_raw()
+            || (turn.activation == registers.activation
+                && !(registers.set_tec.is_some() | registers.set_rec.is_some()))
+    }
+
+    /// Whether counters and BS stand already at what a turn says.
     fn has_counted(&self, turn: &BusTurn) -> bool
         ensures { result ≡ true ↔ HasCounted self.now turn.now }
     {
         self.registers.rxerr == turn.rxerr
             && self.registers.txerr == turn.txerr
-            && !(turn.events.went_off | turn.events.recovered)
+            && self.registers.bs == turn.off
     }
 
     /// ALC and ECC.

@@ -15,6 +15,7 @@ use Rattle.sja_link.proofs.JournalEntries.Entering.{place_push, record_push}
 use Rattle.sja_replay.specs.declared.fate.Fate.{Fate}
 use Rattle.sja_replay.specs.declared.happening.Happening.{Happening}
 use Rattle.sja_replay.specs.declared.replay.Replay.{Replay}
+use Rattle.sja_replay.specs.declared.view.View.{View}
 use Rattle.sja_replay.specs.Closing.{Closes}
 use Rattle.sja_replay.specs.Happened.{IsUntold}
 use Rattle.sja_replay.specs.Happened.IsUntold.{misdriven, misfits}
@@ -23,25 +24,28 @@ use Rattle.sja_replay.specs.declared.misfit.Misfit.{Misfit}
 use Rattle.sja_replay.specs.Inside.Walking.{HasLooked, IsClosed, IsBrought, ClosesNext}
 use Rattle.sja_replay.specs.Replaying.{with_ahead, left_of, IsAt}
 use Rattle.sja_replay.specs.Taking.{last_part}
+use Rattle.sja_replay.specs.Viewing.{Shows}
 use Rattle.sja_replay.proofs.Cuts.{drives_same}
 use Rattle.sja_replay.proofs.Closings.{brought_behind, bit_told, off_told}
 use Rattle.sja_replay.proofs.Places.{ends_push, free_on}
 
 -- what the bit brought
-abbrev pub happening : Replay → Level → Level → BitEvents → Option Fate → Happening
-happening r driven seen e fate = record {
+abbrev pub happening : Replay → Level → Level → View → BitEvents → View → Option Fate → Happening
+happening r driven seen before e after fate = record {
   bit = r.bits;
   driven = driven;
   seen = seen;
   aborted = r.aborted;
+  before = before;
   events = e;
+  after = after;
   fate = fate;
 }
 
-pub brings : (r : Replay) (node : Node) (j : List Entry) (driven seen : Level) (e : BitEvents) (fate : Option Fate) →
-    IsAt r j → DrivesNext r.node driven → Samples r.node node seen e →
-    Brings j driven seen (happening r driven seen e fate)
-brings r node j driven seen e fate h drives samples =
+pub brings : (r : Replay) (node : Node) (j : List Entry) (driven seen : Level) (before : View) (e : BitEvents)
+    (after : View) (fate : Option Fate) → IsAt r j → DrivesNext r.node driven → Samples r.node node seen e →
+    Shows r.node before → Shows node after → Brings j driven seen (happening r driven seen before e after fate)
+brings r node j driven seen before e after fate h drives samples shows showed =
     let x = drives (record_of j) h.found h.stands in
     let leads = samples (record_of j) h.found h.stands driven x in record {
       found = h.found;
@@ -51,9 +55,11 @@ brings r node j driven seen e fate h drives samples =
       bit = h.bits;
       levels = (refl, refl);
       aborted = h.aborted;
+      before = shows (record_of j) h.found h.stands;
       events = leads.told;
       with_bit = leads.stands.cut;
       role = leads.role;
+      after = showed _ _ leads.stands;
     }
 
 -- the part up to the bit, and the bytes that are free then
@@ -110,10 +116,11 @@ looked_mid : (r mid : Replay) (j : List Entry) → HasBit r mid → IsAt r j →
 looked_mid r mid j k h none = k.entries ∙ h.looked (sym k.ahead ∙ none)
 
 -- a bit that is told
-pub told_bit : (r mid new : Replay) (j : List Entry) (driven seen x : Level) (e : BitEvents) (fate : Option Fate) →
-    IsAt r j → DrivesNext r.node x → x ≡ driven → Samples r.node mid.node seen e → ClosesNext mid new e (Ok fate) →
-    HasBit r mid → IsBrought r new j driven seen (happening r driven seen e fate)
-told_bit r mid new j driven seen x e fate h drove is samples closes k =
+pub told_bit : (r mid new : Replay) (j : List Entry) (driven seen x : Level) (before : View) (e : BitEvents)
+    (after : View) (fate : Option Fate) → IsAt r j → DrivesNext r.node x → x ≡ driven →
+    Samples r.node mid.node seen e → Shows r.node before → Shows mid.node after → ClosesNext mid new e (Ok fate) →
+    HasBit r mid → IsBrought r new j driven seen (happening r driven seen before e after fate)
+told_bit r mid new j driven seen x before e after fate h drove is samples shows showed closes k =
     let D : Level → Type 0 = λ y. DrivesNext r.node y in
     let drives = subst D is drove in
     let i : List Entry = j ++ Bit driven seen ∷ [] in
@@ -122,7 +129,7 @@ told_bit r mid new j driven seen x e fate h drove is samples closes k =
     let few : (place_of j).bits + 1 < 2 ^ 32 =
     (let a = h.bits in let b = k.bits in let m = k.few in omega (arith, a, b, m)) in record {
       few = few;
-      brings = brings r mid.node j driven seen e fate h drives samples;
+      brings = brings r mid.node j driven seen before e after fate h drives samples shows showed;
       brought = closed.brought;
       closes = subst P (left_same r mid k) closed.closes;
       at = bit_at r mid new j driven seen e fate h drives samples closed k.off k.bits k.aborted;
@@ -138,14 +145,16 @@ misdriven_at r j driven seen x rest h drives other =
     (drives (record_of j) h.found h.stands) same))
 
 -- the entries behind it are others
-pub untold_bit : (r mid new : Replay) (j : List Entry) (driven seen x : Level) (e : BitEvents) (misfit : Misfit) →
-    IsAt r j → DrivesNext r.node x → x ≡ driven → Samples r.node mid.node seen e → ClosesNext mid new e (Err misfit) →
-    HasBit r mid → IsUntold j driven seen (left_of r)
-untold_bit r mid new j driven seen x e misfit h drove is samples closes k =
+pub untold_bit : (r mid new : Replay) (j : List Entry) (driven seen x : Level) (before : View) (e : BitEvents)
+    (after : View) (misfit : Misfit) → IsAt r j → DrivesNext r.node x → x ≡ driven →
+    Samples r.node mid.node seen e → Shows r.node before → Shows mid.node after →
+    ClosesNext mid new e (Err misfit) → HasBit r mid → IsUntold j driven seen (left_of r)
+untold_bit r mid new j driven seen x before e after misfit h drove is samples shows showed closes k =
     let D : Level → Type 0 = λ y. DrivesNext r.node y in
     let i : List Entry = j ++ Bit driven seen ∷ [] in
     let never = closes (last_part i) (free_mid r mid j driven seen k h) (looked_mid r mid j k h) in
     let P : List Entry → Type 0 = λ l. (fate : Option Fate) (brought left : List Entry) →
     Closes (last_part i) e l fate brought left → ⊥ in
-    misfits (happening r driven seen e None) (brings r mid.node j driven seen e None h (subst D is drove) samples)
+    misfits (happening r driven seen before e after None)
+    (brings r mid.node j driven seen before e after None h (subst D is drove) samples shows showed)
     (subst P (left_same r mid k) never)

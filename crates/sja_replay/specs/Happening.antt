@@ -11,15 +11,17 @@ use Rattle.sja_link.specs.Places.{place_of}
 use Rattle.sja_link.specs.Records.{record_of}
 use Rattle.sja_replay.specs.declared.happening.Happening.{Happening}
 use Rattle.sja_replay.specs.Taking.{ends_in_abort}
+use Rattle.sja_replay.specs.Viewing.{IsView}
 
 -- the levels of a bit
 abbrev pub bit_of : Level → Level → NodeBit
 bit_of driven seen = record { driven = driven; seen = seen }
 
 -- after this journal comes a bit with these levels, and this is what it brought. By a cut of the journal's record: the
--- node drove what it drives there, and the events are those of the bit. The record with the bit, and with bus-off where
--- the node went bus-off in it, has a cut too, which is the one before with the piece that the bit finished, if it
--- finished one; by it the node has the role that the bit told
+-- node drove what it drives there, the events are those of the bit, and before the bit the node showed what it shows.
+-- The record with the bit, and with bus-off where the node went bus-off in it, has a cut too, which is the one before
+-- with the piece that the bit finished, if it finished one; by it the node shows what it shows after the bit, and has
+-- the role that the bit told
 pub record Brings (j : List Entry) (driven seen : Level) (h : Happening) : Type 0 where
   pub found : List FinishedPiece
   pub cut : IsCut (record_of j) found
@@ -28,7 +30,9 @@ pub record Brings (j : List Entry) (driven seen : Level) (h : Happening) : Type 
   pub bit : h.bit ≡ (place_of j).bits
   pub levels : (h.driven ≡ driven) × (h.seen ≡ seen)
   pub aborted : h.aborted ≡ ends_in_abort j
+  pub before : IsView cut h.before
   pub events : h.events ≡ events_of step (now_in cut) cut.place (open_bits cut) (bit_of driven seen)
   pub with_bit : IsCut (record_of j ++ entries_of (bit_of driven seen) h.events)
       (found ++ closed_by (counted none_yet (record_of j ++ NodeTook (bit_of driven seen) ∷ [])) step)
   pub role : h.events.receiving ≡ not (is_transmitter (now_in with_bit).role)
+  pub after : IsView with_bit h.after

@@ -1,3 +1,5 @@
+-- ---- what a node shows of its next bit, by a cut of its record
+pub mod Viewing
 -- ---- what comes between two bits, and after a bit
 pub mod Taking
 pub mod Closing

@@ -1,6 +1,7 @@
 //! What one bit brought to a node.
 
 use super::fate::Fate;
+use super::view::View;
 use can_bits::Level;
 use can_node::BitEvents;
 
@@ -15,8 +16,12 @@ pub struct Happening {
     pub seen: Level,
     /// Whether an abort changed the node right before the bit.
     pub aborted: bool,
+    /// What the node showed before the bit, once all that came before it was taken.
+    pub before: View,
     /// What the bit told.
     pub events: BitEvents,
+    /// What the node showed after it, and after bus-off where the node went bus-off in it.
+    pub after: View,
     /// What became of the frame, where one was received with the bit.
     pub fate: Option<Fate>,
 }

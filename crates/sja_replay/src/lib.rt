@@ -1,9 +1,9 @@
 //! What each bit of a journal brought: the events of a node, told by the cut of its record.
 //!
 //! A [`Replay`] goes over the journal of a node with a node of its own, and gives a [`Happening`] for each bit: the
-//! levels, what the bit told, and what became of a frame that was received with it ([`Fate`]). `specs/Happening.antt`
-//! says each of these by the cut of the record, and `Happened.antt` which happenings a journal has. A replay keeps no
-//! list, and no call of this crate takes memory.
+//! levels, what the node showed before the bit and after it ([`View`]), what the bit told, and what became of a frame
+//! that was received with it ([`Fate`]). `specs/Happening.antt` says each of these by the cut of the record, and
+//! `Happened.antt` which happenings a journal has. A replay keeps no list, and no call of this crate takes memory.
 //!
 //! Its tests stand in `crates/test_replay`.
 #![tactic(auto)]
@@ -14,7 +14,9 @@ mod items;
 mod misfit;
 mod replay;
 mod verdicts;
+mod view;
 
 pub use fate::Fate;
 pub use happening::Happening;
 pub use replay::Replay;
+pub use view::View;

@@ -3,6 +3,7 @@
 ghost use Rattle.std.specs.Prelude.{◌≤◌, ◌≡◌, ◌≢◌, true, false};
 
 use super::happening::Happening;
+use super::view::View;
 use can_bits::Level;
 use can_node::Node;
 use sja_link::{Entries, Entry, Journal, RECEIVE_FIFO};
@@ -87,11 +88,13 @@ impl<'a> Replay<'a> {
         if !is_same(self.node.drive(), driven) {
             return None;
         }
+        let before = View::of(&self.node);
         let bit = self.bits;
         self.bits = bit.checked_add(1)?;
         let aborted = self.aborted;
         self.aborted = false;
         let events = self.node.sample(seen);
+        let after = View::of(&self.node);
         let Ok(fate) = self.close(&events) else {
             return None;
         };
@@ -100,7 +103,9 @@ impl<'a> Replay<'a> {
             driven,
             seen,
             aborted,
+            before,
             events,
+            after,
             fate,
         })
     }

@@ -4,8 +4,8 @@ use Rattle.std.proofs.Common.{arith, inl, inr, false, true}
 use Rattle.std.specs.Io.KnownBytes.{Consumes}
 use Rattle.std.proofs.KnownBytes.{Consumes-nil, Consumes-trans}
 use Rattle.sja_plan.specs.Plan.{PlanValue}
-use Rattle.sja_words.specs.Words.{Request, ParsesAs, encode, decode, filter, arbitrate, message, run, wave, check}
-use Rattle.sja_words.specs.Words.{sweep, struck_plan}
+use Rattle.sja_words.specs.Words.{Request, ParsesAs, encode, decode, filter, arbitrate, message, run, wave}
+use Rattle.sja_words.specs.Words.{trace, frames, check, sweep, struck_plan}
 use Rattle.sja_log.specs.declared.run_fault.RunFault.{RunFault}
 use Rattle.sja_log.specs.declared.run_fault.RunFault.TheVariants.{Memory}
 use Rattle.sja_threads.specs.Stopping.{IsFaultOf}
@@ -16,11 +16,13 @@ use Rattle.sja_run.specs.Check.{IsChecked, HasHints}
 use Rattle.sja_run.specs.declared.plan_check.PlanCheck.{PlanCheck}
 use Rattle.sja_run.specs.declared.plan_check.PlanCheck.TheVariants.{Hints, Mistake}
 use Rattle.sja_run.specs.Input.{ReadsFew, RefusesInput}
-use Rattle.sja_run.specs.Run.{IsRunning, RefusesBy, RefusesRun}
+use Rattle.sja_run.specs.Frames.{IsListed}
+use Rattle.sja_run.specs.Run.{IsOfPlan, IsRunning, RefusesBy, RefusesRun}
 use Rattle.sja_run.specs.ThreadedRun.{IsRunningThreads, RefusesThreads}
-use Rattle.sja_run.specs.Sweep.{IsOfPlan, IsStruck, IsSwept, RefusesOfPlan, RefusesStruck, RefusesSwept}
+use Rattle.sja_run.specs.Sweep.{IsStruck, IsSwept, RefusesOfPlan, RefusesStruck, RefusesSwept}
 use Rattle.sja_run.specs.declared.threaded.Threaded.{Threaded}
 use Rattle.sja_run.specs.declared.threaded.Threaded.TheVariants.{Run, Sweep}
+use Rattle.sja_run.specs.Trace.{IsTraced}
 use Rattle.sja_run.specs.Wave.{IsWaving}
 use Rattle.sja_texts.specs.declared.sweep_refusal.SweepRefusal.{SweepRefusal}
 use Rattle.sja_run.proofs.PlanRefusals.{few_of_plan}
@@ -119,7 +121,7 @@ refused_threads before after (refusal.Line fault) h = absurd h
 refused_threads before after (refusal.Notation fault) h = absurd h
 refused_threads before after (refusal.Sweep why) h = absurd h
 
--- there is a sweep, or a plan with a strike more
+-- there is a trace, a list of frames, a sweep, or a plan with a strike more
 few_of : (Is : PlanValue → List ℕ → Type 0) (before after : Option (List ℕ)) (text : List ℕ) →
     IsOfPlan Is before after text → ReadsFew before after
 few_of Is before after text has = (has.0, has.2.0, has.2.1)
@@ -139,6 +141,8 @@ pub few_printed : (r : Request) (before after : Option (List ℕ)) (text : List 
 few_printed r before after text (inr same) printed = few_same before after same
 few_printed (run false) before after text (inl asks) printed = few_running before after text printed
 few_printed wave before after text (inl asks) printed = few_waving before after text printed
+few_printed trace before after text (inl asks) printed = few_of IsTraced before after text printed
+few_printed frames before after text (inl asks) printed = few_of IsListed before after text printed
 few_printed check before after text (inl asks) printed = few_hinted before after text printed
 few_printed (sweep w) before after text (inl asks) printed = few_of (IsSwept w) before after text printed
 few_printed (struck_plan node bit) before after text (inl asks) printed =
@@ -157,6 +161,10 @@ few_turned_down r before after why (inr same) refused = few_same before after sa
 few_turned_down (run false) before after why (inl asks) refused =
     few_refused (λ plan fault. fault ≡ Memory) before after why refused
 few_turned_down wave before after why (inl asks) refused =
+    few_refused (λ plan fault. fault ≡ Memory) before after why refused
+few_turned_down trace before after why (inl asks) refused =
+    few_refused (λ plan fault. fault ≡ Memory) before after why refused
+few_turned_down frames before after why (inl asks) refused =
     few_refused (λ plan fault. fault ≡ Memory) before after why refused
 few_turned_down check before after why (inl asks) refused = few_unchecked before after why refused
 few_turned_down (sweep w) before after why (inl asks) refused = few_of_none (RefusesSwept w) before after why refused

@@ -1,7 +1,7 @@
 -- Refused memory is a refusal of each request.
 use Rattle.std.proofs.Common.{List, ℕ, Option, true, false, refl, inl, inr}
-use Rattle.sja_words.specs.Words.{Request, encode, decode, filter, arbitrate, message, run, wave, check}
-use Rattle.sja_words.specs.Words.{sweep, struck_plan}
+use Rattle.sja_words.specs.Words.{Request, encode, decode, filter, arbitrate, message, run, wave}
+use Rattle.sja_words.specs.Words.{trace, frames, check, sweep, struck_plan}
 use Rattle.sja_run.specs.Answer.{IsRefused}
 use Rattle.sja_run.specs.Input.{ReadsFew}
 use Rattle.sja_texts.specs.declared.command_refusal.CommandRefusal.TheVariants.{OutOfMemory}
@@ -17,6 +17,8 @@ memory_refused (message given) before after few = inr (inr refl)
 memory_refused (run false) before after few = few
 memory_refused (run true) before after few = few
 memory_refused wave before after few = few
+memory_refused trace before after few = few
+memory_refused frames before after few = few
 memory_refused check before after few = few
 memory_refused (sweep w) before after few = few
 memory_refused (struck_plan node bit) before after few = few

@@ -2,8 +2,8 @@
 use Rattle.std.proofs.Common.{◌≡◌, ◌⊎◌, ℕ, Bool, List, Option, Some, true, false, sym, inl, inr}
 use Rattle.std.proofs.Math.Decide.{dec_lt}
 use Rattle.std.specs.Io.KnownBytes.{Keeps}
-use Rattle.sja_words.specs.Words.{Request, ParsesAs, encode, decode, filter, arbitrate, message, run, wave, check}
-use Rattle.sja_words.specs.Words.{sweep, struck_plan}
+use Rattle.sja_words.specs.Words.{Request, ParsesAs, encode, decode, filter, arbitrate, message, run, wave}
+use Rattle.sja_words.specs.Words.{trace, frames, check, sweep, struck_plan}
 use Rattle.sja_texts.specs.declared.command_refusal.CommandRefusal.TheVariants.{OutOfMemory}
 use Rattle.sja_run.specs.Answer.{AsksForRun, AsksForThreads, Shows, IsLeft, request_left}
 use Rattle.sja_run.specs.declared.threaded.Threaded.{Threaded}
@@ -25,6 +25,8 @@ is_threads (filter single acr amr digits) = inr (λ asks. asks)
 is_threads (arbitrate messages) = inr (λ asks. asks)
 is_threads (message given) = inr (λ asks. asks)
 is_threads wave = inr (λ asks. asks)
+is_threads trace = inr (λ asks. asks)
+is_threads frames = inr (λ asks. asks)
 is_threads check = inr (λ asks. asks)
 is_threads (sweep w) = elim (dec_lt 1 w.jobs) [ yes more ↦ inl more | no not ↦ inr not ]
 is_threads (struck_plan node bit) = inr (λ asks. asks)

@@ -1,8 +1,8 @@
 -- What the program does, by what the words ask for (this project's own rule).
 use Rattle.std.specs.Prelude.{◌≡◌, ◌⊎◌, ◌<◌, ℕ, Bool, true, false, List, Option, Some, None, Result, Ok, Err}
 use Rattle.std.specs.Io.KnownBytes.{Appends, Keeps}
-use Rattle.sja_words.specs.Words.{Request, encode, decode, filter, arbitrate, message, run, wave, check}
-use Rattle.sja_words.specs.Words.{sweep, struck_plan}
+use Rattle.sja_words.specs.Words.{Request, encode, decode, filter, arbitrate, message, run, wave}
+use Rattle.sja_words.specs.Words.{trace, frames, check, sweep, struck_plan}
 use Rattle.sja_texts.specs.declared.command_refusal.CommandRefusal.{CommandRefusal}
 use Rattle.sja_texts.specs.declared.command_refusal.CommandRefusal.TheVariants as refusal
 use Rattle.sja_texts.specs.Arbitrate.{IsArbitration, RefusesMessages}
@@ -14,18 +14,22 @@ use Rattle.sja_texts.specs.Notation.{IsTranslation, RefusesTranslation}
 use Rattle.sja_texts.specs.Refusal.{refusal_line}
 use Rattle.sja_run.specs.Check.{HasHints, HasMistake}
 use Rattle.sja_run.specs.Input.{RefusesInput}
-use Rattle.sja_run.specs.Run.{IsRunning, RefusesRun}
-use Rattle.sja_run.specs.Sweep.{IsOfPlan, IsStruck, IsSwept, RefusesOfPlan, RefusesStruck, RefusesSwept}
+use Rattle.sja_run.specs.Frames.{IsListed}
+use Rattle.sja_run.specs.Run.{IsOfPlan, IsRunning, RefusesRun}
+use Rattle.sja_run.specs.Sweep.{IsStruck, IsSwept, RefusesOfPlan, RefusesStruck, RefusesSwept}
 use Rattle.sja_run.specs.declared.threaded.Threaded.{Threaded}
 use Rattle.sja_run.specs.declared.threaded.Threaded.TheVariants.{Run, Sweep}
 use Rattle.sja_run.specs.ThreadedRun.{IsRunningThreads, RefusesThreads}
+use Rattle.sja_run.specs.Trace.{IsTraced}
 use Rattle.sja_run.specs.Wave.{IsWaving}
 
--- a plan is asked about: its report, its waveform, whether it is one, its sweep, or the plan with a strike more. For
--- these alone the input is read
+-- a plan is asked about: its report, its waveform, its trace, its frames, whether it is one, its sweep, or the plan
+-- with a strike more. For these alone the input is read
 abbrev pub AsksForRun : Request → Type 0
 AsksForRun (run threads) = Unit {0}
 AsksForRun wave = Unit {0}
+AsksForRun trace = Unit {0}
+AsksForRun frames = Unit {0}
 AsksForRun check = Unit {0}
 AsksForRun (sweep w) = Unit {0}
 AsksForRun (struck_plan node bit) = Unit {0}
@@ -57,6 +61,8 @@ IsPrinted (message given) before after text = IsTranslation given text
 IsPrinted (run false) before after text = IsRunning before after text
 IsPrinted (run true) before after text = IsRunningThreads before after text
 IsPrinted wave before after text = IsWaving before after text
+IsPrinted trace before after text = IsOfPlan IsTraced before after text
+IsPrinted frames before after text = IsOfPlan IsListed before after text
 IsPrinted check before after text = HasHints before after text
 IsPrinted (sweep w) before after text = IsOfPlan (IsSwept w) before after text
 IsPrinted (struck_plan node bit) before after text = IsOfPlan (IsStruck node bit) before after text
@@ -71,6 +77,8 @@ IsRefused (message given) before after r = RefusesTranslation given r
 IsRefused (run false) before after r = RefusesRun before after r
 IsRefused (run true) before after r = RefusesThreads before after r
 IsRefused wave before after r = RefusesRun before after r
+IsRefused trace before after r = RefusesRun before after r
+IsRefused frames before after r = RefusesRun before after r
 IsRefused check before after r = RefusesInput before after r
 IsRefused (sweep w) before after r = RefusesOfPlan (RefusesSwept w) before after r
 IsRefused (struck_plan node bit) before after r = RefusesOfPlan (RefusesStruck node bit) before after r

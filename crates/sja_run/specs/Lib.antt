@@ -1,6 +1,8 @@
 pub mod Input
 pub mod Run
 pub mod Wave
+pub mod Trace
+pub mod Frames
 pub mod ThreadedRun
 pub mod Check
 pub mod Sweep

@@ -15,6 +15,11 @@ use Rattle.sja_run.specs.Input.{IsRead, ReadsFew, BreaksOff}
 abbrev pub HoldsPlan : Option (List ℕ) → Option (List ℕ) → PlanValue → Type 0
 HoldsPlan before after plan = (bytes : List ℕ) × IsRead before after bytes × IsPlanOf bytes plan
 
+-- the text is such a one of the plan that the bytes which were read are
+abbrev pub IsOfPlan : (PlanValue → List ℕ → Type 0) → Option (List ℕ) → Option (List ℕ) → List ℕ → Type 0
+IsOfPlan Is before after text =
+    (bytes : List ℕ) × (plan : PlanValue) × IsRead before after bytes × IsPlanOf bytes plan × Is plan text
+
 -- the text is the report of such a run of the plan that these bytes are
 abbrev pub IsReportBy : (PlanValue → RunValue → Type 0) → List ℕ → List ℕ → Type 0
 IsReportBy Runs bytes text =

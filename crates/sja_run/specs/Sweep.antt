@@ -63,11 +63,6 @@ IsLong plan other = ⊥
 
 -- ---- of the plan on the input
 
--- the text is such a one of the plan that the bytes which were read are
-abbrev pub IsOfPlan : (PlanValue → List ℕ → Type 0) → Option (List ℕ) → Option (List ℕ) → List ℕ → Type 0
-IsOfPlan Is before after text =
-    (bytes : List ℕ) × (plan : PlanValue) × IsRead before after bytes × IsPlanOf bytes plan × Is plan text
-
 -- why there is no text of a plan: this, or memory was refused
 abbrev pub RefusesPlan : (PlanValue → SweepRefusal → Type 0) → PlanValue → CommandRefusal → Type 0
 RefusesPlan May plan refusal.OutOfMemory = Unit {0}

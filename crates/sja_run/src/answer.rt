@@ -4,17 +4,19 @@ ghost use Rattle.std.specs.Prelude.{◌≡◌, ◌⊎◌, IfOk, IfErr};
 ghost use Rattle.sja_words.specs.Words.{check, request_of};
 ghost use Rattle.sja_run.specs.Answer.{AsksForRun, AsksForThreads, IsPrinted, IsRefused};
 
+use super::listing::listed;
 use super::run::reported;
 use super::struck_plan::struck;
 use super::sweeps::told_sweep;
+use super::tracing::traced;
 use super::waveform::waved;
 use sja_texts::{CommandRefusal, arbitrated, decoded, encoded, filtered, translated};
 use sja_words::Task;
 use std::alloc::Global;
 use std::io::Read;
 
-/// The text that answers the task, which asks for no threads and isn't `check`. Only for `run`, `wave` and `sweep` the
-/// input is read.
+/// The text that answers the task, which asks for no threads and isn't `check`. Only for `run`, `wave`, `trace`,
+/// `frames` and `sweep` the input is read.
 pub(crate) fn printed<R: Read>(
     alloc: Global,
     task: Task<'_>,
@@ -41,6 +43,8 @@ pub(crate) fn printed<R: Read>(
         Task::Run { threads: false } => reported(alloc, input),
         Task::Run { threads: true } => unreachable!(),
         Task::Wave => waved(alloc, input),
+        Task::Trace => traced(alloc, input),
+        Task::Frames => listed(alloc, input),
         Task::Check => unreachable!(),
         Task::Sweep(words) => told_sweep(alloc, words, input),
         Task::StruckPlan { node, bit } => struck(alloc, node, bit, input),

@@ -5,10 +5,11 @@
 //! What the words ask for is a [`Task`], from the crate `sja_words`. For `run` it reads a [`Plan`] from its input
 //! ([`read_plan`]), runs it in one thread ([`run_serial`]) and writes the report of the run's log ([`report`]); these
 //! calls are those of `sja_plan`, `sja_serial` and `sja_report`. For `wave` it writes the run's waveform ([`wave`]),
-//! that of `sja_wave`. For `check` it explains the plan's first fault, or says what the run left out ([`mistake`],
-//! [`hints`]), by `sja_check`. For `sweep` it says what each single bit error does to the run ([`sweep`]), by
-//! `sja_sweep`, or writes the plan with a strike more ([`plan_text`]), by `sja_plan_text`. The texts of the other
-//! commands, and of each refusal, are those of `sja_texts`.
+//! that of `sja_wave`; for `trace` what happened in it ([`trace`]), by `sja_trace`; and for `frames` the bits of its
+//! frames ([`frames`]), by `sja_frames`. For `check` it explains the plan's first fault, or says what the run left out
+//! ([`mistake`], [`hints`]), by `sja_check`. For `sweep` it says what each single bit error does to the run
+//! ([`sweep`]), by `sja_sweep`, or writes the plan with a strike more ([`plan_text`]), by `sja_plan_text`. The texts of
+//! the other commands, and of each refusal, are those of `sja_texts`.
 //!
 //! Its tests stand in `crates/test_program/src/program`.
 #![tactic(auto)]
@@ -16,6 +17,7 @@
 mod answer;
 mod check;
 mod input;
+mod listing;
 mod output;
 mod plan_check;
 mod program;
@@ -25,6 +27,7 @@ mod struck_plan;
 mod sweeps;
 mod threaded;
 mod threaded_run;
+mod tracing;
 mod tries;
 mod waveform;
 
@@ -32,6 +35,7 @@ pub use output::Output;
 pub use program::sja;
 pub use serial::sja_serial;
 pub use sja_check::{hints, mistake};
+pub use sja_frames::frames;
 pub use sja_log::{ActivationLog, End, NodeRun, RunFault, RunLog};
 pub use sja_plan::{Plan, PlanFault, Turn, read_plan};
 pub use sja_plan_text::plan_text;
@@ -40,6 +44,7 @@ pub use sja_serial::run_serial;
 pub use sja_sweep::{Sweeping, Swept, sweep, sweep_jobs};
 pub use sja_texts::{CommandRefusal, SweepRefusal};
 pub use sja_threads::run_threads;
+pub use sja_trace::trace;
 pub use sja_wave::wave;
 pub use sja_words::{SweepWords, Task, WordsFault, parse};
 pub use threaded::Threaded;

@@ -23,7 +23,8 @@ use std::io::{Read, Write};
 ///
 /// The status is 0 where the text was written, 1 where an argument, the plan or memory was refused or a read or a write
 /// failed, and 2 where the words don't parse, or ask for help or the version; then `err` has the parser's own text.
-/// `input` is read for `run`, `wave`, `check` and `sweep` alone: at most 65,537 bytes of it, in at most 131,074 reads.
+/// `input` is read for `run`, `wave`, `trace`, `frames`, `check` and `sweep` alone: at most 65,537 bytes of it, in at
+/// most 131,074 reads.
 /// The words, texts and statuses are this project's own rule.
 #[tactic(auto, using(crate::proofs::FewBytes::unread))]
 pub fn sja_serial<S: AsStr, R: Read, O: Write, E: Write>(

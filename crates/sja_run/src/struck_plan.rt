@@ -3,7 +3,8 @@
 ghost use Rattle.std.specs.Prelude.{IfOk, IfErr, string_bytes};
 ghost use Rattle.sja_plan.specs.Faults.{IsPlanOf};
 ghost use Rattle.sja_plan_text.specs.HasTexts.{HasTexts};
-ghost use Rattle.sja_run.specs.Sweep.{IsLong, IsOfPlan, IsStruck, RefusesOfPlan, RefusesPlan, RefusesStruck};
+ghost use Rattle.sja_run.specs.Run.{IsOfPlan};
+ghost use Rattle.sja_run.specs.Sweep.{IsLong, IsStruck, RefusesOfPlan, RefusesPlan, RefusesStruck};
 
 use super::input::plan_of_input;
 use sja_plan::{GREATEST_NUMBER, Plan, PlanFault};

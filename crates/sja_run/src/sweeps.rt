@@ -3,7 +3,8 @@
 ghost use Rattle.std.specs.Prelude.{◌≡◌, IfOk, IfErr, string_bytes, if◌then◌else◌};
 ghost use Rattle.sja_plan.specs.Plan.{PlanValue};
 ghost use Rattle.sja_sweep.specs.Sweeps.{IsSweep, IsSweepFault};
-ghost use Rattle.sja_run.specs.Sweep.{IsOfPlan, IsSwept, RefusesOfPlan, RefusesPlan, RefusesSwept, sweeping_of};
+ghost use Rattle.sja_run.specs.Run.{IsOfPlan};
+ghost use Rattle.sja_run.specs.Sweep.{IsSwept, RefusesOfPlan, RefusesPlan, RefusesSwept, sweeping_of};
 
 use super::input::plan_of_input;
 use sja_plan::Plan;

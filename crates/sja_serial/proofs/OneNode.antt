@@ -9,6 +9,7 @@ pub mod Ported
 pub mod Gathered
 pub mod Done
 pub mod Shown
+pub mod StillShown
 pub mod Turned
 pub mod Standing
 pub mod Tried
@@ -17,3 +18,4 @@ pub mod Refused
 pub mod InOrder
 pub mod Taken
 pub mod NextStep
+pub mod Observed

@@ -2,6 +2,9 @@
 
 use super::serial_run::SerialRun;
 use sja_driver::LoggedDriver;
+use sja_link::first_link;
+use sja_plan::Plan;
+use sja_regs::Port;
 
 impl SerialRun {
     ghost use Rattle.std.specs.Prelude.{◌≡◌, ◌<◌, length, slice_index_or};
@@ -19,5 +22,47 @@ impl SerialRun {
         ensures { result.now ≡ slice_index_or self.now.drivers node result.now }
     {
         &self.drivers[node]
+    }
+
+    /// The registers of a node's controller, counted from 0.
+    pub fn port(&self, node: usize) -> &Port
+        requires { node < length self.now.ports }
+        ensures { result.now ≡ slice_index_or self.now.ports node result.now }
+    {
+        &self.board.ports[node]
+    }
+}
+
+impl SerialRun {
+    ghost use Rattle.std.specs.Prelude.{◌≡◌, ◌<◌, List, length, slice_index_or};
+    ghost use Rattle.sja_driver.specs.Deeds.{Deed, deeds_at, is_active};
+    ghost use Rattle.sja_log.specs.Registering.{seen_now};
+    ghost use Rattle.sja_regs.specs.declared.registers.Registers.{Registers};
+    ghost use Rattle.sja_regs.specs.InterruptLine.{is_line_active};
+    ghost use Rattle.sja_serial.specs.Serial.{StandsAt, IsRunOf};
+    ghost use Rattle.sja_wire.specs.Wire.{journal_at};
+
+    /// Whether the interrupt line of a node, counted from 0, is active: some bit of IR is 1, as a read of it would
+    /// answer now (SJA1000 data sheet, 6.4.6). All that has come for its driver is taken in first. That is no step: it
+    /// clears nothing, and no bit is run.
+    pub fn irq(&mut self, plan: &Plan, node: u8) -> bool
+        requires run { IsRunOf plan.now self.old }
+        requires node { node < length plan.now.nodes }
+        ensures line { (deeds : List (List Deed)) → StandsAt plan.now self.old deeds → (p : Registers) → result
+            ≡ is_line_active (slice_index_or self.old.ports node p) (seen_now (is_active (deeds_at deeds node))
+            (journal_at self.old.bus.journals node) (deeds_at deeds node)) }
+        ensures stands { (deeds : List (List Deed)) → StandsAt plan.now self.old deeds →
+            StandsAt plan.now self.new deeds }
+        ensures bus { self.new.bus ≡ self.old.bus }
+        ensures ports { self.new.ports ≡ self.old.ports }
+        ensures bits { self.new.bits ≡ self.old.bits }
+    {
+        let index = usize::from(node);
+        if index >= plan.nodes() || self.bus.bits_run() != self.bits {
+            unreachable!()
+        }
+        let links = self.links.as_mut_slice();
+        let port = &self.board.ports[index];
+        self.drivers[index].irq(links, first_link(index), port)
     }
 }

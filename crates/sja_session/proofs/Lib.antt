@@ -3,7 +3,12 @@ pub mod Plans
 pub mod Turned
 pub mod Taken
 pub mod Within
+pub mod Looked
+pub mod QuietBits
+pub mod Accessing
 pub mod Stepped
+pub mod AfterBits
 pub mod BitsRun
+pub mod RestRun
 pub mod Finished
 pub mod LastAnswer

@@ -1,5 +1,5 @@
 -- A step of a session.
-use Rattle.std.proofs.Common.{◌≡◌, ℕ, suc, ◌+◌, ◌<◌, List, [], ◌∷◌, ◌++◌, length, map, take, sym, ap, ◌∙◌}
+use Rattle.std.proofs.Common.{◌≡◌, ℕ, suc, ◌<◌, List, [], ◌∷◌, ◌++◌, length, map, take, sym, ap, ◌∙◌}
 use Rattle.std.proofs.Common.{subst, arith, inl, inr}
 use Rattle.std.specs.Prelude.{Some, reverse, set, slice_index, slice_index_or, slice_set}
 use Rattle.std.proofs.lemmas.List.{length-append, length-map, length-set, get_or-set_same, get_or-set_other}

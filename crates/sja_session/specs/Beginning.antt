@@ -3,9 +3,9 @@ use Rattle.std.specs.Prelude.{◌≤◌, ◌<◌, ◌⊎◌, ℕ}
 use Rattle.sja_session.specs.declared.session_fault.SessionFault.{SessionFault}
 use Rattle.sja_session.specs.declared.session_fault.SessionFault.TheVariants.{Version, Bits, NodeCount, Memory}
 
--- these are within the limits of a plan
+-- these are within the limits of a session
 abbrev pub IsVersion : ℕ → Type 0
-IsVersion version = (1 ≤ version) × (version ≤ 2)
+IsVersion version = (1 ≤ version) × (version ≤ 3)
 
 abbrev pub IsBitCount : ℕ → Type 0
 IsBitCount bits = (1 ≤ bits) × (bits ≤ 200000)
@@ -19,7 +19,7 @@ IsOutside most n = (n < 1) ⊎ (most < n)
 
 -- why there is no session: the first of the three that isn't within the limits, or that memory was refused
 abbrev pub IsSessionFault : ℕ → ℕ → ℕ → SessionFault → Type 0
-IsSessionFault version bits nodes Version = IsOutside 2 version
+IsSessionFault version bits nodes Version = IsOutside 3 version
 IsSessionFault version bits nodes Bits = IsVersion version × IsOutside 200000 bits
 IsSessionFault version bits nodes NodeCount = IsVersion version × IsBitCount bits × IsOutside 8 nodes
 IsSessionFault version bits nodes Memory = IsVersion version × IsBitCount bits × IsNodeCount nodes

@@ -8,3 +8,9 @@ pub mod Beginning
 pub mod Answering
 pub mod Stepping
 pub mod Running
+pub mod Resting
+pub mod Lines
+pub mod Watching
+-- ---- drivers that know addresses and bytes alone
+pub mod RawSessions
+pub mod Inside

@@ -11,10 +11,16 @@
 //! take memory. The tests stand in `crates/test_session`.
 #![tactic(auto)]
 
+mod accesses;
 mod answered;
 mod answers;
 mod finish;
+mod interrupt_line;
 mod plan_so_far;
+mod prompt;
+mod raw_session;
+mod rested;
+mod resting;
 mod running;
 mod session;
 mod session_fault;
@@ -22,9 +28,14 @@ mod step_fault;
 mod stepping;
 mod turns;
 mod turns_used;
+mod watched;
+mod watching;
 
 pub use answered::Answered;
-pub use session::Session;
+pub use raw_session::RawSession;
+pub use rested::Rested;
+pub use session::{LAST_VERSION, Session};
 pub use session_fault::SessionFault;
 pub use step_fault::StepFault;
 pub use turns_used::TurnsUsed;
+pub use watched::Watched;

@@ -40,7 +40,7 @@ impl Session {
     ghost use Rattle.sja_session.specs.Running.{MayRun, LacksBusTurn};
 
     /// Whether so many bits are refused: a bit is to be run, and no turn is left for it.
-    fn lacks_bus_turn(&self, count: u32) -> bool
+    pub(crate) fn lacks_bus_turn(&self, count: u32) -> bool
         ensures yes { result ≡ true → LacksBusTurn self.now count }
         ensures no { result ≡ false → MayRun self.now count }
     {

@@ -1,11 +1,15 @@
 //! [`Session`]: a run in one thread, driven call by call.
 
 use super::session_fault::SessionFault;
-use sja_plan::{LAST_VERSION, MOST_BITS, MOST_STEPS, MOST_TURNS, Plan, Turn};
+use sja_plan::{MOST_BITS, MOST_STEPS, MOST_TURNS, Plan, Turn};
 use sja_script::MOST_NODES;
 use sja_serial::SerialRun;
 use std::alloc::Global;
 use std::marker::Model;
+
+/// The last version of a session's rules; the first one is 1 (this project's own rule). A plan's document can ask for
+/// the first two alone.
+pub const LAST_VERSION: u8 = 3;
 
 /// A run in one thread that its holder drives (this project's own rule).
 ///
@@ -38,12 +42,12 @@ impl Session {
     ghost use Rattle.sja_session.specs.Sessions.{IsAt, written};
     ghost use Rattle.sja_session.specs.Stepping.{steps_done_of};
 
-    /// A session to which nothing happened: so many nodes, 1 to 8, by the rules of this version, 1 or 2, for at most so
+    /// A session to which nothing happened: so many nodes, 1 to 8, by the rules of this version, 1 to 3, for at most so
     /// many bits, 1 to 200,000. All memory that steps and bits need is reserved here: places for 1,000 steps of each
     /// node with their answers, for 10,000 turns, and for the journals of as many bits.
     ///
     /// Errors, the first that holds: [`SessionFault::Version`], [`SessionFault::Bits`] and [`SessionFault::NodeCount`]
-    /// where these aren't within the limits of a plan; [`SessionFault::Memory`] where memory was refused.
+    /// where these aren't within the limits; [`SessionFault::Memory`] where memory was refused.
     pub fn new(alloc: Global, version: u8, bits: u32, nodes: u8) -> Result<Session, SessionFault>
         ensures at { IfOk result (λ s. IsAt s (replicate nodes [])) }
         ensures bus { IfOk result (λ s. s.run.bus ≡ new_bus [] bits nodes) }
@@ -51,7 +55,7 @@ impl Session {
         ensures limits { OnOk result (IsVersion version × IsBitCount bits × IsNodeCount nodes) }
         ensures err { IfErr result (IsSessionFault version bits nodes) }
     {
-        if version < 1 || u32::from(version) > LAST_VERSION {
+        if version < 1 || version > LAST_VERSION {
             return Err(SessionFault::Version);
         }
         if bits < 1 || bits > MOST_BITS {

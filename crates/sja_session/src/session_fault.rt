@@ -7,7 +7,7 @@ use thiserror::Error;
 /// Why there is no session (this project's own rule). The first one that holds is told.
 #[derive(Clone, Copy, Debug, PartialEq, Eq, Error)]
 pub enum SessionFault {
-    /// The version is none that a plan may have.
+    /// The version isn't one from 1 to 3.
     #[error("no such version")]
     Version,
     /// The number of bits isn't one from 1 to 200,000.

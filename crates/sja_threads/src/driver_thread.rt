@@ -157,8 +157,8 @@ impl<D: DriverEnd + Drop> DriverThread<D> {
 ///
 /// `links` are the driver's ends of the node's eight links, by activation. The port's lock is held over a try, but not
 /// over one of `Window` or `Release`. The driver begins with what it finds set at the port, and from then on what it
-/// sets is its own: mode bits, IER, EWLR, acceptance filter, transmit buffer and version. The log is empty, with room
-/// for all steps; no step takes memory.
+/// sets is its own: mode bits, IER, EWLR, written error counters, acceptance filter, transmit buffer and version. The
+/// log is empty, with room for all steps; no step takes memory.
 ///
 /// The drivers of [`run_threads`](crate::run_threads) do the same, from what is set after power-on. This call serves
 /// who runs a bus of his own, and the tests.

@@ -14,14 +14,15 @@ use Rattle.sja_link.specs.Records.{record_of}
 use Rattle.sja_regs.specs.declared.bus_turn.BusTurn.{BusTurn}
 use Rattle.sja_wire.specs.OneBit.{HasBit}
 
--- the turn says what stands at the end of this journal's record: the activation, the error counters, the phase and the
--- role
+-- the turn says what stands at the end of this journal's record: the activation, the error counters, whether bus-off
+-- stands, the phase and the role
 pub record Says (j : List Entry) (turn : BusTurn) : Type 0 where
   pub found : List FinishedPiece
   pub cut : IsCut (record_of j) found
   pub activation : turn.activation ≡ (place_of j).activation
   pub txerr : turn.txerr ≡ (now_in cut).tec
   pub rxerr : turn.rxerr ≡ (now_in cut).rec
+  pub off : turn.off ≡ (now_in cut).off
   pub phase : turn.phase ≡ phase_in cut
   pub receiving : turn.events.receiving ≡ not (is_transmitter (now_in cut).role)
 

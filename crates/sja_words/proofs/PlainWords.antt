@@ -2,7 +2,8 @@
 use Rattle.std.proofs.Common.{◌≡◌, ◌==◌, ℕ, List, [], ◌∷◌, codes, refl, false, true, Some}
 use Rattle.clap.proofs.OnLiterals.{clap_on_literals}
 use Rattle.clap.specs.declared.error.kind.ErrorKind.TheVariants.{DisplayVersion}
-use Rattle.sja_words.specs.Words.{Request, ParsesAs, decode, encode, message, run, wave, check, asked, faults}
+use Rattle.sja_words.specs.Words.{Request, ParsesAs, decode, encode, message, run, wave, trace, frames, check}
+use Rattle.sja_words.specs.Words.{asked, faults}
 
 -- `encode` and the empty text
 pub empty_text : (name : List ℕ) → ParsesAs (name ∷ codes "encode" ∷ [] ∷ []) (encode [])
@@ -92,6 +93,16 @@ run_in_threads name = record { taken = refl; asks = refl }
 pub wave_alone : (name : List ℕ) → ParsesAs (name ∷ codes "wave" ∷ []) wave
 unfolding clap_on_literals asked faults
 wave_alone name = record { taken = refl; asks = refl }
+
+-- `trace`
+pub trace_alone : (name : List ℕ) → ParsesAs (name ∷ codes "trace" ∷ []) trace
+unfolding clap_on_literals asked faults
+trace_alone name = record { taken = refl; asks = refl }
+
+-- `frames`
+pub frames_alone : (name : List ℕ) → ParsesAs (name ∷ codes "frames" ∷ []) frames
+unfolding clap_on_literals asked faults
+frames_alone name = record { taken = refl; asks = refl }
 
 -- `check`
 pub check_alone : (name : List ℕ) → ParsesAs (name ∷ codes "check" ∷ []) check

@@ -64,7 +64,13 @@ run_app = with_rule (new_app (codes "run")) (flag_rule (codes "threads"))
 abbrev pub wave_app : App
 wave_app = new_app (codes "wave")
 
--- `check`, which has none either
+-- `trace`, `frames` and `check`, which have none either
+abbrev pub trace_app : App
+trace_app = new_app (codes "trace")
+
+abbrev pub frames_app : App
+frames_app = new_app (codes "frames")
+
 abbrev pub check_app : App
 check_app = new_app (codes "check")
 
@@ -113,6 +119,10 @@ sweep_app = with_rule (with_rule told_app (number_rule (codes "jobs") 1 64)) str
 abbrev pub plan_app : App
 plan_app = with_subcommand (with_subcommand notation_app run_app.top) wave_app.top
 
+-- those and the commands over what happened in it: `trace` and `frames`
+abbrev pub story_app : App
+story_app = with_subcommand (with_subcommand plan_app trace_app.top) frames_app.top
+
 -- the whole: those, `check` and `sweep`
 abbrev pub sja_app : App
-sja_app = with_subcommand (with_subcommand plan_app check_app.top) sweep_app.top
+sja_app = with_subcommand (with_subcommand story_app check_app.top) sweep_app.top

@@ -9,7 +9,7 @@ use Rattle.clap.specs.ValueTests.{is_unsigned_in}
 use Rattle.clap.specs.Words.{Kinds, Row, Text, all_of, fault_of, first_of, subcommand_of}
 use Rattle.sja_words.specs.declared.task.Task.{Task}
 use Rattle.sja_words.specs.declared.task.Task.TheVariants.{Encode, Decode, Filter, Arbitrate, Message, Run, Wave}
-use Rattle.sja_words.specs.declared.task.Task.TheVariants.{Check, Sweep, StruckPlan}
+use Rattle.sja_words.specs.declared.task.Task.TheVariants.{Trace, Frames, Check, Sweep, StruckPlan}
 use Rattle.sja_words.specs.declared.sweep_words.SweepWords.{SweepWords}
 use Rattle.sja_words.specs.CommandLine.{sja_app}
 
@@ -31,6 +31,8 @@ pub data Request : Type 0 where
   message : List ℕ → Request
   run : Bool → Request
   wave : Request
+  trace : Request
+  frames : Request
   check : Request
   sweep : SweepWords → Request
   struck_plan : ℕ → ℕ → Request
@@ -44,6 +46,8 @@ request_of (Arbitrate messages) = arbitrate (map (λ digits. digits.now) message
 request_of (Message text) = message text.now
 request_of (Run threads) = run threads
 request_of Wave = wave
+request_of Trace = trace
+request_of Frames = frames
 request_of Check = check
 request_of (Sweep asked_for) = sweep asked_for
 request_of (StruckPlan node bit) = struck_plan node bit
@@ -181,6 +185,8 @@ request_by name rows =
     else if bytes_eq name (codes "message") then option_map message (first_of (codes "TEXT") rows)
     else if bytes_eq name (codes "run") then Some (run (flag_in (first_of (codes "threads") rows)))
     else if bytes_eq name (codes "wave") then Some wave
+    else if bytes_eq name (codes "trace") then Some trace
+    else if bytes_eq name (codes "frames") then Some frames
     else if bytes_eq name (codes "check") then Some check
     else if bytes_eq name (codes "sweep") then sweep_in rows
     else None

@@ -5,7 +5,8 @@ ghost use Rattle.clap.specs.Words.{app_of, rule_of};
 ghost use Rattle.clap.specs.declared.builder.command.Command.TheViews.{out-Command};
 ghost use Rattle.sja_words.specs.CommandLine.{text_rule, text_app, filter_app, arbitrate_app};
 ghost use Rattle.sja_words.specs.CommandLine.{empty_app, line_app, frame_app, notation_app};
-ghost use Rattle.sja_words.specs.CommandLine.{flag_rule, run_app, wave_app, check_app, plan_app, sja_app};
+ghost use Rattle.sja_words.specs.CommandLine.{flag_rule, run_app, wave_app, trace_app, frames_app, check_app};
+ghost use Rattle.sja_words.specs.CommandLine.{plan_app, story_app, sja_app};
 
 use super::help::{
     ACR_HELP, AMR_HELP, LINE_HELP, MESSAGE_HELP, MODE_HELP, TEXT_HELP, THREADS_HELP,
@@ -152,6 +153,26 @@ fn wave_command<'a>(alloc: Global) -> Command<'a>
     )
 }
 
+/// `trace`.
+fn trace_command<'a>(alloc: Global) -> Command<'a>
+    ensures app { app_of result ≡ trace_app }
+    ensures local { (out-Command result).has_globals ≡ false }
+{
+    Command::new(alloc, "trace").about(
+        "Print what happened in a run of the plan on standard input, event by event",
+    )
+}
+
+/// `frames`.
+fn frames_command<'a>(alloc: Global) -> Command<'a>
+    ensures app { app_of result ≡ frames_app }
+    ensures local { (out-Command result).has_globals ≡ false }
+{
+    Command::new(alloc, "frames").about(
+        "Print the bits of each field of the frames in a run of the plan on standard input",
+    )
+}
+
 /// `check`.
 fn check_command<'a>(alloc: Global) -> Command<'a>
     ensures app { app_of result ≡ check_app }
@@ -172,11 +193,21 @@ fn plan_command<'a>(alloc: Global) -> Result<Command<'a>, AllocError>
         .subcommand(wave_command(alloc))
 }
 
+/// Those and the commands over what happened in it.
+fn story_command<'a>(alloc: Global) -> Result<Command<'a>, AllocError>
+    ensures app { IfOk result (λ command. app_of command ≡ story_app) }
+    ensures local { IfOk result (λ command. (out-Command command).has_globals ≡ false) }
+{
+    plan_command(alloc)?
+        .subcommand(trace_command(alloc))?
+        .subcommand(frames_command(alloc))
+}
+
 /// The whole: a subcommand has to be given.
 pub(crate) fn sja_command<'a>(alloc: Global) -> Result<Command<'a>, AllocError>
     ensures { IfOk result (λ command. app_of command ≡ sja_app) }
 {
-    plan_command(alloc)?
+    story_command(alloc)?
         .subcommand(check_command(alloc))?
         .subcommand(sweep_command(alloc)?)
 }

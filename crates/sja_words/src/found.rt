@@ -31,6 +31,8 @@ fn task_by<'a>(name: &str, arguments: &ArgMatches<'a>) -> Option<Task<'a>>
         "message" => message_task(arguments),
         "run" => Some(run_task(arguments)),
         "wave" => Some(Task::Wave),
+        "trace" => Some(Task::Trace),
+        "frames" => Some(Task::Frames),
         "check" => Some(Task::Check),
         "sweep" => sweep_task(arguments),
         _ => None,

@@ -3,7 +3,7 @@
 ghost use Rattle.std.specs.Prelude.{◌≡◌, ◌==◌, ◌<◌, ◌≤◌, ◌∷◌, [], ℕ, List, Some, codes, false, length, true};
 ghost use Rattle.sja_words.specs.Words.{HasNoFlag, ParsesAs, Request, arbitrate, decode, encode, filter, message};
 ghost use Rattle.clap.specs.declared.error.kind.ErrorKind.TheVariants.{DisplayVersion};
-ghost use Rattle.sja_words.specs.Words.{all_swept, check, faults, run, struck_plan, sweep, wave};
+ghost use Rattle.sja_words.specs.Words.{all_swept, check, faults, frames, run, struck_plan, sweep, trace, wave};
 
 /// The program's name, `encode` and a text that doesn't begin with `-` (45) ask for the levels of this message.
 pub fn encode_and_a_text_parse()
@@ -62,6 +62,16 @@ pub fn run_parses()
 /// The program's name and `wave` ask for the waveform of that plan.
 pub fn wave_parses()
     ensures { (name : List ℕ) → ParsesAs (name ∷ codes "wave" ∷ []) wave }
+{}
+
+/// The program's name and `trace` ask for what happened in that plan's run.
+pub fn trace_parses()
+    ensures { (name : List ℕ) → ParsesAs (name ∷ codes "trace" ∷ []) trace }
+{}
+
+/// The program's name and `frames` ask for the bits of the frames in that plan's run.
+pub fn frames_parses()
+    ensures { (name : List ℕ) → ParsesAs (name ∷ codes "frames" ∷ []) frames }
 {}
 
 /// The program's name and `check` ask for the first mistake in the plan on the input, or what its run left out.

@@ -36,6 +36,10 @@ pub enum Task<'a> {
     },
     /// `wave`: the waveform of the run of the plan on the input.
     Wave,
+    /// `trace`: what happened in the run of the plan on the input, event by event.
+    Trace,
+    /// `frames`: the bits of each field of the frames in the run of the plan on the input.
+    Frames,
     /// `check`: the first mistake in the plan on the input, or what its run left out.
     Check,
     /// `sweep`: what came of each single bit error in the run of the plan on the input.

@@ -1,6 +1,7 @@
 //! Tests of `can_node`: one node that sees given levels, and several on one wire.
 
 mod confining;
+mod counting;
 mod faulting;
 pub mod given;
 mod modes;

@@ -12,4 +12,6 @@ pub const PLAIN: Config = Config {
     },
     self_test: false,
     listen: false,
+    tec: None,
+    rec: None,
 };

@@ -15,4 +15,5 @@ mod row;
 mod runs;
 mod sweeps;
 mod threads;
+mod traces;
 mod waves;

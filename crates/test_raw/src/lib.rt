@@ -12,6 +12,8 @@ mod commands;
 #[cfg(test)]
 mod each_address;
 #[cfg(test)]
+mod error_states;
+#[cfg(test)]
 mod given_back;
 #[cfg(test)]
 mod hand;
@@ -25,3 +27,7 @@ mod modes;
 mod passing;
 #[cfg(test)]
 mod session;
+#[cfg(test)]
+mod strikes;
+#[cfg(test)]
+mod written_counters;

@@ -1,7 +1,8 @@
 //! A frame that is received, bit by bit.
 
 use super::given::{bit, count, enter, happening, message, on_the_bus, received};
-use can_bits::Level;
+use can_bits::{Level, Segment};
+use can_node::Phase;
 use sja_link::{Entry, Journal, Up};
 use sja_replay::{Fate, Happening};
 use std::alloc::Global;
@@ -31,6 +32,38 @@ fn told(alloc: Global, number: u32) -> Result<Happening, Fail> {
 #[test]
 fn each_bit_is_told(rt: HostRuntime) -> Result<(), Fail> {
     assert!(rt; count(&reception(rt.alloc())?) == 76);
+    Ok(())
+}
+
+#[test]
+fn the_phases_before_and_after_a_bit_are_told(rt: HostRuntime) -> Result<(), Fail> {
+    let last_waiting = told(rt.alloc(), 10)?;
+    assert!(rt; last_waiting.before.phase == Phase::Waiting);
+    assert!(rt; last_waiting.after.phase == Phase::Idle);
+    let start = told(rt.alloc(), 11)?;
+    assert!(rt; start.before.phase == Phase::Idle);
+    assert!(rt; start.after.phase == Phase::Frame);
+    assert!(rt; !start.after.transmits);
+    let last_of_frame = told(rt.alloc(), 72)?;
+    assert!(rt; last_of_frame.before.phase == Phase::Frame);
+    assert!(rt; last_of_frame.after.phase == Phase::Intermission);
+    Ok(())
+}
+
+/// 123 has the identifier bits 00100100011, in bits 12 to 22; no stuff bit stands there. Then RTR, IDE and reserved bit
+/// 0 in bits 23 to 25, and the DLC 0010 from bit 26 on. The stuff bit at place 17 is in bit 28, within the DLC, which
+/// so ends with bit 30.
+#[test]
+fn the_segment_of_a_bit_is_told(rt: HostRuntime) -> Result<(), Fail> {
+    assert!(rt; told(rt.alloc(), 11)?.before.segment.is_none());
+    assert!(rt; told(rt.alloc(), 19)?.before.segment == Some(Segment::Id28To21));
+    assert!(rt; told(rt.alloc(), 20)?.before.segment == Some(Segment::Id20To18));
+    assert!(rt; told(rt.alloc(), 23)?.before.segment == Some(Segment::RtrStandard));
+    assert!(rt; told(rt.alloc(), 28)?.before.segment == Some(Segment::LengthCode));
+    assert!(rt; told(rt.alloc(), 31)?.before.segment == Some(Segment::Data));
+    assert!(rt; told(rt.alloc(), 63)?.before.segment == Some(Segment::CheckDelimiter));
+    assert!(rt; told(rt.alloc(), 64)?.before.segment == Some(Segment::AckSlot));
+    assert!(rt; told(rt.alloc(), 72)?.before.segment == Some(Segment::EndOfFrame));
     Ok(())
 }
 

@@ -18,9 +18,9 @@ fn reads(session: &mut Session, node: u8) -> bool {
     )
 }
 
-/// The limits of a plan, and of what is beyond two of them the first.
+/// The limits of a session, and of what is beyond two of them the first.
 #[test]
-fn a_session_is_within_the_limits_of_a_plan(rt: HostRuntime) -> Result<(), Fail> {
+fn a_session_is_within_its_limits(rt: HostRuntime) -> Result<(), Fail> {
     let alloc = rt.alloc();
     assert!(rt; fault(alloc, 0, 1, 1) == Some(SessionFault::Version));
     assert!(rt; fault(alloc, 4, 0, 0) == Some(SessionFault::Version));
@@ -29,6 +29,7 @@ fn a_session_is_within_the_limits_of_a_plan(rt: HostRuntime) -> Result<(), Fail>
     assert!(rt; fault(alloc, 2, 200_000, 0) == Some(SessionFault::NodeCount));
     assert!(rt; fault(alloc, 1, 1, 9) == Some(SessionFault::NodeCount));
     assert!(rt; fault(alloc, 2, 200_000, 8).is_none());
+    assert!(rt; fault(alloc, 3, 200_000, 8).is_none());
     Ok(())
 }
 

@@ -1,6 +1,7 @@
 -- A record and its cut: a node starts, takes a request, waits for eleven recessive levels, and sends its frame alone on
 -- the bus. Nobody acknowledges it.
-use Rattle.std.proofs.Common.{◌≡◌, false, List, [], ◌∷◌, ◌++◌, map, replicate, refl, ap, sym, subst, ◌∙◌, arith, Some}
+use Rattle.std.proofs.Common.{None, ◌≡◌, false, List, [], ◌∷◌, ◌++◌, map, replicate, refl, ap, sym, subst, ◌∙◌, arith}
+use Rattle.std.proofs.Common.{Some}
 use Rattle.can_bits.specs.declared.level.Level.{Level}
 use Rattle.can_bits.specs.declared.level.Level.TheVariants.{Dominant, Recessive}
 use Rattle.can_bits.specs.declared.segment.Segment.TheVariants.{AckSlot}
@@ -143,7 +144,7 @@ rests = by_bits sending AtInterframeSpace AtIdle InterframeSpace (recessive_bit 
 -- the record
 abbrev pub record_of_sender : Config → List RecordEntry
 record_of_sender config =
-    Start (record config { listen = false; self_test = false }) ∷ Send asked ∷ map OneBit
+    Start (record config { listen = false; self_test = false; tec = None; rec = None }) ∷ Send asked ∷ map OneBit
     (recessive_bits (replicate 11 Recessive)
     ++ ((unanswered ++ recessive_bit Recessive ∷ [])
     ++ (dominant_bits (replicate 6 Dominant) ++ recessive_bits (replicate 11 Recessive))))
@@ -168,7 +169,7 @@ cut_of_sender config = (
     place = AtIdle;
     rest = [];
     from =
-        on (started (record config { listen = false; self_test = false }) [])
+        on (started (record config { listen = false; self_test = false; tec = None; rec = None }) [])
         (on (sent asked (λ same. cc))
         (on (integrates (Some asked)) (on is_unanswered (on flags (on ends (on rests (here nothing (omega arith))))))));
   },

@@ -1,6 +1,6 @@
 -- A record and its cut: a node starts, takes a request, waits for eleven recessive levels, and loses arbitration in the
 -- first bit of its identifier. Then the bus stays dominant, and as a receiver it finds a stuff error.
-use Rattle.std.proofs.Common.{◌≡◌, Bool, true, false, List, [], ◌∷◌, ◌++◌, map}
+use Rattle.std.proofs.Common.{None, ◌≡◌, Bool, true, false, List, [], ◌∷◌, ◌++◌, map}
 use Rattle.std.proofs.Common.{replicate, refl, ap, sym, subst, ◌∙◌, arith, Some}
 use Rattle.can_bits.specs.declared.level.Level.{Level}
 use Rattle.can_bits.specs.declared.level.Level.TheVariants.{Dominant, Recessive}
@@ -129,7 +129,7 @@ breaks =
 -- the record
 abbrev pub record_of_loss : Config → List RecordEntry
 record_of_loss config =
-    Start (record config { listen = false; self_test = false }) ∷ Send asked
+    Start (record config { listen = false; self_test = false; tec = None; rec = None }) ∷ Send asked
     ∷ map OneBit (recessive_bits (replicate 11 Recessive) ++ dominant_bit Dominant
     ∷ recessive_bits (replicate 5 Dominant))
 
@@ -150,7 +150,7 @@ cut_of_loss config = (
     place = AtFlag;
     rest = [];
     from =
-        on (started (record config { listen = false; self_test = false }) [])
+        on (started (record config { listen = false; self_test = false; tec = None; rec = None }) [])
         (on (sent asked (λ same. cc)) (on (integrates (Some asked)) (on breaks (here nothing (omega arith)))));
   },
   refl,

@@ -1,6 +1,6 @@
 -- A record and its cut: after a first try that nobody acknowledged, with its flag, delimiter and intermission, a lone
 -- sender tries again. Nobody acknowledges that either.
-use Rattle.std.proofs.Common.{◌≡◌, false, List, [], ◌∷◌, ◌++◌, map, replicate, refl, arith, Some}
+use Rattle.std.proofs.Common.{None, ◌≡◌, false, List, [], ◌∷◌, ◌++◌, map, replicate, refl, arith, Some}
 use Rattle.can_bits.specs.declared.level.Level.TheVariants.{Dominant, Recessive}
 use Rattle.can_bits.specs.declared.segment.Segment.TheVariants.{AckSlot}
 use Rattle.can_node.specs.declared.cause.Cause.TheVariants.{Ack as AckError}
@@ -39,7 +39,7 @@ is_unanswered_again =
 -- the record
 abbrev pub record_of_retry : Config → List RecordEntry
 record_of_retry config =
-    Start (record config { listen = false; self_test = false }) ∷ Send asked ∷ map OneBit
+    Start (record config { listen = false; self_test = false; tec = None; rec = None }) ∷ Send asked ∷ map OneBit
     (recessive_bits (replicate 11 Recessive)
     ++ ((unanswered ++ recessive_bit Recessive ∷ [])
     ++ (dominant_bits (replicate 6 Dominant)
@@ -60,7 +60,7 @@ cut_of_retry config = (
     place = AtFlag;
     rest = [];
     from =
-        on (started (record config { listen = false; self_test = false }) [])
+        on (started (record config { listen = false; self_test = false; tec = None; rec = None }) [])
         (on (sent asked (λ same. cc))
         (on (integrates (Some asked)) (on is_unanswered
         (on flags (on ends (on rests (on is_unanswered_again (here nothing (omega arith)))))))));

@@ -86,7 +86,7 @@ breaks =
 -- the record
 abbrev pub record_of_fault : Config → List RecordEntry
 record_of_fault config =
-    Start (record config { listen = false; self_test = false })
+    Start (record config { listen = false; self_test = false; tec = None; rec = None })
     ∷ map OneBit (recessive_bits (replicate 11 Recessive ++ replicate 6 Dominant))
 
 -- its pieces, with activation and bit count

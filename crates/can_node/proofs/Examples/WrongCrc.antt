@@ -1,6 +1,6 @@
 -- A record and its cut: a node starts, waits for eleven recessive levels, and receives a frame whose CRC sequence is
 -- wrong. It drives no acknowledgement, and finds the error at the ACK delimiter.
-use Rattle.std.proofs.Common.{◌≡◌, false, List, [], ◌∷◌, ◌++◌, map, replicate}
+use Rattle.std.proofs.Common.{None, ◌≡◌, false, List, [], ◌∷◌, ◌++◌, map, replicate}
 use Rattle.std.proofs.Common.{refl, ap, sym, subst, ◌∙◌, arith, append_assoc}
 use Rattle.can_frame.specs.Frame.{FrameValue}
 use Rattle.can_bits.specs.declared.level.Level.{Level}
@@ -160,7 +160,7 @@ faults =
 -- the record
 abbrev pub record_of_check : Config → List RecordEntry
 record_of_check config =
-    Start (record config { listen = false; self_test = false })
+    Start (record config { listen = false; self_test = false; tec = None; rec = None })
     ∷ map OneBit (recessive_bits (replicate 11 Recessive)
     ++ (recessive_bit Dominant ∷ recessive_bits (unanswered ++ Recessive ∷ [])))
 

@@ -84,8 +84,10 @@ pub begins_idle : (config : Config) {entries rest : List RecordEntry} {found : L
     {last : Place} →
     From (record { starts = 1; bits = 11 }) fresh AtIdle entries found end last rest →
     From none_yet fresh AtReset
-    (Start (record config { listen = false; self_test = false }) ∷ map OneBit (recessive_bits (replicate 11 Recessive))
+    (Start (record config { listen = false; self_test = false; tec = None; rec = None })
+    ∷ map OneBit (recessive_bits (replicate 11 Recessive))
     ++ entries)
     ((record { piece = Integration; activation = 1; bits = 11 }) ∷ found) end last rest
 begins_idle config from =
-    on (started (record config { listen = false; self_test = false }) []) (on (integrates None) from)
+    on (started (record config { listen = false; self_test = false; tec = None; rec = None }) [])
+    (on (integrates None) from)

@@ -1,7 +1,7 @@
 -- What a start, a request or a stop at the end of a record leaves held, by every cut.
 use Rattle.std.proofs.Common.{◌≡◌, Bool, true, false, List, [], ◌∷◌, ◌++◌, map, refl, sym, ap, ◌∙◌, append_assoc}
 use Rattle.std.proofs.Common.{append-nil, inl, inr}
-use Rattle.std.specs.Prelude.{◌⊎◌, ◌&&◌, not, if◌then◌else◌, Option, Some, None}
+use Rattle.std.specs.Prelude.{◌⊎◌, Option, Some, None}
 use Rattle.std.proofs.lemmas.List.{same_from_push}
 use Rattle.can_bits.specs.declared.level.Level.{Level}
 use Rattle.lemmas.proofs.Lists.{last_of}
@@ -23,6 +23,7 @@ use Rattle.can_node.specs.Cut.From.{here, on}
 use Rattle.can_node.specs.Driving.{phase_at}
 use Rattle.can_node.specs.NextBit.{now_in, open_bits, phase_in}
 use Rattle.can_node.proofs.Machine.Along.{along_both}
+use Rattle.can_node.proofs.Machine.Calls.{start_holds}
 use Rattle.can_node.proofs.OneCut.CutOnce.{move_or_open}
 use Rattle.can_node.proofs.OneCut.Entries.{open_part, outer_not_within}
 use Rattle.can_node.proofs.OneCut.Entries.IsOuter.{start, stop}
@@ -79,17 +80,7 @@ last_is before slice x e first is whole = (same_from_push before slice x e (sym 
 
 -- the context before a start has the request that it leaves
 start_keeps : (config : Config) (c : ContextValue) → is_held (with_start config c).held ≡ is_held c.held
-start_keeps config c = over (c.off && not config.listen)
-  where
-    over : (b : Bool) → is_held (if b then record c {
-      listen = config.listen;
-      self_test = config.self_test;
-      tec = 127;
-      rec = 0;
-    } else
-        record c { listen = config.listen; self_test = config.self_test }).held ≡ is_held c.held
-    over true = refl
-    over false = refl
+start_keeps config c = ap is_held (start_holds config c)
 
 -- bits in reset change nothing
 along_rest : (c : ContextValue) (done : List Bit) (l : List Level) →

@@ -82,10 +82,12 @@ recovered = refl
 -- this project's own rule: a start while bus-off stands begins anew with 127 and 0, unless the node only listens; any
 -- other start changes no counter
 starting : (config : Config) →
-    ((with_start (record config { listen = false }) (record gone { tec = 100; rec = 3 })).tec ≡ 127)
-    × ((with_start (record config { listen = false }) (record gone { tec = 100; rec = 3 })).rec ≡ 0)
-    × ((with_start (record config { listen = true }) (record gone { tec = 100 })).tec ≡ 100)
-    × ((with_start (record config { listen = false }) passive_sender).tec ≡ 128)
+    ((with_start (record config { listen = false; tec = None; rec = None })
+    (record gone { tec = 100; rec = 3 })).tec ≡ 127)
+    × ((with_start (record config { listen = false; tec = None; rec = None })
+    (record gone { tec = 100; rec = 3 })).rec ≡ 0)
+    × ((with_start (record config { listen = true; tec = None; rec = None }) (record gone { tec = 100 })).tec ≡ 100)
+    × ((with_start (record config { listen = false; tec = None; rec = None }) passive_sender).tec ≡ 128)
 starting config = (refl, refl, refl, refl)
 
 -- ---- beside the numbered rules

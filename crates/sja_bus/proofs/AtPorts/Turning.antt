@@ -62,10 +62,10 @@ record StandsAfter (new : Node) (r : List Event) (pieces : List FinishedPiece) (
   pub stands : StandsAt new r pieces
   pub role : receiving ≡ not (is_transmitter (now_in stands.cut).role)
 
--- the counters that the turn says are those of every record
+-- the counters that the turn says, and bus-off, are those of every record
 abbrev pub SaysCounters : Node → BusTurn → Type 0
 SaysCounters node turn = (entries : List Event) (found : List FinishedPiece) (h : StandsAt node entries found) →
-    (turn.txerr ≡ (now_in h.cut).tec) × (turn.rxerr ≡ (now_in h.cut).rec)
+    (turn.txerr ≡ (now_in h.cut).tec) × (turn.rxerr ≡ (now_in h.cut).rec) × (turn.off ≡ (now_in h.cut).off)
 
 pub turn_is : (old new : Node) (j k : List Entry) (x seen : Level) (e : BitEvents) (bit : HasBit j x seen k)
     (changed dropped : Bool) (turn : BusTurn) →
@@ -98,6 +98,7 @@ turn_is old new j k x seen e bit changed dropped turn drives samples h off event
         activation = activation;
         txerr = c.0;
         rxerr = c.1;
+        off = c.2;
         phase = phase (record_of k) pieces after.stands;
         receiving = ap (λ (v : BitEvents). v.receiving) events ∙ after.role;
       };
@@ -115,6 +116,7 @@ still node j = record {
   events = nothing (is_receiving node);
   txerr = node.context.counters.tec;
   rxerr = node.context.counters.rec;
+  off = node.context.counters.off;
   phase = shown_phase node;
   aborted = false;
   overrun = false;
@@ -129,6 +131,7 @@ still_alone node j h =
         activation = refl;
         txerr = ap (λ (c : ContextValue). c.tec) s;
         rxerr = ap (λ (c : ContextValue). c.rec) s;
+        off = ap (λ (c : ContextValue). c.off) s;
         phase = phase_shown node (record_of j) h.found h.stands;
         receiving = ap (λ (c : ContextValue). not (is_transmitter c.role)) s;
       };
@@ -149,6 +152,7 @@ still_turn old new j k x seen bit changed dropped drives samples same h whole of
     (λ entries found s. (
       ap (λ (c : Counters). c.tec) (sym same.counters) ∙ ap (λ (c : ContextValue). c.tec) s.shows,
       ap (λ (c : Counters). c.rec) (sym same.counters) ∙ ap (λ (c : ContextValue). c.rec) s.shows,
+      ap (λ (c : Counters). c.off) (sym same.counters) ∙ ap (λ (c : ContextValue). c.off) s.shows,
     ))
     (λ entries found s. sym same.phase ∙ phase_shown new entries found s)
     overrun (sym none) drops

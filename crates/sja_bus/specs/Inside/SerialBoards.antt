@@ -1,14 +1,17 @@
 -- Why each port of a board in one thread has orders, and keeps its facts in each turn.
-use Rattle.std.specs.Prelude.{◌≡◌, ◌<◌, ◌⊎◌, ◌==◌, ◌||◌, ◌&&◌, not, ℕ, Bool, true, false, Option, Some, None, is_some}
-use Rattle.std.specs.Prelude.{List, [], ◌∷◌, length, slice_index_or, refl}
+use Rattle.std.specs.Prelude.{◌≡◌, ◌<◌, ◌⊎◌, ◌==◌, ◌||◌, ◌&&◌, not, ℕ, Bool, true, false, if◌then◌else◌}
+use Rattle.std.specs.Prelude.{Option, Some, None, is_some, List, [], ◌∷◌, length, slice_index_or, refl}
 use Rattle.std.proofs.Common.{ap, sym, subst, inl, inr, ◌∙◌, arith}
 use Rattle.std.proofs.lemmas.List.{get_or_default as or_same}
 use Rattle.can_node.specs.declared.outcome.Outcome.{Outcome}
 use Rattle.sja_regs.specs.declared.bus_turn.BusTurn.{BusTurn}
 use Rattle.sja_regs.specs.declared.orders.Orders.{Orders}
 use Rattle.sja_regs.specs.declared.registers.Registers.{Registers}
+use Rattle.sja_regs.specs.declared.interrupts.Interrupts.{Interrupts}
 use Rattle.sja_regs.specs.Facts.{RegisterFacts}
-use Rattle.sja_regs.specs.Turns.{is_live, is_sent, ends, goes_off, after_turn}
+use Rattle.sja_regs.specs.Interrupting.{no_interrupt, pending_after}
+use Rattle.sja_regs.specs.Registers.{is_raw}
+use Rattle.sja_regs.specs.Turns.{is_live, is_sent, ends, goes_off, causes, after_turn}
 use Rattle.sja_bus.specs.Boards.{HasFacts, HasOrders, WasKept, WasTold}
 
 -- ---- orders
@@ -57,6 +60,14 @@ in_reset false true rm tbs live overrun dos e h = (refl, refl)
 in_reset ended false rm tbs live overrun dos e h =
     let was = h e in (either (ended || false) tbs was.0, ap (λ l. l && overrun || dos) was.2 ∙ was.1)
 
+-- no wake-up interrupt is pending, nor RI, where none was, also where reset mode is entered
+never_told : (off raw : Bool) (i : Interrupts) → (i.wui ≡ false) × (i.ri ≡ false) →
+    let told = if off then (if raw then record no_interrupt { ei = i.ei } else i) else i in
+    (told.wui ≡ false) × (told.ri ≡ false)
+never_told true true i h = (refl, refl)
+never_told true false i h = h
+never_told false raw i h = h
+
 turn_keeps : (p : Registers) (turn : BusTurn) → RegisterFacts p → RegisterFacts (after_turn p turn)
 turn_keeps p turn h =
     let ended = ends p turn in let off = goes_off p turn in let live = is_live p turn in record {
@@ -73,7 +84,9 @@ turn_keeps p turn h =
       abort = λ e.
           let stands = both (not (ended || off)) p.abort e in
           ap (λ n. n || p.tbs) (not_true (ended || off) stands.0) ∙ h.abort stands.1;
-      never = h.never;
+      set = λ e. h.set (neither off p.mode.rm e).1;
+      set_first = h.set_first;
+      never = never_told off (is_raw p) (pending_after p.pending p.enabled (causes p turn)) h.never;
       acr = h.acr;
       amr = h.amr;
       buffer = h.buffer;

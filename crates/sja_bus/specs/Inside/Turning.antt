@@ -78,7 +78,7 @@ pub record TurnOf (s : Seat) (events : BitEvents) (overrun : Bool) (turn : BusTu
   pub activation : turn.activation ≡ s.ended + open_in s.activity
   pub events_are : turn.events ≡ events
   pub counters : (entries : List NodeEntry) (found : List FinishedPiece) (h : StandsAt s.node entries found) →
-      (turn.txerr ≡ (now_in h.cut).tec) × (turn.rxerr ≡ (now_in h.cut).rec)
+      (turn.txerr ≡ (now_in h.cut).tec) × (turn.rxerr ≡ (now_in h.cut).rec) × (turn.off ≡ (now_in h.cut).off)
   pub phase : ShowsPhase s.node turn.phase
   pub aborted : turn.aborted ≡ is_dropped s.untold
   pub overrun_is : turn.overrun ≡ overrun

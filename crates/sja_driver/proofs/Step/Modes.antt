@@ -1,18 +1,18 @@
 -- Reset mode, spent bits and a standing abort after a step.
 use Rattle.std.proofs.Common.{◌≡◌, ℕ, Bool, true, false, refl, sym, ◌∙◌, inl, inr, arith}
-use Rattle.std.specs.Prelude.{◌⊎◌, ◌||◌, ◌&&◌, not, if◌then◌else◌, Option, Some, None}
+use Rattle.std.specs.Prelude.{◌⊎◌, ◌==◌, ◌||◌, ◌&&◌, not, if◌then◌else◌, Option, Some, None, unwrap_or}
 use Rattle.can_frame.specs.declared.seen.Seen.{Seen}
 use Rattle.sja_regs.specs.declared.reg_fault.RegFault.{RegFault}
 use Rattle.sja_regs.specs.declared.register.Register.{Register}
-use Rattle.sja_regs.specs.declared.register.Register.TheVariants.{Mode}
+use Rattle.sja_regs.specs.declared.register.Register.TheVariants.{Mode, TransmitErrorCounter}
 use Rattle.sja_regs.specs.declared.registers.Registers.{Registers}
 use Rattle.sja_regs.specs.Addresses.{register_at}
 use Rattle.sja_regs.specs.Bits.{differ}
 use Rattle.sja_regs.specs.Commands.{command_of, requests}
 use Rattle.sja_regs.specs.Modes.{mode_of}
 use Rattle.sja_regs.specs.Refusals.{first_fault}
-use Rattle.sja_regs.specs.Registers.{after_leaving_reset}
-use Rattle.sja_regs.specs.Writing.{write_faults_at, after_writing_at}
+use Rattle.sja_regs.specs.Registers.{after_leaving_reset, asks_off, is_forced}
+use Rattle.sja_regs.specs.Writing.{write_faults_at, after_forced_off, after_writing_at}
 use Rattle.sja_regs.proofs.KeepLemmas.{read_keeps, write_keeps, leaving_keeps}
 use Rattle.sja_script.specs.declared.step.Step.{Step}
 use Rattle.sja_script.specs.declared.step.Step.TheVariants.{Start, Stop, Window, Release, Read, Write, Load, Command}
@@ -29,18 +29,40 @@ start_rm : (b : Bool) (p : Registers) → p.mode.rm ≡ b → (if b then after_l
 start_rm true p e = refl
 start_rm false p e = e
 
-same_bit : (a b d : Bool) (f : RegFault) (rest : Option RegFault) → differ a b ≡ d →
-    Done ≡ done_unless (if d then Some f else rest) → b ≡ a
-same_bit a b true f rest e h = absurd cc
-same_bit true true false f rest e h = refl
-same_bit true false false f rest e h = absurd cc
-same_bit false true false f rest e h = absurd cc
-same_bit false false false f rest e h = refl
+-- a bus-off that was asked for comes in reset mode alone
+forced_rm : (rm asks : Bool) → (rm && asks) ≡ true → rm ≡ true
+forced_rm true asks h = refl
+forced_rm false asks h = absurd cc
 
-write_rm : (x : Option Register) (v : ℕ) (p : Registers) → Done ≡ done_unless (first_fault (write_faults_at p x v)) →
-    (after_writing_at p x v).mode.rm ≡ p.mode.rm
+-- MOD was written: with the same RM, or with RM 0 where a bus-off is asked for, which keeps RM at 1
+mode_rm : (forced rm new : Bool) (off on : Registers) (f : RegFault) (rest : Option RegFault) →
+    (forced ≡ true → rm ≡ true) → off.mode.rm ≡ true → on.mode.rm ≡ new →
+    Done ≡ done_unless (if differ rm new && not forced then Some f else rest) →
+    (if forced && not new then off else on).mode.rm ≡ rm
+mode_rm true true true off on f rest k a b h = b
+mode_rm true true false off on f rest k a b h = a
+mode_rm true false new off on f rest k a b h = absurd (let no = k refl in cc)
+mode_rm false true true off on f rest k a b h = b
+mode_rm false true false off on f rest k a b h = absurd cc
+mode_rm false false true off on f rest k a b h = absurd cc
+mode_rm false false false off on f rest k a b h = b
+
+-- TXERR was written
+txerr_rm : (full : Bool) (v : ℕ) (p : Registers) →
+    (if full then record p { txerr = v; set_tec = Some v }
+    else record p { txerr = v; rxerr = unwrap_or p.set_rec p.rxerr; bs = false; set_tec = Some v }).mode.rm ≡ p.mode.rm
+txerr_rm true v p = refl
+txerr_rm false v p = refl
+
+-- no write leaves or enters reset mode
+pub write_rm : (x : Option Register) (v : ℕ) (p : Registers) →
+    Done ≡ done_unless (first_fault (write_faults_at p x v)) → (after_writing_at p x v).mode.rm ≡ p.mode.rm
 write_rm None v p h = refl
-write_rm (Some Mode) v p h = same_bit p.mode.rm (mode_of v).rm (differ p.mode.rm (mode_of v).rm) _ _ refl h
+write_rm (Some Mode) v p h =
+    mode_rm (is_forced p) p.mode.rm (mode_of v).rm
+    (after_forced_off (record p { mode = record (mode_of v) { rm = true } })) (record p { mode = mode_of v }) _ _
+    (forced_rm p.mode.rm (asks_off p)) refl refl h
+write_rm (Some TransmitErrorCounter) v p h = txerr_rm (v == 255) v p
 write_rm (Some other) v p h = refl
 
 -- a start leaves reset mode, a stop enters it, and no other step does either

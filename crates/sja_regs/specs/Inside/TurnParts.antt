@@ -1,36 +1,36 @@
 -- What the parts of a turn's code do.
-use Rattle.std.specs.Prelude.{◌≡◌, ◌||◌, ◌&&◌, not, is_some, false, None}
+use Rattle.std.specs.Prelude.{◌≡◌, ◌||◌, ◌&&◌, not, is_some, false, None, if◌then◌else◌}
 use Rattle.can_node.specs.declared.bit_events.BitEvents.{BitEvents}
 use Rattle.sja_regs.specs.declared.bus_turn.BusTurn.{BusTurn}
 use Rattle.sja_regs.specs.declared.interrupts.Interrupts.{Interrupts}
 use Rattle.sja_regs.specs.declared.registers.Registers.{Registers}
 use Rattle.sja_regs.specs.Captures.{after_capture}
-use Rattle.sja_regs.specs.Registers.{error_causes}
+use Rattle.sja_regs.specs.Registers.{error_causes, shown_state, pending_in_reset}
 use Rattle.sja_regs.specs.Interrupting.{no_interrupt, pending_after}
-use Rattle.sja_regs.specs.Turns.{is_live, is_sent, ends, goes_off, rs_told, ts_told, bs_after}
+use Rattle.sja_regs.specs.Turns.{is_live, is_sent, ends, goes_off, may_tell, rs_after, ts_after, bs_after, rxerr_after}
+use Rattle.sja_regs.specs.Turns.{txerr_after}
 use Rattle.sja_regs.specs.Turns.{dos_after, tbs_after, tcs_after, abort_after, with_node}
 use Rattle.sja_regs.specs.Turns.{code_of_fault, lost_in, fault_in}
 
 -- RS and TS
 abbrev pub with_role : Registers → BusTurn → Registers
-with_role p turn = record p { rs = rs_told turn; ts = ts_told turn }
+with_role p turn = record p { rs = rs_after p turn; ts = ts_after p turn }
 
 -- RXERR, TXERR and BS, and the interrupts that hang on them
 abbrev pub with_counters : Registers → BusTurn → Registers
 with_counters p turn =
     record p {
-      rxerr = turn.rxerr;
-      txerr = turn.txerr;
-      bs = bs_after p turn.events;
+      rxerr = rxerr_after p turn;
+      txerr = txerr_after p turn;
+      bs = bs_after p turn;
       pending = pending_after p.pending p.enabled (error_causes p (with_node p turn));
     }
 
--- the counters stand already at what the turn says, and bus-off neither began nor ended
+-- counters and BS stand already at what the turn says
 pub record HasCounted (p : Registers) (turn : BusTurn) : Type 0 where
   pub rxerr : turn.rxerr ≡ p.rxerr
   pub txerr : turn.txerr ≡ p.txerr
-  pub went_off : turn.events.went_off ≡ false
-  pub recovered : turn.events.recovered ≡ false
+  pub off : turn.off ≡ p.bs
 
 -- the turn brought nothing to its activation
 pub record BringsNoNews (turn : BusTurn) : Type 0 where
@@ -47,8 +47,8 @@ activity p turn =
     record no_interrupt {
       ti = ends p turn && not p.tbs;
       doi = not p.dos && dos_after p turn;
-      ali = is_live p turn && is_some turn.events.lost;
-      bei = is_live p turn && is_some turn.events.fault;
+      ali = (is_live p turn && is_some turn.events.lost) && may_tell p p.alc;
+      bei = (is_live p turn && is_some turn.events.fault) && may_tell p p.ecc;
     }
 
 -- ALC and ECC, in a turn of the port's activation
@@ -70,6 +70,8 @@ after_settling p turn =
       tcs = is_sent turn.events.ended || p.tcs;
       rs = turn.events.went_off || p.rs;
       ts = turn.events.went_off || p.ts;
+      pending = if turn.events.went_off then pending_in_reset p p.pending else p.pending;
+      frozen = if turn.events.went_off then shown_state p else p.frozen;
       abort = not (ended || turn.events.went_off) && p.abort;
     }
 
@@ -83,7 +85,9 @@ with_news p turn =
       tcs = tcs_after p turn;
       rs = goes_off p turn || p.rs;
       ts = goes_off p turn || p.ts;
-      pending = pending_after p.pending p.enabled (activity p turn);
+      pending = if goes_off p turn then pending_in_reset p (pending_after p.pending p.enabled (activity p turn))
+          else pending_after p.pending p.enabled (activity p turn);
+      frozen = if goes_off p turn then shown_state p else p.frozen;
       alc = after_capture p.alc (lost_in p turn);
       ecc = after_capture p.ecc (fault_in p turn);
       abort = abort_after p turn;

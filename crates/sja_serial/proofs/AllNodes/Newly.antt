@@ -1,9 +1,8 @@
 -- A run before its first turn.
-use Rattle.std.proofs.Common.{◌≡◌, ℕ, zero, suc, ◌+◌, ◌*◌, ◌<◌, ◌≤◌, false, List, [], ◌∷◌, ◌++◌, length, refl, sym}
+use Rattle.std.proofs.Common.{◌≡◌, ℕ, zero, suc, ◌+◌, ◌*◌, ◌<◌, ◌≤◌, List, [], ◌∷◌, ◌++◌, length, refl, sym}
 use Rattle.std.proofs.Common.{ap, ◌∙◌, subst, arith, inl, inr}
 use Rattle.std.specs.Prelude.{not, replicate, slice_index_or}
 use Rattle.std.proofs.lemmas.Bool.{cases_eq}
-use Rattle.sja_link.specs.declared.driver_ledger.DriverLedger.{DriverLedger}
 use Rattle.sja_link.specs.Accounts.{account}
 use Rattle.sja_link.specs.Deques.{Deques, Lies}
 use Rattle.sja_link.specs.declared.entry.Entry.{Entry}
@@ -15,15 +14,11 @@ use Rattle.sja_regs.specs.declared.registers.Registers.{Registers}
 use Rattle.sja_regs.specs.Registers.{at_power_on}
 use Rattle.sja_script.specs.declared.strike.Strike.{Strike}
 use Rattle.sja_script.specs.declared.step.Step.{Step}
-use Rattle.sja_driver.specs.declared.any_driver.AnyDriver.{AnyDriver}
-use Rattle.sja_driver.specs.declared.any_driver.AnyDriver.TheVariants.{InReset, InActive}
 use Rattle.sja_driver.specs.declared.logged_driver.LoggedDriver.{LoggedDriver}
-use Rattle.sja_driver.specs.declared.release.Release.{Release}
 use Rattle.sja_driver.specs.declared.work_log.WorkLog.{WorkLog}
-use Rattle.sja_driver.specs.AnyDrivers.{is_out, held_of, off_of}
 use Rattle.sja_driver.specs.Deeds.{Deed, given_in, deeds_of}
 use Rattle.sja_driver.specs.LoggedDrivers.{driver_of, log_of}
-use Rattle.sja_driver.specs.Logs.{HasRoom, IsEmpty, releases_in, left_in, released_of, leaves}
+use Rattle.sja_driver.specs.Logs.{HasRoom}
 use Rattle.sja_log.specs.Registering.LeadTo.{power_on}
 use Rattle.sja_serial.specs.Beginning.{IsNewDriver, AreNew}
 use Rattle.sja_serial.specs.Nodes.{IsNode}
@@ -88,7 +83,18 @@ new_node version node steps x links base new fresh = record {
     level = record { begun = refl; ended = refl; asked = refl };
   };
   ported = record {
-    set = record { lom = refl; stm = refl; afm = refl; acr = refl; amr = refl; buffer = refl };
+    set = record {
+      version = refl;
+      lom = refl;
+      stm = refl;
+      afm = refl;
+      acr = refl;
+      amr = refl;
+      buffer = refl;
+      set_tec = refl;
+      set_rec = refl;
+      asks = refl;
+    };
     reset = refl;
     activation = refl;
     unclosed = refl;

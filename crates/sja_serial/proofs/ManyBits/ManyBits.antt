@@ -1,5 +1,5 @@
 -- Bits that a bus ran one after another: each of them is a bit of the run.
-use Rattle.std.proofs.Common.{◌≡◌, ℕ, ◌+◌, ◌<◌, ◌≤◌, true, List, [], length, refl, sym, ◌∙◌, subst, arith, inl, inr}
+use Rattle.std.proofs.Common.{◌≡◌, ℕ, ◌+◌, ◌≤◌, true, List, [], length, refl, sym, ◌∙◌, subst, arith, inl, inr}
 use Rattle.std.specs.Prelude.{◌⊎◌, None, min}
 use Rattle.std.proofs.lemmas.Bool.{cases_lt}
 use Rattle.sja_link.specs.declared.bus_end.BusEnd.{Ghosts as Ends}

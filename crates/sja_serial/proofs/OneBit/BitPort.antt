@@ -1,6 +1,6 @@
 -- The port of a node after a bit.
 use Rattle.std.proofs.Common.{◌≡◌, ℕ, ◌≤◌, Bool, true, false, List, refl, sym, ap, ◌∙◌, subst, arith, inl, inr}
-use Rattle.std.specs.Prelude.{◌⊎◌, ◌||◌, ◌&&◌, ◌==◌, not}
+use Rattle.std.specs.Prelude.{◌⊎◌, ◌||◌, ◌&&◌, ◌==◌, not, if◌then◌else◌, is_some}
 use Rattle.std.proofs.lemmas.Bool.{eq-eqb}
 use Rattle.can_bits.specs.declared.level.Level.{Level}
 use Rattle.can_node.specs.declared.bit_events.BitEvents.{BitEvents}
@@ -8,6 +8,7 @@ use Rattle.sja_link.specs.declared.entry.Entry.{Entry}
 use Rattle.sja_link.specs.Places.{place_of}
 use Rattle.sja_regs.specs.declared.bus_turn.BusTurn.{BusTurn}
 use Rattle.sja_regs.specs.declared.registers.Registers.{Registers}
+use Rattle.sja_regs.specs.Registers.{is_raw}
 use Rattle.sja_regs.specs.Turns.{after_turn}
 use Rattle.sja_wire.specs.OneBit.{HasBit}
 use Rattle.sja_wire.specs.Telling.{IsTurn, IsPassedOver}
@@ -18,8 +19,29 @@ use Rattle.sja_log.specs.Windows.{off_by}
 use Rattle.sja_serial.specs.Alike.{AreAlike}
 use Rattle.sja_serial.specs.Porting.{IsPorted}
 
+-- whether a bus-off is asked for stays: once TXERR was written it isn't the node's
+asked_on : (raw same tec rec : Bool) (told was : ℕ) →
+    (raw && (tec && ((if not raw || (same && not (tec || rec)) then told else was) == 255)))
+    ≡ (raw && (tec && (was == 255)))
+asked_on false same tec rec told was = refl
+asked_on true same false rec told was = refl
+asked_on true true true rec told was = refl
+asked_on true false true rec told was = refl
+
 alike_turn : (p r : Registers) (turn : BusTurn) → AreAlike p r → AreAlike (after_turn p turn) r
-alike_turn p r turn h = record { lom = h.lom; stm = h.stm; afm = h.afm; acr = h.acr; amr = h.amr; buffer = h.buffer }
+alike_turn p r turn h = record {
+  version = h.version;
+  lom = h.lom;
+  stm = h.stm;
+  afm = h.afm;
+  acr = h.acr;
+  amr = h.amr;
+  buffer = h.buffer;
+  set_tec = h.set_tec;
+  set_rec = h.set_rec;
+  asks = asked_on (is_raw p) (turn.activation == p.activation) (is_some p.set_tec) (is_some p.set_rec) turn.txerr
+      p.txerr ∙ h.asks;
+}
 
 -- reset mode is entered where the turn says bus-off in a turn of the port's activation
 off_or : (rm same went off : Bool) → same ≡ true → went ≡ off → (((not rm && same) && went) || rm) ≡ (rm || off)

@@ -46,6 +46,14 @@ module _ (version : ℕ) (j k : List Entry) (deeds : List Deed) (d : Deed) (p q 
     (next : IsNext j deeds p q d) (h : IsPorted version j deeds p) (before : IsLevel j deeds)
     (after : IsLevel k (deeds ++ d ∷ [])) (kind : Kind (is_active deeds) (opened_by deeds) d.step d.answer d.gave)
     (buffer : TbsIsRight p) where
+  -- the controller of a driver in reset was in reset mode
+  was_reset : is_active deeds ≡ false → p.mode.rm ≡ true
+  was_reset out = h.reset ∙ ap (λ (b : Bool). not b || off_by (place_of j).bits j (opened_by deeds)) out
+
+  was_started : opens_by d ≡ 1 → p.mode.rm ≡ true
+  was_started one =
+      was_reset (opened_from (is_active deeds) (opened_by deeds) d.step d.answer d.gave kind one).0
+
   set_after : AreAlike (ported p d.step d.answer) (settings_of version k (deeds ++ d ∷ []))
   set_after =
       let same = same_put j k deeds d e in
@@ -56,7 +64,7 @@ module _ (version : ℕ) (j k : List Entry) (deeds : List Deed) (d : Deed) (p q 
       settings_same version j k same (deeds ++ d ∷ []) ∙ settings_push version j deeds d
       ∙ ap (λ (b : Bool). after_setting b (settings_of version j deeds) d.step d.answer) (sym rm) in
       subst (λ (r : Registers). AreAlike (ported p d.step d.answer) r) (sym is)
-      (alike_step p (settings_of version j deeds) d.step d.answer h.set)
+      (alike_step p (settings_of version j deeds) d.step d.answer was_started h.set)
 
   -- nothing opened, and so what is known of bus-off is the same
   reset_same : opens_by d ≡ 0 → (ported p d.step d.answer).mode.rm ≡ is_reset k (deeds ++ d ∷ [])
@@ -128,10 +136,6 @@ module _ (version : ℕ) (j k : List Entry) (deeds : List Deed) (d : Deed) (p q 
               later = omega (arith, more, s, t, none);
             }
       ]
-
-  -- so its controller was in reset mode
-  was_reset : is_active deeds ≡ false → p.mode.rm ≡ true
-  was_reset out = h.reset ∙ ap (λ (b : Bool). not b || off_by (place_of j).bits j (opened_by deeds)) out
 
   activation_after : (ported p d.step d.answer).activation ≡ opened_by (deeds ++ d ∷ [])
   activation_after =

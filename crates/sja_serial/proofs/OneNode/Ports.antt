@@ -1,19 +1,22 @@
 -- What a step leaves in the registers, beside what the deeds have set.
 use Rattle.std.proofs.Common.{◌≡◌, ℕ, Bool, true, false, List, [], ◌∷◌, refl, ap}
-use Rattle.std.specs.Prelude.{not, if◌then◌else◌, Option, Some, None, slice_set}
+use Rattle.std.specs.Prelude.{◌==◌, ◌&&◌, not, nat_le, if◌then◌else◌, Option, Some, None, is_some, slice_set}
+use Rattle.std.specs.Prelude.{unwrap_or}
 use Rattle.sja_link.specs.declared.up.Up.TheVariants.{Start as StartItem}
 use Rattle.can_frame.specs.Buffer.{frame_in}
 use Rattle.sja_regs.specs.declared.register.Register.{Register}
 use Rattle.sja_regs.specs.declared.register.Register.TheVariants.{Mode, Interrupt, InterruptEnable}
 use Rattle.sja_regs.specs.declared.register.Register.TheVariants.{ArbitrationLostCapture, ErrorCodeCapture}
 use Rattle.sja_regs.specs.declared.register.Register.TheVariants.{ErrorWarningLimit, AcceptanceCode, AcceptanceMask}
-use Rattle.sja_regs.specs.declared.register.Register.TheVariants.{Buffer}
+use Rattle.sja_regs.specs.declared.register.Register.TheVariants.{ReceiveErrorCounter, TransmitErrorCounter, Buffer}
 use Rattle.sja_regs.specs.declared.registers.Registers.{Registers}
+use Rattle.sja_regs.specs.declared.mode.Mode.{Mode as ModeBits}
 use Rattle.sja_regs.specs.Addresses.{register_at}
 use Rattle.sja_regs.specs.Commands.{command_of, requests}
+use Rattle.sja_regs.specs.Modes.{mode_of}
 use Rattle.sja_regs.specs.Reading.{after_reading_at}
-use Rattle.sja_regs.specs.Registers.{after_leaving_reset}
-use Rattle.sja_regs.specs.Writing.{after_writing_at, after_loading}
+use Rattle.sja_regs.specs.Registers.{after_leaving_reset, asks_off, is_forced}
+use Rattle.sja_regs.specs.Writing.{after_forced_off, after_writing_at, after_loading}
 use Rattle.sja_script.specs.declared.step.Step.{Step}
 use Rattle.sja_script.specs.declared.step.Step.TheVariants.{Start, Stop, Window, Release, Read, Write, Load}
 use Rattle.sja_script.specs.declared.step.Step.TheVariants.{Command, Await, Sent}
@@ -21,32 +24,64 @@ use Rattle.sja_script.specs.declared.step_answer.StepAnswer.{StepAnswer}
 use Rattle.sja_script.specs.declared.step_answer.StepAnswer.TheVariants.{Done, NoMessage, Shown, Released, Value}
 use Rattle.sja_script.specs.declared.step_answer.StepAnswer.TheVariants.{Refused}
 use Rattle.sja_driver.specs.Carried.{carried, ported}
+use Rattle.sja_driver.specs.Deeds.{opened}
 use Rattle.sja_driver.specs.Ports.{send_of}
-use Rattle.sja_log.specs.Settings.{after_setting}
+use Rattle.sja_log.specs.Settings.{in_mode, after_setting}
 use Rattle.sja_serial.specs.Alike.{AreAlike}
 
 -- ---- the same settings
 
--- mode bits, acceptance filter and transmit buffer
-abbrev settings : Registers → Bool × Bool × Bool × List ℕ × List ℕ × List ℕ
-settings p = (p.mode.lom, p.mode.stm, p.mode.afm, p.acr, p.amr, p.buffer)
+-- version, mode bits, acceptance filter, transmit buffer, the error counters that were written, and whether they ask
+-- for a bus-off
+abbrev settings : Registers →
+    ℕ × Bool × Bool × Bool × List ℕ × List ℕ × List ℕ × Option ℕ × Option ℕ × Bool
+settings p =
+    (p.version, p.mode.lom, p.mode.stm, p.mode.afm, p.acr, p.amr, p.buffer, p.set_tec, p.set_rec, asks_off p)
 
 set_alike : (p r : Registers) → AreAlike p r → settings p ≡ settings r
-set_alike p r h = λ i. (h.lom i, h.stm i, h.afm i, h.acr i, h.amr i, h.buffer i)
+set_alike p r h = λ i. (
+  h.version i,
+  h.lom i,
+  h.stm i,
+  h.afm i,
+  h.acr i,
+  h.amr i,
+  h.buffer i,
+  h.set_tec i,
+  h.set_rec i,
+  h.asks i,
+)
 
 alike_set : (p r : Registers) → settings p ≡ settings r → AreAlike p r
 alike_set p r e = record {
-  lom = ap (λ x. x.0) e;
-  stm = ap (λ x. x.1) e;
-  afm = ap (λ x. x.2) e;
-  acr = ap (λ x. x.3) e;
-  amr = ap (λ x. x.4) e;
-  buffer = ap (λ x. x.5) e;
+  version = ap (λ x. x.0) e;
+  lom = ap (λ x. x.1) e;
+  stm = ap (λ x. x.2) e;
+  afm = ap (λ x. x.3) e;
+  acr = ap (λ x. x.4) e;
+  amr = ap (λ x. x.5) e;
+  buffer = ap (λ x. x.6) e;
+  set_tec = ap (λ x. x.7) e;
+  set_rec = ap (λ x. x.8) e;
+  asks = ap (λ x. x.9) e;
 }
 
-alike_start : (b : Bool) (p r : Registers) → AreAlike p r → AreAlike (if b then after_leaving_reset p else p) r
-alike_start true p r h = alike_set (after_leaving_reset p) r (set_alike p r h)
-alike_start false p r h = h
+-- a start takes the counters with it
+alike_start : (b : Bool) (p r : Registers) → b ≡ true → AreAlike p r →
+    AreAlike (if b then after_leaving_reset p else p) (record r { set_tec = None; set_rec = None })
+alike_start true p r e h = record {
+  version = h.version;
+  lom = h.lom;
+  stm = h.stm;
+  afm = h.afm;
+  acr = h.acr;
+  amr = h.amr;
+  buffer = h.buffer;
+  set_tec = refl;
+  set_rec = refl;
+  asks = λ k. nat_le 3 (h.version k) && false;
+}
+alike_start false p r e h = absurd cc
 
 alike_read : (x : Option Register) (p r : Registers) → AreAlike p r → AreAlike (after_reading_at p x) r
 alike_read None p r h = h
@@ -55,46 +90,158 @@ alike_read (Some ArbitrationLostCapture) p r h = alike_set _ r (set_alike p r h)
 alike_read (Some ErrorCodeCapture) p r h = alike_set _ r (set_alike p r h)
 alike_read (Some other) p r h = h
 
-alike_write : (x : Option Register) (v : ℕ) (p r : Registers) → AreAlike p r →
+-- MOD was written, which brought a bus-off in both or in neither
+alike_mode : (a b : Bool) (m : ModeBits) (p r : Registers) → a ≡ b → AreAlike p r →
+    AreAlike (if a then after_forced_off (record p { mode = record m { rm = true } }) else record p { mode = m })
+    (if b then after_forced_off (record r { mode = record m { rm = true } }) else record r { mode = m })
+alike_mode true true m p r e h =
+    alike_set _ _ (λ k. (
+      h.version k,
+      m.lom,
+      m.stm,
+      m.afm,
+      h.acr k,
+      h.amr k,
+      h.buffer k,
+      h.set_tec k,
+      Some 0,
+      nat_le 3 (h.version k) && (is_some (h.set_tec k) && false),
+    ))
+alike_mode true false m p r e h = absurd cc
+alike_mode false true m p r e h = absurd cc
+alike_mode false false m p r e h =
+    alike_set _ _ (λ k. (
+      h.version k,
+      m.lom,
+      m.stm,
+      m.afm,
+      h.acr k,
+      h.amr k,
+      h.buffer k,
+      h.set_tec k,
+      h.set_rec k,
+      h.asks k,
+    ))
+
+-- TXERR was written
+txerr_set : (v : ℕ) (p r : Registers) → AreAlike p r →
+    settings (record p { txerr = v; set_tec = Some v }) ≡ settings (record r { txerr = v; set_tec = Some v })
+txerr_set v p r h = λ k. (
+  h.version k,
+  h.lom k,
+  h.stm k,
+  h.afm k,
+  h.acr k,
+  h.amr k,
+  h.buffer k,
+  Some v,
+  h.set_rec k,
+  nat_le 3 (h.version k) && (v == 255),
+)
+
+alike_txerr : (full : Bool) (v : ℕ) (p r : Registers) → AreAlike p r →
+    AreAlike (if full then record p { txerr = v; set_tec = Some v }
+    else record p { txerr = v; rxerr = unwrap_or p.set_rec p.rxerr; bs = false; set_tec = Some v })
+    (if full then record r { txerr = v; set_tec = Some v }
+    else record r { txerr = v; rxerr = unwrap_or r.set_rec r.rxerr; bs = false; set_tec = Some v })
+alike_txerr true v p r h = alike_set _ _ (txerr_set v p r h)
+alike_txerr false v p r h = alike_set _ _ (txerr_set v p r h)
+
+alike_write : (x : Option Register) (v : ℕ) (p r : Registers) → p.mode.rm ≡ r.mode.rm → AreAlike p r →
     AreAlike (after_writing_at p x v) (after_writing_at r x v)
-alike_write None v p r h = h
-alike_write (Some Mode) v p r h = record {
-  lom = refl;
-  stm = refl;
-  afm = refl;
-  acr = h.acr;
-  amr = h.amr;
-  buffer = h.buffer;
-}
-alike_write (Some InterruptEnable) v p r h = alike_set _ _ (set_alike p r h)
-alike_write (Some ErrorWarningLimit) v p r h = alike_set _ _ (set_alike p r h)
-alike_write (Some (AcceptanceCode i)) v p r h =
-    alike_set _ _ (λ k. (h.lom k, h.stm k, h.afm k, slice_set (h.acr k) i v, h.amr k, h.buffer k))
-alike_write (Some (AcceptanceMask i)) v p r h =
-    alike_set _ _ (λ k. (h.lom k, h.stm k, h.afm k, h.acr k, slice_set (h.amr k) i v, h.buffer k))
-alike_write (Some (Buffer i)) v p r h =
-    alike_set _ _ (λ k. (h.lom k, h.stm k, h.afm k, h.acr k, h.amr k, slice_set (h.buffer k) i v))
-alike_write (Some other) v p r h = h
+alike_write None v p r e h = h
+alike_write (Some Mode) v p r e h =
+    alike_mode (is_forced p && not (mode_of v).rm) (is_forced r && not (mode_of v).rm) (mode_of v) p r
+    (λ k. (e k && h.asks k) && not (mode_of v).rm) h
+alike_write (Some InterruptEnable) v p r e h = alike_set _ _ (set_alike p r h)
+alike_write (Some ErrorWarningLimit) v p r e h = alike_set _ _ (set_alike p r h)
+alike_write (Some ReceiveErrorCounter) v p r e h =
+    alike_set _ _ (λ k. (
+      h.version k,
+      h.lom k,
+      h.stm k,
+      h.afm k,
+      h.acr k,
+      h.amr k,
+      h.buffer k,
+      h.set_tec k,
+      Some v,
+      h.asks k,
+    ))
+alike_write (Some TransmitErrorCounter) v p r e h = alike_txerr (v == 255) v p r h
+alike_write (Some (AcceptanceCode i)) v p r e h =
+    alike_set _ _ (λ k. (
+      h.version k,
+      h.lom k,
+      h.stm k,
+      h.afm k,
+      slice_set (h.acr k) i v,
+      h.amr k,
+      h.buffer k,
+      h.set_tec k,
+      h.set_rec k,
+      h.asks k,
+    ))
+alike_write (Some (AcceptanceMask i)) v p r e h =
+    alike_set _ _ (λ k. (
+      h.version k,
+      h.lom k,
+      h.stm k,
+      h.afm k,
+      h.acr k,
+      slice_set (h.amr k) i v,
+      h.buffer k,
+      h.set_tec k,
+      h.set_rec k,
+      h.asks k,
+    ))
+alike_write (Some (Buffer i)) v p r e h =
+    alike_set _ _ (λ k. (
+      h.version k,
+      h.lom k,
+      h.stm k,
+      h.afm k,
+      h.acr k,
+      h.amr k,
+      slice_set (h.buffer k) i v,
+      h.set_tec k,
+      h.set_rec k,
+      h.asks k,
+    ))
+alike_write (Some other) v p r e h = h
 
 -- a step sets the same in both
-pub alike_step : (p r : Registers) (step : Step) (answer : StepAnswer) → AreAlike p r →
-    AreAlike (ported p step answer) (after_setting p.mode.rm r step answer)
-alike_step p r Start Done h = alike_start p.mode.rm p r h
-alike_step p r Stop Done h = alike_set _ _ (set_alike p r h)
-alike_step p r (Read address) answer h = alike_read (register_at p.mode.rm address) p r h
-alike_step p r (Write address value) Done h = alike_write (register_at p.mode.rm address) value p r h
-alike_step p r (Load m) Done h =
-    alike_set _ _ (λ k. (h.lom k, h.stm k, h.afm k, h.acr k, h.amr k, (after_loading p m).buffer))
-alike_step p r (Command value) Done h = alike_set _ _ (set_alike p r h)
-alike_step p r Start other h = h
-alike_step p r Stop other h = h
-alike_step p r (Write address value) other h = h
-alike_step p r (Load m) other h = h
-alike_step p r (Command value) other h = h
-alike_step p r Window answer h = h
-alike_step p r Release answer h = h
-alike_step p r (Await count) answer h = h
-alike_step p r Sent answer h = h
+pub alike_step : (p r : Registers) (step : Step) (answer : StepAnswer) → (opened step answer ≡ 1 → p.mode.rm ≡ true) →
+    AreAlike p r → AreAlike (ported p step answer) (after_setting p.mode.rm r step answer)
+alike_step p r Start Done starts h = alike_start p.mode.rm p r (starts refl) h
+alike_step p r Stop Done starts h = alike_set _ _ (set_alike p r h)
+alike_step p r (Read address) answer starts h = alike_read (register_at p.mode.rm address) p r h
+alike_step p r (Write address value) Done starts h =
+    alike_write (register_at p.mode.rm address) value p (in_mode p.mode.rm r) refl
+    (alike_set _ _ (set_alike p r h))
+alike_step p r (Load m) Done starts h =
+    alike_set _ _ (λ k. (
+      h.version k,
+      h.lom k,
+      h.stm k,
+      h.afm k,
+      h.acr k,
+      h.amr k,
+      (after_loading p m).buffer,
+      h.set_tec k,
+      h.set_rec k,
+      h.asks k,
+    ))
+alike_step p r (Command value) Done starts h = alike_set _ _ (set_alike p r h)
+alike_step p r Start other starts h = h
+alike_step p r Stop other starts h = h
+alike_step p r (Write address value) other starts h = h
+alike_step p r (Load m) other starts h = h
+alike_step p r (Command value) other starts h = h
+alike_step p r Window answer starts h = h
+alike_step p r Release answer starts h = h
+alike_step p r (Await count) answer starts h = h
+alike_step p r Sent answer starts h = h
 
 -- and carries the same from both
 pub carried_alike : (p r : Registers) (step : Step) (answer : StepAnswer) → AreAlike p r →
@@ -103,6 +250,8 @@ carried_alike p r Start Done h = λ i. StartItem (record {
   filter = record { single = h.afm i; acr = h.acr i; amr = h.amr i };
   self_test = h.stm i;
   listen = h.lom i;
+  tec = h.set_tec i;
+  rec = h.set_rec i;
 }) ∷ []
 carried_alike p r (Command value) Done h =
     let c = command_of value in

@@ -1,7 +1,7 @@
 -- A port that was told all shows what its node's record says, and so a turn that brings nothing leaves it as it is.
-use Rattle.std.proofs.Common.{◌≡◌, ℕ, Bool, true, false, Option, Some, None, List, [], ◌∷◌, ◌++◌, refl, sym, ap, ◌∙◌}
+use Rattle.std.proofs.Common.{◌≡◌, ℕ, Bool, true, false, List, [], ◌∷◌, ◌++◌, refl, sym, ap, ◌∙◌, subst}
 use Rattle.std.proofs.Common.{inl, inr}
-use Rattle.std.specs.Prelude.{◌⊎◌, ◌||◌, ◌&&◌, not, if◌then◌else◌}
+use Rattle.std.specs.Prelude.{◌⊎◌, ◌==◌, ◌||◌, ◌&&◌, not, if◌then◌else◌}
 use Rattle.can_bits.specs.declared.level.Level.{Level}
 use Rattle.can_node.specs.declared.bit_events.BitEvents.{BitEvents}
 use Rattle.can_node.specs.declared.phase.Phase.{Phase}
@@ -16,29 +16,15 @@ use Rattle.sja_link.specs.NodeWords.{NodeEntry, NodeTook}
 use Rattle.sja_link.specs.declared.entry.Entry.{Entry}
 use Rattle.sja_link.specs.Records.{record_of}
 use Rattle.sja_regs.specs.declared.bus_turn.BusTurn.{BusTurn}
-use Rattle.sja_regs.specs.declared.register.Register.{Register}
-use Rattle.sja_regs.specs.declared.register.Register.TheVariants.{Mode, Interrupt, InterruptEnable}
-use Rattle.sja_regs.specs.declared.register.Register.TheVariants.{ArbitrationLostCapture, ErrorCodeCapture}
-use Rattle.sja_regs.specs.declared.register.Register.TheVariants.{ErrorWarningLimit, AcceptanceCode, AcceptanceMask}
-use Rattle.sja_regs.specs.declared.register.Register.TheVariants.{Buffer}
 use Rattle.sja_regs.specs.declared.registers.Registers.{Registers}
-use Rattle.sja_regs.specs.Addresses.{register_at}
-use Rattle.sja_regs.specs.Keeping.{SaysTheSame}
-use Rattle.sja_regs.specs.Reading.{after_reading_at}
-use Rattle.sja_regs.specs.Registers.{at_power_on}
-use Rattle.sja_regs.specs.Turns.{is_live, goes_off, role_bit, rs_told, ts_told, after_turn}
-use Rattle.sja_regs.specs.Writing.{after_writing_at}
+use Rattle.sja_regs.specs.Registers.{is_raw, at_power_on}
+use Rattle.sja_regs.specs.Turns.{is_live, goes_off, role_bit, rs_told, ts_told, stands_still, follows_node}
+use Rattle.sja_regs.specs.Turns.{rxerr_after, txerr_after, bs_after, after_turn}
 use Rattle.sja_wire.specs.OneBit.{HasBit}
 use Rattle.sja_wire.specs.Telling.{Says, IsTurn, IsPassedOver}
 use Rattle.sja_bus.specs.Inside.Following.{off_left}
 use Rattle.sja_regs.proofs.SaysTheSame.{says_same}
 use Rattle.sja_bus.proofs.AtPorts.Turning.{record_bit}
-use Rattle.sja_script.specs.declared.step.Step.{Step}
-use Rattle.sja_script.specs.declared.step.Step.TheVariants.{Start, Stop, Window, Release, Read}
-use Rattle.sja_script.specs.declared.step.Step.TheVariants.{Write, Load, Command, Await, Sent}
-use Rattle.sja_script.specs.declared.step_answer.StepAnswer.{StepAnswer}
-use Rattle.sja_script.specs.declared.step_answer.StepAnswer.TheVariants.{Done}
-use Rattle.sja_driver.specs.Carried.{carried, ported}
 use Rattle.sja_serial.specs.Shown.{ShowsRecord}
 use Rattle.can_node.proofs.Requests.Cuts.{now_first, reset_first}
 use Rattle.can_node.proofs.Requests.OnceOff.{off_resets}
@@ -46,10 +32,12 @@ use Rattle.can_node.proofs.Requests.OnceOff.{off_resets}
 -- ---- turns that say what stands at the end of one record
 
 record SayAlike (t u : BusTurn) : Type 0 where
+  pub activation : t.activation ≡ u.activation
   pub rxerr : t.rxerr ≡ u.rxerr
   pub txerr : t.txerr ≡ u.txerr
   pub rs : rs_told t ≡ rs_told u
   pub ts : ts_told t ≡ ts_told u
+  pub off : t.off ≡ u.off
 
 say_alike : (j : List Entry) (t u : BusTurn) → Says j t → Says j u → SayAlike t u
 say_alike j t u a b =
@@ -60,30 +48,41 @@ say_alike j t u a b =
     let phase : t.phase ≡ u.phase = a.phase ∙ at ∙ sym b.phase in
     let receiving : t.events.receiving ≡ u.events.receiving = a.receiving
     ∙ ap (λ (c : ContextValue). not (is_transmitter c.role)) now ∙ sym b.receiving in record {
+      activation = a.activation ∙ sym b.activation;
       rxerr = a.rxerr ∙ ap (λ (c : ContextValue). c.rec) now ∙ sym b.rxerr;
       txerr = a.txerr ∙ ap (λ (c : ContextValue). c.tec) now ∙ sym b.txerr;
       rs = λ i. role_bit (phase i) (receiving i);
       ts = λ i. role_bit (phase i) (not (receiving i));
+      off = a.off ∙ ap (λ (c : ContextValue). c.off) now ∙ sym b.off;
     }
 
--- a port shows what a turn says that it has shown
-shows_as : (j : List Entry) (turn : BusTurn) (q : Registers) → Says j turn → turn.rxerr ≡ q.rxerr →
-    turn.txerr ≡ q.txerr → rs_told turn ≡ q.rs → ts_told turn ≡ q.ts → ShowsRecord j q
-shows_as j turn q says rxerr txerr rs ts = record {
-  rxerr = λ t s. (say_alike j t turn s says).rxerr ∙ rxerr;
-  txerr = λ t s. (say_alike j t turn s says).txerr ∙ txerr;
-  rs = λ t s. (say_alike j t turn s says).rs ∙ rs;
-  ts = λ t s. (say_alike j t turn s says).ts ∙ ts;
-}
+-- a choice that is the same either way
+same_if : {A : Type 0} (b : Bool) (x y : A) → x ≡ y → (if b then x else y) ≡ y
+same_if true x y e = e
+same_if false x y e = refl
+
+same_else : {A : Type 0} (b : Bool) (x y : A) → x ≡ y → (if b then y else x) ≡ y
+same_else true x y e = refl
+same_else false x y e = e
+
+same_twice : {A : Type 0} (b : Bool) (x y : A) → (if b then x else (if b then x else y)) ≡ (if b then x else y)
+same_twice true x y = refl
+same_twice false x y = refl
 
 -- ---- at power-on
 
 pub shows_first : (version : ℕ) → ShowsRecord [] (at_power_on version)
 shows_first version = record {
-  rxerr = λ t s. s.rxerr ∙ ap (λ (c : ContextValue). c.rec) (now_first s.found s.cut);
-  txerr = λ t s. s.txerr ∙ ap (λ (c : ContextValue). c.tec) (now_first s.found s.cut);
-  rs = λ t s. ap (λ (x : Phase). role_bit x t.events.receiving) (s.phase ∙ reset_first s.found s.cut);
-  ts = λ t s. ap (λ (x : Phase). role_bit x (not t.events.receiving)) (s.phase ∙ reset_first s.found s.cut);
+  rxerr = λ t s. same_if (follows_node (at_power_on version) t) t.rxerr 0
+      (s.rxerr ∙ ap (λ (c : ContextValue). c.rec) (now_first s.found s.cut));
+  txerr = λ t s. same_if (follows_node (at_power_on version) t) t.txerr 0
+      (s.txerr ∙ ap (λ (c : ContextValue). c.tec) (now_first s.found s.cut));
+  rs = λ t s. same_else (stands_still (at_power_on version) t) (rs_told t) true
+      (ap (λ (x : Phase). role_bit x t.events.receiving) (s.phase ∙ reset_first s.found s.cut));
+  ts = λ t s. same_else (stands_still (at_power_on version) t) (ts_told t) true
+      (ap (λ (x : Phase). role_bit x (not t.events.receiving)) (s.phase ∙ reset_first s.found s.cut));
+  bs = λ t s. same_if (follows_node (at_power_on version) t) t.off false
+      (s.off ∙ ap (λ (c : ContextValue). c.off) (now_first s.found s.cut));
 }
 
 -- ---- after a bit
@@ -92,14 +91,25 @@ and_last : (a b : Bool) → (a && b) ≡ true → b ≡ true
 and_last true b h = h
 and_last false b h = absurd cc
 
-or_told : (off told : Bool) → (off ≡ true → told ≡ true) → told ≡ (off || told)
-or_told true told h = h refl
-or_told false told h = refl
+-- RS or TS after a turn, told once more
+role_shown : (raw off rm left was told : Bool) → (off ≡ true → told ≡ true) →
+    (if raw && ((off || rm) || left) then (off || (if raw && (rm || left) then was else told)) else told)
+    ≡ (off || (if raw && (rm || left) then was else told))
+role_shown true true rm left was told h = refl
+role_shown true false true left was told h = refl
+role_shown true false false true was told h = refl
+role_shown true false false false was told h = refl
+role_shown false true rm left was told h = h refl
+role_shown false false rm left was told h = refl
 
 module _ (changed : Bool) (opened k : List Entry) (driven seen : Level) (bit : HasBit opened driven seen k)
     (turn : BusTurn) (is : IsTurn changed opened driven seen k bit turn) (p : Registers) where
   abbrev took : List NodeEntry
   took = record_of opened ++ NodeTook (record { driven = driven; seen = seen }) ∷ []
+
+  -- the turn is of another activation than the port's
+  abbrev has_left : Bool
+  has_left = not (turn.activation == p.activation)
 
   -- bus-off leaves the node in reset
   off_in_reset : goes_off p turn ≡ true → turn.phase ≡ Reset
@@ -109,13 +119,36 @@ module _ (changed : Bool) (opened k : List Entry) (driven seen : Level) (bit : H
       (record_bit opened k driven seen bit ∙ ap (λ (b : Bool). took ++ off_left b) off)
 
   -- a port that was told the turn of the bit shows what the record says after it
+  shown_after : ShowsRecord k (after_turn p turn)
+  shown_after = record {
+    rxerr = λ t s.
+        let a = say_alike k t turn s is.says in
+        (λ i. if follows_node p (record turn { activation = a.activation i }) then a.rxerr i else rxerr_after p turn)
+        ∙ same_twice (follows_node p turn) turn.rxerr p.rxerr;
+    txerr = λ t s.
+        let a = say_alike k t turn s is.says in
+        (λ i. if follows_node p (record turn { activation = a.activation i }) then a.txerr i else txerr_after p turn)
+        ∙ same_twice (follows_node p turn) turn.txerr p.txerr;
+    rs = λ t s.
+        let a = say_alike k t turn s is.says in
+        (λ i. if stands_still (after_turn p turn) (record turn { activation = a.activation i })
+        then (after_turn p turn).rs else a.rs i)
+        ∙ role_shown (is_raw p) (goes_off p turn) p.mode.rm has_left p.rs (rs_told turn)
+        (λ goes. ap (λ (x : Phase). role_bit x turn.events.receiving) (off_in_reset goes));
+    ts = λ t s.
+        let a = say_alike k t turn s is.says in
+        (λ i. if stands_still (after_turn p turn) (record turn { activation = a.activation i })
+        then (after_turn p turn).ts else a.ts i)
+        ∙ role_shown (is_raw p) (goes_off p turn) p.mode.rm has_left p.ts (ts_told turn)
+        (λ goes. ap (λ (x : Phase). role_bit x (not turn.events.receiving)) (off_in_reset goes));
+    bs = λ t s.
+        let a = say_alike k t turn s is.says in
+        (λ i. if follows_node p (record turn { activation = a.activation i }) then a.off i else bs_after p turn)
+        ∙ same_twice (follows_node p turn) turn.off p.bs;
+  }
+
   pub shows_told : (q : Registers) → q ≡ after_turn p turn → ShowsRecord k q
-  shows_told q told = shows_as k turn q is.says (sym (ap (λ (r : Registers). r.rxerr) told))
-      (sym (ap (λ (r : Registers). r.txerr) told))
-      (or_told (goes_off p turn) (rs_told turn) (λ goes. ap (λ (x : Phase). role_bit x turn.events.receiving)
-      (off_in_reset goes)) ∙ sym (ap (λ (r : Registers). r.rs) told))
-      (or_told (goes_off p turn) (ts_told turn) (λ goes. ap (λ (x : Phase). role_bit x (not turn.events.receiving))
-      (off_in_reset goes)) ∙ sym (ap (λ (r : Registers). r.ts) told))
+  shows_told q told = subst (λ (r : Registers). ShowsRecord k r) (sym told) shown_after
 
 -- a port that was passed over shows the turn of the bit already, where nothing was untold
 passed_over : (untold : Bool) (j opened : List Entry) (p q : Registers) (turn : BusTurn) →
@@ -127,13 +160,13 @@ passed_over untold j opened p q turn over shown =
       lost = ap (λ (e : BitEvents). e.lost) events;
       fault = ap (λ (e : BitEvents). e.fault) events;
       went_off = ap (λ (e : BitEvents). e.went_off) events;
-      recovered = ap (λ (e : BitEvents). e.recovered) events;
       aborted = over.alone.aborted;
       overrun = over.alone.overrun;
       rxerr = shows.rxerr turn says;
       txerr = shows.txerr turn says;
       rs = shows.rs turn says;
       ts = shows.ts turn says;
+      bs = shows.bs turn says;
     }))
 
 -- told or passed over, a port is as the turn of the bit leaves it
@@ -142,60 +175,3 @@ pub as_told : (untold : Bool) (j opened : List Entry) (p q : Registers) (turn : 
     q ≡ after_turn p turn
 as_told untold j opened p q turn port shown =
     elim port [ inl told ↦ told | inr over ↦ passed_over untold j opened p q turn over shown ]
-
--- ---- after a step that gave nothing
-
-record ShowAlike (p q : Registers) : Type 0 where
-  pub rxerr : p.rxerr ≡ q.rxerr
-  pub txerr : p.txerr ≡ q.txerr
-  pub rs : p.rs ≡ q.rs
-  pub ts : p.ts ≡ q.ts
-
-abbrev all_alike : (p : Registers) → ShowAlike p p
-all_alike p = record { rxerr = refl; txerr = refl; rs = refl; ts = refl }
-
-read_alike : (x : Option Register) (p : Registers) → ShowAlike p (after_reading_at p x)
-read_alike None p = all_alike p
-read_alike (Some Interrupt) p = record { rxerr = refl; txerr = refl; rs = refl; ts = refl }
-read_alike (Some ArbitrationLostCapture) p = record { rxerr = refl; txerr = refl; rs = refl; ts = refl }
-read_alike (Some ErrorCodeCapture) p = record { rxerr = refl; txerr = refl; rs = refl; ts = refl }
-read_alike (Some other) p = all_alike p
-
-write_alike : (x : Option Register) (v : ℕ) (p : Registers) → ShowAlike p (after_writing_at p x v)
-write_alike None v p = all_alike p
-write_alike (Some Mode) v p = record { rxerr = refl; txerr = refl; rs = refl; ts = refl }
-write_alike (Some InterruptEnable) v p = record { rxerr = refl; txerr = refl; rs = refl; ts = refl }
-write_alike (Some ErrorWarningLimit) v p = record { rxerr = refl; txerr = refl; rs = refl; ts = refl }
-write_alike (Some (AcceptanceCode i)) v p = record { rxerr = refl; txerr = refl; rs = refl; ts = refl }
-write_alike (Some (AcceptanceMask i)) v p = record { rxerr = refl; txerr = refl; rs = refl; ts = refl }
-write_alike (Some (Buffer i)) v p = record { rxerr = refl; txerr = refl; rs = refl; ts = refl }
-write_alike (Some other) v p = all_alike p
-
-step_alike : (p : Registers) (one : Step) (answer : StepAnswer) → carried p one answer ≡ [] →
-    ShowAlike p (ported p one answer)
-step_alike p Start Done none = absurd cc
-step_alike p Stop Done none = absurd cc
-step_alike p (Read address) answer none = read_alike (register_at p.mode.rm address) p
-step_alike p (Write address value) Done none = write_alike (register_at p.mode.rm address) value p
-step_alike p (Load m) Done none = record { rxerr = refl; txerr = refl; rs = refl; ts = refl }
-step_alike p (Command value) Done none = record { rxerr = refl; txerr = refl; rs = refl; ts = refl }
-step_alike p Start other none = all_alike p
-step_alike p Stop other none = all_alike p
-step_alike p (Write address value) other none = all_alike p
-step_alike p (Load m) other none = all_alike p
-step_alike p (Command value) other none = all_alike p
-step_alike p Window answer none = all_alike p
-step_alike p Release answer none = all_alike p
-step_alike p (Await count) answer none = all_alike p
-step_alike p Sent answer none = all_alike p
-
--- a step that gives nothing leaves a port that shows the record
-pub shows_on : (j : List Entry) (p q : Registers) (one : Step) (answer : StepAnswer) → carried p one answer ≡ [] →
-    q ≡ ported p one answer → ShowsRecord j p → ShowsRecord j q
-shows_on j p q one answer none left h =
-    let same = step_alike p one answer none in record {
-      rxerr = λ t s. h.rxerr t s ∙ same.rxerr ∙ sym (ap (λ (r : Registers). r.rxerr) left);
-      txerr = λ t s. h.txerr t s ∙ same.txerr ∙ sym (ap (λ (r : Registers). r.txerr) left);
-      rs = λ t s. h.rs t s ∙ same.rs ∙ sym (ap (λ (r : Registers). r.rs) left);
-      ts = λ t s. h.ts t s ∙ same.ts ∙ sym (ap (λ (r : Registers). r.ts) left);
-    }

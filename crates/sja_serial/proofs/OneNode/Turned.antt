@@ -46,7 +46,7 @@ use Rattle.sja_driver.proofs.Deeds.FirstSteps.{first_more}
 use Rattle.sja_serial.proofs.OneNode.Gathered.{items_are, linked_after}
 use Rattle.sja_log.proofs.Trace.TbsAndAbort.{tbs_right}
 use Rattle.sja_serial.proofs.OneNode.Done.{at_most_one, is_read, opened_most, doing}
-use Rattle.sja_serial.proofs.OneNode.Shown.{shows_on}
+use Rattle.sja_serial.proofs.OneNode.StillShown.{shows_on}
 
 -- ---- a step and a taking
 
@@ -126,7 +126,8 @@ module _ (version : ℕ) (steps : List Step) (j k : List Entry) (deeds : List De
         shows = λ same shown.
             let none = none_entered j k d.gave entered same in
             subst (λ (l : List Entry). ShowsRecord l q) (sym same)
-            (shows_on j p q d.step d.answer (sym next.gave ∙ none) next.left shown);
+            (shows_on j p q d.step d.answer (is_active deeds) (seen_now (is_active deeds) j deeds) next.tells
+            (sym next.gave ∙ none) next.left shown);
       }
 
 -- ---- a taking where no deed was done

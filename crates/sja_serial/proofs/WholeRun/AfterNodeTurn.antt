@@ -16,7 +16,6 @@ use Rattle.sja_script.specs.declared.step.Step.TheVariants.{Start, Stop, Window,
 use Rattle.sja_script.specs.declared.step.Step.TheVariants.{Write, Load, Command, Await, Sent}
 use Rattle.sja_driver.specs.Deeds.{Deed, opened_by}
 use Rattle.sja_log.specs.declared.end.End.{End}
-use Rattle.sja_log.specs.Moments.{record_at}
 use Rattle.sja_log.specs.Resting.{IsHolding}
 use Rattle.sja_log.specs.Turns.{Progress, with_steps, IsUnmet, IsStuck, DoesSteps, RunsTo}
 use Rattle.sja_log.specs.Turns.RunsTo.{node}

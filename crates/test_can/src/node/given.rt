@@ -43,8 +43,13 @@ pub fn started(config: Config) -> Node {
 
 /// A stop, and a start without a special mode. A node that is stopped may be stopped again.
 pub fn restart(node: &mut Node) {
+    restart_with(node, PLAIN);
+}
+
+/// A stop, and a start of this kind.
+pub fn restart_with(node: &mut Node, config: Config) {
     node.stop();
-    node.start(PLAIN);
+    node.start(config);
 }
 
 /// A request for the frame of a message, to be tried again until it is sent.

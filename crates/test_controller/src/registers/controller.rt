@@ -72,6 +72,11 @@ impl Controller {
         self.port.command(value)
     }
 
+    /// Whether the interrupt line is active.
+    pub fn irq(&self, seen: &Seen) -> bool {
+        self.port.irq(seen)
+    }
+
     /// A bit of the bus.
     pub fn bus_turn(&mut self, turn: &BusTurn) {
         self.port.bus_turn(turn);

@@ -66,6 +66,7 @@ pub fn quiet() -> BusTurn {
         },
         txerr: 0,
         rxerr: 0,
+        off: false,
         phase: Phase::Idle,
         aborted: false,
         overrun: false,

@@ -97,6 +97,7 @@ fn bus_off_enters_reset_mode(rt: HostRuntime) -> Result<(), Fail> {
     port.bus_turn(&counted(248, Phase::Idle));
     assert!(rt; port.shows(&[(IR, 0x24)]));
     let mut turn = counted(127, Phase::Reset);
+    turn.off = true;
     turn.events.went_off = true;
     turn.events.fault = Some((Cause::Bit, Segment::StartOfFrame));
     port.bus_turn(&turn);
@@ -112,17 +113,23 @@ fn bus_off_enters_reset_mode(rt: HostRuntime) -> Result<(), Fail> {
     Ok(())
 }
 
+/// The turn of an activation in which bus-off stands, with a transmit error counter of 127; it begins in reset.
+fn off(activation: u8, phase: Phase) -> BusTurn {
+    let mut turn = counted(127, phase);
+    turn.activation = activation;
+    turn.off = true;
+    turn.events.went_off = phase == Phase::Reset;
+    turn
+}
+
 /// BS stands over reset mode until the controller has recovered.
 #[test]
 fn bus_off_ends_with_an_error_warning_interrupt(rt: HostRuntime) -> Result<(), Fail> {
     let mut port = active(1);
-    let mut turn = counted(127, Phase::Reset);
-    turn.events.went_off = true;
-    port.bus_turn(&turn);
+    port.bus_turn(&off(1, Phase::Reset));
     port.leave_reset();
     port.write(IER, 0x04)?;
-    turn = counted(127, Phase::Waiting);
-    turn.activation = 2;
+    let mut turn = off(2, Phase::Waiting);
     port.bus_turn(&turn);
     assert!(rt; port.shows(&[(SR, 0xfc), (IR, 0x00)]));
     turn = counted(0, Phase::Idle);
@@ -130,6 +137,32 @@ fn bus_off_ends_with_an_error_warning_interrupt(rt: HostRuntime) -> Result<(), F
     turn.events.recovered = true;
     port.bus_turn(&turn);
     assert!(rt; port.shows(&[(SR, 0x0c), (IR, 0x04)]));
+    Ok(())
+}
+
+/// In version 3 beginning and end of a bus-off that are told after their activation was left show with the first turn
+/// of the next one.
+#[test]
+fn a_bus_off_that_is_told_late_shows_in_the_next_activation(rt: HostRuntime) -> Result<(), Fail> {
+    let mut port = active(3);
+    port.write(IER, 0x04)?;
+    port.enter_reset();
+    port.leave_reset();
+    port.bus_turn(&off(1, Phase::Reset));
+    assert!(rt; port.shows(&[(SR, 0x3c), (IR, 0x00), (TXERR, 0x00)]));
+    port.bus_turn(&off(2, Phase::Waiting));
+    assert!(rt; port.shows(&[(SR, 0xfc), (IR, 0x04), (TXERR, 0x7f)]));
+    port.enter_reset();
+    port.leave_reset();
+    let mut turn = counted(0, Phase::Idle);
+    turn.activation = 2;
+    turn.events.recovered = true;
+    port.bus_turn(&turn);
+    assert!(rt; port.shows(&[(SR, 0xfc), (IR, 0x00), (TXERR, 0x7f)]));
+    turn = counted(0, Phase::Waiting);
+    turn.activation = 3;
+    port.bus_turn(&turn);
+    assert!(rt; port.shows(&[(SR, 0x3c), (IR, 0x04), (TXERR, 0x00)]));
     Ok(())
 }
 
@@ -183,6 +216,24 @@ fn a_turn_into_reset_mode_brings_no_event(rt: HostRuntime) -> Result<(), Fail> {
     ];
     assert!(rt; port.shows(&rows));
     Ok(())
+}
+
+/// In version 3 RS and TS stand at 1 in reset mode, and a late turn of the activation before doesn't move them either.
+#[test]
+fn a_late_turn_tells_no_role_in_version_3(rt: HostRuntime) {
+    for (version, status) in [(1, 0x2c), (2, 0x2c), (3, 0x3c)] {
+        let mut port = active(version);
+        let mut turn = counted(0, Phase::Frame);
+        port.enter_reset();
+        port.bus_turn(&turn);
+        assert!(rt; port.shows(&[(SR, status)]), "{version}");
+        port.leave_reset();
+        port.bus_turn(&turn);
+        assert!(rt; port.shows(&[(SR, status)]), "{version}");
+        turn.activation = 2;
+        port.bus_turn(&turn);
+        assert!(rt; port.shows(&[(SR, 0x2c)]), "{version}");
+    }
 }
 
 /// An abort that dropped the request is over, and the next one has to be commanded.

@@ -9,8 +9,9 @@ invariant_of-result c =
     let (nodes, few) = c.in_ok-counts.ensures.ok in
     let count = zip_length _ _ _ c.in_ok-nodes.ensures.ok in
     let turns = zip_length _ _ _ c.in_ok-turns.ensures.ok in
+    let last = c.in_ok-settings.ensures.version.2 in
     record {
-      version = (c.in_ok-settings.ensures.version.1, c.in_ok-settings.ensures.version.2);
+      version = (c.in_ok-settings.ensures.version.1, omega (arith, last));
       bits = (c.in_ok-settings.ensures.bits.1, c.in_ok-settings.ensures.bits.2);
       nodes = (omega (arith, count, nodes.0), omega (arith, count, nodes.1));
       steps = few_read SaysStep _ _ c.in_ok-nodes.ensures.ok few;

@@ -1,4 +1,4 @@
-use Rattle.std.proofs.Common.{ap, sym, ◌∙◌, arith, false}
+use Rattle.std.proofs.Common.{ap, sym, ◌∙◌, arith}
 use Rattle.sja_regs.specs.declared.mode.Mode.{Mode}
 use Rattle.sja_raw.specs.CommandWrites.{releases, command_byte, command_steps}
 use Rattle.sja_raw.proofs.After.{commanded}

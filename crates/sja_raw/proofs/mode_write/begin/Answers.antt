@@ -1,4 +1,4 @@
-use Rattle.std.proofs.Common.{◌∷◌, [], ap, ◌∙◌, arith, true}
+use Rattle.std.proofs.Common.{◌∷◌, [], ap, ◌∙◌, arith}
 use Rattle.sja_script.specs.declared.step.Step.TheVariants.{Start}
 use Rattle.sja_regs.specs.declared.mode.Mode.{Mode}
 use Rattle.sja_regs.specs.Modes.{mode_of}
@@ -29,14 +29,21 @@ start-requires-then-try_step-clause-room g c =
 pub start-requires-then-try_step-clause-reset : goal.start-requires-then-try_step-clause-reset
 start-requires-then-try_step-clause-reset g c =
     let eight = c.requires.room.eight in
-    (written c.try_step.ensures.steps c.if-try_step.true (omega (arith, eight))
-    (ap (λ n. (mode_of n).rm) c.reset_byte.ensures ∙ reset_back c.args.new) c.requires.reset).0
+    ((written c.try_step.ensures.steps c.if-try_step.true (omega (arith, eight))
+    (ap (λ n. (mode_of n).rm) c.reset_byte.ensures ∙ reset_back c.args.new) (c.requires.reset, c.requires.forced)).0).0
+
+pub start-requires-then-try_step-clause-forced : goal.start-requires-then-try_step-clause-forced
+start-requires-then-try_step-clause-forced g c =
+    let eight = c.requires.room.eight in
+    ((written c.try_step.ensures.steps c.if-try_step.true (omega (arith, eight))
+    (ap (λ n. (mode_of n).rm) c.reset_byte.ensures ∙ reset_back c.args.new) (c.requires.reset, c.requires.forced)).0).1
 
 pub start-requires-then-try_step-clause-closed : goal.start-requires-then-try_step-clause-closed
 start-requires-then-try_step-clause-closed g c =
     let eight = c.requires.room.eight in
     (written c.try_step.ensures.steps c.if-try_step.true (omega (arith, eight))
-    (ap (λ n. (mode_of n).rm) c.reset_byte.ensures ∙ reset_back c.args.new) c.requires.reset).1 ∙ c.requires.closed
+    (ap (λ n. (mode_of n).rm) c.reset_byte.ensures ∙ reset_back c.args.new) (c.requires.reset, c.requires.forced)).1
+    ∙ c.requires.closed
 
 pub returns-then-try_step-clause-keeps : goal.returns-then-try_step-clause-keeps
 returns-then-try_step-clause-keeps g c =
@@ -65,4 +72,5 @@ returns-else-try_step-clause-writes g c =
     (waits_at c.try_step.ensures.steps c.if-try_step.false (omega (arith, eight)) 0 c.operating_byte.result (Start ∷ [])
     (both_left c.args.port.now _ c.args.new c.is_other_mode.result c.reset_byte.result c.operating_byte.result
     (c.is_other_mode.ensures ∙ ap (λ (m : Mode). is_other_mode m c.args.new) c.mode_in-now.ensures)
-    c.if-not-is_other_mode.false c.reset_byte.ensures c.operating_byte.ensures c.requires.reset c.requires.closed))
+    c.if-not-is_other_mode.false c.reset_byte.ensures c.operating_byte.ensures c.requires.reset
+    c.requires.forced c.requires.closed))

@@ -1,7 +1,7 @@
 use Rattle.std.proofs.Common.{sym, ap, ◌∙◌, arith}
 use Rattle.sja_regs.specs.declared.registers.Registers.{Registers}
 use Rattle.sja_raw.specs.ModeWrites.{leaving}
-use Rattle.sja_raw.proofs.After.{stopped}
+use Rattle.sja_raw.proofs.After.{stopped, entered_again}
 use Rattle.sja_raw.proofs.Chain.{waits_at, then_at, all_left}
 use Rattle.sja_raw.proofs.Keeping.{keeps_more, keeps_then, may_less}
 use Rattle.sja_raw.proofs.mode_write.leave_reset.Goals as goal
@@ -24,6 +24,12 @@ begin-requires-then-try_step-clause-reset g c =
     let eight = c.requires.room.eight in
     ap (λ (r : Registers). r.mode.rm) ((stopped c.try_step.ensures.steps c.if-try_step.true (omega (arith, eight))
     (sym c.is_out.ensures ∙ c.if-not-is_out.false)).0)
+
+pub begin-requires-then-try_step-clause-forced : goal.begin-requires-then-try_step-clause-forced
+begin-requires-then-try_step-clause-forced g c =
+    let eight = c.requires.room.eight in
+    entered_again c.args.port.now _ ((stopped c.try_step.ensures.steps c.if-try_step.true (omega (arith, eight))
+    (sym c.is_out.ensures ∙ c.if-not-is_out.false)).0) c.requires.reset c.requires.forced
 
 pub begin-requires-then-try_step-clause-closed : goal.begin-requires-then-try_step-clause-closed
 begin-requires-then-try_step-clause-closed g c =
@@ -56,4 +62,5 @@ returns-else-try_step-clause-writes g c =
     let out = sym c.is_out.ensures ∙ c.if-not-is_out.false in
     rw out (waits_at c.try_step.ensures.steps c.if-try_step.false (omega (arith, eight)) 0 c.operating_byte.result
     (leaving c.args.port.now.mode c.args.new)
-    (all_left c.args.port.now _ c.args.new c.operating_byte.result c.operating_byte.ensures c.requires.reset out))
+    (all_left c.args.port.now _ c.args.new c.operating_byte.result c.operating_byte.ensures c.requires.reset
+    c.requires.forced out))

@@ -1,4 +1,7 @@
 use Rattle.std.proofs.Common.{arith}
+use Rattle.sja_driver.specs.AnyDrivers.{is_out}
+use Rattle.sja_driver.specs.LoggedDrivers.{driver_of}
+use Rattle.sja_raw.proofs.Chain.{others_so}
 use Rattle.sja_raw.proofs.Keeping.{keeps_more, may_less}
 use Rattle.sja_raw.proofs.writing.write_typed.Goals as goal
 
@@ -19,3 +22,9 @@ pub returns-in_default-clause-keeps : goal.returns-in_default-clause-keeps
 returns-in_default-clause-keeps g c =
     keeps_more g.E.DriverEnd.link g.E.DriverEnd.same c.args.typed.now _ c.args.links.now _
     c.args.base 1 3 (omega arith) c.single.ensures.keeps
+
+pub returns-in_default-clause-writes : goal.returns-in_default-clause-writes
+returns-in_default-clause-writes g c =
+    let so = others_so c.args.port.now (is_out (driver_of c.args.typed.now)) c.args.address c.args.value
+    (λ e. omega (arith, e)) (λ e. omega (arith, e)) in
+    rw so (c.single.ensures.writes c.args.address so)

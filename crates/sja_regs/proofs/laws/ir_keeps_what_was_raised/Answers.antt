@@ -1,5 +1,9 @@
-use Rattle.sja_regs.proofs.HistoryLemmas.{pending_latched}
+use Rattle.sja_regs.proofs.HistoryLemmas.{pending_latched, keep_pending}
 use Rattle.sja_regs.proofs.laws.ir_keeps_what_was_raised.Goals as goal
 
-pub returns : goal.returns
-returns c = pending_latched
+pub returns-clause-kept : goal.returns-clause-kept
+returns-clause-kept c = pending_latched
+
+pub returns-clause-earlier : goal.returns-clause-earlier
+returns-clause-earlier c = λ p calls raw earlier unread. pending_latched p calls unread
+    (keep_pending p calls raw earlier)

@@ -11,7 +11,7 @@ returns c =
     let same : c.min.result ≡ c.counters-counters.result.tec = search (rules, below) in record {
       activation = c.activation.ensures;
       events_are = refl;
-      counters = λ entries found h. let s = counts entries found h in (same ∙ s.0, s.1);
+      counters = λ entries found h. let s = counts entries found h in (same ∙ s.0, s.1, s.2);
       phase = c.phase.ensures.phase;
       aborted = c.has_dropped.ensures;
       overrun_is = refl;

@@ -14,9 +14,10 @@ returns-in_default c = λ before h.
     let few : c.in_ok-self.field-0 < 2 ^ 32 = search rules in
     untold_bit c.args.self.now
     (record c.args.self.now { node = c.sample-events.new.self; bits = c.in_ok-self.field-0; aborted = false })
-    c.close.new.self before c.args.driven c.args.seen c.drive.result c.sample-events.result c.in_default.field-0 h
-    c.drive.ensures (c.is_same.ensures.yes c.if-not-is_same.false) c.sample-events.ensures.samples
-    c.in_default.ensures (record {
+    c.close.new.self before c.args.driven c.args.seen c.drive.result
+    c.of-before.result c.sample-events.result c.of-after.result c.in_default.field-0 h c.drive.ensures
+    (c.is_same.ensures.yes c.if-not-is_same.false) c.sample-events.ensures.samples c.of-before.ensures
+    c.of-after.ensures c.in_default.ensures (record {
       bits = bits;
       few = few;
       aborted = refl;
@@ -30,9 +31,10 @@ pub returns : goal.returns
 returns c = λ before h.
     let bits : c.in_ok-self.field-0 ≡ c.args.self.now.bits + 1 = search rules in
     let few : c.in_ok-self.field-0 < 2 ^ 32 = search rules in
-    told_bit c.args.self.now _ c.close.new.self before c.args.driven c.args.seen c.drive.result c.sample-events.result
-    c.in-Ok.fate h c.drive.ensures (c.is_same.ensures.yes c.if-not-is_same.false) c.sample-events.ensures.samples
-    c.in-Ok.ensures (record {
+    told_bit c.args.self.now _ c.close.new.self before c.args.driven c.args.seen c.drive.result
+    c.of-before.result c.sample-events.result c.of-after.result c.in-Ok.fate h c.drive.ensures
+    (c.is_same.ensures.yes c.if-not-is_same.false) c.sample-events.ensures.samples c.of-before.ensures
+    c.of-after.ensures c.in-Ok.ensures (record {
       bits = bits;
       few = few;
       aborted = refl;

@@ -1,5 +1,5 @@
 use Rattle.std.proofs.Common.{rules, ◌≡◌, ◌≤◌, ◌<◌, ℕ, ◌-◌, List, length, sym, ◌∙◌, subst, arith, inl, inr}
-use Rattle.std.specs.Prelude.{true, reverse}
+use Rattle.std.specs.Prelude.{reverse}
 use Rattle.sja_plan.specs.declared.turn.Turn.{Turn}
 use Rattle.sja_plan.specs.declared.turn.Turn.TheVariants.{Bus}
 use Rattle.sja_driver.specs.Deeds.{Deed}

@@ -1,0 +1,81 @@
+-- A try of a write: what the port answers and leaves, with the link as it was.
+use Rattle.std.proofs.Common.{◌≡◌, ◌+◌, ℕ, List, [], ◌++◌, refl, sym, ap, ◌∙◌, subst, add-zero, append-nil}
+use Rattle.std.specs.Prelude.{Result, Ok, Err}
+use Rattle.sja_link.specs.Lists.{Lists}
+use Rattle.sja_regs.specs.declared.reg_fault.RegFault.{RegFault}
+use Rattle.sja_regs.specs.declared.registers.Registers.{Registers}
+use Rattle.sja_regs.specs.Refusals.{fault_of}
+use Rattle.sja_script.specs.declared.step.Step.TheVariants.{Write}
+use Rattle.sja_driver.specs.declared.any_driver.AnyDriver.{AnyDriver}
+use Rattle.sja_driver.specs.declared.any_driver.AnyDriver.TheVariants.{InReset, InActive}
+use Rattle.sja_driver.specs.Acting.{Acts, Does}
+use Rattle.sja_driver.specs.AnyDrivers.{IsDriverOf, held_of, off_of, opened_of}
+use Rattle.sja_driver.specs.Answers.{done_answer, done_unless}
+use Rattle.sja_driver.specs.Calls.{Writes}
+use Rattle.sja_driver.specs.Carried.{ported}
+use Rattle.sja_driver.specs.Giving.{IsGiven}
+use Rattle.sja_driver.specs.Tries.Tried.{Answered}
+
+-- a write leaves what its answer says
+left : {A : Type 0} (p q : Registers) (address value : ℕ) (result : Result A RegFault) →
+    Writes p q address value result → q ≡ ported p (Write address value) (done_answer result)
+left p q address value (Ok x) w = w.written
+left p q address value (Err fault) w = w.unchanged
+
+answered : {A : Type 0} (result : Result A RegFault) → done_answer result ≡ done_unless (fault_of result)
+answered (Ok x) = refl
+answered (Err fault) = refl
+
+-- an end that was left alone
+gives_none : {E : Type 0} (stands : E → Lists → Type 0) (e : E) → IsGiven stands e e []
+gives_none stands e l h =
+    subst (λ xs. stands e (record l { given = xs })) (sym (append-nil l.given)) h
+
+does_none : {E : Type 0} (stands : E → Lists → Type 0) (e : E) (held : List (List ℕ)) (off : _) →
+    Does stands e e held held off off [] []
+does_none stands e held off = record {
+  got = [];
+  lists = λ l h. subst (λ xs. stands e (record l { got = xs; given = l.given ++ [] })) (sym (append-nil l.got))
+      (gives_none stands e l h);
+  told = sym (append-nil held);
+  off_is = refl;
+}
+
+same_place : (d : AnyDriver) (node n : ℕ) → IsDriverOf node n d → IsDriverOf node (n + 0) d
+same_place d node n h = subst (λ (k : ℕ). IsDriverOf node k d) (sym (add-zero n)) h
+
+module _ {E : Type 0} (alike : E → E → Type 0) (stands : E → Lists → Type 0) (dry full : E → Type 0) (e : E)
+    (p q : Registers) (address value : ℕ) {A : Type 0} (result : Result A RegFault)
+    (w : Writes p q address value result) where
+  pub wrote_acts : (d : AnyDriver) →
+      Acts alike stands dry full e e p q (Write address value) d d (Answered (done_answer result))
+  wrote_acts (InReset d) = record {
+    does = does_none stands e (held_of (InReset d)) (off_of (InReset d));
+    still = (gives_none stands e, refl, refl);
+    port = left p q address value result w;
+    fits = tt;
+    sees = tt;
+    tells = answered result ∙ ap done_unless w.refused;
+    looks = tt;
+    waits = tt;
+    kind = refl;
+    out = refl;
+    opens = sym (add-zero (opened_of (InReset d)));
+    place = same_place (InReset d);
+    quiet = refl;
+  }
+  wrote_acts (InActive d) = record {
+    does = does_none stands e (held_of (InActive d)) (off_of (InActive d));
+    still = (gives_none stands e, refl, refl);
+    port = left p q address value result w;
+    fits = tt;
+    sees = tt;
+    tells = answered result ∙ ap done_unless w.refused;
+    looks = tt;
+    waits = tt;
+    kind = refl;
+    out = refl;
+    opens = sym (add-zero (opened_of (InActive d)));
+    place = same_place (InActive d);
+    quiet = tt;
+  }

@@ -1,0 +1,5 @@
+pub mod Bits
+pub mod Walks
+pub mod Nodes
+pub mod Orders
+pub mod Stuffs

@@ -1,0 +1,10 @@
+use Rattle.std.proofs.Common.{◌≡◌, take}
+use Rattle.sja_frames.proofs.Nodes.{HaveSome}
+use Rattle.sja_frames.proofs.frame_list.lines_of.Given as goal
+
+-- those of the nodes so far
+abbrev pub invariant-loop-node : goal.invariant-loop-node
+invariant-loop-node l = record {
+  some : HaveSome (take l.node-index l.nodes) l.number l.lines.items;
+  number : l.number ≡ l.node-index;
+}

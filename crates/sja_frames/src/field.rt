@@ -1,0 +1,152 @@
+//! [`Field`]: the fields of a frame.
+
+use can_bits::Segment;
+use can_node::Phase;
+use sja_replay::Happening;
+
+/// The fields of a frame (Bosch CAN 2.0 part A section 3.1.1 and part B section 3.2), and the intermission after it.
+#[derive(Clone, Copy, Debug)]
+pub(crate) enum Field {
+    /// SOF.
+    Start,
+    /// The identifier of a standard frame, or the base identifier of an extended one.
+    Identifier,
+    /// RTR of a standard frame, or SRR of an extended one.
+    FirstRemote,
+    /// IDE.
+    Format,
+    /// The identifier extension.
+    Extension,
+    /// RTR of an extended frame.
+    SecondRemote,
+    /// Reserved bit 1.
+    SecondReserved,
+    /// Reserved bit 0.
+    FirstReserved,
+    /// DLC.
+    Length,
+    /// The data field.
+    Bytes,
+    /// The CRC sequence.
+    Check,
+    /// The CRC delimiter.
+    CheckEnd,
+    /// The ACK slot.
+    Slot,
+    /// The ACK delimiter.
+    SlotEnd,
+    /// EOF.
+    End,
+    /// Intermission.
+    Pause,
+}
+
+/// The fields after SOF, in the order in which they come.
+pub(crate) const FIELDS: [Field; 15] = [
+    Field::Identifier,
+    Field::FirstRemote,
+    Field::Format,
+    Field::Extension,
+    Field::SecondRemote,
+    Field::SecondReserved,
+    Field::FirstReserved,
+    Field::Length,
+    Field::Bytes,
+    Field::Check,
+    Field::CheckEnd,
+    Field::Slot,
+    Field::SlotEnd,
+    Field::End,
+    Field::Pause,
+];
+
+impl Field {
+    ghost use Rattle.std.specs.Prelude.{◌≡◌};
+    ghost use Rattle.sja_frames.specs.FrameBits.{field_in};
+    ghost use Rattle.sja_frames.specs.Fields.{field_if, field_of, place_of, are_one, is_stuffed};
+
+    /// The field of a bit after SOF.
+    pub(crate) fn of(bit: &Happening) -> Field
+        ensures { result ≡ field_in bit.now }
+    {
+        match bit.before.phase {
+            Phase::Intermission => Field::Pause,
+            _ => Field::of_segment_if(bit.before.segment),
+        }
+    }
+
+    /// The field of a bit that belongs to a segment, or to none.
+    fn of_segment_if(segment: Option<Segment>) -> Field
+        ensures { result ≡ field_if segment }
+    {
+        match segment {
+            Some(segment) => Field::of_segment(segment),
+            None => Field::Pause,
+        }
+    }
+
+    /// The field that a segment of the error code capture belongs to (SJA1000 data sheet, 6.4.9).
+    fn of_segment(segment: Segment) -> Field
+        ensures { result ≡ field_of segment }
+    {
+        match segment {
+            Segment::StartOfFrame => Field::Start,
+            Segment::Id28To21 | Segment::Id20To18 => Field::Identifier,
+            Segment::RtrStandard => Field::FirstRemote,
+            Segment::Ide => Field::Format,
+            Segment::Id17To13 | Segment::Id12To5 | Segment::Id4To0 => Field::Extension,
+            Segment::RtrExtended => Field::SecondRemote,
+            Segment::Reserved1 => Field::SecondReserved,
+            Segment::Reserved0 => Field::FirstReserved,
+            Segment::LengthCode => Field::Length,
+            Segment::Data => Field::Bytes,
+            Segment::CheckSequence => Field::Check,
+            Segment::CheckDelimiter => Field::CheckEnd,
+            Segment::AckSlot => Field::Slot,
+            Segment::AckDelimiter => Field::SlotEnd,
+            Segment::EndOfFrame => Field::End,
+            Segment::ActiveErrorFlag | Segment::Delimiter | Segment::OverloadFlag => Field::Pause,
+        }
+    }
+
+    /// Its place in the order of fields.
+    fn place(self) -> u8
+        ensures { result ≡ place_of self }
+    {
+        match self {
+            Field::Start => 0,
+            Field::Identifier => 1,
+            Field::FirstRemote => 2,
+            Field::Format => 3,
+            Field::Extension => 4,
+            Field::SecondRemote => 5,
+            Field::SecondReserved => 6,
+            Field::FirstReserved => 7,
+            Field::Length => 8,
+            Field::Bytes => 9,
+            Field::Check => 10,
+            Field::CheckEnd => 11,
+            Field::Slot => 12,
+            Field::SlotEnd => 13,
+            Field::End => 14,
+            Field::Pause => 15,
+        }
+    }
+
+    /// Whether two fields are one.
+    pub(crate) fn is(self, other: Field) -> bool
+        ensures { result ≡ are_one self other }
+    {
+        self.place() == other.place()
+    }
+
+    /// Whether it is coded by bit stuffing (Bosch CAN 2.0 part A section 5).
+    pub(crate) fn is_stuffed(self) -> bool
+        ensures { result ≡ is_stuffed self }
+    {
+        !matches!(
+            self,
+            Field::CheckEnd | Field::Slot | Field::SlotEnd | Field::End | Field::Pause
+        )
+    }
+}

@@ -1,0 +1,41 @@
+//! [`FrameBit`]: a bit of a frame.
+
+use super::field::Field;
+use super::run::Run;
+use sja_replay::Happening;
+
+/// A bit of a frame after SOF.
+#[derive(Clone, Copy, Debug)]
+pub(crate) struct FrameBit {
+    /// Its number.
+    pub(crate) bit: u32,
+    /// The field that it belongs to.
+    pub(crate) field: Field,
+    /// Whether it is a stuff bit.
+    pub(crate) stuff: bool,
+}
+
+impl FrameBit {
+    ghost use Rattle.std.specs.Prelude.{◌≡◌};
+    ghost use Rattle.sja_frames.specs.FrameBits.{bit_after};
+    ghost use Rattle.sja_frames.specs.FieldTexts.{is_of};
+
+    /// A bit after this run of equal levels.
+    pub(crate) fn after(run: Run, bit: &Happening) -> FrameBit
+        ensures { result ≡ bit_after run bit.now }
+    {
+        let field = Field::of(bit);
+        FrameBit {
+            bit: bit.bit,
+            field,
+            stuff: field.is_stuffed() && run.is_full(),
+        }
+    }
+
+    /// Whether it belongs to this field.
+    pub(crate) fn is_of(&self, field: Field) -> bool
+        ensures { result ≡ is_of field self.now }
+    {
+        self.field.is(field)
+    }
+}

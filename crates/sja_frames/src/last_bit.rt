@@ -1,0 +1,44 @@
+//! [`LastBit`]: the last bit of a frame.
+
+use super::ending::Ending;
+use can_bits::Segment;
+use can_node::{Cause, Phase};
+use sja_replay::Happening;
+
+/// The last bit of a frame, and how the frame ended with it.
+#[derive(Clone, Copy, Debug)]
+pub(crate) struct LastBit {
+    pub(crate) bit: u32,
+    pub(crate) ending: Ending,
+}
+
+impl LastBit {
+    ghost use Rattle.std.specs.Prelude.{◌≡◌};
+    ghost use Rattle.sja_trace.specs.Events.{is_frame};
+    ghost use Rattle.sja_frames.specs.FrameEnds.{ends_in};
+
+    /// A bit of a frame, if no other comes after it.
+    pub(crate) fn of(bit: &Happening) -> LastBit
+        ensures { result ≡ ends_in bit.now }
+    {
+        let going = matches!(bit.after.phase, Phase::Frame);
+        LastBit {
+            bit: bit.bit,
+            ending: ending_of(bit.events.lost, bit.events.fault, going),
+        }
+    }
+}
+
+ghost use Rattle.std.specs.Prelude.{◌≡◌};
+ghost use Rattle.sja_frames.specs.FrameEnds.{ending_of};
+
+/// How a frame ends with a bit that brought this, and after which the node is in the frame or not.
+fn ending_of(lost: Option<u8>, fault: Option<(Cause, Segment)>, going: bool) -> Ending
+    ensures { result ≡ ending_of lost fault going }
+{
+    match (lost, fault) {
+        (Some(code), _) => Ending::Lost(code),
+        (None, Some((cause, segment))) => Ending::Broken(cause, segment),
+        (None, None) => if going { Ending::CutOff } else { Ending::Whole },
+    }
+}

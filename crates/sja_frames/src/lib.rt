@@ -1,0 +1,25 @@
+//! The frames that the nodes of a run start: of each the bits of its fields and its stuff bits, and how it ended.
+//!
+//! [`frames`] makes of the log of a run a text with a line for each frame, so that a strike can be aimed at a field.
+//! Which bits a frame has and how it ended is told by the cut of its node's record, as `sja_replay` tells it.
+//!
+//! `specs/FrameBits.antt`, `specs/FrameEnds.antt` and `specs/FrameStories.antt` say which bits a frame has, and
+//! `specs/FramesText.antt` the text line by line. The tests stand in `crates/test_frame_list`.
+#![tactic(auto)]
+
+mod ending;
+mod field;
+mod field_names;
+mod field_texts;
+mod frame_bit;
+mod frame_line;
+mod frame_list;
+mod last_bit;
+mod laws;
+mod open_frame;
+mod run;
+mod starts;
+mod walk;
+
+pub use frame_list::frames;
+pub use laws::a_stuff_bit_is_one_of_the_line;

@@ -1,0 +1,59 @@
+//! Where frames begin, and which bits belong to them.
+
+ghost use Rattle.std.specs.Prelude.{◌≡◌};
+ghost use Rattle.sja_trace.specs.Events.{is_frame};
+ghost use Rattle.sja_frames.specs.FrameBits.{started_by, frame_in, is_intermission, is_within, belongs};
+
+use can_frame::Frame;
+use can_node::{Phase, Request};
+use sja_replay::Happening;
+use sja_trace::is_start;
+
+/// The frame whose SOF the bit is, where the node is its transmitter from then on.
+pub(crate) fn started_by(bit: &Happening) -> Option<Frame>
+    ensures { result ≡ started_by bit.now }
+{
+    if is_start(bit) && bit.after.transmits {
+        frame_in(&bit.before.held)
+    } else {
+        None
+    }
+}
+
+/// The frame of a request, if there is one.
+fn frame_in(held: &Option<Request>) -> Option<Frame>
+    ensures { result ≡ frame_in held.now }
+{
+    match held {
+        Some(request) => Some(request.frame.copy()),
+        None => None,
+    }
+}
+
+/// Whether a bit belongs to a frame or the intermission after it, where intermission began or not.
+pub(crate) fn belongs(paused: bool, bit: &Happening) -> bool
+    ensures { result ≡ belongs paused bit.now }
+{
+    is_intermission(bit.before.phase) || (!paused && is_within(bit))
+}
+
+/// Whether the bit belongs to the frame itself.
+pub(crate) fn is_within(bit: &Happening) -> bool
+    ensures { result ≡ is_within bit.now }
+{
+    is_frame(bit.before.phase) && bit.before.transmits
+}
+
+/// Whether a bit in this phase belongs to a frame.
+pub(crate) fn is_frame(phase: Phase) -> bool
+    ensures { result ≡ is_frame phase }
+{
+    matches!(phase, Phase::Frame)
+}
+
+/// Whether it belongs to intermission (Bosch CAN 2.0 part A section 3.1.5).
+pub(crate) fn is_intermission(phase: Phase) -> bool
+    ensures { result ≡ is_intermission phase }
+{
+    matches!(phase, Phase::Intermission)
+}

@@ -1,0 +1,28 @@
+-- The steps of a typed driver that a write is, as values (this project's own rule).
+use Rattle.std.specs.Prelude.{◌++◌, ℕ, Option, Some, None, List, [], ◌∷◌}
+use Rattle.sja_script.specs.declared.step.Step.{Step}
+use Rattle.sja_script.specs.declared.step.Step.TheVariants.{Await, Sent}
+use Rattle.sja_raw.specs.declared.write_steps.WriteSteps.{WriteSteps}
+
+-- one step, or none
+abbrev pub listed : Option Step → List Step
+listed None = []
+listed (Some step) = step ∷ []
+
+-- those of a write, in order
+abbrev pub steps_in : WriteSteps → List Step
+steps_in w = listed w.first ++ (listed w.second ++ listed w.third)
+
+-- a step that never waits
+abbrev pub IsPrompt : Step → Type 0
+IsPrompt (Await count) = ⊥
+IsPrompt Sent = ⊥
+IsPrompt other = Unit {0}
+
+abbrev pub IsPromptIf : Option Step → Type 0
+IsPromptIf None = Unit {0}
+IsPromptIf (Some step) = IsPrompt step
+
+-- none of these steps waits
+abbrev pub ArePrompt : WriteSteps → Type 0
+ArePrompt w = IsPromptIf w.first × IsPromptIf w.second × IsPromptIf w.third

@@ -1,0 +1,106 @@
+//! [`WriteSteps`]: the steps of a typed driver that a write is, as values.
+
+ghost use Rattle.std.specs.Prelude.{◌≡◌, None, Some};
+ghost use Rattle.sja_regs.specs.Commands.{command_of};
+ghost use Rattle.sja_regs.specs.Registers.{is_forced};
+ghost use Rattle.sja_driver.specs.AnyDrivers.{is_out};
+ghost use Rattle.sja_driver.specs.LoggedDrivers.{driver_of, IsLawful};
+ghost use Rattle.sja_raw.specs.CommandWrites.{command_steps};
+ghost use Rattle.sja_raw.specs.ModeWrites.{mode_steps};
+ghost use Rattle.sja_raw.specs.WriteLists.{ArePrompt, steps_in};
+ghost use Rattle.sja_raw.specs.Writes.{write_steps};
+
+use super::command_write::{command_byte, doable};
+use super::mode_write::{is_other_mode, is_written, reset_byte};
+use super::trying::{is_out, mode_in};
+use sja_driver::LoggedDriver;
+use sja_regs::address::{CMR, MOD};
+use sja_regs::{Command, Mode, Port};
+use sja_script::Step;
+
+/// The steps of a typed driver that a write is, in order, at most three (this project's own rule). None of them waits.
+#[derive(Debug, PartialEq, Eq, Drop)]
+pub struct WriteSteps {
+    /// The first one, if any.
+    pub first: Option<Step>,
+    /// The one after it.
+    pub second: Option<Step>,
+    /// The last one.
+    pub third: Option<Step>,
+}
+
+/// The steps that a write of a byte to an address is, for this driver at these registers: what
+/// [`RawDriver::write`](super::raw_driver::RawDriver::write) does one after the other.
+pub fn steps_of_write(typed: &LoggedDriver, port: &Port, address: u8, value: u8) -> WriteSteps
+    requires { IsLawful typed.now }
+    ensures are { steps_in result ≡ write_steps port.now (is_out (driver_of typed.now)) address value }
+    ensures prompt { ArePrompt result }
+{
+    match address {
+        MOD => mode_steps(port, is_out(typed), value),
+        CMR => command_steps(port, Command::of(value)),
+        _ => alone(Step::Write(address, value)),
+    }
+}
+
+/// Those of a write of MOD.
+fn mode_steps(port: &Port, out: bool, value: u8) -> WriteSteps
+    ensures are { steps_in result ≡ mode_steps port.now.mode (is_forced port.now) out value }
+    ensures prompt { ArePrompt result }
+{
+    let new = Mode::of(value);
+    if is_written(port, new) {
+        return alone(Step::Write(MOD, value));
+    }
+    if new.rm {
+        return alone(Step::Stop);
+    }
+    WriteSteps {
+        first: if out { Some(Step::Stop) } else { None },
+        second: if is_other_mode(mode_in(port), new) {
+            Some(Step::Write(MOD, reset_byte(new)))
+        } else {
+            None
+        },
+        third: Some(Step::Start),
+    }
+}
+
+/// Those of a write of CMR.
+fn command_steps(port: &Port, command: Command) -> WriteSteps
+    ensures are { steps_in result ≡ command_steps port.now command }
+    ensures prompt { ArePrompt result }
+{
+    if mode_in(port).rm {
+        return WriteSteps {
+            first: None,
+            second: None,
+            third: None,
+        };
+    }
+    let byte = command_byte(doable(port, command));
+    WriteSteps {
+        first: if byte == 0 {
+            None
+        } else {
+            Some(Step::Command(byte))
+        },
+        second: None,
+        third: if command.rrb {
+            Some(Step::Release)
+        } else {
+            None
+        },
+    }
+}
+
+/// One step.
+fn alone(step: Step) -> WriteSteps
+    ensures { result ≡ record { first = None; second = None; third = Some step } }
+{
+    WriteSteps {
+        first: None,
+        second: None,
+        third: Some(step),
+    }
+}

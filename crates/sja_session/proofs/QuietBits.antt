@@ -1,0 +1,112 @@
+-- Bits of a session in which lines are watched.
+use Rattle.std.proofs.Common.{◌≡◌, ℕ, ◌<◌, ◌≤◌, Bool, true, false, List, length, refl, sym, ap, ◌∙◌, subst}
+use Rattle.std.proofs.Common.{arith, inl, inr}
+use Rattle.std.specs.Prelude.{Option, Some, None, ◌⊎◌, ◌&&◌, not, reverse, slice_index_or}
+use Rattle.sja_wire.specs.Wire.{journal_at}
+use Rattle.sja_plan.specs.declared.turn.Turn.TheVariants.{Bus}
+use Rattle.sja_plan.specs.Plan.{PlanValue}
+use Rattle.sja_regs.specs.InterruptLine.{is_line_active}
+use Rattle.sja_regs.specs.Registers.{at_power_on}
+use Rattle.sja_driver.specs.Deeds.{Deed, deeds_at, is_active}
+use Rattle.sja_log.specs.Registering.{seen_now}
+use Rattle.sja_serial.proofs.WholeRun.GoingOn.{bits_run}
+use Rattle.sja_session.specs.Lines.{IsStill, line_at}
+use Rattle.sja_session.specs.Running.{RunsBits, MayRun}
+use Rattle.sja_session.specs.Sessions.{SessionValue, IsAt}
+use Rattle.sja_session.specs.Turning.{goes_on_latest}
+use Rattle.sja_session.specs.Watching.{Quiet, Watches, risen, rises}
+use Rattle.sja_session.specs.Watching.Quiet.{none, look, bit}
+use Rattle.sja_session.proofs.Turned.{bits_go_on}
+
+-- one bit, where one is left
+pub one_run : (was now : SessionValue) (deeds : List (List Deed)) (run : ℕ) → RunsBits was now 1 run deeds →
+    was.run.bits < was.plan.bits → RunsBits was now 1 1 deeds
+one_run was now deeds run r less = subst (λ (n : ℕ). RunsBits was now 1 n deeds) (one r.whole) r
+  where
+    one : (run ≡ 1) ⊎ (now.run.bits ≡ was.plan.bits) → run ≡ 1
+    one (inl e) = e
+    one (inr spent) =
+        let b = bits_run was.plan deeds _ was.run now.run run r.bits in let m = r.most in
+        omega (arith, b, m, spent, less)
+
+-- ---- looks
+
+pub still_same : (s : SessionValue) (deeds : List (List Deed)) → IsAt s deeds → IsStill s s deeds
+still_same s deeds h = record { at = h; bus = refl; bits = refl; ports = refl; wrote = refl }
+
+pub still_then : {a b c : SessionValue} {deeds : List (List Deed)} → IsStill a b deeds → IsStill b c deeds →
+    IsStill a c deeds
+still_then first second = record {
+  at = second.at;
+  bus = second.bus ∙ first.bus;
+  bits = second.bits ∙ first.bits;
+  ports = second.ports ∙ first.ports;
+  wrote = second.wrote ∙ first.wrote;
+}
+
+-- a look changes no line
+pub line_still : {was now : SessionValue} {deeds : List (List Deed)} → IsStill was now deeds → (k : ℕ) →
+    line_at now deeds k ≡ line_at was deeds k
+line_still {was} {now} {deeds} s k = λ i. is_line_active (slice_index_or (s.ports i) k (at_power_on 1))
+    (seen_now (is_active (deeds_at deeds k)) (journal_at (s.bus i).journals k) (deeds_at deeds k))
+
+-- nor whether a bit may be run
+pub may_still : {was now : SessionValue} {deeds : List (List Deed)} → IsStill was now deeds → MayRun was 1 →
+    MayRun now 1
+may_still {was} {now} {deeds} s (inl (inl few)) = inl (inl few)
+may_still {was} {now} {deeds} s (inl (inr over)) =
+    let p = ap (λ (p : PlanValue). p.bits) s.wrote in let b = s.bits in inl (inr (omega (arith, over, p, b)))
+may_still {was} {now} {deeds} s (inr has) =
+    inr (subst (λ l. (length l < 10000) ⊎ (goes_on_latest (reverse l) (Bus 1) ≡ true))
+    (sym (ap (λ (p : PlanValue). p.turns) s.wrote)) has)
+
+-- ---- bits
+
+pub quiet_at : {watched : List Bool} {nodes : ℕ} {deeds : List (List Deed)} {was now : SessionValue} {n : ℕ} →
+    IsAt was deeds → Quiet watched nodes deeds was now n → IsAt now deeds
+quiet_at h none = h
+quiet_at h (look q s) = s.at
+quiet_at h (bit q r f) = r.at
+
+-- lines, as they were told before and after a bit, rise where those of the session do
+pub rises_told : (watched before now : List Bool) (was then_ : SessionValue) (deeds : List (List Deed)) (k : ℕ) →
+    slice_index_or before k false ≡ line_at was deeds k → slice_index_or now k false ≡ line_at then_ deeds k →
+    risen watched before now k ≡ rises watched was then_ deeds k
+rises_told watched before now was then_ deeds k b n =
+    λ i. slice_index_or watched k false && (not (b i) && n i)
+
+-- the bits of the plan stay
+pub quiet_bits : {watched : List Bool} {nodes : ℕ} {deeds : List (List Deed)} {was now : SessionValue} {n : ℕ} →
+    Quiet watched nodes deeds was now n → now.plan.bits ≡ was.plan.bits
+quiet_bits none = refl
+quiet_bits (look q s) = ap (λ (p : PlanValue). p.bits) s.wrote ∙ quiet_bits q
+quiet_bits (bit q r f) = ap (λ (p : PlanValue). p.bits) r.wrote ∙ quiet_bits q
+
+-- as many nodes at the same deeds
+pub nodes_same : {was now : SessionValue} {deeds : List (List Deed)} → IsAt was deeds → IsAt now deeds →
+    length now.plan.nodes ≡ length was.plan.nodes
+nodes_same h g = sym g.stands.deeds_count ∙ h.stands.deeds_count
+
+-- of several bits one
+pub may_one : (s : SessionValue) (count : ℕ) → 1 ≤ count → MayRun s count → MayRun s 1
+may_one s count some (inl (inl few)) = absurd (omega (arith, some, few))
+may_one s count some (inl (inr over)) = inl (inr over)
+may_one s count some (inr (inl less)) = inr (inl less)
+may_one s count some (inr (inr on)) = inr (inr (bits_go_on (reverse s.turns) 1 count ∙ on))
+
+-- what has risen was told
+pub risen_now : (watched before now : List Bool) (k : ℕ) → risen watched before now k ≡ true →
+    slice_index_or now k false ≡ true
+risen_now watched before now k e = by (slice_index_or watched k false) (slice_index_or before k false)
+    (slice_index_or now k false) e
+  where
+    by : (a b d : Bool) → (a && (not b && d)) ≡ true → d ≡ true
+    by true false d e = e
+    by true true d e = absurd cc
+    by false b d e = absurd cc
+
+-- where a line was watched the session stands
+pub watched_at : (was now : SessionValue) (count : ℕ) (watched : List Bool) (run : ℕ) (rose : Option ℕ)
+    (deeds : List (List Deed)) → IsAt was deeds → Watches was now count watched run rose deeds → IsAt now deeds
+watched_at was now count watched run (Some node) deeds h w = w.0.still.at
+watched_at was now count watched run None deeds h w = quiet_at h w.0

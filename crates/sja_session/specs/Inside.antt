@@ -1,0 +1,2 @@
+-- Steps that accesses do: definitions of private contracts alone.
+pub mod Accessing

@@ -1,0 +1,51 @@
+-- Bits that a session runs until an interrupt line rises (this project's own rule).
+use Rattle.std.specs.Prelude.{◌≡◌, ◌+◌, ◌≤◌, ◌<◌, ◌⊎◌, ◌&&◌, not, ℕ, Bool, true, false, Option, Some, None, List}
+use Rattle.std.specs.Prelude.{length}
+use Rattle.std.specs.Prelude.{slice_index_or}
+use Rattle.sja_driver.specs.Deeds.{Deed}
+use Rattle.sja_session.specs.Lines.{IsStill, line_at}
+use Rattle.sja_session.specs.Running.{RunsBits}
+use Rattle.sja_session.specs.Sessions.{SessionValue}
+
+-- of a place: it is watched, and was false and is true
+abbrev pub risen : List Bool → List Bool → List Bool → ℕ → Bool
+risen watched before now k =
+    slice_index_or watched k false && (not (slice_index_or before k false) && slice_index_or now k false)
+
+-- the line of a node is watched, and wasn't active before and is now
+abbrev pub rises : List Bool → SessionValue → SessionValue → List (List Deed) → ℕ → Bool
+rises watched was now deeds k = slice_index_or watched k false && (not (line_at was deeds k) && line_at now deeds k)
+
+-- so many bits were run, one after the other, in none of which the line of a watched node rose, of so many nodes and
+-- of the eight that there may be
+pub data Quiet (watched : List Bool) (nodes : ℕ) (deeds : List (List Deed)) :
+    SessionValue → SessionValue → ℕ → Type 0 where
+  none : {s : SessionValue} → Quiet watched nodes deeds s s 0
+  look : {was mid now : SessionValue} {n : ℕ} → Quiet watched nodes deeds was mid n → IsStill mid now deeds →
+      Quiet watched nodes deeds was now n
+  bit : {was mid now : SessionValue} {n : ℕ} → Quiet watched nodes deeds was mid n → RunsBits mid now 1 1 deeds →
+      ((k : ℕ) → k < nodes → k < 8 → rises watched mid now deeds k ≡ false) → Quiet watched nodes deeds was now (n + 1)
+
+-- in the last of so many bits, and in none before it, the line of a watched node rose: of this node, and of none before
+-- it
+pub record RoseLast (was now : SessionValue) (run : ℕ) (watched : List Bool) (node : ℕ) (deeds : List (List Deed)) :
+    Type 0 where
+  pub before : SessionValue
+  pub after : SessionValue
+  pub others : ℕ
+  pub quiet : Quiet watched (length was.plan.nodes) deeds was before others
+  pub bit : RunsBits before after 1 1 deeds
+  pub still : IsStill after now deeds
+  pub many : run ≡ others + 1
+  pub rose : rises watched before after deeds node ≡ true
+  pub first : (k : ℕ) → k < node → rises watched before after deeds k ≡ false
+  pub there : node < length was.plan.nodes
+
+-- what came of it: a line rose in the last bit, or none did in any, and all bits were run that were asked for, or as
+-- many as were left
+abbrev pub Watches :
+    SessionValue → SessionValue → ℕ → List Bool → ℕ → Option ℕ → List (List Deed) → Type 0
+Watches was now count watched run (Some node) deeds = RoseLast was now run watched node deeds × (run ≤ count)
+Watches was now count watched run None deeds =
+    Quiet watched (length was.plan.nodes) deeds was now run × (run ≤ count)
+    × ((run ≡ count) ⊎ (was.plan.bits ≤ now.run.bits))

@@ -1,0 +1,62 @@
+//! The bits of a session until every controller is at rest.
+
+use super::raw_session::RawSession;
+use super::rested::Rested;
+use super::session::Session;
+use super::turns::push_turn;
+use super::turns_used::TurnsUsed;
+use sja_plan::Turn;
+
+impl Session {
+    ghost use Rattle.std.specs.Prelude.{◌≡◌, List, IfOk, OnOk, OnErr};
+    ghost use Rattle.sja_driver.specs.Deeds.{Deed};
+    ghost use Rattle.sja_session.specs.Resting.{Rests};
+    ghost use Rattle.sja_session.specs.Running.{MayRun, LacksBusTurn};
+    ghost use Rattle.sja_session.specs.Sessions.{IsAt};
+
+    /// Runs bits until every controller is at rest: in reset, or idle with no request. Or as many as the plan has left.
+    /// It says how many, and whether they came to rest. The plan has them as a turn of so many bits.
+    ///
+    /// Error: [`TurnsUsed`] where 10,000 turns were taken, the last one isn't of the bus, and a bit is left. Nothing
+    /// changed.
+    pub fn rest(&mut self) -> Result<Rested, TurnsUsed>
+        ensures rests { IfOk result (λ r. (deeds : List (List Deed)) → IsAt self.old deeds →
+            Rests self.old self.new r.bits r.at_rest deeds) }
+        ensures may { OnOk result (MayRun self.old 1) }
+        ensures err { OnErr result (LacksBusTurn self.old 1) }
+        ensures kept { OnErr result (self.new ≡ self.old) }
+    {
+        if self.lacks_bus_turn(1) {
+            return Err(TurnsUsed);
+        }
+        let before = self.run.bits();
+        let at_rest = self.run.rest_turn(&self.plan);
+        let bits = self.run.bits() - before;
+        if bits > 0 {
+            push_turn(&mut self.turns, Turn::Bus(bits));
+        }
+        Ok(Rested { bits, at_rest })
+    }
+}
+
+impl RawSession {
+    ghost use Rattle.std.specs.Prelude.{◌≡◌, List, IfOk, OnOk, OnErr};
+    ghost use Rattle.sja_driver.specs.Deeds.{Deed};
+    ghost use Rattle.sja_session.specs.Resting.{Rests};
+    ghost use Rattle.sja_session.specs.Running.{MayRun, LacksBusTurn};
+    ghost use Rattle.sja_session.specs.Sessions.{IsAt};
+
+    /// Runs bits until every controller is at rest, as [`Session::rest`] does.
+    ///
+    /// Error: that of [`Session::rest`].
+    pub fn rest(&mut self) -> Result<Rested, TurnsUsed>
+        ensures rests { IfOk result (λ r. (deeds : List (List Deed)) → IsAt self.old.session deeds →
+            Rests self.old.session self.new.session r.bits r.at_rest deeds) }
+        ensures may { OnOk result (MayRun self.old.session 1) }
+        ensures err { OnErr result (LacksBusTurn self.old.session 1) }
+        ensures still { self.new.kept ≡ self.old.kept }
+        ensures kept { OnErr result (self.new ≡ self.old) }
+    {
+        self.session.rest()
+    }
+}

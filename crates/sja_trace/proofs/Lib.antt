@@ -1,0 +1,9 @@
+pub mod Texts
+pub mod Sayings
+pub mod Lines
+pub mod BusLevels
+pub mod Parts
+pub mod Coming
+pub mod NodeStories
+pub mod UpTo
+pub mod WrittenBack

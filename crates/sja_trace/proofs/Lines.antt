@@ -1,0 +1,92 @@
+-- Lines that are written one after another.
+use Rattle.std.proofs.Common.{◌≡◌, ℕ, ◌+◌, ◌<◌, ◌≤◌, Bool, List, [], ◌∷◌, ◌++◌, length}
+use Rattle.std.proofs.Common.{drop, get_or, refl, sym, ap, ap₂, ◌∙◌, append-nil, append_assoc}
+use Rattle.std.proofs.lemmas.List.{drop_more}
+use Rattle.std.proofs.Math.ListN.{drop_of_length-le}
+use Rattle.std.specs.Prelude.{Option, Some, None}
+use Rattle.can_bits.specs.declared.level.Level.{Level}
+use Rattle.sja_replay.specs.declared.happening.Happening.{Happening}
+use Rattle.sja_report.specs.ReportLines.{numbered}
+use Rattle.sja_script.specs.declared.done.Done.{Done}
+use Rattle.sja_script.specs.declared.step.Step.{Step}
+use Rattle.sja_trace.specs.BitEvents.{bit_said}
+use Rattle.sja_trace.specs.TraceText.{event_line, joined, bit_line, step_line, is_due, line_where, steps_due}
+use Rattle.sja_trace.specs.Inside.Saying.{is_any, line_if}
+
+-- the elements from a place on
+pub rest_is : {A : Type 0} (xs : List A) (i : ℕ) (x : A) → i < length xs → x ≡ get_or xs i x →
+    drop i xs ≡ x ∷ drop (i + 1) xs
+rest_is xs i x less is = drop_more xs i x less ∙ ap (λ y. y ∷ drop (i + 1) xs) (sym is)
+
+-- what was written, and the texts of the rest: one element more
+pub numbered_next : {A : Type 0} (f : ℕ → A → List ℕ) (xs : List A) (i n : ℕ) (x : A) (old new whole : List ℕ) →
+    i < length xs → x ≡ get_or xs i x →
+    new ≡ old ++ f n x → old ++ numbered f n (drop i xs) ≡ whole → new ++ numbered f (n + 1) (drop (i + 1) xs) ≡ whole
+numbered_next f xs i n x old new whole less is wrote so_far =
+    let rest = numbered f (n + 1) (drop (i + 1) xs) in
+    ap (λ t. t ++ rest) wrote ∙ append_assoc old (f n x) rest
+    ∙ ap (λ l. old ++ numbered f n l) (sym (rest_is xs i x less is)) ∙ so_far
+
+-- none left
+pub numbered_end : {A : Type 0} (f : ℕ → A → List ℕ) (xs : List A) (i n : ℕ) (text whole : List ℕ) → length xs ≤ i →
+    text ++ numbered f n (drop i xs) ≡ whole → text ≡ whole
+numbered_end f xs i n text whole past so_far =
+    sym (append-nil text) ∙ ap (λ l. text ++ numbered f n l) (sym (drop_of_length-le xs past)) ∙ so_far
+
+-- ---- steps
+
+-- one more
+pub steps_next : (late : Bool) (bit node i : ℕ) (steps : List Step) (done : List Done) (s : Step) (d : Done)
+    (old new whole : List ℕ) → i < length steps → i < length done → s ≡ get_or steps i s → d ≡ get_or done i d →
+    new ≡ old ++ line_where (is_due late bit d.bits) (step_line node (i + 1) s d) →
+    old ++ steps_due late bit node (i + 1) (drop i steps) (drop i done) ≡ whole →
+    new ++ steps_due late bit node ((i + 1) + 1) (drop (i + 1) steps) (drop (i + 1) done) ≡ whole
+steps_next late bit node i steps done s d old new whole less few is are wrote so_far =
+    let rest = steps_due late bit node ((i + 1) + 1) (drop (i + 1) steps) (drop (i + 1) done) in
+    let here = line_where (is_due late bit d.bits) (step_line node (i + 1) s d) in
+    ap (λ t. t ++ rest) wrote ∙ append_assoc old here rest
+    ∙ ap₂ (λ a b. old ++ steps_due late bit node (i + 1) a b) (sym (rest_is steps i s less is))
+    (sym (rest_is done i d few are))
+    ∙ so_far
+
+-- none left
+no_steps : (late : Bool) (bit node n : ℕ) (steps : List Step) → steps_due late bit node n steps [] ≡ []
+no_steps late bit node n [] = refl
+no_steps late bit node n (s ∷ steps) = refl
+
+pub steps_end : (late : Bool) (bit node i n : ℕ) (steps : List Step) (done : List Done) (text whole : List ℕ) →
+    length steps ≤ i → text ++ steps_due late bit node n (drop i steps) (drop i done) ≡ whole → text ≡ whole
+steps_end late bit node i n steps done text whole past so_far =
+    sym (append-nil text)
+    ∙ ap (λ l. text ++ steps_due late bit node n l (drop i done)) (sym (drop_of_length-le steps past)) ∙ so_far
+
+pub done_end : (late : Bool) (bit node i n : ℕ) (steps : List Step) (done : List Done) (text whole : List ℕ) →
+    length done ≤ i → text ++ steps_due late bit node n (drop i steps) (drop i done) ≡ whole → text ≡ whole
+done_end late bit node i n steps done text whole past so_far =
+    sym (append-nil text)
+    ∙ ap (λ t. text ++ t) (sym (no_steps late bit node n (drop i steps)))
+    ∙ ap (λ l. text ++ steps_due late bit node n (drop i steps) l) (sym (drop_of_length-le done past)) ∙ so_far
+
+-- ---- bits
+
+-- the line of what is told
+pub told_is : (bit node : ℕ) (es : List (List ℕ)) → line_if (is_any es) bit node (joined es) ≡ bit_line bit node es
+told_is bit node [] = refl
+told_is bit node (e ∷ es) = refl
+
+-- ---- a bit of a node
+
+-- the line of a bit that the node has
+pub event_written : (bus : Level) (bit node : ℕ) (o : Option Happening) (h : Happening) (old new told : List ℕ)
+    (begun : Bool) → o ≡ Some h → told ≡ joined (bit_said bus h) → begun ≡ is_any (bit_said bus h) →
+    new ≡ old ++ line_if begun bit node told → new ≡ old ++ event_line bus bit node o
+event_written bus bit node o h old new told begun is text any wrote =
+    wrote ∙ ap₂ (λ b t. old ++ line_if b bit node t) any text
+    ∙ ap (λ t. old ++ t) (told_is bit node (bit_said bus h))
+    ∙ ap (λ x. old ++ event_line bus bit node x) (sym is)
+
+-- none of another
+pub no_event : (bus : Level) (bit node : ℕ) (o : Option Happening) (old : List ℕ) → o ≡ None →
+    old ≡ old ++ event_line bus bit node o
+no_event bus bit node o old none =
+    sym (append-nil old) ∙ ap (λ x. old ++ event_line bus bit node x) (sym none)

@@ -1,0 +1,90 @@
+-- Events that are written one after another.
+use Rattle.std.proofs.Common.{◌≡◌, ◌||◌, ℕ, Bool, true, false, List, [], ◌∷◌, ◌++◌, codes, string_bytes}
+use Rattle.std.proofs.Common.{refl, sym, ap, ap₂, ◌∙◌, append-nil, append_assoc}
+use Rattle.sja_trace.specs.Events.{said_if}
+use Rattle.sja_trace.specs.TraceText.{behind, joined}
+use Rattle.sja_trace.specs.declared.told.Told.{Told}
+use Rattle.sja_trace.specs.Inside.Saying.{separator, said_after, is_any, Tells}
+use Rattle.sja_trace.proofs.Texts.{two_texts}
+
+-- events behind others
+behind_both : (es fs : List (List ℕ)) → behind (es ++ fs) ≡ behind es ++ behind fs
+behind_both [] fs = refl
+behind_both (e ∷ es) fs =
+    ap (λ t. codes "; " ++ (e ++ t)) (behind_both es fs)
+    ∙ ap (λ t. codes "; " ++ t) (sym (append_assoc e (behind es) (behind fs)))
+
+said_both : (b : Bool) (es fs : List (List ℕ)) →
+    said_after b (es ++ fs) ≡ said_after b es ++ said_after (b || is_any es) fs
+said_both true es fs = behind_both es fs
+said_both false [] fs = refl
+said_both false (e ∷ es) fs = ap (λ t. e ++ t) (behind_both es fs) ∙ sym (append_assoc e (behind es) (behind fs))
+
+any_both : (b : Bool) (es fs : List (List ℕ)) → ((b || is_any es) || is_any fs) ≡ (b || is_any (es ++ fs))
+any_both true es fs = refl
+any_both false [] fs = refl
+any_both false (e ∷ es) fs = refl
+
+-- events, and then others
+pub tells_both : {a b c : Told} {es fs : List (List ℕ)} → Tells a b es → Tells b c fs → Tells a c (es ++ fs)
+tells_both {a} {b} {c} {es} {fs} one two = record {
+  text =
+      two_texts (string_bytes a.text) (string_bytes b.text) (string_bytes c.text) (said_after a.begun es)
+      (said_after (a.begun || is_any es) fs) one.text
+      (two.text ∙ ap (λ x. string_bytes b.text ++ said_after x fs) one.begun)
+      ∙ ap (λ t. string_bytes a.text ++ t) (sym (said_both a.begun es fs));
+  begun = two.begun ∙ ap (λ x. x || is_any fs) one.begun ∙ any_both a.begun es fs;
+}
+
+-- no event
+alone : (b : Bool) → b ≡ (b || false)
+alone true = refl
+alone false = refl
+
+nothing_said : (b : Bool) → said_after b [] ≡ []
+nothing_said true = refl
+nothing_said false = refl
+
+pub tells_none : (t : Told) → Tells t t []
+tells_none t = record {
+  text = sym (append-nil (string_bytes t.text)) ∙ ap (λ x. string_bytes t.text ++ x) (sym (nothing_said t.begun));
+  begun = alone t.begun;
+}
+
+-- one event: what stands before it, and its text
+one_said : (b : Bool) (e : List ℕ) → separator b ++ e ≡ said_after b (e ∷ [])
+one_said true e = ap (λ t. codes "; " ++ t) (sym (append-nil e))
+one_said false e = sym (append-nil e)
+
+begun_now : (b : Bool) → true ≡ (b || true)
+begun_now true = refl
+begun_now false = refl
+
+pub tells_one : (old new : Told) (between e : List ℕ) → between ≡ string_bytes old.text ++ separator old.begun →
+    string_bytes new.text ≡ between ++ e → new.begun ≡ true → Tells old new (e ∷ [])
+tells_one old new between e before wrote begins = record {
+  text =
+      two_texts (string_bytes old.text) between (string_bytes new.text) (separator old.begun) e before wrote
+      ∙ ap (λ t. string_bytes old.text ++ t) (one_said old.begun e);
+  begun = begins ∙ begun_now old.begun;
+}
+
+-- where a test says whether there is one
+pub tells_not : (t : Told) (test : Bool) (e : List ℕ) → test ≡ false → Tells t t (said_if test e)
+tells_not t true e h = cc
+tells_not t false e h = tells_none t
+
+pub tells_if : (old new : Told) (between e : List ℕ) (test : Bool) → test ≡ true →
+    between ≡ string_bytes old.text ++ separator old.begun → string_bytes new.text ≡ between ++ e →
+    new.begun ≡ true → Tells old new (said_if test e)
+tells_if old new between e true h before wrote begins = tells_one old new between e before wrote begins
+tells_if old new between e false h before wrote begins = cc
+
+-- all events of a bit
+pub tells_all : (old new : Told) (es : List (List ℕ)) → string_bytes old.text ≡ [] → old.begun ≡ false →
+    Tells old new es → string_bytes new.text ≡ joined es
+tells_all old new es none begun t =
+    t.text ∙ ap₂ (λ l b. l ++ said_after b es) none begun
+
+pub tells_any : (old new : Told) (es : List (List ℕ)) → old.begun ≡ false → Tells old new es → new.begun ≡ is_any es
+tells_any old new es begun t = t.begun ∙ ap (λ b. b || is_any es) begun

@@ -1,0 +1,17 @@
+use Rattle.std.proofs.Common.{arith}
+use Rattle.sja_trace.specs.Inside.Coming.{late_lines}
+use Rattle.sja_trace.proofs.Lines.{numbered_next, numbered_end}
+use Rattle.sja_trace.proofs.trace_text.put_late_steps.Goals as goal
+
+pub loop-teller-preserved : goal.loop-teller-preserved
+loop-teller-preserved c = record {
+  text = numbered_next (late_lines c.args.bits) c.args.tellers.now
+      c.loop-teller.teller-index c.loop-teller.number c.teller-item.result _ _ _
+      c.loop-teller-test.true c.teller-item.is c.in_ok-put_steps.ensures c.loop-teller.invariant.text;
+  number = let n = c.loop-teller.invariant.number in omega (arith, n);
+}
+
+pub returns : goal.returns
+returns c =
+    numbered_end (late_lines c.args.bits) c.args.tellers.now
+    c.loop-teller.teller-index c.loop-teller.number _ _ c.loop-teller-test.false c.loop-teller.invariant.text

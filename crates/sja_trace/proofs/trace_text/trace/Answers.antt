@@ -1,0 +1,24 @@
+use Rattle.std.proofs.Common.{◌≡◌, ◌+◌, suc, length, rules, arith}
+use Rattle.sja_trace.proofs.WrittenBack.{back_more, lent_underway, back_all}
+use Rattle.sja_trace.proofs.trace_text.trace.Goals as goal
+
+pub loop-bit-preserved : goal.loop-bit-preserved
+loop-bit-preserved c =
+    let t = c.loop-bit.tellers in let one : c.loop-bit.bit + 1 ≡ suc c.loop-bit.bit = omega arith in
+    let all : t.len ≡ length t.items = search rules in
+    back_more _ _ c.loop-bit.bit (c.loop-bit.bit + 1) t.len t.items c.as_mut_slice.result.now c.go_on_all.new.tellers
+    c.as_slice.result.now _ _ all c.as_mut_slice.ensures.value c.go_on_all.auto.tellers c.as_slice.ensures.value
+    c.loop-bit.invariant c.go_on_all.ensures c.in_ok-put_bit.ensures.text one
+
+pub finish_all-requires : goal.finish_all-requires
+finish_all-requires c = lent_underway _ _ _ _ _ _ c.as_mut_slice-2.ensures.value c.loop-bit.invariant
+
+pub returns : goal.returns
+returns c =
+    let t = c.loop-bit.tellers in
+    let all : t.len ≡ length t.items = search rules in
+    let ends : c.loop-bit.bit ≡ c.args.log.now.bits = omega (arith, c.bits-bit-end.ensures) in
+    back_all _ c.args.log.now c.loop-bit.bit c.bits.result t.len t.items c.as_mut_slice-2.result.now
+    c.finish_all.new.tellers c.as_slice-2.result.now _ _ ends c.bits.ensures all c.as_mut_slice-2.ensures.value
+    c.finish_all.auto.tellers c.as_slice-2.ensures.value c.loop-bit.invariant c.finish_all.ensures
+    c.in_ok-put_late_steps.ensures

@@ -1,0 +1,83 @@
+//! The error counters, and the states that they lead to.
+
+ghost use Rattle.std.specs.Prelude.{◌≡◌, ◌++◌, string_bytes, OnOk};
+ghost use Rattle.sja_trace.specs.BitEvents.{warns, comes_to_warn, confinement_said, change_text, states_said};
+ghost use Rattle.sja_trace.specs.BitEvents.{have_same, counters_text, counters_said};
+ghost use Rattle.sja_trace.specs.Inside.Saying.{Tells};
+
+use super::told::Told;
+use can_node::{Counters, State};
+use sja_replay::Happening;
+use std::alloc::AllocError;
+use std::fmt::Write;
+
+/// The error warning limit (SJA1000 data sheet, 6.4.10: 96 after reset).
+const WARNING: u16 = 96;
+
+/// Bus-off and the way back, error warning, error passive and error active.
+pub(crate) fn put_states(told: &mut Told, bit: &Happening) -> Result<(), AllocError>
+    ensures { OnOk result (Tells told.old told.new (states_said bit.now)) }
+{
+    if bit.events.went_off {
+        return told.say("BUS-OFF");
+    }
+    if bit.events.recovered {
+        return told.say("back from bus-off");
+    }
+    put_confinement(told, bit.before.counters, bit.after.counters)
+}
+
+/// Error warning, error passive and error active.
+fn put_confinement(told: &mut Told, old: Counters, new: Counters) -> Result<(), AllocError>
+    ensures { OnOk result (Tells told.old told.new (confinement_said old new)) }
+{
+    told.say_if(comes_to_warn(old, new), "error warning")?;
+    put_change(told, old.state(), new.state())?;
+    Ok(())
+}
+
+/// Whether the warning limit is reached.
+fn comes_to_warn(old: Counters, new: Counters) -> bool
+    ensures { result ≡ comes_to_warn old new }
+{
+    !warns(old) && warns(new)
+}
+
+/// Whether a counter is at the warning limit.
+fn warns(counters: Counters) -> bool
+    ensures { result ≡ warns counters }
+{
+    WARNING <= counters.tec || WARNING <= u16::from(counters.rec)
+}
+
+/// Error passive and error active.
+#[tactic(auto, using(crate::proofs::Sayings::tells_none))]
+fn put_change(told: &mut Told, before: State, after: State) -> Result<(), AllocError>
+    ensures { OnOk result (Tells told.old told.new (change_text before after)) }
+{
+    match (before, after) {
+        (State::Active, State::Passive) => told.say("error passive"),
+        (State::Passive, State::Active) => told.say("error active"),
+        _ => Ok(()),
+    }
+}
+
+/// TEC and REC after the bit, where one of them changed.
+pub(crate) fn put_counters(told: &mut Told, bit: &Happening) -> Result<(), AllocError>
+    ensures { OnOk result (Tells told.old told.new (counters_said bit.now)) }
+{
+    let new = bit.after.counters;
+    if have_same(bit.before.counters, new) {
+        return Ok(());
+    }
+    told.begin()?;
+    write!(told.text, "tec {} rec {}", new.tec, new.rec)?;
+    Ok(())
+}
+
+/// Whether both counters are as they were.
+fn have_same(old: Counters, new: Counters) -> bool
+    ensures { result ≡ have_same old new }
+{
+    old.tec == new.tec && old.rec == new.rec
+}

@@ -1,0 +1,165 @@
+//! The texts of events.
+
+ghost use Rattle.std.specs.Prelude.{◌≡◌, ◌++◌, codes, string_bytes, OnOk};
+ghost use Rattle.sja_trace.specs.Events.{abort_text, own_start_text, start_text, strike_text, loss_text, fault_words};
+ghost use Rattle.sja_trace.specs.Events.{fault_text, fate_text, reception_text, outcome_text, end_text};
+ghost use Rattle.sja_trace.specs.Names.{flag_name as flag_word};
+
+use super::names::{cause_name, flag_name, level_name, role_name, segment_name};
+use super::words::{put_byte, put_frame, put_place, put_where};
+use can_bits::Segment;
+use can_frame::Frame;
+use can_node::{Cause, FlagKind, Outcome, Request};
+use sja_regs::error_code;
+use sja_replay::{Fate, Happening};
+use std::alloc::AllocError;
+use std::fmt::Write;
+
+/// Of an abort, by whether the request is held on.
+pub(crate) fn abort_name(held: bool) -> &'static str
+    ensures { result.now ≡ abort_text held }
+{
+    if held {
+        "aborted in progress"
+    } else {
+        "aborted"
+    }
+}
+
+/// Of SOF, by the role that follows and the request that is held.
+pub(crate) fn put_start_text(
+    text: &mut String,
+    transmits: bool,
+    held: &Option<Request>,
+) -> Result<(), AllocError>
+    ensures { OnOk result (string_bytes text.new ≡ string_bytes text.old ++ start_text transmits held.now) }
+{
+    if !transmits {
+        return text.push_str("SOF of another's frame");
+    }
+    match held {
+        Some(request) => put_own_start(text, &request.frame),
+        None => text.push_str("SOF of another's frame"),
+    }
+}
+
+/// Of SOF of an own frame.
+#[tactic(auto, using(crate::proofs::Texts::two_texts))]
+fn put_own_start(text: &mut String, frame: &Frame) -> Result<(), AllocError>
+    ensures { OnOk result (string_bytes text.new ≡ string_bytes text.old ++ own_start_text frame.now) }
+{
+    text.push_str("SOF of its own frame ")?;
+    put_frame(text, frame)?;
+    Ok(())
+}
+
+/// Of a level that isn't that of the bus.
+#[tactic(auto, using(crate::proofs::Texts::three_texts))]
+pub(crate) fn put_strike_text(text: &mut String, bit: &Happening) -> Result<(), AllocError>
+    ensures { OnOk result (string_bytes text.new ≡ string_bytes text.old ++ strike_text bit.now) }
+{
+    write!(text, "struck: sees {} (", level_name(bit.seen))?;
+    put_where(text, &bit.before)?;
+    text.push_str(")")?;
+    Ok(())
+}
+
+/// Of lost arbitration.
+pub(crate) fn put_loss_text(text: &mut String, code: u8) -> Result<(), AllocError>
+    ensures { OnOk result (string_bytes text.new ≡ string_bytes text.old ++ loss_text code) }
+{
+    text.push_str("arbitration lost in ")?;
+    put_place(text, code)?;
+    text.push_str(", ALC ")?;
+    put_byte(text, code)?;
+    Ok(())
+}
+
+/// Of a fault.
+#[tactic(auto, using(crate::proofs::Texts::two_texts))]
+pub(crate) fn put_fault_text(
+    text: &mut String,
+    cause: Cause,
+    segment: Segment,
+    receiving: bool,
+) -> Result<(), AllocError>
+    ensures { OnOk result (string_bytes text.new ≡ string_bytes text.old ++ fault_text cause segment receiving) }
+{
+    put_fault_words(text, cause, segment, receiving)?;
+    put_byte(text, error_code(cause, segment, receiving))?;
+    Ok(())
+}
+
+/// Cause, segment and role of a fault.
+fn put_fault_words(
+    text: &mut String,
+    cause: Cause,
+    segment: Segment,
+    receiving: bool,
+) -> Result<(), AllocError>
+    ensures { OnOk result (string_bytes text.new ≡ string_bytes text.old ++ fault_words cause segment receiving) }
+{
+    let cause = cause_name(cause);
+    let segment = segment_name(segment);
+    let role = role_name(receiving);
+    write!(text, "{cause} in {segment} as {role}, ECC ")
+}
+
+/// Of a flag that begins.
+pub(crate) fn put_flag_text(text: &mut String, flag: FlagKind) -> Result<(), AllocError>
+    ensures { OnOk result (string_bytes text.new ≡ string_bytes text.old ++ (flag_word flag ++ codes " follows")) }
+{
+    write!(text, "{} follows", flag_name(flag))
+}
+
+/// Of a frame that was received.
+#[tactic(auto, using(crate::proofs::Texts::three_texts))]
+pub(crate) fn put_reception_text(
+    text: &mut String,
+    frame: &Frame,
+    fate: Option<Fate>,
+) -> Result<(), AllocError>
+    ensures { OnOk result (string_bytes text.new ≡ string_bytes text.old ++ reception_text frame.now fate) }
+{
+    text.push_str("received ")?;
+    put_frame(text, frame)?;
+    put_fate(text, fate)?;
+    Ok(())
+}
+
+/// What became of it.
+fn put_fate(text: &mut String, fate: Option<Fate>) -> Result<(), AllocError>
+    ensures { OnOk result (string_bytes text.new ≡ string_bytes text.old ++ fate_text fate) }
+{
+    match fate {
+        Some(Fate::Stored) => text.push_str(", stored"),
+        Some(Fate::Overrun { length, free }) => {
+            write!(text, ", OVERRUN: {length} bytes, {free} free")
+        }
+        Some(Fate::Stopped) | None => text.push_str(", stopped by the filter"),
+    }
+}
+
+/// Of a request that ended.
+#[tactic(auto, using(crate::proofs::Texts::two_texts))]
+pub(crate) fn put_end_text(
+    text: &mut String,
+    outcome: &Outcome,
+    frame: &Frame,
+) -> Result<(), AllocError>
+    ensures { OnOk result (string_bytes text.new ≡ string_bytes text.old ++ end_text outcome.now frame.now) }
+{
+    text.push_str(outcome_name(outcome))?;
+    put_frame(text, frame)?;
+    Ok(())
+}
+
+/// How it ended.
+fn outcome_name(outcome: &Outcome) -> &'static str
+    ensures { result.now ≡ outcome_text outcome.now }
+{
+    match outcome {
+        Outcome::Sent => "sent ",
+        Outcome::Failed => "failed and not tried again ",
+    }
+}

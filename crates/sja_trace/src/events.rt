@@ -1,0 +1,146 @@
+//! The events of a bit.
+
+ghost use Rattle.std.specs.Prelude.{◌≡◌, OnOk};
+ghost use Rattle.sja_trace.specs.Events.{abort_said, start_said, strike_said, acknowledgement_said, loss_said};
+ghost use Rattle.sja_trace.specs.Events.{fault_said, flag_said, reception_said, end_said};
+ghost use Rattle.sja_trace.specs.BitEvents.{suspension_said, bit_said};
+ghost use Rattle.sja_trace.specs.Inside.Saying.{Tells};
+
+use super::counters::{put_counters, put_states};
+use super::event_texts::{
+    abort_name, put_end_text, put_fault_text, put_flag_text, put_loss_text, put_reception_text,
+    put_start_text, put_strike_text,
+};
+use super::has_event::{acknowledges, begins_suspension, flag_begins, is_held, is_same, is_start};
+use super::told::Told;
+use can_bits::Level;
+use sja_replay::Happening;
+use std::alloc::AllocError;
+
+/// All events of a bit, in which the bus had this level.
+pub(crate) fn put_events(told: &mut Told, bus: Level, bit: &Happening) -> Result<(), AllocError>
+    ensures { OnOk result (Tells told.old told.new (bit_said bus bit.now)) }
+{
+    put_abort(told, bit)?;
+    put_start(told, bit)?;
+    put_strike(told, bus, bit)?;
+    put_acknowledgement(told, bit)?;
+    put_loss(told, bit)?;
+    put_fault(told, bit)?;
+    put_flag(told, bit)?;
+    put_reception(told, bit)?;
+    put_end(told, bit)?;
+    put_suspension(told, bit)?;
+    put_states(told, bit)?;
+    put_counters(told, bit)?;
+    Ok(())
+}
+
+/// An abort that changed the node right before the bit.
+fn put_abort(told: &mut Told, bit: &Happening) -> Result<(), AllocError>
+    ensures { OnOk result (Tells told.old told.new (abort_said bit.now)) }
+{
+    told.say_if(bit.aborted, abort_name(is_held(&bit.before.held)))
+}
+
+/// SOF of the node's own frame, or of another's.
+fn put_start(told: &mut Told, bit: &Happening) -> Result<(), AllocError>
+    ensures { OnOk result (Tells told.old told.new (start_said bit.now)) }
+{
+    if !is_start(bit) {
+        return Ok(());
+    }
+    told.begin()?;
+    put_start_text(&mut told.text, bit.after.transmits, &bit.before.held)?;
+    Ok(())
+}
+
+/// The node saw the other level than the bus had.
+fn put_strike(told: &mut Told, bus: Level, bit: &Happening) -> Result<(), AllocError>
+    ensures { OnOk result (Tells told.old told.new (strike_said bus bit.now)) }
+{
+    if is_same(bit.seen, bus) {
+        return Ok(());
+    }
+    told.begin()?;
+    put_strike_text(&mut told.text, bit)?;
+    Ok(())
+}
+
+/// A receiver of a frame acknowledges.
+fn put_acknowledgement(told: &mut Told, bit: &Happening) -> Result<(), AllocError>
+    ensures { OnOk result (Tells told.old told.new (acknowledgement_said bit.now)) }
+{
+    told.say_if(acknowledges(bit), "acknowledges")
+}
+
+/// Arbitration was lost: the name of the bit, and what ALC reads where it captures it.
+fn put_loss(told: &mut Told, bit: &Happening) -> Result<(), AllocError>
+    ensures { OnOk result (Tells told.old told.new (loss_said bit.now)) }
+{
+    let Some(code) = bit.events.lost else {
+        return Ok(());
+    };
+    told.begin()?;
+    put_loss_text(&mut told.text, code)?;
+    Ok(())
+}
+
+/// A fault: cause, segment, role, and what ECC reads where it captures it.
+fn put_fault(told: &mut Told, bit: &Happening) -> Result<(), AllocError>
+    ensures { OnOk result (Tells told.old told.new (fault_said bit.now)) }
+{
+    let Some((cause, segment)) = bit.events.fault else {
+        return Ok(());
+    };
+    told.begin()?;
+    put_fault_text(&mut told.text, cause, segment, bit.events.receiving)?;
+    Ok(())
+}
+
+/// Which flag begins with the next bit.
+fn put_flag(told: &mut Told, bit: &Happening) -> Result<(), AllocError>
+    ensures { OnOk result (Tells told.old told.new (flag_said bit.now)) }
+{
+    if !flag_begins(bit) {
+        return Ok(());
+    }
+    told.begin()?;
+    put_flag_text(&mut told.text, bit.after.flag)?;
+    Ok(())
+}
+
+/// A frame was received, and what became of it.
+fn put_reception(told: &mut Told, bit: &Happening) -> Result<(), AllocError>
+    ensures { OnOk result (Tells told.old told.new (reception_said bit.now)) }
+{
+    let Some(frame) = &bit.events.received else {
+        return Ok(());
+    };
+    told.begin()?;
+    put_reception_text(&mut told.text, frame, bit.fate)?;
+    Ok(())
+}
+
+/// The request ended: its frame was sent, or it failed and isn't tried again.
+fn put_end(told: &mut Told, bit: &Happening) -> Result<(), AllocError>
+    ensures { OnOk result (Tells told.old told.new (end_said bit.now)) }
+{
+    let Some(outcome) = &bit.events.ended else {
+        return Ok(());
+    };
+    let Some(request) = &bit.before.held else {
+        return Ok(());
+    };
+    told.begin()?;
+    put_end_text(&mut told.text, outcome, &request.frame)?;
+    Ok(())
+}
+
+/// Suspend transmission begins.
+fn put_suspension(told: &mut Told, bit: &Happening) -> Result<(), AllocError>
+    ensures { OnOk result (Tells told.old told.new (suspension_said bit.now)) }
+{
+    let begins = begins_suspension(bit.before.phase, bit.after.phase);
+    told.say_if(begins, "suspend transmission")
+}

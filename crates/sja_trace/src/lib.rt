@@ -1,0 +1,30 @@
+//! The trace of a run: what each bit brought to each node, and what each step answered, in the order of the bits.
+//!
+//! [`trace`] makes of a plan and the log of its run a text with a line for each step that was done, and one for each
+//! bit that brought a node something. The events are those of the cut of each node's record, as `sja_replay`
+//! tells them.
+//!
+//! The names of errors and segments, the texts of frames and places, and the test for SOF serve `sja_frames` too.
+//!
+//! `specs/Events.antt` and `specs/BitEvents.antt` say which events a bit has and in which words, and
+//! `specs/TraceText.antt` the text line by line. The tests stand in `crates/test_trace`.
+#![tactic(auto)]
+
+mod counters;
+mod due;
+mod event_texts;
+mod events;
+mod has_event;
+mod names;
+mod node_lines;
+mod steps;
+mod teller;
+mod tellers;
+mod told;
+mod trace_text;
+mod words;
+
+pub use has_event::is_start;
+pub use names::{cause_name, segment_name};
+pub use trace_text::trace;
+pub use words::{put_frame, put_place};

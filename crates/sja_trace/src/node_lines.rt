@@ -1,0 +1,80 @@
+//! The lines of a node in a bit.
+
+ghost use Rattle.std.specs.Prelude.{◌≡◌, ◌++◌, string_bytes, OnOk};
+ghost use Rattle.sja_trace.specs.BitEvents.{bit_said};
+ghost use Rattle.sja_trace.specs.TraceText.{joined, event_line};
+ghost use Rattle.sja_trace.specs.Inside.Coming.{teller_lines};
+ghost use Rattle.sja_trace.specs.Inside.Saying.{is_any, line_if};
+
+use super::due::Due;
+use super::events::put_events;
+use super::steps::put_steps;
+use super::teller::Teller;
+use super::told::Told;
+use can_bits::Level;
+use can_frame::OutOfMemory;
+use sja_replay::Happening;
+use std::alloc::{AllocError, Global};
+use std::fmt::Write;
+
+/// The lines of the steps before this bit, in which the bus had this level, and then its own.
+#[tactic(auto, using(crate::proofs::Texts::two_texts))]
+pub(crate) fn put_node(
+    alloc: Global,
+    text: &mut String,
+    told: &mut Told,
+    node: usize,
+    teller: &Teller<'_>,
+    bus: Level,
+    bit: u32,
+) -> Result<(), OutOfMemory>
+    ensures text { OnOk result (string_bytes text.new ≡ string_bytes text.old
+        ++ teller_lines bus bit node teller.now) }
+{
+    let due = Due { late: false, bit };
+    put_steps(alloc, text, node, teller.steps, teller.done, due)?;
+    put_event_line(text, told, node, &teller.bit, bus, bit)?;
+    Ok(())
+}
+
+/// The line of a bit, if the node has the bit and it brought anything.
+#[tactic(auto, using(crate::proofs::Lines::no_event))]
+fn put_event_line(
+    text: &mut String,
+    told: &mut Told,
+    node: usize,
+    happening: &Option<Happening>,
+    bus: Level,
+    bit: u32,
+) -> Result<(), AllocError>
+    ensures text { OnOk result (string_bytes text.new ≡ string_bytes text.old
+        ++ event_line bus bit node happening.now) }
+{
+    let Some(happening) = happening else {
+        return Ok(());
+    };
+    tell(told, bus, happening)?;
+    put_line(text, told, node, bit)?;
+    Ok(())
+}
+
+/// The events of a bit, from the first one on.
+fn tell(told: &mut Told, bus: Level, bit: &Happening) -> Result<(), AllocError>
+    ensures text { OnOk result (string_bytes told.new.text ≡ joined (bit_said bus bit.now)) }
+    ensures begun { OnOk result (told.new.begun ≡ is_any (bit_said bus bit.now)) }
+{
+    told.clear();
+    put_events(told, bus, bit)?;
+    Ok(())
+}
+
+/// The line of events, if there are any.
+fn put_line(text: &mut String, told: &Told, node: usize, bit: u32) -> Result<(), AllocError>
+    ensures { OnOk result (string_bytes text.new ≡ string_bytes text.old
+        ++ line_if told.now.begun bit node (string_bytes told.now.text)) }
+{
+    if !told.begun() {
+        return Ok(());
+    }
+    writeln!(text, "bit {bit} node {node}: {}", told.text)
+}

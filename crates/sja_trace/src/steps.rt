@@ -1,0 +1,79 @@
+//! The lines of steps.
+
+ghost use Rattle.std.specs.Prelude.{◌≡◌, ◌++◌, string_bytes, OnOk};
+ghost use Rattle.sja_trace.specs.TraceText.{step_line, is_due, line_where, steps_due};
+
+use super::due::Due;
+use can_frame::OutOfMemory;
+use sja_plan_text::step_text;
+use sja_report::put_answer;
+use sja_script::{Done, Step};
+use std::alloc::Global;
+use std::fmt::Write;
+
+/// The lines of those of a node's steps that are due, by what they came to.
+pub(crate) fn put_steps(
+    alloc: Global,
+    text: &mut String,
+    node: usize,
+    steps: &[Step],
+    done: &[Done],
+    due: Due,
+) -> Result<(), OutOfMemory>
+    ensures { OnOk result (string_bytes text.new ≡ string_bytes text.old
+        ++ steps_due due.late due.bit node 1 steps.now done.now) }
+{
+    let mut place = 0usize;
+    while place < steps.len() && place < done.len() {
+        put_due(
+            alloc,
+            text,
+            node,
+            place + 1,
+            &steps[place],
+            &done[place],
+            due,
+        )?;
+        place += 1;
+    }
+    Ok(())
+}
+
+/// The line of a step, if it is due.
+fn put_due(
+    alloc: Global,
+    text: &mut String,
+    node: usize,
+    number: usize,
+    step: &Step,
+    done: &Done,
+    due: Due,
+) -> Result<(), OutOfMemory>
+    ensures { OnOk result (string_bytes text.new ≡ string_bytes text.old
+        ++ line_where (is_due due.late due.bit done.now.bits) (step_line node number step.now done.now)) }
+{
+    if !due.has(done.bits) {
+        return Ok(());
+    }
+    put_step(alloc, text, node, number, step, done)
+}
+
+/// The line of a step: the bits before it, its node and its number, its text and its answer.
+fn put_step(
+    alloc: Global,
+    text: &mut String,
+    node: usize,
+    number: usize,
+    step: &Step,
+    done: &Done,
+) -> Result<(), OutOfMemory>
+    ensures { OnOk result (string_bytes text.new ≡ string_bytes text.old
+        ++ step_line node number step.now done.now) }
+{
+    let words = step_text(alloc, step)?;
+    let bits = done.bits;
+    write!(text, "bit {bits} node {node} step {number}: {words} ->")?;
+    put_answer(text, &done.answer)?;
+    text.push('\n')?;
+    Ok(())
+}

@@ -1,0 +1,80 @@
+//! [`trace`]: the trace of a run.
+
+ghost use Rattle.std.specs.Prelude.{◌≡◌, ◌++◌, string_bytes, IfOk, OnOk};
+ghost use Rattle.sja_report.specs.ReportLines.{numbered};
+ghost use Rattle.sja_trace.specs.TraceText.{IsTrace};
+ghost use Rattle.sja_trace.specs.Inside.Coming.{bit_text, late_lines};
+
+use super::due::Due;
+use super::node_lines::put_node;
+use super::steps::put_steps;
+use super::teller::Teller;
+use super::tellers::{bus_of, finish_all, go_on_all, tellers_of};
+use super::told::Told;
+use can_frame::OutOfMemory;
+use sja_log::RunLog;
+use sja_plan::Plan;
+use std::alloc::Global;
+
+/// The trace of a run: a line for each step of this plan that was done, and one for each bit that brought a node
+/// something, in the order of bits, of nodes and of steps.
+///
+/// Each node's journal is gone over once, all of them together. Beside the text no more is kept than one bit of each
+/// node.
+///
+/// Error: [`OutOfMemory`] where memory was refused.
+pub fn trace(alloc: Global, plan: &Plan, log: &RunLog) -> Result<String, OutOfMemory>
+    ensures { IfOk result (λ text. IsTrace plan.now log.now (string_bytes text)) }
+{
+    let mut tellers = tellers_of(alloc, plan, log.nodes())?;
+    let mut text = String::new(alloc);
+    let mut told = Told::new(alloc);
+    for bit in 0..log.bits() {
+        go_on_all(tellers.as_mut_slice());
+        put_bit(alloc, &mut text, &mut told, tellers.as_slice(), bit)?;
+    }
+    finish_all(tellers.as_mut_slice());
+    put_late_steps(alloc, &mut text, tellers.as_slice(), log.bits())?;
+    Ok(text)
+}
+
+/// The lines of all nodes in the bit at hand.
+fn put_bit(
+    alloc: Global,
+    text: &mut String,
+    told: &mut Told,
+    tellers: &[Teller<'_>],
+    bit: u32,
+) -> Result<(), OutOfMemory>
+    ensures text { OnOk result (string_bytes text.new ≡ string_bytes text.old ++ bit_text bit tellers.now) }
+{
+    let bus = bus_of(tellers);
+    let mut number = 0usize;
+    for teller in tellers {
+        put_node(alloc, text, told, number, teller, bus, bit)?;
+        number += 1;
+    }
+    Ok(())
+}
+
+/// The lines of the steps that come after so many bits.
+fn put_late_steps(
+    alloc: Global,
+    text: &mut String,
+    tellers: &[Teller<'_>],
+    bits: u32,
+) -> Result<(), OutOfMemory>
+    ensures { OnOk result (string_bytes text.new ≡ string_bytes text.old
+        ++ numbered (late_lines bits) 0 tellers.now) }
+{
+    let due = Due {
+        late: true,
+        bit: bits,
+    };
+    let mut number = 0usize;
+    for teller in tellers {
+        put_steps(alloc, text, number, teller.steps, teller.done, due)?;
+        number += 1;
+    }
+    Ok(())
+}
