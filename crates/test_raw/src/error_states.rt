@@ -1,58 +1,60 @@
 //! Version 3: what a driver sees as errors come, by accesses alone.
 
 use super::access::Access::{Line, Read, Write};
-use super::session::Row::{Bits, Near};
+use super::session::Row::{self, Bits, Near};
 use super::session::first_wrong;
 use super::strikes::each_sof;
 use sja_regs::address::{BUFFER, CMR, ECC, IER, IR, MOD, RXERR, SR, TXERR};
 use std::test::Fail;
+
+/// What node 0 does and reads on its way to bus-off and back, with the interrupts EI and EPI enabled.
+const BUS_OFF_AND_BACK: [Row; 37] = [
+    Near(Write(IER, 0x24)),
+    Near(Write(MOD, 0x00)),
+    Near(Write(BUFFER, 0x00)),
+    Near(Write(BUFFER + 1, 0x00)),
+    Near(Write(BUFFER + 2, 0x00)),
+    Near(Write(CMR, 0x01)),
+    Bits(209),
+    Near(Read(TXERR, 0x58)),
+    Near(Line(false)),
+    Bits(1),
+    Near(Read(TXERR, 0x60)),
+    Near(Read(SR, 0x60)),
+    Near(Read(IR, 0x04)),
+    Bits(71),
+    Near(Line(false)),
+    Bits(1),
+    Near(Read(TXERR, 0x80)),
+    Near(Read(IR, 0x20)),
+    Bits(415),
+    Near(Read(TXERR, 0xf8)),
+    Near(Line(false)),
+    Bits(1),
+    Near(Read(MOD, 0x01)),
+    Near(Read(TXERR, 0x7f)),
+    Near(Read(RXERR, 0x00)),
+    Near(Read(SR, 0xf4)),
+    Near(Read(IR, 0x04)),
+    Near(Write(MOD, 0x00)),
+    Near(Read(SR, 0xf4)),
+    Bits(1407),
+    Near(Read(TXERR, 0x00)),
+    Near(Read(SR, 0xf4)),
+    Near(Line(false)),
+    Bits(1),
+    Near(Read(SR, 0x04)),
+    Near(Read(IR, 0x04)),
+    Near(Read(IR, 0x00)),
+];
 
 /// Each frame is struck at its SOF. ES comes with the 12th strike, at bit 209, error passive with the 16th, at bit 281,
 /// and bus-off with the 32nd, at bit 697, with EI alone. ES falls with BS, once there were 128 times 11 recessive bits,
 /// with one EI for both.
 #[test]
 fn the_error_status_stands_through_bus_off(rt: HostRuntime) -> Result<(), Fail> {
-    let rows = [
-        Near(Write(IER, 0x24)),
-        Near(Write(MOD, 0x00)),
-        Near(Write(BUFFER, 0x00)),
-        Near(Write(BUFFER + 1, 0x00)),
-        Near(Write(BUFFER + 2, 0x00)),
-        Near(Write(CMR, 0x01)),
-        Bits(209),
-        Near(Read(TXERR, 0x58)),
-        Near(Line(false)),
-        Bits(1),
-        Near(Read(TXERR, 0x60)),
-        Near(Read(SR, 0x60)),
-        Near(Read(IR, 0x04)),
-        Bits(71),
-        Near(Line(false)),
-        Bits(1),
-        Near(Read(TXERR, 0x80)),
-        Near(Read(IR, 0x20)),
-        Bits(415),
-        Near(Read(TXERR, 0xf8)),
-        Near(Line(false)),
-        Bits(1),
-        Near(Read(MOD, 0x01)),
-        Near(Read(TXERR, 0x7f)),
-        Near(Read(RXERR, 0x00)),
-        Near(Read(SR, 0xf4)),
-        Near(Read(IR, 0x04)),
-        Near(Write(MOD, 0x00)),
-        Near(Read(SR, 0xf4)),
-        Bits(1407),
-        Near(Read(TXERR, 0x00)),
-        Near(Read(SR, 0xf4)),
-        Near(Line(false)),
-        Bits(1),
-        Near(Read(SR, 0x04)),
-        Near(Read(IR, 0x04)),
-        Near(Read(IR, 0x00)),
-    ];
     let strikes = each_sof(rt.alloc())?;
-    assert!(rt; first_wrong(rt.alloc(), 3, strikes, &rows)?.is_none());
+    assert!(rt; first_wrong(rt.alloc(), 3, strikes, &BUS_OFF_AND_BACK)?.is_none());
     Ok(())
 }
 
