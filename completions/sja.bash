@@ -25,11 +25,13 @@ _sja() {
 
 # _sja_words COMMAND PLACE: the words that may stand behind this command and so many arguments
 _sja_words() {
-    local commands="encode decode filter arbitrate message run wave trace frames check sweep help"
+    local commands="encode decode filter arbitrate message run wave trace frames picture candump check sweep help"
     case $1 in
     '') echo "$commands -h --help -V --version" ;;
-    encode | decode | arbitrate | message | wave | trace | frames | check) echo "-h --help" ;;
-    run) echo "--threads -h --help" ;;
+    encode | decode | arbitrate | message | check) echo "-h --help" ;;
+    run | wave | trace | frames) echo "--threads -h --help" ;;
+    picture) echo "--svg --threads -h --help" ;;
+    candump) echo "--errors --threads -h --help" ;;
     sweep) echo "--only --from --to --pairs --changed --rows --yes --jobs --plan -h --help" ;;
     filter) if [ "$2" = 0 ]; then echo "single dual -h --help"; else echo "-h --help"; fi ;;
     help) if [ "$2" = 0 ]; then echo "$commands"; fi ;;

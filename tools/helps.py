@@ -23,13 +23,15 @@ def told(path, *words):
 
 
 class Help:
-    """The help of these words: the line at its head, and of commands, options and arguments the line behind each."""
+    """The help of these words: the line at its head, and of commands, options and arguments the line behind each; those
+    that may be left out are no arguments, but `optional`."""
 
     def __init__(self, path, *words):
         text = told(path, *words, "--help")
         self.about = text.partition("\n")[0]
         self.commands = dict(re.findall(r"^  (\w+) +(.*)", self.part(text, "Commands"), re.M))
         self.arguments = dict(re.findall(r"^  <(\w+)>(?:\.\.\.)? +(.*)", self.part(text, "Arguments"), re.M))
+        self.optional = dict(re.findall(r"^  \[(\w+)\](?:\.\.\.)? +(.*)", self.part(text, "Arguments"), re.M))
         self.options = {}
         for short, long, line in re.findall(r"^ +(?:(-\w), )?(--\w+)(?: <\w+>)* +(.*)", self.part(text, "Options"), re.M):
             self.options.update({option: line for option in (short, long) if option})

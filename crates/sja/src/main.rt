@@ -37,18 +37,21 @@ fn main(rt: HostRuntime) -> ExitCode {
     ExitCode::from(status)
 }
 
-/// Whether the words, the program's name first, ask for the run of a plan, for what it shows, for the plan's mistakes
-/// or for its sweep. The options of a sweep aren't judged.
+/// Whether the words, the program's name first, ask for a text of a plan's run, for the plan's mistakes or for its
+/// sweep. The options aren't judged.
 fn asks_for_plan(words: &[String]) -> bool {
     match words {
-        [_, command] => matches!(
-            command.as_str(),
-            "run" | "wave" | "trace" | "frames" | "check" | "sweep"
-        ),
-        [_, command, flag] if command.as_str() == "run" => flag.as_str() == "--threads",
-        [_, command, options @ ..] if command.as_str() == "sweep" => !asks_for_help(options),
+        [_, command, options @ ..] => is_of_plan(command.as_str()) && !asks_for_help(options),
         _ => false,
     }
+}
+
+/// Whether the command of this name reads a plan.
+fn is_of_plan(command: &str) -> bool {
+    matches!(
+        command,
+        "run" | "wave" | "trace" | "frames" | "picture" | "candump" | "check" | "sweep"
+    )
 }
 
 /// Whether one of the words asks for help.

@@ -2,3 +2,4 @@
 pub mod Lawfuls
 pub mod Marking
 pub mod Logs
+pub mod Striking

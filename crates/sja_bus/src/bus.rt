@@ -20,7 +20,7 @@ use std::marker::Model;
 ///
 /// Contracts see it as its script, the bits that were run and those that are left, the fault that it answers always,
 /// the journals of its nodes, and of which node something is untold to its port. All its room is reserved when it is
-/// made: no bit takes memory.
+/// made: no bit takes memory, and a strike more alone does.
 #[derive(Debug, Drop)]
 pub struct Bus {
     pub(crate) struck: StruckBits,

@@ -6,7 +6,8 @@
 //! Contracts see a bus as its journals: each journal's record has one cut, by which its verdicts are right, and each
 //! level that was seen is the one that all nodes drove together, or the other one where the script strikes.
 //!
-//! `Bus::new`, `serial_links` and `SerialBoard::new` alone take memory. The tests stand in `crates/test_bus`.
+//! `Bus::new`, `Bus::strike`, `serial_links` and `SerialBoard::new` alone take memory. The tests stand in
+//! `crates/test_bus`.
 #![tactic(auto)]
 
 mod aborts;
@@ -28,6 +29,7 @@ mod node_log;
 mod ports;
 mod seat;
 mod serial_board;
+mod striking;
 mod struck_bits;
 mod struck_nodes;
 mod untold;

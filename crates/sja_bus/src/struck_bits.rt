@@ -1,6 +1,6 @@
 //! Whom a script strikes in each bit of a run.
 
-ghost use Rattle.std.specs.Prelude.{◌+◌, ◌*◌, ◌<◌, ◌↔◌, ℕ, []};
+ghost use Rattle.std.specs.Prelude.{◌≡◌, ◌+◌, ◌*◌, ◌<◌, ◌↔◌, ◌++◌, ℕ, [], ◌∷◌, IfOk};
 ghost use Rattle.sja_script.specs.Striking.{Hits};
 ghost use Rattle.sja_bus.specs.StrikesByBit.{IsMarked, AreStruck};
 
@@ -32,7 +32,8 @@ impl Model for StruckBits {
 }
 
 impl StruckBits {
-    ghost use Rattle.std.specs.Prelude.{◌≡◌, ◌+◌, ◌<◌, ◌≤◌, ◌⊎◌, ◌↔◌, ℕ, IfOk, length};
+    ghost use Rattle.std.specs.Prelude.{◌≡◌, ◌+◌, ◌<◌, ◌≤◌, ◌⊎◌, ◌↔◌, ◌++◌, ℕ, [], ◌∷◌, length};
+    ghost use Rattle.std.specs.Prelude.{IfOk, OnOk, OnErr};
     ghost use Rattle.sja_script.specs.Striking.{Strikes};
     ghost use Rattle.sja_bus.specs.StrikesByBit.{IsAmong, AreStruckFrom};
 
@@ -52,6 +53,19 @@ impl StruckBits {
             script,
             bits: struck,
         })
+    }
+
+    /// One strike more.
+    ///
+    /// Error: [`OutOfMemory`] where memory was refused; nothing changed.
+    pub(crate) fn strike(&mut self, alloc: Global, strike: Strike) -> Result<(), OutOfMemory>
+        ensures struck { OnOk result (self.new ≡ record self.old { script = self.old.script ++ strike ∷ [] }) }
+        ensures kept { OnErr result (self.new ≡ self.old) }
+    {
+        let script = with_one_more(alloc, self.script.as_slice(), strike)?;
+        mark(self.bits.as_mut_slice(), &strike);
+        self.script = FaultScript::of(script);
+        Ok(())
     }
 
     /// The nodes that are struck in this bit.
@@ -93,6 +107,24 @@ impl StruckBits {
         }
         end - from
     }
+}
+
+/// These strikes, and one more behind them.
+///
+/// Error: [`OutOfMemory`] where memory was refused.
+fn with_one_more(
+    alloc: Global,
+    strikes: &[Strike],
+    strike: Strike,
+) -> Result<Vec<Strike>, OutOfMemory>
+    ensures { IfOk result (λ list. list.items ≡ strikes.now ++ strike ∷ []) }
+{
+    let mut list = Vec::with_capacity(alloc, strikes.len() + 1)?;
+    for earlier in strikes {
+        list.push_reserved(*earlier);
+    }
+    list.push_reserved(strike);
+    Ok(list)
 }
 
 /// Marks in each bit the nodes that these strikes hit.

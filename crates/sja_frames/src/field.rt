@@ -6,7 +6,7 @@ use sja_replay::Happening;
 
 /// The fields of a frame (Bosch CAN 2.0 part A section 3.1.1 and part B section 3.2), and the intermission after it.
 #[derive(Clone, Copy, Debug)]
-pub(crate) enum Field {
+pub enum Field {
     /// SOF.
     Start,
     /// The identifier of a standard frame, or the base identifier of an extended one.
@@ -66,7 +66,7 @@ impl Field {
     ghost use Rattle.sja_frames.specs.Fields.{field_if, field_of, place_of, are_one, is_stuffed};
 
     /// The field of a bit after SOF.
-    pub(crate) fn of(bit: &Happening) -> Field
+    pub fn of(bit: &Happening) -> Field
         ensures { result ≡ field_in bit.now }
     {
         match bit.before.phase {
@@ -141,7 +141,7 @@ impl Field {
     }
 
     /// Whether it is coded by bit stuffing (Bosch CAN 2.0 part A section 5).
-    pub(crate) fn is_stuffed(self) -> bool
+    pub fn is_stuffed(self) -> bool
         ensures { result ≡ is_stuffed self }
     {
         !matches!(

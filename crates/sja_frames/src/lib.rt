@@ -3,6 +3,8 @@
 //! [`frames`] makes of the log of a run a text with a line for each frame, so that a strike can be aimed at a field.
 //! Which bits a frame has and how it ended is told by the cut of its node's record, as `sja_replay` tells it.
 //!
+//! The fields and the runs of equal levels serve `sja_picture` too.
+//!
 //! `specs/FrameBits.antt`, `specs/FrameEnds.antt` and `specs/FrameStories.antt` say which bits a frame has, and
 //! `specs/FramesText.antt` the text line by line. The tests stand in `crates/test_frame_list`.
 #![tactic(auto)]
@@ -21,5 +23,7 @@ mod run;
 mod starts;
 mod walk;
 
+pub use field::Field;
 pub use frame_list::frames;
 pub use laws::a_stuff_bit_is_one_of_the_line;
+pub use run::Run;

@@ -7,10 +7,11 @@ const FULL: u8 = 5;
 
 /// The run of equal levels that came last.
 #[derive(Clone, Copy, Debug)]
-pub(crate) struct Run {
-    pub(crate) last: Level,
+pub struct Run {
+    /// Their level.
+    pub last: Level,
     /// How many they are, and five where there are more.
-    pub(crate) count: u8,
+    pub count: u8,
 }
 
 impl Run {
@@ -19,7 +20,7 @@ impl Run {
     ghost use Rattle.sja_frames.specs.FrameBits.{one_level, longer, run_on};
 
     /// After one level.
-    pub(crate) fn of(level: Level) -> Run
+    pub fn of(level: Level) -> Run
         ensures { result ≡ one_level level }
     {
         Run {
@@ -29,7 +30,7 @@ impl Run {
     }
 
     /// With a level more.
-    pub(crate) fn with(self, level: Level) -> Run
+    pub fn with(self, level: Level) -> Run
         ensures { result ≡ run_on self level }
     {
         let count = if is_same(level, self.last) {
@@ -41,7 +42,7 @@ impl Run {
     }
 
     /// Whether there are five.
-    pub(crate) fn is_full(self) -> bool
+    pub fn is_full(self) -> bool
         ensures { result ≡ (self.count == 5) }
     {
         self.count == FULL

@@ -6,3 +6,4 @@ pub mod Bits
 pub mod Walks
 pub mod Judging
 pub mod Closes
+pub mod Once

@@ -1,6 +1,6 @@
 -- A replay from entry to entry.
 use Rattle.std.proofs.Common.{◌≡◌, ℕ, true, false, Option, Some, None, List, [], ◌∷◌, ◌++◌, refl, sym, ap, ◌∙◌}
-use Rattle.std.proofs.Common.{subst, IfSome, IfNone, length, arith, length-append}
+use Rattle.std.proofs.Common.{subst, IfSome, IfNone, length, arith, length-append, append-nil, append_assoc}
 use Rattle.can_bits.specs.declared.level.Level.{Level}
 use Rattle.can_node.specs.declared.node.Node.{Node}
 use Rattle.can_node.specs.Stands.{StandsAt}
@@ -12,9 +12,9 @@ use Rattle.sja_replay.specs.declared.happening.Happening.{Happening}
 use Rattle.sja_replay.specs.declared.replay.Replay.{Replay}
 use Rattle.sja_replay.specs.Happened.{IsUntold, Happened}
 use Rattle.sja_replay.specs.Happened.Happened.{over, between, bit, refused, untold}
-use Rattle.sja_replay.specs.Inside.Walking.{IsTakenFrom, Enters, IsBrought, BringsNext}
-use Rattle.sja_replay.specs.Replaying.{with_ahead, left_of, IsAt, GoesOn}
-use Rattle.sja_replay.specs.Taking.{last_part}
+use Rattle.sja_replay.specs.Inside.Walking.{IsTakenFrom, Enters, IsBrought, BringsNext, IsPast}
+use Rattle.sja_replay.specs.Replaying.{with_ahead, left_of, IsAt, GoesOn, AreTaken, TellsBit}
+use Rattle.sja_replay.specs.Taking.{IsTaken, last_part}
 
 -- ---- an entry is taken from those that are left
 
@@ -48,24 +48,52 @@ took_none old new result j t is h =
 
 -- ---- on from one entry to the next
 
+-- with entries that are taken whatever happenings come behind them come behind those that were before
+behind_taken : (j es left : List Entry) (more : List Happening) → AreTaken j es → Happened (j ++ es) left more →
+    Happened j (es ++ left) more
+behind_taken j [] left more t x =
+    let P : List Entry → Type 0 = λ l. Happened l left more in subst P (append-nil j) x
+behind_taken j (e ∷ es) left more t x =
+    let P : List Entry → Type 0 = λ l. Happened l left more in
+    between t.0 (behind_taken (j ++ e ∷ []) es left more t.1 (subst P (sym (append_assoc j (e ∷ []) es)) x))
+
+-- one more
+taken_push : (j es : List Entry) (e : Entry) → AreTaken j es → IsTaken (j ++ es) e → AreTaken j (es ++ e ∷ [])
+taken_push j [] e t h = let P : List Entry → Type 0 = λ l. IsTaken l e in (subst P (append-nil j) h, tt)
+taken_push j (x ∷ es) e t h =
+    let P : List Entry → Type 0 = λ l. IsTaken l e in
+    (t.0, taken_push (j ++ x ∷ []) es e t.1 (subst P (sym (append_assoc j (x ∷ []) es)) h))
+
 -- nothing came
-pub stays : (r : Replay) (j : List Entry) → IsAt r j → GoesOn r r j []
-stays r j h = record { now = j; at = h; fewer = omega arith; leads = λ more x. x }
+pub past_none : (r : Replay) (j : List Entry) → IsAt r j → IsPast r r j
+past_none r j h =
+    let P : List Entry → Type 0 = λ l. IsAt r l in
+    record { between = []; taken = tt; left = refl; at = subst P (sym (append-nil j)) h }
+
+-- so it goes on with no bit
+pub goes_on : (old new : Replay) (j : List Entry) → IsPast old new j → GoesOn old new j []
+goes_on old new j h = record {
+  now = j ++ h.between;
+  at = h.at;
+  fewer = let n = ap length h.left ∙ length-append h.between (left_of new) in omega (arith, n);
+  leads = λ more x.
+      let P : List Entry → Type 0 = λ l. Happened j l more in
+      subst P (sym h.left) (behind_taken j h.between (left_of new) more h.taken x);
+}
 
 -- an entry that is no bit
-pub goes_between : (start old mid new : Replay) (j : List Entry) (e : Entry) → GoesOn start old j [] →
-    IsTakenFrom old mid (Some e) → Enters mid new e true → GoesOn start new j []
-goes_between start old mid new j e g t k =
-    let took = k.taken refl g.now (took_at old mid (Some e) g.now t g.at) in
+pub past_more : (start old mid new : Replay) (j : List Entry) (e : Entry) → IsPast start old j →
+    IsTakenFrom old mid (Some e) → Enters mid new e true → IsPast start new j
+past_more start old mid new j e g t k =
+    let took = k.taken refl (j ++ g.between) (took_at old mid (Some e) (j ++ g.between) t g.at) in
     let same : left_of mid ≡ left_of new =
     ap (λ a. with_ahead a mid.entries) (sym k.ahead) ∙ ap (with_ahead new.ahead) (sym k.entries) in
     let left : left_of old ≡ e ∷ left_of new = took_left old mid (Some e) e t refl ∙ ap (λ l. e ∷ l) same in
-    record {
-      now = g.now ++ e ∷ [];
-      at = took.1;
-      fewer = let n = ap length left in let m = g.fewer in omega (arith, n, m);
-      leads = λ more x. g.leads more
-          (let P : List Entry → Type 0 = λ l. Happened g.now l more in subst P (sym left) (between took.0 x));
+    let P : List Entry → Type 0 = λ l. IsAt new l in record {
+      between = g.between ++ e ∷ [];
+      taken = taken_push j g.between e g.taken took.0;
+      left = g.left ∙ ap (λ l. g.between ++ l) left ∙ sym (append_assoc g.between (e ∷ []) (left_of new));
+      at = subst P (append_assoc j g.between (e ∷ [])) took.1;
     }
 
 -- a bit
@@ -115,16 +143,47 @@ ends_over start old mid j g t =
 -- ---- what a bit comes to
 
 pub brought_on : (start old mid new : Replay) (driven seen : Level) (result : Option Happening) →
-    ((j : List Entry) → IsAt start j → GoesOn start old j []) → IsTakenFrom old mid (Some (Bit driven seen)) →
+    ((j : List Entry) → IsAt start j → IsPast start old j) → IsTakenFrom old mid (Some (Bit driven seen)) →
     BringsNext mid new driven seen result →
     IfSome result (λ h. (j : List Entry) → IsAt start j → GoesOn start new j (h ∷ []))
 brought_on start old mid new driven seen None g t b = tt
 brought_on start old mid new driven seen (Some h) g t b = λ j at.
-    goes_bit start old mid new j driven seen h (g j at) t b
+    goes_bit start old mid new j driven seen h (goes_on start old j (g j at)) t b
+
+-- the bit itself
+pub tells_on : (start old mid new : Replay) (driven seen : Level) (result : Option Happening) →
+    ((j : List Entry) → IsAt start j → IsPast start old j) → IsTakenFrom old mid (Some (Bit driven seen)) →
+    BringsNext mid new driven seen result →
+    IfSome result (λ h. (j : List Entry) → IsAt start j → TellsBit start new j h)
+tells_on start old mid new driven seen None g t b = tt
+tells_on start old mid new driven seen (Some h) g t b = λ j at.
+    let p = g j at in
+    let e : Entry = Bit driven seen in
+    let k = b (j ++ p.between) (took_at old mid (Some e) (j ++ p.between) t p.at) in record {
+      between = p.between;
+      taken = p.taken;
+      driven = driven;
+      seen = seen;
+      rest = left_of mid;
+      left = p.left ∙ ap (λ l. p.between ++ l) (took_left old mid (Some e) e t refl);
+      few = k.few;
+      brings = k.brings;
+      brought = k.brought;
+      closes = k.closes;
+      at = k.at;
+    }
 
 pub untold_on : (start old mid new : Replay) (driven seen : Level) (result : Option Happening) →
-    ((j : List Entry) → IsAt start j → GoesOn start old j []) → IsTakenFrom old mid (Some (Bit driven seen)) →
+    ((j : List Entry) → IsAt start j → IsPast start old j) → IsTakenFrom old mid (Some (Bit driven seen)) →
     BringsNext mid new driven seen result →
     IfNone result ((j : List Entry) → IsAt start j → Happened j (left_of start) [])
-untold_on start old mid new driven seen None g t b = λ j at. ends_untold start old mid j driven seen (g j at) t b
+untold_on start old mid new driven seen None g t b = λ j at.
+    ends_untold start old mid j driven seen (goes_on start old j (g j at)) t b
 untold_on start old mid new driven seen (Some h) g t b = tt
+
+-- ---- where nothing is left
+
+-- an entry that was taken was left
+pub some_left : (old mid : Replay) (e : Entry) → IsTakenFrom old mid (Some e) → left_of old ≡ [] → ⊥
+some_left old mid e t none =
+    let more : e ∷ left_of mid ≡ [] = sym (took_left old mid (Some e) e t refl) ∙ none in cc

@@ -11,6 +11,7 @@
 mod fate;
 mod happening;
 mod items;
+mod laws;
 mod misfit;
 mod replay;
 mod verdicts;
@@ -18,5 +19,6 @@ mod view;
 
 pub use fate::Fate;
 pub use happening::Happening;
+pub use laws::a_journal_has_one_list_of_happenings;
 pub use replay::Replay;
 pub use view::View;

@@ -1,6 +1,6 @@
 //! [`Replay`]: a journal gone over bit by bit.
 
-ghost use Rattle.std.specs.Prelude.{◌≤◌, ◌≡◌, ◌≢◌, true, false};
+ghost use Rattle.std.specs.Prelude.{◌≤◌, ◌≡◌, ◌≢◌, true, false, []};
 
 use super::happening::Happening;
 use super::view::View;
@@ -28,10 +28,10 @@ pub struct Replay<'a> {
 }
 
 impl<'a> Replay<'a> {
-    ghost use Rattle.std.specs.Prelude.{◌≡◌, ◌∷◌, [], List, IfSome, IfNone};
+    ghost use Rattle.std.specs.Prelude.{◌≡◌, ◌∷◌, [], List, None, IfSome, IfNone};
     ghost use Rattle.sja_link.specs.declared.entry.Entry.{Entry as Item};
     ghost use Rattle.sja_replay.specs.Happened.{Happened};
-    ghost use Rattle.sja_replay.specs.Replaying.{left_of, IsAt, GoesOn};
+    ghost use Rattle.sja_replay.specs.Replaying.{left_of, IsAt, GoesOn, TellsBit};
     ghost use Rattle.sja_replay.specs.Inside.Walking.{IsTakenFrom, BringsNext};
 
     /// Before the first entry of a journal.
@@ -55,21 +55,35 @@ impl<'a> Replay<'a> {
     /// Goes on past the next bit and the entries that it brought, and tells what it brought.
     ///
     /// Nothing where no bit is left, or where an entry comes that can't come there: then the journal is none that a bus
-    /// writes, and the replay goes no further.
+    /// writes. No entry is left then, and each further call answers nothing.
     pub fn next(&mut self) -> Option<Happening>
         ensures some { IfSome result (λ h. (before : List Item) → IsAt self.old before
             → GoesOn self.old self.new before (h ∷ [])) }
+        ensures bit { IfSome result (λ h. (before : List Item) → IsAt self.old before
+            → TellsBit self.old self.new before h) }
         ensures none { IfNone result ((before : List Item) → IsAt self.old before
             → Happened before (left_of self.old) []) }
+        ensures ends { IfNone result (left_of self.new ≡ []) }
+        ensures over { left_of self.old ≡ [] → result ≡ None }
     {
         while let Some(entry) = self.take() {
             if let Entry::Bit(driven, seen) = entry {
-                return self.bit(driven, seen);
+                return self.told_bit(driven, seen);
             }
             if !self.enter(entry) {
-                return None;
+                return self.end();
             }
         }
+        self.end()
+    }
+
+    /// Lets go of the entries that are left.
+    fn end(&mut self) -> Option<Happening>
+        ensures none { result ≡ None }
+        ensures ends { left_of self.new ≡ [] }
+    {
+        self.ahead = None;
+        spend(&mut self.entries);
         None
     }
 
@@ -79,6 +93,17 @@ impl<'a> Replay<'a> {
     {
         let next = self.entries.next();
         mem::replace(&mut self.ahead, next)
+    }
+
+    /// A bit, with the entries that it brought; where it can't be told none is left.
+    fn told_bit(&mut self, driven: Level, seen: Level) -> Option<Happening>
+        ensures brings { BringsNext self.old self.new driven seen result }
+        ensures ends { IfNone result (left_of self.new ≡ []) }
+    {
+        match self.bit(driven, seen) {
+            Some(happening) => Some(happening),
+            None => self.end(),
+        }
     }
 
     /// A bit, with the entries that it brought. Nothing where they aren't those, or the node drives another level.
@@ -109,6 +134,13 @@ impl<'a> Replay<'a> {
             fate,
         })
     }
+}
+
+/// Takes all entries that are left.
+fn spend(entries: &mut Entries<'_>)
+    ensures { entries.new ≡ [] }
+{
+    while entries.next().is_some() {}
 }
 
 /// Whether two levels are one.

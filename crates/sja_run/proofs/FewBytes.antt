@@ -1,31 +1,28 @@
 -- Whatever becomes of a request, few bytes are read for it.
 use Rattle.std.proofs.Common.{◌≡◌, ◌≤◌, ◌+◌, ◌⊎◌, ◌++◌, List, ℕ, [], Option, length, length-append, sym, subst}
-use Rattle.std.proofs.Common.{arith, inl, inr, false, true}
+use Rattle.std.proofs.Common.{arith, inl, inr, false}
 use Rattle.std.specs.Io.KnownBytes.{Consumes}
 use Rattle.std.proofs.KnownBytes.{Consumes-nil, Consumes-trans}
 use Rattle.sja_plan.specs.Plan.{PlanValue}
 use Rattle.sja_words.specs.Words.{Request, ParsesAs, encode, decode, filter, arbitrate, message, run, wave}
-use Rattle.sja_words.specs.Words.{trace, frames, check, sweep, struck_plan}
+use Rattle.sja_words.specs.Words.{trace, frames, picture, candump, check, sweep, struck_plan}
 use Rattle.sja_log.specs.declared.run_fault.RunFault.{RunFault}
-use Rattle.sja_log.specs.declared.run_fault.RunFault.TheVariants.{Memory}
 use Rattle.sja_threads.specs.Stopping.{IsFaultOf}
 use Rattle.sja_texts.specs.declared.command_refusal.CommandRefusal.{CommandRefusal}
 use Rattle.sja_texts.specs.declared.command_refusal.CommandRefusal.TheVariants as refusal
-use Rattle.sja_run.specs.Answer.{AsksForRun, IsPrinted, IsRefused, request_left}
+use Rattle.sja_run.specs.Answer.{AsksForRun, IsPrinted, IsRefused, picture_or_drawing, request_left}
 use Rattle.sja_run.specs.Check.{IsChecked, HasHints}
 use Rattle.sja_run.specs.declared.plan_check.PlanCheck.{PlanCheck}
 use Rattle.sja_run.specs.declared.plan_check.PlanCheck.TheVariants.{Hints, Mistake}
 use Rattle.sja_run.specs.Input.{ReadsFew, RefusesInput}
-use Rattle.sja_run.specs.Frames.{IsListed}
-use Rattle.sja_run.specs.Run.{IsOfPlan, IsRunning, RefusesBy, RefusesRun}
-use Rattle.sja_run.specs.ThreadedRun.{IsRunningThreads, RefusesThreads}
+use Rattle.sja_run.specs.Run.{IsOfPlan, RefusesBy, RefusesRun, RefusesThreads}
+use Rattle.sja_run.specs.RunText.{IsTextOfRun, MayFault}
 use Rattle.sja_run.specs.Sweep.{IsStruck, IsSwept, RefusesOfPlan, RefusesStruck, RefusesSwept}
 use Rattle.sja_run.specs.declared.threaded.Threaded.{Threaded}
-use Rattle.sja_run.specs.declared.threaded.Threaded.TheVariants.{Run, Sweep}
-use Rattle.sja_run.specs.Trace.{IsTraced}
-use Rattle.sja_run.specs.Wave.{IsWaving}
+use Rattle.sja_run.specs.declared.run_text.RunText.TheVariants.{Report, Wave, Trace, Frames, Candump}
 use Rattle.sja_texts.specs.declared.sweep_refusal.SweepRefusal.{SweepRefusal}
 use Rattle.sja_run.proofs.PlanRefusals.{few_of_plan}
+use Rattle.sja_run.proofs.Requests.{asks_left}
 
 -- nothing was read
 pub unread : (input : Option (List ℕ)) → ReadsFew input input
@@ -36,14 +33,6 @@ pub read_more : (a b c : Option (List ℕ)) (some more : List ℕ) → Consumes 
     length some + length more ≤ 65537 → ReadsFew a c
 read_more a b c some more earlier later few =
     (some ++ more, Consumes-trans a b c some more earlier later, rw (length-append some more) few)
-
--- there is a report
-few_running : (before after : Option (List ℕ)) (text : List ℕ) → IsRunning before after text → ReadsFew before after
-few_running before after text runs = (runs.0, runs.1.0, runs.1.1)
-
--- there is a waveform
-few_waving : (before after : Option (List ℕ)) (text : List ℕ) → IsWaving before after text → ReadsFew before after
-few_waving before after text waves = (waves.0, waves.1.0, waves.1.1)
 
 -- there are hints
 few_hinted : (before after : Option (List ℕ)) (text : List ℕ) → HasHints before after text → ReadsFew before after
@@ -69,11 +58,6 @@ few_unchecked before after (refusal.Layout fault) h = absurd h
 few_unchecked before after (refusal.Line fault) h = absurd h
 few_unchecked before after (refusal.Notation fault) h = absurd h
 
--- there is a report of a run in threads
-pub few_running_threads : (before after : Option (List ℕ)) (text : List ℕ) → IsRunningThreads before after text →
-    ReadsFew before after
-few_running_threads before after text runs = (runs.0, runs.1.0, runs.1.1)
-
 -- there is none
 few_refused : (May : PlanValue → RunFault → Type 0) (before after : Option (List ℕ)) (r : CommandRefusal) →
     RefusesBy May before after r → ReadsFew before after
@@ -87,10 +71,6 @@ few_refused May before after refusal.NotALine h = absurd h
 few_refused May before after (refusal.Layout fault) h = absurd h
 few_refused May before after (refusal.Line fault) h = absurd h
 few_refused May before after (refusal.Notation fault) h = absurd h
-
-pub few_refused_threads : (before after : Option (List ℕ)) (r : CommandRefusal) →
-    RefusesThreads before after r → ReadsFew before after
-few_refused_threads before after r h = few_refused IsFaultOf before after r h
 
 -- where the input isn't read there is no report
 pub refused_input : (before after : Option (List ℕ)) (r : CommandRefusal) → RefusesInput before after r →
@@ -121,7 +101,7 @@ refused_threads before after (refusal.Line fault) h = absurd h
 refused_threads before after (refusal.Notation fault) h = absurd h
 refused_threads before after (refusal.Sweep why) h = absurd h
 
--- there is a trace, a list of frames, a sweep, or a plan with a strike more
+-- there is a text of a run, a sweep, or a plan with a strike more
 few_of : (Is : PlanValue → List ℕ → Type 0) (before after : Option (List ℕ)) (text : List ℕ) →
     IsOfPlan Is before after text → ReadsFew before after
 few_of Is before after text has = (has.0, has.2.0, has.2.1)
@@ -129,7 +109,7 @@ few_of Is before after text has = (has.0, has.2.0, has.2.1)
 -- there is none
 few_of_none : (May : PlanValue → SweepRefusal → Type 0) (before after : Option (List ℕ)) (r : CommandRefusal) →
     RefusesOfPlan May before after r → ReadsFew before after
-few_of_none May before after r h = few_of_plan May before after r (few_refused (λ p f. f ≡ Memory) before after r) h
+few_of_none May before after r h = few_of_plan May before after r (few_refused (MayFault false) before after r) h
 
 -- nothing was read
 few_same : (before after : Option (List ℕ)) → after ≡ before → ReadsFew before after
@@ -139,15 +119,22 @@ few_same before after same = subst (ReadsFew before) (sym same) (unread before)
 pub few_printed : (r : Request) (before after : Option (List ℕ)) (text : List ℕ) → AsksForRun r ⊎ (after ≡ before) →
     IsPrinted r before after text → ReadsFew before after
 few_printed r before after text (inr same) printed = few_same before after same
-few_printed (run false) before after text (inl asks) printed = few_running before after text printed
-few_printed wave before after text (inl asks) printed = few_waving before after text printed
-few_printed trace before after text (inl asks) printed = few_of IsTraced before after text printed
-few_printed frames before after text (inl asks) printed = few_of IsListed before after text printed
+few_printed (run threads) before after text (inl asks) printed =
+    few_of (IsTextOfRun threads Report) before after text printed
+few_printed (wave threads) before after text (inl asks) printed =
+    few_of (IsTextOfRun threads Wave) before after text printed
+few_printed (trace threads) before after text (inl asks) printed =
+    few_of (IsTextOfRun threads Trace) before after text printed
+few_printed (frames threads) before after text (inl asks) printed =
+    few_of (IsTextOfRun threads Frames) before after text printed
+few_printed (picture first last svg threads) before after text (inl asks) printed =
+    few_of (IsTextOfRun threads (picture_or_drawing svg first last)) before after text printed
+few_printed (candump errors threads) before after text (inl asks) printed =
+    few_of (IsTextOfRun threads (Candump errors)) before after text printed
 few_printed check before after text (inl asks) printed = few_hinted before after text printed
 few_printed (sweep w) before after text (inl asks) printed = few_of (IsSwept w) before after text printed
 few_printed (struck_plan node bit) before after text (inl asks) printed =
     few_of (IsStruck node bit) before after text printed
-few_printed (run true) before after text (inl asks) printed = few_running_threads before after text printed
 few_printed (encode digits) before after text (inl asks) printed = absurd asks
 few_printed (decode digits) before after text (inl asks) printed = absurd asks
 few_printed (filter single acr amr digits) before after text (inl asks) printed = absurd asks
@@ -158,19 +145,22 @@ few_printed (message given) before after text (inl asks) printed = absurd asks
 pub few_turned_down : (r : Request) (before after : Option (List ℕ)) (why : CommandRefusal) →
     AsksForRun r ⊎ (after ≡ before) → IsRefused r before after why → ReadsFew before after
 few_turned_down r before after why (inr same) refused = few_same before after same
-few_turned_down (run false) before after why (inl asks) refused =
-    few_refused (λ plan fault. fault ≡ Memory) before after why refused
-few_turned_down wave before after why (inl asks) refused =
-    few_refused (λ plan fault. fault ≡ Memory) before after why refused
-few_turned_down trace before after why (inl asks) refused =
-    few_refused (λ plan fault. fault ≡ Memory) before after why refused
-few_turned_down frames before after why (inl asks) refused =
-    few_refused (λ plan fault. fault ≡ Memory) before after why refused
+few_turned_down (run threads) before after why (inl asks) refused =
+    few_refused (MayFault threads) before after why refused
+few_turned_down (wave threads) before after why (inl asks) refused =
+    few_refused (MayFault threads) before after why refused
+few_turned_down (trace threads) before after why (inl asks) refused =
+    few_refused (MayFault threads) before after why refused
+few_turned_down (frames threads) before after why (inl asks) refused =
+    few_refused (MayFault threads) before after why refused
+few_turned_down (picture first last svg threads) before after why (inl asks) refused =
+    few_refused (MayFault threads) before after why refused
+few_turned_down (candump errors threads) before after why (inl asks) refused =
+    few_refused (MayFault threads) before after why refused
 few_turned_down check before after why (inl asks) refused = few_unchecked before after why refused
 few_turned_down (sweep w) before after why (inl asks) refused = few_of_none (RefusesSwept w) before after why refused
 few_turned_down (struck_plan node bit) before after why (inl asks) refused =
     few_of_none (RefusesStruck node bit) before after why refused
-few_turned_down (run true) before after why (inl asks) refused = few_refused_threads before after why refused
 few_turned_down (encode digits) before after why (inl asks) refused = absurd asks
 few_turned_down (decode digits) before after why (inl asks) refused = absurd asks
 few_turned_down (filter single acr amr digits) before after why (inl asks) refused = absurd asks
@@ -180,13 +170,13 @@ few_turned_down (message given) before after why (inl asks) refused = absurd ask
 -- of what is left to threads
 pub few_left_printed : (left : Threaded) (before after : Option (List ℕ)) (text : List ℕ) →
     IsPrinted (request_left left) before after text → ReadsFew before after
-few_left_printed Run before after text printed = few_running_threads before after text printed
-few_left_printed (Sweep w) before after text printed = few_of (IsSwept w) before after text printed
+few_left_printed left before after text printed =
+    few_printed (request_left left) before after text (inl (asks_left left)) printed
 
 pub few_left_refused : (left : Threaded) (before after : Option (List ℕ)) (why : CommandRefusal) →
     IsRefused (request_left left) before after why → ReadsFew before after
-few_left_refused Run before after why refused = few_refused_threads before after why refused
-few_left_refused (Sweep w) before after why refused = few_of_none (RefusesSwept w) before after why refused
+few_left_refused left before after why refused =
+    few_turned_down (request_left left) before after why (inl (asks_left left)) refused
 
 -- words that ask about no plan leave the input as it is
 pub only_runs_read : (words : List (List ℕ)) (r : Request) (Same : Type 0) → ParsesAs words r → AsksForRun r ⊎ Same →

@@ -1,7 +1,7 @@
 -- Refused memory is a refusal of each request.
-use Rattle.std.proofs.Common.{List, ℕ, Option, true, false, refl, inl, inr}
+use Rattle.std.proofs.Common.{List, ℕ, Option, refl, inl, inr}
 use Rattle.sja_words.specs.Words.{Request, encode, decode, filter, arbitrate, message, run, wave}
-use Rattle.sja_words.specs.Words.{trace, frames, check, sweep, struck_plan}
+use Rattle.sja_words.specs.Words.{trace, frames, picture, candump, check, sweep, struck_plan}
 use Rattle.sja_run.specs.Answer.{IsRefused}
 use Rattle.sja_run.specs.Input.{ReadsFew}
 use Rattle.sja_texts.specs.declared.command_refusal.CommandRefusal.TheVariants.{OutOfMemory}
@@ -14,11 +14,12 @@ memory_refused (decode digits) before after few = tt
 memory_refused (filter single acr amr digits) before after few = inl refl
 memory_refused (arbitrate messages) before after few = inl refl
 memory_refused (message given) before after few = inr (inr refl)
-memory_refused (run false) before after few = few
-memory_refused (run true) before after few = few
-memory_refused wave before after few = few
-memory_refused trace before after few = few
-memory_refused frames before after few = few
+memory_refused (run threads) before after few = few
+memory_refused (wave threads) before after few = few
+memory_refused (trace threads) before after few = few
+memory_refused (frames threads) before after few = few
+memory_refused (picture first last svg threads) before after few = few
+memory_refused (candump errors threads) before after few = few
 memory_refused check before after few = few
 memory_refused (sweep w) before after few = few
 memory_refused (struck_plan node bit) before after few = few

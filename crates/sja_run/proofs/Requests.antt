@@ -3,11 +3,16 @@ use Rattle.std.proofs.Common.{◌≡◌, ◌⊎◌, ℕ, Bool, List, Option, Som
 use Rattle.std.proofs.Math.Decide.{dec_lt}
 use Rattle.std.specs.Io.KnownBytes.{Keeps}
 use Rattle.sja_words.specs.Words.{Request, ParsesAs, encode, decode, filter, arbitrate, message, run, wave}
-use Rattle.sja_words.specs.Words.{trace, frames, check, sweep, struck_plan}
+use Rattle.sja_words.specs.Words.{trace, frames, picture, candump, check, sweep, struck_plan}
 use Rattle.sja_texts.specs.declared.command_refusal.CommandRefusal.TheVariants.{OutOfMemory}
-use Rattle.sja_run.specs.Answer.{AsksForRun, AsksForThreads, Shows, IsLeft, request_left}
+use Rattle.sja_texts.specs.declared.command_refusal.CommandRefusal.{CommandRefusal}
+use Rattle.sja_run.specs.Answer.{AsksForRun, AsksForThreads, IsPrinted, IsRefused, Shows, IsLeft, request_left}
+use Rattle.sja_run.specs.Run.{IsOfPlan, RefusesThreads}
+use Rattle.sja_run.specs.RunText.{IsTextOfRun}
+use Rattle.sja_run.specs.declared.run_text.RunText.{RunText}
+use Rattle.sja_run.specs.declared.run_text.RunText.TheVariants.{Report, Wave, Trace, Frames, Picture, Drawing, Candump}
 use Rattle.sja_run.specs.declared.threaded.Threaded.{Threaded}
-use Rattle.sja_run.specs.declared.threaded.Threaded.TheVariants.{Run, Sweep}
+use Rattle.sja_run.specs.declared.threaded.Threaded.TheVariants.{Text, Sweep}
 use Rattle.sja_run.specs.Input.{ReadsFew}
 use Rattle.sja_run.proofs.RefusedMemory.{memory_refused}
 
@@ -24,17 +29,52 @@ is_threads (decode digits) = inr (λ asks. asks)
 is_threads (filter single acr amr digits) = inr (λ asks. asks)
 is_threads (arbitrate messages) = inr (λ asks. asks)
 is_threads (message given) = inr (λ asks. asks)
-is_threads wave = inr (λ asks. asks)
-is_threads trace = inr (λ asks. asks)
-is_threads frames = inr (λ asks. asks)
+is_threads (wave true) = inl tt
+is_threads (wave false) = inr (λ asks. asks)
+is_threads (trace true) = inl tt
+is_threads (trace false) = inr (λ asks. asks)
+is_threads (frames true) = inl tt
+is_threads (frames false) = inr (λ asks. asks)
+is_threads (picture first last svg true) = inl tt
+is_threads (picture first last svg false) = inr (λ asks. asks)
+is_threads (candump errors true) = inl tt
+is_threads (candump errors false) = inr (λ asks. asks)
 is_threads check = inr (λ asks. asks)
 is_threads (sweep w) = elim (dec_lt 1 w.jobs) [ yes more ↦ inl more | no not ↦ inr not ]
 is_threads (struck_plan node bit) = inr (λ asks. asks)
 
 -- whatever is left to threads asks about a plan
 pub asks_left : (left : Threaded) → AsksForRun (request_left left)
-asks_left Run = tt
+asks_left (Text Report) = tt
+asks_left (Text Wave) = tt
+asks_left (Text Trace) = tt
+asks_left (Text Frames) = tt
+asks_left (Text (Picture first last)) = tt
+asks_left (Text (Drawing first last)) = tt
+asks_left (Text (Candump errors)) = tt
 asks_left (Sweep w) = tt
+
+-- what is printed of a run in threads is what was left to them
+pub left_printed : (what : RunText) (before after : Option (List ℕ)) (text : List ℕ) →
+    IsOfPlan (IsTextOfRun true what) before after text → IsPrinted (request_left (Text what)) before after text
+left_printed Report before after text has = has
+left_printed Wave before after text has = has
+left_printed Trace before after text has = has
+left_printed Frames before after text has = has
+left_printed (Picture first last) before after text has = has
+left_printed (Drawing first last) before after text has = has
+left_printed (Candump errors) before after text has = has
+
+-- and so is what is refused of it
+pub left_refused : (what : RunText) (before after : Option (List ℕ)) (why : CommandRefusal) →
+    RefusesThreads before after why → IsRefused (request_left (Text what)) before after why
+left_refused Report before after why has = has
+left_refused Wave before after why has = has
+left_refused Trace before after why has = has
+left_refused Frames before after why has = has
+left_refused (Picture first last) before after why has = has
+left_refused (Drawing first last) before after why has = has
+left_refused (Candump errors) before after why has = has
 
 -- what is left to threads, and isn't left, since memory was refused
 pub left_shows : (r : Request) (status : ℕ) (failed : Bool)

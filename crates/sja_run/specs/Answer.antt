@@ -2,7 +2,7 @@
 use Rattle.std.specs.Prelude.{◌≡◌, ◌⊎◌, ◌<◌, ℕ, Bool, true, false, List, Option, Some, None, Result, Ok, Err}
 use Rattle.std.specs.Io.KnownBytes.{Appends, Keeps}
 use Rattle.sja_words.specs.Words.{Request, encode, decode, filter, arbitrate, message, run, wave}
-use Rattle.sja_words.specs.Words.{trace, frames, check, sweep, struck_plan}
+use Rattle.sja_words.specs.Words.{trace, frames, picture, candump, check, sweep, struck_plan}
 use Rattle.sja_texts.specs.declared.command_refusal.CommandRefusal.{CommandRefusal}
 use Rattle.sja_texts.specs.declared.command_refusal.CommandRefusal.TheVariants as refusal
 use Rattle.sja_texts.specs.Arbitrate.{IsArbitration, RefusesMessages}
@@ -14,22 +14,23 @@ use Rattle.sja_texts.specs.Notation.{IsTranslation, RefusesTranslation}
 use Rattle.sja_texts.specs.Refusal.{refusal_line}
 use Rattle.sja_run.specs.Check.{HasHints, HasMistake}
 use Rattle.sja_run.specs.Input.{RefusesInput}
-use Rattle.sja_run.specs.Frames.{IsListed}
-use Rattle.sja_run.specs.Run.{IsOfPlan, IsRunning, RefusesRun}
+use Rattle.sja_run.specs.Run.{IsOfPlan, RefusesBy}
+use Rattle.sja_run.specs.RunText.{IsTextOfRun, MayFault}
 use Rattle.sja_run.specs.Sweep.{IsStruck, IsSwept, RefusesOfPlan, RefusesStruck, RefusesSwept}
 use Rattle.sja_run.specs.declared.threaded.Threaded.{Threaded}
-use Rattle.sja_run.specs.declared.threaded.Threaded.TheVariants.{Run, Sweep}
-use Rattle.sja_run.specs.ThreadedRun.{IsRunningThreads, RefusesThreads}
-use Rattle.sja_run.specs.Trace.{IsTraced}
-use Rattle.sja_run.specs.Wave.{IsWaving}
+use Rattle.sja_run.specs.declared.run_text.RunText.{RunText}
+use Rattle.sja_run.specs.declared.run_text.RunText.TheVariants.{Report, Wave, Trace, Frames, Picture, Drawing, Candump}
+use Rattle.sja_run.specs.declared.threaded.Threaded.TheVariants.{Text, Sweep}
 
--- a plan is asked about: its report, its waveform, its trace, its frames, whether it is one, its sweep, or the plan
--- with a strike more. For these alone the input is read
+-- a plan is asked about: a text of its run, whether it is one, its sweep, or the plan with a strike more. For these
+-- alone the input is read
 abbrev pub AsksForRun : Request → Type 0
 AsksForRun (run threads) = Unit {0}
-AsksForRun wave = Unit {0}
-AsksForRun trace = Unit {0}
-AsksForRun frames = Unit {0}
+AsksForRun (wave threads) = Unit {0}
+AsksForRun (trace threads) = Unit {0}
+AsksForRun (frames threads) = Unit {0}
+AsksForRun (picture first last svg threads) = Unit {0}
+AsksForRun (candump errors threads) = Unit {0}
 AsksForRun check = Unit {0}
 AsksForRun (sweep w) = Unit {0}
 AsksForRun (struck_plan node bit) = Unit {0}
@@ -38,12 +39,32 @@ AsksForRun other = ⊥
 -- threads are asked for: a run with each driver in a thread of its own, or a sweep in more than one thread
 abbrev pub AsksForThreads : Request → Type 0
 AsksForThreads (run true) = Unit {0}
+AsksForThreads (wave true) = Unit {0}
+AsksForThreads (trace true) = Unit {0}
+AsksForThreads (frames true) = Unit {0}
+AsksForThreads (picture first last svg true) = Unit {0}
+AsksForThreads (candump errors true) = Unit {0}
 AsksForThreads (sweep w) = 1 < w.jobs
 AsksForThreads other = ⊥
 
+-- a text of a run, in threads or in one, as what was asked for
+abbrev pub request_for : Bool → RunText → Request
+request_for threads Report = run threads
+request_for threads Wave = wave threads
+request_for threads Trace = trace threads
+request_for threads Frames = frames threads
+request_for threads (Picture first last) = picture first last false threads
+request_for threads (Drawing first last) = picture first last true threads
+request_for threads (Candump errors) = candump errors threads
+
+-- the text that `picture` asks for: a drawing in SVG (`true`), or a picture
+abbrev pub picture_or_drawing : Bool → ℕ → Option ℕ → RunText
+picture_or_drawing true first last = Drawing first last
+picture_or_drawing false first last = Picture first last
+
 -- what is left to threads, as what was asked for
 abbrev pub request_left : Threaded → Request
-request_left Run = run true
+request_left (Text what) = request_for true what
 request_left (Sweep w) = sweep w
 
 -- the exit status, where nothing is left to threads
@@ -58,11 +79,13 @@ IsPrinted (decode digits) before after text = IsDecoding digits text
 IsPrinted (filter single acr amr digits) before after text = IsFiltering single acr amr digits text
 IsPrinted (arbitrate messages) before after text = IsArbitration messages text
 IsPrinted (message given) before after text = IsTranslation given text
-IsPrinted (run false) before after text = IsRunning before after text
-IsPrinted (run true) before after text = IsRunningThreads before after text
-IsPrinted wave before after text = IsWaving before after text
-IsPrinted trace before after text = IsOfPlan IsTraced before after text
-IsPrinted frames before after text = IsOfPlan IsListed before after text
+IsPrinted (run threads) before after text = IsOfPlan (IsTextOfRun threads Report) before after text
+IsPrinted (wave threads) before after text = IsOfPlan (IsTextOfRun threads Wave) before after text
+IsPrinted (trace threads) before after text = IsOfPlan (IsTextOfRun threads Trace) before after text
+IsPrinted (frames threads) before after text = IsOfPlan (IsTextOfRun threads Frames) before after text
+IsPrinted (picture first last svg threads) before after text =
+    IsOfPlan (IsTextOfRun threads (picture_or_drawing svg first last)) before after text
+IsPrinted (candump errors threads) before after text = IsOfPlan (IsTextOfRun threads (Candump errors)) before after text
 IsPrinted check before after text = HasHints before after text
 IsPrinted (sweep w) before after text = IsOfPlan (IsSwept w) before after text
 IsPrinted (struck_plan node bit) before after text = IsOfPlan (IsStruck node bit) before after text
@@ -74,11 +97,12 @@ IsRefused (decode digits) before after r = RefusesLine digits r
 IsRefused (filter single acr amr digits) before after r = RefusesFilter acr amr digits r
 IsRefused (arbitrate messages) before after r = RefusesMessages messages r
 IsRefused (message given) before after r = RefusesTranslation given r
-IsRefused (run false) before after r = RefusesRun before after r
-IsRefused (run true) before after r = RefusesThreads before after r
-IsRefused wave before after r = RefusesRun before after r
-IsRefused trace before after r = RefusesRun before after r
-IsRefused frames before after r = RefusesRun before after r
+IsRefused (run threads) before after r = RefusesBy (MayFault threads) before after r
+IsRefused (wave threads) before after r = RefusesBy (MayFault threads) before after r
+IsRefused (trace threads) before after r = RefusesBy (MayFault threads) before after r
+IsRefused (frames threads) before after r = RefusesBy (MayFault threads) before after r
+IsRefused (picture first last svg threads) before after r = RefusesBy (MayFault threads) before after r
+IsRefused (candump errors threads) before after r = RefusesBy (MayFault threads) before after r
 IsRefused check before after r = RefusesInput before after r
 IsRefused (sweep w) before after r = RefusesOfPlan (RefusesSwept w) before after r
 IsRefused (struck_plan node bit) before after r = RefusesOfPlan (RefusesStruck node bit) before after r

@@ -1,9 +1,6 @@
 pub mod Input
+pub mod RunText
 pub mod Run
-pub mod Wave
-pub mod Trace
-pub mod Frames
-pub mod ThreadedRun
 pub mod Check
 pub mod Sweep
 pub mod Answer

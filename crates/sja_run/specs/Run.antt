@@ -1,15 +1,13 @@
--- What `run` prints and refuses, by what the input held before and holds after (this project's own rule).
-use Rattle.std.specs.Prelude.{◌≡◌, ℕ, List, Option}
+-- Why there is a text of the plan on the input, and why there is none, by what the input held before and holds after
+-- (this project's own rule).
+use Rattle.std.specs.Prelude.{ℕ, true, false, List, Option}
 use Rattle.sja_plan.specs.Plan.{PlanValue}
 use Rattle.sja_plan.specs.Faults.{IsPlanOf, IsFirstFault}
-use Rattle.sja_log.specs.Log.{RunValue}
-use Rattle.sja_report.specs.ReportLines.{report_text}
-use Rattle.sja_log.specs.Runs.{IsSerialRun}
 use Rattle.sja_log.specs.declared.run_fault.RunFault.{RunFault}
-use Rattle.sja_log.specs.declared.run_fault.RunFault.TheVariants.{Memory}
 use Rattle.sja_texts.specs.declared.command_refusal.CommandRefusal.{CommandRefusal}
 use Rattle.sja_texts.specs.declared.command_refusal.CommandRefusal.TheVariants as refusal
 use Rattle.sja_run.specs.Input.{IsRead, ReadsFew, BreaksOff}
+use Rattle.sja_run.specs.RunText.{MayFault}
 
 -- the bytes that were read are this plan
 abbrev pub HoldsPlan : Option (List ℕ) → Option (List ℕ) → PlanValue → Type 0
@@ -20,17 +18,8 @@ abbrev pub IsOfPlan : (PlanValue → List ℕ → Type 0) → Option (List ℕ) 
 IsOfPlan Is before after text =
     (bytes : List ℕ) × (plan : PlanValue) × IsRead before after bytes × IsPlanOf bytes plan × Is plan text
 
--- the text is the report of such a run of the plan that these bytes are
-abbrev pub IsReportBy : (PlanValue → RunValue → Type 0) → List ℕ → List ℕ → Type 0
-IsReportBy Runs bytes text =
-    (plan : PlanValue) × (log : RunValue) × IsPlanOf bytes plan × Runs plan log × (text ≡ report_text log)
-
--- the text is the report of a run in one thread of the plan that the bytes which were read are
-abbrev pub IsRunning : Option (List ℕ) → Option (List ℕ) → List ℕ → Type 0
-IsRunning before after text = (bytes : List ℕ) × IsRead before after bytes × IsReportBy IsSerialRun bytes text
-
--- why there is no report. Memory may be refused at any time, and a read may fail. Else the bytes that were read have
--- this first fault, or they are a plan, and its run had one of these faults
+-- why there is no text of a run. Memory may be refused at any time, and a read may fail. Else the bytes that were read
+-- have this first fault, or they are a plan, and its run had one of these faults
 abbrev pub RefusesBy : (PlanValue → RunFault → Type 0) → Option (List ℕ) → Option (List ℕ) → CommandRefusal → Type 0
 RefusesBy May before after refusal.OutOfMemory = ReadsFew before after
 RefusesBy May before after refusal.Read = BreaksOff before after
@@ -45,6 +34,10 @@ RefusesBy May before after (refusal.Line fault) = ⊥
 RefusesBy May before after (refusal.Notation fault) = ⊥
 RefusesBy May before after (refusal.Sweep why) = ⊥
 
--- in one thread: in the run memory was refused
+-- of a run in one thread
 abbrev pub RefusesRun : Option (List ℕ) → Option (List ℕ) → CommandRefusal → Type 0
-RefusesRun = RefusesBy (λ plan fault. fault ≡ Memory)
+RefusesRun = RefusesBy (MayFault false)
+
+-- and of one in threads; there is a gate for each node
+abbrev pub RefusesThreads : Option (List ℕ) → Option (List ℕ) → CommandRefusal → Type 0
+RefusesThreads = RefusesBy (MayFault true)

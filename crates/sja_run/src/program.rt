@@ -9,7 +9,7 @@ use super::output::Output;
 use super::serial::sja_serial;
 use super::sweeps::told_sweep_jobs;
 use super::threaded::Threaded;
-use super::threaded_run::reported_threads;
+use super::threaded_text::written_threads;
 use sja_texts::CommandRefusal;
 use std::alloc::Global;
 use std::convert::AsStr;
@@ -23,9 +23,9 @@ use std::thread::Threads;
 /// The status is 0 where the text was written, 1 where an argument, the plan or memory was refused, a run failed, or a
 /// read or a write failed, and 2 where the words don't parse, or ask for help or the version; then `err` has the
 /// parser's own text.
-/// `input` is read for `run`, with `--threads` or without, and for `wave`, `trace`, `frames`, `check` and `sweep`
-/// alone: at most 65,537 bytes of it, in at most 131,074 reads.
-/// For `run --threads`, and for `sweep --jobs` with more than one, alone it starts threads, and waits for them.
+/// `input` is read for a text of a run, with `--threads` or without, and for `check` and `sweep` alone: at most 65,537
+/// bytes of it, in at most 131,074 reads.
+/// For `--threads`, and for `sweep --jobs` with more than one, alone it starts threads, and waits for them.
 /// The words, texts and statuses are this project's own rule.
 pub fn sja<T: Threads + Wait + Sync, S: AsStr, R: Read, O: Write, E: Write>(
     rt: &T,
@@ -85,6 +85,7 @@ fn reply_threads<T: Threads + Wait + Sync, R: Read, O: Write, E: Write>(
 }
 
 /// The text that answers what is left to threads.
+#[tactic(auto, using(crate::proofs::Requests::left_printed, crate::proofs::Requests::left_refused))]
 fn printed_threads<T: Threads + Wait + Sync, R: Read>(
     rt: &T,
     alloc: Global,
@@ -97,7 +98,7 @@ fn printed_threads<T: Threads + Wait + Sync, R: Read>(
         (IsRefused (request_left threaded) (R.remaining input.old) (R.remaining input.new)) }
 {
     match threaded {
-        Threaded::Run => reported_threads(rt, alloc, input),
+        Threaded::Text(what) => written_threads(rt, alloc, what, input),
         Threaded::Sweep(words) => told_sweep_jobs(rt, alloc, words, input),
     }
 }

@@ -10,6 +10,7 @@ use super::answer::printed;
 use super::check::checked;
 use super::output::Output;
 use super::plan_check::PlanCheck;
+use super::run_text::{RunText, picture_or_drawing};
 use super::threaded::Threaded;
 use sja_texts::CommandRefusal;
 use sja_words::{Task, WordsFault, parse};
@@ -23,8 +24,8 @@ use std::io::{Read, Write};
 ///
 /// The status is 0 where the text was written, 1 where an argument, the plan or memory was refused or a read or a write
 /// failed, and 2 where the words don't parse, or ask for help or the version; then `err` has the parser's own text.
-/// `input` is read for `run`, `wave`, `trace`, `frames`, `check` and `sweep` alone: at most 65,537 bytes of it, in at
-/// most 131,074 reads.
+/// `input` is read for a text of a run, for `check` and for `sweep` alone: at most 65,537 bytes of it, in at most
+/// 131,074 reads.
 /// The words, texts and statuses are this project's own rule.
 #[tactic(auto, using(crate::proofs::FewBytes::unread))]
 pub fn sja_serial<S: AsStr, R: Read, O: Write, E: Write>(
@@ -71,7 +72,20 @@ fn threads_for(task: &Task<'_>) -> Option<Threaded>
     ensures none { result ≡ None → ¬ AsksForThreads (request_of task.now) }
 {
     match task {
-        Task::Run { threads: true } => Some(Threaded::Run),
+        Task::Run { threads: true } => Some(Threaded::Text(RunText::Report)),
+        Task::Wave { threads: true } => Some(Threaded::Text(RunText::Wave)),
+        Task::Trace { threads: true } => Some(Threaded::Text(RunText::Trace)),
+        Task::Frames { threads: true } => Some(Threaded::Text(RunText::Frames)),
+        Task::Picture {
+            first,
+            last,
+            svg,
+            threads: true,
+        } => Some(Threaded::Text(picture_or_drawing(*first, *last, *svg))),
+        Task::Candump {
+            errors,
+            threads: true,
+        } => Some(Threaded::Text(RunText::Candump(*errors))),
         Task::Sweep(words) if words.jobs > 1 => Some(Threaded::Sweep(*words)),
         _ => None,
     }

@@ -6,3 +6,4 @@ pub mod AfterNodeTurn
 pub mod Coming
 pub mod Ended
 pub mod Whole
+pub mod Struck

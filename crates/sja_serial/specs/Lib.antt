@@ -15,5 +15,6 @@ pub mod Bits
 pub mod Serial
 pub mod Beginning
 pub mod Stepping
+pub mod Striking
 -- ---- its end
 pub mod Ending

@@ -5,14 +5,15 @@
 //! A [`SerialRun`] has the bus, and of each node its port, its eight links and its driver with the log of what it did.
 //! It is made of a plan ([`SerialRun::new`]), takes the turns of its nodes ([`SerialRun::node_turn`]), or a step of one
 //! ([`SerialRun::try_next`]), and those of the bus ([`SerialRun::bus_turn`], [`SerialRun::rest_turn`]), and ends with
-//! its log ([`SerialRun::finish`]). After each step of a driver the bus takes what was given, so between two steps
-//! nothing waits on a link: each item is taken after just the bits before its step, and no link is ever full upward.
+//! its log ([`SerialRun::finish`]). A bit that hasn't run can be struck too ([`SerialRun::strike`]). After each step of
+//! a driver the bus takes what was given, so between two steps nothing waits on a link: each item is taken after just
+//! the bits before its step, and no link is ever full upward.
 //!
 //! Contracts say at which deeds of the drivers a run stands, `StandsAt` of `specs/Serial.antt`: of each node its driver
 //! did these deeds, of the steps that the plan has for it; its links carried what its journal and its deeds say; its
 //! port is as its writes and loads have set it; and all was in time, as `IsInTime` of sja_log has it.
 //!
-//! `SerialRun::new` and `SerialRun::finish` alone take memory.
+//! `SerialRun::new`, `SerialRun::strike` and `SerialRun::finish` alone take memory.
 //! The tests stand in `crates/test_runs`.
 #![tactic(auto)]
 
@@ -24,6 +25,7 @@ mod looking;
 mod node_turns;
 mod run;
 mod serial_run;
+mod striking;
 
 pub use run::run_serial;
 pub use serial_run::SerialRun;

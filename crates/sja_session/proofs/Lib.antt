@@ -12,3 +12,4 @@ pub mod BitsRun
 pub mod RestRun
 pub mod Finished
 pub mod LastAnswer
+pub mod Struck

@@ -11,6 +11,7 @@ pub mod Running
 pub mod Resting
 pub mod Lines
 pub mod Watching
+pub mod Striking
 -- ---- drivers that know addresses and bytes alone
 pub mod RawSessions
 pub mod Inside

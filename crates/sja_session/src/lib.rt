@@ -1,14 +1,15 @@
 //! Sessions: runs in one thread that whoever holds them drives, call by call.
 //!
 //! A [`Session`] is a bus of one to eight controllers with their drivers. [`Session::step`] does one step of a driver
-//! now and gives its answer, and [`Session::bits`] runs bits. [`Session::answer`] is the last answer of a node,
-//! [`Session::now`] says how many bits were run. What was done is written down: [`Session::plan`] is the plan so far,
-//! and [`Session::finish`] gives that plan with the log of the session, which is the log of a run in one thread of just
-//! that plan, with all that is promised of it. `docs/SESSIONS.md` shows a first program.
+//! now and gives its answer, [`Session::bits`] runs bits, and [`Session::strike`] has a node see the other level in a
+//! bit to come. [`Session::answer`] is the last answer of a node, [`Session::now`] says how many bits were run. What
+//! was done is written down: [`Session::plan`] is the plan so far, and [`Session::finish`] gives that plan with the log
+//! of the session, which is the log of a run in one thread of just that plan, with all that is promised of it.
+//! `docs/SESSIONS.md` shows a first program.
 //!
-//! A call that can't be done is refused with its reason ([`SessionFault`], [`StepFault`], [`TurnsUsed`]), and changes
-//! nothing. All memory that steps and bits need is reserved by [`Session::new`]; beside it `plan` and `finish` alone
-//! take memory. The tests stand in `crates/test_session`.
+//! A call that can't be done is refused with its reason ([`SessionFault`], [`StepFault`], [`StrikeFault`],
+//! [`TurnsUsed`]), and changes nothing. All memory that steps and bits need is reserved by [`Session::new`]; beside it
+//! `strike`, `plan` and `finish` alone take memory. The tests stand in `crates/test_session`.
 #![tactic(auto)]
 
 mod accesses;
@@ -26,6 +27,8 @@ mod session;
 mod session_fault;
 mod step_fault;
 mod stepping;
+mod strike_fault;
+mod striking;
 mod turns;
 mod turns_used;
 mod watched;
@@ -37,5 +40,6 @@ pub use rested::Rested;
 pub use session::{LAST_VERSION, Session};
 pub use session_fault::SessionFault;
 pub use step_fault::StepFault;
+pub use strike_fault::StrikeFault;
 pub use turns_used::TurnsUsed;
 pub use watched::Watched;

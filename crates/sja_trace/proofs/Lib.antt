@@ -3,7 +3,7 @@ pub mod Sayings
 pub mod Lines
 pub mod BusLevels
 pub mod Parts
-pub mod Coming
+pub mod Telling
 pub mod NodeStories
 pub mod UpTo
 pub mod WrittenBack

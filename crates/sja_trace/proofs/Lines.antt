@@ -5,11 +5,12 @@ use Rattle.std.proofs.lemmas.List.{drop_more}
 use Rattle.std.proofs.Math.ListN.{drop_of_length-le}
 use Rattle.std.specs.Prelude.{Option, Some, None}
 use Rattle.can_bits.specs.declared.level.Level.{Level}
+use Rattle.can_node.specs.declared.counters.Counters.{Counters}
 use Rattle.sja_replay.specs.declared.happening.Happening.{Happening}
 use Rattle.sja_report.specs.ReportLines.{numbered}
 use Rattle.sja_script.specs.declared.done.Done.{Done}
 use Rattle.sja_script.specs.declared.step.Step.{Step}
-use Rattle.sja_trace.specs.BitEvents.{bit_said}
+use Rattle.sja_trace.specs.BitEvents.{all_said}
 use Rattle.sja_trace.specs.TraceText.{event_line, joined, bit_line, step_line, is_due, line_where, steps_due}
 use Rattle.sja_trace.specs.Inside.Saying.{is_any, line_if}
 
@@ -77,16 +78,17 @@ told_is bit node (e ∷ es) = refl
 -- ---- a bit of a node
 
 -- the line of a bit that the node has
-pub event_written : (bus : Level) (bit node : ℕ) (o : Option Happening) (h : Happening) (old new told : List ℕ)
-    (begun : Bool) → o ≡ Some h → told ≡ joined (bit_said bus h) → begun ≡ is_any (bit_said bus h) →
-    new ≡ old ++ line_if begun bit node told → new ≡ old ++ event_line bus bit node o
-event_written bus bit node o h old new told begun is text any wrote =
+pub event_written : (bus : Level) (bit node : ℕ) (left : Counters) (o : Option Happening) (h : Happening)
+    (old new told : List ℕ) (begun : Bool) → o ≡ Some h → told ≡ joined (all_said bus left h) →
+    begun ≡ is_any (all_said bus left h) → new ≡ old ++ line_if begun bit node told →
+    new ≡ old ++ event_line bus bit node left o
+event_written bus bit node left o h old new told begun is text any wrote =
     wrote ∙ ap₂ (λ b t. old ++ line_if b bit node t) any text
-    ∙ ap (λ t. old ++ t) (told_is bit node (bit_said bus h))
-    ∙ ap (λ x. old ++ event_line bus bit node x) (sym is)
+    ∙ ap (λ t. old ++ t) (told_is bit node (all_said bus left h))
+    ∙ ap (λ x. old ++ event_line bus bit node left x) (sym is)
 
 -- none of another
-pub no_event : (bus : Level) (bit node : ℕ) (o : Option Happening) (old : List ℕ) → o ≡ None →
-    old ≡ old ++ event_line bus bit node o
-no_event bus bit node o old none =
-    sym (append-nil old) ∙ ap (λ x. old ++ event_line bus bit node x) (sym none)
+pub no_event : (bus : Level) (bit node : ℕ) (left : Counters) (o : Option Happening) (old : List ℕ) → o ≡ None →
+    old ≡ old ++ event_line bus bit node left o
+no_event bus bit node left o old none =
+    sym (append-nil old) ∙ ap (λ x. old ++ event_line bus bit node left x) (sym none)

@@ -8,9 +8,11 @@ use Rattle.sja_log.specs.Log.{NodeValue}
 use Rattle.sja_plan.specs.Plan.{PlanValue, steps_at}
 use Rattle.sja_script.specs.declared.step.Step.{Step}
 use Rattle.sja_trace.specs.declared.teller.Teller.{Teller}
+use Rattle.sja_trace.specs.BitEvents.{counters_after}
 use Rattle.sja_trace.specs.TraceText.{NodeStory, AreStories}
-use Rattle.sja_trace.specs.Inside.Coming.{HasTold, HaveTold, IsShown, IsSameTo, TellsOn, TellsAll, IsUnderway}
-use Rattle.sja_trace.specs.Inside.Coming.{AreUnderway}
+use Rattle.sja_trace.specs.Telling.{IsUnderway}
+use Rattle.sja_trace.specs.Inside.Coming.{HasTold, HaveTold, IsShown, IsSameTo, TellerGoesOn, TellerEnds, AreUnderway}
+use Rattle.sja_trace.proofs.Telling.{before_same}
 
 -- ---- the steps of a node that isn't there
 
@@ -86,9 +88,9 @@ record OneMore (steps : List Step) (n : NodeValue) (bits : ℕ) (new : Teller) (
   same : IsSameTo bits s story
 
 one_more : (steps : List Step) (n : NodeValue) (bits : ℕ) (old new : Teller) (s : NodeStory) →
-    HasTold steps n bits old s → TellsOn old new → OneMore steps n bits new s
+    HasTold steps n bits old s → TellerGoesOn old new → OneMore steps n bits new s
 one_more steps n bits old new s h on =
-    let more = on.tells n.journal bits s.bits h.come in
+    let more = on.bits.tells n.journal bits s.bits h.come in
     let own_steps = on.same.steps ∙ h.steps_are in
     let own_done = on.same.done ∙ h.done_are in
     record {
@@ -103,6 +105,7 @@ one_more steps n bits old new s h on =
       shown = record {
         steps = own_steps ∙ sym h.story_steps;
         done = own_done ∙ sym h.story_done;
+        counters = on.counters ∙ ap counters_after (h.come.1 ∙ sym (before_same bits s.bits more.told more.same));
         brought = more.bit;
       };
       same = record { steps = refl; done = refl; same = more.same };
@@ -117,7 +120,7 @@ pub record AllMore (k : ℕ) (plan : PlanValue) (bits : ℕ) (nodes : List NodeV
   pub same : EachRelated (IsSameTo bits) ss stories
 
 pub all_more : (k : ℕ) (plan : PlanValue) (bits : ℕ) (nodes : List NodeValue) (olds news : List Teller)
-    (ss : List NodeStory) → HaveTold k plan bits nodes olds ss → EachRelated TellsOn olds news →
+    (ss : List NodeStory) → HaveTold k plan bits nodes olds ss → EachRelated TellerGoesOn olds news →
     AllMore k plan bits nodes news ss
 all_more k plan bits [] [] [] [] have on = record { stories = []; have = tt; shown = tt; same = tt }
 all_more k plan bits [] [] (u ∷ news) ss have on = absurd on
@@ -150,7 +153,7 @@ pub record AllTold (k : ℕ) (plan : PlanValue) (bits : ℕ) (nodes : List NodeV
   pub same : EachRelated (IsSameTo bits) ss stories
 
 pub all_told : (k : ℕ) (plan : PlanValue) (bits : ℕ) (nodes : List NodeValue) (olds news : List Teller)
-    (ss : List NodeStory) → HaveTold k plan bits nodes olds ss → EachRelated TellsAll olds news →
+    (ss : List NodeStory) → HaveTold k plan bits nodes olds ss → EachRelated TellerEnds olds news →
     AllTold k plan bits nodes news ss
 all_told k plan bits [] [] [] [] have on = record { stories = []; are = tt; late = tt; same = tt }
 all_told k plan bits [] [] (u ∷ news) ss have on = absurd on
@@ -161,7 +164,7 @@ all_told k plan bits (n ∷ nodes) (t ∷ olds) [] ss have on = absurd on
 all_told k plan bits (n ∷ nodes) (t ∷ olds) (u ∷ news) [] have on = absurd have
 all_told k plan bits (n ∷ nodes) (t ∷ olds) (u ∷ news) (s ∷ ss) have on =
     let h = have.0 in
-    let all = on.0.tells n.journal bits s.bits h.come in
+    let all = on.0.bits.tells n.journal bits s.bits h.come in
     let rest = all_told (k + 1) plan bits nodes olds news ss have.1 on.1 in
     let story : NodeStory = record { steps = s.steps; done = s.done; bits = all.told } in
     record {
@@ -191,7 +194,7 @@ all_underway k plan bits (n ∷ nodes) (t ∷ ts) (s ∷ ss) have = (
 )
 
 pub underway_at : (ts : List Teller) (k : ℕ) (d : Teller) → AreUnderway ts → k < length ts →
-    IsUnderway (slice_index_or ts k d)
+    IsUnderway (slice_index_or ts k d).bits
 underway_at [] k d are less = absurd (omega (arith, less))
 underway_at (t ∷ ts) zero d are less = are.0
 underway_at (t ∷ ts) (suc k) d are less = underway_at ts k d are.1 (omega (arith, less))

@@ -9,19 +9,25 @@ use Rattle.sja_plan.specs.Plan.{PlanValue}
 use Rattle.sja_report.specs.ReportLines.{numbered}
 use Rattle.sja_wire.specs.Wire.{wired}
 use Rattle.sja_trace.specs.declared.teller.Teller.{Teller}
+use Rattle.sja_trace.specs.BitEvents.{counters_after}
+use Rattle.sja_trace.specs.Telling.{at_hand}
 use Rattle.sja_trace.specs.TraceText.{NodeStory, IsTrace, steps_due, event_line, node_lines, driven_in, bus_in}
-use Rattle.sja_trace.specs.TraceText.{bit_lines, lines_to, late_steps}
-use Rattle.sja_trace.specs.Inside.Coming.{IsShown, IsSameTo, TellsOn, TellsAll, AreUnderway, IsUpTo}
+use Rattle.sja_trace.specs.TraceText.{counters_left, bit_lines, lines_to, late_steps}
+use Rattle.sja_trace.specs.Inside.Coming.{IsShown, IsSameTo, TellerGoesOn, TellerEnds, AreUnderway, IsUpTo}
 use Rattle.sja_trace.specs.Inside.Coming.{teller_lines, driven_now, bit_text, late_lines}
 use Rattle.sja_trace.proofs.NodeStories.{HaveBegun, HasLate, all_more, all_told, all_underway}
+use Rattle.sja_trace.proofs.Telling.{before_same}
 
 -- ---- the bits before are told alike
 
 same_line : (bits b : ℕ) (bus : Level) (k : ℕ) (old new : NodeStory) → b < bits → IsSameTo bits old new →
     node_lines bus b k new ≡ node_lines bus b k old
 same_line bits b bus k old new less same =
-    ap₂ (λ l d. steps_due false b k 1 l d ++ event_line bus b k (slice_get new.bits b)) same.steps same.done
-    ∙ ap (λ o. steps_due false b k 1 old.steps old.done ++ event_line bus b k o) (same.same b less)
+    let before = before_same b old.bits new.bits (λ i early. same.same i (omega (arith, less, early))) in
+    ap₂ (λ l d. steps_due false b k 1 l d ++ event_line bus b k (counters_left b new.bits) (slice_get new.bits b))
+    same.steps same.done
+    ∙ ap₂ (λ c o. steps_due false b k 1 old.steps old.done ++ event_line bus b k c o) (ap counters_after before)
+    (same.same b less)
 
 same_lines : (bits b : ℕ) (bus : Level) (k : ℕ) (olds news : List NodeStory) → b < bits →
     EachRelated (IsSameTo bits) olds news → numbered (node_lines bus b) k news ≡ numbered (node_lines bus b) k olds
@@ -58,8 +64,8 @@ same_bits bits (suc b) olds news few same =
 shown_line : (bit : ℕ) (bus : Level) (k : ℕ) (t : Teller) (s : NodeStory) → IsShown bit t s →
     teller_lines bus bit k t ≡ node_lines bus bit k s
 shown_line bit bus k t s shown =
-    ap₂ (λ l d. steps_due false bit k 1 l d ++ event_line bus bit k t.bit) shown.steps shown.done
-    ∙ ap (λ o. steps_due false bit k 1 s.steps s.done ++ event_line bus bit k o) shown.brought
+    ap₂ (λ l d. steps_due false bit k 1 l d ++ event_line bus bit k t.counters (at_hand t.bits)) shown.steps shown.done
+    ∙ ap₂ (λ c o. steps_due false bit k 1 s.steps s.done ++ event_line bus bit k c o) shown.counters shown.brought
 
 shown_lines : (bit : ℕ) (bus : Level) (k : ℕ) (ts : List Teller) (ss : List NodeStory) →
     EachRelated (IsShown bit) ts ss → numbered (teller_lines bus bit) k ts ≡ numbered (node_lines bus bit) k ss
@@ -90,7 +96,7 @@ pub up_first : (plan : PlanValue) (nodes : List NodeValue) (ts : List Teller) �
 up_first plan nodes ts begun = record { stories = begun.stories; have = begun.have; text_is = refl }
 
 pub up_more : (plan : PlanValue) (nodes : List NodeValue) (bits next : ℕ) (olds news : List Teller)
-    (old new : List ℕ) → IsUpTo plan nodes bits olds old → EachRelated TellsOn olds news →
+    (old new : List ℕ) → IsUpTo plan nodes bits olds old → EachRelated TellerGoesOn olds news →
     new ≡ old ++ bit_text bits news → next ≡ suc bits → IsUpTo plan nodes next news new
 up_more plan nodes bits next olds news old new up on wrote one =
     let m = all_more 0 plan bits nodes olds news up.stories up.have on in
@@ -116,7 +122,7 @@ late_are bits k (t ∷ ts) (s ∷ ss) late =
     (late_are bits (k + 1) ts ss late.1)
 
 pub up_all : (plan : PlanValue) (log : RunValue) (olds news : List Teller) (old new : List ℕ) →
-    IsUpTo plan log.nodes log.bits olds old → EachRelated TellsAll olds news →
+    IsUpTo plan log.nodes log.bits olds old → EachRelated TellerEnds olds news →
     new ≡ old ++ numbered (late_lines log.bits) 0 news → IsTrace plan log new
 up_all plan log olds news old new up on wrote =
     let all = all_told 0 plan log.bits log.nodes olds news up.stories up.have on in

@@ -1,6 +1,6 @@
 -- All that is said of one bit of a node (this project's own rule).
 use Rattle.std.specs.Prelude.{◌==◌, ◌&&◌, ◌||◌, not, ℕ, Bool, true, false, nat_le, if◌then◌else◌}
-use Rattle.std.specs.Prelude.{List, [], ◌∷◌, ◌++◌, codes, decimal}
+use Rattle.std.specs.Prelude.{Option, Some, None, List, [], ◌∷◌, ◌++◌, codes, decimal}
 use Rattle.can_bits.specs.declared.level.Level.{Level}
 use Rattle.can_node.specs.declared.counters.Counters.{Counters}
 use Rattle.can_node.specs.declared.phase.Phase.{Phase}
@@ -75,9 +75,24 @@ abbrev pub counters_said : Happening → List (List ℕ)
 counters_said h =
     said_if (not (have_same h.before.counters h.after.counters)) (counters_text h.after.counters)
 
+-- ---- a start may change them between two bits: while bus-off stands it makes TEC 127 and REC 0, and in version 3 of
+-- the registers it takes what was written to TXERR and RXERR (SJA1000 data sheet, 6.4.11 and 6.4.12). left are the
+-- counters as the bits before this one left them, both 0 before the first bit (6.4.2)
+
+abbrev pub counters_after : Option Happening → Counters
+counters_after None = record { tec = 0; rec = 0; off = false }
+counters_after (Some h) = h.after.counters
+
+abbrev pub restart_said : Counters → Happening → List (List ℕ)
+restart_said left h = said_if (not (have_same left h.before.counters)) (counters_text h.before.counters)
+
 -- ---- all of it, in this order
 
 abbrev pub bit_said : Level → Happening → List (List ℕ)
 bit_said bus h =
     abort_said h ++ start_said h ++ strike_said bus h ++ acknowledgement_said h ++ loss_said h ++ fault_said h
     ++ flag_said h ++ reception_said h ++ end_said h ++ suspension_said h ++ states_said h ++ counters_said h
+
+-- and before it what a start did
+abbrev pub all_said : Level → Counters → Happening → List (List ℕ)
+all_said bus left h = restart_said left h ++ bit_said bus h

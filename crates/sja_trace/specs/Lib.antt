@@ -4,7 +4,9 @@ pub mod Places
 -- ---- the events of a bit
 pub mod Events
 pub mod BitEvents
+-- ---- the bits of a node, one after another
+pub mod Telling
 -- ---- the text
 pub mod TraceText
--- ---- how the writer of a trace goes on: definitions of private contracts alone
+-- ---- how the tellers of nodes and the writer of a trace go on: definitions of the contracts of those alone
 pub mod Inside

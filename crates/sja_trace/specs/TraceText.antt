@@ -3,6 +3,7 @@ use Rattle.std.specs.Prelude.{◌≡◌, ◌==◌, ◌+◌, ℕ, zero, suc, Bool
 use Rattle.std.specs.Prelude.{List, [], ◌∷◌, ◌++◌, map, codes, decimal, slice_get}
 use Rattle.can_bits.specs.declared.level.Level.{Level}
 use Rattle.can_bits.specs.declared.level.Level.TheVariants.{Recessive}
+use Rattle.can_node.specs.declared.counters.Counters.{Counters}
 use Rattle.sja_log.specs.Log.{NodeValue, RunValue}
 use Rattle.sja_plan.specs.Plan.{PlanValue, steps_at}
 use Rattle.sja_plan_text.specs.Texts.{step_text}
@@ -14,7 +15,8 @@ use Rattle.sja_report.specs.Spacing.{all_spaced}
 use Rattle.sja_script.specs.declared.done.Done.{Done}
 use Rattle.sja_script.specs.declared.step.Step.{Step}
 use Rattle.sja_wire.specs.Wire.{wired}
-use Rattle.sja_trace.specs.BitEvents.{bit_said}
+use Rattle.sja_trace.specs.BitEvents.{all_said, counters_after}
+use Rattle.sja_trace.specs.Telling.{bit_before}
 
 -- ---- lines
 
@@ -76,14 +78,19 @@ pub record NodeStory : Type 0 where
   pub done : List Done
   pub bits : List Happening
 
--- what bit b brought
-abbrev pub event_line : Level → ℕ → ℕ → Option Happening → List ℕ
-event_line bus b node None = []
-event_line bus b node (Some h) = bit_line b node (bit_said bus h)
+-- what bit b brought, which the bits before it came to with these counters
+abbrev pub event_line : Level → ℕ → ℕ → Counters → Option Happening → List ℕ
+event_line bus b node left None = []
+event_line bus b node left (Some h) = bit_line b node (all_said bus left h)
+
+-- the counters as the bits before bit b left them
+abbrev pub counters_left : ℕ → List Happening → Counters
+counters_left b bits = counters_after (bit_before b bits)
 
 -- the steps right before bit b, and then the bit
 abbrev pub node_lines : Level → ℕ → ℕ → NodeStory → List ℕ
-node_lines bus b node s = steps_due false b node 1 s.steps s.done ++ event_line bus b node (slice_get s.bits b)
+node_lines bus b node s =
+    steps_due false b node 1 s.steps s.done ++ event_line bus b node (counters_left b s.bits) (slice_get s.bits b)
 
 -- ---- all nodes
 

@@ -2,7 +2,7 @@
 
 ghost use Rattle.std.specs.Prelude.{◌≡◌, ◌++◌, string_bytes, OnOk};
 ghost use Rattle.sja_trace.specs.BitEvents.{warns, comes_to_warn, confinement_said, change_text, states_said};
-ghost use Rattle.sja_trace.specs.BitEvents.{have_same, counters_text, counters_said};
+ghost use Rattle.sja_trace.specs.BitEvents.{have_same, counters_text, counters_said, counters_after, restart_said};
 ghost use Rattle.sja_trace.specs.Inside.Saying.{Tells};
 
 use super::told::Told;
@@ -36,8 +36,8 @@ fn put_confinement(told: &mut Told, old: Counters, new: Counters) -> Result<(), 
     Ok(())
 }
 
-/// Whether the warning limit is reached.
-fn comes_to_warn(old: Counters, new: Counters) -> bool
+/// Whether the warning limit is reached, where it wasn't before.
+pub fn comes_to_warn(old: Counters, new: Counters) -> bool
     ensures { result ≡ comes_to_warn old new }
 {
     !warns(old) && warns(new)
@@ -80,4 +80,35 @@ fn have_same(old: Counters, new: Counters) -> bool
     ensures { result ≡ have_same old new }
 {
     old.tec == new.tec && old.rec == new.rec
+}
+
+/// The error counters as a bit left them; both 0 where there is none.
+pub(crate) fn counters_after(bit: &Option<Happening>) -> Counters
+    ensures { result ≡ counters_after bit.now }
+{
+    match bit {
+        Some(bit) => bit.after.counters,
+        None => Counters {
+            tec: 0,
+            rec: 0,
+            off: false,
+        },
+    }
+}
+
+/// TEC and REC before the bit, where a start changed one of them after the bits before it had left them so.
+pub(crate) fn put_restart(
+    told: &mut Told,
+    left: Counters,
+    bit: &Happening,
+) -> Result<(), AllocError>
+    ensures { OnOk result (Tells told.old told.new (restart_said left bit.now)) }
+{
+    let now = bit.before.counters;
+    if have_same(left, now) {
+        return Ok(());
+    }
+    told.begin()?;
+    write!(told.text, "tec {} rec {}", now.tec, now.rec)?;
+    Ok(())
 }

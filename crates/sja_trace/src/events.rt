@@ -3,10 +3,10 @@
 ghost use Rattle.std.specs.Prelude.{◌≡◌, OnOk};
 ghost use Rattle.sja_trace.specs.Events.{abort_said, start_said, strike_said, acknowledgement_said, loss_said};
 ghost use Rattle.sja_trace.specs.Events.{fault_said, flag_said, reception_said, end_said};
-ghost use Rattle.sja_trace.specs.BitEvents.{suspension_said, bit_said};
+ghost use Rattle.sja_trace.specs.BitEvents.{suspension_said, bit_said, all_said};
 ghost use Rattle.sja_trace.specs.Inside.Saying.{Tells};
 
-use super::counters::{put_counters, put_states};
+use super::counters::{put_counters, put_restart, put_states};
 use super::event_texts::{
     abort_name, put_end_text, put_fault_text, put_flag_text, put_loss_text, put_reception_text,
     put_start_text, put_strike_text,
@@ -14,11 +14,26 @@ use super::event_texts::{
 use super::has_event::{acknowledges, begins_suspension, flag_begins, is_held, is_same, is_start};
 use super::told::Told;
 use can_bits::Level;
+use can_node::Counters;
 use sja_replay::Happening;
 use std::alloc::AllocError;
 
+/// All events of a bit, in which the bus had this level, and before them what a start made of these counters.
+pub(crate) fn put_all(
+    told: &mut Told,
+    bus: Level,
+    left: Counters,
+    bit: &Happening,
+) -> Result<(), AllocError>
+    ensures { OnOk result (Tells told.old told.new (all_said bus left bit.now)) }
+{
+    put_restart(told, left, bit)?;
+    put_events(told, bus, bit)?;
+    Ok(())
+}
+
 /// All events of a bit, in which the bus had this level.
-pub(crate) fn put_events(told: &mut Told, bus: Level, bit: &Happening) -> Result<(), AllocError>
+fn put_events(told: &mut Told, bus: Level, bit: &Happening) -> Result<(), AllocError>
     ensures { OnOk result (Tells told.old told.new (bit_said bus bit.now)) }
 {
     put_abort(told, bit)?;

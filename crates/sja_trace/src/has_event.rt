@@ -21,7 +21,7 @@ pub(crate) fn is_held(held: &Option<Request>) -> bool
 }
 
 /// Whether two levels are equal.
-pub(crate) fn is_same(level: Level, other: Level) -> bool
+pub fn is_same(level: Level, other: Level) -> bool
     ensures { result ≡ are_same level other }
 {
     match level {

@@ -4,7 +4,9 @@
 //! bit that brought a node something. The events are those of the cut of each node's record, as `sja_replay`
 //! tells them.
 //!
-//! The names of errors and segments, the texts of frames and places, and the test for SOF serve `sja_frames` too.
+//! The names of errors and segments, the texts of frames and places, and the test for SOF serve `sja_frames` too. The
+//! bits of a node one after another, [`NodeBits`], the text of a frame and the test for the error warning serve
+//! `sja_candump`, and the tellers `sja_picture`.
 //!
 //! `specs/Events.antt` and `specs/BitEvents.antt` say which events a bit has and in which words, and
 //! `specs/TraceText.antt` the text line by line. The tests stand in `crates/test_trace`.
@@ -16,6 +18,7 @@ mod event_texts;
 mod events;
 mod has_event;
 mod names;
+mod node_bits;
 mod node_lines;
 mod steps;
 mod teller;
@@ -24,7 +27,11 @@ mod told;
 mod trace_text;
 mod words;
 
-pub use has_event::is_start;
+pub use counters::comes_to_warn;
+pub use has_event::{is_same, is_start};
 pub use names::{cause_name, segment_name};
+pub use node_bits::NodeBits;
+pub use teller::Teller;
+pub use tellers::{bus_of, driven_in, finish_all, go_on_all};
 pub use trace_text::trace;
 pub use words::{put_frame, put_place};

@@ -1,18 +1,20 @@
 //! The lines of a node in a bit.
 
 ghost use Rattle.std.specs.Prelude.{◌≡◌, ◌++◌, string_bytes, OnOk};
-ghost use Rattle.sja_trace.specs.BitEvents.{bit_said};
+ghost use Rattle.sja_trace.specs.BitEvents.{all_said};
+ghost use Rattle.sja_trace.specs.Telling.{at_hand};
 ghost use Rattle.sja_trace.specs.TraceText.{joined, event_line};
 ghost use Rattle.sja_trace.specs.Inside.Coming.{teller_lines};
 ghost use Rattle.sja_trace.specs.Inside.Saying.{is_any, line_if};
 
 use super::due::Due;
-use super::events::put_events;
+use super::events::put_all;
 use super::steps::put_steps;
 use super::teller::Teller;
 use super::told::Told;
 use can_bits::Level;
 use can_frame::OutOfMemory;
+use can_node::Counters;
 use sja_replay::Happening;
 use std::alloc::{AllocError, Global};
 use std::fmt::Write;
@@ -33,38 +35,38 @@ pub(crate) fn put_node(
 {
     let due = Due { late: false, bit };
     put_steps(alloc, text, node, teller.steps, teller.done, due)?;
-    put_event_line(text, told, node, &teller.bit, bus, bit)?;
+    put_event_line(text, told, node, teller, bus, bit)?;
     Ok(())
 }
 
-/// The line of a bit, if the node has the bit and it brought anything.
+/// The line of the bit at hand, if the node has the bit and it brought anything.
 #[tactic(auto, using(crate::proofs::Lines::no_event))]
 fn put_event_line(
     text: &mut String,
     told: &mut Told,
     node: usize,
-    happening: &Option<Happening>,
+    teller: &Teller<'_>,
     bus: Level,
     bit: u32,
 ) -> Result<(), AllocError>
     ensures text { OnOk result (string_bytes text.new ≡ string_bytes text.old
-        ++ event_line bus bit node happening.now) }
+        ++ event_line bus bit node teller.now.counters (at_hand teller.now.bits)) }
 {
-    let Some(happening) = happening else {
+    let Some(happening) = teller.bits.bit() else {
         return Ok(());
     };
-    tell(told, bus, happening)?;
+    tell(told, bus, teller.counters, happening)?;
     put_line(text, told, node, bit)?;
     Ok(())
 }
 
 /// The events of a bit, from the first one on.
-fn tell(told: &mut Told, bus: Level, bit: &Happening) -> Result<(), AllocError>
-    ensures text { OnOk result (string_bytes told.new.text ≡ joined (bit_said bus bit.now)) }
-    ensures begun { OnOk result (told.new.begun ≡ is_any (bit_said bus bit.now)) }
+fn tell(told: &mut Told, bus: Level, left: Counters, bit: &Happening) -> Result<(), AllocError>
+    ensures text { OnOk result (string_bytes told.new.text ≡ joined (all_said bus left bit.now)) }
+    ensures begun { OnOk result (told.new.begun ≡ is_any (all_said bus left bit.now)) }
 {
     told.clear();
-    put_events(told, bus, bit)?;
+    put_all(told, bus, left, bit)?;
     Ok(())
 }
 

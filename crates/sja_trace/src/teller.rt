@@ -1,64 +1,53 @@
 //! [`Teller`]: a node of which a trace tells.
 
+use super::counters::counters_after;
+use super::node_bits::NodeBits;
+use can_node::Counters;
 use sja_log::NodeRun;
-use sja_replay::{Happening, Replay};
 use sja_script::{Done, Step};
 
-/// A node of which a trace tells, bit by bit: the steps of its driver and what they came to, how far its journal was
-/// gone over, and what the bit gone over last brought. It keeps one bit, and no list.
+/// A node of which a trace tells, bit by bit: the steps of its driver and what they came to, and its bits.
 #[derive(Debug, Drop)]
-pub(crate) struct Teller<'a> {
+pub struct Teller<'a> {
     pub(crate) steps: &'a [Step],
     pub(crate) done: &'a [Done],
-    pub(crate) replay: Replay<'a>,
-    /// Whether no bit of the journal is left.
-    pub(crate) over: bool,
-    /// The bit at hand.
-    pub(crate) bit: Option<Happening>,
+    /// The error counters as the bits before the one at hand left them.
+    pub(crate) counters: Counters,
+    /// Its bits, one at hand.
+    pub bits: NodeBits<'a>,
 }
 
 impl<'a> Teller<'a> {
     ghost use Rattle.std.specs.Prelude.{[]};
-    ghost use Rattle.sja_trace.specs.Inside.Coming.{HasTold, TellsOn, TellsAll, IsUnderway};
+    ghost use Rattle.sja_trace.specs.Telling.{IsUnderway};
+    ghost use Rattle.sja_trace.specs.Inside.Coming.{HasTold, TellerGoesOn, TellerEnds};
 
     /// Before the first bit of a node whose driver has these steps.
-    pub(crate) fn of(steps: &'a [Step], node: &'a NodeRun) -> Teller<'a>
+    pub fn of(steps: &'a [Step], node: &'a NodeRun) -> Teller<'a>
         ensures { HasTold steps.now node.now 0 result
             (record { steps = steps.now; done = node.now.done; bits = [] }) }
     {
         Teller {
             steps,
             done: node.done(),
-            replay: Replay::of(node.journal()),
-            over: false,
-            bit: None,
+            counters: counters_after(&None),
+            bits: NodeBits::of(node.journal()),
         }
     }
 
     /// Goes on past the next bit, if there is one.
     pub(crate) fn go_on(&mut self)
-        ensures { TellsOn self.old self.new }
+        ensures { TellerGoesOn self.old self.new }
     {
-        if self.over {
-            self.bit = None;
-            return;
-        }
-        match self.replay.next() {
-            Some(bit) => self.bit = Some(bit),
-            None => {
-                self.bit = None;
-                self.over = true;
-            }
-        }
+        self.counters = counters_after(self.bits.bit());
+        self.bits.go_on();
     }
 
     /// Goes on to the end of the journal.
     pub(crate) fn finish(&mut self)
-        requires { IsUnderway self.old }
-        ensures { TellsAll self.old self.new }
+        requires { IsUnderway self.old.bits }
+        ensures { TellerEnds self.old self.new }
     {
-        while !self.over {
-            self.go_on();
-        }
+        self.bits.finish();
     }
 }

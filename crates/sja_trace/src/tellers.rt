@@ -5,7 +5,7 @@ ghost use Rattle.lemmas.specs.Related.{EachRelated};
 ghost use Rattle.sja_plan.specs.Plan.{steps_at};
 ghost use Rattle.sja_wire.specs.Wire.{wired};
 ghost use Rattle.sja_trace.specs.TraceText.{driven_in};
-ghost use Rattle.sja_trace.specs.Inside.Coming.{HaveTold, IsUpTo, TellsOn, TellsAll, AreUnderway, driven_now};
+ghost use Rattle.sja_trace.specs.Inside.Coming.{HaveTold, IsUpTo, TellerGoesOn, TellerEnds, AreUnderway, driven_now};
 
 use super::teller::Teller;
 use can_bits::Level;
@@ -46,8 +46,8 @@ fn steps_of<'a>(plan: &'a Plan, node: usize) -> &'a [Step]
 }
 
 /// Each goes on past its next bit.
-pub(crate) fn go_on_all(tellers: &mut [Teller<'_>])
-    ensures { EachRelated TellsOn tellers.old tellers.new }
+pub fn go_on_all(tellers: &mut [Teller<'_>])
+    ensures { EachRelated TellerGoesOn tellers.old tellers.new }
 {
     for k in 0..tellers.len() {
         tellers[k].go_on();
@@ -55,9 +55,9 @@ pub(crate) fn go_on_all(tellers: &mut [Teller<'_>])
 }
 
 /// Each goes on to its end.
-pub(crate) fn finish_all(tellers: &mut [Teller<'_>])
+pub fn finish_all(tellers: &mut [Teller<'_>])
     requires { AreUnderway tellers.old }
-    ensures { EachRelated TellsAll tellers.old tellers.new }
+    ensures { EachRelated TellerEnds tellers.old tellers.new }
 {
     for k in 0..tellers.len() {
         tellers[k].finish();
@@ -66,18 +66,18 @@ pub(crate) fn finish_all(tellers: &mut [Teller<'_>])
 
 /// The level on the bus in the bit at hand: dominant where any node drives dominant (Bosch CAN 2.0 part A section 2,
 /// "Bus values").
-pub(crate) fn bus_of(tellers: &[Teller<'_>]) -> Level
+pub fn bus_of(tellers: &[Teller<'_>]) -> Level
     ensures { result ≡ wired (driven_now tellers.now) }
 {
     let mut bus = Level::Recessive;
     for teller in tellers {
-        bus = with_node(bus, driven_in(&teller.bit));
+        bus = with_node(bus, driven_in(teller.bits.bit()));
     }
     bus
 }
 
 /// The level that a node drives in its bit; recessive where it has none.
-fn driven_in(bit: &Option<Happening>) -> Level
+pub fn driven_in(bit: &Option<Happening>) -> Level
     ensures { result ≡ driven_in bit.now }
 {
     match bit {

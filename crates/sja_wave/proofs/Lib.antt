@@ -2,4 +2,9 @@ pub mod Texts
 pub mod PastBits
 pub mod NextSignals
 pub mod BusLevels
+pub mod Parts
+pub mod ViewsIn
+pub mod Reading
+pub mod Going
 pub mod Written
+pub mod UpTo

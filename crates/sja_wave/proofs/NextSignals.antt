@@ -1,6 +1,6 @@
 -- What the signals show after more entries.
 use Rattle.std.proofs.Common.{◌≡◌, ℕ, zero, suc, Bool, false, not, List, [], ◌∷◌, ◌++◌}
-use Rattle.std.proofs.Common.{length, map, refl, sym, ap, ap₂, ◌∙◌, append-nil, append_assoc}
+use Rattle.std.proofs.Common.{length, refl, sym, ap, ◌∙◌, append-nil, append_assoc}
 use Rattle.can_bits.specs.declared.level.Level.{Level}
 use Rattle.can_bits.specs.declared.level.Level.TheVariants.{Recessive}
 use Rattle.can_node.specs.Bits.{Bit as NodeBit, recessive_bit}
@@ -111,9 +111,3 @@ next_bit k node =
     let j = node.journal in
     same_cursor _ _ _ _ _ (sym (past_next (suc k) j))
     (sym (ap signals_of (through_next (suc k) j) ∙ all_enter (through (suc k) j) (through 1 (past (suc k) j))))
-
--- of all nodes
-pub next_bits : (k : ℕ) (nodes : List NodeValue) →
-    map advanced (map (cursor_at k) nodes) ≡ map (cursor_at (suc k)) nodes
-next_bits k [] = refl
-next_bits k (node ∷ nodes) = ap₂ (λ x xs. x ∷ xs) (next_bit k node) (next_bits k nodes)

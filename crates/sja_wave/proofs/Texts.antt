@@ -9,13 +9,18 @@ use Rattle.sja_report.specs.ReportLines.{numbered}
 pub two_texts : (old one two a b : List ℕ) → one ≡ old ++ a → two ≡ one ++ b → two ≡ old ++ (a ++ b)
 two_texts old one two a b e f = f ∙ ap (λ t. t ++ b) e ∙ append_assoc old a b
 
+-- four
+pub four_texts : (old t1 t2 t3 t4 a b c d : List ℕ) → t1 ≡ old ++ a → t2 ≡ t1 ++ b → t3 ≡ t2 ++ c →
+    t4 ≡ t3 ++ d → t4 ≡ old ++ (((a ++ b) ++ c) ++ d)
+four_texts old t1 t2 t3 t4 a b c d p q r s =
+    two_texts old t3 t4 ((a ++ b) ++ c) d (two_texts old t2 t3 (a ++ b) c (two_texts old t1 t2 a b p q) r) s
+
 -- five
 pub five_texts : (old t1 t2 t3 t4 t5 a b c d e : List ℕ) → t1 ≡ old ++ a → t2 ≡ t1 ++ b → t3 ≡ t2 ++ c →
     t4 ≡ t3 ++ d → t5 ≡ t4 ++ e →
     t5 ≡ old ++ ((((a ++ b) ++ c) ++ d) ++ e)
 five_texts old t1 t2 t3 t4 t5 a b c d e p q r s t =
-    two_texts old t4 t5 (((a ++ b) ++ c) ++ d) e
-    (two_texts old t3 t4 ((a ++ b) ++ c) d (two_texts old t2 t3 (a ++ b) c (two_texts old t1 t2 a b p q) r) s) t
+    two_texts old t4 t5 (((a ++ b) ++ c) ++ d) e (four_texts old t1 t2 t3 t4 a b c d p q r s) t
 
 -- six
 pub six_texts : (old t1 t2 t3 t4 t5 t6 a b c d e f : List ℕ) → t1 ≡ old ++ a → t2 ≡ t1 ++ b → t3 ≡ t2 ++ c →
@@ -23,22 +28,6 @@ pub six_texts : (old t1 t2 t3 t4 t5 t6 a b c d e f : List ℕ) → t1 ≡ old ++
     t6 ≡ old ++ (((((a ++ b) ++ c) ++ d) ++ e) ++ f)
 six_texts old t1 t2 t3 t4 t5 t6 a b c d e f p q r s t u =
     two_texts old t5 t6 ((((a ++ b) ++ c) ++ d) ++ e) f (five_texts old t1 t2 t3 t4 t5 a b c d e p q r s t) u
-
--- the lines of six signals between two lines
-pub scope_texts : (old t1 t2 t3 t4 t5 t6 t7 t8 a b c d e f g h : List ℕ) → t1 ≡ old ++ a → t2 ≡ t1 ++ b → t3 ≡ t2 ++ c →
-    t4 ≡ t3 ++ d → t5 ≡ t4 ++ e → t6 ≡ t5 ++ f →
-    t7 ≡ t6 ++ g → t8 ≡ t7 ++ h → t8 ≡ old ++ ((a ++ (b ++ (c ++ (d ++ (e ++ (f ++ (g ++ []))))))) ++ h)
-scope_texts old t1 t2 t3 t4 t5 t6 t7 t8 a b c d e f g h o p q r s t u v =
-    let last : t7 ≡ t6 ++ (g ++ []) = u ∙ ap (λ x. t6 ++ x) (sym (append-nil g)) in
-    let five : t7 ≡ t5 ++ (f ++ (g ++ [])) = two_texts t5 t6 t7 f (g ++ []) t last in
-    let four : t7 ≡ t4 ++ (e ++ (f ++ (g ++ []))) = two_texts t4 t5 t7 e (f ++ (g ++ [])) s five in
-    let three : t7 ≡ t3 ++ (d ++ (e ++ (f ++ (g ++ [])))) = two_texts t3 t4 t7 d (e ++ (f ++ (g ++ []))) r four in
-    let two : t7 ≡ t2 ++ (c ++ (d ++ (e ++ (f ++ (g ++ []))))) =
-    two_texts t2 t3 t7 c (d ++ (e ++ (f ++ (g ++ [])))) q three in
-    let one : t7 ≡ t1 ++ (b ++ (c ++ (d ++ (e ++ (f ++ (g ++ [])))))) =
-    two_texts t1 t2 t7 b (c ++ (d ++ (e ++ (f ++ (g ++ []))))) p two in
-    two_texts old t7 t8 (a ++ (b ++ (c ++ (d ++ (e ++ (f ++ (g ++ []))))))) h
-    (two_texts old t1 t7 a (b ++ (c ++ (d ++ (e ++ (f ++ (g ++ [])))))) o one) v
 
 -- the elements from a place on
 pub rest_is : {A : Type 0} (xs : List A) (i : ℕ) (x : A) → i < length xs → x ≡ get_or xs i x →

@@ -1,10 +1,9 @@
--- The signals of a wave, each a function of the bit (this project's own rule).
-use Rattle.std.specs.Prelude.{ℕ, suc, Bool, List, [], ◌∷◌, ◌++◌, map, codes, decimal}
+-- The signals that show a level, or a state of two values, each a function of the bit (this project's own rule).
+use Rattle.std.specs.Prelude.{ℕ, suc, Bool, true, false, List, [], ◌∷◌, ◌++◌, map, codes, decimal}
 use Rattle.can_bits.specs.Fields.{is_recessive}
 use Rattle.sja_link.specs.declared.entry.Entry.{Entry}
 use Rattle.sja_wire.specs.Wire.{wired}
-use Rattle.sja_log.specs.Log.{NodeValue, RunValue}
-use Rattle.sja_report.specs.ReportLines.{numbered}
+use Rattle.sja_log.specs.Log.{NodeValue}
 use Rattle.sja_wave.specs.Through.{through}
 use Rattle.sja_wave.specs.Signals.{last_bit, shows_driven, shows_seen, shows_active}
 use Rattle.sja_wave.specs.Signals.{shows_off, shows_stored, shows_overrun}
@@ -35,7 +34,7 @@ node_wire name letter shows n node = record {
   at = λ k. shows (by_bit k node);
 }
 
--- the signals of node n
+-- those that show what the journal of node n says
 abbrev pub node_wires : ℕ → NodeValue → List Wire
 node_wires n node =
     node_wire (codes "driven") (codes "d") shows_driven n node
@@ -46,6 +45,17 @@ node_wires n node =
     ∷ node_wire (codes "overrun") (codes "o") shows_overrun n node
     ∷ []
 
--- all signals of a run, the nodes counted from 0
-abbrev pub wires_of : RunValue → List Wire
-wires_of log = bus_wire log.nodes ∷ numbered node_wires 0 log.nodes
+-- whether two levels differ
+abbrev pub differ : Bool → Bool → Bool
+differ false false = false
+differ false true = true
+differ true false = true
+differ true true = false
+
+-- whether node n is struck: the level that it sees isn't the one that all nodes drive together
+abbrev pub struck_wire : Wire → ℕ → NodeValue → Wire
+struck_wire bus n node = record {
+  name = codes "struck";
+  code = codes "x" ++ decimal n;
+  at = λ k. differ (bus.at k) (shows_seen (by_bit k node));
+}

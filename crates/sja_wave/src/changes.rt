@@ -2,31 +2,41 @@
 
 ghost use Rattle.std.specs.Prelude.{◌≡◌, ◌++◌, codes, decimal, string_bytes, OnOk};
 ghost use Rattle.sja_report.specs.ReportLines.{numbered};
-ghost use Rattle.sja_wave.specs.WaveText.{change};
-ghost use Rattle.sja_wave.specs.Inside.Changes.{node_changes, all_changes};
+ghost use Rattle.sja_wave.specs.WaveText.{change, number_change};
+ghost use Rattle.sja_wave.specs.Inside.Changes.{level_changes, number_changes, node_changes, all_changes};
 
-use super::cursor::Cursor;
-use super::cursors::{bus_before, bus_now};
-use super::values::{put_bus, put_value};
+use super::gauges::Gauges;
+use super::probe::Probe;
+use super::probes::{bus_before, bus_now};
+use super::signals::Signals;
+use super::values::{is_struck, put_bus, put_number, put_value};
 use std::alloc::AllocError;
 
 /// The values of all signals that changed.
 #[tactic(auto, using(crate::proofs::Texts::two_texts))]
-pub(crate) fn put_changes(text: &mut String, cursors: &[Cursor<'_>]) -> Result<(), AllocError>
-    ensures { OnOk result (string_bytes text.new ≡ string_bytes text.old ++ all_changes cursors.now) }
+pub(crate) fn put_changes(text: &mut String, probes: &[Probe<'_>]) -> Result<(), AllocError>
+    ensures { OnOk result (string_bytes text.new ≡ string_bytes text.old ++ all_changes probes.now) }
 {
-    put_bus_change(text, bus_before(cursors), bus_now(cursors))?;
-    put_all_changes(text, cursors)?;
+    let before = bus_before(probes);
+    let now = bus_now(probes);
+    put_bus_change(text, before, now)?;
+    put_all_changes(text, probes, before, now)?;
     Ok(())
 }
 
-/// Those of each node.
-fn put_all_changes(text: &mut String, cursors: &[Cursor<'_>]) -> Result<(), AllocError>
-    ensures { OnOk result (string_bytes text.new ≡ string_bytes text.old ++ numbered node_changes 0 cursors.now) }
+/// Those of each node, where the bus had and has these levels.
+fn put_all_changes(
+    text: &mut String,
+    probes: &[Probe<'_>],
+    before: bool,
+    now: bool,
+) -> Result<(), AllocError>
+    ensures { OnOk result (string_bytes text.new ≡ string_bytes text.old
+        ++ numbered (node_changes before now) 0 probes.now) }
 {
     let mut number = 0usize;
-    for cursor in cursors {
-        put_node_changes(text, number, cursor)?;
+    for probe in probes {
+        put_node_changes(text, number, probe, before, now)?;
         number += 1;
     }
     Ok(())
@@ -43,11 +53,40 @@ fn put_bus_change(text: &mut String, before: bool, now: bool) -> Result<(), Allo
 }
 
 /// The values of the signals of a node that changed.
-fn put_node_changes(text: &mut String, number: usize, cursor: &Cursor<'_>) -> Result<(), AllocError>
-    ensures { OnOk result (string_bytes text.new ≡ string_bytes text.old ++ node_changes number cursor.now) }
+#[tactic(auto, using(crate::proofs::Texts::two_texts))]
+fn put_node_changes(
+    text: &mut String,
+    number: usize,
+    probe: &Probe<'_>,
+    before: bool,
+    now: bool,
+) -> Result<(), AllocError>
+    ensures { OnOk result (string_bytes text.new ≡ string_bytes text.old
+        ++ node_changes before now number probe.now) }
 {
-    let old = cursor.showed;
-    let new = cursor.shows;
+    let was_struck = is_struck(before, probe.cursor.showed.seen);
+    let struck = is_struck(now, probe.cursor.shows.seen);
+    put_level_changes(text, number, probe.cursor.showed, probe.cursor.shows)?;
+    put_number_changes(
+        text,
+        number,
+        probe.meter.showed,
+        probe.meter.shows,
+        was_struck,
+        struck,
+    )?;
+    Ok(())
+}
+
+/// Of what its journal says.
+fn put_level_changes(
+    text: &mut String,
+    number: usize,
+    old: Signals,
+    new: Signals,
+) -> Result<(), AllocError>
+    ensures { OnOk result (string_bytes text.new ≡ string_bytes text.old ++ level_changes number old new) }
+{
     put_change(
         text,
         "d",
@@ -69,7 +108,26 @@ fn put_node_changes(text: &mut String, number: usize, cursor: &Cursor<'_>) -> Re
     Ok(())
 }
 
-/// The value of a signal of a node, if it changed.
+/// Of what its bits brought, and whether it was struck and is.
+fn put_number_changes(
+    text: &mut String,
+    number: usize,
+    old: Gauges,
+    new: Gauges,
+    was_struck: bool,
+    is_struck: bool,
+) -> Result<(), AllocError>
+    ensures { OnOk result (string_bytes text.new ≡ string_bytes text.old
+        ++ number_changes number old new was_struck is_struck) }
+{
+    put_number_change(text, "t", number, old.tec, new.tec)?;
+    put_number_change(text, "r", number, old.rec, new.rec)?;
+    put_change(text, "x", number, was_struck, is_struck)?;
+    put_number_change(text, "p", number, old.phase, new.phase)?;
+    Ok(())
+}
+
+/// The value of a level of a node, if it changed.
 fn put_change(
     text: &mut String,
     letter: &str,
@@ -84,4 +142,21 @@ fn put_change(
         return Ok(());
     }
     put_value(text, letter, number, now)
+}
+
+/// The value of a number of a node, if it changed.
+fn put_number_change(
+    text: &mut String,
+    letter: &str,
+    number: usize,
+    before: u16,
+    now: u16,
+) -> Result<(), AllocError>
+    ensures { OnOk result (string_bytes text.new ≡ string_bytes text.old
+        ++ number_change (letter.now ++ decimal number) before now) }
+{
+    if before == now {
+        return Ok(());
+    }
+    put_number(text, letter, number, now)
 }

@@ -1,34 +1,41 @@
 //! The values at the first bit.
 
 ghost use Rattle.std.specs.Prelude.{◌≡◌, ◌∷◌, [], ◌++◌, codes, decimal, string_bytes, OnOk};
+ghost use Rattle.can_bits.specs.Fields.{is_recessive};
 ghost use Rattle.sja_report.specs.ReportLines.{numbered};
-ghost use Rattle.sja_wave.specs.WaveText.{digit_of, value_line};
-ghost use Rattle.sja_wave.specs.Inside.Changes.{node_values, all_values};
+ghost use Rattle.sja_wave.specs.Wires.{differ};
+ghost use Rattle.sja_wave.specs.WaveText.{digit_of, value_line, number_line};
+ghost use Rattle.sja_wave.specs.Inside.Changes.{level_values, number_values, node_values, all_values};
 
-use super::cursor::Cursor;
-use super::cursors::bus_now;
+use super::gauges::Gauges;
+use super::probe::Probe;
+use super::probes::bus_now;
+use super::signals::Signals;
+use can_bits::Level;
 use std::alloc::AllocError;
 use std::fmt::Write;
 
 /// The values of all signals.
-pub(crate) fn put_values(text: &mut String, cursors: &[Cursor<'_>]) -> Result<(), AllocError>
-    ensures { OnOk result (string_bytes text.new ≡ string_bytes text.old ++ all_values cursors.now) }
+pub(crate) fn put_values(text: &mut String, probes: &[Probe<'_>]) -> Result<(), AllocError>
+    ensures { OnOk result (string_bytes text.new ≡ string_bytes text.old ++ all_values probes.now) }
 {
+    let bus = bus_now(probes);
     writeln!(text, "#0")?;
     writeln!(text, "$dumpvars")?;
-    put_bus(text, bus_now(cursors))?;
-    put_all_values(text, cursors)?;
+    put_bus(text, bus)?;
+    put_all_values(text, probes, bus)?;
     writeln!(text, "$end")?;
     Ok(())
 }
 
-/// Those of each node.
-fn put_all_values(text: &mut String, cursors: &[Cursor<'_>]) -> Result<(), AllocError>
-    ensures { OnOk result (string_bytes text.new ≡ string_bytes text.old ++ numbered node_values 0 cursors.now) }
+/// Those of each node, where the bus has this level.
+fn put_all_values(text: &mut String, probes: &[Probe<'_>], bus: bool) -> Result<(), AllocError>
+    ensures { OnOk result (string_bytes text.new ≡ string_bytes text.old
+        ++ numbered (node_values bus) 0 probes.now) }
 {
     let mut number = 0usize;
-    for cursor in cursors {
-        put_node_values(text, number, cursor)?;
+    for probe in probes {
+        put_node_values(text, number, probe, bus)?;
         number += 1;
     }
     Ok(())
@@ -42,10 +49,25 @@ pub(crate) fn put_bus(text: &mut String, value: bool) -> Result<(), AllocError>
 }
 
 /// The values of the signals of a node.
-fn put_node_values(text: &mut String, number: usize, cursor: &Cursor<'_>) -> Result<(), AllocError>
-    ensures { OnOk result (string_bytes text.new ≡ string_bytes text.old ++ node_values number cursor.now) }
+#[tactic(auto, using(crate::proofs::Texts::two_texts))]
+fn put_node_values(
+    text: &mut String,
+    number: usize,
+    probe: &Probe<'_>,
+    bus: bool,
+) -> Result<(), AllocError>
+    ensures { OnOk result (string_bytes text.new ≡ string_bytes text.old ++ node_values bus number probe.now) }
 {
-    let shows = cursor.shows;
+    let struck = is_struck(bus, probe.cursor.shows.seen);
+    put_level_values(text, number, probe.cursor.shows)?;
+    put_number_values(text, number, probe.meter.shows, struck)?;
+    Ok(())
+}
+
+/// Of what its journal says.
+fn put_level_values(text: &mut String, number: usize, shows: Signals) -> Result<(), AllocError>
+    ensures { OnOk result (string_bytes text.new ≡ string_bytes text.old ++ level_values number shows) }
+{
     put_value(text, "d", number, shows.driven.is_recessive())?;
     put_value(text, "s", number, shows.seen.is_recessive())?;
     put_value(text, "a", number, shows.active)?;
@@ -55,7 +77,23 @@ fn put_node_values(text: &mut String, number: usize, cursor: &Cursor<'_>) -> Res
     Ok(())
 }
 
-/// The value of a signal of a node.
+/// Of what its bits brought, and whether it is struck.
+fn put_number_values(
+    text: &mut String,
+    number: usize,
+    shows: Gauges,
+    struck: bool,
+) -> Result<(), AllocError>
+    ensures { OnOk result (string_bytes text.new ≡ string_bytes text.old ++ number_values number shows struck) }
+{
+    put_number(text, "t", number, shows.tec)?;
+    put_number(text, "r", number, shows.rec)?;
+    put_value(text, "x", number, struck)?;
+    put_number(text, "p", number, shows.phase)?;
+    Ok(())
+}
+
+/// The value of a level of a node.
 pub(crate) fn put_value(
     text: &mut String,
     letter: &str,
@@ -68,9 +106,29 @@ pub(crate) fn put_value(
     writeln!(text, "{}{letter}{number}", digit_of(value))
 }
 
+/// The value of a number of a node.
+pub(crate) fn put_number(
+    text: &mut String,
+    letter: &str,
+    number: usize,
+    value: u16,
+) -> Result<(), AllocError>
+    ensures { OnOk result (string_bytes text.new ≡ string_bytes text.old
+        ++ number_line (letter.now ++ decimal number) value) }
+{
+    writeln!(text, "r{value} {letter}{number}")
+}
+
 /// The digit of a value.
 fn digit_of(value: bool) -> &'static str
     ensures { result.now ≡ digit_of value ∷ [] }
 {
     if value { "1" } else { "0" }
+}
+
+/// Whether a node that sees this level is struck, on a bus that is recessive or not.
+pub(crate) fn is_struck(bus: bool, seen: Level) -> bool
+    ensures { result ≡ differ bus (is_recessive seen) }
+{
+    bus != seen.is_recessive()
 }

@@ -1,14 +1,16 @@
 //! [`wave`]: the waveform of a run.
 
-ghost use Rattle.std.specs.Prelude.{◌≡◌, ◌++◌, map, string_bytes, IfOk, OnOk};
-ghost use Rattle.sja_wave.specs.WaveText.{time_line, timed, changes_of, wave_text};
-ghost use Rattle.sja_wave.specs.Inside.Cursors.{advanced, cursor_at};
+ghost use Rattle.std.specs.Prelude.{◌≡◌, ◌++◌, List, string_bytes, IfOk, OnOk};
+ghost use Rattle.lemmas.specs.Related.{EachRelated};
+ghost use Rattle.sja_wave.specs.Stories.{NodeStory};
+ghost use Rattle.sja_wave.specs.WaveText.{time_line, timed, IsWave};
 ghost use Rattle.sja_wave.specs.Inside.Changes.{all_changes};
+ghost use Rattle.sja_wave.specs.Inside.Probes.{IsAtBit, AreFirst, GoesOn, HaveEnded, ShowsAll};
 
 use super::changes::put_changes;
-use super::cursor::Cursor;
-use super::cursors::{advance_all, cursors_of};
 use super::declarations::put_declarations;
+use super::probe::Probe;
+use super::probes::{advance_all, finish_all, probes_of};
 use super::values::put_values;
 use can_frame::OutOfMemory;
 use sja_log::RunLog;
@@ -17,31 +19,46 @@ use std::fmt::Write;
 
 /// The waveform of a run: the text that `specs/WaveText.antt` says of its signals.
 ///
-/// Each node's journal is gone over once, all together, bit by bit. A journal that has fewer bits than were run keeps
-/// the levels of its last bit.
+/// Each node's journal is gone over once, all together, bit by bit: its entries, and beside them what each bit brought
+/// by its replay. A journal that has fewer bits than were run, or from some bit on none that can be told, keeps what
+/// its last bit left.
 ///
 /// Error: [`OutOfMemory`] where memory was refused.
 pub fn wave(alloc: Global, log: &RunLog) -> Result<String, OutOfMemory>
-    ensures { IfOk result (λ text. string_bytes text ≡ wave_text log.now) }
+    ensures { IfOk result (λ text. IsWave log.now (string_bytes text)) }
 {
     let mut text = String::new(alloc);
     put_declarations(&mut text, log.nodes())?;
-    let mut cursors = cursors_of(alloc, log.nodes())?;
-    put_values(&mut text, &cursors)?;
-    put_bits(alloc, &mut text, &mut cursors, log)?;
+    let mut probes = probes_of(alloc, log.nodes())?;
+    put_all(alloc, &mut text, &mut probes, log)?;
     Ok(text)
 }
 
+/// The values of all signals at the first bit, and the changes of the others.
+fn put_all(
+    alloc: Global,
+    text: &mut String,
+    probes: &mut [Probe<'_>],
+    log: &RunLog,
+) -> Result<(), AllocError>
+    requires { AreFirst log.now.nodes probes.old }
+    ensures { OnOk result (ShowsAll log.now (string_bytes text.old) (string_bytes text.new)) }
+{
+    put_values(text, probes)?;
+    put_bits(alloc, text, probes, log)?;
+    finish_all(probes);
+    Ok(())
+}
+
 /// The changes of each bit after the first one, and the end of the last bit.
-#[tactic(auto, using(crate::proofs::Written::no_bits))]
 fn put_bits(
     alloc: Global,
     text: &mut String,
-    cursors: &mut [Cursor<'_>],
+    probes: &mut [Probe<'_>],
     log: &RunLog,
 ) -> Result<(), AllocError>
-    requires { cursors.old ≡ map (cursor_at 0) log.now.nodes }
-    ensures { OnOk result (string_bytes text.new ≡ string_bytes text.old ++ changes_of log.now.bits log.now) }
+    ensures { (parts : List NodeStory) → EachRelated (IsAtBit 0) probes.old parts →
+        OnOk result (HaveEnded log.now.bits parts probes.new (string_bytes text.old) (string_bytes text.new)) }
 {
     if log.bits() == 0 {
         return Ok(());
@@ -49,9 +66,9 @@ fn put_bits(
     let mut lines = String::new(alloc);
     let last = log.bits() - 1;
     for bit in 0..last {
-        put_next(text, &mut lines, cursors, bit + 1)?;
+        put_next(text, &mut lines, probes, bit + 1)?;
     }
-    put_end(text, cursors, log.bits())?;
+    put_end(text, probes, log.bits())?;
     Ok(())
 }
 
@@ -59,29 +76,30 @@ fn put_bits(
 fn put_next(
     text: &mut String,
     lines: &mut String,
-    cursors: &mut [Cursor<'_>],
+    probes: &mut [Probe<'_>],
     bit: u32,
 ) -> Result<(), AllocError>
-    ensures cursors { OnOk result (cursors.new ≡ map advanced cursors.old) }
+    ensures probes { OnOk result (EachRelated GoesOn probes.old probes.new) }
     ensures text { OnOk result (string_bytes text.new ≡ string_bytes text.old
-        ++ timed bit (all_changes (map advanced cursors.old))) }
+        ++ timed bit (all_changes probes.new)) }
 {
-    advance_all(cursors);
+    advance_all(probes);
     lines.clear();
-    put_changes(lines, cursors)?;
+    put_changes(lines, probes)?;
     put_timed(text, bit, lines)?;
     Ok(())
 }
 
 /// The end of the last bit, after so many bits, and what changed after it.
 #[tactic(auto, using(crate::proofs::Texts::two_texts))]
-fn put_end(text: &mut String, cursors: &mut [Cursor<'_>], bits: u32) -> Result<(), AllocError>
-    ensures { OnOk result (string_bytes text.new ≡ string_bytes text.old
-        ++ (time_line bits ++ all_changes (map advanced cursors.old))) }
+fn put_end(text: &mut String, probes: &mut [Probe<'_>], bits: u32) -> Result<(), AllocError>
+    ensures probes { OnOk result (EachRelated GoesOn probes.old probes.new) }
+    ensures text { OnOk result (string_bytes text.new ≡ string_bytes text.old
+        ++ (time_line bits ++ all_changes probes.new)) }
 {
-    advance_all(cursors);
+    advance_all(probes);
     put_time(text, bits)?;
-    put_changes(text, cursors)?;
+    put_changes(text, probes)?;
     Ok(())
 }
 

@@ -7,3 +7,4 @@ pub mod Messages
 pub mod Several
 pub mod Numbers
 pub mod PlainSweeps
+pub mod PlainPictures

@@ -90,19 +90,34 @@ unfolding clap_on_literals asked faults
 run_in_threads name = record { taken = refl; asks = refl }
 
 -- `wave`
-pub wave_alone : (name : List ℕ) → ParsesAs (name ∷ codes "wave" ∷ []) wave
+pub wave_alone : (name : List ℕ) → ParsesAs (name ∷ codes "wave" ∷ []) (wave false)
 unfolding clap_on_literals asked faults
 wave_alone name = record { taken = refl; asks = refl }
 
+-- `wave --threads`
+pub wave_in_threads : (name : List ℕ) → ParsesAs (name ∷ codes "wave" ∷ codes "--threads" ∷ []) (wave true)
+unfolding clap_on_literals asked faults
+wave_in_threads name = record { taken = refl; asks = refl }
+
 -- `trace`
-pub trace_alone : (name : List ℕ) → ParsesAs (name ∷ codes "trace" ∷ []) trace
+pub trace_alone : (name : List ℕ) → ParsesAs (name ∷ codes "trace" ∷ []) (trace false)
 unfolding clap_on_literals asked faults
 trace_alone name = record { taken = refl; asks = refl }
 
+-- `trace --threads`
+pub trace_in_threads : (name : List ℕ) → ParsesAs (name ∷ codes "trace" ∷ codes "--threads" ∷ []) (trace true)
+unfolding clap_on_literals asked faults
+trace_in_threads name = record { taken = refl; asks = refl }
+
 -- `frames`
-pub frames_alone : (name : List ℕ) → ParsesAs (name ∷ codes "frames" ∷ []) frames
+pub frames_alone : (name : List ℕ) → ParsesAs (name ∷ codes "frames" ∷ []) (frames false)
 unfolding clap_on_literals asked faults
 frames_alone name = record { taken = refl; asks = refl }
+
+-- `frames --threads`
+pub frames_in_threads : (name : List ℕ) → ParsesAs (name ∷ codes "frames" ∷ codes "--threads" ∷ []) (frames true)
+unfolding clap_on_literals asked faults
+frames_in_threads name = record { taken = refl; asks = refl }
 
 -- `check`
 pub check_alone : (name : List ℕ) → ParsesAs (name ∷ codes "check" ∷ []) check

@@ -56,21 +56,11 @@ notation_app = with_subcommand frame_app (text_app (codes "message") (codes "TEX
 abbrev pub flag_rule : Text → Rule
 flag_rule name = record (new_rule name) { long = Some name; action = Some SetTrue }
 
--- `run`, or `run --threads`
-abbrev pub run_app : App
-run_app = with_rule (new_app (codes "run")) (flag_rule (codes "threads"))
+-- a command of this name, with or without `--threads`
+abbrev pub threads_app : Text → App
+threads_app name = with_rule (new_app name) (flag_rule (codes "threads"))
 
--- `wave`, which has no arguments
-abbrev pub wave_app : App
-wave_app = new_app (codes "wave")
-
--- `trace`, `frames` and `check`, which have none either
-abbrev pub trace_app : App
-trace_app = new_app (codes "trace")
-
-abbrev pub frames_app : App
-frames_app = new_app (codes "frames")
-
+-- `check`, which has no arguments
 abbrev pub check_app : App
 check_app = new_app (codes "check")
 
@@ -82,6 +72,28 @@ number_rule name least most = record (new_rule name) {
   value_names = 1;
   parser = Some (Unsigned least most);
 }
+
+-- an argument without a flag, which may be given and takes the number of a bit in decimal digits
+abbrev pub bit_rule : Text → Rule
+bit_rule id = record (new_rule id) { action = Some Set; parser = Some (Unsigned 0 9999999) }
+
+-- `picture`, with the first and the last bit, or without, and with or without `--svg` and `--threads`
+abbrev pub picture_app : App
+picture_app =
+    with_rule
+    (with_rule
+    (with_rule
+    (with_rule
+    (new_app (codes "picture"))
+    (bit_rule (codes "FROM")))
+    (bit_rule (codes "TO")))
+    (flag_rule (codes "svg")))
+    (flag_rule (codes "threads"))
+
+-- `candump`, with or without `--errors` and `--threads`
+abbrev pub candump_app : App
+candump_app =
+    with_rule (with_rule (new_app (codes "candump")) (flag_rule (codes "errors"))) (flag_rule (codes "threads"))
 
 -- `--plan K B`, which takes two of them, as many digits as the texts of strikes have
 abbrev pub strike_rule : Rule
@@ -117,12 +129,18 @@ sweep_app = with_rule (with_rule told_app (number_rule (codes "jobs") 1 64)) str
 
 -- those and the commands over the run of a plan: `run` and `wave`
 abbrev pub plan_app : App
-plan_app = with_subcommand (with_subcommand notation_app run_app.top) wave_app.top
+plan_app =
+    with_subcommand (with_subcommand notation_app (threads_app (codes "run")).top) (threads_app (codes "wave")).top
 
 -- those and the commands over what happened in it: `trace` and `frames`
 abbrev pub story_app : App
-story_app = with_subcommand (with_subcommand plan_app trace_app.top) frames_app.top
+story_app =
+    with_subcommand (with_subcommand plan_app (threads_app (codes "trace")).top) (threads_app (codes "frames")).top
+
+-- those and the commands that draw it and list what was received: `picture` and `candump`
+abbrev pub view_app : App
+view_app = with_subcommand (with_subcommand story_app picture_app.top) candump_app.top
 
 -- the whole: those, `check` and `sweep`
 abbrev pub sja_app : App
-sja_app = with_subcommand (with_subcommand story_app check_app.top) sweep_app.top
+sja_app = with_subcommand (with_subcommand view_app check_app.top) sweep_app.top

@@ -9,7 +9,7 @@ use Rattle.clap.specs.ValueTests.{is_unsigned_in}
 use Rattle.clap.specs.Words.{Kinds, Row, Text, all_of, fault_of, first_of, subcommand_of}
 use Rattle.sja_words.specs.declared.task.Task.{Task}
 use Rattle.sja_words.specs.declared.task.Task.TheVariants.{Encode, Decode, Filter, Arbitrate, Message, Run, Wave}
-use Rattle.sja_words.specs.declared.task.Task.TheVariants.{Trace, Frames, Check, Sweep, StruckPlan}
+use Rattle.sja_words.specs.declared.task.Task.TheVariants.{Trace, Frames, Picture, Candump, Check, Sweep, StruckPlan}
 use Rattle.sja_words.specs.declared.sweep_words.SweepWords.{SweepWords}
 use Rattle.sja_words.specs.CommandLine.{sja_app}
 
@@ -30,9 +30,11 @@ pub data Request : Type 0 where
   arbitrate : List (List ℕ) → Request
   message : List ℕ → Request
   run : Bool → Request
-  wave : Request
-  trace : Request
-  frames : Request
+  wave : Bool → Request
+  trace : Bool → Request
+  frames : Bool → Request
+  picture : ℕ → Option ℕ → Bool → Bool → Request
+  candump : Bool → Bool → Request
   check : Request
   sweep : SweepWords → Request
   struck_plan : ℕ → ℕ → Request
@@ -45,9 +47,11 @@ request_of (Filter single acr amr digits) = filter single acr.now amr.now digits
 request_of (Arbitrate messages) = arbitrate (map (λ digits. digits.now) messages.items)
 request_of (Message text) = message text.now
 request_of (Run threads) = run threads
-request_of Wave = wave
-request_of Trace = trace
-request_of Frames = frames
+request_of (Wave threads) = wave threads
+request_of (Trace threads) = trace threads
+request_of (Frames threads) = frames threads
+request_of (Picture first last svg threads) = picture first last svg threads
+request_of (Candump errors threads) = candump errors threads
 request_of Check = check
 request_of (Sweep asked_for) = sweep asked_for
 request_of (StruckPlan node bit) = struck_plan node bit
@@ -93,6 +97,24 @@ number_or otherwise least most (Some text) = number_in least most text
 abbrev pub optional_in : ℕ → Option Text → Option (Option ℕ)
 optional_in most None = Some None
 optional_in most (Some text) = option_map Some (number_in 0 most text)
+
+-- what `picture` asks for, by the first and the last bit and the flags: where no bit is given from bit 0 on, and up to
+-- the last bit of the run
+abbrev pub picture_by : Option ℕ → Option (Option ℕ) → Bool → Bool → Option Request
+picture_by (Some first) (Some last) svg threads = Some (picture first last svg threads)
+picture_by (Some first) None svg threads = None
+picture_by None last svg threads = None
+
+abbrev pub picture_in : List Row → Option Request
+picture_in rows =
+    picture_by (number_or 0 0 9999999 (first_of (codes "FROM") rows))
+    (optional_in 9999999 (first_of (codes "TO") rows)) (flag_in (first_of (codes "svg") rows))
+    (flag_in (first_of (codes "threads") rows))
+
+-- what `candump` asks for, by its flags
+abbrev pub candump_in : List Row → Option Request
+candump_in rows =
+    Some (candump (flag_in (first_of (codes "errors") rows)) (flag_in (first_of (codes "threads") rows)))
 
 -- a sweep of each node in each bit, one bit a run, of which every line is told, in one thread
 abbrev pub all_swept : SweepWords
@@ -184,9 +206,11 @@ request_by name rows =
     else if bytes_eq name (codes "arbitrate") then arbitrate_in (all_of (codes "MESSAGE") rows)
     else if bytes_eq name (codes "message") then option_map message (first_of (codes "TEXT") rows)
     else if bytes_eq name (codes "run") then Some (run (flag_in (first_of (codes "threads") rows)))
-    else if bytes_eq name (codes "wave") then Some wave
-    else if bytes_eq name (codes "trace") then Some trace
-    else if bytes_eq name (codes "frames") then Some frames
+    else if bytes_eq name (codes "wave") then Some (wave (flag_in (first_of (codes "threads") rows)))
+    else if bytes_eq name (codes "trace") then Some (trace (flag_in (first_of (codes "threads") rows)))
+    else if bytes_eq name (codes "frames") then Some (frames (flag_in (first_of (codes "threads") rows)))
+    else if bytes_eq name (codes "picture") then picture_in rows
+    else if bytes_eq name (codes "candump") then candump_in rows
     else if bytes_eq name (codes "check") then Some check
     else if bytes_eq name (codes "sweep") then sweep_in rows
     else None

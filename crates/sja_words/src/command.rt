@@ -5,12 +5,14 @@ ghost use Rattle.clap.specs.Words.{app_of, rule_of};
 ghost use Rattle.clap.specs.declared.builder.command.Command.TheViews.{out-Command};
 ghost use Rattle.sja_words.specs.CommandLine.{text_rule, text_app, filter_app, arbitrate_app};
 ghost use Rattle.sja_words.specs.CommandLine.{empty_app, line_app, frame_app, notation_app};
-ghost use Rattle.sja_words.specs.CommandLine.{flag_rule, run_app, wave_app, trace_app, frames_app, check_app};
-ghost use Rattle.sja_words.specs.CommandLine.{plan_app, story_app, sja_app};
+ghost use Rattle.sja_words.specs.CommandLine.{flag_rule, threads_app, check_app};
+ghost use Rattle.sja_words.specs.CommandLine.{plan_app, story_app, view_app, sja_app};
 
 use super::help::{
-    ACR_HELP, AMR_HELP, LINE_HELP, MESSAGE_HELP, MODE_HELP, TEXT_HELP, THREADS_HELP,
+    ACR_HELP, AMR_HELP, FRAMES_ABOUT, LINE_HELP, MESSAGE_HELP, MODE_HELP, RUN_ABOUT, TEXT_HELP,
+    THREADS_HELP, TRACE_ABOUT, WAVE_ABOUT,
 };
+use super::picture_command::{candump_command, picture_command};
 use super::sweep_command::sweep_command;
 use super::task::MOST_MESSAGES;
 use clap::{Arg, ArgAction, Command};
@@ -133,44 +135,18 @@ pub(crate) fn flag<'a>(alloc: Global, name: &'a str, help: &'a str) -> Arg<'a>
         .help(help)
 }
 
-/// `run`, or `run --threads`.
-fn run_command<'a>(alloc: Global) -> Result<Command<'a>, AllocError>
-    ensures app { IfOk result (λ command. app_of command ≡ run_app) }
+/// A command of this name over the run of a plan, with or without `--threads`, and with this line of help.
+fn threads_command<'a>(
+    alloc: Global,
+    name: &'a str,
+    about: &'a str,
+) -> Result<Command<'a>, AllocError>
+    ensures app { IfOk result (λ command. app_of command ≡ threads_app name.entry.now) }
     ensures local { IfOk result (λ command. (out-Command command).has_globals ≡ false) }
 {
-    Command::new(alloc, "run")
-        .about("Print the report of a run of the plan on standard input: sja run < plan.toml")
+    Command::new(alloc, name)
+        .about(about)
         .arg(flag(alloc, "threads", THREADS_HELP))
-}
-
-/// `wave`.
-fn wave_command<'a>(alloc: Global) -> Command<'a>
-    ensures app { app_of result ≡ wave_app }
-    ensures local { (out-Command result).has_globals ≡ false }
-{
-    Command::new(alloc, "wave").about(
-        "Print the waveform of a run of the plan on standard input: sja wave < plan.toml",
-    )
-}
-
-/// `trace`.
-fn trace_command<'a>(alloc: Global) -> Command<'a>
-    ensures app { app_of result ≡ trace_app }
-    ensures local { (out-Command result).has_globals ≡ false }
-{
-    Command::new(alloc, "trace").about(
-        "Print what happened in a run of the plan on standard input, event by event",
-    )
-}
-
-/// `frames`.
-fn frames_command<'a>(alloc: Global) -> Command<'a>
-    ensures app { app_of result ≡ frames_app }
-    ensures local { (out-Command result).has_globals ≡ false }
-{
-    Command::new(alloc, "frames").about(
-        "Print the bits of each field of the frames in a run of the plan on standard input",
-    )
 }
 
 /// `check`.
@@ -189,8 +165,8 @@ fn plan_command<'a>(alloc: Global) -> Result<Command<'a>, AllocError>
     ensures local { IfOk result (λ command. (out-Command command).has_globals ≡ false) }
 {
     notation_command(alloc)?
-        .subcommand(run_command(alloc)?)?
-        .subcommand(wave_command(alloc))
+        .subcommand(threads_command(alloc, "run", RUN_ABOUT)?)?
+        .subcommand(threads_command(alloc, "wave", WAVE_ABOUT)?)
 }
 
 /// Those and the commands over what happened in it.
@@ -199,15 +175,25 @@ fn story_command<'a>(alloc: Global) -> Result<Command<'a>, AllocError>
     ensures local { IfOk result (λ command. (out-Command command).has_globals ≡ false) }
 {
     plan_command(alloc)?
-        .subcommand(trace_command(alloc))?
-        .subcommand(frames_command(alloc))
+        .subcommand(threads_command(alloc, "trace", TRACE_ABOUT)?)?
+        .subcommand(threads_command(alloc, "frames", FRAMES_ABOUT)?)
+}
+
+/// Those and the commands that draw it and list what was received.
+fn view_command<'a>(alloc: Global) -> Result<Command<'a>, AllocError>
+    ensures app { IfOk result (λ command. app_of command ≡ view_app) }
+    ensures local { IfOk result (λ command. (out-Command command).has_globals ≡ false) }
+{
+    story_command(alloc)?
+        .subcommand(picture_command(alloc)?)?
+        .subcommand(candump_command(alloc)?)
 }
 
 /// The whole: a subcommand has to be given.
 pub(crate) fn sja_command<'a>(alloc: Global) -> Result<Command<'a>, AllocError>
     ensures { IfOk result (λ command. app_of command ≡ sja_app) }
 {
-    story_command(alloc)?
+    view_command(alloc)?
         .subcommand(check_command(alloc))?
         .subcommand(sweep_command(alloc)?)
 }

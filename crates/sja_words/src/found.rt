@@ -3,8 +3,9 @@
 ghost use Rattle.std.specs.Prelude.{◌≡◌, codes, option_map};
 ghost use Rattle.clap.specs.Words.{all_of, first_of, found_of, rows_of, subcommand_rows_of};
 ghost use Rattle.sja_words.specs.Words.{arbitrate_in, decode, encode, filter_in, message, request_by, request_in};
-ghost use Rattle.sja_words.specs.Words.{flag_in, request_of, run, single_in};
+ghost use Rattle.sja_words.specs.Words.{flag_in, request_of, single_in};
 
+use super::picture_found::{candump_task, picture_task};
 use super::sweep_found::sweep_task;
 use super::task::Task;
 use arrayvec::ArrayVec;
@@ -29,10 +30,20 @@ fn task_by<'a>(name: &str, arguments: &ArgMatches<'a>) -> Option<Task<'a>>
         "filter" => filter_task(arguments),
         "arbitrate" => arbitrate_task(arguments),
         "message" => message_task(arguments),
-        "run" => Some(run_task(arguments)),
-        "wave" => Some(Task::Wave),
-        "trace" => Some(Task::Trace),
-        "frames" => Some(Task::Frames),
+        "run" => Some(Task::Run {
+            threads: flag_at(arguments, "threads"),
+        }),
+        "wave" => Some(Task::Wave {
+            threads: flag_at(arguments, "threads"),
+        }),
+        "trace" => Some(Task::Trace {
+            threads: flag_at(arguments, "threads"),
+        }),
+        "frames" => Some(Task::Frames {
+            threads: flag_at(arguments, "threads"),
+        }),
+        "picture" => picture_task(arguments),
+        "candump" => Some(candump_task(arguments)),
         "check" => Some(Task::Check),
         "sweep" => sweep_task(arguments),
         _ => None,
@@ -93,15 +104,6 @@ fn message_task<'a>(arguments: &ArgMatches<'a>) -> Option<Task<'a>>
         ≡ option_map message (first_of (codes "TEXT") (rows_of (found_of arguments.now))) }
 {
     Some(Task::Message(text_at(arguments, "TEXT")?))
-}
-
-/// `run`, or `run --threads`.
-fn run_task<'a>(arguments: &ArgMatches<'a>) -> Task<'a>
-    ensures { request_of result ≡ run (flag_in (first_of (codes "threads") (rows_of (found_of arguments.now)))) }
-{
-    Task::Run {
-        threads: flag_at(arguments, "threads"),
-    }
 }
 
 /// Whether a flag stands.

@@ -1,4 +1,20 @@
-//! The lines that help has for the arguments of the commands.
+//! The lines that help has for the commands over the run of a plan, and for the arguments of all commands.
+
+/// `run`.
+pub(crate) const RUN_ABOUT: &str =
+    "Print the report of a run of the plan on standard input: sja run < plan.toml";
+
+/// `wave`.
+pub(crate) const WAVE_ABOUT: &str =
+    "Print the waveform of a run of the plan on standard input: sja wave < plan.toml";
+
+/// `trace`.
+pub(crate) const TRACE_ABOUT: &str =
+    "Print what happened in a run of the plan on standard input, event by event";
+
+/// `frames`.
+pub(crate) const FRAMES_ABOUT: &str =
+    "Print the bits of each field of the frames in a run of the plan on standard input";
 
 /// `MESSAGE`.
 pub(crate) const MESSAGE_HELP: &str =
@@ -49,3 +65,15 @@ pub(crate) const YES_HELP: &str = "Make more than 20000 runs, or of more than 20
 
 /// `--plan`.
 pub(crate) const PLAN_HELP: &str = "Print the plan with a strike more instead, of node K in bit B";
+
+/// `FROM`.
+pub(crate) const FIRST_HELP: &str = "The first bit that is drawn, counted from 0";
+
+/// `TO`.
+pub(crate) const LAST_HELP: &str = "The last bit that is drawn";
+
+/// `--svg`.
+pub(crate) const SVG_HELP: &str = "Print a drawing in SVG instead of characters";
+
+/// `--errors`.
+pub(crate) const ERRORS_HELP: &str = "Print SocketCAN's error frames too";

@@ -1,9 +1,10 @@
 //! Laws of the words. Each stands as the contract of a function that does nothing.
 
-ghost use Rattle.std.specs.Prelude.{◌≡◌, ◌==◌, ◌<◌, ◌≤◌, ◌∷◌, [], ℕ, List, Some, codes, false, length, true};
+ghost use Rattle.std.specs.Prelude.{◌≡◌, ◌==◌, ◌<◌, ◌≤◌, ◌∷◌, [], ℕ, List, Some, None, codes, false, length, true};
 ghost use Rattle.sja_words.specs.Words.{HasNoFlag, ParsesAs, Request, arbitrate, decode, encode, filter, message};
 ghost use Rattle.clap.specs.declared.error.kind.ErrorKind.TheVariants.{DisplayVersion};
-ghost use Rattle.sja_words.specs.Words.{all_swept, check, faults, frames, run, struck_plan, sweep, trace, wave};
+ghost use Rattle.sja_words.specs.Words.{all_swept, candump, check, faults, frames, picture, run, struck_plan};
+ghost use Rattle.sja_words.specs.Words.{sweep, trace, wave};
 
 /// The program's name, `encode` and a text that doesn't begin with `-` (45) ask for the levels of this message.
 pub fn encode_and_a_text_parse()
@@ -59,19 +60,53 @@ pub fn run_parses()
     ensures threads { (name : List ℕ) → ParsesAs (name ∷ codes "run" ∷ codes "--threads" ∷ []) (run true) }
 {}
 
-/// The program's name and `wave` ask for the waveform of that plan.
+/// The program's name and `wave` ask for the waveform of that plan, and with `--threads` for that of such a run.
 pub fn wave_parses()
-    ensures { (name : List ℕ) → ParsesAs (name ∷ codes "wave" ∷ []) wave }
+    ensures one { (name : List ℕ) → ParsesAs (name ∷ codes "wave" ∷ []) (wave false) }
+    ensures threads { (name : List ℕ) → ParsesAs (name ∷ codes "wave" ∷ codes "--threads" ∷ []) (wave true) }
 {}
 
-/// The program's name and `trace` ask for what happened in that plan's run.
+/// The program's name and `trace` ask for what happened in that plan's run, and with `--threads` in such a run.
 pub fn trace_parses()
-    ensures { (name : List ℕ) → ParsesAs (name ∷ codes "trace" ∷ []) trace }
+    ensures one { (name : List ℕ) → ParsesAs (name ∷ codes "trace" ∷ []) (trace false) }
+    ensures threads { (name : List ℕ) → ParsesAs (name ∷ codes "trace" ∷ codes "--threads" ∷ []) (trace true) }
 {}
 
-/// The program's name and `frames` ask for the bits of the frames in that plan's run.
+/// The program's name and `frames` ask for the bits of the frames in that plan's run, and with `--threads` for those of
+/// such a run.
 pub fn frames_parses()
-    ensures { (name : List ℕ) → ParsesAs (name ∷ codes "frames" ∷ []) frames }
+    ensures one { (name : List ℕ) → ParsesAs (name ∷ codes "frames" ∷ []) (frames false) }
+    ensures threads { (name : List ℕ) → ParsesAs (name ∷ codes "frames" ∷ codes "--threads" ∷ []) (frames true) }
+{}
+
+/// The program's name and `picture` ask for the picture of that plan's run: of all its bits, where nothing follows, or
+/// from a bit on, or from one bit to another; with `--svg` for a drawing in SVG. A bit that no number of seven digits
+/// is, is refused.
+pub fn picture_parses()
+    ensures all { (name : List ℕ) → ParsesAs (name ∷ codes "picture" ∷ []) (picture 0 None false false) }
+    ensures first { (name : List ℕ) → ParsesAs (name ∷ codes "picture" ∷ codes "11" ∷ [])
+        (picture 11 None false false) }
+    ensures both { (name : List ℕ) → ParsesAs (name ∷ codes "picture" ∷ codes "11" ∷ codes "75" ∷ [])
+        (picture 11 (Some 75) false false) }
+    ensures threads { (name : List ℕ) → ParsesAs (name ∷ codes "picture" ∷ codes "--threads" ∷ codes "11" ∷ [])
+        (picture 11 None false true) }
+    ensures svg { (name : List ℕ) → ParsesAs (name ∷ codes "picture" ∷ codes "--svg" ∷ [])
+        (picture 0 None true false) }
+    ensures all_words { (name : List ℕ) → ParsesAs
+        (name ∷ codes "picture" ∷ codes "11" ∷ codes "75" ∷ codes "--svg" ∷ codes "--threads" ∷ [])
+        (picture 11 (Some 75) true true) }
+    ensures past { (name : List ℕ) (r : Request)
+        → ¬ ParsesAs (name ∷ codes "picture" ∷ codes "10000000" ∷ []) r }
+{}
+
+/// The program's name and `candump` ask for what the nodes received in that plan's run, with error frames where
+/// `--errors` stands.
+pub fn candump_parses()
+    ensures plain { (name : List ℕ) → ParsesAs (name ∷ codes "candump" ∷ []) (candump false false) }
+    ensures errors { (name : List ℕ) → ParsesAs (name ∷ codes "candump" ∷ codes "--errors" ∷ [])
+        (candump true false) }
+    ensures threads { (name : List ℕ) → ParsesAs (name ∷ codes "candump" ∷ codes "--threads" ∷ [])
+        (candump false true) }
 {}
 
 /// The program's name and `check` ask for the first mistake in the plan on the input, or what its run left out.

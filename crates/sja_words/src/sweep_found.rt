@@ -33,7 +33,7 @@ fn sweep_words<'a>(arguments: &ArgMatches<'a>) -> Option<SweepWords>
         node: node_at(arguments)?,
         first: number_at(arguments, "from", 0)?,
         last: number_at(arguments, "to", u32::MAX)?,
-        pairs: pairs_at(arguments)?,
+        pairs: optional_at(arguments, "pairs")?,
         jobs: jobs_at(arguments)?,
         changed: flag_at(arguments, "changed"),
         rows: flag_at(arguments, "rows"),
@@ -76,12 +76,12 @@ fn node_at<'a>(arguments: &ArgMatches<'a>) -> Option<Option<u8>>
     }
 }
 
-/// How many bits apart two strikes are at most, by `--pairs`: none where it doesn't stand, nothing where it is no
-/// number up to 9,999,999.
-fn pairs_at<'a>(arguments: &ArgMatches<'a>) -> Option<Option<u32>>
-    ensures { result ≡ optional_in 9999999 (first_of (codes "pairs") (rows_of (found_of arguments.now))) }
+/// The number of this argument, as that of `--pairs`, how many bits apart two strikes are at most: none where it
+/// doesn't stand, nothing where it is no number up to 9,999,999.
+pub(crate) fn optional_at<'a>(arguments: &ArgMatches<'a>, id: &str) -> Option<Option<u32>>
+    ensures { result ≡ optional_in 9999999 (first_of id.now (rows_of (found_of arguments.now))) }
 {
-    match text_at(arguments, "pairs") {
+    match text_at(arguments, id) {
         Some(text) => Some(Some(number_in(text, 0, GREATEST_NUMBER)?)),
         None => Some(None),
     }
@@ -97,8 +97,8 @@ fn jobs_at<'a>(arguments: &ArgMatches<'a>) -> Option<u32>
     }
 }
 
-/// The number of this option: `otherwise` where it doesn't stand, nothing where it is no number up to 9,999,999.
-fn number_at<'a>(arguments: &ArgMatches<'a>, id: &str, otherwise: u32) -> Option<u32>
+/// The number of this argument: `otherwise` where it doesn't stand, nothing where it is no number up to 9,999,999.
+pub(crate) fn number_at<'a>(arguments: &ArgMatches<'a>, id: &str, otherwise: u32) -> Option<u32>
     ensures { result ≡ number_or otherwise 0 9999999 (first_of id.now (rows_of (found_of arguments.now))) }
 {
     match text_at(arguments, id) {

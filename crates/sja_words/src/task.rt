@@ -35,11 +35,38 @@ pub enum Task<'a> {
         threads: bool,
     },
     /// `wave`: the waveform of the run of the plan on the input.
-    Wave,
+    Wave {
+        /// As for `run`.
+        threads: bool,
+    },
     /// `trace`: what happened in the run of the plan on the input, event by event.
-    Trace,
+    Trace {
+        /// As for `run`.
+        threads: bool,
+    },
     /// `frames`: the bits of each field of the frames in the run of the plan on the input.
-    Frames,
+    Frames {
+        /// As for `run`.
+        threads: bool,
+    },
+    /// `picture FROM TO`: the picture of the run of the plan on the input.
+    Picture {
+        /// The first bit that is drawn, counted from 0, at most 9,999,999.
+        first: u32,
+        /// The last bit that is drawn, at most 9,999,999; without one that of the run.
+        last: Option<u32>,
+        /// With `--svg`: as a drawing in SVG, otherwise in characters.
+        svg: bool,
+        /// As for `run`.
+        threads: bool,
+    },
+    /// `candump`: what each node received in the run of the plan on the input.
+    Candump {
+        /// With `--errors`: error frames too.
+        errors: bool,
+        /// As for `run`.
+        threads: bool,
+    },
     /// `check`: the first mistake in the plan on the input, or what its run left out.
     Check,
     /// `sweep`: what came of each single bit error in the run of the plan on the input.

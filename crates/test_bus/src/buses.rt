@@ -23,6 +23,7 @@ mod step;
 mod stops;
 mod stretches;
 mod strikes;
+mod striking;
 mod stuck;
 mod told;
 mod wired;

@@ -82,11 +82,15 @@ $var wire 1 a0 active $end
 $var wire 1 f0 off $end
 $var wire 1 m0 stored $end
 $var wire 1 o0 overrun $end
+$var real 64 t0 tec $end
+$var real 64 r0 rec $end
+$var wire 1 x0 struck $end
+$var real 64 p0 phase $end
 $upscope $end
 ";
 
 /// What follows where no other node is there, and this one is active on an idle bus from the first bit on: the end of
-/// the declarations, and the values at the first bit.
+/// the declarations, and the values at the first bit but that of the phase.
 pub const FIRST_VALUES: &str = "$upscope $end
 $enddefinitions $end
 #0
@@ -98,5 +102,7 @@ $dumpvars
 0f0
 0m0
 0o0
-$end
+r0 t0
+r0 r0
+0x0
 ";

@@ -2,6 +2,7 @@
 
 mod answer;
 mod arbitrate;
+mod candumps;
 mod checks;
 mod cut_words;
 mod decode;
@@ -10,10 +11,13 @@ mod encode;
 mod failing_writes;
 mod filter;
 mod message;
+mod over;
+mod pictures;
 mod refused_memory;
 mod row;
 mod runs;
 mod sweeps;
+mod threaded_texts;
 mod threads;
 mod traces;
 mod waves;

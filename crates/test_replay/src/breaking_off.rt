@@ -3,6 +3,7 @@
 use super::given::{bit, count, enter, message, on_the_bus, received};
 use can_bits::Level;
 use sja_link::{Entry, Journal, Up};
+use sja_replay::Replay;
 use std::alloc::Global;
 use std::test::Fail;
 use test_frames::nodes::PLAIN;
@@ -26,6 +27,18 @@ fn an_entry_that_cannot_come_ends_the_replay(rt: HostRuntime) -> Result<(), Fail
     assert!(rt; told_with(rt.alloc(), Entry::Stored(message(&TWO_BYTES)?))? == 11);
     assert!(rt; told_with(rt.alloc(), Entry::Overrun(message(&TWO_BYTES)?))? == 11);
     assert!(rt; told_with(rt.alloc(), Entry::Up(Up::Stop))? == 13);
+    Ok(())
+}
+
+/// After it each further call answers nothing, though a bit stands behind it.
+#[test]
+fn what_ended_does_not_go_on(rt: HostRuntime) -> Result<(), Fail> {
+    let mut journal = Journal::new(rt.alloc(), 2)?;
+    enter(&mut journal, Entry::Off)?;
+    bit(&mut journal, Level::Recessive, Level::Recessive)?;
+    let mut replay = Replay::of(&journal);
+    assert!(rt; replay.next().is_none());
+    assert!(rt; replay.next().is_none());
     Ok(())
 }
 

@@ -1,3 +1,4 @@
 //! Waves of logs that are written by hand.
 
 mod few_bits;
+mod numbers;

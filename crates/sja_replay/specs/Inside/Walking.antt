@@ -15,7 +15,7 @@ use Rattle.sja_replay.specs.declared.replay.Replay.{Replay}
 use Rattle.sja_replay.specs.Closing.{Judges, HasFate, Closes, off_if}
 use Rattle.sja_replay.specs.Happened.{IsUntold}
 use Rattle.sja_replay.specs.Happening.{Brings}
-use Rattle.sja_replay.specs.Replaying.{left_of, IsAt}
+use Rattle.sja_replay.specs.Replaying.{left_of, IsAt, AreTaken}
 use Rattle.sja_replay.specs.Taking.{IsTaken, last_part}
 
 -- nothing is left where there is no entry to be looked at
@@ -113,3 +113,10 @@ BringsNext old new driven seen (Some h) =
     (before : List Entry) → IsAt old before → IsBrought old new before driven seen h
 BringsNext old new driven seen None =
     (before : List Entry) → IsAt old before → IsUntold before driven seen (left_of old)
+
+-- the replay went on past these entries between two bits
+pub record IsPast (old new : Replay) (before : List Entry) : Type 0 where
+  pub between : List Entry
+  pub taken : AreTaken before between
+  pub left : left_of old ≡ between ++ left_of new
+  pub at : IsAt new (before ++ between)

@@ -4,7 +4,7 @@
 
 use can_frame::OutOfMemory;
 use sja_bus::{Bus, SerialBoard, serial_links};
-use sja_script::FaultScript;
+use sja_script::{FaultScript, Strike};
 
 #[test]
 fn refused_memory_gives_no_bus(rt: HostRuntime) {
@@ -28,5 +28,22 @@ fn refused_memory_gives_no_board(rt: HostRuntime) {
     match SerialBoard::new(rt.alloc(), 3, 1) {
         Ok(board) => assert!(rt; board.ports.len() == 3),
         Err(refused) => assert!(rt; refused == OutOfMemory),
+    }
+}
+
+#[test]
+fn refused_memory_refuses_a_strike(rt: HostRuntime) {
+    let script = FaultScript::of(Vec::new(rt.alloc()));
+    let strike = Strike {
+        node: 0,
+        bit: 50,
+        every: 1,
+        times: 1,
+    };
+    if let Ok(mut bus) = Bus::new(rt.alloc(), 1, 100, script) {
+        match bus.strike(rt.alloc(), strike) {
+            Ok(()) => assert!(rt; bus.bits_run() == 0),
+            Err(refused) => assert!(rt; refused == OutOfMemory),
+        }
     }
 }

@@ -2,9 +2,10 @@
 
 ghost use Rattle.std.specs.Prelude.{◌≡◌, length};
 
+use super::given::StrikeRow;
 use sja_bus::{Bus, BusFault, NodeLog, SerialBoard, are_links_of};
 use sja_link::BusEnd;
-use sja_script::FaultScript;
+use sja_script::{FaultScript, Strike};
 use std::alloc::Global;
 use std::test::Fail;
 
@@ -93,6 +94,21 @@ impl<E: BusEnd + Drop> Wired<E> {
             self.bus
                 .quiet_bits(self.links.as_mut_slice(), &self.board, count),
         )
+    }
+
+    /// A strike more: node, first bit, distance and number. It fails where the bit has run.
+    pub fn strike(&mut self, alloc: Global, row: StrikeRow) -> Result<(), Fail> {
+        let (node, bit, every, times) = row;
+        if bit < self.bus.bits_run() {
+            return Err("the bit has run")?;
+        }
+        let strike = Strike {
+            node,
+            bit,
+            every,
+            times,
+        };
+        Ok(self.bus.strike(alloc, strike)?)
     }
 
     /// Whether every node is at rest.

@@ -2,9 +2,8 @@
 //!
 //! How each outcome is worded is tried by the tests of `test_sweep`.
 
-use super::answer::{Answer, answer_to};
+use super::over::{answered, prints, refuses};
 use super::row::{Said, Want, said};
-use std::alloc::Global;
 use std::test::Fail;
 
 /// Node 0 sends the frame with identifier 0 to node 1, which releases it, and asks for a second message: 64 bits.
@@ -43,33 +42,6 @@ const LONG: &str =
 /// A plan whose strikes are as many as there may be.
 const FULL: &str = "version = 1\nbits = 20\nturns = ['bus 20']\nfaults = ['0 1 1 1000']\n\
      node = [{ steps = ['start'] }]";
-
-/// What the program answers to these words, in one text, over this plan.
-fn answered(alloc: Global, words: &str, plan: &str) -> Result<Answer, Fail> {
-    let words = words.split(' ').collect::<Vec<&str>>(alloc)?;
-    let mut input = plan.as_bytes();
-    Ok(answer_to(alloc, &words, &mut input))
-}
-
-/// Whether these words over this plan print this text.
-fn prints(alloc: Global, words: &str, plan: &str, text: &str) -> Result<bool, Fail> {
-    let answer = answered(alloc, words, plan)?;
-    Ok(
-        answer.status == Some(0)
-            && answer.written.as_slice() == text.as_bytes()
-            && answer.told.is_empty(),
-    )
-}
-
-/// Whether these words over this plan are refused with this line.
-fn refuses(alloc: Global, words: &str, plan: &str, line: &str) -> Result<bool, Fail> {
-    let answer = answered(alloc, words, plan)?;
-    Ok(
-        answer.status == Some(1)
-            && answer.written.is_empty()
-            && answer.told.as_slice() == line.as_bytes(),
-    )
-}
 
 #[test]
 fn the_named_bits_of_a_node_are_struck(rt: HostRuntime) -> Result<(), Fail> {

@@ -10,7 +10,7 @@ use std::test::Fail;
 use std::thread::Threads;
 
 /// Two drivers that wait for what they need, so that each run in threads has the same report.
-const WAITING: &str = "version = 1
+pub const WAITING: &str = "version = 1
 bits = 200
 [[node]]
 steps = ['start', 'load 000000', 'command 01', 'sent']
@@ -27,7 +27,7 @@ fn waiting_report(alloc: Global) -> Result<String, Fail> {
 }
 
 /// Three messages, each sent once the one before was sent; two drivers wait for all three, and release them.
-const THREE: &str = "version = 1
+pub const THREE: &str = "version = 1
 bits = 2000
 turns = ['node 0 3', 'node 1 1', 'node 2 1', 'rest', 'node 0 3', 'rest', 'node 0 3', 'rest',
     'node 0 1', 'node 1 4', 'node 2 4']
@@ -80,7 +80,7 @@ activation 1 stored 0 overrun 0 free 64
 ";
 
 /// What these words print over this plan. It fails where the status isn't 0, something is told, or input is left.
-fn printed<R: Threads + Wait + Sync>(
+pub fn printed<R: Threads + Wait + Sync>(
     rt: &R,
     alloc: Global,
     words: &[&str],

@@ -2,14 +2,13 @@
 //!
 //! The texts are worked out by hand from the levels of the frame and the rules of the bus.
 
-use super::answer::answer_to;
+use super::over::{prints, refuses};
 use super::row::{Said, Want, said};
-use std::alloc::Global;
 use std::test::Fail;
 
 /// Node 0 sends identifier 122 (hexadecimal) without data, and node 1 misreads the first bit of EOF. The frame with its
 /// ACK slot is 000100100010000010001001010010010111011111111: SOF in bit 11, a stuff bit in bit 27, EOF from bit 49 on.
-const STRUCK: &str = "version = 1
+pub const STRUCK: &str = "version = 1
 bits = 200
 turns = ['node 0 3', 'node 1 1', 'rest', 'node 1 1']
 faults = ['1 49']
@@ -51,41 +50,20 @@ CRC sequence 88-102, CRC delimiter 103, ACK slot 104, ACK delimiter 105, EOF 106
 intermission 113-115
 ";
 
-/// Whether this command prints this text of that plan, with status 0, and reads the plan to its end.
-fn prints(alloc: Global, command: &str, text: &str) -> bool {
-    let words = ["sja", command];
-    let mut input = STRUCK.as_bytes();
-    let answer = answer_to(alloc, words.as_slice(), &mut input);
-    let written = answer.written.as_slice();
-    answer.status == Some(0)
-        && answer.told.is_empty()
-        && input.is_empty()
-        && written == text.as_bytes()
-}
-
-/// Whether this command refuses a plan without nodes as `run` does.
-fn refuses(alloc: Global, command: &str) -> bool {
-    let words = ["sja", command];
-    let mut input = "version = 3".as_bytes();
-    let answer = answer_to(alloc, words.as_slice(), &mut input);
-    let told = answer.told.as_slice();
-    answer.status == Some(1)
-        && answer.written.is_empty()
-        && told == b"sja: plan fault 4 Key\n".as_slice()
+#[test]
+fn trace_prints_what_happened_in_the_run_of_a_plan(rt: HostRuntime) -> Result<(), Fail> {
+    assert!(rt; prints(rt.alloc(), "sja trace", STRUCK, HAPPENED)?);
+    Ok(())
 }
 
 #[test]
-fn trace_prints_what_happened_in_the_run_of_a_plan(rt: HostRuntime) {
-    assert!(rt; prints(rt.alloc(), "trace", HAPPENED));
+fn frames_prints_the_bits_of_each_field(rt: HostRuntime) -> Result<(), Fail> {
+    assert!(rt; prints(rt.alloc(), "sja frames", STRUCK, TRIED)?);
+    Ok(())
 }
 
 #[test]
-fn frames_prints_the_bits_of_each_field(rt: HostRuntime) {
-    assert!(rt; prints(rt.alloc(), "frames", TRIED));
-}
-
-#[test]
-fn trace_and_frames_refuse_as_run_does(rt: HostRuntime) {
+fn trace_and_frames_refuse_as_run_does(rt: HostRuntime) -> Result<(), Fail> {
     let rows: [Said; 4] = [
         ("sja trace all", Want::Usage),
         ("sja traces", Want::Usage),
@@ -95,6 +73,11 @@ fn trace_and_frames_refuse_as_run_does(rt: HostRuntime) {
     for (words, want) in rows {
         assert!(rt; said(rt.alloc(), words, want), "{words:?}");
     }
-    assert!(rt; refuses(rt.alloc(), "trace"));
-    assert!(rt; refuses(rt.alloc(), "frames"));
+    for words in ["sja trace", "sja frames"] {
+        assert!(rt;
+            refuses(rt.alloc(), words, "version = 3", "sja: plan fault 4 Key\n")?,
+            "{words:?}"
+        );
+    }
+    Ok(())
 }

@@ -1,4 +1,4 @@
-use Rattle.std.proofs.Common.{map, true, ap, subst, sym, inl, inr}
+use Rattle.std.proofs.Common.{ap, subst, sym, inl, inr}
 use Rattle.std.specs.Io.KnownBytes.{Keeps}
 use Rattle.std.proofs.KnownBytes.{Keeps-refl}
 use Rattle.sja_run.specs.Answer.{request_left}

@@ -1,25 +1,28 @@
 use Rattle.std.proofs.Common.{◌<◌, length, rules, sym, subst}
-use Rattle.sja_trace.specs.Inside.Coming.{TellsAll, IsUnderway}
+use Rattle.sja_trace.specs.Inside.Coming.{TellerEnds}
+use Rattle.sja_trace.specs.Telling.{IsUnderway}
+use Rattle.sja_trace.specs.declared.teller.Teller.{Teller}
 use Rattle.sja_trace.proofs.NodeStories.{underway_at}
 use Rattle.sja_trace.proofs.Parts.{part_none, part_at, part_next, part_all}
 use Rattle.sja_trace.proofs.tellers.finish_all.Goals as goal
 
 pub loop-k-init : goal.loop-k-init
-loop-k-init c = part_none TellsAll c.args.tellers.now
+loop-k-init c = part_none TellerEnds c.args.tellers.now
 
 pub finish-requires : goal.finish-requires
 finish-requires c =
     let k = c.loop-k.k in let d = c.index-tellers-k.result in
     let here : k < length c.loop-k.tellers = search rules in
     let there : k < length c.args.tellers.now = search rules in
-    subst IsUnderway (sym (part_at TellsAll k c.args.tellers.now c.loop-k.tellers d c.loop-k.invariant here))
+    let P : Teller → Type 0 = λ t. IsUnderway t.bits in
+    subst P (sym (part_at TellerEnds k c.args.tellers.now c.loop-k.tellers d c.loop-k.invariant here))
     (underway_at c.args.tellers.now k d c.requires there)
 
 pub loop-k-preserved : goal.loop-k-preserved
 loop-k-preserved c =
     let here : c.loop-k.k < length c.loop-k.tellers = search rules in
-    part_next TellsAll c.loop-k.k c.args.tellers.now c.loop-k.tellers c.index-tellers-k.result c.finish.new.self
+    part_next TellerEnds c.loop-k.k c.args.tellers.now c.loop-k.tellers c.index-tellers-k.result c.finish.new.self
     c.loop-k.invariant here c.finish.ensures
 
 pub returns : goal.returns
-returns c = part_all TellsAll c.loop-k.k c.args.tellers.now c.loop-k.tellers c.loop-k.invariant (search rules)
+returns c = part_all TellerEnds c.loop-k.k c.args.tellers.now c.loop-k.tellers c.loop-k.invariant (search rules)

@@ -1,7 +1,7 @@
-use Rattle.sja_trace.specs.Inside.Coming.{TellsAll}
+use Rattle.sja_trace.specs.Inside.Coming.{TellerEnds}
 use Rattle.sja_trace.proofs.Parts.{Part}
 use Rattle.sja_trace.proofs.tellers.finish_all.Given as goal
 
 -- so many came to their ends
 abbrev pub invariant-loop-k : goal.invariant-loop-k
-invariant-loop-k l = Part TellsAll l.k l.initial.tellers l.tellers
+invariant-loop-k l = Part TellerEnds l.k l.initial.tellers l.tellers

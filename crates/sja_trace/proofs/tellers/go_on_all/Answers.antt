@@ -1,16 +1,16 @@
 use Rattle.std.proofs.Common.{◌<◌, length, rules}
-use Rattle.sja_trace.specs.Inside.Coming.{TellsOn}
+use Rattle.sja_trace.specs.Inside.Coming.{TellerGoesOn}
 use Rattle.sja_trace.proofs.Parts.{part_none, part_next, part_all}
 use Rattle.sja_trace.proofs.tellers.go_on_all.Goals as goal
 
 pub loop-k-init : goal.loop-k-init
-loop-k-init c = part_none TellsOn c.args.tellers.now
+loop-k-init c = part_none TellerGoesOn c.args.tellers.now
 
 pub loop-k-preserved : goal.loop-k-preserved
 loop-k-preserved c =
     let here : c.loop-k.k < length c.loop-k.tellers = search rules in
-    part_next TellsOn c.loop-k.k c.args.tellers.now c.loop-k.tellers c.index-tellers-k.result c.go_on.new.self
+    part_next TellerGoesOn c.loop-k.k c.args.tellers.now c.loop-k.tellers c.index-tellers-k.result c.go_on.new.self
     c.loop-k.invariant here c.go_on.ensures
 
 pub returns : goal.returns
-returns c = part_all TellsOn c.loop-k.k c.args.tellers.now c.loop-k.tellers c.loop-k.invariant (search rules)
+returns c = part_all TellerGoesOn c.loop-k.k c.args.tellers.now c.loop-k.tellers c.loop-k.invariant (search rules)

@@ -1,7 +1,7 @@
-use Rattle.sja_trace.specs.Inside.Coming.{TellsOn}
+use Rattle.sja_trace.specs.Inside.Coming.{TellerGoesOn}
 use Rattle.sja_trace.proofs.Parts.{Part}
 use Rattle.sja_trace.proofs.tellers.go_on_all.Given as goal
 
 -- so many went on
 abbrev pub invariant-loop-k : goal.invariant-loop-k
-invariant-loop-k l = Part TellsOn l.k l.initial.tellers l.tellers
+invariant-loop-k l = Part TellerGoesOn l.k l.initial.tellers l.tellers

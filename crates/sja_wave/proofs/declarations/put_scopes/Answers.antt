@@ -1,8 +1,20 @@
-use Rattle.std.proofs.Common.{◌<◌, length, arith}
+use Rattle.std.proofs.Common.{◌≤◌, ◌<◌, length, refl, arith}
+use Rattle.sja_wave.specs.WaveText.{node_scope}
+use Rattle.sja_wave.proofs.Texts.{numbered_end}
 use Rattle.sja_wave.proofs.Written.{scopes_next}
 use Rattle.sja_wave.proofs.declarations.put_scopes.Goals as goal
 
+pub loop-number-init : goal.loop-number-init
+loop-number-init c = λ bus stories long. refl
+
 pub loop-number-preserved : goal.loop-number-preserved
-loop-number-preserved c =
-    let less : c.loop-number.number < length c.args.nodes.now = omega arith in
-    scopes_next c.args.nodes.now c.loop-number.number _ _ _ less c.in_ok-put_scope.ensures c.loop-number.invariant
+loop-number-preserved c = λ bus stories long.
+    let less : c.loop-number.number < length stories = omega (arith, long) in
+    scopes_next bus stories c.loop-number.number _ _ _ less (c.in_ok-put_scope.ensures bus)
+    (c.loop-number.invariant bus stories long)
+
+pub returns : goal.returns
+returns c = λ bus stories long.
+    let past : length stories ≤ c.loop-number.number = omega (arith, long) in
+    numbered_end (node_scope bus) stories c.loop-number.number c.loop-number.number _ _ past
+    (c.loop-number.invariant bus stories long)

@@ -4,9 +4,9 @@ use Rattle.sja_wave.specs.Inside.Changes.{node_values}
 use Rattle.sja_wave.proofs.values.put_all_values.Given as goal
 
 -- what was written, and the lines of the rest, are the whole
-abbrev pub invariant-loop-cursor : goal.invariant-loop-cursor
-invariant-loop-cursor l = record {
-  text : string_bytes l.text ++ numbered node_values l.number (drop l.cursor-index l.cursors) ≡ string_bytes l.fn.text
-      ++ numbered node_values 0 l.cursors;
-  number : l.number ≡ l.cursor-index;
+abbrev pub invariant-loop-probe : goal.invariant-loop-probe
+invariant-loop-probe l = record {
+  text : string_bytes l.text ++ numbered (node_values l.bus) l.number (drop l.probe-index l.probes)
+      ≡ string_bytes l.fn.text ++ numbered (node_values l.bus) 0 l.probes;
+  number : l.number ≡ l.probe-index;
 }

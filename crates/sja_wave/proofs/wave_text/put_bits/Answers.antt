@@ -1,23 +1,26 @@
-use Rattle.std.proofs.Common.{◌≡◌, ℕ, ◌+◌, suc, map, ap, ◌∙◌, sym, arith}
-use Rattle.sja_wave.specs.Inside.Cursors.{advanced, cursor_at}
-use Rattle.sja_wave.proofs.NextSignals.{next_bits}
-use Rattle.sja_wave.proofs.Written.{bits_more, bits_end}
+use Rattle.std.proofs.Common.{◌≡◌, ℕ, ◌+◌, suc, rules, arith}
+use Rattle.sja_wave.proofs.UpTo.{gone_first, gone_more, no_bits, gone_end}
 use Rattle.sja_wave.proofs.wave_text.put_bits.Goals as goal
 
+pub returns-then-bits-eq0 : goal.returns-then-bits-eq0
+returns-then-bits-eq0 c = λ parts at.
+    let zero : c.bits.result ≡ 0 = search rules in
+    let is = c.bits.ensures in
+    let none : c.args.log.now.bits ≡ 0 = omega (arith, zero, is) in
+    no_bits c.args.log.now.bits parts c.args.probes.now _ none at
+
+pub loop-bit-init : goal.loop-bit-init
+loop-bit-init c = λ parts at. gone_first parts c.args.probes.now _ at
+
 pub loop-bit-preserved : goal.loop-bit-preserved
-loop-bit-preserved c =
-    let log = c.args.log.now in
+loop-bit-preserved c = λ parts at.
     let k = c.loop-bit.bit in
-    let one : k + 1 ≡ suc k = omega arith in record {
-      text = bits_more k (k + 1) log _ _ _ c.loop-bit.cursors one c.loop-bit.invariant.cursors c.loop-bit.invariant.text
-          c.in_ok-put_next.ensures.text;
-      cursors =
-          c.in_ok-put_next.ensures.cursors ∙ ap (map advanced) c.loop-bit.invariant.cursors ∙ next_bits k log.nodes
-          ∙ ap (λ (n : ℕ). map (cursor_at n) log.nodes) (sym one);
-    }
+    let one : k + 1 ≡ suc k = omega arith in
+    gone_more k (k + 1) parts c.loop-bit.probes _ _ _ _ one (c.loop-bit.invariant parts at)
+    c.in_ok-put_next.ensures.probes c.in_ok-put_next.ensures.text
 
 pub returns : goal.returns
-returns c =
+returns c = λ parts at.
     let last : c.args.log.now.bits ≡ suc c.loop-bit.bit = omega arith in
-    bits_end c.loop-bit.bit c.args.log.now _ _ _ c.loop-bit.cursors last c.loop-bit.invariant.cursors
-    c.loop-bit.invariant.text (rw c.bits-2.ensures at c.in_ok-put_end.ensures)
+    gone_end c.loop-bit.bit c.args.log.now.bits _ parts c.loop-bit.probes _ _ _ _ last c.bits-2.ensures
+    (c.loop-bit.invariant parts at) c.in_ok-put_end.ensures.probes c.in_ok-put_end.ensures.text

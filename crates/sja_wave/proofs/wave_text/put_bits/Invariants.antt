@@ -1,11 +1,11 @@
-use Rattle.std.proofs.Common.{◌≡◌, ◌++◌, map, string_bytes}
-use Rattle.sja_wave.specs.WaveText.{changes_to}
-use Rattle.sja_wave.specs.Inside.Cursors.{cursor_at}
+use Rattle.std.proofs.Common.{List, string_bytes}
+use Rattle.lemmas.specs.Related.{EachRelated}
+use Rattle.sja_wave.specs.Stories.{NodeStory}
+use Rattle.sja_wave.specs.Inside.Probes.{IsAtBit, HaveGone}
 use Rattle.sja_wave.proofs.wave_text.put_bits.Given as goal
 
--- what changed up to this bit was written, and the cursors stand behind it
+-- what changed up to this bit was written, and the probes stand there
 abbrev pub invariant-loop-bit : goal.invariant-loop-bit
-invariant-loop-bit l = record {
-  text : string_bytes l.text ≡ string_bytes l.fn.text ++ changes_to l.bit l.log;
-  cursors : l.cursors ≡ map (cursor_at l.bit) l.log.nodes;
-}
+invariant-loop-bit l =
+    (parts : List NodeStory) → EachRelated (IsAtBit 0) l.fn.probes parts →
+    HaveGone l.bit parts l.probes (string_bytes l.fn.text) (string_bytes l.text)

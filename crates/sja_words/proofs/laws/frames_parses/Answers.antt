@@ -1,5 +1,8 @@
-use Rattle.sja_words.proofs.PlainWords.{frames_alone}
+use Rattle.sja_words.proofs.PlainWords.{frames_alone, frames_in_threads}
 use Rattle.sja_words.proofs.laws.frames_parses.Goals as goal
 
-pub returns : goal.returns
-returns c = frames_alone
+pub returns-clause-one : goal.returns-clause-one
+returns-clause-one c = frames_alone
+
+pub returns-clause-threads : goal.returns-clause-threads
+returns-clause-threads c = frames_in_threads

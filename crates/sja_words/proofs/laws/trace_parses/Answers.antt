@@ -1,5 +1,8 @@
-use Rattle.sja_words.proofs.PlainWords.{trace_alone}
+use Rattle.sja_words.proofs.PlainWords.{trace_alone, trace_in_threads}
 use Rattle.sja_words.proofs.laws.trace_parses.Goals as goal
 
-pub returns : goal.returns
-returns c = trace_alone
+pub returns-clause-one : goal.returns-clause-one
+returns-clause-one c = trace_alone
+
+pub returns-clause-threads : goal.returns-clause-threads
+returns-clause-threads c = trace_in_threads

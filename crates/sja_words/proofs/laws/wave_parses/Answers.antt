@@ -1,5 +1,8 @@
-use Rattle.sja_words.proofs.PlainWords.{wave_alone}
+use Rattle.sja_words.proofs.PlainWords.{wave_alone, wave_in_threads}
 use Rattle.sja_words.proofs.laws.wave_parses.Goals as goal
 
-pub returns : goal.returns
-returns c = wave_alone
+pub returns-clause-one : goal.returns-clause-one
+returns-clause-one c = wave_alone
+
+pub returns-clause-threads : goal.returns-clause-threads
+returns-clause-threads c = wave_in_threads

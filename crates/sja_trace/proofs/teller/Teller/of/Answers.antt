@@ -1,5 +1,4 @@
 use Rattle.std.proofs.Common.{refl}
-use Rattle.sja_trace.proofs.Coming.{came_first}
 use Rattle.sja_trace.proofs.teller.Teller.of.Goals as goal
 
 pub returns : goal.returns
@@ -8,5 +7,5 @@ returns c = record {
   done_are = c.done.ensures;
   story_steps = refl;
   story_done = refl;
-  come = (came_first _ _ c.of.ensures.at (rw c.journal.ensures at c.of.ensures.left), refl);
+  come = rw c.journal.ensures at c.of.ensures;
 }

@@ -1,0 +1,3 @@
+pub mod FrameTexts
+pub mod Stories
+pub mod UpTo

@@ -1,0 +1,127 @@
+-- The stories of nodes, and how far the bits of each came.
+use Rattle.std.proofs.Common.{◌≡◌, ℕ, ◌+◌, ◌<◌, ◌≤◌, zero, suc, List, [], ◌∷◌, ◌++◌, length, take, get_or}
+use Rattle.std.proofs.Common.{sym, ap, ◌∙◌, subst, arith}
+use Rattle.std.specs.Prelude.{slice_index_or}
+use Rattle.std.proofs.lemmas.List.{take_more, take_all}
+use Rattle.lemmas.specs.Related.{EachRelated}
+use Rattle.sja_log.specs.Log.{NodeValue}
+use Rattle.sja_replay.specs.declared.happening.Happening.{Happening}
+use Rattle.sja_trace.specs.declared.node_bits.NodeBits.{NodeBits}
+use Rattle.sja_trace.specs.Telling.{HaveCome, HaveSame, TellsOn, TellsAll, IsUnderway}
+use Rattle.sja_candump.specs.CandumpText.{HasStory}
+use Rattle.sja_candump.specs.Inside.Coming.{HaveTold, IsShown, AreUnderway}
+
+-- ---- before the first bit
+
+-- one node more
+one_told : (ns : List NodeValue) (bs : List NodeBits) (ss : List (List Happening)) (n : NodeValue) (b : NodeBits) →
+    HaveTold 0 ns bs ss → HaveCome n.journal 0 b [] →
+    HaveTold 0 (ns ++ n ∷ []) (bs ++ b ∷ []) (ss ++ [] ∷ [])
+one_told [] [] [] n b have has = (has, tt)
+one_told [] [] (s ∷ ss) n b have has = absurd have
+one_told [] (c ∷ bs) ss n b have has = absurd have
+one_told (m ∷ ns) [] ss n b have has = absurd have
+one_told (m ∷ ns) (c ∷ bs) [] n b have has = absurd have
+one_told (m ∷ ns) (c ∷ bs) (s ∷ ss) n b have has = (have.0, one_told ns bs ss n b have.1 has)
+
+-- the nodes so far
+pub record HaveBegun (nodes : List NodeValue) (all : List NodeBits) : Type 0 where
+  pub stories : List (List Happening)
+  pub have : HaveTold 0 nodes all stories
+
+-- none yet
+pub begun_none : (nodes : List NodeValue) (all : List NodeBits) → all ≡ [] → HaveBegun (take 0 nodes) all
+begun_none nodes all none =
+    let P : List NodeBits → Type 0 = λ l. HaveBegun (take 0 nodes) l in
+    subst P (sym none) (record { stories = []; have = tt })
+
+pub begun_more : (nodes : List NodeValue) (i : ℕ) (n : NodeValue) (olds news : List NodeBits) (b : NodeBits) →
+    i < length nodes → n ≡ get_or nodes i n → HaveBegun (take i nodes) olds →
+    HaveCome n.journal 0 b [] → news ≡ olds ++ b ∷ [] → HaveBegun (take (i + 1) nodes) news
+begun_more nodes i n olds news b less is begun has pushed =
+    let stories = begun.stories ++ [] ∷ [] in
+    let R : List NodeValue → Type 0 = λ l. HaveTold 0 l (olds ++ b ∷ []) stories in
+    let S : List NodeBits → Type 0 = λ l. HaveBegun (take (i + 1) nodes) l in
+    let next : take (i + 1) nodes ≡ take i nodes ++ n ∷ [] =
+    take_more nodes i n less ∙ ap (λ x. take i nodes ++ x ∷ []) (sym is) in
+    subst S (sym pushed) (record {
+      stories = stories;
+      have = subst R (sym next) (one_told (take i nodes) olds begun.stories n b begun.have has);
+    })
+
+pub begun_all : (nodes : List NodeValue) (i : ℕ) (all : List NodeBits) → length nodes ≤ i →
+    HaveBegun (take i nodes) all → HaveBegun nodes all
+begun_all nodes i all past begun =
+    let P : List NodeValue → Type 0 = λ l. HaveBegun l all in subst P (take_all i nodes past) begun
+
+-- ---- a bit more
+
+pub record AllMore (bits : ℕ) (nodes : List NodeValue) (news : List NodeBits) (ss : List (List Happening)) :
+    Type 0 where
+  pub stories : List (List Happening)
+  pub have : HaveTold (suc bits) nodes news stories
+  pub shown : EachRelated (IsShown bits) news stories
+  pub same : EachRelated (HaveSame bits) ss stories
+
+pub all_more : (bits : ℕ) (nodes : List NodeValue) (olds news : List NodeBits) (ss : List (List Happening)) →
+    HaveTold bits nodes olds ss → EachRelated TellsOn olds news → AllMore bits nodes news ss
+all_more bits [] [] [] [] have on = record { stories = []; have = tt; shown = tt; same = tt }
+all_more bits [] [] (c ∷ news) ss have on = absurd on
+all_more bits [] [] [] (s ∷ ss) have on = absurd have
+all_more bits [] (b ∷ olds) news ss have on = absurd have
+all_more bits (n ∷ nodes) [] news ss have on = absurd have
+all_more bits (n ∷ nodes) (b ∷ olds) [] ss have on = absurd on
+all_more bits (n ∷ nodes) (b ∷ olds) (c ∷ news) [] have on = absurd have
+all_more bits (n ∷ nodes) (b ∷ olds) (c ∷ news) (s ∷ ss) have on =
+    let more = on.0.tells n.journal bits s have.0 in
+    let rest = all_more bits nodes olds news ss have.1 on.1 in
+    record {
+      stories = more.told ∷ rest.stories;
+      have = (more.come, rest.have);
+      shown = (more.bit, rest.shown);
+      same = (more.same, rest.same);
+    }
+
+-- ---- all bits
+
+pub record AllTold (bits : ℕ) (nodes : List NodeValue) (ss : List (List Happening)) : Type 0 where
+  pub stories : List (List Happening)
+  pub have : EachRelated HasStory nodes stories
+  pub same : EachRelated (HaveSame bits) ss stories
+
+pub all_told : (bits : ℕ) (nodes : List NodeValue) (olds news : List NodeBits) (ss : List (List Happening)) →
+    HaveTold bits nodes olds ss → EachRelated TellsAll olds news → AllTold bits nodes ss
+all_told bits [] [] [] [] have on = record { stories = []; have = tt; same = tt }
+all_told bits [] [] (c ∷ news) ss have on = absurd on
+all_told bits [] [] [] (s ∷ ss) have on = absurd have
+all_told bits [] (b ∷ olds) news ss have on = absurd have
+all_told bits (n ∷ nodes) [] news ss have on = absurd have
+all_told bits (n ∷ nodes) (b ∷ olds) [] ss have on = absurd on
+all_told bits (n ∷ nodes) (b ∷ olds) (c ∷ news) [] have on = absurd have
+all_told bits (n ∷ nodes) (b ∷ olds) (c ∷ news) (s ∷ ss) have on =
+    let all = on.0.tells n.journal bits s have.0 in
+    let rest = all_told bits nodes olds news ss have.1 on.1 in
+    record {
+      stories = all.told ∷ rest.stories;
+      have = (all.are, rest.have);
+      same = (all.same, rest.same);
+    }
+
+-- each one is underway
+pub all_underway : (bits : ℕ) (nodes : List NodeValue) (all : List NodeBits) (ss : List (List Happening)) →
+    HaveTold bits nodes all ss → AreUnderway all
+all_underway bits [] [] [] have = tt
+all_underway bits [] [] (s ∷ ss) have = absurd have
+all_underway bits [] (b ∷ all) ss have = absurd have
+all_underway bits (n ∷ nodes) [] ss have = tt
+all_underway bits (n ∷ nodes) (b ∷ all) [] have = absurd have
+all_underway bits (n ∷ nodes) (b ∷ all) (s ∷ ss) have = (
+  record { journal = n.journal; bits = bits; told = s; come = have.0 },
+  all_underway bits nodes all ss have.1,
+)
+
+pub underway_at : (all : List NodeBits) (k : ℕ) (d : NodeBits) → AreUnderway all → k < length all →
+    IsUnderway (slice_index_or all k d)
+underway_at [] k d are less = absurd (omega (arith, less))
+underway_at (b ∷ all) zero d are less = are.0
+underway_at (b ∷ all) (suc k) d are less = underway_at all k d are.1 (omega (arith, less))

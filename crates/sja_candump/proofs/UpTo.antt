@@ -1,0 +1,98 @@
+-- The text of the stories so far.
+use Rattle.std.proofs.Common.{◌≡◌, ℕ, Bool, ◌+◌, ◌<◌, ◌≤◌, zero, suc, List, [], ◌∷◌, ◌++◌, length, take, drop}
+use Rattle.std.proofs.Common.{refl, sym, ap, ap₂, ◌∙◌, subst, arith}
+use Rattle.lemmas.specs.Related.{EachRelated}
+use Rattle.sja_log.specs.Log.{NodeValue, RunValue}
+use Rattle.sja_replay.specs.declared.happening.Happening.{Happening}
+use Rattle.sja_report.specs.ReportLines.{numbered}
+use Rattle.sja_trace.proofs.WrittenBack.{are_back, same_count}
+use Rattle.sja_trace.specs.declared.node_bits.NodeBits.{NodeBits}
+use Rattle.sja_trace.specs.Telling.{HaveSame, TellsOn, TellsAll}
+use Rattle.sja_candump.specs.CandumpText.{IsCandump, node_lines, story_lines, lines_to}
+use Rattle.sja_candump.specs.Inside.Coming.{IsShown, AreUnderway, IsUpTo, hand_lines, bit_text}
+use Rattle.sja_candump.proofs.Stories.{HaveBegun, all_more, all_told, all_underway}
+
+-- ---- the bits before are told alike
+
+same_lines : (errors : Bool) (bits b k : ℕ) (olds news : List (List Happening)) → b < bits →
+    EachRelated (HaveSame bits) olds news →
+    numbered (story_lines errors b) k news ≡ numbered (story_lines errors b) k olds
+same_lines errors bits b k [] [] less same = refl
+same_lines errors bits b k [] (n ∷ news) less same = absurd same
+same_lines errors bits b k (o ∷ olds) [] less same = absurd same
+same_lines errors bits b k (o ∷ olds) (n ∷ news) less same =
+    ap₂ (λ l r. l ++ r) (ap (node_lines errors b k) (same.0 b less))
+    (same_lines errors bits b (k + 1) olds news less same.1)
+
+same_bits : (errors : Bool) (bits n : ℕ) (olds news : List (List Happening)) → n ≤ bits →
+    EachRelated (HaveSame bits) olds news → lines_to errors n news ≡ lines_to errors n olds
+same_bits errors bits zero olds news few same = refl
+same_bits errors bits (suc b) olds news few same =
+    ap₂ (λ l r. l ++ r) (same_bits errors bits b olds news (omega (arith, few)) same)
+    (same_lines errors bits b 0 olds news (omega (arith, few)) same)
+
+-- ---- the bit at hand
+
+shown_lines : (errors : Bool) (bit k : ℕ) (bs : List NodeBits) (ss : List (List Happening)) →
+    EachRelated (IsShown bit) bs ss → numbered (hand_lines errors bit) k bs ≡ numbered (story_lines errors bit) k ss
+shown_lines errors bit k [] [] shown = refl
+shown_lines errors bit k [] (s ∷ ss) shown = absurd shown
+shown_lines errors bit k (b ∷ bs) [] shown = absurd shown
+shown_lines errors bit k (b ∷ bs) (s ∷ ss) shown =
+    ap₂ (λ l r. l ++ r) (ap (node_lines errors bit k) shown.0) (shown_lines errors bit (k + 1) bs ss shown.1)
+
+-- ---- bit by bit
+
+pub up_first : (errors : Bool) (nodes : List NodeValue) (all : List NodeBits) → HaveBegun nodes all →
+    IsUpTo errors nodes 0 all []
+up_first errors nodes all begun = record { stories = begun.stories; have = begun.have; text_is = refl }
+
+up_more : (errors : Bool) (nodes : List NodeValue) (bits next : ℕ) (olds news : List NodeBits) (old new : List ℕ) →
+    IsUpTo errors nodes bits olds old → EachRelated TellsOn olds news → new ≡ old ++ bit_text errors bits news →
+    next ≡ suc bits → IsUpTo errors nodes next news new
+up_more errors nodes bits next olds news old new up on wrote one =
+    let m = all_more bits nodes olds news up.stories up.have on in
+    let P : ℕ → Type 0 = λ n. IsUpTo errors nodes n news new in
+    let before = up.text_is ∙ sym (same_bits errors bits bits up.stories m.stories (omega arith) m.same) in
+    subst P (sym one) (record {
+      stories = m.stories;
+      have = m.have;
+      text_is = wrote ∙ ap₂ (λ l r. l ++ r) before (shown_lines errors bits 0 news m.stories m.shown);
+    })
+
+-- ---- the bits are lent to a call as a slice, and written back
+
+-- a bit more
+pub back_more : (errors : Bool) (nodes : List NodeValue) (bits next n : ℕ) (was lent now shown : List NodeBits)
+    (old new : List ℕ) → n ≡ length was → lent ≡ was → length now ≡ length lent →
+    shown ≡ take n (now ++ drop (length now) was) → IsUpTo errors nodes bits was old → EachRelated TellsOn lent now →
+    new ≡ old ++ bit_text errors bits shown → next ≡ suc bits →
+    IsUpTo errors nodes next (take n (now ++ drop (length now) was)) new
+back_more errors nodes bits next n was lent now shown old new all is count seen up on wrote one =
+    let back = are_back was now n all (same_count was lent now is count) in
+    let R : List NodeBits → Type 0 = λ l. EachRelated TellsOn l now in
+    let P : List NodeBits → Type 0 = λ l. IsUpTo errors nodes next l new in
+    subst P (sym back) (up_more errors nodes bits next was now old new up (subst R is on)
+    (wrote ∙ ap (λ (l : List NodeBits). old ++ bit_text errors bits l) (seen ∙ back)) one)
+
+-- they are underway
+pub lent_underway : (errors : Bool) (nodes : List NodeValue) (bits : ℕ) (was lent : List NodeBits) (text : List ℕ) →
+    lent ≡ was → IsUpTo errors nodes bits was text → AreUnderway lent
+lent_underway errors nodes bits was lent text is up =
+    subst AreUnderway (sym is) (all_underway bits nodes was up.stories up.have)
+
+-- all bits
+pub back_all : (errors : Bool) (log : RunValue) (bits : ℕ) (was lent now : List NodeBits) (text : List ℕ) →
+    bits ≡ log.bits → lent ≡ was → IsUpTo errors log.nodes bits was text → EachRelated TellsAll lent now →
+    IsCandump log errors text
+back_all errors log bits was lent now text ends is up on =
+    let P : ℕ → Type 0 = λ n. IsUpTo errors log.nodes n was text in
+    let R : List NodeBits → Type 0 = λ l. EachRelated TellsAll l now in
+    let last = subst P ends up in
+    let all = all_told log.bits log.nodes was now last.stories last.have (subst R is on) in
+    record {
+      stories = all.stories;
+      have = all.have;
+      whole = last.text_is
+          ∙ sym (same_bits errors log.bits log.bits last.stories all.stories (omega arith) all.same);
+    }

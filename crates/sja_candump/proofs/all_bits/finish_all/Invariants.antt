@@ -1,0 +1,7 @@
+use Rattle.sja_trace.proofs.Parts.{Part}
+use Rattle.sja_trace.specs.Telling.{TellsAll}
+use Rattle.sja_candump.proofs.all_bits.finish_all.Given as goal
+
+-- so many came to their ends
+abbrev pub invariant-loop-k : goal.invariant-loop-k
+invariant-loop-k l = Part TellsAll l.k l.initial.all l.all

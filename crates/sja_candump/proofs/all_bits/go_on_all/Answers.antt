@@ -1,0 +1,16 @@
+use Rattle.std.proofs.Common.{◌<◌, length, rules}
+use Rattle.sja_trace.proofs.Parts.{part_none, part_next, part_all}
+use Rattle.sja_trace.specs.Telling.{TellsOn}
+use Rattle.sja_candump.proofs.all_bits.go_on_all.Goals as goal
+
+pub loop-k-init : goal.loop-k-init
+loop-k-init c = part_none TellsOn c.args.all.now
+
+pub loop-k-preserved : goal.loop-k-preserved
+loop-k-preserved c =
+    let here : c.loop-k.k < length c.loop-k.all = search rules in
+    part_next TellsOn c.loop-k.k c.args.all.now c.loop-k.all c.index-all-k.result c.go_on.new.self
+    c.loop-k.invariant here c.go_on.ensures
+
+pub returns : goal.returns
+returns c = part_all TellsOn c.loop-k.k c.args.all.now c.loop-k.all c.loop-k.invariant (search rules)

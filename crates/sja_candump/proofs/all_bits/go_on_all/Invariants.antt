@@ -1,0 +1,7 @@
+use Rattle.sja_trace.proofs.Parts.{Part}
+use Rattle.sja_trace.specs.Telling.{TellsOn}
+use Rattle.sja_candump.proofs.all_bits.go_on_all.Given as goal
+
+-- so many went on
+abbrev pub invariant-loop-k : goal.invariant-loop-k
+invariant-loop-k l = Part TellsOn l.k l.initial.all l.all

@@ -1,0 +1,7 @@
+use Rattle.std.proofs.Common.{string_bytes}
+use Rattle.sja_candump.specs.Inside.Coming.{IsUpTo}
+use Rattle.sja_candump.proofs.candump_text.candump.Given as goal
+
+-- the lines of the bits so far were written
+abbrev pub invariant-loop-bit : goal.invariant-loop-bit
+invariant-loop-bit l = IsUpTo l.errors l.log.nodes l.bit l.all.items (string_bytes l.text)

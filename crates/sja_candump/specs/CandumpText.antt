@@ -1,0 +1,83 @@
+-- What the driver of each node could have received, as text (this project's own rule; sources as named).
+use Rattle.std.specs.Prelude.{◌≡◌, ℕ, zero, suc, Bool, Option, Some, None, List, [], ◌++◌, slice_get}
+use Rattle.can_frame.specs.Frame.{FrameValue}
+use Rattle.can_notation.specs.Text.{text}
+use Rattle.lemmas.specs.Related.{EachRelated}
+use Rattle.sja_log.specs.Log.{NodeValue, RunValue}
+use Rattle.sja_replay.specs.declared.fate.Fate.{Fate}
+use Rattle.sja_replay.specs.declared.fate.Fate.TheVariants.{Stored, Overrun, Stopped}
+use Rattle.sja_replay.specs.declared.happening.Happening.{Happening}
+use Rattle.sja_replay.specs.Happened.{Happened}
+use Rattle.sja_report.specs.ReportLines.{numbered}
+use Rattle.sja_trace.specs.TraceText.{line_where}
+use Rattle.sja_candump.specs.declared.error_frame.ErrorFrame.{ErrorFrame}
+use Rattle.sja_candump.specs.ErrorFrames.{error_text}
+use Rattle.sja_candump.specs.BitErrors.{loss_error, acknowledgement_error, overrun_error, change_error, off_error}
+use Rattle.sja_candump.specs.BitErrors.{restart_error}
+use Rattle.sja_candump.specs.Lines.{frame_line}
+
+-- ---- a bit of a node
+
+-- the frame that is valid for the node with the bit and that was stored (SJA1000 data sheet, 6.4.14): one that the
+-- acceptance filter stopped or that was overrun comes to no driver. A node's own frame is received under self reception
+-- alone (6.4.4)
+abbrev pub stored_frame : Option FrameValue → Option Fate → Option FrameValue
+stored_frame None fate = None
+stored_frame (Some f) None = None
+stored_frame (Some f) (Some Stored) = Some f
+stored_frame (Some f) (Some (Overrun length free)) = None
+stored_frame (Some f) (Some Stopped) = None
+
+-- in the notation of can-utils; no line where there is none
+abbrev pub stored_line : ℕ → ℕ → Option FrameValue → List ℕ
+stored_line bit node None = []
+stored_line bit node (Some f) = frame_line bit node (text f)
+
+abbrev pub error_line : ℕ → ℕ → Option ErrorFrame → List ℕ
+error_line bit node None = []
+error_line bit node (Some e) = frame_line bit node (error_text e)
+
+-- the error frames that come before what is received, and those that come after it
+abbrev pub lines_before : ℕ → ℕ → Happening → List ℕ
+lines_before bit node h = error_line bit node (loss_error h) ++ error_line bit node (acknowledgement_error h)
+
+abbrev pub lines_after : ℕ → ℕ → Happening → List ℕ
+lines_after bit node h =
+    error_line bit node (overrun_error h) ++ error_line bit node (change_error h) ++ error_line bit node (off_error h)
+    ++ error_line bit node (restart_error h)
+
+-- the lines of what a bit brought, with error frames or without
+abbrev pub bit_lines : Bool → ℕ → ℕ → Happening → List ℕ
+bit_lines errors bit node h =
+    line_where errors (lines_before bit node h) ++ stored_line bit node (stored_frame h.events.received h.fate)
+    ++ line_where errors (lines_after bit node h)
+
+abbrev pub node_lines : Bool → ℕ → ℕ → Option Happening → List ℕ
+node_lines errors bit node None = []
+node_lines errors bit node (Some h) = bit_lines errors bit node h
+
+-- ---- all nodes, by what their bits brought
+
+-- of bit b
+abbrev pub story_lines : Bool → ℕ → ℕ → List Happening → List ℕ
+story_lines errors b node told = node_lines errors b node (slice_get told b)
+
+abbrev pub all_lines : Bool → ℕ → List (List Happening) → List ℕ
+all_lines errors b stories = numbered (story_lines errors b) 0 stories
+
+-- of the bits before bit n, in order
+abbrev pub lines_to : Bool → ℕ → List (List Happening) → List ℕ
+lines_to errors zero stories = []
+lines_to errors (suc b) stories = lines_to errors b stories ++ all_lines errors b stories
+
+-- ---- of a log
+
+-- what the bits of a node's journal brought
+abbrev pub HasStory : NodeValue → List Happening → Type 0
+HasStory n told = Happened [] n.journal told
+
+-- the text is what the drivers of a run could have received, with error frames or without
+pub record IsCandump (log : RunValue) (errors : Bool) (text : List ℕ) : Type 0 where
+  pub stories : List (List Happening)
+  pub have : EachRelated HasStory log.nodes stories
+  pub whole : text ≡ lines_to errors log.bits stories

@@ -1,0 +1,130 @@
+//! The lines of a bit of a node.
+
+ghost use Rattle.std.specs.Prelude.{◌≡◌, ◌++◌, string_bytes, OnOk};
+ghost use Rattle.sja_trace.specs.TraceText.{line_where};
+ghost use Rattle.sja_candump.specs.CandumpText.{node_lines, bit_lines, stored_line, stored_frame};
+ghost use Rattle.sja_candump.specs.CandumpText.{lines_before, lines_after};
+
+use super::bit_errors::{
+    acknowledgement_error, change_error, loss_error, off_error, overrun_error, restart_error,
+};
+use super::frame_lines::{put_error_if, put_frame_line};
+use can_frame::Frame;
+use sja_replay::{Fate, Happening};
+use std::alloc::AllocError;
+
+/// The lines of a bit, if the node has it, with error frames or without.
+pub(crate) fn put_node(
+    text: &mut String,
+    errors: bool,
+    bit: u32,
+    node: usize,
+    happening: &Option<Happening>,
+) -> Result<(), AllocError>
+    ensures { OnOk result (string_bytes text.new ≡ string_bytes text.old
+        ++ node_lines errors bit node happening.now) }
+{
+    match happening {
+        Some(happening) => put_happening(text, errors, bit, node, happening),
+        None => Ok(()),
+    }
+}
+
+/// The lines of what a bit brought.
+fn put_happening(
+    text: &mut String,
+    errors: bool,
+    bit: u32,
+    node: usize,
+    happening: &Happening,
+) -> Result<(), AllocError>
+    ensures { OnOk result (string_bytes text.new ≡ string_bytes text.old ++ bit_lines errors bit node happening.now) }
+{
+    put_before(text, errors, bit, node, happening)?;
+    put_stored(text, bit, node, &happening.events.received, happening.fate)?;
+    put_after(text, errors, bit, node, happening)?;
+    Ok(())
+}
+
+/// The line of a frame that was received, if there is one and it was stored.
+fn put_stored(
+    text: &mut String,
+    bit: u32,
+    node: usize,
+    received: &Option<Frame>,
+    fate: Option<Fate>,
+) -> Result<(), AllocError>
+    ensures { OnOk result (string_bytes text.new ≡ string_bytes text.old
+        ++ stored_line bit node (stored_frame received.now fate)) }
+{
+    match (received, fate) {
+        (Some(frame), Some(Fate::Stored)) => put_frame_line(text, bit, node, frame),
+        _ => Ok(()),
+    }
+}
+
+/// The error frames that come before what is received, if they are asked for.
+fn put_before(
+    text: &mut String,
+    errors: bool,
+    bit: u32,
+    node: usize,
+    happening: &Happening,
+) -> Result<(), AllocError>
+    ensures { OnOk result (string_bytes text.new ≡ string_bytes text.old
+        ++ line_where errors (lines_before bit node happening.now)) }
+{
+    if errors {
+        put_errors_before(text, bit, node, happening)
+    } else {
+        Ok(())
+    }
+}
+
+/// Lost arbitration, and a missing acknowledgement.
+fn put_errors_before(
+    text: &mut String,
+    bit: u32,
+    node: usize,
+    happening: &Happening,
+) -> Result<(), AllocError>
+    ensures { OnOk result (string_bytes text.new ≡ string_bytes text.old ++ lines_before bit node happening.now) }
+{
+    put_error_if(text, bit, node, loss_error(happening))?;
+    put_error_if(text, bit, node, acknowledgement_error(happening))?;
+    Ok(())
+}
+
+/// The error frames that come after it, if they are asked for.
+fn put_after(
+    text: &mut String,
+    errors: bool,
+    bit: u32,
+    node: usize,
+    happening: &Happening,
+) -> Result<(), AllocError>
+    ensures { OnOk result (string_bytes text.new ≡ string_bytes text.old
+        ++ line_where errors (lines_after bit node happening.now)) }
+{
+    if errors {
+        put_errors_after(text, bit, node, happening)
+    } else {
+        Ok(())
+    }
+}
+
+/// An overrun, a change of state, bus-off and the way back.
+fn put_errors_after(
+    text: &mut String,
+    bit: u32,
+    node: usize,
+    happening: &Happening,
+) -> Result<(), AllocError>
+    ensures { OnOk result (string_bytes text.new ≡ string_bytes text.old ++ lines_after bit node happening.now) }
+{
+    put_error_if(text, bit, node, overrun_error(happening))?;
+    put_error_if(text, bit, node, change_error(happening))?;
+    put_error_if(text, bit, node, off_error(happening))?;
+    put_error_if(text, bit, node, restart_error(happening))?;
+    Ok(())
+}

@@ -1,0 +1,90 @@
+-- How far a picture came.
+use Rattle.std.proofs.Common.{◌≡◌, ◌⊎◌, inl, inr, ℕ, ◌+◌, ◌-◌, ◌<◌, ◌≤◌, zero, suc, true, false, ◌||◌, ap, arith}
+use Rattle.std.specs.Prelude.{nat_le, nat_lt}
+use Rattle.std.proofs.lemmas.Bool.Decides.{nat_tests}
+use Rattle.sja_picture.specs.PictureText.{start_of, length_of, space_before}
+use Rattle.sja_picture.specs.Inside.Pages.{space_if, IsAt}
+
+-- ---- how far it came
+
+-- past a bit that isn't shown
+pub at_passed : (first end bit start block : ℕ) → bit < first → bit < end → IsAt first end bit start block →
+    IsAt first end (bit + 1) start block
+at_passed first end bit start block before within at =
+    let is = at.under_way within in
+    let reached = at.reached within in
+    record {
+      under_way = λ more. is;
+      reached = λ more. omega (arith, reached, before);
+      short = λ more. omega (arith, is, before);
+      over = λ past. omega (arith, is, reached, before, past);
+    }
+
+-- past one with which the block goes on
+pub at_drawn : (first end bit start block : ℕ) → first ≤ bit → bit < end → bit + 1 < end → (bit + 1) - start < 120 →
+    IsAt first end bit start block → IsAt first end (bit + 1) start block
+at_drawn first end bit start block shown within more fewer at =
+    let is = at.under_way within in
+    let reached = at.reached within in
+    record {
+      under_way = λ more. is;
+      reached = λ more. omega (arith, reached, shown);
+      short = λ more. omega (arith, fewer);
+      over = λ past. absurd (omega (arith, more, past));
+    }
+
+-- past one with which it ends
+pub at_ended : (first end bit start block : ℕ) → first ≤ bit → bit < end →
+    (end ≤ bit + 1) ⊎ (120 ≤ (bit + 1) - start) → IsAt first end bit start block →
+    IsAt first end (bit + 1) (bit + 1) (block + 1)
+at_ended first end bit start block shown within over at =
+    let is = at.under_way within in
+    let reached = at.reached within in
+    let short = at.short within in
+    record {
+      under_way = λ more. elim over [
+        | inl past ↦ absurd (omega (arith, past, more))
+        | inr full ↦ omega (arith, is, reached, short, shown, full)
+      ];
+      reached = λ more. omega (arith, shown);
+      short = λ more. omega arith;
+      over = λ past. omega (arith, is, reached, short, shown, within, past);
+    }
+
+-- before the first bit
+pub first_at : (first end : ℕ) → IsAt first end 0 first 0
+first_at first end = record {
+  under_way = λ more. omega arith;
+  reached = λ more. omega arith;
+  short = λ more. omega arith;
+  over = λ past. omega (arith, past);
+}
+
+-- whether it ends
+pub going : (end stop start : ℕ) → (nat_le end stop || nat_le 120 (stop - start)) ≡ false →
+    (stop < end) × (stop - start < 120)
+going end stop start over = (grind (arith, nat_tests), grind (arith, nat_tests))
+
+pub ending : (end stop start : ℕ) → (nat_le end stop || nat_le 120 (stop - start)) ≡ true →
+    (end ≤ stop) ⊎ (120 ≤ stop - start)
+ending end stop start over = grind (arith, nat_tests)
+
+pub later : {a b : ℕ} → a ≡ b → b ≤ a
+later is = omega arith
+
+-- ---- a block
+
+pub length_is : (first end bit start block : ℕ) → start ≡ start_of first block → bit < start + 120 → bit < end →
+    (end ≤ bit + 1) ⊎ (120 ≤ (bit + 1) - start) → (bit + 1) - start ≡ length_of first end block
+length_is first end bit start block is short within over =
+    elim over [
+      | inl past ↦ omega (arith, is, short, within, past)
+      | inr full ↦ omega (arith, is, short, within, full)
+    ]
+
+pub space_is : (first start block : ℕ) → start ≡ start_of first block →
+    space_if (nat_lt first start) ≡ space_before block
+space_is first start zero is =
+    let no : nat_lt first start ≡ false = grind (arith, nat_tests) in ap space_if no
+space_is first start (suc block) is =
+    let yes : nat_lt first start ≡ true = grind (arith, nat_tests) in ap space_if yes

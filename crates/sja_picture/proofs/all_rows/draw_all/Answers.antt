@@ -1,0 +1,19 @@
+use Rattle.std.proofs.Common.{◌<◌, length, rules}
+use Rattle.sja_picture.specs.Inside.Drawing.{Draws}
+use Rattle.sja_picture.proofs.Beside.{beside_none, beside_next, beside_all}
+use Rattle.sja_picture.proofs.all_rows.draw_all.Goals as goal
+
+pub loop-k-init : goal.loop-k-init
+loop-k-init c = beside_none (Draws c.args.bus) c.args.tellers.now c.args.rows.now c.requires
+
+pub loop-k-preserved : goal.loop-k-preserved
+loop-k-preserved c =
+    let here : c.loop-k.k < length c.loop-k.rows = search rules in
+    beside_next (Draws c.args.bus) c.loop-k.k c.args.tellers.now c.args.rows.now c.loop-k.rows
+    c.index-tellers-k.result c.index-rows-k.result c.draw.new.self c.loop-k.invariant here
+    (rw c.bit.ensures at c.in_ok-draw.ensures)
+
+pub returns : goal.returns
+returns c =
+    beside_all (Draws c.args.bus) c.loop-k.k c.args.tellers.now c.args.rows.now c.loop-k.rows c.loop-k.invariant
+    (search rules)

@@ -1,0 +1,3 @@
+-- How a picture is drawn bit by bit.
+pub mod Drawing
+pub mod Pages

@@ -1,0 +1,83 @@
+-- A picture, as far as it was drawn.
+use Rattle.std.specs.Prelude.{◌≡◌, ◌<◌, ◌≤◌, ◌+◌, ◌-◌, ℕ, Bool, nat_lt, max, if◌then◌else◌}
+use Rattle.std.specs.Prelude.{List, [], ◌∷◌, ◌++◌, codes, string_bytes}
+use Rattle.std.specs.List.{range_with_len}
+use Rattle.lemmas.specs.Gathering.{gathered}
+use Rattle.lemmas.specs.Related.{EachRelated}
+use Rattle.sja_log.specs.Log.{NodeValue}
+use Rattle.sja_plan.specs.Plan.{PlanValue}
+use Rattle.sja_replay.specs.declared.happening.Happening.{Happening}
+use Rattle.sja_report.specs.ReportLines.{numbered}
+use Rattle.sja_trace.specs.declared.teller.Teller.{Teller}
+use Rattle.sja_trace.specs.Inside.Coming.{HaveTold, driven_now}
+use Rattle.sja_trace.specs.TraceText.{NodeStory}
+use Rattle.sja_wire.specs.Wire.{wired}
+use Rattle.sja_picture.specs.declared.node_rows.NodeRows.{NodeRows}
+use Rattle.sja_picture.specs.declared.page.Page.{Page}
+use Rattle.sja_picture.specs.declared.span.Span.{Span}
+use Rattle.sja_picture.specs.Rows.{level_sign, ruler_in, bus_in, bus_sign}
+use Rattle.sja_picture.specs.PictureText.{row, to_ten, start_of, blocks, block_in}
+use Rattle.sja_picture.specs.Inside.Drawing.{Draws, Clears, AreRows, AreShown, EachBeside, shown_rows}
+
+-- ---- what is written
+
+-- the bit at hand is drawn
+pub record DrawsBit (tellers : List Teller) (olds news : List NodeRows) (old new : Page) : Type 0 where
+  pub text : string_bytes new.text ≡ string_bytes old.text
+  pub start : new.start ≡ old.start
+  pub bus : string_bytes new.bus ≡ string_bytes old.bus ++ level_sign (wired (driven_now tellers))
+  pub rows : EachBeside (Draws (wired (driven_now tellers))) tellers olds news
+
+-- a block ends before this bit
+abbrev pub space_if : Bool → List ℕ
+space_if later = if later then 10 ∷ [] else []
+
+abbrev pub shown_block : ℕ → ℕ → List ℕ → List NodeRows → List ℕ
+shown_block start many bus rows =
+    row (codes "bit     ") ruler_in start (to_ten start many)
+    ++ (codes "bus     " ++ (bus ++ 10 ∷ []))
+    ++ numbered shown_rows 0 rows
+
+pub record EndsBlock (span : Span) (stop : ℕ) (olds news : List NodeRows) (old new : Page) : Type 0 where
+  pub text : string_bytes new.text
+      ≡ string_bytes old.text
+      ++ (space_if (nat_lt span.first old.start)
+      ++ shown_block old.start (stop - old.start) (string_bytes old.bus) olds)
+  pub start : new.start ≡ stop
+  pub bus : string_bytes new.bus ≡ []
+  pub rows : EachRelated Clears olds news
+
+-- ---- how far a picture came
+
+-- so many blocks were written before this bit, and another one begins with bit start; past the end there are all
+pub record IsAt (first end bit start block : ℕ) : Type 0 where
+  pub under_way : bit < end → start ≡ start_of first block
+  pub reached : bit < end → start ≤ max first bit
+  pub short : bit < end → bit < start + 120
+  pub over : end ≤ bit → block ≡ blocks first end
+
+-- what was drawn of the bits before this one
+pub record IsDrawn (span : Span) (bit : ℕ) (page : Page) (rows : List NodeRows) (told : List (List Happening)) : Type 0
+  where
+    pub block : ℕ
+    pub at : IsAt span.first span.end bit page.start block
+    pub text_is : string_bytes page.text ≡ gathered (block_in told span.first span.end) (range_with_len 0 block)
+    pub bus_is : string_bytes page.bus ≡ gathered (bus_sign told) (range_with_len page.start (bit - page.start))
+    pub rows_are : EachRelated (AreRows (bus_in told) page.start bit) told rows
+
+-- a bit more was drawn, where the tellers have it at hand
+abbrev pub TakesBit : Span → ℕ → List Teller → List NodeRows → List NodeRows → Page → Page → Type 0
+TakesBit span bit tellers olds news old new =
+    (told : List (List Happening)) → AreShown bit tellers told → IsDrawn span bit old olds told →
+    IsDrawn span (bit + 1) new news told
+
+-- ---- the nodes of a log
+
+-- a plan without nodes: the tellers here have no steps to tell
+abbrev pub no_plan : PlanValue
+no_plan = record { version = 1; bits = 0; nodes = []; turns = []; strikes = [] }
+
+-- before the first bit
+pub record AreFirst (nodes : List NodeValue) (tellers : List Teller) : Type 0 where
+  pub stories : List NodeStory
+  pub have : HaveTold 0 no_plan 0 nodes tellers stories

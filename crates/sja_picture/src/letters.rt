@@ -1,0 +1,82 @@
+//! The letter of a bit of a node.
+
+ghost use Rattle.std.specs.Prelude.{◌≡◌};
+ghost use Rattle.sja_picture.specs.Letters.{field_letter, flag_letter, frame_letter, phase_letter, letter};
+
+use can_bits::Level;
+use can_node::{FlagKind, Phase};
+use sja_frames::Field;
+use sja_replay::Happening;
+use sja_trace::{is_same, is_start};
+
+/// The letter of a bit in which the bus had this level; it came after five equal levels or not.
+pub(crate) fn letter(bus: Level, after_five: bool, bit: &Happening) -> &'static str
+    ensures { result.now ≡ letter bus after_five bit.now }
+{
+    if !is_same(bit.seen, bus) {
+        return "x";
+    }
+    if is_start(bit) {
+        return "S";
+    }
+    phase_letter(after_five, bit)
+}
+
+/// The letter of a bit that isn't SOF, by what the node showed before it.
+fn phase_letter(after_five: bool, bit: &Happening) -> &'static str
+    ensures { result.now ≡ phase_letter bit.now.before.phase after_five bit.now }
+{
+    match bit.before.phase {
+        Phase::Reset => ".",
+        Phase::Waiting => "w",
+        Phase::Idle => "-",
+        Phase::Frame => frame_letter(after_five, Field::of(bit)),
+        Phase::Flag => flag_letter(bit.before.flag),
+        Phase::Delimiter => "d",
+        Phase::Intermission => "i",
+        Phase::Suspension => "p",
+    }
+}
+
+/// The letter of a bit of this field.
+fn frame_letter(after_five: bool, field: Field) -> &'static str
+    ensures { result.now ≡ frame_letter after_five field }
+{
+    if field.is_stuffed() && after_five {
+        "s"
+    } else {
+        field_letter(field)
+    }
+}
+
+/// The letter of a field.
+fn field_letter(field: Field) -> &'static str
+    ensures { result.now ≡ field_letter field }
+{
+    match field {
+        Field::Start => "S",
+        Field::Identifier | Field::Extension => "I",
+        Field::FirstRemote | Field::SecondRemote => "R",
+        Field::Format => "X",
+        Field::SecondReserved => "1",
+        Field::FirstReserved => "0",
+        Field::Length => "L",
+        Field::Bytes => "D",
+        Field::Check => "C",
+        Field::CheckEnd | Field::SlotEnd => "d",
+        Field::Slot => "A",
+        Field::End => "E",
+        Field::Pause => "i",
+    }
+}
+
+/// The letter of a flag.
+fn flag_letter(flag: FlagKind) -> &'static str
+    ensures { result.now ≡ flag_letter flag }
+{
+    match flag {
+        FlagKind::ActiveError => "F",
+        FlagKind::PassiveError => "P",
+        FlagKind::Overload => "O",
+    }
+}

@@ -1,0 +1,117 @@
+//! [`Page`]: a picture, as far as it was drawn.
+
+use super::all_rows::{clear_all, draw_all, pass_all, put_all};
+use super::lines::{put_level, put_row};
+use super::node_rows::NodeRows;
+use super::ruler::put_ruler;
+use super::span::Span;
+use sja_trace::{Teller, bus_of};
+use std::alloc::{AllocError, Global};
+
+/// How many bits a block has.
+const BLOCK: u32 = 120;
+
+/// A picture, as far as it was drawn; the rows of the nodes stand beside it.
+#[derive(Debug, Drop)]
+pub(crate) struct Page {
+    /// The blocks before the one that is drawn.
+    pub(crate) text: String,
+    /// The first bit of the block that is drawn.
+    pub(crate) start: u32,
+    /// The row of the bus in that block.
+    pub(crate) bus: String,
+}
+
+impl Page {
+    ghost use Rattle.std.specs.Prelude.{◌≡◌, ◌<◌, length, [], string_bytes, OnOk};
+    ghost use Rattle.sja_picture.specs.Inside.Pages.{DrawsBit, EndsBlock, TakesBit};
+
+    /// Before the first bit.
+    pub(crate) fn new(alloc: Global, span: Span) -> Page
+        ensures text { string_bytes result.text ≡ [] }
+        ensures start { result.start ≡ span.first }
+        ensures bus { string_bytes result.bus ≡ [] }
+    {
+        Page {
+            text: String::new(alloc),
+            start: span.first,
+            bus: String::new(alloc),
+        }
+    }
+
+    /// Goes past a bit of the run, which the tellers have at hand, and draws it where it is to be shown.
+    pub(crate) fn take(
+        &mut self,
+        alloc: Global,
+        rows: &mut [NodeRows],
+        tellers: &[Teller<'_>],
+        span: Span,
+        bit: u32,
+    ) -> Result<(), AllocError>
+        requires within { bit < span.end }
+        requires beside { length tellers.now ≡ length rows.old }
+        ensures { OnOk result (TakesBit span bit tellers.now rows.old rows.new self.old self.new) }
+    {
+        if bit < span.first {
+            pass_all(rows, tellers);
+            return Ok(());
+        }
+        self.draw(rows, tellers)?;
+        let stop = bit + 1;
+        if !is_over(span, self.start, stop) {
+            return Ok(());
+        }
+        self.end_block(alloc, rows, span, stop)?;
+        Ok(())
+    }
+
+    /// Draws the bit at hand.
+    fn draw(&mut self, rows: &mut [NodeRows], tellers: &[Teller<'_>]) -> Result<(), AllocError>
+        requires { length tellers.now ≡ length rows.old }
+        ensures { OnOk result (DrawsBit tellers.now rows.old rows.new self.old self.new) }
+    {
+        let bus = bus_of(tellers);
+        put_level(&mut self.bus, bus)?;
+        draw_all(rows, tellers, bus)?;
+        Ok(())
+    }
+
+    /// Ends the block before this bit.
+    #[tactic(auto, using(crate::proofs::Fresh::block_texts))]
+    fn end_block(
+        &mut self,
+        alloc: Global,
+        rows: &mut [NodeRows],
+        span: Span,
+        stop: u32,
+    ) -> Result<(), AllocError>
+        ensures { OnOk result (EndsBlock span stop rows.old rows.new self.old self.new) }
+    {
+        let many = stop.saturating_sub(self.start);
+        put_space(&mut self.text, span.first < self.start)?;
+        put_ruler(alloc, &mut self.text, self.start, many)?;
+        put_row(&mut self.text, "bus     ", self.bus.as_str())?;
+        put_all(&mut self.text, rows)?;
+        self.bus.clear();
+        clear_all(rows);
+        self.start = stop;
+        Ok(())
+    }
+}
+
+ghost use Rattle.std.specs.Prelude.{◌≡◌, ◌-◌, ◌||◌, ◌++◌, nat_le, OnOk, string_bytes};
+ghost use Rattle.sja_picture.specs.Inside.Pages.{space_if};
+
+/// Whether a block with this first bit ends before this one.
+fn is_over(span: Span, start: u32, stop: u32) -> bool
+    ensures { result ≡ (nat_le span.end stop || nat_le 120 (stop - start)) }
+{
+    span.end <= stop || BLOCK <= stop.saturating_sub(start)
+}
+
+/// An empty line before a block that isn't the first one.
+fn put_space(text: &mut String, later: bool) -> Result<(), AllocError>
+    ensures { OnOk result (string_bytes text.new ≡ string_bytes text.old ++ space_if later) }
+{
+    if later { text.push('\n') } else { Ok(()) }
+}

@@ -1,0 +1,78 @@
+//! [`picture`]: the picture of the bits of a run.
+
+ghost use Rattle.std.specs.Prelude.{◌≡◌, IfOk, string_bytes};
+ghost use Rattle.sja_picture.specs.PictureText.{IsPicture};
+ghost use Rattle.sja_picture.specs.Inside.Drawing.{AreFresh};
+ghost use Rattle.sja_picture.specs.Inside.Pages.{AreFirst};
+
+use super::all_rows::rows_of;
+use super::node_rows::NodeRows;
+use super::page::Page;
+use super::span::Span;
+use can_frame::OutOfMemory;
+use sja_log::{NodeRun, RunLog};
+use sja_trace::{Teller, finish_all, go_on_all};
+use std::alloc::{AllocError, Global};
+
+/// The picture of the bits of a run from a first to a last one: in blocks of 120 bits the level of the bus in each bit,
+/// and for each node the level that it drives and a letter for what the bit was for it. Without a last bit, or with one
+/// behind the run's last, it goes up to the run's last bit. The text is empty where the first bit comes after the last.
+///
+/// Each node's journal is gone over once, all of them together. Beside the text no more is kept than one bit of each
+/// node and the rows of one block.
+///
+/// Error: [`OutOfMemory`] where memory was refused.
+pub fn picture(
+    alloc: Global,
+    log: &RunLog,
+    first: u32,
+    last: Option<u32>,
+) -> Result<String, OutOfMemory>
+    ensures { IfOk result (λ text. IsPicture log.now first last (string_bytes text)) }
+{
+    let mut tellers = tellers_of(alloc, log.nodes())?;
+    let mut rows = rows_of(alloc, log.nodes())?;
+    let text = drawn(
+        alloc,
+        log,
+        first,
+        last,
+        tellers.as_mut_slice(),
+        rows.as_mut_slice(),
+    )?;
+    Ok(text)
+}
+
+/// The tellers of all nodes, before the first bit.
+pub fn tellers_of(alloc: Global, nodes: &[NodeRun]) -> Result<Vec<Teller<'_>>, AllocError>
+    ensures { IfOk result (λ tellers. AreFirst nodes.now tellers.items) }
+{
+    let mut tellers = Vec::new(alloc);
+    for node in nodes {
+        tellers.push(Teller::of(&[], node))?;
+    }
+    Ok(tellers)
+}
+
+/// The same, with the tellers and the rows of all nodes before the first bit.
+fn drawn(
+    alloc: Global,
+    log: &RunLog,
+    first: u32,
+    last: Option<u32>,
+    tellers: &mut [Teller<'_>],
+    rows: &mut [NodeRows],
+) -> Result<String, AllocError>
+    requires begun { AreFirst log.now.nodes tellers.old }
+    requires fresh { AreFresh log.now.nodes rows.old }
+    ensures { IfOk result (λ text. IsPicture log.now first last (string_bytes text)) }
+{
+    let span = Span::of(first, last, log.bits());
+    let mut page = Page::new(alloc, span);
+    for bit in 0..span.end {
+        go_on_all(tellers);
+        page.take(alloc, rows, tellers, span, bit)?;
+    }
+    finish_all(tellers);
+    Ok(page.text)
+}

@@ -1,0 +1,5 @@
+pub mod BusOff
+pub mod Events
+pub mod Views
+pub mod Bits
+pub mod Lists

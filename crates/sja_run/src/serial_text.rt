@@ -1,0 +1,28 @@
+//! What is written of a run in one thread of the plan on the input.
+
+ghost use Rattle.std.specs.Prelude.{IfOk, IfErr, false};
+ghost use Rattle.sja_run.specs.Run.{IsOfPlan, RefusesRun};
+ghost use Rattle.sja_run.specs.RunText.{IsTextOfRun};
+
+use super::input::plan_of_input;
+use super::run_text::{RunText, text_of};
+use sja_serial::run_serial;
+use sja_texts::CommandRefusal;
+use std::alloc::Global;
+use std::io::Read;
+
+/// This text of a run in one thread of the plan that the bytes of the input are.
+pub(crate) fn written<R: Read>(
+    alloc: Global,
+    what: RunText,
+    input: &mut R,
+) -> Result<Vec<u8>, CommandRefusal>
+    ensures ok { IfOk result (λ text.
+        IsOfPlan (IsTextOfRun false what) (R.remaining input.old) (R.remaining input.new) text.items) }
+    ensures err { IfErr result (RefusesRun (R.remaining input.old) (R.remaining input.new)) }
+{
+    let plan = plan_of_input(alloc, input)?;
+    let log = run_serial(alloc, &plan)?;
+    let text = text_of(alloc, what, &plan, &log)?;
+    Ok(text)
+}

@@ -1,0 +1,45 @@
+//! What is written of a run in threads of the plan on the input.
+
+ghost use Rattle.std.specs.Prelude.{◌≡◌, IfOk, IfErr, true, vec_len};
+ghost use Rattle.sja_run.specs.Run.{IsOfPlan, RefusesThreads};
+ghost use Rattle.sja_run.specs.RunText.{IsTextOfRun};
+
+use super::input::plan_of_input;
+use super::run_text::{RunText, text_of};
+use super::tries::Tries;
+use sja_texts::CommandRefusal;
+use sja_threads::run_threads;
+use std::alloc::{AllocError, Global};
+use std::io::Read;
+use std::sync::Wait;
+use std::thread::Threads;
+
+/// This text of a run of the plan that the bytes of the input are, with each driver in a thread of its own.
+#[tactic(auto, using(crate::proofs::FewBytes::refused_threads))]
+pub(crate) fn written_threads<T: Threads + Wait + Sync, R: Read>(
+    rt: &T,
+    alloc: Global,
+    what: RunText,
+    input: &mut R,
+) -> Result<Vec<u8>, CommandRefusal>
+    ensures ok { IfOk result (λ text.
+        IsOfPlan (IsTextOfRun true what) (R.remaining input.old) (R.remaining input.new) text.items) }
+    ensures err { IfErr result (RefusesThreads (R.remaining input.old) (R.remaining input.new)) }
+{
+    let plan = plan_of_input(alloc, input)?;
+    let gates = gates_of(alloc, plan.nodes())?;
+    let log = run_threads(rt, alloc, &plan, gates)?;
+    let text = text_of(alloc, what, &plan, &log)?;
+    Ok(text)
+}
+
+/// A gate for each of so many nodes.
+fn gates_of(alloc: Global, nodes: usize) -> Result<Vec<Tries>, AllocError>
+    ensures { IfOk result (λ gates. vec_len gates ≡ nodes) }
+{
+    let mut gates = Vec::with_capacity(alloc, nodes)?;
+    for _ in 0..nodes {
+        gates.push_reserved(Tries);
+    }
+    Ok(gates)
+}

@@ -1,0 +1,38 @@
+-- A run with a strike more stands at the same deeds of the plan with that strike.
+use Rattle.std.proofs.Common.{◌≡◌, List, [], ◌∷◌, ◌++◌, sym, ap, subst}
+use Rattle.std.specs.Prelude.{Result, OnOk}
+use Rattle.lemmas.proofs.Results.{ok_map}
+use Rattle.sja_script.specs.declared.strike.Strike.{Strike}
+use Rattle.sja_plan.specs.Growing.{with_strike}
+use Rattle.sja_plan.specs.Plan.{PlanValue}
+use Rattle.sja_driver.specs.Deeds.{Deed}
+use Rattle.sja_serial.specs.Serial.{SerialValue, StandsAt}
+use Rattle.sja_serial.specs.Striking.{struck_run}
+
+pub stands_struck : (plan : PlanValue) (r : SerialValue) (deeds : List (List Deed)) (strike : Strike) →
+    StandsAt plan r deeds → StandsAt (with_strike plan strike) (struck_run r strike) deeds
+stands_struck plan r deeds strike h = record {
+  right = h.right;
+  script = ap (λ l. l ++ strike ∷ []) h.script;
+  all_bits = h.all_bits;
+  bits = h.bits;
+  count = record {
+    journals = h.count.journals;
+    drivers = h.count.drivers;
+    ports = h.count.ports;
+    links = h.count.links;
+  };
+  deeds_count = h.deeds_count;
+  ids = h.ids;
+  own = h.own;
+  nodes = h.nodes;
+  shown = h.shown;
+}
+
+-- the same of a run that took the strike, where it did
+pub stands_if_struck : {A X : Type 0} (was now : SerialValue) (strike : Strike) (r : Result A X) →
+    OnOk r (now ≡ struck_run was strike) → OnOk r ((plan : PlanValue) (deeds : List (List Deed)) →
+    StandsAt plan was deeds → StandsAt (with_strike plan strike) now deeds)
+stands_if_struck was now strike r is = ok_map r (λ e plan deeds h.
+    subst (λ (x : SerialValue). StandsAt (with_strike plan strike) x deeds) (sym e)
+    (stands_struck plan was deeds strike h)) is

@@ -1,0 +1,46 @@
+-- A drawing, as far as it came.
+use Rattle.std.specs.Prelude.{◌≡◌, ◌+◌, ◌-◌, ℕ, List, ◌++◌, length, string_bytes}
+use Rattle.std.specs.List.{range_with_len}
+use Rattle.lemmas.specs.Gathering.{gathered}
+use Rattle.lemmas.specs.Related.{EachRelated}
+use Rattle.sja_picture.specs.Rows.{bus_in}
+use Rattle.sja_picture.specs.Inside.Drawing.{AreShown, EachBeside}
+use Rattle.sja_replay.specs.declared.happening.Happening.{Happening}
+use Rattle.sja_report.specs.ReportLines.{numbered}
+use Rattle.sja_trace.specs.declared.teller.Teller.{Teller}
+use Rattle.sja_trace.specs.Inside.Coming.{driven_now}
+use Rattle.sja_wire.specs.Wire.{wired}
+use Rattle.sja_svg.specs.declared.lane.Lane.{Lane}
+use Rattle.sja_svg.specs.declared.sheet.Sheet.{Sheet}
+use Rattle.sja_svg.specs.Elements.{step_to}
+use Rattle.sja_svg.specs.Lanes.{mark_at, mark_in, bus_step}
+use Rattle.sja_svg.specs.Places.{bits_width, place_in, level_line, line_height}
+use Rattle.sja_svg.specs.Sheets.{top, foot}
+use Rattle.sja_svg.specs.Inside.Drawing.{Draws, IsLane, shown_lane}
+
+-- the bit at hand is drawn
+pub record DrawsBit (first bit : ℕ) (tellers : List Teller) (olds news : List Lane) (old new : Sheet) : Type 0 where
+  pub marks : string_bytes new.marks
+      ≡ string_bytes old.marks ++ mark_at (line_height (length olds)) (place_in first bit) bit
+  pub bus : string_bytes new.bus
+      ≡ string_bytes old.bus ++ step_to (place_in first bit) (level_line (wired (driven_now tellers)))
+  pub lanes : EachBeside (Draws (place_in first bit) (wired (driven_now tellers))) tellers olds news
+
+-- what was drawn of the bits before this one
+pub record IsDrawn (first bit : ℕ) (sheet : Sheet) (lanes : List Lane) (told : List (List Happening)) : Type 0 where
+  pub marks_are : string_bytes sheet.marks
+      ≡ gathered (mark_in (length told) first) (range_with_len first (bit - first))
+  pub bus_is : string_bytes sheet.bus ≡ gathered (bus_step told first) (range_with_len first (bit - first))
+  pub lanes_are : EachRelated (IsLane (bus_in told) first bit) told lanes
+
+-- a bit more was drawn, where the tellers have it at hand
+abbrev pub TakesBit : ℕ → ℕ → List Teller → List Lane → List Lane → Sheet → Sheet → Type 0
+TakesBit first bit tellers olds news old new =
+    (told : List (List Happening)) → AreShown bit tellers told → IsDrawn first bit old olds told →
+    IsDrawn first (bit + 1) new news told
+
+-- what is written of it
+abbrev pub shown_sheet : ℕ → Sheet → List Lane → List ℕ
+shown_sheet many sheet lanes =
+    top (length lanes) many (string_bytes sheet.marks) (string_bytes sheet.bus)
+    ++ numbered (shown_lane (bits_width many)) 0 lanes ++ foot (length lanes)

@@ -1,0 +1,33 @@
+//! The legend of a drawing.
+
+/// The legend, and the end of a drawing.
+pub(crate) const LEGEND: &str = concat!(
+    "<rect class='sof' width='12' height='12'/><text x='18' y='10'>SOF</text>\n",
+    "<rect class='id' y='18' width='12' height='12'/><text x='18' y='28'>identifier</text>\n",
+    "<rect class='rtr' y='36' width='12' height='12'/><text x='18' y='46'>RTR or SRR</text>\n",
+    "<rect class='control' y='54' width='12' height='12'/><text x='18' y='64'>IDE, r1, r0 or DLC</text>\n",
+    "<rect class='data' y='72' width='12' height='12'/><text x='18' y='82'>data field</text>\n",
+    "<rect class='crc' y='90' width='12' height='12'/><text x='18' y='100'>CRC field</text>\n",
+    "<g transform='translate(152 0)'>\n",
+    "<rect class='ack' width='12' height='12'/><text x='18' y='10'>ACK field</text>\n",
+    "<rect class='eof' y='18' width='12' height='12'/><text x='18' y='28'>EOF</text>\n",
+    "<rect class='stuff' y='36' width='12' height='12'/><text x='18' y='46'>stuff bit</text>\n",
+    "<rect class='gap' y='54' width='12' height='12'/><text x='18' y='64'>intermission</text>\n",
+    "<rect class='suspend' y='72' width='12' height='12'/><text x='18' y='82'>suspend transmission</text>\n",
+    "<rect class='idle' y='90' width='12' height='12'/><text x='18' y='100'>bus idle</text>\n</g>\n",
+    "<g transform='translate(312 0)'>\n",
+    "<rect class='active' width='12' height='12'/><text x='18' y='10'>active error flag</text>\n",
+    "<rect class='passive' y='18' width='12' height='12'/><text x='18' y='28'>passive error flag</text>\n",
+    "<rect class='overload' y='36' width='12' height='12'/><text x='18' y='46'>overload flag</text>\n",
+    "<rect class='delimiter' y='54' width='12' height='12'/><text x='18' y='64'>delimiter</text>\n",
+    "<rect class='waiting' y='72' width='12' height='12'/><text x='18' y='82'>waiting for the bus</text>\n",
+    "<rect class='reset' y='90' width='12' height='12'/><text x='18' y='100'>in reset</text>\n</g>\n",
+    "<g transform='translate(464 0)'>\n",
+    "<path class='level' d='M0 1h6v10h6'/><text x='18' y='10'>recessive, dominant</text>\n",
+    "<path class='struck' d='M2 20l8 8m0-8l-8 8'/><text x='18' y='28'>struck</text>\n",
+    "<path class='stored' d='M2 38h8l-4 8z'/><text x='18' y='46'>stored for its driver</text>\n",
+    "<path class='lost' d='M2 56h8l-4 8z'/><text x='18' y='64'>overrun, lost</text>\n",
+    "<path class='tec' d='M0 78h12'/><text x='18' y='82'>transmit error counter</text>\n",
+    "<path class='rec' d='M0 96h12'/><text x='18' y='100'>receive error counter</text>\n</g>\n",
+    "</g>\n</svg>\n",
+);

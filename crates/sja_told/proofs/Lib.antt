@@ -1,0 +1,3 @@
+pub mod Driven
+pub mod Ports
+pub mod Told

@@ -1,0 +1,307 @@
+-- A bit of a journal that steps and bits made is told, with the entries that it brought.
+use Rattle.std.proofs.Common.{◌≡◌, ◌<◌, ◌≤◌, ◌+◌, ◌^◌, ℕ, Bool, true, false, Option, Some, None, List, []}
+use Rattle.std.proofs.Common.{◌∷◌, ◌++◌, length, refl, sym, ap, ◌∙◌, subst, arith, append_assoc}
+use Rattle.can_bits.specs.declared.level.Level.{Level}
+use Rattle.can_frame.specs.Frame.{FrameValue}
+use Rattle.can_frame.specs.Message.{message}
+use Rattle.can_node.specs.declared.bit_events.BitEvents.{BitEvents}
+use Rattle.can_node.specs.NextBit.{DrivesIn}
+use Rattle.can_node.specs.Stands.{closed_by, entries_of}
+use Rattle.lemmas.specs.Gathering.{gathered}
+use Rattle.lemmas.specs.Picking.{EachAfter}
+use Rattle.sja_link.specs.NodeWords.{NodeEntry, NodeTook, FinishedPiece, received, IsCut}
+use Rattle.sja_link.specs.NodeWords.{Count, none_yet, counted}
+use Rattle.sja_link.specs.declared.entry.Entry.{Entry}
+use Rattle.sja_link.specs.declared.entry.Entry.TheVariants.{Bit, Up as Item, Abort, Stored as StoredEntry}
+use Rattle.sja_link.specs.declared.entry.Entry.TheVariants.{Overrun as OverrunEntry, Off}
+use Rattle.sja_link.specs.declared.verdict.Verdict.{Verdict}
+use Rattle.sja_link.specs.declared.verdict.Verdict.TheVariants.{Stored as ToStore, Overrun as ToLose}
+use Rattle.sja_link.specs.Free.{free_of}
+use Rattle.sja_link.specs.Judged.{Judged, judged_at, judged_in}
+use Rattle.sja_link.specs.Parts.{in_part, part}
+use Rattle.sja_link.specs.Places.{JournalPlace, past, past_all, place_of, placed_from}
+use Rattle.sja_link.specs.Records.{told_at, record_of}
+use Rattle.sja_link.specs.Verdicts.{HasVerdicts, IsAccepted, IsOn, IsDue, filter_of}
+use Rattle.sja_link.proofs.JournalEntries.Entering.{all_rise, place_push, record_counted}
+use Rattle.sja_bus.proofs.AtPorts.Turning.{record_bit}
+use Rattle.sja_bus.proofs.Journal.Steps.{entries_split}
+use Rattle.sja_bus.specs.Inside.Following.{off_left}
+use Rattle.sja_wire.specs.OneBit.{HasBit, judged_as, off_as}
+use Rattle.sja_wire.specs.Telling.{IsTurn}
+use Rattle.sja_regs.specs.declared.bus_turn.BusTurn.{BusTurn}
+use Rattle.sja_replay.specs.declared.fate.Fate.{Fate}
+use Rattle.sja_replay.specs.declared.fate.Fate.TheVariants.{Stored, Overrun, Stopped}
+use Rattle.sja_replay.specs.declared.happening.Happening.{Happening}
+use Rattle.sja_replay.specs.Closing.{Judges, HasFate, Closes, off_if}
+use Rattle.sja_replay.specs.Happened.{Happened}
+use Rattle.sja_replay.specs.Happened.IsUntold.{misdriven, misfits, uncounted}
+use Rattle.sja_replay.specs.Happened.Happened.{between, bit, refused, untold}
+use Rattle.sja_replay.specs.Happening.{Brings, bit_of}
+use Rattle.sja_replay.specs.Taking.{last_part}
+use Rattle.sja_replay.proofs.Once.Bits.{Tells, tells, events_once, role_same}
+use Rattle.sja_replay.proofs.Once.Lists.{closes_once}
+use Rattle.sja_serial.proofs.OneBit.BitAsked.{place_bit}
+use Rattle.sja_told.proofs.Driven.Records.{a_bit_is_driven}
+use Rattle.sja_told.proofs.Told.Parts.{of_part_at, each_part, record_both}
+use Rattle.sja_told.proofs.Told.Receptions.{partner_of, received_there}
+
+-- no verdict and no bus-off stands first
+abbrev pub IsQuiet : List Entry → Type 0
+IsQuiet [] = Unit {0}
+IsQuiet (Bit driven seen ∷ rest) = Unit {0}
+IsQuiet (Item u ∷ rest) = Unit {0}
+IsQuiet (Abort ∷ rest) = Unit {0}
+IsQuiet (StoredEntry m ∷ rest) = ⊥
+IsQuiet (OverrunEntry m ∷ rest) = ⊥
+IsQuiet (Off ∷ rest) = ⊥
+
+-- ---- going on in a list of happenings
+
+-- past a bit that can be told
+pub bit_on : (j : List Entry) (driven seen : Level) (rest brought left : List Entry) (hs : List Happening) →
+    Happened j (Bit driven seen ∷ rest) hs → (place_of j).bits + 1 < 2 ^ 32 →
+    ((found : List FinishedPiece) (cut : IsCut (record_of j) found) → DrivesIn cut driven) →
+    ((h : Happening) → Brings j driven seen h → (fate : Option Fate)
+    × Closes (last_part (j ++ Bit driven seen ∷ [])) h.events rest fate brought left) →
+    (h : Happening) × (more : List Happening) × (hs ≡ h ∷ more) × Brings j driven seen h
+    × Closes (last_part (j ++ Bit driven seen ∷ [])) h.events rest h.fate brought left
+    × Happened ((j ++ Bit driven seen ∷ []) ++ brought) left more
+bit_on j driven seen rest brought left hs (between t x) few drives closes = absurd t.takes
+bit_on j driven seen rest brought left hs (refused never other) few drives closes = absurd (other driven seen refl)
+bit_on j driven seen rest brought left hs (untold (misdriven {found = found} cut never)) few drives closes =
+    absurd (never (drives found cut))
+bit_on j driven seen rest brought left hs (untold (misfits h brings never)) few drives closes =
+    let c = closes h brings in absurd (never c.0 brought left c.1)
+bit_on j driven seen rest brought left hs (untold (uncounted many)) few drives closes =
+    absurd (omega (arith, few, many))
+bit_on j driven seen rest brought left hs (bit {brought = a} {left = l} {h = h} {hs = more} less brings others x)
+    few drives closes =
+    let i : List Entry = j ++ Bit driven seen ∷ [] in
+    let c = closes h brings in
+    let one = closes_once (last_part i) h.events rest h.fate c.0 a brought l left others c.1 in
+    let P : Option Fate → Type 0 = λ f. Closes (last_part i) h.events rest f brought left in
+    let Q : List Entry → Type 0 = λ b. Happened (i ++ b) left more in
+    let R : List Entry → Type 0 = λ b. Happened (i ++ a) b more in
+    (h, more, refl, brings, subst P (sym one.0) c.1, subst Q one.1 (subst R one.2 x))
+
+-- ---- the entries that a bit brings
+
+off_alike : (off : Bool) → off_as off ≡ off_if off
+off_alike true = refl
+off_alike false = refl
+
+stops_quiet : (p rest : List Entry) → IsQuiet rest → Judges p rest Stopped []
+stops_quiet p [] q = (refl, refl)
+stops_quiet p (Bit driven seen ∷ rest) q = (refl, refl)
+stops_quiet p (Item u ∷ rest) q = (refl, refl)
+stops_quiet p (Abort ∷ rest) q = (refl, refl)
+stops_quiet p (StoredEntry m ∷ rest) q = absurd q
+stops_quiet p (OverrunEntry m ∷ rest) q = absurd q
+stops_quiet p (Off ∷ rest) q = absurd q
+
+stops_off : (p rest : List Entry) (off : Bool) → IsQuiet rest → Judges p (off_as off ++ rest) Stopped []
+stops_off p rest true q = (refl, refl)
+stops_off p rest false q = stops_quiet p rest q
+
+-- a verdict that is right: it is on a frame, and says whether the message fits
+abbrev pub IsRightFor : List Entry → Option FrameValue → Option (Verdict × List ℕ) → Type 0
+IsRightFor p f None = Unit {0}
+IsRightFor p f (Some (ToStore, m)) =
+    (length m ≤ free_of p) × ((frame : FrameValue) × (f ≡ Some frame) × (m ≡ message frame))
+IsRightFor p f (Some (ToLose, m)) =
+    (free_of p < length m) × ((frame : FrameValue) × (f ≡ Some frame) × (m ≡ message frame))
+
+fate_of : (p rest : List Entry) (off : Bool) (f : Option FrameValue) (v : Option (Verdict × List ℕ)) → IsQuiet rest →
+    IsRightFor p f v → (fate : Option Fate) × HasFate p f (judged_as v ++ (off_as off ++ rest)) fate (judged_as v)
+fate_of p rest off None None q r = (None, (refl, refl))
+fate_of p rest off (Some x) None q r = (Some Stopped, (Stopped, refl, stops_off p rest off q))
+fate_of p rest off (Some x) (Some (ToStore, m)) q r = (Some Stored, (Stored, refl, (refl, refl, r.0)))
+fate_of p rest off (Some x) (Some (ToLose, m)) q r =
+    (Some (Overrun (length m) (free_of p)), (Overrun (length m) (free_of p), refl, (refl, refl, r.0)))
+fate_of p rest off None (Some (ToStore, m)) q r = let no = r.1.1 in absurd cc
+fate_of p rest off None (Some (ToLose, m)) q r = let no = r.1.1 in absurd cc
+
+closes_by : (p rest : List Entry) (off : Bool) (e : BitEvents) (v : Option (Verdict × List ℕ)) → IsQuiet rest →
+    IsRightFor p e.received v → e.went_off ≡ off →
+    (fate : Option Fate) × Closes p e (judged_as v ++ (off_as off ++ rest)) fate (judged_as v ++ off_as off) rest
+closes_by p rest off e v q r went =
+    let f = fate_of p rest off e.received v q r in (
+      f.0,
+      record {
+        verdict = judged_as v;
+        has = f.1;
+        are = ap (λ l. judged_as v ++ l) (off_alike off ∙ ap off_if (sym went));
+        whole = sym (append_assoc (judged_as v) (off_as off) rest);
+      },
+    )
+
+-- a message that was stored is that of the frame that the happening has, and so is its fate
+abbrev pub StoresIn : Option (Verdict × List ℕ) → Happening → Type 0
+StoresIn None h = Unit {0}
+StoresIn (Some (ToStore, m)) h =
+    (frame : FrameValue) × (h.events.received ≡ Some frame) × (m ≡ message frame) × (h.fate ≡ Some Stored)
+StoresIn (Some (ToLose, m)) h = Unit {0}
+
+stores_by : (p rest : List Entry) (off : Bool) (v : Option (Verdict × List ℕ)) (h : Happening)
+    (brought left : List Entry) → IsRightFor p h.events.received v →
+    Closes p h.events (judged_as v ++ (off_as off ++ rest)) h.fate brought left → StoresIn v h
+stores_by p rest off None h brought left r c = tt
+stores_by p rest off (Some (ToLose, m)) h brought left r c = tt
+stores_by p rest off (Some (ToStore, m)) h brought left r c =
+    let P : Option FrameValue → Type 0 =
+    λ f. HasFate p f (judged_as (Some (ToStore, m)) ++ (off_as off ++ rest)) h.fate c.verdict in
+    let k = subst P r.1.1 c.has in (r.1.0, r.1.1, r.1.2, k.1 ∙ ap Some k.2.0)
+
+-- ---- a turn tells what a happening has
+
+pub tells_turn : (changed : Bool) (j k : List Entry) (driven seen : Level) (b : HasBit j driven seen k)
+    (turn : BusTurn) → IsTurn changed j driven seen k b turn → Tells j driven seen turn.events
+tells_turn changed j k driven seen b turn t =
+    let same : record_of j ++ entries_of (bit_of driven seen) turn.events ≡ record_of k =
+    entries_split (record_of j) (bit_of driven seen) turn.events.went_off
+    ∙ ap (λ w. (record_of j ++ NodeTook (bit_of driven seen) ∷ []) ++ off_left w) t.off
+    ∙ sym (record_bit j k driven seen b) in
+    let pieces = t.found ++ closed_by (counted none_yet (record_of j ++ NodeTook (bit_of driven seen) ∷ [])) t.step in
+    let P : List NodeEntry → Type 0 = λ l. IsCut l pieces in
+    let w = subst P (sym same) t.after in record {
+      found = t.found;
+      cut = t.cut;
+      step = t.step;
+      told = t.events;
+      with_bit = w;
+      role = t.says.receiving
+          ∙ role_same (record_of k) (record_of j ++ entries_of (bit_of driven seen) turn.events) t.says.found pieces
+          t.says.cut w (sym same);
+    }
+
+-- ---- the place of a longer journal
+
+past_both : (p : JournalPlace) (xs ys : List Entry) → past_all p (xs ++ ys) ≡ past_all (past_all p xs) ys
+past_both p [] ys = refl
+past_both p (x ∷ xs) ys = past_both (past p x) xs ys
+
+pub place_both : (j rest : List Entry) → place_of (j ++ rest) ≡ past_all (place_of j) rest
+place_both j rest = past_both _ j rest
+
+-- ---- a bit of a journal
+
+module _ (whole : List Entry) (others : List FinishedPiece) (cut : IsCut (record_of whole) others)
+    (verdicts : HasVerdicts whole (received others)) (few : (place_of whole).bits < 2 ^ 32)
+    (changed : Bool) (j k rest : List Entry) (driven seen : Level) (b : HasBit j driven seen k) (turn : BusTurn)
+    (t : IsTurn changed j driven seen k b turn) (is : whole ≡ k ++ rest) (quiet : IsQuiet rest) where
+  abbrev pub with_bit : List Entry
+  with_bit = j ++ Bit driven seen ∷ []
+
+  -- what stands behind the bit
+  abbrev pub behind : List Entry
+  behind = judged_as b.verdict ++ (off_as b.off ++ rest)
+
+  whole_is : whole ≡ with_bit ++ behind
+  whole_is = is ∙ ap (λ l. l ++ rest) b.whole
+      ∙ append_assoc (with_bit ++ judged_as b.verdict) (off_as b.off) rest
+      ∙ append_assoc with_bit (judged_as b.verdict) (off_as b.off ++ rest)
+
+  pub split : whole ≡ j ++ Bit driven seen ∷ behind
+  split = whole_is ∙ append_assoc j (Bit driven seen ∷ []) behind
+
+  bits_are : (place_of k).bits ≡ (place_of j).bits + 1
+  bits_are = (place_bit j k driven seen b).1
+
+  pub fewer : (place_of j).bits + 1 < 2 ^ 32
+  fewer =
+      let n = ap (λ (x : JournalPlace). x.bits) (ap place_of is ∙ place_both k rest) in
+      let m = (all_rise (place_of k) rest).bits in
+      let o = bits_are in
+      omega (arith, few, n, m, o)
+
+  pub drives : (found : List FinishedPiece) (h : IsCut (record_of j) found) → DrivesIn h driven
+  drives found h =
+      let more = gathered told_at (placed_from (past (place_of j) (Bit driven seen)) behind) in
+      let P : List NodeEntry → Type 0 = λ l. IsCut l others in
+      a_bit_is_driven (record_of j) more (bit_of driven seen) found others h
+      (subst P (ap record_of split ∙ record_both j (Bit driven seen ∷ behind)) cut)
+
+  -- a verdict is on the frame that the turn tells
+  on_frame : (m : List ℕ) (o : Bool) (e : Entry) (later : List Entry) → whole ≡ with_bit ++ e ∷ later →
+      (past (place_of with_bit) e).activation ≡ (place_of with_bit).activation →
+      judged_at (record { before = place_of with_bit; entry = e })
+      ≡ (record { bits = (place_of with_bit).bits; bytes = m; overrun = o }) ∷ [] →
+      (frame : FrameValue) × (turn.events.received ≡ Some frame) × (m ≡ message frame)
+  on_frame m o e later all same judged =
+      let a = (place_of with_bit).activation in
+      let y : Judged = record { bits = (place_of with_bit).bits; bytes = m; overrun = o } in
+      let more = gathered (in_part judged_at a) (placed_from (past (place_of with_bit) e) later) in
+      let list : judged_in whole a ≡ judged_in with_bit a ++ y ∷ more =
+      ap (λ l. judged_in l a) all ∙ of_part_at judged_at with_bit later e a same
+      ∙ ap (λ l. judged_in with_bit a ++ (l ++ more)) judged in
+      let p = partner_of (IsAccepted a (filter_of (part whole a))) IsOn (received others) (judged_in whole a)
+      (judged_in with_bit a) more y (verdicts.are a) list in
+      let h = p.0 in
+      let before = ap (λ (c : Count). c.bits) (record_counted j) in
+      let after = ap (λ (c : Count). c.bits) (record_counted k) in
+      let n = bits_are in
+      let pushed = ap (λ (x : JournalPlace). x.bits) (place_push j (Bit driven seen)) in
+      let on = p.2.bits in
+      let P : List NodeEntry → Type 0 = λ l. IsCut l others in
+      let x = gathered told_at (placed_from (place_of k) rest) in
+      let there = received_there (record_of j) (record_of k) x t.found others
+      (counted none_yet (record_of j ++ NodeTook (bit_of driven seen) ∷ [])) t.step h t.cut t.after
+      (subst P (ap record_of is ∙ record_both k rest) cut) (omega (arith, before, after, n))
+      (omega (arith, on, after, n, pushed)) p.1 in
+      (h.frame, ap (λ (v : BitEvents). v.received) t.events ∙ there, p.2.bytes)
+
+  -- the verdict is right
+  pub right : IsRightFor (last_part with_bit) turn.events.received b.verdict
+  right = by b.verdict refl
+    where
+      a : ℕ
+      a = (place_of with_bit).activation
+
+      due : (e : Entry) (later : List Entry) → whole ≡ with_bit ++ e ∷ later →
+          (past (place_of with_bit) e).activation ≡ a → IsDue (part with_bit a) e
+      due e later all same =
+          each_part IsDue with_bit later e a same (subst (λ l. EachAfter IsDue [] (part l a)) all (verdicts.due a))
+
+      by : (v : Option (Verdict × List ℕ)) → b.verdict ≡ v →
+          IsRightFor (last_part with_bit) turn.events.received v
+      by None e = tt
+      by (Some (ToStore, m)) e =
+          let all : whole ≡ with_bit ++ StoredEntry m ∷ (off_as b.off ++ rest) =
+          whole_is ∙ ap (λ v. with_bit ++ (judged_as v ++ (off_as b.off ++ rest))) e in (
+            (due (StoredEntry m) (off_as b.off ++ rest) all refl).1,
+            on_frame m false (StoredEntry m) (off_as b.off ++ rest) all refl refl,
+          )
+      by (Some (ToLose, m)) e =
+          let all : whole ≡ with_bit ++ OverrunEntry m ∷ (off_as b.off ++ rest) =
+          whole_is ∙ ap (λ v. with_bit ++ (judged_as v ++ (off_as b.off ++ rest))) e in (
+            (due (OverrunEntry m) (off_as b.off ++ rest) all refl).1,
+            on_frame m true (OverrunEntry m) (off_as b.off ++ rest) all refl refl,
+          )
+
+  -- what a happening tells is what the turn tells
+  events_same : (h : Happening) → Brings j driven seen h → turn.events ≡ h.events
+  events_same h brings =
+      events_once j driven seen turn.events h.events (tells_turn changed j k driven seen b turn t)
+      (tells j driven seen h brings)
+
+  -- so the entries behind the bit are those that it brings
+  pub closes : (h : Happening) → Brings j driven seen h →
+      (fate : Option Fate) × Closes (last_part with_bit) h.events behind fate (judged_as b.verdict ++ off_as b.off) rest
+  closes h brings =
+      let P : BitEvents → Type 0 = λ e. (fate : Option Fate)
+      × Closes (last_part with_bit) e behind fate (judged_as b.verdict ++ off_as b.off) rest in
+      subst P (events_same h brings)
+      (closes_by (last_part with_bit) rest b.off turn.events b.verdict quiet right t.off)
+
+  -- a list of happenings goes on past the bit
+  pub past_bit : (hs : List Happening) → Happened j (Bit driven seen ∷ behind) hs →
+      (h : Happening) × (more : List Happening) × (hs ≡ h ∷ more) × StoresIn b.verdict h × Happened k rest more
+  past_bit hs x =
+      let on = bit_on j driven seen behind (judged_as b.verdict ++ off_as b.off) rest hs x fewer drives closes in
+      let same : with_bit ++ (judged_as b.verdict ++ off_as b.off) ≡ k =
+      sym (append_assoc with_bit (judged_as b.verdict) (off_as b.off)) ∙ sym b.whole in
+      let P : List Entry → Type 0 = λ l. Happened l rest on.1 in
+      let Q : BitEvents → Type 0 = λ e. IsRightFor (last_part with_bit) e.received b.verdict in
+      let stores = stores_by (last_part with_bit) rest b.off b.verdict on.0 (judged_as b.verdict ++ off_as b.off) rest
+      (subst Q (events_same on.0 on.3) right) on.4 in
+      (on.0, on.1, on.2, stores, subst P same on.5)

@@ -1,0 +1,6 @@
+-- The fronts of a node's record.
+pub mod Fronts
+-- The messages that were stored, beside the happenings.
+pub mod Stored
+-- Their lines in a trace.
+pub mod StoredLines

@@ -1,0 +1,171 @@
+-- The bits of a node are told one after another.
+use Rattle.std.proofs.Common.{◌≡◌, ℕ, ◌+◌, ◌<◌, zero, suc, Bool, true, false, Some, None}
+use Rattle.std.proofs.Common.{List, [], ◌∷◌, ◌++◌, length, refl, sym, ap, ◌∙◌, subst, arith, append-nil, append_assoc}
+use Rattle.std.specs.Prelude.{slice_get}
+use Rattle.std.proofs.lemmas.List.{length-append}
+use Rattle.std.proofs.lemmas.Option.{slice_get_past}
+use Rattle.sja_link.specs.declared.entry.Entry.{Entry}
+use Rattle.sja_replay.specs.declared.happening.Happening.{Happening}
+use Rattle.sja_replay.specs.declared.replay.Replay.{Replay}
+use Rattle.sja_replay.specs.Happened.{Happened}
+use Rattle.sja_replay.specs.Replaying.{left_of, IsAt, GoesOn}
+use Rattle.sja_trace.specs.declared.node_bits.NodeBits.{NodeBits}
+use Rattle.sja_trace.specs.Telling.{CameTo, HasCome, HaveCome, IsUnderway, HaveSame, bit_before, left_in}
+use Rattle.sja_trace.specs.Telling.{TellsOn, TellsAll, IsFinishing}
+
+-- ---- the happenings of a journal
+
+pub came_first : (j : List Entry) (r : Replay) → IsAt r [] → left_of r ≡ j → CameTo j r []
+came_first j r at left = record {
+  before = [];
+  at = at;
+  leads = λ more x. (let P : List Entry → Type 0 = λ l. Happened [] l more in subst P left x);
+}
+
+came_on : (j : List Entry) (old new : Replay) (h : Happening) (hs : List Happening) → CameTo j old hs →
+    ((before : List Entry) → IsAt old before → GoesOn old new before (h ∷ [])) → CameTo j new (hs ++ h ∷ [])
+came_on j old new h hs c goes =
+    let g = goes c.before c.at in record {
+      before = g.now;
+      at = g.at;
+      leads = λ more x.
+          (let P : List Happening → Type 0 = λ l. Happened [] j l in
+          subst P (sym (append_assoc hs (h ∷ []) more)) (c.leads (h ∷ more) (g.leads more x)));
+    }
+
+came_all : (j : List Entry) (r : Replay) (hs : List Happening) → CameTo j r hs →
+    ((before : List Entry) → IsAt r before → Happened before (left_of r) []) → Happened [] j hs
+came_all j r hs c none =
+    let P : List Happening → Type 0 = λ l. Happened [] j l in
+    subst P (append-nil hs) (c.leads [] (none c.before c.at))
+
+-- ---- one more behind others
+
+get_last : (hs : List Happening) (h : Happening) → slice_get (hs ++ h ∷ []) (length hs) ≡ Some h
+get_last [] h = refl
+get_last (x ∷ hs) h = get_last hs h
+
+get_front : (hs more : List Happening) (i : ℕ) → i < length hs → slice_get (hs ++ more) i ≡ slice_get hs i
+get_front [] more i less = absurd (omega (arith, less))
+get_front (x ∷ hs) more zero less = refl
+get_front (x ∷ hs) more (suc i) less = get_front hs more i (omega (arith, less))
+
+-- the bit before one is that of the same happenings
+pub before_same : (bits : ℕ) (old new : List Happening) → HaveSame bits old new →
+    bit_before bits new ≡ bit_before bits old
+before_same zero old new same = refl
+before_same (suc bit) old new same = same bit (omega arith)
+
+-- ---- a bit more
+
+-- nothing is left
+pub over_on : (old new : NodeBits) → old.over ≡ true → new.over ≡ true → new.bit ≡ None → TellsOn old new
+over_on old new over still none = record {
+  fewer = λ not_over underway. cc;
+  tells = λ journal bits told come.
+      (let P : Bool → Type 0 = λ b. HasCome b journal bits old.replay told in
+      let Q : Bool → Type 0 = λ b. HasCome b journal (suc bits) new.replay told in
+      let c = subst P over come.0 in
+      let few = c.1 in
+      let bit = none ∙ sym (slice_get_past told bits few) in
+      record {
+        told = told;
+        come = (subst Q (sym still) (c.0, omega (arith, few)), bit);
+        bit = bit;
+        same = λ i h. refl;
+      });
+}
+
+-- the next bit
+pub bit_on : (old new : NodeBits) (h : Happening) → old.over ≡ false → new.over ≡ false → new.bit ≡ Some h →
+    ((before : List Entry) → IsAt old.replay before → GoesOn old.replay new.replay before (h ∷ [])) →
+    TellsOn old new
+bit_on old new h begun still some goes = record {
+  fewer = λ not_over underway.
+      (let P : Bool → Type 0 = λ b. HasCome b underway.journal underway.bits old.replay underway.told in
+      let Q : Bool → Type 0 = λ b. left_in new.over new.replay < left_in b old.replay in
+      let R : Bool → Type 0 = λ b. left_in b new.replay < left_in false old.replay in
+      let c = subst P begun underway.come.0 in
+      let few = (goes (c.0).before (c.0).at).fewer in
+      subst Q (sym begun) (subst R (sym still) (omega (arith, few))));
+  tells = λ journal bits told come.
+      (let P : Bool → Type 0 = λ b. HasCome b journal bits old.replay told in
+      let c = subst P begun come.0 in
+      let all = told ++ h ∷ [] in
+      let Q : Bool → Type 0 = λ b. HasCome b journal (suc bits) new.replay all in
+      let many = c.1 in
+      let long = length-append told (h ∷ []) in
+      let bit = some ∙ sym (get_last told h) ∙ ap (λ (n : ℕ). slice_get all n) many in
+      record {
+        told = all;
+        come = (
+          subst Q (sym still) (came_on journal old.replay new.replay h told c.0 goes, omega (arith, many, long)),
+          bit,
+        );
+        bit = bit;
+        same = λ i less. get_front told (h ∷ []) i (omega (arith, many, less));
+      });
+}
+
+-- there is none
+pub none_on : (old new : NodeBits) → old.over ≡ false → new.over ≡ true → new.bit ≡ None →
+    ((before : List Entry) → IsAt old.replay before → Happened before (left_of old.replay) []) →
+    TellsOn old new
+none_on old new begun ends none left = record {
+  fewer = λ not_over underway.
+      (let Q : Bool → Type 0 = λ b. left_in new.over new.replay < left_in b old.replay in
+      let R : Bool → Type 0 = λ b. left_in b new.replay < left_in false old.replay in
+      subst Q (sym begun) (subst R (sym ends) (omega arith)));
+  tells = λ journal bits told come.
+      (let P : Bool → Type 0 = λ b. HasCome b journal bits old.replay told in
+      let Q : Bool → Type 0 = λ b. HasCome b journal (suc bits) new.replay told in
+      let c = subst P begun come.0 in
+      let many = c.1 in
+      let bit = none ∙ sym (slice_get_past told bits (omega (arith, many))) in
+      record {
+        told = told;
+        come = (subst Q (sym ends) (came_all journal old.replay told c.0 left, omega (arith, many)), bit);
+        bit = bit;
+        same = λ i less. refl;
+      });
+}
+
+-- ---- to the end
+
+on_underway : (old new : NodeBits) → TellsOn old new → IsUnderway old → IsUnderway new
+on_underway old new on u =
+    let more = on.tells u.journal u.bits u.told u.come in
+    record { journal = u.journal; bits = suc u.bits; told = more.told; come = more.come }
+
+pub finish_first : (b : NodeBits) → IsUnderway b → IsFinishing b b
+finish_first b u = record {
+  underway = u;
+  tells = λ journal bits told come.
+      (let none : bits ≡ bits + 0 = omega arith in
+      let P : ℕ → Type 0 = λ n. HaveCome journal n b told in
+      record { more = 0; told = told; come = subst P none come; same = λ i less. refl });
+}
+
+pub finish_next : (first old new : NodeBits) → IsFinishing first old → TellsOn old new → IsFinishing first new
+finish_next first old new f on = record {
+  underway = on_underway old new on f.underway;
+  tells = λ journal bits told come.
+      (let t = f.tells journal bits told come in
+      let next = on.tells journal (bits + t.more) t.told t.come in
+      let one : suc (bits + t.more) ≡ bits + suc t.more = omega arith in
+      let P : ℕ → Type 0 = λ n. HaveCome journal n new next.told in
+      record {
+        more = suc t.more;
+        told = next.told;
+        come = subst P one next.come;
+        same = λ i less. next.same i (omega (arith, less)) ∙ t.same i less;
+      });
+}
+
+pub finish_last : (first old : NodeBits) → IsFinishing first old → old.over ≡ true → TellsAll first old
+finish_last first old f over = record {
+  tells = λ journal bits told come.
+      (let t = f.tells journal bits told come in
+      let P : Bool → Type 0 = λ b. HasCome b journal (bits + t.more) old.replay t.told in
+      let c = subst P over t.come.0 in record { told = t.told; are = c.0; same = t.same });
+}

@@ -1,9 +1,0 @@
-use Rattle.sja_trace.specs.Inside.Coming.{left_in, IsFinishing}
-use Rattle.sja_trace.proofs.teller.Teller.finish.Given as goal
-
--- several bits more were told
-abbrev pub invariant-loop-self : goal.invariant-loop-self
-invariant-loop-self l = IsFinishing l.fn.self l.self
-
-abbrev pub decreases-loop-self : goal.decreases-loop-self
-decreases-loop-self l = left_in l.self.over l.self.replay

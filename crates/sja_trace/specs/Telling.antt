@@ -1,0 +1,90 @@
+-- The bits of a node that are told one after another (this project's own rule).
+use Rattle.std.specs.Prelude.{◌≡◌, ◌<◌, ◌≤◌, ◌+◌, ℕ, zero, suc, Bool, true, false}
+use Rattle.std.specs.Prelude.{Option, None, List, [], ◌++◌, length, slice_get}
+use Rattle.sja_link.specs.declared.entry.Entry.{Entry}
+use Rattle.sja_replay.specs.declared.happening.Happening.{Happening}
+use Rattle.sja_replay.specs.declared.replay.Replay.{Replay}
+use Rattle.sja_replay.specs.Happened.{Happened}
+use Rattle.sja_replay.specs.Replaying.{left_of, IsAt}
+use Rattle.sja_trace.specs.declared.node_bits.NodeBits.{NodeBits}
+
+-- ---- how far they came
+
+-- the replay of this journal has told these happenings, and whatever is told of the rest, comes behind them
+pub record CameTo (journal : List Entry) (r : Replay) (hs : List Happening) : Type 0 where
+  pub before : List Entry
+  pub at : IsAt r before
+  pub leads : (more : List Happening) → Happened before (left_of r) more → Happened [] journal (hs ++ more)
+
+-- after so many bits a replay has told as many happenings of a journal; or it is over, and has told all there are
+abbrev pub HasCome : Bool → List Entry → ℕ → Replay → List Happening → Type 0
+HasCome false journal bits r hs = CameTo journal r hs × (length hs ≡ bits)
+HasCome true journal bits r hs = Happened [] journal hs × (length hs ≤ bits)
+
+-- the bit before this one; there is none before the first
+abbrev pub bit_before : ℕ → List Happening → Option Happening
+bit_before zero hs = None
+bit_before (suc bit) hs = slice_get hs bit
+
+-- what the bit at hand brought
+abbrev pub at_hand : NodeBits → Option Happening
+at_hand b = b.bit
+
+-- after so many bits these happenings of a journal were told, and the last of these bits is at hand
+abbrev pub HaveCome : List Entry → ℕ → NodeBits → List Happening → Type 0
+HaveCome journal bits b hs = HasCome b.over journal bits b.replay hs × (at_hand b ≡ bit_before bits hs)
+
+-- of some journal, after some bits
+pub record IsUnderway (b : NodeBits) : Type 0 where
+  pub journal : List Entry
+  pub bits : ℕ
+  pub told : List Happening
+  pub come : HaveCome journal bits b told
+
+-- ---- more of them
+
+-- the happenings of the bits before this one are the same
+abbrev pub HaveSame : ℕ → List Happening → List Happening → Type 0
+HaveSame bits old new = (i : ℕ) → i < bits → slice_get new i ≡ slice_get old i
+
+-- one bit more was told of a journal, and it's at hand
+pub record ToldMore (journal : List Entry) (bits : ℕ) (old : List Happening) (new : NodeBits) : Type 0 where
+  pub told : List Happening
+  pub come : HaveCome journal (suc bits) new told
+  pub bit : at_hand new ≡ slice_get told bits
+  pub same : HaveSame bits old told
+
+-- several bits more were told of it
+pub record ToldOn (journal : List Entry) (bits : ℕ) (old : List Happening) (new : NodeBits) : Type 0 where
+  pub more : ℕ
+  pub told : List Happening
+  pub come : HaveCome journal (bits + more) new told
+  pub same : HaveSame bits old told
+
+-- all of a journal was told
+pub record ToldAll (journal : List Entry) (bits : ℕ) (old : List Happening) : Type 0 where
+  pub told : List Happening
+  pub are : Happened [] journal told
+  pub same : HaveSame bits old told
+
+-- how much is left of its journal at most
+abbrev pub left_in : Bool → Replay → ℕ
+left_in true r = 0
+left_in false r = suc (length (left_of r))
+
+-- a bit more is told, or none is left
+pub record TellsOn (old new : NodeBits) : Type 0 where
+  pub fewer : old.over ≡ false → IsUnderway old → left_in new.over new.replay < left_in old.over old.replay
+  pub tells : (journal : List Entry) (bits : ℕ) (told : List Happening) →
+      HaveCome journal bits old told → ToldMore journal bits told new
+
+-- several are told
+pub record IsFinishing (old new : NodeBits) : Type 0 where
+  pub underway : IsUnderway new
+  pub tells : (journal : List Entry) (bits : ℕ) (told : List Happening) →
+      HaveCome journal bits old told → ToldOn journal bits told new
+
+-- all are told
+pub record TellsAll (old new : NodeBits) : Type 0 where
+  pub tells : (journal : List Entry) (bits : ℕ) (told : List Happening) →
+      HaveCome journal bits old told → ToldAll journal bits told

@@ -1,0 +1,65 @@
+//! [`NodeBits`]: the bits of a node, one after another.
+
+use sja_link::Journal;
+use sja_replay::{Happening, Replay};
+
+/// The bits of a node, of which one is at hand: how far its journal was gone over, and what the bit gone over last
+/// brought. It keeps one bit, and no list.
+#[derive(Debug, Drop)]
+pub struct NodeBits<'a> {
+    pub(crate) replay: Replay<'a>,
+    /// Whether no bit of the journal is left.
+    pub(crate) over: bool,
+    /// The bit at hand.
+    pub(crate) bit: Option<Happening>,
+}
+
+impl<'a> NodeBits<'a> {
+    ghost use Rattle.std.specs.Prelude.{◌≡◌, []};
+    ghost use Rattle.sja_trace.specs.Telling.{HaveCome, TellsOn, TellsAll, IsUnderway, at_hand};
+
+    /// Before the first bit.
+    pub fn of(journal: &'a Journal) -> NodeBits<'a>
+        ensures { HaveCome journal.now.entries 0 result [] }
+    {
+        NodeBits {
+            replay: Replay::of(journal),
+            over: false,
+            bit: None,
+        }
+    }
+
+    /// What the bit at hand brought; none before the first bit, and where the journal has no such bit.
+    pub fn bit(&self) -> &Option<Happening>
+        ensures { result.now ≡ at_hand self.now }
+    {
+        &self.bit
+    }
+
+    /// Goes on past the next bit, if there is one.
+    pub fn go_on(&mut self)
+        ensures { TellsOn self.old self.new }
+    {
+        if self.over {
+            self.bit = None;
+            return;
+        }
+        match self.replay.next() {
+            Some(bit) => self.bit = Some(bit),
+            None => {
+                self.bit = None;
+                self.over = true;
+            }
+        }
+    }
+
+    /// Goes on to the end of the journal.
+    pub fn finish(&mut self)
+        requires { IsUnderway self.old }
+        ensures { TellsAll self.old self.new }
+    {
+        while !self.over {
+            self.go_on();
+        }
+    }
+}

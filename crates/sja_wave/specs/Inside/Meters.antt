@@ -1,0 +1,89 @@
+-- The numbers of a node, read bit by bit.
+use Rattle.std.specs.Prelude.{◌≡◌, ◌<◌, ◌≤◌, ℕ, suc, Bool, true, false, Option, List, [], ◌++◌, length}
+use Rattle.sja_link.specs.declared.entry.Entry.{Entry}
+use Rattle.sja_replay.specs.declared.happening.Happening.{Happening}
+use Rattle.sja_replay.specs.declared.replay.Replay.{Replay}
+use Rattle.sja_replay.specs.declared.view.View.{View}
+use Rattle.sja_replay.specs.Happened.{Happened}
+use Rattle.sja_replay.specs.Replaying.{left_of, IsAt}
+use Rattle.sja_wave.specs.declared.gauges.Gauges.{Gauges}
+use Rattle.sja_wave.specs.declared.meter.Meter.{Meter}
+use Rattle.sja_wave.specs.Views.{view_in, tec_of, rec_of, phase_of}
+
+abbrev pub gauges_of : Option View → Gauges
+gauges_of v = record { tec = tec_of v; rec = rec_of v; phase = phase_of v }
+
+-- ---- how far a journal was read
+
+-- the replay of this journal has told these bits, and whatever is told of the rest, comes behind them
+pub record CameTo (journal : List Entry) (r : Replay) (hs : List Happening) : Type 0 where
+  pub before : List Entry
+  pub at : IsAt r before
+  pub leads : (more : List Happening) → Happened before (left_of r) more → Happened [] journal (hs ++ more)
+
+-- so many bits were told; or the replay is over, and has told all there are
+abbrev pub HasCome : Bool → List Entry → ℕ → Replay → List Happening → Type 0
+HasCome false journal bits r hs = CameTo journal r hs × (length hs ≡ bits)
+HasCome true journal bits r hs = Happened [] journal hs × (length hs ≤ bits)
+
+-- the meter has gone past so many bits of a journal, of which these were told
+pub record HasRead (journal : List Entry) (bits : ℕ) (m : Meter) (hs : List Happening) : Type 0 where
+  pub come : HasCome m.over journal bits m.replay hs
+  pub after : m.after ≡ gauges_of (view_in (length hs) hs)
+
+-- past some bits of some journal
+pub record IsReading (m : Meter) : Type 0 where
+  pub journal : List Entry
+  pub bits : ℕ
+  pub told : List Happening
+  pub has : HasRead journal bits m told
+
+-- how much is left at most
+abbrev pub left_in : Bool → Replay → ℕ
+left_in true r = 0
+left_in false r = suc (length (left_of r))
+
+-- ---- it goes on
+
+-- in the bits before this one a node shows the same
+abbrev pub ShowSame : ℕ → List Happening → List Happening → Type 0
+ShowSame bits old new = (i : ℕ) → i < bits → view_in i new ≡ view_in i old
+
+-- one bit more was read, and is shown
+pub record ReadMore (journal : List Entry) (bits : ℕ) (old : List Happening) (new : Meter) : Type 0 where
+  pub told : List Happening
+  pub has : HasRead journal (suc bits) new told
+  pub shows : new.shows ≡ gauges_of (view_in bits told)
+  pub same : ShowSame bits old told
+
+pub record ReadsOn (old new : Meter) : Type 0 where
+  pub showed : new.showed ≡ old.shows
+  pub fewer : old.over ≡ false → IsReading old → left_in new.over new.replay < left_in old.over old.replay
+  pub reads : (journal : List Entry) (bits : ℕ) (told : List Happening) →
+      HasRead journal bits old told → ReadMore journal bits told new
+
+-- ---- it goes on to the end
+
+-- several bits more were read
+pub record ReadFurther (journal : List Entry) (bits : ℕ) (old : List Happening) (new : Meter) : Type 0 where
+  pub now : ℕ
+  pub told : List Happening
+  pub has : HasRead journal now new told
+  pub further : bits ≤ now
+  pub same : ShowSame bits old told
+
+pub record IsFinishing (old new : Meter) : Type 0 where
+  pub reading : IsReading new
+  pub reads : (journal : List Entry) (bits : ℕ) (told : List Happening) →
+      HasRead journal bits old told → ReadFurther journal bits told new
+
+-- all of a journal was told
+pub record ReadAll (journal : List Entry) (bits : ℕ) (old : List Happening) : Type 0 where
+  pub told : List Happening
+  pub are : Happened [] journal told
+  pub same : ShowSame bits old told
+
+abbrev pub ReadsAll : Meter → Meter → Type 0
+ReadsAll old new =
+    (journal : List Entry) (bits : ℕ) (told : List Happening) →
+    HasRead journal bits old told → ReadAll journal bits told

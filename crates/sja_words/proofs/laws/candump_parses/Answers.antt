@@ -1,0 +1,11 @@
+use Rattle.sja_words.proofs.PlainPictures.{plain, errors, candump_in_threads}
+use Rattle.sja_words.proofs.laws.candump_parses.Goals as goal
+
+pub returns-clause-plain : goal.returns-clause-plain
+returns-clause-plain c = plain
+
+pub returns-clause-errors : goal.returns-clause-errors
+returns-clause-errors c = errors
+
+pub returns-clause-threads : goal.returns-clause-threads
+returns-clause-threads c = candump_in_threads

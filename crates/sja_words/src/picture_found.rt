@@ -1,0 +1,32 @@
+//! What the words of `picture` and `candump` ask for.
+
+ghost use Rattle.std.specs.Prelude.{◌≡◌, option_map, Some};
+ghost use Rattle.clap.specs.Words.{found_of, rows_of};
+ghost use Rattle.sja_words.specs.Words.{candump_in, picture_in, request_of};
+
+use super::found::flag_at;
+use super::sweep_found::{number_at, optional_at};
+use super::task::Task;
+use clap::ArgMatches;
+
+/// `picture FROM TO`, with its flags; nothing where one of them is no number up to 9,999,999.
+pub(crate) fn picture_task<'a>(arguments: &ArgMatches<'a>) -> Option<Task<'a>>
+    ensures { option_map request_of result ≡ picture_in (rows_of (found_of arguments.now)) }
+{
+    Some(Task::Picture {
+        first: number_at(arguments, "FROM", 0)?,
+        last: optional_at(arguments, "TO")?,
+        svg: flag_at(arguments, "svg"),
+        threads: flag_at(arguments, "threads"),
+    })
+}
+
+/// `candump`, with its flags.
+pub(crate) fn candump_task<'a>(arguments: &ArgMatches<'a>) -> Task<'a>
+    ensures { Some (request_of result) ≡ candump_in (rows_of (found_of arguments.now)) }
+{
+    Task::Candump {
+        errors: flag_at(arguments, "errors"),
+        threads: flag_at(arguments, "threads"),
+    }
+}
