@@ -1,13 +1,15 @@
 -- What words ask for, and what becomes of what is left to threads.
-use Rattle.std.proofs.Common.{◌≡◌, ◌⊎◌, ℕ, Bool, List, Option, Some, true, false, sym, inl, inr}
+use Rattle.std.proofs.Common.{◌≡◌, ◌⊎◌, ℕ, Bool, List, Option, Some, true, false, sym, subst, inl, inr}
+use Rattle.std.proofs.Common.{Result, Ok, Err, IfOk}
 use Rattle.std.proofs.Math.Decide.{dec_lt}
 use Rattle.std.specs.Io.KnownBytes.{Keeps}
 use Rattle.sja_words.specs.Words.{Request, ParsesAs, encode, decode, filter, arbitrate, message, run, wave}
 use Rattle.sja_words.specs.Words.{trace, frames, picture, candump, check, sweep, struck_plan}
 use Rattle.sja_texts.specs.declared.command_refusal.CommandRefusal.TheVariants.{OutOfMemory}
 use Rattle.sja_texts.specs.declared.command_refusal.CommandRefusal.{CommandRefusal}
-use Rattle.sja_run.specs.Answer.{AsksForRun, AsksForThreads, IsPrinted, IsRefused, Shows, IsLeft, request_left}
-use Rattle.sja_run.specs.Run.{IsOfPlan, RefusesThreads}
+use Rattle.sja_run.specs.Answer.{AsksForRun, AsksForThreads, IsPrinted, IsRefused, Shows, IsLeft}
+use Rattle.sja_run.specs.Answer.{request_for, request_left}
+use Rattle.sja_run.specs.Run.{IsOfPlan, RefusesRun, RefusesThreads}
 use Rattle.sja_run.specs.RunText.{IsTextOfRun}
 use Rattle.sja_run.specs.declared.run_text.RunText.{RunText}
 use Rattle.sja_run.specs.declared.run_text.RunText.TheVariants.{Report, Wave, Trace, Frames, Picture, Drawing, Candump}
@@ -75,6 +77,43 @@ left_refused Frames before after why has = has
 left_refused (Picture first last) before after why has = has
 left_refused (Drawing first last) before after why has = has
 left_refused (Candump errors) before after why has = has
+
+-- what is printed of a run in one thread is what was asked for
+pub once_told : (what : RunText) (before after : Option (List ℕ)) (text : List ℕ) →
+    IsOfPlan (IsTextOfRun false what) before after text → IsPrinted (request_for false what) before after text
+once_told Report before after text has = has
+once_told Wave before after text has = has
+once_told Trace before after text has = has
+once_told Frames before after text has = has
+once_told (Picture first last) before after text has = has
+once_told (Drawing first last) before after text has = has
+once_told (Candump errors) before after text has = has
+
+pub once_printed : (r : Request) (what : RunText) (before after : Option (List ℕ)) (text : List ℕ) →
+    r ≡ request_for false what → IsOfPlan (IsTextOfRun false what) before after text → IsPrinted r before after text
+once_printed r what before after text asks has =
+    subst (λ q. IsPrinted q before after text) (sym asks) (once_told what before after text has)
+
+-- and so is what is refused of it
+pub once_denied : (what : RunText) (before after : Option (List ℕ)) (why : CommandRefusal) →
+    RefusesRun before after why → IsRefused (request_for false what) before after why
+once_denied Report before after why has = has
+once_denied Wave before after why has = has
+once_denied Trace before after why has = has
+once_denied Frames before after why has = has
+once_denied (Picture first last) before after why has = has
+once_denied (Drawing first last) before after why has = has
+once_denied (Candump errors) before after why has = has
+
+pub once_refused : (r : Request) (what : RunText) (before after : Option (List ℕ)) (why : CommandRefusal) →
+    r ≡ request_for false what → RefusesRun before after why → IsRefused r before after why
+once_refused r what before after why asks has =
+    subst (λ q. IsRefused q before after why) (sym asks) (once_denied what before after why has)
+
+-- what follows of a value follows of a result's
+pub ok_then : {T E : Type 0} {P Q : T → Type 0} (r : Result T E) → ((t : T) → P t → Q t) → IfOk r P → IfOk r Q
+ok_then (Ok t) follows has = follows t has
+ok_then (Err e) follows has = has
 
 -- what is left to threads, and isn't left, since memory was refused
 pub left_shows : (r : Request) (status : ℕ) (failed : Bool)

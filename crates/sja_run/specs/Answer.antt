@@ -36,6 +36,16 @@ AsksForRun (sweep w) = Unit {0}
 AsksForRun (struck_plan node bit) = Unit {0}
 AsksForRun other = ⊥
 
+-- a text of a run is asked for, in threads or in one
+abbrev pub AsksForText : Request → Type 0
+AsksForText (run threads) = Unit {0}
+AsksForText (wave threads) = Unit {0}
+AsksForText (trace threads) = Unit {0}
+AsksForText (frames threads) = Unit {0}
+AsksForText (picture first last svg threads) = Unit {0}
+AsksForText (candump errors threads) = Unit {0}
+AsksForText other = ⊥
+
 -- threads are asked for: a run with each driver in a thread of its own, or a sweep in more than one thread
 abbrev pub AsksForThreads : Request → Type 0
 AsksForThreads (run true) = Unit {0}

@@ -1,8 +1,8 @@
 //! What is written for a task.
 
-ghost use Rattle.std.specs.Prelude.{◌≡◌, ◌⊎◌, IfOk, IfErr};
+ghost use Rattle.std.specs.Prelude.{◌≡◌, ◌⊎◌, IfOk, IfErr, false};
 ghost use Rattle.sja_words.specs.Words.{check, request_of};
-ghost use Rattle.sja_run.specs.Answer.{AsksForRun, AsksForThreads, IsPrinted, IsRefused};
+ghost use Rattle.sja_run.specs.Answer.{AsksForRun, AsksForText, AsksForThreads, IsPrinted, IsRefused, request_for};
 
 use super::run_text::{RunText, picture_or_drawing};
 use super::serial_text::written;
@@ -15,6 +15,7 @@ use std::io::Read;
 
 /// The text that answers the task, which asks for no threads and isn't `check`. Only for a text of a run and for
 /// `sweep` the input is read.
+#[tactic(auto, using(crate::proofs::Requests::once_printed, crate::proofs::Requests::once_refused))]
 pub(crate) fn printed<R: Read>(
     alloc: Global,
     task: Task<'_>,
@@ -38,28 +39,33 @@ pub(crate) fn printed<R: Read>(
         } => filtered(alloc, single, acr, amr, message),
         Task::Arbitrate(messages) => arbitrated(alloc, messages.as_slice()),
         Task::Message(text) => translated(alloc, text),
-        Task::Run { threads: false } => written(alloc, RunText::Report, input),
-        Task::Wave { threads: false } => written(alloc, RunText::Wave, input),
-        Task::Trace { threads: false } => written(alloc, RunText::Trace, input),
-        Task::Frames { threads: false } => written(alloc, RunText::Frames, input),
+        Task::Sweep(words) => told_sweep(alloc, words, input),
+        Task::StruckPlan { node, bit } => struck(alloc, node, bit, input),
+        of_run => written(alloc, text_asked(&of_run), input),
+    }
+}
+
+/// What is written of a run for a task that asks for a text of one, in one thread.
+fn text_asked(task: &Task<'_>) -> RunText
+    requires alone { ¬ AsksForThreads (request_of task.now) }
+    requires run { AsksForText (request_of task.now) }
+    ensures { request_of task.now ≡ request_for false result }
+{
+    match task {
+        Task::Run { threads: false } => RunText::Report,
+        Task::Wave { threads: false } => RunText::Wave,
+        Task::Trace { threads: false } => RunText::Trace,
+        Task::Frames { threads: false } => RunText::Frames,
         Task::Picture {
             first,
             last,
             svg,
             threads: false,
-        } => written(alloc, picture_or_drawing(first, last, svg), input),
+        } => picture_or_drawing(*first, *last, *svg),
         Task::Candump {
             errors,
             threads: false,
-        } => written(alloc, RunText::Candump(errors), input),
-        Task::Run { threads: true }
-        | Task::Wave { threads: true }
-        | Task::Trace { threads: true }
-        | Task::Frames { threads: true }
-        | Task::Picture { threads: true, .. }
-        | Task::Candump { threads: true, .. }
-        | Task::Check => unreachable!(),
-        Task::Sweep(words) => told_sweep(alloc, words, input),
-        Task::StruckPlan { node, bit } => struck(alloc, node, bit, input),
+        } => RunText::Candump(*errors),
+        _ => unreachable!(),
     }
 }

@@ -1,5 +1,7 @@
 use Rattle.std.proofs.Common.{◌≡◌, false}
-use Rattle.sja_words.specs.Words.{request_of, wave}
+use Rattle.sja_words.specs.Words.{request_of}
+use Rattle.sja_run.specs.Answer.{request_for}
+use Rattle.sja_run.proofs.Requests.{ok_then, once_printed}
 use Rattle.sja_run.proofs.answer.printed.Goals as goal
 
 pub returns-in-Filter-clause-ok : goal.returns-in-Filter-clause-ok
@@ -8,8 +10,9 @@ returns-in-Filter-clause-ok g c = rw c.in-Filter.is c.filtered.ensures.ok
 pub returns-in-Filter-clause-err : goal.returns-in-Filter-clause-err
 returns-in-Filter-clause-err g c = rw c.in-Filter.is c.filtered.ensures.err
 
--- the wave of a run in one thread
-pub returns-in-Wave-false-clause-ok : goal.returns-in-Wave-false-clause-ok
-returns-in-Wave-false-clause-ok g c =
-    let asks : request_of c.args.task ≡ wave false = rw c.in-Wave-false.is (cc) in
-    rw asks c.written-in-Wave-false.ensures.ok
+-- the text of a run
+pub returns-in_default-clause-ok : goal.returns-in_default-clause-ok
+returns-in_default-clause-ok g c =
+    let asks : request_of c.args.task ≡ request_for false c.text_asked.result =
+    cc (c.text_asked.ensures, c.in_default.of_run-is) in
+    ok_then c.written.result (λ text has. once_printed _ c.text_asked.result _ _ _ asks has) c.written.ensures.ok
