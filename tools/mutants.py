@@ -5,10 +5,11 @@ import random
 import re
 
 # whole numbers at the edges of what a plan takes, and what TOML writes for a value of another kind
-NUMBERS = """0 1 2 3 7 8 9 10 11 12 21 22 59 60 64 127 128 199 255 256 1000 1001 9999 10000 10001 65535 65536 199999
-200000 200001 9999999 10000000 2147483647 2147483648 4294967295 4294967296 9223372036854775807 9223372036854775808
-18446744073709551616 -0 -1 -200000 +1 +200 0x10 0xffffffffffffffff 0o7 0b1 1_000 1__0 _1 00 021 1.0 1e3 1e400 -inf
-inf nan true false 1979-05-27 07:32:00 1979-05-27T07:32:00Z 1e 0x 1. .5""".split()
+NUMBERS = """0 1 2 3 7 8 9 10 11 12 21 22 59 60 64 127 128 199 255 256 1000 1001 9999 10000 10001 65535 65536 99999
+100000 100001 199999 200000 200001 1999999 2000000 2000001 9999999 10000000 2147483647 2147483648 4294967295
+4294967296 9223372036854775807 9223372036854775808 18446744073709551616 -0 -1 -200000 +1 +200 0x10 0xffffffffffffffff
+0o7 0b1 1_000 1__0 _1 00 021 1.0 1e3 1e400 -inf inf nan true false 1979-05-27 07:32:00 1979-05-27T07:32:00Z 1e 0x 1.
+.5""".split()
 VALUES = ["''", '""', "[]", "{}", "[[]]", "[{}]", "{ steps = [] }", "['start']", "[1]", "[true]", "[['start']]", "'1'"]
 KEYS = ["version", "bits", "node", "turns", "faults", "steps", "Version", "nodes", "", '""', "'bits'", '"node"']
 KEYS += ["node.steps", "node.0.steps", "a.b.c", "bits.x", "\u00e9", '"\\u0062its"', "bi ts", "-", "1", "_"]
@@ -18,10 +19,15 @@ BYTES = [b"\xff", b"\xfe", b"\xc0\x80", b"\xed\xa0\x80", b"\xf4\x90\x80\x80", b"
 MESSAGES = ["000000", "002440", "002460", "0224601122", "0fffe00102030405060708", "080000ffffffffffffffff"]
 MESSAGES += ["8024600000", "c3fffffffc", "88000000080102030405060708", "402470", "40247f", "0024", "C3FFFFFFFC", "00000"]
 PLAIN = ["start", "stop", "window", "release", "sent"]
+READ = [0, 2, 3, 4, 11, 12, 13, 14, 15, 16, 20, 28, 29, 30]
+WRITTEN = [0, 0, 1, 1, 4, 13, 14, 15, 16, 17, 18, 20, 21, 28, 31]
+VALUES_WRITTEN = ["00", "00", "01", "02", "04", "08", "09", "10", "2f", "60", "7f", "80", "ff", "ff"]
+RAW_LINE = "version = 3\n"
 TEXT = re.compile(r"\"[^\"\n]*\"|'[^'\n]*'")
 NUMBER = re.compile(r"\d+")
 KEY = re.compile(r"^[ \t]*([a-z]+)[ \t]*=", re.M)
-MOST = 70_000  # bytes of a plan; one of more than 65,536 is too long
+MOST = 70_000  # bytes of a plan; one of more than 65,536 is too long, but where it begins with RAW_LINE
+MOST_RAW = 16_777_300  # and then one of more than 16,777,216 is
 
 
 class Mutants:
@@ -37,10 +43,12 @@ class Mutants:
     def plan(self, number):
         """The plan of this number, as bytes."""
         rng = random.Random(f"{self.seed} {number}")
-        kind = rng.choices([self.example, made, huge, nested, self.spliced], [35, 40, 10, 8, 7])[0]
+        kinds = [self.example, made, restarted, huge, huge_raw, nested, self.spliced]
+        kind = rng.choices(kinds, [320, 400, 60, 90, 5, 60, 65])[0]
         text = kind(rng)
-        for _ in range(rng.choice([0, 0, 0, 0, 1, 2] if kind == made else [0, 1, 1, 1, 2, 2, 3, 5])):
-            text = rng.choice(MUTATIONS)(rng, text)[:MOST]
+        most = max(MOST, len(text)) if text.startswith(RAW_LINE) else MOST
+        for _ in range(rng.choice([0, 0, 0, 0, 1, 2] if kind in (made, restarted) else [0, 1, 1, 1, 2, 2, 3, 5])):
+            text = rng.choice(MUTATIONS)(rng, text)[:most]
         data = text.encode("utf-8", "surrogatepass")
         if rng.random() < 0.08:
             data = cut(rng, data)
@@ -59,8 +67,10 @@ class Mutants:
         return first[: rng.randrange(len(first))] + second[rng.randrange(len(second)) :]
 
 
-def step(rng):
-    """A step, mostly one that a plan may have."""
+def step(rng, version):
+    """A step, mostly one that a plan of this version may have."""
+    if version == 3 and rng.random() < 0.4:
+        return access(rng)
     kind = rng.randrange(14)
     if kind < 5:
         return PLAIN[kind]
@@ -73,6 +83,16 @@ def step(rng):
     if kind == 12:
         return f"write {rng.randrange(32)} {rng.randrange(256):02x}"
     return f"await {rng.choice([0, 1, 2, 3, 21, 22])}"
+
+
+def access(rng):
+    """What a driver does that knows addresses and bytes alone: it reads, writes, and waits for its interrupt line."""
+    kind = rng.randrange(8)
+    if kind == 0:
+        return "interrupt"
+    if kind < 4:
+        return f"read {rng.choice(READ)}"
+    return f"write {rng.choice(WRITTEN)} {rng.choice(VALUES_WRITTEN)}"
 
 
 def turn(rng, nodes):
@@ -106,17 +126,58 @@ def written(rng, version, bits, turns, faults, scripts):
 
 def made(rng):
     """A plan, mostly one that is run."""
+    version = rng.choice([1, 1, 2, 3, 3])
     nodes = rng.choice([1, 2, 2, 2, 3, 3, 4, 8])
     most = rng.choice([3, 6, 12, 40])
-    scripts = [["start"] * (rng.random() < 0.8) + [step(rng) for _ in range(rng.randrange(most))] for _ in range(nodes)]
-    if rng.random() < 0.8:
-        scripts = [[it for it in script if fits(it)] for script in scripts]
+    scripts = [script(rng, version, rng.randrange(most)) for _ in range(nodes)]
     turns = [turn(rng, nodes) for _ in range(rng.choice([2, 5, 10, 30]))]
     if rng.random() < 0.5:
         turns = [f"node {it} {rng.choice([1, 3, 4])}" for it in range(nodes)] + turns
     faults = [strike(rng, nodes) for _ in range(rng.choice([0, 0, 1, 2, 8]))]
     bits = rng.choice([1, 60, 64, 200, 200, 1000, 2000, 5000, 30000, 200000])
-    return written(rng, rng.choice([1, 1, 2]), bits, turns, faults, scripts)
+    return written(rng, version, bits, turns, faults, scripts)
+
+
+def script(rng, version, count):
+    """So many steps of a node, mostly with a start before them; where one doesn't fit it's mostly left out."""
+    steps = ["start"] * (rng.random() < 0.8) + [step(rng, version) for _ in range(count)]
+    return [it for it in steps if fits(it)] if rng.random() < 0.8 else steps
+
+
+def restarted(rng):
+    """A plan with a node that is started about as often as it may be, and asks its controller for something each time,
+    beside others that listen or do so too; in version 3 a bus-off may come in the place of a start."""
+    version = rng.choice([1, 2, 3, 3, 3])
+    nodes = rng.choice([1, 2, 2, 3, 8])
+    times = rng.choice([7, 8, 9] if version < 3 else [8, 9, 33, 63, 64, 65, 70])
+    waits = rng.random() < 0.4
+    scripts = [starts(rng, version, times, waits)]
+    for _ in range(1, nodes):
+        others = starts(rng, version, times, waits) if rng.random() < 0.5 else ["start"] + ["release", "read 3"] * 20
+        scripts.append(others)
+    turns = []
+    for _ in range(times):
+        turns += [f"node {it} {rng.choice([2, 5, 8, 8])}" for it in range(nodes)]
+        turns.append(rng.choice(["rest", "bus 1", "bus 11", "bus 30", "bus 80", "bus 200", "bus 1500"]))
+    turns += [f"node {it} 1000" for it in range(nodes)]
+    faults = [strike(rng, nodes) for _ in range(rng.choice([0, 0, 1, 8]))]
+    return written(rng, version, rng.choice([200, 5000, 30000, 200000]), turns, faults, scripts)
+
+
+def starts(rng, version, times, waits):
+    """So many starts, each with something to do behind it and mostly with a stop; in version 3 it may wait there."""
+    steps = []
+    for _ in range(times):
+        if version == 3 and rng.random() < 0.1:
+            steps += ["write 15 ff", "write 0 00"]
+        steps.append("start")
+        if rng.random() < 0.6:
+            steps += [f"load {rng.choice(MESSAGES[:9])}", f"command {rng.choice(['01', '03', '10', '12'])}"]
+        if version == 3 and rng.random() < 0.5:
+            steps += ["write 4 ff", rng.choice(["interrupt", "sent"]) if waits else "read 3"]
+        steps += ["release"] * rng.choice([0, 0, 1, 3])
+        steps += ["stop"] * (rng.random() < 0.97)
+    return steps
 
 
 def fits(text):
@@ -151,6 +212,33 @@ def huge(rng):
     if kind == 7:
         text += "#" * rng.choice([0, 1000, 65_536 - len(text), 65_537 - len(text), 66_000])
     return text
+
+
+def huge_raw(rng):
+    """A plan of version 3 with lists of as many items as they may have there, or one more, or of as many bytes."""
+    kind = rng.randrange(6)
+    nodes = rng.choice([1, 1, 2, 8])
+    bits, turns, faults, scripts = 2000, ["rest"], [], [["start"]] * nodes
+    if kind == 0:
+        word = rng.choice(["read 3", "write 4 ff", "write 1 01"])
+        scripts = [["start"] + [word] * rng.choice([65_533, 65_534, 65_535])]
+        turns = ["node 0 9999999", "rest"]
+    elif kind == 1:
+        turns = [rng.choice(["rest", "bus 1", "node 0 1"])] * rng.choice([199_999, 200_000, 200_001])
+    elif kind == 2:
+        faults = [f"0 {it}" for it in range(rng.choice([99_999, 100_000, 100_001]))]
+    elif kind == 3:
+        faults = [f"0 0 7 {rng.choice([99_999, 100_000, 100_001])}"]
+        turns = [f"node {it} 1" for it in range(nodes)] + ["bus 9999999"]
+    elif kind == 4:
+        bits = rng.choice([1_999_999, 2_000_000, 2_000_001])
+        scripts = [["start", "load 080000ffffffffffffffff"] + ["command 01", "sent", "window", "read 3"] * 1000] * nodes
+        turns = [f"node {it % nodes} 3" for it in range(400)] + ["bus 9999999"]
+    parts = f"bits = {bits}\nturns = {listed(turns)}\nfaults = {listed(faults)}\n"
+    text = RAW_LINE + parts + "".join(f"[[node]]\nsteps = {listed(it)}\n" for it in scripts)
+    if kind == 5:
+        text += "#" * rng.choice([65_537 - len(text), 1_000_000, 16_777_216 - len(text), 16_777_217 - len(text)])
+    return text if rng.random() < 0.8 else "\n" + text
 
 
 def nested(rng):
@@ -189,7 +277,7 @@ def number_changed(rng, text):
 
 def text_changed(rng, text):
     quote = rng.choice("\"\"\"'")
-    word = rng.choice([step(rng), turn(rng, 3), strike(rng, 3), "", " start", "start ", "bus  1", "jump", "x" * 3000])
+    word = rng.choice([step(rng, rng.choice([1, 3])), turn(rng, 3), strike(rng, 3), "", " start", "start ", "bus  1", "jump", "x" * 3000])
     return replaced(rng, text, TEXT, quote + word + quote)
 
 

@@ -20,6 +20,7 @@ MAY_ANSWER = {
     "command": {"ok"},
     "await": {"ok"},
     "sent": {"ok"},
+    "interrupt": {"ok"},
 }
 REGISTER_FAULTS = {
     "NoRegister", "ReadOnly", "ResetOnly", "Locked", "UseTyped", "NotInVersion", "ActiveOnly", "ListenOnly",
@@ -35,6 +36,7 @@ MAY_REFUSE = {
     "command": REGISTER_FAULTS | {"WrongState"},
     "await": {"Stopped", "Closed", "WrongState"},
     "sent": {"Closed", "WrongState"},
+    "interrupt": {"Closed"},
 }
 
 
@@ -123,7 +125,12 @@ def sent(buffer):
     return bytes([buffer[0] & 0xCF, *buffer[1 : end - 1], last]) + bytes(data)
 
 
-def walk(steps, answers):
+def most_activations(version):
+    """How many activations a node of this version has at most."""
+    return 8 if version < 3 else 64
+
+
+def walk(version, steps, answers):
     """The activations of a driver, with what its steps were told; and each message that it asked to send, and whether
     with self reception."""
     activations = []
@@ -139,12 +146,12 @@ def walk(steps, answers):
             check(active == (name == "start"), f"{step} is answered {answer}")
         elif name == "start":
             check(not active, "a start in an activation")
-            check(done == (len(activations) < 8), f"activation {len(activations) + 1}: {answer}")
+            check(done == (len(activations) < most_activations(version)), f"activation {len(activations) + 1}: {answer}")
             active = done
             if done:
                 activations.append(Activation())
                 released = 0
-        elif name not in ("read", "write"):
+        elif name not in ("read", "write", "interrupt"):
             check(active, f"{step} in reset is answered {answer}")
         if not done:
             continue
@@ -232,7 +239,7 @@ def judge(plan, text):
             words = lines.words()
             check(words[:2] == ["step", str(i + 1)], f"{words} in the place of step {i + 1}")
             answers.append(words[2:])
-        walks.append(walk(steps[:done], answers))
+        walks.append(walk(plan["version"], steps[:done], answers))
         for a, activation in enumerate(walks[k][0]):
             read_activation(lines, a + 1, activation)
             check_told(activation)

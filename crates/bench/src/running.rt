@@ -8,7 +8,7 @@ use sja_link::DequeLink;
 
 /// So many bits, one after another. Whether all were run.
 pub fn run_bits(bus: &mut Bus, links: &mut [DequeLink], board: &mut SerialBoard, count: u32) -> bool
-    requires count { length links.old ≡ 8 * length bus.old.journals }
+    requires count { length links.old ≡ 64 * length bus.old.journals }
     requires ids { Numbered (λ l. l.link) links.old }
     requires ports { length bus.old.journals ≤ length board.old.ports.items }
     ensures { length bus.new.journals ≡ length bus.old.journals }
@@ -26,7 +26,7 @@ pub fn run_bits_at_once(
     board: &mut SerialBoard,
     count: u32,
 ) -> bool
-    requires count { length links.old ≡ 8 * length bus.old.journals }
+    requires count { length links.old ≡ 64 * length bus.old.journals }
     requires ids { Numbered (λ l. l.link) links.old }
     requires ports { length bus.old.journals ≤ length board.old.ports.items }
     ensures { length bus.new.journals ≡ length bus.old.journals }

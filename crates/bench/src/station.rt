@@ -33,7 +33,9 @@ impl Station {
         if nodes == 0 || nodes > MOST_NODES || bits == 0 || bits > MOST_BITS {
             return None;
         }
-        let bus = plain_bus(alloc, nodes, bits).ok()?;
+        let Ok(bus) = plain_bus(alloc, nodes, bits) else {
+            return None;
+        };
         let mut links = serial_links(alloc, nodes).ok()?;
         let mut board = SerialBoard::new(alloc, nodes, 1).ok()?;
         let mut drivers = Vec::with_capacity(alloc, usize::from(nodes)).ok()?;
@@ -97,10 +99,11 @@ impl Station {
 /// A bus of so many nodes for so many bits, in none of which a node is struck.
 fn plain_bus(alloc: Global, nodes: u8, bits: u32) -> Result<Bus, OutOfMemory>
     requires nodes { (1 ≤ nodes) × (nodes ≤ 8) }
-    requires bits { (1 ≤ bits) × (bits ≤ 200000) }
+    requires bits { (1 ≤ bits) × (bits ≤ 2000000) }
     ensures { IfOk result (λ b. length b.journals ≡ nodes) }
 {
-    Bus::new(alloc, nodes, bits, FaultScript::of(Vec::new(alloc)))
+    let steps = Vec::from_elem(alloc, 1_000, usize::from(nodes))?;
+    Bus::new(alloc, bits, steps, FaultScript::of(Vec::new(alloc)))
 }
 
 /// The driver of this node, started on its first link.

@@ -17,22 +17,25 @@ use Rattle.sja_wire.specs.Links.{per_node, Kept, stops_of}
 use Rattle.sja_wire.specs.OneBit.{Opens, HasBit}
 use Rattle.sja_wire.specs.Telling.{IsTurn, IsPassedOver, IsUntold}
 
--- what a contract sees of a bus: its script, the bits that were run and those that are left, the fault that it answers
--- always, the journals of its nodes, and by node whether something was taken or an abort changed the node since its
--- port was told last
+-- what a contract sees of a bus: its script, for how many steps of each driver it has room, the bits that were run and
+-- those that are left, the fault that it answers always, the journals of its nodes, and by node whether something was
+-- taken or an abort changed the node since its port was told last
 pub record BusValue : Type 0 where
   pub script : List Strike
+  pub steps : List ℕ
   pub run : ℕ
   pub left : ℕ
   pub fault : Option BusFault
   pub journals : List (List Entry)
   pub untold : List Bool
 
--- a bus of so many nodes to which nothing has happened, for a run of so many bits
-abbrev pub new_bus : List Strike → ℕ → ℕ → BusValue
-new_bus script bits nodes =
+-- a bus of so many nodes to which nothing has happened, for a run of so many bits, in which each driver does so many
+-- steps
+abbrev pub new_bus : List Strike → ℕ → ℕ → List ℕ → BusValue
+new_bus script bits nodes steps =
     record {
       script = script;
+      steps = steps;
       run = 0;
       left = bits;
       fault = None;

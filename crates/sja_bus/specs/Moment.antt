@@ -18,11 +18,12 @@ abbrev pub moment : {E B : Type 0} → BusValue → List E → B → Moment E B
 moment bus links board = record { bus = bus; links = links; board = board }
 
 -- what bits keep, also one that didn't come to its end: which ends the links are, each port that is of no node of the
--- bus, the script, and how many nodes there are
+-- bus, the script, the room for steps, and how many nodes there are
 pub record Keeps {E B : Type 0} (e : Ends E) (b : Ports B) (was now : Moment E B) : Type 0 where
   pub sames : EachRelated e.same was.links now.links
   pub others : KeepsOthers b.ports b.kept (length was.bus.journals) was.board now.board
   pub script : now.bus.script ≡ was.bus.script
+  pub steps : now.bus.steps ≡ was.bus.steps
   pub nodes : length now.bus.journals ≡ length was.bus.journals
 
 -- one bit, which went well: it keeps what every bit keeps, and it is counted; the links stand for the journals still;

@@ -6,8 +6,8 @@ use Rattle.sja_link.specs.Deques.{Deques}
 abbrev pub new_link : ℕ → ℕ → Deques
 new_link node activation = record { link = record { node = node; activation = activation }; down = []; up = [] }
 
--- eight links a node, by node and activation, counted from 1, with nothing on them
+-- 64 links a node, by node and activation, counted from 1, with nothing on them
 pub record AreNewLinks (nodes : ℕ) (links : List Deques) : Type 0 where
-  pub count : length links ≡ 8 * nodes
-  pub each : (node a : ℕ) (d : Deques) → node < nodes → a < 8 →
-      slice_index_or links (8 * node + a) d ≡ new_link node (suc a)
+  pub count : length links ≡ 64 * nodes
+  pub each : (node a : ℕ) (d : Deques) → node < nodes → a < 64 →
+      slice_index_or links (64 * node + a) d ≡ new_link node (suc a)

@@ -76,22 +76,22 @@ IsBrokenFor stands full node room before j links base BitsSpent = ⊥
 
 -- ---- a bus
 
--- how many entries of a journal are reserved for a run of so many bits
-abbrev pub room_for : ℕ → ℕ
-room_for bits = 2 * bits + 2100
+-- how many entries of a node's journal are reserved for a run of so many bits, in which each driver does so many steps
+abbrev pub room_for : ℕ → List ℕ → ℕ → ℕ
+room_for bits steps node = 2 * bits + 2 * slice_index_or steps node 0 + 100
 
 -- the fault is of one of its nodes, whose item was refused
-pub record IsTakenAndRefused {E : Type 0} (stands : E → Lists → Type 0) (bits : ℕ) (before now : List (List Entry))
-    (links after : List E) (f : BusFault) : Type 0 where
+pub record IsTakenAndRefused {E : Type 0} (stands : E → Lists → Type 0) (bits : ℕ) (steps : List ℕ)
+    (before now : List (List Entry)) (links after : List E) (f : BusFault) : Type 0 where
   pub node : ℕ
   pub few : node < length before
-  pub refuses : RefusesItem stands (room_for bits) (journal_at before node) (journal_at now node) links after
+  pub refuses : RefusesItem stands (room_for bits steps node) (journal_at before node) (journal_at now node) links after
       (per_node * node) node f
 
 -- items of one of its nodes were taken, and then its port ordered an abort that changes the node, and the reserved
 -- entries are used
 pub record IsNotAborted {E : Type 0} (stands : E → Lists → Type 0) (orders_are : ℕ → Orders → Type 0) (bits : ℕ)
-    (before now : List (List Entry)) (links after : List E) (f : BusFault) : Type 0 where
+    (steps : List ℕ) (before now : List (List Entry)) (links after : List E) (f : BusFault) : Type 0 where
   pub node : ℕ
   pub few : node < length before
   pub is : f ≡ JournalFull node
@@ -100,13 +100,13 @@ pub record IsNotAborted {E : Type 0} (stands : E → Lists → Type 0) (orders_a
   pub are_orders : orders_are node orders
   pub ordered : orders.abort ≡ true
   pub due : IsApplied (journal_at now node) true
-  pub full : room_for bits ≤ length (journal_at now node)
+  pub full : room_for bits steps node ≤ length (journal_at now node)
   pub kept : (h : ℕ → Account) → Kept stands (journal_at before node) links (per_node * node) h →
       Kept stands (journal_at now node) after (per_node * node) h
 
 -- of one of its nodes items were taken and an abort was applied or none, and then its bit broke off
 pub record IsBrokenOff {E : Type 0} (stands : E → Lists → Type 0) (full : E → Type 0) (orders_are : ℕ → Orders → Type 0)
-    (bits : ℕ) (before now : List (List Entry)) (links : List E) (f : BusFault) : Type 0 where
+    (bits : ℕ) (steps : List ℕ) (before now : List (List Entry)) (links : List E) (f : BusFault) : Type 0 where
   pub node : ℕ
   pub few : node < length before
   pub opened : List Entry
@@ -114,15 +114,19 @@ pub record IsBrokenOff {E : Type 0} (stands : E → Lists → Type 0) (full : E 
   pub opens : Opens (orders_are node) (journal_at before node) opened
   pub kept : (h : ℕ → Account) → Kept stands (journal_at before node) links (per_node * node) h →
       Kept stands opened between (per_node * node) h
-  pub broken : IsBrokenFor stands full node (room_for bits) opened (journal_at now node) between (per_node * node) f
+  pub broken : IsBrokenFor stands full node (room_for bits steps node) opened (journal_at now node) between
+      (per_node * node) f
 
 -- why a bit doesn't come to its end
 pub data StopsBit {E : Type 0} (stands : E → Lists → Type 0) (full : E → Type 0) (orders_are : ℕ → Orders → Type 0)
     (before now : BusValue) (links after : List E) (f : BusFault) : Type 0 where
   spent : f ≡ BitsSpent → before.left ≡ 0 → StopsBit stands full orders_are before now links after f
-  not_taken : IsTakenAndRefused stands (before.run + before.left) before.journals now.journals links after f →
+  not_taken : IsTakenAndRefused stands (before.run + before.left) before.steps before.journals now.journals links after
+      f →
       StopsBit stands full orders_are before now links after f
-  not_aborted : IsNotAborted stands orders_are (before.run + before.left) before.journals now.journals links after f →
+  not_aborted : IsNotAborted stands orders_are (before.run + before.left) before.steps before.journals now.journals
+      links after f →
       StopsBit stands full orders_are before now links after f
-  broken_off : IsBrokenOff stands full orders_are (before.run + before.left) before.journals now.journals links f →
+  broken_off : IsBrokenOff stands full orders_are (before.run + before.left) before.steps before.journals now.journals
+      links f →
       StopsBit stands full orders_are before now links after f

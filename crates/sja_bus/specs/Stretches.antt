@@ -46,22 +46,23 @@ pub data EndsStretch (count n : ℕ) (now : BusValue) : Type 0 where
   busy : (node : ℕ) → node < length now.journals → RestsAs (record_of (journal_at now.journals node)) false →
       EndsStretch count n now
 
--- with this fault the reserved entries of a node's journal, for a run of so many bits, are used: it has fewer recessive
--- bits more than there are left, and nothing else
-pub record IsOutOfEntries (bits left : ℕ) (before now : List (List Entry)) (f : BusFault) : Type 0 where
+-- with this fault the reserved entries of a node's journal, for a run of so many bits and steps, are used: it has fewer
+-- recessive bits more than there are left, and nothing else
+pub record IsOutOfEntries (bits : ℕ) (steps : List ℕ) (left : ℕ) (before now : List (List Entry)) (f : BusFault) : Type
+    0 where
   pub node : ℕ
   pub few : node < length before
   pub is : f ≡ JournalFull node
   pub entered : ℕ
   pub early : entered < left
   pub grown : journal_at now node ≡ journal_at before node ++ recessive_bits entered
-  pub full : room_for bits ≤ length (journal_at now node)
+  pub full : room_for bits steps node ≤ length (journal_at now node)
 
 -- of each node what came on its links was taken, and then the reserved entries of one were used
-pub record IsFullInStretch {E : Type 0} (stands : E → Lists → Type 0) (bits left : ℕ) (before now : List (List Entry))
-    (links after : List E) (f : BusFault) : Type 0 where
+pub record IsFullInStretch {E : Type 0} (stands : E → Lists → Type 0) (bits : ℕ) (steps : List ℕ) (left : ℕ)
+    (before now : List (List Entry)) (links after : List E) (f : BusFault) : Type 0 where
   pub taken : List (List Entry)
   pub count : length taken ≡ length before
   pub items : EachJournal MayHaveItems before taken
   pub kept : KeepsAll stands before taken links after
-  pub out : IsOutOfEntries bits left taken now f
+  pub out : IsOutOfEntries bits steps left taken now f

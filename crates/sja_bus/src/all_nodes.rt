@@ -27,7 +27,7 @@ use sja_wire::BusFault;
 /// Takes all that the links show.
 pub(crate) fn gather_all<E: BusEnd>(seats: &mut [Seat], links: &mut [E]) -> Result<(), BusFault>
     requires few { length seats.old ≤ 8 }
-    requires count { length links.old ≡ 8 * length seats.old }
+    requires count { length links.old ≡ 64 * length seats.old }
     requires ids { Numbered E.link links.old }
     requires ready { AreReady seats.old }
     ensures sames { EachRelated E.same links.old links.new }
@@ -36,7 +36,7 @@ pub(crate) fn gather_all<E: BusEnd>(seats: &mut [Seat], links: &mut [E]) -> Resu
     ensures items { OnOk result (EachSeat SeatTakes seats.old seats.new) }
     ensures untold { OnOk result (EachSeat SeatUntold seats.old seats.new) }
     ensures dry { OnOk result (AllRead E.dry seats.new links.new) }
-    ensures rooms { OnOk result ((n : ℕ) → HaveRoom n seats.old → HaveRoom n seats.new) }
+    ensures rooms { OnOk result ((n : ℕ → ℕ) → HaveRoom n seats.old → HaveRoom n seats.new) }
     ensures refused { IfErr result (λ f. SeatRefuses E.stands seats.old seats.new links.old links.new f) }
 {
     for k in 0..seats.len() {
@@ -62,7 +62,7 @@ pub(crate) fn bit_of_all<E: BusEnd, B: Board>(
     ensures bit { OnOk result (IsRowBit (B.orders_are board.old)
         (B.told board.old board.new) (B.kept board.old board.new) struck seats.old seats.new) }
     ensures takes { OnOk result (RowTakesAll E.BusEnd seats.old seats.new links.old) }
-    ensures rooms { OnOk result ((n : ℕ) → HaveRoom n seats.old → HaveRoom n seats.new) }
+    ensures rooms { OnOk result ((n : ℕ → ℕ) → HaveRoom n seats.old → HaveRoom n seats.new) }
     ensures facts { OnOk result ((k : ℕ) → k < length seats.old → B.facts board.new k) }
     ensures stops { IfErr result (λ f. (SeatRefuses E.stands seats.old seats.new links.old links.new f
         ⊎ SeatFull E.stands (B.orders_are board.old) seats.old seats.new links.old links.new f)
@@ -82,7 +82,7 @@ fn open_all<E: BusEnd, B: Board>(
     board: &B,
 ) -> Result<(), BusFault>
     requires few { length seats.old ≤ 8 }
-    requires count { length links.old ≡ 8 * length seats.old }
+    requires count { length links.old ≡ 64 * length seats.old }
     requires ids { Numbered E.link links.old }
     requires ready { AreReady seats.old }
     requires ports { length seats.old ≤ B.ports board.now }
@@ -92,7 +92,7 @@ fn open_all<E: BusEnd, B: Board>(
     ensures opens { OnOk result (EachSeat (SeatOpens (B.orders_are board.now)) seats.old seats.new) }
     ensures untold { OnOk result (EachSeat SeatOpensUntold seats.old seats.new) }
     ensures dry { OnOk result (AllRead E.dry seats.new links.new) }
-    ensures rooms { OnOk result ((n : ℕ) → HaveRoom n seats.old → HaveRoom n seats.new) }
+    ensures rooms { OnOk result ((n : ℕ → ℕ) → HaveRoom n seats.old → HaveRoom n seats.new) }
     ensures facts { OnOk result ((k : ℕ) → k < length seats.old → B.facts board.now k) }
     ensures stops { IfErr result (λ f. SeatRefuses E.stands seats.old seats.new links.old links.new f
         ⊎ SeatFull E.stands (B.orders_are board.now) seats.old seats.new links.old links.new f) }
@@ -154,7 +154,7 @@ pub(crate) fn sample_all<E: BusEnd, B: Board>(
     ensures board { KeepsOthers B.ports B.kept (length seats.old) board.old board.new }
     ensures turns { OnOk result (EachSeat
         (SeatTurns (B.told board.old board.new) (B.kept board.old board.new) struck level) seats.old seats.new) }
-    ensures rooms { OnOk result ((n : ℕ) → HaveRoom n seats.old → HaveRoom n seats.new) }
+    ensures rooms { OnOk result ((n : ℕ → ℕ) → HaveRoom n seats.old → HaveRoom n seats.new) }
     ensures level { IfOk result (λ end. end.level ≡ wired (driven_by seats.new)) }
     ensures untold { IfOk result (λ end. end.told ≡ false → board.new ≡ board.old) }
     ensures free { IfOk result (λ end. end.told ≡ false → (n : ℕ) → AreFree (suc n) seats.old → AreFree n seats.new) }

@@ -38,7 +38,7 @@ impl Bus {
     /// Answers how many they were.
     ///
     /// They are what as many calls of [`bit`](Bus::bit) are between which no driver does anything: what the drivers
-    /// gave is taken before the first of them. `links` are eight a node, by node and activation.
+    /// gave is taken before the first of them. `links` are 64 a node, by node and activation.
     ///
     /// Error: after some of these bits, any fault of [`bit`](Bus::bit) but [`BusFault::BitsSpent`], and then the same
     /// always. The bits before it count.
@@ -49,7 +49,7 @@ impl Bus {
         count: u32,
         to_rest: bool,
     ) -> Result<u32, BusFault>
-        requires count { length links.old ≡ 8 * length self.old.journals }
+        requires count { length links.old ≡ 64 * length self.old.journals }
         requires ids { Numbered E.link links.old }
         requires ports { length self.old.journals ≤ B.ports board.old }
         ensures keeps { Keeps E.BusEnd B.Board
@@ -174,12 +174,12 @@ fn untaken_bits<E: BusEnd, B: Board>(
     requires seated { AreSeated E.link seats.old links.old (B.ports board.old) }
     requires may { NoneAborts (B.orders_are board.old) (length seats.old) × AreTold seats.old }
     requires bus { IsBus struck.now.script from seats.old }
-    requires within { (from + most ≤ struck.now.bits) × (struck.now.bits ≤ 200000) }
+    requires within { (from + most ≤ struck.now.bits) × (struck.now.bits ≤ 2000000) }
     requires facts { (k : ℕ) → k < length seats.old → B.facts board.old k }
     ensures sames { EachRelated E.same links.old links.new }
     ensures others { KeepsOthers B.ports B.kept (length seats.old) board.old board.new }
     ensures most { MatchResult result (λ n. n ≤ most) (λ f. f.after < most) }
-    ensures rooms { OnOk result ((n : ℕ) → HaveRoom n seats.old → HaveRoom n seats.new) }
+    ensures rooms { OnOk result ((n : ℕ → ℕ) → HaveRoom n seats.old → HaveRoom n seats.new) }
     ensures runs { IfOk result (λ n. RowsRun E.BusEnd B.Board to_rest struck.now.script from most
         seats.old seats.new links.old links.new board.old board.new n) }
     ensures breaks { IfErr result (λ f. RowsStop E.BusEnd B.Board to_rest struck.now.script from most

@@ -18,12 +18,14 @@ use std::marker::Model;
 /// The shared bus of one to eight nodes (Bosch CAN 2.0 part A section 2; its links, journals and ports are this
 /// project's own rule).
 ///
-/// Contracts see it as its script, the bits that were run and those that are left, the fault that it answers always,
-/// the journals of its nodes, and of which node something is untold to its port. All its room is reserved when it is
-/// made: no bit takes memory, and a strike more alone does.
+/// Contracts see it as its script, for how many steps of each driver it has room, the bits that were run and those that
+/// are left, the fault that it answers always, the journals of its nodes, and of which node something is untold to its
+/// port. All its room is reserved when it is made: no bit takes memory, and a strike more alone does.
 #[derive(Debug, Drop)]
 pub struct Bus {
     pub(crate) struck: StruckBits,
+    /// For how many steps of each node's driver its journal has room.
+    steps: Vec<u32>,
     pub(crate) run: u32,
     pub(crate) left: u32,
     pub(crate) fault: Option<BusFault>,
@@ -42,6 +44,7 @@ impl Model for Bus {
 
     ghost view = { λ b. record {
       script = b.struck.script;
+      steps = b.steps.items;
       run = b.run;
       left = b.left;
       fault = b.fault;
@@ -49,7 +52,8 @@ impl Model for Bus {
       untold = untold_of b.seats.items;
     } };
 
-    ghost invariant = { λ b. IsWhole b.struck b.run b.left b.fault b.seats.items (vec_capacity b.logs)
+    ghost invariant = { λ b. IsWhole b.struck b.steps.items b.run b.left b.fault b.seats.items
+        (vec_capacity b.logs)
         × (b.logs.items ≡ []) };
 }
 
@@ -73,23 +77,30 @@ impl Bus {
     ghost use Rattle.sja_bus.specs.TakingAll.{TakesAll};
     ghost use Rattle.sja_bus.specs.Moment.{moment, Keeps, OneBit};
 
-    /// A bus of so many nodes, 1 to 8, for a run of so many bits, 1 to 200,000. All its room is reserved here.
+    /// A bus for a run of so many bits, 1 to 2,000,000. It has as many nodes, 1 to 8, as numbers of steps are given:
+    /// the journal of each has room for what its driver gives in so many steps. All its room is reserved here.
     ///
     /// Error: [`OutOfMemory`] where memory was refused.
-    pub fn new(alloc: Global, nodes: u8, bits: u32, script: FaultScript) -> Result<Bus, OutOfMemory>
-        requires nodes { (1 ≤ nodes) × (nodes ≤ 8) }
-        requires bits { (1 ≤ bits) × (bits ≤ 200000) }
-        ensures { IfOk result (λ b. b ≡ new_bus script bits nodes) }
+    pub fn new(
+        alloc: Global,
+        bits: u32,
+        steps: Vec<u32>,
+        script: FaultScript,
+    ) -> Result<Bus, OutOfMemory>
+        requires nodes { (1 ≤ length steps.items) × (length steps.items ≤ 8) }
+        requires bits { (1 ≤ bits) × (bits ≤ 2000000) }
+        ensures { IfOk result (λ b. b ≡ new_bus script bits (length steps.items) steps.items) }
     {
-        let count = usize::from(nodes);
+        let count = steps.len();
         let struck = StruckBits::new(alloc, script, bits)?;
         let mut seats = Vec::with_capacity(alloc, count)?;
-        for node in 0..nodes {
-            seats.push_reserved(Seat::new(alloc, node, bits)?);
+        for node in 0..count {
+            seats.push_reserved(Seat::new(alloc, node as u8, bits, steps[node])?);
         }
         let logs = Vec::with_capacity(alloc, count)?;
         Ok(Bus {
             struck,
+            steps,
             run: 0,
             left: bits,
             fault: None,
@@ -99,16 +110,17 @@ impl Bus {
     }
 
     /// Takes what the drivers gave: of each node in order all that its links show, one link after the other. `links`
-    /// are eight a node, by node and activation. What holds of every bus is said of the one before it.
+    /// are 64 a node, by node and activation. What holds of every bus is said of the one before it.
     ///
     /// Error: [`BusFault::BadCredit`], [`BusFault::BadOrder`] or [`BusFault::JournalFull`], and then the same always.
     pub fn gather<E: BusEnd>(&mut self, links: &mut [E]) -> Result<(), BusFault>
-        requires count { length links.old ≡ 8 * length self.old.journals }
+        requires count { length links.old ≡ 64 * length self.old.journals }
         requires ids { Numbered E.link links.old }
         ensures lawful { self.old.fault ≡ None →
             IsBusRun self.old.script self.old.run self.old.journals }
         ensures sames { EachRelated E.same links.old links.new }
         ensures script { self.new.script ≡ self.old.script }
+        ensures steps { self.new.steps ≡ self.old.steps }
         ensures bits { (self.new.run ≡ self.old.run) × (self.new.left ≡ self.old.left) }
         ensures nodes { length self.new.journals ≡ length self.old.journals }
         ensures kept { OnOk result (KeepsAll E.stands self.old.journals self.new.journals links.old links.new) }
@@ -118,8 +130,8 @@ impl Bus {
         ensures right { OnOk result (self.new.fault ≡ None) }
         ensures fault { IfErr result (λ f. self.new.fault ≡ Some f) }
         ensures reason { IfErr result (λ f. self.old.fault ≡ None →
-            IsTakenAndRefused E.stands (self.old.run + self.old.left) self.old.journals self.new.journals links.old
-            links.new f) }
+            IsTakenAndRefused E.stands (self.old.run + self.old.left) self.old.steps self.old.journals
+            self.new.journals links.old links.new f) }
         ensures stays { (f : Fault) → self.old.fault ≡ Some f →
             (result ≡ Err f) × (self.new ≡ self.old) × (links.new ≡ links.old) }
     {
@@ -164,7 +176,7 @@ impl Bus {
         links: &mut [E],
         board: &mut B,
     ) -> Result<(), BusFault>
-        requires count { length links.old ≡ 8 * length self.old.journals }
+        requires count { length links.old ≡ 64 * length self.old.journals }
         requires ids { Numbered E.link links.old }
         requires ports { length self.old.journals ≤ B.ports board.old }
         ensures keeps { Keeps E.BusEnd B.Board

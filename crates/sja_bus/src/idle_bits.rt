@@ -33,7 +33,7 @@ impl Bus {
     ///
     /// They are what as many calls of [`bit`](Bus::bit) are that find nothing on any link: each node drives and sees
     /// recessive, and no port is told anything. An answer of 0 says that the next bit takes a call of `bit`. `links`
-    /// are eight a node, by node and activation.
+    /// are 64 a node, by node and activation.
     ///
     /// Error: [`BusFault::BadCredit`], [`BusFault::BadOrder`] or [`BusFault::JournalFull`], and then the same always.
     pub fn quiet_bits<E: BusEnd, B: Board>(
@@ -42,11 +42,12 @@ impl Bus {
         board: &B,
         count: u32,
     ) -> Result<u32, BusFault>
-        requires count { length links.old ≡ 8 * length self.old.journals }
+        requires count { length links.old ≡ 64 * length self.old.journals }
         requires ids { Numbered E.link links.old }
         requires ports { length self.old.journals ≤ B.ports board.now }
         ensures sames { EachRelated E.same links.old links.new }
         ensures script { self.new.script ≡ self.old.script }
+        ensures steps { self.new.steps ≡ self.old.steps }
         ensures nodes { length self.new.journals ≡ length self.old.journals }
         ensures most { IfOk result (λ n. n ≤ count) }
         ensures bits { IfOk result (λ n. (self.new.run ≡ self.old.run + n) × (self.new.left + n ≡ self.old.left)) }
@@ -63,10 +64,10 @@ impl Bus {
         ensures right { OnOk result (self.new.fault ≡ None) }
         ensures fault { IfErr result (λ f. self.new.fault ≡ Some f) }
         ensures reason { IfErr result (λ f. self.old.fault ≡ None →
-            IsTakenAndRefused E.stands (self.old.run + self.old.left) self.old.journals self.new.journals links.old
-            links.new f
-            ⊎ IsFullInStretch E.stands (self.old.run + self.old.left) self.old.left self.old.journals
-            self.new.journals links.old links.new f) }
+            IsTakenAndRefused E.stands (self.old.run + self.old.left) self.old.steps self.old.journals
+            self.new.journals links.old links.new f
+            ⊎ IsFullInStretch E.stands (self.old.run + self.old.left) self.old.steps self.old.left
+            self.old.journals self.new.journals links.old links.new f) }
         ensures stays { (f : Fault) → self.old.fault ≡ Some f →
             (result ≡ Err f) × (self.new ≡ self.old) × (links.new ≡ links.old) }
     {
@@ -79,12 +80,14 @@ impl Bus {
         requires right { self.old.fault ≡ None }
         requires ports { length self.old.journals ≤ B.ports board.now }
         ensures script { self.new.script ≡ self.old.script }
+        ensures steps { self.new.steps ≡ self.old.steps }
         ensures nodes { length self.new.journals ≡ length self.old.journals }
         ensures runs { IfOk result (λ n. RunsAtOnce B.Board board.now count self.old self.new n) }
         ensures longest { IfOk result (λ n. EndsStretch count n self.new) }
         ensures fault { IfErr result (λ f. self.new.fault ≡ Some f) }
         ensures reason { IfErr result (λ f.
-            IsOutOfEntries (self.old.run + self.old.left) self.old.left self.old.journals self.new.journals f) }
+            IsOutOfEntries (self.old.run + self.old.left) self.old.steps self.old.left self.old.journals
+            self.new.journals f) }
     {
         let bits = self.struck.quiet_for(self.run, count.min(self.left));
         if bits == 0 || !are_resting(self.seats.as_slice()) {

@@ -45,7 +45,7 @@ impl Seat {
         ensures untold { OnOk result (OpensUntold self.old self.new) }
         ensures facts { OnOk result (B.facts board.now (link_of self.old.ledger).node) }
         ensures dry { OnOk result
-            ((d : E) → self.new.ended < 8 → E.dry (slice_index_or links.new (base + self.new.ended) d)) }
+            ((d : E) → self.new.ended < 64 → E.dry (slice_index_or links.new (base + self.new.ended) d)) }
         ensures stops { IfErr result (λ f. RefusesItem E.stands self.old.journal.room self.old.journal.entries
             self.new.journal.entries links.old links.new base (link_of self.old.ledger).node f
             ⊎ FullForAbort E.stands (B.orders_are board.now (link_of self.old.ledger).node) self.old self.new
@@ -67,12 +67,12 @@ impl Seat {
         ensures items { OnOk result (MayHaveItems self.old.journal.entries self.new.journal.entries) }
         ensures untold { OnOk result (TakesUntold self.old self.new) }
         ensures dry { OnOk result
-            ((d : E) → self.new.ended < 8 → E.dry (slice_index_or links.new (base + self.new.ended) d)) }
+            ((d : E) → self.new.ended < 64 → E.dry (slice_index_or links.new (base + self.new.ended) d)) }
         ensures refused { IfErr result (λ f. RefusesItem E.stands self.old.journal.room self.old.journal.entries
             self.new.journal.entries links.old links.new base (link_of self.old.ledger).node f) }
     {
         loop {
-            if self.ended >= 8 {
+            if self.ended >= 64 {
                 return Ok(());
             }
             let here = base + self.ended as usize;
@@ -87,7 +87,7 @@ impl Seat {
     fn take<E: BusEnd>(&mut self, end: &mut E) -> Result<bool, BusFault>
         requires id { E.link end.old ≡ link_of self.old.ledger }
         requires ready { IsReady self.old }
-        requires more { self.old.ended < 8 }
+        requires more { self.old.ended < 64 }
         ensures same { E.same end.old end.new }
         ensures node { (link_of self.new.ledger).node ≡ (link_of self.old.ledger).node }
         ensures room { self.new.journal.room ≡ self.old.journal.room }
@@ -120,7 +120,7 @@ impl Seat {
     fn note(&mut self, item: Up) -> Result<(), BusFault>
         requires owed { IsOwed self.old (Item item) }
         requires seat { IsSeat self.old }
-        requires more { self.old.ended < 8 }
+        requires more { self.old.ended < 64 }
         requires some { (bytes : ℕ) → item ≡ Credit bytes → (3 ≤ bytes) × (bytes ≤ 13) }
         ensures node { (link_of self.new.ledger).node ≡ (link_of self.old.ledger).node }
         ensures room { self.new.journal.room ≡ self.old.journal.room }
@@ -139,7 +139,7 @@ impl Seat {
     fn begin(&mut self, config: Config) -> Result<(), BusFault>
         requires owed { IsOwed self.old (Item (Start config)) }
         requires seat { IsSeat self.old }
-        requires more { self.old.ended < 8 }
+        requires more { self.old.ended < 64 }
         ensures node { (link_of self.new.ledger).node ≡ (link_of self.old.ledger).node }
         ensures room { self.new.journal.room ≡ self.old.journal.room }
         ensures takes { OnOk result (Takes self.old self.new (Start config)) }
@@ -157,7 +157,7 @@ impl Seat {
     fn credited(&mut self, bytes: u8) -> Result<(), BusFault>
         requires owed { IsOwed self.old (Item (Credit bytes)) }
         requires seat { IsSeat self.old }
-        requires more { self.old.ended < 8 }
+        requires more { self.old.ended < 64 }
         requires some { (3 ≤ bytes) × (bytes ≤ 13) }
         ensures node { (link_of self.new.ledger).node ≡ (link_of self.old.ledger).node }
         ensures room { self.new.journal.room ≡ self.old.journal.room }
@@ -171,7 +171,7 @@ impl Seat {
     fn ask(&mut self, request: Request) -> Result<(), BusFault>
         requires owed { IsOwed self.old (Item (Send request)) }
         requires seat { IsSeat self.old }
-        requires more { self.old.ended < 8 }
+        requires more { self.old.ended < 64 }
         ensures node { (link_of self.new.ledger).node ≡ (link_of self.old.ledger).node }
         ensures room { self.new.journal.room ≡ self.old.journal.room }
         ensures takes { OnOk result (Takes self.old self.new (Send request)) }
@@ -194,7 +194,7 @@ impl Seat {
     fn end(&mut self) -> Result<(), BusFault>
         requires owed { IsOwed self.old (Item Stop) }
         requires seat { IsSeat self.old }
-        requires more { self.old.ended < 8 }
+        requires more { self.old.ended < 64 }
         ensures node { (link_of self.new.ledger).node ≡ (link_of self.old.ledger).node }
         ensures room { self.new.journal.room ≡ self.old.journal.room }
         ensures takes { OnOk result (Takes self.old self.new Stop) }

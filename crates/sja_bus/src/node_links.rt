@@ -1,4 +1,4 @@
-//! The links of a bus, eight a node: those of one in one thread, and whether given ones are of that kind.
+//! The links of a bus, 64 a node: those of one in one thread, and whether given ones are of that kind.
 
 ghost use Rattle.std.specs.Prelude.{◌≡◌, ◌*◌, ◌<◌, ◌/◌, ◌%◌, suc, true, false, length, IfOk};
 ghost use Rattle.sja_wire.specs.Links.{Numbered};
@@ -8,7 +8,7 @@ use can_frame::OutOfMemory;
 use sja_link::{BusEnd, DequeLink, LINKS_PER_NODE, LinkId, first_link};
 use std::alloc::Global;
 
-/// The links of so many nodes, eight a node, by node and activation, with nothing on them. All their room is made here.
+/// The links of so many nodes, 64 a node, by node and activation, with nothing on them. All their room is made here.
 ///
 /// Error: [`OutOfMemory`] where memory was refused.
 pub fn serial_links(alloc: Global, nodes: u8) -> Result<Vec<DequeLink>, OutOfMemory>
@@ -22,13 +22,13 @@ pub fn serial_links(alloc: Global, nodes: u8) -> Result<Vec<DequeLink>, OutOfMem
     Ok(links)
 }
 
-/// Whether these are the links of so many nodes, as each call of a bus asks of its caller: eight a node, by node and
+/// Whether these are the links of so many nodes, as each call of a bus asks of its caller: 64 a node, by node and
 /// activation (this project's own rule). It serves tests and benches: links that [`serial_links`] made, or that were
 /// made in this order, need no test.
 pub fn are_links_of<E: BusEnd>(links: &[E], nodes: u8) -> bool
-    ensures count { result ≡ true → length links.now ≡ 8 * nodes }
+    ensures count { result ≡ true → length links.now ≡ 64 * nodes }
     ensures ids { result ≡ true → Numbered E.link links.now }
-    ensures no { result ≡ false → length links.now ≡ 8 * nodes → Numbered E.link links.now → ⊥ }
+    ensures no { result ≡ false → length links.now ≡ 64 * nodes → Numbered E.link links.now → ⊥ }
 {
     let count = first_link(usize::from(nodes));
     if links.len() != count {
@@ -44,8 +44,8 @@ pub fn are_links_of<E: BusEnd>(links: &[E], nodes: u8) -> bool
 
 /// The number of the link at this place.
 fn id_at(place: usize) -> LinkId
-    requires { place < 2048 }
-    ensures { result ≡ record { node = place / 8; activation = suc (place % 8) } }
+    requires { place < 16384 }
+    ensures { result ≡ record { node = place / 64; activation = suc (place % 64) } }
 {
     LinkId {
         node: (place / LINKS_PER_NODE) as u8,

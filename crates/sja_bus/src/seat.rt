@@ -29,26 +29,26 @@ pub(crate) struct Seat {
 
 impl Seat {
     ghost use Rattle.std.specs.Prelude.{◌≡◌, ◌<◌, [], ◌∷◌, ◌++◌, OnOk, IfErr, length, ◌≢◌, ◌+◌, true, false};
-    ghost use Rattle.std.specs.Prelude.{IfOk};
+    ghost use Rattle.std.specs.Prelude.{IfOk, ◌*◌};
     ghost use Rattle.sja_link.specs.BusLedgers.{link_of, free_in};
     ghost use Rattle.sja_link.specs.declared.entry.Entry.TheVariants.{Bit as BitEntry};
     ghost use Rattle.sja_bus.specs.Inside.Following.{Follows, Reads, open_in};
     ghost use Rattle.sja_bus.specs.Inside.Seats.{IsSound, IsReady};
     ghost use Rattle.sja_bus.specs.Inside.Taking.{IsFull};
     ghost use Rattle.sja_bus.specs.declared.untold.Untold.TheVariants.{Nothing};
-    ghost use Rattle.sja_bus.specs.Reasons.{room_for};
 
-    /// A controller to which nothing has happened, with room for a run of so many bits.
+    /// A controller to which nothing has happened, with room for a run of so many bits, in which its driver does so
+    /// many steps.
     ///
     /// Error: [`OutOfMemory`] where memory was refused.
-    pub(crate) fn new(alloc: Global, number: u8, bits: u32) -> Result<Seat, OutOfMemory>
+    pub(crate) fn new(alloc: Global, number: u8, bits: u32, steps: u32) -> Result<Seat, OutOfMemory>
         ensures ready { IfOk result (λ s. IsReady s) }
         ensures own { IfOk result (λ s. (link_of s.ledger).node ≡ number) }
         ensures empty { IfOk result (λ s. s.journal.entries ≡ []) }
-        ensures room { IfOk result (λ s. s.journal.room ≡ room_for bits) }
+        ensures room { IfOk result (λ s. s.journal.room ≡ 2 * bits + 2 * steps + 100) }
         ensures untold { IfOk result (λ s. s.untold ≡ Nothing) }
     {
-        let journal = Journal::new(alloc, bits)?;
+        let journal = Journal::new(alloc, bits, steps)?;
         let node = Node::new();
         let drives = node.drive();
         let ledger = BusLedger::new(LinkId {

@@ -1,6 +1,7 @@
 //! [`Document`]: a plan's document as `toml` reads it, with its outline.
 
 use super::outline::Outline;
+use sja_plan::LAST_VERSION;
 use std::alloc::{AllocError, Global};
 use toml::{Table, Value, table_from_str};
 
@@ -26,6 +27,19 @@ impl<'a> Document<'a> {
         };
         let outline = Outline::of(alloc, bytes)?;
         Ok(Some(Document { table, outline }))
+    }
+
+    /// The whole number at a key.
+    pub(crate) fn number(&self, key: &str) -> Option<i64> {
+        self.table.get(key)?.as_integer()
+    }
+
+    /// The version whose limits it keeps: the one that it says, or 1 where that is none.
+    pub(crate) fn version(&self) -> u8 {
+        match self.number("version") {
+            Some(version) if 1 <= version && version <= i64::from(LAST_VERSION) => version as u8,
+            _ => 1,
+        }
     }
 
     /// The items of the list at a key; none where there is no list.

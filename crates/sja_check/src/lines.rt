@@ -10,7 +10,7 @@ use std::alloc::{AllocError, Global};
 pub(crate) const LINE_CHARACTERS: usize = 100;
 
 /// How many hints are written out (this project's own rule).
-const MOST_HINTS: usize = 20;
+pub(crate) const MOST_HINTS: usize = 20;
 
 /// The text of these words: one line or two.
 ///

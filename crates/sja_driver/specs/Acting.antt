@@ -1,15 +1,17 @@
 -- A try of a step at an end and a port (this project's own rule).
 use Rattle.std.specs.Prelude.{◌≡◌, ◌+◌, ◌<◌, ◌++◌, ℕ, Bool, true, false, None, List, length}
+use Rattle.sja_link.specs.Sizes.{most_activations}
 use Rattle.sja_link.specs.declared.down.Down.{Down}
 use Rattle.sja_link.specs.declared.up.Up.{Up}
 use Rattle.sja_link.specs.Lists.{Lists, messages}
 use Rattle.sja_link.specs.Looking.{Pulls, IsTaken, Refuses, off_among}
 use Rattle.sja_regs.specs.declared.registers.Registers.{Registers}
 use Rattle.sja_regs.specs.Commands.{command_of, requests, command_faults}
+use Rattle.sja_regs.specs.InterruptLine.{is_line_active}
 use Rattle.sja_regs.specs.Refusals.{first_fault}
 use Rattle.sja_script.specs.declared.step.Step.{Step}
 use Rattle.sja_script.specs.declared.step.Step.TheVariants.{Start, Stop, Window, Release, Read}
-use Rattle.sja_script.specs.declared.step.Step.TheVariants.{Write, Load, Command, Await, Sent}
+use Rattle.sja_script.specs.declared.step.Step.TheVariants.{Write, Load, Command, Await, Sent, Interrupt}
 use Rattle.sja_driver.specs.declared.any_driver.AnyDriver.{AnyDriver}
 use Rattle.sja_driver.specs.declared.any_driver.AnyDriver.TheVariants.{InReset, InActive}
 use Rattle.sja_driver.specs.AnyDrivers.{is_out, opened_of, held_of, off_of, seen_by, IsDriverOf}
@@ -53,6 +55,7 @@ IfLooking Release P = P
 IfLooking (Read address) P = P
 IfLooking (Await count) P = P
 IfLooking Sent P = P
+IfLooking Interrupt P = P
 IfLooking other P = Unit {0}
 
 -- P, where the step takes in nothing: just its item is given then, and what is held stays
@@ -67,10 +70,11 @@ IfTakingNothing other P = Unit {0}
 -- why a step is to be tried again. A start in reset with an activation left, a stop, and a release where bus-off isn't
 -- known and a message is held: the end gave its item back. A command that the port doesn't refuse: the end gave its
 -- request back. A wait: all that the end showed was taken in, the bits aren't spent, and fewer messages are at the
--- driver's end than it waits for, or TBS is 0. No other step is ever tried again, and in reset none but the start
+-- driver's end than it waits for, or TBS is 0, or the interrupt line isn't active. No other step is ever tried again,
+-- and in reset none but the start and a wait for that line
 abbrev pub Waits : {E : Type 0} → (E → E → Type 0) → (E → Lists → Type 0) → (E → Type 0) → (E → Type 0) → E →
     Registers → Step → AnyDriver → AnyDriver → Type 0
-Waits alike stands dry full old p Start (InReset was) now = (started_in was < 8) × full old
+Waits alike stands dry full old p Start (InReset was) now = (started_in was < most_activations p.version) × full old
 Waits alike stands dry full old p Stop (InActive was) now = full old
 Waits alike stands dry full old p Release (InActive was) now = (off_of now ≡ false)
     × Refuses alike stands dry full old (off_of now) (held_of now)
@@ -80,6 +84,8 @@ Waits alike stands dry full old p (Await count) (InActive was) now = (p.closed �
     × (length (held_of now) < count) × Looks alike stands dry old (held_in was) (held_of now) (off_in was) (off_of now)
 Waits alike stands dry full old p Sent (InActive was) now = (p.closed ≡ false) × (p.tbs ≡ false)
     × Looks alike stands dry old (held_in was) (held_of now) (off_in was) (off_of now)
+Waits alike stands dry full old p Interrupt was now = (p.closed ≡ false) × (is_line_active p (seen_by now) ≡ false)
+    × IfOut was (Looks alike stands dry old (held_of was) (held_of now) (off_of was) (off_of now))
 Waits alike stands dry full old p other was now = ⊥
 
 -- a driver tried a step at its end, and at a port whose registers it found as p and left as q
@@ -93,7 +99,7 @@ pub record Acts {E : Type 0} (alike : E → E → Type 0) (stands : E → Lists 
   -- the registers
   pub port : q ≡ port_after p step o
   -- the answer, by the state, by the window and by the registers
-  pub fits : IfAnswered o (FitsState (is_out was) (opened_of was) step)
+  pub fits : IfAnswered o (FitsState p.version (is_out was) (opened_of was) step)
   pub sees : IfOut was (IfAnswered o (Sees step (off_after now o) (window_after now o)))
   pub tells : IfAnswered o (Tells step (is_out was) p (seen_by now))
   -- that window is all that the link showed

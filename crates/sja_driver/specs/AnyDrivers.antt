@@ -33,10 +33,10 @@ seen_by (InActive d) = seen_of (off_in d) (held_in d)
 
 -- it is the driver of this node, of whose activations so many have ended
 abbrev pub IsDriverOf : ℕ → ℕ → AnyDriver → Type 0
-IsDriverOf node ended (InReset d) = (node_in d ≡ node) × (started_in d ≡ ended) × (ended ≤ 8)
-IsDriverOf node ended (InActive d) = (link_in d ≡ record { node = node; activation = ended + 1 }) × (ended < 8)
+IsDriverOf node ended (InReset d) = (node_in d ≡ node) × (started_in d ≡ ended) × (ended ≤ 64)
+IsDriverOf node ended (InActive d) = (link_in d ≡ record { node = node; activation = ended + 1 }) × (ended < 64)
 
--- the end is that of its present activation; in reset that of the next one, and any once eight were used
+-- the end is that of its present activation; in reset that of the next one, and any once all were used
 abbrev pub FitsEnd : {E : Type 0} → (E → LinkId) → E → AnyDriver → Type 0
-FitsEnd link e (InReset d) = started_in d < 8 → link e ≡ next_link d
+FitsEnd link e (InReset d) = started_in d < 64 → link e ≡ next_link d
 FitsEnd link e (InActive d) = link e ≡ link_in d

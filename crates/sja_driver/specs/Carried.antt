@@ -8,12 +8,13 @@ use Rattle.sja_regs.specs.declared.command.Command.{Command as CommandBits}
 use Rattle.sja_regs.specs.Addresses.{register_at}
 use Rattle.sja_regs.specs.Commands.{command_of, requests, command_faults, after_command}
 use Rattle.sja_regs.specs.Reading.{value_at, after_reading_at, or_no_register}
+use Rattle.sja_regs.specs.InterruptLine.{is_line_active}
 use Rattle.sja_regs.specs.Refusals.{first_fault}
 use Rattle.sja_regs.specs.Registers.{config_of, after_entering_reset}
 use Rattle.sja_regs.specs.Writing.{write_faults_at, after_writing_at, load_faults, after_loading}
 use Rattle.sja_script.specs.declared.step.Step.{Step}
 use Rattle.sja_script.specs.declared.step.Step.TheVariants.{Start, Stop, Window, Release, Read}
-use Rattle.sja_script.specs.declared.step.Step.TheVariants.{Write, Load, Command, Await, Sent}
+use Rattle.sja_script.specs.declared.step.Step.TheVariants.{Write, Load, Command, Await, Sent, Interrupt}
 use Rattle.sja_script.specs.declared.refusal.Refusal.TheVariants.{Stopped, Empty, Closed}
 use Rattle.sja_script.specs.declared.step_answer.StepAnswer.{StepAnswer}
 use Rattle.sja_script.specs.declared.step_answer.StepAnswer.TheVariants.{Done as DoneAnswer, NoMessage}
@@ -37,7 +38,8 @@ Sees (Await count) false window answer =
 Sees other off window answer = Unit {0}
 
 -- what a step answers by the registers, by what is seen of the messages, and by whether the driver is out of reset. A
--- wait is given up only where the bits are spent; `sent` passes exactly where TBS is 1
+-- wait is given up only where the bits are spent; `sent` passes exactly where TBS is 1, and `interrupt` exactly where
+-- the interrupt line is active, whether the driver is out of reset or not
 abbrev pub Tells : Step → Bool → Registers → Seen → StepAnswer → Type 0
 Tells (Read address) active p seen answer =
     answer ≡ value_answer (or_no_register (value_at p seen (register_at p.mode.rm address)))
@@ -48,6 +50,9 @@ Tells (Command value) true p seen answer = answer ≡ done_unless (first_fault (
 Tells (Await count) true p seen answer = answer ≡ Refused Closed → p.closed ≡ true
 Tells Sent true p seen answer =
     ((answer ≡ DoneAnswer) × (p.tbs ≡ true)) ⊎ ((answer ≡ Refused Closed) × (p.tbs ≡ false) × (p.closed ≡ true))
+Tells Interrupt active p seen answer =
+    ((answer ≡ DoneAnswer) × (is_line_active p seen ≡ true))
+    ⊎ ((answer ≡ Refused Closed) × (is_line_active p seen ≡ false) × (p.closed ≡ true))
 Tells other active p seen answer = Unit {0}
 
 -- ---- what a step gives, and what it leaves in the port

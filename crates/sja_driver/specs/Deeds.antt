@@ -3,6 +3,7 @@ use Rattle.std.specs.Prelude.{◌≡◌, ◌==◌, ◌+◌, ℕ, Bool, true, fal
 use Rattle.std.specs.Prelude.{if◌then◌else◌, List, [], ◌∷◌, ◌++◌, length, map, slice_index_or, take}
 use Rattle.can_node.specs.declared.config.Config.{Config}
 use Rattle.can_node.specs.declared.request.Request.{Request}
+use Rattle.sja_link.specs.Sizes.{most_activations}
 use Rattle.sja_link.specs.declared.up.Up.{Up}
 use Rattle.sja_link.specs.declared.up.Up.TheVariants.{Start as StartItem, Credit, Send, Stop as StopItem}
 use Rattle.lemmas.specs.Gathering.{gathered, total}
@@ -54,19 +55,21 @@ active_from active (d ∷ deeds) = active_from (active_after active d.step d.ans
 abbrev pub is_active : List Deed → Bool
 is_active = active_from false
 
--- in reset the first eight starts are accepted, out of it every stop; a step that needs the other state is refused
-abbrev pub FitsState : Bool → ℕ → Step → StepAnswer → Type 0
-FitsState true opened Start answer = answer ≡ Refused WrongState
-FitsState false opened Start answer = answer ≡ (if nat_lt opened 8 then DoneAnswer else Refused NoActivationLeft)
-FitsState true opened Stop answer = answer ≡ DoneAnswer
-FitsState false opened Stop answer = answer ≡ Refused WrongState
-FitsState false opened Window answer = answer ≡ Refused WrongState
-FitsState false opened Release answer = answer ≡ Refused WrongState
-FitsState false opened (Load m) answer = answer ≡ Refused WrongState
-FitsState false opened (Command value) answer = answer ≡ Refused WrongState
-FitsState false opened (Await count) answer = answer ≡ Refused WrongState
-FitsState false opened Sent answer = answer ≡ Refused WrongState
-FitsState active opened other answer = Unit {0}
+-- in reset as many starts are accepted as this version has activations, out of it every stop; a step that needs the
+-- other state is refused
+abbrev pub FitsState : ℕ → Bool → ℕ → Step → StepAnswer → Type 0
+FitsState version true opened Start answer = answer ≡ Refused WrongState
+FitsState version false opened Start answer =
+    answer ≡ (if nat_lt opened (most_activations version) then DoneAnswer else Refused NoActivationLeft)
+FitsState version true opened Stop answer = answer ≡ DoneAnswer
+FitsState version false opened Stop answer = answer ≡ Refused WrongState
+FitsState version false opened Window answer = answer ≡ Refused WrongState
+FitsState version false opened Release answer = answer ≡ Refused WrongState
+FitsState version false opened (Load m) answer = answer ≡ Refused WrongState
+FitsState version false opened (Command value) answer = answer ≡ Refused WrongState
+FitsState version false opened (Await count) answer = answer ≡ Refused WrongState
+FitsState version false opened Sent answer = answer ≡ Refused WrongState
+FitsState version active opened other answer = Unit {0}
 
 -- ---- what a step gives
 
@@ -112,14 +115,19 @@ deeds_of deeds a = section_from opens_by 0 deeds a
 abbrev pub done_of : Deed → Done
 done_of d = record { answer = d.answer; bits = d.bits }
 
--- each deed answers as the state has it that those before it led to, and gives what its step and answer say
-pub record AreAnswered (deeds : List Deed) : Type 0 where
-  pub states : EachAfter (λ before (d : Deed). FitsState (is_active before) (opened_by before) d.step d.answer) [] deeds
+-- each deed answers as in this version the state has it that those before it led to, and gives what its step and answer
+-- say
+pub record AreAnswered (version : ℕ) (deeds : List Deed) : Type 0 where
+  pub states : EachAfter (λ before (d : Deed). FitsState version (is_active before) (opened_by before) d.step d.answer)
+      []
+      deeds
   pub gives : EachAfter (λ before (d : Deed). Gives d.step d.answer d.gave) [] deeds
 
--- the deeds are those of a driver with these steps: a front of them, each answered as its state has it and giving what
--- it gives
-pub record AreDeeds (steps : List Step) (deeds : List Deed) : Type 0 where
+-- the deeds are those of a driver with these steps: a front of them, each answered as in this version its state has it
+-- and giving what it gives
+pub record AreDeeds (version : ℕ) (steps : List Step) (deeds : List Deed) : Type 0 where
   pub first : map (λ (d : Deed). d.step) deeds ≡ take (length deeds) steps
-  pub states : EachAfter (λ before (d : Deed). FitsState (is_active before) (opened_by before) d.step d.answer) [] deeds
+  pub states : EachAfter (λ before (d : Deed). FitsState version (is_active before) (opened_by before) d.step d.answer)
+      []
+      deeds
   pub gives : EachAfter (λ before (d : Deed). Gives d.step d.answer d.gave) [] deeds

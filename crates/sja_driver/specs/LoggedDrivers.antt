@@ -1,4 +1,4 @@
--- The logged step: one step of a script at the right link of a node's eight (this project's own rule).
+-- The logged step: one step of a script at the right one of a node's links (this project's own rule).
 use Rattle.std.specs.Prelude.{◌≡◌, ◌≢◌, ◌≤◌, ◌+◌, ◌++◌, ℕ, Bool, false, List, length, slice_index_or}
 use Rattle.sja_link.specs.declared.link_id.LinkId.{LinkId}
 use Rattle.sja_link.specs.Lists.{Lists}
@@ -32,11 +32,11 @@ ended_of d = length (left_in (log_of d))
 abbrev pub IsLawful : LoggedDriver → Type 0
 IsLawful d = IsDriverOf (node_of d) (ended_of d) (driver_of d)
 
--- a step may be tried: the log has room for one more, and the node's eight links stand from that place on
+-- a step may be tried: the log has room for one more, and the node's links stand from that place on
 pub record MayStep {E : Type 0} (link : E → LinkId) (was : LoggedDriver) (links : List E) (base : ℕ) : Type 0 where
   pub lawful : IsLawful was
   pub room : HasRoom 1 (log_of was)
-  pub eight : base + 8 ≤ length links
+  pub eight : base + 64 ≤ length links
   pub ids : NumberedFrom link links base (node_of was)
 
 -- what is in order after a try, whatever the step: the driver is still the node's, each link is the same one, all but
@@ -68,5 +68,5 @@ pub record Steps {E : Type 0} (alike : E → E → Type 0) (stands : E → Lists
   pub releases : releases_in (log_of now) ≡ releases_in (log_of was) ++ releases_by (ended_of was) tried
   pub leaves : left_in (log_of now) ≡ left_in (log_of was) ++ left_by tried
   -- and how that goes on with all deeds before it, for every journal
-  pub goes : Goes stands (driver_of was) (driver_of now) (log_of was) (log_of now) links links_now base
+  pub goes : Goes stands p.version (driver_of was) (driver_of now) (log_of was) (log_of now) links links_now base
       (deeds_by p step tried bits)

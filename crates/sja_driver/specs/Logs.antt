@@ -45,7 +45,7 @@ pub record IsEmpty (l : WorkLog) : Type 0 where
 pub record HasRoom (steps : ℕ) (l : WorkLog) : Type 0 where
   pub done : length (done_in l) + steps ≤ done_room l
   pub releases : length (releases_in l) + steps ≤ release_room l
-  pub left : 8 ≤ left_room l
+  pub left : 64 ≤ left_room l
 
 -- ---- what a try adds, after so many bits, where so many activations have ended
 
@@ -83,12 +83,12 @@ released_of rs a = gathered (of_activation a) rs
 abbrev pub leaves : List DriverLedger → List (List ℕ) → List (List (List ℕ))
 leaves left held = map (λ (l : DriverLedger). held_by l) left ++ held ∷ []
 
--- log and state of a driver are those of these deeds, each answered as its state has it: the steps done are theirs, and
--- of each activation the messages released are as long as its releases answered
-pub record Traces (driver : AnyDriver) (log : WorkLog) (deeds : List Deed) : Type 0 where
+-- log and state of a driver are those of these deeds, each answered as in this version its state has it: the steps done
+-- are theirs, and of each activation the messages released are as long as its releases answered
+pub record Traces (version : ℕ) (driver : AnyDriver) (log : WorkLog) (deeds : List Deed) : Type 0 where
   pub done : map done_of deeds ≡ done_in log
   pub released : (a : ℕ) → map (λ (m : List ℕ). length m) (released_of (releases_in log) a)
       ≡ released_lengths (deeds_of deeds a)
   pub opened : opened_by deeds ≡ opened_of driver
   pub out : is_active deeds ≡ is_out driver
-  pub answered : AreAnswered deeds
+  pub answered : AreAnswered version deeds

@@ -9,10 +9,10 @@ use Rattle.sja_driver.specs.Calls.{TakesIn}
 use Rattle.sja_driver.specs.Holding.{Goes, NumberedFrom, place_after}
 use Rattle.sja_driver.specs.LoggedDrivers.{node_of, driver_of, log_of, ended_of, IsLawful}
 
--- a look may be made: the node's eight links stand from that place on. It needs no room in the log
+-- a look may be made: the node's links stand from that place on. It needs no room in the log
 pub record MayObserve {E : Type 0} (link : E → LinkId) (was : LoggedDriver) (links : List E) (base : ℕ) : Type 0 where
   pub lawful : IsLawful was
-  pub eight : base + 8 ≤ length links
+  pub eight : base + 64 ≤ length links
   pub ids : NumberedFrom link links base (node_of was)
 
 -- out of reset all that the end showed was taken in, and nothing was given; in reset nothing changed
@@ -28,4 +28,5 @@ pub record Looked {E : Type 0} (stands : E → Lists → Type 0) (dry : E → Ty
   pub observes : (d e : E) → Observes stands dry (slice_index_or links (place_after base (ended_of was)) d)
       (slice_index_or links_now (place_after base (ended_of was)) e) (driver_of was) (driver_of now)
   pub log : log_of now ≡ log_of was
-  pub goes : Goes stands (driver_of was) (driver_of now) (log_of was) (log_of now) links links_now base []
+  pub goes : (version : ℕ) →
+      Goes stands version (driver_of was) (driver_of now) (log_of was) (log_of now) links links_now base []

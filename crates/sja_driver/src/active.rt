@@ -29,7 +29,7 @@ impl Driver<Active> {
     ghost use Rattle.sja_driver.specs.contracts.active.Active.{the_row as active_row};
     ghost use Rattle.sja_link.specs.Showing.{Shows, window_in};
 
-    /// The present activation, 1 to 8.
+    /// The present activation, 1 to 64.
     pub fn activation(&self) -> u8
         ensures { result ≡ (link_in self.now).activation }
     {

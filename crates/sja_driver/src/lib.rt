@@ -7,7 +7,7 @@
 //! looks or releases it takes in all that its link shows.
 //!
 //! A [`LoggedDriver`] is a driver in either state ([`AnyDriver`]) with the log of what it did ([`WorkLog`]). It tries
-//! the steps of a script ([`Step`](sja_script::Step)) at the right one of a node's eight links. What a try does is one
+//! the steps of a script ([`Step`](sja_script::Step)) at the right one of a node's links. What a try does is one
 //! record, `Steps` of `specs/LoggedDrivers.antt`: what was got, given and released, the answer by state, window and
 //! registers, the registers after it, why it is to be tried again, and how log and links go on with all steps before
 //! it. When it may be made is the record `MayStep`, and what is in order after it, whatever the step, `StaysLawful`.

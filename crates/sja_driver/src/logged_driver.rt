@@ -31,7 +31,7 @@ impl LoggedDriver {
         ensures reset { is_out (driver_of result) ≡ false }
         ensures none { opened_of (driver_of result) ≡ 0 }
         ensures lawful { IsLawful result }
-        ensures traces { Traces (driver_of result) (log_of result) [] }
+        ensures traces { (version : ℕ) → Traces version (driver_of result) (log_of result) [] }
     {
         LoggedDriver {
             node,
@@ -40,7 +40,7 @@ impl LoggedDriver {
         }
     }
 
-    /// The activation that was started last, 1 to 8; 0 where there was none.
+    /// The activation that was started last, 1 to 64; 0 where there was none.
     pub fn activation(&self) -> u8
         ensures { result ≡ opened_of (driver_of self.now) }
     {

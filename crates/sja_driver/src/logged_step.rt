@@ -1,4 +1,4 @@
-//! One step of a script at the right link of a node's eight, with its answer and its place in the log.
+//! One step of a script at the right one of a node's links, with its answer and its place in the log.
 
 ghost use Rattle.std.specs.Prelude.{◌≡◌, ◌≢◌, min};
 ghost use Rattle.sja_regs.specs.declared.registers.Registers.{Registers};
@@ -15,14 +15,14 @@ use super::any_driver::AnyDriver;
 use super::attempt::Attempt;
 use super::changing::{start_step, stop_step};
 use super::logged_driver::LoggedDriver;
-use super::register_steps::{read_step, write_step};
+use super::register_steps::{interrupt_step, read_step, write_step};
 use sja_link::{DriverEnd, LINKS_PER_NODE};
 use sja_regs::Port;
 use sja_script::Step;
 
 impl LoggedDriver {
     /// Tries a step at the link of the present activation, after so many bits, and logs it where it is done. The node's
-    /// eight links stand from `base` on. It says whether the step is done; else it is to be tried again.
+    /// links stand from `base` on. It says whether the step is done; else it is to be tried again.
     pub fn step<E: DriverEnd>(
         &mut self,
         links: &mut [E],
@@ -90,10 +90,10 @@ impl LoggedDriver {
         self.log.enter_stop(stopped, bits)
     }
 
-    /// The place of the present activation's link among the node's eight, from 0: of the next one's in reset, and the
-    /// last once eight were used.
+    /// The place of the present activation's link among the node's, from 0: of the next one's in reset, and the
+    /// last once all were used.
     pub(crate) fn link_place(&self) -> usize
-        ensures { result ≡ min (ended_of self.now) 7 }
+        ensures { result ≡ min (ended_of self.now) 63 }
     {
         self.log.left.len().min(LINKS_PER_NODE - 1)
     }
@@ -123,5 +123,6 @@ fn try_step<E: DriverEnd>(
         Step::Command(value) => command_step(driver, end, port, *value),
         Step::Await(count) => await_step(driver, end, port, *count),
         Step::Sent => sent_step(driver, end, port),
+        Step::Interrupt => interrupt_step(driver, end, port),
     }
 }

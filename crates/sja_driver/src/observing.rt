@@ -15,7 +15,7 @@ use sja_regs::Port;
 impl LoggedDriver {
     /// Whether the interrupt line of the controller is active, once all that the link of the present activation shows
     /// is taken in: some bit of IR is 1, as a read would answer it now (SJA1000 data sheet, 6.4.6). It clears nothing,
-    /// and is no step. The node's eight links stand from `base` on.
+    /// and is no step. The node's links stand from `base` on.
     pub fn irq<E: DriverEnd>(&mut self, links: &mut [E], base: usize, port: &Port) -> bool
         requires { MayObserve E.link self.old links.old base }
         ensures line { result ≡ is_line_active port.now (seen_by (driver_of self.new)) }
@@ -29,7 +29,7 @@ impl LoggedDriver {
 }
 
 /// Takes in all that the link shows, out of reset, and answers what a read of the registers sees then.
-fn observe<E: DriverEnd>(driver: &mut AnyDriver, end: &mut E) -> Seen
+pub(crate) fn observe<E: DriverEnd>(driver: &mut AnyDriver, end: &mut E) -> Seen
     requires { FitsEnd E.link end.old driver.old }
     ensures same { E.same end.old end.new }
     ensures observes { Observes E.stands E.dry end.old end.new driver.old driver.new }

@@ -1,15 +1,17 @@
-//! Steps that either state has: a register is read or written.
+//! Steps that either state has: a register is read or written, or the interrupt line is waited for.
 
-ghost use Rattle.sja_script.specs.declared.step.Step.TheVariants.{Read, Write};
+ghost use Rattle.sja_script.specs.declared.step.Step.TheVariants.{Read, Write, Interrupt};
 ghost use Rattle.sja_driver.specs.Acting.{Acts};
 ghost use Rattle.sja_driver.specs.AnyDrivers.{FitsEnd};
 ghost use Rattle.sja_driver.specs.Tries.{tried_of};
 
 use super::answers::{done_answer, value_answer};
 use super::any_driver::AnyDriver;
-use super::attempt::Attempt;
+use super::attempt::{Attempt, passed, refused};
+use super::observing::observe;
 use sja_link::DriverEnd;
 use sja_regs::Port;
+use sja_script::Refusal;
 
 /// Tries a read. Out of reset all that the link shows is taken in first.
 pub(crate) fn read_step<E: DriverEnd>(
@@ -49,4 +51,27 @@ pub(crate) fn write_step<E: DriverEnd>(
             Attempt::Answered(done_answer(driver.write(port, addr, value)))
         }
     }
+}
+
+/// Passes where the interrupt line is active, by the registers and by all that the link shows. It clears nothing. With
+/// the bits spent the line stays as it is.
+pub(crate) fn interrupt_step<E: DriverEnd>(
+    driver: &mut AnyDriver,
+    end: &mut E,
+    port: &Port,
+) -> Attempt
+    requires { FitsEnd E.link end.old driver.old }
+    ensures same { E.same end.old end.new }
+    ensures acts { Acts E.same E.stands E.dry E.full end.old end.new port.now port.now Interrupt driver.old driver.new
+        (tried_of result) }
+{
+    let closed = port.closed();
+    let seen = observe(driver, end);
+    if port.irq(&seen) {
+        return passed();
+    }
+    if closed {
+        return refused(Refusal::Closed);
+    }
+    Attempt::Unmet
 }

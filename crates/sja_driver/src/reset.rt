@@ -1,6 +1,7 @@
 //! A driver in reset.
 
 ghost use Rattle.std.specs.Prelude.{◌≡◌, ◌⊎◌, ◌<◌, ◌≤◌, [], ◌∷◌, false, Some, None, OnOk, OnErr, IfOk, IfErr};
+ghost use Rattle.sja_link.specs.Sizes.{most_activations};
 ghost use Rattle.sja_link.specs.declared.up.Up.TheVariants.{Start};
 ghost use Rattle.sja_regs.specs.Addresses.{register_at};
 ghost use Rattle.sja_regs.specs.Reading.{value_at, after_reading_at, or_no_register};
@@ -15,7 +16,7 @@ use super::active::Active;
 use super::driver::Driver;
 use super::start_fault::StartFault;
 use can_frame::Seen;
-use sja_link::{DriverEnd, DriverLedger, LINKS_PER_NODE, LinkId, Up};
+use sja_link::{DriverEnd, DriverLedger, LINKS_PER_NODE, LinkId, Up, most_activations};
 use sja_regs::{Port, RegFault};
 
 /// The state of a driver whose controller it keeps in reset mode: how many activations it has started.
@@ -39,18 +40,19 @@ impl Driver<Reset> {
         }
     }
 
-    /// The activation that was started last, 1 to 8; 0 where there was none.
+    /// The activation that was started last, 1 to 64; 0 where there was none.
     pub fn activation(&self) -> u8
         ensures { result ≡ started_in self.now }
     {
         self.state.activation
     }
 
-    /// The link of the activation that would be started next, which a start asks of its end; none once eight were used.
+    /// The link of the activation that would be started next, which a start asks of its end; none once all links were
+    /// used.
     /// Tests and benches alone ask for it.
     pub fn next_link(&self) -> Option<LinkId>
-        ensures some { started_in self.now < 8 → result ≡ Some (next_link self.now) }
-        ensures none { 8 ≤ started_in self.now → result ≡ None }
+        ensures some { started_in self.now < 64 → result ≡ Some (next_link self.now) }
+        ensures none { 64 ≤ started_in self.now → result ≡ None }
     {
         if usize::from(self.state.activation) < LINKS_PER_NODE {
             Some(LinkId {
@@ -63,18 +65,18 @@ impl Driver<Reset> {
     }
 
     /// Starts the next activation over its link: the start is given with the port's configuration, and the port leaves
-    /// reset mode. The end has to be that of the next activation, or any once eight were used.
+    /// reset mode. The end has to be that of the next activation, or any once all links were used.
     ///
-    /// Errors, the first that holds: [`StartFault::NoActivationLeft`] where eight were used; [`StartFault::Busy`] where
-    /// the end gave the start back. This state comes back then, and nothing changed.
+    /// Errors, the first that holds: [`StartFault::NoActivationLeft`] where as many were used as the port's version
+    /// has; [`StartFault::Busy`] where the end gave the start back. This state comes back then, and nothing changed.
     pub fn start<E: DriverEnd>(
         self,
         end: &mut E,
         port: &mut Port,
     ) -> Result<Driver<Active>, (Driver<Reset>, StartFault)>
-        requires { started_in self < 8 → E.link end.old ≡ next_link self }
+        requires { started_in self < 64 → E.link end.old ≡ next_link self }
         ensures same { E.same end.old end.new }
-        ensures left { OnOk result (started_in self < 8) }
+        ensures left { OnOk result (started_in self < most_activations port.old.version) }
         ensures link { IfOk result (λ d. link_in d ≡ next_link self) }
         ensures fresh { IfOk result (λ d. (held_in d ≡ []) × (off_in d ≡ false)) }
         ensures given { OnOk result (IsGiven E.stands end.old end.new (Start (config_of port.old) ∷ [])) }
@@ -82,10 +84,12 @@ impl Driver<Reset> {
         ensures back { IfErr result (λ e. e.0 ≡ self) }
         ensures kept { OnErr result (IsGiven E.stands end.old end.new []) }
         ensures unchanged { OnErr result (port.new ≡ port.old) }
-        ensures none_left { 8 ≤ started_in self → IfErr result (λ e. e.1 ≡ NoActivationLeft) × (end.new ≡ end.old) }
-        ensures busy { IfErr result (λ e. (8 ≤ started_in self) ⊎ (e.1 ≡ Busy) × E.full end.old) }
+        ensures none_left { most_activations port.old.version ≤ started_in self →
+            IfErr result (λ e. e.1 ≡ NoActivationLeft) × (end.new ≡ end.old) }
+        ensures busy { IfErr result (λ e. (most_activations port.old.version ≤ started_in self)
+            ⊎ (e.1 ≡ Busy) × E.full end.old) }
     {
-        if usize::from(self.state.activation) >= LINKS_PER_NODE {
+        if self.state.activation >= most_activations(port.version()) {
             return Err((self, StartFault::NoActivationLeft));
         }
         if end.give(Up::Start(port.config())).is_err() {

@@ -28,12 +28,12 @@ impl WorkLog {
     /// An empty log with room for so many steps.
     ///
     /// Error: [`OutOfMemory`] where memory was refused.
-    pub fn new(alloc: Global, steps: u16) -> Result<WorkLog, OutOfMemory>
+    pub fn new(alloc: Global, steps: u32) -> Result<WorkLog, OutOfMemory>
         ensures empty { IfOk result IsEmpty }
         ensures room { IfOk result (HasRoom steps) }
     {
-        let done = Vec::with_capacity(alloc, usize::from(steps))?;
-        let released = Vec::with_capacity(alloc, usize::from(steps))?;
+        let done = Vec::with_capacity(alloc, steps as usize)?;
+        let released = Vec::with_capacity(alloc, steps as usize)?;
         let left = Vec::with_capacity(alloc, LINKS_PER_NODE)?;
         Ok(WorkLog {
             done,
@@ -67,7 +67,7 @@ impl WorkLog {
     /// done.
     pub(crate) fn enter(&mut self, attempt: Attempt, bits: u32) -> bool
         requires room { HasRoom 1 self.old }
-        requires fits { length (left_in self.old) ≤ 8 }
+        requires fits { length (left_in self.old) ≤ 64 }
         ensures { Enters self.old self.new (tried_of attempt) bits result }
     {
         match attempt {
@@ -88,7 +88,7 @@ impl WorkLog {
     /// Enters what came of a stop, in the same way: the ledger of the activation that it ended.
     pub(crate) fn enter_stop(&mut self, stopped: Result<DriverLedger, Attempt>, bits: u32) -> bool
         requires room { HasRoom 1 self.old }
-        requires fits { length (left_in self.old) + ended_by (stopped_by stopped) ≤ 8 }
+        requires fits { length (left_in self.old) + ended_by (stopped_by stopped) ≤ 64 }
         ensures { Enters self.old self.new (stopped_by stopped) bits result }
     {
         match stopped {

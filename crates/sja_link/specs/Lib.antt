@@ -1,4 +1,5 @@
 pub mod NodeWords
+pub mod Sizes
 pub mod Lists
 pub mod Deques
 pub mod Places

@@ -53,14 +53,15 @@ impl Model for Journal {
 }
 
 impl Journal {
-    /// An empty journal with room for a run of so many bits: two entries a bit, and 2,100 more.
+    /// An empty journal with room for a run of so many bits in which the driver does so many steps: two entries a bit,
+    /// two a step, and 100 more.
     ///
     /// Error: [`OutOfMemory`] where memory was refused.
-    pub fn new(alloc: Global, bits: u32) -> Result<Journal, OutOfMemory>
+    pub fn new(alloc: Global, bits: u32, steps: u32) -> Result<Journal, OutOfMemory>
         ensures empty { IfOk result (λ j. j.entries ≡ []) }
-        ensures room { IfOk result (λ j. j.room ≡ 2 * bits + 2100) }
+        ensures room { IfOk result (λ j. j.room ≡ 2 * bits + 2 * steps + 100) }
     {
-        let room = 2 * bits as usize + 2100;
+        let room = 2 * bits as usize + 2 * steps as usize + 100;
         Ok(Journal {
             room,
             codes: Vec::with_capacity(alloc, room)?,

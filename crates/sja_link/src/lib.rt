@@ -7,7 +7,8 @@
 //! the [`DriverLedger`] shows the messages and releases them. The [`Journal`] of a node has all that happened, and what
 //! it means is said of it alone: the part of each activation, the record of the node, the free bytes and the verdicts.
 //! The [`World`] of one link has the events that may happen on it. [`LINKS_PER_NODE`], [`ITEMS_DOWN`], [`ITEMS_UP`] and
-//! [`RECEIVE_FIFO`] are the sizes of all that, and [`first_link`] is where a node's links begin among those of all.
+//! [`RECEIVE_FIFO`] are the sizes of all that, [`most_activations`] is how many of a node's links a version uses, and
+//! [`first_link`] is where a node's links begin among those of all.
 //!
 //! `DequeLink::new`, `Journal::new` and `World::step` alone take memory. Its tests stand in
 //! `crates/test_controller/src/links`.
@@ -57,7 +58,7 @@ pub use laws::{
 };
 pub use link_id::LinkId;
 pub use release_fault::ReleaseFault;
-pub use sizes::{ITEMS_DOWN, ITEMS_UP, LINKS_PER_NODE, RECEIVE_FIFO, first_link};
+pub use sizes::{ITEMS_DOWN, ITEMS_UP, LINKS_PER_NODE, RECEIVE_FIFO, first_link, most_activations};
 pub use stopped::Stopped;
 pub use up::Up;
 pub use verdict::Verdict;

@@ -47,4 +47,4 @@ pub record AreNodeEnds (logs : List NodeLog) (drivers : List LoggedDriver) (left
     (nodes : List NodeValue) : Type 0 where
   pub count_is : length nodes ≡ count
   pub each : (k : ℕ) (g : NodeLog) (d : LoggedDriver) (n : NodeValue) → k < count →
-      IsNodeEnd (slice_index_or logs k g) (slice_index_or drivers k d) left_down (8 * k) (slice_index_or nodes k n)
+      IsNodeEnd (slice_index_or logs k g) (slice_index_or drivers k d) left_down (64 * k) (slice_index_or nodes k n)

@@ -7,6 +7,7 @@ use Rattle.sja_link.specs.Places.{place_of}
 use Rattle.sja_link.specs.Showing.{seen_of}
 use Rattle.sja_regs.specs.declared.bus_turn.BusTurn.{BusTurn}
 use Rattle.sja_regs.specs.declared.registers.Registers.{Registers}
+use Rattle.sja_regs.specs.InterruptLine.{is_line_active}
 use Rattle.sja_regs.specs.Registers.{at_power_on}
 use Rattle.sja_regs.specs.Turns.{after_turn}
 use Rattle.sja_wire.specs.Aborting.{IsApplied}
@@ -53,6 +54,13 @@ pub data LeadTo (version : ℕ) : List Entry → List Deed → Registers → Typ
       LeadTo version k (deeds ++ d ∷ []) q
   bit : (j k : List Entry) (deeds : List Deed) (p q : Registers) → LeadTo version j deeds p → IsPortBit p q j k →
       LeadTo version k deeds q
+
+-- from power-on in this version these entries and deeds lead to registers by which, with what is seen of the messages
+-- then, the interrupt line isn't active
+pub record IsLineInactive (version : ℕ) (j : List Entry) (deeds : List Deed) : Type 0 where
+  pub registers : Registers
+  pub lead : LeadTo version j deeds registers
+  pub inactive : is_line_active registers (seen_now (is_active deeds) j deeds) ≡ false
 
 -- of each node the entries and deeds lead to some registers: so each step was answered by those that the steps and bits
 -- before it left

@@ -13,10 +13,10 @@ use Rattle.sja_log.specs.InTime.{IsInTime}
 use Rattle.sja_log.specs.Turns.{RunsTo}
 use Rattle.sja_log.specs.Registering.{HaveRegisters}
 
--- the node's steps done are these deeds, of a driver with these steps, and what was given and released in each
--- activation is theirs
-pub record IsTrace (steps : List Step) (node : NodeValue) (deeds : List Deed) : Type 0 where
-  pub deeds_are : AreDeeds steps deeds
+-- the node's steps done are these deeds, in this version, of a driver with these steps, and what was given and released
+-- in each activation is theirs
+pub record IsTrace (version : ℕ) (steps : List Step) (node : NodeValue) (deeds : List Deed) : Type 0 where
+  pub deeds_are : AreDeeds version steps deeds
   pub done : map done_of deeds ≡ node.done
   pub opened : length node.activations ≡ opened_by deeds
   pub given : (a : ℕ) → given_in (deeds_of deeds a) ≡ taken_of (part node.journal a)
@@ -26,10 +26,10 @@ pub record IsTrace (steps : List Step) (node : NodeValue) (deeds : List Deed) : 
 
 -- of a node of a run: the headline, its error counters by every cut of its record, its driver's trace, and how each
 -- activation stands at the end
-pub record IsNodeRun (steps : List Step) (node : NodeValue) (deeds : List Deed) : Type 0 where
+pub record IsNodeRun (version : ℕ) (steps : List Step) (node : NodeValue) (deeds : List Deed) : Type 0 where
   pub account : IsAccount node
   pub counters : CountersAre node.journal node.txerr node.rxerr
-  pub trace : IsTrace steps node deeds
+  pub trace : IsTrace version steps node deeds
   pub settled : AreSettled node
 
 -- of every run, in one thread or in many: each node's, and what holds of every bus, with the wire of all
@@ -37,7 +37,8 @@ pub record IsRun (plan : PlanValue) (log : RunValue) (deeds : List (List Deed)) 
   pub version : log.version ≡ plan.version
   pub count : length log.nodes ≡ length plan.nodes
   pub nodes : (k : ℕ) (d : NodeValue) → k < length log.nodes →
-      IsNodeRun (slice_index_or plan.nodes k []) (slice_index_or log.nodes k d) (slice_index_or deeds k [])
+      IsNodeRun plan.version (slice_index_or plan.nodes k []) (slice_index_or log.nodes k d)
+      (slice_index_or deeds k [])
   pub bus : IsBusRun plan.strikes log.bits (journals_in log)
 
 -- of a run in one thread also: its drivers and its bus are in time, its steps answer by the registers that steps and

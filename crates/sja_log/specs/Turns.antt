@@ -3,16 +3,17 @@ use Rattle.std.specs.Prelude.{◌≡◌, ◌+◌, ◌<◌, ◌≤◌, ◌⊎◌,
 use Rattle.std.specs.Prelude.{◌∷◌, length, take, set, slice_index, slice_index_or}
 use Rattle.sja_link.specs.declared.entry.Entry.{Entry}
 use Rattle.sja_script.specs.declared.step.Step.{Step}
-use Rattle.sja_script.specs.declared.step.Step.TheVariants.{Await, Sent}
+use Rattle.sja_script.specs.declared.step.Step.TheVariants.{Await, Sent, Interrupt}
 use Rattle.sja_plan.specs.declared.turn.Turn.{Turn}
 use Rattle.sja_plan.specs.declared.turn.Turn.TheVariants.{Bus, Rest, Node}
 use Rattle.sja_plan.specs.Plan.{PlanValue}
-use Rattle.sja_driver.specs.Deeds.{Deed, is_active, opened_by}
+use Rattle.sja_driver.specs.Deeds.{Deed, given_in, is_active, opened_by}
 use Rattle.sja_log.specs.declared.end.End.{End}
 use Rattle.sja_log.specs.declared.end.End.TheVariants.{Turns as TurnsDone, Bits as BitsSpent}
 use Rattle.sja_log.specs.Windows.{off_by, window_of}
 use Rattle.sja_log.specs.Resting.{IsHolding, IsAtRest}
-use Rattle.sja_log.specs.Moments.{record_at}
+use Rattle.sja_log.specs.Moments.{at_moment, record_at}
+use Rattle.sja_log.specs.Registering.{IsLineInactive}
 
 -- ---- a run, and how far it has come
 
@@ -55,18 +56,20 @@ AllAtRest r p bits = (k : ℕ) → k < length r.plan.nodes → IsAtRest (record_
 
 -- ---- steps
 
--- a step that waits has to wait on: too few messages have come, or the transmit buffer isn't released
-abbrev pub IsUnmet : List Entry → List Deed → ℕ → Step → Type 0
-IsUnmet j before bits (Await count) =
+-- a step that waits has to wait on: too few messages have come, the transmit buffer isn't released, or the interrupt
+-- line isn't active by the registers that entries and deeds have led to by then
+abbrev pub IsUnmet : ℕ → List Entry → List Deed → ℕ → Step → Type 0
+IsUnmet version j before bits (Await count) =
     (is_active before ≡ true) × (off_by bits j (opened_by before) ≡ false) × (length (window_of j before bits) < count)
-IsUnmet j before bits Sent = (is_active before ≡ true) × IsHolding (record_at j before bits)
-IsUnmet j before bits other = ⊥
+IsUnmet version j before bits Sent = (is_active before ≡ true) × IsHolding (record_at j before bits)
+IsUnmet version j before bits Interrupt = IsLineInactive version (at_moment bits (length (given_in before)) j) before
+IsUnmet version j before bits other = ⊥
 
 -- the driver has no step left, or its next one has to wait
 pub record IsStuck (r : Acts) (p : Progress) (k : ℕ) : Type 0 where
   pub why : (length (steps_of r k) ≤ steps_done p k)
-      ⊎ ((d : Step) →
-      IsUnmet (journal_of r k) (deeds_by r p k) p.bits (slice_index_or (steps_of r k) (steps_done p k) d))
+      ⊎ ((d : Step) → IsUnmet r.plan.version (journal_of r k) (deeds_by r p k) p.bits
+      (slice_index_or (steps_of r k) (steps_done p k) d))
 
 -- m steps of node k are done now, of the n that are asked for: all of them, or up to where the driver is stuck
 pub record DoesSteps (r : Acts) (p : Progress) (k n m : ℕ) : Type 0 where

@@ -14,7 +14,7 @@ use sja_driver::{LoggedDriver, Release};
 use sja_link::Down;
 use std::alloc::Global;
 
-/// What became of each activation that a driver started; what lay on its eight links begins at this place.
+/// What became of each activation that a driver started; what lay on its links begins at this place.
 ///
 /// Error: [`OutOfMemory`] where memory was refused.
 pub(crate) fn activation_logs(
@@ -24,7 +24,7 @@ pub(crate) fn activation_logs(
     base: usize,
 ) -> Result<Vec<ActivationLog>, OutOfMemory>
     requires lawful { IsLawful driver.now }
-    requires lists { base + 8 ≤ length lists.now }
+    requires lists { base + 64 ≤ length lists.now }
     ensures { IfOk result (λ logs.
         AreActivations driver.now lists.now base (opened_of (driver_of driver.now)) logs.items) }
 {
@@ -47,7 +47,7 @@ fn activation_log(
     ended: u8,
 ) -> Result<ActivationLog, OutOfMemory>
     requires ended { ended ≤ ended_of driver.now }
-    requires few { ended < 8 }
+    requires few { ended < 64 }
     ensures { IfOk result (λ log. log ≡ activation_after driver.now left_down.now ended) }
 {
     let released = released_in(alloc, driver.log().released(), ended + 1)?;
@@ -55,7 +55,7 @@ fn activation_log(
     Ok(ActivationLog::of(released, unread))
 }
 
-/// The messages that were released in an activation, 1 to 8.
+/// The messages that were released in an activation, 1 to 64.
 ///
 /// Error: [`OutOfMemory`] where memory was refused.
 fn released_in(

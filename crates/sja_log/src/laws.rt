@@ -36,7 +36,8 @@ pub fn a_bus_with_traced_drivers_is_a_run()
         ((k : ℕ) (d : NodeValue) → k < length log.nodes →
         let node = slice_index_or log.nodes k d in CountersAre node.journal node.txerr node.rxerr) →
         ((k : ℕ) (d : NodeValue) → k < length log.nodes →
-        IsTrace (slice_index_or plan.nodes k []) (slice_index_or log.nodes k d) (slice_index_or deeds k [])) →
+        IsTrace plan.version (slice_index_or plan.nodes k []) (slice_index_or log.nodes k d)
+        (slice_index_or deeds k [])) →
         ((k : ℕ) (d : NodeValue) → k < length log.nodes → AreSettled (slice_index_or log.nodes k d)) →
         IsRun plan log deeds }
 {}

@@ -16,7 +16,7 @@ use sja_wire::NodeLog;
 use std::alloc::Global;
 
 /// What became of each node, by what the bus left of it, its driver, and what lay downward on its links at the end of
-/// the run, of all that was put there: eight links a node, by node and activation (this project's own rule).
+/// the run, of all that was put there: 64 links a node, by node and activation (this project's own rule).
 ///
 /// Error: [`OutOfMemory`] where memory was refused.
 pub fn node_runs(
@@ -26,7 +26,7 @@ pub fn node_runs(
     lists: &[LeftDown],
 ) -> Result<Vec<NodeRun>, OutOfMemory>
     requires drivers { length drivers.now ≡ vec_len logs }
-    requires lists { length lists.now ≡ 8 * vec_len logs }
+    requires lists { length lists.now ≡ 64 * vec_len logs }
     requires lawful { (k : ℕ) (d : Logged) → k < length drivers.now → IsLawful (slice_index_or drivers.now k d) }
     ensures { IfOk result (λ runs. AreNodeEnds logs.items drivers.now lists.now (length drivers.now) runs.items) }
 {
@@ -40,7 +40,7 @@ pub fn node_runs(
     Ok(runs)
 }
 
-/// What became of a node, by what the bus left of it, its driver, and what lay on its eight links, from this place on.
+/// What became of a node, by what the bus left of it, its driver, and what lay on its links, from this place on.
 ///
 /// Error: [`OutOfMemory`] where memory was refused.
 fn node_run(
@@ -51,7 +51,7 @@ fn node_run(
     base: usize,
 ) -> Result<NodeRun, OutOfMemory>
     requires lawful { IsLawful driver.now }
-    requires lists { base + 8 ≤ length lists.now }
+    requires lists { base + 64 ≤ length lists.now }
     ensures { IfOk result (IsNodeEnd log driver.now lists.now base) }
 {
     let done = all_copied(alloc, driver.log().done())?;

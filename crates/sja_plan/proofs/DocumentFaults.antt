@@ -10,13 +10,15 @@ use Rattle.sja_plan.specs.StrikeTexts.{SaysStrike}
 use Rattle.sja_plan.specs.Texts.{IsFirstBad, IsFirstBadIn}
 use Rattle.sja_plan.specs.Document.{DocumentValue}
 use Rattle.sja_plan.specs.Plan.{PlanValue}
-use Rattle.sja_plan.specs.Checks.{SaysPlan, HasVersion, HasBits, HasNodes, HasFewSteps}
+use Rattle.sja_plan.specs.Limits.{most_bits}
+use Rattle.sja_plan.specs.Checks.{SaysPlan, version_of, HasVersion, HasBits, HasNodes, HasFewSteps}
 use Rattle.sja_plan.specs.Checks.{HasSteps, HasFewTurns, HasTurns, HasFewStrikes}
 use Rattle.sja_plan.specs.Faults.{IsDocumentFault}
 use Rattle.sja_plan.specs.declared.plan_fault.PlanFault.{PlanFault}
 use Rattle.sja_plan.specs.declared.plan_fault.PlanFault.TheVariants.{TooLong, NotText, Toml, Key, Version, Bits}
 use Rattle.sja_plan.specs.declared.plan_fault.PlanFault.TheVariants.{NodeCount, StepCount, Step, TurnCount}
 use Rattle.sja_plan.specs.declared.plan_fault.PlanFault.TheVariants.{Turn, StrikeCount, Strike, Memory}
+use Rattle.sja_plan.proofs.ByVersion.{version_is}
 use Rattle.sja_plan.proofs.FirstBad.{SameNumbers, bad_says_nothing, bad_lists_say_nothing, one_bad, one_bad_in}
 
 -- the check of what a document says with this number, from 0
@@ -85,7 +87,7 @@ fails d Version m h = h
 fails d Bits m h = h.1
 fails d NodeCount m h = h.1
 fails d StepCount m h = h.1
-fails d (Step node number) m h = λ s. bad_lists_say_nothing SaysStep d.nodes node number h.1 s.0 s.1
+fails d (Step node number) m h = λ s. bad_lists_say_nothing (SaysStep (version_of d)) d.nodes node number h.1 s.0 s.1
 fails d TurnCount m h = h.1
 fails d (Turn number) m h = λ s. bad_says_nothing (SaysTurn (length d.nodes)) d.turns number h.1 s.0 s.1
 fails d StrikeCount m h = h.1
@@ -137,7 +139,7 @@ rebuilt d Memory m h = absurd (m refl)
 
 -- where the check with this number finds its bad text
 abbrev IsAt : ℕ → DocumentValue → ℕ → ℕ → Type 0
-IsAt (suc (suc (suc (suc zero)))) d a b = IsFirstBadIn SaysStep d.nodes a b
+IsAt (suc (suc (suc (suc zero)))) d a b = IsFirstBadIn (SaysStep (version_of d)) d.nodes a b
 IsAt (suc (suc (suc (suc (suc (suc zero)))))) d a b = IsFirstBad (SaysTurn (length d.nodes)) d.turns a × (b ≡ 0)
 IsAt (suc (suc (suc (suc (suc (suc (suc (suc zero)))))))) d a b =
     IsFirstBad (SaysStrike (length d.nodes)) d.faults a × (b ≡ 0)
@@ -165,7 +167,7 @@ at_once zero d a b x y h k = record { list_is = h.0 ∙ sym k.0; number_is = h.1
 at_once (suc zero) d a b x y h k = record { list_is = h.0 ∙ sym k.0; number_is = h.1 ∙ sym k.1 }
 at_once (suc (suc zero)) d a b x y h k = record { list_is = h.0 ∙ sym k.0; number_is = h.1 ∙ sym k.1 }
 at_once (suc (suc (suc zero))) d a b x y h k = record { list_is = h.0 ∙ sym k.0; number_is = h.1 ∙ sym k.1 }
-at_once (suc (suc (suc (suc zero)))) d a b x y h k = one_bad_in SaysStep d.nodes a x b y h k
+at_once (suc (suc (suc (suc zero)))) d a b x y h k = one_bad_in (SaysStep (version_of d)) d.nodes a x b y h k
 at_once (suc (suc (suc (suc (suc zero))))) d a b x y h k = record { list_is = h.0 ∙ sym k.0; number_is = h.1 ∙ sym k.1 }
 at_once (suc (suc (suc (suc (suc (suc zero)))))) d a b x y h k =
     record { list_is = one_bad (SaysTurn (length d.nodes)) d.turns a x h.0 k.0; number_is = h.1 ∙ sym k.1 }
@@ -196,10 +198,13 @@ one_document_fault d e f m n h k = by_order (cases_order (check_of e) (check_of 
 -- a plan has passed every check
 passes_all : (d : DocumentValue) (p : PlanValue) (n : ℕ) → SaysPlan d p → Passes n d
 passes_all d p zero h = (p.version, h.version.0, h.version.1, h.version.2)
-passes_all d p (suc zero) h = (p.bits, h.bits.0, h.bits.1, h.bits.2)
+passes_all d p (suc zero) h =
+    (p.bits, h.bits.0, h.bits.1, subst (λ v. p.bits ≤ most_bits v) (sym (version_is d p.version h.version.0)) h.bits.2)
 passes_all d p (suc (suc zero)) h = h.node_count
 passes_all d p (suc (suc (suc zero))) h = h.step_counts
-passes_all d p (suc (suc (suc (suc zero)))) h = (p.nodes, h.steps)
+passes_all d p (suc (suc (suc (suc zero)))) h =
+    let same = sym (version_is d p.version h.version.0) in
+    (p.nodes, subst (λ v. AllZip (AllZip (SaysStep v)) d.nodes p.nodes) same h.steps)
 passes_all d p (suc (suc (suc (suc (suc zero))))) h = h.turn_count
 passes_all d p (suc (suc (suc (suc (suc (suc zero)))))) h = (p.turns, h.turns)
 passes_all d p (suc (suc (suc (suc (suc (suc (suc zero))))))) h = h.strike_count

@@ -6,7 +6,8 @@ mod StrikeWords
 mod Texts
 mod Nodes
 mod StrikeCounts
-mod WithinLimits
+pub mod WithinLimits
+pub mod ByVersion
 mod PassedOn
 mod OneMeaning
 mod OnePlan

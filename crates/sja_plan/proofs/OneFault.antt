@@ -5,6 +5,7 @@ use Rattle.toml.specs.Data.{Members}
 use Rattle.toml.specs.Parse.{parse_document}
 use Rattle.sja_plan.specs.Document.{DocumentValue, HasShape, IsMisshapen}
 use Rattle.sja_plan.specs.Plan.{PlanValue}
+use Rattle.sja_plan.specs.Limits.{most_bytes}
 use Rattle.sja_plan.specs.Faults.{IsText, Says, IsPlanOf, IsDocumentFault, IsFirstFault}
 use Rattle.sja_plan.specs.declared.plan_fault.PlanFault.{PlanFault}
 use Rattle.sja_plan.specs.declared.plan_fault.PlanFault.TheVariants.{TooLong, NotText, Toml, Key, Version, Bits}
@@ -15,8 +16,8 @@ use Rattle.sja_plan.proofs.OnePlan.{one_document}
 
 -- the faults that are found before a document says anything
 data Early (bytes : List ℕ) : PlanFault → Type 0 where
-  too_long : 65536 < length bytes → Early bytes TooLong
-  not_text : length bytes ≤ 65536 → ¬ IsUtf8 bytes → Early bytes NotText
+  too_long : most_bytes bytes < length bytes → Early bytes TooLong
+  not_text : length bytes ≤ most_bytes bytes → ¬ IsUtf8 bytes → Early bytes NotText
   no_toml : IsText bytes → parse_document bytes ≡ None → Early bytes Toml
   no_keys : (ms : Members) → IsText bytes → parse_document bytes ≡ Some ms → IsMisshapen ms → Early bytes Key
 

@@ -10,7 +10,7 @@ use Rattle.sja_plan.specs.TurnTexts.{AreTurnWords, SaysTurn}
 use Rattle.sja_plan.specs.StrikeTexts.{AreStrikeWords, SaysStrike}
 use Rattle.sja_script.specs.declared.step.Step.{Step}
 use Rattle.sja_script.specs.declared.step.Step.TheVariants.{Start, Stop, Window, Release, Read}
-use Rattle.sja_script.specs.declared.step.Step.TheVariants.{Write, Load, Command, Await, Sent}
+use Rattle.sja_script.specs.declared.step.Step.TheVariants.{Write, Load, Command, Await, Sent, Interrupt}
 use Rattle.sja_plan.specs.declared.turn.Turn.{Turn}
 use Rattle.sja_plan.specs.declared.turn.Turn.TheVariants.{Bus, Rest, Node}
 use Rattle.sja_script.specs.declared.strike.Strike.{Strike}
@@ -41,6 +41,7 @@ plain name =
     else if bytes_eq name (codes "window") then Some Window
     else if bytes_eq name (codes "release") then Some Release
     else if bytes_eq name (codes "sent") then Some Sent
+    else if bytes_eq name (codes "interrupt") then Some Interrupt
     else None
 
 abbrev with_one : Text → Text → Option Step
@@ -57,20 +58,22 @@ step_in (name ∷ a ∷ []) = with_one name a
 step_in (name ∷ a ∷ v ∷ []) = both Write (number_of a) (byte_of (decode_of v))
 step_in ws = None
 
-step_is : (ws : List Text) (s : Step) → AreStepWords ws s → step_in ws ≡ Some s
-step_is ws Start h = rw h refl
-step_is ws Stop h = rw h refl
-step_is ws Window h = rw h refl
-step_is ws Release h = rw h refl
-step_is ws Sent h = rw h refl
-step_is ws (Read n) (a, e, k) = rw e (ap (option_map Read) k.0)
-step_is ws (Write n v) (a, b, e, k, i) = rw e (ap₂ (both Write) k.0 (ap byte_of i))
-step_is ws (Load m) (d, e, k) = rw e (ap (λ r. option_map Load (bytes_of r)) k.0)
-step_is ws (Command v) (a, e, k) = rw e (ap (λ r. option_map Command (byte_of r)) k)
-step_is ws (Await n) (a, e, k) = rw e (ap (option_map Await) k.0)
+step_is : (version : ℕ) (ws : List Text) (s : Step) → AreStepWords version ws s → step_in ws ≡ Some s
+step_is version ws Start h = rw h refl
+step_is version ws Stop h = rw h refl
+step_is version ws Window h = rw h refl
+step_is version ws Release h = rw h refl
+step_is version ws Sent h = rw h refl
+step_is version ws Interrupt h = rw h.1 refl
+step_is version ws (Read n) (a, e, k) = rw e (ap (option_map Read) k.0)
+step_is version ws (Write n v) (a, b, e, k, i) = rw e (ap₂ (both Write) k.0 (ap byte_of i))
+step_is version ws (Load m) (d, e, k) = rw e (ap (λ r. option_map Load (bytes_of r)) k.0)
+step_is version ws (Command v) (a, e, k) = rw e (ap (λ r. option_map Command (byte_of r)) k)
+step_is version ws (Await n) (a, e, k) = rw e (ap (option_map Await) k.0)
 
-pub one_step : (text : Text) (s t : Step) → SaysStep text s → SaysStep text t → s ≡ t
-one_step text s t h k = ap (value_or s) (sym (step_is (words text) s h) ∙ step_is (words text) t k)
+pub one_step : (version : ℕ) (text : Text) (s t : Step) → SaysStep version text s → SaysStep version text t → s ≡ t
+one_step version text s t h k =
+    ap (value_or s) (sym (step_is version (words text) s h) ∙ step_is version (words text) t k)
 
 abbrev turn_in : List Text → Option Turn
 turn_in (name ∷ []) = Some Rest

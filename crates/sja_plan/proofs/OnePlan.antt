@@ -49,13 +49,15 @@ plan_of v b n t s = record { version = v; bits = b; nodes = n; turns = t; strike
 
 one_said : (d : DocumentValue) (p q : PlanValue) → SaysPlan d p → SaysPlan d q → p ≡ q
 one_said d p q h k =
-    let steps = zip_once (AllZip SaysStep) (zip_once SaysStep one_step) d.nodes p.nodes q.nodes h.steps k.steps in
+    let version = ap nat_of (sym h.version.0 ∙ k.version.0) in
+    let said = subst (λ v. AllZip (AllZip (SaysStep v)) d.nodes p.nodes) version h.steps in
+    let steps = zip_once (AllZip (SaysStep q.version)) (zip_once (SaysStep q.version) (one_step q.version)) d.nodes
+    p.nodes q.nodes said k.steps in
     let turns =
     zip_once (SaysTurn (length d.nodes)) (one_turn (length d.nodes)) d.turns p.turns q.turns h.turns k.turns in
     let strikes = zip_once (SaysStrike (length d.nodes)) (one_strike (length d.nodes)) d.faults p.strikes
     q.strikes h.strikes k.strikes in
-    ap₂ (λ a b. plan_of a b p.nodes p.turns p.strikes) (ap nat_of (sym h.version.0 ∙ k.version.0))
-    (ap nat_of (sym h.bits.0 ∙ k.bits.0))
+    ap₂ (λ a b. plan_of a b p.nodes p.turns p.strikes) version (ap nat_of (sym h.bits.0 ∙ k.bits.0))
     ∙ ap₂ (λ a b. plan_of q.version q.bits a b p.strikes) steps turns
     ∙ ap (λ a. plan_of q.version q.bits q.nodes q.turns a) strikes
 

@@ -23,16 +23,16 @@ nodes_set nodes node at v step there is =
     at_map ns n w less = get_or-map (λ (l : Vec Step Global). l.items) ns n w [] less
 
 -- as many steps of each node as before
-pub few_set : (nodes : List (List Step)) (node at : ℕ) (step : Step) → node < length nodes →
-    All (λ (l : List Step). length l ≤ 1000) nodes →
-    All (λ (l : List Step). length l ≤ 1000) (set nodes node (set (slice_index_or nodes node []) at step))
-few_set nodes node at step there few k d less =
+pub few_set : (most : ℕ) (nodes : List (List Step)) (node at : ℕ) (step : Step) → node < length nodes →
+    All (λ (l : List Step). length l ≤ most) nodes →
+    All (λ (l : List Step). length l ≤ most) (set nodes node (set (slice_index_or nodes node []) at step))
+few_set most nodes node at step there few k d less =
     let new = set (slice_index_or nodes node []) at step in elim (cases_eq node k) [
-      | inl e ↦ subst (λ (x : ℕ). length (slice_index_or (set nodes node new) x d) ≤ 1000) e
-          (subst (λ (l : List Step). length l ≤ 1000) (sym (get_or-set_same nodes node new d there))
+      | inl e ↦ subst (λ (x : ℕ). length (slice_index_or (set nodes node new) x d) ≤ most) e
+          (subst (λ (l : List Step). length l ≤ most) (sym (get_or-set_same nodes node new d there))
           (let n = length-set (slice_index_or nodes node []) at step in
           let f = few node [] there in omega (arith, n, f)))
-      | inr differ ↦ subst (λ (l : List Step). length l ≤ 1000)
+      | inr differ ↦ subst (λ (l : List Step). length l ≤ most)
           (sym (get_or-set_other nodes node k new d (λ e. differ (sym e))))
           (few k d (let n = length-set nodes node new in omega (arith, n, less)))
     ]

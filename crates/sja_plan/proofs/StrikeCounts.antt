@@ -23,10 +23,10 @@ first_count texts i = subst (λ (l : List Text). strikes_in l ≤ strikes_in (by
     (take-map (λ (t : Bor Text). t.now) i texts) (sum_by-take-le count_of (bytes_of texts) i)
 
 -- so many at the first are too many
-pub too_many : (texts : List (Bor Text)) (i total n : ℕ) (d : Bor Text) → i < length texts →
+pub too_many : (texts : List (Bor Text)) (i total n most : ℕ) (d : Bor Text) → i < length texts →
     total ≡ strikes_in (bytes_of (take i texts)) →
-    n ≡ count_of (get_or texts i d).now → 1000 < total + n → false ≡ nat_le (strikes_in (bytes_of texts)) 1000
-too_many texts i total n d within is this many =
-    let more : 1000 < strikes_in (bytes_of texts) =
+    n ≡ count_of (get_or texts i d).now → most < total + n → false ≡ nat_le (strikes_in (bytes_of texts)) most
+too_many texts i total n most d within is this many =
+    let more : most < strikes_in (bytes_of texts) =
     omega (arith, first_count texts (i + 1), count_more texts i d within, is, this, many) in
     grind (arith, nat_tests)

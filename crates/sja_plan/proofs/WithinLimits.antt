@@ -14,17 +14,17 @@ use Rattle.sja_plan.specs.declared.turn.Turn.TheVariants.{Bus, Rest, Node}
 use Rattle.sja_plan.proofs.Texts.{zip_length}
 
 -- what short lists of texts say is short
-pub few_read : {A : Type 0} (Says : Text → A → Type 0) (texts : List (List Text)) (values : List (List A)) →
-    AllZip (AllZip Says) texts values →
-    All (λ (list : List Text). length list ≤ 1000) texts → All (λ (list : List A). length list ≤ 1000) values
-few_read Says [] [] z few k d w = absurd (omega arith)
-few_read Says [] (y ∷ ys) z few k d w = absurd z
-few_read Says (x ∷ xs) [] z few k d w = absurd z
-few_read Says (x ∷ xs) (y ∷ ys) z few zero d w =
-    let here = few 0 [] (omega arith) in
+pub few_read : {A : Type 0} (few most : ℕ) (Says : Text → A → Type 0) (texts : List (List Text))
+    (values : List (List A)) → few ≤ most → AllZip (AllZip Says) texts values →
+    All (λ (list : List Text). length list ≤ few) texts → All (λ (list : List A). length list ≤ most) values
+few_read few most Says [] [] less z short k d w = absurd (omega arith)
+few_read few most Says [] (y ∷ ys) less z short k d w = absurd z
+few_read few most Says (x ∷ xs) [] less z short k d w = absurd z
+few_read few most Says (x ∷ xs) (y ∷ ys) less z short zero d w =
+    let here = short 0 [] (omega arith) in
     omega (arith, here, zip_length Says x y z.0)
-few_read Says (x ∷ xs) (y ∷ ys) z few (suc k) d w =
-    few_read Says xs ys z.1 (λ i e v. few (suc i) e (omega arith)) k d (omega arith)
+few_read few most Says (x ∷ xs) (y ∷ ys) less z short (suc k) d w =
+    few_read few most Says xs ys less z.1 (λ i e v. short (suc i) e (omega arith)) k d (omega arith)
 
 -- a turn that is read names a node
 names_node : (nodes : ℕ) (text : Text) (t : Turn) → SaysTurn nodes text t → NamesNode nodes t

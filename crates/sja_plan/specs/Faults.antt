@@ -8,7 +8,9 @@ use Rattle.sja_plan.specs.StrikeTexts.{SaysStrike}
 use Rattle.sja_plan.specs.Texts.{IsFirstBad, IsFirstBadIn}
 use Rattle.sja_plan.specs.Document.{DocumentValue, HasShape, IsMisshapen}
 use Rattle.sja_plan.specs.Plan.{PlanValue}
-use Rattle.sja_plan.specs.Checks.{HasVersion, HasBits, HasNodes, HasFewSteps, HasFewTurns, HasFewStrikes, SaysPlan}
+use Rattle.sja_plan.specs.Limits.{most_bytes}
+use Rattle.sja_plan.specs.Checks.{version_of, HasVersion, HasBits, HasNodes, HasFewSteps, HasFewTurns, HasFewStrikes}
+use Rattle.sja_plan.specs.Checks.{SaysPlan}
 use Rattle.sja_plan.specs.Checks.{BeforeBits, BeforeNodeCount, BeforeStepCount, BeforeSteps}
 use Rattle.sja_plan.specs.Checks.{BeforeTurnCount, BeforeTurns, BeforeStrikeCount, BeforeStrikes}
 use Rattle.sja_plan.specs.declared.plan_fault.PlanFault.{PlanFault}
@@ -19,7 +21,7 @@ use Rattle.sja_plan.specs.declared.plan_fault.PlanFault.TheVariants.{StrikeCount
 
 -- the bytes are a text that isn't too long
 abbrev pub IsText : List ℕ → Type 0
-IsText bytes = (length bytes ≤ 65536) × IsUtf8 bytes
+IsText bytes = (length bytes ≤ most_bytes bytes) × IsUtf8 bytes
 
 -- the text is a TOML document with a plan's keys, and says this
 abbrev pub Says : List ℕ → DocumentValue → Type 0
@@ -35,7 +37,7 @@ IsDocumentFault d Version = ¬ HasVersion d
 IsDocumentFault d Bits = BeforeBits d × ¬ HasBits d
 IsDocumentFault d NodeCount = BeforeNodeCount d × ¬ HasNodes d
 IsDocumentFault d StepCount = BeforeStepCount d × ¬ HasFewSteps d
-IsDocumentFault d (Step node number) = BeforeSteps d × IsFirstBadIn SaysStep d.nodes node number
+IsDocumentFault d (Step node number) = BeforeSteps d × IsFirstBadIn (SaysStep (version_of d)) d.nodes node number
 IsDocumentFault d TurnCount = BeforeTurnCount d × ¬ HasFewTurns d
 IsDocumentFault d (Turn number) = BeforeTurns d × IsFirstBad (SaysTurn (length d.nodes)) d.turns number
 IsDocumentFault d StrikeCount = BeforeStrikeCount d × ¬ HasFewStrikes d
@@ -48,8 +50,8 @@ IsDocumentFault d Key = ⊥
 
 -- of all checks of the bytes, all before this one pass, and this one fails; memory may be refused once they are a text
 abbrev pub IsFirstFault : List ℕ → PlanFault → Type 0
-IsFirstFault bytes TooLong = 65536 < length bytes
-IsFirstFault bytes NotText = (length bytes ≤ 65536) × ¬ IsUtf8 bytes
+IsFirstFault bytes TooLong = most_bytes bytes < length bytes
+IsFirstFault bytes NotText = (length bytes ≤ most_bytes bytes) × ¬ IsUtf8 bytes
 IsFirstFault bytes Toml = IsText bytes × (parse_document bytes ≡ None)
 IsFirstFault bytes Key = (ms : Members) × IsText bytes × (parse_document bytes ≡ Some ms) × IsMisshapen ms
 IsFirstFault bytes Memory = IsText bytes

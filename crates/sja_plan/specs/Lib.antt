@@ -4,6 +4,7 @@ pub mod TurnTexts
 pub mod StrikeTexts
 pub mod Texts
 pub mod Document
+pub mod Limits
 pub mod Plan
 pub mod Struck
 pub mod Growing

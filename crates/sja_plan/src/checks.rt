@@ -6,12 +6,12 @@ ghost use Rattle.sja_plan.specs.Inside.Views.{document_view};
 ghost use Rattle.sja_plan.specs.StepTexts.{SaysStep};
 ghost use Rattle.sja_plan.specs.TurnTexts.{SaysTurn};
 ghost use Rattle.sja_plan.specs.StrikeTexts.{SaysStrike};
-ghost use Rattle.sja_plan.specs.Checks.{SaysPlan, HasNodes, HasFewTurns, HasFewStrikes};
+ghost use Rattle.sja_plan.specs.Checks.{SaysPlan, version_of, HasNodes, HasFewTurns, HasFewStrikes};
 ghost use Rattle.sja_plan.specs.Checks.{BeforeSteps, BeforeTurnCount, BeforeStrikeCount};
 ghost use Rattle.sja_plan.specs.Faults.{IsDocumentFault};
 
 use super::document::Document;
-use super::limits::MOST_TURNS;
+use super::limits::{most_strikes, most_turns};
 use super::list_fault::ListFault;
 use super::plan::Plan;
 use super::plan_fault::PlanFault;
@@ -23,17 +23,19 @@ use sja_script::{Step, Strike};
 use std::alloc::Global;
 
 /// The plan that a document is.
+#[tactic(auto, using(crate::proofs::ByVersion::version_is))]
 pub(crate) fn judge(alloc: Global, document: &Document) -> Result<Plan, PlanFault>
     ensures ok { IfOk result (λ p. SaysPlan (document_view document.now) p) }
     ensures err { IfErr result (IsDocumentFault (document_view document.now)) }
 {
     let settings = settings_of(document)?;
-    counts(document)?;
-    let nodes = steps(alloc, document)?;
-    let turns = turns(alloc, document)?;
-    let strikes = strikes(alloc, document)?;
+    let version = settings.version;
+    counts(document, version)?;
+    let nodes = steps(alloc, document, version)?;
+    let turns = turns(alloc, document, version)?;
+    let strikes = strikes(alloc, document, version)?;
     Ok(Plan {
-        version: settings.version,
+        version,
         bits: settings.bits,
         nodes,
         turns,
@@ -42,15 +44,17 @@ pub(crate) fn judge(alloc: Global, document: &Document) -> Result<Plan, PlanFaul
 }
 
 /// Each node's steps. Their texts name no node.
-fn steps(alloc: Global, document: &Document) -> Result<Vec<Vec<Step>>, PlanFault>
-    ensures ok { IfOk result (λ v. AllZip (AllZip SaysStep) (document_view document.now).nodes
+fn steps(alloc: Global, document: &Document, version: u8) -> Result<Vec<Vec<Step>>, PlanFault>
+    requires version { version_of (document_view document.now) ≡ version }
+    requires known { version ≤ 3 }
+    ensures ok { IfOk result (λ v. AllZip (AllZip (SaysStep version)) (document_view document.now).nodes
         (map (λ steps. steps.items) v.items)) }
     ensures err { IfErr result (λ e. BeforeSteps (document_view document.now)
         → IsDocumentFault (document_view document.now) e) }
 {
     let mut found = Vec::new(alloc);
     for texts in document.nodes.as_slice() {
-        match read_all::<Step>(alloc, 0, texts.as_slice()) {
+        match read_all::<Step>(alloc, usize::from(version), texts.as_slice()) {
             Ok(steps) => found.push(steps)?,
             Err(ListFault::NoMemory) => return Err(PlanFault::Memory),
             Err(ListFault::Bad(number)) => return Err(PlanFault::Step(found.len(), number)),
@@ -60,15 +64,16 @@ fn steps(alloc: Global, document: &Document) -> Result<Vec<Vec<Step>>, PlanFault
 }
 
 /// The turns.
-fn turns(alloc: Global, document: &Document) -> Result<Vec<Turn>, PlanFault>
-    requires { HasNodes (document_view document.now) }
+fn turns(alloc: Global, document: &Document, version: u8) -> Result<Vec<Turn>, PlanFault>
+    requires version { version_of (document_view document.now) ≡ version }
+    requires nodes { HasNodes (document_view document.now) }
     ensures few { OnOk result (HasFewTurns (document_view document.now)) }
     ensures ok { IfOk result (λ v. AllZip (SaysTurn (length (document_view document.now).nodes))
         (document_view document.now).turns v.items) }
     ensures err { IfErr result (λ e. BeforeTurnCount (document_view document.now)
         → IsDocumentFault (document_view document.now) e) }
 {
-    if document.turns.len() > MOST_TURNS {
+    if document.turns.len() > most_turns(version) {
         return Err(PlanFault::TurnCount);
     }
     match read_all(alloc, document.nodes.len(), document.turns.as_slice()) {
@@ -79,15 +84,16 @@ fn turns(alloc: Global, document: &Document) -> Result<Vec<Turn>, PlanFault>
 }
 
 /// The strikes.
-fn strikes(alloc: Global, document: &Document) -> Result<Vec<Strike>, PlanFault>
-    requires { HasNodes (document_view document.now) }
+fn strikes(alloc: Global, document: &Document, version: u8) -> Result<Vec<Strike>, PlanFault>
+    requires version { version_of (document_view document.now) ≡ version }
+    requires nodes { HasNodes (document_view document.now) }
     ensures few { OnOk result (HasFewStrikes (document_view document.now)) }
     ensures ok { IfOk result (λ v. AllZip (SaysStrike (length (document_view document.now).nodes))
         (document_view document.now).faults v.items) }
     ensures err { IfErr result (λ e. BeforeStrikeCount (document_view document.now)
         → IsDocumentFault (document_view document.now) e) }
 {
-    if !strikes_are_few(alloc, document.faults.as_slice())? {
+    if !strikes_are_few(alloc, document.faults.as_slice(), most_strikes(version))? {
         return Err(PlanFault::StrikeCount);
     }
     match read_all(alloc, document.nodes.len(), document.faults.as_slice()) {

@@ -12,10 +12,10 @@ use std::alloc::Global;
 /// So many steps that look at the window.
 ///
 /// Error: [`OutOfMemory`] where memory was refused.
-fn blank_steps(alloc: Global, steps: u16) -> Result<Vec<Step>, OutOfMemory>
+fn blank_steps(alloc: Global, steps: u32) -> Result<Vec<Step>, OutOfMemory>
     ensures { IfOk result (λ list. list.items ≡ replicate steps Window) }
 {
-    let mut list = Vec::with_capacity(alloc, usize::from(steps))?;
+    let mut list = Vec::with_capacity(alloc, steps as usize)?;
     for _ in 0..steps {
         list.push_reserved(Step::Window);
     }
@@ -25,6 +25,7 @@ fn blank_steps(alloc: Global, steps: u16) -> Result<Vec<Step>, OutOfMemory>
 impl Plan {
     ghost use Rattle.std.specs.Prelude.{◌≡◌, ◌<◌, ◌≤◌, map, IfOk, length};
     ghost use Rattle.sja_plan.specs.Plan.{IsInLimits, steps_at};
+    ghost use Rattle.sja_plan.specs.Limits.{most_bits, most_steps};
     ghost use Rattle.sja_plan.specs.Growing.{plan_of, blank_plan, with_step};
 
     /// The plan of these five: its version, its bits, of each node its steps, its turns and its strikes.
@@ -57,12 +58,12 @@ impl Plan {
         version: u8,
         bits: u32,
         nodes: u8,
-        steps: u16,
+        steps: u32,
     ) -> Result<Plan, OutOfMemory>
         requires version { (1 ≤ version) × (version ≤ 3) }
-        requires bits { (1 ≤ bits) × (bits ≤ 200000) }
+        requires bits { (1 ≤ bits) × (bits ≤ most_bits version) }
         requires nodes { (1 ≤ nodes) × (nodes ≤ 8) }
-        requires steps { steps ≤ 1000 }
+        requires steps { steps ≤ most_steps version }
         ensures { IfOk result (λ p. p ≡ blank_plan version bits nodes steps) }
     {
         let mut lists = Vec::with_capacity(alloc, usize::from(nodes))?;

@@ -12,10 +12,10 @@ use super::plan_fault::PlanFault;
 use super::turn::Turn;
 use sja_script::{Step, Strike};
 
-/// A text says one step at most.
+/// In a version a text says one step at most.
 #[tactic(auto, using(crate::proofs::OneMeaning::one_step))]
 pub fn a_text_says_one_step()
-    ensures { (text : Text) (s t : Step) → SaysStep text s → SaysStep text t → s ≡ t }
+    ensures { (version : ℕ) (text : Text) (s t : Step) → SaysStep version text s → SaysStep version text t → s ≡ t }
 {}
 
 /// A text says one turn at most.

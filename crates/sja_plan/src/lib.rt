@@ -2,7 +2,8 @@
 //!
 //! [`read_plan`] makes a [`Plan`] of a document's bytes, or tells the first check that fails. Nothing above this crate
 //! sees a type of `toml`. The laws say that a text has one meaning or none, and that bytes are one plan or have one
-//! first fault. The tests are rows that the program `test_plan` reads, and `bench` measures the reader.
+//! first fault. [`step_of`], [`number_within`], [`node_within`] and [`byte`] read words as a plan has them. The tests
+//! are rows that the program `test_plan` reads, and `bench` measures the reader.
 #![tactic(auto)]
 
 mod checks;
@@ -32,10 +33,15 @@ pub use laws::{
     bytes_are_one_plan, bytes_have_one_first_fault,
 };
 pub use limits::{
-    GREATEST_NUMBER, LAST_VERSION, MOST_BITS, MOST_BYTES, MOST_DIGITS, MOST_STEPS, MOST_STRIKES,
-    MOST_TURNS,
+    GREATEST_NUMBER, LAST_VERSION, MOST_BITS, MOST_BYTES, MOST_DIGITS, MOST_RAW_BITS,
+    MOST_RAW_BYTES, MOST_RAW_STEPS, MOST_RAW_STEPS_TOLD, MOST_RAW_STRIKES, MOST_RAW_TURNS,
+    MOST_STEPS, MOST_STRIKES, MOST_TURNS, RAW_LINE, RAW_VERSION, most_bits, most_bytes, most_steps,
+    most_steps_told, most_strikes, most_turns,
 };
 pub use plan::Plan;
 pub use plan_bytes::read_plan;
 pub use plan_fault::PlanFault;
+pub use step_text::step_of;
+pub use text_fault::TextFault;
 pub use turn::Turn;
+pub use word::{byte, find_words, node_within, number_within};

@@ -5,7 +5,7 @@ ghost use Rattle.sja_plan.specs.Plan.{times_in};
 ghost use Rattle.sja_plan.specs.Struck.{struck_at};
 ghost use Rattle.sja_plan.specs.declared.plan_fault.PlanFault.TheVariants.{Memory, StrikeCount};
 
-use super::limits::MOST_STRIKES;
+use super::limits::most_strikes;
 use super::plan::Plan;
 use super::plan_fault::PlanFault;
 use super::turn::Turn;
@@ -15,6 +15,7 @@ use std::alloc::Global;
 impl Plan {
     ghost use Rattle.std.specs.Prelude.{◌≡◌, ◌<◌, ◌≤◌, ◌⊎◌, length, IfOk, IfErr};
     ghost use Rattle.sja_plan.specs.Plan.{times_in};
+    ghost use Rattle.sja_plan.specs.Limits.{most_strikes};
     ghost use Rattle.sja_plan.specs.Struck.{struck_at};
     ghost use Rattle.sja_plan.specs.declared.plan_fault.PlanFault.TheVariants.{Memory, StrikeCount};
 
@@ -24,16 +25,16 @@ impl Plan {
     /// A node and a bit that several strikes name are struck once: where the plan strikes this node in this bit, the
     /// new plan strikes the same bits.
     ///
-    /// Errors: [`PlanFault::StrikeCount`] exactly where the plan's strikes strike 1,000 bits already, unless
-    /// [`PlanFault::Memory`] is told: memory was refused.
+    /// Errors: [`PlanFault::StrikeCount`] exactly where the plan's strikes strike as many bits already as they may in
+    /// its version, unless [`PlanFault::Memory`] is told: memory was refused.
     pub fn with_strike(&self, alloc: Global, node: u8, bit: u32) -> Result<Plan, PlanFault>
         requires { node < length self.now.nodes }
         ensures ok { IfOk result (λ plan. (plan ≡ struck_at self.now node bit)
-            × (times_in self.now.strikes < 1000)) }
+            × (times_in self.now.strikes < most_strikes self.now.version)) }
         ensures err { IfErr result (λ fault. (fault ≡ Memory)
-            ⊎ ((fault ≡ StrikeCount) × (1000 ≤ times_in self.now.strikes))) }
+            ⊎ ((fault ≡ StrikeCount) × (most_strikes self.now.version ≤ times_in self.now.strikes))) }
     {
-        if self.strike_count() >= MOST_STRIKES {
+        if self.strike_count() >= most_strikes(self.version) {
             return Err(PlanFault::StrikeCount);
         }
         let mut strikes = all_strikes(alloc, self.strikes.as_slice())?;
@@ -52,10 +53,12 @@ impl Plan {
         })
     }
 
-    /// How many bits the strikes strike, each counted as often as it strikes: at most 1,000.
+    /// How many bits the strikes strike, each counted as often as it strikes: at most 1,000, or 100,000
+    /// in version 3.
     pub fn strike_count(&self) -> u32
         ensures value { result ≡ times_in self.now.strikes }
-        ensures few { result ≤ 1000 }
+        ensures few { result ≤ most_strikes self.now.version }
+        ensures most { result ≤ 100000 }
     {
         self.limits();
         times(self.strikes.as_slice())
@@ -64,7 +67,7 @@ impl Plan {
 
 /// How many bits these strikes strike.
 fn times(strikes: &[Strike]) -> u32
-    requires { times_in strikes.now ≤ 1000 }
+    requires { times_in strikes.now ≤ 100000 }
     ensures { result ≡ times_in strikes.now }
 {
     strikes.iter().map(|strike| strike.times).sum()
@@ -133,5 +136,6 @@ fn equal_step(step: &Step) -> Step
         Step::Command(value) => Step::Command(*value),
         Step::Await(count) => Step::Await(*count),
         Step::Sent => Step::Sent,
+        Step::Interrupt => Step::Interrupt,
     }
 }

@@ -5,7 +5,7 @@ ghost use Rattle.sja_plan.specs.Faults.{IsPlanOf, IsFirstFault};
 
 use super::checks::judge;
 use super::document::read_document;
-use super::limits::MOST_BYTES;
+use super::limits::most_bytes;
 use super::plan::Plan;
 use super::plan_fault::PlanFault;
 use std::alloc::Global;
@@ -13,14 +13,14 @@ use toml::table_from_str;
 
 /// The plan that these bytes are.
 ///
-/// Errors: the first check that fails, in the order of [`PlanFault`]'s variants. Where the bytes are more than 65,536
-/// only their number is looked at.
+/// Errors: the first check that fails, in the order of [`PlanFault`]'s variants. Where the bytes are more than
+/// [`most_bytes`] only their number and their first line are looked at.
 #[tactic(auto, using(crate::proofs::PassedOn::shape_fault, crate::proofs::PassedOn::document_fault))]
 pub fn read_plan(alloc: Global, bytes: &[u8]) -> Result<Plan, PlanFault>
     ensures ok { IfOk result (IsPlanOf bytes.now) }
     ensures err { IfErr result (IsFirstFault bytes.now) }
 {
-    if bytes.len() > MOST_BYTES {
+    if bytes.len() > most_bytes(bytes) {
         return Err(PlanFault::TooLong);
     }
     let Ok(text) = str::from_utf8(bytes) else {

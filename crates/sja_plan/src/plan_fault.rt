@@ -10,7 +10,7 @@ use thiserror::Error;
 /// memory was refused.
 #[derive(Clone, Copy, Debug, PartialEq, Eq, Error)]
 pub enum PlanFault {
-    /// There are more than 65,536 bytes.
+    /// There are more bytes than a document may have: 65,536, or 16 MiB where its first line says version 3.
     TooLong,
     /// The bytes are no UTF-8.
     NotText,
@@ -18,21 +18,21 @@ pub enum PlanFault {
     Toml,
     /// A key is unknown or missing, or its value has the wrong kind.
     Key,
-    /// The version is neither 1 nor 2.
+    /// The version isn't one from 1 to 3.
     Version,
-    /// The number of bits isn't one from 1 to 200,000.
+    /// The number of bits isn't one from 1 to 200,000, or to 2,000,000 in version 3.
     Bits,
     /// The number of nodes isn't one from 1 to 8.
     NodeCount,
-    /// A node has more than 1,000 steps.
+    /// A node has more than 1,000 steps, or 65,535 in version 3.
     StepCount,
     /// The text of a step says none: its node, counted from 0, and its number there, counted from 1.
     Step(usize, usize),
-    /// There are more than 10,000 turns.
+    /// There are more than 10,000 turns, or 200,000 in version 3.
     TurnCount,
     /// The text of a turn says none, or names a node that isn't there: its number, counted from 1.
     Turn(usize),
-    /// The texts of strikes count for more than 1,000.
+    /// The texts of strikes count for more than 1,000, or 100,000 in version 3.
     StrikeCount,
     /// The text of a strike says none, or names a node that isn't there: its number, counted from 1.
     Strike(usize),
@@ -43,21 +43,31 @@ pub enum PlanFault {
 impl fmt::Display for PlanFault {
     fn fmt<W: fmt::Write>(&self, f: &mut fmt::Formatter<W>) -> fmt::Result {
         match *self {
-            PlanFault::TooLong => f.write_str("the plan has more than 65536 bytes"),
+            PlanFault::TooLong => f.write_str(
+                "the plan has more than 65536 bytes, or than 16777216 where its first line is that of version 3",
+            ),
             PlanFault::NotText => f.write_str("the plan is no UTF-8"),
             PlanFault::Toml => f.write_str("the plan is no TOML document"),
             PlanFault::Key => f.write_str("a key is unknown, missing or of the wrong kind"),
-            PlanFault::Version => f.write_str("the version is neither 1 nor 2"),
-            PlanFault::Bits => f.write_str("the number of bits isn't one from 1 to 200000"),
+            PlanFault::Version => f.write_str("the version isn't one from 1 to 3"),
+            PlanFault::Bits => f.write_str(
+                "the number of bits isn't one from 1 to 200000, or to 2000000 in version 3",
+            ),
             PlanFault::NodeCount => f.write_str("the number of nodes isn't one from 1 to 8"),
-            PlanFault::StepCount => f.write_str("a node has more than 1000 steps"),
+            PlanFault::StepCount => f.write_str(
+                "a node has more than 1000 steps, or 65535 in version 3",
+            ),
             PlanFault::Step(node, number) => write!(
                 f,
                 "step {number} of node {node} can't be read"
             ),
-            PlanFault::TurnCount => f.write_str("there are more than 10000 turns"),
+            PlanFault::TurnCount => f.write_str(
+                "there are more than 10000 turns, or 200000 in version 3",
+            ),
             PlanFault::Turn(number) => write!(f, "turn {number} can't be read"),
-            PlanFault::StrikeCount => f.write_str("there are more than 1000 strikes"),
+            PlanFault::StrikeCount => f.write_str(
+                "there are more than 1000 strikes, or 100000 in version 3",
+            ),
             PlanFault::Strike(number) => write!(f, "strike {number} can't be read"),
             PlanFault::Memory => f.write_str("out of memory"),
         }

@@ -2,11 +2,12 @@
 
 ghost use Rattle.std.specs.Prelude.{◌≡◌, ◌<◌, ◌≤◌, ◌↔◌, ℕ, pos, true, None, IfOk, IfErr, IfSome, OnOk};
 ghost use Rattle.sja_plan.specs.Inside.Views.{document_view};
-ghost use Rattle.sja_plan.specs.Checks.{HasNodes, HasFewSteps, BeforeNodeCount};
+ghost use Rattle.sja_plan.specs.Checks.{version_of, HasNodes, HasFewSteps, BeforeNodeCount};
+ghost use Rattle.sja_plan.specs.Limits.{most_bits};
 ghost use Rattle.sja_plan.specs.Faults.{IsDocumentFault};
 
 use super::document::Document;
-use super::limits::{LAST_VERSION, MOST_BITS, MOST_STEPS};
+use super::limits::{LAST_VERSION, most_bits, most_steps_told};
 use super::plan_fault::PlanFault;
 use sja_script::MOST_NODES;
 
@@ -18,17 +19,18 @@ pub(crate) struct Settings {
 }
 
 /// The version and the number of bits, where they are known and within the limits.
+#[tactic(auto, using(crate::proofs::ByVersion::version_is))]
 pub(crate) fn settings_of(document: &Document) -> Result<Settings, PlanFault>
     ensures version { IfOk result (λ s. ((document_view document.now).version ≡ pos s.version)
-        × (1 ≤ s.version) × (s.version ≤ 2)) }
+        × (1 ≤ s.version) × (s.version ≤ 3)) }
     ensures bits { IfOk result (λ s. ((document_view document.now).bits ≡ pos s.bits)
-        × (1 ≤ s.bits) × (s.bits ≤ 200000)) }
+        × (1 ≤ s.bits) × (s.bits ≤ most_bits s.version)) }
     ensures err { IfErr result (IsDocumentFault (document_view document.now)) }
 {
     let Some(version) = within(document.version, 1, LAST_VERSION) else {
         return Err(PlanFault::Version);
     };
-    let Some(bits) = within(document.bits, 1, MOST_BITS) else {
+    let Some(bits) = within(document.bits, 1, most_bits(version as u8)) else {
         return Err(PlanFault::Bits);
     };
     Ok(Settings {
@@ -49,8 +51,9 @@ fn within(value: i64, least: u32, most: u32) -> Option<u32>
     Some(n)
 }
 
-/// Judges how many nodes and steps there are.
-pub(crate) fn counts(document: &Document) -> Result<(), PlanFault>
+/// Judges how many nodes and steps there are, in this version.
+pub(crate) fn counts(document: &Document, version: u8) -> Result<(), PlanFault>
+    requires { version_of (document_view document.now) ≡ version }
     ensures ok { OnOk result (HasNodes (document_view document.now) × HasFewSteps (document_view document.now)) }
     ensures err { IfErr result (λ e. BeforeNodeCount (document_view document.now)
         → IsDocumentFault (document_view document.now) e) }
@@ -58,7 +61,7 @@ pub(crate) fn counts(document: &Document) -> Result<(), PlanFault>
     if !has_nodes(document) {
         return Err(PlanFault::NodeCount);
     }
-    if !has_few_steps(document) {
+    if !has_few_steps(document, version) {
         return Err(PlanFault::StepCount);
     }
     Ok(())
@@ -71,12 +74,13 @@ fn has_nodes(document: &Document) -> bool
     1 <= document.nodes.len() && document.nodes.len() <= usize::from(MOST_NODES)
 }
 
-/// Whether each node has at most 1,000 steps.
-fn has_few_steps(document: &Document) -> bool
+/// Whether each node has at most as many steps as a document of this version may have.
+fn has_few_steps(document: &Document, version: u8) -> bool
+    requires { version_of (document_view document.now) ≡ version }
     ensures { (result ≡ true) ↔ HasFewSteps (document_view document.now) }
 {
     for steps in document.nodes.as_slice() {
-        if steps.len() > MOST_STEPS {
+        if steps.len() > most_steps_told(version) {
             return false;
         }
     }

@@ -1,21 +1,21 @@
 //! For how many strikes texts count.
 
-ghost use Rattle.std.specs.Prelude.{◌≡◌, ◌<◌, [], ◌∷◌, nat_le, map, IfOk};
+ghost use Rattle.std.specs.Prelude.{◌≡◌, ◌<◌, ◌≤◌, [], ◌∷◌, nat_le, map, IfOk};
 ghost use Rattle.sja_plan.specs.StrikeTexts.{strike_count, count_of, strikes_in};
 
-use super::limits::MOST_STRIKES;
 use super::word::{find_words, number};
 use std::alloc::{AllocError, Global};
 
-/// Whether these texts count for at most 1,000 strikes.
-pub(crate) fn strikes_are_few(alloc: Global, texts: &[&str]) -> Result<bool, AllocError>
-    ensures { IfOk result (λ few. few ≡ nat_le (strikes_in (map (λ t. t.now) texts.now)) 1000) }
+/// Whether these texts count for at most so many strikes.
+pub(crate) fn strikes_are_few(alloc: Global, texts: &[&str], most: u32) -> Result<bool, AllocError>
+    requires { most ≤ 100000 }
+    ensures { IfOk result (λ few. few ≡ nat_le (strikes_in (map (λ t. t.now) texts.now)) most) }
 {
     let mut room = Vec::new(alloc);
     let mut total = 0u32;
     for text in texts {
         total += count_of(&mut room, text)?;
-        if total > MOST_STRIKES {
+        if total > most {
             return Ok(false);
         }
     }

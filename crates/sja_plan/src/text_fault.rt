@@ -2,9 +2,9 @@
 
 use std::alloc::{AllocError, AllocFailed};
 
-/// Why a text of a plan isn't read.
+/// Why a word or a text of a plan isn't read (this project's own rule).
 #[derive(Clone, Copy, Debug, PartialEq, Eq)]
-pub(crate) enum TextFault {
+pub enum TextFault {
     /// It says nothing.
     Bad,
     /// Memory was refused.

@@ -9,8 +9,11 @@ use can_frame::Message;
 use hex::FromHexError;
 use std::alloc::{AllocError, Global};
 
-/// The words of a text, what stands between its spaces, in the place of those that were found before.
-pub(crate) fn find_words<'a>(found: &mut Vec<&'a str>, text: &'a str) -> Result<(), AllocError>
+/// The words of a text, what stands between its spaces, in the place of those that were found before
+/// (this project's own rule).
+///
+/// Error: `AllocError` where memory was refused.
+pub fn find_words<'a>(found: &mut Vec<&'a str>, text: &'a str) -> Result<(), AllocError>
     ensures { OnOk result (map (λ w. w.now) found.new.items ≡ words text.entry.now) }
 {
     found.clear();
@@ -34,8 +37,10 @@ pub(crate) fn number(word: &str) -> Option<u32>
     word.parse::<u32>().ok()
 }
 
-/// The number from `least` to `most` that a word spells.
-pub(crate) fn number_within(word: &str, least: u32, most: u32) -> Result<u32, TextFault>
+/// The number from `least` to `most` that a word spells with one to seven decimal digits (this project's own rule).
+///
+/// Error: [`TextFault::Bad`] where it spells none of these.
+pub fn number_within(word: &str, least: u32, most: u32) -> Result<u32, TextFault>
     ensures ok { IfOk result (λ n. SpellsWithin least most word.now n) }
     ensures err { IfErr result (λ e. (e ≡ TextFault.Bad) × ((n : ℕ) → ¬ SpellsWithin least most word.now n)) }
 {
@@ -45,8 +50,10 @@ pub(crate) fn number_within(word: &str, least: u32, most: u32) -> Result<u32, Te
     }
 }
 
-/// The number of a node, of so many, that a word spells.
-pub(crate) fn node_within(nodes: usize, word: &str) -> Result<u8, TextFault>
+/// The number of a node, of so many, that a word spells in decimal, counted from 0 (this project's own rule).
+///
+/// Error: [`TextFault::Bad`] where it spells none of these.
+pub fn node_within(nodes: usize, word: &str) -> Result<u8, TextFault>
     requires { nodes ≤ 8 }
     ensures ok { IfOk result (λ n. SpellsNode nodes word.now n) }
     ensures err { IfErr result (λ e. (e ≡ TextFault.Bad) × ((n : ℕ) → ¬ SpellsNode nodes word.now n)) }
@@ -58,8 +65,10 @@ pub(crate) fn node_within(nodes: usize, word: &str) -> Result<u8, TextFault>
     Ok(node as u8)
 }
 
-/// The byte that a word spells with two hexadecimal digits.
-pub(crate) fn byte(word: &str) -> Result<u8, TextFault>
+/// The byte that a word spells with two hexadecimal digits (this project's own rule).
+///
+/// Error: [`TextFault::Bad`] where it spells none.
+pub fn byte(word: &str) -> Result<u8, TextFault>
     ensures ok { IfOk result (λ b. SpellsByte word.now b) }
     ensures err { IfErr result (λ e. (e ≡ TextFault.Bad) × ((b : ℕ) → ¬ SpellsByte word.now b)) }
 {

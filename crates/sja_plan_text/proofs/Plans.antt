@@ -1,5 +1,5 @@
 -- What the table of a plan says is that plan.
-use Rattle.std.proofs.Common.{◌≡◌, ◌≤◌, ◌+◌, ◌∙◌, List, [], ◌∷◌, length, map, All, Some}
+use Rattle.std.proofs.Common.{◌≡◌, ◌≤◌, ◌+◌, ◌∙◌, ℕ, List, [], ◌∷◌, length, map, All, Some}
 use Rattle.std.proofs.Common.{refl, sym, ap₂, subst, arith}
 use Rattle.std.proofs.lemmas.List.{length-map}
 use Rattle.std.proofs.lemmas.List.Elements.{All-map, All-weaker, All-head, All-tail}
@@ -10,6 +10,7 @@ use Rattle.sja_plan.specs.Words.{Text}
 use Rattle.sja_plan.specs.StepTexts.{SaysStep}
 use Rattle.sja_plan.specs.TurnTexts.{SaysTurn}
 use Rattle.sja_plan.specs.StrikeTexts.{SaysStrike, count_of, strikes_in}
+use Rattle.sja_plan.specs.Limits.{most_steps_told}
 use Rattle.sja_plan.specs.Plan.{PlanValue, IsInLimits, NamesNode, IsStrikeOn, times_in}
 use Rattle.sja_plan.specs.Checks.{SaysPlan}
 use Rattle.sja_plan.specs.Faults.{IsText, IsPlanOf}
@@ -35,21 +36,24 @@ times_counted (s ∷ strikes) h =
     (times_counted strikes (All-tail HasStrikeText s strikes h))
     ∙ sym (sum_by-cons (λ (s : Strike). s.times) s strikes)
 
-few_texts : (steps : List Step) → length steps ≤ 1000 → length (map step_text steps) ≤ 1000
-few_texts steps h = omega (arith, h, length-map steps step_text)
+few_texts : (most : ℕ) (steps : List Step) → length steps ≤ most → length (map step_text steps) ≤ most
+few_texts most steps h = omega (arith, h, length-map steps step_text)
 
 pub plan_said : (p : PlanValue) → IsInLimits p → HasTexts p → SaysPlan (plan_document p) p
 plan_said p limits texts =
     let count = length-map p.nodes (λ steps. map step_text steps) in
+    let most = most_steps_told p.version in
+    let says = SaysStep p.version in
+    let has = HasStepText p.version in
     record {
-      version = (refl, limits.version.0, texts.version);
+      version = (refl, limits.version.0, limits.version.1);
       bits = (refl, limits.bits.0, limits.bits.1);
       node_count = (omega (arith, count, limits.nodes.0), omega (arith, count, limits.nodes.1));
-      step_counts = All-map (λ (steps : List Text). length steps ≤ 1000) (map step_text) p.nodes
-          (All-weaker (λ (steps : List Step). length steps ≤ 1000)
-          (λ (steps : List Step). length (map step_text steps) ≤ 1000) few_texts p.nodes limits.steps);
-      steps = said_of_each (map step_text) (AllZip SaysStep) (λ (steps : List Step). All HasStepText steps)
-          (λ steps h. said_of_each step_text SaysStep HasStepText step_said steps h) p.nodes texts.steps;
+      step_counts = All-map (λ (steps : List Text). length steps ≤ most) (map step_text) p.nodes
+          (All-weaker (λ (steps : List Step). length steps ≤ most)
+          (λ (steps : List Step). length (map step_text steps) ≤ most) (few_texts most) p.nodes texts.step_counts);
+      steps = said_of_each (map step_text) (AllZip says) (λ (steps : List Step). All has steps)
+          (λ steps h. said_of_each step_text says has (step_said p.version) steps h) p.nodes texts.steps;
       turn_count = omega (arith, length-map p.turns turn_text, limits.turn_count);
       turns = subst (λ n. AllZip (SaysTurn n) (map turn_text p.turns) p.turns) (sym count)
           (said_of_each turn_text (SaysTurn (length p.nodes)) (λ t. NamesNode (length p.nodes) t × HasTurnText t)

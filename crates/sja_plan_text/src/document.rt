@@ -3,6 +3,7 @@
 ghost use Rattle.std.specs.Prelude.{◌≡◌, ◌⊎◌, ◌<◌, ℕ, List, length, IfOk, IfErr, OnOk, string_bytes};
 ghost use Rattle.toml.specs.Data.{member, no_members};
 ghost use Rattle.toml.specs.View.{view};
+ghost use Rattle.sja_plan.specs.Limits.{most_bytes};
 ghost use Rattle.sja_plan.specs.Faults.{IsPlanOf};
 ghost use Rattle.sja_plan_text.specs.HasTexts.{HasTexts};
 ghost use Rattle.sja_plan_text.specs.Document.{IsDocumentOf};
@@ -13,7 +14,7 @@ use super::plan_text_fault::PlanTextFault;
 use super::spelled::text_list;
 use super::table::{node_list, one_member};
 use can_frame::OutOfMemory;
-use sja_plan::{MOST_BYTES, Plan};
+use sja_plan::{Plan, most_bytes};
 use sja_script::Strike;
 use std::alloc::Global;
 use toml::{Value, table_to_string, table_to_string_pretty};
@@ -25,19 +26,19 @@ use toml::{Value, table_to_string, table_to_string_pretty};
 /// with two items or more each has a line of its own, or all have one line where the document would be too long.
 ///
 /// Errors: [`PlanTextFault::NoMemory`] where memory was refused; [`PlanTextFault::TooLong`] where the document has more
-/// than 65,536 bytes (this project's own rule).
+/// than 65,536 bytes, or than 16 MiB in version 3, which is the first thing that it says (this project's own rule).
 pub fn plan_text(alloc: Global, plan: &Plan) -> Result<String, PlanTextFault>
     requires { HasTexts plan.now }
     ensures ok { IfOk result (λ text. IsPlanOf (string_bytes text) plan.now) }
     ensures err { IfErr result (λ e. (e ≡ NoMemory) ⊎ ((e ≡ TooLong)
-        × ((text : List ℕ) × (65536 < length text) × IsDocumentOf text plan.now))) }
+        × ((text : List ℕ) × (most_bytes text < length text) × IsDocumentOf text plan.now))) }
 {
     let text = document(alloc, plan, true)?;
-    if text.len() <= MOST_BYTES {
+    if text.len() <= most_bytes(text.as_bytes()) {
         return Ok(text);
     }
     let text = document(alloc, plan, false)?;
-    if text.len() <= MOST_BYTES {
+    if text.len() <= most_bytes(text.as_bytes()) {
         return Ok(text);
     }
     Err(PlanTextFault::TooLong)

@@ -14,16 +14,16 @@ ghost use Rattle.sja_plan_text.specs.Document.{IsDocumentOf};
 use sja_plan::Turn;
 use sja_script::{Step, Strike};
 
-/// The text of a step says it, where a text can.
+/// In each version the text of a step says it, where a text can.
 #[tactic(auto, using(crate::proofs::Steps::step_said))]
 pub fn a_step_has_a_text()
-    ensures { (s : Step) → HasStepText s → SaysStep (step_text s) s }
+    ensures { (version : ℕ) (s : Step) → HasStepText version s → SaysStep version (step_text s) s }
 {}
 
 /// A step that a text says is one that has a text.
 #[tactic(auto, using(crate::proofs::Steps::has_step_text))]
 pub fn said_steps_have_texts()
-    ensures { (text : Text) (s : Step) → SaysStep text s → HasStepText s }
+    ensures { (version : ℕ) (text : Text) (s : Step) → SaysStep version text s → HasStepText version s }
 {}
 
 /// The text of a turn says it, where a text can, in a plan that has its node.
@@ -55,7 +55,7 @@ pub fn a_plan_has_texts()
     ensures { (bytes : List ℕ) (p : PlanValue) → IsPlanOf bytes p → HasTexts p }
 {}
 
-/// Bytes are a plan where they are a document of it, and a text of at most 65,536 bytes.
+/// Bytes are a plan where they are a document of it, and a text that isn't too long.
 pub fn a_plan_is_a_short_document()
     ensures { (bytes : List ℕ) (p : PlanValue) → IsPlanOf bytes p ↔ (IsText bytes × IsDocumentOf bytes p) }
 {}

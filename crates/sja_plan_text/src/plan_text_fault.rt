@@ -9,8 +9,8 @@ pub enum PlanTextFault {
     /// Memory was refused.
     #[error("out of memory")]
     NoMemory,
-    /// The document has more than 65,536 bytes, so that it wouldn't be read.
-    #[error("the plan's document is longer than 65536 bytes")]
+    /// The document has more than 65,536 bytes, or than 16 MiB in version 3, so that it wouldn't be read.
+    #[error("the plan's document is longer than 65536 bytes, or than 16777216 in version 3")]
     TooLong,
 }
 

@@ -1,34 +1,35 @@
 //! Whether a plan can be written at all.
 
-ghost use Rattle.std.specs.Prelude.{◌↔◌, IsTrue, All};
+ghost use Rattle.std.specs.Prelude.{◌↔◌, ◌≤◌, IsTrue, All, length};
+ghost use Rattle.sja_plan.specs.Limits.{most_steps_told};
 ghost use Rattle.sja_plan_text.specs.HasTexts.{HasStepText, HasTurnText, HasStrikeText, HasTexts};
 
-use sja_plan::{GREATEST_NUMBER, LAST_VERSION, Plan, Turn};
+use sja_plan::{GREATEST_NUMBER, Plan, RAW_VERSION, Turn, most_steps_told};
 use sja_script::{Step, Strike};
 
-/// Whether a document can ask for the version of a plan, and each of its steps, turns and strikes has a text that says
-/// it. So it is for each plan that was read ([`a_plan_has_texts`](crate::a_plan_has_texts)), and for each other one of
-/// version 1 or 2 whose numbers texts can spell (this project's own rule).
+/// Whether no node of a plan has more steps than a document may have, and each of its steps, turns and strikes has a
+/// text that says it. So it is for each plan that was read ([`a_plan_has_texts`](crate::a_plan_has_texts)), and for
+/// each other one whose numbers texts can spell (this project's own rule).
 pub fn has_texts(plan: &Plan) -> bool
     ensures { IsTrue result ↔ HasTexts plan.now }
 {
-    if u32::from(plan.version()) > LAST_VERSION {
-        return false;
-    }
     for node in 0..plan.nodes() {
-        if !steps_have_texts(plan.steps(node)) {
+        if !steps_have_texts(plan.version(), plan.steps(node)) {
             return false;
         }
     }
     turns_have_texts(plan.turns()) && strikes_have_texts(plan.strikes())
 }
 
-/// Whether a text says each of these steps.
-fn steps_have_texts(steps: &[Step]) -> bool
-    ensures { IsTrue result ↔ All HasStepText steps.now }
+/// Whether in this version a document may have so many steps of a node, and a text says each of them.
+fn steps_have_texts(version: u8, steps: &[Step]) -> bool
+    ensures { IsTrue result ↔ ((length steps.now ≤ most_steps_told version) × All (HasStepText version) steps.now) }
 {
+    if steps.len() > most_steps_told(version) {
+        return false;
+    }
     for step in steps {
-        if !has_step_text(step) {
+        if !has_step_text(version, step) {
             return false;
         }
     }
@@ -59,9 +60,10 @@ fn strikes_have_texts(strikes: &[Strike]) -> bool
     true
 }
 
-/// Whether a text says this step: all but an `Await` of 0 or of more than 21 messages (this project's own rule).
-pub fn has_step_text(step: &Step) -> bool
-    ensures { IsTrue result ↔ HasStepText step.now }
+/// Whether in this version a text says this step: all but an `Await` of 0 or of more than 21 messages, and an
+/// `Interrupt` before version 3 (this project's own rule).
+pub fn has_step_text(version: u8, step: &Step) -> bool
+    ensures { IsTrue result ↔ HasStepText version step.now }
 {
     // Bytes and messages are read, and not judged: what their types say of them is known by that.
     match step {
@@ -83,6 +85,7 @@ pub fn has_step_text(step: &Step) -> bool
             true
         }
         Step::Await(count) => 1 <= *count && *count <= 21,
+        Step::Interrupt => version >= RAW_VERSION,
     }
 }
 

@@ -10,7 +10,7 @@ use Rattle.sja_regs.specs.Modes.{mode_of}
 use Rattle.sja_regs.specs.Writing.{after_forced_off}
 use Rattle.sja_script.specs.declared.step.Step.{Step}
 use Rattle.sja_script.specs.declared.step.Step.TheVariants.{Start, Stop, Window, Release, Read}
-use Rattle.sja_script.specs.declared.step.Step.TheVariants.{Write, Load, Command, Await, Sent}
+use Rattle.sja_script.specs.declared.step.Step.TheVariants.{Write, Load, Command, Await, Sent, Interrupt}
 use Rattle.sja_script.specs.declared.step_answer.StepAnswer.{StepAnswer}
 use Rattle.sja_script.specs.declared.step_answer.StepAnswer.TheVariants.{Done, NoMessage, Shown, Value, Refused}
 use Rattle.sja_script.specs.declared.step_answer.StepAnswer.TheVariants.{Released as ReleasedAnswer}
@@ -41,6 +41,7 @@ kind_of (Load m) = 6
 kind_of (Command value) = 7
 kind_of (Await count) = 8
 kind_of Sent = 9
+kind_of Interrupt = 10
 
 -- ---- a step that isn't done changes neither
 
@@ -65,7 +66,7 @@ stopped_by : {E : Type 0} {alike : E → E → Type 0} {stands : E → Lists →
     Acts alike stands dry full old new p q Stop was now o → (q ≡ after_entering_reset p) × (is_out now ≡ false)
 stopped_by Unmet e out a = absurd cc
 stopped_by {p = p} {was = was} (Answered answer) e out a =
-    let is : answer ≡ Done = subst (λ (b : Bool). FitsState b (opened_of was) Stop answer) out a.fits in
+    let is : answer ≡ Done = subst (λ (b : Bool). FitsState p.version b (opened_of was) Stop answer) out a.fits in
     (a.port ∙ ap (λ x. ported p Stop x) is, a.out ∙ ap (λ x. is_out_after (is_out was) Stop (Answered x)) is)
 stopped_by (Released m) e out a = absurd (omega (arith, ap kind_of a.kind))
 stopped_by (Ended l) e out a = (a.port, a.out)

@@ -32,13 +32,13 @@ pub may_observe : {E : Type 0} {link : E → LinkId} {was : LoggedDriver} {links
     MayTry link was links base 0 → MayObserve link was links base
 may_observe h = record { lawful = h.lawful; eight = h.eight; ids = h.ids }
 
-min_seven : (n : ℕ) → min n 7 ≤ 7
-min_seven n = grind arith
+min_last : (n : ℕ) → min n 63 ≤ 63
+min_last n = grind arith
 
 -- a link of another node isn't that of the present activation
-elsewhere : (i base ended : ℕ) → (i < base) ⊎ (base + 8 ≤ i) → i ≡ place_after base ended → ⊥
-elsewhere i base ended (inl less) e = let m = min_seven ended in omega (arith, less, e, m)
-elsewhere i base ended (inr more) e = let m = min_seven ended in omega (arith, more, e, m)
+elsewhere : (i base ended : ℕ) → (i < base) ⊎ (base + 64 ≤ i) → i ≡ place_after base ended → ⊥
+elsewhere i base ended (inl less) e = let m = min_last ended in omega (arith, less, e, m)
+elsewhere i base ended (inr more) e = let m = min_last ended in omega (arith, more, e, m)
 
 -- one step
 pub keeps_one : {E : Type 0} (link : E → LinkId) (alike : E → E → Type 0) (was now : LoggedDriver)

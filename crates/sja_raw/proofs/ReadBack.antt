@@ -10,7 +10,7 @@ use Rattle.sja_regs.specs.Reading.{value_at, after_reading_at, or_no_register}
 use Rattle.sja_script.specs.declared.done.Done.{Done}
 use Rattle.sja_script.specs.declared.step.Step.{Step}
 use Rattle.sja_script.specs.declared.step.Step.TheVariants.{Start, Stop, Window, Release, Read}
-use Rattle.sja_script.specs.declared.step.Step.TheVariants.{Write, Load, Command, Await, Sent}
+use Rattle.sja_script.specs.declared.step.Step.TheVariants.{Write, Load, Command, Await, Sent, Interrupt}
 use Rattle.sja_script.specs.declared.step_answer.StepAnswer.{StepAnswer}
 use Rattle.sja_driver.specs.declared.logged_driver.LoggedDriver.{LoggedDriver}
 use Rattle.sja_driver.specs.Acting.{Acts}
@@ -38,6 +38,7 @@ IsRead (Load m) = ⊥
 IsRead (Command value) = ⊥
 IsRead (Await count) = ⊥
 IsRead Sent = ⊥
+IsRead Interrupt = ⊥
 
 -- a read is done, with the value as the registers and the messages have it
 pub record Told (p q : Registers) (address bits : ℕ) (was now : LoggedDriver) (done : Bool) : Type 0 where

@@ -11,11 +11,11 @@ use Rattle.sja_driver.specs.Holding.{NumberedFrom}
 use Rattle.sja_driver.specs.Logs.{HasRoom}
 use Rattle.sja_driver.specs.LoggedDrivers.{node_of, log_of, IsLawful, Steps}
 
--- so many steps may be tried: the log has room for them, and the node's eight links stand from that place on
+-- so many steps may be tried: the log has room for them, and the node's links stand from that place on
 pub record MayTry {E : Type 0} (link : E → LinkId) (was : LoggedDriver) (links : List E) (base steps : ℕ) : Type 0 where
   pub lawful : IsLawful was
   pub room : HasRoom steps (log_of was)
-  pub eight : base + 8 ≤ length links
+  pub eight : base + 64 ≤ length links
   pub ids : NumberedFrom link links base (node_of was)
 
 -- what is in order after so many steps at most: the driver is still the node's, each link is the same one, those of
@@ -24,7 +24,7 @@ pub record Keeps {E : Type 0} (link : E → LinkId) (alike : E → E → Type 0)
     (links links_now : List E) (base steps : ℕ) : Type 0 where
   pub node : node_of now ≡ node_of was
   pub same : EachRelated alike links links_now
-  pub others : (i : ℕ) (d : E) → (i < base) ⊎ (base + 8 ≤ i) → slice_index_or links_now i d ≡ slice_index_or links i d
+  pub others : (i : ℕ) (d : E) → (i < base) ⊎ (base + 64 ≤ i) → slice_index_or links_now i d ≡ slice_index_or links i d
   pub goes_on : (k : ℕ) → MayTry link was links base (k + steps) → MayTry link now links_now base k
 
 -- these steps were tried, after so many bits, and those are left: none, or from the first one on that isn't done

@@ -1,7 +1,7 @@
 -- The steps of a typed driver that a write is, as values (this project's own rule).
 use Rattle.std.specs.Prelude.{◌++◌, ℕ, Option, Some, None, List, [], ◌∷◌}
 use Rattle.sja_script.specs.declared.step.Step.{Step}
-use Rattle.sja_script.specs.declared.step.Step.TheVariants.{Await, Sent}
+use Rattle.sja_script.specs.declared.step.Step.TheVariants.{Await, Sent, Interrupt}
 use Rattle.sja_raw.specs.declared.write_steps.WriteSteps.{WriteSteps}
 
 -- one step, or none
@@ -17,6 +17,7 @@ steps_in w = listed w.first ++ (listed w.second ++ listed w.third)
 abbrev pub IsPrompt : Step → Type 0
 IsPrompt (Await count) = ⊥
 IsPrompt Sent = ⊥
+IsPrompt Interrupt = ⊥
 IsPrompt other = Unit {0}
 
 abbrev pub IsPromptIf : Option Step → Type 0

@@ -1,6 +1,6 @@
 //! A driver that knows addresses and bytes alone.
 
-ghost use Rattle.std.specs.Prelude.{◌≡◌, [], false};
+ghost use Rattle.std.specs.Prelude.{◌≡◌, ℕ, [], false};
 ghost use Rattle.sja_regs.specs.InterruptLine.{is_line_active};
 ghost use Rattle.sja_driver.specs.AnyDrivers.{is_out, opened_of, seen_by};
 ghost use Rattle.sja_driver.specs.LoggedDrivers.{node_of, driver_of, log_of, IsLawful, StaysLawful};
@@ -19,7 +19,7 @@ use sja_regs::Port;
 /// the kept registers.
 ///
 /// Its accesses are [`read`](RawDriver::read) and [`write`](RawDriver::write), and [`irq`](RawDriver::irq) is its
-/// interrupt line. Each takes the node's eight links from `base` on, and the registers of its controller.
+/// interrupt line. Each takes the node's links from `base` on, and the registers of its controller.
 #[derive(Debug, Drop)]
 pub struct RawDriver {
     pub(crate) typed: LoggedDriver,
@@ -35,7 +35,7 @@ impl RawDriver {
         ensures reset { is_out (driver_of (typed_of result)) ≡ false }
         ensures none { opened_of (driver_of (typed_of result)) ≡ 0 }
         ensures lawful { IsLawful (typed_of result) }
-        ensures traces { Traces (driver_of (typed_of result)) (log_of (typed_of result)) [] }
+        ensures traces { (version : ℕ) → Traces version (driver_of (typed_of result)) (log_of (typed_of result)) [] }
         ensures kept { kept_of result ≡ at_power_on }
     {
         RawDriver {

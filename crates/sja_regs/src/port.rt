@@ -44,6 +44,13 @@ impl Port {
         }
     }
 
+    /// The version of the model.
+    pub fn version(&self) -> u8
+        ensures { result ≡ self.now.version }
+    {
+        self.registers.version
+    }
+
     /// How the controller starts: acceptance filter, self test mode, listen only mode, and the error counters that were
     /// written in reset mode, in version 3 alone.
     pub fn config(&self) -> Config

@@ -1,5 +1,5 @@
 -- Whatever becomes of a request, few bytes are read for it.
-use Rattle.std.proofs.Common.{◌≡◌, ◌≤◌, ◌+◌, ◌⊎◌, ◌++◌, List, ℕ, [], Option, length, length-append, sym, subst}
+use Rattle.std.proofs.Common.{◌≡◌, ◌<◌, ◌≤◌, ◌+◌, ◌⊎◌, ◌++◌, List, ℕ, [], Option, length, length-append, sym, subst}
 use Rattle.std.proofs.Common.{arith, inl, inr, false}
 use Rattle.std.specs.Io.KnownBytes.{Consumes}
 use Rattle.std.proofs.KnownBytes.{Consumes-nil, Consumes-trans}
@@ -14,13 +14,14 @@ use Rattle.sja_run.specs.Answer.{AsksForRun, IsPrinted, IsRefused, picture_or_dr
 use Rattle.sja_run.specs.Check.{IsChecked, HasHints}
 use Rattle.sja_run.specs.declared.plan_check.PlanCheck.{PlanCheck}
 use Rattle.sja_run.specs.declared.plan_check.PlanCheck.TheVariants.{Hints, Mistake}
-use Rattle.sja_run.specs.Input.{ReadsFew, RefusesInput}
+use Rattle.sja_run.specs.Input.{most_read, ReadsFew, RefusesInput}
 use Rattle.sja_run.specs.Run.{IsOfPlan, RefusesBy, RefusesRun, RefusesThreads}
 use Rattle.sja_run.specs.RunText.{IsTextOfRun, MayFault}
 use Rattle.sja_run.specs.Sweep.{IsStruck, IsSwept, RefusesOfPlan, RefusesStruck, RefusesSwept}
 use Rattle.sja_run.specs.declared.threaded.Threaded.{Threaded}
 use Rattle.sja_run.specs.declared.run_text.RunText.TheVariants.{Report, Wave, Trace, Frames, Candump}
 use Rattle.sja_texts.specs.declared.sweep_refusal.SweepRefusal.{SweepRefusal}
+use Rattle.sja_run.proofs.MostRead.{most_grows}
 use Rattle.sja_run.proofs.PlanRefusals.{few_of_plan}
 use Rattle.sja_run.proofs.Requests.{asks_left}
 
@@ -28,11 +29,24 @@ use Rattle.sja_run.proofs.Requests.{asks_left}
 pub unread : (input : Option (List ℕ)) → ReadsFew input input
 unread input = ([], Consumes-nil input, omega arith)
 
+within : (n a m k : ℕ) → n ≡ a → a ≤ m → m ≤ k → n ≤ k
+within n a m k is few most = omega (arith, is, few, most)
+
+less : (n m : ℕ) → n < m → n ≤ m
+less n m few = omega (arith, few)
+
+-- there are no more bytes than may be read where the first ones are these
+pub few_together : (some more : List ℕ) → length some + length more ≤ most_read some →
+    length (some ++ more) ≤ most_read (some ++ more)
+few_together some more few =
+    within (length (some ++ more)) (length some + length more) (most_read some) (most_read (some ++ more))
+    (length-append some more) few (most_grows some more)
+
 -- some bytes were read, and then more
 pub read_more : (a b c : Option (List ℕ)) (some more : List ℕ) → Consumes a b some → Consumes b c more →
-    length some + length more ≤ 65537 → ReadsFew a c
+    length some + length more ≤ most_read some → ReadsFew a c
 read_more a b c some more earlier later few =
-    (some ++ more, Consumes-trans a b c some more earlier later, rw (length-append some more) few)
+    (some ++ more, Consumes-trans a b c some more earlier later, few_together some more few)
 
 -- there are hints
 few_hinted : (before after : Option (List ℕ)) (text : List ℕ) → HasHints before after text → ReadsFew before after
@@ -48,7 +62,7 @@ few_checked before after (Mistake text) has = (has.0, has.3.0, has.3.1)
 pub few_unchecked : (before after : Option (List ℕ)) (r : CommandRefusal) → RefusesInput before after r →
     ReadsFew before after
 few_unchecked before after refusal.OutOfMemory h = h
-few_unchecked before after refusal.Read h = (h.0, h.1, omega arith)
+few_unchecked before after refusal.Read h = (h.0, h.1, less (length h.0) (most_read h.0) h.2)
 few_unchecked before after (refusal.Plan fault) h = absurd h
 few_unchecked before after (refusal.Run fault) h = absurd h
 few_unchecked before after (refusal.Sweep why) h = absurd h
@@ -62,7 +76,7 @@ few_unchecked before after (refusal.Notation fault) h = absurd h
 few_refused : (May : PlanValue → RunFault → Type 0) (before after : Option (List ℕ)) (r : CommandRefusal) →
     RefusesBy May before after r → ReadsFew before after
 few_refused May before after refusal.OutOfMemory h = h
-few_refused May before after refusal.Read h = (h.0, h.1, omega arith)
+few_refused May before after refusal.Read h = (h.0, h.1, less (length h.0) (most_read h.0) h.2)
 few_refused May before after (refusal.Plan fault) h = (h.0, h.1.0, h.1.1)
 few_refused May before after (refusal.Run fault) h = (h.0, h.2.0, h.2.1)
 few_refused May before after (refusal.Sweep why) h = absurd h

@@ -1,4 +1,5 @@
 pub mod FewBytes
+pub mod MostRead
 pub mod PlanRefusals
 pub mod RefusedMemory
 pub mod Requests

@@ -76,7 +76,7 @@ long_refused node bit plan (refusal.Notation fault) h = absurd h
 pub struck_texts : (plan : PlanValue) (node bit : ℕ) → HasTexts plan → node ≤ 9999999 → bit ≤ 9999999 →
     HasTexts (struck_at plan node bit)
 struck_texts plan node bit has k b = record {
-  version = has.version;
+  step_counts = has.step_counts;
   steps = has.steps;
   turns = has.turns;
   strikes = All-append HasStrikeText plan.strikes (one_strike node bit ∷ []) has.strikes

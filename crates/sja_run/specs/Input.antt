@@ -1,21 +1,26 @@
 -- What is read of the input, by what it held before and holds after, where that is known (this project's own rule).
-use Rattle.std.specs.Prelude.{◌<◌, ◌≤◌, ℕ, List, Option, length}
+use Rattle.std.specs.Prelude.{◌+◌, ◌<◌, ◌≤◌, ℕ, List, Option, length}
 use Rattle.std.specs.Io.KnownBytes.{Consumes, IsAtEnd}
+use Rattle.sja_plan.specs.Limits.{most_bytes}
 use Rattle.sja_texts.specs.declared.command_refusal.CommandRefusal.{CommandRefusal}
 use Rattle.sja_texts.specs.declared.command_refusal.CommandRefusal.TheVariants as refusal
 
--- these bytes were read: all that the input gives, or the first 65,537 of them, one more than a plan may have
+-- how many bytes are read at most where the first ones are these: one more than a plan may have that begins so
+abbrev pub most_read : List ℕ → ℕ
+most_read bytes = most_bytes bytes + 1
+
+-- these bytes were read: all that the input gives, or the first of them, one more than a plan may have that begins so
 abbrev pub IsRead : Option (List ℕ) → Option (List ℕ) → List ℕ → Type 0
 IsRead before after bytes =
-    Consumes before after bytes × (length bytes ≤ 65537) × (length bytes < 65537 → IsAtEnd after)
+    Consumes before after bytes × (length bytes ≤ most_read bytes) × (length bytes < most_read bytes → IsAtEnd after)
 
--- no more than 65,537 bytes were read
+-- no more than that were read
 abbrev pub ReadsFew : Option (List ℕ) → Option (List ℕ) → Type 0
-ReadsFew before after = (bytes : List ℕ) × Consumes before after bytes × (length bytes ≤ 65537)
+ReadsFew before after = (bytes : List ℕ) × Consumes before after bytes × (length bytes ≤ most_read bytes)
 
--- the reading came to an end before the bytes were 65,537
+-- the reading came to an end before there were as many
 abbrev pub BreaksOff : Option (List ℕ) → Option (List ℕ) → Type 0
-BreaksOff before after = (bytes : List ℕ) × Consumes before after bytes × (length bytes < 65537)
+BreaksOff before after = (bytes : List ℕ) × Consumes before after bytes × (length bytes < most_read bytes)
 
 -- why the bytes of the input aren't there: memory may be refused at any time, and a read may fail
 abbrev pub RefusesInput : Option (List ℕ) → Option (List ℕ) → CommandRefusal → Type 0

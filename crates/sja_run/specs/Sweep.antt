@@ -1,5 +1,6 @@
 -- What `sweep` prints and refuses, by what the input held before and holds after (this project's own rule).
 use Rattle.std.specs.Prelude.{◌≡◌, ◌<◌, ◌≤◌, ℕ, List, Option, if◌then◌else◌, length}
+use Rattle.sja_plan.specs.Limits.{most_bytes, most_strikes}
 use Rattle.sja_plan.specs.Plan.{PlanValue, times_in}
 use Rattle.sja_plan.specs.Faults.{IsPlanOf}
 use Rattle.sja_plan.specs.Struck.{struck_at}
@@ -51,14 +52,14 @@ IsStruck node bit plan text = (node < length plan.nodes) × IsPlanOf text (struc
 abbrev pub RefusesStruck : ℕ → ℕ → PlanValue → SweepRefusal → Type 0
 RefusesStruck node bit plan NoNode = length plan.nodes ≤ node
 RefusesStruck node bit plan (TooMany runs bits) = ⊥
-RefusesStruck node bit plan StrikeCount = 1000 ≤ times_in plan.strikes
+RefusesStruck node bit plan StrikeCount = most_strikes plan.version ≤ times_in plan.strikes
 RefusesStruck node bit plan Bit = 9999999 < bit
 RefusesStruck node bit plan TooLong =
-    (text : List ℕ) × (65536 < length text) × IsDocumentOf text (struck_at plan node bit)
+    (text : List ℕ) × (most_bytes text < length text) × IsDocumentOf text (struck_at plan node bit)
 
 -- such a document of a plan is too long, and nothing else is wrong
 abbrev pub IsLong : PlanValue → SweepRefusal → Type 0
-IsLong plan TooLong = (text : List ℕ) × (65536 < length text) × IsDocumentOf text plan
+IsLong plan TooLong = (text : List ℕ) × (most_bytes text < length text) × IsDocumentOf text plan
 IsLong plan other = ⊥
 
 -- ---- of the plan on the input

@@ -1,20 +1,17 @@
 //! The input, read up to a bound, and the plan that it is.
 
-ghost use Rattle.std.specs.Prelude.{◌≡◌, ◌<◌, ◌≤◌, ◌+◌, ℕ, List, Option, IfOk, IfErr, length};
+ghost use Rattle.std.specs.Prelude.{◌≡◌, ◌<◌, ◌≤◌, ◌+◌, ℕ, List, Option, IfOk, IfErr, OnOk, length};
 ghost use Rattle.std.specs.Io.KnownBytes.{Consumes, IsAtEnd};
-ghost use Rattle.sja_run.specs.Input.{RefusesInput};
+ghost use Rattle.sja_run.specs.Input.{most_read, RefusesInput};
 ghost use Rattle.sja_run.specs.Run.{HoldsPlan, RefusesRun};
 
-use sja_plan::{MOST_BYTES, Plan, read_plan};
+use sja_plan::{MOST_RAW_BYTES, Plan, most_bytes, read_plan};
 use sja_texts::CommandRefusal;
 use std::alloc::Global;
 use std::io::Read;
 
-/// How many bytes are read at most: one more than a plan may have.
-const MOST_READ: usize = MOST_BYTES + 1;
-
-/// How many reads are made at most: two for each of those bytes.
-const MOST_READS: u32 = 2 * MOST_READ as u32;
+/// How many reads are made at most: two for each byte of the longest plan, and of one more.
+const MOST_READS: u32 = 2 * (MOST_RAW_BYTES as u32 + 1);
 
 /// For how many bytes a read has room at most.
 const ROOM: usize = 1_024;
@@ -32,27 +29,37 @@ pub(crate) fn plan_of_input<R: Read>(alloc: Global, input: &mut R) -> Result<Pla
     Ok(plan)
 }
 
-/// The bytes of the input, up to its end or to 65,537 of them, which are too many for a plan. It makes at most 131,074
-/// reads (this project's own rule).
+/// The bytes of the input, up to its end or to one more than a plan may have that begins so: to 65,537 of them, or to
+/// 16,777,217 where they begin with [`RAW_LINE`](sja_plan::RAW_LINE). It makes at most 33,554,434 reads (this project's
+/// own rule).
 ///
-/// Errors: [`CommandRefusal::Read`] where a read fails, or where that many reads come neither to the end nor to 65,537
+/// Errors: [`CommandRefusal::Read`] where a read fails, or where that many reads come neither to the end nor to as many
 /// bytes; [`CommandRefusal::OutOfMemory`].
 pub(crate) fn read_input<R: Read>(alloc: Global, input: &mut R) -> Result<Vec<u8>, CommandRefusal>
     ensures taken { IfOk result (λ bytes. Consumes (R.remaining input.old) (R.remaining input.new) bytes.items) }
-    ensures bound { IfOk result (λ bytes. length bytes.items ≤ 65537) }
-    ensures whole { IfOk result (λ bytes. length bytes.items < 65537 → IsAtEnd (R.remaining input.new)) }
+    ensures bound { IfOk result (λ bytes. length bytes.items ≤ most_read bytes.items) }
+    ensures whole { IfOk result (λ bytes.
+        length bytes.items < most_read bytes.items → IsAtEnd (R.remaining input.new)) }
     ensures err { IfErr result (RefusesInput (R.remaining input.old) (R.remaining input.new)) }
 {
     let mut bytes = Vec::new(alloc);
     let mut buffer = [0u8; ROOM];
     for _ in 0..MOST_READS {
-        let room = (MOST_READ - bytes.len()).min(ROOM);
+        let room = (most_read(bytes.as_slice()) - bytes.len()).min(ROOM);
         let count = read_once(input, &mut bytes, &mut buffer[..room])?;
-        if count == 0 || bytes.len() == MOST_READ {
+        if count == 0 || bytes.len() == most_read(bytes.as_slice()) {
             return Ok(bytes);
         }
     }
     Err(CommandRefusal::Read)
+}
+
+/// How many bytes are read at most where the first ones are these: one more than a plan may have that begins so.
+#[tactic(auto, using(crate::proofs::MostRead::most_few))]
+fn most_read(bytes: &[u8]) -> usize
+    ensures { result ≡ most_read bytes.now }
+{
+    most_bytes(bytes) + 1
 }
 
 /// Makes one read, of as many bytes as the buffer has at most, puts them behind those read before, and counts them.
@@ -61,12 +68,13 @@ fn read_once<R: Read>(
     bytes: &mut Vec<u8>,
     buffer: &mut [u8],
 ) -> Result<usize, CommandRefusal>
-    requires few { length bytes.old.items < 65537 }
-    requires room { length bytes.old.items + length buffer.old ≤ 65537 }
+    requires few { length bytes.old.items < most_read bytes.old.items }
+    requires room { length bytes.old.items + length buffer.old ≤ most_read bytes.old.items }
     ensures taken { (before : Option (List ℕ)) → Consumes before (R.remaining input.old) bytes.old.items
         → IfOk result (λ _. Consumes before (R.remaining input.new) bytes.new.items) }
     ensures count { IfOk result (λ count. length bytes.new.items ≡ length bytes.old.items + count) }
     ensures bound { IfOk result (λ count. count ≤ length buffer.old) }
+    ensures few { OnOk result (length bytes.new.items ≤ most_read bytes.new.items) }
     ensures end { IfOk result (λ count. count ≡ 0 → 0 < length buffer.old → IsAtEnd (R.remaining input.new)) }
     ensures err { (before : Option (List ℕ)) → Consumes before (R.remaining input.old) bytes.old.items
         → IfErr result (RefusesInput before (R.remaining input.new)) }

@@ -23,8 +23,8 @@ use std::thread::Threads;
 /// The status is 0 where the text was written, 1 where an argument, the plan or memory was refused, a run failed, or a
 /// read or a write failed, and 2 where the words don't parse, or ask for help or the version; then `err` has the
 /// parser's own text.
-/// `input` is read for a text of a run, with `--threads` or without, and for `check` and `sweep` alone: at most 65,537
-/// bytes of it, in at most 131,074 reads.
+/// `input` is read for a text of a run, with `--threads` or without, and for `check` and `sweep` alone: at most one
+/// byte more of it than a plan may have that begins so, in at most 33,554,434 reads.
 /// For `--threads`, and for `sweep --jobs` with more than one, alone it starts threads, and waits for them.
 /// The words, texts and statuses are this project's own rule.
 pub fn sja<T: Threads + Wait + Sync, S: AsStr, R: Read, O: Write, E: Write>(

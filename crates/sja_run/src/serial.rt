@@ -24,8 +24,8 @@ use std::io::{Read, Write};
 ///
 /// The status is 0 where the text was written, 1 where an argument, the plan or memory was refused or a read or a write
 /// failed, and 2 where the words don't parse, or ask for help or the version; then `err` has the parser's own text.
-/// `input` is read for a text of a run, for `check` and for `sweep` alone: at most 65,537 bytes of it, in at most
-/// 131,074 reads.
+/// `input` is read for a text of a run, for `check` and for `sweep` alone: at most one byte more of it than a plan may
+/// have that begins so, in at most 33,554,434 reads.
 /// The words, texts and statuses are this project's own rule.
 #[tactic(auto, using(crate::proofs::FewBytes::unread))]
 pub fn sja_serial<S: AsStr, R: Read, O: Write, E: Write>(

@@ -20,7 +20,7 @@ impl Gate for Tries {
 
     const QUITS: bool = true;
 
-    fn turn(&self, _node: u8, _step: u16, tries: u32) -> Pass
+    fn turn(&self, _node: u8, _step: u32, tries: u32) -> Pass
         ensures go { tries < 10000000 → result ≡ Go }
         ensures quit { 10000000 ≤ tries → result ≡ Quit }
     {

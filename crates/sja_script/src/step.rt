@@ -25,4 +25,6 @@ pub enum Step {
     Await(u8),
     /// Waits until the transmit buffer is released.
     Sent,
+    /// Waits until the interrupt line of the controller is active (SJA1000 data sheet, 6.4.6).
+    Interrupt,
 }

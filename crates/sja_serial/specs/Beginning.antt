@@ -14,7 +14,7 @@ pub record IsNewDriver (node steps : ℕ) (d : LoggedDriver) : Type 0 where
   pub room : HasRoom steps (log_of d)
   pub reset : is_out (driver_of d) ≡ false
   pub lawful : IsLawful d
-  pub traces : Traces (driver_of d) (log_of d) []
+  pub traces : (version : ℕ) → Traces version (driver_of d) (log_of d) []
 
 -- the first so many of them, by node
 abbrev pub AreNew : PlanValue → ℕ → List LoggedDriver → Type 0

@@ -21,7 +21,7 @@ use Rattle.sja_log.specs.Dated.{AreDone}
 -- deeds have led to the registers of its port
 pub record IsNode (version : ℕ) (steps : List Step) (j : List Entry) (deeds : List Deed) (driver : LoggedDriver)
     (port : Registers) (links : List Deques) (base : ℕ) : Type 0 where
-  pub traced : IsTraced steps deeds driver
+  pub traced : IsTraced version steps deeds driver
   pub linked : IsLinked j deeds driver links base
   pub ported : IsPorted version j deeds port
   pub asked : IsAsked j port

@@ -13,9 +13,11 @@ use Rattle.sja_serial.specs.Alike.{AreAlike}
 abbrev pub is_reset : List Entry → List Deed → Bool
 is_reset j deeds = not (is_active deeds) || off_by (place_of j).bits j (opened_by deeds)
 
--- its settings are those that the deeds have set, reset mode is as it must be, its activation is the driver's last one,
+-- it is of this version; its settings are those that the deeds have set, reset mode is as it must be, its activation is
+-- the driver's last one,
 -- the bits aren't spent, and an abort that stands was commanded
 pub record IsPorted (version : ℕ) (j : List Entry) (deeds : List Deed) (p : Registers) : Type 0 where
+  pub version_is : p.version ≡ version
   pub set : AreAlike p (settings_of version j deeds)
   pub reset : p.mode.rm ≡ is_reset j deeds
   pub activation : p.activation ≡ opened_by deeds

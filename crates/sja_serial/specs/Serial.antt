@@ -40,7 +40,7 @@ pub record HasNodes (nodes : ℕ) (r : SerialValue) : Type 0 where
   pub journals : length r.bus.journals ≡ nodes
   pub drivers : length r.drivers ≡ nodes
   pub ports : length r.ports ≡ nodes
-  pub links : length r.links ≡ 8 * nodes
+  pub links : length r.links ≡ 64 * nodes
 
 -- the run of a plan stands where its drivers did these deeds, a list for each node
 pub record StandsAt (plan : PlanValue) (r : SerialValue) (deeds : List (List Deed)) : Type 0 where
@@ -50,11 +50,13 @@ pub record StandsAt (plan : PlanValue) (r : SerialValue) (deeds : List (List Dee
   pub bits : r.bits ≡ r.bus.run
   pub count : HasNodes (length plan.nodes) r
   pub deeds_count : length deeds ≡ length plan.nodes
+  -- the bus has room for the steps of each driver
+  pub room : (node : ℕ) → node < length plan.nodes → length (steps_at plan node) ≤ slice_index_or r.bus.steps node 0
   pub ids : Numbered (λ (s : Deques). s.link) r.links
   pub own : (node : ℕ) (d : LoggedDriver) → node < length plan.nodes → node_of (slice_index_or r.drivers node d) ≡ node
   pub nodes : (node : ℕ) (d : LoggedDriver) (p : Registers) → node < length plan.nodes →
       IsNode plan.version (steps_at plan node) (journal_at r.bus.journals node) (deeds_at deeds node)
-      (slice_index_or r.drivers node d) (slice_index_or r.ports node p) r.links (8 * node)
+      (slice_index_or r.drivers node d) (slice_index_or r.ports node p) r.links (64 * node)
   -- where nothing is untold of a node its port shows what the node's record says
   pub shown : (node : ℕ) (p : Registers) → node < length plan.nodes → untold_at r.bus.untold node ≡ false →
       ShowsRecord (journal_at r.bus.journals node) (slice_index_or r.ports node p)
@@ -85,8 +87,8 @@ pub record NodeDoes (plan : PlanValue) (was now : SerialValue) (node : ℕ) (dee
 abbrev pub CannotStep : PlanValue → SerialValue → List (List Deed) → ℕ → Type 0
 CannotStep plan r deeds node =
     (length (steps_at plan node) ≤ length (deeds_at deeds node))
-    ⊎ ((s : Step) → HasToWait (journal_at r.bus.journals node) (deeds_at deeds node)
-    (slice_index_or (steps_at plan node) (length (deeds_at deeds node)) s))
+    ⊎ ((s : Step) (p : Registers) → HasToWait (slice_index_or r.ports node p) (journal_at r.bus.journals node)
+    (deeds_at deeds node) (slice_index_or (steps_at plan node) (length (deeds_at deeds node)) s))
 
 -- one turn of a node: these deeds more, at most so many; fewer only where the driver is stuck
 pub record TakesTurn (plan : PlanValue) (was now : SerialValue) (node count : ℕ)

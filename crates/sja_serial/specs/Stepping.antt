@@ -21,7 +21,8 @@ pub record DoesNext (plan : PlanValue) (was now : SerialValue) (node : ℕ) (dee
   pub step : (s : Step) → deed.step ≡ slice_index_or (steps_at plan node) (length (deeds_at deeds node)) s
   pub tells : (p : Registers) → Tells deed.step (is_active (deeds_at deeds node)) (slice_index_or was.ports node p)
       (seen_now (is_active (deeds_at deeds node)) (journal_at was.bus.journals node) (deeds_at deeds node)) deed.answer
-  pub fits : FitsState (is_active (deeds_at deeds node)) (opened_by (deeds_at deeds node)) deed.step deed.answer
+  pub fits : FitsState plan.version (is_active (deeds_at deeds node)) (opened_by (deeds_at deeds node)) deed.step
+      deed.answer
   pub sees : SeesIf (is_active (deeds_at deeds node)) (journal_at was.bus.journals node) (deeds_at deeds node) deed
   pub gave : (p : Registers) → deed.gave ≡ carried (slice_index_or was.ports node p) deed.step deed.answer
   pub journal : journal_at now.bus.journals node ≡ journal_at was.bus.journals node ++ entries_of_items deed.gave

@@ -18,7 +18,7 @@ pub(crate) fn new_drivers(alloc: Global, plan: &Plan) -> Result<Vec<LoggedDriver
     let nodes = plan.nodes();
     let mut drivers = Vec::with_capacity(alloc, nodes)?;
     for node in 0..nodes {
-        let steps = plan.steps(node).len() as u16;
+        let steps = plan.steps(node).len() as u32;
         let log = WorkLog::new(alloc, steps)?;
         drivers.push_reserved(LoggedDriver::new(node as u8, log));
     }

@@ -2,7 +2,7 @@
 //!
 //! [`run_serial`] runs a plan and gives the log of the run, with all that is promised of it.
 //!
-//! A [`SerialRun`] has the bus, and of each node its port, its eight links and its driver with the log of what it did.
+//! A [`SerialRun`] has the bus, and of each node its port, its links and its driver with the log of what it did.
 //! It is made of a plan ([`SerialRun::new`]), takes the turns of its nodes ([`SerialRun::node_turn`]), or a step of one
 //! ([`SerialRun::try_next`]), and those of the bus ([`SerialRun::bus_turn`], [`SerialRun::rest_turn`]), and ends with
 //! its log ([`SerialRun::finish`]). A bit that hasn't run can be struck too ([`SerialRun::strike`]). After each step of

@@ -3,7 +3,7 @@
 ghost use Rattle.std.specs.Prelude.{◌≡◌, ◌<◌, ℕ, List, [], length, replicate, slice_index_or, IfOk, IfErr};
 ghost use Rattle.sja_bus.specs.Buses.{new_bus};
 ghost use Rattle.sja_driver.specs.Deeds.{Deed};
-ghost use Rattle.sja_plan.specs.Plan.{NamesNode};
+ghost use Rattle.sja_plan.specs.Plan.{NamesNode, step_counts};
 ghost use Rattle.sja_log.specs.Headline.{IsAccount};
 ghost use Rattle.sja_log.specs.Log.{NodeValue};
 ghost use Rattle.sja_log.specs.Runs.{IsSerialRun};
@@ -41,7 +41,8 @@ pub fn run_serial(alloc: Global, plan: &Plan) -> Result<RunLog, RunFault>
 /// Takes the turns of a plan, one after the other, and says why the run ends: all are done, or the bits were spent.
 fn take_turns(run: &mut SerialRun, plan: &Plan) -> End
     requires stands { StandsAt plan.now run.old (replicate (length plan.now.nodes) []) }
-    requires bus { run.old.bus ≡ new_bus plan.now.strikes plan.now.bits (length plan.now.nodes) }
+    requires bus { run.old.bus ≡ new_bus plan.now.strikes plan.now.bits (length plan.now.nodes)
+        (step_counts plan.now) }
     ensures { TakesTurns plan.now run.new result }
 {
     for turn in plan.turns() {

@@ -41,6 +41,7 @@ impl Model for SerialRun {
 impl SerialRun {
     ghost use Rattle.std.specs.Prelude.{◌≡◌, [], length, replicate, IfOk};
     ghost use Rattle.sja_bus.specs.Buses.{new_bus};
+    ghost use Rattle.sja_plan.specs.Plan.{step_counts};
     ghost use Rattle.sja_serial.specs.Serial.{StandsAt};
 
     /// A run of this plan to which nothing happened. All its room is made here.
@@ -48,11 +49,13 @@ impl SerialRun {
     /// Error: [`OutOfMemory`] where memory was refused.
     pub fn new(alloc: Global, plan: &Plan) -> Result<SerialRun, OutOfMemory>
         ensures stands { IfOk result (λ r. StandsAt plan.now r (replicate (length plan.now.nodes) [])) }
-        ensures bus { IfOk result (λ r. r.bus ≡ new_bus plan.now.strikes plan.now.bits (length plan.now.nodes)) }
+        ensures bus { IfOk result (λ r. r.bus ≡ new_bus plan.now.strikes plan.now.bits (length plan.now.nodes)
+            (step_counts plan.now)) }
     {
         let nodes = plan.nodes() as u8;
         let script = script_of(alloc, plan)?;
-        let bus = Bus::new(alloc, nodes, plan.bits(), script)?;
+        let steps = plan.step_counts(alloc)?;
+        let bus = Bus::new(alloc, plan.bits(), steps, script)?;
         let board = SerialBoard::new(alloc, nodes, plan.version())?;
         let links = serial_links(alloc, nodes)?;
         let drivers = new_drivers(alloc, plan)?;

@@ -17,6 +17,7 @@ use Rattle.sja_serial.specs.Serial.{with_deeds}
 use Rattle.sja_session.specs.Inside.Accessing.{Does, IsRaw}
 use Rattle.sja_session.specs.RawSessions.{RawValue, DoesSteps, MayDo, HasTurnFor, kept_in, moved_by}
 use Rattle.sja_session.specs.RawSessions.DoesSteps.{none, more}
+use Rattle.sja_session.specs.declared.session_room.SessionRoom.{SessionRoom}
 use Rattle.sja_session.specs.declared.turns_used.TurnsUsed.{TurnsUsed}
 use Rattle.sja_session.specs.declared.watched.Watched.{Watched}
 use Rattle.sja_session.specs.Watching.{Watches}
@@ -78,7 +79,9 @@ module _ {was now : SessionValue} {node : ℕ} {step : Step} {answer : StepAnswe
   pub may_more : (count : ℕ) → MayDo was node (count + 1) → MayDo now node count
   may_more count may = record {
     there = let n = nodes_are in omega (arith, n, there);
-    left = let n = one_more in let l = may.left in omega (arith, n, l);
+    left =
+        let n = one_more in let l = may.left in let room = ap (λ (r : SessionRoom). r.steps) does.room in
+        omega (arith, n, l, room);
     turn = inr turn_goes_on;
   }
 

@@ -8,12 +8,14 @@ use Rattle.sja_driver.specs.Deeds.{Deed}
 use Rattle.sja_serial.specs.Bits.{TakesBusTurn}
 use Rattle.sja_serial.specs.Serial.{SerialValue}
 use Rattle.sja_session.specs.Running.{RunsBits}
+use Rattle.sja_session.specs.declared.session_room.SessionRoom.{SessionRoom}
 use Rattle.sja_session.specs.Sessions.{session_of, IsAt}
 use Rattle.sja_session.specs.Turning.{with_turn}
 use Rattle.sja_session.proofs.AfterBits as after
 
-module _ (plan : PlanValue) (was now : SerialValue) (turns : List Turn) (deeds : List (List Deed)) (count run : ℕ)
-    (all : Bool) (h : IsAt (session_of was plan turns) deeds) (t : TakesBusTurn plan deeds was now count all)
+module _ {room : SessionRoom} (plan : PlanValue) (was now : SerialValue) (turns : List Turn)
+    (deeds : List (List Deed)) (count run : ℕ)
+    (all : Bool) (h : IsAt (session_of room was plan turns) deeds) (t : TakesBusTurn plan deeds was now count all)
     (is : run ≡ now.bits - was.bits) where
   abbrev AnyTime : SerialValue → Type 0
   AnyTime r = Unit {0}
@@ -29,27 +31,29 @@ module _ (plan : PlanValue) (was now : SerialValue) (turns : List Turn) (deeds :
       let s = t.spent e in let r = after.run_is plan was now turns deeds AnyTime t.run run h t.bits is in
       let f = s.0 in (omega (arith, f, r), inr s.1)
 
-  pub at_some : IsAt (session_of now plan (with_turn turns (Bus run))) deeds
+  pub at_some : IsAt (session_of room now plan (with_turn turns (Bus run))) deeds
   at_some = after.at_some plan was now turns deeds AnyTime t.run run h t.bits is
 
-  pub at_none : run ≡ 0 → IsAt (session_of now plan turns) deeds
+  pub at_none : run ≡ 0 → IsAt (session_of room now plan turns) deeds
   at_none none = after.at_none plan was now turns deeds AnyTime t.run run h t.bits is none
 
   pub runs_some : 0 < run →
-      RunsBits (session_of was plan turns) (session_of now plan (with_turn turns (Bus run))) count run deeds
+      RunsBits (session_of room was plan turns) (session_of room now plan (with_turn turns (Bus run))) count run deeds
   runs_some some = record {
     bits = after.bits_now plan was now turns deeds AnyTime t.run run h t.bits is;
     most = (within all refl).0;
     whole = (within all refl).1;
     at = at_some;
+    room = refl;
     wrote = after.some_wrote plan was now turns deeds AnyTime t.run run h t.bits is run refl some;
   }
 
-  pub runs_none : run ≡ 0 → RunsBits (session_of was plan turns) (session_of now plan turns) count run deeds
+  pub runs_none : run ≡ 0 → RunsBits (session_of room was plan turns) (session_of room now plan turns) count run deeds
   runs_none none = record {
     bits = after.bits_now plan was now turns deeds AnyTime t.run run h t.bits is;
     most = (within all refl).0;
     whole = (within all refl).1;
     at = at_none none;
+    room = refl;
     wrote = after.none_wrote plan was now turns deeds AnyTime t.run run h t.bits is run none;
   }

@@ -1,5 +1,5 @@
 -- A session that looked at an interrupt line.
-use Rattle.std.proofs.Common.{◌≡◌, ℕ, Bool, List, length, map, sym, ap, ◌∙◌, subst}
+use Rattle.std.proofs.Common.{◌≡◌, ℕ, Bool, List, length, map, refl, sym, ap, ◌∙◌, subst}
 use Rattle.std.specs.Prelude.{reverse, slice_index_or}
 use Rattle.sja_wire.specs.Wire.{journal_at}
 use Rattle.sja_plan.specs.declared.turn.Turn.{Turn}
@@ -12,14 +12,16 @@ use Rattle.sja_log.specs.Registering.{seen_now}
 use Rattle.sja_log.specs.Turns.{Progress}
 use Rattle.sja_serial.specs.Serial.{SerialValue, StandsAt}
 use Rattle.sja_session.specs.Lines.{Looks}
+use Rattle.sja_session.specs.declared.session_room.SessionRoom.{SessionRoom}
 use Rattle.sja_session.specs.Sessions.{session_of, Took, start_of, IsAt, IsSession}
 use Rattle.sja_session.specs.Writing.{fronts}
 use Rattle.sja_session.proofs.Written.{counts_are}
 
-module _ (plan : PlanValue) (was now : SerialValue) (turns : List Turn) (bits : now.bits ≡ was.bits)
+module _ {room : SessionRoom} (plan : PlanValue) (was now : SerialValue) (turns : List Turn)
+    (bits : now.bits ≡ was.bits)
     (stands : (deeds : List (List Deed)) → StandsAt plan was deeds → StandsAt plan now deeds) where
-  pub still_at : (deeds : List (List Deed)) → IsAt (session_of was plan turns) deeds →
-      IsAt (session_of now plan turns) deeds
+  pub still_at : (deeds : List (List Deed)) → IsAt (session_of room was plan turns) deeds →
+      IsAt (session_of room now plan turns) deeds
   still_at deeds h = record {
     stands = stands deeds h.stands;
     took = subst (λ (n : ℕ). Took deeds (start_of (length plan.nodes)) (reverse turns)
@@ -27,23 +29,25 @@ module _ (plan : PlanValue) (was now : SerialValue) (turns : List Turn) (bits : 
         h.took;
   }
 
-  pub still_session : (capacity : ℕ) → IsSession (session_of was plan turns) capacity →
-      IsSession (session_of now plan turns) capacity
+  pub still_session : (capacity : ℕ) → IsSession (session_of room was plan turns) capacity →
+      IsSession (session_of room now plan turns) capacity
   still_session capacity inv = record {
     deeds = inv.deeds;
     at = still_at inv.deeds inv.at;
     bits = inv.bits;
     places = inv.places;
+    steps = inv.steps;
+    most = inv.most;
     room = inv.room;
     few = inv.few;
     names = inv.names;
   }
 
-  pub looks : (node : ℕ) (line : Bool) (deeds : List (List Deed)) → IsAt (session_of was plan turns) deeds →
+  pub looks : (node : ℕ) (line : Bool) (deeds : List (List Deed)) → IsAt (session_of room was plan turns) deeds →
       now.bus ≡ was.bus → now.ports ≡ was.ports →
       ((p : Registers) → line ≡ is_line_active (slice_index_or was.ports node p)
       (seen_now (is_active (deeds_at deeds node)) (journal_at was.bus.journals node) (deeds_at deeds node))) →
-      Looks (session_of was plan turns) (session_of now plan turns) node line deeds
+      Looks (session_of room was plan turns) (session_of room now plan turns) node line deeds
   looks node line deeds h bus ports is = record {
     is = is;
     still = record {
@@ -51,6 +55,7 @@ module _ (plan : PlanValue) (was now : SerialValue) (turns : List Turn) (bits : 
       bus = bus;
       bits = bits;
       ports = ports;
+      room = refl;
       wrote = ap (λ l. plan_of plan.version plan.bits (fronts l plan.nodes) turns plan.strikes)
           (counts_are plan now deeds (stands deeds h.stands) ∙ sym (counts_are plan was deeds h.stands));
     };

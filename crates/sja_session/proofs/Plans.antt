@@ -61,17 +61,20 @@ stands_by p q r deeds version bits strikes count fits h = record {
     journals = h.count.journals ∙ sym count;
     drivers = h.count.drivers ∙ sym count;
     ports = h.count.ports ∙ sym count;
-    links = h.count.links ∙ ap (λ n. 8 * n) (sym count);
+    links = h.count.links ∙ ap (λ n. 64 * n) (sym count);
   };
   deeds_count = h.deeds_count ∙ sym count;
+  room = λ node less.
+      let there : node < length p.nodes = omega (arith, less, count) in
+      let few = (fits node there).long in let r = h.room node there in omega (arith, few, r);
   ids = h.ids;
   own = λ node d less. h.own node d (omega (arith, less, count));
   nodes = λ node d port less.
       let there : node < length p.nodes = omega (arith, less, count) in
       subst (λ (v : ℕ). IsNode v (steps_at q node) (journal_at r.bus.journals node) (deeds_at deeds node)
-      (slice_index_or r.drivers node d) (slice_index_or r.ports node port) r.links (8 * node)) (sym version)
+      (slice_index_or r.drivers node d) (slice_index_or r.ports node port) r.links (64 * node)) (sym version)
       (node_by p.version (steps_at p node) (steps_at q node) (journal_at r.bus.journals node) (deeds_at deeds node)
-      (slice_index_or r.drivers node d) (slice_index_or r.ports node port) r.links (8 * node) (fits node there)
+      (slice_index_or r.drivers node d) (slice_index_or r.ports node port) r.links (64 * node) (fits node there)
       (h.nodes node d port there));
   shown = λ node port less told. h.shown node port (omega (arith, less, count)) told;
 }

@@ -12,6 +12,7 @@ use Rattle.sja_log.specs.Registering.{seen_now}
 use Rattle.sja_serial.proofs.WholeRun.GoingOn.{bits_run}
 use Rattle.sja_session.specs.Lines.{IsStill, line_at}
 use Rattle.sja_session.specs.Running.{RunsBits, MayRun}
+use Rattle.sja_session.specs.declared.session_room.SessionRoom.{SessionRoom}
 use Rattle.sja_session.specs.Sessions.{SessionValue, IsAt}
 use Rattle.sja_session.specs.Turning.{goes_on_latest}
 use Rattle.sja_session.specs.Watching.{Quiet, Watches, risen, rises}
@@ -32,7 +33,7 @@ one_run was now deeds run r less = subst (λ (n : ℕ). RunsBits was now 1 n dee
 -- ---- looks
 
 pub still_same : (s : SessionValue) (deeds : List (List Deed)) → IsAt s deeds → IsStill s s deeds
-still_same s deeds h = record { at = h; bus = refl; bits = refl; ports = refl; wrote = refl }
+still_same s deeds h = record { at = h; bus = refl; bits = refl; ports = refl; room = refl; wrote = refl }
 
 pub still_then : {a b c : SessionValue} {deeds : List (List Deed)} → IsStill a b deeds → IsStill b c deeds →
     IsStill a c deeds
@@ -41,6 +42,7 @@ still_then first second = record {
   bus = second.bus ∙ first.bus;
   bits = second.bits ∙ first.bits;
   ports = second.ports ∙ first.ports;
+  room = second.room ∙ first.room;
   wrote = second.wrote ∙ first.wrote;
 }
 
@@ -57,8 +59,10 @@ may_still {was} {now} {deeds} s (inl (inl few)) = inl (inl few)
 may_still {was} {now} {deeds} s (inl (inr over)) =
     let p = ap (λ (p : PlanValue). p.bits) s.wrote in let b = s.bits in inl (inr (omega (arith, over, p, b)))
 may_still {was} {now} {deeds} s (inr has) =
-    inr (subst (λ l. (length l < 10000) ⊎ (goes_on_latest (reverse l) (Bus 1) ≡ true))
-    (sym (ap (λ (p : PlanValue). p.turns) s.wrote)) has)
+    inr (subst (λ (r : SessionRoom). (length now.turns < r.turns) ⊎ (goes_on_latest (reverse now.turns) (Bus 1) ≡ true))
+    (sym s.room)
+    (subst (λ l. (length l < was.room.turns) ⊎ (goes_on_latest (reverse l) (Bus 1) ≡ true))
+    (sym (ap (λ (p : PlanValue). p.turns) s.wrote)) has))
 
 -- ---- bits
 

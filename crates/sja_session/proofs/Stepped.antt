@@ -1,5 +1,5 @@
 -- A step of a session.
-use Rattle.std.proofs.Common.{◌≡◌, ℕ, suc, ◌<◌, List, [], ◌∷◌, ◌++◌, length, map, take, sym, ap, ◌∙◌}
+use Rattle.std.proofs.Common.{◌≡◌, ℕ, suc, ◌<◌, List, [], ◌∷◌, ◌++◌, length, map, take, refl, sym, ap, ◌∙◌}
 use Rattle.std.proofs.Common.{subst, arith, inl, inr}
 use Rattle.std.specs.Prelude.{Some, reverse, set, slice_index, slice_index_or, slice_set}
 use Rattle.std.proofs.lemmas.List.{length-append, length-map, length-set, get_or-set_same, get_or-set_other}
@@ -9,6 +9,7 @@ use Rattle.sja_plan.specs.declared.turn.Turn.{Turn}
 use Rattle.sja_plan.specs.declared.turn.Turn.TheVariants.{Node}
 use Rattle.sja_plan.specs.Growing.{plan_of, with_step}
 use Rattle.sja_plan.specs.Plan.{PlanValue, steps_at}
+use Rattle.sja_regs.specs.declared.registers.Registers.{Registers}
 use Rattle.sja_regs.specs.Registers.{at_power_on}
 use Rattle.sja_script.specs.declared.done.Done.{Done}
 use Rattle.sja_script.specs.declared.step.Step.{Step}
@@ -26,6 +27,7 @@ use Rattle.sja_serial.specs.Waiting.{HasToWait}
 use Rattle.sja_serial.proofs.AllNodes.Slices.{no_deeds}
 use Rattle.sja_serial.proofs.WholeRun.GoingOn.{lengths_set}
 use Rattle.sja_session.specs.Answering.{last_of, last_answer}
+use Rattle.sja_session.specs.declared.session_room.SessionRoom.{SessionRoom}
 use Rattle.sja_session.specs.Sessions.{session_of, Took, start_of, IsAt, IsSession, AreNamed, written}
 use Rattle.sja_session.specs.Stepping.{HasTurn, DoesStep, Waits}
 use Rattle.sja_session.specs.Turning.{with_turn}
@@ -44,9 +46,10 @@ last_answered plan r deeds node d h there =
     ap (λ l. last_of (λ (x : Done). x.answer) l) (sym (h.nodes node d (at_power_on 1) there).traced.traces.done)
     ∙ last_mapped (λ (x : Done). x.answer) done_of (deeds_at deeds node)
 
-module _ (plan : PlanValue) (was now : SerialValue) (turns : List Turn) (deeds : List (List Deed)) (node at : ℕ)
+module _ {room : SessionRoom} (plan : PlanValue) (was now : SerialValue) (turns : List Turn)
+    (deeds : List (List Deed)) (node at : ℕ)
     (one : Step) (there : node < length plan.nodes) (is : at ≡ length (deeds_at deeds node))
-    (long : at < length (steps_at plan node)) (h : IsAt (session_of was plan turns) deeds) where
+    (long : at < length (steps_at plan node)) (h : IsAt (session_of room was plan turns) deeds) where
   abbrev then : PlanValue
   then = with_step plan node at one
 
@@ -110,8 +113,8 @@ module _ (plan : PlanValue) (was now : SerialValue) (turns : List Turn) (deeds :
         ∙ ap (λ l. set (fronts (done_counts was) plan.nodes) node (l ++ one ∷ []))
         (sym (fronts_at (done_counts was) plan.nodes node ∙ ap (λ m. take m (steps_at plan node)) counted))
 
-    wrote_it : written (session_of now then (with_turn turns (Node node 1)))
-        ≡ with_step_done (written (session_of was plan turns)) node one
+    wrote_it : written (session_of room now then (with_turn turns (Node node 1)))
+        ≡ with_step_done (written (session_of room was plan turns)) node one
     wrote_it = ap (λ l. plan_of plan.version plan.bits l (with_turn turns (Node node 1)) plan.strikes) nodes_written
 
     took_it : Took after (start_of (length then.nodes)) (reverse (with_turn turns (Node node 1))) (progress now after)
@@ -130,11 +133,11 @@ module _ (plan : PlanValue) (was now : SerialValue) (turns : List Turn) (deeds :
         of_node : (k x : ℕ) → Node node 1 ≡ Node k x → node ≡ k
         of_node k x e = cc
 
-    pub at_it : IsAt (session_of now then (with_turn turns (Node node 1))) after
+    pub at_it : IsAt (session_of room now then (with_turn turns (Node node 1))) after
     at_it = record { stands = t.does.stands; took = took_it }
 
-    pub does_step : (answer : StepAnswer) → d.answer ≡ answer → DoesStep (session_of was plan turns)
-        (session_of now then (with_turn turns (Node node 1))) node one answer deeds
+    pub does_step : (answer : StepAnswer) → d.answer ≡ answer → DoesStep (session_of room was plan turns)
+        (session_of room now then (with_turn turns (Node node 1))) node one answer deeds
     does_step answer same = record {
       deed = d;
       is = step_is;
@@ -147,8 +150,8 @@ module _ (plan : PlanValue) (was now : SerialValue) (turns : List Turn) (deeds :
           (seen_now (is_active (deeds_at deeds node)) (journal_at was.bus.journals node) (deeds_at deeds node)) a)
           same (t.tells p));
       fits = let active = is_active (deeds_at deeds node) in let opened = opened_by (deeds_at deeds node) in
-          subst (λ (s : Step). FitsState active opened s answer) step_is
-          (subst (λ (a : StepAnswer). FitsState active opened d.step a) same t.fits);
+          subst (λ (s : Step). FitsState plan.version active opened s answer) step_is
+          (subst (λ (a : StepAnswer). FitsState plan.version active opened d.step a) same t.fits);
       sees = t.sees;
       gave = λ p. t.gave p ∙ (λ i. carried (slice_index_or was.ports node p) (step_is i) (same i));
       journal = t.journal;
@@ -157,6 +160,7 @@ module _ (plan : PlanValue) (was now : SerialValue) (turns : List Turn) (deeds :
           ∙ (λ i. slice_set was.ports node (ported (slice_index_or was.ports node p) (step_is i) (same i)));
       at = at_it;
       bits = t.does.bits;
+      room = refl;
       wrote = wrote_it;
     }
 
@@ -166,7 +170,8 @@ module _ (plan : PlanValue) (was now : SerialValue) (turns : List Turn) (deeds :
     stands_still : StandsAt then now deeds
     stands_still = subst (λ (l : List (List Deed)). StandsAt then now l) (no_deeds deeds node) t.does.stands
 
-    why_it : CannotStep then now deeds node → HasToWait (journal_at was.bus.journals node) (deeds_at deeds node) one
+    why_it : CannotStep then now deeds node → HasToWait (slice_index_or was.ports node (at_power_on 1))
+        (journal_at was.bus.journals node) (deeds_at deeds node) one
     why_it (inl over) =
         let e = ap (λ l. length l) steps_there in let n = length-set (steps_at plan node) at one in
         absurd (omega (arith, over, e, n, is, long))
@@ -174,45 +179,50 @@ module _ (plan : PlanValue) (was now : SerialValue) (turns : List Turn) (deeds :
         let n = nodes_same in
         let same : journal_at now.bus.journals node ≡ journal_at was.bus.journals node =
         t.journals node (omega (arith, n, there)) in
-        subst (λ j. HasToWait j (deeds_at deeds node) one) same
-        (subst (λ (s : Step). HasToWait (journal_at now.bus.journals node) (deeds_at deeds node) s) (next_is one)
-        (waits one))
+        let p = at_power_on 1 in
+        let port : slice_index_or now.ports node p ≡ slice_index_or was.ports node p =
+        ap (λ (l : List Registers). slice_index_or l node p) t.ports in
+        subst (λ j. HasToWait (slice_index_or was.ports node p) j (deeds_at deeds node) one) same
+        (subst (λ (r : Registers). HasToWait r (journal_at now.bus.journals node) (deeds_at deeds node) one) port
+        (subst (λ (s : Step). HasToWait (slice_index_or now.ports node p) (journal_at now.bus.journals node)
+        (deeds_at deeds node) s) (next_is one) (waits one p)))
 
     counts_same : done_counts now ≡ done_counts was
     counts_same = counts_are then now deeds stands_still ∙ sym (counts_are plan was deeds h.stands)
 
-    wrote_same : written (session_of now then turns) ≡ written (session_of was plan turns)
+    wrote_same : written (session_of room now then turns) ≡ written (session_of room was plan turns)
     wrote_same = ap (λ l. plan_of plan.version plan.bits l turns plan.strikes)
         (ap (λ l. fronts l then.nodes) counts_same
         ∙ fronts_kept (done_counts was) plan.nodes node at one counted)
 
-    pub still_at : IsAt (session_of now then turns) deeds
+    pub still_at : IsAt (session_of room now then turns) deeds
     still_at = record {
       stands = stands_still;
       took = subst (λ (n : ℕ). Took deeds (start_of n) (reverse turns) (progress now deeds)) (sym nodes_same)
           (took_same deeds (start_of (length plan.nodes)) (reverse turns) was now t.does.bits h.took);
     }
 
-    pub waits_step : Waits (session_of was plan turns) (session_of now then turns) node one deeds
+    pub waits_step : Waits (session_of room was plan turns) (session_of room now then turns) node one deeds
     waits_step = record {
       why = why_it t.why;
       at = still_at;
       bits = t.does.bits;
       ports = t.ports;
       journals = λ m less. t.journals m (let n = nodes_same in omega (arith, n, less));
+      room = refl;
       wrote = wrote_same;
     }
 
 -- ---- what holds of every session holds after it
 
 -- each node has as many places as before
-places_set : (plan : PlanValue) (node at : ℕ) (one : Step) → node < length plan.nodes →
-    ((m : ℕ) → m < length plan.nodes → length (steps_at plan m) ≡ 1000) → (m : ℕ) →
-    m < length (with_step plan node at one).nodes → length (steps_at (with_step plan node at one) m) ≡ 1000
-places_set plan node at one there places m less =
+places_set : (most : ℕ) (plan : PlanValue) (node at : ℕ) (one : Step) → node < length plan.nodes →
+    ((m : ℕ) → m < length plan.nodes → length (steps_at plan m) ≡ most) → (m : ℕ) →
+    m < length (with_step plan node at one).nodes → length (steps_at (with_step plan node at one) m) ≡ most
+places_set most plan node at one there places m less =
     let n = length-set plan.nodes node (set (steps_at plan node) at one) in
     let inside : m < length plan.nodes = omega (arith, less, n) in elim (cases_eq node m) [
-      | inl e ↦ subst (λ (x : ℕ). length (steps_at (with_step plan node at one) x) ≡ 1000) e
+      | inl e ↦ subst (λ (x : ℕ). length (steps_at (with_step plan node at one) x) ≡ most) e
           (ap (λ (l : List Step). length l) (get_or-set_same plan.nodes node (set (steps_at plan node) at one) [] there)
           ∙ length-set (steps_at plan node) at one ∙ places node there)
       | inr differ ↦ ap (λ (l : List Step). length l)
@@ -220,33 +230,38 @@ places_set plan node at one there places m less =
           ∙ places m inside
     ]
 
-module _ (plan : PlanValue) (was now : SerialValue) (turns : List Turn) (node at : ℕ) (one : Step) (capacity : ℕ)
-    (inv : IsSession (session_of was plan turns) capacity) (there : node < length plan.nodes)
+module _ {room : SessionRoom} (plan : PlanValue) (was now : SerialValue) (turns : List Turn) (node at : ℕ)
+    (one : Step) (capacity : ℕ)
+    (inv : IsSession (session_of room was plan turns) capacity) (there : node < length plan.nodes)
     (is : at ≡ length (deeds_at inv.deeds node)) (long : at < length (steps_at plan node)) where
   same_count : length (with_step plan node at one).nodes ≡ length plan.nodes
   same_count = length-set plan.nodes node (set (steps_at plan node) at one)
 
-  pub after_done : HasTurn (session_of was plan turns) (Node node 1) →
+  pub after_done : HasTurn (session_of room was plan turns) (Node node 1) →
       DoesNext (with_step plan node at one) was now node inv.deeds →
-      IsSession (session_of now (with_step plan node at one) (with_turn turns (Node node 1))) capacity
+      IsSession (session_of room now (with_step plan node at one) (with_turn turns (Node node 1))) capacity
   after_done left t = record {
     deeds = with_deeds inv.deeds node (t.deed ∷ []);
     at = at_it plan was now turns inv.deeds node at one there is long inv.at t;
     bits = inv.bits;
-    places = places_set plan node at one there inv.places;
+    places = places_set room.steps plan node at one there inv.places;
+    steps = inv.steps;
+    most = inv.most;
     room = inv.room;
-    few = few_turns (Node node 1) turns left inv.few;
+    few = few_turns room.turns (Node node 1) turns left inv.few;
     names = subst (λ n. AreNamed n (reverse (with_turn turns (Node node 1)))) (sym same_count)
         (named_turns (length plan.nodes) (Node node 1) turns there inv.names);
   }
 
   pub after_waiting : DoesNothing (with_step plan node at one) was now node inv.deeds →
-      IsSession (session_of now (with_step plan node at one) turns) capacity
+      IsSession (session_of room now (with_step plan node at one) turns) capacity
   after_waiting t = record {
     deeds = inv.deeds;
     at = still_at plan was now turns inv.deeds node at one there is long inv.at t;
     bits = inv.bits;
-    places = places_set plan node at one there inv.places;
+    places = places_set room.steps plan node at one there inv.places;
+    steps = inv.steps;
+    most = inv.most;
     room = inv.room;
     few = inv.few;
     names = subst (λ n. AreNamed n (reverse turns)) (sym same_count) inv.names;

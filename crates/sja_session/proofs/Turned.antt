@@ -25,26 +25,29 @@ by_choice : (P : List Turn → Type 0) (b : Bool) (xs ys : List Turn) → (b ≡
 by_choice P true xs ys goes stays = goes refl
 by_choice P false xs ys goes stays = stays refl
 
-few_latest : (t : Turn) (l : List Turn) → (length l < 10000) ⊎ (goes_on_latest l t ≡ true) → length l ≤ 10000 →
-    length (on_latest t l) ≤ 10000
-few_latest t [] left few = omega arith
-few_latest t (u ∷ earlier) left few = by_choice (λ l. length l ≤ 10000) (goes_on u t) (enlarged u (size_of t) ∷ earlier)
+few_latest : (most : ℕ) (t : Turn) (l : List Turn) → (length l < most) ⊎ (goes_on_latest l t ≡ true) → length l ≤ most →
+    length (on_latest t l) ≤ most
+few_latest most t [] (inl less) few = omega (arith, less)
+few_latest most t [] (inr goes) few = absurd cc
+few_latest most t (u ∷ earlier) left few = by_choice (λ l. length l ≤ most) (goes_on u t) (enlarged u (size_of t) ∷
+    earlier)
     (t ∷ u ∷ earlier) (λ goes. omega (arith, few)) (λ stays. new left stays)
   where
-    new : (length (u ∷ earlier) < 10000) ⊎ (goes_on u t ≡ true) → goes_on u t ≡ false →
-        length (t ∷ u ∷ earlier) ≤ 10000
+    new : (length (u ∷ earlier) < most) ⊎ (goes_on u t ≡ true) → goes_on u t ≡ false →
+        length (t ∷ u ∷ earlier) ≤ most
     new (inl less) stays = omega (arith, less)
     new (inr goes) stays = absurd cc
 
 -- a session whose turns have one more has few still
-pub few_turns : (t : Turn) (turns : List Turn) → (length turns < 10000) ⊎ (goes_on_latest (reverse turns) t ≡ true) →
-    length turns ≤ 10000 → length (with_turn turns t) ≤ 10000
-few_turns t turns left few =
+pub few_turns : (most : ℕ) (t : Turn) (turns : List Turn) → (length turns < most) ⊎ (goes_on_latest (reverse turns) t ≡
+    true) →
+    length turns ≤ most → length (with_turn turns t) ≤ most
+few_turns most t turns left few =
     let n = length-reverse turns in let m = length-reverse (on_latest t (reverse turns)) in
-    let f = few_latest t (reverse turns) (by left) (omega (arith, n, few)) in omega (arith, m, f)
+    let f = few_latest most t (reverse turns) (by left) (omega (arith, n, few)) in omega (arith, m, f)
   where
-    by : (length turns < 10000) ⊎ (goes_on_latest (reverse turns) t ≡ true) →
-        (length (reverse turns) < 10000) ⊎ (goes_on_latest (reverse turns) t ≡ true)
+    by : (length turns < most) ⊎ (goes_on_latest (reverse turns) t ≡ true) →
+        (length (reverse turns) < most) ⊎ (goes_on_latest (reverse turns) t ≡ true)
     by (inl less) = let n = length-reverse turns in inl (omega (arith, n, less))
     by (inr goes) = inr goes
 

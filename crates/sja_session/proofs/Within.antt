@@ -16,19 +16,20 @@ few_deeds [] most few k = omega arith
 few_deeds (x ∷ xs) most few zero = few 0 (omega arith)
 few_deeds (x ∷ xs) most few (suc k) = few_deeds xs most (λ i less. few (suc i) (omega (arith, less))) k
 
-module _ (s : SessionValue) (deeds : List (List Deed)) (h : IsAt s deeds) (few : s.plan.bits ≤ 200000)
-    (places : (node : ℕ) → node < length s.plan.nodes → length (steps_at s.plan node) ≡ 1000) where
+module _ (s : SessionValue) (deeds : List (List Deed)) (h : IsAt s deeds) (few : s.plan.bits ≤ 2000000)
+    (places : (node : ℕ) → node < length s.plan.nodes → length (steps_at s.plan node) ≡ s.room.steps)
+    (steps : s.room.steps ≤ 196605) where
   -- no more bits were run than the plan has
   pub bits_few : s.run.bits ≤ s.plan.bits
   bits_few = let a = h.stands.all_bits in let b = h.stands.bits in omega (arith, a, b)
 
   -- and of no node more steps are done than it has places
-  pub steps_few : (k : ℕ) → length (deeds_at deeds k) ≤ 1000
-  steps_few = few_deeds deeds 1000 (λ k less.
+  pub steps_few : (k : ℕ) → length (deeds_at deeds k) ≤ 196605
+  steps_few = few_deeds deeds 196605 (λ k less.
       let c = h.stands.deeds_count in let w = within_at s.plan s.run deeds h.stands k (omega (arith, less, c)) in
-      let p = places k (omega (arith, less, c)) in omega (arith, w, p))
+      let p = places k (omega (arith, less, c)) in omega (arith, w, p, steps))
 
   -- so the last turn isn't large
-  pub last_few : latest_size (reverse s.turns) ≤ 200000
-  last_few = latest_few deeds (start_of (length s.plan.nodes)) (reverse s.turns) (progress s.run deeds) 200000
+  pub last_few : latest_size (reverse s.turns) ≤ 2000000
+  last_few = latest_few deeds (start_of (length s.plan.nodes)) (reverse s.turns) (progress s.run deeds) 2000000
       (let b = bits_few in omega (arith, b, few)) (λ k. let n = steps_few k in omega (arith, n)) h.took

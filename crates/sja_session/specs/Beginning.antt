@@ -1,25 +1,42 @@
 -- How a session begins (this project's own rule).
 use Rattle.std.specs.Prelude.{◌≤◌, ◌<◌, ◌⊎◌, ℕ}
+use Rattle.sja_plan.specs.Limits.{most_bits, most_steps, most_turns}
 use Rattle.sja_session.specs.declared.session_fault.SessionFault.{SessionFault}
 use Rattle.sja_session.specs.declared.session_fault.SessionFault.TheVariants.{Version, Bits, NodeCount, Memory}
+use Rattle.sja_session.specs.declared.session_fault.SessionFault.TheVariants.{StepRoom, TurnRoom}
+use Rattle.sja_session.specs.declared.session_room.SessionRoom.{SessionRoom}
 
--- these are within the limits of a session
+-- room for as much as a plan of this version has at most
+abbrev pub most_room : ℕ → SessionRoom
+most_room version = record { steps = most_steps version; turns = most_turns version }
+
+-- these are within the limits of a session, which are those of a plan of its version
 abbrev pub IsVersion : ℕ → Type 0
 IsVersion version = (1 ≤ version) × (version ≤ 3)
 
-abbrev pub IsBitCount : ℕ → Type 0
-IsBitCount bits = (1 ≤ bits) × (bits ≤ 200000)
+abbrev pub IsBitCount : ℕ → ℕ → Type 0
+IsBitCount version bits = (1 ≤ bits) × (bits ≤ most_bits version)
 
 abbrev pub IsNodeCount : ℕ → Type 0
 IsNodeCount nodes = (1 ≤ nodes) × (nodes ≤ 8)
+
+abbrev pub IsRoom : ℕ → SessionRoom → Type 0
+IsRoom version room = (room.steps ≤ most_steps version) × (room.turns ≤ most_turns version)
 
 -- and these aren't
 abbrev pub IsOutside : ℕ → ℕ → Type 0
 IsOutside most n = (n < 1) ⊎ (most < n)
 
--- why there is no session: the first of the three that isn't within the limits, or that memory was refused
-abbrev pub IsSessionFault : ℕ → ℕ → ℕ → SessionFault → Type 0
-IsSessionFault version bits nodes Version = IsOutside 3 version
-IsSessionFault version bits nodes Bits = IsVersion version × IsOutside 200000 bits
-IsSessionFault version bits nodes NodeCount = IsVersion version × IsBitCount bits × IsOutside 8 nodes
-IsSessionFault version bits nodes Memory = IsVersion version × IsBitCount bits × IsNodeCount nodes
+-- version, bits and nodes are within the limits
+abbrev pub MayBegin : ℕ → ℕ → ℕ → Type 0
+MayBegin version bits nodes = IsVersion version × IsBitCount version bits × IsNodeCount nodes
+
+-- why there is no session: the first of these that isn't within the limits, or that memory was refused
+abbrev pub IsSessionFault : ℕ → ℕ → ℕ → SessionRoom → SessionFault → Type 0
+IsSessionFault version bits nodes room Version = IsOutside 3 version
+IsSessionFault version bits nodes room Bits = IsVersion version × IsOutside (most_bits version) bits
+IsSessionFault version bits nodes room NodeCount = IsVersion version × IsBitCount version bits × IsOutside 8 nodes
+IsSessionFault version bits nodes room StepRoom = MayBegin version bits nodes × (most_steps version < room.steps)
+IsSessionFault version bits nodes room TurnRoom =
+    MayBegin version bits nodes × (room.steps ≤ most_steps version) × (most_turns version < room.turns)
+IsSessionFault version bits nodes room Memory = MayBegin version bits nodes × IsRoom version room

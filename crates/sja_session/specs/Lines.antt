@@ -21,6 +21,7 @@ pub record IsStill (was now : SessionValue) (deeds : List (List Deed)) : Type 0 
   pub bus : now.run.bus ≡ was.run.bus
   pub bits : now.run.bits ≡ was.run.bits
   pub ports : now.run.ports ≡ was.run.ports
+  pub room : now.room ≡ was.room
   pub wrote : written now ≡ written was
 
 -- the line is that of the node's port, by the messages that have come, and nothing happened

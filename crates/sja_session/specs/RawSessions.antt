@@ -48,15 +48,16 @@ HasTurnFor s node count = (count < 1) ⊎ HasTurn s (Node node 1)
 -- the node is there, so many steps of it are left, and there is a turn for them
 pub record MayDo (s : SessionValue) (node count : ℕ) : Type 0 where
   pub there : node < length s.plan.nodes
-  pub left : steps_done_of s node + count ≤ 1000
+  pub left : steps_done_of s node + count ≤ s.room.steps
   pub turn : HasTurnFor s node count
 
 -- why they may not be tried: the first of the three that doesn't hold
 abbrev pub IsAccessFault : SessionValue → ℕ → ℕ → StepFault → Type 0
 IsAccessFault s node count NoNode = length s.plan.nodes ≤ node
-IsAccessFault s node count StepsUsed = (node < length s.plan.nodes) × (1000 < steps_done_of s node + count)
+IsAccessFault s node count StepsUsed = (node < length s.plan.nodes) × (s.room.steps < steps_done_of s node + count)
 IsAccessFault s node count TurnsUsed =
-    (node < length s.plan.nodes) × (steps_done_of s node + count ≤ 1000) × (1 ≤ count) × LacksTurn s (Node node 1)
+    (node < length s.plan.nodes) × (steps_done_of s node + count ≤ s.room.steps) × (1 ≤ count)
+    × LacksTurn s (Node node 1)
 
 -- ---- typed steps
 

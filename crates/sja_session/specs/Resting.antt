@@ -12,4 +12,5 @@ pub record Rests (was now : SessionValue) (run : ℕ) (rests : Bool) (deeds : Li
   pub whole : rests ≡ true → AllRestIn was.plan now.run
   pub spent : rests ≡ false → SomeWorks was.plan now.run × (now.run.bits ≡ was.plan.bits)
   pub at : IsAt now deeds
+  pub room : now.room ≡ was.room
   pub wrote : written now ≡ with_bits_run (written was) run

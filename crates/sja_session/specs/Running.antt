@@ -33,4 +33,5 @@ pub record RunsBits (was now : SessionValue) (count run : ℕ) (deeds : List (Li
   pub most : run ≤ count
   pub whole : (run ≡ count) ⊎ (now.run.bits ≡ was.plan.bits)
   pub at : IsAt now deeds
+  pub room : now.room ≡ was.room
   pub wrote : written now ≡ with_bits_run (written was) run

@@ -4,22 +4,25 @@ use Rattle.std.specs.Prelude.{slice_index_or}
 use Rattle.sja_plan.specs.declared.turn.Turn.{Turn}
 use Rattle.sja_plan.specs.declared.turn.Turn.TheVariants.{Bus, Node}
 use Rattle.sja_plan.specs.Growing.{plan_of}
+use Rattle.sja_plan.specs.Limits.{most_turns}
 use Rattle.sja_plan.specs.Plan.{PlanValue, NamesNode, steps_at}
 use Rattle.sja_driver.specs.Deeds.{Deed, deeds_at}
 use Rattle.sja_log.specs.Turns.{Progress, with_bits, with_steps, steps_done}
 use Rattle.sja_serial.specs.Ending.{progress}
 use Rattle.sja_serial.specs.Serial.{SerialValue, StandsAt}
+use Rattle.sja_session.specs.declared.session_room.SessionRoom.{SessionRoom}
 use Rattle.sja_session.specs.Writing.{done_counts, fronts}
 
--- what a contract sees of a session: its run, the plan that the run is given, which has places for 1,000 steps of each
--- node, and the turns that were taken
+-- what a contract sees of a session: its run, the plan that the run is given, which has places for further steps, for
+-- how many steps of each node and how many turns there is room, and the turns that were taken
 pub record SessionValue : Type 0 where
   pub run : SerialValue
   pub plan : PlanValue
+  pub room : SessionRoom
   pub turns : List Turn
 
-abbrev pub session_of : SerialValue → PlanValue → List Turn → SessionValue
-session_of run plan turns = record { run = run; plan = plan; turns = turns }
+abbrev pub session_of : SessionRoom → SerialValue → PlanValue → List Turn → SessionValue
+session_of room run plan turns = record { run = run; plan = plan; room = room; turns = turns }
 
 -- the plan that the session wrote: the steps that were done, and the turns that were taken
 abbrev pub written : SessionValue → PlanValue
@@ -50,13 +53,15 @@ abbrev pub AreNamed : ℕ → List Turn → Type 0
 AreNamed nodes [] = Unit {0}
 AreNamed nodes (t ∷ turns) = NamesNode nodes t × AreNamed nodes turns
 
--- what holds of every session: it stands at some deeds, its bits are within the limit of a plan, each node has places
--- for 1,000 steps, and there is room for 10,000 turns and one more, each of a node that is there
+-- what holds of every session: it stands at some deeds, its bits, the places of each node and its turns are within the
+-- limits of a plan, and there is room for one turn more, each of a node that is there
 pub record IsSession (s : SessionValue) (capacity : ℕ) : Type 0 where
   pub deeds : List (List Deed)
   pub at : IsAt s deeds
-  pub bits : s.plan.bits ≤ 200000
-  pub places : (node : ℕ) → node < length s.plan.nodes → length (steps_at s.plan node) ≡ 1000
-  pub room : 10001 ≤ capacity
-  pub few : length s.turns ≤ 10000
+  pub bits : s.plan.bits ≤ 2000000
+  pub places : (node : ℕ) → node < length s.plan.nodes → length (steps_at s.plan node) ≡ s.room.steps
+  pub steps : s.room.steps ≤ 196605
+  pub most : s.room.turns ≤ most_turns s.plan.version
+  pub room : s.room.turns + 1 ≤ capacity
+  pub few : length s.turns ≤ s.room.turns
   pub names : AreNamed (length s.plan.nodes) (reverse s.turns)

@@ -6,6 +6,7 @@ use Rattle.sja_wire.specs.Wire.{journal_at}
 use Rattle.sja_plan.specs.declared.turn.Turn.{Turn}
 use Rattle.sja_plan.specs.declared.turn.Turn.TheVariants.{Node}
 use Rattle.sja_regs.specs.declared.registers.Registers.{Registers}
+use Rattle.sja_regs.specs.Registers.{at_power_on}
 use Rattle.sja_script.specs.declared.step.Step.{Step}
 use Rattle.sja_script.specs.declared.step_answer.StepAnswer.{StepAnswer}
 use Rattle.sja_driver.specs.Carried.{Tells, carried, ported}
@@ -24,27 +25,27 @@ use Rattle.sja_session.specs.Writing.{done_counts, with_step_done}
 
 -- a turn is left, or this one goes on with the last one; and no turn is left for it
 abbrev pub HasTurn : SessionValue → Turn → Type 0
-HasTurn s t = (length s.turns < 10000) ⊎ (goes_on_latest (reverse s.turns) t ≡ true)
+HasTurn s t = (length s.turns < s.room.turns) ⊎ (goes_on_latest (reverse s.turns) t ≡ true)
 
 abbrev pub LacksTurn : SessionValue → Turn → Type 0
-LacksTurn s t = (10000 ≤ length s.turns) × (goes_on_latest (reverse s.turns) t ≡ false)
+LacksTurn s t = (s.room.turns ≤ length s.turns) × (goes_on_latest (reverse s.turns) t ≡ false)
 
 -- how many steps of a node are done
 abbrev pub steps_done_of : SessionValue → ℕ → ℕ
 steps_done_of s node = slice_index (done_counts s.run) node
 
--- the node is there, fewer than 1,000 steps of it are done, and there is a turn for one more
+-- the node is there, room is left for a step of it, and there is a turn for one more
 pub record MayStep (s : SessionValue) (node : ℕ) : Type 0 where
   pub there : node < length s.plan.nodes
-  pub left : steps_done_of s node < 1000
+  pub left : steps_done_of s node < s.room.steps
   pub turn : HasTurn s (Node node 1)
 
 -- why it may not be tried: the first of the three that doesn't hold
 abbrev pub IsStepFault : SessionValue → ℕ → StepFault → Type 0
 IsStepFault s node NoNode = length s.plan.nodes ≤ node
-IsStepFault s node StepsUsed = (node < length s.plan.nodes) × (1000 ≤ steps_done_of s node)
+IsStepFault s node StepsUsed = (node < length s.plan.nodes) × (s.room.steps ≤ steps_done_of s node)
 IsStepFault s node TurnsUsed =
-    (node < length s.plan.nodes) × (steps_done_of s node < 1000) × LacksTurn s (Node node 1)
+    (node < length s.plan.nodes) × (steps_done_of s node < s.room.steps) × LacksTurn s (Node node 1)
 
 -- ---- what comes of it
 
@@ -60,7 +61,7 @@ pub record DoesStep (was now : SessionValue) (node : ℕ) (step : Step) (answer 
   pub when : deed.bits ≡ was.run.bits
   pub tells : (p : Registers) → Tells step (is_active (deeds_at deeds node)) (slice_index_or was.run.ports node p)
       (seen_now (is_active (deeds_at deeds node)) (journal_at was.run.bus.journals node) (deeds_at deeds node)) answer
-  pub fits : FitsState (is_active (deeds_at deeds node)) (opened_by (deeds_at deeds node)) step answer
+  pub fits : FitsState was.plan.version (is_active (deeds_at deeds node)) (opened_by (deeds_at deeds node)) step answer
   pub sees : SeesIf (is_active (deeds_at deeds node)) (journal_at was.run.bus.journals node) (deeds_at deeds node) deed
   pub gave : (p : Registers) → deed.gave ≡ carried (slice_index_or was.run.ports node p) step answer
   pub journal : journal_at now.run.bus.journals node
@@ -71,15 +72,18 @@ pub record DoesStep (was now : SessionValue) (node : ℕ) (step : Step) (answer 
       now.run.ports ≡ slice_set was.run.ports node (ported (slice_index_or was.run.ports node p) step answer)
   pub at : IsAt now (with_deeds deeds node (deed ∷ []))
   pub bits : now.run.bits ≡ was.run.bits
+  pub room : now.room ≡ was.room
   pub wrote : written now ≡ with_step_done (written was) node step
 
 -- the step has to wait, and nothing happened: no deed was done, no bit was run, no port and no journal changed, and the
 -- plan is the same
 pub record Waits (was now : SessionValue) (node : ℕ) (step : Step) (deeds : List (List Deed)) : Type 0 where
-  pub why : HasToWait (journal_at was.run.bus.journals node) (deeds_at deeds node) step
+  pub why : HasToWait (slice_index_or was.run.ports node (at_power_on 1)) (journal_at was.run.bus.journals node)
+      (deeds_at deeds node) step
   pub at : IsAt now deeds
   pub bits : now.run.bits ≡ was.run.bits
   pub ports : now.run.ports ≡ was.run.ports
   pub journals : (m : ℕ) → m < length was.plan.nodes →
       journal_at now.run.bus.journals m ≡ journal_at was.run.bus.journals m
+  pub room : now.room ≡ was.room
   pub wrote : written now ≡ written was

@@ -1,5 +1,6 @@
 -- A strike that a session takes (this project's own rule).
 use Rattle.std.specs.Prelude.{◌≡◌, ◌<◌, ◌≤◌, ℕ, List, length}
+use Rattle.sja_plan.specs.Limits.{most_strikes}
 use Rattle.sja_plan.specs.Plan.{times_in}
 use Rattle.sja_plan.specs.Struck.{one_strike, struck_at}
 use Rattle.sja_driver.specs.Deeds.{Deed}
@@ -10,13 +11,13 @@ use Rattle.sja_session.specs.Sessions.{SessionValue, IsAt, written}
 
 -- ---- whether it may be taken
 
--- the node is there, the bit is one of the session's and hasn't run, and the strikes so far strike fewer than 1,000
--- bits, each counted as often as it is struck
+-- the node is there, the bit is one of the session's and hasn't run, and the strikes so far strike fewer bits than
+-- they may in its version, each counted as often as it is struck
 pub record MayStrike (s : SessionValue) (node bit : ℕ) : Type 0 where
   pub there : node < length s.plan.nodes
   pub within : bit < s.plan.bits
   pub ahead : s.run.bits ≤ bit
-  pub left : times_in s.plan.strikes < 1000
+  pub left : times_in s.plan.strikes < most_strikes s.plan.version
 
 -- why it is not taken: the first of the four that doesn't hold, or else that memory was refused
 abbrev pub IsStrikeFault : SessionValue → ℕ → ℕ → StrikeFault → Type 0
@@ -24,7 +25,8 @@ IsStrikeFault s node bit NoNode = length s.plan.nodes ≤ node
 IsStrikeFault s node bit NoBit = (node < length s.plan.nodes) × (s.plan.bits ≤ bit)
 IsStrikeFault s node bit Past = (node < length s.plan.nodes) × (bit < s.plan.bits) × (bit < s.run.bits)
 IsStrikeFault s node bit StrikesUsed =
-    (node < length s.plan.nodes) × (bit < s.plan.bits) × (s.run.bits ≤ bit) × (1000 ≤ times_in s.plan.strikes)
+    (node < length s.plan.nodes) × (bit < s.plan.bits) × (s.run.bits ≤ bit)
+    × (most_strikes s.plan.version ≤ times_in s.plan.strikes)
 IsStrikeFault s node bit Memory = MayStrike s node bit
 
 -- ---- what comes of it

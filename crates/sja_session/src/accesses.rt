@@ -39,8 +39,8 @@ impl RawSession {
     /// refused.
     ///
     /// Errors, the first that holds, and nothing changed: [`StepFault::NoNode`] where there is no such node;
-    /// [`StepFault::StepsUsed`] where fewer of its 1,000 steps are left than the write is; [`StepFault::TurnsUsed`]
-    /// where it is a step, 10,000 turns were taken, and the last one isn't of this node.
+    /// [`StepFault::StepsUsed`] where there is room for fewer steps of it than the write is; [`StepFault::TurnsUsed`]
+    /// where it is a step, as many turns were taken as there is room for, and the last one isn't of this node.
     pub fn write(&mut self, node: u8, address: u8, value: u8) -> Result<(), StepFault>
         ensures writes { OnOk result ((deeds : List (List Deed)) → IsAt self.old.session deeds →
             Writes self.old self.new node address value deeds) }

@@ -8,13 +8,15 @@
 //! `docs/SESSIONS.md` shows a first program.
 //!
 //! A call that can't be done is refused with its reason ([`SessionFault`], [`StepFault`], [`StrikeFault`],
-//! [`TurnsUsed`]), and changes nothing. All memory that steps and bits need is reserved by [`Session::new`]; beside it
-//! `strike`, `plan` and `finish` alone take memory. The tests stand in `crates/test_session`.
+//! [`TurnsUsed`]), and changes nothing. All memory that steps and bits need is reserved by [`Session::new`] and
+//! [`Session::with_room`]; beside these `strike`, `plan` and `finish` alone take memory. The tests stand in
+//! `crates/test_session`.
 #![tactic(auto)]
 
 mod accesses;
 mod answered;
 mod answers;
+mod beginning;
 mod finish;
 mod interrupt_line;
 mod plan_so_far;
@@ -25,6 +27,7 @@ mod resting;
 mod running;
 mod session;
 mod session_fault;
+mod session_room;
 mod step_fault;
 mod stepping;
 mod strike_fault;
@@ -35,10 +38,12 @@ mod watched;
 mod watching;
 
 pub use answered::Answered;
+pub use beginning::LAST_VERSION;
 pub use raw_session::RawSession;
 pub use rested::Rested;
-pub use session::{LAST_VERSION, Session};
+pub use session::Session;
 pub use session_fault::SessionFault;
+pub use session_room::SessionRoom;
 pub use step_fault::StepFault;
 pub use strike_fault::StrikeFault;
 pub use turns_used::TurnsUsed;

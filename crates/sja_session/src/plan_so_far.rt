@@ -72,6 +72,7 @@ fn copied_step(step: &Step) -> Step
         Step::Command(value) => Step::Command(*value),
         Step::Await(count) => Step::Await(*count),
         Step::Sent => Step::Sent,
+        Step::Interrupt => Step::Interrupt,
     }
 }
 

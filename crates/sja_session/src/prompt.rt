@@ -7,7 +7,7 @@ use super::answered::Answered;
 use super::raw_session::RawSession;
 use super::session::Session;
 use super::step_fault::StepFault;
-use sja_plan::{MOST_STEPS, Turn};
+use sja_plan::Turn;
 use sja_raw::{WriteSteps, is_reset, steps_of_write};
 use sja_script::{Step, StepAnswer};
 
@@ -52,7 +52,8 @@ impl Session {
         if place >= self.plan.nodes() {
             return Err(StepFault::NoNode);
         }
-        if self.done(place) > MOST_STEPS - count {
+        let most = self.room.steps as usize;
+        if count > most || self.done(place) > most - count {
             return Err(StepFault::StepsUsed);
         }
         if count > 0 && !self.has_turn(Turn::Node(node, 1)) {

@@ -3,6 +3,7 @@
 use super::answered::Answered;
 use super::session::Session;
 use super::session_fault::SessionFault;
+use super::session_room::SessionRoom;
 use super::step_fault::StepFault;
 use super::turns_used::TurnsUsed;
 use can_frame::OutOfMemory;
@@ -39,7 +40,8 @@ impl RawSession {
     ghost use Rattle.sja_bus.specs.Buses.{new_bus};
     ghost use Rattle.sja_plan.specs.Growing.{plan_of};
     ghost use Rattle.sja_raw.specs.Kept.{at_power_on};
-    ghost use Rattle.sja_session.specs.Beginning.{IsVersion, IsBitCount, IsNodeCount, IsSessionFault};
+    ghost use Rattle.sja_plan.specs.Limits.{most_steps};
+    ghost use Rattle.sja_session.specs.Beginning.{MayBegin, IsRoom, IsSessionFault, most_room};
     ghost use Rattle.sja_session.specs.RawSessions.{kept_in};
     ghost use Rattle.sja_session.specs.Sessions.{IsAt, written};
 
@@ -48,13 +50,36 @@ impl RawSession {
     /// Errors: those of [`Session::new`].
     pub fn new(alloc: Global, version: u8, bits: u32, nodes: u8) -> Result<RawSession, SessionFault>
         ensures at { IfOk result (λ r. IsAt r.session (replicate nodes [])) }
-        ensures bus { IfOk result (λ r. r.session.run.bus ≡ new_bus [] bits nodes) }
+        ensures bus { IfOk result (λ r. r.session.run.bus
+            ≡ new_bus [] bits nodes (replicate nodes (most_steps version))) }
         ensures plan { IfOk result (λ r. written r.session ≡ plan_of version bits (replicate nodes []) [] []) }
+        ensures room { IfOk result (λ r. r.session.room ≡ most_room version) }
         ensures kept { IfOk result (λ r. r.kept ≡ replicate nodes at_power_on) }
-        ensures limits { OnOk result (IsVersion version × IsBitCount bits × IsNodeCount nodes) }
-        ensures err { IfErr result (IsSessionFault version bits nodes) }
+        ensures limits { OnOk result (MayBegin version bits nodes) }
+        ensures err { IfErr result (IsSessionFault version bits nodes (most_room version)) }
     {
-        let session = Session::new(alloc, version, bits, nodes)?;
+        RawSession::with_room(alloc, version, bits, nodes, SessionRoom::most(version))
+    }
+
+    /// The same, as [`Session::with_room`] makes it.
+    ///
+    /// Errors: those of [`Session::with_room`].
+    pub fn with_room(
+        alloc: Global,
+        version: u8,
+        bits: u32,
+        nodes: u8,
+        room: SessionRoom,
+    ) -> Result<RawSession, SessionFault>
+        ensures at { IfOk result (λ r. IsAt r.session (replicate nodes [])) }
+        ensures bus { IfOk result (λ r. r.session.run.bus ≡ new_bus [] bits nodes (replicate nodes room.steps)) }
+        ensures plan { IfOk result (λ r. written r.session ≡ plan_of version bits (replicate nodes []) [] []) }
+        ensures room { IfOk result (λ r. r.session.room ≡ room) }
+        ensures kept { IfOk result (λ r. r.kept ≡ replicate nodes at_power_on) }
+        ensures limits { OnOk result (MayBegin version bits nodes × IsRoom version room) }
+        ensures err { IfErr result (IsSessionFault version bits nodes room) }
+    {
+        let session = Session::with_room(alloc, version, bits, nodes, room)?;
         let kept = Vec::from_elem(alloc, KeptBytes::new(), usize::from(nodes))?;
         Ok(RawSession { session, kept })
     }

@@ -17,8 +17,8 @@ impl Session {
     /// Runs bits until every controller is at rest: in reset, or idle with no request. Or as many as the plan has left.
     /// It says how many, and whether they came to rest. The plan has them as a turn of so many bits.
     ///
-    /// Error: [`TurnsUsed`] where 10,000 turns were taken, the last one isn't of the bus, and a bit is left. Nothing
-    /// changed.
+    /// Error: [`TurnsUsed`] where as many turns were taken as there is room for, the last one isn't of the bus, and a
+    /// bit is left. Nothing changed.
     pub fn rest(&mut self) -> Result<Rested, TurnsUsed>
         ensures rests { IfOk result (λ r. (deeds : List (List Deed)) → IsAt self.old deeds →
             Rests self.old self.new r.bits r.at_rest deeds) }

@@ -13,8 +13,8 @@ impl Session {
 
     /// Runs so many bits, or as many as the plan has left, and says how many were run.
     ///
-    /// Error: [`TurnsUsed`] where 10,000 turns were taken, the last one isn't of the bus, and a bit is to be run: some
-    /// are asked for, and some are left. Nothing changed.
+    /// Error: [`TurnsUsed`] where as many turns were taken as there is room for, the last one isn't of the bus, and a
+    /// bit is to be run: some are asked for, and some are left. Nothing changed.
     pub fn bits(&mut self, count: u32) -> Result<u32, TurnsUsed>
         ensures bits { IfOk result (λ run. (deeds : List (List Deed)) → IsAt self.old deeds →
             RunsBits self.old self.new count run deeds) }

@@ -1,25 +1,23 @@
 //! [`Session`]: a run in one thread, driven call by call.
 
+use super::beginning::check;
 use super::session_fault::SessionFault;
-use sja_plan::{MOST_BITS, MOST_STEPS, MOST_TURNS, Plan, Turn};
-use sja_script::MOST_NODES;
+use super::session_room::SessionRoom;
+use sja_plan::{Plan, Turn};
 use sja_serial::SerialRun;
 use std::alloc::Global;
 use std::marker::Model;
 
-/// The last version of a session's rules; the first one is 1 (this project's own rule). A plan's document can ask for
-/// the first two alone.
-pub const LAST_VERSION: u8 = 3;
-
 /// A run in one thread that its holder drives (this project's own rule).
 ///
-/// Contracts see it as its run, the plan that the run is given, with places for further steps, and the turns that were
-/// taken; and say at which deeds of the drivers it stands. By its invariant it always stands at some, so no call asks
-/// anything of its caller.
+/// Contracts see it as its run, the plan that the run is given, with places for further steps, for how many steps of
+/// each node and how many turns there is room, and the turns that were taken; and say at which deeds of the drivers it
+/// stands. By its invariant it always stands at some, so no call asks anything of its caller.
 #[derive(Drop)]
 pub struct Session {
     pub(crate) run: SerialRun,
     pub(crate) plan: Plan,
+    pub(crate) room: SessionRoom,
     pub(crate) turns: Vec<Turn>,
 }
 
@@ -29,45 +27,68 @@ impl Model for Session {
 
     ghost Value = { SessionValue };
 
-    ghost view = { λ s. session_of s.run s.plan s.turns.items };
+    ghost view = { λ s. session_of s.room s.run s.plan s.turns.items };
 
-    ghost invariant = { λ s. IsSession (session_of s.run s.plan s.turns.items) (vec_capacity s.turns) };
+    ghost invariant = { λ s. IsSession (session_of s.room s.run s.plan s.turns.items) (vec_capacity s.turns) };
 }
 
 impl Session {
-    ghost use Rattle.std.specs.Prelude.{◌≡◌, ◌<◌, [], replicate, IfOk, IfErr, OnOk, length};
+    ghost use Rattle.std.specs.Prelude.{◌≡◌, ◌<◌, ◌≤◌, [], replicate, IfOk, IfErr, OnOk, length};
     ghost use Rattle.sja_bus.specs.Buses.{new_bus};
     ghost use Rattle.sja_plan.specs.Growing.{plan_of};
-    ghost use Rattle.sja_session.specs.Beginning.{IsVersion, IsBitCount, IsNodeCount, IsSessionFault};
+    ghost use Rattle.sja_plan.specs.Limits.{most_steps};
+    ghost use Rattle.sja_session.specs.Beginning.{MayBegin, IsRoom, IsSessionFault, most_room};
     ghost use Rattle.sja_session.specs.Sessions.{IsAt, written};
     ghost use Rattle.sja_session.specs.Stepping.{steps_done_of};
 
-    /// A session to which nothing happened: so many nodes, 1 to 8, by the rules of this version, 1 to 3, for at most so
-    /// many bits, 1 to 200,000. All memory that steps and bits need is reserved here: places for 1,000 steps of each
-    /// node with their answers, for 10,000 turns, and for the journals of as many bits.
+    /// A session to which nothing happened, as [`with_room`](Session::with_room) makes it, with room for as much as a
+    /// plan of this version has at most: 1,000 steps of each node and 10,000 turns, or 196,605 steps and 200,000 turns
+    /// in version 3. What that is in bytes says `docs/SESSIONS.md`.
     ///
-    /// Errors, the first that holds: [`SessionFault::Version`], [`SessionFault::Bits`] and [`SessionFault::NodeCount`]
-    /// where these aren't within the limits; [`SessionFault::Memory`] where memory was refused.
+    /// Errors: those of [`with_room`](Session::with_room), but for the two of the room.
     pub fn new(alloc: Global, version: u8, bits: u32, nodes: u8) -> Result<Session, SessionFault>
         ensures at { IfOk result (λ s. IsAt s (replicate nodes [])) }
-        ensures bus { IfOk result (λ s. s.run.bus ≡ new_bus [] bits nodes) }
+        ensures bus { IfOk result (λ s. s.run.bus ≡ new_bus [] bits nodes (replicate nodes (most_steps version))) }
         ensures plan { IfOk result (λ s. written s ≡ plan_of version bits (replicate nodes []) [] []) }
-        ensures limits { OnOk result (IsVersion version × IsBitCount bits × IsNodeCount nodes) }
-        ensures err { IfErr result (IsSessionFault version bits nodes) }
+        ensures room { IfOk result (λ s. s.room ≡ most_room version) }
+        ensures limits { OnOk result (MayBegin version bits nodes) }
+        ensures err { IfErr result (IsSessionFault version bits nodes (most_room version)) }
     {
-        if version < 1 || version > LAST_VERSION {
-            return Err(SessionFault::Version);
-        }
-        if bits < 1 || bits > MOST_BITS {
-            return Err(SessionFault::Bits);
-        }
-        if nodes < 1 || nodes > MOST_NODES {
-            return Err(SessionFault::NodeCount);
-        }
-        let plan = Plan::blank(alloc, version, bits, nodes, MOST_STEPS as u16)?;
+        Session::with_room(alloc, version, bits, nodes, SessionRoom::most(version))
+    }
+
+    /// A session to which nothing happened: so many nodes, 1 to 8, by the rules of this version, 1 to 3, for at most so
+    /// many bits, 1 to 200,000, or to 2,000,000 in version 3. All memory that steps and bits need is reserved here:
+    /// places for so many steps of each node with their answers, for so many turns, and for the journals of as many
+    /// bits and steps.
+    ///
+    /// Errors, the first that holds: [`SessionFault::Version`], [`SessionFault::Bits`], [`SessionFault::NodeCount`],
+    /// [`SessionFault::StepRoom`] and [`SessionFault::TurnRoom`] where these aren't within the limits of a plan of this
+    /// version; [`SessionFault::Memory`] where memory was refused.
+    pub fn with_room(
+        alloc: Global,
+        version: u8,
+        bits: u32,
+        nodes: u8,
+        room: SessionRoom,
+    ) -> Result<Session, SessionFault>
+        ensures at { IfOk result (λ s. IsAt s (replicate nodes [])) }
+        ensures bus { IfOk result (λ s. s.run.bus ≡ new_bus [] bits nodes (replicate nodes room.steps)) }
+        ensures plan { IfOk result (λ s. written s ≡ plan_of version bits (replicate nodes []) [] []) }
+        ensures room { IfOk result (λ s. s.room ≡ room) }
+        ensures limits { OnOk result (MayBegin version bits nodes × IsRoom version room) }
+        ensures err { IfErr result (IsSessionFault version bits nodes room) }
+    {
+        check(version, bits, nodes, room)?;
+        let plan = Plan::blank(alloc, version, bits, nodes, room.steps)?;
         let run = SerialRun::new(alloc, &plan)?;
-        let turns = Vec::with_capacity(alloc, MOST_TURNS + 1)?;
-        Ok(Session { run, plan, turns })
+        let turns = Vec::with_capacity(alloc, room.turns as usize + 1)?;
+        Ok(Session {
+            run,
+            plan,
+            room,
+            turns,
+        })
     }
 
     /// How many bits were run.
@@ -75,6 +96,28 @@ impl Session {
         ensures { result ≡ self.now.run.bits }
     {
         self.run.bits()
+    }
+
+    /// For how many steps of each node and how many turns room was reserved.
+    pub fn room(&self) -> SessionRoom
+        ensures { result ≡ self.now.room }
+    {
+        self.room
+    }
+
+    /// By which version of the rules the session goes.
+    pub fn version(&self) -> u8
+        ensures { result ≡ self.now.plan.version }
+    {
+        self.plan.version()
+    }
+
+    /// How many nodes it has.
+    pub fn nodes(&self) -> usize
+        ensures value { result ≡ length self.now.plan.nodes }
+        ensures few { result ≤ 8 }
+    {
+        self.plan.nodes()
     }
 
     /// How many steps of a node are done.

@@ -10,12 +10,18 @@ pub enum SessionFault {
     /// The version isn't one from 1 to 3.
     #[error("no such version")]
     Version,
-    /// The number of bits isn't one from 1 to 200,000.
-    #[error("the number of bits isn't one from 1 to 200,000")]
+    /// The number of bits isn't one from 1 to 200,000, or to 2,000,000 in version 3.
+    #[error("the number of bits isn't one from 1 to 200,000, or to 2,000,000 in version 3")]
     Bits,
     /// The number of nodes isn't one from 1 to 8.
     #[error("the number of nodes isn't one from 1 to 8")]
     NodeCount,
+    /// Room is wanted for more steps of a node than a plan of this version has at most.
+    #[error("a plan of this version has fewer steps of a node")]
+    StepRoom,
+    /// Room is wanted for more turns than a plan of this version has at most.
+    #[error("a plan of this version has fewer turns")]
+    TurnRoom,
     /// Memory was refused.
     #[error("out of memory")]
     Memory,

@@ -8,10 +8,10 @@ pub enum StepFault {
     /// There is no such node.
     #[error("no such node")]
     NoNode,
-    /// 1,000 steps of the node are done, as many as a plan has.
+    /// As many steps of the node are done as there is room for.
     #[error("all steps of the node are used")]
     StepsUsed,
-    /// 10,000 turns were taken, as many as a plan has, and the last one isn't of this node.
+    /// As many turns were taken as there is room for, and the last one isn't of this node.
     #[error("all turns are used")]
     TurnsUsed,
 }

@@ -5,7 +5,7 @@ use super::answers::last_answer;
 use super::session::Session;
 use super::step_fault::StepFault;
 use super::turns::{goes_on_last, push_turn};
-use sja_plan::{MOST_STEPS, MOST_TURNS, Turn};
+use sja_plan::Turn;
 use sja_script::Step;
 
 impl Session {
@@ -20,8 +20,8 @@ impl Session {
     /// step that has to wait says so, and nothing happened: it can be tried again. No bit is run.
     ///
     /// Errors, the first that holds, and nothing changed: [`StepFault::NoNode`] where there is no such node;
-    /// [`StepFault::StepsUsed`] where 1,000 steps of it are done; [`StepFault::TurnsUsed`] where 10,000 turns were
-    /// taken, and the last one isn't of this node.
+    /// [`StepFault::StepsUsed`] where as many steps of it are done as there is room for; [`StepFault::TurnsUsed`] where
+    /// as many turns were taken as there is room for, and the last one isn't of this node.
     pub fn step(&mut self, node: u8, step: Step) -> Result<Answered, StepFault>
         ensures done { (answer : AnswerOfStep) → result ≡ Ok (Answer answer) → (deeds : List (List Deed)) →
             IsAt self.old deeds → DoesStep self.old self.new node step answer deeds }
@@ -56,7 +56,7 @@ impl Session {
         if place >= self.plan.nodes() {
             return Err(StepFault::NoNode);
         }
-        if self.done(place) >= MOST_STEPS {
+        if self.done(place) >= self.room.steps as usize {
             return Err(StepFault::StepsUsed);
         }
         if !self.has_turn(Turn::Node(node, 1)) {
@@ -75,6 +75,6 @@ impl Session {
         ensures yes { result ≡ true → HasTurn self.now turn }
         ensures no { result ≡ false → LacksTurn self.now turn }
     {
-        self.turns.len() < MOST_TURNS || goes_on_last(self.turns.as_slice(), turn)
+        self.turns.len() < self.room.turns as usize || goes_on_last(self.turns.as_slice(), turn)
     }
 }

@@ -15,7 +15,7 @@ pub enum StrikeFault {
     /// The bit has run.
     #[error("the bit has run")]
     Past,
-    /// The strikes strike 1,000 bits already, as many as a plan's may.
+    /// The strikes strike as many bits already as those of a plan of this version may: 1,000, or 100,000 in version 3.
     #[error("all strikes are used")]
     StrikesUsed,
     /// Memory was refused.

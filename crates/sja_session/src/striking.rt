@@ -6,7 +6,7 @@ ghost use Rattle.sja_plan.specs.Struck.{one_strike};
 use super::raw_session::RawSession;
 use super::session::Session;
 use super::strike_fault::StrikeFault;
-use sja_plan::{MOST_STRIKES, Plan};
+use sja_plan::{Plan, most_strikes};
 use sja_script::Strike;
 use std::alloc::Global;
 
@@ -24,7 +24,8 @@ impl Session {
     ///
     /// Errors, the first that holds, and nothing changed: [`StrikeFault::NoNode`] where there is no such node;
     /// [`StrikeFault::NoBit`] where the session's bits end before this one; [`StrikeFault::Past`] where it has run;
-    /// [`StrikeFault::StrikesUsed`] where 1,000 strikes were taken; [`StrikeFault::Memory`] where memory was refused.
+    /// [`StrikeFault::StrikesUsed`] where as many strikes were taken as a plan of its version has at most;
+    /// [`StrikeFault::Memory`] where memory was refused.
     pub fn strike(&mut self, alloc: Global, node: u8, bit: u32) -> Result<(), StrikeFault>
         ensures struck { OnOk result ((deeds : List (List Deed)) → IsAt self.old deeds →
             IsStruck self.old self.new node bit deeds) }
@@ -69,7 +70,7 @@ impl Session {
         if bit < self.run.bits() {
             return Err(StrikeFault::Past);
         }
-        if self.plan.strike_count() >= MOST_STRIKES {
+        if self.plan.strike_count() >= most_strikes(self.plan.version()) {
             return Err(StrikeFault::StrikesUsed);
         }
         Ok(())

@@ -2,7 +2,7 @@
 
 use thiserror::Error;
 
-/// A bit is to be run, 10,000 turns were taken, as many as a plan has, and the last one isn't of the bus (this
+/// A bit is to be run, as many turns were taken as there is room for, and the last one isn't of the bus (this
 /// project's own rule).
 #[derive(Clone, Copy, Debug, PartialEq, Eq, Error)]
 #[error("all turns are used")]

@@ -4,6 +4,7 @@ use Rattle.std.proofs.Common.{Option, Some, None, refl, sym, ap, ◌∙◌, subs
 use Rattle.std.specs.List.{range_with_len}
 use Rattle.std.proofs.lemmas.List.Elements.{All-nil, All-cons, All-append}
 use Rattle.lemmas.specs.Gathering.{gathered}
+use Rattle.sja_plan.specs.Limits.{most_strikes}
 use Rattle.sja_plan.specs.Plan.{PlanValue, times_in}
 use Rattle.sja_sweep.specs.declared.asked.Asked.{Asked}
 use Rattle.sja_sweep.specs.declared.sweeping.Sweeping.{Sweeping}
@@ -71,14 +72,14 @@ nodes_below (Some node) nodes asked =
 -- each trial of a sweep is of nodes that are there, and there is room for its strikes
 pub all_there : (plan : PlanValue) (s : Sweeping) (bits : ℕ) →
     ((node : ℕ) → s.node ≡ Some node → node < length plan.nodes) →
-    times_in plan.strikes + strikes_a_run s.pairs ≤ 1000 →
+    times_in plan.strikes + strikes_a_run s.pairs ≤ most_strikes plan.version →
     All (IsThere plan) (trials_of s (length plan.nodes) bits)
 all_there plan s bits asked room = by_pairs s.pairs room
   where
     Below : ℕ → Type 0
     Below k = k < length plan.nodes
 
-    by_pairs : (o : Option ℕ) → times_in plan.strikes + strikes_a_run o ≤ 1000 →
+    by_pairs : (o : Option ℕ) → times_in plan.strikes + strikes_a_run o ≤ most_strikes plan.version →
         All (IsThere plan) (trials_by o s (length plan.nodes) bits)
     by_pairs None few =
         all_gathered (IsThere plan) Below
@@ -106,7 +107,8 @@ all_there plan s bits asked room = by_pairs s.pairs room
 -- where there is one, there is room
 pub all_there_if : (plan : PlanValue) (s : Sweeping) (bits : ℕ) →
     ((node : ℕ) → s.node ≡ Some node → node < length plan.nodes) →
-    (0 < length (trials_of s (length plan.nodes) bits) → times_in plan.strikes + strikes_a_run s.pairs ≤ 1000) →
+    (0 < length (trials_of s (length plan.nodes) bits) → times_in plan.strikes + strikes_a_run s.pairs ≤ most_strikes
+    plan.version) →
     All (IsThere plan) (trials_of s (length plan.nodes) bits)
 all_there_if plan s bits asked room = by_list (trials_of s (length plan.nodes) bits) refl
   where

@@ -8,6 +8,7 @@ use Rattle.sja_sweep.specs.SweepText.{sweep_text, sweep_rows}
 use Rattle.sja_sweep.specs.Sweeps.{strikes_tried, IsSweep}
 use Rattle.sja_sweep.specs.Inside.Reaching.{told_value}
 use Rattle.std.specs.List.{AllZip}
+use Rattle.sja_plan.specs.Limits.{most_strikes}
 use Rattle.sja_plan.specs.Plan.{PlanValue, times_in}
 use Rattle.sja_sweep.specs.Errors.{RanValue, IsRan}
 use Rattle.sja_sweep.specs.declared.trial.Trial.{Trial}
@@ -84,7 +85,8 @@ sweep_is plan s planned trials outcomes text rows begun tried text_is rows_are =
     let P : List Trial → Type 0 = λ ts. AreTried plan planned ts outcomes in
     let Few : List Trial → Type 0 = λ ts.
     s.meant ≡ false → (length ts ≤ 20000) × (length ts * plan.bits ≤ 2000000000) in
-    let Room : List Trial → Type 0 = λ ts. 0 < length ts → times_in plan.strikes + strikes_a_run s.pairs ≤ 1000 in
+    let Room : List Trial → Type 0 = λ ts. 0 < length ts →
+    times_in plan.strikes + strikes_a_run s.pairs ≤ most_strikes plan.version in
     let found = have_runs plan planned (strikes_tried plan s planned.log) outcomes (subst P begun.trials_are tried) in
     record {
       planned = planned;

@@ -1,6 +1,7 @@
 -- What is promised of a sweep (this project's own rule).
 use Rattle.std.specs.Prelude.{◌≡◌, ◌+◌, ◌*◌, ◌<◌, ◌≤◌, ◌⊎◌, ℕ, true, false, Some, List, length}
 use Rattle.std.specs.List.{AllZip}
+use Rattle.sja_plan.specs.Limits.{most_strikes}
 use Rattle.sja_plan.specs.Plan.{PlanValue, times_in}
 use Rattle.sja_log.specs.Log.{RunValue}
 use Rattle.sja_log.specs.Runs.{IsSerialRun}
@@ -24,7 +25,7 @@ AreTooMany plan runs = (20000 < runs) ⊎ (2000000000 < runs * plan.bits)
 
 -- there is a run of the plan as it is, and one of the plan with each of what is tried, and these are the texts, by the
 -- logs and the errors of these runs; so many runs may be made, and with the strikes of a run more the plan strikes at
--- most 1,000 bits
+-- most as many bits as it may in its version
 pub record IsSweep (plan : PlanValue) (s : Sweeping) (text rows : List ℕ) : Type 0 where
   pub planned : RanValue
   pub runs : List RanValue
@@ -36,7 +37,8 @@ pub record IsSweep (plan : PlanValue) (s : Sweeping) (text rows : List ℕ) : Ty
   pub rows_are : rows ≡ sweep_rows (outcomes_of planned (strikes_tried plan s planned.log) runs)
   pub few : s.meant ≡ false → (length (strikes_tried plan s planned.log) ≤ 20000)
       × (length (strikes_tried plan s planned.log) * plan.bits ≤ 2000000000)
-  pub room : 0 < length (strikes_tried plan s planned.log) → times_in plan.strikes + strikes_a_run s.pairs ≤ 1000
+  pub room : 0 < length (strikes_tried plan s planned.log) →
+      times_in plan.strikes + strikes_a_run s.pairs ≤ most_strikes plan.version
   pub node : (node : ℕ) → s.node ≡ Some node → node < length plan.nodes
 
 -- too many runs, and it isn't said that they are meant
@@ -54,12 +56,12 @@ pub record NamesNoNode (plan : PlanValue) (s : Sweeping) : Type 0 where
   pub named : s.node ≡ Some node
   pub past : length plan.nodes ≤ node
 
--- the plan strikes so many bits that those of a run more are above the 1,000 of a plan, and there is a run to make
+-- the plan strikes so many bits that those of a run more are above the most of its version, and there is a run to make
 pub record HasNoRoom (plan : PlanValue) (s : Sweeping) : Type 0 where
   pub planned : RunValue
   pub as_planned : IsSerialRun plan planned
   pub some : 0 < length (strikes_tried plan s planned)
-  pub full : 1000 < times_in plan.strikes + strikes_a_run s.pairs
+  pub full : most_strikes plan.version < times_in plan.strikes + strikes_a_run s.pairs
 
 -- why there is no sweep; memory may be refused at any time, in a run too
 abbrev pub IsSweepFault : PlanValue → Sweeping → SweepFault → Type 0

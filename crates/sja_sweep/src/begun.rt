@@ -1,6 +1,7 @@
 //! [`Begun`]: the beginning of a sweep.
 
 ghost use Rattle.std.specs.Prelude.{◌≡◌, ◌+◌, ◌*◌, ◌^◌, ◌<◌, ◌≤◌, true, false, length, IfOk, IfErr, OnOk};
+ghost use Rattle.sja_plan.specs.Limits.{most_strikes};
 ghost use Rattle.sja_plan.specs.Plan.{times_in};
 ghost use Rattle.sja_sweep.specs.declared.sweep_fault.SweepFault.TheVariants.{NoNode, TooMany, StrikeCount};
 ghost use Rattle.sja_sweep.specs.Targets.{strikes_a_run};
@@ -15,7 +16,7 @@ use super::sweep_fault::SweepFault;
 use super::sweeping::Sweeping;
 use super::trial::Trial;
 use super::trials::{run_count, trials_of};
-use sja_plan::{MOST_STRIKES, Plan};
+use sja_plan::{Plan, most_strikes};
 use std::alloc::Global;
 
 /// The beginning of a sweep: the run of the plan as it is, and what is to be tried.
@@ -81,11 +82,13 @@ fn check_runs(sweeping: &Sweeping, plan: &Plan, runs: u128) -> Result<(), SweepF
 ///
 /// Error: [`SweepFault::StrikeCount`] where they aren't.
 fn check_room(sweeping: &Sweeping, plan: &Plan, runs: u128) -> Result<(), SweepFault>
-    ensures ok { OnOk result (0 < runs → times_in plan.now.strikes + strikes_a_run sweeping.now.pairs ≤ 1000) }
+    ensures ok { OnOk result (0 < runs →
+        times_in plan.now.strikes + strikes_a_run sweeping.now.pairs ≤ most_strikes plan.now.version) }
     ensures err { IfErr result (λ f. (f ≡ StrikeCount) × (0 < runs)
-        × (1000 < times_in plan.now.strikes + strikes_a_run sweeping.now.pairs)) }
+        × (most_strikes plan.now.version < times_in plan.now.strikes + strikes_a_run sweeping.now.pairs)) }
 {
-    if runs > 0 && plan.strike_count() + strikes_a_run(sweeping.pairs) > MOST_STRIKES {
+    let strikes = plan.strike_count() + strikes_a_run(sweeping.pairs);
+    if runs > 0 && strikes > most_strikes(plan.version()) {
         return Err(SweepFault::StrikeCount);
     }
     Ok(())

@@ -1,6 +1,7 @@
 //! The runs of a sweep, each with one strike, or two.
 
 ghost use Rattle.std.specs.Prelude.{◌≡◌, ◌+◌, ◌<◌, ◌≤◌, length, All, IfOk, IfErr, map};
+ghost use Rattle.sja_plan.specs.Limits.{most_strikes};
 ghost use Rattle.sja_plan.specs.Plan.{times_in};
 ghost use Rattle.sja_plan.specs.Struck.{struck_at};
 ghost use Rattle.sja_sweep.specs.Errors.{IsRan};
@@ -66,7 +67,7 @@ fn struck_by(alloc: Global, plan: &Plan, trial: Trial) -> Result<Plan, SweepFaul
 /// The plan with one strike more.
 fn struck_at(alloc: Global, plan: &Plan, target: Target) -> Result<Plan, SweepFault>
     requires there { target.node < length plan.now.nodes }
-    requires room { times_in plan.now.strikes < 1000 }
+    requires room { times_in plan.now.strikes < most_strikes plan.now.version }
     ensures ok { IfOk result (λ struck. struck ≡ struck_at plan.now target.node target.bit) }
     ensures err { IfErr result (λ fault. fault ≡ Memory) }
 {

@@ -13,7 +13,7 @@ pub enum SweepFault {
     /// There are more runs than 20,000, or they may come to more than 2,000,000,000 bits, and it isn't said that so
     /// many are meant: how many runs, and how many bits they may come to.
     TooMany(u128, u128),
-    /// With those of a run more the strikes would strike more than 1,000 bits, as many as a plan may have.
+    /// With those of a run more the strikes would strike more bits than those of a plan of this version may.
     StrikeCount,
     /// A run failed.
     Run(RunFault),

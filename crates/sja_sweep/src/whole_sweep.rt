@@ -23,8 +23,8 @@ use std::thread::Threads;
 /// Errors: [`SweepFault::NoNode`] where a node is asked for that the plan doesn't have; [`SweepFault::TooMany`] where
 /// there are more runs than 20,000, or where these times the plan's bits are more than 2,000,000,000, unless so many
 /// are meant; [`SweepFault::StrikeCount`] where there is a run to make and the plan's strikes, with those of the run
-/// more, strike more than 1,000 bits; [`SweepFault::Run`] where a run failed, and [`SweepFault::Memory`], where memory
-/// was refused.
+/// more, strike more bits than they may in its version; [`SweepFault::Run`] where a run failed, and
+/// [`SweepFault::Memory`], where memory was refused.
 pub fn sweep(alloc: Global, plan: &Plan, sweeping: &Sweeping) -> Result<Swept, SweepFault>
     ensures ok { IfOk result (λ swept. IsSweep plan.now sweeping.now (string_bytes swept.text)
         (string_bytes swept.rows)) }

@@ -11,11 +11,11 @@ pub enum SweepRefusal {
     /// There are more runs than 20,000, or they may come to more than 2,000,000,000 bits, and it isn't said that so
     /// many are meant: how many runs, and how many bits they may come to.
     TooMany(u128, u128),
-    /// The strikes of the plan strike 1,000 bits already.
+    /// The strikes of the plan strike as many bits already as those of a plan of its version may.
     StrikeCount,
     /// No strike's text says the bit, which is past 9,999,999.
     Bit,
-    /// The document of the plan with a strike more has more than 65,536 bytes.
+    /// The document of the plan with a strike more has more bytes than one of its version may.
     TooLong,
 }
 

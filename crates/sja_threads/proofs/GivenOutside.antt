@@ -30,16 +30,17 @@ section_later n (d ∷ ds) a less =
     ∙ section_later (n + opens_by d) ds a (omega (arith, less))
 
 -- before it starts a driver is in reset, where it gives nothing
-none_first : (before ds : List Deed) → is_active before ≡ false → opened_by before ≡ 0 →
-    EachAfter (λ b (d : Deed). FitsState (is_active b) (opened_by b) d.step d.answer) before ds →
+none_first : (version : ℕ) (before ds : List Deed) → is_active before ≡ false → opened_by before ≡ 0 →
+    EachAfter (λ b (d : Deed). FitsState version (is_active b) (opened_by b) d.step d.answer) before ds →
     EachAfter (λ b (d : Deed). Gives d.step d.answer d.gave) before ds →
     given_in (section_from opens_by 0 ds 0) ≡ []
-none_first before [] out none fits gives = refl
-none_first before (d ∷ ds) out none fits gives =
-    by_kind (kind_of (is_active before) (opened_by before) d.step d.answer d.gave fits.0 gives.0) (λ closed same.
+none_first version before [] out none fits gives = refl
+none_first version before (d ∷ ds) out none fits gives =
+    by_kind (kind_of version (is_active before) (opened_by before) d.step d.answer d.gave fits.0 gives.0)
+    (λ closed same.
     let opened = opened_push before d in
-    none_first (before ++ d ∷ []) ds (active_push false before d ∙ same ∙ out) (omega (arith, opened, none, closed))
-    fits.1 gives.1)
+    none_first version (before ++ d ∷ []) ds (active_push false before d ∙ same ∙ out)
+    (omega (arith, opened, none, closed)) fits.1 gives.1)
   where
     here : d.gave ≡ [] → (b : Bool) → given_in (if b then d ∷ [] else []) ≡ []
     here nothing true = append-nil d.gave ∙ nothing
@@ -62,8 +63,9 @@ none_first before (d ∷ ds) out none fits gives =
     by_kind (sends was request is closed same) later = absurd (neither (is_active before) was out)
     by_kind (stops was is closed same) later = absurd (neither (is_active before) was out)
 
-pub given_outside : (steps : List Step) (deeds : List Deed) (a : ℕ) → AreDeeds steps deeds → opened_by deeds ≤ 8 →
-    (a ≡ 0) ⊎ (8 < a) → given_in (deeds_of deeds a) ≡ []
-given_outside steps deeds a are few (inl e) =
-    ap (λ n. given_in (deeds_of deeds n)) e ∙ none_first [] deeds refl refl are.states are.gives
+pub given_outside : {version : ℕ} (steps : List Step) (deeds : List Deed) (a : ℕ) → AreDeeds version steps deeds →
+    opened_by deeds ≤ 64 →
+    (a ≡ 0) ⊎ (64 < a) → given_in (deeds_of deeds a) ≡ []
+given_outside {version} steps deeds a are few (inl e) =
+    ap (λ n. given_in (deeds_of deeds n)) e ∙ none_first version [] deeds refl refl are.states are.gives
 given_outside steps deeds a are few (inr late) = ap given_in (section_later 0 deeds a (omega (arith, few, late)))

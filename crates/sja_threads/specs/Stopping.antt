@@ -2,7 +2,7 @@
 use Rattle.std.specs.Prelude.{◌≡◌, ◌≢◌, ◌+◌, ◌⊎◌, ℕ, None, List, length}
 use Rattle.sja_rings.specs.declared.ring_bus.RingBus.{RingBus}
 use Rattle.sja_rings.specs.Ends.{BusLists, places_down}
-use Rattle.sja_plan.specs.Plan.{PlanValue}
+use Rattle.sja_plan.specs.Plan.{PlanValue, step_counts}
 use Rattle.sja_regs.specs.declared.orders.Orders.{Orders}
 use Rattle.sja_wire.specs.declared.bus_fault.BusFault.{BusFault}
 use Rattle.sja_wire.specs.declared.bus_fault.BusFault.TheVariants.{BitsSpent}
@@ -28,11 +28,12 @@ pub record StopsFor (plan : PlanValue) (f : BusFault) : Type 0 where
   pub links : List RingBus
   pub after : List RingBus
   pub script : was.script ≡ plan.strikes
+  pub steps : was.steps ≡ step_counts plan
   pub bits : was.run + was.left ≡ plan.bits
   pub nodes : length was.journals ≡ length plan.nodes
   pub right : was.fault ≡ None
   pub lawful : IsBusRun was.script was.run was.journals
-  pub why : IsTakenAndRefused BusLists plan.bits was.journals now.journals links after f
+  pub why : IsTakenAndRefused BusLists plan.bits (step_counts plan) was.journals now.journals links after f
       ⊎ StopsBit BusLists HasNoPlace any_orders was now links after f
   pub not_spent : f ≢ BitsSpent
 

@@ -14,19 +14,20 @@ use Rattle.sja_threads.specs.Setting.{LeadToSettings}
 
 -- nothing was got or given on the links of a node, from this place on: they stand for the parts of its journal alone
 abbrev pub AreUntouched : {E : Type 0} → (E → Lists → Type 0) → List Entry → List E → ℕ → Type 0
-AreUntouched {E} stands j links base = (a : ℕ) (d : E) → a < 8 →
+AreUntouched {E} stands j links base = (a : ℕ) (d : E) → a < 64 →
     stands (slice_index_or links (base + a) d) (account j (suc a) (record { got = []; given = [] }))
 
 -- what the driver of a node hands back that followed a script with these ends, and had set this before: it is lawful,
--- its deeds are a front of the script's steps, each answered as its state and what was set before it have it, its log
+-- its deeds are a front of the script's steps, each answered as in the version of what was set its state and what was
+-- set before it have it, its log
 -- is theirs, and, whatever the journal of the node is, its ends stand beside it for these deeds
 pub record HasWorked {E : Type 0} (stands : E → Lists → Type 0) (set : SettingsValue) (node : ℕ) (steps : List Step)
     (links : List E) (w : Worked E) : Type 0 where
   pub deeds : List Deed
   pub own : node_of w.driver ≡ node
   pub lawful : IsLawful w.driver
-  pub deeds_are : AreDeeds steps deeds
+  pub deeds_are : AreDeeds set.version steps deeds
   pub leads : (last : SettingsValue) × LeadToSettings set deeds last
-  pub traces : Traces (driver_of w.driver) (log_of w.driver) deeds
+  pub traces : Traces set.version (driver_of w.driver) (log_of w.driver) deeds
   pub holds : (j : List Entry) → AreUntouched stands j links 0 →
       HoldsBy stands deeds (driver_of w.driver) (log_of w.driver) j w.links.items 0

@@ -39,7 +39,7 @@ impl BusThread {
     ///
     /// Error: what the bus answers.
     fn gather(&mut self) -> Result<(), BusFault>
-        requires count { length self.old.links.items ≡ 8 * length self.old.bus.journals }
+        requires count { length self.old.links.items ≡ 64 * length self.old.bus.journals }
         requires ids { Numbered link_of_bus self.old.links.items }
         ensures on { OnOk result ((plan : PlanValue) → IsUnderWay plan self.old → GoesOn plan self.old self.new) }
         ensures run { self.new.run ≡ self.old.run }

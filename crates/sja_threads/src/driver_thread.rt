@@ -20,7 +20,7 @@ use std::sync::{Mutex, Wait};
 use std::thread::Parker;
 
 /// A driver in a thread of its own (this project's own rule): its node, the driver with its log, what it has set at its
-/// port, and its ends of the node's eight links, by activation.
+/// port, and its ends of the node's links, by activation.
 ///
 /// What it has set is its own: it goes into the port before each try there, and what a step sets comes out of it.
 #[derive(Drop)]
@@ -84,7 +84,7 @@ impl<D: DriverEnd + Drop> DriverThread<D> {
         rt: &impl Wait,
         port: &Mutex<Port>,
         step: &Step,
-        number: u16,
+        number: u32,
         gate: &G,
     ) -> bool
         requires { MayWork D.link self.old 1 }
@@ -120,7 +120,7 @@ impl<D: DriverEnd + Drop> DriverThread<D> {
         ensures few { result ≤ length steps.now }
         ensures all { G.QUITS ≡ false → result ≡ length steps.now }
     {
-        let mut number = 1u16;
+        let mut number = 1u32;
         for k in 0..steps.len() {
             if !self.do_step(rt, port, &steps[k], number, gate) {
                 return k;
@@ -155,7 +155,7 @@ impl<D: DriverEnd + Drop> DriverThread<D> {
 /// often as it takes; where it quits the script ends. At the end the port is marked as one whose driver has ended, and
 /// an open activation stays open.
 ///
-/// `links` are the driver's ends of the node's eight links, by activation. The port's lock is held over a try, but not
+/// `links` are the driver's ends of the node's links, by activation. The port's lock is held over a try, but not
 /// over one of `Window` or `Release`. The driver begins with what it finds set at the port, and from then on what it
 /// sets is its own: mode bits, IER, EWLR, written error counters, acceptance filter, transmit buffer and version. The
 /// log is empty, with room for all steps; no step takes memory.
@@ -173,7 +173,7 @@ pub fn work<D: DriverEnd + Drop, G: Gate>(
 ) -> Worked<D>
     requires empty { IsEmpty log }
     requires room { HasRoom (length steps.now) log }
-    requires eight { 8 ≤ length links.items }
+    requires enough { 64 ≤ length links.items }
     requires ids { NumberedFrom D.link links.items 0 node }
     ensures same { EachRelated D.same links.items result.links.items }
     ensures worked { (set : SettingsValue) × HasWorked D.stands set node steps.now links.items result }

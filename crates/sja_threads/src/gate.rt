@@ -15,6 +15,6 @@ pub trait Gate: Send + Drop {
 
     /// Asked before each try of a step of this node's driver: steps are counted from 1, and so are the tries of a step;
     /// each number stays at its type's greatest.
-    fn turn(&self, node: u8, step: u16, tries: u32) -> Pass
+    fn turn(&self, node: u8, step: u32, tries: u32) -> Pass
         ensures { result ≡ Quit → QUITS ≡ true };
 }

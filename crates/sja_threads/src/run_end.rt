@@ -49,7 +49,7 @@ pub(crate) fn end_run<G: Gate, R: Wait>(
 
 /// The log of a run that is over, and ends so: of each node its journal, its error counters, the steps done, and of
 /// each activation what was released, and what was left unread, by the driver and on the link. `bus` has its ends of
-/// all links, eight of each node, and `workeds` are what the drivers handed back, by node.
+/// all links, 64 of each node, and `workeds` are what the drivers handed back, by node.
 ///
 /// Error: [`RunFault::Unsettled`] where the bus didn't take all that was given on a link, or an end of one gave no
 /// account; [`RunFault::Memory`] where memory was refused.

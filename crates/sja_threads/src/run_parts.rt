@@ -42,7 +42,8 @@ impl<G: Gate> RunParts<G> {
     {
         let nodes = plan.nodes();
         let script = script_of(alloc, plan)?;
-        let bus = Bus::new(alloc, nodes as u8, plan.bits(), script)?;
+        let steps = plan.step_counts(alloc)?;
+        let bus = Bus::new(alloc, plan.bits(), steps, script)?;
         let mut links = Vec::new(alloc);
         let starts = starts_of(alloc, plan, gates, &mut links)?;
         let children = Vec::with_capacity(alloc, nodes)?;
@@ -63,7 +64,7 @@ impl<G: Gate> RunParts<G> {
 }
 
 /// What the thread of each driver begins with, and the gate that it asks. The bus's ends of all links are added to
-/// `buses`, eight a node, by node and activation.
+/// `buses`, 64 a node, by node and activation.
 ///
 /// Error: [`OutOfMemory`] where memory was refused.
 fn starts_of<G: Gate>(
@@ -75,14 +76,14 @@ fn starts_of<G: Gate>(
     requires gates { vec_len gates ≡ length plan.now.nodes }
     requires none { buses.old.items ≡ [] }
     ensures count { IfOk result (λ starts. length starts.items ≡ length plan.now.nodes) }
-    ensures links { OnOk result (length buses.new.items ≡ 8 * length plan.now.nodes) }
+    ensures links { OnOk result (length buses.new.items ≡ 64 * length plan.now.nodes) }
     ensures made { IfOk result (λ starts.
         AreMade plan.now (length plan.now.nodes) starts.items buses.new.items) }
 {
     let mut starts = Vec::with_capacity(alloc, plan.nodes())?;
     let mut node = 0u8;
     for gate in gates {
-        let log = WorkLog::new(alloc, plan.steps(usize::from(node)).len() as u16)?;
+        let log = WorkLog::new(alloc, plan.steps(usize::from(node)).len() as u32)?;
         let links = links_of(alloc, node, buses)?;
         starts.push_reserved(ThreadStart {
             node,
@@ -95,7 +96,7 @@ fn starts_of<G: Gate>(
     Ok(starts)
 }
 
-/// The driver's ends of a node's eight links, with nothing on them. The bus's ends are added to `buses`.
+/// The driver's ends of a node's links, with nothing on them. The bus's ends are added to `buses`.
 ///
 /// Error: [`OutOfMemory`] where memory was refused.
 fn links_of(
@@ -103,12 +104,12 @@ fn links_of(
     node: u8,
     buses: &mut Vec<RingBus>,
 ) -> Result<Vec<RingDriver>, OutOfMemory>
-    ensures eight { IfOk result (λ drivers. length drivers.items ≡ 8) }
-    ensures more { OnOk result (length buses.new.items ≡ length buses.old.items + 8) }
+    ensures enough { IfOk result (λ drivers. length drivers.items ≡ 64) }
+    ensures more { OnOk result (length buses.new.items ≡ length buses.old.items + 64) }
     ensures others { OnOk result ((i : ℕ) (b : BusEnd) → i < length buses.old.items →
         slice_index_or buses.new.items i b ≡ slice_index_or buses.old.items i b) }
     ensures pairs { IfOk result (λ drivers.
-        AreNewEnds 8 node buses.new.items drivers.items (length buses.old.items)) }
+        AreNewEnds 64 node buses.new.items drivers.items (length buses.old.items)) }
 {
     let mut drivers = Vec::with_capacity(alloc, LINKS_PER_NODE)?;
     for place in 0..LINKS_PER_NODE {

@@ -20,7 +20,7 @@ use std::snapshot::Snapshot;
 use std::sync::{Mutex, Wait};
 use std::thread::{Scope, Threads};
 
-/// What the thread of a node's driver begins with (this project's own rule): its ends of the node's eight links, by
+/// What the thread of a node's driver begins with (this project's own rule): its ends of the node's links, by
 /// activation, an empty log with room for all its steps, and the gate that it asks.
 #[derive(Drop)]
 pub(crate) struct ThreadStart<G: Drop> {

@@ -2,7 +2,7 @@
 
 use sja_driver::LoggedDriver;
 
-/// What a driver hands back when its script has ended (this project's own rule): its ends of the node's eight links,
+/// What a driver hands back when its script has ended (this project's own rule): its ends of the node's links,
 /// and the driver with the log of what it did. An open activation stays open.
 #[derive(Drop)]
 pub struct Worked<D: Drop> {

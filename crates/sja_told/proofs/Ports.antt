@@ -67,20 +67,20 @@ asked_first version found cut = sym (ap not (none_held_first found cut))
 -- ---- a step
 
 -- what kind of a step it is
-pub kind_by : (deeds : List Deed) (d : Deed) (p : Registers) →
-    FitsState (is_active deeds) (opened_by deeds) d.step d.answer → d.gave ≡ carried p d.step d.answer →
+pub kind_by : (version : ℕ) (deeds : List Deed) (d : Deed) (p : Registers) →
+    FitsState version (is_active deeds) (opened_by deeds) d.step d.answer → d.gave ≡ carried p d.step d.answer →
     Kind (is_active deeds) (opened_by deeds) d.step d.answer d.gave
-kind_by deeds d p fits gave =
-    kind_of (is_active deeds) (opened_by deeds) d.step d.answer d.gave fits
+kind_by version deeds d p fits gave =
+    kind_of version (is_active deeds) (opened_by deeds) d.step d.answer d.gave fits
     (subst (λ (l : List Up). Gives d.step d.answer l) (sym gave) (gives_carried p d.step d.answer))
 
-module _ (j k : List Entry) (deeds : List Deed) (d : Deed) (p q : Registers) (h : IsPort j deeds p)
-    (fits : FitsState (is_active deeds) (opened_by deeds) d.step d.answer)
+module _ (version : ℕ) (j k : List Entry) (deeds : List Deed) (d : Deed) (p q : Registers) (h : IsPort j deeds p)
+    (fits : FitsState version (is_active deeds) (opened_by deeds) d.step d.answer)
     (tells : Tells d.step (is_active deeds) p (seen_now (is_active deeds) j deeds) d.answer)
     (gave : d.gave ≡ carried p d.step d.answer) (whole : k ≡ j ++ entries_of_items d.gave)
     (left : q ≡ ported p d.step d.answer) where
   kind : Kind (is_active deeds) (opened_by deeds) d.step d.answer d.gave
-  kind = kind_by deeds d p fits gave
+  kind = kind_by version deeds d p fits gave
 
   -- what was entered
   none_entered : d.gave ≡ [] → k ≡ j
@@ -113,8 +113,8 @@ module _ (j k : List Entry) (deeds : List Deed) (d : Deed) (p q : Registers) (h 
 
   buffer_now : TbsIsRight q
   buffer_now = subst (λ (r : Registers). TbsIsRight r) (sym left)
-      (tbs_after_step p (opened_by deeds) d.step d.answer (is_active deeds) (seen_now (is_active deeds) j deeds) fits
-      tells h.buffer)
+      (tbs_after_step version p (opened_by deeds) d.step d.answer (is_active deeds)
+      (seen_now (is_active deeds) j deeds) fits tells h.buffer)
 
   -- one that begins no activation
   port_same : opens_by d ≡ 0 → place_of k ≡ place_of j → IsPort k (deeds ++ d ∷ []) q
@@ -173,10 +173,10 @@ module _ (j k : List Entry) (deeds : List Deed) (d : Deed) (p q : Registers) (h 
       let some : total is_send d.gave ≡ 1 = ap (total is_send) is in
       let same = ap (total is_send) gave in
       let on : p.mode.rm ≡ false = not_true p.mode.rm (λ e.
-      let none = reset_sends_none p (opened_by deeds) d.step d.answer (is_active deeds)
+      let none = reset_sends_none version p (opened_by deeds) d.step d.answer (is_active deeds)
       (seen_now (is_active deeds) j deeds) fits tells e in omega (arith, some, same, none)) in (
         not_false p.tbs (λ e.
-            let none = busy_sends_none p (opened_by deeds) d.step d.answer (is_active deeds)
+            let none = busy_sends_none version p (opened_by deeds) d.step d.answer (is_active deeds)
             (seen_now (is_active deeds) j deeds) fits tells e in omega (arith, some, same, none)),
         not_true (place_of j).off (λ off. neither p.mode.rm (h.off off) on),
       )

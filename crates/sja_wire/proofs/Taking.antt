@@ -76,7 +76,7 @@ adds_first j u us r =
     (eq-eqb (past (place_of j) (Item u)).activation (suc (stops_of j)) r.activation)
 
 -- where no activation has one there is none
-pub no_adds : (j : List Entry) (us : List Up) → AreRead j us → ((m : ℕ) → m < 8 → adds j us (suc m) ≡ []) → us ≡ []
+pub no_adds : (j : List Entry) (us : List Up) → AreRead j us → ((m : ℕ) → m < 64 → adds j us (suc m) ≡ []) → us ≡ []
 no_adds j [] r none = refl
 no_adds j (u ∷ us) r none =
     absurd (some_none u (adds (j ++ Item u ∷ []) us (suc (stops_of j))) (sym (adds_first j u us r.0)
@@ -92,9 +92,9 @@ one_is false u gave rest few e = absurd cc
 
 -- where at most one item waited, on the link that is read, and now that link shows nothing, just that one was taken
 pub just_taken : (j : List Entry) (us gave : List Up) (b : ℕ) (up : ℕ → List Up) → AreRead j us → AtMostOne gave →
-    (gave ≢ [] → (b ≡ suc (stops_of j)) × (stops_of j < 8)) →
-    ((a : ℕ) → a < 8 → waiting b gave (suc a) ≡ adds j us (suc a) ++ up a) →
-    (stops_of (j ++ entries_of_items us) < 8 → up (stops_of (j ++ entries_of_items us)) ≡ []) →
+    (gave ≢ [] → (b ≡ suc (stops_of j)) × (stops_of j < 64)) →
+    ((a : ℕ) → a < 64 → waiting b gave (suc a) ≡ adds j us (suc a) ++ up a) →
+    (stops_of (j ++ entries_of_items us) < 64 → up (stops_of (j ++ entries_of_items us)) ≡ []) →
     us ≡ gave
 just_taken j [] [] b up read few here whole dry = refl
 just_taken j [] (x ∷ xs) b up read few here whole dry =
@@ -102,7 +102,7 @@ just_taken j [] (x ∷ xs) b up read few here whole dry =
     let n : stops_of (j ++ []) ≡ stops_of j = ap stops_of (append-nil j) in
     let at : waiting b (x ∷ xs) (suc (stops_of j)) ≡ x ∷ xs =
     ap (λ t. cond t (x ∷ xs) []) (eq-eqb b (suc (stops_of j)) h.0) in
-    let none : up (stops_of j) ≡ [] = ap up (sym n) ∙ dry (subst (λ (m : ℕ). m < 8) (sym n) h.1) in
+    let none : up (stops_of j) ≡ [] = ap up (sym n) ∙ dry (subst (λ (m : ℕ). m < 64) (sym n) h.1) in
     absurd (some_none x xs (sym at ∙ whole (stops_of j) h.1 ∙ none))
 just_taken j (u ∷ us) gave b up read few here whole dry =
     let first : cond (b == suc (stops_of j)) gave [] ≡ u ∷ (adds (j ++ Item u ∷ []) us (suc (stops_of j)) ++ up

@@ -12,7 +12,7 @@ use Rattle.sja_link.specs.Accounts.{Account, account}
 
 -- how many links, and so activations, a node has
 abbrev pub per_node : ℕ
-per_node = 8
+per_node = 64
 
 -- 1 for a stop that was taken
 abbrev pub stops_in : Entry → ℕ
@@ -60,7 +60,7 @@ AreOf {E} link node links base =
     (a : ℕ) (d : E) → a < per_node →
     link (slice_index_or links (base + a) d) ≡ record { node = node; activation = suc a }
 
--- the links are those of the nodes in order, eight of each
+-- the links are those of the nodes in order, 64 of each
 abbrev pub Numbered : {E : Type 0} → (E → LinkId) → List E → Type 0
 Numbered {E} link links =
     (node a : ℕ) (d : E) → a < per_node → per_node * node + a < length links →

@@ -1,11 +1,9 @@
-//! Drivers: starts and stops, windows, what comes back, and the steps of a script.
+//! Drivers: starts and stops, windows, and what comes back. The rows of `test_scripts` have the steps of scripts.
 
-mod apart;
 mod each_given_back;
 mod endless;
 mod given;
 mod given_back;
 mod refused_memory;
-mod scripts;
 mod starts;
 mod windows;

@@ -1,10 +1,7 @@
-//! Links, the ledgers at their ends, journals, and the world of one link.
+//! Links, their numbers, journals, and refused memory. The rows of `test_ledgers` have what links carry, the ledgers at
+//! their ends, and the world of one link.
 
 pub(crate) mod given;
-mod given_back;
 mod journals;
-mod judging;
+mod numbers;
 mod refused;
-mod room;
-mod windows;
-mod worlds;

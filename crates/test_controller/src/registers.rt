@@ -1,14 +1,6 @@
-//! The register file: what a driver reads and is answered, and what a bit of the bus changes. Expected values are the
-//! data sheet's, or worked out by hand.
+//! The register file: what each address answers, and bytes as bits and as frames. The rows of `test_registers` have
+//! what the calls of a port answer, one after the other.
 
 mod addresses;
 mod buffering;
-mod calls;
-mod capturing;
-mod controller;
-mod error_states;
-mod given;
-mod interrupting;
-mod modes;
-mod turning;
-mod written_counters;
+mod bytes;

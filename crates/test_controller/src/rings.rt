@@ -1,9 +1,7 @@
-//! Links of two rings: what they carry, what is left on them, the ledgers at their ends, and ends that are gone.
+//! Links of two rings: ends that are gone, ends in two threads, and refused memory. The rows of `test_ledgers` have
+//! what they carry, what is left on them, and the ledgers at their ends.
 
 mod given;
 mod gone;
-mod judging;
-mod left;
 mod refused;
-mod room;
 mod threads;

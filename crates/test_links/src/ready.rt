@@ -5,9 +5,9 @@ ghost use Rattle.sja_driver.specs.Holding.{NumberedFrom};
 
 use sja_link::{DriverEnd, LINKS_PER_NODE, LinkId};
 
-/// Whether these are the ends of a node's eight links, by activation.
+/// Whether these are the ends of a node's links, by activation.
 pub fn are_links_of_node<E: DriverEnd>(ends: &[E], node: u8) -> bool
-    ensures count { result ≡ true → length ends.now ≡ 8 }
+    ensures count { result ≡ true → length ends.now ≡ 64 }
     ensures ids { result ≡ true → NumberedFrom E.link ends.now 0 node }
 {
     if ends.len() != LINKS_PER_NODE {

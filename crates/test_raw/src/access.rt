@@ -1,73 +1,67 @@
-//! One access of a raw driver, with what it has to answer.
+//! One access of a raw driver, and what it answers.
 
 ghost use Rattle.sja_raw.specs.RawDrivers.{typed_of};
 ghost use Rattle.sja_raw.specs.Trying.{MayTry, Keeps};
 
+use super::answer::Answer;
 use sja_link::DriverEnd;
 use sja_raw::RawDriver;
 use sja_regs::Port;
 
-/// An access, with what it has to answer.
+/// An access.
 #[derive(Clone, Copy, Debug, PartialEq, Eq)]
 pub enum Access {
-    /// The address reads as this value.
-    Read(u8, u8),
-    /// A write of this value to the address is done.
+    /// A read of the address.
+    Read(u8),
+    /// A write of this value to the address.
     Write(u8, u8),
-    /// Of a write of this value to the address this byte is left.
-    Left(u8, u8, u8),
-    /// The interrupt line is active, or it isn't.
-    Line(bool),
+    /// A look at the interrupt line.
+    Line,
 }
 
-/// Makes an access, and says whether it answered so.
-pub fn answers_so<E: DriverEnd>(
+/// What an access answers.
+pub fn answered<E: DriverEnd>(
     driver: &mut RawDriver,
     links: &mut [E],
     base: usize,
     port: &mut Port,
     access: Access,
-) -> bool
+) -> Answer
     requires { MayTry E.link (typed_of driver.old) links.old base 3 }
     ensures { Keeps E.link E.same (typed_of driver.old) (typed_of driver.new) links.old links.new base 3 }
 {
     match access {
-        Access::Read(address, value) => reads_so(driver, links, base, port, (address, value)),
-        Access::Write(address, value) => driver
-            .write(links, base, port, address, value, 0)
-            .is_none(),
-        Access::Left(address, value, rest) => {
-            driver.write(links, base, port, address, value, 0) == Some(rest)
+        Access::Read(address) => read_at(driver, links, base, port, address),
+        Access::Write(address, value) => {
+            Answer::of_write(driver.write(links, base, port, address, value, 0))
         }
-        Access::Line(active) => is_line_so(driver, links, base, port, active),
+        Access::Line => line_of(driver, links, base, port),
     }
 }
 
-/// Whether an address reads as this value.
-fn reads_so<E: DriverEnd>(
+/// What an address reads as.
+fn read_at<E: DriverEnd>(
     driver: &mut RawDriver,
     links: &mut [E],
     base: usize,
     port: &mut Port,
-    row: (u8, u8),
-) -> bool
+    address: u8,
+) -> Answer
     requires { MayTry E.link (typed_of driver.old) links.old base 3 }
     ensures { Keeps E.link E.same (typed_of driver.old) (typed_of driver.new) links.old links.new base 3 }
 {
-    let (address, value) = row;
-    driver.read(links, base, port, address, 0) == value
+    Answer::Value(driver.read(links, base, port, address, 0))
 }
 
-/// Whether the interrupt line is active, or isn't.
-fn is_line_so<E: DriverEnd>(
+/// Whether the interrupt line is active.
+fn line_of<E: DriverEnd>(
     driver: &mut RawDriver,
     links: &mut [E],
     base: usize,
     port: &Port,
-    active: bool,
-) -> bool
+) -> Answer
     requires { MayTry E.link (typed_of driver.old) links.old base 3 }
     ensures { Keeps E.link E.same (typed_of driver.old) (typed_of driver.new) links.old links.new base 3 }
 {
-    driver.irq(links, base, port) == active
+    Answer::Line(driver.irq(links, base, port))
 }

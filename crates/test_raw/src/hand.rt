@@ -1,4 +1,4 @@
-//! [`Hand`]: a raw driver whose accesses are compared.
+//! [`Hand`]: a raw driver whose accesses are told.
 
 ghost use Rattle.std.specs.Prelude.{◌≡◌, ◌+◌, ◌≤◌, true, length};
 ghost use Rattle.sja_driver.specs.Holding.{NumberedFrom};
@@ -7,18 +7,18 @@ ghost use Rattle.sja_driver.specs.LoggedDrivers.{node_of, log_of, IsLawful};
 ghost use Rattle.sja_raw.specs.RawDrivers.{typed_of};
 ghost use Rattle.test_raw.specs.Lawful.{lawful_once};
 
-use super::access::{Access, answers_so};
+use super::access::{Access, answered};
+use super::answer::Answer;
 use sja_driver::{LoggedDriver, WorkLog};
 use sja_link::{DriverEnd, LINKS_PER_NODE, LinkId};
 use sja_raw::RawDriver;
 use sja_regs::Port;
-use std::alloc::Global;
-use std::test::Fail;
+use std::alloc::{AllocError, Global};
 
 /// At most so many steps of a typed driver are one access.
 const STEPS: usize = 3;
 
-/// A raw driver of a node. An access answers otherwise where the links aren't those of the node, or the log is full.
+/// A raw driver of a node. An access does nothing where the links aren't those of the node, or the log is full.
 #[derive(Drop)]
 pub struct Hand {
     driver: RawDriver,
@@ -32,12 +32,11 @@ pub struct Hand {
 
 impl Hand {
     /// The driver of a node after power-on, for so many accesses.
-    pub fn new(alloc: Global, node: u8, accesses: usize) -> Result<Hand, Fail> {
-        if accesses > 10_000 {
-            return Err("too many accesses")?;
-        }
-        let room = accesses * STEPS;
-        let log = WorkLog::new(alloc, room as u16)?;
+    pub fn new(alloc: Global, node: u8, accesses: u16) -> Result<Hand, AllocError> {
+        let room = usize::from(accesses) * STEPS;
+        let Ok(log) = WorkLog::new(alloc, room as u32) else {
+            return Err(AllocError);
+        };
         Ok(Hand {
             driver: RawDriver::new(node, log),
             node,
@@ -45,20 +44,20 @@ impl Hand {
         })
     }
 
-    /// Makes an access over the links from `base` on, and says whether it answered so.
-    pub fn answers_so<E: DriverEnd>(
+    /// What an access over the links from `base` on answers.
+    pub fn answer<E: DriverEnd>(
         &mut self,
         links: &mut [E],
         base: usize,
         port: &mut Port,
         access: Access,
-    ) -> bool {
+    ) -> Answer {
         if self.room < STEPS || !are_ends_of(links, base, self.node) {
-            return false;
+            return Answer::Nothing;
         }
-        let so = answers_so(&mut self.driver, links, base, port, access);
+        let answer = answered(&mut self.driver, links, base, port, access);
         self.room -= STEPS;
-        so
+        answer
     }
 
     /// The typed driver, once there are no more accesses.
@@ -72,9 +71,9 @@ impl Hand {
     }
 }
 
-/// Whether these are the ends of a node's eight links from that place on, by activation.
+/// Whether these are the ends of a node's links from that place on, by activation.
 fn are_ends_of<E: DriverEnd>(ends: &[E], base: usize, node: u8) -> bool
-    ensures count { result ≡ true → base + 8 ≤ length ends.now }
+    ensures count { result ≡ true → base + 64 ≤ length ends.now }
     ensures ids { result ≡ true → NumberedFrom E.link ends.now base node }
 {
     if ends.len() < LINKS_PER_NODE {

@@ -1,14 +1,14 @@
-//! Two raw drivers on one bus: a list of accesses and bits, done in order.
+//! Two raw drivers on one bus: accesses and bits, done in order.
 
 ghost use Rattle.std.specs.Prelude.{◌≡◌, length};
 
 use super::access::Access;
+use super::answer::Answer;
 use super::hand::Hand;
 use sja_bus::{Bus, SerialBoard, are_links_of, serial_links};
-use sja_link::DequeLink;
+use sja_link::{DequeLink, LINKS_PER_NODE};
 use sja_script::{FaultScript, Strike};
-use std::alloc::Global;
-use std::test::Fail;
+use std::alloc::{AllocError, Global};
 
 /// More bits than any test has.
 const MANY: u32 = 4_000;
@@ -26,7 +26,7 @@ pub enum Row {
 
 /// Two drivers with the bus, its links and its ports.
 #[derive(Drop)]
-struct Session {
+pub struct Session {
     bus: Bus,
     links: Vec<DequeLink>,
     board: SerialBoard,
@@ -36,65 +36,55 @@ struct Session {
 }
 
 impl Session {
-    /// Two nodes after power-on in this version, for so many rows. Node 0 sees the other level at these strikes.
-    fn new(alloc: Global, version: u8, strikes: Vec<Strike>, rows: usize) -> Result<Session, Fail> {
+    /// Two nodes after power-on in this version, for so many accesses. Node 0 sees the other level at these strikes.
+    pub fn new(
+        alloc: Global,
+        version: u8,
+        strikes: Vec<Strike>,
+        accesses: u16,
+    ) -> Result<Session, AllocError> {
+        let steps = Vec::from_array(alloc, [1_000, 1_000])?;
+        let faults = FaultScript::of(strikes);
+        let Ok(bus) = Bus::new(alloc, MANY, steps, faults) else {
+            return Err(AllocError);
+        };
         Ok(Session {
-            bus: Bus::new(alloc, 2, MANY, FaultScript::of(strikes))?,
-            links: serial_links(alloc, 2)?,
-            board: SerialBoard::new(alloc, 2, version)?,
-            near: Hand::new(alloc, 0, rows)?,
-            far: Hand::new(alloc, 1, rows)?,
+            bus,
+            links: serial_links(alloc, 2).map_err(|_| AllocError)?,
+            board: SerialBoard::new(alloc, 2, version).map_err(|_| AllocError)?,
+            near: Hand::new(alloc, 0, accesses)?,
+            far: Hand::new(alloc, 1, accesses)?,
         })
     }
 
-    /// Does a row, and says whether it answered so, or its bits were run.
-    fn answers_so(&mut self, row: Row) -> bool {
+    /// What comes of a row.
+    pub fn answer(&mut self, row: Row) -> Answer {
         if self.board.ports.len() != 2 {
-            return false;
+            return Answer::Nothing;
         }
         match row {
             Row::Near(access) => {
                 let links = self.links.as_mut_slice();
-                self.near
-                    .answers_so(links, 0, &mut self.board.ports[0], access)
+                self.near.answer(links, 0, &mut self.board.ports[0], access)
             }
             Row::Far(access) => {
                 let links = self.links.as_mut_slice();
                 self.far
-                    .answers_so(links, 8, &mut self.board.ports[1], access)
+                    .answer(links, LINKS_PER_NODE, &mut self.board.ports[1], access)
             }
-            Row::Bits(count) => self.runs(count),
+            Row::Bits(count) => self.run(count),
         }
     }
 
-    /// Runs so many bits, and says whether they were run.
-    fn runs(&mut self, count: u32) -> bool {
+    /// Runs so many bits.
+    fn run(&mut self, count: u32) -> Answer {
         if !are_links_of(self.links.as_slice(), 2) || self.board.ports.len() < 2 {
-            return false;
+            return Answer::Nothing;
         }
         let links = self.links.as_mut_slice();
-        self.bus.bits(links, &mut self.board, count, false) == Ok(count)
-    }
-}
-
-/// The place of the first row of two nodes after power-on, in this version, that answered otherwise than it says; none
-/// where all answered so. Node 0 sees the other level at these strikes.
-pub fn first_wrong(
-    alloc: Global,
-    version: u8,
-    strikes: Vec<Strike>,
-    rows: &[Row],
-) -> Result<Option<usize>, Fail> {
-    let mut session = Session::new(alloc, version, strikes, rows.len())?;
-    for (place, row) in rows.iter().enumerate() {
-        if !session.answers_so(*row) {
-            return Ok(Some(place));
+        match self.bus.bits(links, &mut self.board, count, false) {
+            Ok(bits) => Answer::Ran(bits),
+            Err(_) => Answer::Nothing,
         }
     }
-    Ok(None)
-}
-
-/// The same in version 2, where node 0 isn't struck.
-pub fn first_wrong_row(alloc: Global, rows: &[Row]) -> Result<Option<usize>, Fail> {
-    first_wrong(alloc, 2, Vec::new(alloc), rows)
 }

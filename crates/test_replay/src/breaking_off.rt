@@ -33,7 +33,7 @@ fn an_entry_that_cannot_come_ends_the_replay(rt: HostRuntime) -> Result<(), Fail
 /// After it each further call answers nothing, though a bit stands behind it.
 #[test]
 fn what_ended_does_not_go_on(rt: HostRuntime) -> Result<(), Fail> {
-    let mut journal = Journal::new(rt.alloc(), 2)?;
+    let mut journal = Journal::new(rt.alloc(), 2, 1_000)?;
     enter(&mut journal, Entry::Off)?;
     bit(&mut journal, Level::Recessive, Level::Recessive)?;
     let mut replay = Replay::of(&journal);
@@ -44,7 +44,7 @@ fn what_ended_does_not_go_on(rt: HostRuntime) -> Result<(), Fail> {
 
 #[test]
 fn an_empty_journal_has_no_bit(rt: HostRuntime) -> Result<(), Fail> {
-    assert!(rt; count(&Journal::new(rt.alloc(), 1)?) == 0);
+    assert!(rt; count(&Journal::new(rt.alloc(), 1, 1_000)?) == 0);
     Ok(())
 }
 

@@ -10,7 +10,7 @@ use test_frames::nodes::PLAIN;
 
 /// A journal of a node that was started, and then waited for the bus for 11 bits.
 pub fn on_the_bus(alloc: Global) -> Result<Journal, Fail> {
-    let mut journal = Journal::new(alloc, 200)?;
+    let mut journal = Journal::new(alloc, 200, 1_000)?;
     enter(&mut journal, Entry::Up(Up::Start(PLAIN)))?;
     for _ in 0..11 {
         bit(&mut journal, Level::Recessive, Level::Recessive)?;

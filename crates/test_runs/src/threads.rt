@@ -3,6 +3,7 @@
 mod configured;
 mod gates;
 mod given;
+mod interrupts;
 mod meeting;
 mod passing;
 mod runs;

@@ -17,9 +17,9 @@ number link = link.link
 abbrev IsSame : Deques → Deques → Type 0
 IsSame was now = now.link ≡ was.link
 
--- eight links a node, each with the number of its place
+-- 64 links a node, each with the number of its place
 pub record AreOfTwo (links : List Deques) : Type 0 where
-  pub count : length links ≡ 16
+  pub count : length links ≡ 128
   pub numbered : Numbered number links
 
 -- new ones are those of two nodes
@@ -47,11 +47,11 @@ when_one links place was now few here same = when_same links (slice_set links pl
 
 -- the number of a node's first link
 pub first_number : (links : List Deques) (node place : ℕ) (here : Deques) → AreOfTwo links → node < 2 →
-    place ≡ 8 * node → here ≡ slice_index_or links place here →
+    place ≡ 64 * node → here ≡ slice_index_or links place here →
     here.link ≡ record { node = node; activation = 1 }
 first_number links node place here are few at is =
     let count = are.count in
-    let there : place ≡ 8 * node + 0 = omega (arith, at) in
+    let there : place ≡ 64 * node + 0 = omega (arith, at) in
     ap number is ∙ ap (λ p. number (slice_index_or links p here)) there
     ∙ are.numbered node 0 here (omega arith) (omega (arith, count))
 

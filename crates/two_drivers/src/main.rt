@@ -3,7 +3,7 @@
 //! It is the shortest way to drive a bus without a plan by the calls of these crates, to be copied.
 #![tactic(auto)]
 
-ghost use Rattle.std.specs.Prelude.{◌≡◌};
+ghost use Rattle.std.specs.Prelude.{◌≡◌, IfSome, length};
 
 use can_frame::Message;
 use sja_bus::{Bus, SerialBoard, serial_links};
@@ -42,17 +42,25 @@ fn pass_and_print(rt: &HostRuntime) -> Option<()> {
 /// What the driver of node 1 releases after 100 bits, where that of node 0 sends this message. Nothing where a call is
 /// refused.
 fn passed_on(alloc: Global, message: &Message) -> Option<Message> {
-    let mut bus = Bus::new(alloc, 2, 1000, FaultScript::of(Vec::new(alloc))).ok()?;
+    let mut bus = bus_of_two(alloc)?;
     let mut links = serial_links(alloc, 2).ok()?;
     let mut board = SerialBoard::new(alloc, 2, 1).ok()?;
-    // each node has eight links, one for each activation: these are the first ones
+    // each node has 64 links, one for each activation: these are the first ones
     let (near, far) = (first_link(0), first_link(1));
     send(&mut links[near], &mut board.ports[0], message)?;
-    let mut receiver = Driver::new(1)
-        .start(&mut links[far], &mut board.ports[1])
-        .ok()?;
+    let Ok(mut receiver) = Driver::new(1).start(&mut links[far], &mut board.ports[1]) else {
+        return None;
+    };
     bus.bits(links.as_mut_slice(), &mut board, 100, false).ok()?;
     receiver.release_message(&mut links[far]).ok()
+}
+
+/// A bus of two nodes for 1000 bits, with room for ten steps of each driver. Nothing where memory is refused.
+fn bus_of_two(alloc: Global) -> Option<Bus>
+    ensures { IfSome result (λ bus. length bus.journals ≡ 2) }
+{
+    let steps = Vec::from_elem(alloc, 10, 2).ok()?;
+    Bus::new(alloc, 1000, steps, FaultScript::of(Vec::new(alloc))).ok()
 }
 
 /// Starts the driver of node 0 over its first link, and asks it to send this message. Nothing where a call is refused.

@@ -36,8 +36,8 @@ keeps_all same stands [] after links links_after len goes = λ node h few. absur
 keeps_all same stands (s ∷ seats) after links links_after len goes = λ node h few kept.
     let all = s ∷ seats in let cb = count_is all in
     let near : node < length all = omega (arith, few, cb) in
-    let P : List Entry → Type 0 = λ j. Kept stands j links (8 * node) h in
-    let Q : List Entry → Type 0 = λ j. Kept stands j links_after (8 * node) h in
+    let P : List Entry → Type 0 = λ j. Kept stands j links (64 * node) h in
+    let Q : List Entry → Type 0 = λ j. Kept stands j links_after (64 * node) h in
     subst Q (sym (journal_is after node s (omega (arith, near, len))))
     (goes.kept node s h near (subst P (journal_is all node s near) kept))
 
@@ -103,8 +103,8 @@ all_dry dry (s ∷ seats) links ready read = λ node d few run.
     let near : node < length all = omega (arith, few, cb) in
     let e : stops_of (journal_at (journals_of all) node) ≡ (slice_index_or all node s).ended =
     ap stops_of (journal_is all node s near) ∙ (ready node s near).ready.sound.reads.stopped in
-    let P : ℕ → Type 0 = λ n. dry (slice_index_or links (8 * node + n) d) in
-    let Q : ℕ → Type 0 = λ n. n < 8 in
+    let P : ℕ → Type 0 = λ n. dry (slice_index_or links (64 * node + n) d) in
+    let Q : ℕ → Type 0 = λ n. n < 64 in
     subst P (sym e) (read node s d near (subst Q e run))
 
 -- one node of them

@@ -19,11 +19,11 @@ use Rattle.sja_bus.specs.Inside.Rows.{IsOf, AreReady, GoesAll, EachSeat, Done}
 -- links of another node are as they were
 pub kept_others : {E : Type 0} (stands : E → Lists → Type 0) (j : List Entry) (links after : List E) (k m : ℕ)
     (h : ℕ → Account) → (k ≡ m → ⊥) →
-    ((i : ℕ) (d : E) → (i < 8 * k) ⊎ (8 * k + 8 ≤ i) → slice_index_or after i d ≡ slice_index_or links i d) →
-    Kept stands j links (8 * m) h → Kept stands j after (8 * m) h
+    ((i : ℕ) (d : E) → (i < 64 * k) ⊎ (64 * k + 64 ≤ i) → slice_index_or after i d ≡ slice_index_or links i d) →
+    Kept stands j links (64 * m) h → Kept stands j after (64 * m) h
 kept_others stands j links after k m h ne others was a d few =
-    let far : (8 * m + a < 8 * k) ⊎ (8 * k + 8 ≤ 8 * m + a) = grind arith in
-    rw (others (8 * m + a) d far) (was a d few)
+    let far : (64 * m + a < 64 * k) ⊎ (64 * k + 64 ≤ 64 * m + a) = grind arith in
+    rw (others (64 * m + a) d far) (was a d few)
 
 pub goes_all_refl : {E : Type 0} (same : E → E → Type 0) (stands : E → Lists → Type 0) → ((x : E) → same x x) →
     (seats : List Seat) (links : List E) → GoesAll same stands seats seats links links
@@ -38,7 +38,7 @@ pub goes_all_one : {E : Type 0} (same : E → E → Type 0) (stands : E → List
     ((x y z : E) → same x y → same y z → same x z) → (seats now : List Seat) (links here then : List E)
     (k : ℕ) (s new : Seat) →
     k < length now → length now ≡ length seats → GoesAll same stands seats now links here →
-    Goes same stands (slice_index_or now k s).journal.entries new.journal.entries here then (8 * k) →
+    Goes same stands (slice_index_or now k s).journal.entries new.journal.entries here then (64 * k) →
     GoesAll same stands seats (slice_set now k new) links then
 goes_all_one same stands t seats now links here then k s new few len p q = record {
   sames = each_trans same t links here then p.sames q.sames;
@@ -46,14 +46,14 @@ goes_all_one same stands t seats now links here then k s new few len p q = recor
     | inl eq ↦
         let e1 : slice_index_or (slice_set now k new) m e ≡ new =
         ap (λ n. slice_index_or (slice_set now k new) n e) (sym eq) ∙ set_here now k new e few in
-        let at : Kept stands (slice_index_or now k e).journal.entries here (8 * k) h =
-        subst (λ (n : ℕ). Kept stands (slice_index_or now n e).journal.entries here (8 * n) h) (sym eq)
+        let at : Kept stands (slice_index_or now k e).journal.entries here (64 * k) h =
+        subst (λ (n : ℕ). Kept stands (slice_index_or now n e).journal.entries here (64 * n) h) (sym eq)
         (p.kept m e h l was) in
-        let this : Kept stands (slice_index_or now k s).journal.entries here (8 * k) h =
-        subst (λ (x : Seat). Kept stands x.journal.entries here (8 * k) h) (or_same now k e s few) at in
-        let moved : Kept stands new.journal.entries then (8 * m) h =
-        subst (λ (n : ℕ). Kept stands new.journal.entries then (8 * n) h) eq (q.kept h this) in
-        subst (λ (x : Seat). Kept stands x.journal.entries then (8 * m) h) (sym e1) moved
+        let this : Kept stands (slice_index_or now k s).journal.entries here (64 * k) h =
+        subst (λ (x : Seat). Kept stands x.journal.entries here (64 * k) h) (or_same now k e s few) at in
+        let moved : Kept stands new.journal.entries then (64 * m) h =
+        subst (λ (n : ℕ). Kept stands new.journal.entries then (64 * n) h) eq (q.kept h this) in
+        subst (λ (x : Seat). Kept stands x.journal.entries then (64 * m) h) (sym e1) moved
     | inr ne ↦
         let e1 : slice_index_or (slice_set now k new) m e ≡ slice_index_or now m e =
         set_else now k m new e (λ x. ne (sym x)) in
@@ -95,16 +95,16 @@ ready_one seats k new few was is m s l = elim (cases_eq k m) [
 
 -- the links of a node have its number
 pub numbered_at : {E : Type 0} (link : E → LinkId) (same : E → E → Type 0) → ((x y : E) → same x y → link y ≡ link x) →
-    (links after : List E) (n k : ℕ) → length links ≡ 8 * n → k < n →
+    (links after : List E) (n k : ℕ) → length links ≡ 64 * n → k < n →
     EachRelated same links after → Numbered link links →
-    (a : ℕ) (d : E) → a < 8 → link (slice_index_or after (8 * k + a) d) ≡ record { node = k; activation = suc a }
-numbered_at link same f links after n k len few rel num a d l = each_at same link f links after (8 * k + a) d rel
+    (a : ℕ) (d : E) → a < 64 → link (slice_index_or after (64 * k + a) d) ≡ record { node = k; activation = suc a }
+numbered_at link same f links after n k len few rel num a d l = each_at same link f links after (64 * k + a) d rel
     ∙ num k a d l (grind arith)
 
 pub numbered_kept : {E : Type 0} (link : E → LinkId) (same : E → E → Type 0) →
     ((x y : E) → same x y → link y ≡ link x) → (links after : List E) → EachRelated same links after →
     Numbered link links → Numbered link after
-numbered_kept link same f links after rel num k a d few here = each_at same link f links after (8 * k + a) d rel
+numbered_kept link same f links after rel num k a d few here = each_at same link f links after (64 * k + a) d rel
     ∙ num k a d few (rw (← each_length same links after rel) here)
 
 pub goes_all_trans : {E : Type 0} (same : E → E → Type 0) (stands : E → Lists → Type 0) →
@@ -164,23 +164,24 @@ done_before k before after f h m s few = (
 
 pub dry_one : {E : Type 0} (dry : E → Type 0) (seats : List Seat) (links after : List E) (k : ℕ)
     (new : Seat) → k < length seats →
-    ((i : ℕ) (d : E) → (i < 8 * k) ⊎ (8 * k + 8 ≤ i) → slice_index_or after i d ≡ slice_index_or links i d) →
-    ((d : E) → new.ended < 8 → dry (slice_index_or after (8 * k + new.ended) d)) →
-    ((m : ℕ) (s : Seat) (d : E) → m < k → (slice_index_or seats m s).ended < 8 →
-    dry (slice_index_or links (8 * m + (slice_index_or seats m s).ended) d)) →
-    (m : ℕ) (s : Seat) (d : E) → m < k + 1 → (slice_index_or (slice_set seats k new) m s).ended < 8 →
-    dry (slice_index_or after (8 * m + (slice_index_or (slice_set seats k new) m s).ended) d)
+    ((i : ℕ) (d : E) → (i < 64 * k) ⊎ (64 * k + 64 ≤ i) → slice_index_or after i d ≡ slice_index_or links i d) →
+    ((d : E) → new.ended < 64 → dry (slice_index_or after (64 * k + new.ended) d)) →
+    ((m : ℕ) (s : Seat) (d : E) → m < k → (slice_index_or seats m s).ended < 64 →
+    dry (slice_index_or links (64 * m + (slice_index_or seats m s).ended) d)) →
+    (m : ℕ) (s : Seat) (d : E) → m < k + 1 → (slice_index_or (slice_set seats k new) m s).ended < 64 →
+    dry (slice_index_or after (64 * m + (slice_index_or (slice_set seats k new) m s).ended) d)
 dry_one {E} dry seats links after k new few others here was m s d l = elim (cases_eq k m) [
   | inl eq ↦
       let e1 : slice_index_or (slice_set seats k new) m s ≡ new =
       ap (λ n. slice_index_or (slice_set seats k new) n s) (sym eq) ∙ set_here seats k new s few in
-      let at = subst (λ (n : ℕ). (d : E) → new.ended < 8 → dry (slice_index_or after (8 * n + new.ended) d)) eq here in
-      subst (λ (x : Seat). x.ended < 8 → dry (slice_index_or after (8 * m + x.ended) d)) (sym e1) (at d)
+      let at = subst (λ (n : ℕ). (d : E) → new.ended < 64 → dry (slice_index_or after (64 * n + new.ended) d)) eq here
+      in
+      subst (λ (x : Seat). x.ended < 64 → dry (slice_index_or after (64 * m + x.ended) d)) (sym e1) (at d)
   | inr ne ↦
       let e1 : slice_index_or (slice_set seats k new) m s ≡ slice_index_or seats m s =
       set_else seats k m new s (λ x. ne (sym x)) in
-      subst (λ (x : Seat). x.ended < 8 → dry (slice_index_or after (8 * m + x.ended) d)) (sym e1)
-      (λ run. let far : (8 * m + (slice_index_or seats m s).ended < 8 * k)
-      ⊎ (8 * k + 8 ≤ 8 * m + (slice_index_or seats m s).ended) = grind arith in
-      rw (others (8 * m + (slice_index_or seats m s).ended) d far) (was m s d (omega arith) run))
+      subst (λ (x : Seat). x.ended < 64 → dry (slice_index_or after (64 * m + x.ended) d)) (sym e1)
+      (λ run. let far : (64 * m + (slice_index_or seats m s).ended < 64 * k)
+      ⊎ (64 * k + 64 ≤ 64 * m + (slice_index_or seats m s).ended) = grind arith in
+      rw (others (64 * m + (slice_index_or seats m s).ended) d far) (was m s d (omega arith) run))
 ]

@@ -18,8 +18,8 @@ use Rattle.sja_bus.proofs.ItemsTaken.Refusing.{rooms_one}
 -- each is ready and stands at its links, as long as every link is the same one still
 pub has_links : {E : Type 0} (link : E → LinkId) (same : E → E → Type 0) → ((x y : E) → same x y → link y ≡ link x) →
     (n : ℕ) (seats : List Seat) (given links : List E) (k : ℕ) (s : Seat) →
-    length given ≡ 8 * n → length seats ≡ n → k < n → EachRelated same given links → Numbered link given →
-    AreReady seats → HasLinks link (slice_index_or seats k s) links (8 * k)
+    length given ≡ 64 * n → length seats ≡ n → k < n → EachRelated same given links → Numbered link given →
+    AreReady seats → HasLinks link (slice_index_or seats k s) links (64 * k)
 has_links link same same_link n seats given links k s count many here sames ids ready =
     let is = ready k s (omega (arith, here, many)) in let long = each_length same given links sames in record {
       room = omega (arith, here, count, long);
@@ -34,10 +34,10 @@ pub record HaveTaken {E : Type 0} (same : E → E → Type 0) (stands : E → Li
     (Does Tells : ℕ → Seat → Seat → Type 0) (before : List Seat) (given : List E) (k : ℕ) (seats : List Seat)
     (links : List E) : Type 0 where
   pub ready : AreReady seats
-  pub dry : (m : ℕ) (s : Seat) (d : E) → m < k → (slice_index_or seats m s).ended < 8 →
-      shows_nothing (slice_index_or links (8 * m + (slice_index_or seats m s).ended) d)
+  pub dry : (m : ℕ) (s : Seat) (d : E) → m < k → (slice_index_or seats m s).ended < 64 →
+      shows_nothing (slice_index_or links (64 * m + (slice_index_or seats m s).ended) d)
   pub goes : GoesAll same stands before seats given links
-  pub rooms : (n : ℕ) → HaveRoom n before → HaveRoom n seats
+  pub rooms : (n : ℕ → ℕ) → HaveRoom n before → HaveRoom n seats
   pub done : Done Does k before seats
   pub untold : Done Tells k before seats
 
@@ -60,8 +60,8 @@ pub taken_one : {E : Type 0} (same : E → E → Type 0) (stands : E → Lists �
     (given links after : List E)
     (k : ℕ) (s new : Seat) → k < length seats → length seats ≡ length before →
     KeepsLinks same (slice_index_or seats k s) new links after → IsReady new →
-    Goes same stands (slice_index_or seats k s).journal.entries new.journal.entries links after (8 * k) →
-    ((d : E) → new.ended < 8 → dry (slice_index_or after (8 * k + new.ended) d)) →
+    Goes same stands (slice_index_or seats k s).journal.entries new.journal.entries links after (64 * k) →
+    ((d : E) → new.ended < 64 → dry (slice_index_or after (64 * k + new.ended) d)) →
     Does k (slice_index_or seats k s) new → Tells k (slice_index_or seats k s) new →
     HaveTaken same stands dry Does Tells before given k seats links →
     HaveTaken same stands dry Does Tells before given (k + 1) (slice_set seats k new) after

@@ -140,16 +140,18 @@ some_work seats ready which =
     (which.0, few, rests_at seats false which.0 ready few which.2)
 
 -- by the bus, its links and its ports
-pub one_bit : {E B : Type 0} (e : Ends E) (b : Ports B) (script : List Strike) (n next left less : ℕ)
+pub one_bit : {E B : Type 0} (e : Ends E) (b : Ports B) (script : List Strike) (steps : List ℕ)
+    (n next left less : ℕ)
     (struck : StruckNodes) (seats after : List Seat) (links links_after : List E) (board now : B) → next ≡ n + 1 →
     less + 1 ≡ left → length after ≡ length seats → length seats ≤ 8 →
     ((node : ℕ) → node < 8 → IsAmong node struck ↔ Strikes script n node) →
     IsRowBit (b.orders_are board) (b.told board now) (b.kept board now) struck seats after →
     EachRelated e.same links links_after → KeepsOthers b.ports b.kept (length seats) board now →
     GoesAll e.same e.stands seats after links links_after → IsBus script n seats → IsBus script next after →
-    ((k : ℕ) → k < length seats → b.facts now k) → OneBit e b (moment_of script n left seats links board)
-    (moment_of script next less after links_after now)
-one_bit e b script n next left less struck seats after links links_after board now is_next is_less len few at row sames
+    ((k : ℕ) → k < length seats → b.facts now k) → OneBit e b (moment_of script steps n left seats links board)
+    (moment_of script steps next less after links_after now)
+one_bit e b script steps n next left less struck seats after links links_after board now is_next is_less len few at row
+    sames
     others goes bus bus_after are =
     let nodes : length after ≡ length (journals_of seats) = len ∙ sym (count_is seats) in
     let K : ℕ → Type 0 = λ m. KeepsOthers b.ports b.kept m board now in
@@ -158,6 +160,7 @@ one_bit e b script n next left less struck seats after links links_after board n
         sames = sames;
         others = subst K (sym (count_is seats)) others;
         script = refl;
+        steps = refl;
         nodes = count_is after ∙ nodes;
       };
       run = is_next;
@@ -194,16 +197,16 @@ facts_of_bit {B} b go_on struck level seats after board now ports others turns f
 
 -- none so far
 pub none_yet : {E B : Type 0} (One : ℕ → Moment E B → Moment E B → Type 0) (Before : Moment E B → Type 0)
-    (script : List Strike) (from left : ℕ) (seats : List Seat) (links : List E) (board : B) →
-    AreBits One Before (moment_of script from left seats links board) 0
-    (moment_of script (from + 0) (left - 0) seats links board)
-none_yet One Before script from left seats links board =
+    (script : List Strike) (steps : List ℕ) (from left : ℕ) (seats : List Seat) (links : List E) (board : B) →
+    AreBits One Before (moment_of script steps from left seats links board) 0
+    (moment_of script steps (from + 0) (left - 0) seats links board)
+none_yet One Before script steps from left seats links board =
     let f : from ≡ from + 0 = omega arith in let l : left ≡ left - 0 = omega arith in
-    let P : ℕ → Type 0 = λ n. AreBits One Before (moment_of script from left seats links board) 0
-    (moment_of script n left seats links board) in
-    let Q : ℕ → Type 0 = λ n. AreBits One Before (moment_of script from left seats links board) 0
-    (moment_of script (from + 0) n seats links board) in
-    subst Q l (subst P f (no_bit (moment_of script from left seats links board)))
+    let P : ℕ → Type 0 = λ n. AreBits One Before (moment_of script steps from left seats links board) 0
+    (moment_of script steps n left seats links board) in
+    let Q : ℕ → Type 0 = λ n. AreBits One Before (moment_of script steps from left seats links board) 0
+    (moment_of script steps (from + 0) n seats links board) in
+    subst Q l (subst P f (no_bit (moment_of script steps from left seats links board)))
 
 -- one more
 pub more_bits : {E B : Type 0} (One : ℕ → Moment E B → Moment E B → Type 0) (Before : Moment E B → Type 0)
@@ -216,7 +219,8 @@ more_bits One Before was mid now n next is bits before one =
 
 -- after one bit more
 pub bits_on : {E B : Type 0} (e : Ends E) (b : Ports B) (to_rest : Bool) (was : Moment E B) (script : List Strike)
-    (from run most left : ℕ) (struck : StruckNodes) (seats after : List Seat) (links links_after : List E)
+    (steps : List ℕ) (from run most left : ℕ) (struck : StruckNodes) (seats after : List Seat) (links links_after : List
+    E)
     (board now : B) → run < most → most ≤ left → length after ≡ length seats → length seats ≤ 8 →
     ((node : ℕ) → node < 8 → IsAmong node struck ↔ Strikes script (from + run) node) →
     IsRowBit (b.orders_are board) (b.told board now) (b.kept board now) struck seats after →
@@ -224,27 +228,31 @@ pub bits_on : {E B : Type 0} (e : Ends E) (b : Ports B) (to_rest : Bool) (was : 
     GoesAll e.same e.stands seats after links links_after → IsBus script (from + run) seats →
     IsBus script (from + (run + 1)) after → ((k : ℕ) → k < length seats → b.facts now k) →
     (to_rest ≡ true → SomeWork (journals_of seats)) →
-    AreBits (AnyBit e b) (WorksIf to_rest) was run (moment_of script (from + run) (left - run) seats links board) →
+    AreBits (AnyBit e b) (WorksIf to_rest) was run (moment_of script steps (from + run) (left - run) seats links board)
+    →
     AreBits (AnyBit e b) (WorksIf to_rest) was (run + 1)
-    (moment_of script (from + (run + 1)) (left - (run + 1)) after links_after now)
-bits_on e b to_rest was script from run most left struck seats after links links_after board now early enough len few at
+    (moment_of script steps (from + (run + 1)) (left - (run + 1)) after links_after now)
+bits_on e b to_rest was script steps from run most left struck seats after links links_after board now early enough len
+    few at
     row sames others goes bus bus_after are works bits =
-    more_bits (AnyBit e b) (WorksIf to_rest) was (moment_of script (from + run) (left - run) seats links board)
-    (moment_of script (from + (run + 1)) (left - (run + 1)) after links_after now) run (run + 1) refl bits works
-    (one_bit e b script (from + run) (from + (run + 1)) (left - run) (left - (run + 1)) struck seats after links
+    more_bits (AnyBit e b) (WorksIf to_rest) was (moment_of script steps (from + run) (left - run) seats links board)
+    (moment_of script steps (from + (run + 1)) (left - (run + 1)) after links_after now) run (run + 1) refl bits works
+    (one_bit e b script steps (from + run) (from + (run + 1)) (left - run) (left - (run + 1)) struck seats after links
     links_after board now (omega arith) (omega (arith, early, enough)) len few at row sames others
     goes bus bus_after are)
 
 -- the bit of one broke off
 pub stops_on : {E : Type 0} (same : E → E → Type 0) (stands : E → Lists → Type 0) (full : E → Type 0)
-    (orders_are : ℕ → Orders → Type 0) (script : List Strike) (run left bits : ℕ)
+    (orders_are : ℕ → Orders → Type 0) (script : List Strike) (steps : List ℕ) (run left bits : ℕ)
     (seats after : List Seat) (links links_after : List E) (f : BusFault) (now : BusValue) → ((x : E) → same x x) →
     now.journals ≡ journals_of after → run + left ≡ bits → length after ≡ length seats →
-    HaveRoom (room_for bits) seats → NoneAborts orders_are (length seats) → SeatBreaks stands full seats after links f →
-    StopsBit stands full orders_are (bus_of script run left seats) now links links_after f
-stops_on same stands full orders_are script run left bits seats after links links_after f now same_refl journals all
+    HaveRoom (room_for bits steps) seats → NoneAborts orders_are (length seats) → SeatBreaks stands full seats after
+    links f →
+    StopsBit stands full orders_are (bus_of script steps run left seats) now links links_after f
+stops_on same stands full orders_are script steps run left bits seats after links links_after f now same_refl journals
+    all
     len rooms none breaks =
-    stops_bit same stands full orders_are script run left bits None seats after links links_after f
+    stops_bit same stands full orders_are script steps run left bits None seats after links links_after f
     now journals all len rooms
     (inr (record {
       opened = seats;

@@ -72,6 +72,7 @@ module _ {E B : Type 0} (e : Ends E) (b : Ports B) where
     sames = each_refl e.same same_refl m.links;
     others = (refl, λ k far. kept_refl m.board k);
     script = refl;
+    steps = refl;
     nodes = refl;
   }
 
@@ -83,6 +84,7 @@ module _ {E B : Type 0} (e : Ends E) (b : Ports B) where
     others = others_trans b.ports b.kept kept_trans (length was.bus.journals) (length mid.bus.journals) was.board
         mid.board now.board p.nodes p.others q.others;
     script = q.script ∙ p.script;
+    steps = q.steps ∙ p.steps;
     nodes = q.nodes ∙ p.nodes;
   }
 

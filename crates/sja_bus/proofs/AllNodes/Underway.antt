@@ -39,7 +39,7 @@ pub record Ticks {E B : Type 0} (same : E → E → Type 0) (stands : E → List
   pub ready : IsReady new
   pub node : (link_of new.ledger).node ≡ (link_of old.ledger).node
   pub room : new.journal.room ≡ old.journal.room
-  pub goes : Goes same stands old.journal.entries new.journal.entries links after (8 * k)
+  pub goes : Goes same stands old.journal.entries new.journal.entries links after (64 * k)
   pub ports_are : ports now ≡ ports board
   pub others : (m : ℕ) → m ≢ (link_of old.ledger).node → kept board now m
   pub turns : Turns (told board now (link_of old.ledger).node) (kept board now (link_of old.ledger).node) seen old new

@@ -96,7 +96,7 @@ breaks_after stands full x y old mid new BitsSpent node ended short moves b = ab
 
 -- the same by all its links
 pub broken_link : {E : Type 0} (stands : E → Lists → Type 0) (full : E → Type 0) (old new : Seat) (links : List E)
-    (base : ℕ) (d : E) (f : BusFault) → old.ended < 8 →
+    (base : ℕ) (d : E) (f : BusFault) → old.ended < 64 →
     BreaksHere stands full (slice_index_or links (base + old.ended) d) old new f →
     IsBrokenFor stands full (link_of old.ledger).node old.journal.room old.journal.entries
     new.journal.entries links base f
@@ -161,7 +161,7 @@ pub full_seat : {E : Type 0} (same : E → E → Type 0) (stands : E → Lists �
     k < length seats → length now ≡ length seats → AreReady now →
     GoesAll same stands seats now links here → Done R k seats now →
     FullForAbort stands (orders_are (link_of (slice_index_or now k s).ledger).node) (slice_index_or now k s)
-    new here after (8 * k) f →
+    new here after (64 * k) f →
     SeatFull stands orders_are seats (slice_set now k new) links after f
 full_seat {E} same stands orders_are R seats now links here after k s new f few len ready goes done r =
     let near : k < length now = omega (arith, few, len) in
@@ -173,12 +173,12 @@ full_seat {E} same stands orders_are R seats now links here after k s new f few 
           let same_seat : slice_index_or now k s ≡ slice_index_or seats k t = or_same now k s t near
           ∙ (done k t few).1 (omega arith) in
           let this : slice_index_or now k t ≡ slice_index_or seats k t = (done k t few).1 (omega arith) in
-          let P : Seat → Type 0 = λ x. FullForAbort stands (orders_are k) x new here after (8 * k) f in
+          let P : Seat → Type 0 = λ x. FullForAbort stands (orders_are k) x new here after (64 * k) f in
           let Q : Seat → Type 0 = λ x. FullForAbort stands (orders_are k) (slice_index_or seats k t) x
-          links after (8 * k) f in
+          links after (64 * k) f in
           let O : ℕ → Type 0 = λ n. FullForAbort stands (orders_are n) (slice_index_or now k s) new
-          here after (8 * k) f in
-          let q : FullForAbort stands (orders_are k) (slice_index_or seats k t) new here after (8 * k) f =
+          here after (64 * k) f in
+          let q : FullForAbort stands (orders_are k) (slice_index_or seats k t) new here after (64 * k) f =
           subst P same_seat (subst O own r) in
           subst Q (sym (set_here now k new t near)) (record {
             is = q.is;
@@ -188,7 +188,7 @@ full_seat {E} same stands orders_are R seats now links here after k s new f few 
             ordered = q.ordered;
             due = q.due;
             full = q.full;
-            kept = λ h was. q.kept h (subst (λ (x : Seat). Kept stands x.journal.entries here (8 * k) h) this
+            kept = λ h was. q.kept h (subst (λ (x : Seat). Kept stands x.journal.entries here (64 * k) h) this
                 (goes.kept k t h few was));
           });
     }
@@ -198,13 +198,13 @@ pub breaks_seat : {E : Type 0} (same : E → E → Type 0) (stands : E → Lists
     k < length seats → length now ≡ length seats → AreReady now →
     GoesAll same stands seats now links here → Done R k seats now →
     IsBrokenFor stands full (link_of (slice_index_or now k s).ledger).node (slice_index_or now k s).journal.room
-    (slice_index_or now k s).journal.entries new.journal.entries here (8 * k) f →
+    (slice_index_or now k s).journal.entries new.journal.entries here (64 * k) f →
     SeatBreaks stands full seats (slice_set now k new) links f
 breaks_seat {E} same stands full R seats now links here k s new f few len ready goes done r =
     let near : k < length now = omega (arith, few, len) in
     let own = (ready k s near).own in
     let N : ℕ → Type 0 = λ n. IsBrokenFor stands full n (slice_index_or now k s).journal.room
-    (slice_index_or now k s).journal.entries new.journal.entries here (8 * k) f in record {
+    (slice_index_or now k s).journal.entries new.journal.entries here (64 * k) f in record {
       node = k;
       few = few;
       broken = λ t.
@@ -213,24 +213,26 @@ breaks_seat {E} same stands full R seats now links here k s new f few len ready 
           let this : slice_index_or now k t ≡ slice_index_or seats k t = (done k t few).1 (omega arith) in
           let was = slice_index_or seats k t in
           let P : Seat → Type 0 = λ x. IsBrokenFor stands full k x.journal.room x.journal.entries
-          new.journal.entries here (8 * k) f in
+          new.journal.entries here (64 * k) f in
           let Q : Seat → Type 0 = λ x. IsBrokenFor stands full k was.journal.room was.journal.entries
-          x.journal.entries links (8 * k) f in
+          x.journal.entries links (64 * k) f in
           subst Q (sym (set_here now k new t near))
-          (broken_from stands full k was.journal.room was.journal.entries new.journal.entries links here (8 * k) f
-          (λ h kept. subst (λ (x : Seat). Kept stands x.journal.entries here (8 * k) h) this (goes.kept k t h few kept))
+          (broken_from stands full k was.journal.room was.journal.entries new.journal.entries links here (64 * k) f
+          (λ h kept. subst (λ (x : Seat). Kept stands x.journal.entries here (64 * k) h) this (goes.kept k t h few
+          kept))
           (subst P same_seat (subst N own r)));
     }
 
 -- ---- by the journals of all
 
 pub not_aborted : {E : Type 0} (stands : E → Lists → Type 0) (orders_are : ℕ → Orders → Type 0) (bits : ℕ)
-    (seats after : List Seat) (links links_after : List E) (f : BusFault) → length after ≡ length seats →
-    HaveRoom (room_for bits) seats → SeatFull stands orders_are seats after links links_after f →
-    IsNotAborted stands orders_are bits (journals_of seats) (journals_of after) links links_after f
-not_aborted stands orders_are bits [] after links links_after f len rooms r = let none = r.few in
+    (steps : List ℕ) (seats after : List Seat) (links links_after : List E) (f : BusFault) → length after ≡ length seats
+    →
+    HaveRoom (room_for bits steps) seats → SeatFull stands orders_are seats after links links_after f →
+    IsNotAborted stands orders_are bits steps (journals_of seats) (journals_of after) links links_after f
+not_aborted stands orders_are bits steps [] after links links_after f len rooms r = let none = r.few in
     absurd (omega (arith, none))
-not_aborted stands orders_are bits (s ∷ seats) after links links_after f len rooms r =
+not_aborted stands orders_are bits steps (s ∷ seats) after links links_after f len rooms r =
     let all = s ∷ seats in let cb = count_is all in let k = r.node in let few = r.few in
     let full = r.full s in let room = rooms k s few in let no = full.full in
     let was = journal_is all k s few in let now = journal_is after k s (omega (arith, few, len)) in
@@ -248,19 +250,20 @@ not_aborted stands orders_are bits (s ∷ seats) after links links_after f len r
       due = let D : List Entry → Type 0 = λ j. IsApplied j true in subst D (sym now) full.due;
       full = omega (arith, n, room, no);
       kept = λ h kept.
-          let K : List Entry → Type 0 = λ j. Kept stands j links (8 * k) h in
-          let L : List Entry → Type 0 = λ j. Kept stands j links_after (8 * k) h in
+          let K : List Entry → Type 0 = λ j. Kept stands j links (64 * k) h in
+          let L : List Entry → Type 0 = λ j. Kept stands j links_after (64 * k) h in
           subst L (sym now) (full.kept h (subst K was kept));
     }
 
 pub broken_off : {E : Type 0} (stands : E → Lists → Type 0) (full : E → Type 0) (orders_are : ℕ → Orders → Type 0)
-    (same : E → E → Type 0) (bits : ℕ) (seats after : List Seat) (links : List E) (f : BusFault) →
-    length after ≡ length seats → HaveRoom (room_for bits) seats →
+    (same : E → E → Type 0) (bits : ℕ) (steps : List ℕ) (seats after : List Seat) (links : List E) (f : BusFault) →
+    length after ≡ length seats → HaveRoom (room_for bits steps) seats →
     SeatStops stands full orders_are same seats after links f →
-    IsBrokenOff stands full orders_are bits (journals_of seats) (journals_of after) links f
-broken_off stands full orders_are same bits [] after links f len rooms r = let none = r.breaks.few in let c = r.count in
+    IsBrokenOff stands full orders_are bits steps (journals_of seats) (journals_of after) links f
+broken_off stands full orders_are same bits steps [] after links f len rooms r = let none = r.breaks.few in let c =
+    r.count in
     absurd (omega (arith, none, c))
-broken_off stands full orders_are same bits (s ∷ seats) after links f len rooms r =
+broken_off stands full orders_are same bits steps (s ∷ seats) after links f len rooms r =
     let all = s ∷ seats in let cb = count_is all in let k = r.breaks.node in let there =
     r.breaks.few in let c = r.count in
     let few : k < length all = omega (arith, there, c) in
@@ -268,29 +271,31 @@ broken_off stands full orders_are same bits (s ∷ seats) after links f len room
     let was = journal_is all k s few in let now = journal_is after k s (omega (arith, few, len)) in
     let P : List Entry → Type 0 = λ j. Opens (orders_are k) j opened.journal.entries in
     let N : ℕ → Type 0 = λ n. IsBrokenFor stands full k n opened.journal.entries
-    (slice_index_or after k s).journal.entries r.between (8 * k) f in
-    let Q : List Entry → Type 0 = λ j. IsBrokenFor stands full k (room_for bits) opened.journal.entries j
-    r.between (8 * k) f in record {
+    (slice_index_or after k s).journal.entries r.between (64 * k) f in
+    let Q : List Entry → Type 0 = λ j. IsBrokenFor stands full k (room_for bits steps k) opened.journal.entries j
+    r.between (64 * k) f in record {
       node = k;
       few = omega (arith, few, cb);
       opened = opened.journal.entries;
       between = r.between;
       opens = subst P (sym was) (r.opens k s few);
-      kept = λ h kept. let K : List Entry → Type 0 = λ j. Kept stands j links (8 * k) h in
+      kept = λ h kept. let K : List Entry → Type 0 = λ j. Kept stands j links (64 * k) h in
           r.goes.kept k s h few (subst K was kept);
-      broken = subst Q (sym now) (subst N (r.rooms (room_for bits) rooms k s there) (r.breaks.broken s));
+      broken = subst Q (sym now) (subst N (r.rooms (room_for bits steps) rooms k s there) (r.breaks.broken s));
     }
 
 -- and of the bus
 pub stops_bit : {E : Type 0} (same : E → E → Type 0) (stands : E → Lists → Type 0) (full : E → Type 0)
-    (orders_are : ℕ → Orders → Type 0) (script : List Strike) (run left bits : ℕ) (fault : Option BusFault)
+    (orders_are : ℕ → Orders → Type 0) (script : List Strike) (steps : List ℕ) (run left bits : ℕ) (fault : Option
+    BusFault)
     (seats after : List Seat) (links links_after : List E) (f : BusFault) (now : BusValue) →
     now.journals ≡ journals_of after → run + left ≡ bits → length after ≡ length seats →
-    HaveRoom (room_for bits) seats →
+    HaveRoom (room_for bits steps) seats →
     (SeatRefuses stands seats after links links_after f ⊎ SeatFull stands orders_are seats after links links_after f)
     ⊎ SeatStops stands full orders_are same seats after links f →
     StopsBit stands full orders_are (record {
       script = script;
+      steps = steps;
       run = run;
       left = left;
       fault = fault;
@@ -298,28 +303,30 @@ pub stops_bit : {E : Type 0} (same : E → E → Type 0) (stands : E → Lists �
           journals_of seats;
       untold = untold_of seats;
     }) now links links_after f
-stops_bit {E} same stands full orders_are script run left bits fault seats after links links_after f now journals
+stops_bit {E} same stands full orders_are script steps run left bits fault seats after links links_after f now journals
     all len rooms r = elim r [
       | inl opening ↦ elim opening [
         | inl refused ↦
-            let N : ℕ → Type 0 = λ n. IsTakenAndRefused stands n (journals_of seats)
+            let N : ℕ → Type 0 = λ n. IsTakenAndRefused stands n steps (journals_of seats)
             (journals_of after) links links_after f in
-            let J : List (List Entry) → Type 0 = λ l. IsTakenAndRefused stands (run + left) (journals_of seats)
+            let J : List (List Entry) → Type 0 = λ l. IsTakenAndRefused stands (run + left) steps (journals_of seats)
             l links links_after f in
             not_taken_bit (subst J (sym journals) (subst N (sym all)
-            (not_taken stands bits seats after links links_after f len rooms refused)))
+            (not_taken stands bits steps seats after links links_after f len rooms refused)))
         | inr aborting ↦
-            let N : ℕ → Type 0 = λ n. IsNotAborted stands orders_are n (journals_of seats)
+            let N : ℕ → Type 0 = λ n. IsNotAborted stands orders_are n steps (journals_of seats)
             (journals_of after) links links_after f in
-            let J : List (List Entry) → Type 0 = λ l. IsNotAborted stands orders_are (run + left) (journals_of seats)
+            let J : List (List Entry) → Type 0 = λ l. IsNotAborted stands orders_are (run + left) steps (journals_of
+            seats)
             l links links_after f in
             not_aborted_bit (subst J (sym journals) (subst N (sym all)
-            (not_aborted stands orders_are bits seats after links links_after f len rooms aborting)))
+            (not_aborted stands orders_are bits steps seats after links links_after f len rooms aborting)))
       ]
       | inr breaking ↦
           let was = journals_of seats in
-          let N : ℕ → Type 0 = λ n. IsBrokenOff stands full orders_are n was (journals_of after) links f in
-          let J : List (List Entry) → Type 0 = λ l. IsBrokenOff stands full orders_are (run + left) was l links f in
+          let N : ℕ → Type 0 = λ n. IsBrokenOff stands full orders_are n steps was (journals_of after) links f in
+          let J : List (List Entry) → Type 0 = λ l. IsBrokenOff stands full orders_are (run + left) steps was l links f
+          in
           broken_off_bit (subst J (sym journals) (subst N (sym all)
-          (broken_off stands full orders_are same bits seats after links f len rooms breaking)))
+          (broken_off stands full orders_are same bits steps seats after links f len rooms breaking)))
     ]

@@ -26,7 +26,8 @@ use Rattle.sja_bus.proofs.AllNodes.Wires.{index_before, index_last}
 -- an item that the link of the activation read showed, after other items
 pub refuses_link : {E : Type 0} (same : E → E → Type 0) (stands : E → Lists → Type 0) (before : List Entry)
     (old new : Seat) (links here : List E) (base room node : ℕ) (d z : E) (f : BusFault) →
-    old.ended < 8 → base + 8 ≤ length here → IsSound old → (link_of old.ledger).node ≡ node → old.journal.room ≡ room →
+    old.ended < 64 → base + 64 ≤ length here → IsSound old → (link_of old.ledger).node ≡ node → old.journal.room ≡ room
+    →
     MayHaveItems before old.journal.entries → Goes same stands before old.journal.entries links here base →
     RefusesHere stands (slice_index_or here (base + old.ended) d) z old new f →
     RefusesItem stands room before new.journal.entries links (slice_set here (base + old.ended) z) base node f
@@ -73,13 +74,13 @@ pub refuses_seat : {E : Type 0} (same : E → E → Type 0) (stands : E → List
     k < length seats → length now ≡ length seats → AreReady now →
     GoesAll same stands seats now links here → Done R k seats now →
     RefusesItem stands (slice_index_or now k s).journal.room (slice_index_or now k s).journal.entries
-    new.journal.entries here after (8 * k) (link_of (slice_index_or now k s).ledger).node f →
+    new.journal.entries here after (64 * k) (link_of (slice_index_or now k s).ledger).node f →
     SeatRefuses stands seats (slice_set now k new) links after f
 refuses_seat {E} same stands R seats now links here after k s new f few len ready goes done r =
     let near : k < length now = omega (arith, few, len) in
     let own = (ready k s near).own in
     let N : ℕ → Type 0 = λ n. RefusesItem stands (slice_index_or now k s).journal.room
-    (slice_index_or now k s).journal.entries new.journal.entries here after (8 * k) n f in
+    (slice_index_or now k s).journal.entries new.journal.entries here after (64 * k) n f in
     record {
       node = k;
       few = few;
@@ -88,24 +89,25 @@ refuses_seat {E} same stands R seats now links here after k s new f few len read
           ∙ (done k t few).1 (omega arith) in
           let this : slice_index_or now k t ≡ slice_index_or seats k t = (done k t few).1 (omega arith) in
           let P : Seat → Type 0 = λ x. RefusesItem stands x.journal.room x.journal.entries new.journal.entries
-          here after (8 * k) k f in
+          here after (64 * k) k f in
           let Q : Seat → Type 0 = λ x. RefusesItem stands (slice_index_or seats k t).journal.room
-          (slice_index_or seats k t).journal.entries x.journal.entries links after (8 * k) k f in
+          (slice_index_or seats k t).journal.entries x.journal.entries links after (64 * k) k f in
           let was = slice_index_or seats k t in
           subst Q (sym (set_here now k new t near))
-          (refuses_from stands was.journal.room was.journal.entries new.journal.entries links here after (8 * k) k f
-          (λ h kept. subst (λ (x : Seat). Kept stands x.journal.entries here (8 * k) h) this (goes.kept k t h few kept))
+          (refuses_from stands was.journal.room was.journal.entries new.journal.entries links here after (64 * k) k f
+          (λ h kept. subst (λ (x : Seat). Kept stands x.journal.entries here (64 * k) h) this (goes.kept k t h few
+          kept))
           (subst P same_seat (subst N own r)));
     }
 
 -- the reserved entries, where one has as many as before
-pub rooms_one : (n : ℕ) (seats : List Seat) (k : ℕ) (s new : Seat) → k < length seats →
+pub rooms_one : (n : ℕ → ℕ) (seats : List Seat) (k : ℕ) (s new : Seat) → k < length seats →
     new.journal.room ≡ (slice_index_or seats k s).journal.room → HaveRoom n seats → HaveRoom n (slice_set seats k new)
 rooms_one n seats k s new few same was m t near = elim (cases_eq k m) [
   | inl eq ↦
       let e : slice_index_or (slice_set seats k new) m t ≡ new =
       ap (λ i. slice_index_or (slice_set seats k new) i t) (sym eq) ∙ set_here seats k new t few in
-      ap (λ (x : Seat). x.journal.room) e ∙ same ∙ was k s few
+      ap (λ (x : Seat). x.journal.room) e ∙ same ∙ was k s few ∙ ap n eq
   | inr ne ↦
       let e : slice_index_or (slice_set seats k new) m t ≡ slice_index_or seats m t =
       set_else seats k m new t (λ x. ne (sym x)) in
@@ -135,30 +137,32 @@ free_one n k x was seats s new few first same more room before free m t near = e
       subst P (sym e) (free m t (rw length-set at near))
 ]
 
-pub rooms_push : (n : ℕ) (seats : List Seat) (x : Seat) → x.journal.room ≡ n → HaveRoom n seats →
+pub rooms_push : (n : ℕ → ℕ) (seats : List Seat) (x : Seat) → x.journal.room ≡ n (length seats) → HaveRoom n seats →
     HaveRoom n (seats ++ x ∷ [])
 rooms_push n seats x is was k s few = elim (cases_eq k (length seats)) [
-  | inl e ↦ ap (λ (y : Seat). y.journal.room) (index_last seats x s k e) ∙ is
+  | inl e ↦ ap (λ (y : Seat). y.journal.room) (index_last seats x s k e) ∙ is ∙ ap n (sym e)
   | inr ne ↦
       let near : k < length seats = let l = length-append seats (x ∷ []) in omega (arith, l, few, ne) in
       ap (λ (y : Seat). y.journal.room) (index_before seats x s k near) ∙ was k s near
 ]
 
 -- the same by the journals of all
-pub not_taken : {E : Type 0} (stands : E → Lists → Type 0) (bits : ℕ) (seats after : List Seat)
+pub not_taken : {E : Type 0} (stands : E → Lists → Type 0) (bits : ℕ) (steps : List ℕ)
+    (seats after : List Seat)
     (links links_after : List E) (f : BusFault) → length after ≡ length seats →
-    HaveRoom (room_for bits) seats → SeatRefuses stands seats after links links_after f →
-    IsTakenAndRefused stands bits (journals_of seats) (journals_of after) links links_after f
-not_taken stands bits [] after links links_after f len rooms r = let none = r.few in absurd (omega (arith, none))
-not_taken stands bits (s ∷ seats) after links links_after f len rooms r =
+    HaveRoom (room_for bits steps) seats → SeatRefuses stands seats after links links_after f →
+    IsTakenAndRefused stands bits steps (journals_of seats) (journals_of after) links links_after f
+not_taken stands bits steps [] after links links_after f len rooms r = let none = r.few in absurd (omega (arith, none))
+not_taken stands bits steps (s ∷ seats) after links links_after f len rooms r =
     let all = s ∷ seats in let cb = count_is all in let k = r.node in let few = r.few in
     let was = slice_index_or all k s in let now = slice_index_or after k s in
-    let P : List Entry → Type 0 = λ j. RefusesItem stands (room_for bits) j (journal_at (journals_of after) k) links
-    links_after (8 * k) k f in
-    let Q : List Entry → Type 0 = λ j. RefusesItem stands (room_for bits) was.journal.entries j links
-    links_after (8 * k) k f in
+    let P : List Entry → Type 0 = λ j. RefusesItem stands (room_for bits steps k) j (journal_at (journals_of after) k)
+    links
+    links_after (64 * k) k f in
+    let Q : List Entry → Type 0 = λ j. RefusesItem stands (room_for bits steps k) was.journal.entries j links
+    links_after (64 * k) k f in
     let N : ℕ → Type 0 = λ n. RefusesItem stands n was.journal.entries now.journal.entries links links_after
-    (8 * k) k f in record {
+    (64 * k) k f in record {
       node = k;
       few = omega (arith, few, cb);
       refuses = subst P (sym (journal_is all k s few)) (subst Q (sym (journal_is after k s (omega (arith, few, len))))

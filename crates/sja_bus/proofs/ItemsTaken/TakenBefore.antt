@@ -118,14 +118,14 @@ module _ {E : Type 0} (ends : Ends E) where
             sym ((ro k s here).ready.sound.reads.stopped)
             ∙ sym (stops_in_bit o.journal.entries n.journal.entries _ _ (turns k s here).bit)
             ∙ (ra k s few).ready.sound.reads.stopped in
-            let P : ℕ → Type 0 = λ m. ends.dry (slice_index_or between (8 * k + m) d) in
-            let Q : ℕ → Type 0 = λ m. m < 8 in subst P e (read k s d here (subst Q (sym e) run));
+            let P : ℕ → Type 0 = λ m. ends.dry (slice_index_or between (64 * k + m) d) in
+            let Q : ℕ → Type 0 = λ m. m < 64 in subst P e (read k s d here (subst Q (sym e) run));
         taken = λ k s h few was a d near.
             let here : k < length opened = omega (arith, few, co) in
             let j = (slice_index_or seats k s).journal.entries in
             let o = (slice_index_or opened k s).journal.entries in
             let n = (slice_index_or after k s).journal.entries in
-            let end = slice_index_or between (8 * k + a) d in
+            let end = slice_index_or between (64 * k + a) d in
             let put = put_in_opening (orders_are k) j o (suc a) (opens k s few) in
             let taken = taken_in_bit o n _ _ (suc a) (turns k s here).bit in
             let P : _ → Type 0 = λ p. ends.stands end (record (account o (suc a) (h a)) { put = p }) in
@@ -150,10 +150,10 @@ module _ {E : Type 0} (ends : Ends E) where
         let all = s ∷ seats in let cb = count_is all in
         let near : node < length all = omega (arith, few, cb) in
         let old = (slice_index_or all node s).journal.entries in
-        let P : List Entry → Type 0 = λ j. Kept ends.stands j links (8 * node) h in
-        let Q : List Entry → Type 0 = λ j. HasTaken ends.stands old j t.between (8 * node) h in
+        let P : List Entry → Type 0 = λ j. Kept ends.stands j links (64 * node) h in
+        let Q : List Entry → Type 0 = λ j. HasTaken ends.stands old j t.between (64 * node) h in
         let R : List Entry → Type 0 = λ j.
-        HasTaken ends.stands j (journal_at (journals_of after) node) t.between (8 * node) h in
+        HasTaken ends.stands j (journal_at (journals_of after) node) t.between (64 * node) h in
         subst R (sym (journal_is all node s near))
         (subst Q (sym (journal_is after node s (omega (arith, near, len))))
         (t.taken node s h near (subst P (journal_is all node s near) kept)));

@@ -35,17 +35,17 @@ is_new link node activation id down up =
 -- the links at these places are those of their nodes and activations
 abbrev pub AreLinked : ℕ → List Deques → Type 0
 AreLinked places links =
-    (i : ℕ) (d : Deques) → i < places → slice_index_or links i d ≡ new_link (i / 8) (suc (i % 8))
+    (i : ℕ) (d : Deques) → i < places → slice_index_or links i d ≡ new_link (i / 64) (suc (i % 64))
 
 pub linked_more : (links : List Deques) (link : Deques) (places : ℕ) → length links ≡ places →
-    link ≡ new_link (places / 8) (suc (places % 8)) → AreLinked places links →
+    link ≡ new_link (places / 64) (suc (places % 64)) → AreLinked places links →
     AreLinked (places + 1) (links ++ link ∷ [])
 linked_more links link places long new so i d few =
     elim (cases_eq i places) [
       | inl last ↦
           let here : i ≡ length links = last ∙ sym long in
           ap (λ n. slice_index_or (links ++ link ∷ []) n d) here ∙ get_or-append_seam links link [] d ∙ new
-          ∙ ap (λ n. new_link (n / 8) (suc (n % 8))) (sym last)
+          ∙ ap (λ n. new_link (n / 64) (suc (n % 64))) (sym last)
       | inr other ↦
           let before : i < places = omega arith in
           let within : i < length links = omega arith in

@@ -62,7 +62,7 @@ goes_trans same stands t j k l x y z base p q = record {
 -- one link moved with the journal
 pub goes_one : {E : Type 0} (same : E → E → Type 0) (stands : E → Lists → Type 0) → ((x : E) → same x x) →
     (j k : List Entry) (links : List E) (base a : ℕ) (d z : E) →
-    a < 8 → base + 8 ≤ length links → same (slice_index_or links (base + a) d) z →
+    a < 64 → base + 64 ≤ length links → same (slice_index_or links (base + a) d) z →
     Moves stands (slice_index_or links (base + a) d) z j k (suc a) →
     Goes same stands j k links (slice_set links (base + a) z) base
 goes_one same stands r j k links base a d z few room s m = record {

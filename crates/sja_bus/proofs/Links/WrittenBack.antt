@@ -32,13 +32,14 @@ keeps_back same stands was lent now n journals links after all is count seen goe
     subst Q (sym (are_back was now n all len))
     (subst P seen (keeps_all same stands was now links after len (subst G is goes)))
 
--- the ends, the other ports, the script and the number of nodes are as they were, where they were so seat by seat
+-- the ends, the other ports, the script, the room for steps and the number of nodes are as they were, where they were
+-- so seat by seat
 pub keeps_still : {E B : Type 0} (e : Ends E) (b : Ports B) (was lent now : List Seat) (n : ℕ) (old new : BusValue)
     (links after : List E) (board told : B) → n ≡ length was → lent ≡ was → length now ≡ length lent →
-    journals_of was ≡ old.journals → new.script ≡ old.script →
+    journals_of was ≡ old.journals → new.script ≡ old.script → new.steps ≡ old.steps →
     new.journals ≡ journals_of (take n (now ++ drop (length now) was)) → EachRelated e.same links after →
     KeepsOthers b.ports b.kept (length lent) board told → Keeps e b (moment old links board) (moment new after told)
-keeps_still e b was lent now n old new links after board told all is count seen script back sames others =
+keeps_still e b was lent now n old new links after board told all is count seen script steps back sames others =
     let same : length lent ≡ length was = ap (λ (l : List Seat). length l) is in
     let nodes : length was ≡ length old.journals =
     sym (count_is was) ∙ ap (λ (l : List (List Entry)). length l) seen in
@@ -46,6 +47,7 @@ keeps_still e b was lent now n old new links after board told all is count seen 
       sames = sames;
       others = subst O (same ∙ nodes) others;
       script = script;
+      steps = steps;
       nodes = ap (λ (l : List (List Entry)). length l) back
           ∙ ap (λ (l : List Seat). length (journals_of l)) (are_back was now n all (count ∙ same)) ∙ count_is now
           ∙ count ∙ same ∙ nodes;

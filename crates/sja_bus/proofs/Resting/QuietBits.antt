@@ -128,9 +128,9 @@ pub keeps_longer : {E : Type 0} (stands : E → Lists → Type 0) (n : ℕ) (bef
 keeps_longer stands n before mid after links links_after len grown keeps node h few kept =
     let is : journal_at after node ≡ journal_at mid node ++ recessive_bits n = ap (λ l. journal_at l node) grown
     ∙ longer_at n mid node (omega (arith, few, len)) in
-    let P : List Entry → Type 0 = λ j. Kept stands j links_after (8 * node) h in
+    let P : List Entry → Type 0 = λ j. Kept stands j links_after (64 * node) h in
     subst P (sym is)
-    (λ a d near. subst (λ (x : Lists). stands (slice_index_or links_after (8 * node + a) d) x)
+    (λ a d near. subst (λ (x : Lists). stands (slice_index_or links_after (64 * node + a) d) x)
     (sym (account_still n (journal_at mid node) (suc a) (h a))) (keeps node h few kept a d near))
 
 pub dry_longer : {E : Type 0} (dry : E → Type 0) (n : ℕ) (mid after : List (List Entry)) (links : List E) →
@@ -142,7 +142,7 @@ dry_longer dry n mid after links grown all node d few read =
     let is : stops_of (journal_at after node) ≡ stops_of (journal_at mid node) =
     ap (λ x. stops_of (journal_at x node)) grown ∙ ap stops_of (longer_at n mid node near)
     ∙ stops_still n (journal_at mid node) in
-    let P : ℕ → Type 0 = λ k. dry (slice_index_or links (8 * node + k) d) in
+    let P : ℕ → Type 0 = λ k. dry (slice_index_or links (64 * node + k) d) in
     subst P (sym is) (all node d near (omega (arith, read, is)))
 
 -- ---- after what was taken before it

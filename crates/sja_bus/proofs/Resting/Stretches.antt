@@ -72,7 +72,7 @@ pub after_untold : (n : ℕ) (seats : List Seat) → untold_of (all_after n seat
 after_untold n [] = refl
 after_untold n (s ∷ seats) = ap (λ l. is_untold s.untold ∷ l) (after_untold n seats)
 
-pub room_after : (n room : ℕ) (seats : List Seat) → HaveRoom room seats → HaveRoom room (all_after n seats)
+pub room_after : (n : ℕ) (room : ℕ → ℕ) (seats : List Seat) → HaveRoom room seats → HaveRoom room (all_after n seats)
 room_after n room seats h k s few =
     let c = after_count n seats in let near : k < length seats = omega (arith, few, c) in
     ap (λ (x : Seat). x.journal.room) (after_at n seats k s near) ∙ h k s near
@@ -249,11 +249,12 @@ full_by n k before after s new f few len ready done h = record {
       subst P (sym here) (subst Q was h);
 }
 
-pub out_of_entries : (bits left count : ℕ) (seats now : List Seat) (f : BusFault) → length now ≡ length seats →
-    count ≤ left → HaveRoom (room_for bits) seats → IsFullBy count seats now f →
-    IsOutOfEntries bits left (journals_of seats) (journals_of now) f
-out_of_entries bits left count [] now f len most rooms h = let few = h.few in absurd (omega (arith, few))
-out_of_entries bits left count (s ∷ seats) now f len most rooms h =
+pub out_of_entries : (bits : ℕ) (steps : List ℕ) (left count : ℕ) (seats now : List Seat) (f : BusFault) → length now ≡
+    length seats →
+    count ≤ left → HaveRoom (room_for bits steps) seats → IsFullBy count seats now f →
+    IsOutOfEntries bits steps left (journals_of seats) (journals_of now) f
+out_of_entries bits steps left count [] now f len most rooms h = let few = h.few in absurd (omega (arith, few))
+out_of_entries bits steps left count (s ∷ seats) now f len most rooms h =
     let all = s ∷ seats in let few = h.few in let cs = count_is all in let after = h.after s in
     let is = journal_is now h.node s (omega (arith, few, len)) in
     let was = journal_is all h.node s few in

@@ -1,4 +1,4 @@
--- A controller at its eight links.
+-- A controller at its links.
 use Rattle.std.specs.Prelude.{◌≡◌, ◌+◌, ◌≤◌, ℕ, List, length}
 use Rattle.sja_link.specs.declared.link_id.LinkId.{LinkId}
 use Rattle.sja_link.specs.BusLedgers.{link_of}
@@ -7,9 +7,9 @@ use Rattle.lemmas.specs.Related.{EachRelated}
 use Rattle.sja_wire.specs.Links.{AreOf}
 use Rattle.sja_bus.specs.Inside.Seats.{IsReady}
 
--- a seat is ready, and the eight links from this place on are those of its node
+-- a seat is ready, and the 64 links from this place on are those of its node
 pub record HasLinks {E : Type 0} (link : E → LinkId) (s : Seat) (links : List E) (base : ℕ) : Type 0 where
-  pub room : base + 8 ≤ length links
+  pub room : base + 64 ≤ length links
   pub ids : AreOf link (link_of s.ledger).node links base
   pub ready : IsReady s
 

@@ -9,6 +9,7 @@ use Rattle.sja_bus.specs.Stretches.{IsStretch}
 pub record RunsAtOnce {B : Type 0} (b : Ports B) (board : B) (count : ℕ) (was now : BusValue) (n : ℕ) : Type 0 where
   pub most : n ≤ count
   pub bits : (now.run ≡ was.run + n) × (now.left + n ≡ was.left)
+  pub steps : now.steps ≡ was.steps
   pub none : n ≡ 0 → now ≡ was
   pub stretch : n ≢ 0 → IsStretch (b.orders_are board) (b.told board board) (b.kept board board)
       was.script was.run n was.untold was.journals now.journals

@@ -10,9 +10,9 @@ use Rattle.sja_bus.specs.Reasons.{RefusesItem, IsBrokenFor}
 use Rattle.sja_bus.specs.Inside.Taking.{FullForAbort}
 use Rattle.sja_bus.specs.Inside.Rows.{EachSeat, SeatOpens, GoesAll}
 
--- each journal has so many reserved entries
-abbrev pub HaveRoom : ℕ → List Seat → Type 0
-HaveRoom n seats = (k : ℕ) (s : Seat) → k < length seats → (slice_index_or seats k s).journal.room ≡ n
+-- each journal has so many reserved entries, by the number of its node
+abbrev pub HaveRoom : (ℕ → ℕ) → List Seat → Type 0
+HaveRoom n seats = (k : ℕ) (s : Seat) → k < length seats → (slice_index_or seats k s).journal.room ≡ n k
 
 -- each journal has room for so many further entries
 abbrev pub AreFree : ℕ → List Seat → Type 0
@@ -55,5 +55,5 @@ pub record SeatStops {E : Type 0} (stands : E → Lists → Type 0) (full : E �
   pub count : length opened ≡ length seats
   pub opens : EachSeat (SeatOpens orders_are) seats opened
   pub goes : GoesAll same stands seats opened links between
-  pub rooms : (n : ℕ) → HaveRoom n seats → HaveRoom n opened
+  pub rooms : (n : ℕ → ℕ) → HaveRoom n seats → HaveRoom n opened
   pub breaks : SeatBreaks stands full opened now between f

@@ -30,10 +30,10 @@ pub record IsOf (s : Seat) (node : ℕ) : Type 0 where
 abbrev pub AreReady : List Seat → Type 0
 AreReady seats = (k : ℕ) (s : Seat) → k < length seats → IsOf (slice_index_or seats k s) k
 
--- at most eight seats are ready, with eight links each, and of n ports there is one for each
+-- at most eight seats are ready, with 64 links each, and of n ports there is one for each
 pub record AreSeated {E : Type 0} (link : E → LinkId) (seats : List Seat) (links : List E) (n : ℕ) : Type 0 where
   pub few : length seats ≤ 8
-  pub count : length links ≡ 8 * length seats
+  pub count : length links ≡ 64 * length seats
   pub ids : Numbered link links
   pub ready : AreReady seats
   pub ports : length seats ≤ n

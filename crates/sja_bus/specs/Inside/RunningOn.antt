@@ -21,10 +21,11 @@ abbrev pub NoneAborts : (ℕ → Orders → Type 0) → ℕ → Type 0
 NoneAborts orders_are nodes = (node : ℕ) → node < nodes → (o : Orders) × orders_are node o × (o.abort ≡ false)
 
 -- what a contract sees of a bus with these seats and without a fault
-abbrev pub bus_of : List Strike → ℕ → ℕ → List Seat → BusValue
-bus_of script run left seats =
+abbrev pub bus_of : List Strike → List ℕ → ℕ → ℕ → List Seat → BusValue
+bus_of script steps run left seats =
     record {
       script = script;
+      steps = steps;
       run = run;
       left = left;
       fault = None;
@@ -33,35 +34,37 @@ bus_of script run left seats =
     }
 
 -- the same with its links and its ports
-abbrev pub moment_of : {E B : Type 0} → List Strike → ℕ → ℕ → List Seat → List E → B → Moment E B
-moment_of script run left seats links board =
-    record { bus = bus_of script run left seats; links = links; board = board }
+abbrev pub moment_of : {E B : Type 0} → List Strike → List ℕ → ℕ → ℕ → List Seat → List E → B → Moment E B
+moment_of script steps run left seats links board =
+    record { bus = bus_of script steps run left seats; links = links; board = board }
 
 -- a bit of whatever number, of which it isn't asked what was taken before it
 abbrev pub AnyBit : {E B : Type 0} → Ends E → Ports B → ℕ → Moment E B → Moment E B → Type 0
 AnyBit e b n = OneBit e b
 
--- so many of these bits, however many are left that are enough, and the bus after them
+-- so many of these bits, whatever the room for steps is and however many are left that are enough, and the bus after
+-- them
 pub record RowsRun {E B : Type 0} (e : Ends E) (b : Ports B) (to_rest : Bool) (script : List Strike) (from most : ℕ)
     (was now : List Seat) (links after : List E) (board told : B) (n : ℕ) : Type 0 where
   pub bus : IsBus script (from + n) now
-  pub bits : (left : ℕ) → most ≤ left → AreBits (AnyBit e b) (WorksIf to_rest)
-      (moment_of script from left was links board) n (moment_of script (from + n) (left - n) now after told)
+  pub bits : (steps : List ℕ) (left : ℕ) → most ≤ left → AreBits (AnyBit e b) (WorksIf to_rest)
+      (moment_of script steps from left was links board) n
+      (moment_of script steps (from + n) (left - n) now after told)
 
 -- fewer than so many, and then one that broke off: so for every bus that counts just the bits before it
 abbrev pub RowsStop : {E B : Type 0} → Ends E → Ports B → Bool → List Strike → ℕ → ℕ → List Seat → List Seat → List E →
     List E → B → B → BrokenOff → Type 0
 RowsStop e b to_rest script from most was now links after board told f =
-    (left : ℕ) (bus : BusValue) → most ≤ left → HaveRoom (room_for (from + left)) was →
+    (steps : List ℕ) (left : ℕ) (bus : BusValue) → most ≤ left → HaveRoom (room_for (from + left) steps) was →
     bus.journals ≡ journals_of now → bus.run ≡ from + f.after → bus.left ≡ left - f.after →
     BreaksOff e.stands e.full b.orders_are (AnyBit e b) (WorksIf to_rest) most
-    (moment_of script from left was links board) (record { bus = bus; links = after; board = told }) f.fault
+    (moment_of script steps from left was links board) (record { bus = bus; links = after; board = told }) f.fault
 
 -- ---- by the bus
 
--- links and ports for so many nodes, eight links of each
+-- links and ports for so many nodes, 64 links of each
 pub record AreFor {E : Type 0} (link : E → LinkId) (links : List E) (nodes boards : ℕ) : Type 0 where
-  pub count : length links ≡ 8 * nodes
+  pub count : length links ≡ 64 * nodes
   pub ids : Numbered link links
   pub ports : nodes ≤ boards
 

@@ -33,11 +33,11 @@ pub record IsOwed (s : Seat) (e : Entry) : Type 0 where
   pub follows : Follows s.node s.journal.entries
   pub reads : Reads s.node s.journal.entries s.ended s.activity free
 
--- the ledger is that of the activation that is read, and there are eight
+-- the ledger is that of the activation that is read, and there are 64
 pub record IsSeat (s : Seat) : Type 0 where
   pub own : (link_of s.ledger).activation ≡ suc s.ended
-  pub few : s.ended ≤ 8
-  pub runs : open_in s.activity ≡ 1 → s.ended < 8
+  pub few : s.ended ≤ 64
+  pub runs : open_in s.activity ≡ 1 → s.ended < 64
 
 -- between two calls: it knows also the level that its node drives next
 pub record IsReady (s : Seat) : Type 0 where

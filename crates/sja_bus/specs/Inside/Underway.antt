@@ -16,7 +16,7 @@ pub record IsUnderway {E B : Type 0} (same : E → E → Type 0) (stands : E →
     pub ready : AreReady seats
     pub count : length seats ≡ length before
     pub goes : GoesAll same stands before seats given links
-    pub rooms : (n : ℕ) → HaveRoom n before → HaveRoom n seats
+    pub rooms : (n : ℕ → ℕ) → HaveRoom n before → HaveRoom n seats
     pub done : Done (SeatTurns (told was board) (kept was board) struck level) k before seats
     pub ports_are : ports board ≡ ports was
     pub others : (m : ℕ) → k ≤ m → kept was board m

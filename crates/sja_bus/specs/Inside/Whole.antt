@@ -13,15 +13,15 @@ use Rattle.sja_bus.specs.Inside.Refusing.{HaveRoom}
 use Rattle.sja_bus.specs.Inside.Rows.{IsBus, EachSeat, SeatOpens, driven_by, SeatOpensUntold, SeatTurns}
 
 -- one to eight nodes, as many bits as it is known whom the script strikes, and while there is no fault a bus, with room
--- for all its bits
-pub record IsWhole (struck : Scripted) (run left : ℕ) (fault : Option BusFault) (seats : List Seat)
+-- for all its bits and for so many steps of each driver
+pub record IsWhole (struck : Scripted) (steps : List ℕ) (run left : ℕ) (fault : Option BusFault) (seats : List Seat)
     (room : ℕ) : Type 0 where
   pub few : length seats ≤ 8
   pub bits : run + left ≡ struck.bits
-  pub most : struck.bits ≤ 200000
+  pub most : struck.bits ≤ 2000000
   pub bus : fault ≡ None → IsBus struck.script run seats
   pub logs : length seats ≤ room
-  pub rooms : fault ≡ None → HaveRoom (room_for struck.bits) seats
+  pub rooms : fault ≡ None → HaveRoom (room_for struck.bits steps) seats
 
 -- one bit of all seats: what was taken and aborted, and then each had its bit at the level that all drove, and its port
 -- was told or passed over

@@ -80,7 +80,7 @@ fn turns_for(turns: &[Turn], node: usize, steps: u64) -> usize {
 /// Whether one of the first so many steps, or the one behind them, waits for something.
 fn waits(steps: &[Step], done: usize) -> bool {
     for (place, step) in steps.iter().enumerate() {
-        if place <= done && matches!(step, Step::Await(_) | Step::Sent) {
+        if place <= done && matches!(step, Step::Await(_) | Step::Sent | Step::Interrupt) {
             return true;
         }
     }

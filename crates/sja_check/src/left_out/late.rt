@@ -1,11 +1,13 @@
 //! Strikes past the last bit of a run.
 
+use super::super::lines::MOST_HINTS;
 use super::source::Source;
 use sja_plan::Plan;
 use sja_script::Strike;
 use std::alloc::{AllocError, Global};
 
-/// Adds the strikes that strike a bit past the last one of a run of so many bits.
+/// Adds the strikes that strike a bit past the last one of a run of so many bits. Past the hints that are written out
+/// an empty one counts each.
 ///
 /// Error: memory was refused.
 pub(crate) fn late_strikes(
@@ -18,8 +20,13 @@ pub(crate) fn late_strikes(
     for (place, strike) in plan.strikes().iter().enumerate() {
         let came = times_below(strike, bits);
         if came < strike.times {
-            let behind = late_words(alloc, strike, bits, came)?;
-            found.push(source.of_item(alloc, "strike", "faults", place, behind.as_str())?)?;
+            let hint = if found.len() < MOST_HINTS {
+                let behind = late_words(alloc, strike, bits, came)?;
+                source.of_item(alloc, "strike", "faults", place, behind.as_str())?
+            } else {
+                String::new(alloc)
+            };
+            found.push(hint)?;
         }
     }
     Ok(())

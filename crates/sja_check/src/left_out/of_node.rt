@@ -2,6 +2,7 @@
 
 ghost use Rattle.std.specs.Prelude.{◌<◌, length};
 
+use super::super::lines::MOST_HINTS;
 use super::super::phrase::placed;
 use super::remedy::remedy_of;
 use super::source::Source;
@@ -33,28 +34,36 @@ pub(crate) fn node_hints(
         let words = format!(in alloc; "node {node} is never started: it has no step \"start\"")?;
         found.push(placed(alloc, source.line_of_node(node), words.as_str())?)?;
     }
-    refused_hints(alloc, source, node, steps, run.done(), found)?;
+    refused_hints(alloc, source, plan, node, run.done(), found)?;
     if run.done().len() < steps.len() {
         found.push(undone_hint(alloc, source, plan, log.end(), node, run.done().len())?)?;
     }
     Ok(())
 }
 
-/// Adds the steps that were refused, with what to do.
+/// Adds the steps that were refused, with what to do. Past the hints that are written out an empty one counts each.
 fn refused_hints(
     alloc: Global,
     source: &Source,
+    plan: &Plan,
     node: usize,
-    steps: &[Step],
     done: &[Done],
     found: &mut Vec<String>,
-) -> Result<(), AllocError> {
+) -> Result<(), AllocError>
+    requires { node < length plan.now.nodes }
+{
+    let steps = plan.steps(node);
     let mut started = false;
     for (place, one) in done.iter().enumerate() {
         let step = steps.get(place);
         if let StepAnswer::Refused(refusal) = &one.answer {
-            let remedy = remedy_of(*refusal, step, started);
-            found.push(refused_hint(alloc, source, node, place, *refusal, remedy)?)?;
+            let hint = if found.len() < MOST_HINTS {
+                let remedy = remedy_of(*refusal, plan.version(), step, started);
+                refused_hint(alloc, source, node, place, *refusal, remedy)?
+            } else {
+                String::new(alloc)
+            };
+            found.push(hint)?;
         } else if let Some(Step::Start) = step {
             started = true;
         }

@@ -1,13 +1,20 @@
 //! What to do about a refused step.
 
+use sja_plan::RAW_VERSION;
 use sja_script::{Refusal, Step};
 
-/// What to do about a step that was refused so, in a node that was started before or wasn't (the table of refused steps
-/// in docs/REPORT.md).
-pub(crate) fn remedy_of(refusal: Refusal, step: Option<&Step>, started: bool) -> &'static str {
+/// What to do about a step that was refused so in this version, in a node that was started before or wasn't (the table
+/// of refused steps in docs/REPORT.md).
+pub(crate) fn remedy_of(
+    refusal: Refusal,
+    version: u8,
+    step: Option<&Step>,
+    started: bool,
+) -> &'static str {
     match refusal {
         Refusal::WrongState => state_remedy(step, started),
-        Refusal::NoActivationLeft => "a node has eight starts",
+        Refusal::NoActivationLeft if version < RAW_VERSION => "a node has eight starts",
+        Refusal::NoActivationLeft => "a node has 64 starts",
         Refusal::Empty => "no message is there; let the bus run",
         Refusal::Stopped => "bus-off came: \"stop\", then \"start\"",
         Refusal::ActiveOnly => "bus-off came: \"stop\", then \"start\"",

@@ -53,6 +53,7 @@ fn why_undone(
             (End::Bits, _) => "the bits were spent before",
             (_, Some(Step::Await(_))) => "fewer messages had come",
             (_, Some(Step::Sent)) => "the buffer wasn't released",
+            (_, Some(Step::Interrupt)) => "the interrupt line wasn't active",
             _ => "its turn didn't come",
         },
     )

@@ -2,19 +2,41 @@
 
 use super::super::outline::line_at;
 use super::super::words::Words;
-use sja_plan::MOST_BYTES;
+use sja_plan::{MOST_BYTES, most_bytes};
 use std::alloc::{AllocError, Global};
 
-/// That the bytes are too many.
+/// That the bytes are too many, and how a plan of version 3 has room for more where they aren't of its first line.
 ///
 /// Error: memory was refused.
 pub(crate) fn too_long(alloc: Global, bytes: &[u8]) -> Result<Option<Words>, AllocError> {
-    if bytes.len() <= MOST_BYTES {
+    let most = most_bytes(bytes);
+    if bytes.len() <= most {
         return Ok(None);
     }
-    Ok(Some(Words::one(format!(in alloc;
-        "the plan has more than {MOST_BYTES} bytes, the most that a plan may have"
-    )?)))
+    let first = format!(in alloc;
+        "the plan has more than {most} bytes, the most that a plan may have"
+    )?;
+    if most > MOST_BYTES || !means_version_3(alloc, bytes)? {
+        return Ok(Some(Words::one(first)));
+    }
+    let second =
+        "one of version 3 may have 16777216 where its first line is \"version = 3\" to the byte";
+    Ok(Some(Words::two(first, String::from_str(alloc, second)?)))
+}
+
+/// Whether the first line says version 3, whatever its spaces are and whatever is behind it.
+///
+/// Error: memory was refused.
+fn means_version_3(alloc: Global, bytes: &[u8]) -> Result<bool, AllocError> {
+    let mut line = Vec::new(alloc);
+    for byte in bytes {
+        match *byte {
+            b'\n' => break,
+            b' ' | b'\t' => {}
+            other => line.push(other)?,
+        }
+    }
+    Ok(line.as_slice().starts_with(b"version=3"))
 }
 
 /// Which byte is no UTF-8, or that the bytes begin as UTF-16 does.

@@ -4,30 +4,31 @@ use super::super::document::Document;
 use super::super::phrase::placed;
 use super::super::texts::strikes_in;
 use super::super::words::Words;
-use sja_plan::{LAST_VERSION, MOST_BITS, MOST_STEPS, MOST_STRIKES, MOST_TURNS};
+use sja_plan::{LAST_VERSION, most_bits, most_steps_told, most_strikes, most_turns};
 use sja_script::MOST_NODES;
 use std::alloc::{AllocError, Global};
 
-/// That the version is neither 1 nor 2.
+/// That the version isn't one from 1 to 3.
 ///
 /// Error: memory was refused.
 pub(crate) fn version_words(
     alloc: Global,
     document: &Document,
 ) -> Result<Option<Words>, AllocError> {
-    let Some(version) = number_at(document, "version") else {
+    let Some(version) = document.number("version") else {
         return Ok(None);
     };
     if 1 <= version && version <= i64::from(LAST_VERSION) {
         return Ok(None);
     }
-    let first = format!(in alloc; "version is 1 or 2, and here it is {version}")?;
+    let first = format!(in alloc; "version is 1, 2 or 3, and here it is {version}")?;
     let first = placed(
         alloc,
         document.outline.line_of_key("version"),
         first.as_str(),
     )?;
-    let second = "2 has self test, self reception and listen only beside all of 1";
+    let second =
+        "2 has self test, self reception and listen only beside 1; 3 has \"interrupt\" and room for more";
     Ok(Some(Words::two(first, String::from_str(alloc, second)?)))
 }
 
@@ -35,13 +36,14 @@ pub(crate) fn version_words(
 ///
 /// Error: memory was refused.
 pub(crate) fn bits_words(alloc: Global, document: &Document) -> Result<Option<Words>, AllocError> {
-    let Some(bits) = number_at(document, "bits") else {
+    let Some(bits) = document.number("bits") else {
         return Ok(None);
     };
-    if 1 <= bits && bits <= i64::from(MOST_BITS) {
+    let most = most_bits(document.version());
+    if 1 <= bits && bits <= i64::from(most) {
         return Ok(None);
     }
-    let first = format!(in alloc; "bits is from 1 to {MOST_BITS}, and here it is {bits}")?;
+    let first = format!(in alloc; "bits is from 1 to {most}, and here it is {bits}")?;
     one_line(alloc, document.outline.line_of_key("bits"), first.as_str())
 }
 
@@ -68,11 +70,12 @@ pub(crate) fn nodes_words(alloc: Global, document: &Document) -> Result<Option<W
 ///
 /// Error: memory was refused.
 pub(crate) fn steps_words(alloc: Global, document: &Document) -> Result<Option<Words>, AllocError> {
+    let most = most_steps_told(document.version());
     for node in 0..document.items("node").len() {
         let count = document.steps(node).len();
-        if count > MOST_STEPS {
+        if count > most {
             let first = format!(in alloc;
-                "node {node} has {count} steps, and a node has at most {MOST_STEPS}"
+                "node {node} has {count} steps, and a node has at most {most}"
             )?;
             let line = document.outline.line_of_node_key(node, "steps");
             return one_line(alloc, line, first.as_str());
@@ -86,10 +89,11 @@ pub(crate) fn steps_words(alloc: Global, document: &Document) -> Result<Option<W
 /// Error: memory was refused.
 pub(crate) fn turns_words(alloc: Global, document: &Document) -> Result<Option<Words>, AllocError> {
     let count = document.items("turns").len();
-    if count <= MOST_TURNS {
+    let most = most_turns(document.version());
+    if count <= most {
         return Ok(None);
     }
-    let first = format!(in alloc; "there are {count} turns, and a plan has at most {MOST_TURNS}")?;
+    let first = format!(in alloc; "there are {count} turns, and a plan has at most {most}")?;
     one_line(alloc, document.outline.line_of_key("turns"), first.as_str())
 }
 
@@ -101,10 +105,11 @@ pub(crate) fn strikes_words(
     document: &Document,
 ) -> Result<Option<Words>, AllocError> {
     let count = strikes_in(document.items("faults"));
-    if count <= u64::from(MOST_STRIKES) {
+    let most = most_strikes(document.version());
+    if count <= u64::from(most) {
         return Ok(None);
     }
-    let first = format!(in alloc; "the strikes count {count}, and at most {MOST_STRIKES}")?;
+    let first = format!(in alloc; "the strikes count {count}, and at most {most}")?;
     let first = placed(
         alloc,
         document.outline.line_of_key("faults"),
@@ -112,11 +117,6 @@ pub(crate) fn strikes_words(
     )?;
     let second = "\"K B E T\" counts T, and any other text counts 1";
     Ok(Some(Words::two(first, String::from_str(alloc, second)?)))
-}
-
-/// The whole number at a key.
-fn number_at(document: &Document, key: &str) -> Option<i64> {
-    document.table.get(key)?.as_integer()
 }
 
 /// One line of words.

@@ -28,7 +28,7 @@ pub(crate) fn step_words(
         before.as_str(),
         text,
         " is no step",
-        step_reason(alloc, text),
+        step_reason(alloc, document.version(), text),
     )
 }
 
@@ -48,7 +48,8 @@ pub(crate) fn turn_words(
         .line_of_item("turns", number.saturating_sub(1));
     let before = format!(in alloc; "turn {number}: ")?;
     let before = placed(alloc, line, before.as_str())?;
-    let reason = turn_reason(alloc, text, document.items("node").len());
+    let nodes = document.items("node").len();
+    let reason = turn_reason(alloc, document.version(), text, nodes);
     said(alloc, before.as_str(), text, " is no turn", reason)
 }
 

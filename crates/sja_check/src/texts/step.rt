@@ -8,24 +8,49 @@ use super::reason::{Reason, fixed};
 use super::register::register_reason;
 use super::spacing::{spacing_reason, words_in};
 use super::value::value_reason;
+use sja_plan::RAW_VERSION;
 use std::alloc::Global;
 
-/// What steps begin with.
-pub(crate) const STEPS: [&str; 10] = [
+/// What steps begin with in versions 1 and 2.
+const STEPS: [&str; 10] = [
     "start", "stop", "window", "release", "read", "write", "load", "command", "await", "sent",
 ];
 
-/// What steps begin with, in words.
+/// The same, in words.
 const STEPS_ARE: &str =
     "steps are start, stop, window, release, read, write, load, command, await, sent";
 
-/// Why a text says no step, with what would say one; nothing where it says one.
-pub(crate) fn step_reason(alloc: Global, text: &str) -> Reason {
+/// What steps begin with in version 3.
+const RAW_STEPS: [&str; 11] = [
+    "start",
+    "stop",
+    "window",
+    "release",
+    "read",
+    "write",
+    "load",
+    "command",
+    "await",
+    "sent",
+    "interrupt",
+];
+
+/// The same, in words.
+const RAW_STEPS_ARE: &str =
+    "steps are start, stop, window, release, read, write, load, command, await, sent, interrupt";
+
+/// Whether a step of this version begins with this word.
+pub(crate) fn begins_step(version: u8, word: &str) -> bool {
+    STEPS.as_slice().contains(&word) || (version >= RAW_VERSION && word == "interrupt")
+}
+
+/// Why a text says no step of this version, with what would say one; nothing where it says one.
+pub(crate) fn step_reason(alloc: Global, version: u8, text: &str) -> Reason {
     let words = words_in(alloc, text)?;
     match words.as_slice() {
-        [] => fixed(alloc, STEPS_ARE),
+        [] => fixed(alloc, steps_are(version)),
         [name, rest @ ..] => {
-            if let Some(reason) = form_reason(alloc, name, rest)? {
+            if let Some(reason) = form_reason(alloc, version, name, rest)? {
                 return Ok(Some(reason));
             }
             spacing_reason(alloc, text, words.as_slice())
@@ -33,16 +58,26 @@ pub(crate) fn step_reason(alloc: Global, text: &str) -> Reason {
     }
 }
 
+/// What steps of this version begin with, in words.
+fn steps_are(version: u8) -> &'static str {
+    if version < RAW_VERSION {
+        STEPS_ARE
+    } else {
+        RAW_STEPS_ARE
+    }
+}
+
 /// Why these words are no step: the first one's form isn't kept, or no step begins with it.
-fn form_reason(alloc: Global, name: &str, rest: &[&str]) -> Reason {
+fn form_reason(alloc: Global, version: u8, name: &str, rest: &[&str]) -> Reason {
     match name {
         "start" | "stop" | "window" | "release" | "sent" => alone_reason(alloc, name, rest),
+        "interrupt" if version >= RAW_VERSION => alone_reason(alloc, name, rest),
         "read" => read_reason(alloc, rest),
         "write" => write_reason(alloc, rest),
         "load" => message_reason(alloc, rest),
         "command" => command_reason(alloc, rest),
         "await" => await_reason(alloc, rest),
-        _ => name_reason(alloc, name),
+        _ => name_reason(alloc, version, name),
     }
 }
 
@@ -130,8 +165,14 @@ fn await_reason(alloc: Global, rest: &[&str]) -> Reason {
 }
 
 /// Why no step begins with this word, and which step may be meant.
-fn name_reason(alloc: Global, name: &str) -> Reason {
+fn name_reason(alloc: Global, version: u8, name: &str) -> Reason {
     match name {
+        "interrupt" => {
+            return fixed(
+                alloc,
+                "a driver waits for its interrupt line in version 3 alone: version = 3",
+            );
+        }
         "send" | "transmit" | "tx" => {
             return fixed(
                 alloc,
@@ -160,16 +201,21 @@ fn name_reason(alloc: Global, name: &str) -> Reason {
         }
         _ => {}
     }
-    near_reason(alloc, name)
+    near_reason(alloc, version, name)
 }
 
-/// Which step has the nearest name.
-fn near_reason(alloc: Global, name: &str) -> Reason {
-    match nearest(alloc, name, STEPS.as_slice())? {
+/// Which step of this version has the nearest name.
+fn near_reason(alloc: Global, version: u8, name: &str) -> Reason {
+    let near = if version < RAW_VERSION {
+        nearest(alloc, name, STEPS.as_slice())?
+    } else {
+        nearest(alloc, name, RAW_STEPS.as_slice())?
+    };
+    match near {
         Some(near) => {
             let behind = format!(in alloc; ", did you mean \"{near}\"?")?;
             Ok(Some(quoted(alloc, "no step begins with ", name, behind.as_str())?))
         }
-        None => fixed(alloc, STEPS_ARE),
+        None => fixed(alloc, steps_are(version)),
     }
 }

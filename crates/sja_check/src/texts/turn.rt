@@ -5,7 +5,7 @@ use super::super::phrase::quoted;
 use super::number::{Wanted, node_reason, number_in, number_reason};
 use super::reason::{Reason, fixed};
 use super::spacing::{spacing_reason, words_in};
-use super::step::STEPS;
+use super::step::begins_step;
 use sja_plan::GREATEST_NUMBER;
 use std::alloc::Global;
 
@@ -16,13 +16,14 @@ const TURNS: [&str; 3] = ["bus", "rest", "node"];
 const TURNS_ARE: &str =
     "turns are \"bus N\", N bits from 1; \"rest\"; and \"node K N\", N steps of node K";
 
-/// Why a text says no turn of a plan with so many nodes, with what would say one; nothing where it says one.
-pub(crate) fn turn_reason(alloc: Global, text: &str, nodes: usize) -> Reason {
+/// Why a text says no turn of a plan of this version with so many nodes, with what would say one; nothing where it says
+/// one.
+pub(crate) fn turn_reason(alloc: Global, version: u8, text: &str, nodes: usize) -> Reason {
     let words = words_in(alloc, text)?;
     match words.as_slice() {
         [] => fixed(alloc, TURNS_ARE),
         [name, rest @ ..] => {
-            if let Some(reason) = form_reason(alloc, name, rest, nodes)? {
+            if let Some(reason) = form_reason(alloc, version, name, rest, nodes)? {
                 return Ok(Some(reason));
             }
             spacing_reason(alloc, text, words.as_slice())
@@ -31,7 +32,7 @@ pub(crate) fn turn_reason(alloc: Global, text: &str, nodes: usize) -> Reason {
 }
 
 /// Why these words are no turn: the first one's form isn't kept, or no turn begins with it.
-fn form_reason(alloc: Global, name: &str, rest: &[&str], nodes: usize) -> Reason {
+fn form_reason(alloc: Global, version: u8, name: &str, rest: &[&str], nodes: usize) -> Reason {
     match name {
         "bus" => bus_reason(alloc, rest),
         "rest" if rest.is_empty() => Ok(None),
@@ -40,7 +41,7 @@ fn form_reason(alloc: Global, name: &str, rest: &[&str], nodes: usize) -> Reason
             "this turn stands alone, and lasts until all is quiet: \"rest\"",
         ),
         "node" => node_turn_reason(alloc, rest, nodes),
-        _ => name_reason(alloc, name),
+        _ => name_reason(alloc, version, name),
     }
 }
 
@@ -86,8 +87,8 @@ fn node_turn_reason(alloc: Global, rest: &[&str], nodes: usize) -> Reason {
 }
 
 /// Why no turn begins with this word, and what may be meant.
-fn name_reason(alloc: Global, name: &str) -> Reason {
-    if STEPS.as_slice().contains(&name) {
+fn name_reason(alloc: Global, version: u8, name: &str) -> Reason {
+    if begins_step(version, name) {
         let before = "a step stands in the list steps of a node, and not among the turns: ";
         return Ok(Some(quoted(alloc, before, name, "")?));
     }

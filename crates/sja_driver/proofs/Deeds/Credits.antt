@@ -20,7 +20,7 @@ use Rattle.sja_regs.specs.declared.registers.Registers.{Registers}
 use Rattle.sja_regs.specs.Commands.{command_of, requests}
 use Rattle.sja_script.specs.declared.step.Step.{Step}
 use Rattle.sja_script.specs.declared.step.Step.TheVariants.{Start, Stop, Window, Release, Read, Write, Load, Command}
-use Rattle.sja_script.specs.declared.step.Step.TheVariants.{Await, Sent}
+use Rattle.sja_script.specs.declared.step.Step.TheVariants.{Await, Sent, Interrupt}
 use Rattle.sja_script.specs.declared.step_answer.StepAnswer.{StepAnswer}
 use Rattle.sja_script.specs.declared.step_answer.StepAnswer.TheVariants.{Done, Released}
 use Rattle.sja_driver.specs.declared.any_driver.AnyDriver.{AnyDriver}
@@ -50,11 +50,11 @@ module _ (j : List Entry) (deeds : List Deed) (d : Deed) (n : ℕ) (driver : Any
     (base : ℕ) (none : Deques) (lawful : IsLawful j) (given : (a : ℕ) → given_in (deeds_of deeds a) ≡ taken_of
     (part j a))
     (gives : EachAfter (λ b (x : Deed). Gives x.step x.answer x.gave) [] deeds)
-    (trace : Traces driver log (deeds ++ d ∷ []))
+    {version : ℕ} (trace : Traces version driver log (deeds ++ d ∷ []))
     (holds : HoldsBy Lies (deeds ++ d ∷ []) driver log j links base) (lengths : length_in d.step d.answer ≡ n ∷ [])
   where
     -- the credit of a release in this activation
-    pub paid_right : (a : ℕ) → a < 8 → suc a ≡ opened_by deeds + opens_by d →
+    pub paid_right : (a : ℕ) → a < 64 → suc a ≡ opened_by deeds + opens_by d →
         ((3 ≤ n) × (n ≤ 13)) × (total credit_in (part j (suc a)) + n ≤ total bytes_in (part j (suc a)))
     paid_right a few at =
         let released = released_of (releases_in log) (suc a) in
@@ -81,7 +81,7 @@ module _ (j : List Entry) (deeds : List Deed) (d : Deed) (n : ℕ) (driver : Any
         (last_fits released (released_lengths (deeds_of deeds (suc a))) n long fit, omega (arith, stored, paid, let_go))
 
     -- it isn't bad
-    pub credit_right : (a : ℕ) → a < 8 → suc a ≡ opened_by deeds + opens_by d → (free : ℕ) →
+    pub credit_right : (a : ℕ) → a < 64 → suc a ≡ opened_by deeds + opens_by d → (free : ℕ) →
         free + total bytes_in (part j (suc a)) ≡ 64 + total credit_in (part j (suc a)) →
         (n < 3) ⊎ ((13 < n) ⊎ (64 < free + n)) → ⊥
     credit_right a few at free is (inl short) = let r = (paid_right a few at).0.0 in omega (arith, r, short)
@@ -110,3 +110,4 @@ credit_lengths p (Write a v) r n e = absurd cc
 credit_lengths p (Load m) r n e = absurd cc
 credit_lengths p (Await k) r n e = absurd cc
 credit_lengths p Sent r n e = absurd cc
+credit_lengths p Interrupt r n e = absurd cc

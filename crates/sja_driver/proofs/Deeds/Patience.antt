@@ -2,12 +2,13 @@
 use Rattle.std.proofs.Common.{◌≡◌, ◌≢◌, ℕ, Bool, true, false, List, [], ◌∷◌, refl, sym, ◌∙◌, inl, inr}
 use Rattle.std.specs.Prelude.{nat_lt, if◌then◌else◌, Option, Some, None, Result, Ok, Err}
 use Rattle.can_frame.specs.declared.seen.Seen.{Seen}
+use Rattle.sja_link.specs.Sizes.{most_activations}
 use Rattle.sja_regs.specs.declared.reg_fault.RegFault.{RegFault}
 use Rattle.sja_regs.specs.declared.reg_fault.RegFault.TheVariants as fault
 use Rattle.sja_regs.specs.declared.registers.Registers.{Registers}
 use Rattle.sja_script.specs.declared.step.Step.{Step}
 use Rattle.sja_script.specs.declared.step.Step.TheVariants.{Start, Stop, Window, Release, Read, Write, Load, Command}
-use Rattle.sja_script.specs.declared.step.Step.TheVariants.{Await, Sent}
+use Rattle.sja_script.specs.declared.step.Step.TheVariants.{Await, Sent, Interrupt}
 use Rattle.sja_script.specs.declared.refusal.Refusal.TheVariants.{Closed, NoActivationLeft}
 use Rattle.sja_script.specs.declared.step_answer.StepAnswer.{StepAnswer}
 use Rattle.sja_script.specs.declared.step_answer.StepAnswer.TheVariants.{Done, Refused}
@@ -50,28 +51,32 @@ release_never false [] answer h e = let x = sym h ∙ e in cc
 release_never false (m ∷ window) answer h e = let x = sym h ∙ e in cc
 
 -- by the state, by what it saw and by the registers
-pub never_closed : (active : Bool) (n : ℕ) (step : Step) (answer : StepAnswer) (off : Bool) (window : List (List ℕ))
-    (p : Registers) (seen : Seen) →
-    FitsState active n step answer → (active ≡ true → Sees step off window answer) → Tells step active p seen answer →
+pub never_closed : (version : ℕ) (active : Bool) (n : ℕ) (step : Step) (answer : StepAnswer) (off : Bool)
+    (window : List (List ℕ)) (p : Registers) (seen : Seen) →
+    FitsState version active n step answer → (active ≡ true → Sees step off window answer) → Tells step active p seen
+    answer →
     p.closed ≡ false → answer ≢ Refused Closed
-never_closed true n Start answer off window p seen f s t c e = let x = sym f ∙ e in cc
-never_closed false n Start answer off window p seen f s t c e = start_never (nat_lt n 8) (sym f ∙ e)
-never_closed true n Stop answer off window p seen f s t c e = let x = sym f ∙ e in cc
-never_closed false n Stop answer off window p seen f s t c e = let x = sym f ∙ e in cc
-never_closed true n Window answer off window p seen f s t c e = window_never off window answer (s refl) e
-never_closed false n Window answer off window p seen f s t c e = let x = sym f ∙ e in cc
-never_closed true n Release answer off window p seen f s t c e = release_never off window answer (s refl) e
-never_closed false n Release answer off window p seen f s t c e = let x = sym f ∙ e in cc
-never_closed true n (Read address) answer off window p seen f s t c e = value_never _ (sym t ∙ e)
-never_closed false n (Read address) answer off window p seen f s t c e = value_never _ (sym t ∙ e)
-never_closed true n (Write address value) answer off window p seen f s t c e = done_never _ (sym t ∙ e)
-never_closed false n (Write address value) answer off window p seen f s t c e = done_never _ (sym t ∙ e)
-never_closed true n (Load m) answer off window p seen f s t c e = done_never _ (sym t ∙ e)
-never_closed false n (Load m) answer off window p seen f s t c e = let x = sym f ∙ e in cc
-never_closed true n (Command value) answer off window p seen f s t c e = done_never _ (sym t ∙ e)
-never_closed false n (Command value) answer off window p seen f s t c e = let x = sym f ∙ e in cc
-never_closed true n (Await count) answer off window p seen f s t c e = let x = sym c ∙ t e in cc
-never_closed false n (Await count) answer off window p seen f s t c e = let x = sym f ∙ e in cc
-never_closed true n Sent answer off window p seen f s (inl done) c e = let x = sym done.0 ∙ e in cc
-never_closed true n Sent answer off window p seen f s (inr shut) c e = let x = sym c ∙ shut.2 in cc
-never_closed false n Sent answer off window p seen f s t c e = let x = sym f ∙ e in cc
+never_closed version true n Start answer off window p seen f s t c e = let x = sym f ∙ e in cc
+never_closed version false n Start answer off window p seen f s t c e =
+    start_never (nat_lt n (most_activations version)) (sym f ∙ e)
+never_closed version true n Stop answer off window p seen f s t c e = let x = sym f ∙ e in cc
+never_closed version false n Stop answer off window p seen f s t c e = let x = sym f ∙ e in cc
+never_closed version true n Window answer off window p seen f s t c e = window_never off window answer (s refl) e
+never_closed version false n Window answer off window p seen f s t c e = let x = sym f ∙ e in cc
+never_closed version true n Release answer off window p seen f s t c e = release_never off window answer (s refl) e
+never_closed version false n Release answer off window p seen f s t c e = let x = sym f ∙ e in cc
+never_closed version true n (Read address) answer off window p seen f s t c e = value_never _ (sym t ∙ e)
+never_closed version false n (Read address) answer off window p seen f s t c e = value_never _ (sym t ∙ e)
+never_closed version true n (Write address value) answer off window p seen f s t c e = done_never _ (sym t ∙ e)
+never_closed version false n (Write address value) answer off window p seen f s t c e = done_never _ (sym t ∙ e)
+never_closed version true n (Load m) answer off window p seen f s t c e = done_never _ (sym t ∙ e)
+never_closed version false n (Load m) answer off window p seen f s t c e = let x = sym f ∙ e in cc
+never_closed version true n (Command value) answer off window p seen f s t c e = done_never _ (sym t ∙ e)
+never_closed version false n (Command value) answer off window p seen f s t c e = let x = sym f ∙ e in cc
+never_closed version true n (Await count) answer off window p seen f s t c e = let x = sym c ∙ t e in cc
+never_closed version false n (Await count) answer off window p seen f s t c e = let x = sym f ∙ e in cc
+never_closed version true n Sent answer off window p seen f s (inl done) c e = let x = sym done.0 ∙ e in cc
+never_closed version true n Sent answer off window p seen f s (inr shut) c e = let x = sym c ∙ shut.2 in cc
+never_closed version false n Sent answer off window p seen f s t c e = let x = sym f ∙ e in cc
+never_closed version active n Interrupt answer off window p seen f s (inl done) c e = let x = sym done.0 ∙ e in cc
+never_closed version active n Interrupt answer off window p seen f s (inr shut) c e = let x = sym c ∙ shut.2 in cc

@@ -1,4 +1,4 @@
--- A try of a step goes on with deeds, log and links, also once all eight activations have ended.
+-- A try of a step goes on with deeds, log and links, also once all activations have ended.
 use Rattle.std.proofs.Common.{◌≡◌, ◌+◌, ◌<◌, ◌≤◌, ℕ, suc, Bool, true, false, List, [], ◌∷◌, ◌++◌, length, refl, sym, ap}
 use Rattle.std.proofs.Common.{◌∙◌, subst, append-nil, arith, inl, inr}
 use Rattle.std.specs.Prelude.{slice_index_or, slice_set}
@@ -60,7 +60,7 @@ keeps_of stands old new gave d z l s =
 -- a deed that gives and gets nothing, at any link
 holds_idle : {E : Type 0} (stands : E → Lists → Type 0) (t : List Deed) (d : Deed) (rel rel' : List Release)
     (left : List (List (List ℕ))) (n k : ℕ) (off : Bool) (j : List Entry) (links : List E) (base : ℕ) (d0 new : E) →
-    k < 8 → base + 8 ≤ length links → d.gave ≡ [] → rel' ≡ rel ++ [] →
+    k < 64 → base + 64 ≤ length links → d.gave ≡ [] → rel' ≡ rel ++ [] →
     ((l : Lists) → stands (slice_index_or links (base + k) d0) l → stands new l) →
     Holds stands t rel left n off j links base →
     Holds stands (t ++ d ∷ []) rel' left n off j (slice_set links (base + k) new) base
@@ -86,7 +86,7 @@ holds_idle {E} stands t d rel rel' left n k off j links base d0 new few room ng 
       later = h.later;
     }
 
--- ---- all eight activations used
+-- ---- all activations used
 
 module _ {E : Type 0} (alike : E → E → Type 0) (stands : E → Lists → Type 0) (dry full : E → Type 0)
     (log now : WorkLog) (links : List E) (base node bits k : ℕ) (p q : Registers) (step : Step) (d0 new : E) where
@@ -100,9 +100,9 @@ module _ {E : Type 0} (alike : E → E → Type 0) (stands : E → Lists → Typ
   Comes was nxt o = Came alike stands dry full was nxt log now links base node bits p q step d0 new k o
 
   abbrev GoesOn : AnyDriver → AnyDriver → Tried → Type 0
-  GoesOn was nxt o = Goes stands was nxt log now links links_after base (deeds_by p step o bits)
+  GoesOn was nxt o = Goes stands p.version was nxt log now links links_after base (deeds_by p step o bits)
 
-  goes_spent : (was nxt : AnyDriver) (o : Tried) → spent ≡ 8 → Comes was nxt o → GoesOn was nxt o
+  goes_spent : (was nxt : AnyDriver) (o : Tried) → spent ≡ 64 → Comes was nxt o → GoesOn was nxt o
   goes_spent (InActive d) nxt o e c = let x = c.own.1 in absurd (omega (arith, x, e))
   goes_spent (InReset d) (InActive i) o e c =
       let x = (c.acts.place node spent c.own).1 in absurd (omega (arith, x, e))
@@ -134,18 +134,18 @@ module _ {E : Type 0} (alike : E → E → Type 0) (stands : E → Lists → Typ
             (keeps_of stands _ new (carried p step a) c.acts.does c.acts.quiet) s);
       }
 
--- a step over a node's links: at that of the present activation, and at any where all eight were used
+-- a step over a node's links: at that of the present activation, and at any where all were used
 pub goes_step : {E : Type 0} (alike : E → E → Type 0) (stands : E → Lists → Type 0) (dry full : E → Type 0)
     (was nxt : AnyDriver) (log now : WorkLog) (links : List E) (base node bits : ℕ) (p q : Registers) (step : Step)
-    (d0 new : E) (k : ℕ) (o : Tried) → (length (left_in log) < 8 → k ≡ length (left_in log)) →
+    (d0 new : E) (k : ℕ) (o : Tried) → (length (left_in log) < 64 → k ≡ length (left_in log)) →
     Came alike stands dry full was nxt log now links base node bits p q step d0 new k o →
-    Goes stands was nxt log now links (slice_set links (base + k) new) base (deeds_by p step o bits)
+    Goes stands p.version was nxt log now links (slice_set links (base + k) new) base (deeds_by p step o bits)
 goes_step {E} alike stands dry full was nxt log now links base node bits p q step d0 new k o here c =
     let n = length (left_in log) in
-    elim (cases_eq n 8) [
+    elim (cases_eq n 64) [
       | inl e ↦ goes_spent alike stands dry full log now links base node bits k p q step d0 new was nxt o e c
       | inr ne ↦ let eq = here (below n (at_most node n was c.own) ne) in
-          subst (λ (m : ℕ). Goes stands was nxt log now links (slice_set links (base + m) new) base
+          subst (λ (m : ℕ). Goes stands p.version was nxt log now links (slice_set links (base + m) new) base
           (deeds_by p step o bits)) (sym eq)
           (goes_few alike stands dry full was nxt log now links base node bits p q step d0 new o
           (subst (λ (m : ℕ). Came alike stands dry full was nxt log now links base node bits p q step d0 new m o) eq c))

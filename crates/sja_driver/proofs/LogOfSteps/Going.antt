@@ -31,7 +31,7 @@ other d n a t ne (inr q) = inr q
 pub holds_deed : {E : Type 0} (stands : E → Lists → Type 0) (t : List Deed) (rel rel' : List Release)
     (left left' : List (List (List ℕ))) (j : List Entry) (links : List E) (base n n' : ℕ) (d0 new : E)
     (held held' : List (List ℕ)) (off off' now' : Bool) (d : Deed) (released : List (List ℕ))
-    → n < 8 → base + 8 ≤ length links → (opened_by t + opens_by d ≡ suc n) ⊎ (d.gave ≡ [])
+    → n < 64 → base + 64 ≤ length links → (opened_by t + opens_by d ≡ suc n) ⊎ (d.gave ≡ [])
     → Does stands (slice_index_or links (base + n) d0) new held held' off now' released d.gave
     → released_of rel' (suc n) ≡ released_of rel (suc n) ++ released
     → ((a : ℕ) → (n ≡ a → ⊥) → released_of rel' (suc a) ≡ released_of rel (suc a))

@@ -22,10 +22,10 @@ use Rattle.sja_driver.specs.Tries.Tried.{Unmet, Answered, Released, Ended}
 use Rattle.sja_driver.proofs.LogOfSteps.Goes.{goes_step}
 use Rattle.sja_driver.proofs.LogOfSteps.Stepping.{left_count}
 
-pub min_few : (n : ℕ) → n < 8 → min n 7 ≡ n
+pub min_few : (n : ℕ) → n < 64 → min n 63 ≡ n
 min_few n few = grind arith
 
-pub min_less : (n : ℕ) → min n 7 < 8
+pub min_less : (n : ℕ) → min n 63 < 64
 min_less n = grind arith
 
 -- a try adds one step and one release at most
@@ -81,20 +81,20 @@ room_by was now k extra bits o done few few_released enters room =
       left = omega (arith, has_left, same_left);
     }
 
--- the present link is one of the node's eight
-pub inside : (base ended k n : ℕ) → k ≡ min ended 7 → base + 8 ≤ n → base + k < n
+-- the present link is one of the node's
+pub inside : (base ended k n : ℕ) → k ≡ min ended 63 → base + 64 ≤ n → base + k < n
 inside base ended k n is room = let l = min_less ended in omega (arith, is, l, room)
 
 -- a try at the present link is a logged step
 pub steps_of : {E : Type 0} (alike : E → E → Type 0) (stands : E → Lists → Type 0) (dry full : E → Type 0)
     (was now : LoggedDriver) (links : List E) (base bits k : ℕ) (p q : Registers) (step : Step) (d0 new : E) (o : Tried)
-    (done : Bool) → IsLawful was → base + 8 ≤ length links → k ≡ min (ended_of was) 7 →
+    (done : Bool) → IsLawful was → base + 64 ≤ length links → k ≡ min (ended_of was) 63 →
     Acts alike stands dry full (slice_index_or links (base + k) d0) new p q step (driver_of was) (driver_of now) o →
     Enters (log_of was) (log_of now) o bits done →
     Steps alike stands dry full was now links (slice_set links (base + k) new) base p q step bits done
 steps_of {E} alike stands dry full was now links base bits k p q step d0 new o done lawful room is acts enters =
     let links_now : List E = slice_set links (base + k) new in
-    let few : k < 8 = let l = min_less (ended_of was) in omega (arith, is, l) in
+    let few : k < 64 = let l = min_less (ended_of was) in omega (arith, is, l) in
     let inside : base + k < length links = omega (arith, few, room) in
     let at : base + k ≡ place_after base (ended_of was) = ap (λ i. base + i) is in
     record {
@@ -132,7 +132,7 @@ lawful_after was driver log o left place lawful =
 pub stays_lawful : {E : Type 0} (link : E → LinkId) (same : E → E → Type 0) (was now : LoggedDriver) (links : List E)
     (base bits k : ℕ) (d0 new : E) (o : Tried) (done : Bool) →
     ((e : E) → same e e) → ((a b : E) → same a b → link b ≡ link a) → MayStep link was links base →
-    k ≡ min (ended_of was) 7 → same (slice_index_or links (base + k) d0) new → node_of now ≡ node_of was →
+    k ≡ min (ended_of was) 63 → same (slice_index_or links (base + k) d0) new → node_of now ≡ node_of was →
     Enters (log_of was) (log_of now) o bits done →
     ((node n : ℕ) → IsDriverOf node n (driver_of was) → IsDriverOf node (n + ended_by o) (driver_of now)) →
     StaysLawful link same was now links (slice_set links (base + k) new) base done

@@ -29,13 +29,15 @@ use Rattle.sja_driver.proofs.LogOfSteps.Logged.{min_few, min_less, inside}
 
 -- out of reset a look is what a wait does that isn't met: at registers with TBS 0, over an end of which nothing more is
 -- asked
-abbrev waiting : Registers
-waiting = record (at_power_on 1) { tbs = false }
+abbrev waiting : ℕ → Registers
+waiting version = record (at_power_on version) { tbs = false }
 
-waits_as : {E : Type 0} (stands : E → Lists → Type 0) (dry : E → Type 0) (old new : E) (was now : Driver Active) →
+waits_as : {E : Type 0} (version : ℕ) (stands : E → Lists → Type 0) (dry : E → Type 0) (old new : E) (was now : Driver
+    Active) →
     TakesIn stands dry old new was now →
-    Acts (λ a b. Unit {0}) stands dry (λ e. Unit {0}) old new waiting waiting Sent (InActive was) (InActive now) Unmet
-waits_as stands dry old new was now t = record {
+    Acts (λ a b. Unit {0}) stands dry (λ e. Unit {0}) old new (waiting version) (waiting version)
+    Sent (InActive was) (InActive now) Unmet
+waits_as version stands dry old new was now t = record {
   does = record {
     got = t.got.got;
     lists = λ l s. subst (λ (xs : List Up). stands new (record l { got = l.got ++ t.got.got; given = xs }))
@@ -61,28 +63,29 @@ waits_as stands dry old new was now t = record {
 }
 
 -- with no deed more nothing changes
-goes_still : {E : Type 0} (stands : E → Lists → Type 0) (was : AnyDriver) (log : _) (links : List E) (base : ℕ) →
-    Goes stands was was log log links links base []
-goes_still stands was log links base = record {
-  traces = λ t h. subst (λ (ds : List Deed). Traces was log ds) (sym (append-nil t)) h;
+goes_still : {E : Type 0} (version : ℕ) (stands : E → Lists → Type 0) (was : AnyDriver) (log : _) (links : List E) (base
+    : ℕ) →
+    Goes stands version was was log log links links base []
+goes_still version stands was log links base = record {
+  traces = λ t h. subst (λ (ds : List Deed). Traces version was log ds) (sym (append-nil t)) h;
   holds = λ t j h k. subst (λ (ds : List Deed). HoldsBy stands ds was log j links base) (sym (append-nil t)) k;
 }
 
-goes_look : {E : Type 0} (stands : E → Lists → Type 0) (dry : E → Type 0) (was now : AnyDriver) (log : _)
+goes_look : {E : Type 0} (version : ℕ) (stands : E → Lists → Type 0) (dry : E → Type 0) (was now : AnyDriver) (log : _)
     (links : List E) (base node k : ℕ) (d0 new : E) → IsDriverOf node (length (left_in log)) was →
-    base + 8 ≤ length links → k ≡ min (length (left_in log)) 7 →
+    base + 64 ≤ length links → k ≡ min (length (left_in log)) 63 →
     Observes stands dry (slice_index_or links (base + k) d0) new was now →
-    Goes stands was now log log links (slice_set links (base + k) new) base []
-goes_look stands dry (InReset was) now log links base node k d0 new own room is o =
-    rw (o.0, o.1, set-get_or links (base + k) d0) (goes_still stands (InReset was) log links base)
-goes_look stands dry (InActive was) (InReset now) log links base node k d0 new own room is o = absurd o
-goes_look {E} stands dry (InActive was) (InActive now) log links base node k d0 new own room is o =
+    Goes stands version was now log log links (slice_set links (base + k) new) base []
+goes_look version stands dry (InReset was) now log links base node k d0 new own room is o =
+    rw (o.0, o.1, set-get_or links (base + k) d0) (goes_still version stands (InReset was) log links base)
+goes_look version stands dry (InActive was) (InReset now) log links base node k d0 new own room is o = absurd o
+goes_look {E} version stands dry (InActive was) (InActive now) log links base node k d0 new own room is o =
     goes_step (λ a b. Unit {0}) stands dry (λ e. Unit {0}) (InActive was) (InActive now) log log links base node 0
-    waiting waiting Sent d0 new k Unmet (λ few. is ∙ min_few (length (left_in log)) few) (record {
+    (waiting version) (waiting version) Sent d0 new k Unmet (λ few. is ∙ min_few (length (left_in log)) few) (record {
       few = let l = min_less (length (left_in log)) in omega (arith, is, l);
       room = room;
       own = own;
-      acts = waits_as stands dry (slice_index_or links (base + k) d0) new was now o;
+      acts = waits_as version stands dry (slice_index_or links (base + k) d0) new was now o;
       done = sym (append-nil _);
       released = sym (append-nil _);
       left = sym (append-nil _);
@@ -91,7 +94,7 @@ goes_look {E} stands dry (InActive was) (InActive now) log links base node k d0 
 -- a look at the present link
 pub looked_by : {E : Type 0} (link : E → LinkId) (stands : E → Lists → Type 0) (dry : E → Type 0)
     (was now : LoggedDriver) (links : List E) (base k : ℕ) (d0 new : E) → MayObserve link was links base →
-    k ≡ min (ended_of was) 7 → log_of now ≡ log_of was →
+    k ≡ min (ended_of was) 63 → log_of now ≡ log_of was →
     Observes stands dry (slice_index_or links (base + k) d0) new (driver_of was) (driver_of now) →
     Looked stands dry was now links (slice_set links (base + k) new) base
 looked_by {E} link stands dry was now links base k d0 new may is log o =
@@ -103,7 +106,8 @@ looked_by {E} link stands dry was now links base k d0 new may is log o =
           (driver_of was) (driver_of now)) at
           (rw (get_or_default links (base + k) d d0 here, get_or-set_same links (base + k) new e here) o);
       log = log;
-      goes = rw log (goes_look stands dry (driver_of was) (driver_of now) (log_of was) links base (node_of was) k d0
+      goes = λ version. rw log (goes_look version stands dry (driver_of was) (driver_of now) (log_of was) links base
+          (node_of was) k d0
           new may.lawful may.eight is o);
     }
 
@@ -118,7 +122,7 @@ place_kept stands dry old new (InActive was) (InActive now) node n o h = (o.link
 pub stays_looked : {E : Type 0} (link : E → LinkId) (alike : E → E → Type 0) (stands : E → Lists → Type 0)
     (dry : E → Type 0) (was now : LoggedDriver) (links : List E) (base k : ℕ) (d0 new : E) →
     ((e : E) → alike e e) → ((a b : E) → alike a b → link b ≡ link a) → MayObserve link was links base →
-    k ≡ min (ended_of was) 7 → node_of now ≡ node_of was → log_of now ≡ log_of was →
+    k ≡ min (ended_of was) 63 → node_of now ≡ node_of was → log_of now ≡ log_of was →
     alike (slice_index_or links (base + k) d0) new →
     Observes stands dry (slice_index_or links (base + k) d0) new (driver_of was) (driver_of now) →
     StaysLawful link alike was now links (slice_set links (base + k) new) base false

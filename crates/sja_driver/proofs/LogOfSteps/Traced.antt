@@ -32,15 +32,16 @@ done_push [] d = refl
 done_push (x ∷ t) d = ap (λ l. done_of x ∷ l) (done_push t d)
 
 -- a deed more, that released what the log has more
-pub traces_deed : (was nxt : AnyDriver) (log now : WorkLog) (t : List Deed) (d : Deed) (more : List Release)
+pub traces_deed : {version : ℕ} (was nxt : AnyDriver) (log now : WorkLog) (t : List Deed) (d : Deed) (more : List
+    Release)
     → done_in now ≡ done_in log ++ done_of d ∷ [] → releases_in now ≡ releases_in log ++ more
     → ((a : ℕ) → opened_by t ≡ opened_of was →
     released_lengths (deeds_of (t ++ d ∷ []) a) ≡ released_lengths (deeds_of t a) ++ lengths (released_of more a))
     → opened_of nxt ≡ opened_of was + opens_by d
     → is_out nxt ≡ active_after (is_out was) d.step d.answer
-    → FitsState (is_out was) (opened_of was) d.step d.answer → Gives d.step d.answer d.gave
-    → Traces was log t → Traces nxt now (t ++ d ∷ [])
-traces_deed was nxt log now t d more done rel released op out fits gives h = record {
+    → FitsState version (is_out was) (opened_of was) d.step d.answer → Gives d.step d.answer d.gave
+    → Traces version was log t → Traces version nxt now (t ++ d ∷ [])
+traces_deed {version} was nxt log now t d more done rel released op out fits gives h = record {
   done = done_push t d ∙ ap (λ xs. xs ++ done_of d ∷ []) h.done ∙ sym done;
   released = λ a. ap (λ xs. lengths (released_of xs a)) rel
       ∙ ap lengths (gathered_append (of_activation a) (releases_in log) more)
@@ -49,8 +50,9 @@ traces_deed was nxt log now t d more done rel released op out fits gives h = rec
   opened = opened_push t d ∙ ap (λ n. n + opens_by d) h.opened ∙ sym op;
   out = active_push false t d ∙ ap (λ b. active_after b d.step d.answer) h.out ∙ sym out;
   answered = record {
-    states = each_push (λ before (d : Deed). FitsState (is_active before) (opened_by before) d.step d.answer) [] t d
-        h.answered.states (rw (h.out, h.opened) fits);
+    states = each_push (λ before (d : Deed). FitsState version (is_active before) (opened_by before) d.step d.answer) []
+        t
+        d h.answered.states (rw (h.out, h.opened) fits);
     gives = each_push (λ before (d : Deed). Gives d.step d.answer d.gave) [] t d h.answered.gives gives;
   };
 }

@@ -6,17 +6,17 @@ use Rattle.sja_regs.specs.Addresses.{register_at}
 use Rattle.sja_regs.specs.Registers.{after_leaving_reset}
 use Rattle.sja_script.specs.declared.step.Step.{Step}
 use Rattle.sja_script.specs.declared.step.Step.TheVariants.{Start, Stop, Window, Release, Read}
-use Rattle.sja_script.specs.declared.step.Step.TheVariants.{Write, Load, Command, Await, Sent}
+use Rattle.sja_script.specs.declared.step.Step.TheVariants.{Write, Load, Command, Await, Sent, Interrupt}
 use Rattle.sja_script.specs.declared.step_answer.StepAnswer.{StepAnswer}
 use Rattle.sja_script.specs.declared.step_answer.StepAnswer.TheVariants.{Done}
 use Rattle.sja_driver.specs.Carried.{ported}
 use Rattle.sja_driver.specs.Deeds.{opened}
 use Rattle.sja_regs.proofs.Untouched.{read_leaves, write_leaves}
 
-min_few : (n : ℕ) → n < 8 → min 255 (n + 1) ≡ n + 1
+min_few : (n : ℕ) → n < 64 → min 255 (n + 1) ≡ n + 1
 min_few n few = grind arith
 
-start_activation : (b : Bool) (p : Registers) → b ≡ true → p.activation < 8 →
+start_activation : (b : Bool) (p : Registers) → b ≡ true → p.activation < 64 →
     (if b then after_leaving_reset p else p).activation ≡ p.activation + 1
 start_activation true p e few = min_few p.activation few
 start_activation false p e few = absurd cc
@@ -26,7 +26,7 @@ plus_none n = omega arith
 
 -- a start from reset mode is the next one
 pub activation_step : (p : Registers) (step : Step) (answer : StepAnswer) →
-    (opened step answer ≡ 1 → (p.mode.rm ≡ true) × (p.activation < 8)) →
+    (opened step answer ≡ 1 → (p.mode.rm ≡ true) × (p.activation < 64)) →
     (ported p step answer).activation ≡ p.activation + opened step answer
 activation_step p Start Done starts = let s = starts refl in start_activation p.mode.rm p s.0 s.1
 activation_step p Stop Done starts = plus_none p.activation
@@ -45,3 +45,4 @@ activation_step p Window answer starts = plus_none p.activation
 activation_step p Release answer starts = plus_none p.activation
 activation_step p (Await count) answer starts = plus_none p.activation
 activation_step p Sent answer starts = plus_none p.activation
+activation_step p Interrupt answer starts = plus_none p.activation

@@ -8,7 +8,7 @@ use Rattle.sja_regs.specs.Commands.{command_of, requests}
 use Rattle.sja_regs.specs.Turns.{ends, goes_off, after_turn}
 use Rattle.sja_script.specs.declared.step.Step.{Step}
 use Rattle.sja_script.specs.declared.step.Step.TheVariants.{Start, Stop, Window, Release, Read}
-use Rattle.sja_script.specs.declared.step.Step.TheVariants.{Write, Load, Command, Await, Sent}
+use Rattle.sja_script.specs.declared.step.Step.TheVariants.{Write, Load, Command, Await, Sent, Interrupt}
 use Rattle.sja_script.specs.declared.step_answer.StepAnswer.{StepAnswer}
 use Rattle.sja_script.specs.declared.step_answer.StepAnswer.TheVariants.{Done, Released}
 use Rattle.sja_driver.specs.Carried.{Tells, carried, ported, asks_abort}
@@ -49,34 +49,38 @@ under_way false at true true h e = refl
 under_way false true false true h e = absurd cc
 under_way false false false true h e = absurd cc
 
-pub tbs_after_step : (p : Registers) (n : ℕ) (s : Step) (r : StepAnswer) (active : Bool) (seen : Seen) →
-    FitsState active n s r → Tells s active p seen r → TbsIsRight p → TbsIsRight (ported p s r)
-tbs_after_step p n Start Done active seen fits tells h = record {
+pub tbs_after_step : (version : ℕ) (p : Registers) (n : ℕ) (s : Step) (r : StepAnswer) (active : Bool) (seen : Seen) →
+    FitsState version active n s r → Tells s active p seen r → TbsIsRight p → TbsIsRight (ported p s r)
+tbs_after_step version p n Start Done active seen fits tells h = record {
   in_reset = λ e. let no = (rm_step p Start Done true active seen p.mode.rm tells refl).1 refl in absurd cc;
   in_abort = λ e. tbs_step p Start Done ∙ h.in_abort (elim (abort_step p Start Done e) [
     | inl stood ↦ stood
     | inr asked ↦ absurd cc
   ]);
 }
-tbs_after_step p n Stop Done active seen fits tells h = record { in_reset = λ e. refl; in_abort = λ e. absurd cc }
-tbs_after_step p n (Command v) Done true seen fits tells h = record {
+tbs_after_step version p n Stop Done active seen fits tells h =
+    record { in_reset = λ e. refl; in_abort = λ e. absurd cc }
+tbs_after_step version p n (Command v) Done true seen fits tells h = record {
   in_reset = λ e. let out = accepted_out p v tells in absurd cc;
   in_abort = under_way p.abort (command_of v).at (requests (command_of v)) p.tbs h.in_abort;
 }
-tbs_after_step p n (Command v) Done false seen fits tells h = absurd cc
-tbs_after_step p n Release (Released k) active seen fits tells h =
+tbs_after_step version p n (Command v) Done false seen fits tells h = absurd cc
+tbs_after_step version p n Release (Released k) active seen fits tells h =
     quiet p Release (Released k) active seen tells refl refl refl refl h
-tbs_after_step p n Start r active seen fits tells h = h
-tbs_after_step p n Stop r active seen fits tells h = h
-tbs_after_step p n (Command v) r active seen fits tells h = h
-tbs_after_step p n Release r active seen fits tells h = h
-tbs_after_step p n Window r active seen fits tells h = h
-tbs_after_step p n (Read a) r active seen fits tells h = quiet p (Read a) r active seen tells refl refl refl refl h
-tbs_after_step p n (Write a v) r active seen fits tells h =
+tbs_after_step version p n Start r active seen fits tells h = h
+tbs_after_step version p n Stop r active seen fits tells h = h
+tbs_after_step version p n (Command v) r active seen fits tells h = h
+tbs_after_step version p n Release r active seen fits tells h = h
+tbs_after_step version p n Window r active seen fits tells h = h
+tbs_after_step version p n (Read a) r active seen fits tells h =
+    quiet p (Read a) r active seen tells refl refl refl refl h
+tbs_after_step version p n (Write a v) r active seen fits tells h =
     quiet p (Write a v) r active seen tells refl refl refl refl h
-tbs_after_step p n (Load m) r active seen fits tells h = quiet p (Load m) r active seen tells refl refl refl refl h
-tbs_after_step p n (Await k) r active seen fits tells h = h
-tbs_after_step p n Sent r active seen fits tells h = h
+tbs_after_step version p n (Load m) r active seen fits tells h =
+    quiet p (Load m) r active seen tells refl refl refl refl h
+tbs_after_step version p n (Await k) r active seen fits tells h = h
+tbs_after_step version p n Sent r active seen fits tells h = h
+tbs_after_step version p n Interrupt r active seen fits tells h = h
 
 -- ---- a turn of the bus
 

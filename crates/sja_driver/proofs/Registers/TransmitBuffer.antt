@@ -18,7 +18,7 @@ use Rattle.sja_regs.specs.Registers.{after_leaving_reset}
 use Rattle.sja_regs.specs.Writing.{is_first_version}
 use Rattle.sja_script.specs.declared.step.Step.{Step}
 use Rattle.sja_script.specs.declared.step.Step.TheVariants.{Start, Stop, Window, Release, Read}
-use Rattle.sja_script.specs.declared.step.Step.TheVariants.{Write, Load, Command, Await, Sent}
+use Rattle.sja_script.specs.declared.step.Step.TheVariants.{Write, Load, Command, Await, Sent, Interrupt}
 use Rattle.sja_script.specs.declared.step_answer.StepAnswer.{StepAnswer}
 use Rattle.sja_script.specs.declared.step_answer.StepAnswer.TheVariants.{Done, Released}
 use Rattle.sja_driver.specs.Answers.{done_unless}
@@ -66,6 +66,7 @@ tbs_step p Release other = refl
 tbs_step p Window answer = refl
 tbs_step p (Await count) answer = refl
 tbs_step p Sent answer = refl
+tbs_step p Interrupt answer = refl
 
 -- ---- a stop drops a standing abort
 
@@ -89,6 +90,7 @@ stop_drops p (Write address value) answer e = absurd cc
 stop_drops p (Load m) answer e = absurd cc
 stop_drops p (Await count) answer e = absurd cc
 stop_drops p Sent answer e = absurd cc
+stop_drops p Interrupt answer e = absurd cc
 
 -- ---- requests that are accepted
 
@@ -119,23 +121,24 @@ busy_none p v busy h =
     h busy)
 
 -- nothing is requested while the transmit buffer isn't released
-pub busy_sends_none : (p : Registers) (n : ℕ) (s : Step) (r : StepAnswer) (active : Bool) (seen : Seen) →
-    FitsState active n s r → Tells s active p seen r → p.tbs ≡ false → total is_send (carried p s r) ≡ 0
-busy_sends_none p n (Command v) Done true seen fits t busy = busy_none p v busy t
-busy_sends_none p n (Command v) Done false seen fits t busy = absurd cc
-busy_sends_none p n Start Done active seen fits t busy = refl
-busy_sends_none p n Release (Released k) active seen fits t busy = refl
-busy_sends_none p n Stop Done active seen fits t busy = refl
-busy_sends_none p n (Command v) other active seen fits t busy = refl
-busy_sends_none p n Start other active seen fits t busy = refl
-busy_sends_none p n Release other active seen fits t busy = refl
-busy_sends_none p n Stop other active seen fits t busy = refl
-busy_sends_none p n Window r active seen fits t busy = refl
-busy_sends_none p n (Read a) r active seen fits t busy = refl
-busy_sends_none p n (Write a v) r active seen fits t busy = refl
-busy_sends_none p n (Load m) r active seen fits t busy = refl
-busy_sends_none p n (Await k) r active seen fits t busy = refl
-busy_sends_none p n Sent r active seen fits t busy = refl
+pub busy_sends_none : (version : ℕ) (p : Registers) (n : ℕ) (s : Step) (r : StepAnswer) (active : Bool) (seen : Seen) →
+    FitsState version active n s r → Tells s active p seen r → p.tbs ≡ false → total is_send (carried p s r) ≡ 0
+busy_sends_none version p n (Command v) Done true seen fits t busy = busy_none p v busy t
+busy_sends_none version p n (Command v) Done false seen fits t busy = absurd cc
+busy_sends_none version p n Start Done active seen fits t busy = refl
+busy_sends_none version p n Release (Released k) active seen fits t busy = refl
+busy_sends_none version p n Stop Done active seen fits t busy = refl
+busy_sends_none version p n (Command v) other active seen fits t busy = refl
+busy_sends_none version p n Start other active seen fits t busy = refl
+busy_sends_none version p n Release other active seen fits t busy = refl
+busy_sends_none version p n Stop other active seen fits t busy = refl
+busy_sends_none version p n Window r active seen fits t busy = refl
+busy_sends_none version p n (Read a) r active seen fits t busy = refl
+busy_sends_none version p n (Write a v) r active seen fits t busy = refl
+busy_sends_none version p n (Load m) r active seen fits t busy = refl
+busy_sends_none version p n (Await k) r active seen fits t busy = refl
+busy_sends_none version p n Sent r active seen fits t busy = refl
+busy_sends_none version p n Interrupt r active seen fits t busy = refl
 
 no_send : (asks at : Bool) (request : Request) → (at && not asks) ≡ true →
     send_of (if asks then Some request else None) ≡ []
@@ -156,6 +159,7 @@ abort_gives_none p (Write a v) r h = absurd cc
 abort_gives_none p (Load m) r h = absurd cc
 abort_gives_none p (Await k) r h = absurd cc
 abort_gives_none p Sent r h = absurd cc
+abort_gives_none p Interrupt r h = absurd cc
 
 -- ---- no request is accepted in reset mode
 
@@ -173,20 +177,21 @@ accepted_out p v h =
     ((c.rrb, UseTyped) ∷ (c.srr && is_first_version p, NotInVersion) ∷ (requests c && p.mode.lom, ListenOnly)
     ∷ (requests c && not p.tbs, Locked) ∷ []) h
 
-pub reset_sends_none : (p : Registers) (n : ℕ) (s : Step) (r : StepAnswer) (active : Bool) (seen : Seen) →
-    FitsState active n s r → Tells s active p seen r → p.mode.rm ≡ true → total is_send (carried p s r) ≡ 0
-reset_sends_none p n (Command v) Done true seen fits t rm = let out = accepted_out p v t in absurd cc
-reset_sends_none p n (Command v) Done false seen fits t rm = absurd cc
-reset_sends_none p n Start Done active seen fits t rm = refl
-reset_sends_none p n Release (Released k) active seen fits t rm = refl
-reset_sends_none p n Stop Done active seen fits t rm = refl
-reset_sends_none p n (Command v) other active seen fits t rm = refl
-reset_sends_none p n Start other active seen fits t rm = refl
-reset_sends_none p n Release other active seen fits t rm = refl
-reset_sends_none p n Stop other active seen fits t rm = refl
-reset_sends_none p n Window r active seen fits t rm = refl
-reset_sends_none p n (Read a) r active seen fits t rm = refl
-reset_sends_none p n (Write a v) r active seen fits t rm = refl
-reset_sends_none p n (Load m) r active seen fits t rm = refl
-reset_sends_none p n (Await k) r active seen fits t rm = refl
-reset_sends_none p n Sent r active seen fits t rm = refl
+pub reset_sends_none : (version : ℕ) (p : Registers) (n : ℕ) (s : Step) (r : StepAnswer) (active : Bool) (seen : Seen) →
+    FitsState version active n s r → Tells s active p seen r → p.mode.rm ≡ true → total is_send (carried p s r) ≡ 0
+reset_sends_none version p n (Command v) Done true seen fits t rm = let out = accepted_out p v t in absurd cc
+reset_sends_none version p n (Command v) Done false seen fits t rm = absurd cc
+reset_sends_none version p n Start Done active seen fits t rm = refl
+reset_sends_none version p n Release (Released k) active seen fits t rm = refl
+reset_sends_none version p n Stop Done active seen fits t rm = refl
+reset_sends_none version p n (Command v) other active seen fits t rm = refl
+reset_sends_none version p n Start other active seen fits t rm = refl
+reset_sends_none version p n Release other active seen fits t rm = refl
+reset_sends_none version p n Stop other active seen fits t rm = refl
+reset_sends_none version p n Window r active seen fits t rm = refl
+reset_sends_none version p n (Read a) r active seen fits t rm = refl
+reset_sends_none version p n (Write a v) r active seen fits t rm = refl
+reset_sends_none version p n (Load m) r active seen fits t rm = refl
+reset_sends_none version p n (Await k) r active seen fits t rm = refl
+reset_sends_none version p n Sent r active seen fits t rm = refl
+reset_sends_none version p n Interrupt r active seen fits t rm = refl

@@ -1,4 +1,4 @@
--- What a try came to, and how deeds, log and links go on with it while not all eight activations have ended.
+-- What a try came to, and how deeds, log and links go on with it while not all activations have ended.
 use Rattle.std.proofs.Common.{◌≡◌, ◌+◌, ◌<◌, ◌≤◌, ℕ, suc, Bool, cond, List, [], ◌∷◌, ◌++◌, length, refl, sym, ap, ◌∙◌}
 use Rattle.std.proofs.Common.{subst, append-nil, arith, inl, inr}
 use Rattle.std.specs.Prelude.{slice_index_or, slice_set, ◌⊎◌}
@@ -40,8 +40,8 @@ use Rattle.sja_driver.proofs.LogOfSteps.Traced.{ended_off}
 pub record Came {E : Type 0} (alike : E → E → Type 0) (stands : E → Lists → Type 0) (dry full : E → Type 0)
     (was nxt : AnyDriver) (log now : WorkLog) (links : List E) (base node bits : ℕ) (p q : Registers) (step : Step)
     (d0 new : E) (k : ℕ) (o : Tried) : Type 0 where
-  pub few : k < 8
-  pub room : base + 8 ≤ length links
+  pub few : k < 64
+  pub room : base + 64 ≤ length links
   pub own : IsDriverOf node (length (left_in log)) was
   pub acts : Acts alike stands dry full (slice_index_or links (base + k) d0) new p q step was nxt o
   pub done : done_in now ≡ done_in log ++ done_by o bits
@@ -72,11 +72,12 @@ forget {E} stands t rel left n off j links base h =
     subst (λ (ds : List Deed). Holds stands ds rel left n off j links base) (sym (append-nil t)) was
 
 -- the trace, where nothing was done
-pub traces_unmet : (was nxt : AnyDriver) (log now : WorkLog) (t : List Deed) → done_in now ≡ done_in log ++ [] →
+pub traces_unmet : {version : ℕ} (was nxt : AnyDriver) (log now : WorkLog) (t : List Deed) → done_in now ≡ done_in log
+    ++ [] →
     releases_in now ≡ releases_in log ++ [] → opened_of nxt ≡ opened_of was → is_out nxt ≡ is_out was →
-    Traces was log t → Traces nxt now (t ++ [])
-traces_unmet was nxt log now t done released opens out h =
-    subst (λ (ds : List Deed). Traces nxt now ds) (sym (append-nil t)) (record {
+    Traces version was log t → Traces version nxt now (t ++ [])
+traces_unmet {version} was nxt log now t done released opens out h =
+    subst (λ (ds : List Deed). Traces version nxt now ds) (sym (append-nil t)) (record {
       done = h.done ∙ sym (done ∙ append-nil (done_in log));
       released = λ a. ap (λ xs. lengths (released_of xs a)) (released ∙ append-nil (releases_in log)) ∙ h.released a;
       opened = h.opened ∙ sym opens;
@@ -97,10 +98,10 @@ module _ {E : Type 0} (alike : E → E → Type 0) (stands : E → Lists → Typ
   CameTo o = Came alike stands dry full was nxt log now links base node bits p q step d0 new n o
 
   abbrev GoesBy : Tried → Type 0
-  GoesBy o = Goes stands was nxt log now links links_now base (deeds_by p step o bits)
+  GoesBy o = Goes stands p.version was nxt log now links links_now base (deeds_by p step o bits)
 
   -- the links with a deed more that ends no activation
-  holds_on : (t : List Deed) (j : List Entry) (d : Deed) (more : List (List ℕ)) → n < 8 → base + 8 ≤ length links →
+  holds_on : (t : List Deed) (j : List Entry) (d : Deed) (more : List (List ℕ)) → n < 64 → base + 64 ≤ length links →
       left_in now ≡ left_in log → (opened_by t + opens_by d ≡ suc n) ⊎ (d.gave ≡ []) →
       Does stands (slice_index_or links (base + n) d0) new (held_of was) (held_of nxt) (off_of was) (off_of nxt) more
       d.gave → released_of (releases_in now) (suc n) ≡ released_of (releases_in log) (suc n) ++ more →

@@ -24,7 +24,7 @@ use Rattle.sja_link.proofs.Ledger.Holding.{told_stored}
 use Rattle.sja_link.proofs.Ledger.Judging.{kept_stored}
 use Rattle.sja_script.specs.declared.step.Step.{Step}
 use Rattle.sja_script.specs.declared.step.Step.TheVariants.{Start, Stop, Window, Release, Read, Write, Load, Command}
-use Rattle.sja_script.specs.declared.step.Step.TheVariants.{Await, Sent}
+use Rattle.sja_script.specs.declared.step.Step.TheVariants.{Await, Sent, Interrupt}
 use Rattle.sja_script.specs.declared.step_answer.StepAnswer.{StepAnswer}
 use Rattle.sja_script.specs.declared.step_answer.StepAnswer.TheVariants.{Done, Released}
 use Rattle.sja_driver.specs.Deeds.{Deed, opens_by, Gives, GivesSend, length_in, given_in, released_lengths}
@@ -139,6 +139,7 @@ credits_one (Write x y) r gave g = ap (total credit_of) g
 credits_one (Load m) r gave g = ap (total credit_of) g
 credits_one (Await k) r gave g = ap (total credit_of) g
 credits_one Sent r gave g = ap (total credit_of) g
+credits_one Interrupt r gave g = ap (total credit_of) g
 
 pub credits_section : (n : ℕ) (before ds : List Deed) (a : ℕ) → EachAfter (λ b (d : Deed). Gives d.step d.answer d.gave)
     before ds →

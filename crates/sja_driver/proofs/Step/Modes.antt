@@ -16,7 +16,7 @@ use Rattle.sja_regs.specs.Writing.{write_faults_at, after_forced_off, after_writ
 use Rattle.sja_regs.proofs.KeepLemmas.{read_keeps, write_keeps, leaving_keeps}
 use Rattle.sja_script.specs.declared.step.Step.{Step}
 use Rattle.sja_script.specs.declared.step.Step.TheVariants.{Start, Stop, Window, Release, Read, Write, Load, Command}
-use Rattle.sja_script.specs.declared.step.Step.TheVariants.{Await, Sent}
+use Rattle.sja_script.specs.declared.step.Step.TheVariants.{Await, Sent, Interrupt}
 use Rattle.sja_script.specs.declared.step_answer.StepAnswer.{StepAnswer}
 use Rattle.sja_script.specs.declared.step_answer.StepAnswer.TheVariants.{Done}
 use Rattle.sja_driver.specs.Answers.{done_unless}
@@ -89,6 +89,7 @@ rm_step p Window answer active out seen rest t e = (λ o. e, λ o. absurd (omega
 rm_step p Release answer active out seen rest t e = (λ o. e, λ o. absurd (omega (arith, o)))
 rm_step p (Await count) answer active out seen rest t e = (λ o. e, λ o. absurd (omega (arith, o)))
 rm_step p Sent answer active out seen rest t e = (λ o. e, λ o. absurd (omega (arith, o)))
+rm_step p Interrupt answer active out seen rest t e = (λ o. e, λ o. absurd (omega (arith, o)))
 
 -- ---- the bits aren't spent
 
@@ -111,6 +112,28 @@ closed_step p Window answer = refl
 closed_step p Release answer = refl
 closed_step p (Await count) answer = refl
 closed_step p Sent answer = refl
+closed_step p Interrupt answer = refl
+
+-- no step changes its version
+pub version_step : (p : Registers) (step : Step) (answer : StepAnswer) → (ported p step answer).version ≡ p.version
+version_step p Start Done = leaving_keeps (λ q. q.version) p.mode.rm p (after_leaving_reset p) refl
+version_step p Stop Done = refl
+version_step p (Read address) answer =
+    read_keeps (λ q. q.version) (λ q i a c. refl) (register_at p.mode.rm address) p
+version_step p (Write address value) Done =
+    write_keeps (λ q. q.version) (λ q s i. refl) (register_at p.mode.rm address) value p
+version_step p (Load m) Done = refl
+version_step p (Command value) Done = refl
+version_step p Start other = refl
+version_step p Stop other = refl
+version_step p (Write address value) other = refl
+version_step p (Load m) other = refl
+version_step p (Command value) other = refl
+version_step p Window answer = refl
+version_step p Release answer = refl
+version_step p (Await count) answer = refl
+version_step p Sent answer = refl
+version_step p Interrupt answer = refl
 
 -- ---- a standing abort
 
@@ -142,3 +165,4 @@ abort_step p Window answer h = inl h
 abort_step p Release answer h = inl h
 abort_step p (Await count) answer h = inl h
 abort_step p Sent answer h = inl h
+abort_step p Interrupt answer h = inl h

@@ -13,18 +13,18 @@ none_more xs ys e = sym (same_front xs [] ys (append-nil xs ∙ e))
 
 -- what each activation has of these items, and what follows
 module _ (j t : List Entry) (items : MayHaveItems j t) (given : ℕ → List Up)
-    (before : (a : ℕ) → a < 8 → given a ≡ taken_of (part j (suc a))) where
+    (before : (a : ℕ) → a < 64 → given a ≡ taken_of (part j (suc a))) where
   taken_now : (a : ℕ) → taken_of (part t (suc a)) ≡ taken_of (part j (suc a)) ++ adds j items.items (suc a)
   taken_now a = ap (λ (l : List Entry). taken_of (part l (suc a))) items.whole ∙ taken_adds j items.items (suc a)
 
-  pub none_beyond : (a : ℕ) (more : List Up) → a < 8 → given a ≡ taken_of (part t (suc a)) ++ more →
+  pub none_beyond : (a : ℕ) (more : List Up) → a < 64 → given a ≡ taken_of (part t (suc a)) ++ more →
       adds j items.items (suc a) ++ more ≡ []
   none_beyond a more few after =
       none_more (taken_of (part j (suc a))) (adds j items.items (suc a) ++ more)
       (sym (before a few) ∙ after ∙ ap (λ (l : List Up). l ++ more) (taken_now a)
       ∙ append_assoc (taken_of (part j (suc a))) (adds j items.items (suc a)) more)
 
-  pub none_taken : (up : ℕ → List Up) → ((a : ℕ) → a < 8 → given a ≡ taken_of (part t (suc a)) ++ up a) → t ≡ j
+  pub none_taken : (up : ℕ → List Up) → ((a : ℕ) → a < 64 → given a ≡ taken_of (part t (suc a)) ++ up a) → t ≡ j
   none_taken up after =
       let none : items.items ≡ [] = no_adds j items.items items.read
       (λ a few. none_front (adds j items.items (suc a)) (up a) (none_beyond a (up a) few (after a few))) in
@@ -32,7 +32,7 @@ module _ (j t : List Entry) (items : MayHaveItems j t) (given : ℕ → List Up)
 
   -- also beside a journal that went on by the bus alone
   pub none_taken_own : (k es : List Entry) → AreOwn es → k ≡ t ++ es → (up : ℕ → List Up) →
-      ((a : ℕ) → a < 8 → given a ≡ taken_of (part k (suc a)) ++ up a) → t ≡ j
+      ((a : ℕ) → a < 64 → given a ≡ taken_of (part k (suc a)) ++ up a) → t ≡ j
   none_taken_own k es own whole up after =
       none_taken up (λ a few. after a few ∙ ap (λ (l : List Up). l ++ up a)
       (ap (λ (l : List Entry). taken_of (part l (suc a))) whole ∙ own_taken t es (suc a) own))

@@ -1,4 +1,4 @@
--- What a read of the registers sees of the messages.
+-- What a read of the registers, or a wait for the interrupt line, sees of the messages.
 use Rattle.std.proofs.Common.{◌≡◌, ℕ, Bool, true, false, List, refl, sym, ap, ◌∙◌, subst}
 use Rattle.can_frame.specs.declared.seen.Seen.{Seen}
 use Rattle.sja_link.specs.declared.entry.Entry.{Entry}
@@ -7,7 +7,7 @@ use Rattle.sja_link.specs.Showing.{seen_of}
 use Rattle.sja_regs.specs.declared.registers.Registers.{Registers}
 use Rattle.sja_script.specs.declared.step.Step.{Step}
 use Rattle.sja_script.specs.declared.step.Step.TheVariants.{Start, Stop, Window, Release, Read}
-use Rattle.sja_script.specs.declared.step.Step.TheVariants.{Write, Load, Command, Await, Sent}
+use Rattle.sja_script.specs.declared.step.Step.TheVariants.{Write, Load, Command, Await, Sent, Interrupt}
 use Rattle.sja_script.specs.declared.step_answer.StepAnswer.{StepAnswer}
 use Rattle.sja_driver.specs.declared.any_driver.AnyDriver.{AnyDriver}
 use Rattle.sja_driver.specs.declared.any_driver.AnyDriver.TheVariants.{InReset, InActive}
@@ -25,17 +25,30 @@ abbrev pub seen_as : Bool → Bool → List (List ℕ) → Seen
 seen_as true off window = seen_of off window
 seen_as false off window = nothing_seen
 
--- a read is neither a release nor a stop
-pub no_release : (a : ℕ) → Read a ≡ Release → ⊥
-no_release a e = cc
+-- a step that is answered by what is seen of the messages: a read, and a wait for the interrupt line
+abbrev pub IsSeeing : Step → Type 0
+IsSeeing (Read address) = Unit {0}
+IsSeeing Interrupt = Unit {0}
+IsSeeing other = ⊥
 
-pub no_stop : (a : ℕ) → Read a ≡ Stop → ⊥
-no_stop a e = cc
+-- it leaves the driver out of reset, or in it
+stays_out : (one : Step) (a : StepAnswer) (b : Bool) → IsSeeing one → active_after b one a ≡ b
+stays_out (Read x) a b i = refl
+stays_out Interrupt a b i = refl
+stays_out Start a b i = absurd i
+stays_out Stop a b i = absurd i
+stays_out Window a b i = absurd i
+stays_out Release a b i = absurd i
+stays_out (Write x v) a b i = absurd i
+stays_out (Load m) a b i = absurd i
+stays_out (Command v) a b i = absurd i
+stays_out (Await n) a b i = absurd i
+stays_out Sent a b i = absurd i
 
--- a driver's read sees what the driver knows and holds then
-pub seen_by_now : (w now : AnyDriver) (one : Step) (a : StepAnswer) (x : ℕ) → one ≡ Read x →
+-- such a step of a driver sees what the driver knows and holds then
+pub seen_by_now : (w now : AnyDriver) (one : Step) (a : StepAnswer) → IsSeeing one →
     is_out now ≡ active_after (is_out w) one a → seen_by now ≡ seen_as (is_out w) (off_of now) (held_of now)
-seen_by_now w now one a x e out = by now (is_out w) (out ∙ ap (λ (s : Step). active_after (is_out w) s a) e)
+seen_by_now w now one a i out = by now (is_out w) (out ∙ stays_out one a (is_out w) i)
   where
     by : (n : AnyDriver) (b : Bool) → is_out n ≡ b → seen_by n ≡ seen_as b (off_of n) (held_of n)
     by (InReset d) false h = refl
@@ -43,11 +56,13 @@ seen_by_now w now one a x e out = by now (is_out w) (out ∙ ap (λ (s : Step). 
     by (InActive d) true h = refl
     by (InActive d) false h = absurd cc
 
--- only a read looks at them
+-- no other step looks at them
 pub tells_seen : (one : Step) (answer : StepAnswer) (b : Bool) (p : Registers) (seen other : Seen) →
-    ((a : ℕ) → one ≡ Read a → other ≡ seen) → Tells one b p seen answer → Tells one b p other answer
+    (IsSeeing one → other ≡ seen) → Tells one b p seen answer → Tells one b p other answer
 tells_seen (Read a) answer b p seen other same h = subst (λ (x : Seen). Tells (Read a) b p x answer)
-    (sym (same a refl)) h
+    (sym (same tt)) h
+tells_seen Interrupt answer b p seen other same h = subst (λ (x : Seen). Tells Interrupt b p x answer)
+    (sym (same tt)) h
 tells_seen (Write a v) answer b p seen other same h = h
 tells_seen (Load m) answer true p seen other same h = h
 tells_seen (Load m) answer false p seen other same h = tt
@@ -62,7 +77,7 @@ tells_seen Stop answer b p seen other same h = tt
 tells_seen Window answer b p seen other same h = tt
 tells_seen Release answer b p seen other same h = tt
 
--- what is shown of bus-off and of the messages is all that a read sees
+-- what is shown of bus-off and of the messages is all that such a step sees
 seen_same : (j : List Entry) (deeds : List Deed) (b off : Bool) (window : List (List ℕ)) → off ≡ b →
     IsShown j deeds off window → seen_now true j deeds ≡ seen_of off window
 seen_same j deeds true off window e s =
@@ -72,15 +87,16 @@ seen_same j deeds false off window e s =
     ap (λ (x : Bool). seen_of x (window_of j deeds (place_of j).bits)) s.off_is
     ∙ ap (λ (l : List (List ℕ)). seen_of off l) (s.window_is e)
 
-pub seen_shown : (j : List Entry) (deeds : List Deed) (one : Step) (a : ℕ) (off : Bool) (window : List (List ℕ)) →
-    one ≡ Read a → IfLooking one (IsShown j deeds off window) → seen_now true j deeds ≡ seen_of off window
-seen_shown j deeds (Read x) a off window e s = seen_same j deeds off off window refl s
-seen_shown j deeds Start a off window e s = absurd cc
-seen_shown j deeds Stop a off window e s = absurd cc
-seen_shown j deeds Window a off window e s = absurd cc
-seen_shown j deeds Release a off window e s = absurd cc
-seen_shown j deeds (Write x v) a off window e s = absurd cc
-seen_shown j deeds (Load m) a off window e s = absurd cc
-seen_shown j deeds (Command v) a off window e s = absurd cc
-seen_shown j deeds (Await n) a off window e s = absurd cc
-seen_shown j deeds Sent a off window e s = absurd cc
+pub seen_shown : (j : List Entry) (deeds : List Deed) (one : Step) (off : Bool) (window : List (List ℕ)) →
+    IsSeeing one → IfLooking one (IsShown j deeds off window) → seen_now true j deeds ≡ seen_of off window
+seen_shown j deeds (Read x) off window i s = seen_same j deeds off off window refl s
+seen_shown j deeds Interrupt off window i s = seen_same j deeds off off window refl s
+seen_shown j deeds Start off window i s = absurd i
+seen_shown j deeds Stop off window i s = absurd i
+seen_shown j deeds Window off window i s = absurd i
+seen_shown j deeds Release off window i s = absurd i
+seen_shown j deeds (Write x v) off window i s = absurd i
+seen_shown j deeds (Load m) off window i s = absurd i
+seen_shown j deeds (Command v) off window i s = absurd i
+seen_shown j deeds (Await n) off window i s = absurd i
+seen_shown j deeds Sent off window i s = absurd i

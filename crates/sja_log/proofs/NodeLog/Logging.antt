@@ -59,19 +59,20 @@ no_nodes logs drivers links = record { count_is = refl; each = λ k g d n less. 
 pub nodes_push : (logs : List NodeLog) (drivers : List LoggedDriver) (links : List (List Down)) (n : ℕ)
     (nodes : List NodeValue) (x : NodeValue) → AreNodeEnds logs drivers links n nodes →
     ((g : NodeLog) (d : LoggedDriver) → IsNodeEnd (slice_index_or logs n g) (slice_index_or drivers n d) links
-    (8 * n) x) → AreNodeEnds logs drivers links (n + 1) (nodes ++ x ∷ [])
+    (64 * n) x) → AreNodeEnds logs drivers links (n + 1) (nodes ++ x ∷ [])
 nodes_push logs drivers links n nodes x h is = record {
   count_is = let c = h.count_is in let e = length-append nodes (x ∷ []) in omega (arith, c, e);
   each = λ k g d y less. elim (cases_eq n k) [
     | inl e ↦
         let at : slice_index_or (nodes ++ x ∷ []) k y ≡ x = ap (λ m. slice_index_or (nodes ++ x ∷ []) m y) (sym
         (h.count_is ∙ e)) ∙ push_here nodes x y in
-        subst (λ (z : NodeValue). IsNodeEnd (slice_index_or logs k g) (slice_index_or drivers k d) links (8 * k) z)
+        subst (λ (z : NodeValue). IsNodeEnd (slice_index_or logs k g) (slice_index_or drivers k d) links (64 * k) z)
         (sym at)
-        (subst (λ (m : ℕ). IsNodeEnd (slice_index_or logs m g) (slice_index_or drivers m d) links (8 * m) x) e (is g d))
+        (subst (λ (m : ℕ). IsNodeEnd (slice_index_or logs m g) (slice_index_or drivers m d) links (64 * m) x) e (is g
+        d))
     | inr differ ↦
         let c = h.count_is in
-        subst (λ (z : NodeValue). IsNodeEnd (slice_index_or logs k g) (slice_index_or drivers k d) links (8 * k) z)
+        subst (λ (z : NodeValue). IsNodeEnd (slice_index_or logs k g) (slice_index_or drivers k d) links (64 * k) z)
         (sym (push_front nodes x y k (omega (arith, c, less, differ)))) (h.each k g d y (omega
         (arith, less, differ)))
   ];

@@ -26,9 +26,10 @@ pub journal_there : (nodes : List NodeValue) (k : ℕ) (d : NodeValue) → k < l
 journal_there nodes k d less = index_map (λ (n : NodeValue). n.journal) nodes k d [] less
 
 -- a node's activations have begun in its journal
-pub begun_by : (node : NodeValue) (deeds : List Deed) (steps : List _) → IsTrace steps node deeds →
+pub begun_by : (version : ℕ) (node : NodeValue) (deeds : List Deed) (steps : List _) →
+    IsTrace version steps node deeds →
     length node.activations ≤ (place_of node.journal).activation
-begun_by node deeds steps trace =
+begun_by version node deeds steps trace =
     let o = trace.opened in
     let b = opened_begun deeds node.journal trace.deeds_are.gives trace.given in omega (arith, o, b)
 
@@ -38,7 +39,7 @@ pub run_of : (plan : PlanValue) (log : RunValue) (deeds : List (List Deed)) → 
     IsBusRun plan.strikes log.bits (journals_in log) →
     ((k : ℕ) (d : NodeValue) → k < length log.nodes → let node = slice_index_or log.nodes k d in
     CountersAre node.journal node.txerr node.rxerr) →
-    ((k : ℕ) (d : NodeValue) → k < length log.nodes → IsTrace (slice_index_or plan.nodes k [])
+    ((k : ℕ) (d : NodeValue) → k < length log.nodes → IsTrace plan.version (slice_index_or plan.nodes k [])
     (slice_index_or log.nodes k d) (slice_index_or deeds k [])) →
     ((k : ℕ) (d : NodeValue) → k < length log.nodes → AreSettled (slice_index_or log.nodes k d)) →
     IsRun plan log deeds
@@ -47,7 +48,7 @@ run_of plan log deeds version count bus counters traces settled = record {
   count = count;
   nodes = λ k d less.
       let node = slice_index_or log.nodes k d in record {
-        account = account_of node (lawful k d less) (begun_by node (slice_index_or deeds k [])
+        account = account_of node (lawful k d less) (begun_by plan.version node (slice_index_or deeds k [])
             (slice_index_or plan.nodes k []) (traces k d less)) (settled k d less);
         counters = counters k d less;
         trace = traces k d less;

@@ -44,9 +44,9 @@ same_by d (x ∷ xs) (y ∷ ys) e h =
     ap₂ (λ a b. a ∷ b) (h 0 (omega arith))
     (same_by d xs ys (omega (arith, e)) (λ k less. h (suc k) (omega (arith, less))))
 
--- a driver opened at most eight activations, and at most one after those that ended
+-- a driver opened at most as many activations as its node has links, and at most one after those that ended
 pub opened_few : (node ended : ℕ) (d : AnyDriver) → IsDriverOf node ended d →
-    (opened_of d ≤ 8) × (opened_of d ≤ ended + 1)
+    (opened_of d ≤ 64) × (opened_of d ≤ ended + 1)
 opened_few node ended (InReset d) h = let a = h.1 in let b = h.2 in (omega (arith, a, b), omega (arith, a))
 opened_few node ended (InActive d) h =
     let a = ap (λ (l : LinkId). l.activation) h.0 in let b = h.1 in (omega (arith, a, b), omega (arith, a))
@@ -56,9 +56,10 @@ opened_few node ended (InActive d) h =
 module _ (j : List Entry) (deeds : List Deed) (driver : LoggedDriver) (left_down : List (List Down)) (base : ℕ)
     (log : NodeLog) (node : NodeValue) (end : IsNodeEnd log driver left_down base node) (same : node.journal ≡ j) where
   -- its trace, by its driver's, where all that was given was taken
-  pub trace_of : (steps : List Step) → AreDeeds steps deeds → Traces (driver_of driver) (log_of driver) deeds →
-      ((a : ℕ) → given_in (deeds_of deeds a) ≡ taken_of (part j a)) → IsTrace steps node deeds
-  trace_of steps are traces given = record {
+  pub trace_of : (version : ℕ) (steps : List Step) → AreDeeds version steps deeds →
+      Traces version (driver_of driver) (log_of driver) deeds →
+      ((a : ℕ) → given_in (deeds_of deeds a) ≡ taken_of (part j a)) → IsTrace version steps node deeds
+  trace_of version steps are traces given = record {
     deeds_are = are;
     done = traces.done ∙ sym end.done;
     opened = end.activations.count_is ∙ sym traces.opened;
@@ -71,7 +72,7 @@ module _ (j : List Entry) (deeds : List Deed) (driver : LoggedDriver) (left_down
   }
 
   -- its activations are settled, where what is told of each is
-  pub settled_of : IsLawful driver → ((a : ℕ) → a < 8 →
+  pub settled_of : IsLawful driver → ((a : ℕ) → a < 64 →
       IsSettled j (a + 1) (activation_after driver (slice_index_or left_down (base + a) []) a)) → AreSettled node
   settled_of lawful settled a d less =
       let few : a < opened_of (driver_of driver) = let c = end.activations.count_is in omega (arith, c, less) in
@@ -113,7 +114,7 @@ module _ (plan : PlanValue) (log : RunValue) (logs : List NodeLog) (journals : L
     pub some_driver : LoggedDriver
     some_driver = let c = h.drivers_count in let i = in_plan in any_of drivers (omega (arith, c, i))
 
-    pub node_end : IsNodeEnd (slice_index_or logs k some_log) (slice_index_or drivers k some_driver) left_down (8 * k)
+    pub node_end : IsNodeEnd (slice_index_or logs k some_log) (slice_index_or drivers k some_driver) left_down (64 * k)
         (slice_index_or log.nodes k n)
     node_end = let c = h.drivers_count in let i = in_plan in
         h.nodes.each k some_log some_driver n (omega (arith, c, i))
@@ -148,7 +149,7 @@ module _ (plan : PlanValue) (log : RunValue) (logs : List NodeLog) (journals : L
       script ≡ plan.strikes → log.bits ≡ run →
       IsBusRun script run (map (λ (g : NodeLog). g.journal.entries) logs) →
       ((k : ℕ) (n : NodeValue) → k < length log.nodes →
-      IsTrace (steps_at plan k) (slice_index_or log.nodes k n) (deeds_at deeds k)) →
+      IsTrace plan.version (steps_at plan k) (slice_index_or log.nodes k n) (deeds_at deeds k)) →
       ((k : ℕ) (n : NodeValue) → k < length log.nodes → AreSettled (slice_index_or log.nodes k n)) →
       IsRun plan log deeds
   run_of_ends deeds script run version strikes bits bus traces settled =

@@ -179,18 +179,19 @@ one_more active n d given after kind adds h = over kind
 given_of : List Deed → ℕ → List Up
 given_of deeds a = given_in (deeds_of deeds a)
 
-all_in_order : (before ds : List Deed) → EachAfter (λ b d. FitsState (is_active b) (opened_by b) d.step d.answer) before
-    ds → EachAfter (λ b d. Gives d.step d.answer d.gave) before ds →
+all_in_order : (version : ℕ) (before ds : List Deed) →
+    EachAfter (λ b d. FitsState version (is_active b) (opened_by b) d.step d.answer) before ds →
+    EachAfter (λ b d. Gives d.step d.answer d.gave) before ds →
     InOrder (is_active before) (opened_by before) (λ a. given_in (deeds_of before a)) →
     InOrder (is_active (before ++ ds)) (opened_by (before ++ ds)) (λ a. given_in (deeds_of (before ++ ds) a))
-all_in_order before [] fits gives h =
+all_in_order version before [] fits gives h =
     let P : List Deed → Type 0 = λ l. InOrder (is_active l) (opened_by l) (λ a. given_in (deeds_of l a)) in
     subst P (sym (append-nil before)) h
-all_in_order before (d ∷ ds) fits gives h =
+all_in_order version before (d ∷ ds) fits gives h =
     let P : List Deed → Type 0 = λ l. InOrder (is_active l) (opened_by l) (λ a. given_in (deeds_of l a)) in
     let next = one_more (is_active before) (opened_by before) d (λ a. given_in (deeds_of before a))
     (λ a. given_in (deeds_of (before ++ d ∷ []) a))
-    (kind_of (is_active before) (opened_by before) d.step d.answer d.gave fits.0 gives.0)
+    (kind_of version (is_active before) (opened_by before) d.step d.answer d.gave fits.0 gives.0)
     (λ a. given_push before d a) h in
     let n : opened_by before + opens_by d ≡ opened_by (before ++ d ∷ []) = sym (total_push opens_by before d) in
     let b : active_after (is_active before) d.step d.answer ≡ is_active (before ++ d ∷ []) =
@@ -199,7 +200,7 @@ all_in_order before (d ∷ ds) fits gives h =
     (λ a. given_in (deeds_of (before ++ d ∷ []) a))) b
     (subst (λ (m : ℕ). InOrder (active_after (is_active before) d.step d.answer) m
     (λ a. given_in (deeds_of (before ++ d ∷ []) a))) n next) in
-    subst P (append_assoc before (d ∷ []) ds) (all_in_order (before ++ d ∷ []) ds fits.1 gives.1 moved)
+    subst P (append_assoc before (d ∷ []) ds) (all_in_order version (before ++ d ∷ []) ds fits.1 gives.1 moved)
 
 begun : InOrder false 0 (λ a. [])
 begun = record {
@@ -210,11 +211,11 @@ begun = record {
 }
 
 -- what a driver gives comes in order
-pub gives_in_order : (deeds : List Deed) → EachAfter (λ b d. FitsState (is_active b) (opened_by b) d.step d.answer) []
-    deeds → EachAfter (λ b d. Gives d.step d.answer d.gave) [] deeds →
-    GivesInOrder (λ a. given_in (deeds_of deeds a))
-gives_in_order deeds fits gives = over (is_active deeds) (opened_by deeds) (λ a. given_in (deeds_of deeds a))
-    (all_in_order [] deeds fits gives begun)
+pub gives_in_order : (version : ℕ) (deeds : List Deed) →
+    EachAfter (λ b d. FitsState version (is_active b) (opened_by b) d.step d.answer) [] deeds →
+    EachAfter (λ b d. Gives d.step d.answer d.gave) [] deeds → GivesInOrder (λ a. given_in (deeds_of deeds a))
+gives_in_order version deeds fits gives = over (is_active deeds) (opened_by deeds) (λ a. given_in (deeds_of deeds a))
+    (all_in_order version [] deeds fits gives begun)
   where
     now_last : (active : Bool) (n : ℕ) (l : List Up) → IsNow active n l → StopsLast l
     now_last true n l h = no_stop_last l h.1
@@ -243,11 +244,11 @@ gives_in_order deeds fits gives = over (is_active deeds) (opened_by deeds) (λ a
 -- ---- before a bit nothing waits
 
 -- where each activation's items come in time, and the link that the bus reads shows nothing, no link of the node does
-pub nothing_left_waiting : (deeds : List Deed) (j : List Entry) (ended : ℕ) (up : ℕ → List Up) →
-    EachAfter (λ b d. FitsState (is_active b) (opened_by b) d.step d.answer) [] deeds →
+pub nothing_left_waiting : (version : ℕ) (deeds : List Deed) (j : List Entry) (ended : ℕ) (up : ℕ → List Up) →
+    EachAfter (λ b d. FitsState version (is_active b) (opened_by b) d.step d.answer) [] deeds →
     EachAfter (λ b d. Gives d.step d.answer d.gave) [] deeds →
     ((a : ℕ) → WaitsInTime (given_when deeds a) j a (up a)) → TakesInOrder j ended → up (suc ended) ≡ [] →
     (a : ℕ) → 1 ≤ a → up a ≡ []
-nothing_left_waiting deeds j ended up fits gives timely takes dry =
+nothing_left_waiting version deeds j ended up fits gives timely takes dry =
     nothing_waits (λ a. given_in (deeds_of deeds a)) up j ended (λ a some. given_lies deeds j a (up a) (timely a))
-    (gives_in_order deeds fits gives) takes dry
+    (gives_in_order version deeds fits gives) takes dry

@@ -15,7 +15,7 @@ use Rattle.lemmas.proofs.Gathered.{gathered_append}
 use Rattle.sja_link.proofs.JournalEntries.Entering.{of_part_later}
 use Rattle.sja_script.specs.declared.step.Step.{Step}
 use Rattle.sja_script.specs.declared.step.Step.TheVariants.{Start, Stop, Window, Release, Read, Write, Load, Command}
-use Rattle.sja_script.specs.declared.step.Step.TheVariants.{Await, Sent}
+use Rattle.sja_script.specs.declared.step.Step.TheVariants.{Await, Sent, Interrupt}
 use Rattle.sja_script.specs.declared.step_answer.StepAnswer.{StepAnswer}
 use Rattle.sja_script.specs.declared.step_answer.StepAnswer.TheVariants.{Done as DoneAnswer, NoMessage, Shown, Released}
 use Rattle.sja_script.specs.declared.step_answer.StepAnswer.TheVariants.{Value, Refused}
@@ -158,6 +158,7 @@ opening (Load m) r gave h = inl refl
 opening (Command v) r gave h = inl refl
 opening (Await n) r gave h = inl refl
 opening Sent r gave h = inl refl
+opening Interrupt r gave h = inl refl
 
 front_none : {A : Type 0} (a b : List A) → a ++ b ≡ [] → a ≡ []
 front_none [] b e = refl

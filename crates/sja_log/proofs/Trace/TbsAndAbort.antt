@@ -17,14 +17,15 @@ each_front P before (y ∷ xs) x h =
     ((h.0, rest.0), subst (λ l. P l x) (append_assoc before (y ∷ []) xs) rest.1)
 
 pub tbs_right : (version : ℕ) (j : List Entry) (deeds : List Deed) (p : Registers) → LeadTo version j deeds p →
-    EachAfter (λ before (d : Deed). FitsState (is_active before) (opened_by before) d.step d.answer) [] deeds →
+    EachAfter (λ before (d : Deed). FitsState version (is_active before) (opened_by before) d.step d.answer) [] deeds →
     TbsIsRight p
 tbs_right version j deeds p power_on fits = record { in_reset = λ e. refl; in_abort = λ e. absurd cc }
 tbs_right version k deeds q (step j _ before d p _ lead now tells gave whole left) fits =
-    let each = each_front (λ b (x : Deed). FitsState (is_active b) (opened_by b) x.step x.answer) [] before d fits in
+    let each = each_front (λ b (x : Deed). FitsState version (is_active b) (opened_by b) x.step x.answer) [] before d
+    fits in
     subst (λ (r : Registers). TbsIsRight r) (sym left)
-    (tbs_after_step p (opened_by before) d.step d.answer (is_active before) (seen_now (is_active before) j before)
-    each.1 tells (tbs_right version j before p lead each.0))
+    (tbs_after_step version p (opened_by before) d.step d.answer (is_active before)
+    (seen_now (is_active before) j before) each.1 tells (tbs_right version j before p lead each.0))
 tbs_right version k deeds q (bit j _ _ p _ lead is) fits =
     subst (λ (r : Registers). TbsIsRight r) (sym is.told)
     (tbs_after_turn p is.turn (tbs_right version j deeds p lead fits))

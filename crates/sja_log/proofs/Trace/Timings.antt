@@ -120,7 +120,7 @@ nothing_waits given up j ended lies gives takes dry a some = elim (cases_lt ende
       none_both h.rest (up a) (gives.last a h.before (h.rest ++ up a) whole)
 ]
 
--- where all eight have ended no link is read
+-- where all have ended no link is read
 pub nothing_left : (given up : ℕ → List Up) (j : List Entry) (ended : ℕ) →
     ((a : ℕ) → 1 ≤ a → given a ≡ taken_of (part j a) ++ up a) → GivesInOrder given → TakesInOrder j ended →
     (a : ℕ) → 1 ≤ a → a ≤ ended → up a ≡ []

@@ -2,6 +2,7 @@
 use Rattle.std.proofs.Common.{◌≡◌, ℕ, zero, suc, ◌+◌, ◌*◌, ◌<◌, ◌≤◌, List, [], ◌∷◌, ◌++◌, length, refl, sym}
 use Rattle.std.proofs.Common.{ap, ◌∙◌, subst, arith, inl, inr}
 use Rattle.std.specs.Prelude.{not, replicate, slice_index_or}
+use Rattle.std.proofs.lemmas.List.{get_or-map}
 use Rattle.std.proofs.lemmas.Bool.{cases_eq}
 use Rattle.sja_link.specs.Accounts.{account}
 use Rattle.sja_link.specs.Deques.{Deques, Lies}
@@ -24,7 +25,7 @@ use Rattle.sja_serial.specs.Beginning.{IsNewDriver, AreNew}
 use Rattle.sja_serial.specs.Nodes.{IsNode}
 use Rattle.sja_serial.specs.Serial.{run_now, StandsAt}
 use Rattle.sja_driver.specs.Deeds.{deeds_at}
-use Rattle.sja_plan.specs.Plan.{steps_at}
+use Rattle.sja_plan.specs.Plan.{steps_at, step_counts}
 use Rattle.sja_serial.specs.Shown.{ShowsRecord}
 use Rattle.lemmas.proofs.Pushed.{push_here, push_front}
 use Rattle.sja_driver.proofs.Step.NothingDone.{nothing_known, nothing_told}
@@ -57,12 +58,12 @@ room_less k n log less h =
 
 pub new_node : (version node : ℕ) (steps : List Step) (x : LoggedDriver) (links : List Deques) (base : ℕ) →
     IsNewDriver node (length steps) x →
-    ((a : ℕ) (d : Deques) → a < 8 → slice_index_or links (base + a) d ≡ new_link node (suc a)) →
+    ((a : ℕ) (d : Deques) → a < 64 → slice_index_or links (base + a) d ≡ new_link node (suc a)) →
     IsNode version steps [] [] x (at_power_on version) links base
 new_node version node steps x links base new fresh = record {
   traced = record {
     lawful = new.lawful;
-    traces = new.traces;
+    traces = new.traces version;
     within = omega arith;
     first = refl;
     room =
@@ -83,6 +84,7 @@ new_node version node steps x links base new fresh = record {
     level = record { begun = refl; ended = refl; asked = refl };
   };
   ported = record {
+    version_is = refl;
     set = record {
       version = refl;
       lom = refl;
@@ -123,12 +125,14 @@ length_all (suc n) x = ap suc (length_all n x)
 
 -- a run to which nothing happened stands where no driver did anything
 pub stands_new : (plan : PlanValue) (bus : BusValue) (drivers : List LoggedDriver) (ports : List Registers)
-    (links : List Deques) (nodes bits : ℕ) (script : List Strike) → nodes ≡ length plan.nodes → script ≡ plan.strikes →
-    bits ≡ plan.bits → bus ≡ new_bus script bits nodes →
+    (links : List Deques) (nodes bits : ℕ) (steps : List ℕ) (script : List Strike) → nodes ≡ length plan.nodes → script
+    ≡ plan.strikes →
+    bits ≡ plan.bits → bus ≡ new_bus script bits nodes steps → steps ≡ step_counts plan →
     length drivers ≡ length plan.nodes → AreNew plan (length plan.nodes) drivers →
     ports ≡ replicate nodes (at_power_on plan.version) → AreNewLinks nodes links →
     StandsAt plan (run_now bus drivers ports links 0) (replicate (length plan.nodes) [])
-stands_new plan bus drivers ports links nodes bits script count script_is bits_is bus_is driver_count made ports_are
+stands_new plan bus drivers ports links nodes bits steps script count script_is bits_is bus_is steps_are driver_count
+    made ports_are
     fresh = record {
       right = ap (λ (b : BusValue). b.fault) bus_is;
       script = ap (λ (b : BusValue). b.script) bus_is ∙ script_is;
@@ -139,16 +143,20 @@ stands_new plan bus drivers ports links nodes bits script count script_is bits_i
         journals = ap (λ (b : BusValue). length b.journals) bus_is ∙ length_all nodes [] ∙ count;
         drivers = driver_count;
         ports = ap (λ l. length l) ports_are ∙ length_all nodes (at_power_on plan.version) ∙ count;
-        links = fresh.count ∙ ap (λ n. 8 * n) count;
+        links = fresh.count ∙ ap (λ n. 64 * n) count;
       };
       deeds_count = length_all (length plan.nodes) [];
+      room = λ m less.
+          let e : slice_index_or bus.steps m 0 ≡ length (steps_at plan m) =
+          ap (λ (b : BusValue). slice_index_or b.steps m 0) bus_is ∙ ap (λ (l : List ℕ). slice_index_or l m 0) steps_are
+          ∙ get_or-map (λ (l : List Step). length l) plan.nodes m [] 0 less in omega (arith, e);
       ids = λ node a d few less. ap (λ (s : Deques). s.link) (fresh.each node a d (let c =
           fresh.count in omega (arith, c, few, less)) few);
       own = λ node d less. (made node d less).own;
       nodes = λ node d p less.
           let few : node < nodes = omega (arith, less, count) in
           let x = slice_index_or drivers node d in
-          let is = new_node plan.version node (steps_at plan node) x links (8 * node) (made node d less) (λ a e small.
+          let is = new_node plan.version node (steps_at plan node) x links (64 * node) (made node d less) (λ a e small.
           fresh.each node a e few small) in
           let journal : journal_at bus.journals node ≡ [] = ap (λ (b : BusValue). journal_at b.journals node) bus_is
           ∙ index_all nodes [] [] node few in
@@ -159,11 +167,11 @@ stands_new plan bus drivers ports links nodes bits script count script_is bits_i
           less in
           subst (λ (j : List Entry). IsNode plan.version (steps_at plan node) j
           (deeds_at (replicate (length plan.nodes) [])
-          node) x (slice_index_or ports node p) links (8 * node)) (sym journal)
+          node) x (slice_index_or ports node p) links (64 * node)) (sym journal)
           (subst (λ (ds : List Deed). IsNode plan.version (steps_at plan node) [] ds x
           (slice_index_or ports node p) links
-          (8 * node)) (sym deeds)
-          (subst (λ (r : Registers). IsNode plan.version (steps_at plan node) [] [] x r links (8 * node))
+          (64 * node)) (sym deeds)
+          (subst (λ (r : Registers). IsNode plan.version (steps_at plan node) [] [] x r links (64 * node))
           (sym port) is));
       shown = λ node p less told.
           let few : node < nodes = omega (arith, less, count) in

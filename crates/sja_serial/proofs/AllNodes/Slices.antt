@@ -14,11 +14,11 @@ use Rattle.sja_driver.specs.LoggedDrivers.{driver_of, log_of}
 use Rattle.sja_serial.specs.Serial.{with_deeds}
 use Rattle.sja_driver.specs.Deeds.{deeds_at}
 
-min_less : (n : ℕ) → min n 7 < 8
+min_less : (n : ℕ) → min n 63 < 64
 min_less n = grind arith
 
 -- places of two nodes' links differ
-pub apart : (m node a ended : ℕ) → (m ≡ node → ⊥) → a < 8 → 8 * m + a ≡ place_after (8 * node) ended → ⊥
+pub apart : (m node a ended : ℕ) → (m ≡ node → ⊥) → a < 64 → 64 * m + a ≡ place_after (64 * node) ended → ⊥
 apart m node a ended differ few e = let l = min_less ended in omega (arith, differ, few, e, l)
 
 -- what holds of three lists place by place, where one place of each is set anew
@@ -44,9 +44,9 @@ no_deeds deeds node = ap (slice_set deeds node) (append-nil (deeds_at deeds node
 -- what another node's links hold, of which none was changed
 pub each_other : (deeds : List Deed) (w : LoggedDriver) (j : List Entry) (links given : List Deques)
     (m node ended : ℕ) →
-    (m ≡ node → ⊥) → HoldsBy Lies deeds (driver_of w) (log_of w) j links (8 * m) →
-    ((i : ℕ) (d : Deques) → i ≢ place_after (8 * node) ended → slice_index_or given i d ≡ slice_index_or links i d) →
-    HoldsBy Lies deeds (driver_of w) (log_of w) j given (8 * m)
+    (m ≡ node → ⊥) → HoldsBy Lies deeds (driver_of w) (log_of w) j links (64 * m) →
+    ((i : ℕ) (d : Deques) → i ≢ place_after (64 * node) ended → slice_index_or given i d ≡ slice_index_or links i d) →
+    HoldsBy Lies deeds (driver_of w) (log_of w) j given (64 * m)
 each_other deeds w j links given m node ended differ l others = record {
   got = l.got;
   kept = λ a e few. subst (λ (s : Deques). Lies s (account j (suc a) (record {
@@ -54,7 +54,7 @@ each_other deeds w j links given m node ended differ l others = record {
     given =
         given_in (deeds_of deeds (suc a));
   })))
-      (sym (others (8 * m + a) e (apart m node a ended differ few))) (l.kept a e few);
+      (sym (others (64 * m + a) e (apart m node a ended differ few))) (l.kept a e few);
   told = l.told;
   off_is = l.off_is;
   later = l.later;

@@ -29,7 +29,7 @@ use Rattle.sja_serial.proofs.ManyBits.StillBits.{with_none, keeps_still, run_at,
 
 module _ (plan : PlanValue) (r n : SerialValue) (deeds : List (List Deed)) (h : StandsAt plan r deeds)
     (right : n.bus.fault ≡ None) (script : n.bus.script ≡ r.bus.script)
-    (journals : length n.bus.journals ≡ length r.bus.journals)
+    (room : n.bus.steps ≡ r.bus.steps) (journals : length n.bus.journals ≡ length r.bus.journals)
     (drivers : n.drivers ≡ r.drivers) (ports : n.ports ≡ r.ports)
     (sames : EachRelated (λ (a b : Deques). b.link ≡ a.link) r.links n.links)
     (kept : KeepsAll Lies r.bus.journals n.bus.journals r.links n.links)
@@ -44,7 +44,7 @@ module _ (plan : PlanValue) (r n : SerialValue) (deeds : List (List Deed)) (h : 
       let acc : ℕ → Account = λ a. record { got = node.linked.holds.got a; given = given_in (deeds_of ds (suc a)) } in
       none_taken j (journal_at n.bus.journals m) (items m few) (λ a. given_in (deeds_of ds (suc a)))
       (λ a small. given_taken ds j (suc a) (node.in_time.when (suc a)))
-      (λ a. (slice_index_or n.links (8 * m + a) no_link).up)
+      (λ a. (slice_index_or n.links (64 * m + a) no_link).up)
       (λ a small. (kept m acc few node.linked.holds.kept a no_link small).1))
 
   -- the links stand for the journals as they were
@@ -70,8 +70,8 @@ module _ (plan : PlanValue) (r n : SerialValue) (deeds : List (List Deed)) (h : 
             (kept_back 0 (same ∙ sym (with_none r.bus.journals))) n (λ m less e.
             let c = h.count.journals in let few : m < length r.bus.journals = omega (arith, c, less) in
             (none_untold (untold_at r.bus.untold m) (untold_at n.bus.untold m) (journal_at r.bus.journals m)
-            (journal_at n.bus.journals m) (items refl m few) (untold refl m few) e).0) right script (omega (arith, run))
-            (omega (arith, left)) (omega (arith, bits)) same drivers ports refl;
+            (journal_at n.bus.journals m) (items refl m few) (untold refl m few) e).0) right script room
+            (omega (arith, run)) (omega (arith, left)) (omega (arith, bits)) same drivers ports refl;
         none = λ zero. (omega (arith, bits), same);
         some = λ ne. absurd (ne refl);
       }
@@ -82,6 +82,7 @@ module _ (plan : PlanValue) (r n : SerialValue) (deeds : List (List Deed)) (h : 
       (omega (arith, left)) was s n.bus.untold k refl in
       let is : run_at r n.links n.bus.untold (suc k) ≡ n = λ i. run_now (record {
         script = sym script i;
+        steps = sym room i;
         run = sym run i;
         left = less i;
         fault = (h.right ∙ sym right) i;

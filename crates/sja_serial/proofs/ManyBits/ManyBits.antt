@@ -65,8 +65,8 @@ module _ (plan : PlanValue) (deeds : List (List Deed)) (drivers : List LoggedDri
   one_bit : (was now : SerialMoment) → IsThere was → OneBit ends ports was now →
       TakesBit plan deeds (run_then drivers was) (run_then drivers now)
   one_bit was now t b =
-      takes_bit plan (run_then drivers was) (run_then drivers now) deeds t.stands b.right b.keeps.script b.run b.left
-      b.keeps.nodes refl b.run b.keeps.others.0 b.kept b.keeps.sames b.bit (cuts_of t.lawful)
+      takes_bit plan (run_then drivers was) (run_then drivers now) deeds t.stands b.right b.keeps.script
+      b.keeps.steps b.run b.left b.keeps.nodes refl b.run b.keeps.others.0 b.kept b.keeps.sames b.bit (cuts_of t.lawful)
 
   module _ (Before : SerialMoment → Type 0) where
     there_still : (was now : SerialMoment) (n : ℕ) → AreBits NthBit Before was n now → IsThere was → IsThere now

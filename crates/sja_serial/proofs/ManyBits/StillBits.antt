@@ -62,6 +62,7 @@ keeps_still n k journals links m h few kept a d near =
 abbrev pub run_at : SerialValue → List Deques → List Bool → ℕ → SerialValue
 run_at r links untold i = run_now (record {
   script = r.bus.script;
+  steps = r.bus.steps;
   run = r.bus.run + i;
   left = r.bus.left - i;
   fault = r.bus.fault;
@@ -89,15 +90,15 @@ module _ (plan : PlanValue) (r : SerialValue) (deeds : List (List Deed)) (h : St
     ds = deeds_at deeds m
 
     was : IsNode plan.version (steps_at plan m) j ds (slice_index_or r.drivers m d)
-        (slice_index_or r.ports m p) r.links (8 * m)
+        (slice_index_or r.ports m p) r.links (64 * m)
     was = h.nodes m d p less
 
-    lies : (a : ℕ) (s : Deques) → a < 8 → Lies (slice_index_or links (8 * m + a) s)
+    lies : (a : ℕ) (s : Deques) → a < 64 → Lies (slice_index_or links (64 * m + a) s)
         (account j (suc a) (record { got = was.linked.holds.got a; given = given_in (deeds_of ds (suc a)) }))
     lies = kept m (λ a. record { got = was.linked.holds.got a; given = given_in (deeds_of ds (suc a)) })
         (let c = h.count.journals in omega (arith, c, less)) was.linked.holds.kept
 
-    linked_still : IsLinked j ds (slice_index_or r.drivers m d) links (8 * m)
+    linked_still : IsLinked j ds (slice_index_or r.drivers m d) links (64 * m)
     linked_still =
         let holds = was.linked.holds in record {
           holds = record {
@@ -107,13 +108,13 @@ module _ (plan : PlanValue) (r : SerialValue) (deeds : List (List Deed)) (h : St
             off_is = holds.off_is;
             later = holds.later;
           };
-          taken = λ a s few. none_more (taken_of (part j (suc a))) (slice_index_or links (8 * m + a) s).up
+          taken = λ a s few. none_more (taken_of (part j (suc a))) (slice_index_or links (64 * m + a) s).up
               (sym (given_taken ds j (suc a) (was.in_time.when (suc a))) ∙ (lies a s few).1);
           level = was.linked.level;
         }
 
     node_still : IsNode plan.version (steps_at plan m) j ds (slice_index_or r.drivers m d)
-        (slice_index_or r.ports m p) links (8 * m)
+        (slice_index_or r.ports m p) links (64 * m)
     node_still = record {
       traced = was.traced;
       linked = linked_still;
@@ -127,11 +128,12 @@ module _ (plan : PlanValue) (r : SerialValue) (deeds : List (List Deed)) (h : St
 
   -- it stands where it stood, where nothing more is told
   pub stands_still : (n : SerialValue) → ((m : ℕ) → m < length plan.nodes → untold_at n.bus.untold m ≡ false →
-      untold_at r.bus.untold m ≡ false) → n.bus.fault ≡ None → n.bus.script ≡ r.bus.script → n.bus.run ≡ r.bus.run →
-      n.bus.left ≡ r.bus.left → n.bits ≡ r.bits → n.bus.journals ≡ r.bus.journals → n.drivers ≡ r.drivers →
+      untold_at r.bus.untold m ≡ false) → n.bus.fault ≡ None → n.bus.script ≡ r.bus.script → n.bus.steps ≡ r.bus.steps →
+      n.bus.run ≡ r.bus.run → n.bus.left ≡ r.bus.left → n.bits ≡ r.bits → n.bus.journals ≡ r.bus.journals → n.drivers ≡
+      r.drivers →
       n.ports ≡ r.ports → n.links ≡ links →
       StandsAt plan n deeds
-  stands_still n told right script run left bits journals drivers ports links_are = record {
+  stands_still n told right script room run left bits journals drivers ports links_are = record {
     right = right;
     script = script ∙ h.script;
     all_bits = let a = h.all_bits in omega (arith, a, run, left);
@@ -143,6 +145,7 @@ module _ (plan : PlanValue) (r : SerialValue) (deeds : List (List Deed)) (h : St
       links = ap (λ l. length l) links_are ∙ many ∙ h.count.links;
     };
     deeds_count = h.deeds_count;
+    room = λ m less. subst (λ (l : List ℕ). length (steps_at plan m) ≤ slice_index_or l m 0) (sym room) (h.room m less);
     ids = λ m a d few less.
         ap (λ (l : List Deques). (slice_index_or l (per_node * m + a) d).link) links_are
         ∙ each_at (λ (x y : Deques). y.link ≡ x.link) (λ (s : Deques). s.link) (λ x y e. e) r.links links
@@ -152,13 +155,13 @@ module _ (plan : PlanValue) (r : SerialValue) (deeds : List (List Deed)) (h : St
         (h.own m d less);
     nodes = λ m d p less.
         subst (λ (l : List Deques). IsNode plan.version (steps_at plan m) (journal_at n.bus.journals m)
-        (deeds_at deeds m) (slice_index_or n.drivers m d) (slice_index_or n.ports m p) l (8 * m)) (sym links_are)
+        (deeds_at deeds m) (slice_index_or n.drivers m d) (slice_index_or n.ports m p) l (64 * m)) (sym links_are)
         (subst (λ (l : List Registers). IsNode plan.version (steps_at plan m) (journal_at n.bus.journals m)
-        (deeds_at deeds m) (slice_index_or n.drivers m d) (slice_index_or l m p) links (8 * m)) (sym ports)
+        (deeds_at deeds m) (slice_index_or n.drivers m d) (slice_index_or l m p) links (64 * m)) (sym ports)
         (subst (λ (l : List LoggedDriver). IsNode plan.version (steps_at plan m) (journal_at n.bus.journals m)
-        (deeds_at deeds m) (slice_index_or l m d) (slice_index_or r.ports m p) links (8 * m)) (sym drivers)
+        (deeds_at deeds m) (slice_index_or l m d) (slice_index_or r.ports m p) links (64 * m)) (sym drivers)
         (subst (λ (l : List (List Entry)). IsNode plan.version (steps_at plan m) (journal_at l m) (deeds_at deeds m)
-        (slice_index_or r.drivers m d) (slice_index_or r.ports m p) links (8 * m)) (sym journals)
+        (slice_index_or r.drivers m d) (slice_index_or r.ports m p) links (64 * m)) (sym journals)
         (node_still m d p less))));
     shown = λ m p less none.
         subst (λ (l : List Registers). ShowsRecord (journal_at n.bus.journals m) (slice_index_or l m p)) (sym ports)
@@ -190,7 +193,7 @@ module _ (plan : PlanValue) (r : SerialValue) (deeds : List (List Deed)) (h : St
         record { found = says.found; cut = says.cut }
 
     first : StandsAt plan (at r.bus.untold 0) deeds
-    first = stands_still (at r.bus.untold 0) (λ m less e. e) h.right refl (omega arith) (omega arith) (omega arith)
+    first = stands_still (at r.bus.untold 0) (λ m less e. e) h.right refl refl (omega arith) (omega arith) (omega arith)
         (with_none r.bus.journals) refl refl refl
 
     takes : (untold : List Bool) (i : ℕ) → i < count → StandsAt plan (at r.bus.untold i) deeds →
@@ -198,7 +201,7 @@ module _ (plan : PlanValue) (r : SerialValue) (deeds : List (List Deed)) (h : St
     takes untold i early stood =
         let a = length-map r.bus.journals (λ j. j ++ recessive_bits i) in
         let b = length-map r.bus.journals (λ j. j ++ recessive_bits (suc i)) in
-        takes_bit plan (at r.bus.untold i) (at untold (suc i)) deeds stood h.right refl (omega arith)
+        takes_bit plan (at r.bus.untold i) (at untold (suc i)) deeds stood h.right refl refl (omega arith)
         (omega (arith, early, most)) (omega (arith, a, b)) refl (omega arith) refl
         (λ m acc few kept. keeps_still i (suc i) r.bus.journals links m acc (inside i m few) kept)
         (each_refl (λ (x y : Deques). y.link ≡ x.link) (λ x. refl) links) (stretch.bits i early)

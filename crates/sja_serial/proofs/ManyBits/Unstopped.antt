@@ -4,7 +4,6 @@ use Rattle.std.proofs.Common.{ap, ◌∙◌, append_assoc, inl, inr, arith}
 use Rattle.std.specs.Prelude.{◌⊎◌, slice_index_or}
 use Rattle.std.proofs.lemmas.List.{length-append, length-replicate}
 use Rattle.can_bits.specs.declared.level.Level.TheVariants.{Recessive}
-use Rattle.std.proofs.lemmas.List.Elements.{All-get_or}
 use Rattle.sja_link.specs.NodeWords.{received}
 use Rattle.sja_link.specs.declared.up.Up.{Up}
 use Rattle.sja_link.specs.declared.entry.Entry.{Entry}
@@ -31,7 +30,6 @@ use Rattle.sja_bus.specs.Stretches.{recessive_bits, IsFullInStretch}
 use Rattle.sja_wire.specs.Wire.{journal_at}
 use Rattle.sja_plan.specs.Plan.{PlanValue, IsInLimits}
 use Rattle.sja_driver.specs.declared.logged_driver.LoggedDriver.{LoggedDriver}
-use Rattle.sja_script.specs.declared.step.Step.{Step}
 use Rattle.sja_driver.specs.Deeds.{Deed, given_in, deeds_of}
 use Rattle.sja_driver.specs.AnyDrivers.{held_of}
 use Rattle.sja_driver.specs.LoggedDrivers.{node_of, driver_of, log_of, ended_of}
@@ -57,9 +55,6 @@ abort_own false = tt
 module _ (plan : PlanValue) (r : SerialValue) (deeds : List (List Deed)) (h : StandsAt plan r deeds)
     (left : r.bits < plan.bits)
     (was : IsBusRun r.bus.script r.bus.run r.bus.journals) (limits : IsInLimits plan) where
-  all_bits : room_for (r.bus.run + r.bus.left) ≡ room_for plan.bits
-  all_bits = ap room_for h.all_bits
-
   module _ (m : ℕ) (few : m < length r.bus.journals) where
     less : m < length plan.nodes
     less = let c = h.count.journals in omega (arith, c, few)
@@ -68,43 +63,42 @@ module _ (plan : PlanValue) (r : SerialValue) (deeds : List (List Deed)) (h : St
     driver = some_of r.drivers m (let c = h.count.drivers in let l = less in omega (arith, c, l))
 
     node : IsNode plan.version (steps_at plan m) (journal_at r.bus.journals m) (deeds_at deeds m)
-        (slice_index_or r.drivers m driver) (slice_index_or r.ports m (at_power_on plan.version)) r.links (8 * m)
+        (slice_index_or r.drivers m driver) (slice_index_or r.ports m (at_power_on plan.version)) r.links (64 * m)
     node = h.nodes m driver (at_power_on plan.version) less
 
     abbrev acc : ℕ → Account
     acc a = record { got = node.linked.holds.got a; given = given_in (deeds_of (deeds_at deeds m) (suc a)) }
 
-    kept_before : Kept Lies (journal_at r.bus.journals m) r.links (8 * m) acc
+    kept_before : Kept Lies (journal_at r.bus.journals m) r.links (64 * m) acc
     kept_before = node.linked.holds.kept
 
     abbrev given : ℕ → List Up
     given a = given_in (deeds_of (deeds_at deeds m) (suc a))
 
-    before : (a : ℕ) → a < 8 → given a ≡ taken_of (part (journal_at r.bus.journals m) (suc a))
+    before : (a : ℕ) → a < 64 → given a ≡ taken_of (part (journal_at r.bus.journals m) (suc a))
     before a small = given_taken (deeds_at deeds m) (journal_at r.bus.journals m) (suc a) (node.in_time.when (suc a))
 
-    entries : length (journal_at r.bus.journals m) + 3 ≤ 2 * r.bus.run + 2100
+    entries : length (journal_at r.bus.journals m) + 3 ≤ 2 * r.bus.run + 2 * length (steps_at plan m) + 100
     entries =
         let j = journal_at r.bus.journals m in let ds = deeds_at deeds m in
-        let steps : length (steps_at plan m) ≤ 1000 = All-get_or
-        (λ (steps : List Step). length steps ≤ 1000) plan.nodes m [] less limits.steps in
         let within = node.traced.within in
         let opened = opened_most ds (driver_of (slice_index_or r.drivers m driver))
         (log_of (slice_index_or r.drivers m driver)) (node_of (slice_index_or r.drivers m driver))
         (ended_of (slice_index_or r.drivers m driver)) node.traced.traces node.traced.lawful in
         let begun = node.linked.level.begun in
         let bits : (place_of j).bits ≡ r.bus.run = bits_counted j ∙ was.wired.count m few in
-        has_room j ds (slice_index_or r.ports m (at_power_on plan.version)) r.bus.run node.counted
-        (was.lawful m few) node.traced.traces.answered.gives (omega (arith, within, steps))
+        has_room j ds (slice_index_or r.ports m (at_power_on plan.version)) r.bus.run
+        (length (steps_at plan m)) node.counted (was.lawful m few) node.traced.traces.answered.gives within
         (omega (arith, opened, begun)) (omega (arith, bits))
 
     -- there is room for an abort, the bit, a verdict and bus-off
-    room : length (journal_at r.bus.journals m) + 4 ≤ room_for plan.bits
-    room = let has = entries in let a = h.all_bits in let b = h.bits in omega (arith, has, a, b, left)
+    room : length (journal_at r.bus.journals m) + 4 ≤ room_for (r.bus.run + r.bus.left) r.bus.steps m
+    room = let has = entries in let a = h.all_bits in let b = h.bits in let steps = h.room m less in
+        omega (arith, has, a, b, steps, left)
 
     -- an item that was refused would wait
     nothing_shown : (t : List Entry) (items : MayHaveItems (journal_at r.bus.journals m) t) (item : Up) (up : List Up) →
-        stops_of t < 8 →
+        stops_of t < 64 →
         given (stops_of t) ≡ (taken_of (part t (suc (stops_of t))) ++ item ∷ []) ++ up → ⊥
     nothing_shown t items item up small shown =
         some_none item up (none_back (adds (journal_at r.bus.journals m) items.items (suc (stops_of t))) (item ∷ up)
@@ -112,8 +106,8 @@ module _ (plan : PlanValue) (r : SerialValue) (deeds : List (List Deed)) (h : St
         (shown ∙ append_assoc (taken_of (part t (suc (stops_of t)))) (item ∷ []) up)))
 
     -- no link is full: no bus-off lies there, and fewer than 22 messages fit in 64 bytes
-    not_stuck : (opened j : List Entry) (between : List Deques) → Kept Lies opened between (8 * m) acc →
-        GivesBack Lies (λ (s : Deques). length s.down ≡ 22) opened j between (8 * m) → ⊥
+    not_stuck : (opened j : List Entry) (between : List Deques) → Kept Lies opened between (64 * m) acc →
+        GivesBack Lies (λ (s : Deques). length s.down ≡ 22) opened j between (64 * m) → ⊥
     not_stuck opened j between kept b =
         let ds = deeds_at deeds m in let d = slice_index_or r.drivers m driver in
         let lies : Lies b.end (account j (suc b.place) (acc b.place)) = b.stood acc kept in
@@ -127,35 +121,36 @@ module _ (plan : PlanValue) (r : SerialValue) (deeds : List (List Deed)) (h : St
 
     -- no entry is refused
     not_full : (t : List Entry) → length t ≤ length (journal_at r.bus.journals m) + 3 →
-        room_for (r.bus.run + r.bus.left) ≤ length t → ⊥
-    not_full t short full = let x = room in let e = all_bits in omega (arith, x, e, short, full)
+        room_for (r.bus.run + r.bus.left) r.bus.steps m ≤ length t → ⊥
+    not_full t short full = let x = room in omega (arith, x, short, full)
 
   no_item : (now : BusValue) (after : List Deques) (f : BusFault) →
-      IsTakenAndRefused Lies (r.bus.run + r.bus.left) r.bus.journals now.journals r.links after f → ⊥
+      IsTakenAndRefused Lies (r.bus.run + r.bus.left) r.bus.steps r.bus.journals now.journals r.links after f → ⊥
   no_item now after f x =
       let t = journal_at now.journals x.node in
       nothing_shown x.node x.few t x.refuses.items x.refuses.item
-      (slice_index_or after (8 * x.node + stops_of t) no_link).up x.refuses.few
+      (slice_index_or after (64 * x.node + stops_of t) no_link).up x.refuses.few
       (x.refuses.shown (acc x.node x.few) no_link (kept_before x.node x.few)).1
 
   no_abort : (orders_are : ℕ → Orders → Type 0) (now : BusValue) (after : List Deques) (f : BusFault) →
-      IsNotAborted Lies orders_are (r.bus.run + r.bus.left) r.bus.journals now.journals r.links after f → ⊥
+      IsNotAborted Lies orders_are (r.bus.run + r.bus.left) r.bus.steps r.bus.journals now.journals r.links after
+      f → ⊥
   no_abort orders_are now after f x =
       let j = journal_at r.bus.journals x.node in
       let t = journal_at now.journals x.node in
       let same : t ≡ j = none_taken j t x.items (given x.node x.few) (before x.node x.few)
-      (λ a. (slice_index_or after (8 * x.node + a) no_link).up)
+      (λ a. (slice_index_or after (64 * x.node + a) no_link).up)
       (λ a small. (x.kept (acc x.node x.few) (kept_before x.node x.few) a no_link small).1) in
       let l : length t ≡ length j = ap (λ (s : List Entry). length s) same in
       not_full x.node x.few t (omega (arith, l)) x.full
 
   never_broken : (node : ℕ) (few : node < length r.bus.journals) (opened j : List Entry) (between : List Deques)
       (f : BusFault) → length opened ≤ length (journal_at r.bus.journals node) + 1 →
-      Kept Lies opened between (8 * node) (acc node few) →
-      IsBrokenFor Lies (λ (s : Deques). length s.down ≡ 22) node (room_for (r.bus.run + r.bus.left)) opened j between
-      (8 * node) f → ⊥
+      Kept Lies opened between (64 * node) (acc node few) →
+      IsBrokenFor Lies (λ (s : Deques). length s.down ≡ 22) node (room_for (r.bus.run + r.bus.left) r.bus.steps node)
+      opened j between (64 * node) f → ⊥
   never_broken node few opened j between (JournalFull k) short kept b =
-      let n = short_few (room_for (r.bus.run + r.bus.left)) opened j b.1 in
+      let n = short_few (room_for (r.bus.run + r.bus.left) r.bus.steps node) opened j b.1 in
       not_full node few j (omega (arith, short, n)) b.1.used
   never_broken node few opened j between (Stuck k) short kept b = not_stuck node few opened j between kept b.1
   never_broken node few opened j between (BadCredit k bytes) short kept b = b
@@ -163,15 +158,15 @@ module _ (plan : PlanValue) (r : SerialValue) (deeds : List (List Deed)) (h : St
   never_broken node few opened j between BitsSpent short kept b = b
 
   not_broken : (orders_are : ℕ → Orders → Type 0) (now : BusValue) (f : BusFault) →
-      IsBrokenOff Lies (λ (s : Deques). length s.down ≡ 22) orders_are (r.bus.run + r.bus.left) r.bus.journals
-      now.journals r.links f → ⊥
+      IsBrokenOff Lies (λ (s : Deques). length s.down ≡ 22) orders_are (r.bus.run + r.bus.left) r.bus.steps
+      r.bus.journals now.journals r.links f → ⊥
   not_broken orders_are now f x =
       let j = journal_at r.bus.journals x.node in
       let changed = x.opens.aborts.changed in
       let between = x.kept (acc x.node x.few) (kept_before x.node x.few) in
       let same : x.opens.taken ≡ j = none_taken_own j x.opens.taken x.opens.items (given x.node x.few)
       (before x.node x.few) x.opened (abort_as changed) (abort_own changed) x.opens.aborts.whole
-      (λ a. (slice_index_or x.between (8 * x.node + a) no_link).up) (λ a small. (between a no_link small).1) in
+      (λ a. (slice_index_or x.between (64 * x.node + a) no_link).up) (λ a small. (between a no_link small).1) in
       let l : length x.opened ≡ length j + length (abort_as changed) = ap (λ (s : List Entry). length s)
       (x.opens.aborts.whole ∙ ap (λ (s : List Entry). s ++ abort_as changed) same)
       ∙ length-append j (abort_as changed) in
@@ -191,23 +186,25 @@ module _ (plan : PlanValue) (r : SerialValue) (deeds : List (List Deed)) (h : St
 
   -- and there is room for all bits that are left
   never_full : (now : BusValue) (after : List Deques) (f : BusFault) →
-      IsFullInStretch Lies (r.bus.run + r.bus.left) r.bus.left r.bus.journals now.journals r.links after f → ⊥
+      IsFullInStretch Lies (r.bus.run + r.bus.left) r.bus.steps r.bus.left r.bus.journals now.journals r.links after f →
+      ⊥
   never_full now after f x =
       let o = x.out in let m = o.node in
       let small : m < length r.bus.journals = let l = o.few in let c = x.count in omega (arith, l, c) in
       let j = journal_at r.bus.journals m in
       let t = journal_at x.taken m in
       let same : t ≡ j = none_taken j t (x.items m small) (given m small) (before m small)
-      (λ a. (slice_index_or after (8 * m + a) no_link).up)
+      (λ a. (slice_index_or after (64 * m + a) no_link).up)
       (λ a few. (x.kept m (acc m small) small (kept_before m small) a no_link few).1) in
       let l = ap (λ (s : List Entry). length s) same in
       let grown = ap (λ (s : List Entry). length s) o.grown ∙ length-append t (recessive_bits o.entered) in
       let bits : length (recessive_bits o.entered) ≡ o.entered = length-replicate o.entered (Bit Recessive Recessive) in
       let has = entries m small in let early = o.early in let full = o.full in
-      omega (arith, l, grown, bits, has, early, full)
+      let steps = h.room m (less m small) in omega (arith, l, grown, bits, has, early, full, steps)
 
   pub never_refused : (now : BusValue) (after : List Deques) (f : BusFault) →
-      IsTakenAndRefused Lies (r.bus.run + r.bus.left) r.bus.journals now.journals r.links after f
-      ⊎ IsFullInStretch Lies (r.bus.run + r.bus.left) r.bus.left r.bus.journals now.journals r.links after f → ⊥
+      IsTakenAndRefused Lies (r.bus.run + r.bus.left) r.bus.steps r.bus.journals now.journals r.links after f
+      ⊎ IsFullInStretch Lies (r.bus.run + r.bus.left) r.bus.steps r.bus.left r.bus.journals now.journals r.links after f
+      → ⊥
   never_refused now after f (inl x) = no_item now after f x
   never_refused now after f (inr x) = never_full now after f x

@@ -68,7 +68,7 @@ module _ (version : ℕ) (steps : List Step) (j k : List Entry) (deeds : List De
   own : AreOwn es
   own = added_own changed driven seen b.bit.verdict b.bit.off
 
-  lies_after : (a : ℕ) (d : Deques) → a < 8 → Lies (slice_index_or after (base + a) d)
+  lies_after : (a : ℕ) (d : Deques) → a < 64 → Lies (slice_index_or after (base + a) d)
       (account k (suc a) (record { got = h.linked.holds.got a; given = given_in (deeds_of deeds (suc a)) }))
   lies_after = kept (λ a. record { got = h.linked.holds.got a; given = given_in (deeds_of deeds (suc a)) })
       h.linked.holds.kept

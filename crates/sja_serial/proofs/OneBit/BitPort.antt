@@ -93,6 +93,12 @@ module _ (untold changed : Bool) (j opened k : List Entry) (driven seen : Level)
     | inr over ↦ ap (λ (r : Registers). r.activation) over.kept
   ]
 
+  same_version : q.version ≡ p.version
+  same_version = elim port [
+    | inl told ↦ ap (λ (r : Registers). r.version) told
+    | inr over ↦ ap (λ (r : Registers). r.version) over.kept
+  ]
+
   same_closed : q.closed ≡ p.closed
   same_closed = elim port [
     | inl told ↦ ap (λ (r : Registers). r.closed) told
@@ -112,6 +118,7 @@ module _ (untold changed : Bool) (j opened k : List Entry) (driven seen : Level)
       off_by (place_of k).bits k (opened_by deeds) ≡ (off_by (place_of j).bits j (opened_by deeds) || bit.off) →
       IsPorted version j deeds p → IsPorted version k deeds q
   ported_bit version deeds settings at more sends offs h = record {
+    version_is = same_version ∙ h.version_is;
     set = subst (λ (r : Registers). AreAlike q r) (sym settings) (set_now (settings_of version j deeds) h.set);
     reset =
         reset_now (h.activation ∙ sym at) ∙ ap (λ (b : Bool). b || bit.off) h.reset

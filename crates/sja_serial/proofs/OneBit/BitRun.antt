@@ -1,5 +1,6 @@
 -- A run after a bit.
-use Rattle.std.proofs.Common.{◌≡◌, ℕ, ◌+◌, ◌*◌, ◌<◌, Bool, List, [], ◌∷◌, length, sym, ap, ◌∙◌, subst, arith, inl, inr}
+use Rattle.std.proofs.Common.{◌≡◌, ℕ, ◌+◌, ◌*◌, ◌<◌, ◌≤◌, Bool, List, [], ◌∷◌, length, sym, ap, ◌∙◌, subst, arith}
+use Rattle.std.proofs.Common.{inl, inr}
 use Rattle.std.specs.Prelude.{None, slice_index_or}
 use Rattle.std.proofs.lemmas.Slice.Zip.{AllZip-long}
 use Rattle.can_bits.specs.declared.level.Level.{Level}
@@ -73,7 +74,7 @@ bit_of has_orders was_told was_kept p q untold j k driven seen f g c b = record 
 
 module _ (plan : PlanValue) (r n : SerialValue) (deeds : List (List Deed)) (h : StandsAt plan r deeds)
     (right : n.bus.fault ≡ None) (script : n.bus.script ≡ r.bus.script)
-    (run : n.bus.run ≡ r.bus.run + 1) (left : n.bus.left + 1 ≡ r.bus.left)
+    (room : n.bus.steps ≡ r.bus.steps) (run : n.bus.run ≡ r.bus.run + 1) (left : n.bus.left + 1 ≡ r.bus.left)
     (journals : length n.bus.journals ≡ length r.bus.journals) (drivers_are : n.drivers ≡ r.drivers)
     (bits_are : n.bits ≡ r.bits + 1)
     (ports : length n.ports ≡ length r.ports) (kept : KeepsAll Lies r.bus.journals n.bus.journals r.links n.links)
@@ -100,15 +101,15 @@ module _ (plan : PlanValue) (r n : SerialValue) (deeds : List (List Deed)) (h : 
     one =
         one_bit plan.version (steps_at plan m) (journal_at r.bus.journals m) (journal_at n.bus.journals m)
         (deeds_at deeds m) (slice_index_or r.drivers m d) (slice_index_or r.ports m p) (slice_index_or n.ports m p)
-        r.links n.links (8 * m) no_link (untold_at r.bus.untold m) (slice_index_or bit.driven m Recessive)
+        r.links n.links (64 * m) no_link (untold_at r.bus.untold m) (slice_index_or bit.driven m Recessive)
         (bit.seen m) (h.nodes m d p less) here (λ acc. kept m acc (inside m less))
 
     node_now : IsNode plan.version (steps_at plan m) (journal_at n.bus.journals m) (deeds_at deeds m)
-        (slice_index_or r.drivers m d) (slice_index_or n.ports m p) n.links (8 * m)
+        (slice_index_or r.drivers m d) (slice_index_or n.ports m p) n.links (64 * m)
     node_now =
         after_one_bit plan.version (steps_at plan m) (journal_at r.bus.journals m) (journal_at n.bus.journals m)
         (deeds_at deeds m) (slice_index_or r.drivers m d) (slice_index_or r.ports m p) (slice_index_or n.ports m p)
-        r.links n.links (8 * m) no_link (untold_at r.bus.untold m) (slice_index_or bit.driven m Recessive)
+        r.links n.links (64 * m) no_link (untold_at r.bus.untold m) (slice_index_or bit.driven m Recessive)
         (bit.seen m) (h.nodes m d p less) here (λ acc. kept m acc (inside m less))
         (h.shown m p less) (cuts m (inside m less))
 
@@ -116,7 +117,7 @@ module _ (plan : PlanValue) (r n : SerialValue) (deeds : List (List Deed)) (h : 
     shows_now =
         shows plan.version (steps_at plan m) (journal_at r.bus.journals m) (journal_at n.bus.journals m)
         (deeds_at deeds m) (slice_index_or r.drivers m d) (slice_index_or r.ports m p) (slice_index_or n.ports m p)
-        r.links n.links (8 * m) no_link (untold_at r.bus.untold m) (slice_index_or bit.driven m Recessive)
+        r.links n.links (64 * m) no_link (untold_at r.bus.untold m) (slice_index_or bit.driven m Recessive)
         (bit.seen m) (h.nodes m d p less) here (λ acc. kept m acc (inside m less)) (h.shown m p less)
 
   driver_at : (m : ℕ) → m < length plan.nodes → LoggedDriver
@@ -135,13 +136,14 @@ module _ (plan : PlanValue) (r n : SerialValue) (deeds : List (List Deed)) (h : 
       links = many ∙ h.count.links;
     };
     deeds_count = h.deeds_count;
+    room = λ m less. subst (λ (l : List ℕ). length (steps_at plan m) ≤ slice_index_or l m 0) (sym room) (h.room m less);
     ids = λ m a d few less. each_at (λ (x y : Deques). y.link ≡ x.link) (λ (s : Deques). s.link)
         (λ x y e. e) r.links n.links (per_node * m + a) d sames
         ∙ h.ids m a d few (subst (λ (k : ℕ). per_node * m + a < k) many less);
     own = λ m d less. ap (λ (l : List LoggedDriver). node_of (slice_index_or l m d)) drivers_are ∙ h.own m d less;
     nodes = λ m d p less. subst (λ (l : List LoggedDriver). IsNode plan.version (steps_at plan m)
         (journal_at n.bus.journals m) (deeds_at deeds m) (slice_index_or l m d) (slice_index_or n.ports m p) n.links
-        (8 * m)) (sym drivers_are)
+        (64 * m)) (sym drivers_are)
         (node_now m d p less);
     shown = λ m p less told. shows_now m (driver_at m less) p less;
   }

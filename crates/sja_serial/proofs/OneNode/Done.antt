@@ -48,9 +48,9 @@ at_most_one active n s r gave (stops was is o same) =
     let e : length gave ≡ 1 = ap (λ l. length l) is in omega (arith, e)
 
 -- it gives on the link that is read
-pub is_read : (j : List Entry) (deeds : List Deed) (d : Deed) → IsLevel j deeds → opened_by deeds ≤ 8 →
+pub is_read : (j : List Entry) (deeds : List Deed) (d : Deed) → IsLevel j deeds → opened_by deeds ≤ 64 →
     Kind (is_active deeds) (opened_by deeds) d.step d.answer d.gave → d.gave ≢ [] →
-    (opened_by deeds + opens_by d ≡ suc (stops_of j)) × (stops_of j < 8)
+    (opened_by deeds + opens_by d ≡ suc (stops_of j)) × (stops_of j < 64)
 is_read j deeds d level most (quiet none o same) some = absurd (some none)
 is_read j deeds d level most (starts was few config is o same) some =
     let e = level.ended in let w : one_if (is_active deeds) ≡ 0 =
@@ -65,8 +65,9 @@ is_read j deeds d level most (stops was is o same) some =
     let e = level.ended in let w : one_if (is_active deeds) ≡ 1 =
     ap one_if was in (omega (arith, e, w, o), omega (arith, e, w, most))
 
-pub opened_most : (deeds : List Deed) (w : AnyDriver) (log : WorkLog) (node n : ℕ) → Traces w log deeds →
-    IsDriverOf node n w → opened_by deeds ≤ 8
+pub opened_most : {version : ℕ} (deeds : List Deed) (w : AnyDriver) (log : WorkLog) (node n : ℕ) →
+    Traces version w log deeds →
+    IsDriverOf node n w → opened_by deeds ≤ 64
 opened_most deeds (InReset d) log node n trace place =
     let e = trace.opened in let s = place.1 in let l = place.2 in omega (arith, e, s, l)
 opened_most deeds (InActive d) log node n trace place =
@@ -85,14 +86,15 @@ module _ (version : ℕ) (steps : List Step) (j : List Entry) (deeds : List Deed
   pub record Doing : Type 0 where
     pub is_next : Comes j deeds (log_of was) links base (node_of was) none lawful all_taken p q one st.tried
     pub kind : Kind (is_active deeds) (opened_by deeds) is_next.deed.step is_next.deed.answer is_next.deed.gave
-    pub trace : Traces (driver_of now) (log_of now) (deeds ++ is_next.deed ∷ [])
+    pub trace : Traces version (driver_of now) (log_of now) (deeds ++ is_next.deed ∷ [])
     pub holds : HoldsBy Lies (deeds ++ is_next.deed ∷ []) (driver_of now) (log_of now) j given base
     pub waits_now : (a : ℕ) → given_in (deeds_of (deeds ++ is_next.deed ∷ []) a)
         ≡ taken_of (part j a) ++ waiting (opened_by deeds + opens_by is_next.deed) is_next.deed.gave a
 
   pub doing : Doing
   doing =
-      let trace = h.traced.traces in
+      let trace : Traces p.version (driver_of was) (log_of was) deeds =
+      subst (λ (n : ℕ). Traces n (driver_of was) (log_of was) deeds) (sym h.ported.version_is) h.traced.traces in
       let c : Comes j deeds (log_of was) links base (node_of was) none lawful all_taken p q one st.tried =
       comes j deeds (log_of was) links base (node_of was) none lawful all_taken p q one (driver_of was) (driver_of now)
       (slice_index_or given (place_after base (ended_of was)) none) st.tried trace h.traced.lawful h.linked.holds
@@ -103,9 +105,11 @@ module _ (version : ℕ) (steps : List Step) (j : List Entry) (deeds : List Deed
       subst (λ (l : List Up). Gives d.step d.answer l) (sym next.gave) (gives_carried p d.step d.answer) in
       let b = opened_by deeds + opens_by d in record {
         is_next = c;
-        kind = kind_of (is_active deeds) (opened_by deeds) d.step d.answer d.gave next.fits gives;
-        trace = subst (λ (l : List Deed). Traces (driver_of now) (log_of now) (deeds ++ l)) c.only
-            (st.goes.traces deeds trace);
+        kind = kind_of p.version (is_active deeds) (opened_by deeds) d.step d.answer d.gave next.fits
+            gives;
+        trace = subst (λ (n : ℕ). Traces n (driver_of now) (log_of now) (deeds ++ d ∷ [])) h.ported.version_is
+            (subst (λ (l : List Deed). Traces p.version (driver_of now) (log_of now) (deeds ++ l)) c.only
+            (st.goes.traces deeds trace));
         holds = subst (λ (l : List Deed). HoldsBy Lies (deeds ++ l) (driver_of now) (log_of now) j given base) c.only
             (st.goes.holds deeds j trace h.linked.holds);
         waits_now = λ a. given_push deeds d a ∙ ap (λ (l : List Up). l ++ waiting b d.gave a) (all_taken a);

@@ -24,26 +24,26 @@ none_more xs ys e = sym (same_front xs [] ys (append-nil xs ∙ e))
 module _ (j k : List Entry) (deeds : List Deed) (driver : AnyDriver) (log : WorkLog) (links after : List Deques)
     (base : ℕ) (none : Deques) (holds : HoldsBy Lies deeds driver log j links base)
     (kept : (h : ℕ → Account) → Kept Lies j links base h → Kept Lies k after base h) where
-  lies_after : (a : ℕ) (d : Deques) → a < 8 → Lies (slice_index_or after (base + a) d)
+  lies_after : (a : ℕ) (d : Deques) → a < 64 → Lies (slice_index_or after (base + a) d)
       (account k (suc a) (record { got = holds.got a; given = given_in (deeds_of deeds (suc a)) }))
   lies_after = kept (λ a. record { got = holds.got a; given = given_in (deeds_of deeds (suc a)) }) holds.kept
 
   -- just what waited was taken
   pub items_are : (gave : List Up) (b : ℕ) (items : MayHaveItems j k) → AtMostOne gave →
-      (gave ≢ [] → (b ≡ suc (stops_of j)) × (stops_of j < 8)) →
+      (gave ≢ [] → (b ≡ suc (stops_of j)) × (stops_of j < 64)) →
       ((a : ℕ) → given_in (deeds_of deeds a) ≡ taken_of (part j a) ++ waiting b gave a) →
-      (stops_of k < 8 → (slice_index_or after (base + stops_of k) none).up ≡ []) → k ≡ j ++ entries_of_items gave
+      (stops_of k < 64 → (slice_index_or after (base + stops_of k) none).up ≡ []) → k ≡ j ++ entries_of_items gave
   items_are gave b items few here given dry =
       let up : ℕ → List Up = λ a. (slice_index_or after (base + a) none).up in
-      let whole : (a : ℕ) → a < 8 → waiting b gave (suc a) ≡ adds j items.items (suc a) ++ up a = λ a less.
+      let whole : (a : ℕ) → a < 64 → waiting b gave (suc a) ≡ adds j items.items (suc a) ++ up a = λ a less.
       same_front (taken_of (part j (suc a))) (waiting b gave (suc a)) (adds j items.items (suc a) ++ up a)
       (sym (given (suc a)) ∙ (lies_after a none less).1
       ∙ ap (λ (l : List Entry). taken_of (part l (suc a)) ++ up a) items.whole
       ∙ ap (λ (l : List Up). l ++ up a) (taken_adds j items.items (suc a))
       ∙ append_assoc (taken_of (part j (suc a))) (adds j items.items (suc a)) (up a)) in
-      let last : stops_of (j ++ entries_of_items items.items) < 8 →
+      let last : stops_of (j ++ entries_of_items items.items) < 64 →
       up (stops_of (j ++ entries_of_items items.items)) ≡ [] =
-      subst (λ (l : List Entry). stops_of l < 8 → up (stops_of l) ≡ []) items.whole dry in
+      subst (λ (l : List Entry). stops_of l < 64 → up (stops_of l) ≡ []) items.whole dry in
       items.whole ∙ ap (λ (us : List Up). j ++ entries_of_items us)
       (just_taken j items.items gave b up items.read few here whole last)
 

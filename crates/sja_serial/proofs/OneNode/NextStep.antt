@@ -1,5 +1,5 @@
 -- A run in which the next step of a node's driver is tried, and what it gave is taken.
-use Rattle.std.proofs.Common.{◌≡◌, ◌+◌, ◌*◌, ◌<◌, ◌≤◌, ℕ, Bool, true, false, List, [], length, refl, sym, ap, ◌∙◌}
+use Rattle.std.proofs.Common.{◌≡◌, ◌+◌, ◌*◌, ◌<◌, ℕ, Bool, true, false, List, [], length, refl, sym, ap, ◌∙◌}
 use Rattle.std.proofs.Common.{subst}
 use Rattle.std.proofs.Common.{arith}
 use Rattle.std.specs.Prelude.{None, slice_index_or, slice_set}
@@ -60,17 +60,17 @@ module _ (plan : PlanValue) (bus : BusValue) (drivers : List LoggedDriver) (port
   module _ (was : LoggedDriver) (p : Registers) (was_is : was ≡ slice_index_or drivers i was)
       (p_is : p ≡ slice_index_or ports i p) where
     pub node_at : IsNode plan.version (steps_at plan i) (journal_at bus.journals i)
-        (deeds_at deeds i) was p slice (8 * i)
+        (deeds_at deeds i) was p slice (64 * i)
     node_at =
         subst (λ (d : LoggedDriver). IsNode plan.version (steps_at plan i) (journal_at bus.journals i)
-        (deeds_at deeds i) d p slice (8 * i)) (sym was_is)
+        (deeds_at deeds i) d p slice (64 * i)) (sym was_is)
         (subst (λ (x : Registers). IsNode plan.version (steps_at plan i) (journal_at bus.journals i)
-        (deeds_at deeds i) (slice_index_or drivers i was) x slice (8 * i)) (sym p_is) (stood.nodes i was p there))
+        (deeds_at deeds i) (slice_index_or drivers i was) x slice (64 * i)) (sym p_is) (stood.nodes i was p there))
 
     -- the next step was tried, and then all was taken
     module _ (laws : bus.fault ≡ None → IsBusRun bus.script bus.run bus.journals)
         (left : length (deeds_at deeds i) < length (steps_at plan i)) (now : LoggedDriver) (q : Registers)
-        (given after : List Deques) (base : ℕ) (one : Step) (done : Bool) (base_is : base ≡ 8 * i)
+        (given after : List Deques) (base : ℕ) (one : Step) (done : Bool) (base_is : base ≡ 64 * i)
         (tries : Steps alike Lies shows_none takes_none was now slice given base p q one bits done)
         (stay : StaysLawful (λ (s : Deques). s.link) alike was now slice given base done) where
       lawful : IsBusRun bus.script bus.run bus.journals
@@ -79,34 +79,35 @@ module _ (plan : PlanValue) (bus : BusValue) (drivers : List LoggedDriver) (port
       inside : i < length bus.journals
       inside = let e = stood.count.journals in omega (arith, e, there)
 
-      steps : Steps alike Lies shows_none takes_none was now slice given (8 * i) p q one bits done
+      steps : Steps alike Lies shows_none takes_none was now slice given (64 * i) p q one bits done
       steps = subst (λ (b : ℕ). Steps alike Lies shows_none takes_none was now slice given b p q one bits done) base_is
           tries
 
-      stays : StaysLawful (λ (s : Deques). s.link) alike was now slice given (8 * i) done
+      stays : StaysLawful (λ (s : Deques). s.link) alike was now slice given (64 * i) done
       stays = subst (λ (b : ℕ). StaysLawful (λ (s : Deques). s.link) alike was now slice given b done) base_is stay
 
       place : (place_of (journal_at bus.journals i)).bits ≡ bits
       place = bits_counted (journal_at bus.journals i) ∙ lawful.wired.count i inside ∙ sym stood.bits
 
       -- no item was refused
-      pub none_refused : (journals : List (List Entry)) (f : BusFault) → length (steps_at plan i) ≤ 1000 →
-          (bus.fault ≡ None → IsTakenAndRefused Lies (bus.run + bus.left) bus.journals journals given after f) → ⊥
-      none_refused journals f most refused =
-          gather_takes plan run deeds i was now p q given after journals one no_link f done stood node_at
-          (lawful.lawful i inside) (omega (arith, left, most)) place steps stays.others (refused stood.right)
+      pub none_refused : (journals : List (List Entry)) (f : BusFault) →
+          (bus.fault ≡ None → IsTakenAndRefused Lies (bus.run + bus.left) bus.steps bus.journals journals given after f)
+          → ⊥
+      none_refused journals f refused =
+          gather_takes plan run deeds i was now p q given after journals one no_link f done stood there node_at
+          (lawful.lawful i inside) (omega (arith, left)) place steps stays.others (refused stood.right)
 
       pub is_tried : (n : BusValue) → one ≡ slice_index_or (steps_at plan i) (length (deeds_at deeds i)) one →
-          n.fault ≡ None → n.run ≡ bus.run → n.script ≡ bus.script → n.left ≡ bus.left →
+          n.fault ≡ None → n.run ≡ bus.run → n.script ≡ bus.script → n.steps ≡ bus.steps → n.left ≡ bus.left →
           length n.journals ≡ length bus.journals → KeepsAll Lies bus.journals n.journals given after →
           EachJournal MayHaveItems bus.journals n.journals →
           EachUntold bus.untold n.untold bus.journals n.journals →
           AllDry (λ (s : Deques). s.up ≡ []) n.journals after →
           EachRelated (λ (a b : Deques). b.link ≡ a.link) given after → length after ≡ length slice →
           IsTried plan run (run_now n (slice_set drivers i now) (slice_set ports i q) after bits) i deeds done
-      is_tried n is right ran script over count kept items untold dry sames many =
+      is_tried n is right ran script room over count kept items untold dry sames many =
           next_tried plan run (run_now n (slice_set drivers i now) (slice_set ports i q) after bits) deeds i stood there
-          given was now q no_link refl refl refl right ran script over count kept items untold dry sames many
+          given was now q no_link refl refl refl right ran script room over count kept items untold dry sames many
           stays.others stays.ids
           (stays.node ∙ ap node_of was_is ∙ stood.own i was there) p one done
           (λ x. get_or_default ports i x p (let c = stood.count.ports in omega (arith, c, there)) ∙ sym p_is) node_at

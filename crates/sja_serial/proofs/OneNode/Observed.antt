@@ -39,8 +39,8 @@ module _ (plan : PlanValue) (bus : BusValue) (drivers : List LoggedDriver) (port
     (slice after : List Deques) (bits : ℕ) (deeds : List (List Deed))
     (h : StandsAt plan (run_now bus drivers ports slice bits) deeds) (i : ℕ) (there : i < length plan.nodes)
     (was now : LoggedDriver) (was_is : was ≡ slice_index_or drivers i was)
-    (observed : Looked Lies shows_none was now slice after (8 * i))
-    (stays : StaysLawful (λ (s : Deques). s.link) alike was now slice after (8 * i) false)
+    (observed : Looked Lies shows_none was now slice after (64 * i))
+    (stays : StaysLawful (λ (s : Deques). s.link) alike was now slice after (64 * i) false)
     (many : length after ≡ length slice) where
   abbrev j : List Entry
   j = journal_at bus.journals i
@@ -50,23 +50,23 @@ module _ (plan : PlanValue) (bus : BusValue) (drivers : List LoggedDriver) (port
 
   -- ---- the node
 
-  stood : (p : Registers) → IsNode plan.version (steps_at plan i) j ds was (slice_index_or ports i p) slice (8 * i)
+  stood : (p : Registers) → IsNode plan.version (steps_at plan i) j ds was (slice_index_or ports i p) slice (64 * i)
   stood p = subst (λ (d : LoggedDriver). IsNode plan.version (steps_at plan i) j ds d (slice_index_or ports i p) slice
-      (8 * i)) (sym was_is) (h.nodes i was p there)
+      (64 * i)) (sym was_is) (h.nodes i was p there)
 
-  traces : (p : Registers) → Traces (driver_of now) (log_of now) ds
-  traces p = subst (Traces (driver_of now) (log_of now)) (append-nil ds)
-      (observed.goes.traces ds (stood p).traced.traces)
+  traces : (p : Registers) → Traces plan.version (driver_of now) (log_of now) ds
+  traces p = subst (Traces plan.version (driver_of now) (log_of now)) (append-nil ds)
+      ((observed.goes plan.version).traces ds (stood p).traced.traces)
 
-  holds : (p : Registers) → HoldsBy Lies ds (driver_of now) (log_of now) j after (8 * i)
-  holds p = subst (λ (l : List Deed). HoldsBy Lies l (driver_of now) (log_of now) j after (8 * i)) (append-nil ds)
-      (observed.goes.holds ds j (stood p).traced.traces (stood p).linked.holds)
+  holds : (p : Registers) → HoldsBy Lies ds (driver_of now) (log_of now) j after (64 * i)
+  holds p = subst (λ (l : List Deed). HoldsBy Lies l (driver_of now) (log_of now) j after (64 * i)) (append-nil ds)
+      ((observed.goes plan.version).holds ds j (stood p).traced.traces (stood p).linked.holds)
 
-  linked : (p : Registers) → IsLinked j ds now after (8 * i)
-  linked p = linked_after j j ds (driver_of now) (log_of now) after after (8 * i) no_link (holds p) (λ acc x. x) now
+  linked : (p : Registers) → IsLinked j ds now after (64 * i)
+  linked p = linked_after j j ds (driver_of now) (log_of now) after after (64 * i) no_link (holds p) (λ acc x. x) now
       refl refl (λ a. given_taken ds j a ((stood p).in_time.when a)) (stood p).linked.level
 
-  node_now : (p : Registers) → IsNode plan.version (steps_at plan i) j ds now (slice_index_or ports i p) after (8 * i)
+  node_now : (p : Registers) → IsNode plan.version (steps_at plan i) j ds now (slice_index_or ports i p) after (64 * i)
   node_now p = let n = stood p in record {
     traced = record {
       lawful = stays.lawful;
@@ -88,13 +88,13 @@ module _ (plan : PlanValue) (bus : BusValue) (drivers : List LoggedDriver) (port
 
   other_node : (m : ℕ) (d : LoggedDriver) (p : Registers) → (m ≡ i → ⊥) → m < length plan.nodes →
       IsNode plan.version (steps_at plan m) (journal_at bus.journals m) (deeds_at deeds m) (slice_index_or drivers m d)
-      (slice_index_or ports m p) after (8 * m)
+      (slice_index_or ports m p) after (64 * m)
   other_node m d p differ less = let n = h.nodes m d p less in record {
     traced = n.traced;
     linked = record {
       holds = each_other (deeds_at deeds m) (slice_index_or drivers m d) (journal_at bus.journals m) slice after m i
           (ended_of was) differ n.linked.holds stays.others;
-      taken = λ a e few. ap (λ (s : Deques). s.up) (stays.others (8 * m + a) e (apart m i a (ended_of was) differ few))
+      taken = λ a e few. ap (λ (s : Deques). s.up) (stays.others (64 * m + a) e (apart m i a (ended_of was) differ few))
           ∙ n.linked.taken a e few;
       level = n.linked.level;
     };
@@ -111,15 +111,15 @@ module _ (plan : PlanValue) (bus : BusValue) (drivers : List LoggedDriver) (port
 
   node_at : (m : ℕ) (d : LoggedDriver) (p : Registers) → m < length plan.nodes →
       IsNode plan.version (steps_at plan m) (journal_at bus.journals m) (deeds_at deeds m)
-      (slice_index_or (slice_set drivers i now) m d) (slice_index_or ports m p) after (8 * m)
+      (slice_index_or (slice_set drivers i now) m d) (slice_index_or ports m p) after (64 * m)
   node_at m d p less = elim (cases_eq i m) [
     | inl e ↦ subst (λ (k : ℕ). IsNode plan.version (steps_at plan k) (journal_at bus.journals k) (deeds_at deeds k)
-        (slice_index_or (slice_set drivers i now) k d) (slice_index_or ports k p) after (8 * k)) e
+        (slice_index_or (slice_set drivers i now) k d) (slice_index_or ports k p) after (64 * k)) e
         (subst (λ (x : LoggedDriver). IsNode plan.version (steps_at plan i) j ds x (slice_index_or ports i p) after
-        (8 * i)) (sym (get_or-set_same drivers i now d inside)) (node_now p))
+        (64 * i)) (sym (get_or-set_same drivers i now d inside)) (node_now p))
     | inr differ ↦ let other : m ≢ i = λ e. differ (sym e) in
         subst (λ (x : LoggedDriver). IsNode plan.version (steps_at plan m) (journal_at bus.journals m)
-        (deeds_at deeds m) x (slice_index_or ports m p) after (8 * m))
+        (deeds_at deeds m) x (slice_index_or ports m p) after (64 * m))
         (sym (get_or-set_other drivers i m now d other)) (other_node m d p other less)
   ]
 
@@ -144,6 +144,7 @@ module _ (plan : PlanValue) (bus : BusValue) (drivers : List LoggedDriver) (port
       links = many ∙ h.count.links;
     };
     deeds_count = h.deeds_count;
+    room = h.room;
     ids = λ m a d few less. each_at alike (λ (x : Deques). x.link) (λ x y same. same) slice after (per_node * m + a) d
         stays.same ∙ h.ids m a d few (subst (λ (k : ℕ). per_node * m + a < k) many less);
     own = owner;
@@ -161,28 +162,28 @@ module _ (plan : PlanValue) (bus : BusValue) (drivers : List LoggedDriver) (port
     seen_is p = by (driver_of was) (driver_of now) (stood p).traced.traces.out (observed.observes no_link no_link) refl
       where
         by : (w n : AnyDriver) → is_active ds ≡ is_out w →
-            Observes Lies shows_none (slice_index_or slice (place_after (8 * i) (ended_of was)) no_link)
-            (slice_index_or after (place_after (8 * i) (ended_of was)) no_link) w n → driver_of was ≡ w →
+            Observes Lies shows_none (slice_index_or slice (place_after (64 * i) (ended_of was)) no_link)
+            (slice_index_or after (place_after (64 * i) (ended_of was)) no_link) w n → driver_of was ≡ w →
             seen_by n ≡ seen_now (is_active ds) j ds
         by (InReset d) n out (same, kept) is =
             ap seen_by same ∙ ap (λ b. seen_now b j ds) (sym out)
         by (InActive d) (InReset e) out looks is = absurd looks
         by (InActive d) (InActive e) out looks is =
             let w : AnyDriver = InActive d in let n : AnyDriver = InActive e in
-            let at = place_after (8 * i) (ended_of was) in
+            let at = place_after (64 * i) (ended_of was) in
             let link = each_at alike (λ (x : Deques). x.link) (λ x y same. same) slice after at no_link stays.same in
-            let shown = looked j ds (log_of was) slice (8 * i) (node_of was) no_link (lawful.lawful i journal_in)
+            let shown = looked j ds (log_of was) slice (64 * i) (node_of was) no_link (lawful.lawful i journal_in)
             (λ a. given_taken ds j a ((stood p).in_time.when a)) w refl
-            (subst (λ (x : AnyDriver). Traces x (log_of was) ds) is (stood p).traced.traces)
+            (subst (λ (x : AnyDriver). Traces plan.version x (log_of was) ds) is (stood p).traced.traces)
             (subst (λ (x : AnyDriver). IsDriverOf (node_of was) (ended_of was) x) is (stood p).traced.lawful)
-            (subst (λ (x : AnyDriver). HoldsBy Lies ds x (log_of was) j slice (8 * i)) is (stood p).linked.holds)
+            (subst (λ (x : AnyDriver). HoldsBy Lies ds x (log_of was) j slice (64 * i)) is (stood p).linked.holds)
             (held_of n) (off_of n) (record {
               at = slice_index_or after at no_link;
               same = link;
               pulls = looks.got;
               all = looks.all;
             }) in
-            sym (seen_shown j ds (Read 0) 0 (off_of n) (held_of n) refl shown)
+            sym (seen_shown j ds (Read 0) (off_of n) (held_of n) tt shown)
             ∙ ap (λ b. seen_now b j ds) (sym out)
 
     pub line_is : (p port : Registers) → port ≡ slice_index_or ports i p →

@@ -37,7 +37,7 @@ use Rattle.sja_driver.proofs.Registers.TransmitBuffer.{reset_sends_none}
 use Rattle.sja_driver.proofs.Step.GivenKinds.{Kind, opened_from}
 use Rattle.sja_driver.proofs.Step.GivenKinds.Kind.{quiet, starts, credits, sends, stops}
 use Rattle.sja_log.proofs.Account.Items.{off_same, settings_same, settings_push}
-use Rattle.sja_driver.proofs.Step.Modes.{rm_step, closed_step, abort_step}
+use Rattle.sja_driver.proofs.Step.Modes.{rm_step, closed_step, version_step, abort_step}
 use Rattle.sja_serial.proofs.OneNode.Ports.{alike_step}
 use Rattle.sja_link.proofs.Ledger.Small.{not_true, not_false, neither, or_true, no_item, one_item}
 use Rattle.sja_serial.proofs.OneNode.Trying.{IsNext}
@@ -111,7 +111,7 @@ module _ (version : ℕ) (j k : List Entry) (deeds : List Deed) (d : Deed) (p q 
         | inl was ↦
             let c = h.commanded was in
             let none : total is_send d.gave ≡ 0 = ap (total is_send) next.gave
-            ∙ busy_sends_none p (opened_by deeds) d.step d.answer (is_active deeds)
+            ∙ busy_sends_none p.version p (opened_by deeds) d.step d.answer (is_active deeds)
             (seen_now (is_active deeds) j deeds) next.fits next.tells
             (buffer.in_abort was) in
             let l = c.later in let b = c.by_then in record {
@@ -148,6 +148,7 @@ module _ (version : ℕ) (j k : List Entry) (deeds : List Deed) (d : Deed) (p q 
   pub ported_after : IsPorted version k (deeds ++ d ∷ []) q
   ported_after =
       subst (λ (r : Registers). IsPorted version k (deeds ++ d ∷ []) r) (sym next.left) (record {
+        version_is = version_step p d.step d.answer ∙ h.version_is;
         set = set_after;
         reset = reset_after kind;
         activation = activation_after;
@@ -166,10 +167,10 @@ module _ (version : ℕ) (j k : List Entry) (deeds : List Deed) (d : Deed) (p q 
       let some : total is_send d.gave ≡ 1 = ap (total is_send) gave in
       let same = ap (total is_send) next.gave in (
         not_true p.mode.rm (λ e.
-            let none = reset_sends_none p (opened_by deeds) d.step d.answer (is_active deeds)
+            let none = reset_sends_none p.version p (opened_by deeds) d.step d.answer (is_active deeds)
             (seen_now (is_active deeds) j deeds) next.fits next.tells e in omega (arith, some, same, none)),
         not_false p.tbs (λ e.
-            let none = busy_sends_none p (opened_by deeds) d.step d.answer (is_active deeds)
+            let none = busy_sends_none p.version p (opened_by deeds) d.step d.answer (is_active deeds)
             (seen_now (is_active deeds) j deeds) next.fits next.tells e in omega (arith, some, same, none)),
       )
 

@@ -31,7 +31,7 @@ some_within xs item ys e = some_none item [] (none_back xs (item ∷ []) (none_f
 -- of at most one that waited one came next: then none was taken before it
 pub just_refused : (j : List Entry) (us gave : List Up) (b s : ℕ) (item : Up) (up : ℕ → List Up) → AreRead j us →
     AtMostOne gave →
-    ((a : ℕ) → a < 8 → (s ≡ a → ⊥) → waiting b gave (suc a) ≡ adds j us (suc a) ++ up a) →
+    ((a : ℕ) → a < 64 → (s ≡ a → ⊥) → waiting b gave (suc a) ≡ adds j us (suc a) ++ up a) →
     waiting b gave (suc s) ≡ (adds j us (suc s) ++ item ∷ []) ++ up s → (us ≡ []) × (gave ≡ item ∷ [])
 just_refused j [] gave b s item up read few others next = (refl, (one_is (b == suc s) item gave (up s) few next).1)
 just_refused j (u ∷ us) gave b s item up read few others next = elim (cases_eq s (stops_of j)) [
@@ -62,7 +62,7 @@ refused_is j k deeds driver log links after base room node none f gave b holds f
     let up : ℕ → List Up = λ a. (slice_index_or after (base + a) none).up in
     let taken : (a : ℕ) → taken_of (part k a) ≡ taken_of (part j a) ++ adds j us a =
     λ a. ap (λ (l : List Entry). taken_of (part l a)) r.items.whole ∙ taken_adds j us a in
-    let others : (a : ℕ) → a < 8 → (stops_of k ≡ a → ⊥) → waiting b gave (suc a) ≡ adds j us (suc a) ++ up a =
+    let others : (a : ℕ) → a < 64 → (stops_of k ≡ a → ⊥) → waiting b gave (suc a) ≡ adds j us (suc a) ++ up a =
     λ a less differ. same_front (taken_of (part j (suc a))) (waiting b gave (suc a)) (adds j us (suc a) ++ up a)
     (sym (given (suc a)) ∙ (r.others acc a none holds.kept less differ).1 ∙ ap (λ l. l ++ up a) (taken (suc a))
     ∙ append_assoc (taken_of (part j (suc a))) (adds j us (suc a)) (up a)) in

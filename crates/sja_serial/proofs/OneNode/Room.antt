@@ -1,5 +1,5 @@
 -- A journal has no more entries than are reserved for its run.
-use Rattle.std.proofs.Common.{◌≡◌, ℕ, ◌+◌, ◌≤◌, Bool, true, false, List, [], ◌∷◌, ◌++◌, length, ap, arith}
+use Rattle.std.proofs.Common.{◌≡◌, ℕ, ◌+◌, ◌*◌, ◌≤◌, Bool, true, false, List, [], ◌∷◌, ◌++◌, length, ap, arith}
 use Rattle.std.specs.Prelude.{◌&&◌, not, if◌then◌else◌}
 use Rattle.sja_link.specs.declared.up.Up.{Up}
 use Rattle.sja_link.specs.declared.up.Up.TheVariants.{Start as StartItem, Credit, Send as SendItem, Stop as StopItem}
@@ -9,12 +9,11 @@ use Rattle.lemmas.specs.Gathering.{total}
 use Rattle.lemmas.specs.Picking.{EachAfter}
 use Rattle.sja_link.specs.Places.{JournalPlace, first_place, past, past_all, place_of}
 use Rattle.sja_link.specs.Verdicts.{IsLawful}
-use Rattle.sja_bus.specs.Reasons.{room_for}
 use Rattle.sja_regs.specs.declared.registers.Registers.{Registers}
 use Rattle.sja_regs.specs.Commands.{command_of, requests}
 use Rattle.sja_script.specs.declared.step.Step.{Step}
 use Rattle.sja_script.specs.declared.step.Step.TheVariants.{Start, Stop, Window, Release, Read, Write, Load, Command}
-use Rattle.sja_script.specs.declared.step.Step.TheVariants.{Await, Sent}
+use Rattle.sja_script.specs.declared.step.Step.TheVariants.{Await, Sent, Interrupt}
 use Rattle.sja_script.specs.declared.step_answer.StepAnswer.{StepAnswer}
 use Rattle.sja_script.specs.declared.step_answer.StepAnswer.TheVariants.{Done, Released}
 use Rattle.sja_driver.specs.Carried.{asks_abort}
@@ -73,6 +72,7 @@ one_each (Write x y) r gave g = none_given gave g
 one_each (Load m) r gave g = none_given gave g
 one_each (Await k) r gave g = none_given gave g
 one_each Sent r gave g = none_given gave g
+one_each Interrupt r gave g = none_given gave g
 
 all_each : (before ds : List Deed) → EachAfter (λ b (d : Deed). Gives d.step d.answer d.gave) before ds →
     total gave_by ds + total asks_by ds ≤ length ds
@@ -83,10 +83,11 @@ all_each before (d ∷ ds) g =
 
 -- ---- all together: with room for a bit, a verdict and bus-off more
 
-pub has_room : (j : List Entry) (deeds : List Deed) (p : Registers) (bits : ℕ) → IsCounted j deeds p → IsLawful j →
-    EachAfter (λ b (d : Deed). Gives d.step d.answer d.gave) [] deeds → length deeds ≤ 1000 →
-    (place_of j).activation ≤ 8 → (place_of j).bits ≤ bits → length j + 3 ≤ room_for bits
-has_room j deeds p bits h lawful gives most few run =
+pub has_room : (j : List Entry) (deeds : List Deed) (p : Registers) (bits steps : ℕ) → IsCounted j deeds p → IsLawful j
+    →
+    EachAfter (λ b (d : Deed). Gives d.step d.answer d.gave) [] deeds → length deeds ≤ steps →
+    (place_of j).activation ≤ 64 → (place_of j).bits ≤ bits → length j + 3 ≤ 2 * bits + 2 * steps + 100
+has_room j deeds p bits steps h lawful gives most few run =
     let all = entries_counted j in
     let i = h.items in let v = h.verdicts in let o = h.offs in let a = h.aborts lawful.found lawful.cut in
     let each = all_each [] deeds gives in

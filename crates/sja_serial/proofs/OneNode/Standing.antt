@@ -1,5 +1,5 @@
 -- A run after a step of one node's driver and a taking.
-use Rattle.std.proofs.Common.{◌≡◌, ◌≢◌, ℕ, suc, ◌+◌, ◌*◌, ◌<◌, true, false, List, [], ◌∷◌}
+use Rattle.std.proofs.Common.{◌≡◌, ◌≢◌, ℕ, suc, ◌+◌, ◌*◌, ◌<◌, ◌≤◌, true, false, List, [], ◌∷◌}
 use Rattle.std.proofs.Common.{◌++◌, length, refl, sym, ap, ◌∙◌, subst, append-nil, arith, inl, inr}
 use Rattle.std.specs.Prelude.{Bool, None, slice_index_or, slice_set}
 use Rattle.std.proofs.lemmas.Bool.{cases_eq}
@@ -47,26 +47,27 @@ module _ (plan : PlanValue) (r n : SerialValue) (deeds : List (List Deed)) (node
     (drivers_are : n.drivers ≡ slice_set r.drivers node now) (ports_are : n.ports ≡ slice_set r.ports node q)
     (bits_are : n.bits ≡ r.bits)
     (right : n.bus.fault ≡ None) (run : n.bus.run ≡ r.bus.run) (script : n.bus.script ≡ r.bus.script)
-    (left_is : n.bus.left ≡ r.bus.left) (journals : length n.bus.journals ≡ length r.bus.journals)
+    (room : n.bus.steps ≡ r.bus.steps) (left_is : n.bus.left ≡ r.bus.left) (journals : length n.bus.journals ≡ length
+    r.bus.journals)
     (kept : KeepsAll Lies r.bus.journals n.bus.journals given n.links) (items : EachJournal MayHaveItems r.bus.journals
     n.bus.journals) (untold : EachUntold r.bus.untold n.bus.untold r.bus.journals n.bus.journals)
     (dry : AllDry (λ (s : Deques). s.up ≡ []) n.bus.journals n.links)
     (sames : EachRelated (λ (a b : Deques). b.link ≡ a.link) given n.links) (many : length n.links ≡ length r.links)
-    (others : (i : ℕ) (d : Deques) → i ≢ place_after (8 * node) (ended_of was) →
+    (others : (i : ℕ) (d : Deques) → i ≢ place_after (64 * node) (ended_of was) →
     slice_index_or given i d ≡ slice_index_or r.links i d)
-    (ids : NumberedAt (λ (s : Deques). s.link) given (8 * node) (node_of now)) (whose : node_of now ≡ node) where
+    (ids : NumberedAt (λ (s : Deques). s.link) given (64 * node) (node_of now)) (whose : node_of now ≡ node) where
   -- the links after the step are numbered as before it
   pub given_ids : (m a : ℕ) (d : Deques) → a < per_node → per_node * m + a < length r.links →
       (slice_index_or given (per_node * m + a) d).link ≡ record { node = m; activation = suc a }
   given_ids m a d few less = elim (cases_eq m node) [
     | inl q ↦
         let i = ids a d few in
-        ap (λ (x : ℕ). (slice_index_or given (8 * x + a) d).link) q ∙ i
+        ap (λ (x : ℕ). (slice_index_or given (64 * x + a) d).link) q ∙ i
         ∙ (λ t. record { node = whose t; activation = add_one a t }) ∙ (λ t. record {
           node = sym q t;
           activation = suc a;
         })
-    | inr differ ↦ ap (λ (s : Deques). s.link) (others (8 * m + a) d (apart m node a (ended_of was) differ few))
+    | inr differ ↦ ap (λ (s : Deques). s.link) (others (64 * m + a) d (apart m node a (ended_of was) differ few))
         ∙ h.ids m a d few less
   ]
     where
@@ -83,17 +84,18 @@ module _ (plan : PlanValue) (r n : SerialValue) (deeds : List (List Deed)) (node
       let l = was_node.linked.holds in
       let inside : m < length r.bus.journals = let c = h.count.journals in omega (arith, c, less) in
       let now_inside : m < length n.bus.journals = omega (arith, inside, journals) in
-      let holds : HoldsBy Lies (deeds_at deeds m) (driver_of w) (log_of w) (journal_at r.bus.journals m) given (8 * m) =
+      let holds : HoldsBy Lies (deeds_at deeds m) (driver_of w) (log_of w) (journal_at r.bus.journals m) given (64 * m)
+      =
       each_other (deeds_at deeds m) w (journal_at r.bus.journals m) r.links given m node
       (ended_of was) differ l others in
       same_journal plan.version (steps_at plan m) (journal_at r.bus.journals m) (journal_at n.bus.journals m)
-      (deeds_at deeds m) w w g g r.links given n.links (8 * m) none was_node was_node.traced.lawful
+      (deeds_at deeds m) w w g g r.links given n.links (64 * m) none was_node was_node.traced.lawful
       was_node.traced.traces holds (λ k x. x) refl (items m inside) (λ acc. kept m acc inside)
       (λ few. dry m none now_inside few)
 
   other_node : (m : ℕ) (d : LoggedDriver) (p : Registers) → (m ≡ node → ⊥) → m < length plan.nodes →
       IsNode plan.version (steps_at plan m) (journal_at n.bus.journals m) (deeds_at deeds m)
-      (slice_index_or r.drivers m d) (slice_index_or r.ports m p) n.links (8 * m)
+      (slice_index_or r.drivers m d) (slice_index_or r.ports m p) n.links (64 * m)
   other_node m d p differ less =
       let w = slice_index_or r.drivers m d in
       let g = slice_index_or r.ports m p in
@@ -101,16 +103,17 @@ module _ (plan : PlanValue) (r n : SerialValue) (deeds : List (List Deed)) (node
       let l = was_node.linked.holds in
       let inside : m < length r.bus.journals = let c = h.count.journals in omega (arith, c, less) in
       let now_inside : m < length n.bus.journals = omega (arith, inside, journals) in
-      let holds : HoldsBy Lies (deeds_at deeds m) (driver_of w) (log_of w) (journal_at r.bus.journals m) given (8 * m) =
+      let holds : HoldsBy Lies (deeds_at deeds m) (driver_of w) (log_of w) (journal_at r.bus.journals m) given (64 * m)
+      =
       each_other (deeds_at deeds m) w (journal_at r.bus.journals m) r.links given m node
       (ended_of was) differ l others in
       idle plan.version (steps_at plan m) (journal_at r.bus.journals m) (journal_at n.bus.journals m) (deeds_at deeds m)
-      w w g g r.links given n.links (8 * m) none was_node was_node.traced.lawful was_node.traced.traces holds
+      w w g g r.links given n.links (64 * m) none was_node was_node.traced.lawful was_node.traced.traces holds
       (λ k x. x) refl (items m inside) (λ acc. kept m acc inside) (λ few. dry m none now_inside few)
 
   -- the run stands at the deeds that are had more
   pub stands_after : (more : List Deed) → IsNode plan.version (steps_at plan node) (journal_at n.bus.journals node)
-      (deeds_at deeds node ++ more) now q n.links (8 * node) → ((p : Registers) →
+      (deeds_at deeds node ++ more) now q n.links (64 * node) → ((p : Registers) →
       journal_at n.bus.journals node ≡ journal_at r.bus.journals node →
       ShowsRecord (journal_at r.bus.journals node) (slice_index_or r.ports node p) →
       ShowsRecord (journal_at n.bus.journals node) q) → StandsAt plan n (with_deeds deeds node more)
@@ -125,6 +128,7 @@ module _ (plan : PlanValue) (r n : SerialValue) (deeds : List (List Deed)) (node
       ports = ap (λ l. length l) ports_are ∙ length-set r.ports node q ∙ h.count.ports;
       links = many ∙ h.count.links;
     };
+    room = λ m less. subst (λ (l : List ℕ). length (steps_at plan m) ≤ slice_index_or l m 0) (sym room) (h.room m less);
     deeds_count = length-set deeds node (deeds_at deeds node ++ more) ∙ h.deeds_count;
     ids = λ m a d few less. each_at (λ (x y : Deques). y.link ≡ x.link) (λ (x : Deques). x.link) (λ x y same. same)
         given n.links (per_node * m + a) d sames
@@ -132,10 +136,10 @@ module _ (plan : PlanValue) (r n : SerialValue) (deeds : List (List Deed)) (node
     own = λ m d less. ap (λ l. node_of (slice_index_or l m d)) drivers_are ∙ owner m d less;
     nodes = λ m d p less. subst (λ (ds : List LoggedDriver). IsNode plan.version (steps_at plan m)
         (journal_at n.bus.journals m) (deeds_at (with_deeds deeds node more) m) (slice_index_or ds m d)
-        (slice_index_or n.ports m p) n.links (8 * m)) (sym drivers_are)
+        (slice_index_or n.ports m p) n.links (64 * m)) (sym drivers_are)
         (subst (λ (ps : List Registers). IsNode plan.version (steps_at plan m) (journal_at n.bus.journals m)
         (deeds_at (with_deeds deeds node more) m) (slice_index_or (slice_set r.drivers node now) m d)
-        (slice_index_or ps m p) n.links (8 * m)) (sym ports_are)
+        (slice_index_or ps m p) n.links (64 * m)) (sym ports_are)
         (each m d p less));
     shown = λ m p less told. subst (λ (ps : List Registers). ShowsRecord (journal_at n.bus.journals m)
         (slice_index_or ps m p)) (sym ports_are) (shown_at m p less told);
@@ -175,10 +179,10 @@ module _ (plan : PlanValue) (r n : SerialValue) (deeds : List (List Deed)) (node
       each : (m : ℕ) (d : LoggedDriver) (p : Registers) → m < length plan.nodes →
           IsNode plan.version (steps_at plan m) (journal_at n.bus.journals m) (deeds_at (with_deeds deeds node more) m)
           (slice_index_or (slice_set r.drivers node now) m d) (slice_index_or (slice_set r.ports node q) m p)
-          n.links (8 * m)
+          n.links (64 * m)
       each m d p less =
           let P : ℕ → List Deed → LoggedDriver → Registers → Type 0 = λ k ds w g. k < length plan.nodes →
-          IsNode plan.version (steps_at plan k) (journal_at n.bus.journals k) ds w g n.links (8 * k) in
+          IsNode plan.version (steps_at plan k) (journal_at n.bus.journals k) ds w g n.links (64 * k) in
           let c = h.deeds_count in let e = h.count.ports in
           each_set P deeds r.drivers r.ports node (deeds_at deeds node ++ more) [] now d q p
           (omega (arith, c, there)) few (omega (arith, e, there)) (λ t. node_after)

@@ -23,7 +23,7 @@ use Rattle.sja_regs.specs.Turns.{rxerr_after, txerr_after, bs_after}
 use Rattle.sja_regs.specs.Writing.{after_forced_off, write_faults_at, after_writing_at}
 use Rattle.sja_script.specs.declared.step.Step.{Step}
 use Rattle.sja_script.specs.declared.step.Step.TheVariants.{Start, Stop, Window, Release, Read}
-use Rattle.sja_script.specs.declared.step.Step.TheVariants.{Write, Load, Command, Await, Sent}
+use Rattle.sja_script.specs.declared.step.Step.TheVariants.{Write, Load, Command, Await, Sent, Interrupt}
 use Rattle.sja_script.specs.declared.step_answer.StepAnswer.{StepAnswer}
 use Rattle.sja_script.specs.declared.step_answer.StepAnswer.TheVariants.{Done}
 use Rattle.sja_driver.specs.Answers.{done_unless}
@@ -175,6 +175,7 @@ step_alike p Window answer active seen tells none = all_alike p
 step_alike p Release answer active seen tells none = all_alike p
 step_alike p (Await count) answer active seen tells none = all_alike p
 step_alike p Sent answer active seen tells none = all_alike p
+step_alike p Interrupt answer active seen tells none = all_alike p
 
 -- a counter or BS that a turn would leave in p, it leaves in q
 rxerr_on : (p q : Registers) (turn : BusTurn) → CountsOn p q → rxerr_after p turn ≡ p.rxerr →

@@ -25,7 +25,7 @@ use Rattle.sja_driver.specs.declared.work_log.WorkLog.{WorkLog}
 use Rattle.sja_driver.specs.Deeds.{Deed, opens_by, opened_by, is_active, given_in, deeds_of}
 use Rattle.sja_driver.specs.Holding.{HoldsBy, place_after}
 use Rattle.sja_driver.specs.LoggedDrivers.{node_of, driver_of, log_of, ended_of, Steps}
-use Rattle.sja_driver.specs.Logs.{deeds_by}
+use Rattle.sja_driver.specs.Logs.{Traces, deeds_by}
 use Rattle.sja_driver.specs.Tries.{Tried}
 use Rattle.sja_log.proofs.Trace.Stepping.{given_taken}
 use Rattle.sja_serial.specs.Nodes.{IsNode}
@@ -62,27 +62,28 @@ module _ (version : ℕ) (steps : List Step) (j : List Entry) (deeds : List Deed
     (p q : Registers)
     (links given : List Deques) (base : ℕ) (one : Step) (none : Deques) (h : IsNode version steps j deeds was p links
     base)
-    (lawful : IsLawfulJournal j) (bits : ℕ) (short : length deeds ≤ 1000)
-    (run : (place_of j).bits ≤ bits) where
+    (lawful : IsLawfulJournal j) (bits room : ℕ) (short : length deeds ≤ length steps)
+    (enough : 2 * bits + 2 * length steps + 100 ≤ room) (run : (place_of j).bits ≤ bits) where
   before : (a : ℕ) → given_in (deeds_of deeds a) ≡ taken_of (part j a)
   before a = given_taken deeds j a (h.in_time.when a)
 
-  most : opened_by deeds ≤ 8
+  most : opened_by deeds ≤ 64
   most = opened_most deeds (driver_of was) (log_of was) (node_of was) (ended_of was) h.traced.traces h.traced.lawful
 
-  fits : length j + 3 ≤ room_for bits
+  fits : length j + 3 ≤ room
   fits =
       let b = h.linked.level.begun in let m = most in
-      has_room j deeds p bits h.counted lawful h.traced.traces.answered.gives short (omega (arith, b, m)) run
+      let few = has_room j deeds p bits (length steps) h.counted lawful h.traced.traces.answered.gives short
+      (omega (arith, b, m)) run in omega (arith, few, enough)
 
   -- the step was done
   pub done_taken : (k : List Entry) (after : List Deques) (node : ℕ) (f : BusFault) →
       Steps alike Lies shows_none takes_none was now links given base p q one (place_of j).bits true →
-      RefusesItem Lies (room_for bits) j k given after base node f → ⊥
+      RefusesItem Lies room j k given after base node f → ⊥
   done_taken k after node f st r =
       let y = doing version steps j deeds was now p q links given base one none h lawful st in
       let c = y.is_next in let d = c.deed in let next = c.next in let b = opened_by deeds + opens_by d in
-      let is = refused_is j k (deeds ++ d ∷ []) (driver_of now) (log_of now) given after base (room_for bits) node none
+      let is = refused_is j k (deeds ++ d ∷ []) (driver_of now) (log_of now) given after base room node none
       f d.gave b
       y.holds (at_most_one (is_active deeds) (opened_by deeds) d.step d.answer d.gave y.kind) y.waits_now r in
       let read = is_read j deeds d h.linked.level most y.kind (λ e. no_item r.item (sym is.1 ∙ e)) in
@@ -92,21 +93,23 @@ module _ (version : ℕ) (steps : List Step) (j : List Entry) (deeds : List Deed
       (stops_of j) read.1 (sym read.0) bad.free bad.is_free bad.bad in
       never_refused version j deeds d p q next h.ported h.asked h.linked.level y.kind
       (tbs_right version j deeds p h.registers h.traced.traces.answered.states) lawful right node
-      (room_for bits)
-      r.item f is.1 fits (subst (λ (l : List Entry). IsRefusedFor node (room_for bits) l r.item f) is.0 r.why)
+      room
+      r.item f is.1 fits (subst (λ (l : List Entry). IsRefusedFor node room l r.item f) is.0 r.why)
 
   -- it waits
   pub waits_taken : (k : List Entry) (after : List Deques) (node : ℕ) (f : BusFault) →
       Steps alike Lies shows_none takes_none was now links given base p q one (place_of j).bits false →
-      RefusesItem Lies (room_for bits) j k given after base node f → ⊥
+      RefusesItem Lies room j k given after base node f → ⊥
   waits_taken k after node f st r =
       let unmet = is_unmet st.tried st.met in
       let nothing_done : deeds ++ deeds_by p one st.tried (place_of j).bits ≡ deeds =
       ap (λ (o : Tried). deeds ++ deeds_by p one o (place_of j).bits) unmet ∙ append-nil deeds in
+      let trace : Traces p.version (driver_of was) (log_of was) deeds =
+      subst (λ (n : ℕ). Traces n (driver_of was) (log_of was) deeds) (sym h.ported.version_is) h.traced.traces in
       let holds_still : HoldsBy Lies deeds (driver_of now) (log_of now) j given base =
       subst (λ (l : List Deed). HoldsBy Lies l (driver_of now) (log_of now) j given base) nothing_done
-      (st.goes.holds deeds j h.traced.traces h.linked.holds) in
-      none_taken j k deeds (driver_of now) (log_of now) given after base (room_for bits) node none f holds_still before
+      (st.goes.holds deeds j trace h.linked.holds) in
+      none_taken j k deeds (driver_of now) (log_of now) given after base room node none f holds_still before
       r
 
 -- ---- a taking after a step
@@ -115,32 +118,34 @@ module _ (version : ℕ) (steps : List Step) (j : List Entry) (deeds : List Deed
 pub gather_takes : (plan : PlanValue) (r : SerialValue) (deeds : List (List Deed)) (node : ℕ) (was now : LoggedDriver)
     (p q : Registers) (given after : List Deques) (journals : List (List Entry)) (one : Step) (none : Deques)
     (f : BusFault)
-    (b : Bool) → StandsAt plan r deeds →
+    (b : Bool) → StandsAt plan r deeds → node < length plan.nodes →
     IsNode plan.version (steps_at plan node) (journal_at r.bus.journals node) (deeds_at deeds node) was p r.links
-    (8 * node) →
-    IsLawfulJournal (journal_at r.bus.journals node) → length (deeds_at deeds node) ≤ 1000 →
+    (64 * node) →
+    IsLawfulJournal (journal_at r.bus.journals node) → length (deeds_at deeds node) ≤ length (steps_at plan node) →
     (place_of (journal_at r.bus.journals node)).bits ≡ r.bits →
-    Steps alike Lies shows_none takes_none was now r.links given (8 * node) p q one r.bits b →
-    ((i : ℕ) (d : Deques) → i ≢ place_after (8 * node) (ended_of was) → slice_index_or given i d ≡ slice_index_or
+    Steps alike Lies shows_none takes_none was now r.links given (64 * node) p q one r.bits b →
+    ((i : ℕ) (d : Deques) → i ≢ place_after (64 * node) (ended_of was) → slice_index_or given i d ≡ slice_index_or
     r.links i d) →
-    IsTakenAndRefused Lies (r.bus.run + r.bus.left) r.bus.journals journals given after f → ⊥
-gather_takes plan r deeds node was now p q given after journals one none f b h w lawful short place st others
+    IsTakenAndRefused Lies (r.bus.run + r.bus.left) r.bus.steps r.bus.journals journals given after f → ⊥
+gather_takes plan r deeds node was now p q given after journals one none f b h there w lawful short place st others
     r_not =
     let m = r_not.node in
     elim (cases_eq m node) [
       | inl e ↦
-          let P : ℕ → Type 0 = λ x. RefusesItem Lies (room_for (r.bus.run + r.bus.left)) (journal_at r.bus.journals x)
-          (journal_at journals x) given after (8 * x) x f in
+          let P : ℕ → Type 0 = λ x. RefusesItem Lies (room_for (r.bus.run + r.bus.left) r.bus.steps x)
+          (journal_at r.bus.journals x)
+          (journal_at journals x) given after (64 * x) x f in
           let refuses = subst P e r_not.refuses in
-          here b (subst (λ (n : ℕ). Steps alike Lies shows_none takes_none was now r.links given (8 * node) p q one n b)
+          here b (subst (λ (n : ℕ). Steps alike Lies shows_none takes_none was now r.links given (64 * node) p q one n
+          b)
           (sym place) st) refuses
       | inr differ ↦
           let x = slice_index_or r.drivers m now in
           let few : m < length plan.nodes = let c = h.count.journals in let l = r_not.few in omega (arith, c, l) in
           let n = h.nodes m now p few in
           none_taken (journal_at r.bus.journals m) (journal_at journals m) (deeds_at deeds m) (driver_of x) (log_of x)
-          given after (8 * m)
-          (room_for (r.bus.run + r.bus.left)) m none f
+          given after (64 * m)
+          (room_for (r.bus.run + r.bus.left) r.bus.steps m) m none f
           (each_other (deeds_at deeds m) x (journal_at r.bus.journals m) r.links given m node (ended_of was) differ
           n.linked.holds others)
           (λ a. given_taken (deeds_at deeds m) (journal_at r.bus.journals m) a (n.in_time.when a)) r_not.refuses
@@ -152,15 +157,21 @@ gather_takes plan r deeds node was now p q given after journals one none f b h w
     run : (place_of j).bits ≤ r.bus.run + r.bus.left
     run = let e = h.bits in omega (arith, e, place)
 
+    enough : 2 * (r.bus.run + r.bus.left) + 2 * length (steps_at plan node) + 100
+        ≤ room_for (r.bus.run + r.bus.left) r.bus.steps node
+    enough = let e = h.room node there in omega (arith, e)
+
     here : (x : Bool) →
-        Steps alike Lies shows_none takes_none was now r.links given (8 * node) p q one (place_of j).bits x →
-        RefusesItem Lies (room_for (r.bus.run + r.bus.left)) j (journal_at journals node) given after (8 * node) node
-        f → ⊥
+        Steps alike Lies shows_none takes_none was now r.links given (64 * node) p q one (place_of j).bits x →
+        RefusesItem Lies (room_for (r.bus.run + r.bus.left) r.bus.steps node) j (journal_at journals node) given after
+        (64 * node) node f → ⊥
     here true s refuses =
-        done_taken plan.version (steps_at plan node) j (deeds_at deeds node) was now p q r.links given (8 * node) one
+        done_taken plan.version (steps_at plan node) j (deeds_at deeds node) was now p q r.links given (64 * node) one
         none w lawful
-        (r.bus.run + r.bus.left) short run (journal_at journals node) after node f s refuses
+        (r.bus.run + r.bus.left) (room_for (r.bus.run + r.bus.left) r.bus.steps node) short enough run (journal_at
+        journals node) after node f s refuses
     here false s refuses =
-        waits_taken plan.version (steps_at plan node) j (deeds_at deeds node) was now p q r.links given (8 * node) one
+        waits_taken plan.version (steps_at plan node) j (deeds_at deeds node) was now p q r.links given (64 * node) one
         none w lawful
-        (r.bus.run + r.bus.left) short run (journal_at journals node) after node f s refuses
+        (r.bus.run + r.bus.left) (room_for (r.bus.run + r.bus.left) r.bus.steps node) short enough run (journal_at
+        journals node) after node f s refuses

@@ -38,28 +38,29 @@ module _ (plan : PlanValue) (r n : SerialValue) (deeds : List (List Deed)) (node
     (drivers_are : n.drivers ≡ slice_set r.drivers node now) (ports_are : n.ports ≡ slice_set r.ports node q)
     (bits_are : n.bits ≡ r.bits)
     (right : n.bus.fault ≡ None) (run : n.bus.run ≡ r.bus.run) (script : n.bus.script ≡ r.bus.script)
-    (left_is : n.bus.left ≡ r.bus.left) (journals : length n.bus.journals ≡ length r.bus.journals)
+    (room : n.bus.steps ≡ r.bus.steps) (left_is : n.bus.left ≡ r.bus.left) (journals : length n.bus.journals ≡ length
+    r.bus.journals)
     (kept : KeepsAll Lies r.bus.journals n.bus.journals given n.links) (items : EachJournal MayHaveItems r.bus.journals
     n.bus.journals) (untold : EachUntold r.bus.untold n.bus.untold r.bus.journals n.bus.journals)
     (dry : AllDry (λ (s : Deques). s.up ≡ []) n.bus.journals n.links)
     (sames : EachRelated (λ (a b : Deques). b.link ≡ a.link) given n.links) (many : length n.links ≡ length r.links)
-    (others : (i : ℕ) (d : Deques) → i ≢ place_after (8 * node) (ended_of was) →
+    (others : (i : ℕ) (d : Deques) → i ≢ place_after (64 * node) (ended_of was) →
     slice_index_or given i d ≡ slice_index_or r.links i d)
-    (ids : NumberedAt (λ (s : Deques). s.link) given (8 * node) (node_of now)) (whose : node_of now ≡ node) where
+    (ids : NumberedAt (λ (s : Deques). s.link) given (64 * node) (node_of now)) (whose : node_of now ≡ node) where
   -- the journal of another node is as it was
   other : (m : ℕ) (d : LoggedDriver) (p : Registers) → (m ≡ node → ⊥) → m < length plan.nodes →
       journal_at n.bus.journals m ≡ journal_at r.bus.journals m
   other = other_journal plan r n deeds node h there given was now q none drivers_are ports_are bits_are right run script
-      left_is journals kept items untold dry sames many others ids whose
+      room left_is journals kept items untold dry sames many others ids whose
 
   -- the run stands at the deeds that are had more
   standing : (more : List Deed) → IsNode plan.version (steps_at plan node) (journal_at n.bus.journals node)
-      (deeds_at deeds node ++ more) now q n.links (8 * node) → ((p : Registers) →
+      (deeds_at deeds node ++ more) now q n.links (64 * node) → ((p : Registers) →
       journal_at n.bus.journals node ≡ journal_at r.bus.journals node →
       ShowsRecord (journal_at r.bus.journals node) (slice_index_or r.ports node p) →
       ShowsRecord (journal_at n.bus.journals node) q) → StandsAt plan n (with_deeds deeds node more)
   standing = stands_after plan r n deeds node h there given was now q none drivers_are ports_are bits_are right run
-      script left_is journals kept items untold dry sames many others ids whose
+      script room left_is journals kept items untold dry sames many others ids whose
 
   inside : node < length r.bus.journals
   inside = let c = h.count.journals in omega (arith, c, there)
@@ -75,22 +76,22 @@ module _ (plan : PlanValue) (r n : SerialValue) (deeds : List (List Deed)) (node
   -- the step was done
   pub next_done : (p : Registers) (one : Step) → ((x : Registers) → slice_index_or r.ports node x ≡ p) →
       IsNode plan.version (steps_at plan node) (journal_at r.bus.journals node) (deeds_at deeds node) was p r.links
-      (8 * node) →
+      (64 * node) →
       IsLawfulJournal (journal_at r.bus.journals node) →
       length (deeds_at deeds node) < length (steps_at plan node) →
       one ≡ slice_index_or (steps_at plan node) (length (deeds_at deeds node)) one → IsLawful now →
       (place_of (journal_at r.bus.journals node)).bits ≡ r.bits →
       Steps alike Lies shows_none takes_none was now r.links given
-      (8 * node) p q one r.bits true → ((m : ℕ) → HasRoom (m + 1) (log_of was) → HasRoom m (log_of now)) →
+      (64 * node) p q one r.bits true → ((m : ℕ) → HasRoom (m + 1) (log_of was) → HasRoom m (log_of now)) →
       DoesNext plan r n node deeds
   next_done p one port w lawful left is now_lawful place st room =
-      let at : Steps alike Lies shows_none takes_none was now r.links given (8 * node) p q one
+      let at : Steps alike Lies shows_none takes_none was now r.links given (64 * node) p q one
       (place_of (journal_at r.bus.journals node)).bits true =
       subst (λ (b : ℕ).
-      Steps alike Lies shows_none takes_none was now r.links given (8 * node) p q one b true) (sym place)
+      Steps alike Lies shows_none takes_none was now r.links given (64 * node) p q one b true) (sym place)
       st in
       let s = stepped plan.version (steps_at plan node) (journal_at r.bus.journals node)
-      (journal_at n.bus.journals node) (deeds_at deeds node) was now p q r.links given n.links (8 * node) one none w
+      (journal_at n.bus.journals node) (deeds_at deeds node) was now p q r.links given n.links (64 * node) one none w
       lawful left is now_lawful
       (items node inside) (λ acc. kept node acc inside) (λ few. dry node none now_inside few) at room in
       let d = s.deed in let ds = deeds_at deeds node in let j = journal_at r.bus.journals node in record {
@@ -121,36 +122,41 @@ module _ (plan : PlanValue) (r n : SerialValue) (deeds : List (List Deed)) (node
   -- the step has to wait
   pub next_waits : (p : Registers) (one : Step) → ((x : Registers) → slice_index_or r.ports node x ≡ p) →
       IsNode plan.version (steps_at plan node) (journal_at r.bus.journals node) (deeds_at deeds node) was p r.links
-      (8 * node) →
+      (64 * node) →
       IsLawfulJournal (journal_at r.bus.journals node) →
       length (deeds_at deeds node) < length (steps_at plan node) → one ≡ slice_index_or (steps_at plan node)
       (length (deeds_at deeds node)) one → IsLawful now →
       (place_of (journal_at r.bus.journals node)).bits ≡ r.bits →
       Steps alike Lies shows_none takes_none was now r.links given
-      (8 * node) p q one r.bits false → ((m : ℕ) → HasRoom m (log_of was) → HasRoom m (log_of now)) →
+      (64 * node) p q one r.bits false → ((m : ℕ) → HasRoom m (log_of was) → HasRoom m (log_of now)) →
       DoesNothing plan r n node deeds
   next_waits p one port_was w lawful left is now_lawful place st room =
-      let at : Steps alike Lies shows_none takes_none was now r.links given (8 * node) p q one
+      let at : Steps alike Lies shows_none takes_none was now r.links given (64 * node) p q one
       (place_of (journal_at r.bus.journals node)).bits false =
       subst (λ (b : ℕ).
-      Steps alike Lies shows_none takes_none was now r.links given (8 * node) p q one b false) (sym place)
+      Steps alike Lies shows_none takes_none was now r.links given (64 * node) p q one b false) (sym place)
       st in
       let j = journal_at r.bus.journals node in let k = journal_at n.bus.journals node in let ds =
       deeds_at deeds node in
       let its = items node inside in let keeps = λ (acc : ℕ → Account). kept node acc inside in
-      let shows : stops_of k < 8 → (slice_index_or n.links (8 * node + stops_of k) none).up ≡ [] =
+      let shows : stops_of k < 64 → (slice_index_or n.links (64 * node + stops_of k) none).up ≡ [] =
       λ few. dry node none now_inside few in
-      let same = still_journal plan.version (steps_at plan node) j k ds was now p q r.links given n.links (8 * node) one
+      let same = still_journal plan.version (steps_at plan node) j k ds was now p q r.links given n.links (64 * node)
+      one
       none w lawful now_lawful its keeps shows at room in
-      let port = same_port plan.version (steps_at plan node) j k ds was now p q r.links given n.links (8 * node) one
+      let port = same_port plan.version (steps_at plan node) j k ds was now p q r.links given n.links (64 * node) one
       none w lawful now_lawful its keeps shows at room in
-      let after = still plan.version (steps_at plan node) j k ds was now p q r.links given n.links (8 * node) one none w
+      let after = still plan.version (steps_at plan node) j k ds was now p q r.links given n.links (64 * node) one none
+      w
       lawful now_lawful its keeps shows at room in
-      let why = waited plan.version (steps_at plan node) j k ds was now p q r.links given n.links (8 * node) one none w
+      let why = waited plan.version (steps_at plan node) j k ds was now p q r.links given n.links (64 * node) one none w
       lawful now_lawful its keeps shows at room in
-      let more : IsNode plan.version (steps_at plan node) k (ds ++ []) now q n.links (8 * node) =
-      subst (λ (l : List Deed). IsNode plan.version (steps_at plan node) k l now q n.links (8 * node))
-      (sym (append-nil ds)) after in record {
+      let more : IsNode plan.version (steps_at plan node) k (ds ++ []) now q n.links (64 * node) =
+      subst (λ (l : List Deed). IsNode plan.version (steps_at plan node) k l now q n.links (64 * node))
+      (sym (append-nil ds)) after in
+      let ports_stay : n.ports ≡ r.ports =
+      ports_are ∙ ap (λ (g : Registers). slice_set r.ports node g) (port ∙ sym (port_was p))
+      ∙ set-get_or r.ports node p in record {
         does = record {
           stands = standing [] more (λ x same_now shown. subst (λ (g : Registers). ShowsRecord k g)
               (port_was x ∙ sym port) (subst (λ (l : List Entry). ShowsRecord l (slice_index_or r.ports node x))
@@ -159,13 +165,15 @@ module _ (plan : PlanValue) (r n : SerialValue) (deeds : List (List Deed)) (node
           bits = bits_are;
           items = more_items;
         };
-        why = inr (λ s.
+        why = inr (λ s x.
             let step_is : one ≡ slice_index_or (steps_at plan node) (length ds) s =
             is ∙ get_or_default (steps_at plan node) (length ds) one s left in
-            subst (λ (l : List Entry). HasToWait l ds (slice_index_or (steps_at plan node) (length ds) s)) (sym same)
-            (subst (λ (t : Step). HasToWait j ds t) step_is why));
-        ports = ports_are ∙ ap (λ (g : Registers). slice_set r.ports node g) (port ∙ sym (port_was p))
-            ∙ set-get_or r.ports node p;
+            let stays : p ≡ slice_index_or n.ports node x =
+            sym (port_was x) ∙ ap (λ (l : List Registers). slice_index_or l node x) (sym ports_stay) in
+            subst (λ (g : Registers). HasToWait g k ds (slice_index_or (steps_at plan node) (length ds) s)) stays
+            (subst (λ (l : List Entry). HasToWait p l ds (slice_index_or (steps_at plan node) (length ds) s)) (sym same)
+            (subst (λ (t : Step). HasToWait p j ds t) step_is why)));
+        ports = ports_stay;
         journals = λ m less. elim (cases_eq node m) [
           | inl e ↦ subst (λ (x : ℕ). journal_at n.bus.journals x ≡ journal_at r.bus.journals x) e same
           | inr differ ↦ other m was p (λ e. differ (sym e)) less
@@ -175,12 +183,12 @@ module _ (plan : PlanValue) (r n : SerialValue) (deeds : List (List Deed)) (node
   -- either of both
   pub next_tried : (p : Registers) (one : Step) (b : Bool) → ((x : Registers) → slice_index_or r.ports node x ≡ p) →
       IsNode plan.version (steps_at plan node) (journal_at r.bus.journals node) (deeds_at deeds node) was p r.links
-      (8 * node) →
+      (64 * node) →
       IsLawfulJournal (journal_at r.bus.journals node) →
       length (deeds_at deeds node) < length (steps_at plan node) →
       one ≡ slice_index_or (steps_at plan node) (length (deeds_at deeds node)) one → IsLawful now →
       (place_of (journal_at r.bus.journals node)).bits ≡ r.bits →
-      Steps alike Lies shows_none takes_none was now r.links given (8 * node) p q one r.bits b →
+      Steps alike Lies shows_none takes_none was now r.links given (64 * node) p q one r.bits b →
       ((m : ℕ) → HasRoom (m + 1) (log_of was) → HasRoom m (log_of now)) →
       (b ≡ false → (m : ℕ) → HasRoom m (log_of was) → HasRoom m (log_of now)) →
       (b ≡ true → DoesNext plan r n node deeds) × (b ≡ false → DoesNothing plan r n node deeds)

@@ -13,10 +13,11 @@ use Rattle.sja_link.specs.Carried.{taken_of}
 use Rattle.sja_link.specs.Places.{place_of}
 use Rattle.sja_link.specs.Verdicts.{IsLawful as IsLawfulJournal}
 use Rattle.sja_regs.specs.declared.registers.Registers.{Registers}
+use Rattle.sja_regs.specs.InterruptLine.{is_line_active}
 use Rattle.sja_script.specs.declared.refusal.Refusal.TheVariants.{Closed}
 use Rattle.sja_script.specs.declared.step.Step.{Step}
 use Rattle.sja_script.specs.declared.step.Step.TheVariants.{Start, Stop, Window, Release, Read}
-use Rattle.sja_script.specs.declared.step.Step.TheVariants.{Write, Load, Command, Await, Sent}
+use Rattle.sja_script.specs.declared.step.Step.TheVariants.{Write, Load, Command, Await, Sent, Interrupt}
 use Rattle.sja_script.specs.declared.step_answer.StepAnswer.{StepAnswer}
 use Rattle.sja_script.specs.declared.step_answer.StepAnswer.TheVariants.{Done, Released as ReleasedAnswer, Refused}
 use Rattle.sja_driver.specs.declared.any_driver.AnyDriver.{AnyDriver}
@@ -35,7 +36,7 @@ use Rattle.sja_log.specs.Registering.{seen_now}
 use Rattle.sja_log.specs.Windows.{SeesIf}
 use Rattle.sja_serial.specs.Asking.{IsAsked}
 use Rattle.sja_serial.specs.Waiting.{HasToWait}
-use Rattle.sja_log.proofs.Account.Seeing.{seen_as, seen_by_now, tells_seen, seen_shown, no_release, no_stop}
+use Rattle.sja_log.proofs.Account.Seeing.{IsSeeing, seen_as, seen_by_now, tells_seen, seen_shown}
 use Rattle.sja_wire.proofs.Taking.{same_front}
 use Rattle.sja_log.proofs.Account.Looks.{IsShown, is_shown}
 use Rattle.sja_driver.proofs.Step.Few.{few_held}
@@ -56,7 +57,7 @@ takes_none s = length s.up ≡ 24
 -- a deed that comes next, at a port whose registers were p and are q after it
 pub record IsNext (j : List Entry) (deeds : List Deed) (p q : Registers) (d : Deed) : Type 0 where
   pub now : d.bits ≡ (place_of j).bits
-  pub fits : FitsState (is_active deeds) (opened_by deeds) d.step d.answer
+  pub fits : FitsState p.version (is_active deeds) (opened_by deeds) d.step d.answer
   pub gave : d.gave ≡ carried p d.step d.answer
   pub sees : SeesIf (is_active deeds) j deeds d
   pub tells : Tells d.step (is_active deeds) p (seen_now (is_active deeds) j deeds) d.answer
@@ -67,10 +68,10 @@ leaves_last : (xs : List DriverLedger) (y : List (List ℕ)) → slice_index_or 
 leaves_last [] y = refl
 leaves_last (x ∷ xs) y = leaves_last xs y
 
-min_few : (n : ℕ) → n < 8 → min n 7 ≡ n
+min_few : (n : ℕ) → n < 64 → min n 63 ≡ n
 min_few n few = grind arith
 
-min_less : (n : ℕ) → min n 7 < 8
+min_less : (n : ℕ) → min n 63 < 64
 min_less n = grind arith
 
 -- ---- a driver that took in what its link showed knows what was put
@@ -78,7 +79,8 @@ min_less n = grind arith
 module _ (j : List Entry) (deeds : List Deed) (log : WorkLog) (links : List Deques) (base node : ℕ) (none : Deques)
     (lawful : IsLawfulJournal j)
     (given : (a : ℕ) → given_in (deeds_of deeds a) ≡ taken_of (part j a)) where
-  pub looked : (w : AnyDriver) → is_out w ≡ true → Traces w log deeds → IsDriverOf node (length (left_in log)) w →
+  pub looked : {version : ℕ} (w : AnyDriver) → is_out w ≡ true → Traces version w log deeds → IsDriverOf node (length
+      (left_in log)) w →
       HoldsBy Lies deeds w log j links base →
       (window : List (List ℕ)) (off : Bool) → Looks alike Lies shows_none
       (slice_index_or links (place_after base (length (left_in log))) none) (held_of w) window (off_of w) off →
@@ -86,7 +88,7 @@ module _ (j : List Entry) (deeds : List Deed) (log : WorkLog) (links : List Dequ
   looked (InReset d) out trace place h window off look = absurd cc
   looked (InActive d) out trace place h window off look =
       let n = length (left_in log) in
-      let few : n < 8 = place.1 in
+      let few : n < 64 = place.1 in
       let opened : suc n ≡ opened_by deeds = let e = trace.opened in let a = ap (λ l. l.activation) place.0 in
       omega (arith, e, a) in
       let at : place_after base n ≡ base + n = ap (λ m. base + m) (min_few n few) in
@@ -108,21 +110,23 @@ module _ (j : List Entry) (deeds : List Deed) (log : WorkLog) (links : List Dequ
       (λ all down put told. few_held j (opened_by deeds) deeds all down released window lawful put told
       (given (opened_by deeds)) trace.answered.gives lengths) look
 
-  fits_by : (one : Step) (answer : StepAnswer) (w : AnyDriver) → Traces w log deeds →
-      FitsState (is_out w) (opened_of w) one answer → FitsState (is_active deeds) (opened_by deeds) one answer
-  fits_by one answer w trace fits =
-      subst (λ (b : Bool). FitsState b (opened_by deeds) one answer) (sym trace.out)
-      (subst (λ (m : ℕ). FitsState (is_out w) m one answer) (sym trace.opened) fits)
+  fits_by : {version : ℕ} (one : Step) (answer : StepAnswer) (w : AnyDriver) → Traces version w log deeds →
+      FitsState version (is_out w) (opened_of w) one answer →
+      FitsState version (is_active deeds) (opened_by deeds) one answer
+  fits_by {version} one answer w trace fits =
+      subst (λ (b : Bool). FitsState version b (opened_by deeds) one answer) (sym trace.out)
+      (subst (λ (m : ℕ). FitsState version (is_out w) m one answer) (sym trace.opened) fits)
 
   -- a step that was answered is the deed that comes next
   pub next_one : (p q : Registers) (one : Step) (answer : StepAnswer) (w : AnyDriver) (off : Bool)
-      (window : List (List ℕ)) (seen : Seen) → Traces w log deeds → IsDriverOf node (length (left_in log)) w →
-      HoldsBy Lies deeds w log j links base → p.closed ≡ false → FitsState (is_out w) (opened_of w) one answer →
+      (window : List (List ℕ)) (seen : Seen) → Traces p.version w log deeds → IsDriverOf node (length (left_in log)) w →
+      HoldsBy Lies deeds w log j links base → p.closed ≡ false →
+      FitsState p.version (is_out w) (opened_of w) one answer →
       IfOut w (Sees one off window answer) → Tells one (is_out w) p seen answer →
       IfOut w (IfLooking one (Looks alike Lies shows_none
       (slice_index_or links (place_after base (length (left_in log))) none) (held_of w) window (off_of w) off)) →
       q ≡ ported p one answer →
-      ((a : ℕ) → one ≡ Read a → seen ≡ seen_as (is_out w) off window) →
+      (IsSeeing one → seen ≡ seen_as (is_out w) off window) →
       IsNext j deeds p q (record { step = one; answer = answer; bits = (place_of j).bits; gave = carried p one answer })
   next_one p q one answer (InReset d) off window seen trace place h unclosed fits sees tells looks left so = record {
     now = refl;
@@ -132,8 +136,8 @@ module _ (j : List Entry) (deeds : List Deed) (log : WorkLog) (links : List Dequ
         (record { step = one; answer = answer; bits = (place_of j).bits; gave = carried p one answer }) in
         subst P (sym trace.out) tt;
     tells = let T : Bool → Type 0 = λ b. Tells one b p (seen_now b j deeds) answer in
-        subst T (sym trace.out) (tells_seen one answer false p seen nothing_seen (λ a e. sym (so a e)) tells);
-    patient = never_closed false (opened_of (InReset d)) one answer off window p seen fits
+        subst T (sym trace.out) (tells_seen one answer false p seen nothing_seen (λ i. sym (so i)) tells);
+    patient = never_closed p.version false (opened_of (InReset d)) one answer off window p seen fits
         (λ e. absurd cc) tells unclosed;
     left = left;
   }
@@ -147,10 +151,11 @@ module _ (j : List Entry) (deeds : List Deed) (log : WorkLog) (links : List Dequ
         subst P (sym trace.out) (sees_shown j deeds one answer off window sees
         (if_looking one _ _ (looked (InActive d) refl trace place h window off) looks));
     tells = let T : Bool → Type 0 = λ b. Tells one b p (seen_now b j deeds) answer in
-        subst T (sym trace.out) (tells_seen one answer true p seen (seen_now true j deeds) (λ a e.
-        seen_shown j deeds one a off window e (if_looking one _ _ (looked (InActive d) refl trace place h window off)
-        looks) ∙ sym (so a e)) tells);
-    patient = never_closed true (opened_of (InActive d)) one answer off window p seen fits (λ e. sees) tells unclosed;
+        subst T (sym trace.out) (tells_seen one answer true p seen (seen_now true j deeds) (λ i.
+        seen_shown j deeds one off window i (if_looking one _ _ (looked (InActive d) refl trace place h window off)
+        looks) ∙ sym (so i)) tells);
+    patient = never_closed p.version true (opened_of (InActive d)) one answer off window p seen fits
+        (λ e. sees) tells unclosed;
     left = left;
   }
 
@@ -161,7 +166,8 @@ module _ (j : List Entry) (deeds : List Deed) (log : WorkLog) (links : List Dequ
     pub step_is : deed.step ≡ one
     pub only : deeds_by p one o (place_of j).bits ≡ deed ∷ []
 
-  pub comes : (p q : Registers) (one : Step) (w now : AnyDriver) (new : Deques) (o : Tried) → Traces w log deeds →
+  pub comes : (p q : Registers) (one : Step) (w now : AnyDriver) (new : Deques) (o : Tried) →
+      Traces p.version w log deeds →
       IsDriverOf node (length (left_in log)) w → HoldsBy Lies deeds w log j links base →
       p.closed ≡ false → true ≡ is_met o → Acts alike Lies shows_none takes_none
       (slice_index_or links (place_after base (length (left_in log))) none) new p q one w now o → Comes p q one o
@@ -170,7 +176,7 @@ module _ (j : List Entry) (deeds : List Deed) (log : WorkLog) (links : List Dequ
     deed = record { step = one; answer = a; bits = (place_of j).bits; gave = carried p one a };
     next = next_one p q one a w (off_after now (Answered a)) (window_after now (Answered a))
         (seen_by now) trace place h unclosed acts.fits acts.sees acts.tells acts.looks acts.port
-        (λ x e. seen_by_now w now one a x e acts.out);
+        (λ i. seen_by_now w now one a i acts.out);
     step_is = refl;
     only = refl;
   }
@@ -184,7 +190,7 @@ module _ (j : List Entry) (deeds : List Deed) (log : WorkLog) (links : List Dequ
     };
     next = next_one p q one (ReleasedAnswer (length m)) w (off_after now (Released m)) (window_after now (Released m))
         (seen_by now) trace place h unclosed acts.fits acts.sees acts.tells acts.looks acts.port
-        (λ x e. absurd (no_release x (sym e ∙ acts.kind)));
+        (λ i. absurd (subst IsSeeing acts.kind i));
     step_is = refl;
     only = refl;
   }
@@ -192,7 +198,7 @@ module _ (j : List Entry) (deeds : List Deed) (log : WorkLog) (links : List Dequ
     deed = record { step = one; answer = Done; bits = (place_of j).bits; gave = carried p one Done };
     next = next_one p q one Done w (off_after now (Ended l)) (window_after now (Ended l))
         (seen_by now) trace place h unclosed acts.fits acts.sees acts.tells acts.looks acts.port
-        (λ x e. absurd (no_stop x (sym e ∙ acts.kind)));
+        (λ i. absurd (subst IsSeeing acts.kind i));
     step_is = refl;
     only = refl;
   }
@@ -206,40 +212,55 @@ module _ (j : List Entry) (deeds : List Deed) (log : WorkLog) (links : List Dequ
   not_full : (s : Deques) → s.up ≡ [] → length s.up ≡ 24 → ⊥
   not_full s none_up full = let e : length s.up ≡ 0 = ap (λ l. length l) none_up in omega (arith, e, full)
 
-  pub waits : (p : Registers) (one : Step) (w now : AnyDriver) → IsAsked j p → Traces w log deeds →
-      IsDriverOf node (length (left_in log)) w → HoldsBy Lies deeds w log j links base →
-      ((a : ℕ) (d : Deques) → a < 8 → (slice_index_or links (base + a) d).up ≡ []) →
+  -- a driver that waits sees what has been put
+  seen_waiting : {version : ℕ} (w now : AnyDriver) → Traces version w log deeds →
+      IsDriverOf node (length (left_in log)) w →
+      HoldsBy Lies deeds w log j links base → IfOut w (Looks alike Lies shows_none
+      (slice_index_or links (place_after base (length (left_in log))) none) (held_of w) (held_of now) (off_of w)
+      (off_of now)) → seen_as (is_out w) (off_of now) (held_of now) ≡ seen_now (is_active deeds) j deeds
+  seen_waiting (InReset d) now trace place h look = ap (λ b. seen_now b j deeds) (sym trace.out)
+  seen_waiting (InActive d) now trace place h look =
+      sym (seen_shown j deeds Interrupt (off_of now) (held_of now) tt
+      (looked (InActive d) refl trace place h (held_of now) (off_of now) look))
+      ∙ ap (λ b. seen_now b j deeds) (sym trace.out)
+
+  pub waits : {version : ℕ} (p : Registers) (one : Step) (w now : AnyDriver) → is_out now ≡ is_out w → IsAsked j p →
+      Traces version w log deeds → IsDriverOf node (length (left_in log)) w → HoldsBy Lies deeds w log j links base →
+      ((a : ℕ) (d : Deques) → a < 64 → (slice_index_or links (base + a) d).up ≡ []) →
       Waits alike Lies shows_none takes_none (slice_index_or links (place_after base (length (left_in log))) none) p one
-      w now → HasToWait j deeds one
-  waits p (Await count) (InActive was) now asked trace place h empty (closed, on, few, look) =
+      w now → HasToWait p j deeds one
+  waits p (Await count) (InActive was) now out asked trace place h empty (closed, on, few, look) =
       let shown = looked (InActive was) refl trace place h (held_of now) (off_of now) look in
       let same = shown.window_is on in
       (trace.out, shown.off_is ∙ on, subst (λ (l : List (List ℕ)). length l < count) (sym same) few)
-  waits p (Await count) (InReset was) now asked trace place h empty full = elim full [ ]
-  waits p Sent (InActive was) now asked trace place h empty (closed, busy, look) = (
+  waits p (Await count) (InReset was) now out asked trace place h empty full = elim full [ ]
+  waits p Sent (InActive was) now out asked trace place h empty (closed, busy, look) = (
     trace.out,
     (lawful.found, lawful.cut, is_one _ (sym (asked lawful.found lawful.cut) ∙ busy)),
   )
-  waits p Sent (InReset was) now asked trace place h empty full = elim full [ ]
-  waits p Start (InReset was) now asked trace place h empty (left, full) =
+  waits p Sent (InReset was) now out asked trace place h empty full = elim full [ ]
+  waits p Interrupt w now out asked trace place h empty (closed, inactive, look) =
+      subst (λ (s : Seen). is_line_active p s ≡ false)
+      (seen_by_now w now Interrupt Done tt out ∙ seen_waiting w now trace place h look) inactive
+  waits p Start (InReset was) now out asked trace place h empty (left, full) =
       not_full (slice_index_or links (place_after base (length (left_in log))) none)
-      (empty (min (length (left_in log)) 7) none (min_less (length (left_in log)))) full
-  waits p Start (InActive was) now asked trace place h empty full = elim full [ ]
-  waits p Stop (InActive was) now asked trace place h empty full =
+      (empty (min (length (left_in log)) 63) none (min_less (length (left_in log)))) full
+  waits p Start (InActive was) now out asked trace place h empty full = elim full [ ]
+  waits p Stop (InActive was) now out asked trace place h empty full =
       not_full (slice_index_or links (place_after base (length (left_in log))) none)
-      (empty (min (length (left_in log)) 7) none (min_less (length (left_in log)))) full
-  waits p Stop (InReset was) now asked trace place h empty full = elim full [ ]
-  waits p (Command value) (InActive was) now asked trace place h empty (full, asks, fits) =
+      (empty (min (length (left_in log)) 63) none (min_less (length (left_in log)))) full
+  waits p Stop (InReset was) now out asked trace place h empty full = elim full [ ]
+  waits p (Command value) (InActive was) now out asked trace place h empty (full, asks, fits) =
       not_full (slice_index_or links (place_after base (length (left_in log))) none)
-      (empty (min (length (left_in log)) 7) none (min_less (length (left_in log)))) full
-  waits p (Command value) (InReset was) now asked trace place h empty full = elim full [ ]
-  waits p Window w now asked trace place h empty full = elim full [ ]
-  waits p (Read a) w now asked trace place h empty full = elim full [ ]
-  waits p (Write a v) w now asked trace place h empty full = elim full [ ]
-  waits p (Load m) w now asked trace place h empty full = elim full [ ]
-  waits p Release (InReset was) now asked trace place h empty full = elim full [ ]
-  waits p Release (InActive was) now asked trace place h empty (on, r) =
-      let a = min (length (left_in log)) 7 in
+      (empty (min (length (left_in log)) 63) none (min_less (length (left_in log)))) full
+  waits p (Command value) (InReset was) now out asked trace place h empty full = elim full [ ]
+  waits p Window w now out asked trace place h empty full = elim full [ ]
+  waits p (Read a) w now out asked trace place h empty full = elim full [ ]
+  waits p (Write a v) w now out asked trace place h empty full = elim full [ ]
+  waits p (Load m) w now out asked trace place h empty full = elim full [ ]
+  waits p Release (InReset was) now out asked trace place h empty full = elim full [ ]
+  waits p Release (InActive was) now out asked trace place h empty (on, r) =
+      let a = min (length (left_in log)) 63 in
       let lies = h.kept a none (min_less (length (left_in log))) in
       let after = r.lists _ lies in
       let same = sym after.1 ∙ lies.1 in

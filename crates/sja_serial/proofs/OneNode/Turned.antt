@@ -63,14 +63,14 @@ module _ (version : ℕ) (steps : List Step) (j k : List Entry) (deeds : List De
     (left : length deeds < length steps) (is : one ≡ slice_index_or steps (length deeds) one)
     (now_lawful : IsLawful now) (items : MayHaveItems j k) (kept : (acc : ℕ → Account) → Kept Lies j given base acc →
     Kept Lies k after base acc)
-    (dry : stops_of k < 8 → (slice_index_or after (base + stops_of k) none).up ≡ []) where
+    (dry : stops_of k < 64 → (slice_index_or after (base + stops_of k) none).up ≡ []) where
   -- the step was done
   pub record Stepped : Type 0 where
     pub deed : Deed
     pub bits : deed.bits ≡ (place_of j).bits
     pub step_is : deed.step ≡ one
     pub tells : Tells deed.step (is_active deeds) p (seen_now (is_active deeds) j deeds) deed.answer
-    pub fits : FitsState (is_active deeds) (opened_by deeds) deed.step deed.answer
+    pub fits : FitsState version (is_active deeds) (opened_by deeds) deed.step deed.answer
     pub sees : SeesIf (is_active deeds) j deeds deed
     pub gave : deed.gave ≡ carried p deed.step deed.answer
     pub entered : k ≡ j ++ entries_of_items deed.gave
@@ -99,7 +99,8 @@ module _ (version : ℕ) (steps : List Step) (j k : List Entry) (deeds : List De
         bits = next.now;
         step_is = c.step_is;
         tells = next.tells;
-        fits = next.fits;
+        fits = subst (λ (n : ℕ). FitsState n (is_active deeds) (opened_by deeds) d.step d.answer)
+            h.ported.version_is next.fits;
         sees = next.sees;
         gave = next.gave;
         entered = entered;
@@ -134,11 +135,11 @@ module _ (version : ℕ) (steps : List Step) (j k : List Entry) (deeds : List De
 
 module _ (version : ℕ) (steps : List Step) (j k : List Entry) (deeds : List Deed) (was now : LoggedDriver)
     (p q : Registers) (links given after : List Deques) (base : ℕ) (none : Deques)
-    (h : IsNode version steps j deeds was p links base) (now_lawful : IsLawful now) (trace : Traces (driver_of now)
-    (log_of now) deeds) (holds : HoldsBy Lies deeds (driver_of now) (log_of now) j given base)
+    (h : IsNode version steps j deeds was p links base) (now_lawful : IsLawful now) (trace : Traces version
+    (driver_of now) (log_of now) deeds) (holds : HoldsBy Lies deeds (driver_of now) (log_of now) j given base)
     (room : (m : ℕ) → HasRoom m (log_of was) → HasRoom m (log_of now)) (port : q ≡ p) (items : MayHaveItems j k)
     (kept : (acc : ℕ → Account) → Kept Lies j given base acc → Kept Lies k after base acc)
-    (dry : stops_of k < 8 → (slice_index_or after (base + stops_of k) none).up ≡ []) where
+    (dry : stops_of k < 64 → (slice_index_or after (base + stops_of k) none).up ≡ []) where
   pub same_journal : k ≡ j
   same_journal =
       items_are j k deeds (driver_of now) (log_of now) given after base none holds kept [] 0 items (omega arith) (λ e.
@@ -187,7 +188,7 @@ module _ (version : ℕ) (steps : List Step) (j k : List Entry) (deeds : List De
     (h : IsNode version steps j deeds was p links base) (lawful : IsLawfulJournal j) (now_lawful : IsLawful now)
     (items : MayHaveItems j k)
     (kept : (acc : ℕ → Account) → Kept Lies j given base acc → Kept Lies k after base acc)
-    (dry : stops_of k < 8 → (slice_index_or after (base + stops_of k) none).up ≡ [])
+    (dry : stops_of k < 64 → (slice_index_or after (base + stops_of k) none).up ≡ [])
     (st : Steps alike Lies shows_none takes_none was now links given base p q one (place_of j).bits false)
     (room : (m : ℕ) → HasRoom m (log_of was) → HasRoom m (log_of now)) where
   unmet : st.tried ≡ Unmet
@@ -203,19 +204,25 @@ module _ (version : ℕ) (steps : List Step) (j k : List Entry) (deeds : List De
   nothing_done : deeds ++ deeds_by p one st.tried (place_of j).bits ≡ deeds
   nothing_done = ap (λ (o : Tried). deeds ++ deeds_by p one o (place_of j).bits) unmet ∙ append-nil deeds
 
-  pub waited : HasToWait j deeds one
+  pub waited : HasToWait p j deeds one
   waited = waits j deeds (log_of was) links base (node_of was) none lawful (λ a.
-      given_taken deeds j a (h.in_time.when a)) p one (driver_of was) (driver_of now) h.asked h.traced.traces
-      h.traced.lawful
+      given_taken deeds j a (h.in_time.when a)) p one (driver_of was) (driver_of now) acts.out h.asked
+      h.traced.traces h.traced.lawful
       h.linked.holds h.linked.taken acts.waits
 
-  trace_still : Traces (driver_of now) (log_of now) deeds
-  trace_still = subst (λ (l : List Deed). Traces (driver_of now) (log_of now) l) nothing_done
-      (st.goes.traces deeds h.traced.traces)
+  -- in the version of the port
+  trace_was : Traces p.version (driver_of was) (log_of was) deeds
+  trace_was = subst (λ (n : ℕ). Traces n (driver_of was) (log_of was) deeds) (sym h.ported.version_is)
+      h.traced.traces
+
+  trace_still : Traces version (driver_of now) (log_of now) deeds
+  trace_still = subst (λ (n : ℕ). Traces n (driver_of now) (log_of now) deeds) h.ported.version_is
+      (subst (λ (l : List Deed). Traces p.version (driver_of now) (log_of now) l) nothing_done
+      (st.goes.traces deeds trace_was))
 
   holds_still : HoldsBy Lies deeds (driver_of now) (log_of now) j given base
   holds_still = subst (λ (l : List Deed). HoldsBy Lies l (driver_of now) (log_of now) j given base) nothing_done
-      (st.goes.holds deeds j h.traced.traces h.linked.holds)
+      (st.goes.holds deeds j trace_was h.linked.holds)
 
   pub still_journal : k ≡ j
   still_journal = same_journal version steps j k deeds was now p q links given after base none h now_lawful trace_still

@@ -1,5 +1,5 @@
 -- What follows a turn of a node in a run follows, with that turn, from where the run stood before.
-use Rattle.std.proofs.Common.{◌≡◌, ℕ, zero, suc, ◌+◌, ◌<◌, List, [], ◌∷◌}
+use Rattle.std.proofs.Common.{◌≡◌, ℕ, zero, suc, ◌+◌, ◌<◌, false, List, [], ◌∷◌}
 use Rattle.std.proofs.Common.{◌++◌, length, map, take, refl, sym, ap, ◌∙◌, subst, arith, inl, inr}
 use Rattle.std.specs.Prelude.{set, slice_index, slice_index_or}
 use Rattle.std.proofs.lemmas.List.{length-append, get_or-set_same}
@@ -11,11 +11,15 @@ use Rattle.sja_wire.specs.Wire.{journal_at}
 use Rattle.sja_plan.specs.Plan.{PlanValue}
 use Rattle.sja_plan.specs.declared.turn.Turn.{Turn}
 use Rattle.sja_plan.specs.declared.turn.Turn.TheVariants.{Node}
+use Rattle.sja_regs.specs.declared.registers.Registers.{Registers}
+use Rattle.sja_regs.specs.InterruptLine.{is_line_active}
+use Rattle.sja_regs.specs.Registers.{at_power_on}
 use Rattle.sja_script.specs.declared.step.Step.{Step}
 use Rattle.sja_script.specs.declared.step.Step.TheVariants.{Start, Stop, Window, Release, Read}
-use Rattle.sja_script.specs.declared.step.Step.TheVariants.{Write, Load, Command, Await, Sent}
-use Rattle.sja_driver.specs.Deeds.{Deed, opened_by}
+use Rattle.sja_script.specs.declared.step.Step.TheVariants.{Write, Load, Command, Await, Sent, Interrupt}
+use Rattle.sja_driver.specs.Deeds.{Deed, is_active, opened_by}
 use Rattle.sja_log.specs.declared.end.End.{End}
+use Rattle.sja_log.specs.Registering.{LeadTo, seen_now}
 use Rattle.sja_log.specs.Resting.{IsHolding}
 use Rattle.sja_log.specs.Turns.{Progress, with_steps, IsUnmet, IsStuck, DoesSteps, RunsTo}
 use Rattle.sja_log.specs.Turns.RunsTo.{node}
@@ -27,7 +31,8 @@ use Rattle.sja_plan.specs.Plan.{steps_at}
 use Rattle.sja_serial.specs.Serial.{with_deeds, TakesTurn, CannotStep}
 use Rattle.sja_serial.specs.Waiting.{HasToWait}
 use Rattle.sja_serial.proofs.WholeRun.GoingOn.{acts_of, GoesOn, ArePresent, length_at, lengths_set}
-use Rattle.sja_serial.proofs.WholeRun.GoingOn.{deeds_then, record_then, window_then, off_then}
+use Rattle.sja_serial.proofs.WholeRun.GoingOn.{deeds_then, entries_then, record_then, registers_then}
+use Rattle.sja_serial.proofs.WholeRun.GoingOn.{window_then, off_then}
 
 -- the deeds in between
 middle_at : (xs more after : List Deed) (i n : ℕ) (d : Deed) → n ≡ length xs + i → i < length more →
@@ -51,8 +56,11 @@ module _ (plan : PlanValue) (r : SerialValue) (deeds : List (List Deed)) (journa
   place_is : (place_of (journal_at r.bus.journals k)).bits ≡ r.bits
   place_is = bits_counted (journal_at r.bus.journals k) ∙ (present k less).bits_are
 
-  unmet_then : (s : Step) → HasToWait (journal_at r.bus.journals k) (deeds_at deeds k) s →
-      IsUnmet (journal_at journals k) (deeds_at deeds k) r.bits s
+  abbrev port : Registers
+  port = slice_index_or r.ports k (at_power_on 1)
+
+  unmet_then : (s : Step) → HasToWait port (journal_at r.bus.journals k) (deeds_at deeds k) s →
+      IsUnmet plan.version (journal_at journals k) (deeds_at deeds k) r.bits s
   unmet_then (Await count) w = (
     w.0,
     off_then plan r deeds journals all h present go k (opened_by (deeds_at deeds k)) less
@@ -64,6 +72,14 @@ module _ (plan : PlanValue) (r : SerialValue) (deeds : List (List Deed)) (journa
     w.0,
     subst (λ (l : List NodeEntry). IsHolding l) (sym (record_then plan r deeds journals all h present go k less)) w.1,
   )
+  unmet_then Interrupt w =
+      let back = sym (entries_then plan r deeds journals all h present go k less) in record {
+        registers = port;
+        lead = subst (λ (l : List Entry). LeadTo plan.version l (deeds_at deeds k) port) back
+            (registers_then plan r deeds journals all h present go k (at_power_on 1) less);
+        inactive = subst (λ (l : List Entry).
+            is_line_active port (seen_now (is_active (deeds_at deeds k)) l (deeds_at deeds k)) ≡ false) back w;
+      }
   unmet_then Start w = absurd w
   unmet_then Stop w = absurd w
   unmet_then Window w = absurd w
@@ -77,11 +93,12 @@ module _ (plan : PlanValue) (r : SerialValue) (deeds : List (List Deed)) (journa
   stuck_then (inl none) = record { why = inl (let n = length_at deeds k in omega (arith, none, n)) }
   stuck_then (inr waits) = record {
     why = inr (λ s.
-        let u = unmet_then (slice_index_or (steps_at plan k) (length (deeds_at deeds k)) s) (waits s) in
-        subst (λ (n : ℕ). IsUnmet (journal_at journals k)
+        let u = unmet_then (slice_index_or (steps_at plan k) (length (deeds_at deeds k)) s)
+        (waits s (at_power_on 1)) in
+        subst (λ (n : ℕ). IsUnmet plan.version (journal_at journals k)
         (take (slice_index (map (λ (l : List Deed). length l) deeds) k) (deeds_at all k)) r.bits
         (slice_index_or (steps_at plan k) n s)) (sym (length_at deeds k))
-        (subst (λ (l : List Deed). IsUnmet (journal_at journals k) l r.bits
+        (subst (λ (l : List Deed). IsUnmet plan.version (journal_at journals k) l r.bits
         (slice_index_or (steps_at plan k) (length (deeds_at deeds k)) s))
         (sym (deeds_then plan r deeds journals all go k less)) u));
   }

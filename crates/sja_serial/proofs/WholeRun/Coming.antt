@@ -8,7 +8,7 @@ use Rattle.std.proofs.lemmas.List.{get_or-set_same, get_or-set_other}
 use Rattle.sja_link.specs.declared.entry.Entry.{Entry}
 use Rattle.sja_bus.specs.Buses.{BusValue, new_bus}
 use Rattle.sja_wire.specs.Wire.{journal_at}
-use Rattle.sja_plan.specs.Plan.{PlanValue, NamesNode}
+use Rattle.sja_plan.specs.Plan.{PlanValue, NamesNode, step_counts}
 use Rattle.sja_plan.specs.declared.turn.Turn.{Turn}
 use Rattle.sja_plan.specs.declared.turn.Turn.TheVariants.{Bus, Rest, Node}
 use Rattle.sja_driver.specs.Deeds.{Deed}
@@ -52,7 +52,7 @@ no_journal (suc n) zero = refl
 no_journal (suc n) (suc k) = no_journal n k
 
 pub come_first : (plan : PlanValue) (r : SerialValue) → StandsAt plan r (replicate (length plan.nodes) []) →
-    r.bus ≡ new_bus plan.strikes plan.bits (length plan.nodes) → HasCome plan [] r
+    r.bus ≡ new_bus plan.strikes plan.bits (length plan.nodes) (step_counts plan) → HasCome plan [] r
 come_first plan r h new = record {
   deeds = replicate (length plan.nodes) [];
   stands = h;

@@ -51,9 +51,9 @@ module _ (version : ℕ) (steps : List Step) (j : List Entry) (deeds : List Deed
     (port : Registers) (links : List Deques) (base : ℕ) (h : IsNode version steps j deeds driver port links base)
     (log : NodeLog) (node : NodeValue) (end : IsNodeEnd log driver (all_down links) base node)
     (same : node.journal ≡ j) where
-  trace_at : IsTrace steps node deeds
+  trace_at : IsTrace version steps node deeds
   trace_at =
-      trace_of j deeds driver (all_down links) base log node end same steps
+      trace_of j deeds driver (all_down links) base log node end same version steps
       (record {
         first = h.traced.first;
         states = h.traced.traces.answered.states;
@@ -101,7 +101,7 @@ module _ (plan : PlanValue) (r : SerialValue) (deeds : List (List Deed)) (end : 
         (some_driver plan log logs r.bus.journals r.drivers (all_down r.links) are k n less)
 
     node_is : IsNode plan.version (steps_at plan k) (journal_at r.bus.journals k) (deeds_at deeds k) driver
-        (slice_index_or r.ports k (at_power_on 1)) r.links (8 * k)
+        (slice_index_or r.ports k (at_power_on 1)) r.links (64 * k)
     node_is =
         let c = nodes_count plan log logs r.bus.journals r.drivers (all_down r.links) are in
         h.nodes k (some_driver plan log logs r.bus.journals r.drivers (all_down r.links) are k n less) (at_power_on 1)
@@ -110,14 +110,14 @@ module _ (plan : PlanValue) (r : SerialValue) (deeds : List (List Deed)) (end : 
     same : (slice_index_or log.nodes k n).journal ≡ journal_at r.bus.journals k
     same = journal_is plan log logs r.bus.journals r.drivers (all_down r.links) are k n less
 
-    trace_there : IsTrace (steps_at plan k) (slice_index_or log.nodes k n) (deeds_at deeds k)
+    trace_there : IsTrace plan.version (steps_at plan k) (slice_index_or log.nodes k n) (deeds_at deeds k)
     trace_there = trace_at plan.version (steps_at plan k) (journal_at r.bus.journals k) (deeds_at deeds k) driver _
-        r.links (8 * k) node_is _ (slice_index_or log.nodes k n)
+        r.links (64 * k) node_is _ (slice_index_or log.nodes k n)
         (node_end plan log logs r.bus.journals r.drivers (all_down r.links) are k n less) same
 
     settled_there : AreSettled (slice_index_or log.nodes k n)
     settled_there = settled_at plan.version (steps_at plan k) (journal_at r.bus.journals k) (deeds_at deeds k) driver _
-        r.links (8 * k) node_is _ (slice_index_or log.nodes k n)
+        r.links (64 * k) node_is _ (slice_index_or log.nodes k n)
         (node_end plan log logs r.bus.journals r.drivers (all_down r.links) are k n less) same
 
     in_time_there : IsInTime plan.version (slice_index_or log.nodes k n).journal (deeds_at deeds k)

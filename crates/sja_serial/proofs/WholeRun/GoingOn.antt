@@ -1,7 +1,7 @@
 -- A run that goes on from where it stands, and what it was then.
 use Rattle.std.proofs.Common.{◌≡◌, ℕ, zero, suc, ◌+◌, ◌<◌, false, List, [], ◌∷◌, ◌++◌, length, map, take, refl, sym, ap}
 use Rattle.std.proofs.Common.{◌∙◌, arith}
-use Rattle.std.specs.Prelude.{set, slice_index}
+use Rattle.std.specs.Prelude.{set, slice_index, slice_index_or}
 use Rattle.std.proofs.Math.Seq.{take-append_seam}
 use Rattle.sja_link.specs.declared.entry.Entry.{Entry}
 use Rattle.sja_link.specs.Carried.{bits_of}
@@ -9,11 +9,13 @@ use Rattle.sja_link.specs.Records.{record_of}
 use Rattle.sja_link.proofs.JournalEntries.Entering.{bits_counted}
 use Rattle.sja_wire.specs.Wire.{journal_at}
 use Rattle.sja_plan.specs.Plan.{PlanValue}
+use Rattle.sja_regs.specs.declared.registers.Registers.{Registers}
 use Rattle.sja_regs.specs.Registers.{at_power_on}
 use Rattle.sja_driver.specs.declared.logged_driver.LoggedDriver.{LoggedDriver}
 use Rattle.sja_driver.specs.Deeds.{Deed, given_in, opened_by}
 use Rattle.sja_log.specs.Turns.{Acts}
-use Rattle.sja_log.specs.Moments.{record_at}
+use Rattle.sja_log.specs.Moments.{at_moment, record_at}
+use Rattle.sja_log.specs.Registering.{LeadTo}
 use Rattle.sja_log.specs.Windows.{put_by, off_by, window_of}
 use Rattle.sja_link.specs.Looking.{off_among}
 use Rattle.sja_log.proofs.Trace.Moments.{HasBitsAfterAborts}
@@ -79,13 +81,22 @@ module _ (plan : PlanValue) (r : SerialValue) (deeds : List (List Deed)) (journa
   in_time_at k less = let c = h.count.drivers in
       (h.nodes k (first_driver r.drivers (omega (arith, c, less))) (at_power_on 1) less).in_time
 
+  pub entries_then : (k : ℕ) → k < length plan.nodes →
+      at_moment r.bits (length (given_in (deeds_at deeds k))) (journal_at journals k) ≡ journal_at r.bus.journals k
+  entries_then k less =
+      let p = present k less in
+      moment_then (journal_at r.bus.journals k) (journal_at journals k) r.bits
+      (length (given_in (deeds_at deeds k))) (go.journals_go k less) p.aborts p.bits_are
+      (as_many (deeds_at deeds k) (journal_at r.bus.journals k) (in_time_at k less).when)
+
   pub record_then : (k : ℕ) → k < length plan.nodes →
       record_at (journal_at journals k) (deeds_at deeds k) r.bits ≡ record_of (journal_at r.bus.journals k)
-  record_then k less =
-      let p = present k less in
-      ap record_of (moment_then (journal_at r.bus.journals k) (journal_at journals k) r.bits
-      (length (given_in (deeds_at deeds k))) (go.journals_go k less) p.aborts p.bits_are
-      (as_many (deeds_at deeds k) (journal_at r.bus.journals k) (in_time_at k less).when))
+  record_then k less = ap record_of (entries_then k less)
+
+  pub registers_then : (k : ℕ) (p : Registers) → k < length plan.nodes →
+      LeadTo plan.version (journal_at r.bus.journals k) (deeds_at deeds k) (slice_index_or r.ports k p)
+  registers_then k p less = let c = h.count.drivers in
+      (h.nodes k (first_driver r.drivers (omega (arith, c, less))) p less).registers
 
   put_is : (k a : ℕ) → k < length plan.nodes →
       put_by r.bits (journal_at journals k) a ≡ put_by r.bits (journal_at r.bus.journals k) a

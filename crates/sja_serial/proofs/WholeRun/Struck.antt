@@ -14,6 +14,7 @@ pub stands_struck : (plan : PlanValue) (r : SerialValue) (deeds : List (List Dee
 stands_struck plan r deeds strike h = record {
   right = h.right;
   script = ap (λ l. l ++ strike ∷ []) h.script;
+  room = h.room;
   all_bits = h.all_bits;
   bits = h.bits;
   count = record {

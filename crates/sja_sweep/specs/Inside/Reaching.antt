@@ -4,6 +4,7 @@ use Rattle.std.specs.Prelude.{map}
 use Rattle.std.specs.Prelude.{codes, decimal, string_bytes}
 use Rattle.std.specs.List.{AllZip, range_with_len}
 use Rattle.lemmas.specs.Gathering.{gathered}
+use Rattle.sja_plan.specs.Limits.{most_strikes}
 use Rattle.sja_plan.specs.Plan.{PlanValue, times_in}
 use Rattle.sja_log.specs.Log.{NodeValue}
 use Rattle.sja_log.specs.declared.run_fault.RunFault.TheVariants.{Memory as NoMemory}
@@ -89,7 +90,7 @@ strikes_in (Some t) = 2
 pub record IsThere (plan : PlanValue) (t : Trial) : Type 0 where
   pub first : t.first.node < length plan.nodes
   pub second : IsThereToo (length plan.nodes) t.second
-  pub room : times_in plan.strikes + strikes_in t.second ≤ 1000
+  pub room : times_in plan.strikes + strikes_in t.second ≤ most_strikes plan.version
 
 -- why a trial has no outcome
 abbrev pub IsTrialFault : SweepFault → Type 0

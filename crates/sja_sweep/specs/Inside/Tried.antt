@@ -2,6 +2,7 @@
 use Rattle.std.specs.Prelude.{◌≡◌, ◌+◌, ◌*◌, ◌<◌, ◌≤◌, ℕ, false, List, [], ◌∷◌, ◌++◌, length, All, map, take, drop}
 use Rattle.std.specs.Prelude.{Result, IfOk, IfErr}
 use Rattle.std.specs.List.{AllZip}
+use Rattle.sja_plan.specs.Limits.{most_strikes}
 use Rattle.sja_plan.specs.Plan.{PlanValue, times_in}
 use Rattle.sja_sweep.specs.Errors.{RanValue, IsRan}
 use Rattle.sja_sweep.specs.declared.sweep_fault.SweepFault.{SweepFault}
@@ -29,7 +30,7 @@ pub record IsBegun (plan : PlanValue) (s : Sweeping) (planned : RanValue) (trial
   pub trials_are : trials ≡ strikes_tried plan s planned.log
   pub there : All (IsThere plan) trials
   pub few : s.meant ≡ false → (length trials ≤ 20000) × (length trials * plan.bits ≤ 2000000000)
-  pub room : 0 < length trials → times_in plan.strikes + strikes_a_run s.pairs ≤ 1000
+  pub room : 0 < length trials → times_in plan.strikes + strikes_a_run s.pairs ≤ most_strikes plan.version
   pub node : NamesNodeBelow s (length plan.nodes)
 
 -- what came of the trials of a part, or why nothing came

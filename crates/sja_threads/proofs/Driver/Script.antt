@@ -25,13 +25,14 @@ use Rattle.sja_threads.proofs.Driver.Steps.{may_less}
 -- a driver as it is made, at its ends
 pub begins : {E : Type 0} (link : E → LinkId) (t : DriverThread E) (node steps : ℕ) (log : WorkLog) →
     node_of t.driver ≡ node → log_of t.driver ≡ log → is_out (driver_of t.driver) ≡ false → IsLawful t.driver →
-    Traces (driver_of t.driver) (log_of t.driver) [] → IsEmpty log → HasRoom steps log → 8 ≤ length t.links.items →
+    ((version : ℕ) → Traces version (driver_of t.driver) (log_of t.driver) []) → IsEmpty log → HasRoom steps log → 64 ≤
+    length t.links.items →
     NumberedFrom link t.links.items 0 node → MayBegin link t steps
-begins link t node steps log own logs reset lawful none empty room eight ids = record {
+begins link t node steps log own logs reset lawful none empty room enough ids = record {
   may = record {
     lawful = lawful;
     room = subst (λ (l : WorkLog). HasRoom steps l) (sym logs) room;
-    eight = eight;
+    enough = enough;
     ids = subst (λ (n : ℕ). NumberedFrom link t.links.items 0 n) (sym own) ids;
   };
   reset = reset;
@@ -68,7 +69,7 @@ module _ {E : Type 0} (e : Ends E) (steps : List Step) (n : ℕ) (first last : D
   pub worked_of : HasWorked e.stands first.set (node_of first.driver) steps first.links.items
       (record { links = last.links; driver = last.driver })
   worked_of =
-      let t = does.goes.traces [] may.traces in record {
+      let t = does.goes.traces [] (may.traces first.set.version) in record {
         deeds = does.deeds;
         own = does.node;
         lawful = (does.able 0 (may_less e first (length (take n steps) + 0) (length steps) (front_few n steps)
@@ -78,9 +79,9 @@ module _ {E : Type 0} (e : Ends E) (steps : List Step) (n : ℕ) (first last : D
           states = t.answered.states;
           gives = t.answered.gives;
         };
-        leads = (last.set, does.leads first.set [] may.traces nothing_done);
+        leads = (last.set, does.leads first.set [] (may.traces first.set.version) nothing_done);
         traces = t;
-        holds = λ j u. does.goes.holds [] j may.traces
+        holds = λ j u. does.goes.holds [] j (may.traces first.set.version)
             (holds_new e.stands (driver_of first.driver) (log_of first.driver) j first.links.items 0 may.empty
             may.reset u);
       }
@@ -88,6 +89,6 @@ module _ {E : Type 0} (e : Ends E) (steps : List Step) (n : ℕ) (first last : D
   -- all steps, where as many were done as there are
   pub all_done : n ≡ length steps → length (done_in (log_of last.driver)) ≡ length steps
   all_done all =
-      let t = does.goes.traces [] may.traces in
+      let t = does.goes.traces [] (may.traces first.set.version) in
       sym (ap (λ l. length l) t.done) ∙ length-map does.deeds done_of ∙ many
       ∙ length-take-le n steps (omega (arith, all)) ∙ all

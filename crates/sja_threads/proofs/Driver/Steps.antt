@@ -6,24 +6,33 @@ use Rattle.std.proofs.lemmas.Slice.Zip.{AllZip-long}
 use Rattle.sja_link.specs.declared.driver_end.DriverEnd.{Ghosts as Ends}
 use Rattle.lemmas.proofs.Related.{each_refl, each_trans}
 use Rattle.sja_regs.specs.declared.registers.Registers.{Registers}
-use Rattle.sja_regs.specs.DriverSettings.{settings_in, HasSettings}
+use Rattle.sja_regs.specs.DriverSettings.{SettingsValue, settings_in, HasSettings}
 use Rattle.sja_script.specs.declared.step.Step.{Step}
 use Rattle.sja_driver.specs.declared.work_log.WorkLog.{WorkLog}
 use Rattle.sja_driver.specs.Deeds.{Deed}
-use Rattle.sja_driver.specs.Holding.{HoldsBy}
+use Rattle.sja_driver.specs.Holding.{HoldsBy, Goes}
 use Rattle.sja_driver.specs.LoggedDrivers.{driver_of, log_of, StaysLawful, Steps}
 use Rattle.sja_driver.specs.Logs.{HasRoom, Traces, deeds_by}
-use Rattle.sja_driver.specs.Tries.{Tried, is_met}
+use Rattle.sja_driver.specs.Tries.{Tried, is_met, port_after}
 use Rattle.sja_driver.specs.Tries.Tried.{Unmet, Answered, Released, Ended}
+use Rattle.sja_driver.proofs.Step.Modes.{version_step}
+use Rattle.sja_script.specs.declared.step_answer.StepAnswer.TheVariants.{Done as DoneAnswer, Released as ReleasedAnswer}
 use Rattle.sja_threads.specs.declared.driver_thread.DriverThread.{DriverThread}
 use Rattle.sja_threads.specs.Setting.{LeadToSettings}
 use Rattle.sja_threads.specs.Inside.Steps.{MayWork, DoesSteps, step_if}
 use Rattle.sja_threads.proofs.Driver.Settings.{leads_try}
 
 -- one of these
-any_of : {A : Type 0} (xs : List A) → 8 ≤ length xs → A
+any_of : {A : Type 0} (xs : List A) → 64 ≤ length xs → A
 any_of [] many = absurd (omega (arith, many))
 any_of (x ∷ xs) many = x
+
+-- a try leaves the version of its port
+version_after : (p : Registers) (which : Step) (o : Tried) → (port_after p which o).version ≡ p.version
+version_after p which Unmet = refl
+version_after p which (Answered answer) = version_step p which answer
+version_after p which (Released m) = version_step p which (ReleasedAnswer (length m))
+version_after p which (Ended ledger) = version_step p which DoneAnswer
 
 -- room for fewer steps
 room_less : (k n : ℕ) (log : WorkLog) → k ≤ n → HasRoom n log → HasRoom k log
@@ -43,16 +52,18 @@ module _ {E : Type 0} (e : Ends E) where
   -- where fewer are asked for
   pub may_less : (t : DriverThread E) (k n : ℕ) → k ≤ n → MayWork e.link t n → MayWork e.link t k
   may_less t k n less m =
-      record { lawful = m.lawful; room = room_less k n (log_of t.driver) less m.room; eight = m.eight; ids = m.ids }
+      record { lawful = m.lawful; room = room_less k n (log_of t.driver) less m.room; enough = m.enough; ids = m.ids }
 
   -- no step was done
   pub does_none : ((x : E) → e.same x x) → (t : DriverThread E) → DoesSteps e t t []
   does_none r t = record {
     deeds = [];
     are = refl;
+    version = refl;
     goes = record {
       traces = λ deeds w.
-          subst (λ (x : List Deed). Traces (driver_of t.driver) (log_of t.driver) x) (sym (append-nil deeds)) w;
+          subst (λ (x : List Deed). Traces t.set.version (driver_of t.driver) (log_of t.driver) x)
+          (sym (append-nil deeds)) w;
       holds = λ deeds j w h.
           subst (λ (x : List Deed). HoldsBy e.stands x (driver_of t.driver) (log_of t.driver) j t.links.items 0)
           (sym (append-nil deeds)) h;
@@ -66,25 +77,33 @@ module _ {E : Type 0} (e : Ends E) where
 
   module _ (trans : (a b c : E) → e.same a b → e.same b c → e.same a c) (a b c : DriverThread E) (steps : List Step)
       (p : DoesSteps e a b steps) where
+    -- the later steps, in the version before the first ones
+    in_first : (more : List Step) (q : DoesSteps e b c more) → Goes e.stands a.set.version (driver_of b.driver)
+        (driver_of c.driver) (log_of b.driver) (log_of c.driver) b.links.items c.links.items 0 q.deeds
+    in_first more q = subst (λ (n : ℕ). Goes e.stands n (driver_of b.driver) (driver_of c.driver) (log_of b.driver)
+        (log_of c.driver) b.links.items c.links.items 0 q.deeds) p.version q.goes
+
     -- steps, and then more
     does_more : (more : List Step) → DoesSteps e b c more → DoesSteps e a c (steps ++ more)
-    does_more more q = record {
+    does_more more q = let later = in_first more q in record {
       deeds = p.deeds ++ q.deeds;
       are = map-append (λ (d : Deed). d.step) p.deeds q.deeds
           ∙ ap (λ l. l ++ map (λ (d : Deed). d.step) q.deeds) p.are ∙ ap (λ l. steps ++ l) q.are;
+      version = q.version ∙ p.version;
       goes = record {
         traces = λ deeds w.
-            subst (λ (l : List Deed). Traces (driver_of c.driver) (log_of c.driver) l)
+            subst (λ (l : List Deed). Traces a.set.version (driver_of c.driver) (log_of c.driver) l)
             (append_assoc deeds p.deeds q.deeds)
-            (q.goes.traces (deeds ++ p.deeds) (p.goes.traces deeds w));
+            (later.traces (deeds ++ p.deeds) (p.goes.traces deeds w));
         holds = λ deeds j w h.
             subst (λ (l : List Deed). HoldsBy e.stands l (driver_of c.driver) (log_of c.driver) j c.links.items 0)
             (append_assoc deeds p.deeds q.deeds)
-            (q.goes.holds (deeds ++ p.deeds) j (p.goes.traces deeds w) (p.goes.holds deeds j w h));
+            (later.holds (deeds ++ p.deeds) j (p.goes.traces deeds w) (p.goes.holds deeds j w h));
       };
       leads = λ first before w l.
           subst (λ (d : List Deed). LeadToSettings first d c.set) (append_assoc before p.deeds q.deeds)
-          (q.leads first (before ++ p.deeds) (p.goes.traces before w) (p.leads first before w l));
+          (q.leads first (before ++ p.deeds) (subst (λ (n : ℕ). Traces n (driver_of b.driver) (log_of b.driver)
+          (before ++ p.deeds)) (sym p.version) (p.goes.traces before w)) (p.leads first before w l));
       sames = each_trans e.same trans a.links.items b.links.items c.links.items p.sames q.sames;
       node = q.node ∙ p.node;
       able = λ n m.
@@ -105,17 +124,19 @@ module _ {E : Type 0} (e : Ends E) where
 
   -- a try of a step, with its ends lent for it
   pub does_try : (a b : DriverThread E) (x y : List E) (p q : Registers) (which : Step) (done : Bool) →
-      x ≡ a.links.items → b.links.items ≡ y → 8 ≤ length a.links.items → HasSettings p a.set →
+      x ≡ a.links.items → b.links.items ≡ y → 64 ≤ length a.links.items → HasSettings p a.set →
       (done ≡ true → b.set ≡ settings_in q) → (done ≡ false → b.set ≡ a.set) →
       StaysLawful e.link e.same a.driver b.driver x y 0 done →
       Steps e.same e.stands e.dry e.full a.driver b.driver x y 0 p q which 0 done → (m : Bool) → done ≡ m →
       DoesSteps e a b (step_if m which)
-  does_try a b x y p q which done these those eight has met unmet stays_lent steps_lent m is = record {
+  does_try a b x y p q which done these those enough has met unmet stays_lent steps_lent m is = record {
     deeds = deeds_by p which steps.tried 0;
     are = steps_of p which steps.tried 0 ∙ ap (λ (k : Bool). step_if k which) (sym steps.met ∙ is);
-    goes = steps.goes;
+    version = version_is done refl;
+    goes = subst (λ (n : ℕ). Goes e.stands n (driver_of a.driver) (driver_of b.driver) (log_of a.driver)
+        (log_of b.driver) a.links.items b.links.items 0 (deeds_by p which steps.tried 0)) has.version steps.goes;
     leads = λ first before w.
-        let end = any_of a.links.items eight in
+        let end = any_of a.links.items enough in
         leads_try e _ _ p q which (driver_of a.driver) (driver_of b.driver) 0 a.set b.set refl has steps.tried
         (λ k. met (steps.met ∙ k)) (λ k. unmet (steps.met ∙ k)) (steps.acts end end) before w.out first;
     sames = stays.same;
@@ -123,7 +144,7 @@ module _ {E : Type 0} (e : Ends E) where
     able = λ n may. record {
       lawful = stays.lawful;
       room = room m is n may.room;
-      eight = let l = AllZip-long e.same a.links.items b.links.items stays.same in omega (arith, eight, l);
+      enough = let l = AllZip-long e.same a.links.items b.links.items stays.same in omega (arith, enough, l);
       ids = stays.ids;
     };
   }
@@ -140,6 +161,16 @@ module _ {E : Type 0} (e : Ends E) where
           these
           (subst (λ (l : List E). Steps e.same e.stands e.dry e.full a.driver b.driver x l 0 p q which 0 done)
           (sym those) steps_lent)
+
+      -- no step changes the port's version
+      port_is : q.version ≡ p.version
+      port_is =
+          let end = any_of a.links.items enough in
+          ap (λ (r : Registers). r.version) (steps.acts end end).port ∙ version_after p which steps.tried
+
+      version_is : (k : Bool) → done ≡ k → b.set.version ≡ a.set.version
+      version_is true e = ap (λ (s : SettingsValue). s.version) (met e) ∙ port_is ∙ has.version
+      version_is false e = ap (λ (s : SettingsValue). s.version) (unmet e)
 
       room : (k : Bool) → done ≡ k → (n : ℕ) → HasRoom (length (step_if k which) + n) (log_of a.driver) →
           HasRoom n (log_of b.driver)

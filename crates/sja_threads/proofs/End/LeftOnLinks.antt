@@ -1,4 +1,4 @@
--- What is left on links, one after another, and the ends of all drivers, eight of each.
+-- What is left on links, one after another, and the ends of all drivers, 64 of each.
 use Rattle.std.proofs.Common.{◌≡◌, ℕ, zero, suc, ◌+◌, ◌*◌, ◌<◌, List, [], ◌∷◌, ◌++◌, length, refl, sym, ap, ◌∙◌, subst}
 use Rattle.std.proofs.Common.{arith, inl, inr}
 use Rattle.std.specs.Prelude.{slice_index_or}
@@ -31,26 +31,26 @@ left_push buses drivers n left_down x h is = record {
 }
 
 module _ {A B : Type 0} (f : A → List B) where
-  -- in each of these lists there are eight
-  abbrev pub AreEight : List A → Type 0
-  AreEight xs = (k : ℕ) (x : A) → k < length xs → length (f (slice_index_or xs k x)) ≡ 8
+  -- in each of these lists there are 64
+  abbrev pub HaveEnough : List A → Type 0
+  HaveEnough xs = (k : ℕ) (x : A) → k < length xs → length (f (slice_index_or xs k x)) ≡ 64
 
-  pub eight_length : (xs : List A) → AreEight xs → length (gathered f xs) ≡ 8 * length xs
-  eight_length [] h = refl
-  eight_length (x ∷ xs) h =
+  pub enough_length : (xs : List A) → HaveEnough xs → length (gathered f xs) ≡ 64 * length xs
+  enough_length [] h = refl
+  enough_length (x ∷ xs) h =
       let n = length-append (f x) (gathered f xs) in let a = h 0 x (omega arith) in
-      let b = eight_length xs (λ k y less. h (suc k) y (omega (arith, less))) in omega (arith, n, a, b)
+      let b = enough_length xs (λ k y less. h (suc k) y (omega (arith, less))) in omega (arith, n, a, b)
 
-  pub eight_at : (xs : List A) → AreEight xs → (k a : ℕ) (x : A) (d : B) → k < length xs → a < 8 →
-      slice_index_or (gathered f xs) (8 * k + a) d ≡ slice_index_or (f (slice_index_or xs k x)) a d
-  eight_at [] h k a x d less few = absurd (omega (arith, less))
-  eight_at (y ∷ xs) h zero a x d less few =
-      let n : 8 * 0 + a ≡ a = omega arith in let e = h 0 y (omega arith) in
+  pub enough_at : (xs : List A) → HaveEnough xs → (k a : ℕ) (x : A) (d : B) → k < length xs → a < 64 →
+      slice_index_or (gathered f xs) (64 * k + a) d ≡ slice_index_or (f (slice_index_or xs k x)) a d
+  enough_at [] h k a x d less few = absurd (omega (arith, less))
+  enough_at (y ∷ xs) h zero a x d less few =
+      let n : 64 * 0 + a ≡ a = omega arith in let e = h 0 y (omega arith) in
       ap (λ i. slice_index_or (f y ++ gathered f xs) i d) n
       ∙ get_or_append_left (f y) (gathered f xs) d a (omega (arith, e, few))
-  eight_at (y ∷ xs) h (suc k) a x d less few =
+  enough_at (y ∷ xs) h (suc k) a x d less few =
       let e = h 0 y (omega arith) in
-      let n : 8 * suc k + a ≡ length (f y) + (8 * k + a) = omega (arith, e) in
+      let n : 64 * suc k + a ≡ length (f y) + (64 * k + a) = omega (arith, e) in
       ap (λ i. slice_index_or (f y ++ gathered f xs) i d) n
-      ∙ get_or-append-add (f y) (gathered f xs) (8 * k + a) d
-      ∙ eight_at xs (λ i z l. h (suc i) z (omega (arith, l))) k a x d (omega (arith, less)) few
+      ∙ get_or-append-add (f y) (gathered f xs) (64 * k + a) d
+      ∙ enough_at xs (λ i z l. h (suc i) z (omega (arith, l))) k a x d (omega (arith, less)) few

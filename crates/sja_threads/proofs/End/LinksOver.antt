@@ -1,4 +1,4 @@
--- All links of a run that is over, eight of each node, and all its drivers.
+-- All links of a run that is over, 64 of each node, and all its drivers.
 use Rattle.std.proofs.Common.{◌≡◌, ℕ, zero, suc, ◌+◌, ◌*◌, ◌<◌, List, length, refl, sym, subst, arith, inl, inr}
 use Rattle.std.specs.Prelude.{slice_index_or}
 use Rattle.std.proofs.lemmas.Bool.{cases_lt}
@@ -15,50 +15,50 @@ use Rattle.sja_log.proofs.NodeLog.NodeEnds.{any_of}
 use Rattle.sja_threads.specs.declared.worked.Worked.{Worked}
 use Rattle.sja_threads.specs.Inside.Ended.{IsOver}
 use Rattle.sja_threads.specs.Inside.Settling.{all_drivers, all_ends}
-use Rattle.sja_threads.proofs.End.LeftOnLinks.{AreEight, eight_length, eight_at}
+use Rattle.sja_threads.proofs.End.LeftOnLinks.{HaveEnough, enough_length, enough_at}
 
--- a place of a list of links is that of one of eight of a node
+-- a place of a list of links is that of one of the 64 of a node
 record IsPlaceOf (i : ℕ) : Type 0 where
   node : ℕ
   place : ℕ
-  few : place < 8
-  is : i ≡ 8 * node + place
+  few : place < 64
+  is : i ≡ 64 * node + place
 
 place_of_link : (i : ℕ) → IsPlaceOf i
 place_of_link zero = record { node = 0; place = 0; few = omega arith; is = refl }
-place_of_link (suc i) = let p = place_of_link i in let e = p.is in let f = p.few in elim (cases_lt (p.place + 1) 8) [
+place_of_link (suc i) = let p = place_of_link i in let e = p.is in let f = p.few in elim (cases_lt (p.place + 1) 64) [
   | inl few ↦ record { node = p.node; place = p.place + 1; few = few; is = omega (arith, e) }
   | inr most ↦ record { node = p.node + 1; place = 0; few = omega arith; is = omega (arith, e, f, most) }
 ]
 
-pub in_links : (k n a m : ℕ) → k < n → a < 8 → m ≡ 8 * n → 8 * k + a < m
+pub in_links : (k n a m : ℕ) → k < n → a < 64 → m ≡ 64 * n → 64 * k + a < m
 in_links k n a m less few e = omega (arith, less, few, e)
 
-in_nodes : (k n a m : ℕ) → 8 * k + a < m → m ≡ 8 * n → k < n
+in_nodes : (k n a m : ℕ) → 64 * k + a < m → m ≡ 64 * n → k < n
 in_nodes k n a m less e = omega (arith, less, e)
 
 module _ (plan : PlanValue) (bus : BusValue) (links : List RingBus) (workeds : List (Worked RingDriver))
     (deeds : List (List Deed)) (h : IsOver plan bus links workeds deeds) where
-  pub eights : AreEight (λ (w : Worked RingDriver). w.links.items) workeds
-  eights k w less = let c = h.workeds_count in (h.nodes k w (omega (arith, c, less))).eight
+  pub all_enough : HaveEnough (λ (w : Worked RingDriver). w.links.items) workeds
+  all_enough k w less = let c = h.workeds_count in (h.nodes k w (omega (arith, c, less))).enough
 
   pub ends_count : length links ≡ length (all_ends workeds)
   ends_count =
-      let e = eight_length (λ (w : Worked RingDriver). w.links.items) workeds eights in
+      let e = enough_length (λ (w : Worked RingDriver). w.links.items) workeds all_enough in
       let l = h.links_count in let c = h.workeds_count in omega (arith, e, l, c)
 
   pub one_link : (i : ℕ) (b : RingBus) (d : RingDriver) → i < length links →
       OneLink (slice_index_or links i b) (slice_index_or (all_ends workeds) i d)
   one_link i b d less =
       let p = place_of_link i in
-      let here : 8 * p.node + p.place < length links = let e = p.is in omega (arith, e, less) in
+      let here : 64 * p.node + p.place < length links = let e = p.is in omega (arith, e, less) in
       let few : p.node < length plan.nodes =
       in_nodes p.node (length plan.nodes) p.place (length links) here h.links_count in
       let there : p.node < length workeds = let c = h.workeds_count in omega (arith, c, few) in
       let w = any_of workeds (omega (arith, there)) in
       subst (λ (n : ℕ). OneLink (slice_index_or links n b) (slice_index_or (all_ends workeds) n d)) (sym p.is)
-      (subst (λ (x : RingDriver). OneLink (slice_index_or links (8 * p.node + p.place) b) x)
-      (sym (eight_at (λ (x : Worked RingDriver). x.links.items) workeds eights p.node p.place w d there p.few))
+      (subst (λ (x : RingDriver). OneLink (slice_index_or links (64 * p.node + p.place) b) x)
+      (sym (enough_at (λ (x : Worked RingDriver). x.links.items) workeds all_enough p.node p.place w d there p.few))
       ((h.nodes p.node w few).pairs p.place b d p.few))
 
   pub all_lawful : (k : ℕ) (d : LoggedDriver) → k < length (all_drivers workeds) →

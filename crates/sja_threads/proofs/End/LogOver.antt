@@ -29,10 +29,10 @@ use Rattle.sja_log.proofs.NodeLog.NodeEnds.{node_end, journal_is, journals_in_lo
 use Rattle.sja_threads.specs.declared.worked.Worked.{Worked}
 use Rattle.sja_threads.specs.Inside.Ended.{IsOverAt, IsOver}
 use Rattle.sja_threads.specs.Inside.Settling.{all_drivers, all_ends, IsLeftOn, AreLeftOn, IsSettledLog}
-use Rattle.sja_threads.proofs.End.LeftOnLinks.{eight_at}
+use Rattle.sja_threads.proofs.End.LeftOnLinks.{enough_at}
 use Rattle.sja_threads.proofs.Events.ActivationLinked.{linked_by}
 use Rattle.sja_threads.proofs.End.NodeOver.{given_all, settled_all}
-use Rattle.sja_threads.proofs.End.LinksOver.{eights, in_links}
+use Rattle.sja_threads.proofs.End.LinksOver.{all_enough, in_links}
 
 -- what the log of a run that is over is made of
 pub record AreLogParts (plan : PlanValue) (bus : BusValue) (links : List RingBus) (workeds : List (Worked RingDriver))
@@ -76,23 +76,23 @@ module _ (plan : PlanValue) (bus : BusValue) (links : List RingBus) (workeds : L
     handed = slice_index_or workeds k some
 
     over : IsOverAt (settings_in (at_power_on plan.version)) (steps_at plan k) k (journal_at bus.journals k) (deeds_at
-        deeds k) handed links (8 * k)
+        deeds k) handed links (64 * k)
     over = h.nodes k some in_plan
 
     some_bus : RingBus
     some_bus = let i = in_plan in let c = h.links_count in any_of links (omega (arith, i, c))
 
     some_end : RingDriver
-    some_end = let e = over.eight in any_of handed.links.items (omega (arith, e))
+    some_end = let e = over.enough in any_of handed.links.items (omega (arith, e))
 
-    left_there : (a : ℕ) → a < 8 → IsLeftOn (slice_index_or links (8 * k + a) some_bus)
-        (slice_index_or handed.links.items a some_end) (slice_index_or left_down (8 * k + a) [])
+    left_there : (a : ℕ) → a < 64 → IsLeftOn (slice_index_or links (64 * k + a) some_bus)
+        (slice_index_or handed.links.items a some_end) (slice_index_or left_down (64 * k + a) [])
     left_there a few =
-        subst (λ (d : RingDriver). IsLeftOn (slice_index_or links (8 * k + a) some_bus) d
-        (slice_index_or left_down (8 * k + a) []))
-        (eight_at (λ (w : Worked RingDriver). w.links.items) workeds (eights plan bus links workeds deeds h) k a some
-        some_end in_workeds few)
-        (m.left.each (8 * k + a) some_bus some_end []
+        subst (λ (d : RingDriver). IsLeftOn (slice_index_or links (64 * k + a) some_bus) d
+        (slice_index_or left_down (64 * k + a) []))
+        (enough_at (λ (w : Worked RingDriver). w.links.items) workeds (all_enough plan bus links workeds deeds h)
+        k a some some_end in_workeds few)
+        (m.left.each (64 * k + a) some_bus some_end []
         (in_links k (length plan.nodes) a (length links) in_plan few h.links_count))
 
     driver_is : (d : LoggedDriver) → slice_index_or (all_drivers workeds) k d ≡ handed.driver
@@ -107,27 +107,27 @@ module _ (plan : PlanValue) (bus : BusValue) (links : List RingBus) (workeds : L
     abbrev of_bus : NodeLog
     of_bus = slice_index_or logs k (some_log plan log logs bus.journals (all_drivers workeds) left_down are k n less)
 
-    end_there : IsNodeEnd of_bus handed.driver left_down (8 * k) there
+    end_there : IsNodeEnd of_bus handed.driver left_down (64 * k) there
     end_there =
-        subst (λ (d : LoggedDriver). IsNodeEnd of_bus d left_down (8 * k) there)
+        subst (λ (d : LoggedDriver). IsNodeEnd of_bus d left_down (64 * k) there)
         (driver_is (some_driver plan log logs bus.journals (all_drivers workeds) left_down are k n less))
         (node_end plan log logs bus.journals (all_drivers workeds) left_down are k n less)
 
     same : there.journal ≡ journal
     same = journal_is plan log logs bus.journals (all_drivers workeds) left_down are k n less
 
-    trace_there : IsTrace (steps_at plan k) there (deeds_at deeds k)
-    trace_there = trace_of journal (deeds_at deeds k) handed.driver left_down (8 * k) _ there end_there same
-        (steps_at plan k) over.deeds_are over.traces
+    trace_there : IsTrace plan.version (steps_at plan k) there (deeds_at deeds k)
+    trace_there = trace_of journal (deeds_at deeds k) handed.driver left_down (64 * k) _ there end_there same
+        plan.version (steps_at plan k) over.deeds_are over.traces
         (given_all (settings_in (at_power_on plan.version)) (steps_at plan k) k journal (deeds_at deeds k) handed links
-        (8 * k) over left_down some_bus some_end
+        (64 * k) over left_down some_bus some_end
         left_there)
 
     settled_there : AreSettled there
-    settled_there = settled_of journal (deeds_at deeds k) handed.driver left_down (8 * k) _ there end_there same
+    settled_there = settled_of journal (deeds_at deeds k) handed.driver left_down (64 * k) _ there end_there same
         over.lawful
         (settled_all (settings_in (at_power_on plan.version)) (steps_at plan k) k journal (deeds_at deeds k) handed
-        links (8 * k) over left_down some_bus some_end
+        links (64 * k) over left_down some_bus some_end
         left_there)
 
     bus_there : IsBusRun bus.script bus.run bus.journals

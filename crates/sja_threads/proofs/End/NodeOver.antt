@@ -30,13 +30,13 @@ module _ (set : SettingsValue) (steps : List Step) (node : ℕ) (j : List Entry)
     RingDriver)
     (links : List RingBus) (base : ℕ) (h : IsOverAt set steps node j deeds w links base) (left_down : List (List Down))
     (bus : RingBus) (end : RingDriver)
-    (left : (a : ℕ) → a < 8 → IsLeftOn (slice_index_or links (base + a) bus) (slice_index_or w.links.items a end)
+    (left : (a : ℕ) → a < 64 → IsLeftOn (slice_index_or links (base + a) bus) (slice_index_or w.links.items a end)
     (slice_index_or left_down (base + a) [])) where
   abbrev did : ℕ → Account
   did a = record { got = h.drivers.got a; given = given_in (deeds_of deeds (suc a)) }
 
   -- what was put is what the driver got and what lies there, and all that it gave was taken
-  on_link : (a : ℕ) → a < 8 →
+  on_link : (a : ℕ) → a < 64 →
       (put_of (part j (suc a)) ≡ h.drivers.got a ++ slice_index_or left_down (base + a) [])
       × (given_in (deeds_of deeds (suc a)) ≡ taken_of (part j (suc a)))
   on_link a few =
@@ -45,7 +45,7 @@ module _ (set : SettingsValue) (steps : List Step) (node : ℕ) (j : List Entry)
       (subst (λ (n : ℕ). DriverLists (slice_index_or w.links.items n end) (account j (suc a) (did a))) from_none
       (h.drivers.kept a end few))
 
-  opened_most : opened_by deeds ≤ 8
+  opened_most : opened_by deeds ≤ 64
   opened_most =
       let e = h.traces.opened in
       let few = (opened_few (node_of w.driver) (ended_of w.driver) (driver_of w.driver) h.lawful).0 in
@@ -53,7 +53,7 @@ module _ (set : SettingsValue) (steps : List Step) (node : ℕ) (j : List Entry)
 
   pub given_all : (a : ℕ) → given_in (deeds_of deeds a) ≡ taken_of (part j a)
   given_all zero = given_outside steps deeds 0 h.deeds_are opened_most (inl refl) ∙ sym (h.within 0 (inl refl))
-  given_all (suc a) = elim (cases_lt a 8) [
+  given_all (suc a) = elim (cases_lt a 64) [
     | inl few ↦ (on_link a few).1
     | inr most ↦
         given_outside steps deeds (suc a) h.deeds_are opened_most (inr (omega (arith, most)))
@@ -66,7 +66,7 @@ module _ (set : SettingsValue) (steps : List Step) (node : ℕ) (j : List Entry)
     unread = held_after w.driver a ++ messages (slice_index_or left_down (base + a) []);
   }
 
-  pub settled_all : (a : ℕ) → a < 8 →
+  pub settled_all : (a : ℕ) → a < 64 →
       IsSettled j (a + 1) (activation_after w.driver (slice_index_or left_down (base + a) []) a)
   settled_all a few =
       let one : suc a ≡ a + 1 = omega arith in

@@ -92,30 +92,30 @@ all_done {G} quits plan (s ∷ starts) (w ∷ ws) p =
 
 module _ {G : Type 0} (quits : Bool) (plan : PlanValue) (starts : List (ThreadStart G)) (ws : List (Worked RingDriver))
     (was now : BusThread) (many : length starts ≡ length plan.nodes)
-    (long : length was.links.items ≡ 8 * length plan.nodes)
+    (long : length was.links.items ≡ 64 * length plan.nodes)
     (made : AreMade plan (length plan.nodes) starts was.links.items) (on : GoesOn plan was now) where
   -- one node
   over_at : (node : ℕ) (s : ThreadStart G) (w : Worked RingDriver) (deeds : List Deed) → node < length plan.nodes →
       IsMade plan node s was.links.items → (v : Serves quits plan s w) → deeds ≡ v.worked.deeds →
       IsOverAt (settings_in (at_power_on plan.version)) (steps_at plan node) node (journal_at now.bus.journals node)
-      deeds w now.links.items (8 * node)
+      deeds w now.links.items (64 * node)
   over_at node s w deeds few m v is = record {
     own = v.worked.own ∙ m.own;
     lawful = v.worked.lawful;
-    deeds_are = subst (λ (n : ℕ). AreDeeds (steps_at plan n) deeds) m.own
-        (subst (λ (l : List Deed). AreDeeds (steps_at plan s.node) l) (sym is) v.worked.deeds_are);
+    deeds_are = subst (λ (n : ℕ). AreDeeds plan.version (steps_at plan n) deeds) m.own
+        (subst (λ (l : List Deed). AreDeeds plan.version (steps_at plan s.node) l) (sym is) v.worked.deeds_are);
     leads = rw is v.worked.leads;
     traces = rw is v.worked.traces;
     drivers = rw is (v.worked.holds j untouched);
     buses = λ h. on.way.kept node h few;
     pairs = λ a b d less.
-        still_one (slice_index_or was.links.items (8 * node + a) b) (slice_index_or now.links.items (8 * node + a) b)
+        still_one (slice_index_or was.links.items (64 * node + a) b) (slice_index_or now.links.items (64 * node + a) b)
         (slice_index_or s.links.items a d) (slice_index_or w.links.items a d) (m.links.one a b d less)
-        (AllZip-get_or SameBus was.links.items now.links.items (8 * node + a) b b on.sames
+        (AllZip-get_or SameBus was.links.items now.links.items (64 * node + a) b b on.sames
         (grind (arith, less, few, long)))
         (AllZip-get_or SameDriver s.links.items w.links.items a d d v.sames
-        (let e = m.eight in omega (arith, less, e)));
-    eight = AllZip-long SameDriver s.links.items w.links.items v.sames ∙ m.eight;
+        (let e = m.enough in omega (arith, less, e)));
+    enough = AllZip-long SameDriver s.links.items w.links.items v.sames ∙ m.enough;
     within = on.way.within node few;
   }
     where
@@ -146,7 +146,7 @@ module _ {G : Type 0} (quits : Bool) (plan : PlanValue) (starts : List (ThreadSt
           nodes = λ node w few.
               let p = done.places node (omega (arith, few, many)) in
               subst (λ (x : Worked RingDriver). IsOverAt (settings_in (at_power_on plan.version)) (steps_at plan node)
-              node (journal_at now.bus.journals node) (deeds_at done.deeds node) x now.links.items (8 * node))
+              node (journal_at now.bus.journals node) (deeds_at done.deeds node) x now.links.items (64 * node))
               (sym (p.worked_is w))
               (over_at node p.start p.worked (deeds_at done.deeds node) few
               (subst (λ (x : ThreadStart G). IsMade plan node x was.links.items) (p.start_is p.start)

@@ -30,7 +30,7 @@ use Rattle.sja_threads.proofs.Rounds.GoesOn.{on_twice}
 
 -- once all threads are joined
 pub ending : {G : Type 0} (quits : Bool) (plan : PlanValue) (starts : List (ThreadStart G)) (was : BusThread)
-    (j : JoinedRun) → length starts ≡ length plan.nodes → length was.links.items ≡ 8 * length plan.nodes →
+    (j : JoinedRun) → length starts ≡ length plan.nodes → length was.links.items ≡ 64 * length plan.nodes →
     AreMade plan (length plan.nodes) starts was.links.items → GoesOn plan was j.bus →
     EachRelated (Serves quits plan) starts j.workeds.items → IsEnding quits plan j
 ending {G} quits plan starts was j many long made on served = record {

@@ -33,7 +33,8 @@ linked_one j a act h credits orderly real =
     (linked_part (part j a) h.driver.got h.down act.released h.held orderly real h.put h.holds credits)
 
 -- of each activation of a node whose driver's trace this is
-pub linked_by : (steps : List Step) (deeds : List Deed) (node : NodeValue) → IsTrace steps node deeds →
+pub linked_by : {version : ℕ} (steps : List Step) (deeds : List Deed) (node : NodeValue) → IsTrace version steps node
+    deeds →
     IsLawful node.journal → AreOrderly node.journal → AreLinked node
 linked_by steps deeds node trace lawful orderly a d less settled =
     linked_one node.journal (a + 1) (slice_index_or node.activations a d) settled

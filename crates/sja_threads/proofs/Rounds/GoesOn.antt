@@ -33,7 +33,8 @@ SomeWorks journals =
 -- with its links lent for a call
 module _ (was now : BusThread) (lent after : List RingBus) (these : lent ≡ was.links.items)
     (those : now.links.items ≡ after) (script : now.bus.script ≡ was.bus.script)
-    (nodes : length now.bus.journals ≡ length was.bus.journals) (lent_sames : EachRelated SameBus lent after) where
+    (room : now.bus.steps ≡ was.bus.steps) (nodes : length now.bus.journals ≡ length was.bus.journals) (lent_sames :
+    EachRelated SameBus lent after) where
   sames : EachRelated SameBus was.links.items now.links.items
   sames =
       subst (λ (l : List RingBus). EachRelated SameBus l now.links.items) these
@@ -58,6 +59,7 @@ module _ (was now : BusThread) (lent after : List RingBus) (these : lent ≡ was
       way = record {
         right = right;
         script = script ∙ w.script;
+        steps = room ∙ w.steps;
         all_bits = all;
         journals = nodes ∙ w.journals;
         count = AllZip-long SameBus was.links.items now.links.items sames ∙ w.count;
@@ -111,16 +113,17 @@ module _ (was now : BusThread) (lent after : List RingBus) (these : lent ≡ was
 
 -- what was taken, by what the bus answers
 pub gathered : (was now : BusThread) (lent after : List RingBus) → lent ≡ was.links.items →
-    now.links.items ≡ after → now.bus.script ≡ was.bus.script →
+    now.links.items ≡ after → now.bus.script ≡ was.bus.script → now.bus.steps ≡ was.bus.steps →
     length now.bus.journals ≡ length was.bus.journals → EachRelated SameBus lent after →
     (now.bus.run ≡ was.bus.run) × (now.bus.left ≡ was.bus.left) → now.run ≡ was.run → now.spent ≡ was.spent →
     {A : Type 0} (r : Result A BusFault) →
     OnOk r (KeepsAll BusLists was.bus.journals now.bus.journals lent after) →
     OnOk r (EachJournal MayHaveItems was.bus.journals now.bus.journals) → OnOk r (now.bus.fault ≡ None) →
     OnOk r ((plan : PlanValue) → IsUnderWay plan was → GoesOn plan was now)
-gathered was now lent after these those script nodes sames bits same_run same_spent (Ok a) kept items right = λ plan w.
-    after_gather was now lent after these those script nodes sames plan w right kept bits items same_run same_spent
-gathered was now lent after these those script nodes sames bits same_run same_spent (Err f) kept items right = tt
+gathered was now lent after these those script room nodes sames bits same_run same_spent (Ok a) kept items right = λ
+    plan w.
+    after_gather was now lent after these those script room nodes sames plan w right kept bits items same_run same_spent
+gathered was now lent after these those script room nodes sames bits same_run same_spent (Err f) kept items right = tt
 
 -- ---- without a bit
 
@@ -151,6 +154,7 @@ spent_now plan t w many laws busy =
       way = record {
         right = w.right;
         script = w.script;
+        steps = w.steps;
         all_bits = w.all_bits;
         journals = w.journals;
         count = w.count;

@@ -6,7 +6,7 @@ use Rattle.sja_link.specs.Lists.{Lists}
 use Rattle.sja_regs.specs.declared.orders.Orders.{Orders}
 use Rattle.sja_rings.specs.declared.ring_bus.RingBus.{RingBus}
 use Rattle.sja_rings.specs.Ends.{BusLists}
-use Rattle.sja_plan.specs.Plan.{PlanValue}
+use Rattle.sja_plan.specs.Plan.{PlanValue, step_counts}
 use Rattle.sja_wire.specs.declared.bus_fault.BusFault.{BusFault}
 use Rattle.sja_wire.specs.declared.bus_fault.BusFault.TheVariants.{BitsSpent, JournalFull}
 use Rattle.sja_bus.specs.Buses.{BusValue}
@@ -20,10 +20,12 @@ use Rattle.sja_threads.specs.Stopping.{HasNoPlace, any_orders, StopsFor}
 use Rattle.sja_threads.specs.Inside.Rounds.{IsUnderWay}
 
 -- an item that wasn't taken is no want of bits
-taken_not_spent : {E : Type 0} (stands : E → Lists → Type 0) (bits : ℕ) (before now : List (List Entry))
-    (links after : List E) (f : BusFault) → IsTakenAndRefused stands bits before now links after f → f ≢ BitsSpent
-taken_not_spent stands bits before now links after f n e =
-    subst (λ (x : BusFault). IsRefusedFor n.node (room_for bits) (journal_at now n.node) n.refuses.item x) e
+taken_not_spent : {E : Type 0} (stands : E → Lists → Type 0) (bits : ℕ) (steps : List ℕ)
+    (before now : List (List Entry)) (links after : List E) (f : BusFault) →
+    IsTakenAndRefused stands bits steps before now links after f → f ≢ BitsSpent
+taken_not_spent stands bits steps before now links after f n e =
+    subst (λ (x : BusFault). IsRefusedFor n.node (room_for bits steps n.node) (journal_at now n.node) n.refuses.item x)
+    e
     n.refuses.why
 
 no_full : (node : ℕ) → BitsSpent ≡ JournalFull node → ⊥
@@ -35,15 +37,15 @@ bit_not_spent : {E : Type 0} (stands : E → Lists → Type 0) (full : E → Typ
     StopsBit stands full orders_are before now links after f → f ≢ BitsSpent
 bit_not_spent stands full orders_are before now links after f some (spent is none) e = some none
 bit_not_spent stands full orders_are before now links after f some (not_taken n) e =
-    taken_not_spent stands (before.run + before.left) before.journals now.journals links after f n e
+    taken_not_spent stands (before.run + before.left) before.steps before.journals now.journals links after f n e
 bit_not_spent stands full orders_are before now links after f some (not_aborted n) e = no_full n.node (sym e ∙ n.is)
 bit_not_spent stands full orders_are before now links after f some (broken_off n) e =
-    subst (λ (x : BusFault). IsBrokenFor stands full n.node (room_for (before.run + before.left)) n.opened
-    (journal_at now.journals n.node) n.between (per_node * n.node) x) e n.broken
+    subst (λ (x : BusFault). IsBrokenFor stands full n.node (room_for (before.run + before.left) before.steps n.node)
+    n.opened (journal_at now.journals n.node) n.between (per_node * n.node) x) e n.broken
 
 module _ (plan : PlanValue) (t : BusThread) (now : BusValue) (links after : List RingBus) (f : BusFault)
     (w : IsUnderWay plan t) (laws : IsBusRun t.bus.script t.bus.run t.bus.journals) where
-  stops_for : IsTakenAndRefused BusLists plan.bits t.bus.journals now.journals links after f
+  stops_for : IsTakenAndRefused BusLists plan.bits (step_counts plan) t.bus.journals now.journals links after f
       ⊎ StopsBit BusLists HasNoPlace any_orders t.bus now links after f → f ≢ BitsSpent → StopsFor plan f
   stops_for why unspent = record {
     was = t.bus;
@@ -51,6 +53,7 @@ module _ (plan : PlanValue) (t : BusThread) (now : BusValue) (links after : List
     links = links;
     after = after;
     script = w.script;
+    steps = w.steps;
     bits = w.all_bits;
     nodes = w.journals;
     right = w.right;
@@ -60,12 +63,14 @@ module _ (plan : PlanValue) (t : BusThread) (now : BusValue) (links after : List
   }
 
   -- an item wasn't taken
-  pub stops_taking : IsTakenAndRefused BusLists (t.bus.run + t.bus.left) t.bus.journals now.journals links after f →
-      StopsFor plan f
+  pub stops_taking : IsTakenAndRefused BusLists (t.bus.run + t.bus.left) t.bus.steps t.bus.journals now.journals links
+      after f → StopsFor plan f
   stops_taking n = stops_for
-      (inl (subst (λ (bits : ℕ). IsTakenAndRefused BusLists bits t.bus.journals now.journals links after f)
-      w.all_bits n))
-      (taken_not_spent BusLists (t.bus.run + t.bus.left) t.bus.journals now.journals links after f n)
+      (inl (subst (λ (steps : List ℕ). IsTakenAndRefused BusLists plan.bits steps t.bus.journals now.journals links
+      after f) w.steps
+      (subst (λ (bits : ℕ). IsTakenAndRefused BusLists bits t.bus.steps t.bus.journals now.journals links after f)
+      w.all_bits n)))
+      (taken_not_spent BusLists (t.bus.run + t.bus.left) t.bus.steps t.bus.journals now.journals links after f n)
 
   -- a bit didn't come to its end, where bits were left
   pub stops_bit : t.run < plan.bits → StopsBit BusLists HasNoPlace any_orders t.bus now links after f → StopsFor plan f
@@ -77,7 +82,7 @@ module _ (plan : PlanValue) (t : BusThread) (now : BusValue) (links after : List
 pub stops_gather : (t : BusThread) (now : BusValue) (links after : List RingBus) {A : Type 0} (r : Result A BusFault) →
     (t.bus.fault ≡ None → IsBusRun t.bus.script t.bus.run t.bus.journals) →
     IfErr r (λ f. t.bus.fault ≡ None →
-    IsTakenAndRefused BusLists (t.bus.run + t.bus.left) t.bus.journals now.journals links after f) →
+    IsTakenAndRefused BusLists (t.bus.run + t.bus.left) t.bus.steps t.bus.journals now.journals links after f) →
     IfErr r (λ f. (plan : PlanValue) → IsUnderWay plan t → StopsFor plan f)
 stops_gather t now links after (Ok a) laws why = tt
 stops_gather t now links after (Err f) laws why = λ plan w.

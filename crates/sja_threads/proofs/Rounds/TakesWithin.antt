@@ -1,4 +1,4 @@
--- Items are taken in the activations 1 to 8 alone.
+-- Items are taken in the activations 1 to 64 alone.
 use Rattle.std.proofs.Common.{◌≡◌, ℕ, suc, ◌<◌, Bool, false, List, [], ◌∷◌, ◌++◌, refl, ap, ◌∙◌, cond, append_assoc}
 use Rattle.std.proofs.Common.{arith, inl, inr}
 use Rattle.std.specs.Prelude.{◌⊎◌}
@@ -21,13 +21,13 @@ use Rattle.sja_wire.proofs.Taking.{adds, taken_adds}
 use Rattle.sja_threads.specs.Inside.Rounds.{TakesWithin}
 
 -- an activation that is read is none of these
-far_off : (activation stops a : ℕ) → activation ≡ suc stops → stops < 8 → (a ≡ 0) ⊎ (8 < a) → activation ≡ a → ⊥
+far_off : (activation stops a : ℕ) → activation ≡ suc stops → stops < 64 → (a ≡ 0) ⊎ (64 < a) → activation ≡ a → ⊥
 far_off activation stops a next few far same = elim far [
   | inl none ↦ omega (arith, next, few, none, same)
   | inr many ↦ omega (arith, next, few, many, same)
 ]
 
-none_added : (j : List Entry) (us : List Up) (a : ℕ) → AreRead j us → (a ≡ 0) ⊎ (8 < a) → adds j us a ≡ []
+none_added : (j : List Entry) (us : List Up) (a : ℕ) → AreRead j us → (a ≡ 0) ⊎ (64 < a) → adds j us a ≡ []
 none_added j [] a r far = refl
 none_added j (u ∷ us) a r far =
     let activation = (past (place_of j) (Item u)).activation in

@@ -9,7 +9,7 @@ use Rattle.sja_link.specs.Carried.{taken_of}
 use Rattle.sja_link.specs.Parts.{part}
 use Rattle.sja_rings.specs.declared.ring_bus.RingBus.{RingBus}
 use Rattle.sja_rings.specs.Ends.{BusLists}
-use Rattle.sja_plan.specs.Plan.{PlanValue}
+use Rattle.sja_plan.specs.Plan.{PlanValue, step_counts}
 use Rattle.sja_bus.specs.Buses.{BusValue, new_bus}
 use Rattle.sja_wire.specs.Wire.{journal_at}
 use Rattle.sja_log.proofs.NodeLog.NodeEnds.{any_of}
@@ -24,17 +24,19 @@ nothing_at (suc nodes) zero = refl
 nothing_at (suc nodes) (suc node) = nothing_at nodes node
 
 pub begins : {G : Type 0} (plan : PlanValue) (t : BusThread) (starts : List (ThreadStart G)) →
-    t.bus ≡ new_bus plan.strikes plan.bits (length plan.nodes) → length t.links.items ≡ 8 * length plan.nodes →
+    t.bus ≡ new_bus plan.strikes plan.bits (length plan.nodes) (step_counts plan) → length t.links.items ≡ 64 * length
+    plan.nodes →
     t.run ≡ 0 → t.spent ≡ false → length starts ≡ length plan.nodes →
     AreMade plan (length plan.nodes) starts t.links.items → IsUnderWay plan t
 begins {G} plan t starts is count run spent many made = record {
   right = ap (λ (b : BusValue). b.fault) is;
   script = ap (λ (b : BusValue). b.script) is;
+  steps = ap (λ (b : BusValue). b.steps) is;
   all_bits = let run = none_run in let left = ap (λ (b : BusValue). b.left) is in omega (arith, run, left);
   journals = ap (λ (b : BusValue). length b.journals) is ∙ length-replicate (length plan.nodes) [];
   count = count;
   ids = λ node a b less here. ((at node (grind (arith, less, here, count))).buses_new a b less).link;
-  kept = λ node h few a b less. subst (λ (j : List Entry). BusLists (slice_index_or t.links.items (8 * node + a) b)
+  kept = λ node h few a b less. subst (λ (j : List Entry). BusLists (slice_index_or t.links.items (64 * node + a) b)
       (account j (suc a) (h a))) (sym (empty node)) ((at node few).buses_new a b less).lists;
   within = λ node few a far. ap (λ (j : List Entry). taken_of (part j a)) (empty node);
   due = λ i less. let run = none_run in absurd (omega (arith, less, run));
@@ -50,5 +52,5 @@ begins {G} plan t starts is count run spent many made = record {
 
     at : (node : ℕ) (few : node < length plan.nodes) →
         let s : ThreadStart G = any_of starts (omega (arith, few, many)) in
-        AreNewEnds 8 node t.links.items (slice_index_or starts node s).links.items (8 * node)
+        AreNewEnds 64 node t.links.items (slice_index_or starts node s).links.items (64 * node)
     at node few = (made node (any_of starts (omega (arith, few, many))) few).links

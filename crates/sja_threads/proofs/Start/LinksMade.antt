@@ -75,13 +75,13 @@ links_push count node buses drivers base b d long many so bus driver one = recor
 
 -- links that were made before others stay as they are
 made_later : {G : Type 0} (plan : PlanValue) (node : ℕ) (s : ThreadStart G) (buses after : List RingBus) →
-    ((a : ℕ) (b : RingBus) → a < 8 → slice_index_or after (8 * node + a) b ≡ slice_index_or buses (8 * node + a) b) →
+    ((a : ℕ) (b : RingBus) → a < 64 → slice_index_or after (64 * node + a) b ≡ slice_index_or buses (64 * node + a) b) →
     IsMade plan node s buses → IsMade plan node s after
 made_later plan node s buses after same m = record {
   own = m.own;
   empty = m.empty;
   room = m.room;
-  eight = m.eight;
+  enough = m.enough;
   links = record {
     buses_new = λ a b less. subst (λ (x : RingBus). IsNewBus node (suc a) x) (sym (same a b less))
         (m.links.buses_new a b less);
@@ -93,13 +93,13 @@ made_later plan node s buses after same m = record {
 
 -- the links of one node more
 pub made_push : {G : Type 0} (plan : PlanValue) (count : ℕ) (starts : List (ThreadStart G)) (buses after : List RingBus)
-    (s : ThreadStart G) → length starts ≡ count → length buses ≡ 8 * count →
+    (s : ThreadStart G) → length starts ≡ count → length buses ≡ 64 * count →
     ((i : ℕ) (b : RingBus) → i < length buses → slice_index_or after i b ≡ slice_index_or buses i b) →
     AreMade plan count starts buses → IsMade plan count s after → AreMade plan (count + 1) (starts ++ s ∷ []) after
 made_push {G} plan count starts buses after s many long same so new =
     first_push (λ node x. IsMade plan node x after) count starts s many
     (λ node x less. made_later plan node (slice_index_or starts node x) buses after
-    (λ a b few. same (8 * node + a) b (grind (arith, less, few, long))) (so node x less)) new
+    (λ a b few. same (64 * node + a) b (grind (arith, less, few, long))) (so node x less)) new
 
 -- ---- a pair as it was made
 
@@ -124,11 +124,12 @@ new_driver node place b d link one lists =
 -- what the thread of a node begins with, as it was made
 pub made_of : {G : Type 0} (plan : PlanValue) (node base : ℕ) (s : ThreadStart G) (after : List RingBus)
     (steps : List Step) → s.node ≡ node → IsEmpty s.log → steps ≡ steps_at plan node → HasRoom (length steps) s.log →
-    length s.links.items ≡ 8 → base ≡ 8 * node → AreNewEnds 8 node after s.links.items base → IsMade plan node s after
-made_of plan node base s after steps own empty are room eight here links = record {
+    length s.links.items ≡ 64 → base ≡ 64 * node → AreNewEnds 64 node after s.links.items base → IsMade plan node s
+    after
+made_of plan node base s after steps own empty are room enough here links = record {
   own = own;
   empty = empty;
   room = subst (λ (l : List Step). HasRoom (length l) s.log) are room;
-  eight = eight;
-  links = subst (λ (n : ℕ). AreNewEnds 8 node after s.links.items n) here links;
+  enough = enough;
+  links = subst (λ (n : ℕ). AreNewEnds 64 node after s.links.items n) here links;
 }

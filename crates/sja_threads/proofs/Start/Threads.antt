@@ -39,7 +39,7 @@ module _ {G : Type 0} (plan : PlanValue) where
     few = subst (λ (n : ℕ). n < length plan.nodes) (sym m.own) few;
     empty = m.empty;
     room = subst (λ (n : ℕ). HasRoom (length (steps_at plan n)) s.log) (sym m.own) m.room;
-    eight = m.eight;
+    enough = m.enough;
     ids = subst (λ (n : ℕ). NumberedFrom link_of_driver s.links.items 0 n) (sym m.own) numbered;
   }
     where

@@ -22,27 +22,27 @@ use Rattle.sja_threads.specs.declared.worked.Worked.{Worked}
 use Rattle.sja_threads.specs.Setting.{LeadToSettings}
 
 -- of one node, when its driver and the bus have ended: what its driver had set first, its journal, what its driver
--- handed back, and the bus's ends of its eight links, from this place on
+-- handed back, and the bus's ends of its links, from this place on
 pub record IsOverAt (set : SettingsValue) (steps : List Step) (node : ℕ) (j : List Entry) (deeds : List Deed)
     (w : Worked RingDriver) (links : List RingBus) (base : ℕ) : Type 0 where
   -- its driver did these deeds, of these steps
   pub own : node_of w.driver ≡ node
   pub lawful : IsLawful w.driver
-  pub deeds_are : AreDeeds steps deeds
+  pub deeds_are : AreDeeds set.version steps deeds
   pub leads : (last : SettingsValue) × LeadToSettings set deeds last
-  pub traces : Traces (driver_of w.driver) (log_of w.driver) deeds
+  pub traces : Traces set.version (driver_of w.driver) (log_of w.driver) deeds
   -- the driver's ends stand beside the journal for these deeds, and the bus's for the parts of the journal, whatever
   -- the driver got and gave
   pub drivers : HoldsBy DriverLists deeds (driver_of w.driver) (log_of w.driver) j w.links.items 0
   pub buses : (h : ℕ → Account) → Kept BusLists j links base h
   -- both ends of each link come from one pair
-  pub pairs : (a : ℕ) (b : RingBus) (d : RingDriver) → a < 8 →
+  pub pairs : (a : ℕ) (b : RingBus) (d : RingDriver) → a < 64 →
       OneLink (slice_index_or links (base + a) b) (slice_index_or w.links.items a d)
-  pub eight : length w.links.items ≡ 8
-  -- items were taken in the activations 1 to 8 alone
-  pub within : (a : ℕ) → (a ≡ 0) ⊎ (8 < a) → taken_of (part j a) ≡ []
+  pub enough : length w.links.items ≡ 64
+  -- items were taken in the activations 1 to 64 alone
+  pub within : (a : ℕ) → (a ≡ 0) ⊎ (64 < a) → taken_of (part j a) ≡ []
 
--- of all nodes of a plan: its bus, the bus's ends of all links, eight of each node, and what the drivers handed back,
+-- of all nodes of a plan: its bus, the bus's ends of all links, 64 of each node, and what the drivers handed back,
 -- which did these deeds, a list for each node
 pub record IsOver (plan : PlanValue) (bus : BusValue) (links : List RingBus) (workeds : List (Worked RingDriver))
     (deeds : List (List Deed)) : Type 0 where
@@ -50,13 +50,13 @@ pub record IsOver (plan : PlanValue) (bus : BusValue) (links : List RingBus) (wo
   pub script : bus.script ≡ plan.strikes
   pub all_bits : bus.run + bus.left ≡ plan.bits
   pub journals_count : length bus.journals ≡ length plan.nodes
-  pub links_count : length links ≡ 8 * length plan.nodes
+  pub links_count : length links ≡ 64 * length plan.nodes
   pub workeds_count : length workeds ≡ length plan.nodes
   pub deeds_count : length deeds ≡ length plan.nodes
   pub nodes : (node : ℕ) (w : Worked RingDriver) → node < length plan.nodes →
       IsOverAt (settings_in (at_power_on plan.version)) (steps_at plan node) node (journal_at bus.journals node)
       (deeds_at deeds node)
-      (slice_index_or workeds node w) links (8 * node)
+      (slice_index_or workeds node w) links (64 * node)
 
 -- there are such deeds
 abbrev pub IsOverOf : PlanValue → BusValue → List RingBus → List (Worked RingDriver) → Type 0

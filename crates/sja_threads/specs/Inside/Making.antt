@@ -4,7 +4,7 @@ use Rattle.sja_link.specs.Lists.{nothing_yet}
 use Rattle.sja_rings.specs.declared.ring_bus.RingBus.{RingBus}
 use Rattle.sja_rings.specs.declared.ring_driver.RingDriver.{RingDriver}
 use Rattle.sja_rings.specs.Ends.{BusLists, DriverLists, OneLink, link_of_bus, link_of_driver}
-use Rattle.sja_plan.specs.Plan.{PlanValue, steps_at}
+use Rattle.sja_plan.specs.Plan.{PlanValue, steps_at, step_counts}
 use Rattle.sja_driver.specs.Logs.{HasRoom, IsEmpty}
 use Rattle.sja_bus.specs.Buses.{new_bus}
 use Rattle.sja_threads.specs.declared.thread_start.ThreadStart.{ThreadStart}
@@ -26,14 +26,14 @@ pub record AreNewEnds (count node : ℕ) (buses : List RingBus) (drivers : List 
   pub one : (a : ℕ) (b : RingBus) (d : RingDriver) → a < count →
       OneLink (slice_index_or buses (base + a) b) (slice_index_or drivers a d)
 
--- what the thread of a node's driver begins with: its ends of the node's eight links, and an empty log with room for
+-- what the thread of a node's driver begins with: its ends of the node's links, and an empty log with room for
 -- all its steps
 pub record IsMade {G : Type 0} (plan : PlanValue) (node : ℕ) (s : ThreadStart G) (buses : List RingBus) : Type 0 where
   pub own : s.node ≡ node
   pub empty : IsEmpty s.log
   pub room : HasRoom (length (steps_at plan node)) s.log
-  pub eight : length s.links.items ≡ 8
-  pub links : AreNewEnds 8 node buses s.links.items (8 * node)
+  pub enough : length s.links.items ≡ 64
+  pub links : AreNewEnds 64 node buses s.links.items (64 * node)
 
 -- the same of the first so many nodes
 abbrev pub AreMade : {G : Type 0} → PlanValue → ℕ → List (ThreadStart G) → List RingBus → Type 0
@@ -42,8 +42,8 @@ AreMade {G} plan count starts buses = (node : ℕ) (s : ThreadStart G) → node 
 
 -- all that a run of this plan begins with beside the ports
 pub record AreRunParts {G : Type 0} (plan : PlanValue) (r : RunParts G) : Type 0 where
-  pub bus : r.bus.bus ≡ new_bus plan.strikes plan.bits (length plan.nodes)
-  pub links : length r.bus.links.items ≡ 8 * length plan.nodes
+  pub bus : r.bus.bus ≡ new_bus plan.strikes plan.bits (length plan.nodes) (step_counts plan)
+  pub links : length r.bus.links.items ≡ 64 * length plan.nodes
   pub run : r.bus.run ≡ 0
   pub spent : r.bus.spent ≡ false
   pub starts : length r.starts.items ≡ length plan.nodes

@@ -6,33 +6,34 @@ use Rattle.sja_link.specs.Parts.{part}
 use Rattle.sja_link.specs.Carried.{taken_of}
 use Rattle.lemmas.specs.Related.{EachRelated}
 use Rattle.sja_rings.specs.Ends.{BusLists, SameBus, link_of_bus}
-use Rattle.sja_plan.specs.Plan.{PlanValue}
+use Rattle.sja_plan.specs.Plan.{PlanValue, step_counts}
 use Rattle.sja_wire.specs.Links.{Kept, Numbered}
 use Rattle.sja_wire.specs.Wire.{journal_at}
 use Rattle.sja_log.specs.declared.end.End.{End}
 use Rattle.sja_threads.specs.declared.bus_thread.BusThread.{BusThread}
 use Rattle.sja_threads.specs.Needed.{IsBitDue, AllDue, EndsDuly}
 
--- items were taken in the activations 1 to 8 alone
+-- items were taken in the activations 1 to 64 alone
 abbrev pub TakesWithin : List Entry → Type 0
-TakesWithin j = (a : ℕ) → (a ≡ 0) ⊎ (8 < a) → taken_of (part j a) ≡ []
+TakesWithin j = (a : ℕ) → (a ≡ 0) ⊎ (64 < a) → taken_of (part j a) ≡ []
 
 -- a bit that was due by these journals was due by those too
 abbrev pub StayDue : List (List Entry) → List (List Entry) → Type 0
 StayDue before after = (bits : ℕ) → IsBitDue bits before → IsBitDue bits after
 
--- the bus of a run of this plan without a fault, and its ends of all links, eight of each node, which stand for the
--- parts of the journals, whatever the drivers got and gave; each bit so far was due, and where the bits are spent one
--- more was
+-- the bus of a run of this plan without a fault, which has room for its steps, and its ends of all links, 64 of each
+-- node, which stand for the parts of the journals, whatever the drivers got and gave; each bit so far was due, and
+-- where the bits are spent one more was
 pub record IsUnderWay (plan : PlanValue) (t : BusThread) : Type 0 where
   pub right : t.bus.fault ≡ None
   pub script : t.bus.script ≡ plan.strikes
+  pub steps : t.bus.steps ≡ step_counts plan
   pub all_bits : t.bus.run + t.bus.left ≡ plan.bits
   pub journals : length t.bus.journals ≡ length plan.nodes
-  pub count : length t.links.items ≡ 8 * length plan.nodes
+  pub count : length t.links.items ≡ 64 * length plan.nodes
   pub ids : Numbered link_of_bus t.links.items
   pub kept : (node : ℕ) (h : ℕ → Account) → node < length plan.nodes →
-      Kept BusLists (journal_at t.bus.journals node) t.links.items (8 * node) h
+      Kept BusLists (journal_at t.bus.journals node) t.links.items (64 * node) h
   pub within : (node : ℕ) → node < length plan.nodes → TakesWithin (journal_at t.bus.journals node)
   pub due : AllDue t.bus.run t.bus.journals
   pub run : t.bus.run ≡ t.run

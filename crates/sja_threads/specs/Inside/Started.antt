@@ -18,7 +18,7 @@ pub record IsThreadStart {G : Type 0} (plan : PlanValue) (s : ThreadStart G) : T
   pub few : s.node < length plan.nodes
   pub empty : IsEmpty s.log
   pub room : HasRoom (length (steps_at plan s.node)) s.log
-  pub eight : length s.links.items ≡ 8
+  pub enough : length s.links.items ≡ 64
   pub ids : NumberedFrom link_of_driver s.links.items 0 s.node
 
 -- what it hands back: the same ends, and a driver that did steps of the plan with them; where its gate never quits, all

@@ -44,9 +44,9 @@ use Rattle.sja_told.proofs.Told.Parts.{each_part}
 use Rattle.sja_told.specs.Stored.{AllStored}
 use Rattle.sja_told.proofs.Told.Stores.{stored_none, stored_other, stored_bit}
 
--- a deed answers as the state has it
-abbrev pub Fits : List Deed → Deed → Type 0
-Fits before d = FitsState (is_active before) (opened_by before) d.step d.answer
+-- a deed answers as in this version the state has it
+abbrev pub Fits : ℕ → List Deed → Deed → Type 0
+Fits version before d = FitsState version (is_active before) (opened_by before) d.step d.answer
 
 -- what holds of each element holds of those before the last one, and of that
 each_front : {X : Type 0} (P : List X → X → Type 0) (before xs : List X) (x : X) →
@@ -274,7 +274,7 @@ module _ (whole : List Entry) (others : List FinishedPiece) (cut : IsCut (record
   -- ---- the whole
 
   come : (version : ℕ) (j rest : List Entry) (deeds : List Deed) (p : Registers) → LeadTo version j deeds p →
-      EachAfter Fits [] deeds →
+      EachAfter (Fits version) [] deeds →
       HasCut j → whole ≡ j ++ rest → IsQuiet rest → Come j rest deeds p
   come version j rest deeds p power_on fits has all q = record {
     port = port_first version;
@@ -292,24 +292,24 @@ module _ (whole : List Entry) (others : List FinishedPiece) (cut : IsCut (record
         passes = passes_bit j k rest p q b all quiet_rest h.passes;
       }
   come version k rest deeds q (step j _ before d p _ lead now tells gave entered left) fits has all quiet_rest =
-      let each = each_front Fits [] before d fits in
+      let each = each_front (Fits version) [] before d fits in
       by (λ more cut_j split_j quiet_j. come version j more before p lead each.0 cut_j split_j quiet_j) each.1
-      (kind_by before d p each.1 gave)
+      (kind_by version before d p each.1 gave)
     where
       one : (u : Up) → d.gave ≡ u ∷ [] → k ≡ j ++ Item u ∷ []
       one u is = entered ∙ ap (λ (l : List Up). j ++ entries_of_items l) is
 
       -- after what came before it, and what it leaves of a list of happenings
-      after : (more : List Entry) → HasCut j → Come j more before p → Fits before d → Passes k rest →
+      after : (more : List Entry) → HasCut j → Come j more before p → Fits version before d → Passes k rest →
           Come k rest (before ++ d ∷ []) q
       after more cut_j h fit passes = record {
-        port = port_step j k before d p q h.port fit tells gave entered left;
-        asked = asked_step j k before d p q h.port fit tells gave entered left h.asked cut_j;
+        port = port_step version j k before d p q h.port fit tells gave entered left;
+        asked = asked_step version j k before d p q h.port fit tells gave entered left h.asked cut_j;
         passes = passes;
       }
 
       item : (u : Up) → d.gave ≡ u ∷ [] → ((more : List Entry) → HasCut j → whole ≡ j ++ more → IsQuiet more →
-          Come j more before p) → Fits before d →
+          Come j more before p) → Fits version before d →
           (HasCut j → Come j (Item u ∷ rest) before p → IsTaken j (Item u)) → Come k rest (before ++ d ∷ []) q
       item u is came fit taken =
           let cut_j = cut_item j k u (one u is) has in
@@ -318,7 +318,7 @@ module _ (whole : List Entry) (others : List FinishedPiece) (cut : IsCut (record
           after (Item u ∷ rest) cut_j h fit (passes_item j k rest u (one u is) (taken cut_j h) h.passes)
 
       by : ((more : List Entry) → HasCut j → whole ≡ j ++ more → IsQuiet more → Come j more before p) →
-          Fits before d → Kind (is_active before) (opened_by before) d.step d.answer d.gave →
+          Fits version before d → Kind (is_active before) (opened_by before) d.step d.answer d.gave →
           Come k rest (before ++ d ∷ []) q
       by came fit (quiet none o same) =
           let is : k ≡ j = entered ∙ ap (λ (l : List Up). j ++ entries_of_items l) none ∙ append-nil j in
@@ -334,13 +334,13 @@ module _ (whole : List Entry) (others : List FinishedPiece) (cut : IsCut (record
           item (Credit n) is came fit (λ cut_j h. takes_credit j k rest n (one (Credit n) is) all cut_j)
       by came fit (sends was request is o same) =
           item (SendItem request) is came fit (λ cut_j h.
-          let free = was_free j k before d p q h.port fit tells gave entered left request is in
+          let free = was_free version j k before d p q h.port fit tells gave entered left request is in
           takes_send j k p request (one (SendItem request) is) h.asked free.0 free.1 cut_j has)
       by came fit (stops was is o same) = item StopItem is came fit (λ cut_j h. takes_stop j cut_j)
 
   -- all bits are told, and each message that was stored
   pub all_told : (version : ℕ) (deeds : List Deed) (p : Registers) → LeadTo version whole deeds p →
-      EachAfter Fits [] deeds → (hs : List Happening) → Happened [] whole hs →
+      EachAfter (Fits version) [] deeds → (hs : List Happening) → Happened [] whole hs →
       (length hs ≡ (place_of whole).bits) × AllStored whole hs
   all_told version deeds p lead fits hs x =
       let h = come version whole [] deeds p lead fits (record { found = others; cut = cut })

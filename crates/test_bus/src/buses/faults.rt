@@ -73,7 +73,9 @@ fn a_credit_that_cant_be_right_is_answered_always_again(rt: HostRuntime) -> Resu
 }
 
 #[test]
-fn a_journal_has_room_for_2100_entries_beside_two_a_bit(rt: HostRuntime) -> Result<(), Fail> {
+fn a_journal_has_room_for_two_entries_a_bit_two_a_step_and_100(
+    rt: HostRuntime,
+) -> Result<(), Fail> {
     let mut rig = alone(rt.alloc(), 1, 10_000, &[])?;
     rig.takes(&[Command(0, ABORT), Bus(Bits(1))])?;
     // a start, and a request, an abort and a bit each round

@@ -154,7 +154,7 @@ impl Hand {
 /// Whether this is the link of the next activation of this node's driver.
 fn is_next_link_of(link: &DequeLink, driver: &Driver<Reset>, node: u8) -> bool
     requires { node_in driver.now ≡ node }
-    ensures { result ≡ true → started_in driver.now < 8 → link.now.link ≡ next_link driver.now }
+    ensures { result ≡ true → started_in driver.now < 64 → link.now.link ≡ next_link driver.now }
 {
     let activation = driver.activation().saturating_add(1);
     DriverEnd::id(link) == LinkId { node, activation }

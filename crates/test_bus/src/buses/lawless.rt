@@ -98,7 +98,7 @@ impl BusEnd for Lawless {
 pub fn over_lawless_ends(alloc: Global, strikes: &[StrikeRow]) -> Result<Wired<Lawless>, Fail> {
     let mut links = Vec::new(alloc);
     for node in 0..2 {
-        for activation in 1..=8 {
+        for activation in 1..=64 {
             links.push(Lawless::silent(LinkId { node, activation }))?;
         }
     }
@@ -108,7 +108,7 @@ pub fn over_lawless_ends(alloc: Global, strikes: &[StrikeRow]) -> Result<Wired<L
 impl Wired<Lawless> {
     /// The end of a node's first link.
     fn first_end(&mut self, node: u8) -> Result<&mut Lawless, Fail> {
-        match self.links.get_mut(8 * usize::from(node)) {
+        match self.links.get_mut(64 * usize::from(node)) {
             Some(link) => Ok(link),
             None => Err("no such link")?,
         }

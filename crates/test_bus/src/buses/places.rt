@@ -5,9 +5,9 @@ use sja_link::DequeLink;
 use sja_regs::Port;
 use std::test::Fail;
 
-/// The place of a link among eight links a node, by node and activation.
+/// The place of a link among 64 links a node, by node and activation.
 pub fn place_of(node: u8, activation: u8) -> usize {
-    (8 * usize::from(node) + usize::from(activation)).saturating_sub(1)
+    (64 * usize::from(node) + usize::from(activation)).saturating_sub(1)
 }
 
 /// The link at this place.

@@ -9,7 +9,10 @@ use sja_script::{FaultScript, Strike};
 #[test]
 fn refused_memory_gives_no_bus(rt: HostRuntime) {
     let script = FaultScript::of(Vec::new(rt.alloc()));
-    match Bus::new(rt.alloc(), 3, 100, script) {
+    let Ok(steps) = Vec::from_array(rt.alloc(), [10, 20, 30]) else {
+        return;
+    };
+    match Bus::new(rt.alloc(), 100, steps, script) {
         Ok(bus) => assert!(rt; bus.at_rest() && bus.finish().len() == 3),
         Err(refused) => assert!(rt; refused == OutOfMemory),
     }
@@ -18,7 +21,7 @@ fn refused_memory_gives_no_bus(rt: HostRuntime) {
 #[test]
 fn refused_memory_gives_no_links(rt: HostRuntime) {
     match serial_links(rt.alloc(), 3) {
-        Ok(links) => assert!(rt; links.len() == 24),
+        Ok(links) => assert!(rt; links.len() == 192),
         Err(refused) => assert!(rt; refused == OutOfMemory),
     }
 }
@@ -34,13 +37,16 @@ fn refused_memory_gives_no_board(rt: HostRuntime) {
 #[test]
 fn refused_memory_refuses_a_strike(rt: HostRuntime) {
     let script = FaultScript::of(Vec::new(rt.alloc()));
+    let Ok(steps) = Vec::from_array(rt.alloc(), [10]) else {
+        return;
+    };
     let strike = Strike {
         node: 0,
         bit: 50,
         every: 1,
         times: 1,
     };
-    if let Ok(mut bus) = Bus::new(rt.alloc(), 1, 100, script) {
+    if let Ok(mut bus) = Bus::new(rt.alloc(), 100, steps, script) {
         match bus.strike(rt.alloc(), strike) {
             Ok(()) => assert!(rt; bus.bits_run() == 0),
             Err(refused) => assert!(rt; refused == OutOfMemory),

@@ -4,6 +4,7 @@ use super::bus_step::BusStep::{BitFails, Bits, Several, SeveralFail};
 use super::given::{are_same_logs, request, script_of};
 use super::left::Left::{Nodes, Verdicts};
 use super::left::leaves;
+use super::places::place_of;
 use super::wired::Wired;
 use sja_bus::BusFault::Stuck;
 use sja_bus::serial_links;
@@ -70,9 +71,9 @@ fn give(rig: &mut Wired<Closed>, place: usize, item: Up) -> bool {
 /// Two started nodes, of which one has a request.
 fn asked(alloc: Global) -> Result<Wired<Closed>, Fail> {
     let mut rig = over_closed_ends(alloc)?;
-    if !give(&mut rig, 0, Up::Start(PLAIN))
-        || !give(&mut rig, 0, Up::Send(request()?))
-        || !give(&mut rig, 8, Up::Start(PLAIN))
+    if !give(&mut rig, place_of(0, 1), Up::Start(PLAIN))
+        || !give(&mut rig, place_of(0, 1), Up::Send(request()?))
+        || !give(&mut rig, place_of(1, 1), Up::Start(PLAIN))
     {
         return Err("no room on a link")?;
     }

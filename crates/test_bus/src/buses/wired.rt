@@ -24,7 +24,8 @@ pub struct Wired<E> {
 }
 
 impl<E: BusEnd + Drop> Wired<E> {
-    /// So many nodes after power-on, for so many bits, struck by this script, over these links.
+    /// So many nodes after power-on, for so many bits and 1,000 steps each, struck by this script, over these
+    /// links.
     pub fn new(
         alloc: Global,
         version: u8,
@@ -33,11 +34,12 @@ impl<E: BusEnd + Drop> Wired<E> {
         script: FaultScript,
         links: Vec<E>,
     ) -> Result<Wired<E>, Fail> {
-        if nodes == 0 || nodes > 8 || bits == 0 || bits > 200_000 {
+        if nodes == 0 || nodes > 8 || bits == 0 || bits > 2_000_000 {
             return Err("no such bus")?;
         }
+        let steps = Vec::from_elem(alloc, 1_000, usize::from(nodes))?;
         Ok(Wired {
-            bus: Bus::new(alloc, nodes, bits, script)?,
+            bus: Bus::new(alloc, bits, steps, script)?,
             links,
             board: SerialBoard::new(alloc, nodes, version)?,
             nodes,

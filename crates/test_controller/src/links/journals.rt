@@ -34,14 +34,14 @@ fn some_of_each(alloc: Global) -> Result<Vec<Entry>, Fail> {
 
 #[test]
 fn a_new_journal_has_no_entries(rt: HostRuntime) -> Result<(), Fail> {
-    let journal = Journal::new(rt.alloc(), 1)?;
+    let journal = Journal::new(rt.alloc(), 1, 1_000)?;
     assert!(rt; journal.entries().next().is_none());
     Ok(())
 }
 
 #[test]
 fn entries_come_out_as_they_were_entered(rt: HostRuntime) -> Result<(), Fail> {
-    let mut journal = Journal::new(rt.alloc(), 1)?;
+    let mut journal = Journal::new(rt.alloc(), 1, 1_000)?;
     for entry in some_of_each(rt.alloc())? {
         assert!(rt; journal.enter(entry).is_ok());
     }
@@ -55,7 +55,7 @@ fn entries_come_out_as_they_were_entered(rt: HostRuntime) -> Result<(), Fail> {
 
 #[test]
 fn a_bit_is_entered_alike_by_both_calls(rt: HostRuntime) -> Result<(), Fail> {
-    let mut journal = Journal::new(rt.alloc(), 4)?;
+    let mut journal = Journal::new(rt.alloc(), 4, 1_000)?;
     for driven in [Level::Dominant, Level::Recessive] {
         for seen in [Level::Dominant, Level::Recessive] {
             assert!(rt; journal.enter_bit(driven, seen).is_ok());
@@ -70,10 +70,10 @@ fn a_bit_is_entered_alike_by_both_calls(rt: HostRuntime) -> Result<(), Fail> {
     Ok(())
 }
 
-/// A run of no bits has room for 2,100 entries, whatever they are.
+/// A run of no bits and 1,000 steps has room for 2,100 entries, whatever they are.
 #[test]
 fn the_reserved_entries_can_be_used_by_any_kind(rt: HostRuntime) -> Result<(), Fail> {
-    let mut journal = Journal::new(rt.alloc(), 0)?;
+    let mut journal = Journal::new(rt.alloc(), 0, 1_000)?;
     for _ in 0..2_100 {
         assert!(rt; journal.enter(Entry::Overrun(message_of(4)?)).is_ok());
     }

@@ -17,7 +17,7 @@ fn refused_memory_gives_no_link(rt: HostRuntime) {
 
 #[test]
 fn refused_memory_gives_no_journal(rt: HostRuntime) {
-    match Journal::new(rt.alloc(), 10) {
+    match Journal::new(rt.alloc(), 10, 1_000) {
         Ok(journal) => assert!(rt; journal.entries().next().is_none()),
         Err(refused) => assert!(rt; refused == OutOfMemory),
     }

@@ -1,10 +1,7 @@
 //! Each address, read and written, in reset mode and out of it.
 
-use super::controller::Controller;
-use super::given::{active, nothing_seen, two_seen};
-use sja_regs::address::{ACR0, AMR3, BUFFER, BUFFER_END, EWLR, IER, MOD, RMC, SR};
-use sja_regs::{RegFault, Register};
-use std::test::Fail;
+use sja_regs::address::MOD;
+use sja_regs::{Port, RegFault, Register, Seen};
 
 /// What a read of one address answers after power-on, and what a write.
 type Answers = (Result<u8, RegFault>, Result<(), RegFault>);
@@ -42,65 +39,34 @@ fn wanted(addr: u8) -> (Answers, Answers) {
 }
 
 /// What an address answers on this port.
-fn answers(mut port: Controller, addr: u8, value: u8) -> Answers {
-    let read = port.read(addr, &nothing_seen());
+fn answers(mut port: Port, addr: u8, value: u8) -> Answers {
+    let seen = Seen {
+        first: None,
+        count: 0,
+    };
+    let read = port.read(addr, &seen);
     (read, port.write(addr, value))
+}
+
+/// What an address answers in this version after power-on, where this value is written, and once reset mode was left,
+/// where 0 is.
+fn answered(version: u8, addr: u8, mode: u8) -> (Answers, Answers) {
+    let mut active = Port::new(version);
+    active.leave_reset();
+    (
+        answers(Port::new(version), addr, mode),
+        answers(active, addr, 0),
+    )
 }
 
 #[test]
 fn each_address_answers_in_both_versions(rt: HostRuntime) {
-    for number in 0..256u32 {
-        let addr = (number & 0xff) as u8;
-        let (in_reset, in_operation) = wanted(addr);
+    for addr in 0..=255u8 {
         let mode = u8::from(addr == MOD);
         for version in [1, 2] {
-            assert!(rt;
-                answers(Controller::new(version), addr, mode) == in_reset,
-                "at {addr}"
-            );
-            assert!(rt;
-                answers(active(version), addr, 0) == in_operation,
-                "at {addr}"
-            );
+            assert!(rt; answered(version, addr, mode) == wanted(addr), "at {addr}");
         }
     }
-}
-
-/// Each register with a value of its own, so that none stands in another's place.
-#[test]
-fn registers_of_reset_mode_are_read_as_they_were_written(rt: HostRuntime) -> Result<(), Fail> {
-    let mut port = Controller::new(1);
-    for addr in ACR0..=AMR3 {
-        port.write(addr, 0xa0 + addr)?;
-    }
-    port.write(IER, 0x5a)?;
-    port.write(EWLR, 0x80)?;
-    port.write(MOD, 0x09)?;
-    for addr in ACR0..=AMR3 {
-        assert!(rt; port.shows(&[(addr, 0xa0 + addr)]));
-    }
-    assert!(rt; port.shows(&[(IER, 0x5a), (EWLR, 0x80), (MOD, 0x09)]));
-    let config = port.config();
-    assert!(rt; config.filter.single && !config.self_test && !config.listen);
-    assert!(rt; config.filter.acr == [0xb0, 0xb1, 0xb2, 0xb3]);
-    assert!(rt; config.filter.amr == [0xb4, 0xb5, 0xb6, 0xb7]);
-    Ok(())
-}
-
-/// The first message in the receive buffer, with 0 after it; RMC and RBS. They stand so out of reset mode alone.
-#[test]
-fn messages_are_seen_in_the_receive_buffer(rt: HostRuntime) -> Result<(), Fail> {
-    let mut port = active(1);
-    let seen = two_seen()?;
-    let bytes = [0x02, 0x24, 0x60, 0x11, 0x22, 0, 0, 0, 0, 0, 0, 0, 0];
-    for (addr, byte) in (BUFFER..=BUFFER_END).zip(bytes) {
-        assert!(rt; port.read(addr, &seen) == Ok(byte), "at {addr}");
-    }
-    assert!(rt; port.read(RMC, &seen) == Ok(2));
-    assert!(rt; port.read(SR, &seen) == Ok(0x3d));
-    port.enter_reset();
-    assert!(rt; port.read(BUFFER + 1, &seen) == Ok(0x00));
-    Ok(())
 }
 
 #[test]

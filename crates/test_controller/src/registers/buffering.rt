@@ -1,8 +1,6 @@
 //! The transmit buffer, whatever its bytes are.
 
-use super::given::active;
 use can_frame::{Frame, Message};
-use sja_regs::address::{BUFFER, BUFFER_END};
 use std::test::Fail;
 
 /// Thirteen bytes that begin so, and are 0 after it.
@@ -54,35 +52,5 @@ fn a_buffer_of_any_content_has_a_frame(rt: HostRuntime) -> Result<(), Fail> {
         assert!(rt; message.buffer() == begun(want));
         assert!(rt; Frame::in_buffer(&message.buffer()) == message.frame());
     }
-    Ok(())
-}
-
-/// The same, written byte by byte and requested.
-#[test]
-fn the_frame_in_the_written_buffer_is_requested(rt: HostRuntime) -> Result<(), Fail> {
-    for (bytes, want) in rows() {
-        let mut port = active(1);
-        for (addr, byte) in (BUFFER..=BUFFER_END).zip(begun(bytes)) {
-            port.write(addr, byte)?;
-        }
-        let request = port.command(0x01)?;
-        let frame = Message::from_bytes(want)?.frame();
-        assert!(rt; request.is_some_and(|request| request.frame == frame));
-    }
-    Ok(())
-}
-
-/// A loaded message leaves none of the bytes that were there.
-#[test]
-fn a_loaded_message_is_followed_by_zeros(rt: HostRuntime) -> Result<(), Fail> {
-    let mut port = active(1);
-    for addr in BUFFER..=BUFFER_END {
-        port.write(addr, 0xff)?;
-    }
-    port.load(&Message::from_bytes(&[0x00, 0x24, 0x60])?)?;
-    port.write(BUFFER, 0x08)?;
-    let request = port.command(0x01)?;
-    let frame = Frame::new(false, 0x123, false, 8, &[0; 8])?;
-    assert!(rt; request.is_some_and(|request| request.frame == frame));
     Ok(())
 }

@@ -5,7 +5,7 @@ ghost use Rattle.sja_rings.specs.Ends.{OneLink};
 use crate::links::given::{LINK, message_of};
 use can_frame::OutOfMemory;
 use sja_link::{BusEnd, Down, DriverEnd, Up};
-use sja_rings::{RingBus, RingDriver, Settled, Unsettled, end_bus, end_driver, ring_pair, settle};
+use sja_rings::{RingBus, RingDriver, ring_pair};
 use std::alloc::Global;
 use std::test::Fail;
 
@@ -39,37 +39,8 @@ impl Rings {
         Ok(true)
     }
 
-    /// The bus takes what is shown.
-    pub fn take(&mut self) -> Option<Up> {
-        self.bus.take()
-    }
-
-    /// The driver gets what is shown.
-    pub fn get(&mut self) -> Option<Down> {
-        self.driver.get()
-    }
-
     /// The driver gives an item.
     pub fn give(&mut self, item: Up) -> Result<(), Up> {
         self.driver.give(item)
     }
-
-    /// What was left, after the last act of both ends.
-    pub fn settle(self) -> Result<Settled, Unsettled> {
-        let Rings { bus, driver } = self;
-        settle(end_bus(bus), end_driver(driver))
-    }
-}
-
-/// Whether these are messages of these lengths, in order.
-pub fn are_messages(items: &[Down], lengths: &[u8]) -> Result<bool, Fail> {
-    if items.len() != lengths.len() {
-        return Ok(false);
-    }
-    for (item, length) in items.iter().zip(lengths) {
-        if *item != Down::Message(message_of(*length)?) {
-            return Ok(false);
-        }
-    }
-    Ok(true)
 }

@@ -1,7 +1,9 @@
-//! A link of two rings whose other end is gone: its ring gives no closing note, and the link can't be settled.
+//! The ends of a link of two rings: their number; and an end whose other end is gone: its ring gives no closing note,
+//! and the link can't be settled.
 
 use super::given::Rings;
-use sja_link::{BusEnd, Down, DriverEnd, Up};
+use crate::links::given::LINK;
+use sja_link::{BusEnd, Down, DriverEnd, LinkId, Up};
 use sja_rings::{EndedBus, EndedDriver, Unsettled, end_bus, end_driver, settle};
 use std::alloc::Global;
 use std::test::Fail;
@@ -18,6 +20,17 @@ fn driver_alone(alloc: Global) -> Result<EndedDriver, Fail> {
     let Rings { bus, driver } = Rings::new(alloc)?;
     drop(bus);
     Ok(end_driver(driver))
+}
+
+#[test]
+fn both_ends_have_the_number_of_the_link(rt: HostRuntime) -> Result<(), Fail> {
+    let rings = Rings::new(rt.alloc())?;
+    let number = LinkId {
+        node: 1,
+        activation: 1,
+    };
+    assert!(rt; rings.bus.id() == number && rings.driver.id() == LINK);
+    Ok(())
 }
 
 #[test]

@@ -39,7 +39,7 @@ fn others(done: &mut Vec<Done>) -> Result<(), Fail> {
 
 /// A node whose driver did these steps.
 fn node(alloc: Global, done: Vec<Done>) -> Result<NodeRun, Fail> {
-    Ok(NodeRun::of(Journal::new(alloc, 0)?, 0, 0, done, Vec::new(alloc)))
+    Ok(NodeRun::of(Journal::new(alloc, 0, 1_000)?, 0, 0, done, Vec::new(alloc)))
 }
 
 #[test]

@@ -38,7 +38,7 @@ activation 2 stored 0 overrun 0 free 64
 
 /// Three messages are stored, one is released, and a second activation begins.
 fn stopped(alloc: Global) -> Result<Journal, Fail> {
-    let mut journal = Journal::new(alloc, 200)?;
+    let mut journal = Journal::new(alloc, 200, 1_000)?;
     enter(&mut journal, 0, start());
     enter(&mut journal, 60, Entry::Stored(message(1)?));
     enter(&mut journal, 50, Entry::Stored(message(2)?));
@@ -82,7 +82,7 @@ overrun 00 00 e0
 /// One long message in a first activation; in a second one five of six, of which one is lost, and a short one is lost.
 /// A credit of 10 is none that a driver gives, and is counted as it is.
 fn overrun(alloc: Global, long: &Message) -> Result<Journal, Fail> {
-    let mut journal = Journal::new(alloc, 200)?;
+    let mut journal = Journal::new(alloc, 200, 1_000)?;
     enter(&mut journal, 0, start());
     enter(&mut journal, 9, Entry::Stored(long.copy()));
     enter(&mut journal, 1, start());
@@ -125,7 +125,7 @@ released 00 00 00
 #[test]
 fn an_activation_without_a_start_has_nothing_stored(rt: HostRuntime) -> Result<(), Fail> {
     let alloc = rt.alloc();
-    let mut journal = Journal::new(alloc, 200)?;
+    let mut journal = Journal::new(alloc, 200, 1_000)?;
     enter(&mut journal, 40, Entry::Stored(message(1)?));
     let released = several(alloc, &Message::default(), 1)?;
     let activations = one(alloc, activation(released, Vec::new(alloc)))?;
@@ -148,7 +148,7 @@ fn an_activation_gives_back_its_parts(rt: HostRuntime) -> Result<(), Fail> {
 #[test]
 fn a_log_gives_back_its_parts(rt: HostRuntime) -> Result<(), Fail> {
     let alloc = rt.alloc();
-    let mut journal = Journal::new(alloc, 20)?;
+    let mut journal = Journal::new(alloc, 20, 1_000)?;
     enter(&mut journal, 3, start());
     let node = NodeRun::of(journal, 1, 2, Vec::new(alloc), one(alloc, quiet(alloc))?);
     assert!(rt;

@@ -17,7 +17,7 @@ overrun 00 00 00
 
 /// The log of a node that lost one message.
 fn one_lost(alloc: Global) -> Result<RunLog, OutOfMemory> {
-    let mut journal = Journal::new(alloc, 20)?;
+    let mut journal = Journal::new(alloc, 20, 1_000)?;
     let _ = journal.enter(start());
     let _ = journal.enter(Entry::Overrun(Message::default()));
     let mut activations = Vec::with_capacity(alloc, 1)?;

@@ -21,7 +21,7 @@ fn three_done(alloc: Global) -> Result<Vec<Done>, Fail> {
 
 /// The transmitter, after so many bits.
 fn transmitter(alloc: Global, bits: u32, txerr: u8) -> Result<NodeRun, Fail> {
-    let mut journal = Journal::new(alloc, 200)?;
+    let mut journal = Journal::new(alloc, 200, 1_000)?;
     enter(&mut journal, 0, start());
     enter(&mut journal, 0, send(&Message::default()));
     enter(&mut journal, bits, Entry::Abort);
@@ -52,7 +52,7 @@ fn receiver(
 
 /// The receiver stores the frame after bit 60, and its driver releases the message at the end.
 fn stored_once(alloc: Global) -> Result<Journal, Fail> {
-    let mut journal = Journal::new(alloc, 200)?;
+    let mut journal = Journal::new(alloc, 200, 1_000)?;
     enter(&mut journal, 0, start());
     enter(&mut journal, 60, Entry::Stored(Message::default()));
     enter(&mut journal, 19, Entry::Up(Up::Credit(3)));
@@ -61,7 +61,7 @@ fn stored_once(alloc: Global) -> Result<Journal, Fail> {
 
 /// It stores the frame a second time, and its driver releases both messages.
 fn stored_twice(alloc: Global) -> Result<Journal, Fail> {
-    let mut journal = Journal::new(alloc, 200)?;
+    let mut journal = Journal::new(alloc, 200, 1_000)?;
     enter(&mut journal, 0, start());
     enter(&mut journal, 60, Entry::Stored(Message::default()));
     enter(&mut journal, 68, Entry::Stored(Message::default()));

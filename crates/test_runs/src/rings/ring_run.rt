@@ -34,7 +34,7 @@ impl RingRun {
         }
         let nodes = count as u8;
         let mut ends = Vec::with_capacity(alloc, 64)?;
-        let mut workers = Vec::with_capacity(alloc, 8)?;
+        let mut workers = Vec::with_capacity(alloc, 64)?;
         for node in 0..nodes {
             let own = pairs_of(alloc, node, &mut ends)?;
             let steps = plan.steps(usize::from(node)).len();
@@ -144,20 +144,21 @@ impl RingRun {
 /// A bus of the plan's nodes.
 fn bus_of(alloc: Global, nodes: u8, plan: &Plan) -> Result<Bus, OutOfMemory>
     requires nodes { (1 ≤ nodes) × (nodes ≤ 8) }
-    requires bits { (1 ≤ plan.now.bits) × (plan.now.bits ≤ 200000) }
+    requires bits { (1 ≤ plan.now.bits) × (plan.now.bits ≤ 2000000) }
     ensures { IfOk result (λ b. length b.journals ≡ nodes) }
 {
     let mut strikes = Vec::with_capacity(alloc, plan.strikes().len())?;
     for strike in plan.strikes() {
         strikes.push(*strike)?;
     }
-    Bus::new(alloc, nodes, plan.bits(), FaultScript::of(strikes))
+    let steps = Vec::from_elem(alloc, 1_000, usize::from(nodes))?;
+    Bus::new(alloc, plan.bits(), steps, FaultScript::of(strikes))
 }
 
-/// The ends of the eight links of a node: the bus's go to `ends`.
+/// The ends of the 64 links of a node: the bus's go to `ends`.
 fn pairs_of(alloc: Global, node: u8, ends: &mut Vec<RingBus>) -> Result<Vec<RingDriver>, Fail> {
-    let mut own = Vec::with_capacity(alloc, 8)?;
-    for activation in 1..=8 {
+    let mut own = Vec::with_capacity(alloc, 64)?;
+    for activation in 1..=64 {
         let (bus, driver) = ring_pair(alloc, LinkId { node, activation })?;
         ends.push(bus)?;
         own.push(driver)?;

@@ -1,4 +1,4 @@
-//! [`Worker`]: the driver of a node with its script and its ends of eight links of two rings.
+//! [`Worker`]: the driver of a node with its script and its ends of links of two rings.
 
 ghost use Rattle.std.specs.Prelude.{◌≡◌, length};
 ghost use Rattle.sja_driver.specs.LoggedDrivers.{node_of, log_of, IsLawful};
@@ -15,7 +15,7 @@ use std::alloc::Global;
 use std::test::Fail;
 use test_links::are_links_of_node;
 
-/// The driver of a node with its ends of eight links of two rings, and how many steps of its script are done.
+/// The driver of a node with its ends of links of two rings, and how many steps of its script are done.
 #[derive(Drop)]
 pub struct Worker {
     driver: LoggedDriver,
@@ -32,7 +32,7 @@ pub struct Worker {
 impl Worker {
     /// A driver before its first activation, whose script has so many steps.
     pub fn new(alloc: Global, node: u8, ends: Vec<RingDriver>, steps: u16) -> Result<Worker, Fail> {
-        let log = WorkLog::new(alloc, steps)?;
+        let log = WorkLog::new(alloc, u32::from(steps))?;
         Ok(Worker {
             driver: LoggedDriver::new(node, log),
             ends,

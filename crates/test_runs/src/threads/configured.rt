@@ -32,9 +32,9 @@ steps = [
 
 /// Node 1 loads its last frame when node 0 has stopped. Node 0 reads its status register when that frame has been sent:
 /// the bus has taken the stop by then, so no bit before it still tells RS and TS.
-const FIRST: [(u16, u64); 3] = [(25, 13), (0, 0), (0, 0)];
+const FIRST: [(u32, u64); 3] = [(25, 13), (0, 0), (0, 0)];
 
-const SECOND: [(u16, u64); 3] = [(10, 23), (0, 0), (0, 0)];
+const SECOND: [(u32, u64); 3] = [(10, 23), (0, 0), (0, 0)];
 
 /// Fails where the driver of this node was answered otherwise.
 fn answered(log: &RunLog, node: usize, expected: &[StepAnswer]) -> Result<(), Fail> {

@@ -16,7 +16,7 @@ impl Gate for Open {
 
     const QUITS: bool = false;
 
-    fn turn(&self, _node: u8, _step: u16, _tries: u32) -> Pass {
+    fn turn(&self, _node: u8, _step: u32, _tries: u32) -> Pass {
         Pass::Go
     }
 }
@@ -34,7 +34,7 @@ impl Gate for Patience {
 
     const QUITS: bool = true;
 
-    fn turn(&self, _node: u8, _step: u16, tries: u32) -> Pass {
+    fn turn(&self, _node: u8, _step: u32, tries: u32) -> Pass {
         if tries >= self.tries {
             Pass::Quit
         } else {
@@ -46,7 +46,7 @@ impl Gate for Patience {
 /// A gate that holds each step once, lets its second try go, and quits at a third and past this step.
 #[derive(Drop)]
 pub struct HoldsOnce {
-    pub last: u16,
+    pub last: u32,
 }
 
 impl Gate for HoldsOnce {
@@ -56,7 +56,7 @@ impl Gate for HoldsOnce {
 
     const QUITS: bool = true;
 
-    fn turn(&self, _node: u8, step: u16, tries: u32) -> Pass {
+    fn turn(&self, _node: u8, step: u32, tries: u32) -> Pass {
         if step > self.last || tries > 2 {
             Pass::Quit
         } else if tries == 2 {
@@ -79,7 +79,7 @@ pub struct Meeting {
     /// The step that the other driver's gate was asked for last.
     pub other: Arc<AtomicU64>,
     /// Which steps are held, and up to which step of the other driver.
-    pub held: [(u16, u64); 3],
+    pub held: [(u32, u64); 3],
 }
 
 impl Gate for Meeting {
@@ -89,7 +89,7 @@ impl Gate for Meeting {
 
     const QUITS: bool = true;
 
-    fn turn(&self, _node: u8, step: u16, tries: u32) -> Pass {
+    fn turn(&self, _node: u8, step: u32, tries: u32) -> Pass {
         self.own.store(u64::from(step), Ordering::SeqCst);
         let come = self.other.load(Ordering::SeqCst);
         for (held, until) in self.held {

@@ -22,11 +22,11 @@ pub const WAITS: [Step; 3] = [Step::Start, Step::Await(1), Step::Stop];
 /// The most steps of a test's script.
 const MOST: usize = 100;
 
-/// Both ends of the eight links of node 0.
+/// Both ends of the 64 links of node 0.
 pub fn pairs(alloc: Global) -> Result<(Vec<RingBus>, Vec<RingDriver>), Fail> {
-    let mut ends = Vec::with_capacity(alloc, 8)?;
-    let mut links = Vec::with_capacity(alloc, 8)?;
-    for activation in 1..=8 {
+    let mut ends = Vec::with_capacity(alloc, 64)?;
+    let mut links = Vec::with_capacity(alloc, 64)?;
+    for activation in 1..=64 {
         let (bus, driver) = ring_pair(
             alloc,
             LinkId {
@@ -100,8 +100,8 @@ pub fn open_gates(alloc: Global, nodes: usize) -> Result<Vec<Open>, Fail> {
 /// each up to a step of the other.
 pub fn two_gates(
     alloc: Global,
-    first: [(u16, u64); 3],
-    second: [(u16, u64); 3],
+    first: [(u32, u64); 3],
+    second: [(u32, u64); 3],
 ) -> Result<Vec<Meeting>, Fail> {
     let one = Arc::new(alloc, AtomicU64::new(0))?;
     let other = Arc::new(alloc, AtomicU64::new(0))?;

@@ -16,7 +16,7 @@ steps = [\"start\", \"load 002440\", \"command 01\", \"sent\", \"await 1\", \"re
 ";
 
 /// No step of a driver is held.
-const NONE: [(u16, u64); 3] = [(0, 0); 3];
+const NONE: [(u32, u64); 3] = [(0, 0); 3];
 
 /// Adds a text so often.
 fn repeat(text: &mut String, part: &str, times: u32) -> Result<(), Fail> {

@@ -15,7 +15,7 @@ use std::test::Fail;
 use std::thread::{Threads, join, yield_now};
 
 /// Waits for the next item that the driver gives.
-fn taken(rt: &impl Wait, end: &mut RingBus) -> Up {
+pub fn taken(rt: &impl Wait, end: &mut RingBus) -> Up {
     for _ in rt.forever() {
         if let Some(item) = end.take() {
             return item;
@@ -40,7 +40,7 @@ fn hand_over(rt: &impl Wait, ends: Vec<RingBus>, message: Message) -> bool {
 }
 
 /// Both, each in a thread of its own.
-fn both<R: Threads + Wait + Sync>(
+pub fn both<R: Threads + Wait + Sync>(
     rt: &R,
     alloc: Global,
     port: &Mutex<Port>,
@@ -109,7 +109,7 @@ fn shut<R: Wait>(rt: &R, ends: Vec<RingBus>, ports: &[Mutex<Port>]) -> bool {
 }
 
 /// That and a driver, each in a thread of its own.
-fn both_until_shut<R: Threads + Wait + Sync>(
+pub fn both_until_shut<R: Threads + Wait + Sync>(
     rt: &R,
     alloc: Global,
     ports: &[Mutex<Port>],

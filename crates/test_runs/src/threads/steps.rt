@@ -16,7 +16,7 @@ fn a_gate_that_quits_ends_the_script(rt: HostRuntime) -> Result<(), Fail> {
     answers(&worked, &[StepAnswer::Done])?;
     assert!(rt; port.lock(&rt).orders().ended);
     assert!(rt; worked.driver.activation() == 1);
-    assert!(rt; worked.links.len() == 8);
+    assert!(rt; worked.links.len() == 64);
     Ok(())
 }
 

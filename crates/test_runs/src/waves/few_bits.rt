@@ -82,7 +82,7 @@ fn node(alloc: Global, journal: Journal) -> NodeRun {
 
 /// It is active from the first bit on, and is struck in the last two, after which it goes bus-off.
 fn struck(alloc: Global) -> Result<NodeRun, Fail> {
-    let mut journal = Journal::new(alloc, 10)?;
+    let mut journal = Journal::new(alloc, 10, 1_000)?;
     let _ = journal.enter(Entry::Up(Up::Start(PLAIN)));
     let _ = journal.enter(Entry::Bit(Dominant, Dominant));
     let _ = journal.enter(Entry::Bit(Recessive, Dominant));
@@ -97,7 +97,7 @@ fn struck(alloc: Global) -> Result<NodeRun, Fail> {
 
 /// It starts before bit 1, and stops after the last one.
 fn stopped(alloc: Global) -> Result<NodeRun, Fail> {
-    let mut journal = Journal::new(alloc, 10)?;
+    let mut journal = Journal::new(alloc, 10, 1_000)?;
     let _ = journal.enter(Entry::Bit(Recessive, Dominant));
     let _ = journal.enter(Entry::Up(Up::Start(PLAIN)));
     let _ = journal.enter(Entry::Bit(Dominant, Dominant));
@@ -127,7 +127,7 @@ fn five_bits_of_two_nodes_are_shown(rt: HostRuntime) -> Result<(), Fail> {
 #[test]
 fn a_run_without_bits_has_its_first_values(rt: HostRuntime) -> Result<(), Fail> {
     let alloc = rt.alloc();
-    let mut journal = Journal::new(alloc, 10)?;
+    let mut journal = Journal::new(alloc, 10, 1_000)?;
     let _ = journal.enter(Entry::Up(Up::Start(PLAIN)));
     let mut nodes = Vec::new(alloc);
     nodes.push(node(alloc, journal))?;

@@ -199,7 +199,7 @@ fn waved(alloc: Global, journal: Journal, bits: u32) -> Result<String, Fail> {
 /// intermission, an idle bit, and one in reset again.
 #[test]
 fn error_flag_and_overload_flag_are_told_apart(rt: HostRuntime) -> Result<(), Fail> {
-    let mut journal = Journal::new(rt.alloc(), 100)?;
+    let mut journal = Journal::new(rt.alloc(), 100, 1_000)?;
     enter(&mut journal, 2, Recessive, Recessive);
     let _ = journal.enter(Entry::Up(Up::Start(PLAIN)));
     enter(&mut journal, 11, Recessive, Recessive);
@@ -219,7 +219,7 @@ fn error_flag_and_overload_flag_are_told_apart(rt: HostRuntime) -> Result<(), Fa
 /// It starts with a transmit error counter of 136 and a frame to be sent, waits for the bus for 11 bits, and sends it.
 #[test]
 fn a_passive_transmitter_suspends_transmission(rt: HostRuntime) -> Result<(), Fail> {
-    let mut journal = Journal::new(rt.alloc(), 100)?;
+    let mut journal = Journal::new(rt.alloc(), 100, 1_000)?;
     let passive = Config {
         tec: Some(136),
         ..PLAIN

@@ -8,7 +8,7 @@ pub bit-requires-clause-count : goal.bit-requires-clause-count
 bit-requires-clause-count c =
     let i = c.loop.invariant in let e = c.quiet_bits.ensures in
     let same : Deques → Deques → Type 0 = λ x y. y.link ≡ x.link in
-    AllZip-long same c.loop.links c.quiet_bits.new.links e.sames ∙ i.1 ∙ ap (λ (n : ℕ). 8 * n) (sym e.nodes)
+    AllZip-long same c.loop.links c.quiet_bits.new.links e.sames ∙ i.1 ∙ ap (λ (n : ℕ). 64 * n) (sym e.nodes)
 
 pub bit-requires-clause-ids : goal.bit-requires-clause-ids
 bit-requires-clause-ids c =
@@ -29,7 +29,7 @@ loop-preserved c =
     let then : length after ≡ length between = AllZip-long same between after e.sames in
     let rested = q.nodes in let nodes = e.nodes in let ports = e.others.0 in let few = i.3 in (
       nodes ∙ rested ∙ i.0,
-      then ∙ first ∙ i.1 ∙ ap (λ (n : ℕ). 8 * n) (sym (nodes ∙ rested)),
+      then ∙ first ∙ i.1 ∙ ap (λ (n : ℕ). 64 * n) (sym (nodes ∙ rested)),
       numbered_kept (λ (x : Deques). x.link) same (λ x y h. h) between after e.sames
           (numbered_kept (λ (x : Deques). x.link) same (λ x y h. h) before between q.sames i.2),
       omega (arith, rested, nodes, ports, few),

@@ -5,6 +5,6 @@ use Rattle.bench.proofs.running.run_bits_at_once.Given as goal
 -- links and ports are those of the bus's nodes, which stay as many
 abbrev pub invariant-loop : goal.invariant-loop
 invariant-loop l = (length l.bus.journals ≡ length l.initial.bus.journals)
-    × (length l.links ≡ 8 * length l.bus.journals)
+    × (length l.links ≡ 64 * length l.bus.journals)
     × Numbered (λ e. e.link) l.links
     × (length l.bus.journals ≤ length l.board.ports.items)

@@ -37,7 +37,7 @@ loop-k-preserved g c =
     let was = slice_index_or c.loop-k.seats k s in let after = c.gather.new.links in
     let G : ℕ → Type 0 = λ base. Goes E.same E.stands was.journal.entries new.journal.entries
     c.loop-k.links after base in
-    let R : ℕ → Type 0 = λ base. (d : _) → new.ended < 8 → E.dry (slice_index_or after (base + new.ended) d) in
+    let R : ℕ → Type 0 = λ base. (d : _) → new.ended < 64 → E.dry (slice_index_or after (base + new.ended) d) in
     let goes = subst G c.first_link.ensures did.goes in let dry = subst R c.first_link.ensures did.dry in
     taken_one E.same E.stands E.dry g.met.E.BusEnd.same_trans SeatTakes SeatUntold c.args.seats.now c.loop-k.seats
     c.args.links.now c.loop-k.links c.gather.new.links k s new here c.loop-k.auto.seats

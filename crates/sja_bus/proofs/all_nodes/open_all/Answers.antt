@@ -44,7 +44,7 @@ loop-k-preserved g c =
     let was = slice_index_or c.loop-k.seats k s in let after = c.open_bit.new.links in
     let G : ℕ → Type 0 = λ base. Goes E.same E.stands was.journal.entries new.journal.entries
     c.loop-k.links after base in
-    let R : ℕ → Type 0 = λ base. (d : _) → new.ended < 8 → E.dry (slice_index_or after (base + new.ended) d) in
+    let R : ℕ → Type 0 = λ base. (d : _) → new.ended < 64 → E.dry (slice_index_or after (base + new.ended) d) in
     let goes = subst G c.first_link.ensures did.goes in let dry = subst R c.first_link.ensures did.dry in
     let opens = subst P (c.loop-k.invariant.taken.ready k s here).own did.opens in
     let F : ℕ → Type 0 = λ m. g.B.Board.facts c.args.board.now m in

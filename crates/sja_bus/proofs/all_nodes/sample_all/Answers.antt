@@ -43,9 +43,9 @@ loop-k-preserved g c =
     let node = (link_of old.ledger).node in
     let sees : c.seen-sees.result ≡ seen_by c.args.struck c.args.level k = c.seen-sees.ensures
     ∙ seen_is c.has.result c.args.struck c.args.level k c.has.ensures in
-    let goes : Goes E.same E.stands old.journal.entries new.journal.entries links links (8 * k) =
+    let goes : Goes E.same E.stands old.journal.entries new.journal.entries links links (64 * k) =
     rw quiet.whole (goes_quiet E.same E.stands g.met.E.BusEnd.same_refl old.journal.entries
-    (Bit old.drives c.seen-sees.result) links (8 * k) (λ l. refl)) in
+    (Bit old.drives c.seen-sees.result) links (64 * k) (λ l. refl)) in
     record {
       row = underway_one E.same E.stands g.met.E.BusEnd.same_trans B.ports B.told B.kept met.kept_trans met.told_first
           met.told_last c.args.struck c.args.level c.seen-sees.result c.args.seats.now c.loop-k.seats

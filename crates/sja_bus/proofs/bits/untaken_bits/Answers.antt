@@ -40,15 +40,16 @@ runs_more g c =
     (c.goes_on.ensures.none goes) (λ node few. c.part-marks.ensures.struck c.loop-run.run node _ within few)
     inv.level c.in-Ok.ensures.turns c.in-Ok.ensures.ready inv.bus in record {
       bus = pass.bus (c.args.from + (c.loop-run.run + 1)) (omega arith);
-      bits = λ left enough.
-          bits_on E B c.args.to_rest (moment_of c.args.struck.now.script c.args.from left c.args.seats.now
+      bits = λ steps left enough.
+          bits_on E B c.args.to_rest (moment_of c.args.struck.now.script steps c.args.from left c.args.seats.now
           c.args.links.now c.args.board.now)
-          c.args.struck.now.script c.args.from c.loop-run.run c.args.most left c.none.result c.loop-run.seats
+          c.args.struck.now.script steps c.args.from c.loop-run.run c.args.most left c.none.result c.loop-run.seats
           c.sample_all.new.seats c.loop-run.links c.sample_all.new.links a z early enough c.sample_all.auto.seats
           pass.few pass.at pass.row
           c.sample_all.ensures.sames c.sample_all.ensures.board c.in-Ok.ensures.goes inv.bus
           (pass.bus (c.args.from + (c.loop-run.run + 1)) (omega arith)) (facts g c)
-          (λ yes. some_work c.loop-run.seats inv.bus.ready (c.goes_on.ensures.works goes yes)) (inv.bits left enough);
+          (λ yes. some_work c.loop-run.seats inv.bus.ready (c.goes_on.ensures.works goes yes)) (inv.bits steps left
+          enough);
     }
 
 pub loop-run-init : goal.loop-run-init
@@ -64,7 +65,8 @@ loop-run-init g c =
       rooms = λ n h. h;
       free = λ k s here. let room = c.room_of.ensures.free k s here in let count = c.part-marks.ensures.count in
           omega (arith, room, count);
-      bits = λ left enough. none_yet (AnyBit E B) (WorksIf c.args.to_rest) script c.args.from left c.args.seats.now
+      bits = λ steps left enough. none_yet (AnyBit E B) (WorksIf c.args.to_rest) script steps c.args.from left
+          c.args.seats.now
           c.args.links.now c.args.board.now;
     }
 
@@ -123,7 +125,7 @@ loop-run-preserved g c =
     }
 
 pub returns-in-Err-clause-breaks : goal.returns-in-Err-clause-breaks
-returns-in-Err-clause-breaks g c = λ left later enough rooms journals run_is left_is.
+returns-in-Err-clause-breaks g c = λ steps left later enough rooms journals run_is left_is.
     let E = g.E.BusEnd in let B = g.B.Board in let inv = c.loop-run.invariant in
     let script = c.args.struck.now.script in let from = c.args.from in let run = c.loop-run.run in
     let was = c.loop-run.seats in let now = c.sample_all.new.seats in
@@ -134,14 +136,15 @@ returns-in-Err-clause-breaks g c = λ left later enough rooms journals run_is le
     let goes : c.goes_on.result ≡ true = search rules in
     let none = none_still B.orders_are (length c.args.seats.now) c.args.board.now a was c.loop-run.auto.seats inv.board
     c.requires.may.0 in record {
-      mid = moment_of script (from + run) (left - run) was c.loop-run.links a;
+      mid = moment_of script steps (from + run) (left - run) was c.loop-run.links a;
       run = run;
       early = early;
-      bits = inv.bits left enough;
+      bits = inv.bits steps left enough;
       before = λ yes. some_work was inv.bus.ready (c.goes_on.ensures.works goes yes);
-      stops = stops_on E.same E.stands E.full (B.orders_are a) script (from + run) (left - run) (from + left) was now
+      stops = stops_on E.same E.stands E.full (B.orders_are a) script steps (from + run) (left - run) (from + left) was
+          now
           c.loop-run.links c.sample_all.new.links c.in-Err.fault later g.met.E.BusEnd.same_refl journals
-          (omega (arith, early, enough)) c.sample_all.auto.seats (inv.rooms (room_for (from + left)) rooms) none
+          (omega (arith, early, enough)) c.sample_all.auto.seats (inv.rooms (room_for (from + left) steps) rooms) none
           c.in-Err.ensures.broken;
       run_so_far = run_is;
       left_so_far = left_is;

@@ -1,4 +1,4 @@
-use Rattle.std.proofs.Common.{◌≡◌, ℕ, ◌+◌, ◌-◌, ◌≤◌, length}
+use Rattle.std.proofs.Common.{◌≡◌, ℕ, ◌+◌, ◌-◌, ◌≤◌, List, length}
 use Rattle.lemmas.specs.Related.{EachRelated}
 use Rattle.sja_bus.specs.Several.{AreBits, WorksIf}
 use Rattle.sja_wire.specs.Wire.{wired}
@@ -15,10 +15,10 @@ invariant-loop-run g l = record {
   bus : IsBus l.struck.script (l.from + l.run) l.seats;
   told : AreTold l.seats;
   sames : EachRelated g.E.BusEnd.same l.initial.links l.links;
-  rooms : (n : ℕ) → HaveRoom n l.initial.seats → HaveRoom n l.seats;
+  rooms : (n : ℕ → ℕ) → HaveRoom n l.initial.seats → HaveRoom n l.seats;
   free : AreFree (length l.marks - l.run) l.seats;
-  bits : (left : ℕ) → l.most ≤ left →
+  bits : (steps : List ℕ) (left : ℕ) → l.most ≤ left →
       AreBits (AnyBit g.E.BusEnd g.B.Board) (WorksIf l.to_rest)
-      (moment_of l.struck.script l.from left l.initial.seats l.initial.links l.initial.board) l.run
-      (moment_of l.struck.script (l.from + l.run) (left - l.run) l.seats l.links l.board);
+      (moment_of l.struck.script steps l.from left l.initial.seats l.initial.links l.initial.board) l.run
+      (moment_of l.struck.script steps (l.from + l.run) (left - l.run) l.seats l.links l.board);
 }

@@ -6,6 +6,6 @@ use Rattle.sja_bus.proofs.node_links.are_links_of.Given as goal
 abbrev pub invariant-loop-place : goal.invariant-loop-place
 invariant-loop-place g l =
     (i : ℕ) (d : _) → i < l.place → g.E.BusEnd.link (slice_index_or l.links i d) ≡ record {
-      node = i / 8;
-      activation = suc (i % 8);
+      node = i / 64;
+      activation = suc (i % 64);
     }

@@ -8,8 +8,8 @@ pub loop-place-preserved : goal.loop-place-preserved
 loop-place-preserved c =
     let place = c.loop-place.place in
     let link : Deques = c.in_ok-new.field-0 in
-    let new : link ≡ new_link (place / 8) (suc (place % 8)) =
-    is_new link (place / 8) (suc (place % 8)) (c.in_ok-new.ensures.id ∙ c.id_at.ensures) c.in_ok-new.ensures.empty.0
+    let new : link ≡ new_link (place / 64) (suc (place % 64)) =
+    is_new link (place / 64) (suc (place % 64)) (c.in_ok-new.ensures.id ∙ c.id_at.ensures) c.in_ok-new.ensures.empty.0
     c.in_ok-new.ensures.empty.1 in
     let more = linked_more c.loop-place.links.items link place (search rules) new c.loop-place.invariant.made in
     let P : List Deques → Type 0 = AreLinked (place + 1) in

@@ -22,10 +22,10 @@ loop-log-preserved c =
     let x = c.in_ok-node_run.field-0 in
     let less : n < length drivers = let there = next.2 in let many = c.requires.drivers in omega (arith, there, many) in
     let is : (g : NodeLog) (d : LoggedDriver) → IsNodeEnd (slice_index_or logs n g) (slice_index_or drivers n d) lists
-    (8 * n) x = λ g d.
-    subst (λ (l : NodeLog). IsNodeEnd l (slice_index_or drivers n d) lists (8 * n) x) (sym
+    (64 * n) x = λ g d.
+    subst (λ (l : NodeLog). IsNodeEnd l (slice_index_or drivers n d) lists (64 * n) x) (sym
     (next_of logs left n c.in-Some.log g e).0)
-    (subst (λ (v : LoggedDriver). IsNodeEnd c.in-Some.log v lists (8 * n) x) (c.index-drivers-node.is
+    (subst (λ (v : LoggedDriver). IsNodeEnd c.in-Some.log v lists (64 * n) x) (c.index-drivers-node.is
     ∙ get_or_default drivers n c.index-drivers-node.result d less) c.in_ok-node_run.ensures) in
     record {
       room = search rules;

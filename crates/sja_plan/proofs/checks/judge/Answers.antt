@@ -1,7 +1,14 @@
-use Rattle.std.proofs.Common.{arith}
+use Rattle.std.proofs.Common.{rules, ◌≡◌, ◌≤◌, ℕ, pos, List, map, arith}
+use Rattle.std.specs.List.{AllZip}
+use Rattle.sja_script.specs.declared.step.Step.{Step}
 use Rattle.sja_plan.specs.StepTexts.{SaysStep}
+use Rattle.sja_plan.specs.Document.{DocumentValue}
+use Rattle.sja_plan.specs.Limits.{most_bits, most_steps_told}
+use Rattle.sja_plan.specs.Checks.{HasVersion, HasNodes, HasFewSteps, BeforeTurnCount}
+use Rattle.sja_plan.specs.Inside.Views.{document_view}
 use Rattle.sja_plan.proofs.Texts.{zip_length}
 use Rattle.sja_plan.proofs.WithinLimits.{few_read, name_nodes, times_counted, strike_nodes}
+use Rattle.sja_plan.proofs.ByVersion.{version_is, steps_told_fit, has_bits, has_steps}
 use Rattle.sja_plan.proofs.checks.judge.Goals as goal
 
 pub invariant_of-result : goal.invariant_of-result
@@ -9,14 +16,48 @@ invariant_of-result c =
     let (nodes, few) = c.in_ok-counts.ensures.ok in
     let count = zip_length _ _ _ c.in_ok-nodes.ensures.ok in
     let turns = zip_length _ _ _ c.in_ok-turns.ensures.ok in
-    let last = c.in_ok-settings.ensures.version.2 in
+    let version = c.in_ok-settings.settings.version in
+    let is = version_is (document_view c.args.document.now) version c.in_ok-settings.ensures.version.0 in
     record {
-      version = (c.in_ok-settings.ensures.version.1, omega (arith, last));
+      version = (c.in_ok-settings.ensures.version.1, c.in_ok-settings.ensures.version.2);
       bits = (c.in_ok-settings.ensures.bits.1, c.in_ok-settings.ensures.bits.2);
       nodes = (omega (arith, count, nodes.0), omega (arith, count, nodes.1));
-      steps = few_read SaysStep _ _ c.in_ok-nodes.ensures.ok few;
-      turn_count = omega (arith, turns, c.in_ok-turns.ensures.few);
+      steps = few_read (most_steps_told version) _ (SaysStep version) _ _ (steps_told_fit version)
+          c.in_ok-nodes.ensures.ok (rw is at few);
+      turn_count = omega (arith, turns, rw is at c.in_ok-turns.ensures.few);
       turns = rw count (name_nodes _ _ _ c.in_ok-turns.ensures.ok);
-      strike_count = omega (arith, times_counted _ _ _ c.in_ok-strikes.ensures.ok, c.in_ok-strikes.ensures.few);
+      strike_count =
+          omega (arith, times_counted _ _ _ c.in_ok-strikes.ensures.ok, rw is at c.in_ok-strikes.ensures.few);
       strikes = rw count (strike_nodes _ _ _ c.in_ok-strikes.ensures.ok);
     }
+
+-- all checks before that of the turns pass
+before_turns : (d : DocumentValue) (version bits : ℕ) (nodes : List (List Step)) →
+    (d.version ≡ pos version) × (1 ≤ version) × (version ≤ 3) →
+    (d.bits ≡ pos bits) × (1 ≤ bits) × (bits ≤ most_bits version) → HasNodes d × HasFewSteps d →
+    AllZip (AllZip (SaysStep version)) d.nodes nodes → BeforeTurnCount d
+before_turns d version bits nodes v b counts says =
+    let is = version_is d version v.0 in
+    let has_version : HasVersion d = (version, v.0, v.1, v.2) in (
+      (((has_version, has_bits d version bits is b.0 b.1 b.2), counts.0), counts.1),
+      has_steps d version nodes is says,
+    )
+
+pub returns-in_err-turns-clause-err : goal.returns-in_err-turns-clause-err
+returns-in_err-turns-clause-err c =
+    let before = before_turns (document_view c.args.document.now) c.in_ok-settings.settings.version
+    c.in_ok-settings.settings.bits (map (λ steps. steps.items) c.in_ok-nodes.nodes.items)
+    c.in_ok-settings.ensures.version c.in_ok-settings.ensures.bits c.in_ok-counts.ensures.ok
+    c.in_ok-nodes.ensures.ok in
+    let fault = c.in_err-turns.ensures.err before in
+    search rules
+
+pub returns-in_err-strikes-clause-err : goal.returns-in_err-strikes-clause-err
+returns-in_err-strikes-clause-err c =
+    let before = before_turns (document_view c.args.document.now) c.in_ok-settings.settings.version
+    c.in_ok-settings.settings.bits (map (λ steps. steps.items) c.in_ok-nodes.nodes.items)
+    c.in_ok-settings.ensures.version c.in_ok-settings.ensures.bits c.in_ok-counts.ensures.ok
+    c.in_ok-nodes.ensures.ok in
+    let fault = c.in_err-strikes.ensures.err
+    ((before, c.in_ok-turns.ensures.few), (c.in_ok-turns.turns.items, c.in_ok-turns.ensures.ok)) in
+    search rules

@@ -1,5 +1,7 @@
-use Rattle.std.proofs.Common.{rules, ◌≡◌, length, arith}
-use Rattle.sja_plan.proofs.Nodes.{node_more, first_bad_step}
+use Rattle.std.proofs.Common.{rules, ◌≡◌, length, map, sym, subst, arith}
+use Rattle.sja_plan.specs.StepTexts.{SaysStep}
+use Rattle.sja_plan.specs.Texts.{IsFirstBadIn}
+use Rattle.sja_plan.proofs.Nodes.{node_texts, node_more, first_bad_step}
 use Rattle.sja_plan.proofs.checks.steps.Goals as goal
 
 pub returns-in-Err-Bad-clause-err : goal.returns-in-Err-Bad-clause-err
@@ -8,16 +10,23 @@ returns-in-Err-Bad-clause-err c = λ h.
     let within = rw items at c.loop-texts-test.true in
     let read = rw items at c.loop-texts.invariant in
     let is = rw items at c.texts-item.is in
-    let len : c.len.result ≡ length c.loop-texts.found.items = search rules in
-    let unread = rw (c.in-Err-Bad.field-0-is, c.as_slice.ensures.value) at c.in-Err-Bad.ensures.err in (
+    let nodes = c.args.document.now.nodes.items in
+    let count = length c.loop-texts.found.items in
+    let number = c.in-Err-Bad.number in
+    let len : c.len.result ≡ count = search rules in
+    let unread = rw (c.in-Err-Bad.field-0-is, c.as_slice.ensures.value, c.from.ensures) at c.in-Err-Bad.ensures.err in
+    let bad = first_bad_step c.args.version nodes c.loop-texts.found.items c.loop-texts.texts-index number
+    c.texts-item.result within read is unread in
+    let same = sym c.requires.version in (
       h,
-      rw (len, c.in-Err-Bad.field-0-is) (first_bad_step c.args.document.now.nodes.items c.loop-texts.found.items
-          c.loop-texts.texts-index c.in-Err-Bad.number c.texts-item.result within read is unread),
+      rw (len, c.in-Err-Bad.field-0-is)
+          (subst (λ v. IsFirstBadIn (SaysStep v) (map node_texts nodes) count number) same bad),
     )
 
 pub loop-texts-preserved : goal.loop-texts-preserved
 loop-texts-preserved c =
-    let said = rw c.as_slice.ensures.value at c.in-Ok.ensures.ok in
+    let said = rw (c.as_slice.ensures.value, c.from.ensures) at c.in-Ok.ensures.ok in
     rw c.in_ok-push-in-Ok.ensures.items
-    (node_more c.as_slice-texts-items.result.now c.loop-texts.found.items c.loop-texts.texts-index c.texts-item.result
-    c.in-Ok.steps (omega (arith, c.loop-texts-test.true)) c.loop-texts.invariant c.texts-item.is said)
+    (node_more c.args.version c.as_slice-texts-items.result.now c.loop-texts.found.items c.loop-texts.texts-index
+    c.texts-item.result c.in-Ok.steps (omega (arith, c.loop-texts-test.true)) c.loop-texts.invariant
+    c.texts-item.is said)

@@ -6,5 +6,5 @@ use Rattle.sja_plan.proofs.checks.steps.Given as goal
 
 -- the nodes so far say the steps that were found
 abbrev pub invariant-loop-texts : goal.invariant-loop-texts
-invariant-loop-texts l = AllZip (AllZip SaysStep) (map node_texts (take l.texts-index l.texts-items))
+invariant-loop-texts l = AllZip (AllZip (SaysStep l.version)) (map node_texts (take l.texts-index l.texts-items))
     (map (λ steps. steps.items) l.found.items)

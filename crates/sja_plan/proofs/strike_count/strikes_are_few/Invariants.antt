@@ -6,5 +6,5 @@ use Rattle.sja_plan.proofs.strike_count.strikes_are_few.Given as goal
 abbrev pub invariant-loop-text : goal.invariant-loop-text
 invariant-loop-text l = record {
   total : l.total ≡ strikes_in (map (λ t. t.now) (take l.text-index l.texts));
-  few : l.total ≤ 1000;
+  few : l.total ≤ l.most;
 }

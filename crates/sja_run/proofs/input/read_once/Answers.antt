@@ -1,6 +1,6 @@
 use Rattle.std.proofs.Common.{rules, ◌≤◌, length, take, arith}
 use Rattle.std.proofs.lemmas.Result.{err_from_is_err_and}
-use Rattle.sja_run.proofs.FewBytes.{read_more}
+use Rattle.sja_run.proofs.FewBytes.{few_together, read_more}
 use Rattle.sja_run.proofs.input.read_once.Goals as goal
 
 -- what was read now finds no room
@@ -11,3 +11,10 @@ returns-in_err-extend_from_slice-clause-err g c = λ before earlier.
     let few = read_more before _ _ c.args.bytes.now.items (take c.in-Ok.count c.read.new.buf) earlier
     c.in-Ok.ensures.bytes.0 (omega arith) in
     rw (told.1, told.2) few
+
+-- with what was read now there are no more than may be read
+pub returns-clause-few : goal.returns-clause-few
+returns-clause-few g c =
+    let short : length (take c.in-Ok.count c.read.new.buf) ≤ length c.args.buffer.now = search rules in
+    rw c.in_ok-extend_from_slice.ensures.items
+    (few_together c.args.bytes.now.items (take c.in-Ok.count c.read.new.buf) (omega (arith, short, c.requires.room)))

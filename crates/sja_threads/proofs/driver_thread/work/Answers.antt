@@ -16,7 +16,7 @@ follow-requires g c =
             links = c.args.links;
           })
           c.args.node (length c.args.steps.now) c.args.log first.node first.log first.reset first.lawful first.traces
-          r.empty r.room r.eight r.ids,
+          r.empty r.room r.enough r.ids,
     )
 
 pub returns-clause-worked : goal.returns-clause-worked

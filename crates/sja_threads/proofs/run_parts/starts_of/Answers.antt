@@ -20,6 +20,6 @@ loop-gate-preserved g c =
           (made_push plan node c.loop-gate.starts.items c.loop-gate.buses.items after.items _ inv.count inv.links
           made.others inv.made
           (made_of plan node _ _ after.items _ refl c.in_ok-log.ensures.empty
-          (c.steps.ensures.value ∙ ap (λ (n : ℕ). steps_at plan n) c.from.ensures) c.in_ok-log.ensures.room made.eight
+          (c.steps.ensures.value ∙ ap (λ (n : ℕ). steps_at plan n) c.from.ensures) c.in_ok-log.ensures.room made.enough
           inv.links made.pairs));
     }

@@ -8,6 +8,6 @@ invariant-loop-gate g l = record {
   all : l.node + into_iter_len l.gate-iterator ≡ length l.plan.nodes;
   count : length l.starts.items ≡ l.node;
   room : length l.plan.nodes ≤ vec_capacity l.starts;
-  links : length l.buses.items ≡ 8 * l.node;
+  links : length l.buses.items ≡ 64 * l.node;
   made : AreMade l.plan l.node l.starts.items l.buses.items;
 }

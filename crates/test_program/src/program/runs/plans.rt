@@ -18,7 +18,7 @@ const REFUSED: [Row; 17] = [
     ("", KEY),
     ("version = 1\nbits = 1\nnode = []\nspeed = 1", KEY),
     (
-        "version = 3\nbits = 0\nnode = []",
+        "version = 4\nbits = 0\nnode = []",
         "sja: plan fault 5 Version\n",
     ),
     ("version = 1\nbits = 0\nnode = []", BITS),

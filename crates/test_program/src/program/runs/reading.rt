@@ -123,3 +123,35 @@ fn a_plan_of_65536_bytes_is_run_and_one_byte_more_is_too_long(
     assert!(rt; refuses(rt.alloc(), &mut input, "sja: plan fault 1 TooLong\n"));
     Ok(())
 }
+
+/// A plan of version 3 without an unneeded word, which begins with the line that lets it be longer than others.
+const OF_VERSION_3: &str =
+    "version = 3\nbits = 1\nturns = ['bus 1']\n[[node]]\nsteps = ['start']\n";
+
+/// The report of its run.
+const OF_VERSION_3_REPORT: &str = "sja version 3 bits 1 end turns
+node 0 tec 0 rec 0 steps 0
+";
+
+/// One that begins so has up to 16 MiB: 70,000 bytes are read to their end. With an empty line before it the plan is
+/// too long, and just 65,537 bytes are read.
+#[test]
+fn a_plan_of_version_3_is_read_to_its_end(rt: HostRuntime) -> std::result::Result<(), Fail> {
+    let mut longest = String::new(rt.alloc());
+    longest.push_str(OF_VERSION_3)?;
+    for _ in 0..1_000 {
+        longest.push_str(
+            "#####################################################################\n",
+        )?;
+    }
+    let mut input = longest.as_bytes();
+    assert!(rt; prints(rt.alloc(), &mut input, OF_VERSION_3_REPORT));
+    assert!(rt; input.is_empty());
+    let mut shifted = String::new(rt.alloc());
+    shifted.push_str("\n")?;
+    shifted.push_str(longest.as_str())?;
+    let mut input = shifted.as_bytes();
+    assert!(rt; refuses(rt.alloc(), &mut input, "sja: plan fault 1 TooLong\n"));
+    assert!(rt; shifted.len().checked_sub(input.len()) == Some(65_537));
+    Ok(())
+}

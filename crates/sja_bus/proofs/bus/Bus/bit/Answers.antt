@@ -25,12 +25,14 @@ returns-in_err-goes_on-clause-keeps g c = record {
   sames = each_refl g.E.BusEnd.same g.met.E.BusEnd.same_refl c.args.links.now;
   others = (refl, λ k far. g.met.B.Board.kept_refl c.args.board.now k);
   script = refl;
+  steps = refl;
   nodes = refl;
 }
 
 -- the bus is whole after the bit
 whole : (g : _) (c : In-Ok g) → let b = c.self.inside in let now = c.bit_of_all.new.seats in
-    IsWhole b.struck (b.run + 1) (b.left - 1) b.fault (take b.seats.len (now ++ drop (length now) b.seats.items))
+    IsWhole b.struck b.steps.items (b.run + 1) (b.left - 1) b.fault (take b.seats.len (now ++ drop (length now)
+    b.seats.items))
     (vec_capacity b.logs)
 whole g c =
     let b = c.self.inside in
@@ -47,8 +49,8 @@ whole g c =
     let F : BusValue → Type 0 = λ w. (w.fault ≡ None) × (w.left ≢ 0) in
     let some = (subst F (sym c.self.view_is) c.in_ok-goes_on.ensures.ok).1 in let bits = inv.bits in
     let few = inv.few in let logs = inv.logs in
-    let H : List Seat → Type 0 = λ l. (n : ℕ) → HaveRoom n l → HaveRoom n now in
-    let l : IsWhole b.struck (b.run + 1) (b.left - 1) b.fault now (vec_capacity b.logs) = record {
+    let H : List Seat → Type 0 = λ l. (n : ℕ → ℕ) → HaveRoom n l → HaveRoom n now in
+    let l : IsWhole b.struck b.steps.items (b.run + 1) (b.left - 1) b.fault now (vec_capacity b.logs) = record {
       few = omega (arith, len, few);
       bits = omega (arith, bits, some);
       most = inv.most;
@@ -62,9 +64,10 @@ whole g c =
             len few c.at-struck.ensures row (inv.bus f).wired;
       };
       logs = omega (arith, len, logs);
-      rooms = λ f. subst H v c.in-Ok.ensures.rooms (room_for b.struck.bits) (inv.rooms f);
+      rooms = λ f. subst H v c.in-Ok.ensures.rooms (room_for b.struck.bits b.steps.items) (inv.rooms f);
     } in
-    let P : List Seat → Type 0 = λ xs. IsWhole b.struck (b.run + 1) (b.left - 1) b.fault xs (vec_capacity b.logs) in
+    let P : List Seat → Type 0 = λ xs. IsWhole b.struck b.steps.items (b.run + 1) (b.left - 1) b.fault xs (vec_capacity
+    b.logs) in
     subst P (sym e) l
 
 pub invariant_of-self : goal.invariant_of-self
@@ -77,7 +80,8 @@ returns-in-Ok-clause-keeps g c =
     keeps_still g.E.BusEnd g.B.Board seats.items c.as_mut_slice.result.now c.bit_of_all.new.seats seats.len
     c.args.self.now _ c.args.links.now c.bit_of_all.new.links c.args.board.now c.bit_of_all.new.board all
     c.as_mut_slice.ensures.value c.bit_of_all.auto.seats (ap (λ (w : BusValue). w.journals) c.self.view_is)
-    (ap (λ (w : BusValue). w.script) c.self.view_is) refl c.bit_of_all.ensures.sames c.bit_of_all.ensures.board
+    (ap (λ (w : BusValue). w.script) c.self.view_is)
+    (ap (λ (w : BusValue). w.steps) c.self.view_is) refl c.bit_of_all.ensures.sames c.bit_of_all.ensures.board
 
 pub returns-in-Err-clause-keeps : goal.returns-in-Err-clause-keeps
 returns-in-Err-clause-keeps g c =
@@ -86,7 +90,8 @@ returns-in-Err-clause-keeps g c =
     keeps_still g.E.BusEnd g.B.Board seats.items c.as_mut_slice.result.now c.bit_of_all.new.seats seats.len
     c.args.self.now _ c.args.links.now c.bit_of_all.new.links c.args.board.now c.bit_of_all.new.board all
     c.as_mut_slice.ensures.value c.bit_of_all.auto.seats (ap (λ (w : BusValue). w.journals) c.self.view_is)
-    (ap (λ (w : BusValue). w.script) c.self.view_is) refl c.bit_of_all.ensures.sames c.bit_of_all.ensures.board
+    (ap (λ (w : BusValue). w.script) c.self.view_is)
+    (ap (λ (w : BusValue). w.steps) c.self.view_is) refl c.bit_of_all.ensures.sames c.bit_of_all.ensures.board
 
 pub returns-in-Ok-clause-bit : goal.returns-in-Ok-clause-bit
 returns-in-Ok-clause-bit g c = record {
@@ -175,6 +180,7 @@ returns-in-Err-clause-reason g c = λ none.
     let old = c.args.self.now in
     let new : List Seat → BusValue = λ xs. record {
       script = b.struck.script;
+      steps = b.steps.items;
       run = b.run;
       left = b.left;
       fault =
@@ -186,7 +192,8 @@ returns-in-Err-clause-reason g c = λ none.
     let Q : List Seat → Type 0 = λ xs. StopsBit E.stands E.full O old (new xs) before after f in
     let S : List Seat → Type 0 = λ l. (SeatRefuses E.stands l now before after f
     ⊎ SeatFull E.stands O l now before after f) ⊎ SeatStops E.stands E.full O E.same l now before f in
-    let reason = stops_bit E.same E.stands E.full O b.struck.script b.run b.left b.struck.bits b.fault was now before
+    let reason = stops_bit E.same E.stands E.full O b.struck.script b.steps.items b.run b.left b.struck.bits b.fault was
+    now before
     after f (new now) refl inv.bits len rooms (subst S v c.in-Err.ensures.stops) in
     subst Q (sym e) (subst P c.self.view_is reason)
 

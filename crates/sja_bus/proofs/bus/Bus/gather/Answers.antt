@@ -49,8 +49,8 @@ invariant_of-self g c =
     let N : List Seat → Type 0 = λ l. EachSeat SeatUntold l now in
     let untold : EachSeat SeatUntold was now = subst N v c.in-Ok.ensures.untold in
     let few = inv.few in let logs = inv.logs in
-    let H : List Seat → Type 0 = λ l. (n : ℕ) → HaveRoom n l → HaveRoom n now in
-    let l : IsWhole b.struck b.run b.left b.fault now (vec_capacity b.logs) = record {
+    let H : List Seat → Type 0 = λ l. (n : ℕ → ℕ) → HaveRoom n l → HaveRoom n now in
+    let l : IsWhole b.struck b.steps.items b.run b.left b.fault now (vec_capacity b.logs) = record {
       few = omega (arith, len, few);
       bits = inv.bits;
       most = inv.most;
@@ -60,9 +60,9 @@ invariant_of-self g c =
         wired = wired_taken b.struck.script b.run was now len takes (inv.bus f).wired;
       };
       logs = omega (arith, len, logs);
-      rooms = λ f. subst H v c.in-Ok.ensures.rooms (room_for b.struck.bits) (inv.rooms f);
+      rooms = λ f. subst H v c.in-Ok.ensures.rooms (room_for b.struck.bits b.steps.items) (inv.rooms f);
     } in
-    let P : List Seat → Type 0 = λ xs. IsWhole b.struck b.run b.left b.fault xs (vec_capacity b.logs) in
+    let P : List Seat → Type 0 = λ xs. IsWhole b.struck b.steps.items b.run b.left b.fault xs (vec_capacity b.logs) in
     (subst P (sym e) l, c.self.invariant.1)
 
 pub returns-in-Ok-clause-kept : goal.returns-in-Ok-clause-kept
@@ -106,12 +106,15 @@ returns-in-Err-clause-reason g c = λ none.
     let e : take b.seats.len (now ++ drop (length now) was) ≡ now = grind (arith, common_steps) in
     let S : List Seat → Type 0 = λ l. SeatRefuses E.stands l now before after f in
     let right : b.fault ≡ None = ap (λ (w : BusValue). w.fault) c.self.view_is ∙ none in
-    let N : ℕ → Type 0 = λ n. IsTakenAndRefused E.stands n (journals_of was) (journals_of now) before after f in
-    let reason = subst N (sym inv.bits) (not_taken E.stands b.struck.bits was now before after f len (inv.rooms right)
+    let N : ℕ → Type 0 = λ n. IsTakenAndRefused E.stands n b.steps.items (journals_of was) (journals_of now) before
+    after f in
+    let reason = subst N (sym inv.bits) (not_taken E.stands b.struck.bits b.steps.items was now before after f len
+    (inv.rooms right)
     (subst S v c.in-Err.ensures.refused)) in
-    let P : BusValue → Type 0 = λ w. IsTakenAndRefused E.stands (w.run + w.left) w.journals
+    let P : BusValue → Type 0 = λ w. IsTakenAndRefused E.stands (w.run + w.left) w.steps w.journals
     (journals_of now) before after f in
     let Q : List Seat → Type 0 = λ xs. IsTakenAndRefused E.stands (c.args.self.now.run + c.args.self.now.left)
+    c.args.self.now.steps
     c.args.self.now.journals (journals_of xs) before after f in
     subst Q (sym e) (subst P c.self.view_is reason)
 

@@ -1,5 +1,7 @@
-use Rattle.std.proofs.Common.{◌≡◌, ℕ, ◌+◌, ◌≤◌, Bool, false, None, List, [], length, replicate, rules, arith, sym, ap}
-use Rattle.std.proofs.Common.{◌∙◌, subst, vec_capacity}
+use Rattle.std.specs.Prelude.{slice_index_or}
+use Rattle.std.proofs.lemmas.List.{get_or_default as or_same}
+use Rattle.std.proofs.Common.{◌≡◌, ℕ, ◌+◌, ◌*◌, ◌<◌, ◌≤◌, Bool, false, None, List, [], length, replicate, rules, arith}
+use Rattle.std.proofs.Common.{sym, ap, ◌∙◌, subst, vec_capacity}
 use Rattle.sja_link.specs.declared.entry.Entry.{Entry}
 use Rattle.sja_bus.specs.declared.seat.Seat.{Seat}
 use Rattle.sja_bus.specs.Buses.{BusValue}
@@ -17,7 +19,13 @@ loop-node-preserved c =
     let n = c.loop-node.node in
     let made = c.in_ok-new.ensures in
     let P : List Seat → Type 0 = λ l. AreNew (n + 1) l in
-    let Q : List Seat → Type 0 = λ l. HaveRoom (room_for c.args.bits) l in
+    let Q : List Seat → Type 0 = λ l. HaveRoom (room_for c.args.bits c.args.steps.items) l in
+    let count : length c.loop-node.seats.items ≡ n = search rules in
+    let less : n < length c.args.steps.items = search rules in
+    let here : c.index.result.now ≡ slice_index_or c.args.steps.items (length c.loop-node.seats.items) 0 =
+    c.index.ensures ∙ or_same c.args.steps.items n c.index.result.now 0 less
+    ∙ ap (λ (m : ℕ). slice_index_or c.args.steps.items m 0) (sym count) in
+    let own = made.room ∙ ap (λ (m : ℕ). 2 * c.args.bits + 2 * m + 100) here in
     record {
       count = search rules;
       room = search rules;
@@ -25,18 +33,19 @@ loop-node-preserved c =
           (record { is_of = record { ready = made.ready; own = made.own }; empty = made.empty; nothing = made.untold })
           c.loop-node.invariant.made);
       rooms = subst Q (sym c.push_reserved.ensures.items)
-          (rooms_push (room_for c.args.bits) c.loop-node.seats.items _ made.room c.loop-node.invariant.rooms);
+          (rooms_push (room_for c.args.bits c.args.steps.items) c.loop-node.seats.items _ own
+          c.loop-node.invariant.rooms);
     }
 
 pub invariant_of-result : goal.invariant_of-result
 invariant_of-result c =
     let seats = c.loop-node.seats.items in let logs = c.in_ok-logs.logs in
-    let n : length seats ≡ c.args.nodes = search rules in
+    let n : length seats ≡ length c.args.steps.items = search rules in
     let e : c.loop-node.node ≡ length seats = search rules in
     let new : AreNew (length seats) seats = subst (λ (m : ℕ). AreNew m seats) e c.loop-node.invariant.made in
-    let room : c.args.nodes ≤ vec_capacity logs = search rules in
+    let room : length c.args.steps.items ≤ vec_capacity logs = search rules in
     let most = c.requires.bits.1 in let few = c.requires.nodes.1 in
-    let P : Scripted → Type 0 = λ x. IsWhole x 0 c.args.bits None seats (vec_capacity logs) in (
+    let P : Scripted → Type 0 = λ x. IsWhole x c.args.steps.items 0 c.args.bits None seats (vec_capacity logs) in (
       subst P (sym c.in_ok-struck.ensures) (record {
         few = omega (arith, n, few);
         bits = omega arith;
@@ -51,15 +60,18 @@ invariant_of-result c =
 pub returns : goal.returns
 returns c =
     let seats = c.loop-node.seats.items in
-    let n : length seats ≡ c.args.nodes = search rules in
+    let n : length seats ≡ length c.args.steps.items = search rules in
     let e : c.loop-node.node ≡ length seats = search rules in
     let new : AreNew (length seats) seats = subst (λ (m : ℕ). AreNew m seats) e c.loop-node.invariant.made in
-    let empty : journals_of seats ≡ replicate c.args.nodes [] = new_journals seats (λ k s few. (new k s few).empty)
+    let empty : journals_of seats ≡ replicate (length c.args.steps.items) [] = new_journals seats (λ k s few. (new k s
+    few).empty)
     ∙ ap (λ m. replicate m []) n in
-    let told : untold_of seats ≡ replicate c.args.nodes false = none_untold seats (λ k s few. (new k s few).nothing)
+    let told : untold_of seats ≡ replicate (length c.args.steps.items) false = none_untold seats (λ k s few. (new k s
+    few).nothing)
     ∙ ap (λ m. replicate m false) n in
     let f : Scripted → BusValue = λ x. record {
       script = x.script;
+      steps = c.args.steps.items;
       run = 0;
       left = c.args.bits;
       fault = None;
@@ -69,6 +81,7 @@ returns c =
     } in
     let h : List (List Entry) → BusValue = λ l. record {
       script = c.args.script;
+      steps = c.args.steps.items;
       run = 0;
       left = c.args.bits;
       fault =
@@ -78,10 +91,11 @@ returns c =
     } in
     let t : List Bool → BusValue = λ l. record {
       script = c.args.script;
+      steps = c.args.steps.items;
       run = 0;
       left = c.args.bits;
       fault = None;
-      journals = replicate c.args.nodes [];
+      journals = replicate (length c.args.steps.items) [];
       untold = l;
     } in
     ap f c.in_ok-struck.ensures ∙ ap h empty ∙ ap t told

@@ -1,4 +1,4 @@
-use Rattle.std.proofs.Common.{◌≡◌, vec_len, vec_capacity}
+use Rattle.std.proofs.Common.{◌≡◌, length, vec_len, vec_capacity}
 use Rattle.sja_bus.specs.Reasons.{room_for}
 use Rattle.sja_bus.specs.Inside.Refusing.{HaveRoom}
 use Rattle.sja_bus.proofs.WholeBus.Logs.{AreNew}
@@ -8,7 +8,7 @@ use Rattle.sja_bus.proofs.bus.Bus.new.Given as goal
 abbrev pub invariant-loop-node : goal.invariant-loop-node
 invariant-loop-node l = record {
   count : vec_len l.seats ≡ l.node;
-  room : vec_capacity l.seats ≡ l.nodes;
+  room : vec_capacity l.seats ≡ length l.steps.items;
   made : AreNew l.node l.seats.items;
-  rooms : HaveRoom (room_for l.bits) l.seats.items;
+  rooms : HaveRoom (room_for l.bits l.steps.items) l.seats.items;
 }

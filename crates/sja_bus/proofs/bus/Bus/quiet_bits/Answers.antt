@@ -1,4 +1,4 @@
-use Rattle.std.proofs.Common.{◌≡◌, ◌≢◌, ap, ◌+◌, ◌∙◌, ℕ, refl, sym, subst, inr}
+use Rattle.std.proofs.Common.{◌≡◌, ◌≢◌, ap, ◌+◌, ◌∙◌, ℕ, List, refl, sym, subst, inr}
 use Rattle.std.specs.Prelude.{Result, Ok, Err, IfOk}
 use Rattle.sja_wire.specs.declared.bus_fault.BusFault.{BusFault}
 use Rattle.sja_wire.specs.OneBit.{MayHaveItems}
@@ -101,8 +101,10 @@ returns-clause-reason g c =
       count = did.nodes;
       items = took.items;
       kept = took.kept;
-      out = let P : ℕ → ℕ → Type 0 = λ run left. IsOutOfEntries (run + left) left mid.journals
+      out = let P : ℕ → ℕ → List ℕ → Type 0 = λ run left steps. IsOutOfEntries (run + left) steps left mid.journals
           c.run_idle_bits.new.self.journals f in
-          subst (λ (n : ℕ). P n old.left) did.bits.0 (subst (λ (n : ℕ). P mid.run n) did.bits.1 out);
+          subst (λ (l : List ℕ). P old.run old.left l) did.steps
+          (subst (λ (n : ℕ). P n old.left mid.steps) did.bits.0 (subst (λ (n : ℕ). P mid.run n mid.steps) did.bits.1
+          out));
     }))
     c.run_idle_bits.ensures.reason

@@ -69,10 +69,10 @@ invariant_of-self g c =
     let len = same_count g at in
     let is = grown g (goal.at.invariant_of-self g c).In-Ok in
     let I : List Seat → Type 0 = λ l. IsBus b.struck.script (b.run + n) l in
-    let H : List Seat → Type 0 = λ l. HaveRoom (room_for b.struck.bits) l in
+    let H : List Seat → Type 0 = λ l. HaveRoom (room_for b.struck.bits b.steps.items) l in
     let few = inv.few in let logs = inv.logs in let bits = inv.bits in
     let within = c.quiet_for-bits.ensures.within in
-    let l : IsWhole b.struck (b.run + n) (b.left - n) b.fault now (vec_capacity b.logs) = record {
+    let l : IsWhole b.struck b.steps.items (b.run + n) (b.left - n) b.fault now (vec_capacity b.logs) = record {
       few = omega (arith, len, few);
       bits = omega (arith, bits, within);
       most = inv.most;
@@ -82,9 +82,10 @@ invariant_of-self g c =
           b.struck.script b.run n few
           c.quiet_for-bits.ensures.quiet (inv.bus f));
       logs = omega (arith, len, logs);
-      rooms = λ f. subst H (sym is) (room_after n (room_for b.struck.bits) was (inv.rooms f));
+      rooms = λ f. subst H (sym is) (room_after n (room_for b.struck.bits b.steps.items) was (inv.rooms f));
     } in
-    let P : List Seat → Type 0 = λ xs. IsWhole b.struck (b.run + n) (b.left - n) b.fault xs (vec_capacity b.logs) in
+    let P : List Seat → Type 0 = λ xs. IsWhole b.struck b.steps.items (b.run + n) (b.left - n) b.fault xs (vec_capacity
+    b.logs) in
     (subst P (sym (are_back g at)) l, c.self.invariant.1)
 
 pub returns-in-Ok-clause-runs : goal.returns-in-Ok-clause-runs
@@ -103,10 +104,11 @@ returns-in-Ok-clause-runs g c =
     IsStretch orders told kept b.struck.script b.run n (untold_of was) (journals_of was) (journals_of l) in
     let none : untold_of was ≡ replicate (length was) false =
     none_untold was (λ k s few. (rest k s few).none) in
-    let V : ℕ → ℕ → List Seat → BusValue = λ run left l. bus_with b.struck.script run left b.fault l in
+    let V : ℕ → ℕ → List Seat → BusValue = λ run left l. bus_with b.struck.script b.steps.items run left b.fault l in
     let r : RunsAtOnce g.B.Board board c.args.count (V b.run b.left was) (V (b.run + n) (b.left - n) now) n = record {
       most = omega (arith, quiet, min);
       bits = (refl, omega (arith, quiet, min));
+      steps = refl;
       none = λ zero. absurd (some zero);
       stretch = λ ne. subst N (sym is) h;
       told = λ ne. ap (λ (l : List Seat). untold_of l) is ∙ after_untold n was ∙ none
@@ -123,7 +125,7 @@ pub returns-then-bits-eq0-clause-longest : goal.returns-then-bits-eq0-clause-lon
 returns-then-bits-eq0-clause-longest g c =
     let b = c.self.inside in let inv = c.self.invariant.0 in let count = c.args.count in let was = b.seats.items in
     let right : b.fault ≡ None = ap (λ (w : BusValue). w.fault) c.self.view_is ∙ c.requires.right in
-    let v : BusValue = bus_with b.struck.script b.run b.left b.fault was in
+    let v : BusValue = bus_with b.struck.script b.steps.items b.run b.left b.fault was in
     let h : EndsStretch count 0 v = elim c.then-bits-eq0.branch [
       | then-bits-eq0-via-then-bits-eq0 w ↦
           let zero : c.quiet_for-bits.result ≡ 0 = search rules in
@@ -143,7 +145,7 @@ pub returns-in-Ok-clause-longest : goal.returns-in-Ok-clause-longest
 returns-in-Ok-clause-longest g c =
     let b = c.self.inside in let n = c.quiet_for-bits.result in let was = b.seats.items in
     let quiet = c.quiet_for-bits.ensures.most in let min = c.min.ensures in
-    let v : ℕ → ℕ → List Seat → BusValue = λ run left l. bus_with b.struck.script run left b.fault l in
+    let v : ℕ → ℕ → List Seat → BusValue = λ run left l. bus_with b.struck.script b.steps.items run left b.fault l in
     ends_quiet c.args.count n c.min.result b.struck.bits (v b.run b.left was) (v (b.run + n) (b.left - n) _) refl refl
     (omega (arith, quiet, min)) c.self.invariant.0.bits min c.quiet_for-bits.ensures.longest
 
@@ -155,10 +157,13 @@ returns-in-Err-clause-reason g c =
     let F : List Seat → Type 0 = λ l. IsFullBy n l now f in
     let full : IsFullBy n was now f = subst F c.as_mut_slice.ensures.value c.in-Err.ensures.full in
     let left : n ≤ b.left = let m = c.quiet_for-bits.ensures.most in let l = c.min.ensures in omega (arith, m, l) in
-    let H : ℕ → Type 0 = λ m. HaveRoom (room_for m) was in
-    let rooms : HaveRoom (room_for (b.run + b.left)) was = subst H (sym inv.bits) (inv.rooms (is_right g at)) in
-    let P : BusValue → Type 0 = λ x. IsOutOfEntries (x.run + x.left) x.left x.journals (journals_of now) f in
+    let H : ℕ → Type 0 = λ m. HaveRoom (room_for m b.steps.items) was in
+    let rooms : HaveRoom (room_for (b.run + b.left) b.steps.items) was = subst H (sym inv.bits) (inv.rooms (is_right g
+    at)) in
+    let P : BusValue → Type 0 = λ x. IsOutOfEntries (x.run + x.left) x.steps x.left x.journals (journals_of now) f in
     let old = c.args.self.now in
-    let Q : List Seat → Type 0 = λ l. IsOutOfEntries (old.run + old.left) old.left old.journals (journals_of l) f in
+    let Q : List Seat → Type 0 = λ l. IsOutOfEntries (old.run + old.left) old.steps old.left old.journals (journals_of
+    l) f in
     subst Q (sym (are_back g at))
-    (subst P c.self.view_is (out_of_entries (b.run + b.left) b.left n was now f (same_count g at) left rooms full))
+    (subst P c.self.view_is (out_of_entries (b.run + b.left) b.steps.items b.left n was now f (same_count g at) left
+    rooms full))

@@ -27,7 +27,7 @@ take-requires-clause-id g c =
     let d = c.index-links-here.result in
     let a = each_at E.same E.link g.met.E.BusEnd.same_link c.args.links.now c.loop-self.links
     (c.args.base + s.ended) d inv.goes.sames in
-    let b = c.requires.at.ids s.ended d c.if-self-ge8.false in
+    let b = c.requires.at.ids s.ended d c.if-self-ge64.false in
     let n : link_of s.ledger ≡ record { node = (link_of c.args.self.now.ledger).node; activation = suc s.ended } =
     λ i. record { node = inv.stays.node i; activation = inv.ready.seat.own i } in
     a ∙ b ∙ sym n
@@ -37,7 +37,7 @@ pub returns-in_err-take-clause-stays : goal.returns-in_err-take-clause-stays
 returns-in_err-take-clause-stays g c =
     let E = g.E.BusEnd in let met = g.met.E.BusEnd in let s = c.loop-self.self in let new = c.take.new.self in
     let here : c.args.base + s.ended < length c.loop-self.links =
-    omega (arith, c.if-self-ge8.false, c.requires.at.room, c.loop-self.auto.links) in
+    omega (arith, c.if-self-ge64.false, c.requires.at.room, c.loop-self.auto.links) in
     let links = slice_set c.loop-self.links (c.args.base + s.ended) c.take.new.end in
     stays_trans E.same met.same_trans c.args.self.now s new c.args.links.now c.loop-self.links links
     c.loop-self.invariant.stays
@@ -47,12 +47,13 @@ returns-in_err-take-clause-stays g c =
 pub returns-then-not-branch-clause-goes : goal.returns-then-not-branch-clause-goes
 returns-then-not-branch-clause-goes g c =
     let E = g.E.BusEnd in let s = c.loop-self.self in let met = g.met.E.BusEnd in
-    let room : c.args.base + 8 ≤ length c.loop-self.links = omega (arith, c.requires.at.room, c.loop-self.auto.links) in
+    let room : c.args.base + 64 ≤ length c.loop-self.links = omega (arith, c.requires.at.room, c.loop-self.auto.links)
+    in
     goes_trans E.same E.stands met.same_trans c.args.self.now.journal.entries s.journal.entries
     c.take.new.self.journal.entries c.args.links.now c.loop-self.links
     (slice_set c.loop-self.links (c.args.base + s.ended) c.take.new.end) c.args.base c.loop-self.invariant.goes
     (goes_one E.same E.stands met.same_refl s.journal.entries c.take.new.self.journal.entries c.loop-self.links
-    c.args.base s.ended c.index-links-here.result c.take.new.end c.if-self-ge8.false room c.take.ensures.same
+    c.args.base s.ended c.index-links-here.result c.take.new.end c.if-self-ge64.false room c.take.ensures.same
     c.in_ok-take.ensures.moves)
 
 pub returns-then-not-branch-clause-stays : goal.returns-then-not-branch-clause-stays
@@ -66,13 +67,14 @@ returns-then-not-branch-clause-stays g c =
 pub loop-self-preserved : goal.loop-self-preserved
 loop-self-preserved g c =
     let E = g.E.BusEnd in let s = c.loop-self.self in let met = g.met.E.BusEnd in
-    let room : c.args.base + 8 ≤ length c.loop-self.links = omega (arith, c.requires.at.room, c.loop-self.auto.links) in
+    let room : c.args.base + 64 ≤ length c.loop-self.links = omega (arith, c.requires.at.room, c.loop-self.auto.links)
+    in
     let inv = c.loop-self.invariant in
     let goes = goes_trans E.same E.stands met.same_trans c.args.self.now.journal.entries s.journal.entries
     c.take.new.self.journal.entries c.args.links.now c.loop-self.links
     (slice_set c.loop-self.links (c.args.base + s.ended) c.take.new.end) c.args.base inv.goes
     (goes_one E.same E.stands met.same_refl s.journal.entries c.take.new.self.journal.entries c.loop-self.links
-    c.args.base s.ended c.index-links-here.result c.take.new.end c.if-self-ge8.false room c.take.ensures.same
+    c.args.base s.ended c.index-links-here.result c.take.new.end c.if-self-ge64.false room c.take.ensures.same
     c.in_ok-take.ensures.moves) in
     let took = c.in_ok-take.ensures.some (search rules) in record {
       ready = c.in_ok-take.ensures.ready;
@@ -96,7 +98,8 @@ loop-self-preserved g c =
 pub returns-in_err-take-clause-refused : goal.returns-in_err-take-clause-refused
 returns-in_err-take-clause-refused g c =
     let E = g.E.BusEnd in let s = c.loop-self.self in let inv = c.loop-self.invariant in
-    let room : c.args.base + 8 ≤ length c.loop-self.links = omega (arith, c.requires.at.room, c.loop-self.auto.links) in
+    let room : c.args.base + 64 ≤ length c.loop-self.links = omega (arith, c.requires.at.room, c.loop-self.auto.links)
+    in
     let is : c.from_residual.result ≡ Err c.in_err-take.field-0.0 = search rules in
     let P : _ → Type 0 = λ f. RefusesItem E.stands c.args.self.now.journal.room c.args.self.now.journal.entries
     c.take.new.self.journal.entries c.args.links.now
@@ -105,5 +108,5 @@ returns-in_err-take-clause-refused g c =
     err_is P c.from_residual.result c.in_err-take.field-0.0 is
     (refuses_link E.same E.stands c.args.self.now.journal.entries s c.take.new.self c.args.links.now c.loop-self.links
     c.args.base c.args.self.now.journal.room (link_of c.args.self.now.ledger).node
-    c.index-links-here.result c.take.new.end c.in_err-take.field-0.0 c.if-self-ge8.false room inv.ready.sound
+    c.index-links-here.result c.take.new.end c.in_err-take.field-0.0 c.if-self-ge64.false room inv.ready.sound
     inv.stays.node inv.stays.room inv.items inv.goes c.in_err-take.ensures.refused)

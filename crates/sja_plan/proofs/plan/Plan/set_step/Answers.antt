@@ -4,6 +4,7 @@ use Rattle.std.specs.Prelude.{set, slice_index_or}
 use Rattle.std.specs.Vec.{with_item}
 use Rattle.sja_script.specs.declared.step.Step.{Step}
 use Rattle.sja_plan.specs.Growing.{with_step}
+use Rattle.sja_plan.specs.Limits.{most_steps}
 use Rattle.sja_plan.specs.Plan.{PlanValue, NamesNode, IsStrikeOn}
 use Rattle.sja_plan.proofs.SetSteps.{nodes_set, few_set}
 use Rattle.sja_plan.proofs.plan.Plan.set_step.Goals.{After-index_mut-2}
@@ -42,8 +43,9 @@ invariant_of-self c =
       version = inv.version;
       bits = inv.bits;
       nodes = subst (λ (n : ℕ). (1 ≤ n) × (n ≤ 8)) same inv.nodes;
-      steps = subst (λ (l : List (List Step)). All (λ (x : List Step). length x ≤ 1000) l) (sym (now_is at))
-          (few_set (was at) c.args.node c.args.at c.args.step inside inv.steps);
+      steps = subst (λ (l : List (List Step)). All (λ (x : List Step). length x ≤ most_steps c.self.inside.version) l)
+          (sym (now_is at))
+          (few_set (most_steps c.self.inside.version) (was at) c.args.node c.args.at c.args.step inside inv.steps);
       turn_count = inv.turn_count;
       turns = subst (λ (n : ℕ). All (NamesNode n) c.self.inside.turns.items) same inv.turns;
       strike_count = inv.strike_count;

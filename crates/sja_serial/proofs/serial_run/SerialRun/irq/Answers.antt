@@ -42,12 +42,12 @@ stood c deeds h = subst (λ (x : SerialValue). StandsAt c.args.plan.now x deeds)
 -- ---- the look
 
 looked : (c : After-irq) → Looked Lies shows_none c.index_mut.result.now c.irq.new.self (slice c) c.irq.new.links
-    (8 * c.from-index.result)
+    (64 * c.from-index.result)
 looked c = subst (λ (n : ℕ). Looked Lies shows_none c.index_mut.result.now c.irq.new.self (slice c) c.irq.new.links n)
     c.first_link.ensures c.irq.ensures.looked
 
 stays : (c : After-irq) → StaysLawful (λ (s : Deques). s.link) alike c.index_mut.result.now c.irq.new.self (slice c)
-    c.irq.new.links (8 * c.from-index.result) false
+    c.irq.new.links (64 * c.from-index.result) false
 stays c = subst (λ (n : ℕ). StaysLawful (λ (s : Deques). s.link) alike c.index_mut.result.now c.irq.new.self (slice c)
     c.irq.new.links n false) c.first_link.ensures c.irq.ensures.stays
 

@@ -25,7 +25,7 @@ returns c = λ deeds h.
     c.args.self.now c.as_mut_slice.ensures.value c.self.view_is c.requires.lawful in
     let q = c.quiet_bits.ensures in let ok = c.in-Ok.ensures in
     let t : TakesAtOnce c.args.plan.now deeds r n most many = takes_at_once c.args.plan.now r n deeds stood ok.right
-    q.script q.nodes refl refl q.sames ok.kept lawful
+    q.script q.steps q.nodes refl refl q.sames ok.kept lawful
     most many ok.most ok.bits.0 ok.bits.1 refl (λ zero. q.items (is ∙ ap (λ (x : ℕ). Ok x) zero))
     (λ zero. q.untold (is ∙ ap (λ (x : ℕ). Ok x) zero)) ok.stretch in
     let l : (with_items c.self.inside.links c.quiet_bits.new.links).items ≡ c.quiet_bits.new.links = with_items_is

@@ -20,8 +20,8 @@ returns c = λ deeds h.
     let stood : StandsAt c.args.plan.now r deeds = subst (λ (x : SerialValue). StandsAt c.args.plan.now x deeds)
     (sym was) h in
     let b = c.in-Ok.ensures.bit in
-    let t : TakesBit c.args.plan.now deeds r n = takes_bit c.args.plan.now r n deeds stood b.right b.keeps.script b.run
-    b.left b.keeps.nodes refl refl b.keeps.others.0 b.kept b.keeps.sames b.bit
+    let t : TakesBit c.args.plan.now deeds r n = takes_bit c.args.plan.now r n deeds stood b.right b.keeps.script
+    b.keeps.steps b.run b.left b.keeps.nodes refl refl b.keeps.others.0 b.kept b.keeps.sames b.bit
     (cuts_of (lawful_there bus drivers ports c.as_mut_slice.result.now c.self.inside.links.items bits
     c.args.self.now c.as_mut_slice.ensures.value c.self.view_is c.requires.lawful)) in
     let l : (with_items c.self.inside.links c.bit.new.links).items ≡ c.bit.new.links = with_items_is

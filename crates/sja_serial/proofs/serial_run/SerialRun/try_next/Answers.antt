@@ -1,4 +1,4 @@
-use Rattle.std.proofs.Common.{rules, ◌≡◌, ◌<◌, ◌≤◌, ℕ, List, length, refl, sym, ap, ◌∙◌, subst, arith, inl}
+use Rattle.std.proofs.Common.{rules, ◌≡◌, ◌<◌, ℕ, List, length, refl, sym, ap, ◌∙◌, subst, arith, inl}
 use Rattle.std.specs.Prelude.{slice_index_or, slice_set}
 use Rattle.std.specs.Vec.{with_items}
 use Rattle.std.proofs.lemmas.List.{with_items_is}
@@ -70,15 +70,13 @@ pub unreachable-requires : goal.unreachable-requires
 unreachable-requires c =
     let at = (goal.at.unreachable-requires c).After-done-next in let b = c.self.inside in
     let deeds = c.requires.run.0 in let h = c.requires.run.1 in
-    let most : length (steps_at c.args.plan.now c.from-index.result) ≤ 1000 =
-    let all = all_steps at in let few = c.steps-steps.ensures.few in omega (arith, all, few) in
     none_refused c.args.plan.now b.bus b.drivers.items b.board.ports.items c.as_mut_slice-links.result.now
     b.links.items b.bits c.args.self.now c.as_mut_slice-links.ensures.value c.self.view_is deeds h c.from-index.result
     (there at) c.index_mut.result.now c.index_mut-port.result.now c.index_mut.ensures.value
     c.index_mut-port.ensures.value c.gather.ensures.lawful (left at deeds h c.if-next-steps.false)
     c.step-done.new.self c.step-done.new.port c.step-done.new.links c.gather.new.links c.first_link.result
     c.index-steps-next.result c.step-done.result c.first_link.ensures c.step-done.ensures.steps
-    c.step-done.ensures.stays c.gather.new.self.journals c.in-Err.field-0 most c.in-Err.ensures.reason
+    c.step-done.ensures.stays c.gather.new.self.journals c.in-Err.field-0 c.in-Err.ensures.reason
 
 -- ---- what the step did
 
@@ -119,7 +117,7 @@ did c deeds h node there done less =
     c.index_mut-port.result.now c.index_mut.ensures.value c.index_mut-port.ensures.value c.gather.ensures.lawful less
     c.step-done.new.self c.step-done.new.port c.step-done.new.links c.gather.new.links c.first_link.result one
     c.step-done.result c.first_link.ensures c.step-done.ensures.steps c.step-done.ensures.stays c.gather.new.self is
-    ok.right g.bits.0 g.script g.bits.1 g.nodes ok.kept ok.items ok.untold ok.dry g.sames
+    ok.right g.bits.0 g.script g.steps g.bits.1 g.nodes ok.kept ok.items ok.untold ok.dry g.sames
     (omega (arith, c.gather.auto.links, c.step-done.auto.links)) in
     subst (λ (m : ℕ). IsTried plan c.args.self.now (now c) m deeds c.step-done.result) node
     (subst (λ (x : SerialValue). IsTried plan c.args.self.now x i deeds c.step-done.result) (now_is c)

@@ -12,7 +12,7 @@ use Rattle.sja_session.proofs.session.Session.finish.Goals as goal
 pub finish-requires : goal.finish-requires
 finish-requires c =
     let b = c.self.inside in let inv = c.self.invariant in
-    let s = session_of b.run b.plan b.turns.items in record {
+    let s = session_of b.room b.run b.plan b.turns.items in record {
       run = (
         inv.deeds,
         subst (λ (p : PlanValue). StandsAt p b.run inv.deeds)
@@ -23,7 +23,7 @@ finish-requires c =
 pub returns-clause-own : goal.returns-clause-own
 returns-clause-own c = λ deeds h.
     let b = c.self.inside in let plan = c.in_ok-plan.plan in
-    let s = session_of b.run b.plan b.turns.items in
+    let s = session_of b.room b.run b.plan b.turns.items in
     let at = subst (λ (x : SessionValue). IsAt x deeds) (sym c.self.view_is) h in
     let stands = subst (λ (p : PlanValue). StandsAt p b.run deeds)
     (sym (c.in_ok-plan.ensures ∙ ap written (sym c.self.view_is))) (stands_written s deeds at.stands) in
@@ -33,7 +33,7 @@ returns-clause-own c = λ deeds h.
 pub returns-clause-headline : goal.returns-clause-headline
 returns-clause-headline c = λ k d less.
     let b = c.self.inside in let inv = c.self.invariant in
-    let s = session_of b.run b.plan b.turns.items in
+    let s = session_of b.room b.run b.plan b.turns.items in
     let stands = subst (λ (p : PlanValue). StandsAt p b.run inv.deeds)
     (sym (c.in_ok-plan.ensures ∙ ap written (sym c.self.view_is))) (stands_written s inv.deeds inv.at.stands) in
     ((c.in_ok-log.ensures.log inv.deeds stands).run.nodes k d less).account
@@ -41,7 +41,7 @@ returns-clause-headline c = λ k d less.
 pub returns-clause-run : goal.returns-clause-run
 returns-clause-run c =
     let b = c.self.inside in let inv = c.self.invariant in
-    let s = session_of b.run b.plan b.turns.items in let plan = c.in_ok-plan.plan in
+    let s = session_of b.room b.run b.plan b.turns.items in let plan = c.in_ok-plan.plan in
     let t : TakesTurns plan b.run TurnsDone = subst (λ (p : PlanValue). TakesTurns p b.run TurnsDone)
     (sym (c.in_ok-plan.ensures ∙ ap written (sym c.self.view_is))) (all_taken s inv.deeds inv.at) in
     serial_of plan b.run TurnsDone c.in_ok-log.log t (c.in_ok-log.ensures.log t.deeds t.stands)

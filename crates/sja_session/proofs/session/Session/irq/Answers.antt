@@ -9,7 +9,8 @@ pub returns-clause-line : goal.returns-clause-line
 returns-clause-line c = λ deeds h.
     let b = c.self.inside in
     let own = subst (λ (s : SessionValue). IsAt s deeds) (sym c.self.view_is) h in
-    subst (λ (s : SessionValue). Looks s (session_of c.irq.new.self b.plan b.turns.items) c.args.node c.irq.result
+    subst (λ (s : SessionValue). Looks s (session_of b.room c.irq.new.self b.plan b.turns.items) c.args.node
+    c.irq.result
     deeds) c.self.view_is
     (looks b.plan b.run c.irq.new.self b.turns.items c.irq.ensures.bits c.irq.ensures.stands c.args.node c.irq.result
     deeds own c.irq.ensures.bus c.irq.ensures.ports (c.irq.ensures.line deeds own.stands))

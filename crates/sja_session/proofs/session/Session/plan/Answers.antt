@@ -1,5 +1,6 @@
-use Rattle.std.proofs.Common.{◌≤◌, List, Vec, Global, length, map, All, sym, ap, ◌∙◌, subst}
+use Rattle.std.proofs.Common.{◌≡◌, ◌≤◌, ℕ, List, Vec, Global, length, map, All, sym, ap, ◌∙◌, subst, arith}
 use Rattle.sja_plan.specs.declared.turn.Turn.{Turn}
+use Rattle.sja_plan.specs.Limits.{most_bits, most_steps, most_turns, most_strikes}
 use Rattle.sja_plan.specs.Plan.{NamesNode, IsStrikeOn, times_in}
 use Rattle.sja_script.specs.declared.step.Step.{Step}
 use Rattle.sja_script.specs.declared.strike.Strike.{Strike}
@@ -17,18 +18,29 @@ of-requires c =
     ∙ ap (λ (x : SessionValue). fronts (done_counts x.run) x.plan.nodes) (sym c.self.view_is) in
     let count = ap (λ (l : List (List Step)). length l) nodes
     ∙ length_fronts counts b.plan.nodes (counts_many b.plan b.run inv.deeds inv.at.stands) in
-    let turns = c.in_ok-turns.ensures ∙ c.as_slice.ensures.value in let strikes = c.in_ok-strikes.ensures in record {
+    let turns = c.in_ok-turns.ensures ∙ c.as_slice.ensures.value in let strikes = c.in_ok-strikes.ensures in
+    let version : b.plan.version ≡ c.version.result = sym c.version.ensures.value in record {
       version = (c.version.ensures.least, c.version.ensures.most);
-      bits = (c.bits-bits.ensures.some, c.bits-bits.ensures.few);
+      bits = (
+        c.bits-bits.ensures.some,
+        subst (λ (n : ℕ). c.bits-bits.result ≤ most_bits n) version c.bits-bits.ensures.few,
+      );
       nodes = subst (λ n. (1 ≤ n) × (n ≤ 8)) (sym count) limits.nodes;
-      steps = subst (λ (l : List (List Step)). All (λ (x : List Step). length x ≤ 1000) l) (sym nodes)
-          (fronts_few 1000 counts b.plan.nodes limits.steps);
-      turn_count = subst (λ (l : List Turn). length l ≤ 10000) (sym turns) inv.few;
+      steps = subst (λ (n : ℕ). All (λ (x : List Step). length x ≤ most_steps n)
+          (map (λ (v : Vec Step Global). v.items) c.in_ok-nodes.nodes.items)) version
+          (subst (λ (l : List (List Step)). All (λ (x : List Step). length x ≤ most_steps b.plan.version) l) (sym nodes)
+          (fronts_few (most_steps b.plan.version) counts b.plan.nodes limits.steps));
+      turn_count =
+          let few : length b.turns.items ≤ most_turns b.plan.version =
+          (let few = inv.few in let most = inv.most in omega (arith, few, most)) in
+          subst (λ (n : ℕ). length c.in_ok-turns.turns.items ≤ most_turns n) version
+          (subst (λ (l : List Turn). length l ≤ most_turns b.plan.version) (sym turns) few);
       turns = subst (λ (l : List Turn). All (NamesNode
           (length (map (λ (v : Vec Step Global). v.items) c.in_ok-nodes.nodes.items))) l) (sym turns)
           (subst (λ n. All (NamesNode n) b.turns.items) (sym count)
           (all_turns_named (length b.plan.nodes) b.turns.items inv.names));
-      strike_count = subst (λ (l : List Strike). times_in l ≤ 1000) (sym strikes) c.strikes.ensures.few;
+      strike_count = subst (λ (n : ℕ). times_in c.in_ok-strikes.strikes.items ≤ most_strikes n) version
+          (subst (λ (l : List Strike). times_in l ≤ most_strikes b.plan.version) (sym strikes) c.strikes.ensures.few);
       strikes = subst (λ (l : List Strike). All (IsStrikeOn
           (length (map (λ (v : Vec Step Global). v.items) c.in_ok-nodes.nodes.items))) l) (sym strikes)
           (subst (λ n. All (IsStrikeOn n) c.strikes.result.now) (sym count) c.strikes.ensures.there);

@@ -18,7 +18,7 @@ use Rattle.sja_session.proofs.session.Session.rest.Goals as goal
 
 -- the session as it was, and how many bits were run
 abbrev was : After-bits → SessionValue
-was c = session_of c.self.inside.run c.self.inside.plan c.self.inside.turns.items
+was c = session_of c.self.inside.room c.self.inside.run c.self.inside.plan c.self.inside.turns.items
 
 abbrev run : After-bits → ℕ
 run c = c.bits.result - c.bits-before.result
@@ -35,14 +35,15 @@ may c = subst (λ (s : SessionValue). MayRun s 1) (sym c.self.view_is)
     (c.lacks_bus_turn.ensures.no (search rules))
 
 some_at : (c : After-bits) (deeds : List (List Deed)) → IsAt (was c) deeds →
-    IsAt (session_of c.rest_turn-at_rest.new.self c.self.inside.plan
+    IsAt (session_of c.self.inside.room c.rest_turn-at_rest.new.self c.self.inside.plan
     (with_turn c.self.inside.turns.items (Bus (run c)))) deeds
 some_at c deeds h = at_some c.self.inside.plan c.self.inside.run c.rest_turn-at_rest.new.self
     c.self.inside.turns.items deeds
     (run c) c.rest_turn-at_rest.result h (turn c deeds h) (run_is c)
 
 some_run : (c : After-bits) (deeds : List (List Deed)) → IsAt (was c) deeds → 0 < run c → Rests (was c)
-    (session_of c.rest_turn-at_rest.new.self c.self.inside.plan (with_turn c.self.inside.turns.items (Bus (run c))))
+    (session_of c.self.inside.room c.rest_turn-at_rest.new.self c.self.inside.plan (with_turn c.self.inside.turns.items
+    (Bus (run c))))
     (run c) c.rest_turn-at_rest.result deeds
 some_run c deeds h some = rests_some c.self.inside.plan c.self.inside.run c.rest_turn-at_rest.new.self
     c.self.inside.turns.items
@@ -59,20 +60,20 @@ left c some = by (may c)
         let e = many c.self.inside.plan c.self.inside.run c.rest_turn-at_rest.new.self c.self.inside.turns.items
         inv.deeds
         (run c) c.rest_turn-at_rest.result inv.at (turn c inv.deeds inv.at) (run_is c) in
-        let b = bits_few (session_of c.rest_turn-at_rest.new.self c.self.inside.plan
+        let b = bits_few (session_of c.self.inside.room c.rest_turn-at_rest.new.self c.self.inside.plan
         (with_turn c.self.inside.turns.items (Bus (run c)))) inv.deeds (some_at c inv.deeds inv.at) inv.bits
-        inv.places in absurd (omega (arith, over, some, e, b))
+        inv.places inv.steps in absurd (omega (arith, over, some, e, b))
     by (inr (inl less)) = inl less
     by (inr (inr on)) = inr (bits_go_on (reverse c.self.inside.turns.items) (run c) 1 ∙ on)
 
 none_at : (c : After-bits) (deeds : List (List Deed)) → IsAt (was c) deeds → run c ≡ 0 →
-    IsAt (session_of c.rest_turn-at_rest.new.self c.self.inside.plan c.self.inside.turns.items) deeds
+    IsAt (session_of c.self.inside.room c.rest_turn-at_rest.new.self c.self.inside.plan c.self.inside.turns.items) deeds
 none_at c deeds h none = at_none c.self.inside.plan c.self.inside.run c.rest_turn-at_rest.new.self
     c.self.inside.turns.items
     deeds (run c) c.rest_turn-at_rest.result h (turn c deeds h) (run_is c) none
 
 none_run : (c : After-bits) (deeds : List (List Deed)) → IsAt (was c) deeds → run c ≡ 0 → Rests (was c)
-    (session_of c.rest_turn-at_rest.new.self c.self.inside.plan c.self.inside.turns.items) (run c)
+    (session_of c.self.inside.room c.rest_turn-at_rest.new.self c.self.inside.plan c.self.inside.turns.items) (run c)
     c.rest_turn-at_rest.result deeds
 none_run c deeds h none = rests_none c.self.inside.plan c.self.inside.run c.rest_turn-at_rest.new.self
     c.self.inside.turns.items deeds (run c) c.rest_turn-at_rest.result h (turn c deeds h) (run_is c) none
@@ -86,9 +87,10 @@ overflow_sub-bits c =
 pub push_turn-requires-clause-fits : goal.push_turn-requires-clause-fits
 push_turn-requires-clause-fits c =
     let at = (goal.at.push_turn-requires-clause-fits c).After-bits in let inv = c.self.invariant in
-    let few = last_few (was at) inv.deeds inv.at inv.bits inv.places in
-    let most = bits_few (session_of c.rest_turn-at_rest.new.self c.self.inside.plan
-    (with_turn c.self.inside.turns.items (Bus (run at)))) inv.deeds (some_at at inv.deeds inv.at) inv.bits inv.places in
+    let few = last_few (was at) inv.deeds inv.at inv.bits inv.places inv.steps in
+    let most = bits_few (session_of c.self.inside.room c.rest_turn-at_rest.new.self c.self.inside.plan
+    (with_turn c.self.inside.turns.items (Bus (run at)))) inv.deeds (some_at at inv.deeds inv.at) inv.bits inv.places
+    inv.steps in
     let y = c.bits.ensures in let limit = inv.bits in omega (arith, few, most, y, limit)
 
 pub invariant_of-self : goal.invariant_of-self
@@ -96,14 +98,18 @@ invariant_of-self c =
     let at = (goal.at.invariant_of-self c).After-bits in let inv = c.self.invariant in
     let items = sym c.push_turn.ensures.turns in record {
       deeds = inv.deeds;
-      at = subst (λ (l : List Turn). IsAt (session_of c.rest_turn-at_rest.new.self c.self.inside.plan l) inv.deeds)
+      at = subst (λ (l : List Turn). IsAt (session_of c.self.inside.room c.rest_turn-at_rest.new.self c.self.inside.plan
+          l) inv.deeds)
           items
           (some_at at inv.deeds inv.at);
       bits = inv.bits;
       places = inv.places;
+      steps = inv.steps;
+      most = inv.most;
       room = let r = inv.room in let p = c.push_turn.ensures.capacity in omega (arith, r, p);
-      few = subst (λ (l : List Turn). length l ≤ 10000) items
-          (few_turns (Bus (run at)) c.self.inside.turns.items (left at (let s = c.if-bits-gt0.true in omega (arith, s)))
+      few = subst (λ (l : List Turn). length l ≤ c.self.inside.room.turns) items
+          (few_turns c.self.inside.room.turns (Bus (run at)) c.self.inside.turns.items (left at (let s =
+          c.if-bits-gt0.true in omega (arith, s)))
           inv.few);
       names = subst (λ (l : List Turn). AreNamed (length c.self.inside.plan.nodes) (reverse l)) items
           (named_turns (length c.self.inside.plan.nodes) (Bus (run at)) c.self.inside.turns.items tt inv.names);
@@ -117,6 +123,8 @@ invariant_of-self-else-bits-gt0 c =
       at = none_at at inv.deeds inv.at (omega (arith, f));
       bits = inv.bits;
       places = inv.places;
+      steps = inv.steps;
+      most = inv.most;
       room = inv.room;
       few = inv.few;
       names = inv.names;
@@ -125,7 +133,7 @@ invariant_of-self-else-bits-gt0 c =
 pub returns-then-bits-gt0-clause-rests : goal.returns-then-bits-gt0-clause-rests
 returns-then-bits-gt0-clause-rests c = λ deeds h.
     let at = (goal.at.returns-then-bits-gt0-clause-rests c).After-bits in let some = c.if-bits-gt0.true in
-    let then = λ (l : List Turn). session_of c.rest_turn-at_rest.new.self c.self.inside.plan l in
+    let then = λ (l : List Turn). session_of c.self.inside.room c.rest_turn-at_rest.new.self c.self.inside.plan l in
     subst (λ (s : SessionValue). Rests s (then c.push_turn.new.turns.items) (run at) c.rest_turn-at_rest.result deeds)
     c.self.view_is
     (subst (λ (l : List Turn). Rests (was at) (then l) (run at) c.rest_turn-at_rest.result deeds)
@@ -135,6 +143,6 @@ returns-then-bits-gt0-clause-rests c = λ deeds h.
 pub returns-else-bits-gt0-clause-rests : goal.returns-else-bits-gt0-clause-rests
 returns-else-bits-gt0-clause-rests c = λ deeds h.
     let at = (goal.at.returns-else-bits-gt0-clause-rests c).After-bits in let f = c.if-bits-gt0.false in
-    subst (λ (s : SessionValue). Rests s (session_of c.rest_turn-at_rest.new.self c.self.inside.plan
+    subst (λ (s : SessionValue). Rests s (session_of c.self.inside.room c.rest_turn-at_rest.new.self c.self.inside.plan
     c.self.inside.turns.items) (run at) c.rest_turn-at_rest.result deeds) c.self.view_is
     (none_run at deeds (subst (λ (s : SessionValue). IsAt s deeds) (sym c.self.view_is) h) (omega (arith, f)))

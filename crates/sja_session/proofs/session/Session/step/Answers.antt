@@ -35,7 +35,7 @@ answer_in (Err fault) other = other
 -- ---- the session as it was, and the step that was set
 
 abbrev was : After-set_step → SessionValue
-was c = session_of c.self.inside.run c.self.inside.plan c.self.inside.turns.items
+was c = session_of c.self.inside.room c.self.inside.run c.self.inside.plan c.self.inside.turns.items
 
 node_is : (c : After-set_step) → c.from-place.result ≡ c.args.node
 node_is c = search rules
@@ -91,7 +91,7 @@ invariant_of-self c =
     let at = (goal.at.invariant_of-self c).After-set_step in let inv = c.self.invariant in
     let t = nothing at c.try_next.new.self inv.deeds
     (c.try_next.ensures.waits (search rules) inv.deeds (stands at inv.deeds inv.at)) in
-    subst (λ (p : PlanValue). IsSession (session_of c.try_next.new.self p c.self.inside.turns.items)
+    subst (λ (p : PlanValue). IsSession (session_of c.self.inside.room c.try_next.new.self p c.self.inside.turns.items)
     (vec_capacity c.self.inside.turns)) (sym (set_is at))
     (after_waiting c.self.inside.plan c.self.inside.run c.try_next.new.self c.self.inside.turns.items c.args.node
     c.done-at.result c.args.step (vec_capacity c.self.inside.turns) inv (may at).there
@@ -103,9 +103,9 @@ returns-then-not-try_next-clause-waits c = λ e deeds h.
     let own = subst (λ (s : SessionValue). IsAt s deeds) (sym c.self.view_is) h in
     let t = nothing at c.try_next.new.self deeds
     (c.try_next.ensures.waits (search rules) deeds (stands at deeds own)) in
-    subst (λ (s : SessionValue). Waits s (session_of c.try_next.new.self c.set_step.new.self
+    subst (λ (s : SessionValue). Waits s (session_of c.self.inside.room c.try_next.new.self c.set_step.new.self
     c.self.inside.turns.items) c.args.node c.args.step deeds) c.self.view_is
-    (subst (λ (p : PlanValue). Waits (was at) (session_of c.try_next.new.self p
+    (subst (λ (p : PlanValue). Waits (was at) (session_of c.self.inside.room c.try_next.new.self p
     c.self.inside.turns.items) c.args.node c.args.step deeds) (sym (set_is at))
     (waits_step c.self.inside.plan c.self.inside.run c.try_next.new.self c.self.inside.turns.items deeds c.args.node
     c.done-at.result c.args.step (may at).there (at_is at deeds own) (long at) own t))
@@ -115,7 +115,7 @@ returns-then-not-try_next-clause-waits c = λ e deeds h.
 pub push_turn-requires-clause-fits : goal.push_turn-requires-clause-fits
 push_turn-requires-clause-fits c =
     let at = (goal.at.push_turn-requires-clause-fits c).After-set_step in let inv = c.self.invariant in
-    let few = last_few (was at) inv.deeds inv.at inv.bits inv.places in omega (arith, few)
+    let few = last_few (was at) inv.deeds inv.at inv.bits inv.places inv.steps in omega (arith, few)
 
 pub last_answer-requires : goal.last_answer-requires
 last_answer-requires c =
@@ -144,11 +144,13 @@ invariant_of-self-2 c =
     let at = (goal.at.invariant_of-self-2 c).After-set_step in let inv = c.self.invariant in
     let t = next at c.try_next.new.self inv.deeds
     (c.try_next.ensures.done (search rules) inv.deeds (stands at inv.deeds inv.at)) in
-    subst (λ (k : ℕ). IsSession (session_of c.try_next.new.self c.set_step.new.self c.push_turn.new.turns.items) k)
+    subst (λ (k : ℕ). IsSession (session_of c.self.inside.room c.try_next.new.self c.set_step.new.self
+    c.push_turn.new.turns.items) k)
     (sym c.push_turn.ensures.capacity)
-    (subst (λ (p : PlanValue). IsSession (session_of c.try_next.new.self p c.push_turn.new.turns.items)
+    (subst (λ (p : PlanValue). IsSession (session_of c.self.inside.room c.try_next.new.self p
+    c.push_turn.new.turns.items)
     (vec_capacity c.self.inside.turns)) (sym (set_is at))
-    (subst (λ (l : List Turn). IsSession (session_of c.try_next.new.self (then at) l)
+    (subst (λ (l : List Turn). IsSession (session_of c.self.inside.room c.try_next.new.self (then at) l)
     (vec_capacity c.self.inside.turns))
     (sym c.push_turn.ensures.turns)
     (after_done c.self.inside.plan c.self.inside.run c.try_next.new.self c.self.inside.turns.items c.args.node
@@ -170,11 +172,12 @@ returns-clause-done c = λ answer e deeds h.
     let whole = sym some ∙ sym (ap log (node_is at)) ∙ sym (c.last_answer.ensures x) ∙ c.in-Some.is in
     let same : t.deed.answer ≡ answer = ap (λ (o : Option StepAnswer). unwrap_or o answer) whole
     ∙ ap (λ (r : Result Answered StepFault). answer_in r answer) e in
-    subst (λ (s : SessionValue). DoesStep s (session_of c.try_next.new.self c.set_step.new.self
+    subst (λ (s : SessionValue). DoesStep s (session_of c.self.inside.room c.try_next.new.self c.set_step.new.self
     c.push_turn.new.turns.items) c.args.node c.args.step answer deeds) c.self.view_is
-    (subst (λ (p : PlanValue). DoesStep (was at) (session_of c.try_next.new.self p
+    (subst (λ (p : PlanValue). DoesStep (was at) (session_of c.self.inside.room c.try_next.new.self p
     c.push_turn.new.turns.items) c.args.node c.args.step answer deeds) (sym (set_is at))
-    (subst (λ (l : List Turn). DoesStep (was at) (session_of c.try_next.new.self (then at) l) c.args.node c.args.step
+    (subst (λ (l : List Turn). DoesStep (was at) (session_of c.self.inside.room c.try_next.new.self (then at) l)
+    c.args.node c.args.step
     answer deeds) (sym c.push_turn.ensures.turns)
     (does_step c.self.inside.plan c.self.inside.run c.try_next.new.self c.self.inside.turns.items deeds c.args.node
     c.done-at.result c.args.step (may at).there (at_is at deeds own) (long at) own t answer same)))

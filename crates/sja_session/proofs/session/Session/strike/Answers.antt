@@ -20,7 +20,7 @@ strike-requires c =
 pub invariant_of-self : goal.invariant_of-self
 invariant_of-self c =
     let b = c.self.inside in
-    subst (λ (r : SerialValue). IsSession (session_of r b.plan b.turns.items) (vec_capacity b.turns))
+    subst (λ (r : SerialValue). IsSession (session_of b.room r b.plan b.turns.items) (vec_capacity b.turns))
     (sym c.in_err-strike.ensures.kept) c.self.invariant
 
 -- run and plan have the strike more
@@ -29,9 +29,9 @@ invariant_of-self-2 c =
     let b = c.self.inside in let node = c.args.node in let bit = c.args.bit in
     let run = c.in_ok-strike.ensures.struck ∙ ap (λ (s : Strike). struck_run b.run s) c.one_strike.ensures in
     let plan = c.in_ok-plan.ensures.ok ∙ ap (λ (s : SessionValue). struck_at s.plan node bit) (sym c.self.view_is) in
-    let was : SessionValue = session_of b.run b.plan b.turns.items in
-    let e : session_of c.strike.new.self c.in_ok-plan.plan b.turns.items ≡ struck_session was node bit =
-    (λ t. session_of (run t) (plan t) b.turns.items) in
+    let was : SessionValue = session_of b.room b.run b.plan b.turns.items in
+    let e : session_of b.room c.strike.new.self c.in_ok-plan.plan b.turns.items ≡ struck_session was node bit =
+    (λ t. session_of b.room (run t) (plan t) b.turns.items) in
     session_struck was _ node bit (vec_capacity b.turns) e c.self.invariant
 
 pub returns-clause-struck : goal.returns-clause-struck
@@ -39,8 +39,8 @@ returns-clause-struck c = λ deeds h.
     let b = c.self.inside in let node = c.args.node in let bit = c.args.bit in
     let run = c.in_ok-strike.ensures.struck ∙ ap (λ (s : Strike). struck_run b.run s) c.one_strike.ensures in
     let plan = c.in_ok-plan.ensures.ok ∙ ap (λ (s : SessionValue). struck_at s.plan node bit) (sym c.self.view_is) in
-    let was : SessionValue = session_of b.run b.plan b.turns.items in
-    let e : session_of c.strike.new.self c.in_ok-plan.plan b.turns.items ≡ struck_session was node bit =
-    (λ t. session_of (run t) (plan t) b.turns.items) in
+    let was : SessionValue = session_of b.room b.run b.plan b.turns.items in
+    let e : session_of b.room c.strike.new.self c.in_ok-plan.plan b.turns.items ≡ struck_session was node bit =
+    (λ t. session_of b.room (run t) (plan t) b.turns.items) in
     is_struck c.args.self.now _ node bit deeds
     (e ∙ ap (λ (s : SessionValue). struck_session s node bit) c.self.view_is) h

@@ -29,7 +29,7 @@ returns-clause-on g c =
     let those : (with_items links c.bit.new.links).items ≡ c.bit.new.links =
     with_items_is links c.bit.new.links (omega (arith, c.bit.auto.links, c.as_mut_slice.ensures.len)) in
     after_bit c.args.self.now _ c.as_mut_slice.result.now c.bit.new.links c.as_mut_slice.ensures.value those k.script
-    k.nodes k.sames c.args.plan.now w o.right o.kept _ _ _ (o.run, o.left) (c.at_rest.ensures.lawful w.right)
+    k.steps k.nodes k.sames c.args.plan.now w o.right o.kept _ _ _ (o.run, o.left) (c.at_rest.ensures.lawful w.right)
     (c.at_rest.ensures.busy w.right c.if-at_rest.false) (search rules) o.bit refl refl
 
 pub returns-in_err-bit-clause-fault : goal.returns-in_err-bit-clause-fault

@@ -12,7 +12,7 @@ returns-clause-on c =
     let those : (with_items links c.gather.new.links).items ≡ c.gather.new.links =
     with_items_is links c.gather.new.links (omega (arith, c.gather.auto.links, c.as_mut_slice.ensures.len)) in
     gathered c.args.self.now _ c.as_mut_slice.result.now c.gather.new.links c.as_mut_slice.ensures.value those e.script
-    e.nodes e.sames e.bits refl refl c.gather.result e.kept e.items e.right
+    e.steps e.nodes e.sames e.bits refl refl c.gather.result e.kept e.items e.right
 
 pub returns-clause-fault : goal.returns-clause-fault
 returns-clause-fault c =

@@ -14,7 +14,7 @@ returns-then-not-step g c =
     let those : (with_items links s.new.links).items ≡ s.new.links =
     with_items_is links s.new.links (omega (arith, s.auto.links, c.as_mut_slice.ensures.len)) in
     does_try g.D.DriverEnd c.args.self.now _ c.as_mut_slice.result.now s.new.links c.deref_mut-2.result.now s.new.port
-    c.args.step.now s.result c.as_mut_slice.ensures.value those c.requires.eight
+    c.args.step.now s.result c.as_mut_slice.ensures.value those c.requires.enough
     (subst (λ (p : Registers). HasSettings p c.args.self.now.set)
     (sym c.deref_mut-2.ensures.value) c.restore.ensures.has)
     (λ e. absurd (let x : false ≡ true = sym no ∙ e in cc)) (λ e. refl) s.ensures.stays s.ensures.steps false no
@@ -27,7 +27,7 @@ returns g c =
     let those : (with_items links s.new.links).items ≡ s.new.links =
     with_items_is links s.new.links (omega (arith, s.auto.links, c.as_mut_slice.ensures.len)) in
     does_try g.D.DriverEnd c.args.self.now _ c.as_mut_slice.result.now s.new.links c.deref_mut-2.result.now s.new.port
-    c.args.step.now s.result c.as_mut_slice.ensures.value those c.requires.eight
+    c.args.step.now s.result c.as_mut_slice.ensures.value those c.requires.enough
     (subst (λ (p : Registers). HasSettings p c.args.self.now.set)
     (sym c.deref_mut-2.ensures.value) c.restore.ensures.has)
     (λ e. c.settings-self.ensures ∙ ap settings_in c.deref.ensures)

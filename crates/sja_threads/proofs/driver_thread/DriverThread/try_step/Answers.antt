@@ -15,7 +15,7 @@ returns-in-Window g c =
     with_items_is links s.new.links (omega (arith, s.auto.links, c.as_mut_slice.ensures.len)) in
     rw c.in-Window.is
     (does_try g.D.DriverEnd c.args.self.now _ c.as_mut_slice.result.now s.new.links p p Window s.result
-    c.as_mut_slice.ensures.value those c.requires.eight (has_those c.args.self.now.set) (λ e. refl) (λ e. refl)
+    c.as_mut_slice.ensures.value those c.requires.enough (has_those c.args.self.now.set) (λ e. refl) (λ e. refl)
     s.ensures.stays (s.ensures.steps p) s.result refl)
 
 pub returns-in-Release : goal.returns-in-Release
@@ -27,6 +27,6 @@ returns-in-Release g c =
     with_items_is links s.new.links (omega (arith, s.auto.links, c.as_mut_slice-in-Release.ensures.len)) in
     rw c.in-Release.is
     (does_try g.D.DriverEnd c.args.self.now _ c.as_mut_slice-in-Release.result.now s.new.links p p Release s.result
-    c.as_mut_slice-in-Release.ensures.value those c.requires.eight (has_those c.args.self.now.set)
+    c.as_mut_slice-in-Release.ensures.value those c.requires.enough (has_those c.args.self.now.set)
     (λ e. refl) (λ e. refl)
     s.ensures.stays (s.ensures.steps p) s.result refl)

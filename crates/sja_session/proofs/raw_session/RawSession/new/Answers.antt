@@ -1,0 +1,25 @@
+use Rattle.std.proofs.Common.{◌≡◌, [], replicate, subst}
+use Rattle.std.specs.Prelude.{IfOk, IfErr}
+use Rattle.lemmas.proofs.Results.{ok_map}
+use Rattle.sja_bus.specs.Buses.{new_bus}
+use Rattle.sja_session.specs.Beginning.{IsSessionFault}
+use Rattle.sja_session.specs.declared.session_room.SessionRoom.{SessionRoom}
+use Rattle.sja_session.proofs.raw_session.RawSession.new.Goals as goal
+
+pub returns-clause-bus : goal.returns-clause-bus
+returns-clause-bus c =
+    subst (λ (room : SessionRoom). IfOk c.with_room.result (λ r. r.session.run.bus
+    ≡ new_bus [] c.args.bits c.args.nodes (replicate c.args.nodes room.steps))) c.most.ensures c.with_room.ensures.bus
+
+pub returns-clause-room : goal.returns-clause-room
+returns-clause-room c =
+    subst (λ (room : SessionRoom). IfOk c.with_room.result (λ r. r.session.room ≡ room)) c.most.ensures
+    c.with_room.ensures.room
+
+pub returns-clause-limits : goal.returns-clause-limits
+returns-clause-limits c = ok_map c.with_room.result (λ both. both.0) c.with_room.ensures.limits
+
+pub returns-clause-err : goal.returns-clause-err
+returns-clause-err c =
+    subst (λ (room : SessionRoom). IfErr c.with_room.result
+    (IsSessionFault c.args.version c.args.bits c.args.nodes room)) c.most.ensures c.with_room.ensures.err

@@ -1,0 +1,45 @@
+//! Whether a session may begin.
+
+ghost use Rattle.std.specs.Prelude.{◌≡◌, ◌≢◌, OnOk, IfErr};
+ghost use Rattle.sja_session.specs.Beginning.{MayBegin, IsRoom, IsSessionFault};
+ghost use Rattle.sja_session.specs.declared.session_fault.SessionFault.TheVariants.{Memory};
+
+use super::session_fault::SessionFault;
+use super::session_room::SessionRoom;
+use sja_plan::{most_bits, most_steps, most_turns};
+use sja_script::MOST_NODES;
+
+/// The last version of a session's rules; the first one is 1 (this project's own rule). A plan's document can ask for
+/// the first two alone.
+pub const LAST_VERSION: u8 = 3;
+
+/// Whether these are within the limits of a session.
+///
+/// Errors: as [`Session::with_room`](super::session::Session::with_room) tells them.
+pub(crate) fn check(
+    version: u8,
+    bits: u32,
+    nodes: u8,
+    room: SessionRoom,
+) -> Result<(), SessionFault>
+    ensures ok { OnOk result (MayBegin version bits nodes × IsRoom version room) }
+    ensures err { IfErr result (IsSessionFault version bits nodes room) }
+    ensures other { IfErr result (λ fault. fault ≢ Memory) }
+{
+    if version < 1 || version > LAST_VERSION {
+        return Err(SessionFault::Version);
+    }
+    if bits < 1 || bits > most_bits(version) {
+        return Err(SessionFault::Bits);
+    }
+    if nodes < 1 || nodes > MOST_NODES {
+        return Err(SessionFault::NodeCount);
+    }
+    if room.steps as usize > most_steps(version) {
+        return Err(SessionFault::StepRoom);
+    }
+    if room.turns as usize > most_turns(version) {
+        return Err(SessionFault::TurnRoom);
+    }
+    Ok(())
+}

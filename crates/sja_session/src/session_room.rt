@@ -1,0 +1,28 @@
+//! For how much a session reserves room.
+
+use sja_plan::{most_steps, most_turns};
+
+/// For how many steps of each node and how many turns a session reserves room (this project's own rule).
+#[derive(Clone, Copy, Debug, PartialEq, Eq)]
+pub struct SessionRoom {
+    /// The steps of each node.
+    pub steps: u32,
+    /// The turns.
+    pub turns: u32,
+}
+
+impl SessionRoom {
+    ghost use Rattle.std.specs.Prelude.{◌≡◌};
+    ghost use Rattle.sja_session.specs.Beginning.{most_room};
+
+    /// Room for as much as a plan of this version has at most: 1,000 steps of each node and 10,000 turns, or 196,605
+    /// steps and 200,000 turns in version 3.
+    pub fn most(version: u8) -> SessionRoom
+        ensures { result ≡ most_room version }
+    {
+        SessionRoom {
+            steps: most_steps(version) as u32,
+            turns: most_turns(version) as u32,
+        }
+    }
+}

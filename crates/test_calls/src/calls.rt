@@ -1,0 +1,176 @@
+//! Calls of a session in words.
+
+use super::answer::Answer;
+use super::bench::say;
+use super::held::Held;
+use super::many::many;
+use sja_script::Step;
+use sja_session::Answered;
+use std::alloc::Global;
+use std::io;
+use test_words::{address, byte, step_of};
+
+/// The number that a word of decimal digits is.
+pub fn number(word: &str) -> Option<u32> {
+    word.parse::<u32>().ok()
+}
+
+/// The node, or the version, that a word of decimal digits is: 0 to 255.
+pub fn node_of(word: &str) -> Option<u8> {
+    word.parse::<u8>().ok()
+}
+
+/// What a call answers; none where it is none.
+///
+/// `bits 7`, `rest`, `watch 400 0 1` with the nodes that are watched, `rises 400 1` the same with whose line rose
+/// alone, `now`, `room`, `irq 0`, `answer 0`, `kept 0`, `strike 1 51`, `mask 1 IR 02` a read and of it these bits, a
+/// step behind its node as `0 read SR`, and those of `many`.
+pub fn called(alloc: Global, held: &mut Held, words: &[&str]) -> Option<Answer> {
+    if let Some(answer) = many(alloc, held, words) {
+        return Some(answer);
+    }
+    match words {
+        ["watch", count, nodes @ ..] => watched(held, count, nodes),
+        ["rises", count, nodes @ ..] => match watched(held, count, nodes)? {
+            Answer::Watched(watched) => Some(Answer::Rose(watched.rose)),
+            answer => Some(answer),
+        },
+        ["mask", node, addr, mask] => masked(held, node, addr, mask),
+        [name] => of_session(held, name),
+        ["bits", count] => runs(held, count),
+        ["strike", node, bit] => struck(alloc, held, node, bit),
+        [name @ ("irq" | "answer" | "kept"), node] => of_node(held, name, node),
+        [node, step @ ..] => stepped(held, node, step),
+        [] => None,
+    }
+}
+
+/// What a call without more words answers.
+fn of_session(held: &mut Held, name: &str) -> Option<Answer> {
+    match name {
+        "rest" => Some(match held.rest() {
+            Ok(rested) => Answer::Rested(rested),
+            Err(fault) => Answer::NoTurn(fault),
+        }),
+        "now" => Some(Answer::Count(held.now())),
+        "room" => Some(Answer::Room(held.room())),
+        _ => None,
+    }
+}
+
+/// What a call of a node answers.
+fn of_node(held: &mut Held, name: &str, node: &str) -> Option<Answer> {
+    let node = node_of(node)?;
+    match name {
+        "irq" => Some(match held.irq(node) {
+            Some(active) => Answer::Said(active),
+            None => Answer::Nothing,
+        }),
+        "answer" => Some(match held.answer(node) {
+            Some(answer) => Answer::Step(answer),
+            None => Answer::Nothing,
+        }),
+        _ => held.kept(node).map(Answer::Kept),
+    }
+}
+
+/// Runs bits.
+fn runs(held: &mut Held, count: &str) -> Option<Answer> {
+    Some(match held.bits(number(count)?) {
+        Ok(bits) => Answer::Count(bits),
+        Err(fault) => Answer::NoTurn(fault),
+    })
+}
+
+/// Runs bits until the line of one of these nodes rises.
+fn watched(held: &mut Held, count: &str, nodes: &[&str]) -> Option<Answer> {
+    let mut watched = [false; 8];
+    for node in nodes {
+        *watched.get_mut(usize::from(node_of(node)?))? = true;
+    }
+    Some(match held.watch(number(count)?, watched) {
+        Ok(watched) => Answer::Watched(watched),
+        Err(fault) => Answer::NoTurn(fault),
+    })
+}
+
+/// Strikes a bit.
+fn struck(alloc: Global, held: &mut Held, node: &str, bit: &str) -> Option<Answer> {
+    Some(match held.strike(alloc, node_of(node)?, number(bit)?) {
+        Ok(()) => Answer::Done,
+        Err(fault) => Answer::NoStrike(fault),
+    })
+}
+
+/// Does a step of a node, whose last answer is its answer then.
+fn stepped(held: &mut Held, node: &str, words: &[&str]) -> Option<Answer> {
+    let node = node_of(node)?;
+    Some(step(held, node, step_of(words)?))
+}
+
+/// Does a step.
+pub fn step(held: &mut Held, node: u8, step: Step) -> Answer {
+    match held.step(node, step) {
+        Ok(Answered::Answer(answer)) if held.answer(node).as_ref() == Some(&answer) => {
+            Answer::Step(answer)
+        }
+        Ok(Answered::Answer(answer)) => Answer::OtherLast(answer),
+        Ok(Answered::Waits) => Answer::Waits,
+        Err(fault) => Answer::NoStep(fault),
+    }
+}
+
+/// `read 0 SR IR ..` and `write 0 IER 01 MOD 00 ..`: bytes at addresses of a node, one after the other.
+pub fn byte_by_byte(
+    alloc: Global,
+    text: &mut String,
+    held: &mut Held,
+    words: &[&str],
+) -> io::Result<()> {
+    match words {
+        ["read", node, addresses @ ..] => {
+            for word in addresses {
+                let answer = read(held, node, word).unwrap_or(Answer::Unread);
+                say(alloc, text, answer)?;
+            }
+        }
+        [_, node, words @ ..] => {
+            for pair in words.chunks(2) {
+                let answer = written(held, node, pair).unwrap_or(Answer::Unread);
+                say(alloc, text, answer)?;
+            }
+        }
+        _ => say(alloc, text, Answer::Unread)?,
+    }
+    Ok(())
+}
+
+/// What an address of a node reads as.
+fn read(held: &mut Held, node: &str, word: &str) -> Option<Answer> {
+    Some(match held.read(node_of(node)?, address(word)?)? {
+        Ok(value) => Answer::Byte(value),
+        Err(fault) => Answer::NoStep(fault),
+    })
+}
+
+/// What an address of a node reads as, and of that these bits alone.
+fn masked(held: &mut Held, node: &str, addr: &str, mask: &str) -> Option<Answer> {
+    let mask = byte(mask)?;
+    match read(held, node, addr)? {
+        Answer::Byte(value) => Some(Answer::Byte(value & mask)),
+        answer => Some(answer),
+    }
+}
+
+/// What a write of a value behind its address answers.
+fn written(held: &mut Held, node: &str, pair: &[&str]) -> Option<Answer> {
+    let [addr, value] = pair else {
+        return None;
+    };
+    Some(
+        match held.write(node_of(node)?, address(addr)?, byte(value)?)? {
+            Ok(()) => Answer::Done,
+            Err(fault) => Answer::NoStep(fault),
+        },
+    )
+}

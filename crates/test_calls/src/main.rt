@@ -1,0 +1,50 @@
+//! Sessions row by row: each line of the input is calls of one session, and what they answer is printed behind it, with
+//! the report of its log and the document of its plan below it where they are asked for.
+//!
+//! A line that begins with `== ` is a title of the rows below it. In a row `; ` stands between calls; [`bench`],
+//! [`calls`], [`many`] and [`ended`] say what each is. Bytes are hexadecimal, and nodes, bits and counts decimal. The
+//! answers that are wanted stand in the file `stdout`: what is on the bus is worked by hand, from the rules of CAN, and
+//! the reports from their format.
+#![tactic(auto)]
+
+mod answer;
+mod bench;
+mod calls;
+mod ended;
+mod held;
+mod many;
+mod struck;
+
+use bench::Bench;
+use std::alloc::Global;
+use std::io;
+use std::process::ExitCode;
+
+/// Answers the exit status: 0 for done, 1 where memory was refused or a read or a write failed.
+fn main(rt: HostRuntime) -> ExitCode {
+    ExitCode::from(if rows_are_told(&rt).is_ok() { 0 } else { 1 })
+}
+
+/// Prints each line of the input, and behind a row what it answers.
+fn rows_are_told(rt: &HostRuntime) -> io::Result<()> {
+    for line in rt.lines(rt.alloc()) {
+        let line = line?;
+        if line.as_str().starts_with("== ") {
+            println!(rt; "{line}")?;
+        } else {
+            let text = told(rt.alloc(), line.as_str())?;
+            println!(rt; "{line} ->{text}")?;
+        }
+    }
+    Ok(())
+}
+
+/// What the calls of a row answer, each behind a blank.
+fn told(alloc: Global, row: &str) -> io::Result<String> {
+    let mut bench = Bench::new(alloc);
+    for call in row.split("; ") {
+        let words = call.split(' ').collect::<Vec<&str>>(alloc)?;
+        bench.does(words.as_slice())?;
+    }
+    Ok(bench.told())
+}

@@ -1,0 +1,46 @@
+//! The registers of a controller row by row: each line of the input is calls of a port, and what they answer is printed
+//! behind it.
+//!
+//! A line that begins with `== ` is a title of the rows below it. In a row `; ` stands between calls, and numbers are
+//! hexadecimal; [`call`] says what each call is, and `test_words` how a bit of the bus is written. The answers that
+//! are wanted stand in the file `stdout`, and are the data sheet's, or worked out by hand.
+#![tactic(auto)]
+
+mod answer;
+mod bench;
+mod call;
+mod controller;
+
+use bench::Bench;
+use std::alloc::Global;
+use std::io;
+use std::process::ExitCode;
+
+/// Answers the exit status: 0 for done, 1 where memory was refused or a read or a write failed.
+fn main(rt: HostRuntime) -> ExitCode {
+    ExitCode::from(if rows_are_told(&rt).is_ok() { 0 } else { 1 })
+}
+
+/// Prints each line of the input, and behind a row what it answers.
+fn rows_are_told(rt: &HostRuntime) -> io::Result<()> {
+    for line in rt.lines(rt.alloc()) {
+        let line = line?;
+        if line.as_str().starts_with("== ") {
+            println!(rt; "{line}")?;
+        } else {
+            let text = told(rt.alloc(), line.as_str())?;
+            println!(rt; "{line} ->{text}")?;
+        }
+    }
+    Ok(())
+}
+
+/// What the calls of a row answer, each behind a blank.
+fn told(alloc: Global, row: &str) -> io::Result<String> {
+    let mut bench = Bench::new(alloc);
+    for call in row.split("; ") {
+        let words = call.split(' ').collect::<Vec<&str>>(alloc)?;
+        bench.does(words.as_slice())?;
+    }
+    Ok(bench.told())
+}
