@@ -25,10 +25,10 @@ _sja() {
 
 # _sja_words COMMAND PLACE: the words that may stand behind this command and so many arguments
 _sja_words() {
-    local commands="encode decode filter arbitrate message run wave trace frames picture candump check sweep help"
+    local commands="encode decode filter arbitrate message run wave trace frames picture candump check sweep live help"
     case $1 in
     '') echo "$commands -h --help -V --version" ;;
-    encode | decode | arbitrate | message | check) echo "-h --help" ;;
+    encode | decode | arbitrate | message | check | live) echo "-h --help" ;;
     run | wave | trace | frames) echo "--threads -h --help" ;;
     picture) echo "--svg --threads -h --help" ;;
     candump) echo "--errors --threads -h --help" ;;

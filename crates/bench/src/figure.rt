@@ -2,7 +2,9 @@
 
 use super::buses::{self, Traffic};
 use super::document::Document;
-use super::{contending, faults, hearing, idle, line, node, plans, sending, shift, stream};
+use super::{
+    contending, faults, hearing, idle, line, node, plans, sending, sessions, shift, stream, talk,
+};
 use std::alloc::Global;
 
 /// What can be timed.
@@ -44,10 +46,16 @@ pub enum Figure {
     Words,
     /// One that has tables in the place of nodes.
     Tables,
+    /// A register of a session is read by its address.
+    SessionRead,
+    /// A session of a sender and a receiver.
+    SessionStream,
+    /// A session is driven line by line.
+    Talk,
 }
 
 /// Every figure, in the order in which `all` tells them.
-pub const FIGURES: [Figure; 18] = [
+pub const FIGURES: [Figure; 21] = [
     Figure::Shift,
     Figure::Line,
     Figure::Node,
@@ -66,6 +74,9 @@ pub const FIGURES: [Figure; 18] = [
     Figure::Numbers,
     Figure::Words,
     Figure::Tables,
+    Figure::SessionRead,
+    Figure::SessionStream,
+    Figure::Talk,
 ];
 
 /// A sender and a receiver.
@@ -117,6 +128,9 @@ impl Figure {
             "numbers" => Some(Figure::Numbers),
             "words" => Some(Figure::Words),
             "tables" => Some(Figure::Tables),
+            "session-read" => Some(Figure::SessionRead),
+            "session-stream" => Some(Figure::SessionStream),
+            "talk" => Some(Figure::Talk),
             _ => None,
         }
     }
@@ -143,6 +157,9 @@ impl Figure {
             Figure::Numbers => plans::told(alloc, count, Document::Numbers),
             Figure::Words => plans::told(alloc, count, Document::Words),
             Figure::Tables => plans::told(alloc, count, Document::Tables),
+            Figure::SessionRead => sessions::reads_told(alloc, count),
+            Figure::SessionStream => sessions::frames_told(alloc, count / 10),
+            Figure::Talk => talk::told(alloc, count),
         }
     }
 }

@@ -3,7 +3,7 @@
 
 use sja_run::{CommandRefusal, Output, sja};
 use std::env;
-use std::io::{ErrorKind, IsTerminal};
+use std::io::{BufReader, ErrorKind, IsTerminal};
 use std::process::ExitCode;
 
 /// What the parser says of an argument that is no text.
@@ -21,11 +21,14 @@ fn main(rt: HostRuntime) -> ExitCode {
     let status = match env::args(&rt) {
         Ok(args) => match args.collect::<Vec<String>>(rt.alloc()) {
             Ok(words) => {
-                let mut input = rt.stdin();
-                if asks_for_plan(words.as_slice()) && input.is_terminal() {
+                let stdin = rt.stdin();
+                if asks_for_plan(words.as_slice()) && stdin.is_terminal() {
                     let _ = eprintln!(rt; "{WAITING}");
                 }
-                sja(&rt, rt.alloc(), &words, &mut input, &mut out, &mut err)
+                match BufReader::new(rt.alloc(), stdin) {
+                    Ok(mut input) => sja(&rt, rt.alloc(), &words, &mut input, &mut out, &mut err),
+                    Err(_) => err.refuse(CommandRefusal::OutOfMemory),
+                }
             }
             Err(_) => err.refuse(CommandRefusal::OutOfMemory),
         },

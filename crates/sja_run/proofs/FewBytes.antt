@@ -5,7 +5,7 @@ use Rattle.std.specs.Io.KnownBytes.{Consumes}
 use Rattle.std.proofs.KnownBytes.{Consumes-nil, Consumes-trans}
 use Rattle.sja_plan.specs.Plan.{PlanValue}
 use Rattle.sja_words.specs.Words.{Request, ParsesAs, encode, decode, filter, arbitrate, message, run, wave}
-use Rattle.sja_words.specs.Words.{trace, frames, picture, candump, check, sweep, struck_plan}
+use Rattle.sja_words.specs.Words.{trace, frames, picture, candump, check, sweep, struck_plan, live}
 use Rattle.sja_log.specs.declared.run_fault.RunFault.{RunFault}
 use Rattle.sja_threads.specs.Stopping.{IsFaultOf}
 use Rattle.sja_texts.specs.declared.command_refusal.CommandRefusal.{CommandRefusal}
@@ -149,6 +149,7 @@ few_printed check before after text (inl asks) printed = few_hinted before after
 few_printed (sweep w) before after text (inl asks) printed = few_of (IsSwept w) before after text printed
 few_printed (struck_plan node bit) before after text (inl asks) printed =
     few_of (IsStruck node bit) before after text printed
+few_printed live before after text (inl asks) printed = absurd printed
 few_printed (encode digits) before after text (inl asks) printed = absurd asks
 few_printed (decode digits) before after text (inl asks) printed = absurd asks
 few_printed (filter single acr amr digits) before after text (inl asks) printed = absurd asks
@@ -175,6 +176,7 @@ few_turned_down check before after why (inl asks) refused = few_unchecked before
 few_turned_down (sweep w) before after why (inl asks) refused = few_of_none (RefusesSwept w) before after why refused
 few_turned_down (struck_plan node bit) before after why (inl asks) refused =
     few_of_none (RefusesStruck node bit) before after why refused
+few_turned_down live before after why (inl asks) refused = refused.1
 few_turned_down (encode digits) before after why (inl asks) refused = absurd asks
 few_turned_down (decode digits) before after why (inl asks) refused = absurd asks
 few_turned_down (filter single acr amr digits) before after why (inl asks) refused = absurd asks

@@ -3,3 +3,4 @@ pub mod MostRead
 pub mod PlanRefusals
 pub mod RefusedMemory
 pub mod Requests
+pub mod Talks

@@ -4,15 +4,17 @@ use Rattle.std.proofs.Common.{Result, Ok, Err, IfOk}
 use Rattle.std.proofs.Math.Decide.{dec_lt}
 use Rattle.std.specs.Io.KnownBytes.{Keeps}
 use Rattle.sja_words.specs.Words.{Request, ParsesAs, encode, decode, filter, arbitrate, message, run, wave}
-use Rattle.sja_words.specs.Words.{trace, frames, picture, candump, check, sweep, struck_plan}
+use Rattle.sja_words.specs.Words.{trace, frames, picture, candump, check, sweep, struck_plan, live}
 use Rattle.sja_texts.specs.declared.command_refusal.CommandRefusal.TheVariants.{OutOfMemory}
 use Rattle.sja_texts.specs.declared.command_refusal.CommandRefusal.{CommandRefusal}
-use Rattle.sja_run.specs.Answer.{AsksForRun, AsksForThreads, IsPrinted, IsRefused, Shows, IsLeft}
-use Rattle.sja_run.specs.Answer.{request_for, request_left}
+use Rattle.sja_run.specs.Answer.{AsksForRun, IsLeftOver, IsPrinted, IsRefused, Shows, IsLeft}
+use Rattle.sja_run.specs.Answer.{request_for, request_left, request_over}
 use Rattle.sja_run.specs.Run.{IsOfPlan, RefusesRun, RefusesThreads}
 use Rattle.sja_run.specs.RunText.{IsTextOfRun}
 use Rattle.sja_run.specs.declared.run_text.RunText.{RunText}
 use Rattle.sja_run.specs.declared.run_text.RunText.TheVariants.{Report, Wave, Trace, Frames, Picture, Drawing, Candump}
+use Rattle.sja_run.specs.declared.left.Left.{Left}
+use Rattle.sja_run.specs.declared.left.Left.TheVariants.{Threads, Talk}
 use Rattle.sja_run.specs.declared.threaded.Threaded.{Threaded}
 use Rattle.sja_run.specs.declared.threaded.Threaded.TheVariants.{Text, Sweep}
 use Rattle.sja_run.specs.Input.{ReadsFew}
@@ -22,28 +24,29 @@ use Rattle.sja_run.proofs.RefusedMemory.{memory_refused}
 pub asks_one : (words : List (List ℕ)) (r q : Request) → ParsesAs words r → ParsesAs words q → r ≡ q
 asks_one words r q one other = cc (one.asks, other.asks)
 
--- threads are asked for, or they aren't
-pub is_threads : (r : Request) → AsksForThreads r ⊎ ¬ AsksForThreads r
-is_threads (run true) = inl tt
-is_threads (run false) = inr (λ asks. asks)
-is_threads (encode digits) = inr (λ asks. asks)
-is_threads (decode digits) = inr (λ asks. asks)
-is_threads (filter single acr amr digits) = inr (λ asks. asks)
-is_threads (arbitrate messages) = inr (λ asks. asks)
-is_threads (message given) = inr (λ asks. asks)
-is_threads (wave true) = inl tt
-is_threads (wave false) = inr (λ asks. asks)
-is_threads (trace true) = inl tt
-is_threads (trace false) = inr (λ asks. asks)
-is_threads (frames true) = inl tt
-is_threads (frames false) = inr (λ asks. asks)
-is_threads (picture first last svg true) = inl tt
-is_threads (picture first last svg false) = inr (λ asks. asks)
-is_threads (candump errors true) = inl tt
-is_threads (candump errors false) = inr (λ asks. asks)
-is_threads check = inr (λ asks. asks)
-is_threads (sweep w) = elim (dec_lt 1 w.jobs) [ yes more ↦ inl more | no not ↦ inr not ]
-is_threads (struck_plan node bit) = inr (λ asks. asks)
+-- it is left to another call, or it isn't
+pub is_left_over : (r : Request) → IsLeftOver r ⊎ ¬ IsLeftOver r
+is_left_over (run true) = inl tt
+is_left_over (run false) = inr (λ asks. asks)
+is_left_over (encode digits) = inr (λ asks. asks)
+is_left_over (decode digits) = inr (λ asks. asks)
+is_left_over (filter single acr amr digits) = inr (λ asks. asks)
+is_left_over (arbitrate messages) = inr (λ asks. asks)
+is_left_over (message given) = inr (λ asks. asks)
+is_left_over (wave true) = inl tt
+is_left_over (wave false) = inr (λ asks. asks)
+is_left_over (trace true) = inl tt
+is_left_over (trace false) = inr (λ asks. asks)
+is_left_over (frames true) = inl tt
+is_left_over (frames false) = inr (λ asks. asks)
+is_left_over (picture first last svg true) = inl tt
+is_left_over (picture first last svg false) = inr (λ asks. asks)
+is_left_over (candump errors true) = inl tt
+is_left_over (candump errors false) = inr (λ asks. asks)
+is_left_over check = inr (λ asks. asks)
+is_left_over (sweep w) = elim (dec_lt 1 w.jobs) [ yes more ↦ inl more | no not ↦ inr not ]
+is_left_over (struck_plan node bit) = inr (λ asks. asks)
+is_left_over live = inl tt
 
 -- whatever is left to threads asks about a plan
 pub asks_left : (left : Threaded) → AsksForRun (request_left left)
@@ -55,6 +58,22 @@ asks_left (Text (Picture first last)) = tt
 asks_left (Text (Drawing first last)) = tt
 asks_left (Text (Candump errors)) = tt
 asks_left (Sweep w) = tt
+
+-- and so does whatever is left to another call, or it asks for a talk
+pub asks_over : (left : Left) → AsksForRun (request_over left)
+asks_over (Threads threaded) = asks_left threaded
+asks_over Talk = tt
+
+-- a text of a run or a sweep is no talk
+pub is_no_talk : (left : Threaded) → ¬ (request_left left ≡ live)
+is_no_talk (Text Report) asks = cc
+is_no_talk (Text Wave) asks = cc
+is_no_talk (Text Trace) asks = cc
+is_no_talk (Text Frames) asks = cc
+is_no_talk (Text (Picture first last)) asks = cc
+is_no_talk (Text (Drawing first last)) asks = cc
+is_no_talk (Text (Candump errors)) asks = cc
+is_no_talk (Sweep w) asks = cc
 
 -- what is printed of a run in threads is what was left to them
 pub left_printed : (what : RunText) (before after : Option (List ℕ)) (text : List ℕ) →

@@ -2,7 +2,7 @@
 use Rattle.std.specs.Prelude.{◌≡◌, ◌⊎◌, ◌<◌, ℕ, Bool, true, false, List, Option, Some, None, Result, Ok, Err}
 use Rattle.std.specs.Io.KnownBytes.{Appends, Keeps}
 use Rattle.sja_words.specs.Words.{Request, encode, decode, filter, arbitrate, message, run, wave}
-use Rattle.sja_words.specs.Words.{trace, frames, picture, candump, check, sweep, struck_plan}
+use Rattle.sja_words.specs.Words.{trace, frames, picture, candump, check, sweep, struck_plan, live}
 use Rattle.sja_texts.specs.declared.command_refusal.CommandRefusal.{CommandRefusal}
 use Rattle.sja_texts.specs.declared.command_refusal.CommandRefusal.TheVariants as refusal
 use Rattle.sja_texts.specs.Arbitrate.{IsArbitration, RefusesMessages}
@@ -13,17 +13,19 @@ use Rattle.sja_texts.specs.Message.{RefusesMessage}
 use Rattle.sja_texts.specs.Notation.{IsTranslation, RefusesTranslation}
 use Rattle.sja_texts.specs.Refusal.{refusal_line}
 use Rattle.sja_run.specs.Check.{HasHints, HasMistake}
-use Rattle.sja_run.specs.Input.{RefusesInput}
+use Rattle.sja_run.specs.Input.{ReadsFew, RefusesInput}
 use Rattle.sja_run.specs.Run.{IsOfPlan, RefusesBy}
 use Rattle.sja_run.specs.RunText.{IsTextOfRun, MayFault}
 use Rattle.sja_run.specs.Sweep.{IsStruck, IsSwept, RefusesOfPlan, RefusesStruck, RefusesSwept}
+use Rattle.sja_run.specs.declared.left.Left.{Left}
+use Rattle.sja_run.specs.declared.left.Left.TheVariants.{Threads, Talk}
 use Rattle.sja_run.specs.declared.threaded.Threaded.{Threaded}
 use Rattle.sja_run.specs.declared.run_text.RunText.{RunText}
 use Rattle.sja_run.specs.declared.run_text.RunText.TheVariants.{Report, Wave, Trace, Frames, Picture, Drawing, Candump}
 use Rattle.sja_run.specs.declared.threaded.Threaded.TheVariants.{Text, Sweep}
 
--- a plan is asked about: a text of its run, whether it is one, its sweep, or the plan with a strike more. For these
--- alone the input is read
+-- a plan is asked about: a text of its run, whether it is one, its sweep, or the plan with a strike more; or a session
+-- is driven. For these alone the input is read
 abbrev pub AsksForRun : Request → Type 0
 AsksForRun (run threads) = Unit {0}
 AsksForRun (wave threads) = Unit {0}
@@ -34,6 +36,7 @@ AsksForRun (candump errors threads) = Unit {0}
 AsksForRun check = Unit {0}
 AsksForRun (sweep w) = Unit {0}
 AsksForRun (struck_plan node bit) = Unit {0}
+AsksForRun live = Unit {0}
 AsksForRun other = ⊥
 
 -- a text of a run is asked for, in threads or in one
@@ -46,16 +49,18 @@ AsksForText (picture first last svg threads) = Unit {0}
 AsksForText (candump errors threads) = Unit {0}
 AsksForText other = ⊥
 
--- threads are asked for: a run with each driver in a thread of its own, or a sweep in more than one thread
-abbrev pub AsksForThreads : Request → Type 0
-AsksForThreads (run true) = Unit {0}
-AsksForThreads (wave true) = Unit {0}
-AsksForThreads (trace true) = Unit {0}
-AsksForThreads (frames true) = Unit {0}
-AsksForThreads (picture first last svg true) = Unit {0}
-AsksForThreads (candump errors true) = Unit {0}
-AsksForThreads (sweep w) = 1 < w.jobs
-AsksForThreads other = ⊥
+-- it is left to another call: threads are asked for, for a run with each driver in a thread of its own or for a sweep
+-- in more than one, or a session is driven
+abbrev pub IsLeftOver : Request → Type 0
+IsLeftOver (run true) = Unit {0}
+IsLeftOver (wave true) = Unit {0}
+IsLeftOver (trace true) = Unit {0}
+IsLeftOver (frames true) = Unit {0}
+IsLeftOver (picture first last svg true) = Unit {0}
+IsLeftOver (candump errors true) = Unit {0}
+IsLeftOver (sweep w) = 1 < w.jobs
+IsLeftOver live = Unit {0}
+IsLeftOver other = ⊥
 
 -- a text of a run, in threads or in one, as what was asked for
 abbrev pub request_for : Bool → RunText → Request
@@ -77,8 +82,13 @@ abbrev pub request_left : Threaded → Request
 request_left (Text what) = request_for true what
 request_left (Sweep w) = sweep w
 
--- the exit status, where nothing is left to threads
-abbrev pub status_in : Result ℕ Threaded → Option ℕ
+-- what is left to another call, as what was asked for
+abbrev pub request_over : Left → Request
+request_over (Threads threaded) = request_left threaded
+request_over Talk = live
+
+-- the exit status, where nothing is left to another call
+abbrev pub status_in : Result ℕ Left → Option ℕ
 status_in (Ok status) = Some status
 status_in (Err left) = None
 
@@ -99,6 +109,7 @@ IsPrinted (candump errors threads) before after text = IsOfPlan (IsTextOfRun thr
 IsPrinted check before after text = HasHints before after text
 IsPrinted (sweep w) before after text = IsOfPlan (IsSwept w) before after text
 IsPrinted (struck_plan node bit) before after text = IsOfPlan (IsStruck node bit) before after text
+IsPrinted live before after text = ⊥
 
 -- the same, and why the request has no answer
 abbrev pub IsRefused : Request → Option (List ℕ) → Option (List ℕ) → CommandRefusal → Type 0
@@ -116,6 +127,7 @@ IsRefused (candump errors threads) before after r = RefusesBy (MayFault threads)
 IsRefused check before after r = RefusesInput before after r
 IsRefused (sweep w) before after r = RefusesOfPlan (RefusesSwept w) before after r
 IsRefused (struck_plan node bit) before after r = RefusesOfPlan (RefusesStruck node bit) before after r
+IsRefused live before after r = (r ≡ refusal.OutOfMemory) × ReadsFew before after
 
 -- The request, the exit status, and what the input, the output and the error output held before and hold after.
 -- Either the text is on the output and the status is 0; or the refusal's line, or what `check` says of a mistake, is on
@@ -131,8 +143,8 @@ Shows request status in_old in_new out_old out_new err_old err_new =
     ⊎ ((text : List ℕ) × (request ≡ check) × HasMistake in_old in_new text × (status ≡ Some 1) × Keeps out_old out_new
     × Appends err_old err_new text)
 
--- What the words ask for is left to threads: there is no status; or memory was refused, and where no write to the error
--- output failed it has that refusal's line.
+-- What the words ask for is left to another call: there is no status; or memory was refused, and where no write to the
+-- error output failed it has that refusal's line.
 abbrev pub IsLeft : Option ℕ → Bool → Option (List ℕ) → Option (List ℕ) → Type 0
 IsLeft status failed err_old err_new =
     (status ≡ None)

@@ -4,3 +4,4 @@ pub mod Run
 pub mod Check
 pub mod Sweep
 pub mod Answer
+pub mod Live

@@ -2,7 +2,7 @@
 
 ghost use Rattle.std.specs.Prelude.{◌≡◌, ◌⊎◌, IfOk, IfErr, false};
 ghost use Rattle.sja_words.specs.Words.{check, request_of};
-ghost use Rattle.sja_run.specs.Answer.{AsksForRun, AsksForText, AsksForThreads, IsPrinted, IsRefused, request_for};
+ghost use Rattle.sja_run.specs.Answer.{AsksForRun, AsksForText, IsLeftOver, IsPrinted, IsRefused, request_for};
 
 use super::run_text::{RunText, picture_or_drawing};
 use super::serial_text::written;
@@ -13,7 +13,7 @@ use sja_words::Task;
 use std::alloc::Global;
 use std::io::Read;
 
-/// The text that answers the task, which asks for no threads and isn't `check`. Only for a text of a run and for
+/// The text that answers the task, which isn't left to another call and isn't `check`. Only for a text of a run and for
 /// `sweep` the input is read.
 #[tactic(auto, using(crate::proofs::Requests::once_printed, crate::proofs::Requests::once_refused))]
 pub(crate) fn printed<R: Read>(
@@ -21,7 +21,7 @@ pub(crate) fn printed<R: Read>(
     task: Task<'_>,
     input: &mut R,
 ) -> Result<Vec<u8>, CommandRefusal>
-    requires alone { ¬ AsksForThreads (request_of task) }
+    requires alone { ¬ IsLeftOver (request_of task) }
     requires printed { ¬ (request_of task ≡ check) }
     ensures ok { IfOk result (λ text.
         IsPrinted (request_of task.entry) (R.remaining input.old) (R.remaining input.new) text.items) }
@@ -47,7 +47,7 @@ pub(crate) fn printed<R: Read>(
 
 /// What is written of a run for a task that asks for a text of one, in one thread.
 fn text_asked(task: &Task<'_>) -> RunText
-    requires alone { ¬ AsksForThreads (request_of task.now) }
+    requires alone { ¬ IsLeftOver (request_of task.now) }
     requires run { AsksForText (request_of task.now) }
     ensures { request_of task.now ≡ request_for false result }
 {

@@ -10,7 +10,8 @@
 //! `sja_serial`, `sja_svg` and the crates of these names. For `check` it explains the plan's first fault, or says what
 //! the run left out ([`mistake`], [`hints`]), by `sja_check`. For `sweep` it says what each single bit error does to
 //! the run ([`sweep`]), by `sja_sweep`, or writes the plan with a strike more ([`plan_text`]), by `sja_plan_text`. The
-//! texts of the other commands, and of each refusal, are those of `sja_texts`.
+//! texts of the other commands, and of each refusal, are those of `sja_texts`. What is left to threads, or to a talk by
+//! `sja_live`, is [`Left`]; [`sja`] does that too.
 //!
 //! Its tests stand in `crates/test_program/src/program`.
 #![tactic(auto)]
@@ -18,6 +19,8 @@
 mod answer;
 mod check;
 mod input;
+mod left;
+mod live;
 mod output;
 mod plan_check;
 mod program;
@@ -30,6 +33,7 @@ mod threaded;
 mod threaded_text;
 mod tries;
 
+pub use left::Left;
 pub use output::Output;
 pub use program::sja;
 pub use run_text::RunText;

@@ -1,10 +1,13 @@
 //! [`sja`]: the whole program over words, a reader and two writers.
 
 ghost use Rattle.std.specs.Prelude.{◌≡◌, ◌⊎◌, IfOk, IfErr, Some, false, true, map};
-ghost use Rattle.sja_words.specs.Words.{Request, ParsesAs};
+ghost use Rattle.sja_words.specs.Words.{Request, ParsesAs, live};
 ghost use Rattle.sja_run.specs.Answer.{AsksForRun, IsPrinted, IsRefused, IsTurnedAway, Shows, request_left};
 ghost use Rattle.sja_run.specs.Input.{ReadsFew};
+ghost use Rattle.sja_run.specs.Live.{ShowsTalk};
 
+use super::left::Left;
+use super::live::reply_live;
 use super::output::Output;
 use super::serial::sja_serial;
 use super::sweeps::told_sweep_jobs;
@@ -25,6 +28,7 @@ use std::thread::Threads;
 /// parser's own text.
 /// `input` is read for a text of a run, with `--threads` or without, and for `check` and `sweep` alone: at most one
 /// byte more of it than a plan may have that begins so, in at most 33,554,434 reads.
+/// For `live` it is read to the line that ends the talk, each line after the answer of the one before it.
 /// For `--threads`, and for `sweep --jobs` with more than one, alone it starts threads, and waits for them.
 /// The words, texts and statuses are this project's own rule.
 pub fn sja<T: Threads + Wait + Sync, S: AsStr, R: Read, O: Write, E: Write>(
@@ -35,24 +39,29 @@ pub fn sja<T: Threads + Wait + Sync, S: AsStr, R: Read, O: Write, E: Write>(
     out: &mut Output<O>,
     err: &mut Output<E>,
 ) -> u8
-    ensures answered { (r : Request) → ParsesAs (map S.text words.now) r
+    ensures answered { (r : Request) → ParsesAs (map S.text words.now) r → ¬ (r ≡ live)
         → out.new.failed ≡ false → err.new.failed ≡ false
         → Shows r (Some result) (R.remaining input.old) (R.remaining input.new)
+        (O.contents out.old.writer) (O.contents out.new.writer)
+        (E.contents err.old.writer) (E.contents err.new.writer) }
+    ensures talks { ParsesAs (map S.text words.now) live → out.new.failed ≡ false → err.new.failed ≡ false
+        → ShowsTalk result (R.remaining input.old) (R.remaining input.new)
         (O.contents out.old.writer) (O.contents out.new.writer)
         (E.contents err.old.writer) (E.contents err.new.writer) }
     ensures unparsed { ((r : Request) → ¬ ParsesAs (map S.text words.now) r)
         → out.new.failed ≡ false → err.new.failed ≡ false
         → IsTurnedAway (Some result) (E.contents err.old.writer) (E.contents err.new.writer) }
     ensures untouched { ((r : Request) → ¬ ParsesAs (map S.text words.now) r) → out.new ≡ out.old }
-    ensures one_writer { (out.new ≡ out.old) ⊎ (err.new ≡ err.old) }
+    ensures one_writer { ¬ ParsesAs (map S.text words.now) live → (out.new ≡ out.old) ⊎ (err.new ≡ err.old) }
     ensures failed { out.old.failed ≡ false → err.old.failed ≡ false
         → (out.new.failed ≡ true) ⊎ (err.new.failed ≡ true) → result ≡ 1 }
     ensures unread { ((r : Request) → ParsesAs (map S.text words.now) r → ¬ AsksForRun r) → input.new ≡ input.old }
-    ensures few { ReadsFew (R.remaining input.old) (R.remaining input.new) }
+    ensures few { ¬ ParsesAs (map S.text words.now) live → ReadsFew (R.remaining input.old) (R.remaining input.new) }
 {
     match sja_serial(alloc, words, input, out, err) {
         Ok(status) => status,
-        Err(threaded) => reply_threads(rt, alloc, threaded, input, out, err),
+        Err(Left::Talk) => reply_live(alloc, input, out, err),
+        Err(Left::Threads(threaded)) => reply_threads(rt, alloc, threaded, input, out, err),
     }
 }
 

@@ -2,12 +2,13 @@
 
 ghost use Rattle.std.specs.Prelude.{◌≡◌, ◌⊎◌, None, Some, IfSome, IfErr, false, true, map};
 ghost use Rattle.sja_words.specs.Words.{Request, ParsesAs, check, request_of};
-ghost use Rattle.sja_run.specs.Answer.{AsksForRun, AsksForThreads, Shows, IsLeft, IsTurnedAway, request_left};
+ghost use Rattle.sja_run.specs.Answer.{AsksForRun, IsLeftOver, Shows, IsLeft, IsTurnedAway, request_over};
 ghost use Rattle.sja_run.specs.Answer.{status_in};
 ghost use Rattle.sja_run.specs.Input.{ReadsFew};
 
 use super::answer::printed;
 use super::check::checked;
+use super::left::Left;
 use super::output::Output;
 use super::plan_check::PlanCheck;
 use super::run_text::{RunText, picture_or_drawing};
@@ -19,8 +20,8 @@ use std::convert::AsStr;
 use std::io::{Read, Write};
 
 /// The program, without threads: does what the words ask for, writes the text to `out` or one line to `err`, and
-/// answers the exit status. The first word is the program's name. Where the words ask for threads it answers for what,
-/// and nothing was read or written.
+/// answers the exit status. The first word is the program's name. Where the words ask for threads, or for a session
+/// that is driven, it answers for what, and nothing was read or written.
 ///
 /// The status is 0 where the text was written, 1 where an argument, the plan or memory was refused or a read or a write
 /// failed, and 2 where the words don't parse, or ask for help or the version; then `err` has the parser's own text.
@@ -34,8 +35,8 @@ pub fn sja_serial<S: AsStr, R: Read, O: Write, E: Write>(
     input: &mut R,
     out: &mut Output<O>,
     err: &mut Output<E>,
-) -> Result<u8, Threaded>
-    ensures answered { (r : Request) → ParsesAs (map S.text words.now) r → ¬ AsksForThreads r
+) -> Result<u8, Left>
+    ensures answered { (r : Request) → ParsesAs (map S.text words.now) r → ¬ IsLeftOver r
         → out.new.failed ≡ false → err.new.failed ≡ false
         → Shows r (status_in result) (R.remaining input.old) (R.remaining input.new)
         (O.contents out.old.writer) (O.contents out.new.writer)
@@ -44,11 +45,11 @@ pub fn sja_serial<S: AsStr, R: Read, O: Write, E: Write>(
         → out.new.failed ≡ false → err.new.failed ≡ false
         → IsTurnedAway (status_in result) (E.contents err.old.writer) (E.contents err.new.writer) }
     ensures untouched { ((r : Request) → ¬ ParsesAs (map S.text words.now) r) → out.new ≡ out.old }
-    ensures threads { (r : Request) → ParsesAs (map S.text words.now) r → AsksForThreads r
+    ensures threads { (r : Request) → ParsesAs (map S.text words.now) r → IsLeftOver r
         → IsLeft (status_in result) err.new.failed (E.contents err.old.writer) (E.contents err.new.writer)
         × (input.new ≡ input.old) × (out.new ≡ out.old) }
-    ensures left { IfErr result (λ threaded. ParsesAs (map S.text words.now) (request_left threaded)
-        × AsksForThreads (request_left threaded) × (err.new ≡ err.old)) }
+    ensures left { IfErr result (λ left. ParsesAs (map S.text words.now) (request_over left)
+        × IsLeftOver (request_over left) × (err.new ≡ err.old)) }
     ensures one_writer { (out.new ≡ out.old) ⊎ (err.new ≡ err.old) }
     ensures failed { out.old.failed ≡ false → err.old.failed ≡ false
         → (out.new.failed ≡ true) ⊎ (err.new.failed ≡ true) → status_in result ≡ Some 1 }
@@ -56,8 +57,8 @@ pub fn sja_serial<S: AsStr, R: Read, O: Write, E: Write>(
     ensures few { ReadsFew (R.remaining input.old) (R.remaining input.new) }
 {
     match parse(alloc, words) {
-        Ok(task) => match threads_for(&task) {
-            Some(threaded) => Err(threaded),
+        Ok(task) => match left_for(&task) {
+            Some(left) => Err(left),
             None => Ok(reply(alloc, task, input, out, err)),
         },
         Err(WordsFault::OutOfMemory) => Ok(err.refuse(CommandRefusal::OutOfMemory)),
@@ -65,33 +66,34 @@ pub fn sja_serial<S: AsStr, R: Read, O: Write, E: Write>(
     }
 }
 
-/// What a task asks for in threads; nothing where it doesn't.
-fn threads_for(task: &Task<'_>) -> Option<Threaded>
-    ensures some { IfSome result (λ threaded. (request_of task.now ≡ request_left threaded)
-        × AsksForThreads (request_left threaded)) }
-    ensures none { result ≡ None → ¬ AsksForThreads (request_of task.now) }
+/// What a task leaves to another call; nothing where it leaves none.
+fn left_for(task: &Task<'_>) -> Option<Left>
+    ensures some { IfSome result (λ left. (request_of task.now ≡ request_over left)
+        × IsLeftOver (request_over left)) }
+    ensures none { result ≡ None → ¬ IsLeftOver (request_of task.now) }
 {
     match task {
-        Task::Run { threads: true } => Some(Threaded::Text(RunText::Report)),
-        Task::Wave { threads: true } => Some(Threaded::Text(RunText::Wave)),
-        Task::Trace { threads: true } => Some(Threaded::Text(RunText::Trace)),
-        Task::Frames { threads: true } => Some(Threaded::Text(RunText::Frames)),
+        Task::Run { threads: true } => Some(Left::Threads(Threaded::Text(RunText::Report))),
+        Task::Wave { threads: true } => Some(Left::Threads(Threaded::Text(RunText::Wave))),
+        Task::Trace { threads: true } => Some(Left::Threads(Threaded::Text(RunText::Trace))),
+        Task::Frames { threads: true } => Some(Left::Threads(Threaded::Text(RunText::Frames))),
         Task::Picture {
             first,
             last,
             svg,
             threads: true,
-        } => Some(Threaded::Text(picture_or_drawing(*first, *last, *svg))),
+        } => Some(Left::Threads(Threaded::Text(picture_or_drawing(*first, *last, *svg)))),
         Task::Candump {
             errors,
             threads: true,
-        } => Some(Threaded::Text(RunText::Candump(*errors))),
-        Task::Sweep(words) if words.jobs > 1 => Some(Threaded::Sweep(*words)),
+        } => Some(Left::Threads(Threaded::Text(RunText::Candump(*errors)))),
+        Task::Sweep(words) if words.jobs > 1 => Some(Left::Threads(Threaded::Sweep(*words))),
+        Task::Live => Some(Left::Talk),
         _ => None,
     }
 }
 
-/// Does the task, which asks for no threads, and gives the exit status.
+/// Does the task, which isn't left to another call, and gives the exit status.
 #[tactic(auto, using(crate::proofs::FewBytes::few_printed, crate::proofs::FewBytes::few_turned_down))]
 fn reply<R: Read, O: Write, E: Write>(
     alloc: Global,
@@ -100,7 +102,7 @@ fn reply<R: Read, O: Write, E: Write>(
     out: &mut Output<O>,
     err: &mut Output<E>,
 ) -> u8
-    requires alone { ¬ AsksForThreads (request_of task) }
+    requires alone { ¬ IsLeftOver (request_of task) }
     ensures answered { out.new.failed ≡ false → err.new.failed ≡ false
         → Shows (request_of task.entry) (Some result) (R.remaining input.old) (R.remaining input.new)
         (O.contents out.old.writer) (O.contents out.new.writer)

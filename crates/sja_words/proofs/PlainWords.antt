@@ -2,7 +2,7 @@
 use Rattle.std.proofs.Common.{◌≡◌, ◌==◌, ℕ, List, [], ◌∷◌, codes, refl, false, true, Some}
 use Rattle.clap.proofs.OnLiterals.{clap_on_literals}
 use Rattle.clap.specs.declared.error.kind.ErrorKind.TheVariants.{DisplayVersion}
-use Rattle.sja_words.specs.Words.{Request, ParsesAs, decode, encode, message, run, wave, trace, frames, check}
+use Rattle.sja_words.specs.Words.{Request, ParsesAs, decode, encode, message, run, wave, trace, frames, check, live}
 use Rattle.sja_words.specs.Words.{asked, faults}
 
 -- `encode` and the empty text
@@ -123,6 +123,11 @@ frames_in_threads name = record { taken = refl; asks = refl }
 pub check_alone : (name : List ℕ) → ParsesAs (name ∷ codes "check" ∷ []) check
 unfolding clap_on_literals asked faults
 check_alone name = record { taken = refl; asks = refl }
+
+-- `live`
+pub live_alone : (name : List ℕ) → ParsesAs (name ∷ codes "live" ∷ []) live
+unfolding clap_on_literals asked faults
+live_alone name = record { taken = refl; asks = refl }
 
 -- `encode` and such a text, both together
 pub text : (name rest : List ℕ) (x : ℕ) → (x == 45) ≡ false →

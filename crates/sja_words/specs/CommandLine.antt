@@ -64,6 +64,10 @@ threads_app name = with_rule (new_app name) (flag_rule (codes "threads"))
 abbrev pub check_app : App
 check_app = new_app (codes "check")
 
+-- `live`, which has none either
+abbrev pub live_app : App
+live_app = new_app (codes "live")
+
 -- an option of this name, which takes a number in decimal digits, from the least to the most one
 abbrev pub number_rule : Text → ℕ → ℕ → Rule
 number_rule name least most = record (new_rule name) {
@@ -141,6 +145,6 @@ story_app =
 abbrev pub view_app : App
 view_app = with_subcommand (with_subcommand story_app picture_app.top) candump_app.top
 
--- the whole: those, `check` and `sweep`
+-- the whole: those, `check`, `sweep` and `live`
 abbrev pub sja_app : App
-sja_app = with_subcommand (with_subcommand view_app check_app.top) sweep_app.top
+sja_app = with_subcommand (with_subcommand (with_subcommand view_app check_app.top) sweep_app.top) live_app.top

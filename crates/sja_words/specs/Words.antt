@@ -10,6 +10,7 @@ use Rattle.clap.specs.Words.{Kinds, Row, Text, all_of, fault_of, first_of, subco
 use Rattle.sja_words.specs.declared.task.Task.{Task}
 use Rattle.sja_words.specs.declared.task.Task.TheVariants.{Encode, Decode, Filter, Arbitrate, Message, Run, Wave}
 use Rattle.sja_words.specs.declared.task.Task.TheVariants.{Trace, Frames, Picture, Candump, Check, Sweep, StruckPlan}
+use Rattle.sja_words.specs.declared.task.Task.TheVariants.{Live}
 use Rattle.sja_words.specs.declared.sweep_words.SweepWords.{SweepWords}
 use Rattle.sja_words.specs.CommandLine.{sja_app}
 
@@ -38,6 +39,7 @@ pub data Request : Type 0 where
   check : Request
   sweep : SweepWords → Request
   struck_plan : ℕ → ℕ → Request
+  live : Request
 
 -- a task as what it asks for
 abbrev pub request_of : Task → Request
@@ -53,6 +55,7 @@ request_of (Frames threads) = frames threads
 request_of (Picture first last svg threads) = picture first last svg threads
 request_of (Candump errors threads) = candump errors threads
 request_of Check = check
+request_of Live = live
 request_of (Sweep asked_for) = sweep asked_for
 request_of (StruckPlan node bit) = struck_plan node bit
 
@@ -213,6 +216,7 @@ request_by name rows =
     else if bytes_eq name (codes "candump") then candump_in rows
     else if bytes_eq name (codes "check") then Some check
     else if bytes_eq name (codes "sweep") then sweep_in rows
+    else if bytes_eq name (codes "live") then Some live
     else None
 
 -- what the subcommand that was found asks for

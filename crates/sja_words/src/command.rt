@@ -5,12 +5,12 @@ ghost use Rattle.clap.specs.Words.{app_of, rule_of};
 ghost use Rattle.clap.specs.declared.builder.command.Command.TheViews.{out-Command};
 ghost use Rattle.sja_words.specs.CommandLine.{text_rule, text_app, filter_app, arbitrate_app};
 ghost use Rattle.sja_words.specs.CommandLine.{empty_app, line_app, frame_app, notation_app};
-ghost use Rattle.sja_words.specs.CommandLine.{flag_rule, threads_app, check_app};
+ghost use Rattle.sja_words.specs.CommandLine.{flag_rule, threads_app, check_app, live_app};
 ghost use Rattle.sja_words.specs.CommandLine.{plan_app, story_app, view_app, sja_app};
 
 use super::help::{
-    ACR_HELP, AMR_HELP, FRAMES_ABOUT, LINE_HELP, MESSAGE_HELP, MODE_HELP, RUN_ABOUT, TEXT_HELP,
-    THREADS_HELP, TRACE_ABOUT, WAVE_ABOUT,
+    ACR_HELP, AMR_HELP, FRAMES_ABOUT, LINE_HELP, LIVE_ABOUT, MESSAGE_HELP, MODE_HELP, RUN_ABOUT,
+    TEXT_HELP, THREADS_HELP, TRACE_ABOUT, WAVE_ABOUT,
 };
 use super::picture_command::{candump_command, picture_command};
 use super::sweep_command::sweep_command;
@@ -159,6 +159,14 @@ fn check_command<'a>(alloc: Global) -> Command<'a>
     )
 }
 
+/// `live`.
+fn live_command<'a>(alloc: Global) -> Command<'a>
+    ensures app { app_of result ≡ live_app }
+    ensures local { (out-Command result).has_globals ≡ false }
+{
+    Command::new(alloc, "live").about(LIVE_ABOUT)
+}
+
 /// Those and the commands over the run of a plan.
 fn plan_command<'a>(alloc: Global) -> Result<Command<'a>, AllocError>
     ensures app { IfOk result (λ command. app_of command ≡ plan_app) }
@@ -195,5 +203,6 @@ pub(crate) fn sja_command<'a>(alloc: Global) -> Result<Command<'a>, AllocError>
 {
     view_command(alloc)?
         .subcommand(check_command(alloc))?
-        .subcommand(sweep_command(alloc)?)
+        .subcommand(sweep_command(alloc)?)?
+        .subcommand(live_command(alloc))
 }

@@ -46,6 +46,7 @@ fn task_by<'a>(name: &str, arguments: &ArgMatches<'a>) -> Option<Task<'a>>
         "candump" => Some(candump_task(arguments)),
         "check" => Some(Task::Check),
         "sweep" => sweep_task(arguments),
+        "live" => Some(Task::Live),
         _ => None,
     }
 }

@@ -16,6 +16,10 @@ pub(crate) const TRACE_ABOUT: &str =
 pub(crate) const FRAMES_ABOUT: &str =
     "Print the bits of each field of the frames in a run of the plan on standard input";
 
+/// `live`.
+pub(crate) const LIVE_ABOUT: &str =
+    "Drive a bus by lines on standard input, each answered by a line on standard output";
+
 /// `MESSAGE`.
 pub(crate) const MESSAGE_HELP: &str =
     "A message as the controller's buffers hold it, in hexadecimal";

@@ -3,7 +3,7 @@
 ghost use Rattle.std.specs.Prelude.{◌≡◌, ◌==◌, ◌<◌, ◌≤◌, ◌∷◌, [], ℕ, List, Some, None, codes, false, length, true};
 ghost use Rattle.sja_words.specs.Words.{HasNoFlag, ParsesAs, Request, arbitrate, decode, encode, filter, message};
 ghost use Rattle.clap.specs.declared.error.kind.ErrorKind.TheVariants.{DisplayVersion};
-ghost use Rattle.sja_words.specs.Words.{all_swept, candump, check, faults, frames, picture, run, struck_plan};
+ghost use Rattle.sja_words.specs.Words.{all_swept, candump, check, faults, frames, live, picture, run, struck_plan};
 ghost use Rattle.sja_words.specs.Words.{sweep, trace, wave};
 
 /// The program's name, `encode` and a text that doesn't begin with `-` (45) ask for the levels of this message.
@@ -112,6 +112,11 @@ pub fn candump_parses()
 /// The program's name and `check` ask for the first mistake in the plan on the input, or what its run left out.
 pub fn check_parses()
     ensures { (name : List ℕ) → ParsesAs (name ∷ codes "check" ∷ []) check }
+{}
+
+/// The program's name and `live` ask for a session that is driven by the lines of the input.
+pub fn live_parses()
+    ensures { (name : List ℕ) → ParsesAs (name ∷ codes "live" ∷ []) live }
 {}
 
 /// The program's name and `sweep` ask for a sweep of the plan on the input: of each node in each bit, where nothing

@@ -78,4 +78,6 @@ pub enum Task<'a> {
         /// The bit that is struck, counted from 0, at most 9,999,999.
         bit: u32,
     },
+    /// `live`: a session that is driven by the lines of the input.
+    Live,
 }

@@ -17,6 +17,7 @@ mod refused_memory;
 mod row;
 mod runs;
 mod sweeps;
+mod talks;
 mod threaded_texts;
 mod threads;
 mod traces;

@@ -1,0 +1,124 @@
+/* sja.h: a bus of one to eight SJA1000 controllers, which a program drives by its registers, bit by bit.
+ *
+ * Two files have these calls: the library, proved, in the process of the program; and sja_pipe.c, over a process of
+ * its own. docs/C.md has a first program, what each call does, and what is proved of it.
+ *
+ * What a caller owes: a handle comes from sja_new, and isn't used after sja_free; one thread at a time is in a call of
+ * a session; a pointer to a text or a plan has so many bytes behind it as the length says, and isn't null. A handle
+ * that is null is answered with SJA_NO_HANDLE. Each number may be any.
+ */
+#ifndef SJA_H
+#define SJA_H
+
+#include <stddef.h>
+#include <stdint.h>
+#include <stdlib.h>
+
+#ifdef __cplusplus
+extern "C" {
+#endif
+
+/* A session: its controllers, its bus, and what was done so far. */
+typedef struct sja sja;
+
+/* How a call went. A call that isn't done changes nothing, but that sja_report has ended the session all the same. Of
+ * several reasons the first of these is told. */
+enum sja_status {
+    SJA_DONE = 0,
+    SJA_NO_HANDLE = 1,    /* the handle is null */
+    SJA_ENDED = 2,        /* the session has ended: sja_report ends it */
+    SJA_NO_VERSION = 3,   /* the version isn't one from 1 to 3 */
+    SJA_NO_BITS = 4,      /* the number of bits isn't one that a session of it may have */
+    SJA_NO_NODES = 5,     /* the number of nodes isn't one from 1 to 8 */
+    SJA_NO_ADDRESS = 6,   /* the address is past 255 */
+    SJA_NO_BYTE = 7,      /* the value is past 255 */
+    SJA_NO_NODE = 8,      /* there is no such node */
+    SJA_NO_BIT = 9,       /* the session's bits end before this one */
+    SJA_PAST = 10,        /* the bit has run */
+    SJA_STEPS_USED = 11,  /* fewer steps of the node are left than the access is: a read is one, a write up to three */
+    SJA_TURNS_USED = 12,  /* as many turns were taken as a session has */
+    SJA_STRIKES_USED = 13,/* as many strikes were taken as a session has */
+    SJA_NO_PLAN = 14,     /* the bytes are no plan */
+    SJA_NO_DOCUMENT = 15, /* no document says the plan, or it would be too long */
+    SJA_NO_ROOM = 16,     /* the text doesn't fit: the value is the size that it needs, with the NUL at its end */
+    SJA_NO_MEMORY = 17,   /* memory was refused */
+    SJA_BROKEN = 18       /* sja_pipe.c alone: the process of the session can't be started, or doesn't answer */
+};
+
+/* What a call answers: how it went, and a number. The number is 0 where nothing else is said. */
+typedef struct sja_answer {
+    uint32_t status;
+    uint64_t value;
+} sja_answer;
+
+/* Makes the place of a session, and puts its handle into *session. There is no session in it, as if it had ended.
+ * Where memory is refused *session is null. */
+sja_answer sja_make(sja **session);
+
+/* Begins a session to which nothing happened at a handle, in place of what stands there: by a version of the rules, of
+ * at most so many bits, with so many nodes. */
+sja_answer sja_begin(sja *session, uint32_t version, uint32_t bits, uint32_t nodes);
+
+/* Reads an address of a node, counted from 0: any of the 256. The value is the byte. No bit runs. */
+sja_answer sja_read(sja *session, uint32_t node, uint32_t address);
+
+/* Writes a byte to an address of a node. No bit runs. */
+sja_answer sja_write(sja *session, uint32_t node, uint32_t address, uint32_t value);
+
+/* Runs so many bits, or as many as are left, or up to the first bit in which the interrupt line of a watched node
+ * rises: node K is watched where bit K of watch is 1. The value is how many were run. */
+sja_answer sja_bits(sja *session, uint32_t count, uint32_t watch);
+
+/* Whether the interrupt line of a node is active: the value is 1 or 0. It clears nothing. */
+sja_answer sja_irq(sja *session, uint32_t node);
+
+/* Has a node see the other level in a bit that hasn't run, counted from 0. */
+sja_answer sja_strike(sja *session, uint32_t node, uint32_t bit);
+
+/* The value is how many bits were run: the number of the next one. */
+sja_answer sja_now(sja *session);
+
+/* Ends the session, and puts the report of all that happened into the text, with a NUL at its end. The value is the
+ * length without it. It can be called again. */
+sja_answer sja_report(sja *session, char *text, size_t size);
+
+/* Puts the plan that the session wrote so far into the text, with a NUL at its end: `sja run` takes it. The value is
+ * the length without it. */
+sja_answer sja_plan(sja *session, char *text, size_t size);
+
+/* Lets go of all that the session has in memory, but for the block at the handle. It has ended then, without its plan
+ * and its report. */
+sja_answer sja_let_go(sja *session);
+
+/* Runs a plan, and puts its report into the text, with a NUL at its end. The value is the length without it. */
+sja_answer sja_run_plan(const char *plan, size_t length, char *text, size_t size);
+
+/* Makes a session to which nothing happened, by a version of the rules, of at most so many bits, with so many nodes,
+ * and puts its handle into *session. Where there is none, *session is null. */
+static inline sja_answer sja_new(uint32_t version, uint32_t bits, uint32_t nodes, sja **session)
+{
+    sja_answer told = sja_make(session);
+
+    if (told.status == SJA_DONE)
+        told = sja_begin(*session, version, bits, nodes);
+    if (told.status != SJA_DONE) {
+        free(*session);
+        *session = NULL;
+    }
+    return told;
+}
+
+/* Lets go of a session, and gives its block back. The handle is of no use after it. */
+static inline sja_answer sja_free(sja *session)
+{
+    sja_answer told = sja_let_go(session);
+
+    free(session);
+    return told;
+}
+
+#ifdef __cplusplus
+}
+#endif
+
+#endif

@@ -1,0 +1,574 @@
+/* sja_pipe.c: the calls of sja.h over a process of its own. It starts `sja live`, and each call is a line to it and a
+ * line back. What a driver does to its own memory does nothing to the session, and a session can be started beside any
+ * program. For Linux and other POSIX systems.
+ *
+ * The environment variable SJA names the program; without it it is `sja` on the path. Where SIGPIPE has no handler
+ * sja_new has it ignored, so that a session's end is told by SJA_BROKEN and doesn't end the program.
+ */
+#define _POSIX_C_SOURCE 200809L
+
+#include "sja.h"
+
+#include <errno.h>
+#include <fcntl.h>
+#include <signal.h>
+#include <stdio.h>
+#include <stdlib.h>
+#include <string.h>
+#include <sys/types.h>
+#include <sys/wait.h>
+#include <unistd.h>
+
+/* A line has at most 64 bytes each way, but for those of a plan. A number has at most seven digits. */
+enum { LINE = 128, BYTES = 4096, GREATEST = 9999999 };
+
+/* A text that is read to its end. */
+struct text {
+    char *bytes;
+    size_t length;
+    size_t room;
+};
+
+struct sja {
+    pid_t process;
+    int to;
+    int from;
+    char held[BYTES];       /* what was read and isn't used yet */
+    size_t first;
+    size_t count;
+    uint32_t bits;
+    uint32_t nodes;
+    int ended;
+    uint32_t plan_status;
+    uint32_t report_status;
+    struct text plan;
+    struct text report;
+};
+
+static sja_answer answer(uint32_t status, uint64_t value)
+{
+    return (sja_answer){ .status = status, .value = value };
+}
+
+static uint32_t at_most(uint32_t number, uint32_t most)
+{
+    return number < most ? number : most;
+}
+
+/* ---- the process */
+
+static void ignore_broken_pipes(void)
+{
+    struct sigaction action;
+
+    if (sigaction(SIGPIPE, NULL, &action) == 0 && !(action.sa_flags & SA_SIGINFO) && action.sa_handler == SIG_DFL) {
+        action.sa_handler = SIG_IGN;
+        sigaction(SIGPIPE, &action, NULL);
+    }
+}
+
+/* Starts the program with one word, its input and output at pipes, and no place for what it says of errors. Its number,
+ * or -1. */
+static pid_t start(const char *word, int *to, int *from)
+{
+    int in[2], out[2];
+    pid_t process;
+    const char *program = getenv("SJA");
+
+    ignore_broken_pipes();
+    if (pipe(in) != 0)
+        return -1;
+    if (pipe(out) != 0) {
+        close(in[0]);
+        close(in[1]);
+        return -1;
+    }
+    fcntl(in[1], F_SETFD, FD_CLOEXEC);
+    fcntl(out[0], F_SETFD, FD_CLOEXEC);
+    process = fork();
+    if (process == 0) {
+        int none = open("/dev/null", O_WRONLY);
+
+        dup2(in[0], 0);
+        dup2(out[1], 1);
+        dup2(none, 2);
+        close(in[0]);
+        close(out[1]);
+        execlp(program != NULL ? program : "sja", "sja", word, (char *)NULL);
+        _exit(127);
+    }
+    close(in[0]);
+    close(out[1]);
+    if (process < 0) {
+        close(in[1]);
+        close(out[0]);
+        return -1;
+    }
+    *to = in[1];
+    *from = out[0];
+    return process;
+}
+
+/* Waits for the end of a process. Its status, or -1 where it has none. */
+static int finished(pid_t process)
+{
+    int status;
+
+    while (waitpid(process, &status, 0) < 0)
+        if (errno != EINTR)
+            return -1;
+    return WIFEXITED(status) ? WEXITSTATUS(status) : -1;
+}
+
+static int write_all(int to, const char *bytes, size_t length)
+{
+    while (length > 0) {
+        ssize_t written = write(to, bytes, length);
+
+        if (written < 0 && errno == EINTR)
+            continue;
+        if (written <= 0)
+            return 0;
+        bytes += written;
+        length -= (size_t)written;
+    }
+    return 1;
+}
+
+/* ---- texts */
+
+static int text_add(struct text *text, const char *bytes, size_t length)
+{
+    if (text->room - text->length <= length) {
+        size_t room = 2 * (text->length + length) + BYTES;
+        char *grown = realloc(text->bytes, room);
+
+        if (grown == NULL)
+            return 0;
+        text->bytes = grown;
+        text->room = room;
+    }
+    memcpy(text->bytes + text->length, bytes, length);
+    text->length += length;
+    return 1;
+}
+
+static void text_free(struct text *text)
+{
+    free(text->bytes);
+    *text = (struct text){ 0 };
+}
+
+/* Puts a text into the caller's, with a NUL at its end. */
+static sja_answer text_put(const struct text *text, char *into, size_t size)
+{
+    if (text->length >= size)
+        return answer(SJA_NO_ROOM, text->length + 1);
+    if (text->length > 0)
+        memcpy(into, text->bytes, text->length);
+    into[text->length] = '\0';
+    return answer(SJA_DONE, text->length);
+}
+
+/* ---- lines */
+
+/* Has at least one byte at hand. Whether there is one. */
+static int fill(sja *session)
+{
+    ssize_t count;
+
+    if (session->count > 0)
+        return 1;
+    do
+        count = read(session->from, session->held, BYTES);
+    while (count < 0 && errno == EINTR);
+    if (count <= 0)
+        return 0;
+    session->first = 0;
+    session->count = (size_t)count;
+    return 1;
+}
+
+/* Takes bytes up to the end of a line, or all that are at hand. How many, and where they are. */
+static size_t take(sja *session, const char **bytes, int *whole)
+{
+    size_t length = 0;
+
+    *bytes = session->held + session->first;
+    *whole = 0;
+    while (length < session->count && !*whole)
+        *whole = (*bytes)[length++] == '\n';
+    session->first += length;
+    session->count -= length;
+    return length;
+}
+
+/* The next line without its end. Whether there is one that isn't longer than a line may be. */
+static int hear(sja *session, char *line)
+{
+    size_t length = 0;
+    int whole = 0;
+
+    while (!whole) {
+        const char *bytes;
+        size_t count;
+
+        if (!fill(session))
+            return 0;
+        count = take(session, &bytes, &whole);
+        if (length + count >= LINE)
+            return 0;
+        memcpy(line + length, bytes, count);
+        length += count;
+    }
+    line[length - 1] = '\0';
+    return 1;
+}
+
+/* Says a line, and hears the one back. Whether both were done. */
+static int ask(sja *session, const char *said, char *heard)
+{
+    return write_all(session->to, said, strlen(said)) && hear(session, heard);
+}
+
+/* Whether a line begins with a word, and the number behind it. */
+static int tells(const char *line, const char *word, int base, uint64_t *number)
+{
+    size_t length = strlen(word);
+    char *end;
+
+    if (strncmp(line, word, length) != 0 || line[length] != ' ')
+        return 0;
+    *number = strtoull(line + length + 1, &end, base);
+    return end != line + length + 1;
+}
+
+/* What a line says that isn't an answer of its call. */
+static sja_answer refused(const char *line)
+{
+    static const struct { const char *line; uint32_t status; } lines[] = {
+        { "no VERSION", SJA_NO_VERSION }, { "no BITS", SJA_NO_BITS }, { "no NODES", SJA_NO_NODES },
+        { "no NODE", SJA_NO_NODE }, { "no ADDRESS", SJA_NO_ADDRESS }, { "no BYTE", SJA_NO_BYTE },
+        { "no BIT", SJA_PAST }, { "full STEPS", SJA_STEPS_USED }, { "full TURNS", SJA_TURNS_USED },
+        { "full STRIKES", SJA_STRIKES_USED }, { "full PLAN", SJA_NO_DOCUMENT },
+    };
+
+    for (size_t i = 0; i < sizeof lines / sizeof *lines; i++)
+        if (strcmp(line, lines[i].line) == 0)
+            return answer(lines[i].status, 0);
+    return answer(SJA_BROKEN, 0);
+}
+
+/* ---- the calls */
+
+/* There is no session: as where one has ended, and there was no memory for its log. */
+static void leave_none(sja *session)
+{
+    *session = (sja){ .ended = 1, .plan_status = SJA_NO_MEMORY, .report_status = SJA_NO_MEMORY, .to = -1, .from = -1 };
+}
+
+/* Ends the process of a session, and drops its texts. */
+static void drop(sja *session)
+{
+    if (session->to >= 0) {
+        close(session->to);
+        close(session->from);
+        finished(session->process);
+    }
+    text_free(&session->plan);
+    text_free(&session->report);
+}
+
+sja_answer sja_make(sja **session)
+{
+    *session = malloc(sizeof **session);
+    if (*session == NULL)
+        return answer(SJA_NO_MEMORY, 0);
+    leave_none(*session);
+    return answer(SJA_DONE, 0);
+}
+
+sja_answer sja_begin(sja *session, uint32_t version, uint32_t bits, uint32_t nodes)
+{
+    char said[LINE], heard[LINE];
+    sja made = { .bits = bits, .nodes = nodes };
+    sja_answer told;
+
+    if (session == NULL)
+        return answer(SJA_NO_HANDLE, 0);
+    made.process = start("live", &made.to, &made.from);
+    if (made.process < 0)
+        return answer(SJA_BROKEN, 0);
+    snprintf(said, sizeof said, "live %u %u %u\n", (unsigned)at_most(version, GREATEST),
+             (unsigned)at_most(bits, GREATEST), (unsigned)at_most(nodes, GREATEST));
+    if (!ask(&made, said, heard))
+        told = answer(SJA_BROKEN, 0);
+    else
+        told = strcmp(heard, "ok") == 0 ? answer(SJA_DONE, 0) : refused(heard);
+    if (told.status != SJA_DONE) {
+        drop(&made);
+        return told;
+    }
+    drop(session);
+    *session = made;
+    return told;
+}
+
+/* Why a call of a node can't be asked for. */
+static uint32_t is_askable(const sja *session, uint32_t node)
+{
+    if (session == NULL)
+        return SJA_NO_HANDLE;
+    if (session->ended)
+        return SJA_ENDED;
+    return node < session->nodes ? SJA_DONE : SJA_NO_NODE;
+}
+
+sja_answer sja_read(sja *session, uint32_t node, uint32_t address)
+{
+    char said[LINE], heard[LINE];
+    uint32_t status = is_askable(session, node);
+    uint64_t value;
+
+    if (status == SJA_NO_HANDLE || status == SJA_ENDED)
+        return answer(status, 0);
+    if (address > 255)
+        return answer(SJA_NO_ADDRESS, 0);
+    if (status != SJA_DONE)
+        return answer(status, 0);
+    snprintf(said, sizeof said, "read %u %u\n", (unsigned)node, (unsigned)address);
+    if (!ask(session, said, heard))
+        return answer(SJA_BROKEN, 0);
+    return tells(heard, "value", 16, &value) ? answer(SJA_DONE, value) : refused(heard);
+}
+
+sja_answer sja_write(sja *session, uint32_t node, uint32_t address, uint32_t value)
+{
+    char said[LINE], heard[LINE];
+    uint32_t status = is_askable(session, node);
+
+    if (status == SJA_NO_HANDLE || status == SJA_ENDED)
+        return answer(status, 0);
+    if (address > 255 || value > 255)
+        return answer(address > 255 ? SJA_NO_ADDRESS : SJA_NO_BYTE, 0);
+    if (status != SJA_DONE)
+        return answer(status, 0);
+    snprintf(said, sizeof said, "write %u %u %02x\n", (unsigned)node, (unsigned)address, (unsigned)value);
+    if (!ask(session, said, heard))
+        return answer(SJA_BROKEN, 0);
+    return strcmp(heard, "ok") == 0 ? answer(SJA_DONE, 0) : refused(heard);
+}
+
+/* The interrupt lines that are active, a bit a node. */
+static sja_answer lines(sja *session)
+{
+    char heard[LINE];
+    uint64_t active;
+
+    if (!ask(session, "line\n", heard))
+        return answer(SJA_BROKEN, 0);
+    return tells(heard, "line", 16, &active) ? answer(SJA_DONE, active) : refused(heard);
+}
+
+/* Runs up to the first bit in which some line rises. How many bits were run, and the lines that are active then; `none`
+ * where no line rose. */
+static sja_answer run(sja *session, uint32_t count, uint64_t *active, int *none)
+{
+    char said[LINE], heard[LINE];
+    uint64_t run;
+    const char *line;
+
+    snprintf(said, sizeof said, "run %u\n", (unsigned)count);
+    if (!ask(session, said, heard))
+        return answer(SJA_BROKEN, 0);
+    if (!tells(heard, "ran", 10, &run))
+        return refused(heard);
+    line = strstr(heard, " line ");
+    *none = line == NULL || !tells(line + 1, "line", 16, active);
+    return answer(SJA_DONE, run);
+}
+
+sja_answer sja_bits(sja *session, uint32_t count, uint32_t watch)
+{
+    sja_answer before = answer(SJA_DONE, 0), told;
+    uint32_t status = is_askable(session, 0);
+    uint64_t total = 0, active = 0;
+    int none = 0;
+
+    if (status != SJA_DONE)
+        return answer(status, 0);
+    count = at_most(count, GREATEST);
+    if (watch != 0)
+        before = lines(session);
+    if (before.status != SJA_DONE)
+        return before;
+    do {
+        told = run(session, count - (uint32_t)total, &active, &none);
+        if (told.status != SJA_DONE)
+            return told;
+        total += told.value;
+        if (!none && (active & ~before.value & watch))
+            break;
+        before.value = active;
+    } while (!none && total < count);
+    return answer(SJA_DONE, total);
+}
+
+sja_answer sja_irq(sja *session, uint32_t node)
+{
+    uint32_t status = is_askable(session, node);
+    sja_answer active;
+
+    if (status != SJA_DONE)
+        return answer(status, 0);
+    active = lines(session);
+    return active.status == SJA_DONE ? answer(SJA_DONE, active.value >> node & 1) : active;
+}
+
+sja_answer sja_strike(sja *session, uint32_t node, uint32_t bit)
+{
+    char said[LINE], heard[LINE];
+    uint32_t status = is_askable(session, node);
+
+    if (status != SJA_DONE)
+        return answer(status, 0);
+    if (bit >= session->bits)
+        return answer(SJA_NO_BIT, 0);
+    snprintf(said, sizeof said, "strike %u %u\n", (unsigned)node, (unsigned)bit);
+    if (!ask(session, said, heard))
+        return answer(SJA_BROKEN, 0);
+    return strcmp(heard, "ok") == 0 ? answer(SJA_DONE, 0) : refused(heard);
+}
+
+sja_answer sja_now(sja *session)
+{
+    char heard[LINE];
+    uint32_t status = is_askable(session, 0);
+    uint64_t now;
+
+    if (status != SJA_DONE)
+        return answer(status, 0);
+    if (!ask(session, "bits\n", heard))
+        return answer(SJA_BROKEN, 0);
+    return tells(heard, "bits", 10, &now) ? answer(SJA_DONE, now) : refused(heard);
+}
+
+/* Reads the plan so far into the session's text. Where there is no memory for it the answer is heard to its end all the
+ * same. */
+static uint32_t read_plan(sja *session)
+{
+    static const char too_long[] = "full PLAN\n";
+    const char *said = "plan\n";
+    uint32_t status = SJA_DONE;
+    int begins = 1;
+
+    text_free(&session->plan);
+    if (!write_all(session->to, said, strlen(said)))
+        return SJA_BROKEN;
+    for (;;) {
+        const char *bytes;
+        size_t count;
+        int whole, was = begins;
+
+        if (!fill(session))
+            return SJA_BROKEN;
+        count = take(session, &bytes, &whole);
+        begins = whole;
+        if (was && whole && count == 2 && bytes[0] == '.')
+            return status;
+        if (status == SJA_DONE && !text_add(&session->plan, bytes, count)) {
+            text_free(&session->plan);
+            status = SJA_NO_MEMORY;
+        }
+        if (whole && session->plan.length == sizeof too_long - 1
+            && memcmp(session->plan.bytes, too_long, sizeof too_long - 1) == 0) {
+            text_free(&session->plan);
+            return SJA_NO_DOCUMENT;
+        }
+    }
+}
+
+/* Ends the session, and reads its report. */
+static uint32_t read_report(sja *session)
+{
+    const char *said = "end\n";
+
+    session->plan_status = read_plan(session);
+    session->ended = 1;
+    if (!write_all(session->to, said, strlen(said)))
+        return SJA_BROKEN;
+    while (fill(session)) {
+        if (!text_add(&session->report, session->held + session->first, session->count))
+            return SJA_NO_MEMORY;
+        session->count = 0;
+    }
+    return session->report.length > 0 ? SJA_DONE : SJA_NO_MEMORY;
+}
+
+sja_answer sja_report(sja *session, char *text, size_t size)
+{
+    if (session == NULL)
+        return answer(SJA_NO_HANDLE, 0);
+    if (!session->ended)
+        session->report_status = read_report(session);
+    if (session->report_status != SJA_DONE)
+        return answer(session->report_status, 0);
+    return text_put(&session->report, text, size);
+}
+
+sja_answer sja_plan(sja *session, char *text, size_t size)
+{
+    if (session == NULL)
+        return answer(SJA_NO_HANDLE, 0);
+    if (!session->ended)
+        session->plan_status = read_plan(session);
+    if (session->plan_status != SJA_DONE)
+        return answer(session->plan_status, 0);
+    return text_put(&session->plan, text, size);
+}
+
+sja_answer sja_let_go(sja *session)
+{
+    if (session == NULL)
+        return answer(SJA_NO_HANDLE, 0);
+    drop(session);
+    leave_none(session);
+    return answer(SJA_DONE, 0);
+}
+
+/* What became of a run whose program ended with this status: 1 says that the bytes are no plan. */
+static uint32_t run_status(int status)
+{
+    return status == 0 ? SJA_DONE : status == 1 ? SJA_NO_PLAN : SJA_BROKEN;
+}
+
+sja_answer sja_run_plan(const char *plan, size_t length, char *text, size_t size)
+{
+    struct text report = { 0 };
+    char bytes[BYTES];
+    ssize_t count;
+    int to, from, kept = 1;
+    pid_t process = start("run", &to, &from);
+    uint32_t status;
+    sja_answer told;
+
+    if (process < 0)
+        return answer(SJA_BROKEN, 0);
+    /* A program that refuses the plan may leave some of it unread. */
+    write_all(to, plan, length);
+    close(to);
+    while ((count = read(from, bytes, BYTES)) != 0) {
+        if (count < 0 && errno != EINTR)
+            break;
+        if (count > 0 && kept)
+            kept = text_add(&report, bytes, (size_t)count);
+    }
+    close(from);
+    status = run_status(finished(process));
+    if (status != SJA_DONE)
+        told = answer(status, 0);
+    else
+        told = kept ? text_put(&report, text, size) : answer(SJA_NO_MEMORY, 0);
+    text_free(&report);
+    return told;
+}

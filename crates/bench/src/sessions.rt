@@ -1,0 +1,80 @@
+//! The figures of sessions: registers are read by address, and frames pass between two drivers of addresses and bytes.
+
+use sja_session::RawSession;
+use std::alloc::Global;
+
+/// How many registers are read in one session: a document has room for 65,535 steps of a node.
+const READS: u32 = 50_000;
+
+/// The bits of the longest kind of frame with intermission, and the bit in which it is asked for again.
+const BITS: u32 = 145;
+
+/// The bits in which started nodes wait for the bus.
+const WAITING: u32 = 11;
+
+/// How many frames pass in one session.
+const FRAMES: u32 = 1_300;
+
+/// The transmit buffer of an extended data frame with eight data bytes, from address 16 on.
+const FRAME: [u8; 13] = [
+    0x88, 0x91, 0xa2, 0xb3, 0xc0, 0x11, 0x22, 0x33, 0x44, 0x55, 0x66, 0x77, 0x88,
+];
+
+/// Has SR of the second of two nodes read so many times.
+pub fn reads_told(alloc: Global, count: u32) -> Option<String> {
+    let mut sum = 0u64;
+    for _ in 0..count / READS {
+        sum = sum.wrapping_add(sum_of_reads(alloc, READS)?);
+    }
+    sum = sum.wrapping_add(sum_of_reads(alloc, count % READS)?);
+    format!(in alloc; "accesses {count} sum {sum}").ok()
+}
+
+/// The sum of what so many reads of SR answer.
+fn sum_of_reads(alloc: Global, count: u32) -> Option<u64> {
+    let mut session = RawSession::new(alloc, 3, 100, 2).ok()?;
+    let mut sum = 0u64;
+    for _ in 0..count {
+        sum = sum.wrapping_add(u64::from(session.read(1, 2).ok()?));
+    }
+    Some(sum)
+}
+
+/// Lets the bits of so many frames pass. Before each the first driver asks for one, and after it the second one
+/// releases it.
+pub fn frames_told(alloc: Global, count: u32) -> Option<String> {
+    let mut released = 0u64;
+    for _ in 0..count / FRAMES {
+        released = released.wrapping_add(released_of(alloc, FRAMES)?);
+    }
+    released = released.wrapping_add(released_of(alloc, count % FRAMES)?);
+    let bits = u64::from(count).wrapping_mul(u64::from(2 * BITS));
+    format!(in alloc; "bits {bits} released {released}").ok()
+}
+
+/// How many frames the second driver found and released in a session of so many frames.
+fn released_of(alloc: Global, frames: u32) -> Option<u64> {
+    let bits = frames.checked_mul(BITS)?.checked_add(WAITING)?;
+    let mut session = RawSession::new(alloc, 3, bits, 2).ok()?;
+    session.write(0, 0, 0x00).ok()?;
+    session.write(1, 0, 0x00).ok()?;
+    session.bits(WAITING).ok()?;
+    let mut released = 0u64;
+    for _ in 0..frames {
+        ask(&mut session)?;
+        session.bits(BITS).ok()?;
+        if session.read(1, 2).ok()? & 0x01 != 0 {
+            session.write(1, 1, 0x04).ok()?;
+            released = released.wrapping_add(1);
+        }
+    }
+    Some(released)
+}
+
+/// Has the first driver write the transmit buffer and request its transmission.
+fn ask(session: &mut RawSession) -> Option<()> {
+    for place in 0..FRAME.len() {
+        session.write(0, 16 + place as u8, FRAME[place]).ok()?;
+    }
+    session.write(0, 1, 0x01).ok()
+}

@@ -1,0 +1,82 @@
+-- What each function of C answers of a session that lies at a handle, and what it makes of that (this project's own
+-- rule): it is done as a call of `crates/sja_calls` is, or it isn't, and then the session is as it was.
+use Rattle.std.specs.Prelude.{◌≡◌, ◌≤◌, ◌==◌, ℕ, Option, List}
+use Rattle.sja_c.specs.Answers.{Answers, answer}
+use Rattle.sja_c.specs.declared.answer.SjaAnswer.{SjaAnswer}
+use Rattle.sja_calls.specs.Beginnings.{IsNew, IsNoSession}
+use Rattle.sja_calls.specs.Calls.{IsRefusal, ReadsOf, IsReadFault, WritesOf, IsWriteFault, RunsOf, IsRunFault}
+use Rattle.sja_calls.specs.Calls.{LooksOf, IsLookFault, StrikesOf, IsStrikeFault, IsNowOf, IsNowFault}
+use Rattle.sja_calls.specs.Texts.{Ends, PutsReport, IsReportFault, PutsPlan, IsNoPlanText, PutsRun, IsNoRun}
+use Rattle.sja_calls.specs.declared.call_fault.CallFault.{CallFault}
+use Rattle.sja_calls.specs.declared.call_fault.CallFault.TheVariants.{Memory}
+use Rattle.sja_calls.specs.declared.held.Held.{Held}
+use Rattle.sja_calls.specs.declared.state.State.TheVariants.{Lost}
+
+-- ---- the beginning
+
+-- there is a place for a session, or memory was refused
+abbrev pub AnswersMake : SjaAnswer → Type 0
+AnswersMake = Answers (λ number. number ≡ 0) (λ fault. fault ≡ Memory)
+
+-- a session to which nothing happened stands there, in place of what there was; or it doesn't, for this reason
+abbrev pub AnswersBegin : Held → Held → ℕ → ℕ → ℕ → SjaAnswer → Type 0
+AnswersBegin was now version bits nodes =
+    Answers (λ number. (number ≡ 0) × IsNew version bits nodes now.state)
+    (λ fault. IsNoSession version bits nodes fault × (now ≡ was))
+
+-- ---- calls of a session, as it was and as it is after
+
+-- a byte was read, and is the number
+abbrev pub AnswersRead : Held → Held → ℕ → ℕ → SjaAnswer → Type 0
+AnswersRead was now node address =
+    Answers (λ number. ReadsOf was.state now.state node address number)
+    (λ fault. IsRefusal was.state (IsReadFault node address) fault × (now ≡ was))
+
+abbrev pub AnswersWrite : Held → Held → ℕ → ℕ → ℕ → SjaAnswer → Type 0
+AnswersWrite was now node address value =
+    Answers (λ number. (number ≡ 0) × WritesOf was.state now.state node address value)
+    (λ fault. IsRefusal was.state (IsWriteFault node address value) fault × (now ≡ was))
+
+-- bits were run, as many as the number says
+abbrev pub AnswersBits : Held → Held → ℕ → ℕ → SjaAnswer → Type 0
+AnswersBits was now count watch =
+    Answers (λ number. (rose : Option ℕ) × RunsOf was.state now.state count watch number rose)
+    (λ fault. IsRefusal was.state (IsRunFault count) fault × (now ≡ was))
+
+-- the number is 1 where the line is active, else 0
+abbrev pub AnswersIrq : Held → Held → ℕ → SjaAnswer → Type 0
+AnswersIrq was now node =
+    Answers (λ number. (number ≤ 1) × LooksOf was.state now.state node (number == 1))
+    (λ fault. IsRefusal was.state (IsLookFault node) fault × (now ≡ was))
+
+abbrev pub AnswersStrike : Held → Held → ℕ → ℕ → SjaAnswer → Type 0
+AnswersStrike was now node bit =
+    Answers (λ number. (number ≡ 0) × StrikesOf was.state now.state node bit)
+    (λ fault. IsRefusal was.state (IsStrikeFault node bit) fault × (now ≡ was))
+
+-- so many bits were run before, and nothing changes
+abbrev pub AnswersNow : Held → Held → SjaAnswer → Type 0
+AnswersNow was now r =
+    Answers (λ number. IsNowOf was.state number) (λ fault. IsRefusal was.state IsNowFault fault) r × (now ≡ was)
+
+-- the session has let go of all that it had in memory, but for its own block
+abbrev pub AnswersLetGo : Held → SjaAnswer → Type 0
+AnswersLetGo now r = (r ≡ answer 0 0) × (now.state ≡ Lost)
+
+-- ---- calls that put a text into a room, as it was and as it is after; where none is put the room stays
+
+abbrev pub AnswersReport : Held → Held → List ℕ → List ℕ → SjaAnswer → Type 0
+AnswersReport was now room text r =
+    Ends was.state now.state
+    × Answers (λ number. PutsReport now.state room text number)
+    (λ fault. IsReportFault now.state room fault × (text ≡ room)) r
+
+abbrev pub AnswersPlan : Held → Held → List ℕ → List ℕ → SjaAnswer → Type 0
+AnswersPlan was now room text r =
+    Answers (λ number. PutsPlan was.state room text number)
+    (λ fault. IsNoPlanText was.state room fault × (text ≡ room)) r
+    × (now ≡ was)
+
+abbrev pub AnswersRun : List ℕ → List ℕ → List ℕ → SjaAnswer → Type 0
+AnswersRun plan room text =
+    Answers (λ number. PutsRun plan room text number) (λ fault. IsNoRun plan room fault × (text ≡ room))

@@ -1,0 +1,22 @@
+-- What a handle is, as C has it (this project's own rule).
+use base.Fml.{Fml}
+use denote.RawPtr.{Ptr, block_ptr, null_ptr}
+use mir.Syntax.{Ty}
+use Rattle.std.specs.Box.Ownership.{box_owns}
+use Rattle.std.specs.Ptr.{if_non_null}
+use Rattle.std.specs.contracts.impls.GlobalAllocator.TheImpl.{ghosts}
+use Rattle.sja_calls.specs.contracts.held.Held.{the_row}
+use Rattle.sja_calls.specs.declared.held.Held.{Held}
+
+-- the right to free a block that the session's allocator gave
+abbrev pub token : Held → Ty → Ptr → Fml
+token held = ghosts.dealloc_token held.alloc
+
+-- a session on the heap of the C library, and the right to free it; nothing at null
+abbrev pub is_handle : Ptr → Held → Fml
+is_handle at held = if_non_null at (box_owns (token held) the_row at held)
+
+-- one thing where a handle is null, and another where it isn't
+abbrev pub AtHandle : Ptr → Type 0 → Type 0 → Type 0
+AtHandle (block_ptr block offset) none some = some
+AtHandle null_ptr none some = none

@@ -1,0 +1,108 @@
+//! `sja_bits`, `sja_irq`, `sja_strike` and `sja_now`.
+
+ghost use types.Logic.{sem};
+ghost use Rattle.std.specs.Prelude.{◌≡◌};
+ghost use Rattle.sja_c.specs.Answers.{answer, no_handle_status};
+ghost use Rattle.sja_c.specs.Exports.{AnswersBits, AnswersIrq, AnswersStrike, AnswersNow};
+ghost use Rattle.sja_c.specs.Handles.{is_handle, AtHandle};
+ghost use Rattle.sja_calls.specs.declared.held.Held.{Held as HeldOf};
+
+use super::answer::{SjaAnswer, done, no_handle, refused};
+use sja_calls::Held;
+
+/// Runs bits: `sja_bits` of `c/sja.h`.
+#[unsafe(no_mangle)]
+pub unsafe extern "C" fn sja_bits(at: *mut u8, count: u32, watch: u32) -> SjaAnswer
+    ghost held: { HeldOf }
+    requires* { sem 𝓛 (is_handle at held) }
+    ensures* { ∃ₛ (λ (after : HeldOf). sem 𝓛 (is_handle at after)
+        ∗ ⌜ AtHandle at (result ≡ answer no_handle_status 0) (AnswersBits held after count watch result) ⌝) }
+{
+    if at.is_null() {
+        return no_handle();
+    }
+    bits_of(&mut *(at as *mut Held), count, watch)
+}
+
+/// Runs bits.
+fn bits_of(held: &mut Held, count: u32, watch: u32) -> SjaAnswer
+    ensures { AnswersBits held.old held.new count watch result }
+{
+    match held.bits(count, watch) {
+        Ok(watched) => done(u64::from(watched.bits)),
+        Err(fault) => refused(fault),
+    }
+}
+
+/// Looks at an interrupt line: `sja_irq` of `c/sja.h`.
+#[unsafe(no_mangle)]
+pub unsafe extern "C" fn sja_irq(at: *mut u8, node: u32) -> SjaAnswer
+    ghost held: { HeldOf }
+    requires* { sem 𝓛 (is_handle at held) }
+    ensures* { ∃ₛ (λ (after : HeldOf). sem 𝓛 (is_handle at after)
+        ∗ ⌜ AtHandle at (result ≡ answer no_handle_status 0) (AnswersIrq held after node result) ⌝) }
+{
+    if at.is_null() {
+        return no_handle();
+    }
+    irq_of(&mut *(at as *mut Held), node)
+}
+
+/// Looks at an interrupt line.
+fn irq_of(held: &mut Held, node: u32) -> SjaAnswer
+    ensures { AnswersIrq held.old held.new node result }
+{
+    match held.irq(node) {
+        Ok(true) => done(1),
+        Ok(false) => done(0),
+        Err(fault) => refused(fault),
+    }
+}
+
+/// Has a node see the other level in a bit: `sja_strike` of `c/sja.h`.
+#[unsafe(no_mangle)]
+pub unsafe extern "C" fn sja_strike(at: *mut u8, node: u32, bit: u32) -> SjaAnswer
+    ghost held: { HeldOf }
+    requires* { sem 𝓛 (is_handle at held) }
+    ensures* { ∃ₛ (λ (after : HeldOf). sem 𝓛 (is_handle at after)
+        ∗ ⌜ AtHandle at (result ≡ answer no_handle_status 0) (AnswersStrike held after node bit result) ⌝) }
+{
+    if at.is_null() {
+        return no_handle();
+    }
+    strike_of(&mut *(at as *mut Held), node, bit)
+}
+
+/// Has a node see the other level in a bit.
+fn strike_of(held: &mut Held, node: u32, bit: u32) -> SjaAnswer
+    ensures { AnswersStrike held.old held.new node bit result }
+{
+    match held.strike(node, bit) {
+        Ok(()) => done(0),
+        Err(fault) => refused(fault),
+    }
+}
+
+/// Tells how many bits were run: `sja_now` of `c/sja.h`.
+#[unsafe(no_mangle)]
+pub unsafe extern "C" fn sja_now(at: *mut u8) -> SjaAnswer
+    ghost held: { HeldOf }
+    requires* { sem 𝓛 (is_handle at held) }
+    ensures* { ∃ₛ (λ (after : HeldOf). sem 𝓛 (is_handle at after)
+        ∗ ⌜ AtHandle at (result ≡ answer no_handle_status 0) (AnswersNow held after result) ⌝) }
+{
+    if at.is_null() {
+        return no_handle();
+    }
+    now_of(&mut *(at as *mut Held))
+}
+
+/// Tells how many bits were run.
+fn now_of(held: &mut Held) -> SjaAnswer
+    ensures { AnswersNow held.old held.new result }
+{
+    match held.now() {
+        Ok(now) => done(u64::from(now)),
+        Err(fault) => refused(fault),
+    }
+}

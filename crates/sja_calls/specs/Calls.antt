@@ -1,0 +1,142 @@
+-- What the calls of a program in C do, and why one isn't done (this project's own rule).
+use Rattle.std.specs.Prelude.{◌≡◌, ◌≤◌, ◌<◌, ◌==◌, ◌/◌, ◌%◌, ◌^◌, ℕ, Bool, true, false, not, Option, None, List}
+use Rattle.std.specs.List.{range_with_len}
+use Rattle.std.specs.Prelude.{length, map}
+use Rattle.sja_calls.specs.declared.call_fault.CallFault.{CallFault}
+use Rattle.sja_calls.specs.declared.call_fault.CallFault.TheVariants.{Ended, NoAddress, NoByte, NoNode, NoBit, Past}
+use Rattle.sja_calls.specs.declared.call_fault.CallFault.TheVariants.{StepsUsed, TurnsUsed, StrikesUsed, Memory}
+use Rattle.sja_calls.specs.declared.state.State.{State}
+use Rattle.sja_calls.specs.declared.state.State.TheVariants.{Going, Ended as HasLog, Lost}
+use Rattle.sja_driver.specs.Deeds.{Deed}
+use Rattle.sja_session.specs.Lines.{Looks}
+use Rattle.sja_session.specs.RawSessions.{RawValue, Reads, Writes, MayWrite, IsWriteFault as IsWriteFaultOf}
+use Rattle.sja_session.specs.Running.{RunsBits, MayRun, LacksBusTurn}
+use Rattle.sja_session.specs.Sessions.{IsAt}
+use Rattle.sja_session.specs.Stepping.{MayStep, IsStepFault}
+use Rattle.sja_session.specs.Striking.{MayStrike, IsStruck, IsStrikeFault as IsStrikeFaultOf}
+use Rattle.sja_session.specs.Watching.{Watches}
+use Rattle.sja_session.specs.declared.step_fault.StepFault.{StepFault}
+use Rattle.sja_session.specs.declared.step_fault.StepFault.TheVariants.{NoNode as NoStepNode, StepsUsed as AllSteps}
+use Rattle.sja_session.specs.declared.step_fault.StepFault.TheVariants.{TurnsUsed as AllTurns}
+use Rattle.sja_session.specs.declared.strike_fault.StrikeFault.TheVariants.{NoNode as NoStruckNode}
+use Rattle.sja_session.specs.declared.strike_fault.StrikeFault.TheVariants.{NoBit as NoStruckBit, Past as HasRun}
+use Rattle.sja_session.specs.declared.strike_fault.StrikeFault.TheVariants.{StrikesUsed as AllStrikes}
+use Rattle.sja_session.specs.declared.strike_fault.StrikeFault.TheVariants.{Memory as NoStrikeMemory}
+
+-- ---- sessions that go on
+
+-- one thing of a session that goes on, and another where it has ended
+abbrev pub IfGoing : State → (RawValue → Type 0) → Type 0 → Type 0
+IfGoing (Going s) going over = going s
+IfGoing (HasLog plan log) going over = over
+IfGoing Lost going over = over
+
+-- one thing of a session that goes on before and after; nothing else holds
+abbrev pub GoesOn : State → State → (RawValue → RawValue → Type 0) → Type 0
+GoesOn was now holds = IfGoing was (λ r. IfGoing now (λ s. holds r s) ⊥) ⊥
+
+-- why a call of a session isn't done: it has ended, or goes on and this holds of it
+abbrev pub IsRefusal : State → (RawValue → CallFault → Type 0) → CallFault → Type 0
+IsRefusal was why fault = IfGoing was (λ r. why r fault) (fault ≡ Ended)
+
+-- ---- accesses
+
+-- an address of a node was read as this value
+abbrev pub ReadsOf : State → State → ℕ → ℕ → ℕ → Type 0
+ReadsOf was now node address value =
+    GoesOn was now (λ r s. (address ≤ 255) × MayStep r.session node
+    × ((deeds : List (List Deed)) → IsAt r.session deeds → Reads r s node address value deeds))
+
+-- why it wasn't: the first of these that holds
+abbrev pub IsReadFault : ℕ → ℕ → RawValue → CallFault → Type 0
+IsReadFault node address r NoAddress = 255 < address
+IsReadFault node address r NoNode = (address ≤ 255) × IsStepFault r.session node NoStepNode
+IsReadFault node address r StepsUsed = (address ≤ 255) × IsStepFault r.session node AllSteps
+IsReadFault node address r TurnsUsed = (address ≤ 255) × IsStepFault r.session node AllTurns
+IsReadFault node address r fault = ⊥
+
+-- a value was written to an address of a node
+abbrev pub WritesOf : State → State → ℕ → ℕ → ℕ → Type 0
+WritesOf was now node address value =
+    GoesOn was now (λ r s. (address ≤ 255) × (value ≤ 255)
+    × ((deeds : List (List Deed)) → IsAt r.session deeds →
+    MayWrite r node address value deeds × Writes r s node address value deeds))
+
+-- why it wasn't: the first of these that holds
+abbrev pub IsFaultOfWrite : ℕ → ℕ → ℕ → RawValue → StepFault → Type 0
+IsFaultOfWrite node address value r fault =
+    (address ≤ 255) × (value ≤ 255)
+    × ((deeds : List (List Deed)) → IsAt r.session deeds → IsWriteFaultOf r node address value deeds fault)
+
+abbrev pub IsWriteFault : ℕ → ℕ → ℕ → RawValue → CallFault → Type 0
+IsWriteFault node address value r NoAddress = 255 < address
+IsWriteFault node address value r NoByte = (address ≤ 255) × (255 < value)
+IsWriteFault node address value r NoNode = IsFaultOfWrite node address value r NoStepNode
+IsWriteFault node address value r StepsUsed = IsFaultOfWrite node address value r AllSteps
+IsWriteFault node address value r TurnsUsed = IsFaultOfWrite node address value r AllTurns
+IsWriteFault node address value r fault = ⊥
+
+-- ---- bits
+
+-- bit K of a number is 1
+abbrev pub is_set : ℕ → ℕ → Bool
+is_set number k = (number / 2 ^ k) % 2 == 1
+
+-- the nodes that a mask watches: node K where its bit K is 1; and whether it watches one
+abbrev pub watched_in : ℕ → List Bool
+watched_in mask = map (is_set mask) (range_with_len 0 8)
+
+abbrev pub watches : ℕ → Bool
+watches mask = not (mask % 256 == 0)
+
+-- so many bits were run, of those that were asked for: where a node is watched, up to the first in which the line of
+-- one rose, and else all of them or as many as were left
+abbrev pub RunsBy : Bool → RawValue → RawValue → ℕ → ℕ → ℕ → Option ℕ → List (List Deed) → Type 0
+RunsBy true r s count mask run rose deeds = Watches r.session s.session count (watched_in mask) run rose deeds
+RunsBy false r s count mask run rose deeds = RunsBits r.session s.session count run deeds × (rose ≡ None)
+
+abbrev pub RunsOf : State → State → ℕ → ℕ → ℕ → Option ℕ → Type 0
+RunsOf was now count mask run rose =
+    GoesOn was now (λ r s. MayRun r.session count × (s.kept ≡ r.kept)
+    × ((deeds : List (List Deed)) → IsAt r.session deeds → RunsBy (watches mask) r s count mask run rose deeds))
+
+-- why they weren't
+abbrev pub IsRunFault : ℕ → RawValue → CallFault → Type 0
+IsRunFault count r TurnsUsed = LacksBusTurn r.session count
+IsRunFault count r fault = ⊥
+
+-- ---- lines and strikes
+
+-- the line of a node was looked at, and nothing happened
+abbrev pub LooksOf : State → State → ℕ → Bool → Type 0
+LooksOf was now node line =
+    GoesOn was now (λ r s. (node < length r.session.plan.nodes) × (s.kept ≡ r.kept)
+    × ((deeds : List (List Deed)) → IsAt r.session deeds → Looks r.session s.session node line deeds))
+
+-- why it wasn't
+abbrev pub IsLookFault : ℕ → RawValue → CallFault → Type 0
+IsLookFault node r NoNode = length r.session.plan.nodes ≤ node
+IsLookFault node r fault = ⊥
+
+-- a strike was taken
+abbrev pub StrikesOf : State → State → ℕ → ℕ → Type 0
+StrikesOf was now node bit =
+    GoesOn was now (λ r s. MayStrike r.session node bit × (s.kept ≡ r.kept)
+    × ((deeds : List (List Deed)) → IsAt r.session deeds → IsStruck r.session s.session node bit deeds))
+
+-- why it wasn't: the first of these that holds
+abbrev pub IsStrikeFault : ℕ → ℕ → RawValue → CallFault → Type 0
+IsStrikeFault node bit r NoNode = IsStrikeFaultOf r.session node bit NoStruckNode
+IsStrikeFault node bit r NoBit = IsStrikeFaultOf r.session node bit NoStruckBit
+IsStrikeFault node bit r Past = IsStrikeFaultOf r.session node bit HasRun
+IsStrikeFault node bit r StrikesUsed = IsStrikeFaultOf r.session node bit AllStrikes
+IsStrikeFault node bit r Memory = IsStrikeFaultOf r.session node bit NoStrikeMemory
+IsStrikeFault node bit r fault = ⊥
+
+-- so many bits were run
+abbrev pub IsNowOf : State → ℕ → Type 0
+IsNowOf was now = IfGoing was (λ r. now ≡ r.session.run.bits) ⊥
+
+-- a session that goes on always tells it
+abbrev pub IsNowFault : RawValue → CallFault → Type 0
+IsNowFault r fault = ⊥

@@ -1,0 +1,4 @@
+pub mod Beginnings
+pub mod Calls
+pub mod Texts
+pub mod Inside

@@ -1,0 +1,9 @@
+pub mod Told
+pub mod Asked
+pub mod InterruptLines
+pub mod Named
+pub mod NewSessions
+pub mod LineAnswers
+pub mod GoingOn
+pub mod LineBytes
+pub mod WordLists

@@ -1,0 +1,13 @@
+use Rattle.std.proofs.Common.{rules}
+use Rattle.sja_live.proofs.Asked.{told_plan, not_plan}
+use Rattle.sja_live.proofs.answering.plan_answer.Goals as goal
+
+pub returns-in-Ok : goal.returns-in-Ok
+returns-in-Ok c =
+    told_plan c.args.session.now c.session.result.now c.in_ok-plan.plan c.in-Ok.document c.session.ensures
+    c.in_ok-plan.ensures c.in-Ok.ensures.ok
+
+pub returns-in-Err-TooLong : goal.returns-in-Err-TooLong
+returns-in-Err-TooLong c =
+    not_plan c.args.session.now c.session.result.now c.in_ok-plan.plan _ c.session.ensures c.in_ok-plan.ensures
+    c.in-Err-TooLong.ensures.err (search rules)

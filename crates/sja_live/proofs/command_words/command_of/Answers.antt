@@ -1,0 +1,43 @@
+use Rattle.std.proofs.Common.{rules, ◌≡◌, List, [], Bor, codes, sym, subst}
+use Rattle.std.specs.Prelude.{IfOk, IfErr}
+use Rattle.sja_live.specs.Commands.{AreCommandWords}
+use Rattle.sja_live.specs.Inside.Reading.{IsUnasked}
+use Rattle.sja_plan.specs.Words.{Text}
+use Rattle.sja_live.proofs.WordLists.{two_words, three_words, four_words, step_words, text_at}
+use Rattle.sja_live.proofs.command_words.command_of.Goals as goal
+
+-- no word
+abbrev none : Bor Text
+none = record { ref_ptr = (0, 0); now = [] }
+
+pub returns-then-eq-clause-ok : goal.returns-then-eq-clause-ok
+returns-then-eq-clause-ok c =
+    let name : text_at c.args.words.now 0 none ≡ codes "step" = search rules in
+    subst (λ (l : List Text). IfOk c.step_of_node.result (λ x. AreCommandWords c.args.version c.args.nodes l x))
+    (sym (step_words c.args.words.now none c.if-words-ge2.true name)) c.step_of_node.ensures.ok
+
+pub returns-then-eq-clause-err : goal.returns-then-eq-clause-err
+returns-then-eq-clause-err c =
+    let name : text_at c.args.words.now 0 none ≡ codes "step" = search rules in
+    subst (λ (l : List Text). IfErr c.step_of_node.result (IsUnasked c.args.version c.args.nodes l))
+    (sym (step_words c.args.words.now none c.if-words-ge2.true name)) c.step_of_node.ensures.err
+
+pub returns-in-len2-clause-err : goal.returns-in-len2-clause-err
+returns-in-len2-clause-err c =
+    subst (λ (l : List Text). IfErr c.of_two_words.result (IsUnasked c.args.version c.args.nodes l))
+    (sym (two_words c.args.words.now none c.in-len2.len_at_least c.in-len2.len_below)) c.of_two_words.ensures.err
+
+pub returns-in-len3-clause-err : goal.returns-in-len3-clause-err
+returns-in-len3-clause-err c =
+    subst (λ (l : List Text). IfErr c.of_three_words.result (IsUnasked c.args.version c.args.nodes l))
+    (sym (three_words c.args.words.now none c.in-len3.len_at_least c.in-len3.len_below)) c.of_three_words.ensures.err
+
+pub returns-in-len4-clause-ok : goal.returns-in-len4-clause-ok
+returns-in-len4-clause-ok c =
+    subst (λ (l : List Text). IfOk c.of_four_words.result (λ x. AreCommandWords c.args.version c.args.nodes l x))
+    (sym (four_words c.args.words.now none c.in-len4.len_at_least c.in-len4.len_below)) c.of_four_words.ensures.ok
+
+pub returns-in-len4-clause-err : goal.returns-in-len4-clause-err
+returns-in-len4-clause-err c =
+    subst (λ (l : List Text). IfErr c.of_four_words.result (IsUnasked c.args.version c.args.nodes l))
+    (sym (four_words c.args.words.now none c.in-len4.len_at_least c.in-len4.len_below)) c.of_four_words.ensures.err

@@ -1,0 +1,23 @@
+use Rattle.std.proofs.Common.{rules, ◌≡◌, ℕ, List, [], ◌∷◌, codes, ap, inl, inr}
+use Rattle.sja_live.proofs.command_words.of_four_words.Goals as goal
+
+-- the second word is no node
+pub returns-in_default-clause-err : goal.returns-in_default-clause-err
+returns-in_default-clause-err c =
+    let node = c.args.node.now in let address = c.args.address.now in let value = c.args.value.now in
+    let name : c.args.name.now ≡ codes "write" = search rules in
+    let is = ap (λ (n : List ℕ). n ∷ node ∷ address ∷ value ∷ []) name in
+    (node, inr (inr (inl (address, value, is))), c.in_default.ensures.err.1)
+
+-- the third one is no address
+pub returns-in_default-number_within-clause-err : goal.returns-in_default-number_within-clause-err
+returns-in_default-number_within-clause-err c =
+    let node = c.args.node.now in let address = c.args.address.now in let value = c.args.value.now in
+    let name : c.args.name.now ≡ codes "write" = search rules in
+    let is = ap (λ (n : List ℕ). n ∷ node ∷ address ∷ value ∷ []) name in (
+      node,
+      address,
+      inr (value, is),
+      (c.in-Ok.node, c.in-Ok.ensures.ok),
+      c.in_default-number_within.ensures.err.1,
+    )

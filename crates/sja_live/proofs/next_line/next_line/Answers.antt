@@ -1,0 +1,32 @@
+use Rattle.std.proofs.Common.{arith}
+use Rattle.sja_live.proofs.LineBytes.{readable_line, takes_end, takes_line, within_more}
+use Rattle.sja_live.proofs.next_line.next_line.Goals as goal
+
+-- the text is over
+pub returns-in_default-clause-line : goal.returns-in_default-clause-line
+returns-in_default-clause-line g c =
+    let w = c.loop.invariant.within in
+    takes_end _ _ _ _ _ c.last_line.result w (rw c.in_default.is at c.in_ok-byte.ensures) c.last_line.ensures.none
+    (λ some. c.last_line.ensures.some some w.front w.is w.many)
+
+-- a line feed was read
+pub returns-then-byte-eq-LINE_FEED-clause-line : goal.returns-then-byte-eq-LINE_FEED-clause-line
+returns-then-byte-eq-LINE_FEED-clause-line g c =
+    let w = c.loop.invariant.within in
+    takes_line _ _ _ _ _ _ c.line_of.result w (rw c.in-Some.is at c.in_ok-byte.ensures) c.if-byte-eq-LINE_FEED.true
+    (c.line_of.ensures w.front w.is w.many)
+
+pub returns-then-byte-eq-LINE_FEED-clause-readable : goal.returns-then-byte-eq-LINE_FEED-clause-readable
+returns-then-byte-eq-LINE_FEED-clause-readable g c =
+    let w = c.loop.invariant.within in
+    readable_line w.front c.line_of.result (c.line_of.ensures w.front w.is w.many)
+
+-- one byte more
+pub loop-preserved : goal.loop-preserved
+loop-preserved g c =
+    let w = c.loop.invariant.within in let takes = rw c.in-Some.is at c.in_ok-byte.ensures in
+    record {
+      within = within_more _ _ _ _ _ _ _ w takes c.if-byte-eq-LINE_FEED.false (c.keep.ensures.front w.front w.is);
+      room = omega arith;
+      count = omega arith;
+    }

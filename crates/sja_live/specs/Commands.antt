@@ -1,0 +1,58 @@
+-- What a line of `sja live` asks for (this project's own rule). Words stand with one space between two; numbers, bytes,
+-- messages and steps are spelled as in a plan.
+use Rattle.std.specs.Prelude.{◌≡◌, ℕ, List, [], ◌∷◌, codes}
+use Rattle.sja_live.specs.declared.live_command.LiveCommand.{LiveCommand}
+use Rattle.sja_live.specs.declared.live_command.LiveCommand.TheVariants.{Step, Read, Write, Run, Rest, Line, Strike}
+use Rattle.sja_live.specs.declared.live_command.LiveCommand.TheVariants.{Answer, Bits, Plan, End}
+use Rattle.sja_plan.specs.StepTexts.{AreStepWords}
+use Rattle.sja_plan.specs.Words.{Text, words, greatest, SpellsWithin, SpellsNode, SpellsByte}
+
+-- ---- the forms of a line
+
+-- `step`, the node, and the words of the step
+abbrev pub IsStepLine : List Text → Text → List Text → Type 0
+IsStepLine ws k rest = ws ≡ codes "step" ∷ k ∷ rest
+
+-- `read`, the node and the address
+abbrev pub IsReadLine : List Text → Text → Text → Type 0
+IsReadLine ws k a = ws ≡ codes "read" ∷ k ∷ a ∷ []
+
+-- `write`, the node, the address and the byte
+abbrev pub IsWriteLine : List Text → Text → Text → Text → Type 0
+IsWriteLine ws k a v = ws ≡ codes "write" ∷ k ∷ a ∷ v ∷ []
+
+-- `run` and how many bits
+abbrev pub IsRunLine : List Text → Text → Type 0
+IsRunLine ws n = ws ≡ codes "run" ∷ n ∷ []
+
+-- `strike`, the node and the bit
+abbrev pub IsStrikeLine : List Text → Text → Text → Type 0
+IsStrikeLine ws k b = ws ≡ codes "strike" ∷ k ∷ b ∷ []
+
+-- `answer` and the node
+abbrev pub IsAnswerLine : List Text → Text → Type 0
+IsAnswerLine ws k = ws ≡ codes "answer" ∷ k ∷ []
+
+-- ---- what a line asks for
+
+-- by this version of the rules, of a session of so many nodes, these words ask for this
+abbrev pub AreCommandWords : ℕ → ℕ → List Text → LiveCommand → Type 0
+AreCommandWords version nodes ws (Step node step) =
+    (k : Text) × (rest : List Text) × IsStepLine ws k rest × SpellsNode nodes k node × AreStepWords version rest step
+AreCommandWords version nodes ws (Read node address) =
+    (k a : Text) × IsReadLine ws k a × SpellsNode nodes k node × SpellsWithin 0 255 a address
+AreCommandWords version nodes ws (Write node address value) =
+    (k a v : Text) × IsWriteLine ws k a v × SpellsNode nodes k node × SpellsWithin 0 255 a address × SpellsByte v value
+AreCommandWords version nodes ws (Run count) = (n : Text) × IsRunLine ws n × SpellsWithin 0 greatest n count
+AreCommandWords version nodes ws Rest = ws ≡ codes "rest" ∷ []
+AreCommandWords version nodes ws Line = ws ≡ codes "line" ∷ []
+AreCommandWords version nodes ws (Strike node bit) =
+    (k b : Text) × IsStrikeLine ws k b × SpellsNode nodes k node × SpellsWithin 0 greatest b bit
+AreCommandWords version nodes ws (Answer node) = (k : Text) × IsAnswerLine ws k × SpellsNode nodes k node
+AreCommandWords version nodes ws Bits = ws ≡ codes "bits" ∷ []
+AreCommandWords version nodes ws Plan = ws ≡ codes "plan" ∷ []
+AreCommandWords version nodes ws End = ws ≡ codes "end" ∷ []
+
+-- the line asks for this
+abbrev pub AsksFor : ℕ → ℕ → Text → LiveCommand → Type 0
+AsksFor version nodes line command = AreCommandWords version nodes (words line) command

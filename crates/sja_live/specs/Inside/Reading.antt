@@ -1,0 +1,85 @@
+-- What the functions that read a line promise of one another.
+use Rattle.std.specs.Prelude.{◌≡◌, ◌==◌, ◌<◌, ◌≤◌, ◌++◌, ℕ, false, Option, Some, None, List, [], ◌∷◌, length, take}
+use Rattle.std.specs.Prelude.{string_bytes, IsUtf8}
+use Rattle.sja_live.specs.Lines.{most_line, first_line, behind_line, IsReadable}
+use Rattle.sja_live.specs.Mistakes.{AreMistaken}
+use Rattle.sja_live.specs.Opening.{IsOpeningFault}
+use Rattle.sja_live.specs.declared.next_line.Line.{Line}
+use Rattle.sja_live.specs.declared.next_line.Line.TheVariants.{Text as LineOf, Long, NoText, Over}
+use Rattle.sja_live.specs.declared.unasked.Unasked.{Unasked}
+use Rattle.sja_live.specs.declared.unasked.Unasked.TheVariants.{Mistaken, Memory}
+use Rattle.sja_live.specs.declared.unopened.Unopened.{Unopened}
+use Rattle.sja_live.specs.declared.unopened.Unopened.TheVariants.{Fault, Memory as NoMemory}
+use Rattle.sja_plan.specs.Words.{Text}
+
+-- ---- bytes
+
+-- of the bytes that a reader has left this one was taken, if there is one; where they are known
+abbrev pub TakesByte : Option Text → Option Text → Option ℕ → Type 0
+TakesByte (Some input) (Some left) None = (input ≡ []) × (left ≡ [])
+TakesByte (Some input) (Some left) (Some byte) = input ≡ byte ∷ left
+TakesByte (Some input) None byte = ⊥
+TakesByte None left byte = Unit {0}
+
+-- ---- lines
+
+-- the input is this line and what is left behind it
+abbrev pub IsLine : Text → Text → Line → Type 0
+IsLine input left (LineOf line) =
+    ¬ (input ≡ []) × (string_bytes line ≡ first_line input) × (left ≡ behind_line input)
+IsLine input left Long = ¬ (input ≡ []) × (most_line < length (first_line input)) × (left ≡ behind_line input)
+IsLine input left NoText =
+    ¬ (input ≡ []) × (length (first_line input) ≤ most_line) × ¬ IsUtf8 (first_line input)
+    × (left ≡ behind_line input)
+IsLine input left Over = (input ≡ []) × (left ≡ [])
+
+-- where the bytes are known
+abbrev pub TakesLine : Option Text → Option Text → Line → Type 0
+TakesLine (Some input) (Some left) line = IsLine input left line
+TakesLine (Some input) None line = ⊥
+TakesLine None left line = Unit {0}
+
+-- this is a line of those bytes, whose front may have been kept alone
+abbrev pub IsLineOf : Text → Line → Type 0
+IsLineOf bytes (LineOf line) = (string_bytes line ≡ bytes) × IsReadable bytes
+IsLineOf bytes Long = most_line < length bytes
+IsLineOf bytes NoText = (length bytes ≤ most_line) × ¬ IsUtf8 bytes
+IsLineOf bytes Over = ⊥
+
+-- no line feed (10) stands in these bytes
+abbrev pub HasNoFeed : Text → Type 0
+HasNoFeed [] = Unit {0}
+HasNoFeed (byte ∷ bytes) = ((byte == 10) ≡ false) × HasNoFeed bytes
+
+-- of the bytes that were known to be left this front was read
+abbrev pub HasRead : Option Text → Option Text → Text → Type 0
+HasRead (Some input) (Some left) front = input ≡ front ++ left
+HasRead (Some input) None front = ⊥
+HasRead None left front = Unit {0}
+
+-- so many bytes of a line were read, in which no line feed stands, and its front was kept
+pub record IsWithin (before after : Option Text) (kept : Text) (count : ℕ) : Type 0 where
+  pub front : Text
+  pub read : HasRead before after front
+  pub plain : HasNoFeed front
+  pub is : kept ≡ take most_line front
+  pub many : count ≡ length front
+
+-- a line that is a text can be read
+abbrev pub IsLineReadable : Line → Type 0
+IsLineReadable (LineOf line) = IsReadable (string_bytes line)
+IsLineReadable Long = Unit {0}
+IsLineReadable NoText = Unit {0}
+IsLineReadable Over = Unit {0}
+
+-- ---- words
+
+-- no command came of the words: the first mistake in them is this one, or memory was refused
+abbrev pub IsUnasked : ℕ → ℕ → List Text → Unasked → Type 0
+IsUnasked version nodes ws (Mistaken fault) = AreMistaken version nodes ws fault
+IsUnasked version nodes ws Memory = Unit {0}
+
+-- no session is opened by the line: the first mistake in it is this one, or memory was refused
+abbrev pub IsUnopened : Text → Unopened → Type 0
+IsUnopened line (Fault fault) = IsOpeningFault line fault
+IsUnopened line NoMemory = Unit {0}

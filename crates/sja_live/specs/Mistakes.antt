@@ -1,0 +1,71 @@
+-- Why a line of `sja live` asks for nothing (this project's own rule): the first mistake in it.
+use Rattle.std.specs.Prelude.{◌≡◌, ◌⊎◌, ℕ, List, [], ◌∷◌, codes}
+use Rattle.sja_live.specs.Commands.{IsStepLine, IsReadLine, IsWriteLine, IsRunLine, IsStrikeLine, IsAnswerLine}
+use Rattle.sja_live.specs.declared.line_fault.LineFault.{LineFault}
+use Rattle.sja_live.specs.declared.line_fault.LineFault.TheVariants.{Text as NoText, Command, Node, Number}
+use Rattle.sja_live.specs.declared.line_fault.LineFault.TheVariants.{Address, Byte, Step}
+use Rattle.sja_plan.specs.StepTexts.{AreStepWords}
+use Rattle.sja_plan.specs.Words.{Text, greatest, SpellsWithin, SpellsNode, SpellsByte}
+use Rattle.sja_script.specs.declared.step.Step.{Step as StepOf}
+
+-- ---- the words of a line
+
+-- they are those of a command of a node, and this word says which
+abbrev pub NamesNode : List Text → Text → Type 0
+NamesNode ws k =
+    ((rest : List Text) × IsStepLine ws k rest) ⊎ ((a : Text) × IsReadLine ws k a)
+    ⊎ ((a v : Text) × IsWriteLine ws k a v) ⊎ ((b : Text) × IsStrikeLine ws k b) ⊎ IsAnswerLine ws k
+
+-- they are one word that stands alone
+abbrev pub StandsAlone : List Text → Type 0
+StandsAlone ws =
+    (ws ≡ codes "rest" ∷ []) ⊎ (ws ≡ codes "line" ∷ []) ⊎ (ws ≡ codes "bits" ∷ [])
+    ⊎ (ws ≡ codes "plan" ∷ []) ⊎ (ws ≡ codes "end" ∷ [])
+
+-- they are those of a command, whatever the words behind its name spell
+abbrev pub HasForm : List Text → Type 0
+HasForm ws = ((k : Text) × NamesNode ws k) ⊎ ((n : Text) × IsRunLine ws n) ⊎ StandsAlone ws
+
+-- ---- words that spell nothing
+
+-- a word spells no node of so many, no address, no byte, no number
+abbrev pub IsNoNode : ℕ → Text → Type 0
+IsNoNode nodes k = (node : ℕ) → ¬ SpellsNode nodes k node
+
+abbrev pub IsNoAddress : Text → Type 0
+IsNoAddress a = (address : ℕ) → ¬ SpellsWithin 0 255 a address
+
+abbrev pub IsNoByte : Text → Type 0
+IsNoByte v = (byte : ℕ) → ¬ SpellsByte v byte
+
+abbrev pub IsNoNumber : Text → Type 0
+IsNoNumber n = (number : ℕ) → ¬ SpellsWithin 0 greatest n number
+
+-- words are those of no step of this version
+abbrev pub IsNoStep : ℕ → List Text → Type 0
+IsNoStep version rest = (step : StepOf) → ¬ AreStepWords version rest step
+
+-- and those that spell some
+abbrev pub IsSomeNode : ℕ → Text → Type 0
+IsSomeNode nodes k = (node : ℕ) × SpellsNode nodes k node
+
+abbrev pub IsSomeAddress : Text → Type 0
+IsSomeAddress a = (address : ℕ) × SpellsWithin 0 255 a address
+
+-- ---- the first mistake
+
+-- the words are no command's; or they are (words are those of a text), and this is the first of the words behind its
+-- name that spells nothing
+abbrev pub AreMistaken : ℕ → ℕ → List Text → LineFault → Type 0
+AreMistaken version nodes ws NoText = ⊥
+AreMistaken version nodes ws Command = ¬ HasForm ws
+AreMistaken version nodes ws Node = (k : Text) × NamesNode ws k × IsNoNode nodes k
+AreMistaken version nodes ws Step =
+    (k : Text) × (rest : List Text) × IsStepLine ws k rest × IsSomeNode nodes k × IsNoStep version rest
+AreMistaken version nodes ws Address =
+    (k a : Text) × (IsReadLine ws k a ⊎ ((v : Text) × IsWriteLine ws k a v)) × IsSomeNode nodes k × IsNoAddress a
+AreMistaken version nodes ws Byte =
+    (k a v : Text) × IsWriteLine ws k a v × IsSomeNode nodes k × IsSomeAddress a × IsNoByte v
+AreMistaken version nodes ws Number =
+    ((n : Text) × IsRunLine ws n × IsNoNumber n)
+    ⊎ ((k b : Text) × IsStrikeLine ws k b × IsSomeNode nodes k × IsNoNumber b)

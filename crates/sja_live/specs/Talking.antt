@@ -1,0 +1,122 @@
+-- A talk with `sja live` (this project's own rule): the first line opens a session, each further line is answered
+-- before the next one is read, and `end` or the end of the input ends the talk with the report.
+use Rattle.std.specs.Prelude.{◌≡◌, ◌⊎◌, ◌<◌, ◌≤◌, ◌++◌, Option, Some, None, List, [], ◌∷◌, length, replicate, IsUtf8}
+use Rattle.sja_driver.specs.Deeds.{Deed}
+use Rattle.sja_live.specs.AnswerTexts.{answer_text, opened_text, opening_text}
+use Rattle.sja_live.specs.Answering.{Answers}
+use Rattle.sja_live.specs.Beginning.{IsNewOf}
+use Rattle.sja_live.specs.Calls.{node_count, version_of}
+use Rattle.sja_live.specs.Commands.{AsksFor}
+use Rattle.sja_live.specs.Ending.{IsLastLog}
+use Rattle.sja_live.specs.Lines.{most_line, first_line, behind_line, LeadsOn, IsReadable}
+use Rattle.sja_live.specs.Mistakes.{AreMistaken}
+use Rattle.sja_live.specs.Opening.{Opens, IsOpeningFault}
+use Rattle.sja_live.specs.declared.line_fault.LineFault.{LineFault}
+use Rattle.sja_live.specs.declared.line_fault.LineFault.TheVariants.{Text as NoText}
+use Rattle.sja_live.specs.declared.live_answer.LiveAnswer.{LiveAnswer}
+use Rattle.sja_live.specs.declared.live_answer.LiveAnswer.TheVariants.{Mistaken, Long}
+use Rattle.sja_live.specs.declared.live_command.LiveCommand.{LiveCommand}
+use Rattle.sja_live.specs.declared.live_command.LiveCommand.TheVariants.{End}
+use Rattle.sja_live.specs.declared.opening.Opening.{Opening}
+use Rattle.sja_live.specs.declared.opening_fault.OpeningFault.{OpeningFault}
+use Rattle.sja_live.specs.declared.talked.Talked.{Talked}
+use Rattle.sja_live.specs.declared.talked.Talked.TheVariants.{Reported, Unopened}
+use Rattle.sja_log.specs.Log.{RunValue}
+use Rattle.sja_plan.specs.Words.{Text, words}
+use Rattle.sja_report.specs.ReportLines.{report_text}
+use Rattle.sja_session.specs.RawSessions.{RawValue}
+
+-- ---- one line
+
+-- the session answers a line so: it asks for something that isn't the end, and that is done; or for nothing, or it
+-- can't be read, and then nothing is done
+pub data Replies (was now : RawValue) (deeds : List (List Deed)) (line : Text) :
+    LiveAnswer → List (List Deed) → Type 0 where
+  done : {command : LiveCommand} {answer : LiveAnswer} {after : List (List Deed)} → IsReadable line →
+      AsksFor (version_of was) (node_count was) line command → Answers was now deeds command answer after →
+      Replies was now deeds line answer after
+  mistaken : {fault : LineFault} → IsReadable line →
+      AreMistaken (version_of was) (node_count was) (words line) fault → now ≡ was →
+      Replies was now deeds line (Mistaken fault) deeds
+  no_text : length line ≤ most_line → ¬ IsUtf8 line → now ≡ was → Replies was now deeds line (Mistaken NoText) deeds
+  long : most_line < length line → now ≡ was → Replies was now deeds line Long deeds
+
+-- ---- lines one after another
+
+-- from where the session was, by these lines, it came here, and the answers are this text
+pub data Talks (first : RawValue) (begun : List (List Deed)) :
+    List Text → RawValue → List (List Deed) → Text → Type 0 where
+  begin : Talks first begun [] first begun []
+  go_on : {lines : List Text} {was now : RawValue} {deeds after : List (List Deed)} {text line : Text}
+      {answer : LiveAnswer} → Talks first begun lines was deeds text → Replies was now deeds line answer after →
+      Talks first begun (lines ++ line ∷ []) now after (text ++ answer_text answer)
+
+-- the line ends the talk
+abbrev pub EndsTalk : RawValue → Text → Type 0
+EndsTalk s line = IsReadable line × AsksFor (version_of s) (node_count s) line End
+
+-- ---- the whole
+
+-- a session was opened by the first line, these lines were answered, and this is what was written so far
+pub record HasTalked (input rest : Text) (last : RawValue) (deeds : List (List Deed)) (output : Text) : Type 0 where
+  pub some : ¬ (input ≡ [])
+  pub readable : IsReadable (first_line input)
+  pub opening : Opening
+  pub opens : Opens (first_line input) opening
+  pub first : RawValue
+  pub new : IsNewOf first opening
+  pub lines : List Text
+  pub lead : LeadsOn (behind_line input) lines rest
+  pub text : Text
+  pub talks : Talks first (replicate opening.nodes []) lines last deeds text
+  pub output_is : output ≡ opened_text ++ text
+
+-- the talk is over: the next line ends it, or there is none; and the report of the session's log was written. Of the
+-- input what stands behind that line is left
+pub record IsTalk (input output left : Text) : Type 0 where
+  pub last : RawValue
+  pub deeds : List (List Deed)
+  pub rest : Text
+  pub said : Text
+  pub talked : HasTalked input rest last deeds said
+  pub over : (rest ≡ []) ⊎ (¬ (rest ≡ []) × EndsTalk last (first_line rest))
+  pub log : RunValue
+  pub is : IsLastLog last deeds log
+  pub told : output ≡ said ++ report_text log
+  pub behind : left ≡ behind_line rest
+
+-- there was no session: the first line, or none where the input is empty, opens none, and that was said
+pub record IsNoTalk (input output left : Text) : Type 0 where
+  pub fault : OpeningFault
+  pub is : IsOpeningFault (first_line input) fault
+  pub told : output ≡ opening_text fault
+  pub behind : left ≡ behind_line input
+
+-- how it ended
+abbrev pub IsTold : Talked → Text → Text → Text → Type 0
+IsTold Reported input output left = IsTalk input output left
+IsTold Unopened input output left = IsNoTalk input output left
+
+-- it broke off: what was written is whole answers, of the lines that were read by then, or nothing at all
+abbrev pub IsBrokenOff : Text → Text → Type 0
+IsBrokenOff input output =
+    (output ≡ [])
+    ⊎ ((last : RawValue) × (rest : Text) × (deeds : List (List Deed)) × HasTalked input rest last deeds output)
+
+-- ---- a reader and a writer whose bytes are known
+
+-- these bytes were left to read, and from them to these; and the writer has this text more
+abbrev pub Speaks : Option Text → Option Text → Option Text → Option Text → (Text → Text → Text → Type 0) → Type 0
+Speaks None left old new told = Unit {0}
+Speaks (Some input) left None new told = Unit {0}
+Speaks (Some input) None (Some old) new told = ⊥
+Speaks (Some input) (Some left) (Some old) None told = ⊥
+Speaks (Some input) (Some left) (Some old) (Some new) told =
+    (output : Text) × (new ≡ old ++ output) × told input output left
+
+-- it broke off, and the writer has whole answers more
+abbrev pub BreaksOff : Option Text → Option Text → Option Text → Type 0
+BreaksOff None old new = Unit {0}
+BreaksOff (Some input) None new = Unit {0}
+BreaksOff (Some input) (Some old) None = ⊥
+BreaksOff (Some input) (Some old) (Some new) = (output : Text) × (new ≡ old ++ output) × IsBrokenOff input output

@@ -1,0 +1,58 @@
+//! What steps and accesses are answered.
+
+ghost use Rattle.std.specs.Prelude.{◌<◌, ◌≢◌};
+ghost use Rattle.sja_live.specs.Answering.{IsAnswered, IsUsedUp};
+ghost use Rattle.sja_live.specs.Calls.{node_count};
+ghost use Rattle.sja_live.specs.declared.live_command.LiveCommand.TheVariants.{Step as StepOf, Read, Write};
+ghost use Rattle.sja_session.specs.declared.step_fault.StepFault.TheVariants.{NoNode};
+
+use super::line_fault::LineFault;
+use super::live_answer::LiveAnswer;
+use super::used::Used;
+use sja_script::{Step, StepAnswer};
+use sja_session::{Answered, RawSession, StepFault};
+
+/// What a step is answered.
+pub(crate) fn stepped(session: &mut RawSession, node: u8, step: Step) -> LiveAnswer
+    requires { node < node_count session.old }
+    ensures { IsAnswered session.old session.new (StepOf node step) result }
+{
+    match session.step(node, step) {
+        Ok(Answered::Answer(answer)) => LiveAnswer::Told(answer),
+        Ok(Answered::Waits) => LiveAnswer::Waits,
+        Err(fault) => used_up(fault),
+    }
+}
+
+/// What a read is answered.
+pub(crate) fn was_read(session: &mut RawSession, node: u8, address: u8) -> LiveAnswer
+    requires { node < node_count session.old }
+    ensures { IsAnswered session.old session.new (Read node address) result }
+{
+    match session.read(node, address) {
+        Ok(value) => LiveAnswer::Told(StepAnswer::Value(value)),
+        Err(fault) => used_up(fault),
+    }
+}
+
+/// What a write is answered.
+pub(crate) fn was_written(session: &mut RawSession, node: u8, address: u8, value: u8) -> LiveAnswer
+    requires { node < node_count session.old }
+    ensures { IsAnswered session.old session.new (Write node address value) result }
+{
+    match session.write(node, address, value) {
+        Ok(()) => LiveAnswer::Told(StepAnswer::Done),
+        Err(fault) => used_up(fault),
+    }
+}
+
+/// What is used up where a step or an access isn't tried, the node of which is there.
+fn used_up(fault: StepFault) -> LiveAnswer
+    ensures { fault ≢ NoNode → IsUsedUp fault result }
+{
+    match fault {
+        StepFault::StepsUsed => LiveAnswer::Full(Used::Steps),
+        StepFault::TurnsUsed => LiveAnswer::Full(Used::Turns),
+        StepFault::NoNode => LiveAnswer::Mistaken(LineFault::Node),
+    }
+}

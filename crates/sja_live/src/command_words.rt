@@ -1,0 +1,166 @@
+//! What the words of a line ask for.
+
+ghost use Rattle.std.specs.Prelude.{◌≡◌, ◌≤◌, [], ◌∷◌, map, codes, IfOk, IfErr};
+ghost use Rattle.sja_live.specs.Commands.{AreCommandWords};
+ghost use Rattle.sja_live.specs.Inside.Reading.{IsUnasked};
+
+use super::line_fault::LineFault;
+use super::live_command::LiveCommand;
+use super::unasked::Unasked;
+use sja_plan::{GREATEST_NUMBER, TextFault, byte, node_within, number_within, step_of};
+use std::alloc::Global;
+
+/// What the words ask for, by this version of the rules, of a session of so many nodes.
+///
+/// Errors: the first mistake in them; or memory was refused.
+pub(crate) fn command_of(
+    alloc: Global,
+    version: usize,
+    nodes: usize,
+    words: &[&str],
+) -> Result<LiveCommand, Unasked>
+    requires { nodes ≤ 8 }
+    ensures ok { IfOk result (λ c. AreCommandWords version nodes (map (λ w. w.now) words.now) c) }
+    ensures err { IfErr result (IsUnasked version nodes (map (λ w. w.now) words.now)) }
+{
+    if words.len() >= 2 && words[0] == "step" {
+        return step_of_node(alloc, version, nodes, words[1], &words[2..]);
+    }
+    match *words {
+        [name] => of_one_word(version, nodes, name),
+        [name, word] => of_two_words(version, nodes, name, word),
+        [name, node, word] => of_three_words(version, nodes, name, node, word),
+        [name, node, address, value] => of_four_words(version, nodes, name, node, address, value),
+        _ => Err(Unasked::Mistaken(LineFault::Command)),
+    }
+}
+
+/// The step of a node: the words behind it.
+fn step_of_node(
+    alloc: Global,
+    version: usize,
+    nodes: usize,
+    node: &str,
+    rest: &[&str],
+) -> Result<LiveCommand, Unasked>
+    requires { nodes ≤ 8 }
+    ensures ok { IfOk result (λ c.
+        AreCommandWords version nodes (codes "step" ∷ node.now ∷ map (λ w. w.now) rest.now) c) }
+    ensures err { IfErr result (IsUnasked version nodes (codes "step" ∷ node.now ∷ map (λ w. w.now) rest.now)) }
+{
+    let Ok(node) = node_within(nodes, node) else {
+        return Err(Unasked::Mistaken(LineFault::Node));
+    };
+    match step_of(alloc, version, rest) {
+        Ok(step) => Ok(LiveCommand::Step(node, step)),
+        Err(TextFault::NoMemory) => Err(Unasked::Memory),
+        Err(TextFault::Bad) => Err(Unasked::Mistaken(LineFault::Step)),
+    }
+}
+
+/// The command of one word.
+fn of_one_word(version: usize, nodes: usize, name: &str) -> Result<LiveCommand, Unasked>
+    ensures ok { IfOk result (λ c. AreCommandWords version nodes (name.now ∷ []) c) }
+    ensures err { IfErr result (IsUnasked version nodes (name.now ∷ [])) }
+{
+    let _ = (version, nodes);
+    match name {
+        "rest" => Ok(LiveCommand::Rest),
+        "line" => Ok(LiveCommand::Line),
+        "bits" => Ok(LiveCommand::Bits),
+        "plan" => Ok(LiveCommand::Plan),
+        "end" => Ok(LiveCommand::End),
+        _ => Err(Unasked::Mistaken(LineFault::Command)),
+    }
+}
+
+/// The command of a name and the word behind it.
+fn of_two_words(
+    version: usize,
+    nodes: usize,
+    name: &str,
+    word: &str,
+) -> Result<LiveCommand, Unasked>
+    requires few { nodes ≤ 8 }
+    requires other { name.now ≡ codes "step" → ⊥ }
+    ensures ok { IfOk result (λ c. AreCommandWords version nodes (name.now ∷ word.now ∷ []) c) }
+    ensures err { IfErr result (IsUnasked version nodes (name.now ∷ word.now ∷ [])) }
+{
+    let _ = version;
+    match name {
+        "run" => match number_within(word, 0, GREATEST_NUMBER) {
+            Ok(count) => Ok(LiveCommand::Run(count)),
+            Err(_) => Err(Unasked::Mistaken(LineFault::Number)),
+        },
+        "answer" => match node_within(nodes, word) {
+            Ok(node) => Ok(LiveCommand::Answer(node)),
+            Err(_) => Err(Unasked::Mistaken(LineFault::Node)),
+        },
+        _ => Err(Unasked::Mistaken(LineFault::Command)),
+    }
+}
+
+/// The command of a name, a node and the word behind it.
+fn of_three_words(
+    version: usize,
+    nodes: usize,
+    name: &str,
+    node: &str,
+    word: &str,
+) -> Result<LiveCommand, Unasked>
+    requires few { nodes ≤ 8 }
+    requires other { name.now ≡ codes "step" → ⊥ }
+    ensures ok { IfOk result (λ c. AreCommandWords version nodes (name.now ∷ node.now ∷ word.now ∷ []) c) }
+    ensures err { IfErr result (IsUnasked version nodes (name.now ∷ node.now ∷ word.now ∷ [])) }
+{
+    let _ = version;
+    let is_read = name == "read";
+    if !is_read && name != "strike" {
+        return Err(Unasked::Mistaken(LineFault::Command));
+    }
+    let Ok(node) = node_within(nodes, node) else {
+        return Err(Unasked::Mistaken(LineFault::Node));
+    };
+    if is_read {
+        match number_within(word, 0, 255) {
+            Ok(address) => Ok(LiveCommand::Read(node, address as u8)),
+            Err(_) => Err(Unasked::Mistaken(LineFault::Address)),
+        }
+    } else {
+        match number_within(word, 0, GREATEST_NUMBER) {
+            Ok(bit) => Ok(LiveCommand::Strike(node, bit)),
+            Err(_) => Err(Unasked::Mistaken(LineFault::Number)),
+        }
+    }
+}
+
+/// The command of a name, a node, an address and a byte.
+fn of_four_words(
+    version: usize,
+    nodes: usize,
+    name: &str,
+    node: &str,
+    address: &str,
+    value: &str,
+) -> Result<LiveCommand, Unasked>
+    requires few { nodes ≤ 8 }
+    requires other { name.now ≡ codes "step" → ⊥ }
+    ensures ok { IfOk result (λ c.
+        AreCommandWords version nodes (name.now ∷ node.now ∷ address.now ∷ value.now ∷ []) c) }
+    ensures err { IfErr result (IsUnasked version nodes (name.now ∷ node.now ∷ address.now ∷ value.now ∷ [])) }
+{
+    let _ = version;
+    if name != "write" {
+        return Err(Unasked::Mistaken(LineFault::Command));
+    }
+    let Ok(node) = node_within(nodes, node) else {
+        return Err(Unasked::Mistaken(LineFault::Node));
+    };
+    let Ok(address) = number_within(address, 0, 255) else {
+        return Err(Unasked::Mistaken(LineFault::Address));
+    };
+    match byte(value) {
+        Ok(value) => Ok(LiveCommand::Write(node, address as u8, value)),
+        Err(_) => Err(Unasked::Mistaken(LineFault::Byte)),
+    }
+}

@@ -1,0 +1,42 @@
+//! A session that is driven line by line: `sja live`.
+//!
+//! [`talk`] has a session over a reader and a writer: each line is a call, a typed step, an access by address and byte,
+//! bits, a look or a strike, and its answer is written before the next line is read. The plan that the session writes
+//! has typed steps, so that a run of it, by `sja run`, has the report with which the talk ends.
+//!
+//! `specs/Calls.antt` says what each call does, `specs/Answering.antt` what each command is answered, and
+//! `specs/Talking.antt` what a whole talk is. The tests stand in `crates/test_live`.
+#![tactic(auto)]
+
+mod answer_text;
+mod answered_bits;
+mod answered_steps;
+mod answering;
+mod beginning;
+mod command_words;
+mod interrupt_lines;
+mod line_fault;
+mod line_words;
+mod live_answer;
+mod live_command;
+mod next_answer;
+mod next_line;
+mod opening;
+mod opening_fault;
+mod opening_words;
+mod talk_fault;
+mod talked;
+mod talking;
+mod unasked;
+mod unopened;
+mod used;
+
+pub use line_fault::LineFault;
+pub use live_answer::LiveAnswer;
+pub use live_command::LiveCommand;
+pub use opening::Opening;
+pub use opening_fault::OpeningFault;
+pub use talk_fault::TalkFault;
+pub use talked::Talked;
+pub use talking::talk;
+pub use used::Used;

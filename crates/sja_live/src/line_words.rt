@@ -1,0 +1,30 @@
+//! What a line asks for.
+
+ghost use Rattle.std.specs.Prelude.{◌≤◌, IfOk, IfErr};
+ghost use Rattle.sja_live.specs.Commands.{AsksFor};
+ghost use Rattle.sja_live.specs.Inside.Reading.{IsUnasked};
+ghost use Rattle.sja_plan.specs.Words.{words};
+
+use super::command_words::command_of;
+use super::live_command::LiveCommand;
+use super::unasked::Unasked;
+use sja_plan::find_words;
+use std::alloc::Global;
+
+/// What a line asks for, by this version of the rules, of a session of so many nodes.
+///
+/// Errors: the first mistake in it; or memory was refused.
+pub(crate) fn asked(
+    alloc: Global,
+    version: usize,
+    nodes: usize,
+    line: &str,
+) -> Result<LiveCommand, Unasked>
+    requires { nodes ≤ 8 }
+    ensures ok { IfOk result (λ c. AsksFor version nodes line.now c) }
+    ensures err { IfErr result (IsUnasked version nodes (words line.now)) }
+{
+    let mut words = Vec::new(alloc);
+    find_words(&mut words, line)?;
+    command_of(alloc, version, nodes, words.as_slice())
+}

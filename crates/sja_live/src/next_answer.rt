@@ -1,0 +1,88 @@
+//! The next answer of a talk.
+
+ghost use Rattle.std.specs.Prelude.{List, IfOk};
+ghost use Rattle.sja_driver.specs.Deeds.{Deed};
+ghost use Rattle.sja_live.specs.Calls.{IsLiveAt};
+ghost use Rattle.sja_live.specs.Inside.Going.{FirstSays, IsNextAnswer, IsAnswerOf};
+ghost use Rattle.sja_live.specs.Lines.{IsReadable};
+
+use super::answering::answered;
+use super::line_fault::LineFault;
+use super::line_words::asked;
+use super::live_answer::LiveAnswer;
+use super::live_command::LiveCommand;
+use super::next_line::{Line, next_line};
+use super::opening::Opening;
+use super::opening_fault::OpeningFault;
+use super::opening_words::opened;
+use super::talk_fault::TalkFault;
+use super::unasked::Unasked;
+use super::unopened::Unopened;
+use sja_session::RawSession;
+use std::alloc::Global;
+use std::io::Read;
+
+/// Reads the first line: the session that it opens, or why it opens none.
+///
+/// Errors: [`TalkFault::Memory`] and [`TalkFault::Read`].
+#[tactic(auto, using(crate::proofs::LineAnswers::first_lines))]
+pub(crate) fn first_said<R: Read>(
+    alloc: Global,
+    input: &mut R,
+) -> Result<Result<Opening, OpeningFault>, TalkFault>
+    ensures { IfOk result (FirstSays (R.remaining input.old) (R.remaining input.new)) }
+{
+    match next_line(alloc, input)? {
+        Line::Text(line) => match opened(alloc, line.as_str()) {
+            Ok(opening) => Ok(Ok(opening)),
+            Err(Unopened::Fault(fault)) => Ok(Err(fault)),
+            Err(Unopened::Memory) => Err(TalkFault::Memory),
+        },
+        Line::Long => Ok(Err(OpeningFault::Long)),
+        Line::NoText => Ok(Err(OpeningFault::Text)),
+        Line::Over => Ok(Err(OpeningFault::Command)),
+    }
+}
+
+/// Reads a line and does what it asks for; none, where it ends the talk or there is no line.
+///
+/// Errors: [`TalkFault::Memory`] and [`TalkFault::Read`].
+#[tactic(auto, using(crate::proofs::LineAnswers::next_lines))]
+pub(crate) fn next_answer<R: Read>(
+    alloc: Global,
+    input: &mut R,
+    session: &mut RawSession,
+) -> Result<Option<LiveAnswer>, TalkFault>
+    ensures { IfOk result (λ next. (deeds : List (List Deed)) → IsLiveAt session.old deeds →
+        IsNextAnswer (R.remaining input.old) (R.remaining input.new) session.old session.new deeds next) }
+{
+    match next_line(alloc, input)? {
+        Line::Over => Ok(None),
+        Line::Long => Ok(Some(LiveAnswer::Long)),
+        Line::NoText => Ok(Some(LiveAnswer::Mistaken(LineFault::Text))),
+        Line::Text(line) => answer_of(alloc, session, line.as_str()),
+    }
+}
+
+/// Does what a line asks for; none, where that is the end.
+///
+/// Error: [`TalkFault::Memory`].
+#[tactic(auto, using(crate::proofs::Named::of_node, crate::proofs::LineAnswers::line_answers))]
+fn answer_of(
+    alloc: Global,
+    session: &mut RawSession,
+    line: &str,
+) -> Result<Option<LiveAnswer>, TalkFault>
+    requires { IsReadable line.now }
+    ensures { IfOk result (λ next. (deeds : List (List Deed)) → IsLiveAt session.old deeds →
+        IsAnswerOf session.old session.new deeds line.now next) }
+{
+    let version = usize::from(session.session().version());
+    let nodes = session.session().nodes();
+    match asked(alloc, version, nodes, line) {
+        Ok(LiveCommand::End) => Ok(None),
+        Ok(command) => Ok(Some(answered(alloc, session, command)?)),
+        Err(Unasked::Mistaken(fault)) => Ok(Some(LiveAnswer::Mistaken(fault))),
+        Err(Unasked::Memory) => Err(TalkFault::Memory),
+    }
+}

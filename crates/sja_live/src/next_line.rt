@@ -1,0 +1,109 @@
+//! The next line of a reader.
+
+ghost use Rattle.std.specs.Prelude.{◌≡◌, ◌≤◌, ◌<◌, ◌++◌, ◌∷◌, [], ℕ, List, length, take, vec_capacity, IfOk};
+ghost use Rattle.sja_live.specs.Inside.Reading.{TakesByte, TakesLine, IsLineOf, IsLineReadable};
+ghost use Rattle.sja_live.specs.Lines.{most_line};
+ghost use Rattle.sja_live.specs.declared.next_line.Line.TheVariants.{Over};
+
+use super::talk_fault::TalkFault;
+use std::alloc::Global;
+use std::io::{ErrorKind, Read};
+
+/// How many bytes a line has at most, its line feed not counted (this project's own rule).
+const MOST_LINE: usize = 64;
+
+/// The byte that ends a line.
+const LINE_FEED: u8 = b'\n';
+
+/// What stands next in the input.
+pub(crate) enum Line {
+    /// A line, without its line feed.
+    Text(String),
+    /// A line that is too long.
+    Long,
+    /// A line whose bytes are no UTF-8.
+    NoText,
+    /// Nothing: the input is over.
+    Over,
+}
+
+/// Reads the next line. One that is too long is read to its line feed, and forgotten.
+///
+/// Errors: [`TalkFault::Read`] where a read failed; [`TalkFault::Memory`].
+pub(crate) fn next_line<R: Read>(alloc: Global, input: &mut R) -> Result<Line, TalkFault>
+    ensures line { IfOk result (λ line. TakesLine (R.remaining input.old) (R.remaining input.new) line) }
+    ensures readable { IfOk result IsLineReadable }
+{
+    let mut bytes = Vec::with_capacity(alloc, MOST_LINE)?;
+    let mut count = 0u64;
+    for _ in 0..u64::MAX {
+        let Some(byte) = next_byte(input)? else {
+            return Ok(last_line(bytes, count));
+        };
+        if byte == LINE_FEED {
+            return Ok(line_of(bytes, count));
+        }
+        keep(&mut bytes, byte);
+        count += 1;
+    }
+    Err(TalkFault::Read)
+}
+
+/// Keeps one byte more of a line, where fewer are kept than a line has at most.
+fn keep(bytes: &mut Vec<u8>, byte: u8)
+    requires { most_line ≤ vec_capacity bytes.old }
+    ensures front { (line : List ℕ) → bytes.old.items ≡ take most_line line
+        → bytes.new.items ≡ take most_line (line ++ byte ∷ []) }
+    ensures room { vec_capacity bytes.new ≡ vec_capacity bytes.old }
+{
+    if bytes.len() >= MOST_LINE {
+        return;
+    }
+    bytes.push_reserved(byte);
+}
+
+/// The line behind the last line feed, of so many bytes, of which these were kept; none where there are no bytes.
+fn last_line(bytes: Vec<u8>, count: u64) -> Line
+    ensures none { count ≡ 0 → result ≡ Over }
+    ensures some { 0 < count → (line : List ℕ) → bytes.items ≡ take most_line line → count ≡ length line
+        → IsLineOf line result }
+{
+    if count == 0 {
+        return Line::Over;
+    }
+    line_of(bytes, count)
+}
+
+/// The line of so many bytes, of which these were kept: all, or as many as a line has at most.
+fn line_of(bytes: Vec<u8>, count: u64) -> Line
+    ensures { (line : List ℕ) → bytes.items ≡ take most_line line → count ≡ length line → IsLineOf line result }
+{
+    if count > MOST_LINE as u64 {
+        return Line::Long;
+    }
+    match String::from_utf8(bytes) {
+        Ok(text) => Line::Text(text),
+        Err(_) => Line::NoText,
+    }
+}
+
+/// Reads one byte. None where the input is over. A read that was interrupted is tried again.
+///
+/// Error: [`TalkFault::Read`] where a read failed.
+fn next_byte<R: Read>(input: &mut R) -> Result<Option<u8>, TalkFault>
+    ensures { IfOk result (λ byte. TakesByte (R.remaining input.old) (R.remaining input.new) byte) }
+{
+    let mut byte = [0u8; 1];
+    for _ in 0..u64::MAX {
+        match input.read(&mut byte) {
+            Ok(0) => return Ok(None),
+            Ok(_) => return Ok(Some(byte[0])),
+            Err(error) => {
+                if error.kind() != ErrorKind::Interrupted {
+                    return Err(TalkFault::Read);
+                }
+            }
+        }
+    }
+    Err(TalkFault::Read)
+}

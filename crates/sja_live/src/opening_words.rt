@@ -1,0 +1,47 @@
+//! What the first line of a talk says.
+
+ghost use Rattle.std.specs.Prelude.{IfOk, IfErr};
+ghost use Rattle.sja_live.specs.Inside.Reading.{IsUnopened};
+ghost use Rattle.sja_live.specs.Lines.{IsReadable};
+ghost use Rattle.sja_live.specs.Opening.{Opens};
+
+use super::opening::Opening;
+use super::opening_fault::OpeningFault;
+use super::unopened::Unopened;
+use sja_plan::{RAW_VERSION, find_words, most_bits, number_within};
+use sja_script::MOST_NODES;
+use std::alloc::Global;
+
+/// What the first line says.
+///
+/// Errors: why it opens no session; or memory was refused.
+pub(crate) fn opened(alloc: Global, line: &str) -> Result<Opening, Unopened>
+    requires { IsReadable line.now }
+    ensures ok { IfOk result (Opens line.now) }
+    ensures err { IfErr result (IsUnopened line.now) }
+{
+    let mut words = Vec::new(alloc);
+    find_words(&mut words, line)?;
+    let [name, version, bits, nodes] = *words.as_slice() else {
+        return Err(Unopened::Fault(OpeningFault::Command));
+    };
+    if name != "live" {
+        return Err(Unopened::Fault(OpeningFault::Command));
+    }
+    let Ok(version) = number_within(version, 1, u32::from(RAW_VERSION)) else {
+        return Err(Unopened::Fault(OpeningFault::Version));
+    };
+    let version = version as u8;
+    let Ok(bits) = number_within(bits, 1, most_bits(version)) else {
+        return Err(Unopened::Fault(OpeningFault::Bits));
+    };
+    let Ok(nodes) = number_within(nodes, 1, u32::from(MOST_NODES)) else {
+        return Err(Unopened::Fault(OpeningFault::Nodes));
+    };
+    let nodes = nodes as u8;
+    Ok(Opening {
+        version,
+        bits,
+        nodes,
+    })
+}

@@ -1,0 +1,106 @@
+//! A talk: lines of a reader, each answered before the next one is read.
+
+ghost use Rattle.std.specs.Prelude.{◌≡◌, ◌≢◌, List, IfOk, IfErr, OnOk};
+ghost use Rattle.std.specs.Io.KnownBytes.{Appends};
+ghost use Rattle.sja_driver.specs.Deeds.{Deed};
+ghost use Rattle.sja_live.specs.AnswerTexts.{answer_text, opening_text};
+ghost use Rattle.sja_live.specs.Calls.{IsLiveAt};
+ghost use Rattle.sja_live.specs.Inside.Going.{AppendsReport};
+ghost use Rattle.sja_live.specs.Talking.{IsTold, Speaks, BreaksOff};
+ghost use Rattle.sja_live.specs.declared.talk_fault.TalkFault.TheVariants.{Write as WriteFault};
+
+use super::answer_text::put_answer;
+use super::beginning::session_of;
+use super::live_answer::LiveAnswer;
+use super::next_answer::{first_said, next_answer};
+use super::opening_fault::OpeningFault;
+use super::talk_fault::TalkFault;
+use super::talked::Talked;
+use sja_report::report;
+use sja_session::RawSession;
+use std::alloc::Global;
+use std::io::{Read, Write};
+
+/// Talks with whoever writes the input: the first line opens a session, each further line is a call of it, whose answer
+/// is written and flushed before the next line is read, and `end`, or the end of the input, ends the talk with the
+/// report of the session's log.
+///
+/// Errors: [`TalkFault::Memory`], [`TalkFault::Read`] and [`TalkFault::Write`], where memory was refused, or a read or
+/// a write failed. What was answered before stays written.
+#[tactic(auto, using(crate::proofs::GoingOn::talks))]
+pub fn talk<R: Read, W: Write>(
+    alloc: Global,
+    input: &mut R,
+    out: &mut W,
+) -> Result<Talked, TalkFault>
+    ensures told { IfOk result (λ talked. Speaks (R.remaining input.old) (R.remaining input.new) (W.contents out.old)
+        (W.contents out.new) (IsTold talked)) }
+    ensures broken { IfErr result (λ fault. fault ≢ WriteFault →
+        BreaksOff (R.remaining input.old) (W.contents out.old) (W.contents out.new)) }
+{
+    let opening = match first_said(alloc, input)? {
+        Ok(opening) => opening,
+        Err(fault) => {
+            put(out, opening_line(fault))?;
+            return Ok(Talked::Unopened);
+        }
+    };
+    let Ok(mut session) = session_of(alloc, opening) else {
+        return Err(TalkFault::Memory);
+    };
+    put(out, "ok\n")?;
+    for _ in 0..u64::MAX {
+        let Some(answer) = next_answer(alloc, input, &mut session)? else {
+            put_report(alloc, out, session)?;
+            return Ok(Talked::Reported);
+        };
+        put_line(alloc, out, &answer)?;
+    }
+    Err(TalkFault::Read)
+}
+
+/// The line that says why there is no session.
+fn opening_line(fault: OpeningFault) -> &'static str
+    ensures { result.now ≡ opening_text fault }
+{
+    match fault {
+        OpeningFault::Long => "long\n",
+        OpeningFault::Text => "no TEXT\n",
+        OpeningFault::Command => "no COMMAND\n",
+        OpeningFault::Version => "no VERSION\n",
+        OpeningFault::Bits => "no BITS\n",
+        OpeningFault::Nodes => "no NODES\n",
+    }
+}
+
+/// Writes the line of an answer.
+fn put_line<W: Write>(alloc: Global, out: &mut W, answer: &LiveAnswer) -> Result<(), TalkFault>
+    ensures told { OnOk result (Appends (W.contents out.old) (W.contents out.new) (answer_text answer.now)) }
+    ensures kept { IfErr result (λ f. f ≢ WriteFault → W.contents out.new ≡ W.contents out.old) }
+{
+    let mut text = String::new(alloc);
+    put_answer(alloc, &mut text, answer)?;
+    put(out, text.as_str())
+}
+
+/// Ends a session, and writes its report.
+fn put_report<W: Write>(alloc: Global, out: &mut W, session: RawSession) -> Result<(), TalkFault>
+    ensures told { OnOk result ((deeds : List (List Deed)) → IsLiveAt session deeds →
+        AppendsReport (W.contents out.old) (W.contents out.new) session deeds) }
+    ensures kept { IfErr result (λ f. f ≢ WriteFault → W.contents out.new ≡ W.contents out.old) }
+{
+    let (_plan, log) = session.finish(alloc)?;
+    let text = report(alloc, &log)?;
+    put(out, text.as_str())
+}
+
+/// Writes a text and flushes it.
+fn put<W: Write>(out: &mut W, text: &str) -> Result<(), TalkFault>
+    ensures told { OnOk result (Appends (W.contents out.old) (W.contents out.new) text.now) }
+    ensures err { IfErr result (λ f. f ≡ WriteFault) }
+{
+    if out.write_all(text.as_bytes()).is_err() || out.flush().is_err() {
+        return Err(TalkFault::Write);
+    }
+    Ok(())
+}

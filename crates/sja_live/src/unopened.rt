@@ -1,0 +1,24 @@
+//! Why no session is opened by a line.
+
+use super::opening_fault::OpeningFault;
+use std::alloc::AllocError;
+
+/// Why no session is opened by a line.
+#[derive(Clone, Copy, Debug, PartialEq, Eq)]
+pub(crate) enum Unopened {
+    /// It is no opening.
+    Fault(OpeningFault),
+    /// Memory was refused.
+    Memory,
+}
+
+impl From<AllocError> for Unopened {
+    ghost use Rattle.std.specs.Prelude.{◌≡◌};
+    ghost use Rattle.sja_live.specs.declared.unopened.Unopened.TheVariants.{Memory};
+
+    ghost from_gives = { λ _ e. e ≡ Memory };
+
+    fn from(_: AllocError) -> Unopened {
+        Unopened::Memory
+    }
+}

@@ -1,0 +1,19 @@
+use Rattle.std.proofs.Common.{◌≢◌, refl, inl, inr}
+use Rattle.sja_live.specs.declared.talk_fault.TalkFault.TheVariants.{Write}
+use Rattle.sja_texts.specs.declared.command_refusal.CommandRefusal.TheVariants.{OutOfMemory, Read}
+use Rattle.sja_run.proofs.live.reply_live.Goals as goal
+
+-- memory was refused on the way
+pub returns-in-Err-Memory-clause-answered : goal.returns-in-Err-Memory-clause-answered
+returns-in-Err-Memory-clause-answered g c = λ _ told.
+    let other : c.in-Err-Memory.field-0 ≢ Write = λ same. cc (same, c.in-Err-Memory.field-0-is) in
+    let broken = c.in-Err-Memory.ensures.broken other in
+    inr (OutOfMemory, inl refl, c.refuse.ensures.status, broken, (c.refuse.ensures.written told).1)
+
+-- a read failed
+pub returns-in-Err-Read-clause-answered : goal.returns-in-Err-Read-clause-answered
+returns-in-Err-Read-clause-answered g c = λ _ told.
+    let other : c.in-Err-Read.field-0 ≢ Write = λ same. cc (same, c.in-Err-Read.field-0-is) in
+    let broken = c.in-Err-Read.ensures.broken other in
+    let written = (c.refuse-in-Err-Read.ensures.written told).1 in
+    inr (Read, inr refl, c.refuse-in-Err-Read.ensures.status, broken, written)

@@ -1,0 +1,26 @@
+-- What `live` does (this project's own rule): a talk over the input and the output, and where that breaks off a line on
+-- the error output.
+use Rattle.std.specs.Prelude.{◌≡◌, ◌⊎◌, ℕ, List, Option}
+use Rattle.std.specs.Io.KnownBytes.{Appends, Keeps}
+use Rattle.sja_live.specs.Talking.{BreaksOff, IsTold, Speaks}
+use Rattle.sja_live.specs.declared.talked.Talked.{Talked}
+use Rattle.sja_live.specs.declared.talked.Talked.TheVariants.{Reported, Unopened}
+use Rattle.sja_texts.specs.Refusal.{refusal_line}
+use Rattle.sja_texts.specs.declared.command_refusal.CommandRefusal.{CommandRefusal}
+use Rattle.sja_texts.specs.declared.command_refusal.CommandRefusal.TheVariants as refusal
+
+-- the status of a talk: 0 where it ended with a report, 1 where its first line opened no session
+abbrev pub talk_status : Talked → ℕ
+talk_status Reported = 0
+talk_status Unopened = 1
+
+-- the exit status, and what the input, the output and the error output held before and hold after. Either a whole talk
+-- is on the output; or what was answered by then, and the refusal of memory or of a read is on the error output
+abbrev pub ShowsTalk :
+    ℕ → Option (List ℕ) → Option (List ℕ) → Option (List ℕ) → Option (List ℕ) → Option (List ℕ) → Option (List ℕ)
+    → Type 0
+ShowsTalk status in_old in_new out_old out_new err_old err_new =
+    ((talked : Talked) × (status ≡ talk_status talked) × Speaks in_old in_new out_old out_new (IsTold talked)
+    × Keeps err_old err_new)
+    ⊎ ((r : CommandRefusal) × ((r ≡ refusal.OutOfMemory) ⊎ (r ≡ refusal.Read)) × (status ≡ 1)
+    × BreaksOff in_old out_old out_new × Appends err_old err_new (refusal_line r))

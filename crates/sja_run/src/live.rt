@@ -1,0 +1,40 @@
+//! `live`: a session that is driven line by line.
+
+ghost use Rattle.std.specs.Prelude.{◌≡◌, ◌⊎◌, false, true};
+ghost use Rattle.sja_run.specs.Live.{ShowsTalk};
+
+use super::output::Output;
+use sja_live::{TalkFault, Talked, talk};
+use sja_texts::CommandRefusal;
+use std::alloc::Global;
+use std::io::{Read, Write};
+
+/// Talks with whoever writes the input, and gives the exit status: 0 where the talk ended with a report, 1 where its
+/// first line opened no session, or where memory was refused, a read or a write failed.
+pub(crate) fn reply_live<R: Read, O: Write, E: Write>(
+    alloc: Global,
+    input: &mut R,
+    out: &mut Output<O>,
+    err: &mut Output<E>,
+) -> u8
+    ensures answered { out.new.failed ≡ false → err.new.failed ≡ false
+        → ShowsTalk result (R.remaining input.old) (R.remaining input.new)
+        (O.contents out.old.writer) (O.contents out.new.writer)
+        (E.contents err.old.writer) (E.contents err.new.writer) }
+    ensures failed { out.old.failed ≡ false → err.old.failed ≡ false
+        → (out.new.failed ≡ true) ⊎ (err.new.failed ≡ true) → result ≡ 1 }
+{
+    if out.failed {
+        return 1;
+    }
+    match talk(alloc, input, &mut out.writer) {
+        Ok(Talked::Reported) => 0,
+        Ok(Talked::Unopened) => 1,
+        Err(TalkFault::Memory) => err.refuse(CommandRefusal::OutOfMemory),
+        Err(TalkFault::Read) => err.refuse(CommandRefusal::Read),
+        Err(TalkFault::Write) => {
+            out.failed = true;
+            1
+        }
+    }
+}

@@ -1,0 +1,29 @@
+/* A driver that polls the status register. See polling.c. */
+#ifndef POLLING_H
+#define POLLING_H
+
+#include "board.h"
+
+/* What a driver lets through: the identifiers that have these bits, and don't care where the mask is 1 (single filter
+ * of eleven bits, data sheet, 6.4.15). */
+struct filter {
+    uint32_t code;
+    uint32_t mask;
+};
+
+struct polling {
+    struct board board;
+    int busy;           /* a message is under way */
+    int once;           /* it is tried once alone */
+    unsigned overruns;
+    unsigned restarts;
+};
+
+int polling_open(struct polling *driver, sja *session, uint32_t node, struct filter filter);
+int polling_send(struct polling *driver, const struct message *message, int once);
+enum outcome polling_outcome(struct polling *driver);
+int polling_receive(struct polling *driver, struct message *message);
+void polling_care(struct polling *driver);
+void polling_close(struct polling *driver);
+
+#endif

@@ -1,0 +1,231 @@
+"""Sessions of SJA1000 controllers in Python: the calls of c/sja.h.
+
+    with Session(version=3, bits=1000, nodes=2) as bus:
+        bus.write(0, 0, 0x00)
+        bus.run(100)
+        print(bus.report())
+
+A session is one of a shared object made of the library, where there is one, and else a process `sja live` of its own.
+The environment variable SJA_LIBRARY names the shared object (checks/c_library makes one), and SJA the program. Each
+call that isn't done raises SjaError, with its status. Standard library only."""
+
+import ctypes
+import os
+import subprocess
+
+STATUSES = """DONE NO_HANDLE ENDED NO_VERSION NO_BITS NO_NODES NO_ADDRESS NO_BYTE NO_NODE NO_BIT PAST STEPS_USED
+TURNS_USED STRIKES_USED NO_PLAN NO_DOCUMENT NO_ROOM NO_MEMORY BROKEN""".split()
+
+LINES = {"no VERSION": "NO_VERSION", "no BITS": "NO_BITS", "no NODES": "NO_NODES", "no NODE": "NO_NODE",
+         "no ADDRESS": "NO_ADDRESS", "no BYTE": "NO_BYTE", "no BIT": "PAST", "full STEPS": "STEPS_USED",
+         "full TURNS": "TURNS_USED", "full STRIKES": "STRIKES_USED", "full PLAN": "NO_DOCUMENT"}
+
+
+class SjaError(Exception):
+    """A call that isn't done. `status` is its name in enum sja_status, without SJA_."""
+
+    def __init__(self, status):
+        super().__init__(status)
+        self.status = status
+
+
+class _Answer(ctypes.Structure):
+    _fields_ = [("status", ctypes.c_uint32), ("value", ctypes.c_uint64)]
+
+
+class _Library:
+    """A session in this process."""
+
+    def __init__(self, path, version, bits, nodes):
+        self.calls = ctypes.CDLL(path)
+        u32, text, handle = ctypes.c_uint32, [ctypes.c_char_p, ctypes.c_size_t], [ctypes.c_void_p]
+        arguments = {"make": [ctypes.POINTER(ctypes.c_void_p)], "begin": handle + [u32] * 3, "read": handle + [u32] * 2,
+                     "write": handle + [u32] * 3, "bits": handle + [u32] * 2, "irq": handle + [u32],
+                     "strike": handle + [u32] * 2, "now": handle, "report": handle + text, "plan": handle + text,
+                     "let_go": handle}
+        for name, types in arguments.items():
+            call = getattr(self.calls, f"sja_{name}")
+            call.argtypes, call.restype = types, _Answer
+        self.handle = ctypes.c_void_p()
+        self._done(self.calls.sja_make(ctypes.byref(self.handle)))
+        try:
+            self._done(self.calls.sja_begin(self.handle, version, bits, nodes))
+        except SjaError:
+            self.close()
+            raise
+
+    @staticmethod
+    def _done(answer):
+        if answer.status:
+            raise SjaError(STATUSES[answer.status])
+        return answer.value
+
+    def call(self, name, *numbers):
+        return self._done(getattr(self.calls, f"sja_{name}")(self.handle, *numbers))
+
+    def text(self, name):
+        call = getattr(self.calls, f"sja_{name}")
+        needs = call(self.handle, ctypes.create_string_buffer(1), 0)
+        if STATUSES[needs.status] != "NO_ROOM":
+            self._done(needs)
+        room = ctypes.create_string_buffer(needs.value)
+        self._done(call(self.handle, room, needs.value))
+        return room.value.decode()
+
+    def close(self):
+        if self.handle:
+            self.calls.sja_let_go(self.handle)
+            free = ctypes.CDLL(None).free
+            free.argtypes, free.restype = [ctypes.c_void_p], None
+            free(self.handle)
+            self.handle = None
+
+
+class _Process:
+    """A session in a process of its own."""
+
+    def __init__(self, program, version, bits, nodes):
+        self.process = subprocess.Popen([program, "live"], stdin=subprocess.PIPE, stdout=subprocess.PIPE)
+        self.bits, self.nodes, self.texts = bits, nodes, {}
+        self._ask(f"live {version} {bits} {nodes}", "ok")
+
+    def _ask(self, line, *words):
+        """Says a line. The number behind the first of these words that the answer begins with, and the whole of it."""
+        try:
+            self.process.stdin.write(f"{line}\n".encode())
+            self.process.stdin.flush()
+            heard = self.process.stdout.readline().decode().rstrip("\n")
+        except OSError:
+            raise SjaError("BROKEN") from None
+        for word in words:
+            if heard == word or heard.startswith(f"{word} "):
+                return heard
+        raise SjaError(LINES.get(heard, "BROKEN"))
+
+    def _judge(self, *checks):
+        if self.texts:
+            raise SjaError("ENDED")
+        for holds, status in checks:
+            if not holds:
+                raise SjaError(status)
+
+    def call(self, name, *numbers):
+        return getattr(self, f"_{name}")(*numbers)
+
+    def _read(self, node, address):
+        self._judge((0 <= address <= 255, "NO_ADDRESS"), (0 <= node < self.nodes, "NO_NODE"))
+        return int(self._ask(f"read {node} {address}", "value").split()[1], 16)
+
+    def _write(self, node, address, value):
+        self._judge((0 <= address <= 255, "NO_ADDRESS"), (0 <= value <= 255, "NO_BYTE"),
+                    (0 <= node < self.nodes, "NO_NODE"))
+        self._ask(f"write {node} {address} {value:02x}", "ok")
+        return 0
+
+    def _lines(self):
+        return int(self._ask("line", "line").split()[1], 16)
+
+    def _bits(self, count, watch):
+        self._judge()
+        before = self._lines() if watch else 0
+        total = 0
+        while True:
+            words = self._ask(f"run {min(count - total, 9999999)}", "ran").split()
+            total += int(words[1])
+            active = int(words[3], 16) if words[2:3] == ["line"] else None
+            if active is None or total >= count or active & ~before & watch:
+                return total
+            before = active
+
+    def _irq(self, node):
+        self._judge((0 <= node < self.nodes, "NO_NODE"))
+        return self._lines() >> node & 1
+
+    def _strike(self, node, bit):
+        self._judge((0 <= node < self.nodes, "NO_NODE"), (0 <= bit < self.bits, "NO_BIT"))
+        self._ask(f"strike {node} {bit}", "ok")
+        return 0
+
+    def _now(self):
+        self._judge()
+        return int(self._ask("bits", "bits").split()[1])
+
+    def _plan_now(self):
+        self.process.stdin.write(b"plan\n")
+        self.process.stdin.flush()
+        lines = []
+        for line in self.process.stdout:
+            if line == b".\n":
+                return b"".join(lines).decode()
+            if line == b"full PLAN\n" and not lines:
+                return None
+            lines.append(line)
+        raise SjaError("BROKEN")
+
+    def text(self, name):
+        if not self.texts and name == "report":
+            self.texts["plan"] = self._plan_now()
+            self.process.stdin.write(b"end\n")
+            self.process.stdin.flush()
+            self.texts["report"] = self.process.stdout.read().decode()
+        text = self.texts[name] if self.texts else self._plan_now()
+        if text is None:
+            raise SjaError("NO_DOCUMENT")
+        return text
+
+    def close(self):
+        self.process.stdin.close()
+        self.process.stdout.close()
+        self.process.wait()
+
+
+class Session:
+    """A bus of one to eight controllers. The calls are those of c/sja.h."""
+
+    def __init__(self, version, bits, nodes):
+        library = os.environ.get("SJA_LIBRARY")
+        if library:
+            self._session = _Library(library, version, bits, nodes)
+        else:
+            self._session = _Process(os.environ.get("SJA", "sja"), version, bits, nodes)
+
+    def read(self, node, address):
+        """Reads an address of a node."""
+        return self._session.call("read", node, address)
+
+    def write(self, node, address, value):
+        """Writes a byte to an address of a node."""
+        self._session.call("write", node, address, value)
+
+    def run(self, count, watch=0):
+        """Runs bits, up to the first in which the line of a watched node rises. How many were run."""
+        return self._session.call("bits", count, watch)
+
+    def irq(self, node):
+        """Whether the interrupt line of a node is active."""
+        return bool(self._session.call("irq", node))
+
+    def strike(self, node, bit):
+        """Has a node see the other level in a bit that hasn't run."""
+        self._session.call("strike", node, bit)
+
+    def now(self):
+        """How many bits were run."""
+        return self._session.call("now")
+
+    def report(self):
+        """Ends the session. Its report."""
+        return self._session.text("report")
+
+    def plan(self):
+        """The plan that the session wrote so far."""
+        return self._session.text("plan")
+
+    def close(self):
+        self._session.close()
+
+    def __enter__(self):
+        return self
+
+    def __exit__(self, *_):
+        self.close()
