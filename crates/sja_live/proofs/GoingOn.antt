@@ -1,5 +1,5 @@
 -- A talk, line by line.
-use Rattle.std.proofs.Common.{◌≡◌, List, [], ◌∷◌, ◌++◌, replicate, refl, sym, ap, ◌∙◌, subst, inl, inr}
+use Rattle.std.proofs.Common.{◌≡◌, List, [], ◌∷◌, ◌++◌, replicate, refl, sym, ap, ◌∙◌, subst}
 use Rattle.std.specs.Prelude.{◌⊎◌, Option, Some, None, Ok, Err}
 use Rattle.std.proofs.lemmas.List.{append_assoc, append-nil}
 use Rattle.std.specs.Io.KnownBytes.{Appends}
@@ -10,7 +10,8 @@ use Rattle.sja_live.specs.Calls.{IsLiveAt}
 use Rattle.sja_live.specs.Inside.Going.{AppendsReport, FirstSays, Goes, IsNextAnswer}
 use Rattle.sja_live.specs.Lines.{first_line, behind_line, LeadsOn}
 use Rattle.sja_live.specs.Lines.LeadsOn.{none, more}
-use Rattle.sja_live.specs.Talking.{BreaksOff, EndsTalk, HasTalked, IsTold, Replies, Speaks}
+use Rattle.sja_live.proofs.Spelled.{begins_live, new_live}
+use Rattle.sja_live.specs.Talking.{EndsTalk, HasTalked, IsTold, Replies, Speaks}
 use Rattle.sja_live.specs.Talking.Talks.{begin, go_on}
 use Rattle.sja_live.specs.declared.live_answer.LiveAnswer.{LiveAnswer}
 use Rattle.sja_live.specs.declared.opening.Opening.{Opening}
@@ -26,10 +27,6 @@ leads_more : {text rest : Text} {lines : List Text} → LeadsOn text lines rest 
     LeadsOn text (lines ++ first_line rest ∷ []) (behind_line rest)
 leads_more none some = more some none
 leads_more (more not lead) some = more not (leads_more lead some)
-
--- a new session stands where nothing was done
-new_at : (s : RawValue) (o : Opening) → IsNewOf s o → IsLiveAt s (replicate o.nodes [])
-new_at s o new = new.at
 
 talk_more : (input rest : Text) (was now : RawValue) (deeds after : List (List Deed)) (said : Text)
     (answer : LiveAnswer) → HasTalked input rest was deeds said → ¬ (rest ≡ []) →
@@ -76,7 +73,7 @@ talk_begins (Some input) (Some left) (Some old) (Some new) opening s said is wro
     } in (
       opened_text,
       replicate opening.nodes [],
-      new_at s opening is,
+      new_live s opening is opens.bits.2,
       subst (λ l. HasTalked input l s (replicate opening.nodes []) opened_text) (sym behind) first,
       wrote,
     )
@@ -147,23 +144,6 @@ talk_ends (Some input) (Some rest) (Some left) (Some old) (Some mid) new was now
           },
         )
 
--- what was said so far is whole answers
-pub talk_breaks : (input rest old new : Option Text) (s : RawValue) → Goes input rest old new s →
-    BreaksOff input old new
-talk_breaks None rest old new s g = tt
-talk_breaks (Some input) rest None new s g = tt
-talk_breaks (Some input) None (Some old) new s g = absurd g
-talk_breaks (Some input) (Some rest) (Some old) None s g = absurd g
-talk_breaks (Some input) (Some rest) (Some old) (Some new) s g =
-    (g.0, g.4, inr (s, rest, g.1, g.3))
-
--- nothing was said
-pub talk_silent : (input old new : Option Text) → new ≡ old → BreaksOff input old new
-talk_silent None old new same = tt
-talk_silent (Some input) None new same = tt
-talk_silent (Some input) (Some old) new same =
-    subst (BreaksOff (Some input) (Some old)) (sym same) ([], sym (append-nil old), inl refl)
-
 -- the first line opened no session, and that was said
 pub talk_refused : (input left old new : Option Text) (fault : OpeningFault) → FirstSays input left (Err fault) →
     Appends old new (opening_text fault) → Speaks input left old new (IsTold Unopened)
@@ -175,4 +155,4 @@ talk_refused (Some input) (Some left) (Some old) (Some new) fault said wrote =
     (opening_text fault, wrote, record { fault = fault; is = said.0; told = refl; behind = said.1 })
 
 -- a talk from its first line to its end
-pub ruleset talks = (talk_begins, talk_goes_on, talk_ends, talk_breaks, talk_silent, talk_refused)
+pub ruleset talks = (begins_live, talk_begins, talk_goes_on, talk_ends, talk_refused)

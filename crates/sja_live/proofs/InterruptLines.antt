@@ -52,7 +52,7 @@ few_of nodes place lines few less eight =
 -- ---- looks
 
 pub still_first : (s : RawValue) (deeds : List (List Deed)) → IsLiveAt s deeds → IsStillNow s s deeds
-still_first s deeds at = (still_same s.session deeds at, refl)
+still_first s deeds at = (still_same s.session deeds at.at, refl)
 
 pub still_more : (was mid now : RawValue) (deeds : List (List Deed)) → IsStillNow was mid deeds →
     IsStillNow mid now deeds → IsStillNow was now deeds

@@ -1,3 +1,5 @@
+pub mod Spelled
+pub mod WriteTexts
 pub mod Told
 pub mod Asked
 pub mod InterruptLines
@@ -5,5 +7,6 @@ pub mod Named
 pub mod NewSessions
 pub mod LineAnswers
 pub mod GoingOn
+pub mod BreakingOff
 pub mod LineBytes
 pub mod WordLists

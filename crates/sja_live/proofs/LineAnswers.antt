@@ -4,6 +4,8 @@ use Rattle.std.specs.Prelude.{Option, Some, None, Result, Ok, Err, String, strin
 use Rattle.std.specs.Global.{Global}
 use Rattle.std.proofs.lemmas.Str.{IsUtf8-nil}
 use Rattle.sja_driver.specs.Deeds.{Deed}
+use Rattle.sja_live.proofs.Asked.{live_after}
+use Rattle.sja_live.proofs.Named.{of_node}
 use Rattle.sja_live.specs.Answering.{IsAnswered}
 use Rattle.sja_live.specs.Calls.{IsLiveAt, node_count, version_of}
 use Rattle.sja_live.specs.Commands.{AsksFor}
@@ -139,4 +141,4 @@ pub ruleset first_lines = (first_opens, first_fails, first_long, first_no_text, 
 -- what each further line is answered, and a line that is a text
 pub ruleset next_lines = (next_over, next_long, next_no_text, next_told)
 
-pub ruleset line_answers = (answers_end, answers_done, answers_mistake)
+pub ruleset line_answers = (of_node, live_after, answers_end, answers_done, answers_mistake)

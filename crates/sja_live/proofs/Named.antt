@@ -1,24 +1,45 @@
--- The node that a line's words name is there.
-use Rattle.std.proofs.Common.{◌≡◌, ℕ, List, refl}
-use Rattle.sja_live.specs.Calls.{node_count}
+-- The node that a line's words name is there, and texts say what they ask for.
+use Rattle.std.proofs.Common.{◌≡◌, ℕ, List, [], ◌∷◌, refl, subst, arith}
+use Rattle.hex.proofs.HexLemmas.{decode_of-ok}
+use Rattle.sja_live.specs.Calls.{node_count, version_of}
 use Rattle.sja_live.specs.Commands.{AreCommandWords}
 use Rattle.sja_live.specs.Inside.OfNode.{IsOfNode}
 use Rattle.sja_live.specs.declared.live_command.LiveCommand.{LiveCommand}
 use Rattle.sja_live.specs.declared.live_command.LiveCommand.TheVariants.{Step, Read, Write, Run, Rest, Line, Strike}
 use Rattle.sja_live.specs.declared.live_command.LiveCommand.TheVariants.{Answer, Bits, Plan, End}
+use Rattle.sja_plan.specs.StepTexts.{AreStepWords}
 use Rattle.sja_plan.specs.Words.{Text}
+use Rattle.sja_plan_text.specs.HasTexts.{HasStepText}
+use Rattle.sja_script.specs.declared.step.Step.{Step as StepOf}
+use Rattle.sja_script.specs.declared.step.Step.TheVariants.{Start, Stop, Window, Release, Read as ReadAt}
+use Rattle.sja_script.specs.declared.step.Step.TheVariants.{Write as WriteAt, Load, Command, Await, Sent, Interrupt}
 use Rattle.sja_session.specs.RawSessions.{RawValue}
 
-pub of_node : (s : RawValue) (version : ℕ) (ws : List Text) (c : LiveCommand) →
+-- a step that words spell has a text
+spelled_step : (version : ℕ) (ws : List Text) (one : StepOf) → AreStepWords version ws one → HasStepText version one
+spelled_step version ws Start h = tt
+spelled_step version ws Stop h = tt
+spelled_step version ws Window h = tt
+spelled_step version ws Release h = tt
+spelled_step version ws Sent h = tt
+spelled_step version ws Interrupt h = h.0
+spelled_step version ws (ReadAt n) (a, e, k) = omega (arith, k.2)
+spelled_step version ws (WriteAt n v) (a, b, e, k, i) = (omega (arith, k.2), (decode_of-ok b (v ∷ []) i).3 0)
+spelled_step version ws (Load m) (a, e, k) = k.1
+spelled_step version ws (Command v) (a, e, k) = (decode_of-ok a (v ∷ []) k).3 0
+spelled_step version ws (Await n) (a, e, k) = (k.1, k.2)
+
+pub of_node : (s : RawValue) (version : ℕ) (ws : List Text) (c : LiveCommand) → version ≡ version_of s →
     AreCommandWords version (node_count s) ws c → ¬ (c ≡ End) → IsOfNode s c
-of_node s version ws (Step node one) a other = a.3.1
-of_node s version ws (Read node address) a other = a.3.1
-of_node s version ws (Write node address value) a other = a.4.1
-of_node s version ws (Run count) a other = tt
-of_node s version ws Rest a other = tt
-of_node s version ws Line a other = tt
-of_node s version ws (Strike node bit) a other = a.3.1
-of_node s version ws (Answer node) a other = a.2.1
-of_node s version ws Bits a other = tt
-of_node s version ws Plan a other = tt
-of_node s version ws End a other = absurd (other refl)
+of_node s version ws (Step node one) v a other =
+    (a.3.1, subst (λ n. HasStepText n one) v (spelled_step version a.1 one a.4))
+of_node s version ws (Read node address) v a other = a.3.1
+of_node s version ws (Write node address value) v a other = a.4.1
+of_node s version ws (Run count) v a other = tt
+of_node s version ws Rest v a other = tt
+of_node s version ws Line v a other = tt
+of_node s version ws (Strike node bit) v a other = (a.3.1, a.4.2)
+of_node s version ws (Answer node) v a other = a.2.1
+of_node s version ws Bits v a other = tt
+of_node s version ws Plan v a other = tt
+of_node s version ws End v a other = absurd (other refl)

@@ -1,22 +1,54 @@
 -- What the calls of a session do that lines are (this project's own rule): those of a session by addresses and bytes,
 -- beside which typed steps can be done.
-use Rattle.std.specs.Prelude.{◌≡◌, ℕ, Bool, Option, List, length}
+use Rattle.std.specs.Prelude.{◌≡◌, ◌≤◌, ℕ, Bool, Option, List, length, All}
 use Rattle.sja_driver.specs.Deeds.{Deed}
+use Rattle.sja_plan.specs.Limits.{most_steps_told}
 use Rattle.sja_plan.specs.Plan.{PlanValue}
+use Rattle.sja_plan.specs.Words.{greatest}
+use Rattle.sja_plan.specs.declared.turn.Turn.{Turn}
+use Rattle.sja_plan.specs.declared.turn.Turn.TheVariants.{Bus, Rest, Node}
+use Rattle.sja_plan_text.specs.HasTexts.{HasStepText, HasStrikeText}
 use Rattle.sja_script.specs.declared.step.Step.{Step}
 use Rattle.sja_session.specs.Lines.{IsStill, line_at}
 use Rattle.sja_session.specs.RawSessions.{RawValue}
 use Rattle.sja_session.specs.Resting.{Rests}
-use Rattle.sja_session.specs.Sessions.{IsAt, written}
+use Rattle.sja_session.specs.Sessions.{SessionValue, IsAt, written}
 use Rattle.sja_session.specs.Stepping.{Waits}
 use Rattle.sja_session.specs.Striking.{IsStruck}
 use Rattle.sja_session.specs.Watching.{Watches}
 
 -- ---- where it stands
 
--- it stands where the drivers did these deeds
+-- a turn of the bus has a bit at least, and seven digits spell the number of a node
+abbrev pub IsSpelledTurn : Turn → Type 0
+IsSpelledTurn (Bus bits) = 1 ≤ bits
+IsSpelledTurn Rest = Unit {0}
+IsSpelledTurn (Node node steps) = node ≤ greatest
+
+-- in this version a node did no more than the steps that a document may have, and steps have texts
+abbrev pub IsFew : ℕ → List Deed → Type 0
+IsFew version deeds = length deeds ≤ most_steps_told version
+
+abbrev pub AreSpelled : ℕ → List Step → Type 0
+AreSpelled version steps = All (HasStepText version) steps
+
+-- a session stands where the drivers did these deeds, it has room for no more steps than a document of its version may
+-- have, and each step, turn and strike that it wrote has a text
+pub record IsLiveOf (s : SessionValue) (deeds : List (List Deed)) : Type 0 where
+  pub at : IsAt s deeds
+  pub room : s.room.steps ≤ most_steps_told s.plan.version
+  pub bits : s.plan.bits ≤ greatest
+  pub few : All (IsFew s.plan.version) deeds
+  pub steps : All (AreSpelled s.plan.version) (written s).nodes
+  pub turns : All IsSpelledTurn s.turns
+  pub strikes : All HasStrikeText s.plan.strikes
+
 abbrev pub IsLiveAt : RawValue → List (List Deed) → Type 0
-IsLiveAt r deeds = IsAt r.session deeds
+IsLiveAt r deeds = IsLiveOf r.session deeds
+
+-- it does, wherever that is
+abbrev pub IsLive : RawValue → Type 0
+IsLive r = (deeds : List (List Deed)) × IsLiveAt r deeds
 
 -- how many nodes it has, by which version, and how many bits have run
 abbrev pub node_count : RawValue → ℕ

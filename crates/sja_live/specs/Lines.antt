@@ -1,5 +1,5 @@
 -- The lines of a talk (this project's own rule): what stands before each line feed, and behind the last one.
-use Rattle.std.specs.Prelude.{◌≡◌, ◌==◌, ◌≤◌, ℕ, if◌then◌else◌, List, [], ◌∷◌, length, IsUtf8}
+use Rattle.std.specs.Prelude.{◌≡◌, ◌==◌, ◌≤◌, ◌++◌, ℕ, false, if◌then◌else◌, List, [], ◌∷◌, length, IsUtf8}
 use Rattle.sja_plan.specs.Words.{Text}
 
 -- the most bytes that a line may have, its line feed not counted
@@ -24,3 +24,12 @@ pub data LeadsOn : Text → List Text → Text → Type 0 where
   none : {text : Text} → LeadsOn text [] text
   more : {text rest : Text} {lines : List Text} → ¬ (text ≡ []) →
       LeadsOn (behind_line text) lines rest → LeadsOn text (first_line text ∷ lines) rest
+
+-- no line feed stands in these bytes
+abbrev pub HasNoFeed : Text → Type 0
+HasNoFeed [] = Unit {0}
+HasNoFeed (byte ∷ bytes) = ((byte == 10) ≡ false) × HasNoFeed bytes
+
+-- of a text at most a begun line was read, without a line feed, and this is left
+abbrev pub HasBegun : Text → Text → Type 0
+HasBegun text left = (begun : Text) × HasNoFeed begun × (text ≡ begun ++ left)

@@ -8,7 +8,7 @@ use Rattle.sja_live.specs.Beginning.{IsNewOf}
 use Rattle.sja_live.specs.Calls.{node_count, version_of}
 use Rattle.sja_live.specs.Commands.{AsksFor}
 use Rattle.sja_live.specs.Ending.{IsLastLog}
-use Rattle.sja_live.specs.Lines.{most_line, first_line, behind_line, LeadsOn, IsReadable}
+use Rattle.sja_live.specs.Lines.{most_line, first_line, behind_line, HasBegun, LeadsOn, IsReadable}
 use Rattle.sja_live.specs.Mistakes.{AreMistaken}
 use Rattle.sja_live.specs.Opening.{Opens, IsOpeningFault}
 use Rattle.sja_live.specs.declared.line_fault.LineFault.{LineFault}
@@ -19,6 +19,8 @@ use Rattle.sja_live.specs.declared.live_command.LiveCommand.{LiveCommand}
 use Rattle.sja_live.specs.declared.live_command.LiveCommand.TheVariants.{End}
 use Rattle.sja_live.specs.declared.opening.Opening.{Opening}
 use Rattle.sja_live.specs.declared.opening_fault.OpeningFault.{OpeningFault}
+use Rattle.sja_live.specs.declared.talk_fault.TalkFault.{TalkFault}
+use Rattle.sja_live.specs.declared.talk_fault.TalkFault.TheVariants.{Memory, Read, Write}
 use Rattle.sja_live.specs.declared.talked.Talked.{Talked}
 use Rattle.sja_live.specs.declared.talked.Talked.TheVariants.{Reported, Unopened}
 use Rattle.sja_log.specs.Log.{RunValue}
@@ -97,11 +99,22 @@ abbrev pub IsTold : Talked → Text → Text → Text → Type 0
 IsTold Reported input output left = IsTalk input output left
 IsTold Unopened input output left = IsNoTalk input output left
 
--- it broke off: what was written is whole answers, of the lines that were read by then, or nothing at all
-abbrev pub IsBrokenOff : Text → Text → Type 0
-IsBrokenOff input output =
-    (output ≡ [])
-    ⊎ ((last : RawValue) × (rest : Text) × (deeds : List (List Deed)) × HasTalked input rest last deeds output)
+-- ---- a talk that breaks off
+
+-- how far the lines were read that aren't answered: a line was begun at most; or memory was refused for the answer of
+-- the next one, which was read, and no other line was
+abbrev pub IsLeftUnanswered : TalkFault → Text → Text → Type 0
+IsLeftUnanswered Memory lines left = HasBegun lines left ⊎ (left ≡ behind_line lines)
+IsLeftUnanswered Read lines left = HasBegun lines left
+IsLeftUnanswered Write lines left = ⊥
+
+-- it broke off: nothing was written, and of the input no session was opened; or a session was, and what was written is
+-- the answers of the lines before those that are left
+abbrev pub IsBrokenOff : TalkFault → Text → Text → Text → Type 0
+IsBrokenOff fault input output left =
+    ((output ≡ []) × IsLeftUnanswered fault input left)
+    ⊎ ((last : RawValue) × (rest : Text) × (deeds : List (List Deed)) × HasTalked input rest last deeds output
+    × IsLeftUnanswered fault rest left)
 
 -- ---- a reader and a writer whose bytes are known
 
@@ -113,10 +126,3 @@ Speaks (Some input) None (Some old) new told = ⊥
 Speaks (Some input) (Some left) (Some old) None told = ⊥
 Speaks (Some input) (Some left) (Some old) (Some new) told =
     (output : Text) × (new ≡ old ++ output) × told input output left
-
--- it broke off, and the writer has whole answers more
-abbrev pub BreaksOff : Option Text → Option Text → Option Text → Type 0
-BreaksOff None old new = Unit {0}
-BreaksOff (Some input) None new = Unit {0}
-BreaksOff (Some input) (Some old) None = ⊥
-BreaksOff (Some input) (Some old) (Some new) = (output : Text) × (new ≡ old ++ output) × IsBrokenOff input output

@@ -2,8 +2,9 @@
 
 ghost use Rattle.std.specs.Prelude.{◌<◌, ◌≢◌};
 ghost use Rattle.sja_live.specs.Answering.{IsAnswered, IsUsedUp};
-ghost use Rattle.sja_live.specs.Calls.{node_count};
+ghost use Rattle.sja_live.specs.Calls.{node_count, version_of};
 ghost use Rattle.sja_live.specs.declared.live_command.LiveCommand.TheVariants.{Step as StepOf, Read, Write};
+ghost use Rattle.sja_plan_text.specs.HasTexts.{HasStepText};
 ghost use Rattle.sja_session.specs.declared.step_fault.StepFault.TheVariants.{NoNode};
 
 use super::line_fault::LineFault;
@@ -14,7 +15,8 @@ use sja_session::{Answered, RawSession, StepFault};
 
 /// What a step is answered.
 pub(crate) fn stepped(session: &mut RawSession, node: u8, step: Step) -> LiveAnswer
-    requires { node < node_count session.old }
+    requires there { node < node_count session.old }
+    requires spelled { HasStepText (version_of session.old) step }
     ensures { IsAnswered session.old session.new (StepOf node step) result }
 {
     match session.step(node, step) {

@@ -1,9 +1,10 @@
 //! What a command is answered.
 
-ghost use Rattle.std.specs.Prelude.{◌≡◌, ◌<◌, IfOk, OnErr};
+ghost use Rattle.std.specs.Prelude.{◌≡◌, ◌<◌, ◌≤◌, IfOk, OnErr};
 ghost use Rattle.sja_live.specs.Answering.{IsAnswered};
-ghost use Rattle.sja_live.specs.Calls.{node_count};
+ghost use Rattle.sja_live.specs.Calls.{IsLive, node_count};
 ghost use Rattle.sja_live.specs.Inside.OfNode.{IsOfNode};
+ghost use Rattle.sja_plan.specs.Words.{greatest};
 ghost use Rattle.sja_live.specs.declared.live_command.LiveCommand.TheVariants.{Strike, Answer, Plan, Bits, Line};
 
 use super::answered_bits::{ran, rested};
@@ -13,7 +14,7 @@ use super::live_answer::LiveAnswer;
 use super::live_command::LiveCommand;
 use super::used::Used;
 use can_frame::OutOfMemory;
-use sja_plan_text::{PlanTextFault, has_texts, plan_text};
+use sja_plan_text::{PlanTextFault, plan_text};
 use sja_script::StepAnswer;
 use sja_session::{RawSession, StrikeFault};
 use std::alloc::Global;
@@ -26,7 +27,8 @@ pub(crate) fn answered(
     session: &mut RawSession,
     command: LiveCommand,
 ) -> Result<LiveAnswer, OutOfMemory>
-    requires { IsOfNode session.old command }
+    requires live { IsLive session.old }
+    requires named { IsOfNode session.old command }
     ensures answers { IfOk result (IsAnswered session.old session.new command) }
     ensures kept { OnErr result (session.new ≡ session.old) }
 {
@@ -73,7 +75,8 @@ fn struck(
     node: u8,
     bit: u32,
 ) -> Result<LiveAnswer, OutOfMemory>
-    requires { node < node_count session.old }
+    requires there { node < node_count session.old }
+    requires spelled { bit ≤ greatest }
     ensures answers { IfOk result (IsAnswered session.old session.new (Strike node bit)) }
     ensures kept { OnErr result (session.new ≡ session.old) }
 {
@@ -97,17 +100,14 @@ fn last_answer(session: &RawSession, node: u8) -> LiveAnswer
     }
 }
 
-/// The plan so far. (The words of a line spell each step, turn and strike of it, so that it has texts. It's not proved,
-/// and where it had none this would be told as a lack of memory.)
+/// The plan so far.
 ///
 /// Error: [`OutOfMemory`] where memory was refused.
 fn plan_answer(alloc: Global, session: &RawSession) -> Result<LiveAnswer, OutOfMemory>
+    requires { IsLive session.now }
     ensures { IfOk result (IsAnswered session.now session.now Plan) }
 {
     let plan = session.session().plan(alloc)?;
-    if !has_texts(&plan) {
-        return Err(OutOfMemory);
-    }
     match plan_text(alloc, &plan) {
         Ok(document) => Ok(LiveAnswer::PlanSoFar(document)),
         Err(PlanTextFault::TooLong) => Ok(LiveAnswer::Full(Used::Document)),

@@ -1,10 +1,12 @@
 //! The next answer of a talk.
 
-ghost use Rattle.std.specs.Prelude.{List, IfOk};
+ghost use Rattle.std.specs.Prelude.{◌≡◌, List, IfOk, IfErr, OnOk};
 ghost use Rattle.sja_driver.specs.Deeds.{Deed};
-ghost use Rattle.sja_live.specs.Calls.{IsLiveAt};
+ghost use Rattle.sja_live.specs.Calls.{IsLive, IsLiveAt};
 ghost use Rattle.sja_live.specs.Inside.Going.{FirstSays, IsNextAnswer, IsAnswerOf};
+ghost use Rattle.sja_live.specs.Inside.Reading.{LeavesLine};
 ghost use Rattle.sja_live.specs.Lines.{IsReadable};
+ghost use Rattle.sja_live.specs.declared.talk_fault.TalkFault.TheVariants.{Memory};
 
 use super::answering::answered;
 use super::line_fault::LineFault;
@@ -25,12 +27,13 @@ use std::io::Read;
 /// Reads the first line: the session that it opens, or why it opens none.
 ///
 /// Errors: [`TalkFault::Memory`] and [`TalkFault::Read`].
-#[tactic(auto, using(crate::proofs::LineAnswers::first_lines))]
+#[tactic(auto, using(crate::proofs::LineAnswers::first_lines, crate::proofs::BreakingOff::line_taken))]
 pub(crate) fn first_said<R: Read>(
     alloc: Global,
     input: &mut R,
 ) -> Result<Result<Opening, OpeningFault>, TalkFault>
-    ensures { IfOk result (FirstSays (R.remaining input.old) (R.remaining input.new)) }
+    ensures said { IfOk result (FirstSays (R.remaining input.old) (R.remaining input.new)) }
+    ensures broken { IfErr result (LeavesLine (R.remaining input.old) (R.remaining input.new)) }
 {
     match next_line(alloc, input)? {
         Line::Text(line) => match opened(alloc, line.as_str()) {
@@ -47,14 +50,17 @@ pub(crate) fn first_said<R: Read>(
 /// Reads a line and does what it asks for; none, where it ends the talk or there is no line.
 ///
 /// Errors: [`TalkFault::Memory`] and [`TalkFault::Read`].
-#[tactic(auto, using(crate::proofs::LineAnswers::next_lines))]
+#[tactic(auto, using(crate::proofs::LineAnswers::next_lines, crate::proofs::BreakingOff::line_taken))]
 pub(crate) fn next_answer<R: Read>(
     alloc: Global,
     input: &mut R,
     session: &mut RawSession,
 ) -> Result<Option<LiveAnswer>, TalkFault>
-    ensures { IfOk result (λ next. (deeds : List (List Deed)) → IsLiveAt session.old deeds →
+    requires { IsLive session.old }
+    ensures live { OnOk result (IsLive session.new) }
+    ensures next { IfOk result (λ next. (deeds : List (List Deed)) → IsLiveAt session.old deeds →
         IsNextAnswer (R.remaining input.old) (R.remaining input.new) session.old session.new deeds next) }
+    ensures broken { IfErr result (LeavesLine (R.remaining input.old) (R.remaining input.new)) }
 {
     match next_line(alloc, input)? {
         Line::Over => Ok(None),
@@ -67,15 +73,18 @@ pub(crate) fn next_answer<R: Read>(
 /// Does what a line asks for; none, where that is the end.
 ///
 /// Error: [`TalkFault::Memory`].
-#[tactic(auto, using(crate::proofs::Named::of_node, crate::proofs::LineAnswers::line_answers))]
+#[tactic(auto, using(crate::proofs::LineAnswers::line_answers))]
 fn answer_of(
     alloc: Global,
     session: &mut RawSession,
     line: &str,
 ) -> Result<Option<LiveAnswer>, TalkFault>
-    requires { IsReadable line.now }
-    ensures { IfOk result (λ next. (deeds : List (List Deed)) → IsLiveAt session.old deeds →
+    requires live { IsLive session.old }
+    requires readable { IsReadable line.now }
+    ensures live { OnOk result (IsLive session.new) }
+    ensures next { IfOk result (λ next. (deeds : List (List Deed)) → IsLiveAt session.old deeds →
         IsAnswerOf session.old session.new deeds line.now next) }
+    ensures err { IfErr result (λ fault. fault ≡ Memory) }
 {
     let version = usize::from(session.session().version());
     let nodes = session.session().nodes();

@@ -1,9 +1,12 @@
 //! The next line of a reader.
 
+ghost use Rattle.std.specs.Io.KnownBytes.{Keeps};
 ghost use Rattle.std.specs.Prelude.{◌≡◌, ◌≤◌, ◌<◌, ◌++◌, ◌∷◌, [], ℕ, List, length, take, vec_capacity, IfOk};
-ghost use Rattle.sja_live.specs.Inside.Reading.{TakesByte, TakesLine, IsLineOf, IsLineReadable};
+ghost use Rattle.std.specs.Prelude.{IfErr, OnErr};
+ghost use Rattle.sja_live.specs.Inside.Reading.{TakesByte, TakesLine, IsLineOf, IsLineReadable, LeavesLine};
 ghost use Rattle.sja_live.specs.Lines.{most_line};
 ghost use Rattle.sja_live.specs.declared.next_line.Line.TheVariants.{Over};
+ghost use Rattle.sja_live.specs.declared.talk_fault.TalkFault.TheVariants.{Read as ReadFault};
 
 use super::talk_fault::TalkFault;
 use std::alloc::Global;
@@ -30,9 +33,11 @@ pub(crate) enum Line {
 /// Reads the next line. One that is too long is read to its line feed, and forgotten.
 ///
 /// Errors: [`TalkFault::Read`] where a read failed; [`TalkFault::Memory`].
+#[tactic(auto, using(crate::proofs::BreakingOff::lines_left))]
 pub(crate) fn next_line<R: Read>(alloc: Global, input: &mut R) -> Result<Line, TalkFault>
     ensures line { IfOk result (λ line. TakesLine (R.remaining input.old) (R.remaining input.new) line) }
     ensures readable { IfOk result IsLineReadable }
+    ensures broken { IfErr result (LeavesLine (R.remaining input.old) (R.remaining input.new)) }
 {
     let mut bytes = Vec::with_capacity(alloc, MOST_LINE)?;
     let mut count = 0u64;
@@ -89,9 +94,11 @@ fn line_of(bytes: Vec<u8>, count: u64) -> Line
 
 /// Reads one byte. None where the input is over. A read that was interrupted is tried again.
 ///
-/// Error: [`TalkFault::Read`] where a read failed.
+/// Error: [`TalkFault::Read`] where a read failed; none was read.
 fn next_byte<R: Read>(input: &mut R) -> Result<Option<u8>, TalkFault>
-    ensures { IfOk result (λ byte. TakesByte (R.remaining input.old) (R.remaining input.new) byte) }
+    ensures byte { IfOk result (λ byte. TakesByte (R.remaining input.old) (R.remaining input.new) byte) }
+    ensures err { IfErr result (λ fault. fault ≡ ReadFault) }
+    ensures kept { OnErr result (Keeps (R.remaining input.old) (R.remaining input.new)) }
 {
     let mut byte = [0u8; 1];
     for _ in 0..u64::MAX {

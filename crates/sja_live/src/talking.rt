@@ -6,8 +6,8 @@ ghost use Rattle.sja_driver.specs.Deeds.{Deed};
 ghost use Rattle.sja_live.specs.AnswerTexts.{answer_text, opening_text};
 ghost use Rattle.sja_live.specs.Calls.{IsLiveAt};
 ghost use Rattle.sja_live.specs.Inside.Going.{AppendsReport};
-ghost use Rattle.sja_live.specs.Talking.{IsTold, Speaks, BreaksOff};
-ghost use Rattle.sja_live.specs.declared.talk_fault.TalkFault.TheVariants.{Write as WriteFault};
+ghost use Rattle.sja_live.specs.Talking.{IsTold, IsBrokenOff, Speaks};
+ghost use Rattle.sja_live.specs.declared.talk_fault.TalkFault.TheVariants.{Memory as MemoryFault, Write as WriteFault};
 
 use super::answer_text::put_answer;
 use super::beginning::session_of;
@@ -27,7 +27,7 @@ use std::io::{Read, Write};
 ///
 /// Errors: [`TalkFault::Memory`], [`TalkFault::Read`] and [`TalkFault::Write`], where memory was refused, or a read or
 /// a write failed. What was answered before stays written.
-#[tactic(auto, using(crate::proofs::GoingOn::talks))]
+#[tactic(auto, using(crate::proofs::GoingOn::talks, crate::proofs::BreakingOff::breaks))]
 pub fn talk<R: Read, W: Write>(
     alloc: Global,
     input: &mut R,
@@ -36,7 +36,8 @@ pub fn talk<R: Read, W: Write>(
     ensures told { IfOk result (λ talked. Speaks (R.remaining input.old) (R.remaining input.new) (W.contents out.old)
         (W.contents out.new) (IsTold talked)) }
     ensures broken { IfErr result (λ fault. fault ≢ WriteFault →
-        BreaksOff (R.remaining input.old) (W.contents out.old) (W.contents out.new)) }
+        Speaks (R.remaining input.old) (R.remaining input.new) (W.contents out.old) (W.contents out.new)
+        (IsBrokenOff fault)) }
 {
     let opening = match first_said(alloc, input)? {
         Ok(opening) => opening,
@@ -77,6 +78,7 @@ fn opening_line(fault: OpeningFault) -> &'static str
 fn put_line<W: Write>(alloc: Global, out: &mut W, answer: &LiveAnswer) -> Result<(), TalkFault>
     ensures told { OnOk result (Appends (W.contents out.old) (W.contents out.new) (answer_text answer.now)) }
     ensures kept { IfErr result (λ f. f ≢ WriteFault → W.contents out.new ≡ W.contents out.old) }
+    ensures memory { IfErr result (λ f. f ≢ WriteFault → f ≡ MemoryFault) }
 {
     let mut text = String::new(alloc);
     put_answer(alloc, &mut text, answer)?;
@@ -88,6 +90,7 @@ fn put_report<W: Write>(alloc: Global, out: &mut W, session: RawSession) -> Resu
     ensures told { OnOk result ((deeds : List (List Deed)) → IsLiveAt session deeds →
         AppendsReport (W.contents out.old) (W.contents out.new) session deeds) }
     ensures kept { IfErr result (λ f. f ≢ WriteFault → W.contents out.new ≡ W.contents out.old) }
+    ensures memory { IfErr result (λ f. f ≢ WriteFault → f ≡ MemoryFault) }
 {
     let (_plan, log) = session.finish(alloc)?;
     let text = report(alloc, &log)?;

@@ -1,25 +1,27 @@
 -- What becomes of `live`: a talk, or memory that was refused before one.
 use Rattle.std.proofs.Common.{◌≡◌, ◌⊎◌, ℕ, Bool, List, [], Option, Some, None, false, refl, sym, subst, inl, inr}
 use Rattle.std.proofs.lemmas.List.{append-nil}
-use Rattle.sja_live.specs.Talking.{BreaksOff}
+use Rattle.sja_live.specs.Talking.{IsBrokenOff, Speaks}
+use Rattle.sja_live.specs.declared.talk_fault.TalkFault.TheVariants.{Memory}
 use Rattle.sja_texts.specs.declared.command_refusal.CommandRefusal.TheVariants.{OutOfMemory}
 use Rattle.sja_run.specs.Answer.{IsLeft}
 use Rattle.sja_run.specs.Live.{ShowsTalk}
 
--- nothing was written
-pub silent : (input out : Option (List ℕ)) → BreaksOff input out out
+-- nothing was read or written
+pub silent : (input out : Option (List ℕ)) → Speaks input input out out (IsBrokenOff Memory)
 silent None out = tt
 silent (Some input) None = tt
-silent (Some input) (Some old) = ([], sym (append-nil old), inl refl)
+silent (Some input) (Some old) = ([], sym (append-nil old), inl (refl, inl ([], tt, refl)))
 
 -- no talk was begun, since memory was refused
 pub left_talks : (status : ℕ) (failed : Bool) (in_old in_new out_old out_new err_old err_new : Option (List ℕ)) →
-    IsLeft (Some status) failed err_old err_new → out_new ≡ out_old → failed ≡ false →
+    IsLeft (Some status) failed err_old err_new → in_new ≡ in_old → out_new ≡ out_old → failed ≡ false →
     ShowsTalk status in_old in_new out_old out_new err_old err_new
-left_talks status failed in_old in_new out_old out_new err_old err_new (inl none) same wrote = cc
-left_talks status failed in_old in_new out_old out_new err_old err_new (inr told) same wrote =
-    let broken = subst (BreaksOff in_old out_old) (sym same) (silent in_old out_old) in
-    inr (OutOfMemory, inl refl, cc told.0, broken, told.1 wrote)
+left_talks status failed in_old in_new out_old out_new err_old err_new (inl none) unread same wrote = cc
+left_talks status failed in_old in_new out_old out_new err_old err_new (inr told) unread same wrote =
+    let broken = subst (λ o. Speaks in_old in_new out_old o (IsBrokenOff Memory)) (sym same)
+    (subst (λ i. Speaks in_old i out_old out_old (IsBrokenOff Memory)) (sym unread) (silent in_old out_old)) in
+    inr (Memory, OutOfMemory, refl, cc told.0, broken, told.1 wrote)
 
 -- a talk from where another call left all as it was
 pub talks_from : (status : ℕ) (a b c x y z i o e : Option (List ℕ)) → x ≡ a → y ≡ b → z ≡ c →

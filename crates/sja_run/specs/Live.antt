@@ -2,7 +2,9 @@
 -- the error output.
 use Rattle.std.specs.Prelude.{◌≡◌, ◌⊎◌, ℕ, List, Option}
 use Rattle.std.specs.Io.KnownBytes.{Appends, Keeps}
-use Rattle.sja_live.specs.Talking.{BreaksOff, IsTold, Speaks}
+use Rattle.sja_live.specs.Talking.{IsBrokenOff, IsTold, Speaks}
+use Rattle.sja_live.specs.declared.talk_fault.TalkFault.{TalkFault}
+use Rattle.sja_live.specs.declared.talk_fault.TalkFault.TheVariants.{Memory, Read, Write}
 use Rattle.sja_live.specs.declared.talked.Talked.{Talked}
 use Rattle.sja_live.specs.declared.talked.Talked.TheVariants.{Reported, Unopened}
 use Rattle.sja_texts.specs.Refusal.{refusal_line}
@@ -14,13 +16,20 @@ abbrev pub talk_status : Talked → ℕ
 talk_status Reported = 0
 talk_status Unopened = 1
 
+-- the refusal that says why a talk broke off; where a write failed there is none
+abbrev pub SaysWhy : CommandRefusal → TalkFault → Type 0
+SaysWhy r Memory = r ≡ refusal.OutOfMemory
+SaysWhy r Read = r ≡ refusal.Read
+SaysWhy r Write = ⊥
+
 -- the exit status, and what the input, the output and the error output held before and hold after. Either a whole talk
--- is on the output; or what was answered by then, and the refusal of memory or of a read is on the error output
+-- is on the output; or what was answered until it broke off, and the refusal of memory or of a read, which of them it
+-- was, is on the error output
 abbrev pub ShowsTalk :
     ℕ → Option (List ℕ) → Option (List ℕ) → Option (List ℕ) → Option (List ℕ) → Option (List ℕ) → Option (List ℕ)
     → Type 0
 ShowsTalk status in_old in_new out_old out_new err_old err_new =
     ((talked : Talked) × (status ≡ talk_status talked) × Speaks in_old in_new out_old out_new (IsTold talked)
     × Keeps err_old err_new)
-    ⊎ ((r : CommandRefusal) × ((r ≡ refusal.OutOfMemory) ⊎ (r ≡ refusal.Read)) × (status ≡ 1)
-    × BreaksOff in_old out_old out_new × Appends err_old err_new (refusal_line r))
+    ⊎ ((fault : TalkFault) × (r : CommandRefusal) × SaysWhy r fault × (status ≡ 1)
+    × Speaks in_old in_new out_old out_new (IsBrokenOff fault) × Appends err_old err_new (refusal_line r))

@@ -5,10 +5,11 @@ use super::prompt::count_of;
 use super::raw_session::RawSession;
 use super::step_fault::StepFault;
 use sja_raw::WriteSteps;
+use sja_regs::address::CMR;
 use sja_script::Step;
 
 impl RawSession {
-    ghost use Rattle.std.specs.Prelude.{◌≡◌, List, length, IfOk, IfErr, OnOk, OnErr};
+    ghost use Rattle.std.specs.Prelude.{◌≡◌, ◌<◌, List, length, IfOk, IfErr, OnOk, OnErr};
     ghost use Rattle.sja_driver.specs.Deeds.{Deed};
     ghost use Rattle.sja_regs.specs.declared.registers.Registers.{Registers};
     ghost use Rattle.sja_session.specs.RawSessions.{Reads, Writes, MayWrite, IsWriteFault};
@@ -41,7 +42,25 @@ impl RawSession {
     /// Errors, the first that holds, and nothing changed: [`StepFault::NoNode`] where there is no such node;
     /// [`StepFault::StepsUsed`] where there is room for fewer steps of it than the write is; [`StepFault::TurnsUsed`]
     /// where it is a step, as many turns were taken as there is room for, and the last one isn't of this node.
+    #[tactic(auto, using(crate::proofs::Accessing::may_write_alone, crate::proofs::Accessing::fault_write_alone))]
     pub fn write(&mut self, node: u8, address: u8, value: u8) -> Result<(), StepFault>
+        ensures writes { OnOk result ((deeds : List (List Deed)) → IsAt self.old.session deeds →
+            Writes self.old self.new node address value deeds) }
+        ensures may { OnOk result ((deeds : List (List Deed)) → IsAt self.old.session deeds →
+            MayWrite self.old node address value deeds) }
+        ensures err { IfErr result (λ fault. (deeds : List (List Deed)) → IsAt self.old.session deeds →
+            IsWriteFault self.old node address value deeds fault) }
+        ensures kept { OnErr result (self.new ≡ self.old) }
+    {
+        if address > CMR {
+            return self.write_alone(node, address, value);
+        }
+        self.write_each(node, address, value)
+    }
+
+    /// The same, by the steps that the write is.
+    #[inline(never)]
+    fn write_each(&mut self, node: u8, address: u8, value: u8) -> Result<(), StepFault>
         ensures writes { OnOk result ((deeds : List (List Deed)) → IsAt self.old.session deeds →
             Writes self.old self.new node address value deeds) }
         ensures may { OnOk result ((deeds : List (List Deed)) → IsAt self.old.session deeds →
@@ -67,5 +86,31 @@ impl RawSession {
         self.do_if(node, second);
         self.do_if(node, third);
         Ok(())
+    }
+
+    /// The same past CMR, where the write is one step.
+    #[inline(always)]
+    fn write_alone(&mut self, node: u8, address: u8, value: u8) -> Result<(), StepFault>
+        requires past { 1 < address }
+        ensures writes { OnOk result ((deeds : List (List Deed)) → IsAt self.old.session deeds →
+            Writes self.old self.new node address value deeds) }
+        ensures may { OnOk result (MayStep self.old.session node) }
+        ensures err { IfErr result (IsStepFault self.old.session node) }
+        ensures kept { OnErr result (self.new ≡ self.old) }
+    {
+        let place = usize::from(node);
+        if place >= self.kept.len() {
+            return Err(StepFault::NoNode);
+        }
+        let reset = self.session.is_reset(place);
+        match self.session.step(node, Step::Write(address, value))? {
+            Answered::Answer(answer) => {
+                let kept = &mut self.kept[place];
+                kept.write(reset, address, value);
+                kept.answered(&answer);
+                Ok(())
+            }
+            Answered::Waits => unreachable!(),
+        }
     }
 }

@@ -63,6 +63,7 @@ impl Session {
     }
 
     /// Does a step that never waits.
+    #[inline(never)]
     fn do_prompt(&mut self, node: u8, step: Step) -> StepAnswer
         requires stands { Stands self.old }
         requires may { MayStep self.old node }

@@ -22,6 +22,7 @@ impl Session {
     /// Errors, the first that holds, and nothing changed: [`StepFault::NoNode`] where there is no such node;
     /// [`StepFault::StepsUsed`] where as many steps of it are done as there is room for; [`StepFault::TurnsUsed`] where
     /// as many turns were taken as there is room for, and the last one isn't of this node.
+    #[inline(always)]
     pub fn step(&mut self, node: u8, step: Step) -> Result<Answered, StepFault>
         ensures done { (answer : AnswerOfStep) → result ≡ Ok (Answer answer) → (deeds : List (List Deed)) →
             IsAt self.old deeds → DoesStep self.old self.new node step answer deeds }

@@ -1,11 +1,13 @@
 -- What the functions that read a line promise of one another.
-use Rattle.std.specs.Prelude.{◌≡◌, ◌==◌, ◌<◌, ◌≤◌, ◌++◌, ℕ, false, Option, Some, None, List, [], ◌∷◌, length, take}
+use Rattle.std.specs.Prelude.{◌≡◌, ◌<◌, ◌≤◌, ◌++◌, ℕ, Option, Some, None, List, [], ◌∷◌, length, take}
 use Rattle.std.specs.Prelude.{string_bytes, IsUtf8}
-use Rattle.sja_live.specs.Lines.{most_line, first_line, behind_line, IsReadable}
+use Rattle.sja_live.specs.Lines.{most_line, first_line, behind_line, HasNoFeed, IsReadable}
 use Rattle.sja_live.specs.Mistakes.{AreMistaken}
 use Rattle.sja_live.specs.Opening.{IsOpeningFault}
+use Rattle.sja_live.specs.Talking.{IsLeftUnanswered}
 use Rattle.sja_live.specs.declared.next_line.Line.{Line}
 use Rattle.sja_live.specs.declared.next_line.Line.TheVariants.{Text as LineOf, Long, NoText, Over}
+use Rattle.sja_live.specs.declared.talk_fault.TalkFault.{TalkFault}
 use Rattle.sja_live.specs.declared.unasked.Unasked.{Unasked}
 use Rattle.sja_live.specs.declared.unasked.Unasked.TheVariants.{Mistaken, Memory}
 use Rattle.sja_live.specs.declared.unopened.Unopened.{Unopened}
@@ -46,11 +48,6 @@ IsLineOf bytes Long = most_line < length bytes
 IsLineOf bytes NoText = (length bytes ≤ most_line) × ¬ IsUtf8 bytes
 IsLineOf bytes Over = ⊥
 
--- no line feed (10) stands in these bytes
-abbrev pub HasNoFeed : Text → Type 0
-HasNoFeed [] = Unit {0}
-HasNoFeed (byte ∷ bytes) = ((byte == 10) ≡ false) × HasNoFeed bytes
-
 -- of the bytes that were known to be left this front was read
 abbrev pub HasRead : Option Text → Option Text → Text → Type 0
 HasRead (Some input) (Some left) front = input ≡ front ++ left
@@ -64,6 +61,12 @@ pub record IsWithin (before after : Option Text) (kept : Text) (count : ℕ) : T
   pub plain : HasNoFeed front
   pub is : kept ≡ take most_line front
   pub many : count ≡ length front
+
+-- a line wasn't read, or not answered, and so much of the input is left; where the bytes are known
+abbrev pub LeavesLine : Option Text → Option Text → TalkFault → Type 0
+LeavesLine (Some input) (Some left) fault = IsLeftUnanswered fault input left
+LeavesLine (Some input) None fault = ⊥
+LeavesLine None left fault = Unit {0}
 
 -- a line that is a text can be read
 abbrev pub IsLineReadable : Line → Type 0

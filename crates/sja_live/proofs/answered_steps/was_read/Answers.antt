@@ -4,7 +4,7 @@ use Rattle.sja_live.proofs.answered_steps.was_read.Goals as goal
 pub returns-in-Ok : goal.returns-in-Ok
 returns-in-Ok c =
     told_read c.args.session.now c.read.new.self c.args.node c.args.address c.in-Ok.value c.in-Ok.ensures.may
-    c.in-Ok.ensures.reads
+    c.in-Ok.ensures.reads c.ranges.node.fits c.ranges.address.fits
 
 pub returns-in-Err : goal.returns-in-Err
 returns-in-Err c =

@@ -1,6 +1,11 @@
 use Rattle.std.proofs.Common.{rules}
-use Rattle.sja_live.proofs.Asked.{told_plan, not_plan}
+use Rattle.sja_live.proofs.Asked.{told_plan, not_plan, spelled_plan}
 use Rattle.sja_live.proofs.answering.plan_answer.Goals as goal
+
+pub plan_text-requires : goal.plan_text-requires
+plan_text-requires c =
+    spelled_plan c.args.session.now c.session.result.now c.in_ok-plan.plan c.session.ensures c.in_ok-plan.ensures
+    c.requires
 
 pub returns-in-Ok : goal.returns-in-Ok
 returns-in-Ok c =

@@ -7,7 +7,7 @@ use Rattle.sja_live.proofs.answering.struck.Goals as goal
 pub returns-in-Ok-clause-answers : goal.returns-in-Ok-clause-answers
 returns-in-Ok-clause-answers c =
     told_strike c.args.session.now c.strike.new.self c.args.node c.args.bit c.in-Ok.ensures.may
-    c.in-Ok.ensures.struck c.strike.ensures.still
+    c.in-Ok.ensures.struck c.strike.ensures.still c.ranges.node.fits c.requires.spelled
 
 pub returns-in-Err-Past-clause-answers : goal.returns-in-Err-Past-clause-answers
 returns-in-Err-Past-clause-answers c =

@@ -4,11 +4,11 @@ use Rattle.sja_live.proofs.LineAnswers.{answers_done}
 use Rattle.sja_live.proofs.next_answer.answer_of.Goals as goal
 
 -- what the line asks for is done
-pub returns-in_ok-answered-in-Ok : goal.returns-in_ok-answered-in-Ok
-returns-in_ok-answered-in-Ok c = λ deeds at.
+pub returns-in_ok-answered-in-Ok-clause-next : goal.returns-in_ok-answered-in-Ok-clause-next
+returns-in_ok-answered-in-Ok-clause-next c = λ deeds at.
     let version = c.from-version.ensures ∙ c.version.ensures
     ∙ ap (λ (s : SessionValue). s.plan.version) c.session.ensures in
     let nodes = c.nodes-nodes.ensures.value ∙ ap (λ (s : SessionValue). length s.plan.nodes) c.session-2.ensures in
     answers_done c.args.session.now c.answered.new.session c.from-version.result c.nodes-nodes.result deeds
-    c.args.line.now c.in-Ok.command c.in_ok-answered-in-Ok.field-0 version nodes c.requires c.in-Ok.ensures.ok
+    c.args.line.now c.in-Ok.command c.in_ok-answered-in-Ok.field-0 version nodes c.requires.readable c.in-Ok.ensures.ok
     c.in_ok-answered-in-Ok.ensures.answers at

@@ -6,14 +6,14 @@ use Rattle.sja_live.proofs.next_line.next_line.Goals as goal
 pub returns-in_default-clause-line : goal.returns-in_default-clause-line
 returns-in_default-clause-line g c =
     let w = c.loop.invariant.within in
-    takes_end _ _ _ _ _ c.last_line.result w (rw c.in_default.is at c.in_ok-byte.ensures) c.last_line.ensures.none
+    takes_end _ _ _ _ _ c.last_line.result w (rw c.in_default.is at c.in_ok-byte.ensures.byte) c.last_line.ensures.none
     (λ some. c.last_line.ensures.some some w.front w.is w.many)
 
 -- a line feed was read
 pub returns-then-byte-eq-LINE_FEED-clause-line : goal.returns-then-byte-eq-LINE_FEED-clause-line
 returns-then-byte-eq-LINE_FEED-clause-line g c =
     let w = c.loop.invariant.within in
-    takes_line _ _ _ _ _ _ c.line_of.result w (rw c.in-Some.is at c.in_ok-byte.ensures) c.if-byte-eq-LINE_FEED.true
+    takes_line _ _ _ _ _ _ c.line_of.result w (rw c.in-Some.is at c.in_ok-byte.ensures.byte) c.if-byte-eq-LINE_FEED.true
     (c.line_of.ensures w.front w.is w.many)
 
 pub returns-then-byte-eq-LINE_FEED-clause-readable : goal.returns-then-byte-eq-LINE_FEED-clause-readable
@@ -24,7 +24,7 @@ returns-then-byte-eq-LINE_FEED-clause-readable g c =
 -- one byte more
 pub loop-preserved : goal.loop-preserved
 loop-preserved g c =
-    let w = c.loop.invariant.within in let takes = rw c.in-Some.is at c.in_ok-byte.ensures in
+    let w = c.loop.invariant.within in let takes = rw c.in-Some.is at c.in_ok-byte.ensures.byte in
     record {
       within = within_more _ _ _ _ _ _ _ w takes c.if-byte-eq-LINE_FEED.false (c.keep.ensures.front w.front w.is);
       room = omega arith;

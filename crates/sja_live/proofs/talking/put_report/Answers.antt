@@ -17,7 +17,7 @@ returns-clause-told g c =
       log,
       (
         subst (λ (p : PlanValue). IsLogOf p c.args.session.session.run deeds TurnsDone log) both.ensures.plan
-            (both.ensures.own deeds at),
+            (both.ensures.own deeds at.at),
         subst (λ (p : PlanValue). IsSerialRun p log) both.ensures.plan both.ensures.run,
       ),
       subst (Appends _ _) text wrote,

@@ -22,7 +22,8 @@ returns-in-Ok-clause-answered g c = λ r parses plain wrote told.
 pub returns-in-Ok-clause-talks : goal.returns-in-Ok-clause-talks
 returns-in-Ok-clause-talks g c = λ parses wrote told.
     let left = c.in-Ok.ensures.threads live parses tt in
-    left_talks c.in-Ok.status _ _ _ _ _ _ _ left.0 (ap (λ o. g.O.Write.contents o.writer) left.2) told
+    left_talks c.in-Ok.status _ _ _ _ _ _ _ left.0 (ap (λ i. g.R.Read.remaining i) left.1)
+    (ap (λ o. g.O.Write.contents o.writer) left.2) told
 
 -- a talk is left to this call where the words ask for one, and nothing was read or written for it
 pub returns-in-Err-Talk-clause-answered : goal.returns-in-Err-Talk-clause-answered

@@ -11,8 +11,8 @@ use Rattle.sja_session.specs.Inside.Accessing.{Does}
 use Rattle.sja_session.specs.RawSessions.{RawValue, DoesSteps, MayDo, Writes, kept_in, moved_by, steps_of}
 use Rattle.sja_session.specs.Sessions.{IsAt}
 use Rattle.sja_session.proofs.Accessing.{does_both, kept_start, kept_wrote, may_fewer}
-use Rattle.sja_session.proofs.raw_session.RawSession.write.Goals.{After-do_if, After-do_if-3}
-use Rattle.sja_session.proofs.raw_session.RawSession.write.Goals as goal
+use Rattle.sja_session.proofs.raw_session.RawSession.write_each.Goals.{After-do_if, After-do_if-3}
+use Rattle.sja_session.proofs.raw_session.RawSession.write_each.Goals as goal
 
 -- the session as it was, and with the kept register written
 abbrev was : After-do_if → RawValue

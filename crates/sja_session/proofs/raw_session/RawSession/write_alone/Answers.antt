@@ -1,0 +1,53 @@
+use Rattle.std.proofs.Common.{rules, ◌≡◌, ◌<◌, List, [], ◌∷◌, length, sym, ap, ◌∙◌, subst}
+use Rattle.std.proofs.lemmas.List.{length-set}
+use Rattle.std.specs.Prelude.{slice_index_or, slice_set}
+use Rattle.sja_raw.specs.Kept.{moved_by_answer}
+use Rattle.sja_script.specs.declared.step.Step.{Step}
+use Rattle.sja_script.specs.declared.step.Step.TheVariants.{Write}
+use Rattle.sja_driver.specs.Deeds.{deeds_at, is_active}
+use Rattle.sja_serial.specs.Serial.{with_deeds}
+use Rattle.sja_session.specs.RawSessions.{RawValue, DoesSteps, Writes}
+use Rattle.sja_session.specs.RawSessions.DoesSteps.{none, more}
+use Rattle.sja_session.specs.Sessions.{IsAt}
+use Rattle.sja_session.proofs.Accessing.{alone_so, kept_start, raw_stepped}
+use Rattle.sja_session.proofs.raw_session.RawSession.write_alone.Goals as goal
+
+-- a write leaves a session of such drivers
+pub invariant_of-self-in-Answer : goal.invariant_of-self-in-Answer
+invariant_of-self-in-Answer c =
+    let b = c.self.inside in let raw = c.self.invariant in
+    let was : RawValue = record { session = b.session; kept = b.kept.items } in
+    raw_stepped was _ c.args.node (Write c.args.address c.args.value) c.in-Answer.answer raw
+    (c.step.ensures.done c.in-Answer.answer (search rules) raw.stands.0 raw.stands.1)
+    (length-set b.kept.items c.from-place.result c.answered.new.self)
+
+-- it is that step, and the kept register that stands there was written
+pub returns-clause-writes : goal.returns-clause-writes
+returns-clause-writes c = λ deeds at.
+    let b = c.self.inside in let node = c.args.node in
+    let was : RawValue = record { session = b.session; kept = b.kept.items } in
+    let now : RawValue = record {
+      session = c.step.new.self;
+      kept = slice_set b.kept.items c.from-place.result c.answered.new.self;
+    } in
+    let own = subst (λ (r : RawValue). IsAt r.session deeds) (sym c.self.view_is) at in
+    let answer = c.in-Answer.answer in
+    let does = c.step.ensures.done answer (search rules) deeds own in
+    let place : c.from-place.result ≡ node = search rules in
+    let inside : node < length b.kept.items = search rules in
+    let active = is_active (deeds_at deeds node) in
+    let after = with_deeds deeds node (does.deed ∷ []) in
+    subst (λ (r : RawValue). Writes r now node c.args.address c.args.value deeds) c.self.view_is (record {
+      answers = answer ∷ [];
+      after = after;
+      does = λ p. let port = slice_index_or b.session.run.ports node p in subst (λ (l : List Step).
+          DoesSteps node b.session deeds l (answer ∷ []) c.step.new.self after)
+          (sym (alone_so port active c.args.address c.args.value c.requires.past)) (more does none);
+      kept = λ p. let rm = (slice_index_or b.session.run.ports node p).mode.rm in
+          let start = kept_start b.kept.items c.from-place.result node c.index_mut-kept.result.now c.write.new.self
+          c.is_reset-reset.result rm c.args.address c.args.value
+          place c.index_mut-kept.ensures.value inside c.write.ensures
+          (c.is_reset-reset.ensures p ∙ ap (λ m. (slice_index_or b.session.run.ports m p).mode.rm) place) in
+          let moved = c.answered.ensures ∙ ap (λ k. moved_by_answer k answer) start in
+          λ t. slice_set b.kept.items (place t) (moved t);
+    })
