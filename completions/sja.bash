@@ -1,7 +1,8 @@
 # Completion of the words of sja in bash. A package has it as /usr/share/bash-completion/completions/sja; else
 # `. completions/sja.bash`. checks/completions compares it with what the program's help names.
 
-# _sja: of the words typed so far, which may come next; behind < or > the names of files
+# _sja: of the words typed so far, which may come next; behind < or >, and behind run, check and trace, the names of
+# files
 _sja() {
     local current=${COMP_WORDS[COMP_CWORD]} before=${COMP_WORDS[COMP_CWORD - 1]}
     local at command= place=0
@@ -21,6 +22,12 @@ _sja() {
         esac
     done
     mapfile -t COMPREPLY < <(compgen -W "$(_sja_words "$command" "$place")" -- "$current")
+    case $command in
+    run | check | trace)
+        compopt -o filenames 2>/dev/null
+        [[ $current == -* ]] || mapfile -t -O "${#COMPREPLY[@]}" COMPREPLY < <(compgen -f -- "$current")
+        ;;
+    esac
 }
 
 # _sja_words COMMAND PLACE: the words that may stand behind this command and so many arguments
@@ -28,8 +35,10 @@ _sja_words() {
     local commands="encode decode filter arbitrate message run wave trace frames picture candump check sweep live help"
     case $1 in
     '') echo "$commands -h --help -V --version" ;;
-    encode | decode | arbitrate | message | check | live) echo "-h --help" ;;
-    run | wave | trace | frames) echo "--threads -h --help" ;;
+    encode | decode | arbitrate | message | live) echo "-h --help" ;;
+    run) echo "--threads --jobs -h --help" ;;
+    wave | trace | frames) echo "--threads -h --help" ;;
+    check) echo "--jobs -h --help" ;;
     picture) echo "--svg --threads -h --help" ;;
     candump) echo "--errors --threads -h --help" ;;
     sweep) echo "--only --from --to --pairs --changed --rows --yes --jobs --plan -h --help" ;;

@@ -6,12 +6,15 @@
         print(bus.report())
 
 A session is one of a shared object made of the library, where there is one, and else a process `sja live` of its own.
-The environment variable SJA_LIBRARY names the shared object (checks/c_library makes one), and SJA the program. Each
-call that isn't done raises SjaError, with its status. Standard library only."""
+The environment variable SJA_LIBRARY names the shared object (checks/c_library makes one), or nothing for a process;
+without it the libsja.so beside this file is taken, where there is one. SJA names the program. Each call that isn't done
+raises SjaError, with its status. Standard library only."""
 
 import ctypes
 import os
 import subprocess
+
+BESIDE = os.path.join(os.path.dirname(os.path.realpath(__file__)), "libsja.so")
 
 STATUSES = """DONE NO_HANDLE ENDED NO_VERSION NO_BITS NO_NODES NO_ADDRESS NO_BYTE NO_NODE NO_BIT PAST STEPS_USED
 TURNS_USED STRIKES_USED NO_PLAN NO_DOCUMENT NO_ROOM NO_MEMORY BROKEN""".split()
@@ -183,7 +186,7 @@ class Session:
     """A bus of one to eight controllers. The calls are those of c/sja.h."""
 
     def __init__(self, version, bits, nodes):
-        library = os.environ.get("SJA_LIBRARY")
+        library = os.environ.get("SJA_LIBRARY", BESIDE if os.path.exists(BESIDE) else "")
         if library:
             self._session = _Library(library, version, bits, nodes)
         else:

@@ -48,6 +48,8 @@ pub enum Figure {
     Tables,
     /// A register of a session is read by its address.
     SessionRead,
+    /// Registers of a session are written by their addresses.
+    SessionWrite,
     /// A session of a sender and a receiver.
     SessionStream,
     /// A session is driven line by line.
@@ -55,7 +57,7 @@ pub enum Figure {
 }
 
 /// Every figure, in the order in which `all` tells them.
-pub const FIGURES: [Figure; 21] = [
+pub const FIGURES: [Figure; 22] = [
     Figure::Shift,
     Figure::Line,
     Figure::Node,
@@ -75,6 +77,7 @@ pub const FIGURES: [Figure; 21] = [
     Figure::Words,
     Figure::Tables,
     Figure::SessionRead,
+    Figure::SessionWrite,
     Figure::SessionStream,
     Figure::Talk,
 ];
@@ -129,6 +132,7 @@ impl Figure {
             "words" => Some(Figure::Words),
             "tables" => Some(Figure::Tables),
             "session-read" => Some(Figure::SessionRead),
+            "session-write" => Some(Figure::SessionWrite),
             "session-stream" => Some(Figure::SessionStream),
             "talk" => Some(Figure::Talk),
             _ => None,
@@ -158,6 +162,7 @@ impl Figure {
             Figure::Words => plans::told(alloc, count, Document::Words),
             Figure::Tables => plans::told(alloc, count, Document::Tables),
             Figure::SessionRead => sessions::reads_told(alloc, count),
+            Figure::SessionWrite => sessions::writes_told(alloc, count),
             Figure::SessionStream => sessions::frames_told(alloc, count / 10),
             Figure::Talk => talk::told(alloc, count),
         }

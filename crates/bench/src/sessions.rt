@@ -1,10 +1,14 @@
-//! The figures of sessions: registers are read by address, and frames pass between two drivers of addresses and bytes.
+//! The figures of sessions: registers are read and written by address, and frames pass between two drivers of addresses
+//! and bytes.
 
 use sja_session::RawSession;
 use std::alloc::Global;
 
 /// How many registers are read in one session: a document has room for 65,535 steps of a node.
 const READS: u32 = 50_000;
+
+/// How many writes are done in one session, each of which is one step.
+const WRITES: u32 = 48_000;
 
 /// The bits of the longest kind of frame with intermission, and the bit in which it is asked for again.
 const BITS: u32 = 145;
@@ -38,6 +42,44 @@ fn sum_of_reads(alloc: Global, count: u32) -> Option<u64> {
         sum = sum.wrapping_add(u64::from(session.read(1, 2).ok()?));
     }
     Some(sum)
+}
+
+/// Has the second of two nodes written so many times: MOD, IER, CMR to clear data overrun, and the 13 addresses of the
+/// transmit buffer, again and again.
+pub fn writes_told(alloc: Global, count: u32) -> Option<String> {
+    let mut done = 0u64;
+    for _ in 0..count / WRITES {
+        done = done.wrapping_add(writes_of(alloc, WRITES)?);
+    }
+    done = done.wrapping_add(writes_of(alloc, count % WRITES)?);
+    format!(in alloc; "accesses {count} done {done}").ok()
+}
+
+/// How many of so many writes were done, out of reset mode.
+fn writes_of(alloc: Global, count: u32) -> Option<u64> {
+    let mut session = RawSession::new(alloc, 3, 100, 2).ok()?;
+    session.write(1, 0, 0x00).ok()?;
+    let mut done = 0u64;
+    for access in 0..count {
+        if write_next(&mut session, access % 16).is_some() {
+            done = done.wrapping_add(1);
+        }
+    }
+    Some(done)
+}
+
+/// Does one of these 16 writes.
+fn write_next(session: &mut RawSession, access: u32) -> Option<()> {
+    match access {
+        0 => session.write(1, 0, 0x00).ok(),
+        1 => session.write(1, 4, 0xff).ok(),
+        2 => session.write(1, 1, 0x08).ok(),
+        _ => {
+            let place = access.checked_sub(3)?;
+            let value = FRAME.get(place as usize)?;
+            session.write(1, 16 + place as u8, *value).ok()
+        }
+    }
 }
 
 /// Lets the bits of so many frames pass. Before each the first driver asks for one, and after it the second one

@@ -1,7 +1,11 @@
 //! The program `sja`: the arguments and the standard streams, handed to [`sja`].
 #![tactic(auto)]
 
-use sja_run::{CommandRefusal, Output, sja};
+mod disk;
+
+use disk::Disk;
+use sja_run::{CommandRefusal, Output, Task, parse, sja};
+use std::alloc::Global;
 use std::env;
 use std::io::{BufReader, ErrorKind, IsTerminal};
 use std::process::ExitCode;
@@ -13,8 +17,8 @@ const NO_TEXT: &str = "error: invalid UTF-8 was detected in one or more argument
 const WAITING: &str =
     "sja: the plan is waited for on standard input; from a file: sja run < plan.toml";
 
-/// Answers the exit status: 0 for done, 1 for refused, 2 for words that don't parse. Where words ask about a plan and
-/// standard input is a terminal, a line on standard error says that the plan is waited for.
+/// Answers the exit status: 0 for done, 1 for refused, 2 for words that don't parse. Where words ask about the plan on
+/// standard input, and that is a terminal, a line on standard error says that the plan is waited for.
 fn main(rt: HostRuntime) -> ExitCode {
     let mut out = Output::new(rt.stdout());
     let mut err = Output::new(rt.stderr());
@@ -22,11 +26,20 @@ fn main(rt: HostRuntime) -> ExitCode {
         Ok(args) => match args.collect::<Vec<String>>(rt.alloc()) {
             Ok(words) => {
                 let stdin = rt.stdin();
-                if asks_for_plan(words.as_slice()) && stdin.is_terminal() {
+                if stdin.is_terminal() && asks_for_plan(rt.alloc(), words.as_slice()) {
                     let _ = eprintln!(rt; "{WAITING}");
                 }
+                let disk = Disk { rt: &rt };
                 match BufReader::new(rt.alloc(), stdin) {
-                    Ok(mut input) => sja(&rt, rt.alloc(), &words, &mut input, &mut out, &mut err),
+                    Ok(mut input) => sja(
+                        &rt,
+                        rt.alloc(),
+                        &disk,
+                        &words,
+                        &mut input,
+                        &mut out,
+                        &mut err,
+                    ),
                     Err(_) => err.refuse(CommandRefusal::OutOfMemory),
                 }
             }
@@ -40,26 +53,27 @@ fn main(rt: HostRuntime) -> ExitCode {
     ExitCode::from(status)
 }
 
-/// Whether the words, the program's name first, ask for a text of a plan's run, for the plan's mistakes or for its
-/// sweep. The options aren't judged.
-fn asks_for_plan(words: &[String]) -> bool {
-    match words {
-        [_, command, options @ ..] => is_of_plan(command.as_str()) && !asks_for_help(options),
-        _ => false,
+/// Whether the words, the program's name first, ask about the plan on the input.
+fn asks_for_plan(alloc: Global, words: &[String]) -> bool {
+    match parse(alloc, words) {
+        Ok(task) => is_of_plan(&task),
+        Err(_) => false,
     }
 }
 
-/// Whether the command of this name reads a plan.
-fn is_of_plan(command: &str) -> bool {
-    matches!(
-        command,
-        "run" | "wave" | "trace" | "frames" | "picture" | "candump" | "check" | "sweep"
-    )
-}
-
-/// Whether one of the words asks for help.
-fn asks_for_help(words: &[String]) -> bool {
-    words
-        .iter()
-        .any(|word| matches!(word.as_str(), "-h" | "--help"))
+/// Whether the task reads a plan from the input.
+fn is_of_plan(task: &Task<'_>) -> bool {
+    match task {
+        Task::Run { .. }
+        | Task::Wave { .. }
+        | Task::Trace { .. }
+        | Task::Frames { .. }
+        | Task::Picture { .. }
+        | Task::Candump { .. }
+        | Task::Check
+        | Task::Sweep(_)
+        | Task::StruckPlan { .. } => true,
+        Task::Files(files) => files.names.iter().any(|name| *name == "-"),
+        _ => false,
+    }
 }

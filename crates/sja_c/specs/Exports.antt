@@ -1,22 +1,22 @@
 -- What each function of C answers of a session that lies at a handle, and what it makes of that (this project's own
 -- rule): it is done as a call of `crates/sja_calls` is, or it isn't, and then the session is as it was.
-use Rattle.std.specs.Prelude.{◌≡◌, ◌≤◌, ◌==◌, ℕ, Option, List}
-use Rattle.sja_c.specs.Answers.{Answers, answer}
+use denote.RawPtr.{Ptr, null_ptr}
+use Rattle.std.specs.Prelude.{◌≡◌, ◌≢◌, ◌⊎◌, ◌≤◌, ◌==◌, ℕ, Option, List}
+use Rattle.sja_c.specs.Answers.{Answers, answer, refusal}
 use Rattle.sja_c.specs.declared.answer.SjaAnswer.{SjaAnswer}
 use Rattle.sja_calls.specs.Beginnings.{IsNew, IsNoSession}
 use Rattle.sja_calls.specs.Calls.{IsRefusal, ReadsOf, IsReadFault, WritesOf, IsWriteFault, RunsOf, IsRunFault}
 use Rattle.sja_calls.specs.Calls.{LooksOf, IsLookFault, StrikesOf, IsStrikeFault, IsNowOf, IsNowFault}
 use Rattle.sja_calls.specs.Texts.{Ends, PutsReport, IsReportFault, PutsPlan, IsNoPlanText, PutsRun, IsNoRun}
-use Rattle.sja_calls.specs.declared.call_fault.CallFault.{CallFault}
 use Rattle.sja_calls.specs.declared.call_fault.CallFault.TheVariants.{Memory}
 use Rattle.sja_calls.specs.declared.held.Held.{Held}
 use Rattle.sja_calls.specs.declared.state.State.TheVariants.{Lost}
 
 -- ---- the beginning
 
--- there is a place for a session, or memory was refused
-abbrev pub AnswersMake : SjaAnswer → Type 0
-AnswersMake = Answers (λ number. number ≡ 0) (λ fault. fault ≡ Memory)
+-- there is a handle; or memory was refused, and it is null
+abbrev pub AnswersMake : Ptr → SjaAnswer → Type 0
+AnswersMake at r = ((at ≢ null_ptr) × (r ≡ answer 0 0)) ⊎ ((at ≡ null_ptr) × (r ≡ refusal Memory))
 
 -- a session to which nothing happened stands there, in place of what there was; or it doesn't, for this reason
 abbrev pub AnswersBegin : Held → Held → ℕ → ℕ → ℕ → SjaAnswer → Type 0

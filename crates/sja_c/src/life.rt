@@ -1,38 +1,25 @@
 //! `sja_make`, `sja_begin` and `sja_let_go`.
 
-ghost use denote.RawPtr.{null_ptr};
 ghost use types.Logic.{sem};
-ghost use Rattle.std.specs.Prelude.{◌≡◌, ◌≢◌};
+ghost use Rattle.std.specs.Prelude.{◌≡◌};
 ghost use Rattle.sja_c.specs.Answers.{answer, no_handle_status};
 ghost use Rattle.sja_c.specs.Exports.{AnswersMake, AnswersBegin, AnswersLetGo};
-ghost use Rattle.sja_c.specs.Handles.{is_handle, AtHandle};
+ghost use Rattle.sja_c.specs.Handles.{is_handle, empty, AtHandle};
 ghost use Rattle.sja_calls.specs.declared.held.Held.{Held as HeldOf};
 
 use super::answer::{SjaAnswer, done, no_handle, refused};
-use sja_calls::{CallFault, Held, State};
+use super::made::{Made, make};
+use sja_calls::Held;
 use std::alloc::Global;
-use std::ptr::null_mut;
 
 /// Makes the place of a session, in which there is none: `sja_make` of `c/sja.h`.
 #[unsafe(no_mangle)]
 pub extern "C" fn sja_make(alloc: Global, session: &mut *mut u8) -> SjaAnswer
-    ensures answer { AnswersMake result }
-    ensures null { result.status ≢ 0 → session.new ≡ null_ptr }
+    ensures* { sem 𝓛 (is_handle session.new (empty alloc)) ∗ ⌜ AnswersMake session.new result ⌝ }
 {
-    let empty = Held {
-        alloc,
-        state: State::Lost,
-    };
-    match Box::new(alloc, empty) {
-        Ok(boxed) => {
-            *session = Box::into_raw(boxed) as *mut u8;
-            done(0)
-        }
-        Err(_) => {
-            *session = null_mut();
-            refused(CallFault::Memory)
-        }
-    }
+    let Made { at, answer } = make(alloc);
+    *session = at;
+    answer
 }
 
 /// Begins a session to which nothing happened, in place of the one at the handle: `sja_begin` of `c/sja.h`.

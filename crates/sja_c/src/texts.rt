@@ -62,7 +62,7 @@ fn plan_of(held: &mut Held, text: &mut [u8]) -> SjaAnswer
 }
 
 /// The handle is null, and no text is put.
-fn no_text(_text: &mut [u8]) -> SjaAnswer
+pub(crate) fn no_text(_text: &mut [u8]) -> SjaAnswer
     ensures is { result ≡ answer no_handle_status 0 }
     ensures kept { _text.new ≡ _text.old }
 {

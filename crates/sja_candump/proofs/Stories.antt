@@ -73,7 +73,7 @@ all_more bits (n ∷ nodes) [] news ss have on = absurd have
 all_more bits (n ∷ nodes) (b ∷ olds) [] ss have on = absurd on
 all_more bits (n ∷ nodes) (b ∷ olds) (c ∷ news) [] have on = absurd have
 all_more bits (n ∷ nodes) (b ∷ olds) (c ∷ news) (s ∷ ss) have on =
-    let more = on.0.tells n.journal bits s have.0 in
+    let more = on.0.tells n.journal bits s have.0.0 in
     let rest = all_more bits nodes olds news ss have.1 on.1 in
     record {
       stories = more.told ∷ rest.stories;
@@ -99,7 +99,7 @@ all_told bits (n ∷ nodes) [] news ss have on = absurd have
 all_told bits (n ∷ nodes) (b ∷ olds) [] ss have on = absurd on
 all_told bits (n ∷ nodes) (b ∷ olds) (c ∷ news) [] have on = absurd have
 all_told bits (n ∷ nodes) (b ∷ olds) (c ∷ news) (s ∷ ss) have on =
-    let all = on.0.tells n.journal bits s have.0 in
+    let all = on.0.tells n.journal bits s have.0.0 in
     let rest = all_told bits nodes olds news ss have.1 on.1 in
     record {
       stories = all.told ∷ rest.stories;
@@ -116,7 +116,7 @@ all_underway bits [] (b ∷ all) ss have = absurd have
 all_underway bits (n ∷ nodes) [] ss have = tt
 all_underway bits (n ∷ nodes) (b ∷ all) [] have = absurd have
 all_underway bits (n ∷ nodes) (b ∷ all) (s ∷ ss) have = (
-  record { journal = n.journal; bits = bits; told = s; come = have.0 },
+  record { journal = n.journal; bits = bits; told = s; come = have.0.0 },
   all_underway bits nodes all ss have.1,
 )
 

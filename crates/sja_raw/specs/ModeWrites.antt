@@ -1,7 +1,10 @@
 -- The steps of a typed driver that a write of MOD is (SJA1000 data sheet, 6.4.3).
-use Rattle.std.specs.Prelude.{◌++◌, ◌||◌, ℕ, Bool, true, false, if◌then◌else◌, List, [], ◌∷◌}
+use Rattle.std.specs.Prelude.{◌++◌, ◌||◌, not, ℕ, Bool, true, false, if◌then◌else◌, List, [], ◌∷◌}
 use Rattle.sja_regs.specs.declared.mode.Mode.{Mode}
+use Rattle.sja_regs.specs.declared.registers.Registers.{Registers}
+use Rattle.sja_regs.specs.Bits.{differ}
 use Rattle.sja_regs.specs.Modes.{mode_of, mode_byte}
+use Rattle.sja_regs.specs.Registers.{is_forced}
 use Rattle.sja_regs.specs.Writing.{is_other_mode}
 use Rattle.sja_script.specs.declared.step.Step.{Step}
 use Rattle.sja_script.specs.declared.step.Step.TheVariants.{Start, Stop, Write}
@@ -33,3 +36,7 @@ mode_steps now forced out value =
     if now.rm
     then if (mode_of value).rm || forced then Write 0 value ∷ [] else closing out ++ leaving now (mode_of value)
     else if (mode_of value).rm then Stop ∷ [] else Write 0 value ∷ []
+
+-- RM is written as it is, or a bus-off is asked for: the write is that of the typed driver
+abbrev pub is_written : Registers → Mode → Bool
+is_written p new = not (differ p.mode.rm new.rm) || is_forced p

@@ -2,25 +2,24 @@
 
 ghost use Rattle.std.specs.Prelude.{◌≡◌, ◌&&◌, not, ◌<◌, false};
 ghost use Rattle.sja_regs.specs.Commands.{command_of};
-ghost use Rattle.sja_regs.specs.Writing.{is_first_version};
-ghost use Rattle.sja_raw.specs.CommandWrites.{command_byte, doable, releases, command_steps};
+ghost use Rattle.sja_raw.specs.CommandWrites.{command_byte, doable, may_request, releases, command_steps};
 ghost use Rattle.sja_raw.specs.RawDrivers.{Writes};
 ghost use Rattle.sja_raw.specs.Trying.{MayTry, Keeps};
 
-use super::trying::{mode_in, single, try_step};
+use super::trying::{is_reset, single, try_step};
 use sja_driver::LoggedDriver;
 use sja_link::DriverEnd;
 use sja_regs::bits::bit_at;
 use sja_regs::letters::{AT, CDO, RRB, SRR, TR};
-use sja_regs::{Command, Port, RegFault};
+use sja_regs::{Command, Port};
 use sja_script::Step;
 
 /// CMR with TR alone.
 const TRANSMIT: u8 = 1 << TR;
 /// CMR with RRB alone.
 const RELEASE: u8 = 1 << RRB;
-/// CMR with SRR alone.
-const RECEIVE_OWN: u8 = 1 << SRR;
+/// The version of the model that has no self reception.
+const FIRST_VERSION: u8 = 1;
 
 /// Writes CMR.
 pub(crate) fn write_command<E: DriverEnd>(
@@ -36,7 +35,7 @@ pub(crate) fn write_command<E: DriverEnd>(
     ensures writes { Writes E.same E.stands E.dry E.full base bits typed.old typed.new links.old links.new
         port.old port.new 1 (command_steps port.old (command_of value)) result }
 {
-    if mode_in(port).rm {
+    if is_reset(port) {
         return None;
     }
     let command = Command::of(value);
@@ -78,24 +77,22 @@ pub(crate) fn doable(port: &Port, command: Command) -> Command
     requires { port.now.mode.rm ≡ false }
     ensures { result ≡ doable port.now command }
 {
-    let first = is_first_version(port);
-    let free = is_free(port);
-    let may = (command.tr || !first) && free;
+    let may = command.requests() && may_request(port, command);
     Command {
         tr: command.tr && may,
         at: command.at && (may || !command.requests()),
         rrb: false,
         cdo: command.cdo,
-        srr: command.srr && !first && may,
+        srr: command.srr && port.version() != FIRST_VERSION && may,
     }
 }
 
-/// Whether the port has no self reception, as version 1.
-fn is_first_version(port: &Port) -> bool
+/// Whether the request of a command can be made.
+fn may_request(port: &Port, command: Command) -> bool
     requires { port.now.mode.rm ≡ false }
-    ensures { result ≡ is_first_version port.now }
+    ensures { result ≡ may_request port.now command }
 {
-    matches!(port.plan_command(RECEIVE_OWN), Err(RegFault::NotInVersion))
+    (command.tr || port.version() != FIRST_VERSION) && is_free(port)
 }
 
 /// Whether a transmission can be requested: not in listen only mode, and where TBS is 1.

@@ -12,6 +12,7 @@
 #![tactic(auto)]
 
 pub mod address;
+mod command_steps;
 mod command_write;
 mod kept_bytes;
 mod laws;
@@ -22,8 +23,9 @@ mod trying;
 mod write_steps;
 mod writing;
 
+pub use command_steps::{WrittenCommand, written_command};
 pub use kept_bytes::KeptBytes;
 pub use laws::no_command_is_refused;
 pub use raw_driver::RawDriver;
 pub use trying::is_reset;
-pub use write_steps::{WriteSteps, steps_of_write};
+pub use write_steps::{WriteSteps, is_typed_write, steps_of_write};

@@ -6,12 +6,11 @@ ghost use Rattle.sja_regs.specs.Writing.{is_other_mode};
 ghost use Rattle.sja_script.specs.declared.step.Step.TheVariants.{Start, Write};
 ghost use Rattle.sja_driver.specs.AnyDrivers.{is_out};
 ghost use Rattle.sja_driver.specs.LoggedDrivers.{driver_of};
-ghost use Rattle.sja_raw.specs.Inside.WrittenMode.{is_written};
-ghost use Rattle.sja_raw.specs.ModeWrites.{reset_byte, operating_byte, closing, leaving, mode_steps};
+ghost use Rattle.sja_raw.specs.ModeWrites.{is_written, reset_byte, operating_byte, closing, leaving, mode_steps};
 ghost use Rattle.sja_raw.specs.RawDrivers.{Writes};
 ghost use Rattle.sja_raw.specs.Trying.{MayTry, Keeps};
 
-use super::trying::{is_out, mode_in, single, try_step};
+use super::trying::{is_out, is_reset, mode_in, single, try_step};
 use sja_driver::LoggedDriver;
 use sja_link::DriverEnd;
 use sja_regs::address::MOD;
@@ -50,7 +49,7 @@ pub(crate) fn write_mode<E: DriverEnd>(
 pub(crate) fn is_written(port: &Port, new: Mode) -> bool
     ensures { result ≡ is_written port.now new }
 {
-    !differ(mode_in(port).rm, new.rm) || port.is_forced()
+    !differ(is_reset(port), new.rm) || port.is_forced()
 }
 
 /// Leaves reset mode: closes the activation that bus-off ended, if there is one, and begins the next in this mode.

@@ -1,6 +1,6 @@
 //! [`WriteSteps`]: the steps of a typed driver that a write is, as values.
 
-ghost use Rattle.std.specs.Prelude.{◌≡◌, None, Some};
+ghost use Rattle.std.specs.Prelude.{◌≡◌, None, Some, Bool, true, [], ◌∷◌};
 ghost use Rattle.sja_regs.specs.Commands.{command_of};
 ghost use Rattle.sja_regs.specs.Registers.{is_forced};
 ghost use Rattle.sja_driver.specs.AnyDrivers.{is_out};
@@ -8,14 +8,15 @@ ghost use Rattle.sja_driver.specs.LoggedDrivers.{driver_of, IsLawful};
 ghost use Rattle.sja_raw.specs.CommandWrites.{command_steps};
 ghost use Rattle.sja_raw.specs.ModeWrites.{mode_steps};
 ghost use Rattle.sja_raw.specs.WriteLists.{ArePrompt, steps_in};
-ghost use Rattle.sja_raw.specs.Writes.{write_steps};
+ghost use Rattle.sja_raw.specs.Writes.{is_typed_write, write_steps};
+ghost use Rattle.sja_script.specs.declared.step.Step.TheVariants.{Write};
 
-use super::command_write::{command_byte, doable};
+use super::command_steps::written_command;
 use super::mode_write::{is_other_mode, is_written, reset_byte};
 use super::trying::{is_out, mode_in};
 use sja_driver::LoggedDriver;
 use sja_regs::address::{CMR, MOD};
-use sja_regs::{Command, Mode, Port};
+use sja_regs::{Mode, Port};
 use sja_script::Step;
 
 /// The steps of a typed driver that a write is, in order, at most three (this project's own rule). None of them waits.
@@ -38,8 +39,21 @@ pub fn steps_of_write(typed: &LoggedDriver, port: &Port, address: u8, value: u8)
 {
     match address {
         MOD => mode_steps(port, is_out(typed), value),
-        CMR => command_steps(port, Command::of(value)),
+        CMR => command_steps(port, value),
         _ => alone(Step::Write(address, value)),
+    }
+}
+
+/// Whether a write is the same write of a typed driver: of each address but CMR, and of MOD where RM is written as it
+/// is or a bus-off is asked for.
+pub fn is_typed_write(port: &Port, address: u8, value: u8) -> bool
+    ensures is { result ≡ is_typed_write port.now address value }
+    ensures alone { result ≡ true → (out : Bool) → write_steps port.now out address value ≡ Write address value ∷ [] }
+{
+    match address {
+        MOD => is_written(port, Mode::of(value)),
+        CMR => false,
+        _ => true,
     }
 }
 
@@ -67,26 +81,19 @@ fn mode_steps(port: &Port, out: bool, value: u8) -> WriteSteps
 }
 
 /// Those of a write of CMR.
-fn command_steps(port: &Port, command: Command) -> WriteSteps
-    ensures are { steps_in result ≡ command_steps port.now command }
+fn command_steps(port: &Port, value: u8) -> WriteSteps
+    ensures are { steps_in result ≡ command_steps port.now (command_of value) }
     ensures prompt { ArePrompt result }
 {
-    if mode_in(port).rm {
-        return WriteSteps {
-            first: None,
-            second: None,
-            third: None,
-        };
-    }
-    let byte = command_byte(doable(port, command));
+    let written = written_command(port, value);
     WriteSteps {
-        first: if byte == 0 {
+        first: if written.command == 0 {
             None
         } else {
-            Some(Step::Command(byte))
+            Some(Step::Command(written.command))
         },
         second: None,
-        third: if command.rrb {
+        third: if written.releases {
             Some(Step::Release)
         } else {
             None

@@ -11,7 +11,7 @@ ghost use Rattle.sja_raw.specs.Writes.{write_steps};
 use super::command_write::write_command;
 use super::mode_write::write_mode;
 use super::raw_driver::RawDriver;
-use super::trying::{mode_in, single};
+use super::trying::{is_reset, single};
 use sja_driver::LoggedDriver;
 use sja_link::DriverEnd;
 use sja_regs::Port;
@@ -42,7 +42,7 @@ impl RawDriver {
             (released_since (typed_of self.old) (typed_of self.new)) }
         ensures keeps { Keeps E.link E.same (typed_of self.old) (typed_of self.new) links.old links.new base 3 }
     {
-        let reset = mode_in(port).rm;
+        let reset = is_reset(port);
         let released = self.typed.log().released().len();
         self.kept.write(reset, address, value);
         let rest = write_typed(&mut self.typed, links, base, port, address, value, bits);

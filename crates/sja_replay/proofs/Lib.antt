@@ -7,3 +7,4 @@ pub mod Walks
 pub mod Judging
 pub mod Closes
 pub mod Once
+pub mod Passed

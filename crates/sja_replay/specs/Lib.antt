@@ -10,3 +10,5 @@ pub mod Happened
 pub mod Replaying
 -- ---- how a replay goes from entry to entry: definitions of private contracts alone
 pub mod Inside
+-- ---- a bit that told nothing, in short
+pub mod Short

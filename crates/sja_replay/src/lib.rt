@@ -4,6 +4,8 @@
 //! levels, what the node showed before the bit and after it ([`View`]), what the bit told, and what became of a frame
 //! that was received with it ([`Fate`]). `specs/Happening.antt` says each of these by the cut of the record, and
 //! `Happened.antt` which happenings a journal has. A replay keeps no list, and no call of this crate takes memory.
+//! Past a bit that tells nothing it goes in short where that is asked for, as of most bits it can ([`ShortBit`],
+//! `specs/Short.antt`).
 //!
 //! Its tests stand in `crates/test_replay`.
 #![tactic(auto)]
@@ -13,7 +15,9 @@ mod happening;
 mod items;
 mod laws;
 mod misfit;
+mod passing;
 mod replay;
+mod short_bit;
 mod verdicts;
 mod view;
 
@@ -21,4 +25,5 @@ pub use fate::Fate;
 pub use happening::Happening;
 pub use laws::a_journal_has_one_list_of_happenings;
 pub use replay::Replay;
+pub use short_bit::ShortBit;
 pub use view::View;

@@ -144,7 +144,7 @@ fn spend(entries: &mut Entries<'_>)
 }
 
 /// Whether two levels are one.
-fn is_same(level: Level, other: Level) -> bool
+pub(crate) fn is_same(level: Level, other: Level) -> bool
     ensures yes { result ≡ true → level ≡ other }
     ensures no { result ≡ false → level ≢ other }
 {

@@ -5,7 +5,7 @@ use Rattle.std.specs.Io.KnownBytes.{Consumes}
 use Rattle.std.proofs.KnownBytes.{Consumes-nil, Consumes-trans}
 use Rattle.sja_plan.specs.Plan.{PlanValue}
 use Rattle.sja_words.specs.Words.{Request, ParsesAs, encode, decode, filter, arbitrate, message, run, wave}
-use Rattle.sja_words.specs.Words.{trace, frames, picture, candump, check, sweep, struck_plan, live}
+use Rattle.sja_words.specs.Words.{trace, frames, picture, candump, check, sweep, struck_plan, files, live}
 use Rattle.sja_log.specs.declared.run_fault.RunFault.{RunFault}
 use Rattle.sja_threads.specs.Stopping.{IsFaultOf}
 use Rattle.sja_texts.specs.declared.command_refusal.CommandRefusal.{CommandRefusal}
@@ -50,13 +50,13 @@ read_more a b c some more earlier later few =
 
 -- there are hints
 few_hinted : (before after : Option (List ℕ)) (text : List ℕ) → HasHints before after text → ReadsFew before after
-few_hinted before after text has = (has.0, has.3.0, has.3.1)
+few_hinted before after text has = (has.0, has.1.0, has.1.1)
 
 -- there is something to be said of the plan
 pub few_checked : (before after : Option (List ℕ)) (said : PlanCheck) → IsChecked before after said →
     ReadsFew before after
-few_checked before after (Hints text) has = (has.0, has.3.0, has.3.1)
-few_checked before after (Mistake text) has = (has.0, has.3.0, has.3.1)
+few_checked before after (Hints text) has = (has.0, has.1.0, has.1.1)
+few_checked before after (Mistake text) has = (has.0, has.1.0, has.1.1)
 
 -- there is nothing
 pub few_unchecked : (before after : Option (List ℕ)) (r : CommandRefusal) → RefusesInput before after r →
@@ -149,6 +149,7 @@ few_printed check before after text (inl asks) printed = few_hinted before after
 few_printed (sweep w) before after text (inl asks) printed = few_of (IsSwept w) before after text printed
 few_printed (struck_plan node bit) before after text (inl asks) printed =
     few_of (IsStruck node bit) before after text printed
+few_printed (files asked jobs names) before after text (inl asks) printed = absurd printed
 few_printed live before after text (inl asks) printed = absurd printed
 few_printed (encode digits) before after text (inl asks) printed = absurd asks
 few_printed (decode digits) before after text (inl asks) printed = absurd asks
@@ -176,6 +177,7 @@ few_turned_down check before after why (inl asks) refused = few_unchecked before
 few_turned_down (sweep w) before after why (inl asks) refused = few_of_none (RefusesSwept w) before after why refused
 few_turned_down (struck_plan node bit) before after why (inl asks) refused =
     few_of_none (RefusesStruck node bit) before after why refused
+few_turned_down (files asked jobs names) before after why (inl asks) refused = refused.1
 few_turned_down live before after why (inl asks) refused = refused.1
 few_turned_down (encode digits) before after why (inl asks) refused = absurd asks
 few_turned_down (decode digits) before after why (inl asks) refused = absurd asks

@@ -1,6 +1,10 @@
 pub mod FewBytes
+pub mod FileReads
+pub mod FileSteps
+pub mod FileTexts
 pub mod MostRead
 pub mod PlanRefusals
+pub mod PlanRuns
 pub mod RefusedMemory
 pub mod Requests
 pub mod Talks

@@ -1,7 +1,7 @@
 -- Refused memory is a refusal of each request.
 use Rattle.std.proofs.Common.{List, ℕ, Option, refl, inl, inr}
 use Rattle.sja_words.specs.Words.{Request, encode, decode, filter, arbitrate, message, run, wave}
-use Rattle.sja_words.specs.Words.{trace, frames, picture, candump, check, sweep, struck_plan, live}
+use Rattle.sja_words.specs.Words.{trace, frames, picture, candump, check, sweep, struck_plan, files, live}
 use Rattle.sja_run.specs.Answer.{IsRefused}
 use Rattle.sja_run.specs.Input.{ReadsFew}
 use Rattle.sja_texts.specs.declared.command_refusal.CommandRefusal.TheVariants.{OutOfMemory}
@@ -23,4 +23,5 @@ memory_refused (candump errors threads) before after few = few
 memory_refused check before after few = few
 memory_refused (sweep w) before after few = few
 memory_refused (struck_plan node bit) before after few = few
+memory_refused (files asked jobs names) before after few = (refl, few)
 memory_refused live before after few = (refl, few)

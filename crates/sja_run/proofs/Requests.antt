@@ -4,17 +4,17 @@ use Rattle.std.proofs.Common.{Result, Ok, Err, IfOk}
 use Rattle.std.proofs.Math.Decide.{dec_lt}
 use Rattle.std.specs.Io.KnownBytes.{Keeps}
 use Rattle.sja_words.specs.Words.{Request, ParsesAs, encode, decode, filter, arbitrate, message, run, wave}
-use Rattle.sja_words.specs.Words.{trace, frames, picture, candump, check, sweep, struck_plan, live}
+use Rattle.sja_words.specs.Words.{trace, frames, picture, candump, check, sweep, struck_plan, files, live}
 use Rattle.sja_texts.specs.declared.command_refusal.CommandRefusal.TheVariants.{OutOfMemory}
 use Rattle.sja_texts.specs.declared.command_refusal.CommandRefusal.{CommandRefusal}
-use Rattle.sja_run.specs.Answer.{AsksForRun, IsLeftOver, IsPrinted, IsRefused, Shows, IsLeft}
+use Rattle.sja_run.specs.Answer.{AsksForOne, AsksForRun, IsLeftOver, IsPrinted, IsRefused, Shows, IsLeft}
 use Rattle.sja_run.specs.Answer.{request_for, request_left, request_over}
 use Rattle.sja_run.specs.Run.{IsOfPlan, RefusesRun, RefusesThreads}
 use Rattle.sja_run.specs.RunText.{IsTextOfRun}
 use Rattle.sja_run.specs.declared.run_text.RunText.{RunText}
 use Rattle.sja_run.specs.declared.run_text.RunText.TheVariants.{Report, Wave, Trace, Frames, Picture, Drawing, Candump}
 use Rattle.sja_run.specs.declared.left.Left.{Left}
-use Rattle.sja_run.specs.declared.left.Left.TheVariants.{Threads, Talk}
+use Rattle.sja_run.specs.declared.left.Left.TheVariants.{Threads, Files, Talk}
 use Rattle.sja_run.specs.declared.threaded.Threaded.{Threaded}
 use Rattle.sja_run.specs.declared.threaded.Threaded.TheVariants.{Text, Sweep}
 use Rattle.sja_run.specs.Input.{ReadsFew}
@@ -46,6 +46,7 @@ is_left_over (candump errors false) = inr (λ asks. asks)
 is_left_over check = inr (λ asks. asks)
 is_left_over (sweep w) = elim (dec_lt 1 w.jobs) [ yes more ↦ inl more | no not ↦ inr not ]
 is_left_over (struck_plan node bit) = inr (λ asks. asks)
+is_left_over (files asked jobs names) = inl tt
 is_left_over live = inl tt
 
 -- whatever is left to threads asks about a plan
@@ -62,18 +63,19 @@ asks_left (Sweep w) = tt
 -- and so does whatever is left to another call, or it asks for a talk
 pub asks_over : (left : Left) → AsksForRun (request_over left)
 asks_over (Threads threaded) = asks_left threaded
+asks_over (Files w) = tt
 asks_over Talk = tt
 
--- a text of a run or a sweep is no talk
-pub is_no_talk : (left : Threaded) → ¬ (request_left left ≡ live)
-is_no_talk (Text Report) asks = cc
-is_no_talk (Text Wave) asks = cc
-is_no_talk (Text Trace) asks = cc
-is_no_talk (Text Frames) asks = cc
-is_no_talk (Text (Picture first last)) asks = cc
-is_no_talk (Text (Drawing first last)) asks = cc
-is_no_talk (Text (Candump errors)) asks = cc
-is_no_talk (Sweep w) asks = cc
+-- a text of a run or a sweep is one answer
+pub one_left : (left : Threaded) → AsksForOne (request_left left)
+one_left (Text Report) = tt
+one_left (Text Wave) = tt
+one_left (Text Trace) = tt
+one_left (Text Frames) = tt
+one_left (Text (Picture first last)) = tt
+one_left (Text (Drawing first last)) = tt
+one_left (Text (Candump errors)) = tt
+one_left (Sweep w) = tt
 
 -- what is printed of a run in threads is what was left to them
 pub left_printed : (what : RunText) (before after : Option (List ℕ)) (text : List ℕ) →

@@ -1,8 +1,8 @@
 -- What the program does, by what the words ask for (this project's own rule).
-use Rattle.std.specs.Prelude.{◌≡◌, ◌⊎◌, ◌<◌, ℕ, Bool, true, false, List, Option, Some, None, Result, Ok, Err}
+use Rattle.std.specs.Prelude.{◌≡◌, ◌⊎◌, ◌<◌, ℕ, Bool, true, false, List, Option, Some, None, Result, Ok, Err, map}
 use Rattle.std.specs.Io.KnownBytes.{Appends, Keeps}
 use Rattle.sja_words.specs.Words.{Request, encode, decode, filter, arbitrate, message, run, wave}
-use Rattle.sja_words.specs.Words.{trace, frames, picture, candump, check, sweep, struck_plan, live}
+use Rattle.sja_words.specs.Words.{trace, frames, picture, candump, check, sweep, struck_plan, files, live}
 use Rattle.sja_texts.specs.declared.command_refusal.CommandRefusal.{CommandRefusal}
 use Rattle.sja_texts.specs.declared.command_refusal.CommandRefusal.TheVariants as refusal
 use Rattle.sja_texts.specs.Arbitrate.{IsArbitration, RefusesMessages}
@@ -18,14 +18,14 @@ use Rattle.sja_run.specs.Run.{IsOfPlan, RefusesBy}
 use Rattle.sja_run.specs.RunText.{IsTextOfRun, MayFault}
 use Rattle.sja_run.specs.Sweep.{IsStruck, IsSwept, RefusesOfPlan, RefusesStruck, RefusesSwept}
 use Rattle.sja_run.specs.declared.left.Left.{Left}
-use Rattle.sja_run.specs.declared.left.Left.TheVariants.{Threads, Talk}
+use Rattle.sja_run.specs.declared.left.Left.TheVariants.{Threads, Files, Talk}
 use Rattle.sja_run.specs.declared.threaded.Threaded.{Threaded}
 use Rattle.sja_run.specs.declared.run_text.RunText.{RunText}
 use Rattle.sja_run.specs.declared.run_text.RunText.TheVariants.{Report, Wave, Trace, Frames, Picture, Drawing, Candump}
 use Rattle.sja_run.specs.declared.threaded.Threaded.TheVariants.{Text, Sweep}
 
--- a plan is asked about: a text of its run, whether it is one, its sweep, or the plan with a strike more; or a session
--- is driven. For these alone the input is read
+-- a plan is asked about: a text of its run, whether it is one, its sweep, or the plan with a strike more; or plans that
+-- stand in files; or a session is driven. For these alone the input is read
 abbrev pub AsksForRun : Request → Type 0
 AsksForRun (run threads) = Unit {0}
 AsksForRun (wave threads) = Unit {0}
@@ -36,6 +36,7 @@ AsksForRun (candump errors threads) = Unit {0}
 AsksForRun check = Unit {0}
 AsksForRun (sweep w) = Unit {0}
 AsksForRun (struck_plan node bit) = Unit {0}
+AsksForRun (files asked jobs names) = Unit {0}
 AsksForRun live = Unit {0}
 AsksForRun other = ⊥
 
@@ -50,7 +51,7 @@ AsksForText (candump errors threads) = Unit {0}
 AsksForText other = ⊥
 
 -- it is left to another call: threads are asked for, for a run with each driver in a thread of its own or for a sweep
--- in more than one, or a session is driven
+-- in more than one; or plans stand in files, or a session is driven
 abbrev pub IsLeftOver : Request → Type 0
 IsLeftOver (run true) = Unit {0}
 IsLeftOver (wave true) = Unit {0}
@@ -59,8 +60,15 @@ IsLeftOver (frames true) = Unit {0}
 IsLeftOver (picture first last svg true) = Unit {0}
 IsLeftOver (candump errors true) = Unit {0}
 IsLeftOver (sweep w) = 1 < w.jobs
+IsLeftOver (files asked jobs names) = Unit {0}
 IsLeftOver live = Unit {0}
 IsLeftOver other = ⊥
+
+-- there is one answer, a text or a refusal: not one of each file, nor those of a session
+abbrev pub AsksForOne : Request → Type 0
+AsksForOne (files asked jobs names) = ⊥
+AsksForOne live = ⊥
+AsksForOne other = Unit {0}
 
 -- a text of a run, in threads or in one, as what was asked for
 abbrev pub request_for : Bool → RunText → Request
@@ -85,6 +93,7 @@ request_left (Sweep w) = sweep w
 -- what is left to another call, as what was asked for
 abbrev pub request_over : Left → Request
 request_over (Threads threaded) = request_left threaded
+request_over (Files w) = files w.question w.jobs (map (λ name. name.now) w.names.items)
 request_over Talk = live
 
 -- the exit status, where nothing is left to another call
@@ -109,6 +118,7 @@ IsPrinted (candump errors threads) before after text = IsOfPlan (IsTextOfRun thr
 IsPrinted check before after text = HasHints before after text
 IsPrinted (sweep w) before after text = IsOfPlan (IsSwept w) before after text
 IsPrinted (struck_plan node bit) before after text = IsOfPlan (IsStruck node bit) before after text
+IsPrinted (files asked jobs names) before after text = ⊥
 IsPrinted live before after text = ⊥
 
 -- the same, and why the request has no answer
@@ -127,6 +137,7 @@ IsRefused (candump errors threads) before after r = RefusesBy (MayFault threads)
 IsRefused check before after r = RefusesInput before after r
 IsRefused (sweep w) before after r = RefusesOfPlan (RefusesSwept w) before after r
 IsRefused (struck_plan node bit) before after r = RefusesOfPlan (RefusesStruck node bit) before after r
+IsRefused (files asked jobs names) before after r = (r ≡ refusal.OutOfMemory) × ReadsFew before after
 IsRefused live before after r = (r ≡ refusal.OutOfMemory) × ReadsFew before after
 
 -- The request, the exit status, and what the input, the output and the error output held before and hold after.

@@ -4,6 +4,7 @@ use Rattle.std.specs.Prelude.{◌≡◌, ◌++◌, ℕ, List, Option}
 use Rattle.sja_plan.specs.Plan.{PlanValue}
 use Rattle.sja_plan.specs.Faults.{IsPlanOf, IsFirstFault}
 use Rattle.sja_plan.specs.declared.plan_fault.PlanFault.{PlanFault}
+use Rattle.sja_plan.specs.declared.plan_fault.PlanFault.TheVariants.{Memory}
 use Rattle.sja_log.specs.Log.{RunValue}
 use Rattle.sja_log.specs.Runs.{IsSerialRun}
 use Rattle.sja_check.specs.Lines.{IsBrief, AreHints}
@@ -13,17 +14,29 @@ use Rattle.sja_run.specs.declared.plan_check.PlanCheck.{PlanCheck}
 use Rattle.sja_run.specs.declared.plan_check.PlanCheck.TheVariants.{Hints, Mistake}
 use Rattle.sja_run.specs.Input.{IsRead}
 
--- the bytes that were read are a plan, which has a run in one thread, and the text is a line for each hint
-abbrev pub HasHints : Option (List ℕ) → Option (List ℕ) → List ℕ → Type 0
-HasHints before after text =
-    (bytes : List ℕ) × (plan : PlanValue) × (log : RunValue) × IsRead before after bytes × IsPlanOf bytes plan
-    × IsSerialRun plan log × AreHints text
+-- these bytes are a plan, which has a run in one thread, and the text is a line for each hint
+abbrev pub IsHinted : List ℕ → List ℕ → Type 0
+IsHinted bytes text = (plan : PlanValue) × (log : RunValue) × IsPlanOf bytes plan × IsSerialRun plan log × AreHints text
 
--- the bytes that were read have this first fault: the text is the line that `run` has for it, and then one line or two
-abbrev pub HasMistake : Option (List ℕ) → Option (List ℕ) → List ℕ → Type 0
-HasMistake before after text =
-    (bytes : List ℕ) × (fault : PlanFault) × (words : List ℕ) × IsRead before after bytes × IsFirstFault bytes fault
+-- these bytes have this first fault, which is no refused memory: the text is the line that `run` has for it, and then
+-- one line or two
+abbrev pub IsExplained : List ℕ → List ℕ → Type 0
+IsExplained bytes text =
+    (fault : PlanFault) × (words : List ℕ) × (¬ (fault ≡ Memory)) × IsFirstFault bytes fault
     × (text ≡ refusal_line (refusal.Plan fault) ++ words) × IsBrief words
+
+-- which of both is said of these bytes
+abbrev pub IsSaidOf : List ℕ → PlanCheck → Type 0
+IsSaidOf bytes (Hints text) = IsHinted bytes text.items
+IsSaidOf bytes (Mistake text) = IsExplained bytes text.items
+
+-- there are hints of the bytes that were read
+abbrev pub HasHints : Option (List ℕ) → Option (List ℕ) → List ℕ → Type 0
+HasHints before after text = (bytes : List ℕ) × IsRead before after bytes × IsHinted bytes text
+
+-- there is a mistake in them
+abbrev pub HasMistake : Option (List ℕ) → Option (List ℕ) → List ℕ → Type 0
+HasMistake before after text = (bytes : List ℕ) × IsRead before after bytes × IsExplained bytes text
 
 -- which of both it is
 abbrev pub IsChecked : Option (List ℕ) → Option (List ℕ) → PlanCheck → Type 0

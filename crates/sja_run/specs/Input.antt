@@ -1,5 +1,5 @@
 -- What is read of the input, by what it held before and holds after, where that is known (this project's own rule).
-use Rattle.std.specs.Prelude.{◌+◌, ◌<◌, ◌≤◌, ℕ, List, Option, length}
+use Rattle.std.specs.Prelude.{◌≡◌, ◌+◌, ◌<◌, ◌≤◌, ◌++◌, ℕ, List, [], Option, length}
 use Rattle.std.specs.Io.KnownBytes.{Consumes, IsAtEnd}
 use Rattle.sja_plan.specs.Limits.{most_bytes}
 use Rattle.sja_texts.specs.declared.command_refusal.CommandRefusal.{CommandRefusal}
@@ -13,6 +13,12 @@ most_read bytes = most_bytes bytes + 1
 abbrev pub IsRead : Option (List ℕ) → Option (List ℕ) → List ℕ → Type 0
 IsRead before after bytes =
     Consumes before after bytes × (length bytes ≤ most_read bytes) × (length bytes < most_read bytes → IsAtEnd after)
+
+-- of what stands in a place, as a whole, these bytes were read: all, or the first of them, as many as that
+abbrev pub IsReadFrom : List ℕ → List ℕ → Type 0
+IsReadFrom whole bytes =
+    (rest : List ℕ) × (whole ≡ bytes ++ rest) × (length bytes ≤ most_read bytes)
+    × (length bytes < most_read bytes → rest ≡ [])
 
 -- no more than that were read
 abbrev pub ReadsFew : Option (List ℕ) → Option (List ℕ) → Type 0

@@ -5,3 +5,6 @@ pub mod Check
 pub mod Sweep
 pub mod Answer
 pub mod Live
+pub mod Files
+-- ---- definitions of private contracts alone
+pub mod Inside

@@ -1,4 +1,4 @@
-//! `check`: the first mistake in the plan on the input, or what its run left out.
+//! `check`: the first mistake in a plan, or what its run left out.
 
 ghost use Rattle.std.specs.Prelude.{◌≡◌, ◌++◌, ℕ, List, IfOk, IfErr};
 ghost use Rattle.sja_plan.specs.declared.plan_fault.PlanFault.TheVariants.{Memory};
@@ -7,7 +7,7 @@ ghost use Rattle.sja_log.specs.Runs.{IsSerialRun};
 ghost use Rattle.sja_check.specs.Lines.{AreHints, IsBrief};
 ghost use Rattle.sja_texts.specs.Refusal.{refusal_line};
 ghost use Rattle.sja_texts.specs.declared.command_refusal.CommandRefusal.TheVariants as refusal;
-ghost use Rattle.sja_run.specs.Check.{IsChecked};
+ghost use Rattle.sja_run.specs.Check.{IsChecked, IsSaidOf};
 ghost use Rattle.sja_run.specs.Input.{RefusesInput};
 
 use super::input::read_input;
@@ -21,7 +21,7 @@ use sja_texts::CommandRefusal;
 use std::alloc::Global;
 use std::io::Read;
 
-/// What there is to be said of the plan on the input. A plan is run in one thread.
+/// What there is to be said of the plan on the input.
 ///
 /// Errors: those of [`read_input`]; [`CommandRefusal::OutOfMemory`].
 pub(crate) fn checked<R: Read>(alloc: Global, input: &mut R) -> Result<PlanCheck, CommandRefusal>
@@ -29,10 +29,20 @@ pub(crate) fn checked<R: Read>(alloc: Global, input: &mut R) -> Result<PlanCheck
     ensures err { IfErr result (RefusesInput (R.remaining input.old) (R.remaining input.new)) }
 {
     let bytes = read_input(alloc, input)?;
-    match read_plan(alloc, bytes.as_slice()) {
-        Ok(plan) => Ok(PlanCheck::Hints(hinted(alloc, bytes.as_slice(), &plan)?)),
-        Err(PlanFault::Memory) => Err(CommandRefusal::OutOfMemory),
-        Err(fault) => Ok(PlanCheck::Mistake(explained(alloc, bytes.as_slice(), fault)?)),
+    let said = said_of(alloc, bytes.as_slice())?;
+    Ok(said)
+}
+
+/// What there is to be said of the plan that these bytes are. A plan is run in one thread.
+///
+/// Error: [`OutOfMemory`] where memory was refused.
+pub(crate) fn said_of(alloc: Global, bytes: &[u8]) -> Result<PlanCheck, OutOfMemory>
+    ensures { IfOk result (IsSaidOf bytes.now) }
+{
+    match read_plan(alloc, bytes) {
+        Ok(plan) => Ok(PlanCheck::Hints(hinted(alloc, bytes, &plan)?)),
+        Err(PlanFault::Memory) => Err(OutOfMemory),
+        Err(fault) => Ok(PlanCheck::Mistake(explained(alloc, bytes, fault)?)),
     }
 }
 

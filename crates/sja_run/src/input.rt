@@ -35,7 +35,7 @@ pub(crate) fn plan_of_input<R: Read>(alloc: Global, input: &mut R) -> Result<Pla
 ///
 /// Errors: [`CommandRefusal::Read`] where a read fails, or where that many reads come neither to the end nor to as many
 /// bytes; [`CommandRefusal::OutOfMemory`].
-pub(crate) fn read_input<R: Read>(alloc: Global, input: &mut R) -> Result<Vec<u8>, CommandRefusal>
+pub fn read_input<R: Read>(alloc: Global, input: &mut R) -> Result<Vec<u8>, CommandRefusal>
     ensures taken { IfOk result (λ bytes. Consumes (R.remaining input.old) (R.remaining input.new) bytes.items) }
     ensures bound { IfOk result (λ bytes. length bytes.items ≤ most_read bytes.items) }
     ensures whole { IfOk result (λ bytes.

@@ -10,14 +10,19 @@
 //! `sja_serial`, `sja_svg` and the crates of these names. For `check` it explains the plan's first fault, or says what
 //! the run left out ([`mistake`], [`hints`]), by `sja_check`. For `sweep` it says what each single bit error does to
 //! the run ([`sweep`]), by `sja_sweep`, or writes the plan with a strike more ([`plan_text`]), by `sja_plan_text`. The
-//! texts of the other commands, and of each refusal, are those of `sja_texts`. What is left to threads, or to a talk by
-//! `sja_live`, is [`Left`]; [`sja`] does that too.
+//! texts of the other commands, and of each refusal, are those of `sja_texts`. What is left to threads, to be done file
+//! by file ([`Sources`]), or to a talk by `sja_live`, is [`Left`]; [`sja`] does that too.
 //!
 //! Its tests stand in `crates/test_program/src/program`.
 #![tactic(auto)]
 
 mod answer;
 mod check;
+mod file_answers;
+mod file_outcome;
+mod file_reads;
+mod file_texts;
+mod files;
 mod input;
 mod left;
 mod live;
@@ -27,12 +32,16 @@ mod program;
 mod run_text;
 mod serial;
 mod serial_text;
+mod source_fault;
+mod sources;
 mod struck_plan;
 mod sweeps;
 mod threaded;
 mod threaded_text;
 mod tries;
 
+pub use file_outcome::FileOutcome;
+pub use input::read_input;
 pub use left::Left;
 pub use output::Output;
 pub use program::sja;
@@ -53,6 +62,8 @@ pub use sja_texts::{CommandRefusal, SweepRefusal};
 pub use sja_threads::run_threads;
 pub use sja_trace::trace;
 pub use sja_wave::wave;
-pub use sja_words::{SweepWords, Task, WordsFault, parse};
+pub use sja_words::{FileWords, PlanQuestion, SweepWords, Task, WordsFault, parse};
+pub use source_fault::SourceFault;
+pub use sources::Sources;
 pub use threaded::Threaded;
 pub use tries::Tries;

@@ -3,6 +3,7 @@
 ghost use Rattle.std.specs.Prelude.{◌≡◌, false, true};
 ghost use Rattle.std.specs.Io.KnownBytes.{Appends};
 ghost use Rattle.sja_texts.specs.Refusal.{refusal_line};
+ghost use Rattle.sja_run.specs.Files.{name_line, unreadable_line};
 
 use sja_texts::CommandRefusal;
 use std::io::Write;
@@ -64,5 +65,24 @@ impl<W: Write> Output<W> {
     {
         self.put(text);
         if self.failed { 1 } else { 2 }
+    }
+    /// Writes the line that stands before what is said of the file with this name, where there are several.
+    pub(crate) fn put_name(&mut self, several: bool, name: &str)
+        ensures { self.new.failed ≡ false → (self.old.failed ≡ false)
+            × Appends (W.contents self.old.writer) (W.contents self.new.writer) (name_line several name.now) }
+    {
+        if several && !self.failed {
+            self.failed = writeln!(self.writer, "file {name}").is_err();
+        }
+    }
+
+    /// Writes the line of a file with this name that can't be read.
+    pub(crate) fn put_unreadable(&mut self, name: &str)
+        ensures { self.new.failed ≡ false → (self.old.failed ≡ false)
+            × Appends (W.contents self.old.writer) (W.contents self.new.writer) (unreadable_line name.now) }
+    {
+        if !self.failed {
+            self.failed = writeln!(self.writer, "sja: can't read {name}").is_err();
+        }
     }
 }

@@ -1,15 +1,20 @@
 //! [`sja`]: the whole program over words, a reader and two writers.
 
-ghost use Rattle.std.specs.Prelude.{◌≡◌, ◌⊎◌, IfOk, IfErr, Some, false, true, map};
-ghost use Rattle.sja_words.specs.Words.{Request, ParsesAs, live};
-ghost use Rattle.sja_run.specs.Answer.{AsksForRun, IsPrinted, IsRefused, IsTurnedAway, Shows, request_left};
+ghost use Rattle.std.specs.Prelude.{◌≡◌, ◌⊎◌, ℕ, List, IfOk, IfErr, Some, false, true, map};
+ghost use Rattle.sja_words.specs.Words.{Request, ParsesAs, files, live};
+ghost use Rattle.sja_words.specs.declared.plan_question.PlanQuestion.{PlanQuestion};
+ghost use Rattle.sja_run.specs.Answer.{AsksForOne, AsksForRun, IsPrinted, IsRefused, IsTurnedAway, Shows};
+ghost use Rattle.sja_run.specs.Answer.{request_left};
+ghost use Rattle.sja_run.specs.Files.{ShowsFiles};
 ghost use Rattle.sja_run.specs.Input.{ReadsFew};
 ghost use Rattle.sja_run.specs.Live.{ShowsTalk};
 
+use super::files::reply_files;
 use super::left::Left;
 use super::live::reply_live;
 use super::output::Output;
 use super::serial::sja_serial;
+use super::sources::Sources;
 use super::sweeps::told_sweep_jobs;
 use super::threaded::Threaded;
 use super::threaded_text::written_threads;
@@ -29,19 +34,27 @@ use std::thread::Threads;
 /// `input` is read for a text of a run, with `--threads` or without, and for `check` and `sweep` alone: at most one
 /// byte more of it than a plan may have that begins so, in at most 33,554,434 reads.
 /// For `live` it is read to the line that ends the talk, each line after the answer of the one before it.
-/// For `--threads`, and for `sweep --jobs` with more than one, alone it starts threads, and waits for them.
+/// Of plans in files, which `sources` has, each is read, answered and told of, in order; `-` is the input.
+/// For `--threads`, and for several files or a sweep with `--jobs` above 1, alone it starts threads, and waits.
 /// The words, texts and statuses are this project's own rule.
-pub fn sja<T: Threads + Wait + Sync, S: AsStr, R: Read, O: Write, E: Write>(
+pub fn sja<T: Threads + Wait + Sync, F: Sources, S: AsStr, R: Read, O: Write, E: Write>(
     rt: &T,
     alloc: Global,
+    sources: &F,
     words: &[S],
     input: &mut R,
     out: &mut Output<O>,
     err: &mut Output<E>,
 ) -> u8
-    ensures answered { (r : Request) → ParsesAs (map S.text words.now) r → ¬ (r ≡ live)
+    ensures answered { (r : Request) → ParsesAs (map S.text words.now) r → AsksForOne r
         → out.new.failed ≡ false → err.new.failed ≡ false
         → Shows r (Some result) (R.remaining input.old) (R.remaining input.new)
+        (O.contents out.old.writer) (O.contents out.new.writer)
+        (E.contents err.old.writer) (E.contents err.new.writer) }
+    ensures of_files { (asked : PlanQuestion) (jobs : ℕ) (names : List (List ℕ))
+        → ParsesAs (map S.text words.now) (files asked jobs names)
+        → out.new.failed ≡ false → err.new.failed ≡ false
+        → ShowsFiles (F.holds sources.now) asked names result (R.remaining input.old) (R.remaining input.new)
         (O.contents out.old.writer) (O.contents out.new.writer)
         (E.contents err.old.writer) (E.contents err.new.writer) }
     ensures talks { ParsesAs (map S.text words.now) live → out.new.failed ≡ false → err.new.failed ≡ false
@@ -52,14 +65,17 @@ pub fn sja<T: Threads + Wait + Sync, S: AsStr, R: Read, O: Write, E: Write>(
         → out.new.failed ≡ false → err.new.failed ≡ false
         → IsTurnedAway (Some result) (E.contents err.old.writer) (E.contents err.new.writer) }
     ensures untouched { ((r : Request) → ¬ ParsesAs (map S.text words.now) r) → out.new ≡ out.old }
-    ensures one_writer { ¬ ParsesAs (map S.text words.now) live → (out.new ≡ out.old) ⊎ (err.new ≡ err.old) }
+    ensures one_writer { ((r : Request) → ParsesAs (map S.text words.now) r → AsksForOne r)
+        → (out.new ≡ out.old) ⊎ (err.new ≡ err.old) }
     ensures failed { out.old.failed ≡ false → err.old.failed ≡ false
         → (out.new.failed ≡ true) ⊎ (err.new.failed ≡ true) → result ≡ 1 }
     ensures unread { ((r : Request) → ParsesAs (map S.text words.now) r → ¬ AsksForRun r) → input.new ≡ input.old }
-    ensures few { ¬ ParsesAs (map S.text words.now) live → ReadsFew (R.remaining input.old) (R.remaining input.new) }
+    ensures few { ((r : Request) → ParsesAs (map S.text words.now) r → AsksForOne r)
+        → ReadsFew (R.remaining input.old) (R.remaining input.new) }
 {
     match sja_serial(alloc, words, input, out, err) {
         Ok(status) => status,
+        Err(Left::Files(files)) => { reply_files(rt, alloc, sources, &files, input, out, err) }
         Err(Left::Talk) => reply_live(alloc, input, out, err),
         Err(Left::Threads(threaded)) => reply_threads(rt, alloc, threaded, input, out, err),
     }

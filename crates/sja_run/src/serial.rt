@@ -1,6 +1,6 @@
 //! [`sja_serial`]: the program without threads, over words, a reader and two writers.
 
-ghost use Rattle.std.specs.Prelude.{◌≡◌, ◌⊎◌, None, Some, IfSome, IfErr, false, true, map};
+ghost use Rattle.std.specs.Prelude.{◌≡◌, ◌⊎◌, Some, IfOk, IfErr, false, true, map};
 ghost use Rattle.sja_words.specs.Words.{Request, ParsesAs, check, request_of};
 ghost use Rattle.sja_run.specs.Answer.{AsksForRun, IsLeftOver, Shows, IsLeft, IsTurnedAway, request_over};
 ghost use Rattle.sja_run.specs.Answer.{status_in};
@@ -20,8 +20,8 @@ use std::convert::AsStr;
 use std::io::{Read, Write};
 
 /// The program, without threads: does what the words ask for, writes the text to `out` or one line to `err`, and
-/// answers the exit status. The first word is the program's name. Where the words ask for threads, or for a session
-/// that is driven, it answers for what, and nothing was read or written.
+/// answers the exit status. The first word is the program's name. Where the words ask for threads, for plans in files
+/// or for a session that is driven, it answers for what, and nothing was read or written.
 ///
 /// The status is 0 where the text was written, 1 where an argument, the plan or memory was refused or a read or a write
 /// failed, and 2 where the words don't parse, or ask for help or the version; then `err` has the parser's own text.
@@ -29,13 +29,13 @@ use std::io::{Read, Write};
 /// have that begins so, in at most 33,554,434 reads.
 /// The words, texts and statuses are this project's own rule.
 #[tactic(auto, using(crate::proofs::FewBytes::unread))]
-pub fn sja_serial<S: AsStr, R: Read, O: Write, E: Write>(
+pub fn sja_serial<'a, S: AsStr, R: Read, O: Write, E: Write>(
     alloc: Global,
-    words: &[S],
+    words: &'a [S],
     input: &mut R,
     out: &mut Output<O>,
     err: &mut Output<E>,
-) -> Result<u8, Left>
+) -> Result<u8, Left<'a>>
     ensures answered { (r : Request) → ParsesAs (map S.text words.now) r → ¬ IsLeftOver r
         → out.new.failed ≡ false → err.new.failed ≡ false
         → Shows r (status_in result) (R.remaining input.old) (R.remaining input.new)
@@ -57,39 +57,40 @@ pub fn sja_serial<S: AsStr, R: Read, O: Write, E: Write>(
     ensures few { ReadsFew (R.remaining input.old) (R.remaining input.new) }
 {
     match parse(alloc, words) {
-        Ok(task) => match left_for(&task) {
-            Some(left) => Err(left),
-            None => Ok(reply(alloc, task, input, out, err)),
+        Ok(task) => match left_of(task) {
+            Ok(left) => Err(left),
+            Err(task) => Ok(reply(alloc, task, input, out, err)),
         },
         Err(WordsFault::OutOfMemory) => Ok(err.refuse(CommandRefusal::OutOfMemory)),
         Err(WordsFault::Unparsed(text)) => Ok(err.turn_away(text.as_bytes())),
     }
 }
 
-/// What a task leaves to another call; nothing where it leaves none.
-fn left_for(task: &Task<'_>) -> Option<Left>
-    ensures some { IfSome result (λ left. (request_of task.now ≡ request_over left)
+/// What a task leaves to another call; or the task itself, where it leaves nothing.
+fn left_of<'a>(task: Task<'a>) -> Result<Left<'a>, Task<'a>>
+    ensures left { IfOk result (λ left. (request_of task.entry ≡ request_over left)
         × IsLeftOver (request_over left)) }
-    ensures none { result ≡ None → ¬ IsLeftOver (request_of task.now) }
+    ensures other { IfErr result (λ other. (other ≡ task.entry) × ¬ IsLeftOver (request_of task.entry)) }
 {
     match task {
-        Task::Run { threads: true } => Some(Left::Threads(Threaded::Text(RunText::Report))),
-        Task::Wave { threads: true } => Some(Left::Threads(Threaded::Text(RunText::Wave))),
-        Task::Trace { threads: true } => Some(Left::Threads(Threaded::Text(RunText::Trace))),
-        Task::Frames { threads: true } => Some(Left::Threads(Threaded::Text(RunText::Frames))),
+        Task::Run { threads: true } => Ok(Left::Threads(Threaded::Text(RunText::Report))),
+        Task::Wave { threads: true } => Ok(Left::Threads(Threaded::Text(RunText::Wave))),
+        Task::Trace { threads: true } => Ok(Left::Threads(Threaded::Text(RunText::Trace))),
+        Task::Frames { threads: true } => Ok(Left::Threads(Threaded::Text(RunText::Frames))),
         Task::Picture {
             first,
             last,
             svg,
             threads: true,
-        } => Some(Left::Threads(Threaded::Text(picture_or_drawing(*first, *last, *svg)))),
+        } => Ok(Left::Threads(Threaded::Text(picture_or_drawing(first, last, svg)))),
         Task::Candump {
             errors,
             threads: true,
-        } => Some(Left::Threads(Threaded::Text(RunText::Candump(*errors)))),
-        Task::Sweep(words) if words.jobs > 1 => Some(Left::Threads(Threaded::Sweep(*words))),
-        Task::Live => Some(Left::Talk),
-        _ => None,
+        } => Ok(Left::Threads(Threaded::Text(RunText::Candump(errors)))),
+        Task::Sweep(words) if words.jobs > 1 => Ok(Left::Threads(Threaded::Sweep(words))),
+        Task::Files(words) => Ok(Left::Files(words)),
+        Task::Live => Ok(Left::Talk),
+        other => Err(other),
     }
 }
 

@@ -1,17 +1,20 @@
-//! What is written of a run in one thread of the plan on the input.
+//! What is written of a run in one thread.
 
 ghost use Rattle.std.specs.Prelude.{IfOk, IfErr, false};
+ghost use Rattle.sja_run.specs.Inside.Runs.{RefusesRunOf};
 ghost use Rattle.sja_run.specs.Run.{IsOfPlan, RefusesRun};
 ghost use Rattle.sja_run.specs.RunText.{IsTextOfRun};
 
 use super::input::plan_of_input;
 use super::run_text::{RunText, text_of};
+use sja_plan::Plan;
 use sja_serial::run_serial;
 use sja_texts::CommandRefusal;
 use std::alloc::Global;
 use std::io::Read;
 
 /// This text of a run in one thread of the plan that the bytes of the input are.
+#[tactic(auto, using(crate::proofs::PlanRuns::run_refused))]
 pub(crate) fn written<R: Read>(
     alloc: Global,
     what: RunText,
@@ -22,7 +25,20 @@ pub(crate) fn written<R: Read>(
     ensures err { IfErr result (RefusesRun (R.remaining input.old) (R.remaining input.new)) }
 {
     let plan = plan_of_input(alloc, input)?;
-    let log = run_serial(alloc, &plan)?;
-    let text = text_of(alloc, what, &plan, &log)?;
+    let text = written_of(alloc, what, &plan)?;
+    Ok(text)
+}
+
+/// This text of a run in one thread of this plan.
+pub(crate) fn written_of(
+    alloc: Global,
+    what: RunText,
+    plan: &Plan,
+) -> Result<Vec<u8>, CommandRefusal>
+    ensures ok { IfOk result (λ text. IsTextOfRun false what plan.now text.items) }
+    ensures err { IfErr result (RefusesRunOf false plan.now) }
+{
+    let log = run_serial(alloc, plan)?;
+    let text = text_of(alloc, what, plan, &log)?;
     Ok(text)
 }

@@ -1,12 +1,14 @@
-//! What is written of a run in threads of the plan on the input.
+//! What is written of a run in threads.
 
 ghost use Rattle.std.specs.Prelude.{◌≡◌, IfOk, IfErr, true, vec_len};
+ghost use Rattle.sja_run.specs.Inside.Runs.{RefusesRunOf};
 ghost use Rattle.sja_run.specs.Run.{IsOfPlan, RefusesThreads};
 ghost use Rattle.sja_run.specs.RunText.{IsTextOfRun};
 
 use super::input::plan_of_input;
 use super::run_text::{RunText, text_of};
 use super::tries::Tries;
+use sja_plan::Plan;
 use sja_texts::CommandRefusal;
 use sja_threads::run_threads;
 use std::alloc::{AllocError, Global};
@@ -15,7 +17,7 @@ use std::sync::Wait;
 use std::thread::Threads;
 
 /// This text of a run of the plan that the bytes of the input are, with each driver in a thread of its own.
-#[tactic(auto, using(crate::proofs::FewBytes::refused_threads))]
+#[tactic(auto, using(crate::proofs::FewBytes::refused_threads, crate::proofs::PlanRuns::threads_refused))]
 pub(crate) fn written_threads<T: Threads + Wait + Sync, R: Read>(
     rt: &T,
     alloc: Global,
@@ -27,9 +29,23 @@ pub(crate) fn written_threads<T: Threads + Wait + Sync, R: Read>(
     ensures err { IfErr result (RefusesThreads (R.remaining input.old) (R.remaining input.new)) }
 {
     let plan = plan_of_input(alloc, input)?;
+    let text = written_threads_of(rt, alloc, what, &plan)?;
+    Ok(text)
+}
+
+/// This text of a run of this plan, with each driver in a thread of its own.
+pub(crate) fn written_threads_of<T: Threads + Wait + Sync>(
+    rt: &T,
+    alloc: Global,
+    what: RunText,
+    plan: &Plan,
+) -> Result<Vec<u8>, CommandRefusal>
+    ensures ok { IfOk result (λ text. IsTextOfRun true what plan.now text.items) }
+    ensures err { IfErr result (RefusesRunOf true plan.now) }
+{
     let gates = gates_of(alloc, plan.nodes())?;
-    let log = run_threads(rt, alloc, &plan, gates)?;
-    let text = text_of(alloc, what, &plan, &log)?;
+    let log = run_threads(rt, alloc, plan, gates)?;
+    let text = text_of(alloc, what, plan, &log)?;
     Ok(text)
 }
 

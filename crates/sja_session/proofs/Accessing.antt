@@ -2,25 +2,25 @@
 use Rattle.std.proofs.Common.{◌≡◌, ℕ, zero, suc, ◌+◌, ◌<◌, Bool, true, false, List, [], ◌∷◌, ◌++◌, length}
 use Rattle.std.proofs.Common.{refl, sym, ap}
 use Rattle.std.proofs.Common.{◌∙◌, subst, arith, inl, inr}
-use Rattle.std.specs.Prelude.{◌==◌, if◌then◌else◌, reverse, slice_index_or, slice_set}
-use Rattle.std.specs.Prelude.{Result, Ok, Err, IfOk, IfErr, OnOk, OnErr}
+use Rattle.std.specs.Prelude.{◌==◌, nat_eq, not, if◌then◌else◌, reverse, slice_index_or, slice_set}
+use Rattle.std.specs.Prelude.{Result, Ok, Err, IfOk, OnErr}
 use Rattle.std.proofs.lemmas.List.{length-append, length-set, set-get_or, get_or-set_same, get_or_default}
 use Rattle.sja_plan.specs.declared.turn.Turn.{Turn}
 use Rattle.sja_plan.specs.declared.turn.Turn.TheVariants.{Bus, Rest, Node}
 use Rattle.sja_plan.specs.Plan.{PlanValue}
 use Rattle.sja_regs.specs.declared.registers.Registers.{Registers}
+use Rattle.sja_regs.specs.Commands.{command_of}
 use Rattle.sja_raw.specs.declared.kept_bytes.KeptBytes.{KeptBytes}
+use Rattle.sja_raw.specs.CommandWrites.{commands, releases, command_steps}
 use Rattle.sja_raw.specs.Kept.{at_power_on, kept_after, moved_by_answer}
 use Rattle.sja_raw.specs.Writes.{write_steps}
-use Rattle.sja_raw.proofs.Chain.{others_so}
 use Rattle.sja_script.specs.declared.step.Step.{Step}
-use Rattle.sja_script.specs.declared.step.Step.TheVariants.{Write}
+use Rattle.sja_script.specs.declared.step.Step.TheVariants.{Command, Release}
 use Rattle.sja_script.specs.declared.step_answer.StepAnswer.{StepAnswer}
-use Rattle.sja_driver.specs.Deeds.{Deed, deeds_at, is_active}
+use Rattle.sja_driver.specs.Deeds.{Deed, deeds_at}
 use Rattle.sja_serial.specs.Serial.{with_deeds}
 use Rattle.sja_session.specs.Inside.Accessing.{Does, IsRaw}
 use Rattle.sja_session.specs.RawSessions.{RawValue, DoesSteps, MayDo, HasTurnFor, kept_in, moved_by}
-use Rattle.sja_session.specs.RawSessions.{MayWrite, IsAccessFault, IsWriteFault}
 use Rattle.sja_session.specs.RawSessions.DoesSteps.{none, more}
 use Rattle.sja_session.specs.declared.session_room.SessionRoom.{SessionRoom}
 use Rattle.sja_session.specs.declared.turns_used.TurnsUsed.{TurnsUsed}
@@ -29,9 +29,7 @@ use Rattle.sja_session.specs.Watching.{Watches}
 use Rattle.sja_session.proofs.QuietBits.{watched_at}
 use Rattle.sja_session.specs.Running.{RunsBits}
 use Rattle.sja_session.specs.Sessions.{SessionValue, IsAt}
-use Rattle.sja_session.specs.Stepping.{DoesStep, HasTurn, MayStep, IsStepFault, steps_done_of}
-use Rattle.sja_session.specs.declared.step_fault.StepFault.{StepFault}
-use Rattle.sja_session.specs.declared.step_fault.StepFault.TheVariants.{NoNode, StepsUsed, TurnsUsed as NoTurn}
+use Rattle.sja_session.specs.Stepping.{DoesStep, HasTurn, steps_done_of}
 use Rattle.sja_session.specs.Turning.{goes_on, enlarged, on_latest, with_turn, goes_on_latest}
 use Rattle.sja_session.proofs.Turned.{latest_of}
 use Rattle.sja_session.proofs.Written.{count_at}
@@ -235,57 +233,35 @@ kept_start kept place node old new reset rm address value e is less wrote r =
     let first = is ∙ ap (λ m. slice_index_or kept m old) e ∙ get_or_default kept node old at_power_on less in
     wrote ∙ (λ t. kept_after (first t) (r t) address value)
 
--- and then moved on
-pub kept_wrote : (kept now : List KeptBytes) (place node : ℕ) (new start : KeptBytes) (answers : List StepAnswer) →
-    place ≡ node → node < length kept → new ≡ start →
-    now ≡ slice_set (slice_set kept place new) node
-    (moved_by (slice_index_or (slice_set kept place new) node at_power_on) answers) →
-    now ≡ slice_set kept node (moved_by start answers)
-kept_wrote kept now place node new start answers e less is h =
-    h ∙ ap (λ m. slice_set (slice_set kept m new) node
-    (moved_by (slice_index_or (slice_set kept m new) node at_power_on) answers)) e
-    ∙ ap (λ k. slice_set (slice_set kept node new) node (moved_by k answers))
-    (get_or-set_same kept node new at_power_on less)
-    ∙ set_twice kept node new (moved_by new answers)
-    ∙ ap (λ k. slice_set kept node (moved_by k answers)) is
+-- none of the kept registers stands at MOD or CMR
+pub none_kept : (kept : KeptBytes) (rm : Bool) (address value : ℕ) → address < 2 →
+    kept_after kept rm address value ≡ kept
+none_kept kept true zero value less = refl
+none_kept kept false zero value less = refl
+none_kept kept true (suc zero) value less = refl
+none_kept kept false (suc zero) value less = refl
+none_kept kept rm (suc (suc address)) value less = absurd (omega (arith, less))
 
--- ---- a write of one step
+-- ---- what a write of CMR does
 
--- past CMR a write is one step
-pub alone_so : (p : Registers) (out : Bool) (address value : ℕ) → 1 < address →
-    write_steps p out address value ≡ Write address value ∷ []
-alone_so p out address value past =
-    others_so p out address value (λ e. omega (arith, e, past)) (λ e. omega (arith, e, past))
+-- a release alone
+pub release_alone : (byte : ℕ) (r : Bool) → byte ≡ 0 → r ≡ true → commands byte ++ releases r ≡ Release ∷ []
+release_alone byte r nothing is = λ i. commands (nothing i) ++ releases (is i)
 
-pub may_alone : (s : SessionValue) (node : ℕ) → MayStep s node → MayDo s node 1
-may_alone s node may = record {
-  there = may.there;
-  left = let l = may.left in omega (arith, l);
-  turn = inr may.turn;
-}
+-- a command alone
+pub command_alone : (byte : ℕ) (r : Bool) → (byte ≡ 0 → ⊥) → not r ≡ true →
+    commands byte ++ releases r ≡ Command byte ∷ []
+command_alone byte r some is = by r is (grind (arith, some))
+  where
+    by : (r : Bool) → not r ≡ true → nat_eq byte 0 ≡ false → commands byte ++ releases r ≡ Command byte ∷ []
+    by true is e = absurd cc
+    by false is e = ap (λ (b : Bool). (if b then [] else Command byte ∷ []) ++ []) e
 
-pub fault_alone : (s : SessionValue) (node : ℕ) (fault : StepFault) → IsStepFault s node fault →
-    IsAccessFault s node 1 fault
-fault_alone s node NoNode why = why
-fault_alone s node StepsUsed why = (why.0, let l = why.1 in omega (arith, l))
-fault_alone s node NoTurn why = (why.0, let l = why.1 in omega (arith, l), omega arith, why.2)
-
--- it may be done where one step may be, and else it may not for the same reason
-pub may_write_alone : {A : Type 0} (was : RawValue) (node address value : ℕ) (r : Result A StepFault) → 1 < address →
-    OnOk r (MayStep was.session node) →
-    OnOk r ((deeds : List (List Deed)) → IsAt was.session deeds → MayWrite was node address value deeds)
-may_write_alone was node address value (Ok done) past may = λ deeds at p.
-    subst (λ (l : List Step). MayDo was.session node (length l))
-    (sym (alone_so (slice_index_or was.session.run.ports node p) (is_active (deeds_at deeds node)) address value past))
-    (may_alone was.session node may)
-may_write_alone was node address value (Err fault) past may = may
-
-pub fault_write_alone : {A : Type 0} (was : RawValue) (node address value : ℕ) (r : Result A StepFault) →
-    1 < address → IfErr r (IsStepFault was.session node) →
-    IfErr r (λ fault. (deeds : List (List Deed)) → IsAt was.session deeds →
-    IsWriteFault was node address value deeds fault)
-fault_write_alone was node address value (Ok done) past why = why
-fault_write_alone was node address value (Err fault) past why = λ deeds at p.
-    subst (λ (l : List Step). IsAccessFault was.session node (length l) fault)
-    (sym (alone_so (slice_index_or was.session.run.ports node p) (is_active (deeds_at deeds node)) address value past))
-    (fault_alone was.session node fault why)
+-- the steps of the node's write
+pub command_so : (ports : List Registers) (place node address value byte : ℕ) (r out : Bool) (p : Registers)
+    (steps : List Step) → place ≡ node → address ≡ 1 → ((p : Registers) → Bool →
+    command_steps (slice_index_or ports place p) (command_of value) ≡ commands byte ++ releases r) →
+    commands byte ++ releases r ≡ steps → write_steps (slice_index_or ports node p) out address value ≡ steps
+command_so ports place node address value byte r out p steps e is told so =
+    ap (λ a. write_steps (slice_index_or ports node p) out a value) is
+    ∙ ap (λ m. command_steps (slice_index_or ports m p) (command_of value)) (sym e) ∙ told p out ∙ so

@@ -9,10 +9,11 @@ use sja_regs::address::CMR;
 use sja_script::Step;
 
 impl RawSession {
-    ghost use Rattle.std.specs.Prelude.{◌≡◌, ◌<◌, List, length, IfOk, IfErr, OnOk, OnErr};
+    ghost use Rattle.std.specs.Prelude.{◌≡◌, ◌<◌, List, [], ◌∷◌, length, IfOk, IfErr, OnOk, OnErr};
     ghost use Rattle.sja_driver.specs.Deeds.{Deed};
+    ghost use Rattle.sja_raw.specs.WriteLists.{ArePrompt, IsPrompt, steps_in};
     ghost use Rattle.sja_regs.specs.declared.registers.Registers.{Registers};
-    ghost use Rattle.sja_session.specs.RawSessions.{Reads, Writes, MayWrite, IsWriteFault};
+    ghost use Rattle.sja_session.specs.RawSessions.{Reads, Writes, MayWrite, IsWriteFault, steps_of};
     ghost use Rattle.sja_session.specs.Sessions.{IsAt};
     ghost use Rattle.sja_session.specs.Stepping.{MayStep, IsStepFault};
 
@@ -42,7 +43,6 @@ impl RawSession {
     /// Errors, the first that holds, and nothing changed: [`StepFault::NoNode`] where there is no such node;
     /// [`StepFault::StepsUsed`] where there is room for fewer steps of it than the write is; [`StepFault::TurnsUsed`]
     /// where it is a step, as many turns were taken as there is room for, and the last one isn't of this node.
-    #[tactic(auto, using(crate::proofs::Accessing::may_write_alone, crate::proofs::Accessing::fault_write_alone))]
     pub fn write(&mut self, node: u8, address: u8, value: u8) -> Result<(), StepFault>
         ensures writes { OnOk result ((deeds : List (List Deed)) → IsAt self.old.session deeds →
             Writes self.old self.new node address value deeds) }
@@ -52,15 +52,69 @@ impl RawSession {
             IsWriteFault self.old node address value deeds fault) }
         ensures kept { OnErr result (self.new ≡ self.old) }
     {
-        if address > CMR {
-            return self.write_alone(node, address, value);
+        let place = usize::from(node);
+        if place >= self.kept.len() {
+            return Err(StepFault::NoNode);
         }
-        self.write_each(node, address, value)
+        if self.session.is_typed_write(place, address, value) {
+            return self.write_one(node, address, value, Step::Write(address, value));
+        }
+        self.write_short(node, address, value)
     }
 
-    /// The same, by the steps that the write is.
+    /// The same of MOD or CMR, where the write isn't the same one of the typed driver.
     #[inline(never)]
-    fn write_each(&mut self, node: u8, address: u8, value: u8) -> Result<(), StepFault>
+    fn write_short(&mut self, node: u8, address: u8, value: u8) -> Result<(), StepFault>
+        requires there { node < length self.old.session.plan.nodes }
+        requires short { address < 2 }
+        ensures writes { OnOk result ((deeds : List (List Deed)) → IsAt self.old.session deeds →
+            Writes self.old self.new node address value deeds) }
+        ensures may { OnOk result ((deeds : List (List Deed)) → IsAt self.old.session deeds →
+            MayWrite self.old node address value deeds) }
+        ensures err { IfErr result (λ fault. (deeds : List (List Deed)) → IsAt self.old.session deeds →
+            IsWriteFault self.old node address value deeds fault) }
+        ensures kept { OnErr result (self.new ≡ self.old) }
+    {
+        if address == CMR {
+            return self.write_command(node, address, value);
+        }
+        let steps = self
+            .session
+            .steps_of_write(usize::from(node), address, value);
+        self.write_each(node, address, value, steps)
+    }
+
+    /// The same of CMR.
+    fn write_command(&mut self, node: u8, address: u8, value: u8) -> Result<(), StepFault>
+        requires command { address ≡ 1 }
+        requires there { node < length self.old.session.plan.nodes }
+        ensures writes { OnOk result ((deeds : List (List Deed)) → IsAt self.old.session deeds →
+            Writes self.old self.new node address value deeds) }
+        ensures may { OnOk result ((deeds : List (List Deed)) → IsAt self.old.session deeds →
+            MayWrite self.old node address value deeds) }
+        ensures err { IfErr result (λ fault. (deeds : List (List Deed)) → IsAt self.old.session deeds →
+            IsWriteFault self.old node address value deeds fault) }
+        ensures kept { OnErr result (self.new ≡ self.old) }
+    {
+        let written = self.session.written_command(usize::from(node), value);
+        if written.command == 0 && written.releases {
+            return self.write_one(node, address, value, Step::Release);
+        }
+        if written.command != 0 && !written.releases {
+            return self.write_one(node, address, value, Step::Command(written.command));
+        }
+        let steps = self
+            .session
+            .steps_of_write(usize::from(node), address, value);
+        self.write_each(node, address, value, steps)
+    }
+
+    /// The same where the write is this one step.
+    #[inline(always)]
+    fn write_one(&mut self, node: u8, address: u8, value: u8, step: Step) -> Result<(), StepFault>
+        requires prompt { IsPrompt step }
+        requires one { (deeds : List (List Deed)) → IsAt self.old.session deeds → (p : Registers) →
+            steps_of self.old node address value deeds p ≡ step ∷ [] }
         ensures writes { OnOk result ((deeds : List (List Deed)) → IsAt self.old.session deeds →
             Writes self.old self.new node address value deeds) }
         ensures may { OnOk result ((deeds : List (List Deed)) → IsAt self.old.session deeds →
@@ -73,10 +127,39 @@ impl RawSession {
         if place >= self.kept.len() {
             return Err(StepFault::NoNode);
         }
-        let steps = self.session.steps_of_write(place, address, value);
-        self.session.may_do(node, count_of(&steps))?;
         let reset = self.session.is_reset(place);
-        self.kept[place].write(reset, address, value);
+        match self.session.step(node, step)? {
+            Answered::Answer(answer) => {
+                let kept = &mut self.kept[place];
+                kept.write(reset, address, value);
+                kept.answered(&answer);
+                Ok(())
+            }
+            Answered::Waits => unreachable!(),
+        }
+    }
+
+    /// The same of MOD or CMR, at which none of the kept registers stands, where these are its steps.
+    fn write_each(
+        &mut self,
+        node: u8,
+        address: u8,
+        value: u8,
+        steps: WriteSteps,
+    ) -> Result<(), StepFault>
+        requires short { address < 2 }
+        requires prompt { ArePrompt steps }
+        requires are { (deeds : List (List Deed)) → IsAt self.old.session deeds → (p : Registers) →
+            steps_of self.old node address value deeds p ≡ steps_in steps }
+        ensures writes { OnOk result ((deeds : List (List Deed)) → IsAt self.old.session deeds →
+            Writes self.old self.new node address value deeds) }
+        ensures may { OnOk result ((deeds : List (List Deed)) → IsAt self.old.session deeds →
+            MayWrite self.old node address value deeds) }
+        ensures err { IfErr result (λ fault. (deeds : List (List Deed)) → IsAt self.old.session deeds →
+            IsWriteFault self.old node address value deeds fault) }
+        ensures kept { OnErr result (self.new ≡ self.old) }
+    {
+        self.session.may_do(node, count_of(&steps))?;
         let WriteSteps {
             first,
             second,
@@ -86,31 +169,5 @@ impl RawSession {
         self.do_if(node, second);
         self.do_if(node, third);
         Ok(())
-    }
-
-    /// The same past CMR, where the write is one step.
-    #[inline(always)]
-    fn write_alone(&mut self, node: u8, address: u8, value: u8) -> Result<(), StepFault>
-        requires past { 1 < address }
-        ensures writes { OnOk result ((deeds : List (List Deed)) → IsAt self.old.session deeds →
-            Writes self.old self.new node address value deeds) }
-        ensures may { OnOk result (MayStep self.old.session node) }
-        ensures err { IfErr result (IsStepFault self.old.session node) }
-        ensures kept { OnErr result (self.new ≡ self.old) }
-    {
-        let place = usize::from(node);
-        if place >= self.kept.len() {
-            return Err(StepFault::NoNode);
-        }
-        let reset = self.session.is_reset(place);
-        match self.session.step(node, Step::Write(address, value))? {
-            Answered::Answer(answer) => {
-                let kept = &mut self.kept[place];
-                kept.write(reset, address, value);
-                kept.answered(&answer);
-                Ok(())
-            }
-            Answered::Waits => unreachable!(),
-        }
     }
 }

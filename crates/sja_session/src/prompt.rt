@@ -8,15 +8,20 @@ use super::raw_session::RawSession;
 use super::session::Session;
 use super::step_fault::StepFault;
 use sja_plan::Turn;
-use sja_raw::{WriteSteps, is_reset, steps_of_write};
+use sja_raw::{
+    WriteSteps, WrittenCommand, is_reset, is_typed_write, steps_of_write, written_command,
+};
 use sja_script::{Step, StepAnswer};
 
 impl Session {
-    ghost use Rattle.std.specs.Prelude.{◌≡◌, ◌<◌, ◌≤◌, List, length, slice_index_or, IfErr, OnOk};
+    ghost use Rattle.std.specs.Prelude.{◌≡◌, ◌<◌, ◌≤◌, Bool, true, false, List, [], ◌∷◌, length, slice_index_or, IfErr};
+    ghost use Rattle.std.specs.Prelude.{OnOk, ◌++◌};
     ghost use Rattle.sja_driver.specs.Deeds.{Deed, deeds_at, is_active};
+    ghost use Rattle.sja_raw.specs.CommandWrites.{commands, releases};
     ghost use Rattle.sja_raw.specs.WriteLists.{ArePrompt, IsPrompt, steps_in};
     ghost use Rattle.sja_raw.specs.Writes.{write_steps};
     ghost use Rattle.sja_regs.specs.declared.registers.Registers.{Registers};
+    ghost use Rattle.sja_script.specs.declared.step.Step.TheVariants.{Write};
     ghost use Rattle.sja_session.specs.Inside.Accessing.{Stands};
     ghost use Rattle.sja_session.specs.RawSessions.{IsAccessFault, MayDo};
     ghost use Rattle.sja_session.specs.Sessions.{IsAt};
@@ -30,6 +35,25 @@ impl Session {
         ensures prompt { ArePrompt result }
     {
         steps_of_write(self.run.driver(node), self.run.port(node), address, value)
+    }
+
+    /// Whether a write of a byte to an address of a node is the same write of the typed driver.
+    pub(crate) fn is_typed_write(&self, node: usize, address: u8, value: u8) -> bool
+        requires { node < length self.now.plan.nodes }
+        ensures alone { result ≡ true → (p : Registers) (out : Bool) →
+            write_steps (slice_index_or self.now.run.ports node p) out address value ≡ Write address value ∷ [] }
+        ensures short { result ≡ false → address < 2 }
+    {
+        is_typed_write(self.run.port(node), address, value)
+    }
+
+    /// What a write of a byte to CMR of a node does.
+    pub(crate) fn written_command(&self, node: usize, value: u8) -> WrittenCommand
+        requires { node < length self.now.plan.nodes }
+        ensures { (p : Registers) (out : Bool) → write_steps (slice_index_or self.now.run.ports node p) out 1 value ≡
+            commands result.command ++ releases result.releases }
+    {
+        written_command(self.run.port(node), value)
     }
 
     /// Whether the controller of a node is in reset mode.

@@ -3,15 +3,16 @@ use Rattle.std.proofs.Common.{◌≡◌, ℕ, ◌+◌, ◌<◌, ◌≤◌, Bool,
 use Rattle.std.proofs.Common.{drop, get_or, refl, sym, ap, ap₂, ◌∙◌, append-nil, append_assoc}
 use Rattle.std.proofs.lemmas.List.{drop_more}
 use Rattle.std.proofs.Math.ListN.{drop_of_length-le}
-use Rattle.std.specs.Prelude.{Option, Some, None}
+use Rattle.std.specs.Prelude.{Option, None}
 use Rattle.can_bits.specs.declared.level.Level.{Level}
 use Rattle.can_node.specs.declared.counters.Counters.{Counters}
 use Rattle.sja_replay.specs.declared.happening.Happening.{Happening}
+use Rattle.sja_replay.specs.declared.short_bit.ShortBit.{ShortBit}
 use Rattle.sja_report.specs.ReportLines.{numbered}
 use Rattle.sja_script.specs.declared.done.Done.{Done}
 use Rattle.sja_script.specs.declared.step.Step.{Step}
-use Rattle.sja_trace.specs.BitEvents.{all_said}
-use Rattle.sja_trace.specs.TraceText.{event_line, joined, bit_line, step_line, is_due, line_where, steps_due}
+use Rattle.sja_trace.specs.TraceText.{joined, bit_line, step_line, is_due, line_where, steps_due}
+use Rattle.sja_trace.specs.Inside.Hands.{hand_line}
 use Rattle.sja_trace.specs.Inside.Saying.{is_any, line_if}
 
 -- the elements from a place on
@@ -75,20 +76,19 @@ pub told_is : (bit node : ℕ) (es : List (List ℕ)) → line_if (is_any es) bi
 told_is bit node [] = refl
 told_is bit node (e ∷ es) = refl
 
--- ---- a bit of a node
+-- the line of a bit
+pub event_written : (bit node : ℕ) (es : List (List ℕ)) (old new told : List ℕ) (begun : Bool) → told ≡ joined es →
+    begun ≡ is_any es → new ≡ old ++ line_if begun bit node told → new ≡ old ++ bit_line bit node es
+event_written bit node es old new told begun text any wrote =
+    wrote ∙ ap₂ (λ b t. old ++ line_if b bit node t) any text ∙ ap (λ t. old ++ t) (told_is bit node es)
 
--- the line of a bit that the node has
-pub event_written : (bus : Level) (bit node : ℕ) (left : Counters) (o : Option Happening) (h : Happening)
-    (old new told : List ℕ) (begun : Bool) → o ≡ Some h → told ≡ joined (all_said bus left h) →
-    begun ≡ is_any (all_said bus left h) → new ≡ old ++ line_if begun bit node told →
-    new ≡ old ++ event_line bus bit node left o
-event_written bus bit node left o h old new told begun is text any wrote =
-    wrote ∙ ap₂ (λ b t. old ++ line_if b bit node t) any text
-    ∙ ap (λ t. old ++ t) (told_is bit node (all_said bus left h))
-    ∙ ap (λ x. old ++ event_line bus bit node left x) (sym is)
+-- none where nothing is said
+pub no_words : (bit node : ℕ) (es : List (List ℕ)) (old : List ℕ) → es ≡ [] → old ≡ old ++ bit_line bit node es
+no_words bit node es old none =
+    sym (append-nil old) ∙ ap (λ x. old ++ bit_line bit node x) (sym none)
 
--- none of another
-pub no_event : (bus : Level) (bit node : ℕ) (left : Counters) (o : Option Happening) (old : List ℕ) → o ≡ None →
-    old ≡ old ++ event_line bus bit node left o
-no_event bus bit node left o old none =
-    sym (append-nil old) ∙ ap (λ x. old ++ event_line bus bit node left x) (sym none)
+-- none where there is no bit
+pub no_line : (bus : Level) (bit node : ℕ) (left : Counters) (short : Option ShortBit) (own : Option Happening)
+    (old : List ℕ) → short ≡ None → own ≡ None → old ≡ old ++ hand_line bus bit node left short own
+no_line bus bit node left short own old full none =
+    sym (append-nil old) ∙ ap₂ (λ s x. old ++ hand_line bus bit node left s x) (sym full) (sym none)

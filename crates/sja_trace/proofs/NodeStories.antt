@@ -90,7 +90,7 @@ record OneMore (steps : List Step) (n : NodeValue) (bits : ℕ) (new : Teller) (
 one_more : (steps : List Step) (n : NodeValue) (bits : ℕ) (old new : Teller) (s : NodeStory) →
     HasTold steps n bits old s → TellerGoesOn old new → OneMore steps n bits new s
 one_more steps n bits old new s h on =
-    let more = on.bits.tells n.journal bits s.bits h.come in
+    let more = on.bits.tells n.journal bits s.bits h.come.0 in
     let own_steps = on.same.steps ∙ h.steps_are in
     let own_done = on.same.done ∙ h.done_are in
     record {
@@ -101,6 +101,7 @@ one_more steps n bits old new s h on =
         story_steps = h.story_steps;
         story_done = h.story_done;
         come = more.come;
+        fresh = λ first. absurd (omega (arith, first));
       };
       shown = record {
         steps = own_steps ∙ sym h.story_steps;
@@ -142,8 +143,8 @@ all_more k plan bits (n ∷ nodes) (t ∷ olds) (u ∷ news) (s ∷ ss) have on 
 -- ---- all bits
 
 pub record HasLate (t : Teller) (s : NodeStory) : Type 0 where
-  pub steps : t.steps.now ≡ s.steps
-  pub done : t.done.now ≡ s.done
+  pub steps : t.steps.steps.now ≡ s.steps
+  pub done : t.steps.done.now ≡ s.done
 
 pub record AllTold (k : ℕ) (plan : PlanValue) (bits : ℕ) (nodes : List NodeValue) (news : List Teller)
     (ss : List NodeStory) : Type 0 where
@@ -164,7 +165,7 @@ all_told k plan bits (n ∷ nodes) (t ∷ olds) [] ss have on = absurd on
 all_told k plan bits (n ∷ nodes) (t ∷ olds) (u ∷ news) [] have on = absurd have
 all_told k plan bits (n ∷ nodes) (t ∷ olds) (u ∷ news) (s ∷ ss) have on =
     let h = have.0 in
-    let all = on.0.bits.tells n.journal bits s.bits h.come in
+    let all = on.0.bits.tells n.journal bits s.bits h.come.0 in
     let rest = all_told (k + 1) plan bits nodes olds news ss have.1 on.1 in
     let story : NodeStory = record { steps = s.steps; done = s.done; bits = all.told } in
     record {
@@ -189,7 +190,7 @@ all_underway k plan bits [] (t ∷ ts) ss have = absurd have
 all_underway k plan bits (n ∷ nodes) [] ss have = tt
 all_underway k plan bits (n ∷ nodes) (t ∷ ts) [] have = absurd have
 all_underway k plan bits (n ∷ nodes) (t ∷ ts) (s ∷ ss) have = (
-  record { journal = n.journal; bits = bits; told = s.bits; come = have.0.come },
+  record { journal = n.journal; bits = bits; told = s.bits; come = have.0.come.0 },
   all_underway (k + 1) plan bits nodes ts ss have.1,
 )
 

@@ -1,5 +1,5 @@
 -- The bits of a node are told one after another.
-use Rattle.std.proofs.Common.{◌≡◌, ℕ, ◌+◌, ◌<◌, zero, suc, Bool, true, false, Some, None}
+use Rattle.std.proofs.Common.{◌≡◌, ℕ, ◌+◌, ◌<◌, zero, suc, Bool, true, false, Option, Some, None, IfSome}
 use Rattle.std.proofs.Common.{List, [], ◌∷◌, ◌++◌, length, refl, sym, ap, ◌∙◌, subst, arith, append-nil, append_assoc}
 use Rattle.std.specs.Prelude.{slice_get}
 use Rattle.std.proofs.lemmas.List.{length-append}
@@ -7,11 +7,14 @@ use Rattle.std.proofs.lemmas.Option.{slice_get_past}
 use Rattle.sja_link.specs.declared.entry.Entry.{Entry}
 use Rattle.sja_replay.specs.declared.happening.Happening.{Happening}
 use Rattle.sja_replay.specs.declared.replay.Replay.{Replay}
+use Rattle.sja_replay.specs.declared.short_bit.ShortBit.{ShortBit}
 use Rattle.sja_replay.specs.Happened.{Happened}
 use Rattle.sja_replay.specs.Replaying.{left_of, IsAt, GoesOn}
+use Rattle.sja_replay.specs.Short.{PassesBit}
 use Rattle.sja_trace.specs.declared.node_bits.NodeBits.{NodeBits}
-use Rattle.sja_trace.specs.Telling.{CameTo, HasCome, HaveCome, IsUnderway, HaveSame, bit_before, left_in}
+use Rattle.sja_trace.specs.Telling.{CameTo, HasCome, IsUnderway, HaveSame, bit_before, left_in}
 use Rattle.sja_trace.specs.Telling.{TellsOn, TellsAll, IsFinishing}
+use Rattle.sja_trace.specs.Inside.Hands.{HandGoesOn}
 
 -- ---- the happenings of a journal
 
@@ -22,16 +25,19 @@ came_first j r at left = record {
   leads = λ more x. (let P : List Entry → Type 0 = λ l. Happened [] l more in subst P left x);
 }
 
+came_by : (j : List Entry) (old new : Replay) (h : Happening) (hs : List Happening) → (c : CameTo j old hs) →
+    GoesOn old new c.before (h ∷ []) → CameTo j new (hs ++ h ∷ [])
+came_by j old new h hs c g = record {
+  before = g.now;
+  at = g.at;
+  leads = λ more x.
+      (let P : List Happening → Type 0 = λ l. Happened [] j l in
+      subst P (sym (append_assoc hs (h ∷ []) more)) (c.leads (h ∷ more) (g.leads more x)));
+}
+
 came_on : (j : List Entry) (old new : Replay) (h : Happening) (hs : List Happening) → CameTo j old hs →
     ((before : List Entry) → IsAt old before → GoesOn old new before (h ∷ [])) → CameTo j new (hs ++ h ∷ [])
-came_on j old new h hs c goes =
-    let g = goes c.before c.at in record {
-      before = g.now;
-      at = g.at;
-      leads = λ more x.
-          (let P : List Happening → Type 0 = λ l. Happened [] j l in
-          subst P (sym (append_assoc hs (h ∷ []) more)) (c.leads (h ∷ more) (g.leads more x)));
-    }
+came_on j old new h hs c goes = came_by j old new h hs c (goes c.before c.at)
 
 came_all : (j : List Entry) (r : Replay) (hs : List Happening) → CameTo j r hs →
     ((before : List Entry) → IsAt r before → Happened before (left_of r) []) → Happened [] j hs
@@ -65,7 +71,7 @@ over_on old new over still none = record {
   tells = λ journal bits told come.
       (let P : Bool → Type 0 = λ b. HasCome b journal bits old.replay told in
       let Q : Bool → Type 0 = λ b. HasCome b journal (suc bits) new.replay told in
-      let c = subst P over come.0 in
+      let c = subst P over come in
       let few = c.1 in
       let bit = none ∙ sym (slice_get_past told bits few) in
       record {
@@ -85,12 +91,12 @@ bit_on old new h begun still some goes = record {
       (let P : Bool → Type 0 = λ b. HasCome b underway.journal underway.bits old.replay underway.told in
       let Q : Bool → Type 0 = λ b. left_in new.over new.replay < left_in b old.replay in
       let R : Bool → Type 0 = λ b. left_in b new.replay < left_in false old.replay in
-      let c = subst P begun underway.come.0 in
+      let c = subst P begun underway.come in
       let few = (goes (c.0).before (c.0).at).fewer in
       subst Q (sym begun) (subst R (sym still) (omega (arith, few))));
   tells = λ journal bits told come.
       (let P : Bool → Type 0 = λ b. HasCome b journal bits old.replay told in
-      let c = subst P begun come.0 in
+      let c = subst P begun come in
       let all = told ++ h ∷ [] in
       let Q : Bool → Type 0 = λ b. HasCome b journal (suc bits) new.replay all in
       let many = c.1 in
@@ -119,7 +125,7 @@ none_on old new begun ends none left = record {
   tells = λ journal bits told come.
       (let P : Bool → Type 0 = λ b. HasCome b journal bits old.replay told in
       let Q : Bool → Type 0 = λ b. HasCome b journal (suc bits) new.replay told in
-      let c = subst P begun come.0 in
+      let c = subst P begun come in
       let many = c.1 in
       let bit = none ∙ sym (slice_get_past told bits (omega (arith, many))) in
       record {
@@ -130,19 +136,57 @@ none_on old new begun ends none left = record {
       });
 }
 
+-- a bit that was passed, in short
+short_on : (old new : NodeBits) (q : ShortBit) → old.over ≡ false → new.over ≡ false →
+    ((before : List Entry) → IsAt old.replay before → PassesBit old.replay new.replay before q) →
+    HandGoesOn old new (Some q)
+short_on old new q begun still passes = λ journal bits told come.
+    (let P : Bool → Type 0 = λ b. HasCome b journal bits old.replay told in
+    let c = subst P begun come in
+    let p = passes (c.0).before (c.0).at in
+    let all = told ++ p.happened ∷ [] in
+    let Q : Bool → Type 0 = λ b. HasCome b journal (suc bits) new.replay all in
+    let many = c.1 in
+    let long = length-append told (p.happened ∷ []) in
+    record {
+      told = all;
+      come = subst Q (sym still)
+          (came_by journal old.replay new.replay p.happened told c.0 p.goes, omega (arith, many, long));
+      hand = record {
+        happened = p.happened;
+        is = sym (ap (λ (n : ℕ). slice_get all n) many) ∙ get_last told p.happened;
+        short = p.short;
+      };
+      same = λ i less. get_front told (p.happened ∷ []) i (omega (arith, many, less));
+    })
+
+pub passed_on : (old new : NodeBits) (r : Option ShortBit) → old.over ≡ false → new.over ≡ false →
+    IfSome r (λ q. (before : List Entry) → IsAt old.replay before → PassesBit old.replay new.replay before q) →
+    IfSome r (λ q. HandGoesOn old new (Some q))
+passed_on old new None begun still passes = tt
+passed_on old new (Some q) begun still passes = short_on old new q begun still passes
+
+-- or in full
+pub hand_on : (old new : NodeBits) (short : Option ShortBit) → short ≡ None → TellsOn old new →
+    HandGoesOn old new short
+hand_on old new (Some q) none on = cc
+hand_on old new None none on = λ journal bits told come.
+    (let more = on.tells journal bits told come in
+    record { told = more.told; come = more.come.0; hand = sym more.bit; same = more.same })
+
 -- ---- to the end
 
 on_underway : (old new : NodeBits) → TellsOn old new → IsUnderway old → IsUnderway new
 on_underway old new on u =
     let more = on.tells u.journal u.bits u.told u.come in
-    record { journal = u.journal; bits = suc u.bits; told = more.told; come = more.come }
+    record { journal = u.journal; bits = suc u.bits; told = more.told; come = more.come.0 }
 
 pub finish_first : (b : NodeBits) → IsUnderway b → IsFinishing b b
 finish_first b u = record {
   underway = u;
   tells = λ journal bits told come.
       (let none : bits ≡ bits + 0 = omega arith in
-      let P : ℕ → Type 0 = λ n. HaveCome journal n b told in
+      let P : ℕ → Type 0 = λ n. HasCome b.over journal n b.replay told in
       record { more = 0; told = told; come = subst P none come; same = λ i less. refl });
 }
 
@@ -153,11 +197,11 @@ finish_next first old new f on = record {
       (let t = f.tells journal bits told come in
       let next = on.tells journal (bits + t.more) t.told t.come in
       let one : suc (bits + t.more) ≡ bits + suc t.more = omega arith in
-      let P : ℕ → Type 0 = λ n. HaveCome journal n new next.told in
+      let P : ℕ → Type 0 = λ n. HasCome new.over journal n new.replay next.told in
       record {
         more = suc t.more;
         told = next.told;
-        come = subst P one next.come;
+        come = subst P one next.come.0;
         same = λ i less. next.same i (omega (arith, less)) ∙ t.same i less;
       });
 }
@@ -167,5 +211,5 @@ finish_last first old f over = record {
   tells = λ journal bits told come.
       (let t = f.tells journal bits told come in
       let P : Bool → Type 0 = λ b. HasCome b journal (bits + t.more) old.replay t.told in
-      let c = subst P over t.come.0 in record { told = t.told; are = c.0; same = t.same });
+      let c = subst P over t.come in record { told = t.told; are = c.0; same = t.same });
 }

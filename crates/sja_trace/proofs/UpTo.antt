@@ -1,6 +1,6 @@
 -- The text of the stories so far.
 use Rattle.std.proofs.Common.{◌≡◌, ℕ, ◌+◌, ◌<◌, ◌≤◌, zero, suc, true, false, List, [], ◌∷◌, ◌++◌, map}
-use Rattle.std.proofs.Common.{refl, sym, ap, ap₂, ◌∙◌, subst, arith}
+use Rattle.std.proofs.Common.{refl, sym, ap, ap₂, ◌∙◌, arith}
 use Rattle.std.specs.Prelude.{slice_get}
 use Rattle.can_bits.specs.declared.level.Level.{Level}
 use Rattle.lemmas.specs.Related.{EachRelated}
@@ -13,9 +13,9 @@ use Rattle.sja_trace.specs.BitEvents.{counters_after}
 use Rattle.sja_trace.specs.Telling.{at_hand}
 use Rattle.sja_trace.specs.TraceText.{NodeStory, IsTrace, steps_due, event_line, node_lines, driven_in, bus_in}
 use Rattle.sja_trace.specs.TraceText.{counters_left, bit_lines, lines_to, late_steps}
-use Rattle.sja_trace.specs.Inside.Coming.{IsShown, IsSameTo, TellerGoesOn, TellerEnds, AreUnderway, IsUpTo}
+use Rattle.sja_trace.specs.Inside.Coming.{IsShown, IsSameTo, TellerEnds, IsUpTo}
 use Rattle.sja_trace.specs.Inside.Coming.{teller_lines, driven_now, bit_text, late_lines}
-use Rattle.sja_trace.proofs.NodeStories.{HaveBegun, HasLate, all_more, all_told, all_underway}
+use Rattle.sja_trace.proofs.NodeStories.{HaveBegun, HasLate, all_told}
 use Rattle.sja_trace.proofs.Telling.{before_same}
 
 -- ---- the bits before are told alike
@@ -52,7 +52,7 @@ same_bit bits b olds news less same =
     ap (λ levels. numbered (node_lines (wired levels) b) 0 news) (same_levels bits b olds news less same)
     ∙ same_lines bits b (bus_in b olds) 0 olds news less same
 
-same_bits : (bits n : ℕ) (olds news : List NodeStory) → n ≤ bits → EachRelated (IsSameTo bits) olds news →
+pub same_bits : (bits n : ℕ) (olds news : List NodeStory) → n ≤ bits → EachRelated (IsSameTo bits) olds news →
     lines_to n news ≡ lines_to n olds
 same_bits bits zero olds news few same = refl
 same_bits bits (suc b) olds news few same =
@@ -83,7 +83,7 @@ shown_levels bit (t ∷ ts) [] shown = absurd shown
 shown_levels bit (t ∷ ts) (s ∷ ss) shown =
     ap₂ (λ l r. l ∷ r) (ap driven_in shown.0.brought) (shown_levels bit ts ss shown.1)
 
-shown_bit : (bit : ℕ) (ts : List Teller) (ss : List NodeStory) → EachRelated (IsShown bit) ts ss →
+pub shown_bit : (bit : ℕ) (ts : List Teller) (ss : List NodeStory) → EachRelated (IsShown bit) ts ss →
     bit_text bit ts ≡ bit_lines bit ss
 shown_bit bit ts ss shown =
     ap (λ levels. numbered (teller_lines (wired levels) bit) 0 ts) (shown_levels bit ts ss shown)
@@ -94,23 +94,6 @@ shown_bit bit ts ss shown =
 pub up_first : (plan : PlanValue) (nodes : List NodeValue) (ts : List Teller) → HaveBegun plan nodes ts →
     IsUpTo plan nodes 0 ts []
 up_first plan nodes ts begun = record { stories = begun.stories; have = begun.have; text_is = refl }
-
-pub up_more : (plan : PlanValue) (nodes : List NodeValue) (bits next : ℕ) (olds news : List Teller)
-    (old new : List ℕ) → IsUpTo plan nodes bits olds old → EachRelated TellerGoesOn olds news →
-    new ≡ old ++ bit_text bits news → next ≡ suc bits → IsUpTo plan nodes next news new
-up_more plan nodes bits next olds news old new up on wrote one =
-    let m = all_more 0 plan bits nodes olds news up.stories up.have on in
-    let P : ℕ → Type 0 = λ n. IsUpTo plan nodes n news new in
-    let before = up.text_is ∙ sym (same_bits bits bits up.stories m.stories (omega arith) m.same) in
-    subst P (sym one) (record {
-      stories = m.stories;
-      have = m.have;
-      text_is = wrote ∙ ap₂ (λ l r. l ++ r) before (shown_bit bits news m.stories m.shown);
-    })
-
-pub up_underway : (plan : PlanValue) (nodes : List NodeValue) (bits : ℕ) (ts : List Teller) (text : List ℕ) →
-    IsUpTo plan nodes bits ts text → AreUnderway ts
-up_underway plan nodes bits ts text up = all_underway 0 plan bits nodes ts up.stories up.have
 
 late_are : (bits k : ℕ) (ts : List Teller) (ss : List NodeStory) → EachRelated HasLate ts ss →
     numbered (late_lines bits) k ts ≡ numbered (late_steps bits) k ss

@@ -1,3 +1,6 @@
--- How the writer of a trace goes from event to event and from bit to bit.
+-- How the writer of a trace goes from event to event, from step to step and from bit to bit.
 pub mod Saying
+pub mod StepOrder
 pub mod Coming
+pub mod Hands
+pub mod Passing

@@ -39,7 +39,7 @@ pub record IsUnderway (b : NodeBits) : Type 0 where
   pub journal : List Entry
   pub bits : ℕ
   pub told : List Happening
-  pub come : HaveCome journal bits b told
+  pub come : HasCome b.over journal bits b.replay told
 
 -- ---- more of them
 
@@ -58,7 +58,7 @@ pub record ToldMore (journal : List Entry) (bits : ℕ) (old : List Happening) (
 pub record ToldOn (journal : List Entry) (bits : ℕ) (old : List Happening) (new : NodeBits) : Type 0 where
   pub more : ℕ
   pub told : List Happening
-  pub come : HaveCome journal (bits + more) new told
+  pub come : HasCome new.over journal (bits + more) new.replay told
   pub same : HaveSame bits old told
 
 -- all of a journal was told
@@ -76,15 +76,15 @@ left_in false r = suc (length (left_of r))
 pub record TellsOn (old new : NodeBits) : Type 0 where
   pub fewer : old.over ≡ false → IsUnderway old → left_in new.over new.replay < left_in old.over old.replay
   pub tells : (journal : List Entry) (bits : ℕ) (told : List Happening) →
-      HaveCome journal bits old told → ToldMore journal bits told new
+      HasCome old.over journal bits old.replay told → ToldMore journal bits told new
 
 -- several are told
 pub record IsFinishing (old new : NodeBits) : Type 0 where
   pub underway : IsUnderway new
   pub tells : (journal : List Entry) (bits : ℕ) (told : List Happening) →
-      HaveCome journal bits old told → ToldOn journal bits told new
+      HasCome old.over journal bits old.replay told → ToldOn journal bits told new
 
 -- all are told
 pub record TellsAll (old new : NodeBits) : Type 0 where
   pub tells : (journal : List Entry) (bits : ℕ) (told : List Happening) →
-      HaveCome journal bits old told → ToldAll journal bits told
+      HasCome old.over journal bits old.replay told → ToldAll journal bits told

@@ -76,7 +76,7 @@ pub(crate) fn put_counters(told: &mut Told, bit: &Happening) -> Result<(), Alloc
 }
 
 /// Whether both counters are as they were.
-fn have_same(old: Counters, new: Counters) -> bool
+pub(crate) fn have_same(old: Counters, new: Counters) -> bool
     ensures { result ≡ have_same old new }
 {
     old.tec == new.tec && old.rec == new.rec

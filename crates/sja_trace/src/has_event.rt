@@ -31,14 +31,14 @@ pub fn is_same(level: Level, other: Level) -> bool
 }
 
 /// Whether a level is dominant.
-fn is_dominant(level: Level) -> bool
+pub(crate) fn is_dominant(level: Level) -> bool
     ensures { result ≡ is_dominant level }
 {
     matches!(level, Level::Dominant)
 }
 
 /// Whether the next bit belongs to a frame.
-fn is_frame(phase: Phase) -> bool
+pub(crate) fn is_frame(phase: Phase) -> bool
     ensures { result ≡ is_frame phase }
 {
     matches!(phase, Phase::Frame)

@@ -8,6 +8,9 @@
 //! bits of a node one after another, [`NodeBits`], the text of a frame and the test for the error warning serve
 //! `sja_candump`, and the tellers `sja_picture`.
 //!
+//! A trace passes bits that tell nothing in short. `specs/Inside/Hands.antt` and `Passing.antt` say why that leaves its
+//! text as it is: a bit in short is one of several happenings, and of each of them the same is said.
+//!
 //! `specs/Events.antt` and `specs/BitEvents.antt` say which events a bit has and in which words, and
 //! `specs/TraceText.antt` the text line by line. The tests stand in `crates/test_trace`.
 #![tactic(auto)]
@@ -16,10 +19,13 @@ mod counters;
 mod due;
 mod event_texts;
 mod events;
+mod hand;
 mod has_event;
 mod names;
 mod node_bits;
 mod node_lines;
+mod node_steps;
+mod plain;
 mod steps;
 mod teller;
 mod tellers;

@@ -1,7 +1,7 @@
 //! [`NodeBits`]: the bits of a node, one after another.
 
 use sja_link::Journal;
-use sja_replay::{Happening, Replay};
+use sja_replay::{Happening, Replay, ShortBit};
 
 /// The bits of a node, of which one is at hand: how far its journal was gone over, and what the bit gone over last
 /// brought. It keeps one bit, and no list.
@@ -15,8 +15,9 @@ pub struct NodeBits<'a> {
 }
 
 impl<'a> NodeBits<'a> {
-    ghost use Rattle.std.specs.Prelude.{◌≡◌, []};
+    ghost use Rattle.std.specs.Prelude.{◌≡◌, [], Some, None, IfSome};
     ghost use Rattle.sja_trace.specs.Telling.{HaveCome, TellsOn, TellsAll, IsUnderway, at_hand};
+    ghost use Rattle.sja_trace.specs.Inside.Hands.{HandGoesOn};
 
     /// Before the first bit.
     pub fn of(journal: &'a Journal) -> NodeBits<'a>
@@ -51,6 +52,18 @@ impl<'a> NodeBits<'a> {
                 self.over = true;
             }
         }
+    }
+
+    /// Goes on past the next bit, where it tells nothing, and gives in short what it brought; the bit at hand isn't it
+    /// then. Else nothing changes.
+    pub(crate) fn pass(&mut self) -> Option<ShortBit>
+        ensures passed { IfSome result (λ q. HandGoesOn self.old self.new (Some q)) }
+        ensures none { result ≡ None → self.new ≡ self.old }
+    {
+        if self.over {
+            return None;
+        }
+        self.replay.pass()
     }
 
     /// Goes on to the end of the journal.

@@ -3,19 +3,20 @@
 ghost use Rattle.std.specs.Prelude.{◌≡◌, ◌++◌, string_bytes, OnOk};
 ghost use Rattle.sja_trace.specs.BitEvents.{all_said};
 ghost use Rattle.sja_trace.specs.Telling.{at_hand};
-ghost use Rattle.sja_trace.specs.TraceText.{joined, event_line};
-ghost use Rattle.sja_trace.specs.Inside.Coming.{teller_lines};
+ghost use Rattle.sja_trace.specs.TraceText.{joined, bit_line};
+ghost use Rattle.sja_trace.specs.Inside.Hands.{hand_line, happening_of};
+ghost use Rattle.sja_trace.specs.Inside.Passing.{told_lines};
 ghost use Rattle.sja_trace.specs.Inside.Saying.{is_any, line_if};
 
-use super::due::Due;
 use super::events::put_all;
-use super::steps::put_steps;
+use super::hand::happening_of;
+use super::plain::is_plain;
 use super::teller::Teller;
 use super::told::Told;
 use can_bits::Level;
 use can_frame::OutOfMemory;
 use can_node::Counters;
-use sja_replay::Happening;
+use sja_replay::{Happening, ShortBit};
 use std::alloc::{AllocError, Global};
 use std::fmt::Write;
 
@@ -31,17 +32,16 @@ pub(crate) fn put_node(
     bit: u32,
 ) -> Result<(), OutOfMemory>
     ensures text { OnOk result (string_bytes text.new ≡ string_bytes text.old
-        ++ teller_lines bus bit node teller.now) }
+        ++ told_lines bus bit node teller.now) }
 {
-    let due = Due { late: false, bit };
-    put_steps(alloc, text, node, teller.steps, teller.done, due)?;
-    put_event_line(text, told, node, teller, bus, bit)?;
+    teller.steps.put(alloc, text, node, bit)?;
+    put_hand_line(text, told, node, teller, bus, bit)?;
     Ok(())
 }
 
 /// The line of the bit at hand, if the node has the bit and it brought anything.
-#[tactic(auto, using(crate::proofs::Lines::no_event))]
-fn put_event_line(
+#[tactic(auto, using(crate::proofs::Lines::no_line))]
+fn put_hand_line(
     text: &mut String,
     told: &mut Told,
     node: usize,
@@ -49,13 +49,53 @@ fn put_event_line(
     bus: Level,
     bit: u32,
 ) -> Result<(), AllocError>
-    ensures text { OnOk result (string_bytes text.new ≡ string_bytes text.old
-        ++ event_line bus bit node teller.now.counters (at_hand teller.now.bits)) }
+    ensures { OnOk result (string_bytes text.new ≡ string_bytes text.old
+        ++ hand_line bus bit node teller.now.counters teller.now.short (at_hand teller.now.bits)) }
 {
-    let Some(happening) = teller.bits.bit() else {
+    let left = teller.counters;
+    if let Some(short) = &teller.short {
+        return put_short_line(text, told, node, short, left, bus, bit);
+    }
+    match teller.bits.bit() {
+        Some(happening) => put_event_line(text, told, node, happening, left, bus, bit),
+        None => Ok(()),
+    }
+}
+
+/// The line of a bit in short, if anything is said of it.
+#[tactic(auto, using(crate::proofs::Lines::no_words))]
+fn put_short_line(
+    text: &mut String,
+    told: &mut Told,
+    node: usize,
+    short: &ShortBit,
+    left: Counters,
+    bus: Level,
+    bit: u32,
+) -> Result<(), AllocError>
+    ensures { OnOk result (string_bytes text.new ≡ string_bytes text.old
+        ++ bit_line bit node (all_said bus left (happening_of short.now))) }
+{
+    if is_plain(bus, left, short) {
         return Ok(());
-    };
-    tell(told, bus, teller.counters, happening)?;
+    }
+    put_event_line(text, told, node, &happening_of(short), left, bus, bit)
+}
+
+/// The line of a bit, if anything is said of it.
+fn put_event_line(
+    text: &mut String,
+    told: &mut Told,
+    node: usize,
+    happening: &Happening,
+    left: Counters,
+    bus: Level,
+    bit: u32,
+) -> Result<(), AllocError>
+    ensures { OnOk result (string_bytes text.new ≡ string_bytes text.old
+        ++ bit_line bit node (all_said bus left happening.now)) }
+{
+    tell(told, bus, left, happening)?;
     put_line(text, told, node, bit)?;
     Ok(())
 }

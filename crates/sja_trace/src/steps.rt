@@ -40,7 +40,7 @@ pub(crate) fn put_steps(
 }
 
 /// The line of a step, if it is due.
-fn put_due(
+pub(crate) fn put_due(
     alloc: Global,
     text: &mut String,
     node: usize,

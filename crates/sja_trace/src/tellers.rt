@@ -6,7 +6,9 @@ ghost use Rattle.sja_plan.specs.Plan.{steps_at};
 ghost use Rattle.sja_wire.specs.Wire.{wired};
 ghost use Rattle.sja_trace.specs.TraceText.{driven_in};
 ghost use Rattle.sja_trace.specs.Inside.Coming.{HaveTold, IsUpTo, TellerGoesOn, TellerEnds, AreUnderway, driven_now};
+ghost use Rattle.sja_trace.specs.Inside.Passing.{TellerPasses, hands_driven};
 
+use super::hand::driven_of;
 use super::teller::Teller;
 use can_bits::Level;
 use sja_log::NodeRun;
@@ -54,6 +56,15 @@ pub fn go_on_all(tellers: &mut [Teller<'_>])
     }
 }
 
+/// Each goes on past its next bit, in short where that tells nothing.
+pub(crate) fn pass_on_all(tellers: &mut [Teller<'_>])
+    ensures { EachRelated TellerPasses tellers.old tellers.new }
+{
+    for k in 0..tellers.len() {
+        tellers[k].pass_on();
+    }
+}
+
 /// Each goes on to its end.
 pub fn finish_all(tellers: &mut [Teller<'_>])
     requires { AreUnderway tellers.old }
@@ -72,6 +83,17 @@ pub fn bus_of(tellers: &[Teller<'_>]) -> Level
     let mut bus = Level::Recessive;
     for teller in tellers {
         bus = with_node(bus, driven_in(teller.bits.bit()));
+    }
+    bus
+}
+
+/// The same, where bits are at hand in short.
+pub(crate) fn bus_of_hands(tellers: &[Teller<'_>]) -> Level
+    ensures { result ≡ wired (hands_driven tellers.now) }
+{
+    let mut bus = Level::Recessive;
+    for teller in tellers {
+        bus = with_node(bus, driven_of(&teller.short, teller.bits.bit()));
     }
     bus
 }

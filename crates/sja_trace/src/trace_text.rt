@@ -3,13 +3,14 @@
 ghost use Rattle.std.specs.Prelude.{◌≡◌, ◌++◌, string_bytes, IfOk, OnOk};
 ghost use Rattle.sja_report.specs.ReportLines.{numbered};
 ghost use Rattle.sja_trace.specs.TraceText.{IsTrace};
-ghost use Rattle.sja_trace.specs.Inside.Coming.{bit_text, late_lines};
+ghost use Rattle.sja_trace.specs.Inside.Coming.{late_lines};
+ghost use Rattle.sja_trace.specs.Inside.Passing.{hands_text};
 
 use super::due::Due;
 use super::node_lines::put_node;
 use super::steps::put_steps;
 use super::teller::Teller;
-use super::tellers::{bus_of, finish_all, go_on_all, tellers_of};
+use super::tellers::{bus_of_hands, finish_all, pass_on_all, tellers_of};
 use super::told::Told;
 use can_frame::OutOfMemory;
 use sja_log::RunLog;
@@ -30,7 +31,7 @@ pub fn trace(alloc: Global, plan: &Plan, log: &RunLog) -> Result<String, OutOfMe
     let mut text = String::new(alloc);
     let mut told = Told::new(alloc);
     for bit in 0..log.bits() {
-        go_on_all(tellers.as_mut_slice());
+        pass_on_all(tellers.as_mut_slice());
         put_bit(alloc, &mut text, &mut told, tellers.as_slice(), bit)?;
     }
     finish_all(tellers.as_mut_slice());
@@ -46,9 +47,9 @@ fn put_bit(
     tellers: &[Teller<'_>],
     bit: u32,
 ) -> Result<(), OutOfMemory>
-    ensures text { OnOk result (string_bytes text.new ≡ string_bytes text.old ++ bit_text bit tellers.now) }
+    ensures text { OnOk result (string_bytes text.new ≡ string_bytes text.old ++ hands_text bit tellers.now) }
 {
-    let bus = bus_of(tellers);
+    let bus = bus_of_hands(tellers);
     let mut number = 0usize;
     for teller in tellers {
         put_node(alloc, text, told, number, teller, bus, bit)?;
@@ -73,7 +74,8 @@ fn put_late_steps(
     };
     let mut number = 0usize;
     for teller in tellers {
-        put_steps(alloc, text, number, teller.steps, teller.done, due)?;
+        let steps = &teller.steps;
+        put_steps(alloc, text, number, steps.steps, steps.done, due)?;
         number += 1;
     }
     Ok(())

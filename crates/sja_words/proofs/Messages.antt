@@ -71,11 +71,11 @@ found_read first texts h = ap found_in (walk_read first texts h)
 
 -- ---- the words before them
 
-abbrev program : App
+abbrev pub program : App
 program = built sja_app
 
 -- a walk that met a subcommand leaves it the words that follow
-left_over : (rules : List Rule) (names : Names) (w : Walk) (name : Text) (before words : List Text) →
+pub left_over : (rules : List Rule) (names : Names) (w : Walk) (name : Text) (before words : List Text) →
     fold (walked rules names) (record w { stopped = Some (name, before) }) words
     ≡ record w { stopped = Some (name, before ++ words) }
 unfolding walked
@@ -93,7 +93,7 @@ unfolding clap_on_literals
 entering words =
     left_over program.top.rules (names_of program) (walk_from nothing_held) (codes "arbitrate") [] words
 
-abbrev asked_in : Walk → Option Request
+abbrev pub asked_in : Walk → Option Request
 asked_in w = request_in (entered program w.stopped)
 
 -- what the words ask for
@@ -106,7 +106,7 @@ asked_messages name first texts h =
 -- ---- no fault
 
 -- a list of texts passes the parser of texts
-texts_pass : (texts : List Text) → values_kinds false parser.String texts ≡ []
+pub texts_pass : (texts : List Text) → values_kinds false parser.String texts ≡ []
 texts_pass [] = refl
 texts_pass (text ∷ texts) = texts_pass texts
 
@@ -145,7 +145,7 @@ messages_fit first texts h few =
     ∙ rw (in_range (length (first ∷ texts)) (omega arith) few, texts_pass texts) refl
 
 -- a walk that met a subcommand refuses no word that follows
-left_alone : (s : Shape) (names : Names) (w : Walk) (name : Text) (before words : List Text) →
+pub left_alone : (s : Shape) (names : Names) (w : Walk) (name : Text) (before words : List Text) →
     walk_fault s names (record w { stopped = Some (name, before) }) words ≡ []
 unfolding walked walk_fault
 left_alone s names w name before [] = refl

@@ -1,7 +1,8 @@
 -- The command line of `sja`, as the parser's own description of commands (this project's own rule).
 use Rattle.std.specs.Prelude.{ℕ, codes, true, Some}
+use Rattle.clap.specs.Lexer.{usize_max}
 use Rattle.clap.specs.Words.{App, Rule, Text, new_app, new_rule, with_rule, with_subcommand}
-use Rattle.clap.specs.declared.builder.action.ArgAction.TheVariants.{Set, SetTrue}
+use Rattle.clap.specs.declared.builder.action.ArgAction.TheVariants.{Append, Set, SetTrue}
 use Rattle.clap.specs.declared.builder.value_parser.ValueParser.TheVariants.{Unsigned}
 
 -- an argument without a flag, which must be given and takes one text
@@ -60,11 +61,7 @@ flag_rule name = record (new_rule name) { long = Some name; action = Some SetTru
 abbrev pub threads_app : Text → App
 threads_app name = with_rule (new_app name) (flag_rule (codes "threads"))
 
--- `check`, which has no arguments
-abbrev pub check_app : App
-check_app = new_app (codes "check")
-
--- `live`, which has none either
+-- `live`, which has no arguments
 abbrev pub live_app : App
 live_app = new_app (codes "live")
 
@@ -76,6 +73,29 @@ number_rule name least most = record (new_rule name) {
   value_names = 1;
   parser = Some (Unsigned least most);
 }
+
+-- `FILE..`, an argument without a flag, which takes any number of texts, or isn't given
+abbrev pub files_rule : Rule
+files_rule = record (new_rule (codes "FILE")) {
+  action = Some Append;
+  range = Some (record { start_inclusive = 1; end_inclusive = usize_max });
+}
+
+-- `FILE`, an argument without a flag, which takes one text, or isn't given
+abbrev pub file_rule : Rule
+file_rule = record (new_rule (codes "FILE")) { action = Some Set }
+
+-- `run FILE..`, with or without `--threads` and `--jobs N`
+abbrev pub run_app : App
+run_app = with_rule (with_rule (threads_app (codes "run")) files_rule) (number_rule (codes "jobs") 1 64)
+
+-- `check FILE..`, with or without `--jobs N`
+abbrev pub check_app : App
+check_app = with_rule (with_rule (new_app (codes "check")) files_rule) (number_rule (codes "jobs") 1 64)
+
+-- `trace FILE`, with or without `--threads`
+abbrev pub trace_app : App
+trace_app = with_rule (threads_app (codes "trace")) file_rule
 
 -- an argument without a flag, which may be given and takes the number of a bit in decimal digits
 abbrev pub bit_rule : Text → Rule
@@ -134,12 +154,12 @@ sweep_app = with_rule (with_rule told_app (number_rule (codes "jobs") 1 64)) str
 -- those and the commands over the run of a plan: `run` and `wave`
 abbrev pub plan_app : App
 plan_app =
-    with_subcommand (with_subcommand notation_app (threads_app (codes "run")).top) (threads_app (codes "wave")).top
+    with_subcommand (with_subcommand notation_app run_app.top) (threads_app (codes "wave")).top
 
 -- those and the commands over what happened in it: `trace` and `frames`
 abbrev pub story_app : App
 story_app =
-    with_subcommand (with_subcommand plan_app (threads_app (codes "trace")).top) (threads_app (codes "frames")).top
+    with_subcommand (with_subcommand plan_app trace_app.top) (threads_app (codes "frames")).top
 
 -- those and the commands that draw it and list what was received: `picture` and `candump`
 abbrev pub view_app : App

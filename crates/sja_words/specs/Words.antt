@@ -10,7 +10,9 @@ use Rattle.clap.specs.Words.{Kinds, Row, Text, all_of, fault_of, first_of, subco
 use Rattle.sja_words.specs.declared.task.Task.{Task}
 use Rattle.sja_words.specs.declared.task.Task.TheVariants.{Encode, Decode, Filter, Arbitrate, Message, Run, Wave}
 use Rattle.sja_words.specs.declared.task.Task.TheVariants.{Trace, Frames, Picture, Candump, Check, Sweep, StruckPlan}
-use Rattle.sja_words.specs.declared.task.Task.TheVariants.{Live}
+use Rattle.sja_words.specs.declared.task.Task.TheVariants.{Files, Live}
+use Rattle.sja_words.specs.declared.plan_question.PlanQuestion.{PlanQuestion}
+use Rattle.sja_words.specs.declared.plan_question.PlanQuestion.TheVariants as question
 use Rattle.sja_words.specs.declared.sweep_words.SweepWords.{SweepWords}
 use Rattle.sja_words.specs.CommandLine.{sja_app}
 
@@ -39,6 +41,7 @@ pub data Request : Type 0 where
   check : Request
   sweep : SweepWords → Request
   struck_plan : ℕ → ℕ → Request
+  files : PlanQuestion → ℕ → List (List ℕ) → Request
   live : Request
 
 -- a task as what it asks for
@@ -55,6 +58,7 @@ request_of (Frames threads) = frames threads
 request_of (Picture first last svg threads) = picture first last svg threads
 request_of (Candump errors threads) = candump errors threads
 request_of Check = check
+request_of (Files w) = files w.question w.jobs (map (λ name. name.now) w.names.items)
 request_of Live = live
 request_of (Sweep asked_for) = sweep asked_for
 request_of (StruckPlan node bit) = struck_plan node bit
@@ -198,9 +202,35 @@ sweep_by (Some node) rows =
 abbrev pub sweep_in : List Row → Option Request
 sweep_in rows = sweep_by (first_of (codes "plan") rows) rows
 
--- what a subcommand asks for, by its name and the values of its arguments
-abbrev pub request_by : Text → List Row → Option Request
-request_by name rows =
+-- what is asked of a plan, as it is asked of the plan on the input
+abbrev pub request_about : PlanQuestion → Request
+request_about (question.Report threads) = run threads
+request_about question.Check = check
+request_about (question.Trace threads) = trace threads
+
+-- the question that a subcommand of this name asks of plans, with threads or without
+abbrev pub question_in : Text → Bool → Option PlanQuestion
+question_in name threads =
+    if bytes_eq name (codes "run") then Some (question.Report threads)
+    else if bytes_eq name (codes "check") then Some question.Check
+    else if bytes_eq name (codes "trace") then Some (question.Trace threads)
+    else None
+
+-- what a question asks for, by the names of files and the number of plans at one time: of each plan in the files that
+-- are named, and of the plan on the input where none is named
+abbrev pub plan_by : PlanQuestion → Option (List Text) → Option ℕ → Option Request
+plan_by asked_of_each None jobs = Some (request_about asked_of_each)
+plan_by asked_of_each (Some names) None = None
+plan_by asked_of_each (Some names) (Some jobs) = Some (files asked_of_each jobs names)
+
+-- by the values of its arguments
+abbrev pub plan_in : PlanQuestion → List Row → Option Request
+plan_in asked_of_each rows =
+    plan_by asked_of_each (all_of (codes "FILE") rows) (number_or 1 1 64 (first_of (codes "jobs") rows))
+
+-- what a subcommand asks for that takes no files, by its name and the values of its arguments
+abbrev pub other_by : Text → List Row → Option Request
+other_by name rows =
     if bytes_eq name (codes "encode") then option_map encode (first_of (codes "MESSAGE") rows)
     else if bytes_eq name (codes "decode") then option_map decode (first_of (codes "LINE") rows)
     else if bytes_eq name (codes "filter") then
@@ -208,16 +238,22 @@ request_by name rows =
     (first_of (codes "AMR") rows) (first_of (codes "MESSAGE") rows)
     else if bytes_eq name (codes "arbitrate") then arbitrate_in (all_of (codes "MESSAGE") rows)
     else if bytes_eq name (codes "message") then option_map message (first_of (codes "TEXT") rows)
-    else if bytes_eq name (codes "run") then Some (run (flag_in (first_of (codes "threads") rows)))
     else if bytes_eq name (codes "wave") then Some (wave (flag_in (first_of (codes "threads") rows)))
-    else if bytes_eq name (codes "trace") then Some (trace (flag_in (first_of (codes "threads") rows)))
     else if bytes_eq name (codes "frames") then Some (frames (flag_in (first_of (codes "threads") rows)))
     else if bytes_eq name (codes "picture") then picture_in rows
     else if bytes_eq name (codes "candump") then candump_in rows
-    else if bytes_eq name (codes "check") then Some check
     else if bytes_eq name (codes "sweep") then sweep_in rows
     else if bytes_eq name (codes "live") then Some live
     else None
+
+-- what a subcommand asks for, by the question that it asks of plans
+abbrev pub asked_by : Option PlanQuestion → Text → List Row → Option Request
+asked_by (Some asked_of_each) name rows = plan_in asked_of_each rows
+asked_by None name rows = other_by name rows
+
+-- what a subcommand asks for, by its name and the values of its arguments
+abbrev pub request_by : Text → List Row → Option Request
+request_by name rows = asked_by (question_in name (flag_in (first_of (codes "threads") rows))) name rows
 
 -- what the subcommand that was found asks for
 abbrev pub request_in : Option (Text × List Row) → Option Request

@@ -5,12 +5,13 @@ ghost use Rattle.clap.specs.Words.{app_of, rule_of};
 ghost use Rattle.clap.specs.declared.builder.command.Command.TheViews.{out-Command};
 ghost use Rattle.sja_words.specs.CommandLine.{text_rule, text_app, filter_app, arbitrate_app};
 ghost use Rattle.sja_words.specs.CommandLine.{empty_app, line_app, frame_app, notation_app};
-ghost use Rattle.sja_words.specs.CommandLine.{flag_rule, threads_app, check_app, live_app};
+ghost use Rattle.sja_words.specs.CommandLine.{flag_rule, threads_app, live_app};
 ghost use Rattle.sja_words.specs.CommandLine.{plan_app, story_app, view_app, sja_app};
 
+use super::file_commands::{check_command, run_command, trace_command};
 use super::help::{
-    ACR_HELP, AMR_HELP, FRAMES_ABOUT, LINE_HELP, LIVE_ABOUT, MESSAGE_HELP, MODE_HELP, RUN_ABOUT,
-    TEXT_HELP, THREADS_HELP, TRACE_ABOUT, WAVE_ABOUT,
+    ACR_HELP, AMR_HELP, FRAMES_ABOUT, LINE_HELP, LIVE_ABOUT, MESSAGE_HELP, MODE_HELP, TEXT_HELP,
+    THREADS_HELP, WAVE_ABOUT,
 };
 use super::picture_command::{candump_command, picture_command};
 use super::sweep_command::sweep_command;
@@ -136,7 +137,7 @@ pub(crate) fn flag<'a>(alloc: Global, name: &'a str, help: &'a str) -> Arg<'a>
 }
 
 /// A command of this name over the run of a plan, with or without `--threads`, and with this line of help.
-fn threads_command<'a>(
+pub(crate) fn threads_command<'a>(
     alloc: Global,
     name: &'a str,
     about: &'a str,
@@ -147,16 +148,6 @@ fn threads_command<'a>(
     Command::new(alloc, name)
         .about(about)
         .arg(flag(alloc, "threads", THREADS_HELP))
-}
-
-/// `check`.
-fn check_command<'a>(alloc: Global) -> Command<'a>
-    ensures app { app_of result ≡ check_app }
-    ensures local { (out-Command result).has_globals ≡ false }
-{
-    Command::new(alloc, "check").about(
-        "Print the first mistake in the plan on standard input, or what its run left out",
-    )
 }
 
 /// `live`.
@@ -173,7 +164,7 @@ fn plan_command<'a>(alloc: Global) -> Result<Command<'a>, AllocError>
     ensures local { IfOk result (λ command. (out-Command command).has_globals ≡ false) }
 {
     notation_command(alloc)?
-        .subcommand(threads_command(alloc, "run", RUN_ABOUT)?)?
+        .subcommand(run_command(alloc)?)?
         .subcommand(threads_command(alloc, "wave", WAVE_ABOUT)?)
 }
 
@@ -183,7 +174,7 @@ fn story_command<'a>(alloc: Global) -> Result<Command<'a>, AllocError>
     ensures local { IfOk result (λ command. (out-Command command).has_globals ≡ false) }
 {
     plan_command(alloc)?
-        .subcommand(threads_command(alloc, "trace", TRACE_ABOUT)?)?
+        .subcommand(trace_command(alloc)?)?
         .subcommand(threads_command(alloc, "frames", FRAMES_ABOUT)?)
 }
 
@@ -202,7 +193,7 @@ pub(crate) fn sja_command<'a>(alloc: Global) -> Result<Command<'a>, AllocError>
     ensures { IfOk result (λ command. app_of command ≡ sja_app) }
 {
     view_command(alloc)?
-        .subcommand(check_command(alloc))?
+        .subcommand(check_command(alloc)?)?
         .subcommand(sweep_command(alloc)?)?
         .subcommand(live_command(alloc))
 }

@@ -1,28 +1,65 @@
 //! The task of the subcommand that the parser found.
 
-ghost use Rattle.std.specs.Prelude.{◌≡◌, codes, option_map};
+ghost use Rattle.std.specs.Prelude.{◌≡◌, IfOk, codes, map, option_map};
 ghost use Rattle.clap.specs.Words.{all_of, first_of, found_of, rows_of, subcommand_rows_of};
 ghost use Rattle.sja_words.specs.Words.{arbitrate_in, decode, encode, filter_in, message, request_by, request_in};
-ghost use Rattle.sja_words.specs.Words.{flag_in, request_of, single_in};
+ghost use Rattle.sja_words.specs.Words.{flag_in, other_by, question_in, request_of, single_in};
 
+use super::files_found::plan_task;
 use super::picture_found::{candump_task, picture_task};
+use super::plan_question::PlanQuestion;
 use super::sweep_found::sweep_task;
 use super::task::Task;
 use arrayvec::ArrayVec;
 use clap::ArgMatches;
+use std::alloc::{AllocError, Global};
 
 /// The task of the subcommand that was found, with its arguments; nothing where its mode is none, where there aren't
 /// one to eight messages, or where an option stands beside `--plan`.
-pub(crate) fn task_of<'a>(matches: &ArgMatches<'a>) -> Option<Task<'a>>
-    ensures { option_map request_of result ≡ request_in (subcommand_rows_of matches.now) }
+///
+/// Error: [`AllocError`] where memory was refused.
+pub(crate) fn task_of<'a>(
+    alloc: Global,
+    matches: &ArgMatches<'a>,
+) -> Result<Option<Task<'a>>, AllocError>
+    ensures { IfOk result (λ task. option_map request_of task ≡ request_in (subcommand_rows_of matches.now)) }
 {
-    let (name, arguments) = matches.subcommand()?;
-    task_by(name, arguments)
+    match matches.subcommand() {
+        Some((name, arguments)) => task_by(alloc, name, arguments),
+        None => Ok(None),
+    }
 }
 
 /// The task of a subcommand of this name.
-fn task_by<'a>(name: &str, arguments: &ArgMatches<'a>) -> Option<Task<'a>>
-    ensures { option_map request_of result ≡ request_by name.now (rows_of (found_of arguments.now)) }
+fn task_by<'a>(
+    alloc: Global,
+    name: &str,
+    arguments: &ArgMatches<'a>,
+) -> Result<Option<Task<'a>>, AllocError>
+    ensures { IfOk result (λ task. option_map request_of task
+        ≡ request_by name.now (rows_of (found_of arguments.now))) }
+{
+    match question_of(name, flag_at(arguments, "threads")) {
+        Some(question) => plan_task(alloc, question, arguments),
+        None => Ok(other_task(name, arguments)),
+    }
+}
+
+/// The question that a subcommand of this name asks of plans in files; nothing where it asks none.
+fn question_of(name: &str, threads: bool) -> Option<PlanQuestion>
+    ensures { result ≡ question_in name.now threads }
+{
+    match name {
+        "run" => Some(PlanQuestion::Report { threads }),
+        "check" => Some(PlanQuestion::Check),
+        "trace" => Some(PlanQuestion::Trace { threads }),
+        _ => None,
+    }
+}
+
+/// The task of a subcommand of this name that takes no files; nothing where no such subcommand has this name.
+fn other_task<'a>(name: &str, arguments: &ArgMatches<'a>) -> Option<Task<'a>>
+    ensures { option_map request_of result ≡ other_by name.now (rows_of (found_of arguments.now)) }
 {
     match name {
         "encode" => encode_task(arguments),
@@ -30,13 +67,7 @@ fn task_by<'a>(name: &str, arguments: &ArgMatches<'a>) -> Option<Task<'a>>
         "filter" => filter_task(arguments),
         "arbitrate" => arbitrate_task(arguments),
         "message" => message_task(arguments),
-        "run" => Some(Task::Run {
-            threads: flag_at(arguments, "threads"),
-        }),
         "wave" => Some(Task::Wave {
-            threads: flag_at(arguments, "threads"),
-        }),
-        "trace" => Some(Task::Trace {
             threads: flag_at(arguments, "threads"),
         }),
         "frames" => Some(Task::Frames {
@@ -44,7 +75,6 @@ fn task_by<'a>(name: &str, arguments: &ArgMatches<'a>) -> Option<Task<'a>>
         }),
         "picture" => picture_task(arguments),
         "candump" => Some(candump_task(arguments)),
-        "check" => Some(Task::Check),
         "sweep" => sweep_task(arguments),
         "live" => Some(Task::Live),
         _ => None,
@@ -133,4 +163,12 @@ pub(crate) fn text_at<'a>(arguments: &ArgMatches<'a>, id: &str) -> Option<&'a st
     ensures { option_map (λ text. text.now) result ≡ first_of id.now (rows_of (found_of arguments.now)) }
 {
     arguments.get_str(id)
+}
+
+/// All texts of an argument.
+pub(crate) fn texts_at<'m, 'a>(arguments: &'m ArgMatches<'a>, id: &str) -> Option<&'m [&'a str]>
+    ensures { option_map (λ texts. map (λ text. text.now) texts.now) result
+        ≡ all_of id.now (rows_of (found_of arguments.now)) }
+{
+    arguments.get_strs(id)
 }

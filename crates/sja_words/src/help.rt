@@ -16,6 +16,10 @@ pub(crate) const TRACE_ABOUT: &str =
 pub(crate) const FRAMES_ABOUT: &str =
     "Print the bits of each field of the frames in a run of the plan on standard input";
 
+/// `check`.
+pub(crate) const CHECK_ABOUT: &str =
+    "Print the first mistake in the plan on standard input, or what its run left out";
+
 /// `live`.
 pub(crate) const LIVE_ABOUT: &str =
     "Drive a bus by lines on standard input, each answered by a line on standard output";
@@ -40,6 +44,13 @@ pub(crate) const AMR_HELP: &str =
 /// `TEXT`.
 pub(crate) const TEXT_HELP: &str = "The message, in hexadecimal or in can-utils' notation";
 
+/// `FILE..`.
+pub(crate) const FILES_HELP: &str =
+    "Files with plans, taken in place of standard input, which is - among them";
+
+/// `FILE`.
+pub(crate) const FILE_HELP: &str = "A file with a plan, taken in place of standard input";
+
 /// `--threads`.
 pub(crate) const THREADS_HELP: &str = "Run each node's driver in a thread of its own";
 
@@ -57,6 +68,9 @@ pub(crate) const PAIRS_HELP: &str = "Strike two bits in each run, at most D bits
 
 /// `--jobs`.
 pub(crate) const JOBS_HELP: &str = "Make the runs in N threads";
+
+/// `--jobs` beside `FILE..`.
+pub(crate) const FILES_JOBS_HELP: &str = "Take N files at one time";
 
 /// `--changed`.
 pub(crate) const CHANGED_HELP: &str = "Print only lines with another outcome";

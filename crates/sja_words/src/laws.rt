@@ -1,10 +1,11 @@
 //! Laws of the words. Each stands as the contract of a function that does nothing.
 
-ghost use Rattle.std.specs.Prelude.{◌≡◌, ◌==◌, ◌<◌, ◌≤◌, ◌∷◌, [], ℕ, List, Some, None, codes, false, length, true};
+ghost use Rattle.std.specs.Prelude.{◌≡◌, ◌==◌, ◌<◌, ◌≤◌, ◌∷◌, ◌^◌, [], ℕ, List, Some, None, codes, false, length, true};
 ghost use Rattle.sja_words.specs.Words.{HasNoFlag, ParsesAs, Request, arbitrate, decode, encode, filter, message};
 ghost use Rattle.clap.specs.declared.error.kind.ErrorKind.TheVariants.{DisplayVersion};
-ghost use Rattle.sja_words.specs.Words.{all_swept, candump, check, faults, frames, live, picture, run, struck_plan};
-ghost use Rattle.sja_words.specs.Words.{sweep, trace, wave};
+ghost use Rattle.sja_words.specs.Words.{all_swept, candump, check, faults, files, frames, live, picture, run};
+ghost use Rattle.sja_words.specs.Words.{struck_plan, sweep, trace, wave};
+ghost use Rattle.sja_words.specs.declared.plan_question.PlanQuestion.TheVariants.{Check, Report, Trace};
 
 /// The program's name, `encode` and a text that doesn't begin with `-` (45) ask for the levels of this message.
 pub fn encode_and_a_text_parse()
@@ -54,8 +55,15 @@ pub fn message_and_a_text_parses()
 {}
 
 /// The program's name and `run` ask for the report of the plan on the input; with `--threads` behind them they ask for
-/// it with each driver in a thread of its own.
+/// it with each driver in a thread of its own. With names behind them that don't begin with `-` they ask for the report
+/// of each plan in these files, and `--jobs` with a number says how many are taken at one time; `-` is a name too.
 pub fn run_parses()
+    ensures files { (name : List ℕ) (names : List (List ℕ)) → HasNoFlag names
+        → 1 ≤ length names → length names < 2 ^ 64
+        → ParsesAs (name ∷ codes "run" ∷ names) (files (Report false) 1 names) }
+    ensures jobs { (name : List ℕ) → ParsesAs
+        (name ∷ codes "run" ∷ codes "a" ∷ codes "-" ∷ codes "--jobs" ∷ codes "3" ∷ codes "b" ∷ [])
+        (files (Report false) 3 (codes "a" ∷ codes "-" ∷ codes "b" ∷ [])) }
     ensures one { (name : List ℕ) → ParsesAs (name ∷ codes "run" ∷ []) (run false) }
     ensures threads { (name : List ℕ) → ParsesAs (name ∷ codes "run" ∷ codes "--threads" ∷ []) (run true) }
 {}
@@ -66,8 +74,12 @@ pub fn wave_parses()
     ensures threads { (name : List ℕ) → ParsesAs (name ∷ codes "wave" ∷ codes "--threads" ∷ []) (wave true) }
 {}
 
-/// The program's name and `trace` ask for what happened in that plan's run, and with `--threads` in such a run.
+/// The program's name and `trace` ask for what happened in that plan's run, and with `--threads` in such a run; with
+/// one name behind them in the run of the plan in this file. With two names they ask for nothing.
 pub fn trace_parses()
+    ensures file { (name : List ℕ) → ParsesAs (name ∷ codes "trace" ∷ codes "a" ∷ [])
+        (files (Trace false) 1 (codes "a" ∷ [])) }
+    ensures two { (name : List ℕ) (r : Request) → ¬ ParsesAs (name ∷ codes "trace" ∷ codes "a" ∷ codes "b" ∷ []) r }
     ensures one { (name : List ℕ) → ParsesAs (name ∷ codes "trace" ∷ []) (trace false) }
     ensures threads { (name : List ℕ) → ParsesAs (name ∷ codes "trace" ∷ codes "--threads" ∷ []) (trace true) }
 {}
@@ -109,9 +121,13 @@ pub fn candump_parses()
         (candump false true) }
 {}
 
-/// The program's name and `check` ask for the first mistake in the plan on the input, or what its run left out.
+/// The program's name and `check` ask for the first mistake in the plan on the input, or what its run left out; with
+/// names behind them that don't begin with `-` they ask so of each plan in these files.
 pub fn check_parses()
-    ensures { (name : List ℕ) → ParsesAs (name ∷ codes "check" ∷ []) check }
+    ensures input { (name : List ℕ) → ParsesAs (name ∷ codes "check" ∷ []) check }
+    ensures files { (name : List ℕ) (names : List (List ℕ)) → HasNoFlag names
+        → 1 ≤ length names → length names < 2 ^ 64
+        → ParsesAs (name ∷ codes "check" ∷ names) (files Check 1 names) }
 {}
 
 /// The program's name and `live` ask for a session that is driven by the lines of the input.

@@ -7,18 +7,23 @@
 #![tactic(auto)]
 
 mod command;
+mod file_commands;
+mod file_words;
+mod files_found;
 mod found;
 mod help;
 mod laws;
 mod parsing;
 mod picture_command;
 mod picture_found;
+mod plan_question;
 mod sweep_command;
 mod sweep_found;
 mod sweep_words;
 mod task;
 mod words_fault;
 
+pub use file_words::FileWords;
 pub use laws::{
     a_message_is_needed, a_struck_plan_parses, arbitrate_and_texts_parse, candump_parses,
     check_parses, decode_and_a_text_parse, encode_and_a_text_parse, filter_and_texts_parse,
@@ -26,6 +31,7 @@ pub use laws::{
     sweep_parses, trace_parses, version_is_asked_for, wave_parses,
 };
 pub use parsing::parse;
+pub use plan_question::PlanQuestion;
 pub use sweep_words::SweepWords;
 pub use task::{MOST_MESSAGES, Task};
 pub use words_fault::WordsFault;

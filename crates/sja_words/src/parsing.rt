@@ -24,10 +24,17 @@ pub fn parse<'a, S: AsStr>(alloc: Global, words: &'a [S]) -> Result<Task<'a>, Wo
 {
     let mut command = sja_command(alloc)?;
     match command.try_get_matches_from_mut(words) {
-        Ok(matches) => match task_of(&matches) {
-            Some(task) => Ok(task),
-            None => Err(WordsFault::Unparsed(refused_text(alloc, shown_name(words), &matches)?)),
-        },
+        Ok(matches) => {
+            let found = task_of(alloc, &matches)?;
+            match found {
+                Some(task) => Ok(task),
+                None => Err(WordsFault::Unparsed(refused_text(
+                    alloc,
+                    shown_name(words),
+                    &matches,
+                )?)),
+            }
+        }
         Err(error) if error.kind() == ErrorKind::OutOfMemory => Err(WordsFault::OutOfMemory),
         Err(error) => Err(WordsFault::Unparsed(error.to_string(alloc)?)),
     }

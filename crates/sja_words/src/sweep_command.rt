@@ -19,7 +19,7 @@ use std::alloc::{AllocError, Global};
 const STRIKE_NAMES: &[&str] = &["K", "B"];
 
 /// An option of this name, which takes a number from the least to the most one, with the line of help behind it.
-fn number<'a>(
+pub(crate) fn number<'a>(
     alloc: Global,
     name: &'a str,
     shown: &'a str,

@@ -88,7 +88,7 @@ pub(crate) fn optional_at<'a>(arguments: &ArgMatches<'a>, id: &str) -> Option<Op
 }
 
 /// The number of threads, by `--jobs`: 1 where it doesn't stand, nothing where it is no number from 1 to 64.
-fn jobs_at<'a>(arguments: &ArgMatches<'a>) -> Option<u32>
+pub(crate) fn jobs_at<'a>(arguments: &ArgMatches<'a>) -> Option<u32>
     ensures { result ≡ number_or 1 1 64 (first_of (codes "jobs") (rows_of (found_of arguments.now))) }
 {
     match text_at(arguments, "jobs") {

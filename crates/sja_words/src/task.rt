@@ -1,5 +1,6 @@
 //! [`Task`]: what the program is asked to do.
 
+use super::file_words::FileWords;
 use super::sweep_words::SweepWords;
 use arrayvec::ArrayVec;
 
@@ -78,6 +79,8 @@ pub enum Task<'a> {
         /// The bit that is struck, counted from 0, at most 9,999,999.
         bit: u32,
     },
+    /// `run FILE..`, `check FILE..` and `trace FILE`: the same of each plan that stands in a file.
+    Files(FileWords<'a>),
     /// `live`: a session that is driven by the lines of the input.
     Live,
 }

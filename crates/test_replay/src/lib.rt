@@ -9,4 +9,6 @@ mod breaking_off;
 #[cfg(test)]
 mod given;
 #[cfg(test)]
+mod passing;
+#[cfg(test)]
 mod receptions;

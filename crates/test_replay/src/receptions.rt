@@ -11,7 +11,7 @@ use test_frames::{TWO_BYTES, TWO_BYTES_RECEIVED};
 
 /// SOF in bit 11, the ACK slot in bit 64, the sixth bit of EOF in bit 71 and the seventh in bit 72; the message is
 /// stored after bit 71.
-fn reception(alloc: Global) -> Result<Journal, Fail> {
+pub fn reception(alloc: Global) -> Result<Journal, Fail> {
     let mut journal = on_the_bus(alloc)?;
     received(&mut journal, TWO_BYTES_RECEIVED, 0, 61, 53)?;
     enter(&mut journal, Entry::Stored(message(&TWO_BYTES)?))?;

@@ -1,5 +1,5 @@
 -- A run that was told bit by bit: what each node's teller has come to.
-use Rattle.std.specs.Prelude.{◌≡◌, ◌+◌, ℕ, true, false, List, [], ◌∷◌, ◌++◌, map, slice_get}
+use Rattle.std.specs.Prelude.{◌≡◌, ◌+◌, ℕ, true, false, None, List, [], ◌∷◌, ◌++◌, map, slice_get}
 use Rattle.can_bits.specs.declared.level.Level.{Level}
 use Rattle.sja_log.specs.Log.{NodeValue}
 use Rattle.sja_plan.specs.Plan.{PlanValue, steps_at}
@@ -9,23 +9,24 @@ use Rattle.sja_wire.specs.Wire.{wired}
 use Rattle.sja_trace.specs.Telling.{HaveCome, IsUnderway, HaveSame, TellsOn, TellsAll, at_hand}
 use Rattle.sja_trace.specs.BitEvents.{counters_after}
 use Rattle.sja_trace.specs.TraceText.{NodeStory, steps_due, event_line, counters_left, driven_in, lines_to}
+use Rattle.sja_trace.specs.declared.node_steps.NodeSteps.{NodeSteps}
 use Rattle.sja_trace.specs.declared.teller.Teller.{Teller}
 
 -- ---- one node
 
--- the same steps
-pub record HasSame (old new : Teller) : Type 0 where
+-- the same steps, that came to the same
+pub record HasSameSteps (old new : NodeSteps) : Type 0 where
   pub steps : new.steps.now ≡ old.steps.now
   pub done : new.done.now ≡ old.done.now
 
 -- the teller went on past a bit, or to the end
 pub record TellerGoesOn (old new : Teller) : Type 0 where
-  pub same : HasSame old new
+  pub same : HasSameSteps old.steps new.steps
   pub counters : new.counters ≡ counters_after (at_hand old.bits)
   pub bits : TellsOn old.bits new.bits
 
 pub record TellerEnds (old new : Teller) : Type 0 where
-  pub same : HasSame old new
+  pub same : HasSameSteps old.steps new.steps
   pub bits : TellsAll old.bits new.bits
 
 -- ---- all nodes
@@ -37,11 +38,12 @@ AreUnderway (t ∷ tellers) = IsUnderway t.bits × AreUnderway tellers
 
 -- after so many bits the teller of a node has told this part of its story
 pub record HasTold (steps : List Step) (n : NodeValue) (bits : ℕ) (t : Teller) (s : NodeStory) : Type 0 where
-  pub steps_are : t.steps.now ≡ steps
-  pub done_are : t.done.now ≡ n.done
+  pub steps_are : t.steps.steps.now ≡ steps
+  pub done_are : t.steps.done.now ≡ n.done
   pub story_steps : s.steps ≡ steps
   pub story_done : s.done ≡ n.done
   pub come : HaveCome n.journal bits t.bits s.bits
+  pub fresh : bits ≡ 0 → t.short ≡ None
 
 -- those of all nodes, the first one having this number
 abbrev pub HaveTold : ℕ → PlanValue → ℕ → List NodeValue → List Teller → List NodeStory → Type 0
@@ -55,8 +57,8 @@ HaveTold k plan bits (n ∷ nodes) (t ∷ tellers) (s ∷ stories) =
 
 -- what the teller of a node has at hand is what this bit of the story brought, and it has the counters before the bit
 pub record IsShown (bit : ℕ) (t : Teller) (s : NodeStory) : Type 0 where
-  pub steps : t.steps.now ≡ s.steps
-  pub done : t.done.now ≡ s.done
+  pub steps : t.steps.steps.now ≡ s.steps
+  pub done : t.steps.done.now ≡ s.done
   pub counters : t.counters ≡ counters_left bit s.bits
   pub brought : at_hand t.bits ≡ slice_get s.bits bit
 
@@ -77,7 +79,7 @@ pub record IsUpTo (plan : PlanValue) (nodes : List NodeValue) (bits : ℕ) (tell
 
 abbrev pub teller_lines : Level → ℕ → ℕ → Teller → List ℕ
 teller_lines bus bit node t =
-    steps_due false bit node 1 t.steps.now t.done.now ++ event_line bus bit node t.counters (at_hand t.bits)
+    steps_due false bit node 1 t.steps.steps.now t.steps.done.now ++ event_line bus bit node t.counters (at_hand t.bits)
 
 abbrev pub driven_now : List Teller → List Level
 driven_now tellers = map (λ (t : Teller). driven_in (at_hand t.bits)) tellers
@@ -86,4 +88,4 @@ abbrev pub bit_text : ℕ → List Teller → List ℕ
 bit_text bit tellers = numbered (teller_lines (wired (driven_now tellers)) bit) 0 tellers
 
 abbrev pub late_lines : ℕ → ℕ → Teller → List ℕ
-late_lines bits node t = steps_due true bits node 1 t.steps.now t.done.now
+late_lines bits node t = steps_due true bits node 1 t.steps.steps.now t.steps.done.now

@@ -3,7 +3,7 @@
 //! How each mistake is worded is tried by the rows of `test_check`.
 
 use super::answer::answer_to;
-use super::row::{Said, Want, said};
+use super::row::{Want, said};
 use std::test::Fail;
 
 /// A run in which nothing is left out: node 0 sends to node 1, which releases the message.
@@ -69,9 +69,6 @@ fn a_mistake_is_explained_below_the_line_of_run(rt: HostRuntime) -> Result<(), F
 }
 
 #[test]
-fn check_takes_no_words(rt: HostRuntime) {
-    let rows: [Said; 2] = [("sja check all", Want::Usage), ("sja checks", Want::Usage)];
-    for (words, want) in rows {
-        assert!(rt; said(rt.alloc(), words, want), "{words:?}");
-    }
+fn checks_is_no_command(rt: HostRuntime) {
+    assert!(rt; said(rt.alloc(), "sja checks", Want::Usage));
 }

@@ -1,6 +1,7 @@
 //! `live`: a session that is driven line by line.
 
 use super::row::{Said, Want, said};
+use super::shelf::Shelf;
 use sja_run::{Output, sja};
 use std::alloc::Global;
 use std::io::{ErrorKind, Read, Result, Write};
@@ -47,7 +48,16 @@ fn live<T: Threads + Wait + Sync, R: Read, O: Write, E: Write>(
     out: &mut Output<O>,
     err: &mut Output<E>,
 ) -> u8 {
-    sja(rt, alloc, ["sja", "live"].as_slice(), input, out, err)
+    let shelf = Shelf { good: "", bad: "" };
+    sja(
+        rt,
+        alloc,
+        &shelf,
+        ["sja", "live"].as_slice(),
+        input,
+        out,
+        err,
+    )
 }
 
 /// Whether `live` over these lines has this status and writes this text, nothing on the error output, and doesn't read

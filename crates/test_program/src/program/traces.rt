@@ -64,8 +64,7 @@ fn frames_prints_the_bits_of_each_field(rt: HostRuntime) -> Result<(), Fail> {
 
 #[test]
 fn trace_and_frames_refuse_as_run_does(rt: HostRuntime) -> Result<(), Fail> {
-    let rows: [Said; 4] = [
-        ("sja trace all", Want::Usage),
+    let rows: [Said; 3] = [
         ("sja traces", Want::Usage),
         ("sja frames 1", Want::Usage),
         ("sja frame", Want::Usage),

@@ -6,14 +6,14 @@ use Rattle.sja_raw.proofs.Chain.{nothing_left, waits_at, then_at, commands_so, c
 use Rattle.sja_raw.proofs.Keeping.{keeps_none, keeps_more, keeps_then}
 use Rattle.sja_raw.proofs.command_write.write_command.Goals as goal
 
-pub returns-then-mode_in-clause-keeps : goal.returns-then-mode_in-clause-keeps
-returns-then-mode_in-clause-keeps g c =
+pub returns-then-is_reset-clause-keeps : goal.returns-then-is_reset-clause-keeps
+returns-then-is_reset-clause-keeps g c =
     keeps_none g.E.DriverEnd.link g.E.DriverEnd.same g.met.E.DriverEnd.same_refl c.args.typed.now
     c.args.links.now c.args.base 2
 
-pub returns-then-mode_in-clause-writes : goal.returns-then-mode_in-clause-writes
-returns-then-mode_in-clause-writes g c =
-    let rm = ap (λ (m : Mode). m.rm) (sym c.mode_in.ensures) ∙ c.if-mode_in.true in
+pub returns-then-is_reset-clause-writes : goal.returns-then-is_reset-clause-writes
+returns-then-is_reset-clause-writes g c =
+    let rm = sym c.is_reset.ensures ∙ c.if-is_reset.true in
     rw (commands_off c.args.port.now _ rm) nothing_left
 
 pub returns-then-byte-eq0-clause-keeps : goal.returns-then-byte-eq0-clause-keeps
@@ -29,7 +29,7 @@ pub release_if-requires-then-try_step-clause-operating : goal.release_if-require
 release_if-requires-then-try_step-clause-operating g c =
     let eight = c.requires.eight in
     ap (λ (m : Mode). m.rm) (commanded c.try_step.ensures.steps (omega (arith, eight)))
-    ∙ (ap (λ (m : Mode). m.rm) (sym c.mode_in.ensures) ∙ c.if-mode_in.false)
+    ∙ (sym c.is_reset.ensures ∙ c.if-is_reset.false)
 
 pub returns-then-try_step-clause-keeps : goal.returns-then-try_step-clause-keeps
 returns-then-try_step-clause-keeps g c =
@@ -41,7 +41,7 @@ pub returns-then-try_step-clause-writes : goal.returns-then-try_step-clause-writ
 returns-then-try_step-clause-writes g c =
     rw (ap (λ x. command_steps c.args.port.now x) (sym c.of-command.ensures)
     ∙ commands_so c.args.port.now c.of-command.result c.command_byte-byte.result
-    (ap (λ (m : Mode). m.rm) (sym c.mode_in.ensures) ∙ c.if-mode_in.false)
+    (sym c.is_reset.ensures ∙ c.if-is_reset.false)
     (c.command_byte-byte.ensures ∙ ap (λ x. command_byte x) c.doable.ensures) c.if-byte-eq0.false)
     (then_at c.try_step.ensures.steps c.if-try_step.true c.release_if-then-try_step.ensures.writes)
 
@@ -55,10 +55,10 @@ returns-else-try_step-clause-writes g c =
     let eight = c.requires.eight in
     rw (ap (λ x. command_steps c.args.port.now x) (sym c.of-command.ensures)
     ∙ commands_so c.args.port.now c.of-command.result c.command_byte-byte.result
-    (ap (λ (m : Mode). m.rm) (sym c.mode_in.ensures) ∙ c.if-mode_in.false)
+    (sym c.is_reset.ensures ∙ c.if-is_reset.false)
     (c.command_byte-byte.ensures ∙ ap (λ x. command_byte x) c.doable.ensures) c.if-byte-eq0.false)
     (waits_at c.try_step.ensures.steps c.if-try_step.false (omega (arith, eight)) 1 c.args.value
     (releases c.of-command.result.rrb) (ap (λ x. command_steps c.args.port.now x) (sym c.of-command.ensures)
     ∙ commands_so c.args.port.now c.of-command.result c.command_byte-byte.result
-    (ap (λ (m : Mode). m.rm) (sym c.mode_in.ensures) ∙ c.if-mode_in.false)
+    (sym c.is_reset.ensures ∙ c.if-is_reset.false)
     (c.command_byte-byte.ensures ∙ ap (λ x. command_byte x) c.doable.ensures) c.if-byte-eq0.false))

@@ -1,21 +1,11 @@
 use Rattle.std.proofs.Common.{subst}
-use Rattle.sja_plan.specs.Faults.{IsFirstFault}
+use Rattle.sja_run.specs.Check.{IsSaidOf}
+use Rattle.sja_run.proofs.PlanRuns.{said_of_input}
 use Rattle.sja_run.proofs.check.checked.Goals as goal
 
--- the bytes that were read have a first fault
-pub returns : goal.returns
-returns g c =
+-- what is said of the bytes that were read
+pub returns-clause-ok : goal.returns-clause-ok
+returns-clause-ok g c =
     let read = c.in_ok-bytes.ensures in
-    let fault = subst (λ bytes. IsFirstFault bytes c.in-Err.fault) c.as_slice.ensures.value c.in-Err.ensures.err in
-    let said = c.in_ok-explained-in-Err.ensures in record {
-      ok = (
-        c.in_ok-bytes.bytes.items,
-        c.in-Err.fault,
-        said.0,
-        (read.taken, read.bound, read.whole),
-        fault,
-        said.1,
-        said.2,
-      );
-      err = tt;
-    }
+    let said = subst (λ bytes. IsSaidOf bytes c.in_ok-said.said) c.as_slice.ensures.value c.in_ok-said.ensures in
+    said_of_input _ _ c.in_ok-bytes.bytes.items c.in_ok-said.said (read.taken, read.bound, read.whole) said

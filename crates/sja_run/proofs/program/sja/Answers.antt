@@ -1,9 +1,10 @@
-use Rattle.std.proofs.Common.{ap, subst, sym, inl, inr}
+use Rattle.std.proofs.Common.{◌≡◌, ap, map, subst, sym, inl, inr}
 use Rattle.std.specs.Io.KnownBytes.{Keeps}
 use Rattle.std.proofs.KnownBytes.{Keeps-refl}
-use Rattle.sja_words.specs.Words.{live}
-use Rattle.sja_run.specs.Answer.{request_left}
-use Rattle.sja_run.proofs.Requests.{asks_left, asks_one, is_left_over, is_no_talk, left_shows, shows_from}
+use Rattle.sja_words.specs.Words.{files, live}
+use Rattle.sja_run.specs.Answer.{AsksForOne, request_left}
+use Rattle.sja_run.proofs.FileSteps.{files_from, files_unread}
+use Rattle.sja_run.proofs.Requests.{asks_left, asks_one, is_left_over, left_shows, one_left, shows_from}
 use Rattle.sja_run.proofs.Talks.{left_talks, talks_from}
 use Rattle.sja_run.proofs.program.sja.Goals as goal
 
@@ -25,11 +26,20 @@ returns-in-Ok-clause-talks g c = λ parses wrote told.
     left_talks c.in-Ok.status _ _ _ _ _ _ _ left.0 (ap (λ i. g.R.Read.remaining i) left.1)
     (ap (λ o. g.O.Write.contents o.writer) left.2) told
 
+-- and so it is of plans in files
+pub returns-in-Ok-clause-of_files : goal.returns-in-Ok-clause-of_files
+returns-in-Ok-clause-of_files g c = λ asked jobs names parses wrote told.
+    let left = c.in-Ok.ensures.threads (files asked jobs names) parses tt in
+    let keeps = subst (λ o. Keeps (g.O.Write.contents c.args.out.now.writer) (g.O.Write.contents o.writer))
+    (sym left.2) (Keeps-refl _) in
+    files_unread (g.F.Sources.holds c.args.sources.now) asked names c.in-Ok.status _ _ _ _ _ _ _ left.0
+    (ap (λ i. g.R.Read.remaining i) left.1) keeps told
+
 -- a talk is left to this call where the words ask for one, and nothing was read or written for it
 pub returns-in-Err-Talk-clause-answered : goal.returns-in-Err-Talk-clause-answered
 returns-in-Err-Talk-clause-answered g c = λ r parses plain wrote told.
     let left = rw c.in-Err-Talk.field-0-is at c.in-Err-Talk.ensures.left in
-    absurd (plain (asks_one _ r live parses left.0))
+    absurd (subst AsksForOne (asks_one _ r live parses left.0) plain)
 
 pub returns-in-Err-Talk-clause-talks : goal.returns-in-Err-Talk-clause-talks
 returns-in-Err-Talk-clause-talks g c = λ parses wrote told.
@@ -49,7 +59,7 @@ returns-in-Err-Talk-clause-untouched g c = λ none.
 
 pub returns-in-Err-Talk-clause-one_writer : goal.returns-in-Err-Talk-clause-one_writer
 returns-in-Err-Talk-clause-one_writer g c = λ none.
-    let left = rw c.in-Err-Talk.field-0-is at c.in-Err-Talk.ensures.left in absurd (none left.0)
+    let left = rw c.in-Err-Talk.field-0-is at c.in-Err-Talk.ensures.left in absurd (none live left.0)
 
 pub returns-in-Err-Talk-clause-unread : goal.returns-in-Err-Talk-clause-unread
 returns-in-Err-Talk-clause-unread g c = λ none.
@@ -57,7 +67,7 @@ returns-in-Err-Talk-clause-unread g c = λ none.
 
 pub returns-in-Err-Talk-clause-few : goal.returns-in-Err-Talk-clause-few
 returns-in-Err-Talk-clause-few g c = λ none.
-    let left = rw c.in-Err-Talk.field-0-is at c.in-Err-Talk.ensures.left in absurd (none left.0)
+    let left = rw c.in-Err-Talk.field-0-is at c.in-Err-Talk.ensures.left in absurd (none live left.0)
 
 -- what is left to threads is what the words ask for, and nothing was read or written for it
 pub returns-in-Err-Threads-clause-answered : goal.returns-in-Err-Threads-clause-answered
@@ -74,7 +84,7 @@ pub returns-in-Err-Threads-clause-talks : goal.returns-in-Err-Threads-clause-tal
 returns-in-Err-Threads-clause-talks g c = λ parses wrote told.
     let left = rw c.in-Err-Threads.field-0-is at c.in-Err-Threads.ensures.left in
     let asked = request_left c.in-Err-Threads.threaded in
-    absurd (is_no_talk c.in-Err-Threads.threaded (asks_one _ asked live left.0 parses))
+    absurd (subst AsksForOne (asks_one _ asked live left.0 parses) (one_left c.in-Err-Threads.threaded))
 
 -- words of which something is left parse
 pub returns-in-Err-Threads-clause-unparsed : goal.returns-in-Err-Threads-clause-unparsed
@@ -87,3 +97,43 @@ pub returns-in-Err-Threads-clause-unread : goal.returns-in-Err-Threads-clause-un
 returns-in-Err-Threads-clause-unread g c = λ none.
     let left = rw c.in-Err-Threads.field-0-is at c.in-Err-Threads.ensures.left in
     absurd (none (request_left c.in-Err-Threads.threaded) left.0 (asks_left c.in-Err-Threads.threaded))
+
+-- ---- plans in files are left to this call where the words ask for them
+
+pub returns-in-Err-Files-clause-answered : goal.returns-in-Err-Files-clause-answered
+returns-in-Err-Files-clause-answered g c = λ r parses one wrote told.
+    let left = rw c.in-Err-Files.field-0-is at c.in-Err-Files.ensures.left in
+    absurd (subst AsksForOne (asks_one _ r _ parses left.0) one)
+
+pub returns-in-Err-Files-clause-of_files : goal.returns-in-Err-Files-clause-of_files
+returns-in-Err-Files-clause-of_files g c = λ asked jobs names parses wrote told.
+    let left = rw c.in-Err-Files.field-0-is at c.in-Err-Files.ensures.left in
+    let w = c.in-Err-Files.files in
+    let given = map (λ name. name.now) w.names.items in
+    let threads = c.in-Err-Files.ensures.threads (files w.question w.jobs given) left.0 tt in
+    let same : files asked jobs names ≡ files w.question w.jobs given = asks_one _ _ _ parses left.0 in
+    let same_asked : asked ≡ w.question = cc (same) in
+    let same_names : names ≡ given = cc (same) in
+    files_from (g.F.Sources.holds c.args.sources.now) asked w.question names given _ _ _ _ _ _ _ _ _ _ same_asked
+    same_names (ap (λ i. g.R.Read.remaining i) threads.1) (ap (λ o. g.O.Write.contents o.writer) threads.2)
+    (ap (λ e. g.E.Write.contents e.writer) left.2) (c.reply_files.ensures.answered wrote told)
+
+pub returns-in-Err-Files-clause-unparsed : goal.returns-in-Err-Files-clause-unparsed
+returns-in-Err-Files-clause-unparsed g c = λ none _ _.
+    let left = rw c.in-Err-Files.field-0-is at c.in-Err-Files.ensures.left in absurd (none _ left.0)
+
+pub returns-in-Err-Files-clause-untouched : goal.returns-in-Err-Files-clause-untouched
+returns-in-Err-Files-clause-untouched g c = λ none.
+    let left = rw c.in-Err-Files.field-0-is at c.in-Err-Files.ensures.left in absurd (none _ left.0)
+
+pub returns-in-Err-Files-clause-one_writer : goal.returns-in-Err-Files-clause-one_writer
+returns-in-Err-Files-clause-one_writer g c = λ one.
+    let left = rw c.in-Err-Files.field-0-is at c.in-Err-Files.ensures.left in absurd (one _ left.0)
+
+pub returns-in-Err-Files-clause-unread : goal.returns-in-Err-Files-clause-unread
+returns-in-Err-Files-clause-unread g c = λ none.
+    let left = rw c.in-Err-Files.field-0-is at c.in-Err-Files.ensures.left in absurd (none _ left.0 tt)
+
+pub returns-in-Err-Files-clause-few : goal.returns-in-Err-Files-clause-few
+returns-in-Err-Files-clause-few g c = λ one.
+    let left = rw c.in-Err-Files.field-0-is at c.in-Err-Files.ensures.left in absurd (one _ left.0)

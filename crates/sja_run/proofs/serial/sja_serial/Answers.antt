@@ -1,4 +1,4 @@
-use Rattle.std.proofs.Common.{rules, inl, inr, ap, Some}
+use Rattle.std.proofs.Common.{rules, inl, inr, ap, sym, ◌∙◌, Some}
 use Rattle.sja_words.specs.Words.{request_of}
 use Rattle.sja_texts.specs.declared.command_refusal.CommandRefusal.TheVariants as refusal
 use Rattle.sja_run.proofs.FewBytes.{unread}
@@ -11,9 +11,10 @@ pub returns-in-Err-Unparsed-clause-answered : goal.returns-in-Err-Unparsed-claus
 returns-in-Err-Unparsed-clause-answered g c = λ r parses _ _ _. search (rules, c.parse.ensures.refused r parses)
 
 -- the words ask for nothing but the task
-pub returns-in-None-clause-answered : goal.returns-in-None-clause-answered
-returns-in-None-clause-answered g c = λ r parses _ wrote told.
-    rw (asks_one _ r (request_of c.in-Ok.task) parses c.in-Ok.ensures.ok) (c.reply.ensures.answered wrote told)
+pub returns-in-Err-clause-answered : goal.returns-in-Err-clause-answered
+returns-in-Err-clause-answered g c = λ r parses _ wrote told.
+    let same = asks_one _ r (request_of c.in-Ok.task) parses c.in-Ok.ensures.ok in
+    rw (same ∙ ap request_of (sym c.in-Err.ensures.other.0)) (c.reply.ensures.answered wrote told)
 
 -- memory may be refused while the words are parsed
 pub returns-in-Err-OutOfMemory-clause-answered : goal.returns-in-Err-OutOfMemory-clause-answered

@@ -1,14 +1,20 @@
-use Rattle.std.proofs.Common.{◌≡◌, ◌+◌, suc, length, rules, arith}
+use Rattle.std.proofs.Common.{◌≡◌, ◌+◌, suc, [], length, string_bytes, rules, arith}
 use Rattle.sja_trace.proofs.WrittenBack.{back_more, lent_underway, back_all}
+use Rattle.sja_trace.proofs.Passed.{comes_first}
 use Rattle.sja_trace.proofs.trace_text.trace.Goals as goal
+
+pub loop-bit-init : goal.loop-bit-init
+loop-bit-init c =
+    let none : string_bytes c.new-text.result ≡ [] = search rules in
+    rw none (comes_first _ _ _ _ (rw c.nodes.ensures at c.in_ok-tellers.ensures))
 
 pub loop-bit-preserved : goal.loop-bit-preserved
 loop-bit-preserved c =
     let t = c.loop-bit.tellers in let one : c.loop-bit.bit + 1 ≡ suc c.loop-bit.bit = omega arith in
     let all : t.len ≡ length t.items = search rules in
-    back_more _ _ c.loop-bit.bit (c.loop-bit.bit + 1) t.len t.items c.as_mut_slice.result.now c.go_on_all.new.tellers
-    c.as_slice.result.now _ _ all c.as_mut_slice.ensures.value c.go_on_all.auto.tellers c.as_slice.ensures.value
-    c.loop-bit.invariant c.go_on_all.ensures c.in_ok-put_bit.ensures.text one
+    back_more _ _ c.loop-bit.bit (c.loop-bit.bit + 1) t.len t.items c.as_mut_slice.result.now c.pass_on_all.new.tellers
+    c.as_slice.result.now _ _ all c.as_mut_slice.ensures.value c.pass_on_all.auto.tellers c.as_slice.ensures.value
+    c.loop-bit.invariant c.pass_on_all.ensures c.in_ok-put_bit.ensures.text one
 
 pub finish_all-requires : goal.finish_all-requires
 finish_all-requires c = lent_underway _ _ _ _ _ _ c.as_mut_slice-2.ensures.value c.loop-bit.invariant

@@ -1,7 +1,7 @@
 use Rattle.std.proofs.Common.{string_bytes}
-use Rattle.sja_trace.specs.Inside.Coming.{IsUpTo}
+use Rattle.sja_trace.specs.Inside.Passing.{ComesTo}
 use Rattle.sja_trace.proofs.trace_text.trace.Given as goal
 
 -- the lines of the bits so far were written
 abbrev pub invariant-loop-bit : goal.invariant-loop-bit
-invariant-loop-bit l = IsUpTo l.plan l.log.nodes l.bit l.tellers.items (string_bytes l.text)
+invariant-loop-bit l = ComesTo l.plan l.log.nodes l.bit l.tellers.items (string_bytes l.text)

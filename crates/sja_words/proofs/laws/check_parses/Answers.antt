@@ -1,5 +1,9 @@
+use Rattle.sja_words.proofs.FileNames.{check_files}
 use Rattle.sja_words.proofs.PlainWords.{check_alone}
 use Rattle.sja_words.proofs.laws.check_parses.Goals as goal
 
-pub returns : goal.returns
-returns c = check_alone
+pub returns-clause-input : goal.returns-clause-input
+returns-clause-input c = check_alone
+
+pub returns-clause-files : goal.returns-clause-files
+returns-clause-files c = check_files

@@ -1,3 +1,5 @@
+use Rattle.sja_words.proofs.FileNames.{run_files}
+use Rattle.sja_words.proofs.PlainFiles.{run_jobs}
 use Rattle.sja_words.proofs.PlainWords.{run_alone, run_in_threads}
 use Rattle.sja_words.proofs.laws.run_parses.Goals as goal
 
@@ -6,3 +8,9 @@ returns-clause-one c = run_alone
 
 pub returns-clause-threads : goal.returns-clause-threads
 returns-clause-threads c = run_in_threads
+
+pub returns-clause-files : goal.returns-clause-files
+returns-clause-files c = run_files
+
+pub returns-clause-jobs : goal.returns-clause-jobs
+returns-clause-jobs c = run_jobs

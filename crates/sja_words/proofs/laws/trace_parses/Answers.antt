@@ -1,3 +1,4 @@
+use Rattle.sja_words.proofs.PlainFiles.{trace_file, trace_files}
 use Rattle.sja_words.proofs.PlainWords.{trace_alone, trace_in_threads}
 use Rattle.sja_words.proofs.laws.trace_parses.Goals as goal
 
@@ -6,3 +7,9 @@ returns-clause-one c = trace_alone
 
 pub returns-clause-threads : goal.returns-clause-threads
 returns-clause-threads c = trace_in_threads
+
+pub returns-clause-file : goal.returns-clause-file
+returns-clause-file c = trace_file
+
+pub returns-clause-two : goal.returns-clause-two
+returns-clause-two c = trace_files

@@ -11,7 +11,7 @@ returns-in-Some-clause-ok g c =
     let made = c.in_ok-command.ensures in
     let asked = asked_at _ words c.in-Ok.matches made c.in-Ok.ensures.ok.2 in record {
       taken = taken_at _ words c.in-Ok.matches made c.in-Ok.ensures.kinds;
-      asks = sym asked ∙ sym c.task_of.ensures ∙ ap (option_map request_of) c.in-Some.is;
+      asks = sym asked ∙ sym c.in_ok-found-in-Ok.ensures ∙ ap (option_map request_of) c.in-Some.is;
     }
 
 pub returns-in-Ok-clause-refused : goal.returns-in-Ok-clause-refused
@@ -19,7 +19,7 @@ returns-in-Ok-clause-refused g c = λ r parses.
     let asked =
     asked_at _ (map g.S.AsStr.text c.args.words.now) c.in-Ok.matches c.in_ok-command.ensures c.in-Ok.ensures.ok.2 in
     let nothing = ap (option_map request_of) c.in-None.is in
-    let bad : None ≡ Some r = sym nothing ∙ c.task_of.ensures ∙ asked ∙ parses.asks in
+    let bad : None ≡ Some r = sym nothing ∙ c.in_ok-found-in-Ok.ensures ∙ asked ∙ parses.asks in
     cc
 
 pub returns-clause-refused : goal.returns-clause-refused

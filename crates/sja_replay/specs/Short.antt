@@ -1,0 +1,37 @@
+-- What a bit brought that told nothing, in short (this project's own rule).
+use Rattle.std.specs.Prelude.{◌≡◌, false, None, List, [], ◌∷◌}
+use Rattle.can_bits.specs.declared.level.Level.TheVariants.{Recessive}
+use Rattle.can_node.specs.declared.phase.Phase.TheVariants.{Idle}
+use Rattle.can_node.specs.Stands.{nothing}
+use Rattle.sja_link.specs.declared.entry.Entry.{Entry}
+use Rattle.sja_replay.specs.declared.happening.Happening.{Happening}
+use Rattle.sja_replay.specs.declared.replay.Replay.{Replay}
+use Rattle.sja_replay.specs.declared.short_bit.ShortBit.{ShortBit}
+use Rattle.sja_replay.specs.Replaying.{GoesOn}
+
+-- where the bus is idle, the node drives and sees recessive: no frame begins (Bosch CAN 2.0 part A section 3.1.1)
+abbrev pub IsNoStart : ShortBit → Type 0
+IsNoStart q = q.phase ≡ Idle → (q.driven ≡ Recessive) × (q.seen ≡ Recessive)
+
+-- these are the levels, the node showed this before the bit, the bit told nothing, and phase and counters stay. No
+-- abort changed the node right before it, and no frame was received with it
+pub record IsInShort (h : Happening) (q : ShortBit) : Type 0 where
+  pub driven : h.driven ≡ q.driven
+  pub seen : h.seen ≡ q.seen
+  pub aborted : h.aborted ≡ false
+  pub phase : h.before.phase ≡ q.phase
+  pub segment : h.before.segment ≡ q.segment
+  pub transmits : h.before.transmits ≡ q.transmits
+  pub counters : h.before.counters ≡ q.counters
+  pub flag : h.before.flag ≡ q.flag
+  pub told : h.events ≡ nothing h.events.receiving
+  pub phase_stays : h.after.phase ≡ q.phase
+  pub counters_stay : h.after.counters ≡ q.counters
+  pub fate : h.fate ≡ None
+  pub no_start : IsNoStart q
+
+-- the replay went on past one bit, that brought this
+pub record PassesBit (old new : Replay) (before : List Entry) (q : ShortBit) : Type 0 where
+  pub happened : Happening
+  pub short : IsInShort happened q
+  pub goes : GoesOn old new before (happened ∷ [])

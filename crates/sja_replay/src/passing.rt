@@ -1,0 +1,70 @@
+//! The quick way past a bit: in most bits nothing happens that is told.
+
+use super::replay::{Replay, is_same};
+use super::short_bit::ShortBit;
+use can_bits::Level;
+use sja_link::Entry;
+
+impl<'a> Replay<'a> {
+    ghost use Rattle.std.specs.Prelude.{◌≡◌, None, Some, List, IfSome};
+    ghost use Rattle.sja_link.specs.declared.entry.Entry.{Entry as Item};
+    ghost use Rattle.sja_link.specs.declared.entry.Entry.TheVariants.{Bit};
+    ghost use Rattle.sja_replay.specs.Replaying.{IsAt};
+    ghost use Rattle.sja_replay.specs.Short.{PassesBit};
+    ghost use Rattle.sja_replay.specs.Inside.Walking.{IsTakenFrom, LooksAt};
+
+    /// Goes on past the next bit, where that is the entry that comes next and it tells nothing, and gives in short what
+    /// it brought. Nothing where it isn't so, and then nothing changed: [`next`](Replay::next) is to be called. It may
+    /// give nothing of a bit that tells nothing.
+    pub fn pass(&mut self) -> Option<ShortBit>
+        ensures passed { IfSome result (λ q. (before : List Item) → IsAt self.old before
+            → PassesBit self.old self.new before q) }
+        ensures none { result ≡ None → self.new ≡ self.old }
+    {
+        let (driven, seen) = self.levels_ahead()?;
+        if self.aborted || !is_same(self.node.drive(), driven) {
+            return None;
+        }
+        let bits = self.bits.checked_add(1)?;
+        let bit = self.short(driven, seen);
+        if bit.may_start() || !self.node.sample_quietly(seen) {
+            return None;
+        }
+        let _segment = self.node.segment();
+        self.bits = bits;
+        self.look_on();
+        Some(bit)
+    }
+
+    /// Looks at the next entry in place of the one that was looked at.
+    fn look_on(&mut self)
+        ensures { IsTakenFrom self.old self.new self.old.ahead }
+    {
+        self.ahead = self.entries.next();
+    }
+
+    /// The levels of a bit that is the entry that comes next.
+    fn levels_ahead(&self) -> Option<(Level, Level)>
+        ensures { IfSome result (λ p. self.now.ahead ≡ Some (Bit (p.0) (p.1))) }
+    {
+        match &self.ahead {
+            Some(Entry::Bit(driven, seen)) => Some((*driven, *seen)),
+            _ => None,
+        }
+    }
+
+    /// What the node shows of a bit with these levels.
+    fn short(&self, driven: Level, seen: Level) -> ShortBit
+        ensures { LooksAt self.now.node driven seen result }
+    {
+        ShortBit {
+            driven,
+            seen,
+            phase: self.node.phase(),
+            segment: self.node.segment(),
+            transmits: self.node.is_transmitter(),
+            counters: self.node.counters(),
+            flag: self.node.flag(),
+        }
+    }
+}

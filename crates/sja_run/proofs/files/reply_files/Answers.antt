@@ -1,0 +1,44 @@
+use Rattle.std.proofs.Common.{◌+◌, arith, length, map}
+use Rattle.std.specs.Prelude.{nat_lt}
+use Rattle.sja_run.proofs.FileSteps.{done_more, none_done}
+use Rattle.sja_run.proofs.files.reply_files.Goals as goal
+
+pub loop-start-init : goal.loop-start-init
+loop-start-init g c = record {
+  within = omega arith;
+  done = none_done (g.F.Sources.holds c.args.sources.now) c.args.words.now.question
+      (map (λ name. name.now) c.as_slice-names.result.now) (g.R.Read.remaining c.args.input.now)
+      (nat_lt 1 (length c.as_slice-names.result.now)) c.args.out.now.failed c.args.err.now.failed
+      (g.O.Write.contents c.args.out.now.writer) (g.E.Write.contents c.args.err.now.writer);
+}
+
+-- the next files are done
+pub loop-start-preserved : goal.loop-start-preserved
+loop-start-preserved g c =
+    let names = c.as_slice-names.result.now in
+    let start = c.loop-start.start in
+    let told = c.put_outcomes-answered in
+    record {
+      within = omega arith;
+      done = done_more (g.F.Sources.holds c.args.sources.now) c.args.words.now.question names start
+          (start + c.min.result) (g.R.Read.remaining c.args.input.now) (g.R.Read.remaining c.loop-start.input)
+          (g.R.Read.remaining c.outcomes_of-outcomes.new.input) (nat_lt 1 (length names)) c.loop-start.all
+          told.result c.args.out.now.failed c.loop-start.out.failed told.new.out.failed c.args.err.now.failed
+          c.loop-start.err.failed told.new.err.failed _ _ _ _ _ _ _ (omega arith) c.loop-start.invariant.done
+          c.outcomes_of-outcomes.ensures.are told.ensures.all told.ensures.out told.ensures.err;
+    }
+
+pub loop-start-preserved-else-err : goal.loop-start-preserved-else-err
+loop-start-preserved-else-err g c =
+    let names = c.as_slice-names.result.now in
+    let start = c.loop-start.start in
+    let told = c.put_outcomes-answered in
+    record {
+      within = omega arith;
+      done = done_more (g.F.Sources.holds c.args.sources.now) c.args.words.now.question names start
+          (start + c.min.result) (g.R.Read.remaining c.args.input.now) (g.R.Read.remaining c.loop-start.input)
+          (g.R.Read.remaining c.outcomes_of-outcomes.new.input) (nat_lt 1 (length names)) c.loop-start.all
+          told.result c.args.out.now.failed c.loop-start.out.failed told.new.out.failed c.args.err.now.failed
+          c.loop-start.err.failed told.new.err.failed _ _ _ _ _ _ _ (omega arith) c.loop-start.invariant.done
+          c.outcomes_of-outcomes.ensures.are told.ensures.all told.ensures.out told.ensures.err;
+    }

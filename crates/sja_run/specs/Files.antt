@@ -1,0 +1,155 @@
+-- What `run`, `check` and `trace` do over plans that stand in files (this project's own rule). What comes of each plan
+-- hangs on its bytes alone.
+use Rattle.std.specs.Prelude.{◌≡◌, ◌⊎◌, ◌++◌, ◌∷◌, ℕ, Bool, true, false, List, [], Option, Some, None}
+use Rattle.std.specs.Prelude.{codes, length, nat_lt, if◌then◌else◌}
+use Rattle.std.specs.List.{list_all}
+use Rattle.std.specs.Io.KnownBytes.{Appends, Keeps}
+use Rattle.sja_plan.specs.Plan.{PlanValue}
+use Rattle.sja_plan.specs.Faults.{IsPlanOf, IsFirstFault}
+use Rattle.sja_words.specs.declared.plan_question.PlanQuestion.{PlanQuestion}
+use Rattle.sja_words.specs.declared.plan_question.PlanQuestion.TheVariants as question
+use Rattle.sja_texts.specs.Refusal.{refusal_line}
+use Rattle.sja_texts.specs.declared.command_refusal.CommandRefusal.{CommandRefusal}
+use Rattle.sja_texts.specs.declared.command_refusal.CommandRefusal.TheVariants as refusal
+use Rattle.sja_run.specs.Check.{IsExplained, IsHinted}
+use Rattle.sja_run.specs.Input.{IsRead, IsReadFrom, RefusesInput}
+use Rattle.sja_run.specs.RunText.{IsTextOfRun, MayFault}
+use Rattle.sja_run.specs.declared.file_outcome.FileOutcome.{FileOutcome}
+use Rattle.sja_run.specs.declared.file_outcome.FileOutcome.TheVariants.{Printed, Mistaken, Refused, Unreadable}
+use Rattle.sja_run.specs.declared.run_text.RunText.{RunText}
+use Rattle.sja_run.specs.declared.run_text.RunText.TheVariants.{Report, Trace}
+
+-- ---- the plan that some bytes are
+
+-- the text is this one of a run of the plan that these bytes are: in threads (`true`) or in one
+abbrev pub IsTextIn : Bool → RunText → List ℕ → List ℕ → Type 0
+IsTextIn threads what bytes text = (plan : PlanValue) × IsPlanOf bytes plan × IsTextOfRun threads what plan text
+
+-- the text is what was asked of that plan
+abbrev pub IsAnswer : PlanQuestion → List ℕ → List ℕ → Type 0
+IsAnswer (question.Report threads) bytes text = IsTextIn threads Report bytes text
+IsAnswer (question.Trace threads) bytes text = IsTextIn threads Trace bytes text
+IsAnswer question.Check bytes text = IsHinted bytes text
+
+-- why there is no text of a run of that plan. Memory may be refused at any time. Else the bytes have this first fault,
+-- or they are a plan, and its run had this fault
+abbrev pub RefusesBytes : Bool → List ℕ → CommandRefusal → Type 0
+RefusesBytes threads bytes refusal.OutOfMemory = Unit {0}
+RefusesBytes threads bytes (refusal.Plan fault) = IsFirstFault bytes fault
+RefusesBytes threads bytes (refusal.Run fault) =
+    (plan : PlanValue) × IsPlanOf bytes plan × MayFault threads plan fault
+RefusesBytes threads bytes other = ⊥
+
+-- why there is no answer. `check` has one of a fault of the plan too
+abbrev pub IsUnanswered : PlanQuestion → List ℕ → CommandRefusal → Type 0
+IsUnanswered (question.Report threads) bytes r = RefusesBytes threads bytes r
+IsUnanswered (question.Trace threads) bytes r = RefusesBytes threads bytes r
+IsUnanswered question.Check bytes r = r ≡ refusal.OutOfMemory
+
+-- what was asked of the plan that these bytes are has this outcome
+abbrev pub Answers : PlanQuestion → List ℕ → FileOutcome → Type 0
+Answers asked bytes (Printed text) = IsAnswer asked bytes text.items
+Answers asked bytes (Mistaken text) = (asked ≡ question.Check) × IsExplained bytes text.items
+Answers asked bytes (Refused r) = IsUnanswered asked bytes r
+Answers asked bytes Unreadable = ⊥
+
+-- ---- one file
+
+-- the name that the input has among files
+abbrev pub input_name : List ℕ
+input_name = codes "-"
+
+-- these bytes were read under a name: of the input, or of what stands there
+abbrev pub IsReadAs :
+    (List ℕ → Option (List ℕ) → Type 0) → List ℕ → Option (List ℕ) → Option (List ℕ) → List ℕ → Type 0
+IsReadAs Holds name before after bytes =
+    ((name ≡ input_name) × IsRead before after bytes)
+    ⊎ ((whole : List ℕ) × (¬ (name ≡ input_name)) × Holds name (Some whole) × IsReadFrom whole bytes
+    × (after ≡ before))
+
+-- why none were: the input gave none; or memory was refused, before anything was read
+abbrev pub RefusesName : List ℕ → Option (List ℕ) → Option (List ℕ) → CommandRefusal → Type 0
+RefusesName name before after r =
+    ((name ≡ input_name) × RefusesInput before after r) ⊎ ((r ≡ refusal.OutOfMemory) × (after ≡ before))
+
+-- no bytes were read under a name, and this is the outcome
+abbrev pub IsUnread :
+    (List ℕ → Option (List ℕ) → Type 0) → List ℕ → Option (List ℕ) → Option (List ℕ) → FileOutcome → Type 0
+IsUnread Holds name before after Unreadable = (¬ (name ≡ input_name)) × Holds name None × (after ≡ before)
+IsUnread Holds name before after (Refused r) = RefusesName name before after r
+IsUnread Holds name before after (Printed text) = ⊥
+IsUnread Holds name before after (Mistaken text) = ⊥
+
+-- what stands under names, what is asked, a name, what the input held before and holds after, and the outcome
+abbrev pub IsOutcome :
+    (List ℕ → Option (List ℕ) → Type 0) → PlanQuestion → List ℕ → Option (List ℕ) → Option (List ℕ) → FileOutcome
+    → Type 0
+IsOutcome Holds asked name before after outcome =
+    ((bytes : List ℕ) × IsReadAs Holds name before after bytes × Answers asked bytes outcome)
+    ⊎ IsUnread Holds name before after outcome
+
+-- ---- all files
+
+-- the outcomes of files, one after another
+abbrev pub AreOutcomes :
+    (List ℕ → Option (List ℕ) → Type 0) → PlanQuestion → List (List ℕ) → Option (List ℕ) → Option (List ℕ)
+    → List FileOutcome → Type 0
+AreOutcomes Holds asked [] before after [] = after ≡ before
+AreOutcomes Holds asked [] before after (outcome ∷ outcomes) = ⊥
+AreOutcomes Holds asked (name ∷ names) before after [] = ⊥
+AreOutcomes Holds asked (name ∷ names) before after (outcome ∷ outcomes) =
+    (between : Option (List ℕ)) × IsOutcome Holds asked name before between outcome
+    × AreOutcomes Holds asked names between after outcomes
+
+-- the line that stands before what is said of a file, where there are several
+abbrev pub name_line : Bool → List ℕ → List ℕ
+name_line true name = codes "file " ++ name ++ 10 ∷ []
+name_line false name = []
+
+-- the line of a file that can't be read
+abbrev pub unreadable_line : List ℕ → List ℕ
+unreadable_line name = codes "sja: can't read " ++ name ++ 10 ∷ []
+
+-- what is on the output of a file
+abbrev pub printed_of : Bool → List ℕ → FileOutcome → List ℕ
+printed_of several name (Printed text) = name_line several name ++ text.items
+printed_of several name (Mistaken text) = []
+printed_of several name (Refused r) = []
+printed_of several name Unreadable = []
+
+-- and what is on the error output: of a file that can't be read a line with its name
+abbrev pub refused_of : Bool → List ℕ → FileOutcome → List ℕ
+refused_of several name (Printed text) = []
+refused_of several name (Mistaken text) = name_line several name ++ text.items
+refused_of several name (Refused r) = name_line several name ++ refusal_line r
+refused_of several name Unreadable = unreadable_line name
+
+-- such a text of each file, one after another
+abbrev pub of_each : (List ℕ → FileOutcome → List ℕ) → List (List ℕ) → List FileOutcome → List ℕ
+of_each text [] outcomes = []
+of_each text (name ∷ names) [] = []
+of_each text (name ∷ names) (outcome ∷ outcomes) = text name outcome ++ of_each text names outcomes
+
+-- a file is answered
+abbrev pub is_printed : FileOutcome → Bool
+is_printed (Printed text) = true
+is_printed (Mistaken text) = false
+is_printed (Refused r) = false
+is_printed Unreadable = false
+
+-- 0 where all are answered, else 1
+abbrev pub status_of : List FileOutcome → ℕ
+status_of outcomes = if list_all is_printed outcomes then 0 else 1
+
+-- What stands under names, what is asked of which files, the exit status, and what the input, the output and the error
+-- output held before and hold after. Memory may be refused before the first file.
+abbrev pub ShowsFiles :
+    (List ℕ → Option (List ℕ) → Type 0) → PlanQuestion → List (List ℕ) → ℕ → Option (List ℕ) → Option (List ℕ)
+    → Option (List ℕ) → Option (List ℕ) → Option (List ℕ) → Option (List ℕ) → Type 0
+ShowsFiles Holds asked names status in_old in_new out_old out_new err_old err_new =
+    ((outcomes : List FileOutcome) × AreOutcomes Holds asked names in_old in_new outcomes
+    × (status ≡ status_of outcomes)
+    × Appends out_old out_new (of_each (printed_of (nat_lt 1 (length names))) names outcomes)
+    × Appends err_old err_new (of_each (refused_of (nat_lt 1 (length names))) names outcomes))
+    ⊎ ((status ≡ 1) × (in_new ≡ in_old) × Keeps out_old out_new
+    × Appends err_old err_new (refusal_line refusal.OutOfMemory))

@@ -1,0 +1,13 @@
+-- A plan that was read, and then run.
+use Rattle.std.specs.Prelude.{Bool}
+use Rattle.sja_plan.specs.Plan.{PlanValue}
+use Rattle.sja_texts.specs.declared.command_refusal.CommandRefusal.{CommandRefusal}
+use Rattle.sja_texts.specs.declared.command_refusal.CommandRefusal.TheVariants as refusal
+use Rattle.sja_run.specs.RunText.{MayFault}
+
+-- why there is no text of a run of this plan, in threads (`true`) or in one: memory was refused, or the run had this
+-- fault
+abbrev pub RefusesRunOf : Bool → PlanValue → CommandRefusal → Type 0
+RefusesRunOf threads plan refusal.OutOfMemory = Unit {0}
+RefusesRunOf threads plan (refusal.Run fault) = MayFault threads plan fault
+RefusesRunOf threads plan other = ⊥

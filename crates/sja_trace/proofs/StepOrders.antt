@@ -1,0 +1,113 @@
+-- Which of the steps that a driver did stand before a bit, by their order.
+use Rattle.std.proofs.Common.{◌≡◌, ℕ, ◌+◌, ◌<◌, ◌≤◌, zero, suc, false, List, [], ◌∷◌, ◌++◌}
+use Rattle.std.proofs.Common.{length, drop, get_or, refl, sym, ap, ◌∙◌, subst, arith, append-nil}
+use Rattle.std.proofs.lemmas.Bool.{ne_eqb}
+use Rattle.std.proofs.Math.ListN.{drop_of_length-le}
+use Rattle.sja_script.specs.declared.done.Done.{Done}
+use Rattle.sja_script.specs.declared.step.Step.{Step}
+use Rattle.sja_trace.specs.TraceText.{is_due, line_where, step_line, steps_due}
+use Rattle.sja_trace.specs.Inside.StepOrder.{Ascends, ArePast}
+use Rattle.sja_trace.proofs.Lines.{rest_is}
+
+-- ---- those before a place
+
+-- of later bits too
+pub past_later : (few many place : ℕ) (done : List Done) → few ≤ many → ArePast few place done →
+    ArePast many place done
+past_later few many zero done most past = tt
+past_later few many (suc place) [] most past = tt
+past_later few many (suc place) (d ∷ done) most past =
+    let less = past.0 in (omega (arith, most, less), past_later few many place done most past.1)
+
+-- one more
+past_one : (bits place : ℕ) (done : List Done) (d : Done) → place < length done → d ≡ get_or done place d →
+    d.bits < bits → ArePast bits place done → ArePast bits (suc place) done
+past_one bits place [] d less is few past = absurd (omega (arith, less))
+past_one bits zero (x ∷ done) d less is few past =
+    let P : Done → Type 0 = λ y. y.bits < bits in (subst P is few, tt)
+past_one bits (suc place) (x ∷ done) d less is few past =
+    (past.0, past_one bits place done d (omega (arith, less)) is few past.1)
+
+pub past_more : (bits place : ℕ) (done : List Done) (d : Done) → place < length done → d ≡ get_or done place d →
+    d.bits < bits → ArePast bits place done → ArePast bits (place + 1) done
+past_more bits place done d less is few past =
+    let one : suc place ≡ place + 1 = omega arith in
+    let P : ℕ → Type 0 = λ p. ArePast bits p done in subst P one (past_one bits place done d less is few past)
+
+-- none of them stands before the bit
+none_left : (bit node n : ℕ) (steps : List Step) → steps_due false bit node n steps [] ≡ []
+none_left bit node n [] = refl
+none_left bit node n (s ∷ steps) = refl
+
+not_due : (bit before : ℕ) (text : List ℕ) → (before ≡ bit → ⊥) → line_where (is_due false bit before) text ≡ []
+not_due bit before text other = ap (λ b. line_where b text) (ne_eqb before bit other)
+
+pub past_none : (bit node place n : ℕ) (steps : List Step) (done : List Done) → ArePast bit place done →
+    steps_due false bit node n steps done ≡ steps_due false bit node (place + n) (drop place steps) (drop place done)
+past_none bit node zero n steps done past =
+    let none : n ≡ zero + n = omega arith in ap (λ m. steps_due false bit node m steps done) none
+past_none bit node (suc place) n [] done past = refl
+past_none bit node (suc place) n (s ∷ steps) [] past =
+    sym (none_left bit node (suc place + n) (drop place steps))
+past_none bit node (suc place) n (s ∷ steps) (d ∷ done) past =
+    let less = past.0 in
+    let one : place + (n + 1) ≡ suc place + n = omega arith in
+    ap (λ t. t ++ steps_due false bit node (n + 1) steps done)
+    (not_due bit d.bits (step_line node n s d) (λ same. absurd (omega (arith, less, same))))
+    ∙ past_none bit node place (n + 1) steps done past.1
+    ∙ ap (λ m. steps_due false bit node m (drop place steps) (drop place done)) one
+
+-- ---- those from a place on
+
+-- they ascend
+pub ascends_at : (least place : ℕ) (done : List Done) (d : Done) → place < length done → d ≡ get_or done place d →
+    Ascends least done → Ascends d.bits (drop place done)
+ascends_at least place [] d less is ascends = absurd (omega (arith, less))
+ascends_at least zero (x ∷ done) d less is ascends =
+    let same = ap (λ (y : Done). y.bits) is in (omega (arith, same), ascends.1)
+ascends_at least (suc place) (x ∷ done) d less is ascends =
+    ascends_at x.bits place done d (omega (arith, less)) is ascends.1
+
+-- none of them stands before a bit that is before the first one
+none_ascends : (bit node n least : ℕ) (steps : List Step) (done : List Done) → bit < least → Ascends least done →
+    steps_due false bit node n steps done ≡ []
+none_ascends bit node n least [] done early ascends = refl
+none_ascends bit node n least (s ∷ steps) [] early ascends = refl
+none_ascends bit node n least (s ∷ steps) (d ∷ done) early ascends =
+    let most = ascends.0 in
+    ap (λ t. t ++ steps_due false bit node (n + 1) steps done)
+    (not_due bit d.bits (step_line node n s d) (λ same. absurd (omega (arith, early, most, same))))
+    ∙ none_ascends bit node (n + 1) d.bits steps done (omega (arith, early, most)) ascends.1
+
+-- ---- the loops
+
+-- the text of those that aren't past is the whole
+pub put_first : (bit node place : ℕ) (steps : List Step) (done : List Done) (old : List ℕ) → ArePast bit place done →
+    old ++ steps_due false bit node (place + 1) (drop place steps) (drop place done)
+    ≡ old ++ steps_due false bit node 1 steps done
+put_first bit node place steps done old past =
+    ap (λ t. old ++ t) (sym (past_none bit node place 1 steps done past))
+
+-- the step at hand has more bits before it than the bit, and so have those after it
+pub put_early : (bit node place : ℕ) (steps : List Step) (done : List Done) (d : Done) (text whole : List ℕ) →
+    place < length done → d ≡ get_or done place d → bit < d.bits → Ascends 0 done →
+    text ++ steps_due false bit node (place + 1) (drop place steps) (drop place done) ≡ whole → text ≡ whole
+put_early bit node place steps done d text whole less is early ascends so_far =
+    sym (append-nil text)
+    ∙ ap (λ t. text ++ t)
+    (sym (none_ascends bit node (place + 1) d.bits (drop place steps) (drop place done) early
+    (ascends_at 0 place done d less is ascends)))
+    ∙ so_far
+
+-- whether they ascend
+pub order_more : (least i : ℕ) (done : List Done) (d : Done) → i < length done → d ≡ get_or done i d →
+    least ≤ d.bits → (Ascends least (drop i done) → Ascends 0 done) → Ascends d.bits (drop (i + 1) done) →
+    Ascends 0 done
+order_more least i done d less is most so_far ascends =
+    let P : List Done → Type 0 = λ l. Ascends least l in
+    so_far (subst P (sym (rest_is done i d less is)) (most, ascends))
+
+pub order_all : (least i : ℕ) (done : List Done) → length done ≤ i →
+    (Ascends least (drop i done) → Ascends 0 done) → Ascends 0 done
+order_all least i done past so_far =
+    let P : List Done → Type 0 = λ l. Ascends least l in so_far (subst P (sym (drop_of_length-le done past)) tt)

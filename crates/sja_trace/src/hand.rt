@@ -1,0 +1,70 @@
+//! The bit at hand of a node, in short where it told nothing.
+
+ghost use Rattle.std.specs.Prelude.{◌≡◌, [], true};
+ghost use Rattle.sja_trace.specs.BitEvents.{all_said};
+ghost use Rattle.sja_trace.specs.Inside.Hands.{counters_of, driven_of, view_of, happening_of};
+
+use super::counters::{counters_after, have_same};
+use super::has_event::{acknowledges, is_same};
+use super::tellers::driven_in;
+use can_bits::Level;
+use can_node::{BitEvents, Counters};
+use sja_replay::{Happening, ShortBit, View};
+
+/// The error counters as the bit left them; both 0 where there is none.
+pub(crate) fn counters_of(short: &Option<ShortBit>, bit: &Option<Happening>) -> Counters
+    ensures { result ≡ counters_of short.now bit.now }
+{
+    match short {
+        Some(short) => short.counters,
+        None => counters_after(bit),
+    }
+}
+
+/// The level that the node drove in it; recessive where there is none.
+pub(crate) fn driven_of(short: &Option<ShortBit>, bit: &Option<Happening>) -> Level
+    ensures { result ≡ driven_of short.now bit.now }
+{
+    match short {
+        Some(short) => short.driven,
+        None => driven_in(bit),
+    }
+}
+
+/// What the node showed before the bit, but for a request, and after it too.
+fn view_of(bit: &ShortBit) -> View
+    ensures { result ≡ view_of bit.now }
+{
+    View {
+        phase: bit.phase,
+        segment: bit.segment,
+        transmits: bit.transmits,
+        counters: bit.counters,
+        held: None,
+        flag: bit.flag,
+    }
+}
+
+/// A happening of which as much is said as of the bit.
+pub(crate) fn happening_of(bit: &ShortBit) -> Happening
+    ensures { result ≡ happening_of bit.now }
+{
+    Happening {
+        bit: 0,
+        driven: bit.driven,
+        seen: bit.seen,
+        aborted: false,
+        before: view_of(bit),
+        events: BitEvents {
+            received: None,
+            ended: None,
+            lost: None,
+            fault: None,
+            receiving: !bit.transmits,
+            went_off: false,
+            recovered: false,
+        },
+        after: view_of(bit),
+        fate: None,
+    }
+}

@@ -1,0 +1,58 @@
+//! What the words of `run`, `check` and `trace` ask for.
+
+ghost use Rattle.std.specs.Prelude.{◌≡◌, IfOk, map, option_map};
+ghost use Rattle.clap.specs.Words.{found_of, rows_of};
+ghost use Rattle.sja_words.specs.Words.{plan_in, request_about, request_of};
+
+use super::file_words::FileWords;
+use super::found::texts_at;
+use super::plan_question::PlanQuestion;
+use super::sweep_found::jobs_at;
+use super::task::Task;
+use clap::ArgMatches;
+use std::alloc::{AllocError, Global};
+
+/// The question of the plans in the files that are named, in order; of the plan on the input where none is named.
+/// Nothing where `--jobs` is no number from 1 to 64.
+///
+/// Error: [`AllocError`] where memory was refused.
+pub(crate) fn plan_task<'a>(
+    alloc: Global,
+    question: PlanQuestion,
+    arguments: &ArgMatches<'a>,
+) -> Result<Option<Task<'a>>, AllocError>
+    ensures { IfOk result (λ task. option_map request_of task
+        ≡ plan_in question (rows_of (found_of arguments.now))) }
+{
+    let Some(names) = texts_at(arguments, "FILE") else {
+        return Ok(Some(task_about(question)));
+    };
+    match jobs_at(arguments) {
+        Some(jobs) => Ok(Some(Task::Files(FileWords {
+            question,
+            jobs,
+            names: names_of(alloc, names)?,
+        }))),
+        None => Ok(None),
+    }
+}
+
+/// The question of the plan on the input.
+fn task_about<'a>(question: PlanQuestion) -> Task<'a>
+    ensures { request_of result ≡ request_about question }
+{
+    match question {
+        PlanQuestion::Report { threads } => Task::Run { threads },
+        PlanQuestion::Check => Task::Check,
+        PlanQuestion::Trace { threads } => Task::Trace { threads },
+    }
+}
+
+/// The names, in order.
+fn names_of<'a>(alloc: Global, names: &[&'a str]) -> Result<Vec<&'a str>, AllocError>
+    ensures { IfOk result (λ held. map (λ name. name.now) held.items ≡ map (λ name. name.now) names.now) }
+{
+    let mut held = Vec::new(alloc);
+    held.extend_from_slice(names)?;
+    Ok(held)
+}

@@ -1,0 +1,2 @@
+-- ---- the plans that stand in place of files
+pub mod Shelf
