@@ -1,5 +1,6 @@
 -- What each function of C answers of a session that lies at a handle, and what it makes of that (this project's own
--- rule): it is done as a call of `crates/sja_calls` is, or it isn't, and then the session is as it was.
+-- rule): it is done as a call of `crates/sja_calls` is, or it isn't, and then the session is as it was, but that a
+-- report has ended it.
 use denote.RawPtr.{Ptr, null_ptr}
 use Rattle.std.specs.Prelude.{◌≡◌, ◌≢◌, ◌⊎◌, ◌≤◌, ◌==◌, ℕ, Option, List}
 use Rattle.sja_c.specs.Answers.{Answers, answer, refusal}
@@ -59,7 +60,7 @@ abbrev pub AnswersNow : Held → Held → SjaAnswer → Type 0
 AnswersNow was now r =
     Answers (λ number. IsNowOf was.state number) (λ fault. IsRefusal was.state IsNowFault fault) r × (now ≡ was)
 
--- the session has let go of all that it had in memory, but for its own block
+-- there is no session any more, as after `sja_make`
 abbrev pub AnswersLetGo : Held → SjaAnswer → Type 0
 AnswersLetGo now r = (r ≡ answer 0 0) × (now.state ≡ Lost)
 

@@ -19,7 +19,8 @@ use Rattle.sja_session.specs.Watching.{Watches}
 
 -- ---- where it stands
 
--- a turn of the bus has a bit at least, and seven digits spell the number of a node
+-- a turn of the bus has a bit at least, and seven digits spell the number of a node; that they spell the other numbers
+-- follows from the limits of a plan
 abbrev pub IsSpelledTurn : Turn → Type 0
 IsSpelledTurn (Bus bits) = 1 ≤ bits
 IsSpelledTurn Rest = Unit {0}

@@ -12,7 +12,7 @@ use Rattle.sja_plan.specs.Words.{Text, words, SpellsWithin}
 abbrev pub IsLiveLine : List Text → Text → Text → Text → Type 0
 IsLiveLine ws v b n = ws ≡ codes "live" ∷ v ∷ b ∷ n ∷ []
 
--- a word spells none of the versions, none of the numbers of bits of this version, and none of the numbers of nodes
+-- a word spells a version, a number of bits that this version has, and a number of nodes
 abbrev pub SpellsVersion : Text → ℕ → Type 0
 SpellsVersion v version = SpellsWithin 1 3 v version
 

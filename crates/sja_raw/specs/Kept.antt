@@ -8,7 +8,8 @@ use Rattle.sja_raw.specs.declared.kept_bytes.KeptBytes.{KeptBytes}
 use Rattle.sja_raw.specs.ClockDivider.{divider_after}
 use Rattle.sja_raw.specs.StartAddress.{start_written, start_after}
 
--- after power-on: RBSA is 0 (6.4.2, reset values), and CDR.7 is 1. That the others are 0 is this project's own rule
+-- after power-on: RBSA is 0 (6.4.2, reset values). That CDR.7 is 1, since the mode is always PeliCAN, and that all else
+-- is 0, is this project's own rule
 abbrev pub at_power_on : KeptBytes
 at_power_on = record { btr0 = 0; btr1 = 0; ocr = 0; rbsa = 0; cdr = 128 }
 

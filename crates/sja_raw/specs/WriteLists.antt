@@ -13,7 +13,8 @@ listed (Some step) = step ∷ []
 abbrev pub steps_in : WriteSteps → List Step
 steps_in w = listed w.first ++ (listed w.second ++ listed w.third)
 
--- a step that never waits
+-- a step that waits for no message, for no end of a request and for no line: it is tried again only where a link gives
+-- its item back
 abbrev pub IsPrompt : Step → Type 0
 IsPrompt (Await count) = ⊥
 IsPrompt Sent = ⊥
@@ -24,6 +25,6 @@ abbrev pub IsPromptIf : Option Step → Type 0
 IsPromptIf None = Unit {0}
 IsPromptIf (Some step) = IsPrompt step
 
--- none of these steps waits
+-- each of these steps is one
 abbrev pub ArePrompt : WriteSteps → Type 0
 ArePrompt w = IsPromptIf w.first × IsPromptIf w.second × IsPromptIf w.third

@@ -13,3 +13,4 @@ pub mod RestRun
 pub mod Finished
 pub mod LastAnswer
 pub mod Struck
+pub mod Blank

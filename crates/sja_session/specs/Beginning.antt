@@ -1,6 +1,9 @@
 -- How a session begins (this project's own rule).
-use Rattle.std.specs.Prelude.{◌≤◌, ◌<◌, ◌⊎◌, ℕ}
+use Rattle.std.specs.Prelude.{◌≤◌, ◌<◌, ◌⊎◌, ℕ, [], length, replicate}
+use Rattle.sja_plan.specs.Growing.{plan_of}
 use Rattle.sja_plan.specs.Limits.{most_bits, most_steps, most_turns}
+use Rattle.sja_plan.specs.Plan.{PlanValue}
+use Rattle.sja_script.specs.declared.step.Step.TheVariants.{Window}
 use Rattle.sja_session.specs.declared.session_fault.SessionFault.{SessionFault}
 use Rattle.sja_session.specs.declared.session_fault.SessionFault.TheVariants.{Version, Bits, NodeCount, Memory}
 use Rattle.sja_session.specs.declared.session_fault.SessionFault.TheVariants.{StepRoom, TurnRoom}
@@ -23,7 +26,7 @@ IsNodeCount nodes = (1 ≤ nodes) × (nodes ≤ 8)
 abbrev pub IsRoom : ℕ → SessionRoom → Type 0
 IsRoom version room = (room.steps ≤ most_steps version) × (room.turns ≤ most_turns version)
 
--- and these aren't
+-- a number isn't one from 1 to the most
 abbrev pub IsOutside : ℕ → ℕ → Type 0
 IsOutside most n = (n < 1) ⊎ (most < n)
 
@@ -40,3 +43,17 @@ IsSessionFault version bits nodes room StepRoom = MayBegin version bits nodes ×
 IsSessionFault version bits nodes room TurnRoom =
     MayBegin version bits nodes × (room.steps ≤ most_steps version) × (most_turns version < room.turns)
 IsSessionFault version bits nodes room Memory = MayBegin version bits nodes × IsRoom version room
+
+-- why there is no session of a plan of this version: the first of these that isn't within the limits, or that memory
+-- was refused
+abbrev pub LacksRoom : ℕ → SessionRoom → SessionFault → Type 0
+LacksRoom version room StepRoom = most_steps version < room.steps
+LacksRoom version room TurnRoom = (room.steps ≤ most_steps version) × (most_turns version < room.turns)
+LacksRoom version room Memory = IsRoom version room
+LacksRoom version room Version = ⊥
+LacksRoom version room Bits = ⊥
+LacksRoom version room NodeCount = ⊥
+
+-- a plan of the same version, bits, nodes and strikes as another, whose drivers look at the window so many times
+abbrev pub blank_like : PlanValue → ℕ → PlanValue
+blank_like p steps = plan_of p.version p.bits (replicate (length p.nodes) (replicate steps Window)) [] p.strikes

@@ -53,8 +53,9 @@ abbrev pub AreNamed : ℕ → List Turn → Type 0
 AreNamed nodes [] = Unit {0}
 AreNamed nodes (t ∷ turns) = NamesNode nodes t × AreNamed nodes turns
 
--- what holds of every session: it stands at some deeds, its bits, the places of each node and its turns are within the
--- limits of a plan, and there is room for one turn more, each of a node that is there
+-- what holds of every session: it stands at some deeds, its bits and the places of each node are within the limits of
+-- a plan of any version and its turns within those of its own, and there is room for one turn more, each of a node that
+-- is there
 pub record IsSession (s : SessionValue) (capacity : ℕ) : Type 0 where
   pub deeds : List (List Deed)
   pub at : IsAt s deeds

@@ -1,7 +1,7 @@
 //! Whether a session may begin.
 
 ghost use Rattle.std.specs.Prelude.{◌≡◌, ◌≢◌, OnOk, IfErr};
-ghost use Rattle.sja_session.specs.Beginning.{MayBegin, IsRoom, IsSessionFault};
+ghost use Rattle.sja_session.specs.Beginning.{MayBegin, IsRoom, IsSessionFault, LacksRoom};
 ghost use Rattle.sja_session.specs.declared.session_fault.SessionFault.TheVariants.{Memory};
 
 use super::session_fault::SessionFault;
@@ -35,6 +35,22 @@ pub(crate) fn check(
     if nodes < 1 || nodes > MOST_NODES {
         return Err(SessionFault::NodeCount);
     }
+    if room.steps as usize > most_steps(version) {
+        return Err(SessionFault::StepRoom);
+    }
+    if room.turns as usize > most_turns(version) {
+        return Err(SessionFault::TurnRoom);
+    }
+    Ok(())
+}
+
+/// Whether a session of a plan of this version may have so much room.
+///
+/// Errors: as [`Session::of_plan`](super::session::Session::of_plan) tells them, but for refused memory.
+pub(crate) fn check_room(version: u8, room: SessionRoom) -> Result<(), SessionFault>
+    ensures ok { OnOk result (IsRoom version room) }
+    ensures err { IfErr result (LacksRoom version room) }
+{
     if room.steps as usize > most_steps(version) {
         return Err(SessionFault::StepRoom);
     }

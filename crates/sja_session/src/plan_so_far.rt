@@ -92,7 +92,7 @@ fn copied_turns(alloc: Global, turns: &[Turn]) -> Result<Vec<Turn>, OutOfMemory>
 /// The same strikes.
 ///
 /// Error: [`OutOfMemory`] where memory was refused.
-fn copied_strikes(alloc: Global, strikes: &[Strike]) -> Result<Vec<Strike>, OutOfMemory>
+pub(crate) fn copied_strikes(alloc: Global, strikes: &[Strike]) -> Result<Vec<Strike>, OutOfMemory>
     ensures { IfOk result (λ list. list.items ≡ strikes.now) }
 {
     let mut list = Vec::with_capacity(alloc, strikes.len())?;

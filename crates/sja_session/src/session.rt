@@ -4,6 +4,7 @@ use super::beginning::check;
 use super::session_fault::SessionFault;
 use super::session_room::SessionRoom;
 use sja_plan::{Plan, Turn};
+use sja_script::Strike;
 use sja_serial::SerialRun;
 use std::alloc::Global;
 use std::marker::Model;
@@ -37,6 +38,7 @@ impl Session {
     ghost use Rattle.sja_bus.specs.Buses.{new_bus};
     ghost use Rattle.sja_plan.specs.Growing.{plan_of};
     ghost use Rattle.sja_plan.specs.Limits.{most_steps};
+    ghost use Rattle.sja_plan.specs.Plan.{IsInLimits};
     ghost use Rattle.sja_session.specs.Beginning.{MayBegin, IsRoom, IsSessionFault, most_room};
     ghost use Rattle.sja_session.specs.Sessions.{IsAt, written};
     ghost use Rattle.sja_session.specs.Stepping.{steps_done_of};
@@ -118,6 +120,28 @@ impl Session {
         ensures few { result ≤ 8 }
     {
         self.plan.nodes()
+    }
+
+    /// How many bits the session has.
+    pub fn most_bits(&self) -> u32
+        ensures { result ≡ self.now.plan.bits }
+    {
+        self.plan.bits()
+    }
+
+    /// The strikes of its bits.
+    pub fn strikes(&self) -> &[Strike]
+        ensures { result.now ≡ self.now.plan.strikes }
+    {
+        self.plan.strikes()
+    }
+
+    /// Its bits, nodes and strikes are within the limits of a plan. It does nothing: a caller who needs a limit calls
+    /// it for its contract.
+    pub fn limits(&self)
+        ensures { IsInLimits self.now.plan }
+    {
+        self.plan.limits();
     }
 
     /// How many steps of a node are done.

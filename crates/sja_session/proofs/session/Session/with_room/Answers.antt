@@ -13,6 +13,7 @@ use Rattle.sja_serial.specs.Ending.{progress}
 use Rattle.sja_serial.specs.Serial.{StandsAt}
 use Rattle.sja_session.specs.Sessions.{session_of, Took, start_of, IsAt, AreNamed, written}
 use Rattle.sja_session.specs.Writing.{done_counts, fronts}
+use Rattle.sja_session.proofs.Blank.{counts_blank, each_blank}
 use Rattle.sja_session.proofs.Taken.{took_none, no_lengths}
 use Rattle.sja_session.proofs.Written.{counts_are, no_fronts}
 use Rattle.sja_session.proofs.session.Session.with_room.Goals.{In_ok-turns}
@@ -39,17 +40,6 @@ at_first c = record {
       (took_none c.args.nodes c.in_ok-run.run' (c.in_ok-run.ensures.stands.bits
       ∙ ap (λ (b : BusValue). b.run) c.in_ok-run.ensures.bus)));
 }
-
--- each node has so many places
-counts_blank : (nodes steps : ℕ) →
-    map (λ (l : List Step). length l) (replicate nodes (replicate steps Window)) ≡ replicate nodes steps
-counts_blank zero steps = refl
-counts_blank (suc nodes) steps = λ i. length-replicate steps Window i ∷ counts_blank nodes steps i
-
-each_blank : (nodes k : ℕ) (steps : List Step) → k < nodes → slice_index_or (replicate nodes steps) k [] ≡ steps
-each_blank zero k steps less = absurd (omega (arith, less))
-each_blank (suc nodes) zero steps less = refl
-each_blank (suc nodes) (suc k) steps less = each_blank nodes k steps (omega (arith, less))
 
 places_first : (c : In_ok-turns) (node : ℕ) → node < length c.in_ok-plan.plan.nodes →
     length (steps_at c.in_ok-plan.plan node) ≡ c.args.room.steps

@@ -1,0 +1,121 @@
+-- How a session takes the turns of a plan.
+use Rattle.std.proofs.Common.{◌≡◌, ℕ, zero, suc, ◌+◌, ◌<◌, ◌≤◌, Bool, true, false, List, [], ◌∷◌, length, refl, sym}
+use Rattle.std.proofs.Common.{ap, ◌∙◌, ◌≢◌, drop, subst, All, arith, inl, inr}
+use Rattle.std.proofs.lemmas.List.{drop_all, drop_more}
+use Rattle.std.proofs.lemmas.Option.{slice_get-get_or, slice_get_past}
+use Rattle.std.specs.Prelude.{◌⊎◌, ◌==◌, ◌-◌, Some, None, reverse, slice_get, slice_index_or}
+use Rattle.sja_driver.specs.Deeds.{Deed}
+use Rattle.sja_log.specs.declared.end.End.{End}
+use Rattle.sja_log.specs.declared.end.End.TheVariants.{Turns as TurnsDone, Bits as BitsSpent}
+use Rattle.sja_plan.specs.Plan.{PlanValue}
+use Rattle.sja_plan.specs.declared.turn.Turn.{Turn}
+use Rattle.sja_plan.specs.declared.turn.Turn.TheVariants.{Bus, Rest, Node}
+use Rattle.sja_script.specs.declared.step.Step.{Step}
+use Rattle.sja_script.specs.declared.step_answer.StepAnswer.{StepAnswer}
+use Rattle.sja_session.specs.Sessions.{IsAt}
+use Rattle.sja_session.specs.declared.session_room.SessionRoom.{SessionRoom}
+use Rattle.sja_session.specs.declared.step_fault.StepFault.{StepFault}
+use Rattle.sja_session.specs.declared.step_fault.StepFault.TheVariants.{NoNode, StepsUsed, TurnsUsed}
+use Rattle.sja_session.specs.Turning.{goes_on_latest, with_turn}
+use Rattle.sja_session.proofs.QuietBits.{nodes_same}
+use Rattle.sja_session.proofs.Turned.{few_turns, latest_of}
+use Rattle.sja_plan_session.specs.Accessing.{DoesStep, HasTurn, IsStepFault, LacksTurn, MayStep, WaitsFor}
+use Rattle.sja_plan_session.specs.Inside.Following.{Follows, DoesTurn, LeadsOn}
+use Rattle.sja_plan_session.specs.PlanSessions.{PlanSessionValue, done_of, node_count}
+use Rattle.sja_plan_session.specs.RawRuns.{DoesSteps, DoesTurns, next_step}
+use Rattle.sja_plan_session.specs.RawRuns.DoesSteps.{all, over, waits, more}
+use Rattle.sja_plan_session.specs.RawRuns.DoesTurns.{all_done, bus, bus_spent, rest, rest_spent, node}
+use Rattle.sja_plan_session.specs.Running.{Runs, RunsToRest, WritesBits, with_bits}
+use Rattle.sja_plan_session.proofs.Bits.{BitsLed, runs_led, rests_led, bits_led, nodes_led, few_bits}
+use Rattle.sja_plan_session.proofs.Fewer.{on_itself}
+use Rattle.sja_plan_session.proofs.Typed.{chain_of, led_by}
+
+-- ---- a turn and those after it
+
+pub turn_goes : {plan : PlanValue} {was mid now : PlanSessionValue} {deeds between after : List (List Deed)}
+    {turns : List Turn} {end : End} (turn : Turn) → DoesTurn plan was deeds turn true mid between →
+    DoesTurns plan mid between turns now after end → DoesTurns plan was deeds (turn ∷ turns) now after end
+turn_goes {plan} {was} {mid} {now} {deeds} {between} {after} {turns} {end} (Bus n) d h =
+    bus d.0 d.1 (subst (λ l. DoesTurns plan mid l turns now after end) d.2 h)
+turn_goes {plan} {was} {mid} {now} {deeds} {between} {after} {turns} {end} Rest d h =
+    rest d.0.1 (subst (λ l. DoesTurns plan mid l turns now after end) d.1 h)
+turn_goes (Node k n) d h = node d h
+
+pub turn_ends : {plan : PlanValue} {was now : PlanSessionValue} {deeds after : List (List Deed)} {turns : List Turn}
+    (turn : Turn) → DoesTurn plan was deeds turn false now after →
+    DoesTurns plan was deeds (turn ∷ turns) now after BitsSpent
+turn_ends {plan} {was} {now} {deeds} {after} {turns} (Bus n) d =
+    subst (λ l. DoesTurns plan was deeds (Bus n ∷ turns) now l BitsSpent) (sym d.2) (bus_spent d.0 d.1.1)
+turn_ends {plan} {was} {now} {deeds} {after} {turns} Rest d =
+    subst (λ l. DoesTurns plan was deeds (Rest ∷ turns) now l BitsSpent) (sym d.1) (rest_spent d.0.1)
+turn_ends (Node k n) d = absurd d
+
+-- ---- the turns of a plan
+
+-- so many turns were taken whole; what the turns that are left do is, with them before it, what all of them do
+pub record HasTaken (plan : PlanValue) (count : ℕ) (was now : PlanSessionValue) : Type 0 where
+  pub follows : Follows plan now
+  pub room : now.room ≡ was.room
+  pub turns : length now.turns ≤ count
+  pub led : (deeds : List (List Deed)) → IsAt was.raw.session deeds →
+      (between : List (List Deed)) × IsAt now.raw.session between
+      × ((last : PlanSessionValue) (after : List (List Deed)) (end : End) →
+      DoesTurns plan now between (drop count plan.turns) last after end →
+      DoesTurns plan was deeds plan.turns last after end)
+
+pub taken_none : (plan : PlanValue) (s : PlanSessionValue) → Follows plan s → length s.turns ≡ 0 →
+    HasTaken plan 0 s s
+taken_none plan s follows none = record {
+  follows = follows;
+  room = refl;
+  turns = omega (arith, none);
+  led = λ deeds at. (deeds, at, λ last after end h. h);
+}
+
+pub taken_one : (plan : PlanValue) (count : ℕ) (was mid now : PlanSessionValue) (turn d : Turn) →
+    count < length plan.turns → slice_index_or plan.turns count d ≡ turn → HasTaken plan count was mid →
+    Follows plan now → now.room ≡ mid.room → length now.turns ≤ length mid.turns + 1 →
+    LeadsOn plan mid turn true now → HasTaken plan (count + 1) was now
+taken_one plan count was mid now turn d there is h follows room grows does = record {
+  follows = follows;
+  room = room ∙ h.room;
+  turns = let t = h.turns in omega (arith, t, grows);
+  led = λ deeds at.
+      let l = h.led deeds at in let o = does l.0 l.1 in (
+        o.0,
+        o.2,
+        λ last after end rest. l.2 last after end
+            (subst (λ (x : List Turn). DoesTurns plan mid l.0 x last after end)
+            (sym (drop_more plan.turns count d there ∙ ap (λ t. t ∷ drop (count + 1) plan.turns) is))
+            (turn_goes turn o.1 rest)),
+      );
+}
+
+-- where the run came to an end
+abbrev pub Ended : PlanValue → PlanSessionValue → PlanSessionValue → End → Type 0
+Ended plan was now end =
+    (deeds : List (List Deed)) → IsAt was.raw.session deeds → (after : List (List Deed))
+    × DoesTurns plan was deeds plan.turns now after end × IsAt now.raw.session after
+
+pub taken_all : (plan : PlanValue) (count : ℕ) (was now : PlanSessionValue) → length plan.turns ≤ count →
+    HasTaken plan count was now → Ended plan was now TurnsDone
+taken_all plan count was now whole h = λ deeds at.
+    let l = h.led deeds at in (
+      l.0,
+      l.2 now l.0 TurnsDone (subst (λ (x : List Turn). DoesTurns plan now l.0 x now l.0 TurnsDone)
+          (sym (drop_all count plan.turns whole)) all_done),
+      l.1,
+    )
+
+pub taken_spent : (plan : PlanValue) (count : ℕ) (was mid now : PlanSessionValue) (turn d : Turn) →
+    count < length plan.turns → slice_index_or plan.turns count d ≡ turn → HasTaken plan count was mid →
+    LeadsOn plan mid turn false now → Ended plan was now BitsSpent
+taken_spent plan count was mid now turn d there is h does = λ deeds at.
+    let l = h.led deeds at in let o = does l.0 l.1 in (
+      o.0,
+      l.2 now o.0 BitsSpent
+          (subst (λ (x : List Turn). DoesTurns plan mid l.0 x now o.0 BitsSpent)
+          (sym (drop_more plan.turns count d there ∙ ap (λ t. t ∷ drop (count + 1) plan.turns) is))
+          (turn_ends turn o.1)),
+      o.2,
+    )

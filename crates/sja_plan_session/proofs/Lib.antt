@@ -1,0 +1,14 @@
+pub mod Fewer
+pub mod Typed
+pub mod Within
+pub mod Bits
+pub mod OneMore
+pub mod Kept
+pub mod Stepped
+pub mod Ran
+pub mod Begun
+pub mod Logged
+pub mod NodeTurns
+pub mod BusTurns
+pub mod AllTurns
+pub mod Written

@@ -1,0 +1,2 @@
+-- The machine: what its functions promise of one another.
+pub mod Following

@@ -1,0 +1,55 @@
+//! The end of a session of version 3: its plan and its log.
+
+use super::log_with::log_with;
+use super::plan_session::PlanSession;
+use can_frame::OutOfMemory;
+use sja_log::{End, RunLog};
+use sja_plan::Plan;
+use std::alloc::Global;
+
+impl PlanSession {
+    ghost use Rattle.std.specs.Prelude.{◌≡◌, ◌<◌, ℕ, List, length, slice_index_or, IfOk};
+    ghost use Rattle.sja_driver.specs.Deeds.{Deed};
+    ghost use Rattle.sja_log.specs.Headline.{IsAccount};
+    ghost use Rattle.sja_log.specs.Log.{NodeValue};
+    ghost use Rattle.sja_log.specs.declared.end.End.TheVariants.{Turns as TurnsDone};
+    ghost use Rattle.sja_session.specs.Sessions.{IsAt};
+    ghost use Rattle.sja_plan_session.specs.Ending.{IsLogIn, IsSessionRun};
+    ghost use Rattle.sja_plan_session.specs.PlanSessions.{written};
+
+    /// The plan that the session wrote, and its log, which has the steps of that plan with their answers; its bits,
+    /// journals and activations are those of the typed steps that they are, whose run is one in one thread.
+    ///
+    /// Error: [`OutOfMemory`] where memory was refused.
+    pub fn finish(self, alloc: Global) -> Result<(Plan, RunLog), OutOfMemory>
+        ensures plan { IfOk result (λ both. both.0 ≡ written self) }
+        ensures own { IfOk result (λ both. (deeds : List (List Deed)) → IsAt self.raw.session deeds →
+            IsLogIn self deeds TurnsDone both.1) }
+        ensures run { IfOk result (λ both. IsSessionRun both.0 both.1) }
+        ensures headline { IfOk result (λ both. (k : ℕ) (d : NodeValue) → k < length both.1.nodes →
+            IsAccount (slice_index_or both.1.nodes k d)) }
+    {
+        let plan = self.plan(alloc)?;
+        Ok((plan, self.log(alloc, End::Turns)?))
+    }
+
+    /// The log of a run that ends so.
+    ///
+    /// Error: [`OutOfMemory`] where memory was refused.
+    pub(crate) fn log(self, alloc: Global, end: End) -> Result<RunLog, OutOfMemory>
+        ensures own { IfOk result (λ log. (deeds : List (List Deed)) → IsAt self.raw.session deeds →
+            IsLogIn self deeds end log) }
+        ensures headline { IfOk result (λ log. (k : ℕ) (d : NodeValue) → k < length log.nodes →
+            IsAccount (slice_index_or log.nodes k d)) }
+    {
+        let PlanSession {
+            raw,
+            room: _,
+            steps: _,
+            done,
+            turns: _,
+        } = self;
+        let (_typed, log) = raw.finish(alloc)?;
+        log_with(alloc, &log, done.as_slice(), end)
+    }
+}

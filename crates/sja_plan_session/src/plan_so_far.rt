@@ -1,0 +1,81 @@
+//! The plan that a session of version 3 wrote, as far as it has come.
+
+ghost use Rattle.std.specs.Prelude.{◌≡◌, IfOk};
+
+use super::copies::copied_step;
+use super::plan_session::PlanSession;
+use can_frame::OutOfMemory;
+use sja_plan::{Plan, Turn};
+use sja_script::{Step, Strike};
+use std::alloc::Global;
+
+impl PlanSession {
+    ghost use Rattle.std.specs.Prelude.{◌≡◌, map, IfOk};
+    ghost use Rattle.sja_plan_session.specs.PlanSessions.{written};
+
+    /// The plan so far, of version 3: the steps that were done, the turns in which they were, and the strikes.
+    ///
+    /// Error: [`OutOfMemory`] where memory was refused.
+    pub fn plan(&self, alloc: Global) -> Result<Plan, OutOfMemory>
+        ensures { IfOk result (λ p. p ≡ written self.now) }
+    {
+        let session = self.raw.session();
+        session.limits();
+        let nodes = self.copied_nodes(alloc)?;
+        let turns = copied_turns(alloc, self.turns.as_slice())?;
+        let strikes = copied_strikes(alloc, session.strikes())?;
+        Ok(Plan::of(3, session.most_bits(), nodes, turns, strikes))
+    }
+
+    /// Of each node its steps.
+    ///
+    /// Error: [`OutOfMemory`] where memory was refused.
+    fn copied_nodes(&self, alloc: Global) -> Result<Vec<Vec<Step>>, OutOfMemory>
+        ensures { IfOk result (λ nodes. map (λ steps. steps.items) nodes.items ≡ self.now.steps) }
+    {
+        let mut nodes = Vec::with_capacity(alloc, self.steps.len())?;
+        for steps in self.steps.as_slice() {
+            nodes.push_reserved(copied_steps(alloc, steps.as_slice())?);
+        }
+        Ok(nodes)
+    }
+}
+
+/// The same steps.
+///
+/// Error: [`OutOfMemory`] where memory was refused.
+fn copied_steps(alloc: Global, steps: &[Step]) -> Result<Vec<Step>, OutOfMemory>
+    ensures { IfOk result (λ list. list.items ≡ steps.now) }
+{
+    let mut list = Vec::with_capacity(alloc, steps.len())?;
+    for step in steps {
+        list.push_reserved(copied_step(step));
+    }
+    Ok(list)
+}
+
+/// The same turns.
+///
+/// Error: [`OutOfMemory`] where memory was refused.
+fn copied_turns(alloc: Global, turns: &[Turn]) -> Result<Vec<Turn>, OutOfMemory>
+    ensures { IfOk result (λ list. list.items ≡ turns.now) }
+{
+    let mut list = Vec::with_capacity(alloc, turns.len())?;
+    for turn in turns {
+        list.push_reserved(*turn);
+    }
+    Ok(list)
+}
+
+/// The same strikes.
+///
+/// Error: [`OutOfMemory`] where memory was refused.
+fn copied_strikes(alloc: Global, strikes: &[Strike]) -> Result<Vec<Strike>, OutOfMemory>
+    ensures { IfOk result (λ list. list.items ≡ strikes.now) }
+{
+    let mut list = Vec::with_capacity(alloc, strikes.len())?;
+    for strike in strikes {
+        list.push_reserved(*strike);
+    }
+    Ok(list)
+}

@@ -1,0 +1,119 @@
+//! Sessions that begin as the run of a plan does.
+
+ghost use Rattle.std.specs.Prelude.{◌≡◌, ◌≤◌, replicate, IfOk};
+ghost use Rattle.sja_plan.specs.Limits.{most_steps};
+ghost use Rattle.sja_script.specs.declared.step.Step.TheVariants.{Window};
+ghost use Rattle.sja_session.specs.Beginning.{blank_like};
+
+use super::beginning::check_room;
+use super::plan_so_far::copied_strikes;
+use super::raw_session::RawSession;
+use super::session::Session;
+use super::session_fault::SessionFault;
+use super::session_room::SessionRoom;
+use can_frame::OutOfMemory;
+use sja_plan::Plan;
+use sja_raw::KeptBytes;
+use sja_script::Step;
+use sja_serial::SerialRun;
+use std::alloc::Global;
+
+impl Session {
+    ghost use Rattle.std.specs.Prelude.{◌≡◌, [], length, replicate, IfOk, IfErr, OnOk};
+    ghost use Rattle.sja_bus.specs.Buses.{new_bus};
+    ghost use Rattle.sja_plan.specs.Growing.{plan_of};
+    ghost use Rattle.sja_session.specs.Beginning.{IsRoom, LacksRoom};
+    ghost use Rattle.sja_session.specs.Sessions.{IsAt, written};
+
+    /// A session to which nothing happened, of the version, the bits, the nodes and the strikes of a plan, with room
+    /// for so many steps of each node and so many turns. Of the plan's steps and turns none is done.
+    ///
+    /// Errors, the first that holds: [`SessionFault::StepRoom`] and [`SessionFault::TurnRoom`] where a plan of this
+    /// version can't have so many; [`SessionFault::Memory`] where memory was refused.
+    pub fn of_plan(alloc: Global, plan: &Plan, room: SessionRoom) -> Result<Session, SessionFault>
+        ensures at { IfOk result (λ s. IsAt s (replicate (length plan.now.nodes) [])) }
+        ensures bus { IfOk result (λ s. s.run.bus ≡ new_bus plan.now.strikes plan.now.bits (length plan.now.nodes)
+            (replicate (length plan.now.nodes) room.steps)) }
+        ensures plan { IfOk result (λ s. written s ≡ plan_of plan.now.version plan.now.bits
+            (replicate (length plan.now.nodes) []) [] plan.now.strikes) }
+        ensures room { IfOk result (λ s. s.room ≡ room) }
+        ensures limits { OnOk result (IsRoom plan.now.version room) }
+        ensures err { IfErr result (LacksRoom plan.now.version room) }
+    {
+        plan.limits();
+        check_room(plan.version(), room)?;
+        let blank = blank_for(alloc, plan, room.steps)?;
+        let run = SerialRun::new(alloc, &blank)?;
+        let turns = Vec::with_capacity(alloc, room.turns as usize + 1)?;
+        Ok(Session {
+            run,
+            plan: blank,
+            room,
+            turns,
+        })
+    }
+}
+
+impl RawSession {
+    ghost use Rattle.std.specs.Prelude.{◌≡◌, [], length, replicate, IfOk, IfErr, OnOk};
+    ghost use Rattle.sja_bus.specs.Buses.{new_bus};
+    ghost use Rattle.sja_plan.specs.Growing.{plan_of};
+    ghost use Rattle.sja_raw.specs.Kept.{at_power_on};
+    ghost use Rattle.sja_session.specs.Beginning.{IsRoom, LacksRoom};
+    ghost use Rattle.sja_session.specs.Sessions.{IsAt, written};
+
+    /// The same, with the kept registers as after power-on.
+    ///
+    /// Errors: those of [`Session::of_plan`].
+    pub fn of_plan(
+        alloc: Global,
+        plan: &Plan,
+        room: SessionRoom,
+    ) -> Result<RawSession, SessionFault>
+        ensures at { IfOk result (λ r. IsAt r.session (replicate (length plan.now.nodes) [])) }
+        ensures bus { IfOk result (λ r. r.session.run.bus ≡ new_bus plan.now.strikes plan.now.bits
+            (length plan.now.nodes) (replicate (length plan.now.nodes) room.steps)) }
+        ensures plan { IfOk result (λ r. written r.session ≡ plan_of plan.now.version plan.now.bits
+            (replicate (length plan.now.nodes) []) [] plan.now.strikes) }
+        ensures room { IfOk result (λ r. r.session.room ≡ room) }
+        ensures kept { IfOk result (λ r. r.kept ≡ replicate (length plan.now.nodes) at_power_on) }
+        ensures limits { OnOk result (IsRoom plan.now.version room) }
+        ensures err { IfErr result (LacksRoom plan.now.version room) }
+    {
+        let session = Session::of_plan(alloc, plan, room)?;
+        let kept = Vec::from_elem(alloc, KeptBytes::new(), plan.nodes())?;
+        Ok(RawSession { session, kept })
+    }
+}
+
+/// A plan as this one, of its version, bits, nodes and strikes, in which each node has so many steps that look at the
+/// window, with no turn: places for steps that are set later.
+///
+/// Error: [`OutOfMemory`] where memory was refused.
+fn blank_for(alloc: Global, plan: &Plan, steps: u32) -> Result<Plan, OutOfMemory>
+    requires { steps ≤ most_steps plan.now.version }
+    ensures { IfOk result (λ p. p ≡ blank_like plan.now steps) }
+{
+    plan.limits();
+    let nodes = plan.nodes();
+    let mut lists = Vec::with_capacity(alloc, nodes)?;
+    for _ in 0..nodes {
+        lists.push_reserved(blank_steps(alloc, steps)?);
+    }
+    let strikes = copied_strikes(alloc, plan.strikes())?;
+    let turns = Vec::new(alloc);
+    Ok(Plan::of(plan.version(), plan.bits(), lists, turns, strikes))
+}
+
+/// So many steps that look at the window.
+///
+/// Error: [`OutOfMemory`] where memory was refused.
+fn blank_steps(alloc: Global, steps: u32) -> Result<Vec<Step>, OutOfMemory>
+    ensures { IfOk result (λ list. list.items ≡ replicate steps Window) }
+{
+    let mut list = Vec::with_capacity(alloc, steps as usize)?;
+    for _ in 0..steps {
+        list.push_reserved(Step::Window);
+    }
+    Ok(list)
+}
