@@ -50,6 +50,8 @@ pub enum Figure {
     SessionRead,
     /// Registers of a session are written by their addresses.
     SessionWrite,
+    /// The commands of a session are written by their address.
+    SessionCommand,
     /// A session of a sender and a receiver.
     SessionStream,
     /// A session is driven line by line.
@@ -57,7 +59,7 @@ pub enum Figure {
 }
 
 /// Every figure, in the order in which `all` tells them.
-pub const FIGURES: [Figure; 22] = [
+pub const FIGURES: [Figure; 23] = [
     Figure::Shift,
     Figure::Line,
     Figure::Node,
@@ -78,6 +80,7 @@ pub const FIGURES: [Figure; 22] = [
     Figure::Tables,
     Figure::SessionRead,
     Figure::SessionWrite,
+    Figure::SessionCommand,
     Figure::SessionStream,
     Figure::Talk,
 ];
@@ -133,6 +136,7 @@ impl Figure {
             "tables" => Some(Figure::Tables),
             "session-read" => Some(Figure::SessionRead),
             "session-write" => Some(Figure::SessionWrite),
+            "session-command" => Some(Figure::SessionCommand),
             "session-stream" => Some(Figure::SessionStream),
             "talk" => Some(Figure::Talk),
             _ => None,
@@ -163,6 +167,7 @@ impl Figure {
             Figure::Tables => plans::told(alloc, count, Document::Tables),
             Figure::SessionRead => sessions::reads_told(alloc, count),
             Figure::SessionWrite => sessions::writes_told(alloc, count),
+            Figure::SessionCommand => sessions::commands_told(alloc, count),
             Figure::SessionStream => sessions::frames_told(alloc, count / 10),
             Figure::Talk => talk::told(alloc, count),
         }

@@ -10,6 +10,12 @@ const READS: u32 = 50_000;
 /// How many writes are done in one session, each of which is one step.
 const WRITES: u32 = 48_000;
 
+/// How many commands are done in one session.
+const COMMANDS: u32 = 40_000;
+
+/// What is written to CMR, one after the other: TR, TR with AT, and SRR, each with AT after it; CDO, and RRB.
+const COMMANDED: [u8; 8] = [0x01, 0x02, 0x03, 0x02, 0x10, 0x02, 0x08, 0x04];
+
 /// The bits of the longest kind of frame with intermission, and the bit in which it is asked for again.
 const BITS: u32 = 145;
 
@@ -80,6 +86,39 @@ fn write_next(session: &mut RawSession, access: u32) -> Option<()> {
             session.write(1, 16 + place as u8, *value).ok()
         }
     }
+}
+
+/// Has CMR of the second of two nodes written so many times: each of the commands in turn, and a bit after each AT.
+pub fn commands_told(alloc: Global, count: u32) -> Option<String> {
+    let mut done = 0u64;
+    for _ in 0..count / COMMANDS {
+        done = done.wrapping_add(commands_of(alloc, COMMANDS)?);
+    }
+    done = done.wrapping_add(commands_of(alloc, count % COMMANDS)?);
+    format!(in alloc; "accesses {count} done {done}").ok()
+}
+
+/// How many of so many commands were done, out of reset mode.
+fn commands_of(alloc: Global, count: u32) -> Option<u64> {
+    let mut session = RawSession::new(alloc, 3, COMMANDS, 2).ok()?;
+    session.write(1, 0, 0x00).ok()?;
+    let mut done = 0u64;
+    for access in 0..count {
+        if command_next(&mut session, access % 8).is_some() {
+            done = done.wrapping_add(1);
+        }
+    }
+    Some(done)
+}
+
+/// Does one of these eight commands. The bit after AT is that in which the request is given up.
+fn command_next(session: &mut RawSession, access: u32) -> Option<()> {
+    let value = *COMMANDED.get(access as usize)?;
+    session.write(1, 1, value).ok()?;
+    if value == 0x02 {
+        session.bits(1).ok()?;
+    }
+    Some(())
 }
 
 /// Lets the bits of so many frames pass. Before each the first driver asks for one, and after it the second one

@@ -5,11 +5,13 @@ ghost use Rattle.sja_driver.specs.Acting.{Acts};
 ghost use Rattle.sja_driver.specs.AnyDrivers.{FitsEnd};
 ghost use Rattle.sja_driver.specs.Tries.{tried_of, stopped_by};
 
+use super::active::Active;
 use super::any_driver::AnyDriver;
 use super::attempt::{Attempt, passed, refused};
 use super::driver::Driver;
+use super::reset::Reset;
 use super::start_fault::StartFault;
-use sja_link::{DriverEnd, DriverLedger};
+use sja_link::{DriverEnd, DriverLedger, LinkId, Up};
 use sja_regs::Port;
 use sja_script::Refusal;
 use std::mem;
@@ -52,13 +54,23 @@ pub(crate) fn stop_step<E: DriverEnd>(
     ensures acts { Acts E.same E.stands E.dry E.full end.old end.new port.old port.new Stop driver.old driver.new
         (stopped_by result) }
 {
-    let (now, stopped) = match mem::replace(driver, AnyDriver::InReset(Driver::new(0))) {
-        AnyDriver::InReset(reset) => (AnyDriver::InReset(reset), Err(refused(Refusal::WrongState))),
-        AnyDriver::InActive(active) => match active.close(end, port) {
-            Ok((reset, ledger)) => (AnyDriver::InReset(reset), Ok(ledger)),
-            Err(active) => (AnyDriver::InActive(active), Err(Attempt::Unmet)),
-        },
+    let AnyDriver::InActive(active) = &*driver else {
+        return Err(refused(Refusal::WrongState));
     };
-    *driver = now;
-    stopped
+    let LinkId { node, activation } = active.link();
+    if end.give(Up::Stop).is_err() {
+        return Err(Attempt::Unmet);
+    }
+    port.enter_reset();
+    let reset = Driver {
+        state: Reset { node, activation },
+    };
+    match mem::replace(driver, AnyDriver::InReset(reset)) {
+        AnyDriver::InActive(
+            Driver {
+                state: Active { ledger },
+            },
+        ) => Ok(ledger),
+        AnyDriver::InReset(_) => unreachable!(),
+    }
 }

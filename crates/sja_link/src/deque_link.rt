@@ -74,10 +74,8 @@ impl BusEnd for DequeLink {
         if self.down.len() >= ITEMS_DOWN {
             return Err(item);
         }
-        match self.down.push_back(item) {
-            Ok(()) => Ok(()),
-            Err(refused) => Err(refused.value),
-        }
+        self.down.push_back_reserved(item);
+        Ok(())
     }
 
     fn take(&mut self) -> Option<Up> {
@@ -114,14 +112,13 @@ impl DriverEnd for DequeLink {
         self.down.pop_front()
     }
 
+    #[inline(always)]
     fn give(&mut self, item: Up) -> Result<(), Up> {
         if self.up.len() >= ITEMS_UP {
             return Err(item);
         }
-        match self.up.push_back(item) {
-            Ok(()) => Ok(()),
-            Err(refused) => Err(refused.value),
-        }
+        self.up.push_back_reserved(item);
+        Ok(())
     }
 
     ghost same_refl = { λ e. refl };

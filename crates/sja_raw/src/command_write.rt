@@ -100,7 +100,7 @@ fn is_free(port: &Port) -> bool
     requires { port.now.mode.rm ≡ false }
     ensures { result ≡ (not port.now.mode.lom && port.now.tbs) }
 {
-    port.plan_command(TRANSMIT).is_ok()
+    port.judge_command(TRANSMIT).is_ok()
 }
 
 /// The byte of a command.

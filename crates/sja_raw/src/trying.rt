@@ -77,5 +77,5 @@ pub(crate) fn mode_in(port: &Port) -> Mode
 pub fn is_reset(port: &Port) -> bool
     ensures { result ≡ port.now.mode.rm }
 {
-    matches!(port.plan_command(0), Err(RegFault::ActiveOnly))
+    matches!(port.judge_command(0), Err(RegFault::ActiveOnly))
 }

@@ -11,6 +11,19 @@ use can_frame::Frame;
 use can_node::Request;
 
 impl Port {
+    /// Whether [`command`](Port::command) would refuse a command. The request that it makes isn't looked at.
+    ///
+    /// Errors: those of [`command`](Port::command).
+    #[inline(always)]
+    pub fn judge_command(&self, value: u8) -> Result<(), RegFault>
+        ensures { fault_of result ≡ first_fault (command_faults self.now (command_of value)) }
+    {
+        match self.command_fault(Command::of(value)) {
+            Some(fault) => Err(fault),
+            None => Ok(()),
+        }
+    }
+
     /// What [`command`](Port::command) would answer. Where it is not refused, [`obey`](Port::obey) does the rest.
     ///
     /// Errors: those of [`command`](Port::command).
@@ -62,6 +75,7 @@ impl Port {
     }
 
     /// Why a command isn't done.
+    #[inline(always)]
     fn command_fault(&self, command: Command) -> Option<RegFault>
         ensures { result ≡ first_fault (command_faults self.now command) }
     {

@@ -17,5 +17,6 @@ pub mod Room
 pub mod Refused
 pub mod InOrder
 pub mod Taken
+pub mod Quiet
 pub mod NextStep
 pub mod Observed

@@ -8,6 +8,7 @@ pub mod Shown
 pub mod Counted
 pub mod Nodes
 -- ---- what a turn of a node does
+pub mod Giving
 pub mod Waiting
 -- ---- what bits do
 pub mod Bits

@@ -1,8 +1,13 @@
 //! The steps of a node's driver, each with the taking of what it gave: one, or those of a turn.
 
+ghost use Rattle.std.specs.Prelude.{◌≡◌, true};
+ghost use Rattle.sja_serial.specs.Giving.{GivesNothing};
+
 use super::serial_run::SerialRun;
 use sja_link::first_link;
 use sja_plan::Plan;
+use sja_regs::Command;
+use sja_script::Step;
 
 impl SerialRun {
     ghost use Rattle.std.specs.Prelude.{◌≡◌, ◌<◌, List, true, false, length};
@@ -30,6 +35,7 @@ impl SerialRun {
     /// Tries the next step of the driver of a node, counted from 0, and takes what it gave: the bus refuses no item of
     /// it. It says whether the step is done; else there is none left, or it has to wait, and nothing happened. No bit
     /// is run.
+    #[inline(always)]
     pub fn try_next(&mut self, plan: &Plan, node: u8) -> bool
         requires run { IsRunOf plan.now self.old }
         requires node { node < length plan.now.nodes }
@@ -44,18 +50,31 @@ impl SerialRun {
         if next >= steps.len() {
             return false;
         }
+        let step = &steps[next];
+        let quiet = gives_nothing(step);
         let links = self.links.as_mut_slice();
         let port = &mut self.board.ports[index];
-        let done = self.drivers[index].step(
-            links,
-            first_link(index),
-            port,
-            &steps[next],
-            self.bits,
-        );
+        let done = self.drivers[index].step(links, first_link(index), port, step, self.bits);
+        if quiet {
+            // Asked for what holds of every bus.
+            let _ = self.bus.bits_run();
+            return done;
+        }
         match self.bus.gather(links) {
             Ok(()) => done,
             Err(_) => unreachable!(),
         }
+    }
+}
+
+/// Whether a step gives the bus nothing, whatever comes of it. Nothing is to be taken after such a step.
+#[inline(always)]
+fn gives_nothing(step: &Step) -> bool
+    ensures { result ≡ true → GivesNothing step.now }
+{
+    match step {
+        Step::Start | Step::Stop | Step::Release => false,
+        Step::Command(value) => !Command::of(*value).requests(),
+        _ => true,
     }
 }

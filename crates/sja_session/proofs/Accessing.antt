@@ -249,13 +249,20 @@ pub release_alone : (byte : ℕ) (r : Bool) → byte ≡ 0 → r ≡ true → co
 release_alone byte r nothing is = λ i. commands (nothing i) ++ releases (is i)
 
 -- a command alone
-pub command_alone : (byte : ℕ) (r : Bool) → (byte ≡ 0 → ⊥) → not r ≡ true →
+pub command_alone : (byte : ℕ) (r : Bool) → (byte ≡ 0 → ⊥) → r ≡ false →
     commands byte ++ releases r ≡ Command byte ∷ []
-command_alone byte r some is = by r is (grind (arith, some))
+command_alone byte r some is = by (grind (arith, some))
   where
-    by : (r : Bool) → not r ≡ true → nat_eq byte 0 ≡ false → commands byte ++ releases r ≡ Command byte ∷ []
-    by true is e = absurd cc
-    by false is e = ap (λ (b : Bool). (if b then [] else Command byte ∷ []) ++ []) e
+    by : nat_eq byte 0 ≡ false → commands byte ++ releases r ≡ Command byte ∷ []
+    by e = λ i. (if e i then [] else Command byte ∷ []) ++ releases (is i)
+
+-- a command, and then a release
+pub command_both : (byte : ℕ) (r : Bool) → (byte ≡ 0 → ⊥) → r ≡ true →
+    commands byte ++ releases r ≡ Command byte ∷ Release ∷ []
+command_both byte r some is = by (grind (arith, some))
+  where
+    by : nat_eq byte 0 ≡ false → commands byte ++ releases r ≡ Command byte ∷ Release ∷ []
+    by e = λ i. (if e i then [] else Command byte ∷ []) ++ releases (is i)
 
 -- the steps of the node's write
 pub command_so : (ports : List Registers) (place node address value byte : ℕ) (r out : Bool) (p : Registers)

@@ -13,6 +13,7 @@ impl RawSession {
     ghost use Rattle.sja_driver.specs.Deeds.{Deed};
     ghost use Rattle.sja_raw.specs.WriteLists.{ArePrompt, IsPrompt, steps_in};
     ghost use Rattle.sja_regs.specs.declared.registers.Registers.{Registers};
+    ghost use Rattle.sja_script.specs.declared.step.Step.TheVariants.{Command, Release};
     ghost use Rattle.sja_session.specs.RawSessions.{Reads, Writes, MayWrite, IsWriteFault, steps_of};
     ghost use Rattle.sja_session.specs.Sessions.{IsAt};
     ghost use Rattle.sja_session.specs.Stepping.{MayStep, IsStepFault};
@@ -56,6 +57,9 @@ impl RawSession {
         if place >= self.kept.len() {
             return Err(StepFault::NoNode);
         }
+        if address == CMR {
+            return self.write_command(node, address, value);
+        }
         if self.session.is_typed_write(place, address, value) {
             return self.write_one(node, address, value, Step::Write(address, value));
         }
@@ -75,9 +79,6 @@ impl RawSession {
             IsWriteFault self.old node address value deeds fault) }
         ensures kept { OnErr result (self.new ≡ self.old) }
     {
-        if address == CMR {
-            return self.write_command(node, address, value);
-        }
         let steps = self
             .session
             .steps_of_write(usize::from(node), address, value);
@@ -85,6 +86,7 @@ impl RawSession {
     }
 
     /// The same of CMR.
+    #[inline(never)]
     fn write_command(&mut self, node: u8, address: u8, value: u8) -> Result<(), StepFault>
         requires command { address ≡ 1 }
         requires there { node < length self.old.session.plan.nodes }
@@ -97,16 +99,59 @@ impl RawSession {
         ensures kept { OnErr result (self.new ≡ self.old) }
     {
         let written = self.session.written_command(usize::from(node), value);
-        if written.command == 0 && written.releases {
-            return self.write_one(node, address, value, Step::Release);
+        if written.command == 0 {
+            if written.releases {
+                return self.write_alone(node, address, value, Step::Release);
+            }
+            return self.write_short(node, address, value);
         }
-        if written.command != 0 && !written.releases {
-            return self.write_one(node, address, value, Step::Command(written.command));
+        if written.releases {
+            return self.write_both(node, address, value, written.command);
         }
-        let steps = self
-            .session
-            .steps_of_write(usize::from(node), address, value);
-        self.write_each(node, address, value, steps)
+        self.write_alone(node, address, value, Step::Command(written.command))
+    }
+
+    /// The same of CMR where the write is this one step. None of the kept registers stands there.
+    #[inline(always)]
+    fn write_alone(&mut self, node: u8, address: u8, value: u8, step: Step) -> Result<(), StepFault>
+        requires command { address ≡ 1 }
+        requires prompt { IsPrompt step }
+        requires one { (deeds : List (List Deed)) → IsAt self.old.session deeds → (p : Registers) →
+            steps_of self.old node address value deeds p ≡ step ∷ [] }
+        ensures writes { OnOk result ((deeds : List (List Deed)) → IsAt self.old.session deeds →
+            Writes self.old self.new node address value deeds) }
+        ensures may { OnOk result ((deeds : List (List Deed)) → IsAt self.old.session deeds →
+            MayWrite self.old node address value deeds) }
+        ensures err { IfErr result (λ fault. (deeds : List (List Deed)) → IsAt self.old.session deeds →
+            IsWriteFault self.old node address value deeds fault) }
+        ensures kept { OnErr result (self.new ≡ self.old) }
+    {
+        match self.session.step(node, step)? {
+            Answered::Answer(answer) => {
+                self.kept[usize::from(node)].answered(&answer);
+                Ok(())
+            }
+            Answered::Waits => unreachable!(),
+        }
+    }
+
+    /// The same of CMR where the write is this command and then a release.
+    fn write_both(&mut self, node: u8, address: u8, value: u8, command: u8) -> Result<(), StepFault>
+        requires command { address ≡ 1 }
+        requires both { (deeds : List (List Deed)) → IsAt self.old.session deeds → (p : Registers) →
+            steps_of self.old node address value deeds p ≡ Command command ∷ Release ∷ [] }
+        ensures writes { OnOk result ((deeds : List (List Deed)) → IsAt self.old.session deeds →
+            Writes self.old self.new node address value deeds) }
+        ensures may { OnOk result ((deeds : List (List Deed)) → IsAt self.old.session deeds →
+            MayWrite self.old node address value deeds) }
+        ensures err { IfErr result (λ fault. (deeds : List (List Deed)) → IsAt self.old.session deeds →
+            IsWriteFault self.old node address value deeds fault) }
+        ensures kept { OnErr result (self.new ≡ self.old) }
+    {
+        self.session.may_do(node, 2)?;
+        self.do_one(node, Step::Command(command));
+        self.do_one(node, Step::Release);
+        Ok(())
     }
 
     /// The same where the write is this one step.

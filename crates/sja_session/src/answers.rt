@@ -31,6 +31,7 @@ impl Session {
 }
 
 /// What the last step answered that the log of this driver has, if it has one.
+#[inline(always)]
 pub(crate) fn last_answer(run: &SerialRun, node: usize) -> Option<StepAnswer>
     requires { node < length run.now.drivers }
     ensures { (d : LoggedDriver) →
@@ -43,6 +44,7 @@ pub(crate) fn last_answer(run: &SerialRun, node: usize) -> Option<StepAnswer>
 }
 
 /// An equal answer.
+#[inline(always)]
 fn copied_answer(answer: &StepAnswer) -> StepAnswer
     ensures { result ≡ answer.now }
 {

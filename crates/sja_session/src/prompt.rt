@@ -87,7 +87,7 @@ impl Session {
     }
 
     /// Does a step that never waits.
-    #[inline(never)]
+    #[inline(always)]
     fn do_prompt(&mut self, node: u8, step: Step) -> StepAnswer
         requires stands { Stands self.old }
         requires may { MayStep self.old node }
@@ -104,9 +104,9 @@ impl Session {
 }
 
 impl RawSession {
-    ghost use Rattle.std.specs.Prelude.{◌≡◌, List, length};
+    ghost use Rattle.std.specs.Prelude.{◌≡◌, List, [], ◌∷◌, length};
     ghost use Rattle.sja_driver.specs.Deeds.{Deed};
-    ghost use Rattle.sja_raw.specs.WriteLists.{IsPromptIf, listed};
+    ghost use Rattle.sja_raw.specs.WriteLists.{IsPrompt, IsPromptIf, listed};
     ghost use Rattle.sja_session.specs.Inside.Accessing.{Does, Stands};
     ghost use Rattle.sja_session.specs.RawSessions.{MayDo};
     ghost use Rattle.sja_session.specs.Sessions.{IsAt};
@@ -120,9 +120,21 @@ impl RawSession {
             Does self.old self.new node (listed step) deeds }
     {
         if let Some(step) = step {
-            let answer = self.session.do_prompt(node, step);
-            self.kept[usize::from(node)].answered(&answer);
+            self.do_one(node, step);
         }
+    }
+
+    /// Does a step that never waits. A release moves RBSA on.
+    #[inline(never)]
+    pub(crate) fn do_one(&mut self, node: u8, step: Step)
+        requires stands { Stands self.old.session }
+        requires may { MayDo self.old.session node 1 }
+        requires prompt { IsPrompt step }
+        ensures { (deeds : List (List Deed)) → IsAt self.old.session deeds →
+            Does self.old self.new node (step ∷ []) deeds }
+    {
+        let answer = self.session.do_prompt(node, step);
+        self.kept[usize::from(node)].answered(&answer);
     }
 }
 

@@ -49,6 +49,7 @@ impl Session {
     /// Whether a step of this node may be tried.
     ///
     /// Errors: as [`step`](Session::step) tells them.
+    #[inline(always)]
     fn may_step(&self, node: u8) -> Result<(), StepFault>
         ensures ok { OnOk result (MayStep self.now node) }
         ensures err { IfErr result (IsStepFault self.now node) }

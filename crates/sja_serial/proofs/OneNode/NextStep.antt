@@ -7,6 +7,7 @@ use Rattle.std.proofs.lemmas.List.{get_or_default}
 use Rattle.sja_link.specs.declared.entry.Entry.{Entry}
 use Rattle.sja_link.specs.Deques.{Deques, Lies}
 use Rattle.sja_link.specs.Places.{place_of}
+use Rattle.lemmas.proofs.Related.{each_refl}
 use Rattle.lemmas.specs.Related.{EachRelated}
 use Rattle.sja_link.proofs.JournalEntries.Entering.{bits_counted}
 use Rattle.sja_regs.specs.declared.registers.Registers.{Registers}
@@ -16,19 +17,21 @@ use Rattle.sja_wire.specs.declared.bus_fault.BusFault.{BusFault}
 use Rattle.sja_wire.specs.Lawful.{IsBusRun}
 use Rattle.sja_wire.specs.OneBit.{MayHaveItems}
 use Rattle.sja_wire.specs.Wire.{journal_at}
-use Rattle.sja_bus.specs.Buses.{BusValue, KeepsAll, EachJournal, AllDry, EachUntold}
+use Rattle.sja_bus.specs.Buses.{BusValue, KeepsAll, EachJournal, AllDry, EachUntold, untold_at}
 use Rattle.sja_bus.specs.Reasons.{IsTakenAndRefused}
 use Rattle.sja_plan.specs.Plan.{PlanValue, steps_at}
 use Rattle.sja_driver.specs.declared.logged_driver.LoggedDriver.{LoggedDriver}
 use Rattle.sja_driver.specs.Deeds.{Deed, deeds_at}
 use Rattle.sja_driver.specs.LoggedDrivers.{node_of, log_of, StaysLawful, Steps}
 use Rattle.sja_driver.specs.Logs.{done_in}
+use Rattle.sja_serial.specs.Giving.{GivesNothing}
 use Rattle.sja_serial.specs.Nodes.{IsNode}
 use Rattle.sja_serial.specs.Serial.{SerialValue, run_now, StandsAt}
 use Rattle.sja_serial.specs.Stepping.{DoesNext, DoesNothing}
 use Rattle.sja_serial.proofs.OneBit.BitRun.{no_link}
 use Rattle.sja_serial.proofs.ManyBits.Borrowed.{run_is}
 use Rattle.sja_serial.proofs.AllNodes.Several.{done_count}
+use Rattle.sja_serial.proofs.OneNode.Quiet.{no_items, as_untold, all_dry}
 use Rattle.sja_serial.proofs.OneNode.Tried.{next_tried}
 use Rattle.sja_serial.proofs.OneNode.Taken.{gather_takes}
 use Rattle.sja_serial.proofs.OneNode.Trying.{alike, shows_none, takes_none}
@@ -109,6 +112,21 @@ module _ (plan : PlanValue) (bus : BusValue) (drivers : List LoggedDriver) (port
           next_tried plan run (run_now n (slice_set drivers i now) (slice_set ports i q) after bits) deeds i stood there
           given was now q no_link refl refl refl right ran script room over count kept items untold dry sames many
           stays.others stays.ids
+          (stays.node ∙ ap node_of was_is ∙ stood.own i was there) p one done
+          (λ x. get_or_default ports i x p (let c = stood.count.ports in omega (arith, c, there)) ∙ sym p_is) node_at
+          (lawful.lawful i inside) left is stays.lawful place steps stays.room stays.waits
+
+      -- the step gave nothing, and nothing was taken
+      pub is_tried_quietly : one ≡ slice_index_or (steps_at plan i) (length (deeds_at deeds i)) one →
+          GivesNothing one → length given ≡ length slice →
+          IsTried plan run (run_now bus (slice_set drivers i now) (slice_set ports i q) given bits) i deeds done
+      is_tried_quietly is quiet many =
+          next_tried plan run (run_now bus (slice_set drivers i now) (slice_set ports i q) given bits) deeds i stood
+          there given was now q no_link refl refl refl stood.right refl refl refl refl refl
+          (λ node h less kept. kept) (λ node less. no_items (journal_at bus.journals node))
+          (λ node less. as_untold (untold_at bus.untold node) (journal_at bus.journals node))
+          (all_dry plan run deeds i stood was now p q given one bits done node_at steps stays.others quiet)
+          (each_refl (λ (a b : Deques). b.link ≡ a.link) (λ x. refl) given) many stays.others stays.ids
           (stays.node ∙ ap node_of was_is ∙ stood.own i was there) p one done
           (λ x. get_or_default ports i x p (let c = stood.count.ports in omega (arith, c, there)) ∙ sym p_is) node_at
           (lawful.lawful i inside) left is stays.lawful place steps stays.room stays.waits

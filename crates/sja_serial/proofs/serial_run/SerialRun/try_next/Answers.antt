@@ -1,15 +1,16 @@
 use Rattle.std.proofs.Common.{rules, ◌≡◌, ◌<◌, ℕ, List, length, refl, sym, ap, ◌∙◌, subst, arith, inl}
-use Rattle.std.specs.Prelude.{slice_index_or, slice_set}
+use Rattle.std.specs.Prelude.{None, slice_index_or, slice_set}
 use Rattle.std.specs.Vec.{with_items}
 use Rattle.std.proofs.lemmas.List.{with_items_is}
+use Rattle.sja_wire.specs.Lawful.{IsBusRun}
 use Rattle.sja_plan.specs.Plan.{steps_at}
 use Rattle.sja_driver.specs.Deeds.{Deed, deeds_at}
 use Rattle.sja_driver.specs.Logs.{done_in}
 use Rattle.sja_serial.specs.Serial.{SerialValue, run_now, StandsAt, CannotStep}
 use Rattle.sja_serial.proofs.ManyBits.Borrowed.{run_is}
-use Rattle.sja_serial.proofs.OneNode.NextStep.{IsTried, steps_done, node_at, none_refused, is_tried}
+use Rattle.sja_serial.proofs.OneNode.NextStep.{IsTried, steps_done, node_at, none_refused, is_tried, is_tried_quietly}
 use Rattle.sja_serial.proofs.AllNodes.Several.{does_none}
-use Rattle.sja_serial.proofs.serial_run.SerialRun.try_next.Goals.{After-done-next, In-Ok}
+use Rattle.sja_serial.proofs.serial_run.SerialRun.try_next.Goals.{After-done-next, In-Ok, Then-quiet}
 use Rattle.sja_serial.proofs.serial_run.SerialRun.try_next.Goals as goal
 
 -- ---- the node, and how many steps of its driver are done
@@ -125,6 +126,68 @@ did c deeds h node there done less =
     (run_now c.gather.new.self (slice_set b.drivers.items i c.step-done.new.self)
     (slice_set b.board.ports.items i c.step-done.new.port) c.gather.new.links b.bits) i deeds
     c.step-done.result) was t))
+
+-- ---- what a step did that gives nothing
+
+-- the run after it: nothing was taken
+abbrev still : Then-quiet → SerialValue
+still c = let b = c.self.inside in let i = c.from-index.result in
+    run_now b.bus (slice_set b.drivers.items i c.step-done.new.self)
+    (slice_set b.board.ports.items i c.step-done.new.port) (with_items b.links c.step-done.new.links).items b.bits
+
+-- and with the links as a slice
+still_is : (c : Then-quiet) → (let b = c.self.inside in let i = c.from-index.result in
+    run_now b.bus (slice_set b.drivers.items i c.step-done.new.self)
+    (slice_set b.board.ports.items i c.step-done.new.port) c.step-done.new.links b.bits) ≡ still c
+still_is c = let b = c.self.inside in let i = c.from-index.result in
+    let l : (with_items b.links c.step-done.new.links).items ≡ c.step-done.new.links =
+    with_items_is b.links c.step-done.new.links
+    (omega (arith, c.step-done.auto.links, c.as_mut_slice-links.ensures.len)) in
+    λ t. run_now b.bus (slice_set b.drivers.items i c.step-done.new.self)
+    (slice_set b.board.ports.items i c.step-done.new.port) (sym l t) b.bits
+
+did_quietly : (c : Then-quiet) (laws : (let b = c.self.inside.bus in b.fault ≡ None →
+    IsBusRun b.script b.run b.journals)) (deeds : List (List Deed)) → StandsAt c.args.plan.now c.args.self.now deeds →
+    c.from-index.result ≡ c.args.node → c.from-index.result < length c.args.plan.now.nodes →
+    length c.done-next.result.now ≡ length (deeds_at deeds c.from-index.result) →
+    length (deeds_at deeds c.from-index.result) < length (steps_at c.args.plan.now c.from-index.result) →
+    IsTried c.args.plan.now c.args.self.now (still c) c.args.node deeds c.step-done.result
+did_quietly c laws deeds h node there done less =
+    let b = c.self.inside in let i = c.from-index.result in let plan = c.args.plan.now in
+    let slice = c.as_mut_slice-links.result.now in
+    let one = c.index-steps-next.result in
+    let is : one ≡ slice_index_or (steps_at plan i) (length (deeds_at deeds i)) one =
+    c.index-steps-next.is ∙ ap (λ l. slice_index_or l (length c.done-next.result.now) one) c.steps-steps.ensures.value
+    ∙ ap (λ m. slice_index_or (steps_at plan i) m one) done in
+    let r = run_now b.bus b.drivers.items b.board.ports.items slice b.bits in
+    let was : r ≡ c.args.self.now = run_is b.bus b.drivers.items b.board.ports.items slice b.links.items b.bits
+    c.args.self.now c.as_mut_slice-links.ensures.value c.self.view_is in
+    let t = is_tried_quietly plan b.bus b.drivers.items b.board.ports.items slice b.links.items b.bits c.args.self.now
+    c.as_mut_slice-links.ensures.value c.self.view_is deeds h i there c.index_mut.result.now
+    c.index_mut-port.result.now c.index_mut.ensures.value c.index_mut-port.ensures.value laws less
+    c.step-done.new.self c.step-done.new.port c.step-done.new.links c.step-done.new.links c.first_link.result one
+    c.step-done.result c.first_link.ensures c.step-done.ensures.steps c.step-done.ensures.stays is
+    (c.gives_nothing-quiet.ensures c.if-quiet.true) (omega (arith, c.step-done.auto.links)) in
+    subst (λ (m : ℕ). IsTried plan c.args.self.now (still c) m deeds c.step-done.result) node
+    (subst (λ (x : SerialValue). IsTried plan c.args.self.now x i deeds c.step-done.result) (still_is c)
+    (subst (λ (x : SerialValue). IsTried plan x
+    (run_now b.bus (slice_set b.drivers.items i c.step-done.new.self)
+    (slice_set b.board.ports.items i c.step-done.new.port) c.step-done.new.links b.bits) i deeds
+    c.step-done.result) was t))
+
+pub returns-then-quiet-clause-done : goal.returns-then-quiet-clause-done
+returns-then-quiet-clause-done c = λ yes deeds h.
+    let at = (goal.at.returns-then-quiet-clause-done c).After-done-next in
+    (did_quietly (goal.at.returns-then-quiet-clause-done c).Then-quiet c.bits_run.ensures.lawful deeds h (node_is at)
+    (there at) (many_done at deeds h) (left at deeds h c.if-next-steps.false)).0 yes
+
+pub returns-then-quiet-clause-waits : goal.returns-then-quiet-clause-waits
+returns-then-quiet-clause-waits c = λ no deeds h.
+    let at = (goal.at.returns-then-quiet-clause-waits c).After-done-next in
+    (did_quietly (goal.at.returns-then-quiet-clause-waits c).Then-quiet c.bits_run.ensures.lawful deeds h (node_is at)
+    (there at) (many_done at deeds h) (left at deeds h c.if-next-steps.false)).1 no
+
+-- ---- what it did otherwise
 
 pub returns-clause-done : goal.returns-clause-done
 returns-clause-done c = λ yes deeds h.

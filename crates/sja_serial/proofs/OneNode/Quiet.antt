@@ -1,0 +1,68 @@
+-- A step that gives nothing: no link has anything for the bus after it.
+use Rattle.std.proofs.Common.{◌≡◌, ◌≢◌, ℕ, suc, ◌+◌, ◌*◌, ◌<◌, Bool, List, [], ◌++◌, length, refl, sym, ap, ◌∙◌, subst}
+use Rattle.std.proofs.Common.{append-nil, arith, inl, inr}
+use Rattle.std.specs.Prelude.{min, slice_index_or}
+use Rattle.std.proofs.lemmas.Bool.{cases_eq}
+use Rattle.sja_link.specs.declared.entry.Entry.{Entry}
+use Rattle.sja_link.specs.declared.up.Up.{Up}
+use Rattle.sja_link.specs.Accounts.{account}
+use Rattle.sja_link.specs.Deques.{Deques, Lies}
+use Rattle.sja_link.specs.Lists.{Lists}
+use Rattle.sja_bus.specs.Buses.{AllDry}
+use Rattle.sja_wire.specs.Links.{stops_of}
+use Rattle.sja_wire.specs.OneBit.{MayHaveItems}
+use Rattle.sja_wire.specs.Telling.{IsUntold}
+use Rattle.sja_wire.specs.Wire.{journal_at}
+use Rattle.sja_wire.proofs.Taking.{same_front}
+use Rattle.sja_plan.specs.Plan.{PlanValue, steps_at}
+use Rattle.sja_regs.specs.declared.registers.Registers.{Registers}
+use Rattle.sja_script.specs.declared.step.Step.{Step}
+use Rattle.sja_driver.specs.declared.logged_driver.LoggedDriver.{LoggedDriver}
+use Rattle.sja_driver.specs.Deeds.{Deed, deeds_at, given_in, deeds_of}
+use Rattle.sja_driver.specs.Holding.{place_after}
+use Rattle.sja_driver.specs.LoggedDrivers.{ended_of, Steps}
+use Rattle.sja_serial.specs.Giving.{GivesNothing}
+use Rattle.sja_serial.specs.Nodes.{IsNode}
+use Rattle.sja_serial.specs.Serial.{SerialValue, StandsAt}
+use Rattle.sja_serial.proofs.OneNode.Trying.{alike, shows_none, takes_none}
+
+-- no item is taken where there is none
+pub no_items : (j : List Entry) → MayHaveItems j j
+no_items j = record { items = []; whole = sym (append-nil j); read = tt; in_order = tt }
+
+pub as_untold : (b : Bool) (j : List Entry) → IsUntold b b j j
+as_untold b j = record { stays = λ e. e; takes = λ differ. absurd (differ refl); none = λ e same. e }
+
+min_less : (n : ℕ) → min n 63 < 64
+min_less n = grind arith
+
+module _ (plan : PlanValue) (r : SerialValue) (deeds : List (List Deed)) (i : ℕ) (stood : StandsAt plan r deeds)
+    (was now : LoggedDriver) (p q : Registers) (given : List Deques) (one : Step) (bits : ℕ) (done : Bool)
+    (node : IsNode plan.version (steps_at plan i) (journal_at r.bus.journals i) (deeds_at deeds i) was p r.links
+    (64 * i))
+    (st : Steps alike Lies shows_none takes_none was now r.links given (64 * i) p q one bits done)
+    (others : (k : ℕ) (d : Deques) → k ≢ place_after (64 * i) (ended_of was) →
+    slice_index_or given k d ≡ slice_index_or r.links k d) (quiet : GivesNothing one) where
+  -- the link that the step was tried at
+  here : (d : Deques) → (slice_index_or given (place_after (64 * i) (ended_of was)) d).up ≡ []
+  here d =
+      let a = min (ended_of was) 63 in
+      let less = min_less (ended_of was) in
+      let l : Lists = account (journal_at r.bus.journals i) (suc a)
+      (record { got = node.linked.holds.got a; given = given_in (deeds_of (deeds_at deeds i) (suc a)) }) in
+      let lies = node.linked.holds.kept a d less in
+      let after = (st.acts d d).does.lists l lies in
+      let up = (slice_index_or given (place_after (64 * i) (ended_of was)) d).up in
+      same_front l.taken up [] (sym after.1 ∙ ap (λ (g : List Up). l.given ++ g) (quiet p st.tried)
+      ∙ append-nil l.given ∙ lies.1 ∙ ap (λ (u : List Up). l.taken ++ u) (node.linked.taken a d less))
+
+  -- and each other one
+  pub all_dry : AllDry (λ (s : Deques). s.up ≡ []) r.bus.journals given
+  all_dry m d less few =
+      let k = 64 * m + stops_of (journal_at r.bus.journals m) in
+      let there : m < length plan.nodes = let c = stood.count.journals in omega (arith, c, less) in
+      elim (cases_eq k (place_after (64 * i) (ended_of was))) [
+        | inl e ↦ subst (λ (x : ℕ). (slice_index_or given x d).up ≡ []) (sym e) (here d)
+        | inr differ ↦ ap (λ (s : Deques). s.up) (others k d differ)
+            ∙ (stood.nodes m was p there).linked.taken (stops_of (journal_at r.bus.journals m)) d few
+      ]
