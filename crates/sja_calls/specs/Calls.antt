@@ -1,5 +1,5 @@
 -- What the calls of a program in C do, and why one isn't done (this project's own rule).
-use Rattle.std.specs.Prelude.{◌≡◌, ◌≤◌, ◌<◌, ◌==◌, ◌/◌, ◌%◌, ◌^◌, ℕ, Bool, true, false, not, Option, None, List}
+use Rattle.std.specs.Prelude.{◌≡◌, ◌≤◌, ◌<◌, ◌==◌, ◌%◌, ℕ, Bool, true, false, not, Option, None, List}
 use Rattle.std.specs.List.{range_with_len}
 use Rattle.std.specs.Prelude.{length, map}
 use Rattle.sja_calls.specs.declared.call_fault.CallFault.{CallFault}
@@ -8,6 +8,7 @@ use Rattle.sja_calls.specs.declared.call_fault.CallFault.TheVariants.{StepsUsed,
 use Rattle.sja_calls.specs.declared.state.State.{State}
 use Rattle.sja_calls.specs.declared.state.State.TheVariants.{Going, Ended as HasLog, Lost}
 use Rattle.sja_driver.specs.Deeds.{Deed}
+use Rattle.sja_regs.specs.Bits.{is_set}
 use Rattle.sja_session.specs.Lines.{Looks}
 use Rattle.sja_session.specs.RawSessions.{RawValue, Reads, Writes, MayWrite, IsWriteFault as IsWriteFaultOf}
 use Rattle.sja_session.specs.Running.{RunsBits, MayRun, LacksBusTurn}
@@ -77,10 +78,6 @@ IsWriteFault node address value r TurnsUsed = IsFaultOfWrite node address value 
 IsWriteFault node address value r fault = ⊥
 
 -- ---- bits
-
--- bit K of a number is 1
-abbrev pub is_set : ℕ → ℕ → Bool
-is_set number k = (number / 2 ^ k) % 2 == 1
 
 -- the nodes that a mask watches: node K where its bit K is 1; and whether it watches one
 abbrev pub watched_in : ℕ → List Bool

@@ -10,12 +10,11 @@ use Rattle.sja_log.specs.Log.{RunValue, NodeValue}
 use Rattle.sja_log.specs.Runs.{IsSerialRun}
 use Rattle.sja_log.specs.declared.end.End.TheVariants.{Turns as TurnsDone}
 use Rattle.sja_plan.specs.Faults.{IsPlanOf, IsFirstFault}
-use Rattle.sja_plan.specs.Limits.{most_bytes}
 use Rattle.sja_plan.specs.Plan.{PlanValue}
 use Rattle.sja_plan.specs.declared.plan_fault.PlanFault.{PlanFault}
 use Rattle.sja_plan.specs.declared.plan_fault.PlanFault.TheVariants.{Memory as NoPlanMemory}
-use Rattle.sja_plan_text.specs.Document.{IsDocumentOf}
 use Rattle.sja_plan_text.specs.HasTexts.{HasTexts}
+use Rattle.sja_plan_text.specs.Written.{IsPlanText, IsTooLong}
 use Rattle.sja_report.specs.ReportLines.{report_text}
 use Rattle.sja_serial.specs.Ending.{IsLogOf}
 use Rattle.sja_session.specs.RawSessions.{RawValue}
@@ -77,18 +76,17 @@ IsReportFault Lost room fault = fault ≡ Memory
 
 -- ---- plans
 
--- the document of a plan was put
+-- the text of a plan was put
 abbrev pub PutsPlanOf : PlanValue → List ℕ → List ℕ → ℕ → Type 0
-PutsPlanOf plan was now count = (document : List ℕ) × IsPlanOf document plan × Puts document was now count
+PutsPlanOf plan was now count = (document : List ℕ) × IsPlanText plan document × Puts document was now count
 
--- why none was: there is none, or it would be too long; it doesn't fit; or memory was refused
+-- why none was: there is none, or it would be too long; it doesn't fit, which has one size; or memory was refused
 abbrev pub HasNoDocument : PlanValue → Type 0
-HasNoDocument plan =
-    (¬ HasTexts plan) ⊎ ((text : List ℕ) × (most_bytes text < length text) × IsDocumentOf text plan)
+HasNoDocument plan = (¬ HasTexts plan) ⊎ IsTooLong plan
 
 abbrev pub IsPlanFault : PlanValue → List ℕ → CallFault → Type 0
 IsPlanFault plan room NoDocument = HasNoDocument plan
-IsPlanFault plan room (NoRoom size) = (document : List ℕ) × IsPlanOf document plan × LacksRoom document room size
+IsPlanFault plan room (NoRoom size) = (document : List ℕ) × IsPlanText plan document × LacksRoom document room size
 IsPlanFault plan room Memory = Unit {0}
 IsPlanFault plan room fault = ⊥
 

@@ -1,6 +1,6 @@
 -- What looks, strikes and questions are answered.
 use Rattle.std.proofs.Common.{◌≡◌, ℕ, List, refl, sym, ap, ◌∙◌, subst, inl, inr, arith}
-use Rattle.std.specs.Prelude.{Option, Some, None, length, ◌<◌, ◌≤◌, ◌⊎◌, String, string_bytes}
+use Rattle.std.specs.Prelude.{Option, Some, None, ◌<◌, ◌≤◌, ◌⊎◌, String, string_bytes}
 use Rattle.std.specs.Global.{Global}
 use Rattle.sja_driver.specs.Deeds.{Deed, deeds_at}
 use Rattle.sja_live.specs.Answering.{Answers, IsAnswered, AreLines}
@@ -15,12 +15,10 @@ use Rattle.sja_live.specs.declared.live_command.LiveCommand.TheVariants.{Line, S
 use Rattle.sja_live.specs.declared.used.Used.TheVariants.{Strikes as StrikesUsed, Document}
 use Rattle.sja_live.proofs.Spelled.{live_struck, has_texts}
 use Rattle.sja_live.proofs.Told.{stays, still_live}
-use Rattle.sja_plan.specs.Faults.{IsPlanOf}
-use Rattle.sja_plan.specs.Limits.{most_bytes}
 use Rattle.sja_plan.specs.Plan.{PlanValue}
-use Rattle.sja_plan.specs.Words.{Text, greatest}
-use Rattle.sja_plan_text.specs.Document.{IsDocumentOf}
+use Rattle.sja_plan.specs.Words.{greatest}
 use Rattle.sja_plan_text.specs.HasTexts.{HasTexts}
+use Rattle.sja_plan_text.specs.Written.{IsPlanText, IsTooLong}
 use Rattle.sja_plan_text.specs.declared.plan_text_fault.PlanTextFault.{PlanTextFault}
 use Rattle.sja_plan_text.specs.declared.plan_text_fault.PlanTextFault.TheVariants.{NoMemory, TooLong}
 use Rattle.sja_script.specs.declared.step_answer.StepAnswer.{StepAnswer}
@@ -94,18 +92,17 @@ spelled_plan was s p own is live =
     subst HasTexts (sym (is ∙ ap written own)) (has_texts was.session live.0 live.1)
 
 pub told_plan : (was : RawValue) (s : SessionValue) (p : PlanValue) (document : String Global) → s ≡ was.session →
-    p ≡ written s → IsPlanOf (string_bytes document) p → IsAnswered was was Plan (PlanSoFar document)
-told_plan was s p document own is of_plan =
-    λ deeds at. (deeds, plan (subst (IsPlanOf (string_bytes document)) (is ∙ ap written own) of_plan) refl, at)
+    p ≡ written s → IsPlanText p (string_bytes document) → IsAnswered was was Plan (PlanSoFar document)
+told_plan was s p document own is text =
+    let its = subst (λ p. IsPlanText p (string_bytes document)) (is ∙ ap written own) text in
+    λ deeds at. (deeds, plan its refl, at)
 
 pub not_plan : (was : RawValue) (s : SessionValue) (p : PlanValue) (e : PlanTextFault) → s ≡ was.session →
-    p ≡ written s → (e ≡ NoMemory)
-    ⊎ ((e ≡ TooLong) × ((text : Text) × (most_bytes text < length text) × IsDocumentOf text p)) → e ≡ TooLong →
+    p ≡ written s → (e ≡ NoMemory) ⊎ ((e ≡ TooLong) × IsTooLong p) → e ≡ TooLong →
     IsAnswered was was Plan (Full Document)
 not_plan was s p e own is (inl other) long = absurd cc
 not_plan was s p e own is (inr both) long =
-    let t = both.1 in
-    λ deeds at. (deeds, no_plan t.0 (subst (IsDocumentOf t.0) (is ∙ ap written own) t.2) t.1 refl, at)
+    λ deeds at. (deeds, no_plan (subst IsTooLong (is ∙ ap written own) both.1) refl, at)
 
 -- what a strike is answered
 pub ruleset strikes = (told_strike, not_bit, not_past, not_strike)

@@ -49,7 +49,8 @@ used_word Turns = codes "TURNS"
 used_word Strikes = codes "STRIKES"
 used_word Document = codes "PLAN"
 
--- the line of an answer; that of a plan is its document and then a point in a line of its own
+-- the line of an answer; that of a plan is its text and then a point, in a line of its own since the last line of a
+-- plan's text is ended (`a_plan_text_ends_in_a_line_feed` of `sja_plan_text`)
 abbrev pub answer_text : LiveAnswer → Text
 answer_text (Told answer) = line_text (told_words answer)
 answer_text Waits = line_text (codes "wait" ∷ [])

@@ -3,7 +3,7 @@
 use Rattle.std.specs.Prelude.{◌≡◌, ◌+◌, ◌*◌, ◌<◌, ℕ, zero, suc, Bool, true, false, if◌then◌else◌}
 use Rattle.std.specs.Prelude.{Some, None, List, [], ◌∷◌}
 use Rattle.std.specs.Global.{Global}
-use Rattle.std.specs.Prelude.{length, replicate, String, string_bytes}
+use Rattle.std.specs.Prelude.{replicate, String, string_bytes}
 use Rattle.sja_driver.specs.Deeds.{Deed, deeds_at}
 use Rattle.sja_live.specs.Calls.{IsLiveAt, node_count, bits_of, plan_so_far, line_now}
 use Rattle.sja_live.specs.Calls.{StepWaits, RestsNow, WatchesNow, IsStillNow, StruckNow}
@@ -15,10 +15,7 @@ use Rattle.sja_live.specs.declared.live_command.LiveCommand.TheVariants.{Step, R
 use Rattle.sja_live.specs.declared.live_command.LiveCommand.TheVariants.{Line, Strike, Answer, Bits, Plan}
 use Rattle.sja_live.specs.declared.used.Used.TheVariants.{Steps as StepsUsed, Turns as TurnsUsed}
 use Rattle.sja_live.specs.declared.used.Used.TheVariants.{Strikes as StrikesUsed, Document}
-use Rattle.sja_plan.specs.Faults.{IsPlanOf}
-use Rattle.sja_plan.specs.Limits.{most_bytes}
-use Rattle.sja_plan.specs.Words.{Text}
-use Rattle.sja_plan_text.specs.Document.{IsDocumentOf}
+use Rattle.sja_plan_text.specs.Written.{IsPlanText, IsTooLong}
 use Rattle.sja_script.specs.declared.step.Step.{Step as StepOf}
 use Rattle.sja_script.specs.declared.step_answer.StepAnswer.{StepAnswer}
 use Rattle.sja_script.specs.declared.step_answer.StepAnswer.TheVariants.{Done, Value}
@@ -115,11 +112,10 @@ pub data Answers (was now : RawValue) (deeds : List (List Deed)) :
   nothing : {node : ℕ} → last_answer (deeds_at deeds node) ≡ None → now ≡ was →
       Answers was now deeds (Answer node) Nothing deeds
   bits : now ≡ was → Answers was now deeds Bits (Run (bits_of was)) deeds
-  -- a document that is read as the plan so far; or each that says it is too long
-  plan : {document : String Global} → IsPlanOf (string_bytes document) (plan_so_far was) → now ≡ was →
+  -- the text of the plan so far, which is read as this plan; or it is too long
+  plan : {document : String Global} → IsPlanText (plan_so_far was) (string_bytes document) → now ≡ was →
       Answers was now deeds Plan (PlanSoFar document) deeds
-  no_plan : (document : Text) → IsDocumentOf document (plan_so_far was) → most_bytes document < length document →
-      now ≡ was → Answers was now deeds Plan (Full Document) deeds
+  no_plan : IsTooLong (plan_so_far was) → now ≡ was → Answers was now deeds Plan (Full Document) deeds
 
 -- a command is answered so, wherever the session stands
 abbrev pub IsAnswered : RawValue → RawValue → LiveCommand → LiveAnswer → Type 0

@@ -10,3 +10,4 @@ mod Shapes
 mod Plans
 mod Lines
 mod Parsed
+mod Alike

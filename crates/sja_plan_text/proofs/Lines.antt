@@ -10,25 +10,24 @@ use Rattle.sja_plan.specs.Words.{Text}
 use Rattle.sja_script.specs.declared.step.Step.{Step}
 use Rattle.sja_script.specs.declared.strike.Strike.{Strike}
 use Rattle.sja_plan_text.specs.Texts.{step_text, strike_text}
+use Rattle.sja_plan_text.specs.Written.{pair, strike_lines, node_lines, front_lines}
 use Rattle.sja_plan_text.specs.Inside.Table.{texts_data, nodes_data, with_strikes}
 use Rattle.sja_plan_text.proofs.Values.{node_items, texts_flat, texts_dated, nodes_are_tables}
 
-abbrev pub pair : Text → Data → Expression
-pair k d = (([], k), key_value d)
+-- the header of a node
+abbrev header : Expression
+header = (([], codes "node"), array_table)
 
--- the lines of the strikes, and of the nodes
-abbrev pub strike_lines : List Strike → List Expression
-strike_lines [] = []
-strike_lines (s ∷ strikes) = pair (codes "faults") (texts_data (map strike_text (s ∷ strikes))) ∷ []
+-- the lines of the nodes, as those of a table
+abbrev pub element_lines : List (List Step) → List Expression
+element_lines nodes = elements ([], codes "node") (node_items nodes)
 
-abbrev pub node_lines : List (List Step) → List Expression
-node_lines nodes = elements ([], codes "node") (node_items nodes)
-
--- the lines as they are written, in front of others
-abbrev pub front_lines : ℕ → ℕ → List Text → List Strike → List Expression → List Expression
-front_lines version bits turns strikes es =
-    pair (codes "version") (integer (pos version)) ∷ pair (codes "bits") (integer (pos bits))
-    ∷ pair (codes "turns") (texts_data turns) ∷ (strike_lines strikes ++ es)
+-- these are the lines of the nodes
+pub elements_are : (nodes : List (List Step)) → element_lines nodes ≡ node_lines nodes
+elements_are [] = refl
+elements_are ([] ∷ nodes) = ap (λ es. header ∷ pair (codes "steps") (texts_data []) ∷ es) (elements_are nodes)
+elements_are ((s ∷ steps) ∷ nodes) =
+    ap (λ es. header ∷ pair (codes "steps") (texts_data (map step_text (s ∷ steps))) ∷ es) (elements_are nodes)
 
 -- a line, and others behind it
 line_then : (pretty started : Bool) (k a t : Text) (d : Data) (es : List Expression) →
@@ -52,7 +51,7 @@ texts_line k [] = refl
 texts_line k (t ∷ texts) = refl
 
 pub nodes_lines : (steps : List Step) (nodes : List (List Step)) →
-    expressions (member (codes "node") (nodes_data (steps ∷ nodes)) no_members) ≡ node_lines (steps ∷ nodes)
+    expressions (member (codes "node") (nodes_data (steps ∷ nodes)) no_members) ≡ element_lines (steps ∷ nodes)
 nodes_lines steps nodes = rw (nodes_are_tables nodes) (append-nil _)
 
 texts_then : (pretty started : Bool) (k a t : Text) (texts : List Text) (es : List Expression) →
@@ -70,7 +69,7 @@ strikes_then pretty a t (s ∷ strikes) es h more =
 
 nodes_then : (pretty : Bool) (steps : List Step) (nodes : List (List Step)) (e : Text) →
     IsDocumentText pretty (member (codes "node") (nodes_data (steps ∷ nodes)) no_members) e →
-    IsLinesText pretty true (node_lines (steps ∷ nodes)) (10 ∷ e)
+    IsLinesText pretty true (element_lines (steps ∷ nodes)) (10 ∷ e)
 nodes_then pretty steps nodes e h = header_then pretty (codes "node") e _ (rw (nodes_lines steps nodes) at h)
 
 -- what is written one after another are all lines
@@ -81,10 +80,10 @@ pub all_lines : (pretty : Bool) (version bits : ℕ) (turns : List Text) (strike
     IsDocumentText pretty (member (codes "turns") (texts_data turns) no_members) c →
     IsDocumentText pretty (with_strikes strikes no_members) d →
     IsDocumentText pretty (member (codes "node") (nodes_data (steps ∷ nodes)) no_members) e →
-    IsLinesText pretty false (front_lines version bits turns strikes (node_lines (steps ∷ nodes)))
+    IsLinesText pretty false (front_lines version bits turns strikes (element_lines (steps ∷ nodes)))
     (a ++ (b ++ (c ++ (d ++ 10 ∷ e))))
 all_lines pretty version bits turns strikes steps nodes a b c d e ha hb hc hd he =
-    let node_part = node_lines (steps ∷ nodes) in
+    let node_part = element_lines (steps ∷ nodes) in
     let turn_part = pair (codes "turns") (texts_data turns) ∷ (strike_lines strikes ++ node_part) in
     let bit_part = pair (codes "bits") (integer (pos bits)) ∷ turn_part in
     let from_nodes = nodes_then pretty steps nodes e he in
@@ -96,7 +95,7 @@ all_lines pretty version bits turns strikes steps nodes a b c d e ha hb hc hd he
     line_then pretty false (codes "version") a (b ++ (c ++ (d ++ 10 ∷ e))) (integer (pos version)) bit_part ha from_bits
 
 -- each of them can be read
-nodes_printed : (nodes : List (List Step)) → AllPrinted (node_lines nodes)
+nodes_printed : (nodes : List (List Step)) → AllPrinted (element_lines nodes)
 nodes_printed [] = tt
 nodes_printed ([] ∷ nodes) = (omega arith, ((refl, omega arith, refl), nodes_printed nodes))
 nodes_printed ((s ∷ steps) ∷ nodes) =
@@ -112,14 +111,14 @@ strikes_printed (s ∷ strikes) es h =
     let texts = map strike_text (s ∷ strikes) in ((refl, omega (arith, texts_flat texts), texts_dated texts), h)
 
 pub all_printed : (version bits : ℕ) (turns : List Text) (strikes : List Strike) (nodes : List (List Step)) →
-    AllPrinted (front_lines version bits turns strikes (node_lines nodes))
+    AllPrinted (front_lines version bits turns strikes (element_lines nodes))
 all_printed version bits turns strikes nodes = (
   (refl, omega arith, refl),
   (
     (refl, omega arith, refl),
     (
       (refl, omega (arith, texts_flat turns), texts_dated turns),
-      strikes_printed strikes (node_lines nodes) (nodes_printed nodes),
+      strikes_printed strikes (element_lines nodes) (nodes_printed nodes),
     ),
   ),
 )

@@ -1,6 +1,6 @@
 -- The lines of a plan's document are read as its table.
 use Rattle.std.proofs.Common.{◌≡◌, ◌≤◌, ◌∙◌, ℕ, suc, pos, Bool, true, false, Option, Some, None}
-use Rattle.std.proofs.Common.{List, [], ◌∷◌, ◌++◌, codes, length, refl, sym, ap, arith, append_assoc}
+use Rattle.std.proofs.Common.{List, [], ◌∷◌, ◌++◌, codes, length, refl, sym, ap, subst, arith, append_assoc}
 use Rattle.std.proofs.lemmas.List.{append-nil}
 use Rattle.std.proofs.lemmas.Option.{none-some, same_Some}
 use Rattle.toml.specs.Data.{integer, Members, member, no_members, members_are_sorted}
@@ -16,7 +16,8 @@ use Rattle.sja_script.specs.declared.step.Step.{Step}
 use Rattle.sja_script.specs.declared.strike.Strike.{Strike}
 use Rattle.sja_plan_text.specs.Inside.Table.{texts_data, nodes_data, with_strikes, members_of, Adds}
 use Rattle.sja_plan_text.proofs.Values.{texts_sorted, nodes_sorted, nodes_are_tables}
-use Rattle.sja_plan_text.proofs.Lines.{pair, strike_lines, node_lines, front_lines, all_lines, all_printed}
+use Rattle.sja_plan_text.specs.Written.{pair, strike_lines, node_lines, front_lines}
+use Rattle.sja_plan_text.proofs.Lines.{element_lines, elements_are, all_lines, all_printed}
 
 from_roots : (o : Option Document) (n : Nodes) → roots o ≡ Some n → (doc : Document) × (o ≡ Some doc) × (doc.0 ≡ n)
 from_roots None n e = absurd (none-some n e)
@@ -46,7 +47,7 @@ sorted_lines version bits turns strikes es =
 
 table_lines : (version bits : ℕ) (turns : List Text) (strikes : List Strike) (steps : List Step)
     (nodes : List (List Step)) → expressions (members_of version bits (steps ∷ nodes) turns strikes)
-    ≡ sorted_lines version bits turns strikes (node_lines (steps ∷ nodes))
+    ≡ sorted_lines version bits turns strikes (element_lines (steps ∷ nodes))
 table_lines version bits [] [] steps nodes =
     rw (nodes_are_tables nodes) (ap (sorted_lines version bits [] []) (append-nil _))
 table_lines version bits [] (s ∷ strikes) steps nodes =
@@ -70,28 +71,40 @@ is_sorted version bits turns [] nodes = rw (texts_sorted turns, nodes_sorted nod
 is_sorted version bits turns (s ∷ strikes) nodes =
     rw (texts_sorted turns, nodes_sorted nodes, texts_sorted _) refl
 
--- a text that is written line after line is read as the plan's table
-pub written_read : (pretty : Bool) (version bits : ℕ) (turns : List Text) (strikes : List Strike)
+-- what is written one after another has a plan's lines
+pub lines_written : (pretty : Bool) (version bits : ℕ) (turns : List Text) (strikes : List Strike)
     (nodes : List (List Step)) (t₀ t₁ t₂ t₃ t₄ t₅ t₆ : Text) → 1 ≤ length nodes → t₀ ≡ [] →
     Adds pretty (member (codes "version") (integer (pos version)) no_members) t₀ t₁ →
     Adds pretty (member (codes "bits") (integer (pos bits)) no_members) t₁ t₂ →
     Adds pretty (member (codes "turns") (texts_data turns) no_members) t₂ t₃ →
     Adds pretty (with_strikes strikes no_members) t₃ t₄ → t₅ ≡ t₄ ++ 10 ∷ [] →
     Adds pretty (member (codes "node") (nodes_data nodes) no_members) t₅ t₆ →
-    parse_document t₆ ≡ Some (members_of version bits nodes turns strikes)
-written_read pretty version bits turns strikes [] t₀ t₁ t₂ t₃ t₄ t₅ t₆ some nil ha hb hc hd line he =
+    IsLinesText pretty false (front_lines version bits turns strikes (node_lines nodes)) t₆
+lines_written pretty version bits turns strikes [] t₀ t₁ t₂ t₃ t₄ t₅ t₆ some nil ha hb hc hd line he =
     absurd (omega arith)
-written_read pretty version bits turns strikes (steps ∷ nodes) t₀ t₁ t₂ t₃ t₄ t₅ t₆ some nil (a, ea, ha) (b, eb, hb)
+lines_written pretty version bits turns strikes (steps ∷ nodes) t₀ t₁ t₂ t₃ t₄ t₅ t₆ some nil (a, ea, ha) (b, eb, hb)
     (c, ec, hc) (d, ed, hd) line (e, ee, he) =
     let whole : t₆ ≡ a ++ (b ++ (c ++ (d ++ 10 ∷ e))) =
     rw (ee, line, ed, ec, eb, ea, nil) (simp append_assoc refl) in
-    let node_part = node_lines (steps ∷ nodes) in
+    let lines = all_lines pretty version bits turns strikes steps nodes a b c d e ha hb hc hd he in
+    let front = front_lines version bits turns strikes in
+    subst (λ es. IsLinesText pretty false (front es) t₆) (elements_are (steps ∷ nodes)) (rw whole lines)
+
+-- a text that has a plan's lines is read as its table
+pub written_read : (pretty : Bool) (version bits : ℕ) (turns : List Text) (strikes : List Strike)
+    (nodes : List (List Step)) (text : Text) → 1 ≤ length nodes →
+    IsLinesText pretty false (front_lines version bits turns strikes (node_lines nodes)) text →
+    parse_document text ≡ Some (members_of version bits nodes turns strikes)
+written_read pretty version bits turns strikes [] text some lines = absurd (omega arith)
+written_read pretty version bits turns strikes (steps ∷ nodes) text some written =
+    let node_part = element_lines (steps ∷ nodes) in
     let rest = pair (codes "bits") (integer (pos bits)) ∷ pair (codes "turns") (texts_data turns)
     ∷ (strike_lines strikes ++ node_part) in
+    let front = front_lines version bits turns strikes in
+    let lines = subst (λ es. IsLinesText pretty false (front es) text) (sym (elements_are (steps ∷ nodes))) written in
     let lead = same_lead version bits turns strikes node_part
     ∙ ap (run (no_nodes, [])) (sym (table_lines version bits turns strikes steps nodes)) in
-    let lines = all_lines pretty version bits turns strikes steps nodes a b c d e ha hb hc hd he in
     let printed = all_printed version bits turns strikes (steps ∷ nodes) in
     lines_read pretty (members_of version bits (steps ∷ nodes) turns strikes)
-    (pair (codes "version") (integer (pos version))) rest t₆ (rw whole lines) printed
+    (pair (codes "version") (integer (pos version))) rest text lines printed
     (is_sorted version bits turns strikes (steps ∷ nodes)) lead

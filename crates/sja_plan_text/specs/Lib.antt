@@ -1,4 +1,5 @@
 pub mod Texts
 pub mod HasTexts
 pub mod Document
+pub mod Written
 pub mod Inside

@@ -1,12 +1,11 @@
 //! A plan written as a document.
 
-ghost use Rattle.std.specs.Prelude.{◌≡◌, ◌⊎◌, ◌<◌, ℕ, List, length, IfOk, IfErr, OnOk, string_bytes};
+ghost use Rattle.std.specs.Prelude.{◌≡◌, ◌⊎◌, IfOk, IfErr, OnOk, string_bytes};
 ghost use Rattle.toml.specs.Data.{member, no_members};
 ghost use Rattle.toml.specs.View.{view};
-ghost use Rattle.sja_plan.specs.Limits.{most_bytes};
-ghost use Rattle.sja_plan.specs.Faults.{IsPlanOf};
 ghost use Rattle.sja_plan_text.specs.HasTexts.{HasTexts};
 ghost use Rattle.sja_plan_text.specs.Document.{IsDocumentOf};
+ghost use Rattle.sja_plan_text.specs.Written.{IsWritten, IsPlanText, IsTooLong};
 ghost use Rattle.sja_plan_text.specs.Inside.Table.{with_strikes, Adds};
 ghost use Rattle.sja_plan_text.specs.declared.plan_text_fault.PlanTextFault.TheVariants.{NoMemory, TooLong};
 
@@ -29,9 +28,8 @@ use toml::{Value, table_to_string, table_to_string_pretty};
 /// than 65,536 bytes, or than 16 MiB in version 3, which is the first thing that it says (this project's own rule).
 pub fn plan_text(alloc: Global, plan: &Plan) -> Result<String, PlanTextFault>
     requires { HasTexts plan.now }
-    ensures ok { IfOk result (λ text. IsPlanOf (string_bytes text) plan.now) }
-    ensures err { IfErr result (λ e. (e ≡ NoMemory) ⊎ ((e ≡ TooLong)
-        × ((text : List ℕ) × (most_bytes text < length text) × IsDocumentOf text plan.now))) }
+    ensures ok { IfOk result (λ text. IsPlanText plan.now (string_bytes text)) }
+    ensures err { IfErr result (λ e. (e ≡ NoMemory) ⊎ ((e ≡ TooLong) × IsTooLong plan.now)) }
 {
     let text = document(alloc, plan, true)?;
     if text.len() <= most_bytes(text.as_bytes()) {
@@ -47,7 +45,8 @@ pub fn plan_text(alloc: Global, plan: &Plan) -> Result<String, PlanTextFault>
 /// The document of a plan, however long it is. Where it is pretty, each item of a list has a line of its own.
 fn document(alloc: Global, plan: &Plan, pretty: bool) -> Result<String, OutOfMemory>
     requires { HasTexts plan.now }
-    ensures { IfOk result (λ text. IsDocumentOf (string_bytes text) plan.now) }
+    ensures { IfOk result (λ text. IsWritten pretty plan.now (string_bytes text)
+        × IsDocumentOf (string_bytes text) plan.now) }
 {
     let mut text = String::new(alloc);
     add(

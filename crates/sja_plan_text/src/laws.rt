@@ -1,6 +1,6 @@
 //! Laws of texts. Each is the contract of a function that does nothing.
 
-ghost use Rattle.std.specs.Prelude.{◌↔◌, ℕ, List};
+ghost use Rattle.std.specs.Prelude.{◌≡◌, ◌↔◌, ℕ, List, Bool};
 ghost use Rattle.sja_plan.specs.Words.{Text};
 ghost use Rattle.sja_plan.specs.StepTexts.{SaysStep};
 ghost use Rattle.sja_plan.specs.TurnTexts.{SaysTurn};
@@ -10,6 +10,7 @@ ghost use Rattle.sja_plan.specs.Faults.{IsText, IsPlanOf};
 ghost use Rattle.sja_plan_text.specs.Texts.{step_text, turn_text, strike_text};
 ghost use Rattle.sja_plan_text.specs.HasTexts.{HasStepText, HasTurnText, HasStrikeText, HasTexts};
 ghost use Rattle.sja_plan_text.specs.Document.{IsDocumentOf};
+ghost use Rattle.sja_plan_text.specs.Written.{IsWritten, IsPlanText, IsTooLong, EndsInFeed};
 
 use sja_plan::Turn;
 use sja_script::{Step, Strike};
@@ -58,4 +59,24 @@ pub fn a_plan_has_texts()
 /// Bytes are a plan where they are a document of it, and a text that isn't too long.
 pub fn a_plan_is_a_short_document()
     ensures { (bytes : List ℕ) (p : PlanValue) → IsPlanOf bytes p ↔ (IsText bytes × IsDocumentOf bytes p) }
+{}
+
+/// One text at most is written of a plan, with its lists in lines or not.
+pub fn one_text_is_written()
+    ensures { (pretty : Bool) (p : PlanValue) (a b : Text) → IsWritten pretty p a → IsWritten pretty p b → a ≡ b }
+{}
+
+/// A plan has one text at most.
+pub fn a_plan_has_one_text()
+    ensures { (p : PlanValue) (a b : Text) → IsPlanText p a → IsPlanText p b → a ≡ b }
+{}
+
+/// A plan that has a text isn't too long.
+pub fn a_plan_with_a_text_is_not_too_long()
+    ensures { (p : PlanValue) (text : Text) → IsPlanText p text → ¬ IsTooLong p }
+{}
+
+/// The last line of a plan's text is ended, as all others are.
+pub fn a_plan_text_ends_in_a_line_feed()
+    ensures { (p : PlanValue) (text : Text) → IsPlanText p text → EndsInFeed text }
 {}

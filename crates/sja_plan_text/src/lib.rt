@@ -16,8 +16,10 @@ mod writable;
 
 pub use document::plan_text;
 pub use laws::{
-    a_plan_has_texts, a_plan_is_a_short_document, a_step_has_a_text, a_strike_has_a_text,
-    a_turn_has_a_text, said_steps_have_texts, said_strikes_have_texts, said_turns_have_texts,
+    a_plan_has_one_text, a_plan_has_texts, a_plan_is_a_short_document,
+    a_plan_text_ends_in_a_line_feed, a_plan_with_a_text_is_not_too_long, a_step_has_a_text,
+    a_strike_has_a_text, a_turn_has_a_text, one_text_is_written, said_steps_have_texts,
+    said_strikes_have_texts, said_turns_have_texts,
 };
 pub use plan_text_fault::PlanTextFault;
 pub use texts::{step_text, strike_text, turn_text};

@@ -20,12 +20,12 @@ use Rattle.sja_replay.specs.declared.happening.Happening.{Happening}
 use Rattle.sja_replay.specs.declared.replay.Replay.{Replay}
 use Rattle.sja_replay.specs.declared.short_bit.ShortBit.{ShortBit}
 use Rattle.sja_replay.specs.declared.view.View.{View}
-use Rattle.sja_replay.specs.Inside.Walking.{IsTakenFrom, IsClosed, LooksAt}
+use Rattle.sja_replay.specs.Inside.Walking.{IsTakenFrom, IsBrought, IsClosed, LooksAt}
 use Rattle.sja_replay.specs.Replaying.{IsAt}
 use Rattle.sja_replay.specs.Short.{IsNoStart, PassesBit}
 use Rattle.sja_replay.specs.Viewing.{Shows}
 use Rattle.sja_replay.proofs.Bits.{happening, told_bit}
-use Rattle.sja_replay.proofs.Walks.{past_none, goes_on, goes_bit}
+use Rattle.sja_replay.proofs.Walks.{past_none, goes_on, goes_bit, tells_bit}
 
 -- ---- what the node shows before the bit and after it
 
@@ -132,6 +132,21 @@ passed_bit old mid new driven seen x q s took j at ahead unmarked drives is l sa
       same = record { node = t.same.node; bits = t.same.bits; aborted = t.same.aborted ∙ k.aborted ∙ unmarked };
       looked = t.looked;
     }) in
+    let brings : (i : List Entry) → IsAt from i → IsBrought from new i driven seen h = λ i here.
+    told_bit from to new i driven seen x before e after None here drives is samples
+    (shows_before old.node driven seen q l)
+    (shows_after old.node mid.node (record_of j) at.found driven seen q s at.stands l same segment)
+    (λ p free looked. closes p free)
+    (record {
+      bits = k.bits;
+      few = k.few;
+      aborted = refl;
+      off = refl;
+      free = refl;
+      ahead = refl;
+      entries = refl;
+    }) in
+    let past = past_none old j at in
     record {
       happened = h;
       short = record {
@@ -149,18 +164,6 @@ passed_bit old mid new driven seen x q s took j at ahead unmarked drives is l sa
         fate = refl;
         no_start = quiet;
       };
-      goes = goes_bit old old from new j driven seen h (goes_on old old j (past_none old j at)) taken
-          (λ i here. told_bit from to new i driven seen x before e after None here drives is samples
-          (shows_before old.node driven seen q l)
-          (shows_after old.node mid.node (record_of j) at.found driven seen q s at.stands l same segment)
-          (λ p free looked. closes p free)
-          (record {
-            bits = k.bits;
-            few = k.few;
-            aborted = refl;
-            off = refl;
-            free = refl;
-            ahead = refl;
-            entries = refl;
-          }));
+      goes = goes_bit old old from new j driven seen h (goes_on old old j past) taken brings;
+      tells = tells_bit old old from new j driven seen h past taken brings;
     }

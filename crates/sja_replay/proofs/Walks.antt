@@ -151,15 +151,12 @@ brought_on start old mid new driven seen (Some h) g t b = λ j at.
     goes_bit start old mid new j driven seen h (goes_on start old j (g j at)) t b
 
 -- the bit itself
-pub tells_on : (start old mid new : Replay) (driven seen : Level) (result : Option Happening) →
-    ((j : List Entry) → IsAt start j → IsPast start old j) → IsTakenFrom old mid (Some (Bit driven seen)) →
-    BringsNext mid new driven seen result →
-    IfSome result (λ h. (j : List Entry) → IsAt start j → TellsBit start new j h)
-tells_on start old mid new driven seen None g t b = tt
-tells_on start old mid new driven seen (Some h) g t b = λ j at.
-    let p = g j at in
+pub tells_bit : (start old mid new : Replay) (j : List Entry) (driven seen : Level) (h : Happening) →
+    IsPast start old j → IsTakenFrom old mid (Some (Bit driven seen)) →
+    ((i : List Entry) → IsAt mid i → IsBrought mid new i driven seen h) → TellsBit start new j h
+tells_bit start old mid new j driven seen h p t brings =
     let e : Entry = Bit driven seen in
-    let k = b (j ++ p.between) (took_at old mid (Some e) (j ++ p.between) t p.at) in record {
+    let k = brings (j ++ p.between) (took_at old mid (Some e) (j ++ p.between) t p.at) in record {
       between = p.between;
       taken = p.taken;
       driven = driven;
@@ -172,6 +169,14 @@ tells_on start old mid new driven seen (Some h) g t b = λ j at.
       closes = k.closes;
       at = k.at;
     }
+
+pub tells_on : (start old mid new : Replay) (driven seen : Level) (result : Option Happening) →
+    ((j : List Entry) → IsAt start j → IsPast start old j) → IsTakenFrom old mid (Some (Bit driven seen)) →
+    BringsNext mid new driven seen result →
+    IfSome result (λ h. (j : List Entry) → IsAt start j → TellsBit start new j h)
+tells_on start old mid new driven seen None g t b = tt
+tells_on start old mid new driven seen (Some h) g t b = λ j at.
+    tells_bit start old mid new j driven seen h (g j at) t b
 
 pub untold_on : (start old mid new : Replay) (driven seen : Level) (result : Option Happening) →
     ((j : List Entry) → IsAt start j → IsPast start old j) → IsTakenFrom old mid (Some (Bit driven seen)) →

@@ -7,7 +7,7 @@ use Rattle.sja_link.specs.declared.entry.Entry.{Entry}
 use Rattle.sja_replay.specs.declared.happening.Happening.{Happening}
 use Rattle.sja_replay.specs.declared.replay.Replay.{Replay}
 use Rattle.sja_replay.specs.declared.short_bit.ShortBit.{ShortBit}
-use Rattle.sja_replay.specs.Replaying.{GoesOn}
+use Rattle.sja_replay.specs.Replaying.{GoesOn, TellsBit}
 
 -- where the bus is idle, the node drives and sees recessive: no frame begins (Bosch CAN 2.0 part A section 3.1.1)
 abbrev pub IsNoStart : ShortBit → Type 0
@@ -30,8 +30,9 @@ pub record IsInShort (h : Happening) (q : ShortBit) : Type 0 where
   pub fate : h.fate ≡ None
   pub no_start : IsNoStart q
 
--- the replay went on past one bit, that brought this
+-- the replay went on past one bit, as `next` does, and what the bit brought is this in short
 pub record PassesBit (old new : Replay) (before : List Entry) (q : ShortBit) : Type 0 where
   pub happened : Happening
   pub short : IsInShort happened q
   pub goes : GoesOn old new before (happened ∷ [])
+  pub tells : TellsBit old new before happened

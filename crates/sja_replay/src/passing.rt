@@ -30,6 +30,7 @@ impl<'a> Replay<'a> {
         if bit.may_start() || !self.node.sample_quietly(seen) {
             return None;
         }
+        // The segment is asked for the proof alone: what the bit brought has it as it is behind the bit.
         let _segment = self.node.segment();
         self.bits = bits;
         self.look_on();

@@ -1,16 +1,19 @@
--- Why there is no text of a plan, from why there is none of the plan on the input.
-use Rattle.std.proofs.Common.{◌≤◌, ◌∷◌, List, ℕ, [], Option, arith}
+-- Why there is no text of a plan, from why there is none of the plan on the input; and that there is one.
+use Rattle.std.proofs.Common.{◌≡◌, ◌≤◌, ◌<◌, ◌∷◌, List, ℕ, [], Option, length, arith, subst}
+use Rattle.std.specs.Prelude.{IfOk, Result, Ok, Err, String, string_bytes}
+use Rattle.std.specs.Global.{Global}
 use Rattle.std.proofs.lemmas.List.Elements.{All-nil, All-cons, All-append}
 use Rattle.sja_plan.specs.Plan.{PlanValue}
 use Rattle.sja_plan.specs.Struck.{one_strike, struck_at}
 use Rattle.sja_plan_text.specs.HasTexts.{HasStrikeText, HasTexts}
+use Rattle.sja_plan_text.specs.Written.{IsPlanText}
 use Rattle.sja_texts.specs.declared.sweep_refusal.SweepRefusal.{SweepRefusal}
 use Rattle.sja_texts.specs.declared.sweep_refusal.SweepRefusal.TheVariants.{NoNode, TooMany, StrikeCount, Bit, TooLong}
 use Rattle.sja_texts.specs.declared.command_refusal.CommandRefusal.{CommandRefusal}
 use Rattle.sja_texts.specs.declared.command_refusal.CommandRefusal.TheVariants as refusal
 use Rattle.sja_run.specs.Input.{ReadsFew}
 use Rattle.sja_run.specs.Run.{HoldsPlan, RefusesRun}
-use Rattle.sja_run.specs.Sweep.{IsLong, RefusesOfPlan, RefusesPlan, RefusesStruck}
+use Rattle.sja_run.specs.Sweep.{IsLong, IsStruck, RefusesOfPlan, RefusesPlan, RefusesStruck}
 
 -- there is no plan, or memory was refused
 pub of_plan_refused : (May : PlanValue → SweepRefusal → Type 0) (before after : Option (List ℕ)) (r : CommandRefusal) →
@@ -83,3 +86,11 @@ struck_texts plan node bit has k b = record {
       (All-cons HasStrikeText (one_strike node bit) []
       (record { node = k; bit = b; every = omega arith; times = omega arith }) (All-nil HasStrikeText));
 }
+
+-- the text of the plan with a strike more
+pub struck_text_is : (r : Result (String Global) CommandRefusal) (node bit : ℕ) (plan struck : PlanValue) →
+    node < length plan.nodes → struck ≡ struck_at plan node bit → IfOk r (λ text. IsPlanText struck (string_bytes text))
+    → IfOk r (λ text. IsStruck node bit plan (string_bytes text))
+struck_text_is (Ok text) node bit plan struck there is h =
+    (there, subst (λ p. IsPlanText p (string_bytes text)) is h)
+struck_text_is (Err e) node bit plan struck there is h = tt

@@ -1,10 +1,10 @@
 -- What `sweep` prints and refuses, by what the input held before and holds after (this project's own rule).
 use Rattle.std.specs.Prelude.{◌≡◌, ◌<◌, ◌≤◌, ℕ, List, Option, if◌then◌else◌, length}
-use Rattle.sja_plan.specs.Limits.{most_bytes, most_strikes}
+use Rattle.sja_plan.specs.Limits.{most_strikes}
 use Rattle.sja_plan.specs.Plan.{PlanValue, times_in}
 use Rattle.sja_plan.specs.Faults.{IsPlanOf}
 use Rattle.sja_plan.specs.Struck.{struck_at}
-use Rattle.sja_plan_text.specs.Document.{IsDocumentOf}
+use Rattle.sja_plan_text.specs.Written.{IsPlanText, IsTooLong}
 use Rattle.sja_sweep.specs.declared.sweeping.Sweeping.{Sweeping}
 use Rattle.sja_sweep.specs.Sweeps.{IsSweep, IsRefused, NamesNoNode, HasNoRoom}
 use Rattle.sja_words.specs.declared.sweep_words.SweepWords.{SweepWords}
@@ -44,22 +44,21 @@ RefusesSwept w plan TooLong = ⊥
 
 -- ---- the plan with a strike more
 
--- the text is a document of the plan with a strike more, of this node in this bit
+-- the text is that of the plan with a strike more, of this node in this bit
 abbrev pub IsStruck : ℕ → ℕ → PlanValue → List ℕ → Type 0
-IsStruck node bit plan text = (node < length plan.nodes) × IsPlanOf text (struck_at plan node bit)
+IsStruck node bit plan text = (node < length plan.nodes) × IsPlanText (struck_at plan node bit) text
 
--- why there is no such document
+-- why there is no such text
 abbrev pub RefusesStruck : ℕ → ℕ → PlanValue → SweepRefusal → Type 0
 RefusesStruck node bit plan NoNode = length plan.nodes ≤ node
 RefusesStruck node bit plan (TooMany runs bits) = ⊥
 RefusesStruck node bit plan StrikeCount = most_strikes plan.version ≤ times_in plan.strikes
 RefusesStruck node bit plan Bit = 9999999 < bit
-RefusesStruck node bit plan TooLong =
-    (text : List ℕ) × (most_bytes text < length text) × IsDocumentOf text (struck_at plan node bit)
+RefusesStruck node bit plan TooLong = IsTooLong (struck_at plan node bit)
 
--- such a document of a plan is too long, and nothing else is wrong
+-- the text of a plan is too long, and nothing else is wrong
 abbrev pub IsLong : PlanValue → SweepRefusal → Type 0
-IsLong plan TooLong = (text : List ℕ) × (most_bytes text < length text) × IsDocumentOf text plan
+IsLong plan TooLong = IsTooLong plan
 IsLong plan other = ⊥
 
 -- ---- of the plan on the input

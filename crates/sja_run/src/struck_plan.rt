@@ -1,8 +1,8 @@
 //! `sweep --plan`: the plan on the input with one strike more.
 
 ghost use Rattle.std.specs.Prelude.{IfOk, IfErr, string_bytes};
-ghost use Rattle.sja_plan.specs.Faults.{IsPlanOf};
 ghost use Rattle.sja_plan_text.specs.HasTexts.{HasTexts};
+ghost use Rattle.sja_plan_text.specs.Written.{IsPlanText};
 ghost use Rattle.sja_run.specs.Run.{IsOfPlan};
 ghost use Rattle.sja_run.specs.Sweep.{IsLong, IsStruck, RefusesOfPlan, RefusesPlan, RefusesStruck};
 
@@ -54,7 +54,7 @@ fn struck_text(alloc: Global, node: u32, bit: u32, plan: &Plan) -> Result<String
 /// The document of a plan.
 fn document(alloc: Global, plan: &Plan) -> Result<String, CommandRefusal>
     requires { HasTexts plan.now }
-    ensures ok { IfOk result (λ text. IsPlanOf (string_bytes text) plan.now) }
+    ensures ok { IfOk result (λ text. IsPlanText plan.now (string_bytes text)) }
     ensures err { IfErr result (RefusesPlan IsLong plan.now) }
 {
     match plan_text(alloc, plan) {

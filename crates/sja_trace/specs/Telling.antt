@@ -34,7 +34,7 @@ at_hand b = b.bit
 abbrev pub HaveCome : List Entry → ℕ → NodeBits → List Happening → Type 0
 HaveCome journal bits b hs = HasCome b.over journal bits b.replay hs × (at_hand b ≡ bit_before bits hs)
 
--- of some journal, after some bits
+-- after some bits of some journal these happenings were told
 pub record IsUnderway (b : NodeBits) : Type 0 where
   pub journal : List Entry
   pub bits : ℕ

@@ -11,8 +11,8 @@ use can_bits::Level;
 use can_node::Counters;
 use sja_replay::ShortBit;
 
-/// Whether the node saw what the bus had, acknowledged nothing and began with the counters that the bits before left.
-/// Then nothing is said of the bit.
+/// Whether the node saw what the bus had, began with the counters that the bits before left, and neither may have begun
+/// a frame with the bit nor acknowledged one. Then nothing is said of the bit.
 #[tactic(auto, using(crate::proofs::Shorts::plain_none))]
 pub(crate) fn is_plain(bus: Level, left: Counters, bit: &ShortBit) -> bool
     ensures { result ≡ true → all_said bus left (happening_of bit.now) ≡ [] }

@@ -19,10 +19,11 @@ pub record HasSameSteps (old new : NodeSteps) : Type 0 where
   pub steps : new.steps.now ≡ old.steps.now
   pub done : new.done.now ≡ old.done.now
 
--- the teller went on past a bit, or to the end
+-- the teller went on past a bit, and what it had in short stays as it was; or to the end
 pub record TellerGoesOn (old new : Teller) : Type 0 where
   pub same : HasSameSteps old.steps new.steps
   pub counters : new.counters ≡ counters_after (at_hand old.bits)
+  pub short : new.short ≡ old.short
   pub bits : TellsOn old.bits new.bits
 
 pub record TellerEnds (old new : Teller) : Type 0 where
@@ -36,7 +37,8 @@ abbrev pub AreUnderway : List Teller → Type 0
 AreUnderway [] = Unit {0}
 AreUnderway (t ∷ tellers) = IsUnderway t.bits × AreUnderway tellers
 
--- after so many bits the teller of a node has told this part of its story
+-- after so many bits the teller of a node has told this part of its story. Before the first one nothing is at hand in
+-- short
 pub record HasTold (steps : List Step) (n : NodeValue) (bits : ℕ) (t : Teller) (s : NodeStory) : Type 0 where
   pub steps_are : t.steps.steps.now ≡ steps
   pub done_are : t.steps.done.now ≡ n.done

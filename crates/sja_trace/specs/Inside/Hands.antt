@@ -1,5 +1,5 @@
--- The bit at hand of a node, in short where it told nothing: as such a bit tells less than a happening, of it there may
--- be several, of each of which the same is said.
+-- The bit at hand of a node, in short where it told nothing. A bit in short leaves open which happening it was: each
+-- that it may have been has the same line.
 use Rattle.std.specs.Prelude.{◌≡◌, ℕ, suc, not, false, Option, Some, None, List, slice_get}
 use Rattle.can_bits.specs.declared.level.Level.{Level}
 use Rattle.can_node.specs.declared.counters.Counters.{Counters}
@@ -24,7 +24,7 @@ abbrev pub driven_of : Option ShortBit → Option Happening → Level
 driven_of None own = driven_in own
 driven_of (Some q) own = q.driven
 
--- one of those that it may be
+-- one of the happenings that a bit in short may have been
 abbrev pub view_of : ShortBit → View
 view_of q = record {
   phase = q.phase;
@@ -52,13 +52,15 @@ abbrev pub hand_line : Level → ℕ → ℕ → Counters → Option ShortBit �
 hand_line bus bit node left None own = event_line bus bit node left own
 hand_line bus bit node left (Some q) own = event_line bus bit node left (Some (happening_of q))
 
--- ---- it is this one
+-- ---- which happening is at hand
 
+-- there is one, and this is it in short
 pub record IsBit (q : ShortBit) (o : Option Happening) : Type 0 where
   pub happened : Happening
   pub is : o ≡ Some happened
   pub short : IsInShort happened q
 
+-- that one, where a bit is at hand in short; else the one that is at hand in full (`own`), if there is one
 abbrev pub IsHand : Option ShortBit → Option Happening → Option Happening → Type 0
 IsHand None own o = o ≡ own
 IsHand (Some q) own o = IsBit q o

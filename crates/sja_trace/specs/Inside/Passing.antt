@@ -1,5 +1,5 @@
--- A run that was told bit by bit, where bits that told nothing are at hand in short. Whatever is said of the tellers is
--- said of others in their place, that have each bit at hand in full.
+-- A run that was told bit by bit, where bits that told nothing are at hand in short. Of each such teller there is one
+-- that has the bit at hand in full and else is the same, and what `Coming` says is said of these.
 use Rattle.std.specs.Prelude.{◌≡◌, ℕ, false, List, ◌++◌, map}
 use Rattle.can_bits.specs.declared.level.Level.{Level}
 use Rattle.lemmas.specs.Related.{EachRelated}

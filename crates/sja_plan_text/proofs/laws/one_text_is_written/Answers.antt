@@ -1,0 +1,5 @@
+use Rattle.sja_plan_text.proofs.Alike.{one_is_written}
+use Rattle.sja_plan_text.proofs.laws.one_text_is_written.Goals as goal
+
+pub returns : goal.returns
+returns c = one_is_written

@@ -1,0 +1,66 @@
+-- The text in which a plan is written, of which there is one at most (this project's own rule): lines of a TOML
+-- document (TOML 1.0.0), each of them ended by a line feed.
+use Rattle.std.specs.Prelude.{◌≡◌, ◌⊎◌, ◌<◌, ℕ, pos, Bool, true, false, List, [], ◌∷◌, ◌++◌, length, codes, map}
+use Rattle.toml.specs.Data.{Data, integer}
+use Rattle.toml.specs.Tables.{Expression, key_value, array_table}
+use Rattle.toml.specs.Text.{IsLinesText}
+use Rattle.sja_plan.specs.Faults.{IsPlanOf}
+use Rattle.sja_plan.specs.Limits.{most_bytes}
+use Rattle.sja_plan.specs.Plan.{PlanValue}
+use Rattle.sja_plan.specs.Words.{Text}
+use Rattle.sja_script.specs.declared.step.Step.{Step}
+use Rattle.sja_script.specs.declared.strike.Strike.{Strike}
+use Rattle.sja_plan_text.specs.Texts.{step_text, turn_text, strike_text}
+use Rattle.sja_plan_text.specs.Inside.Table.{texts_data}
+
+-- ---- its lines
+
+-- a key and its value
+abbrev pub pair : Text → Data → Expression
+pair key d = (([], key), key_value d)
+
+-- the strikes, where there are some
+abbrev pub strike_lines : List Strike → List Expression
+strike_lines [] = []
+strike_lines (s ∷ strikes) = pair (codes "faults") (texts_data (map strike_text (s ∷ strikes))) ∷ []
+
+-- of each node the header `[[node]]`, and below it its steps
+abbrev pub node_lines : List (List Step) → List Expression
+node_lines [] = []
+node_lines (steps ∷ nodes) =
+    (([], codes "node"), array_table) ∷ pair (codes "steps") (texts_data (map step_text steps)) ∷ node_lines nodes
+
+-- the version, the bits, the turns and the strikes, in front of other lines
+abbrev pub front_lines : ℕ → ℕ → List Text → List Strike → List Expression → List Expression
+front_lines version bits turns strikes es =
+    pair (codes "version") (integer (pos version)) ∷ pair (codes "bits") (integer (pos bits))
+    ∷ pair (codes "turns") (texts_data turns) ∷ (strike_lines strikes ++ es)
+
+-- all lines of a plan, in their order
+abbrev pub plan_lines : PlanValue → List Expression
+plan_lines p = front_lines p.version p.bits (map turn_text p.turns) p.strikes (node_lines p.nodes)
+
+-- ---- its text
+
+-- the text is these lines, as the kit's crate `toml` writes them: pretty, each item of a list of two or more has a line
+-- of its own; else all have one. An empty line stands before each header
+abbrev pub IsWritten : Bool → PlanValue → Text → Type 0
+IsWritten pretty p text = IsLinesText pretty false (plan_lines p) text
+
+-- what is so written is longer than a document may be
+abbrev pub IsLong : Bool → PlanValue → Type 0
+IsLong pretty p = (text : Text) × IsWritten pretty p text × (most_bytes text < length text)
+
+-- the text of a plan, which is read as this plan: the pretty one, or where that is too long the other
+pub record IsPlanText (p : PlanValue) (text : Text) : Type 0 where
+  pub read : IsPlanOf text p
+  pub form : IsWritten true p text ⊎ (IsWritten false p text × IsLong true p)
+
+-- it has none, since each is too long
+pub record IsTooLong (p : PlanValue) : Type 0 where
+  pub pretty : IsLong true p
+  pub flat : IsLong false p
+
+-- the last line of a text is ended
+abbrev pub EndsInFeed : Text → Type 0
+EndsInFeed text = (front : Text) × (text ≡ front ++ 10 ∷ [])
