@@ -10,7 +10,6 @@ use super::board::Board;
 use super::bus::Bus;
 use super::seat::Seat;
 use super::untold::Untold;
-use can_bits::Level;
 use sja_link::BusEnd;
 use sja_wire::BusFault;
 
@@ -180,9 +179,12 @@ impl Seat {
         ensures rested { OnOk result (self.new ≡ after_bits count self.old) }
         ensures full { IfErr result (λ f. IsFullAfter count self.old self.new f) }
     {
-        for _ in 0..count {
-            self.enter_bit(Level::Recessive, Level::Recessive)?;
+        let free = self.journal.free();
+        if free < count as usize {
+            self.journal.enter_rest_reserved(free as u32);
+            return Err(BusFault::JournalFull(self.number()));
         }
+        self.journal.enter_rest_reserved(count);
         Ok(())
     }
 }

@@ -3,6 +3,7 @@ pub mod Entering
 pub mod Openings
 pub mod ListCounts
 pub mod Decoding
+pub mod Filling
 pub mod Counting
 pub mod Keeping
 pub mod Skipping

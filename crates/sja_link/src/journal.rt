@@ -1,7 +1,8 @@
 //! The journal of a node.
 
 ghost use Rattle.std.specs.Prelude.{◌≡◌, ◌<◌, ◌≤◌, ◌+◌, ◌-◌, ◌*◌, ◌^◌, [], ◌∷◌, ◌++◌};
-ghost use Rattle.std.specs.Prelude.{length, true, false, IfOk, IfErr, OnOk, OnErr};
+ghost use Rattle.std.specs.Prelude.{length, replicate, true, false, IfOk, IfErr, OnOk, OnErr};
+ghost use Rattle.can_bits.specs.declared.level.Level.TheVariants.{Recessive};
 ghost use Rattle.sja_link.specs.declared.entry.Entry.TheVariants.{Bit, Up as Item};
 ghost use Rattle.sja_link.specs.declared.up.Up.TheVariants.{Start, Credit, Send};
 ghost use Rattle.sja_link.specs.Between.{between_bits};
@@ -137,6 +138,18 @@ impl Journal {
         ensures entries { self.new.entries ≡ self.old.entries ++ Bit driven seen ∷ [] }
     {
         self.push(Code::of_bit(driven, seen));
+    }
+
+    /// Adds so many bits that the node drove and saw recessive, where as many entries are free. They are written at
+    /// once.
+    pub fn enter_rest_reserved(&mut self, count: u32)
+        requires free { count ≤ self.old.room - length self.old.entries }
+        ensures room { self.new.room ≡ self.old.room }
+        ensures entries { self.new.entries ≡ self.old.entries ++ replicate count (Bit Recessive Recessive) }
+    {
+        let used = self.codes.len() + count as usize;
+        // The room is reserved, so that no memory is asked for.
+        let _ = self.codes.resize(used, Code::RecessiveAsDriven);
     }
 
     /// How many reserved entries are free.

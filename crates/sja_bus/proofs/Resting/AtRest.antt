@@ -1,5 +1,5 @@
 -- A node at rest: a recessive bit changes nothing of it, and an abort finds no request.
-use Rattle.std.proofs.Common.{◌≡◌, ℕ, zero, suc, Bool, true, false, Option, Some, None, List, [], ◌∷◌, ◌++◌, ◌+◌, arith}
+use Rattle.std.proofs.Common.{◌≡◌, ℕ, zero, suc, Bool, true, false, Option, Some, None, List, [], ◌∷◌, ◌++◌}
 use Rattle.std.proofs.Common.{inl, inr, refl, sym, ap, ◌∙◌, subst, append_assoc, append-nil}
 use Rattle.std.specs.Prelude.{◌⊎◌, if◌then◌else◌, nat_lt}
 use Rattle.can_bits.specs.declared.level.Level.{Level}
@@ -32,7 +32,6 @@ use Rattle.can_node.proofs.Machine.Told.{drives_once}
 use Rattle.sja_link.specs.declared.entry.Entry.{Entry}
 use Rattle.sja_link.specs.declared.entry.Entry.TheVariants.{Bit}
 use Rattle.sja_link.specs.Records.{record_of}
-use Rattle.sja_link.specs.Written.{Written}
 use Rattle.sja_regs.specs.declared.orders.Orders.{Orders}
 use Rattle.sja_regs.specs.declared.bus_turn.BusTurn.{BusTurn}
 use Rattle.sja_bus.specs.declared.seat.Seat.{Seat}
@@ -212,22 +211,3 @@ untold_none s = record {
   still = λ e. (e, refl);
   drops = λ ne. drops_none s.journal.entries s.untold ne;
 }
-
--- one bit more was entered
-pub after_step : (n : ℕ) (s old new : Seat) → old ≡ after_bits n s → new ≡ record old { journal = new.journal } →
-    new.journal.room ≡ old.journal.room →
-    new.journal.entries ≡ old.journal.entries ++ Bit Recessive Recessive ∷ [] → new ≡ after_bits (n + 1) s
-after_step n s old new is others room entries =
-    let b = Bit Recessive Recessive in
-    let j : new.journal ≡ record old.journal { entries = old.journal.entries ++ b ∷ [] } =
-    λ i. record { entries = entries i; room = room i } in
-    let next : suc n ≡ n + 1 = omega arith in
-    others
-    ∙ ap (λ (w : Written). let x : Seat = record old { journal = w } in x) j
-    ∙ ap (λ (t : Seat). let x : Seat = record t {
-      journal =
-          record t.journal { entries = t.journal.entries ++ b ∷ [] };
-    } in x) is
-    ∙ ap (λ l. let x : Seat = record s { journal = record s.journal { entries = l } } in x)
-    (one_more n s.journal.entries)
-    ∙ ap (λ k. after_bits k s) next
