@@ -5,7 +5,6 @@ use Rattle.std.specs.List.{fold}
 use Rattle.std.specs.Prelude.{is_some}
 use Rattle.std.proofs.lemmas.Bool.{le-ltb, ne_eqb}
 use Rattle.std.proofs.lemmas.List.{append-nil, append_assoc}
-use Rattle.clap.proofs.OnLiterals.{clap_on_literals}
 use Rattle.clap.specs.Kinds.{Kinds, or_else, range_kinds}
 use Rattle.clap.specs.Faults.{check_fault, defaults_fault, entered_fault, level_fault, settle_fault, walk_fault}
 use Rattle.clap.specs.Simple.{Shape, built_leaf, entered, names_of}
@@ -17,6 +16,7 @@ use Rattle.sja_words.specs.declared.plan_question.PlanQuestion.{PlanQuestion}
 use Rattle.sja_words.specs.declared.plan_question.PlanQuestion.TheVariants.{Check, Report}
 use Rattle.sja_words.proofs.Messages.{asked_in, left_alone, left_over, program, texts_pass}
 use Rattle.sja_words.proofs.NoFlag.{each_of, no_dashes, no_hyphen}
+use Rattle.sja_words.proofs.OnWords.{sja_on_literals}
 
 -- `check` (`true`), or `run`
 abbrev word : Bool → Text
@@ -45,14 +45,14 @@ read names = record {
 -- the first of them
 first_read : (c : Bool) (text : Text) → begins_with_hyphen text ≡ false →
     walked (shape c).rules [] (walk_from nothing_held) text ≡ read (text ∷ [])
-unfolding clap_on_literals
+unfolding sja_on_literals
 first_read true text h = rw (no_dashes text h, no_hyphen text h, no_hyphen text h) refl
 first_read false text h = rw (no_dashes text h, no_hyphen text h, no_hyphen text h) refl
 
 -- one more
 one_read : (c : Bool) (before : List Text) (text : Text) → begins_with_hyphen text ≡ false →
     walked (shape c).rules [] (read before) text ≡ read (before ++ text ∷ [])
-unfolding clap_on_literals
+unfolding sja_on_literals
 one_read true before text h = rw (no_dashes text h, no_hyphen text h, no_hyphen text h) refl
 one_read false before text h = rw (no_dashes text h, no_hyphen text h, no_hyphen text h) refl
 
@@ -78,7 +78,7 @@ walk_read c first texts h =
 entering : (c : Bool) (words : List Text) →
     walk program.top.rules (names_of program) nothing_held (word c ∷ words)
     ≡ record (walk_from nothing_held) { stopped = Some (word c, words) }
-unfolding clap_on_literals
+unfolding sja_on_literals
 entering true words = left_over program.top.rules (names_of program) (walk_from nothing_held) (codes "check") [] words
 entering false words = left_over program.top.rules (names_of program) (walk_from nothing_held) (codes "run") [] words
 
@@ -87,7 +87,7 @@ asked_behind c w = request_by (word c) (finished (shape c).rules w.held)
 
 asked_files : (c : Bool) (name first : Text) (texts : List Text) → HasNoFlag (first ∷ texts) →
     asked (name ∷ word c ∷ first ∷ texts) ≡ Some (files (question c) 1 (first ∷ texts))
-unfolding clap_on_literals asked
+unfolding sja_on_literals asked
 asked_files true name first texts h =
     ap asked_in (entering true (first ∷ texts)) ∙ ap (asked_behind true) (walk_read true first texts h)
 asked_files false name first texts h =
@@ -106,7 +106,7 @@ in_range count some few =
 
 -- no name is a flag
 all_fit : (c : Bool) (before texts : List Text) → HasNoFlag texts → walk_fault (shape c) [] (read before) texts ≡ []
-unfolding clap_on_literals
+unfolding sja_on_literals
 all_fit c before [] h = refl
 all_fit true before (text ∷ texts) h =
     let each = each_of text texts h in
@@ -119,7 +119,7 @@ all_fit false before (text ∷ texts) h =
 
 walk_fits : (c : Bool) (first : Text) (texts : List Text) → HasNoFlag (first ∷ texts) →
     walk_fault (shape c) [] (walk_from nothing_held) (first ∷ texts) ≡ []
-unfolding clap_on_literals
+unfolding sja_on_literals
 walk_fits true first texts h =
     let each = each_of first texts h in
     rw (no_dashes first each.0, no_hyphen first each.0, no_hyphen first each.0)
@@ -138,7 +138,7 @@ ends_with c fault w =
 
 names_fit : (c : Bool) (first : Text) (texts : List Text) → HasNoFlag (first ∷ texts) →
     length (first ∷ texts) < 2 ^ 64 → level_fault (shape c) [] nothing_held (first ∷ texts) false [] ≡ []
-unfolding clap_on_literals
+unfolding sja_on_literals
 names_fit true first texts h few =
     ap₂ (ends_with true) (walk_fits true first texts h) (walk_read true first texts h)
     ∙ rw (in_range (length (first ∷ texts)) (omega arith) few, texts_pass texts) refl
@@ -149,7 +149,7 @@ names_fit false first texts h few =
 -- nor does the program's own walk refuse one
 words_fit : (c : Bool) (words : List Text) →
     walk_fault program.top (names_of program) (walk_from nothing_held) (word c ∷ words) ≡ []
-unfolding clap_on_literals
+unfolding sja_on_literals
 words_fit true words = left_alone program.top (names_of program) (walk_from nothing_held) (codes "check") [] words
 words_fit false words = left_alone program.top (names_of program) (walk_from nothing_held) (codes "run") [] words
 
@@ -163,7 +163,7 @@ program_ends_with fault w =
 
 taken_files : (c : Bool) (name first : Text) (texts : List Text) → HasNoFlag (first ∷ texts) →
     length (first ∷ texts) < 2 ^ 64 → faults (name ∷ word c ∷ first ∷ texts) ≡ []
-unfolding clap_on_literals faults
+unfolding sja_on_literals faults
 taken_files true name first texts h few =
     ap₂ program_ends_with (words_fit true (first ∷ texts)) (entering true (first ∷ texts))
     ∙ rw (names_fit true first texts h few) refl

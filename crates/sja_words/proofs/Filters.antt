@@ -3,16 +3,16 @@ use Rattle.std.proofs.Common.{◌≡◌, Bool, [], ◌∷◌, codes, refl, false
 use Rattle.std.specs.Prelude.{option_map}
 use Rattle.std.proofs.lemmas.Slice.Eq.{bytes_eq-Decides}
 use Rattle.std.specs.Str.{bytes_eq}
-use Rattle.clap.proofs.OnLiterals.{clap_on_literals}
 use Rattle.clap.specs.Words.{Text}
 use Rattle.sja_words.specs.Words.{HasNoFlag, ParsesAs, Request, begins_with_hyphen, filter, single_in, asked, faults}
 use Rattle.sja_words.proofs.NoFlag.{each_of, no_dashes, no_hyphen}
+use Rattle.sja_words.proofs.OnWords.{sja_on_literals}
 
 -- four texts of which none begins with `-`, behind `filter`
 asked_four : (name a b c d : Text) → begins_with_hyphen a ≡ false → begins_with_hyphen b ≡ false
     → begins_with_hyphen c ≡ false → begins_with_hyphen d ≡ false →
     asked (name ∷ codes "filter" ∷ a ∷ b ∷ c ∷ d ∷ []) ≡ option_map (λ single. filter single b c d) (single_in a)
-unfolding clap_on_literals asked
+unfolding sja_on_literals asked
 asked_four name a b c d ha hb hc hd =
     rw (
       no_dashes a ha,
@@ -32,7 +32,7 @@ asked_four name a b c d ha hb hc hd =
 taken_four : (name a b c d : Text) → begins_with_hyphen a ≡ false → begins_with_hyphen b ≡ false
     → begins_with_hyphen c ≡ false → begins_with_hyphen d ≡ false →
     faults (name ∷ codes "filter" ∷ a ∷ b ∷ c ∷ d ∷ []) ≡ []
-unfolding clap_on_literals faults
+unfolding sja_on_literals faults
 taken_four name a b c d ha hb hc hd =
     rw (
       no_dashes a ha,

@@ -1,8 +1,10 @@
+pub mod Commands
 pub mod FileNames
 pub mod Filters
 pub mod Messages
 pub mod NoFlag
 pub mod Numbers
+pub mod OnWords
 pub mod Parses
 pub mod PlainFiles
 pub mod PlainPictures

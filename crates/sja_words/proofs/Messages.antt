@@ -5,7 +5,6 @@ use Rattle.std.specs.List.{fold}
 use Rattle.std.specs.Prelude.{is_some}
 use Rattle.std.proofs.lemmas.Bool.{le-ltb, ne_eqb}
 use Rattle.std.proofs.lemmas.List.{append-nil, append_assoc}
-use Rattle.clap.proofs.OnLiterals.{clap_on_literals}
 use Rattle.clap.specs.Kinds.{Kinds, or_else, range_kinds, values_kinds}
 use Rattle.clap.specs.Faults.{check_fault, defaults_fault, entered_fault, level_fault, settle_fault, walk_fault}
 use Rattle.clap.specs.Simple.{Shape, built, built_leaf, entered, names_of}
@@ -17,6 +16,7 @@ use Rattle.sja_words.specs.Words.{HasNoFlag, ParsesAs, Request, arbitrate, arbit
 use Rattle.sja_words.specs.Words.{faults, request_in}
 use Rattle.sja_words.proofs.NoFlag.{each_of, no_dashes, no_hyphen}
 use Rattle.sja_words.proofs.Several.{arbitrate_asked, not_asked}
+use Rattle.sja_words.proofs.OnWords.{sja_on_literals}
 
 -- `arbitrate` as the parser has built it
 abbrev pub shape : Shape
@@ -35,13 +35,13 @@ read messages = record {
 -- the first of them
 first_read : (text : Text) → begins_with_hyphen text ≡ false →
     walked shape.rules [] (walk_from nothing_held) text ≡ read (text ∷ [])
-unfolding clap_on_literals
+unfolding sja_on_literals
 first_read text h = rw (no_dashes text h, no_hyphen text h, no_hyphen text h) refl
 
 -- one more
 one_read : (before : List Text) (text : Text) → begins_with_hyphen text ≡ false →
     walked shape.rules [] (read before) text ≡ read (before ++ text ∷ [])
-unfolding clap_on_literals
+unfolding sja_on_literals
 one_read before text h = rw (no_dashes text h, no_hyphen text h, no_hyphen text h) refl
 
 -- all that follow
@@ -66,7 +66,7 @@ found_in w = all_of (codes "MESSAGE") (finished shape.rules w.held)
 
 found_read : (first : Text) (texts : List Text) → HasNoFlag (first ∷ texts) →
     found_in (walk shape.rules [] nothing_held (first ∷ texts)) ≡ Some (first ∷ texts)
-unfolding clap_on_literals
+unfolding sja_on_literals
 found_read first texts h = ap found_in (walk_read first texts h)
 
 -- ---- the words before them
@@ -89,7 +89,7 @@ left_over rules names w name before (word ∷ words) =
 entering : (words : List Text) →
     walk program.top.rules (names_of program) nothing_held (codes "arbitrate" ∷ words)
     ≡ record (walk_from nothing_held) { stopped = Some (codes "arbitrate", words) }
-unfolding clap_on_literals
+unfolding sja_on_literals
 entering words =
     left_over program.top.rules (names_of program) (walk_from nothing_held) (codes "arbitrate") [] words
 
@@ -99,7 +99,7 @@ asked_in w = request_in (entered program w.stopped)
 -- what the words ask for
 pub asked_messages : (name first : Text) (texts : List Text) → HasNoFlag (first ∷ texts) →
     asked (name ∷ codes "arbitrate" ∷ first ∷ texts) ≡ arbitrate_in (Some (first ∷ texts))
-unfolding clap_on_literals asked
+unfolding sja_on_literals asked
 asked_messages name first texts h =
     ap asked_in (entering (first ∷ texts)) ∙ ap arbitrate_in (found_read first texts h)
 
@@ -116,7 +116,7 @@ in_range count some few = rw (ne_eqb count 0 (λ is. absurd (omega arith)), le-l
 
 -- no message is a flag
 all_fit : (before texts : List Text) → HasNoFlag texts → walk_fault shape [] (read before) texts ≡ []
-unfolding clap_on_literals
+unfolding sja_on_literals
 all_fit before [] h = refl
 all_fit before (text ∷ texts) h =
     let each = each_of text texts h in
@@ -125,7 +125,7 @@ all_fit before (text ∷ texts) h =
 
 walk_fits : (first : Text) (texts : List Text) → HasNoFlag (first ∷ texts) →
     walk_fault shape [] (walk_from nothing_held) (first ∷ texts) ≡ []
-unfolding clap_on_literals
+unfolding sja_on_literals
 walk_fits first texts h =
     let each = each_of first texts h in
     rw (no_dashes first each.0, no_hyphen first each.0, no_hyphen first each.0) (all_fit (first ∷ []) texts each.1)
@@ -139,7 +139,7 @@ ends_with fault w =
 
 messages_fit : (first : Text) (texts : List Text) → HasNoFlag (first ∷ texts) → length (first ∷ texts) ≤ 8 →
     level_fault shape [] nothing_held (first ∷ texts) false [] ≡ []
-unfolding clap_on_literals
+unfolding sja_on_literals
 messages_fit first texts h few =
     ap₂ ends_with (walk_fits first texts h) (walk_read first texts h)
     ∙ rw (in_range (length (first ∷ texts)) (omega arith) few, texts_pass texts) refl
@@ -154,7 +154,7 @@ left_alone s names w name before (word ∷ words) = left_alone s names w name (b
 -- nor does the program's own walk refuse one
 words_fit : (words : List Text) →
     walk_fault program.top (names_of program) (walk_from nothing_held) (codes "arbitrate" ∷ words) ≡ []
-unfolding clap_on_literals
+unfolding sja_on_literals
 words_fit words = left_alone program.top (names_of program) (walk_from nothing_held) (codes "arbitrate") [] words
 
 -- what the program refuses, by the faults of its walk, what the subcommand refuses, and where the walk ends
@@ -167,7 +167,7 @@ program_ends_with fault w =
 
 pub taken_messages : (name first : Text) (texts : List Text) → HasNoFlag (first ∷ texts) →
     length (first ∷ texts) ≤ 8 → faults (name ∷ codes "arbitrate" ∷ first ∷ texts) ≡ []
-unfolding clap_on_literals faults
+unfolding sja_on_literals faults
 taken_messages name first texts h few =
     ap₂ program_ends_with (words_fit (first ∷ texts)) (entering (first ∷ texts))
     ∙ rw (messages_fit first texts h few) refl
@@ -183,7 +183,7 @@ some_messages name (first ∷ texts) h some few = record {
 }
 
 pub no_messages : (name : Text) (r : Request) → ¬ ParsesAs (name ∷ codes "arbitrate" ∷ []) r
-unfolding clap_on_literals asked
+unfolding sja_on_literals asked
 no_messages name r parses = cc (parses.asks)
 
 pub more_messages : (name : Text) (messages : List Text) (r : Request) → HasNoFlag messages → 8 < length messages →

@@ -1,13 +1,24 @@
 -- From the parser's answer to what the words ask for.
-use Rattle.std.proofs.Common.{◌≡◌, List, [], ◌∷◌, Ok, Err, refl, true, inl, inr}
+use Rattle.std.proofs.Common.{◌≡◌, ◌∙◌, List, [], ◌∷◌, Result, Ok, Err, Some, refl, sym, true, inl, inr}
+use Rattle.std.specs.Prelude.{IfOk}
 use Rattle.clap.specs.Words.{App, FailsBy, HasMatchesOf, Text, fault_of}
-use Rattle.clap.specs.Words.{is_simple_and_free, kind_of, subcommand_rows_of}
+use Rattle.clap.specs.Words.{is_simple, is_simple_and_free, kind_of, subcommand_rows_of}
 use Rattle.clap.specs.Kinds.{HasKind, Kinds}
 use Rattle.clap.specs.declared.error.Error.{Error}
 use Rattle.clap.specs.declared.error.kind.ErrorKind.TheVariants.{OutOfMemory}
 use Rattle.clap.specs.declared.parser.matches.ArgMatches.{ArgMatches}
 use Rattle.sja_words.specs.CommandLine.{sja_app}
-use Rattle.sja_words.specs.Words.{asked, faults, request_in}
+use Rattle.sja_words.specs.Words.{IsAnswer, ParsesAs, Request, asked, faults, request_in}
+use Rattle.sja_words.proofs.OnWords.{sja_on_literals}
+
+-- the program's commands are such that the parser's answer is known
+is_plain : is_simple sja_app ≡ true
+unfolding sja_on_literals
+is_plain = refl
+
+is_free : is_simple_and_free sja_app ≡ true
+unfolding sja_on_literals
+is_free = refl
 
 -- what the matches ask for is what the words ask for
 pub asked_at : (a : App) (words : List Text) (m : ArgMatches) → a ≡ sja_app → HasMatchesOf a words m →
@@ -15,7 +26,7 @@ pub asked_at : (a : App) (words : List Text) (m : ArgMatches) → a ≡ sja_app 
 unfolding asked
 asked_at a words m is matches =
     let own : HasMatchesOf sja_app words m = rw is at matches in
-    rw (own refl).1 refl
+    rw (own is_plain).1 refl
 
 -- where the parser gives matches it finds no fault
 pub taken_at : (a : App) (words : List Text) (m : ArgMatches) → a ≡ sja_app →
@@ -23,7 +34,7 @@ pub taken_at : (a : App) (words : List Text) (m : ArgMatches) → a ≡ sja_app 
 unfolding faults
 taken_at a words m is fails =
     let own : is_simple_and_free sja_app ≡ true → fault_of sja_app words ≡ [] = rw is at fails in
-    own refl
+    own is_free
 
 -- an error of no kind is one of memory
 only_memory : (kinds : Kinds) (e : Error) → HasKind kinds e → kinds ≡ [] → kind_of e ≡ OutOfMemory
@@ -38,4 +49,36 @@ pub refused_at : (a : App) (words : List Text) (e : Error) → a ≡ sja_app →
 unfolding faults
 refused_at a words e is fails none =
     let own : is_simple_and_free sja_app ≡ true → HasKind (fault_of sja_app words) e = rw is at fails in
-    only_memory (fault_of sja_app words) e (own refl) none
+    only_memory (fault_of sja_app words) e (own is_free) none
+
+-- from what the parser ensures to its answer
+pub answered : (X Y : ArgMatches → Type 0) (a : App) (words : List Text) (r : Result ArgMatches Error) → a ≡ sja_app →
+    IfOk r (λ m. X m × Y m × HasMatchesOf a words m) →
+    (is_simple_and_free a ≡ true → FailsBy (fault_of a words) r) → IsAnswer words r
+unfolding IsAnswer
+answered X Y a words (Ok m) is matches fails = (taken_at a words m is fails, asked_at a words m is matches.2)
+answered X Y a words (Err e) is matches fails = λ none. refused_at a words e is fails none
+
+-- the request of words that the parser took
+pub taken_request : (words : List Text) (given : Result ArgMatches Error) (m : ArgMatches) (r : Request) →
+    given ≡ Ok m → IsAnswer words given → request_in (subcommand_rows_of m) ≡ Some r → ParsesAs words r
+unfolding IsAnswer
+taken_request words given m r is answer found =
+    let taken : IsAnswer words (Ok m) = rw is at answer in
+    record { taken = taken.0; asks = sym taken.1 ∙ found }
+
+-- and such words ask for it alone
+pub asked_request : (words : List Text) (given : Result ArgMatches Error) (m : ArgMatches) (r : Request) →
+    given ≡ Ok m → IsAnswer words given → ParsesAs words r → request_in (subcommand_rows_of m) ≡ Some r
+unfolding IsAnswer
+asked_request words given m r is answer parses =
+    let taken : IsAnswer words (Ok m) = rw is at answer in
+    taken.1 ∙ parses.asks
+
+-- words that ask for something are refused where memory was
+pub refused_request : (words : List Text) (given : Result ArgMatches Error) (e : Error) (r : Request) →
+    given ≡ Err e → IsAnswer words given → ParsesAs words r → kind_of e ≡ OutOfMemory
+unfolding IsAnswer
+refused_request words given e r is answer parses =
+    let refused : IsAnswer words (Err e) = rw is at answer in
+    refused parses.taken

@@ -1,23 +1,23 @@
 -- What some words with names of files ask for, by computing the parser's answer.
 use Rattle.std.proofs.Common.{ℕ, List, [], ◌∷◌, codes, refl, false}
-use Rattle.clap.proofs.OnLiterals.{clap_on_literals}
 use Rattle.sja_words.specs.Words.{Request, ParsesAs, asked, faults, files}
 use Rattle.sja_words.specs.declared.plan_question.PlanQuestion.TheVariants.{Report, Trace}
+use Rattle.sja_words.proofs.OnWords.{sja_on_literals}
 
 -- three names, of which one is the input, and the number of threads among them
 pub run_jobs : (name : List ℕ) →
     ParsesAs (name ∷ codes "run" ∷ codes "a" ∷ codes "-" ∷ codes "--jobs" ∷ codes "3" ∷ codes "b" ∷ [])
     (files (Report false) 3 (codes "a" ∷ codes "-" ∷ codes "b" ∷ []))
-unfolding clap_on_literals asked faults
+unfolding sja_on_literals asked faults
 run_jobs name = record { taken = refl; asks = refl }
 
 -- `trace` and one name
 pub trace_file : (name : List ℕ) →
     ParsesAs (name ∷ codes "trace" ∷ codes "a" ∷ []) (files (Trace false) 1 (codes "a" ∷ []))
-unfolding clap_on_literals asked faults
+unfolding sja_on_literals asked faults
 trace_file name = record { taken = refl; asks = refl }
 
 -- `trace` and two names
 pub trace_files : (name : List ℕ) (r : Request) → ¬ ParsesAs (name ∷ codes "trace" ∷ codes "a" ∷ codes "b" ∷ []) r
-unfolding clap_on_literals faults
+unfolding sja_on_literals faults
 trace_files name r parses = cc (parses.taken)

@@ -1,38 +1,38 @@
 -- What some words ask for, by computing the parser's answer.
 use Rattle.std.proofs.Common.{◌≡◌, ◌==◌, ℕ, List, [], ◌∷◌, codes, refl, false, true, Some}
-use Rattle.clap.proofs.OnLiterals.{clap_on_literals}
 use Rattle.clap.specs.declared.error.kind.ErrorKind.TheVariants.{DisplayVersion}
 use Rattle.sja_words.specs.Words.{Request, ParsesAs, decode, encode, message, run, wave, trace, frames, check, live}
 use Rattle.sja_words.specs.Words.{asked, faults}
+use Rattle.sja_words.proofs.OnWords.{sja_on_literals}
 
 -- `encode` and the empty text
 pub empty_text : (name : List ℕ) → ParsesAs (name ∷ codes "encode" ∷ [] ∷ []) (encode [])
-unfolding clap_on_literals asked faults
+unfolding sja_on_literals asked faults
 empty_text name = record { taken = refl; asks = refl }
 
 -- `encode` and a text whose first byte is no `-`
 asked_text : (name rest : List ℕ) (x : ℕ) → (x == 45) ≡ false →
     asked (name ∷ codes "encode" ∷ (x ∷ rest) ∷ []) ≡ Some (encode (x ∷ rest))
-unfolding clap_on_literals asked
+unfolding sja_on_literals asked
 asked_text name rest x h = simp h
 
 taken_text : (name rest : List ℕ) (x : ℕ) → (x == 45) ≡ false → faults (name ∷ codes "encode" ∷ (x ∷ rest) ∷ []) ≡ []
-unfolding clap_on_literals faults
+unfolding sja_on_literals faults
 taken_text name rest x h = simp h
 
 -- `decode` and the empty text
 pub empty_line : (name : List ℕ) → ParsesAs (name ∷ codes "decode" ∷ [] ∷ []) (decode [])
-unfolding clap_on_literals asked faults
+unfolding sja_on_literals asked faults
 empty_line name = record { taken = refl; asks = refl }
 
 -- `decode` and a text whose first byte is no `-`
 asked_line : (name rest : List ℕ) (x : ℕ) → (x == 45) ≡ false →
     asked (name ∷ codes "decode" ∷ (x ∷ rest) ∷ []) ≡ Some (decode (x ∷ rest))
-unfolding clap_on_literals asked
+unfolding sja_on_literals asked
 asked_line name rest x h = simp h
 
 taken_line : (name rest : List ℕ) (x : ℕ) → (x == 45) ≡ false → faults (name ∷ codes "decode" ∷ (x ∷ rest) ∷ []) ≡ []
-unfolding clap_on_literals faults
+unfolding sja_on_literals faults
 taken_line name rest x h = simp h
 
 pub line : (name rest : List ℕ) (x : ℕ) → (x == 45) ≡ false →
@@ -41,17 +41,17 @@ line name rest x h = record { taken = taken_line name rest x h; asks = asked_lin
 
 -- `message` and the empty text
 pub empty_form : (name : List ℕ) → ParsesAs (name ∷ codes "message" ∷ [] ∷ []) (message [])
-unfolding clap_on_literals asked faults
+unfolding sja_on_literals asked faults
 empty_form name = record { taken = refl; asks = refl }
 
 -- `message` and a text whose first byte is no `-`
 asked_form : (name rest : List ℕ) (x : ℕ) → (x == 45) ≡ false →
     asked (name ∷ codes "message" ∷ (x ∷ rest) ∷ []) ≡ Some (message (x ∷ rest))
-unfolding clap_on_literals asked
+unfolding sja_on_literals asked
 asked_form name rest x h = simp h
 
 taken_form : (name rest : List ℕ) (x : ℕ) → (x == 45) ≡ false → faults (name ∷ codes "message" ∷ (x ∷ rest) ∷ []) ≡ []
-unfolding clap_on_literals faults
+unfolding sja_on_literals faults
 taken_form name rest x h = simp h
 
 pub form : (name rest : List ℕ) (x : ℕ) → (x == 45) ≡ false →
@@ -61,72 +61,72 @@ form name rest x h = record { taken = taken_form name rest x h; asks = asked_for
 -- `--version`, whatever follows
 pub long_version : (name : List ℕ) (more : List (List ℕ)) →
     faults (name ∷ codes "--version" ∷ more) ≡ DisplayVersion ∷ []
-unfolding clap_on_literals faults
+unfolding sja_on_literals faults
 long_version name more = refl
 
 -- `-V`, whatever follows
 pub short_version : (name : List ℕ) (more : List (List ℕ)) → faults (name ∷ codes "-V" ∷ more) ≡ DisplayVersion ∷ []
-unfolding clap_on_literals faults
+unfolding sja_on_literals faults
 short_version name more = refl
 
 -- the program's name alone
 pub no_subcommand : (name : List ℕ) (r : Request) → ¬ ParsesAs (name ∷ []) r
-unfolding clap_on_literals asked
+unfolding sja_on_literals asked
 no_subcommand name r parses = cc (parses.asks)
 
 -- `encode` alone
 pub no_message : (name : List ℕ) (r : Request) → ¬ ParsesAs (name ∷ codes "encode" ∷ []) r
-unfolding clap_on_literals asked
+unfolding sja_on_literals asked
 no_message name r parses = cc (parses.asks)
 
 -- `run`
 pub run_alone : (name : List ℕ) → ParsesAs (name ∷ codes "run" ∷ []) (run false)
-unfolding clap_on_literals asked faults
+unfolding sja_on_literals asked faults
 run_alone name = record { taken = refl; asks = refl }
 
 -- `run --threads`
 pub run_in_threads : (name : List ℕ) → ParsesAs (name ∷ codes "run" ∷ codes "--threads" ∷ []) (run true)
-unfolding clap_on_literals asked faults
+unfolding sja_on_literals asked faults
 run_in_threads name = record { taken = refl; asks = refl }
 
 -- `wave`
 pub wave_alone : (name : List ℕ) → ParsesAs (name ∷ codes "wave" ∷ []) (wave false)
-unfolding clap_on_literals asked faults
+unfolding sja_on_literals asked faults
 wave_alone name = record { taken = refl; asks = refl }
 
 -- `wave --threads`
 pub wave_in_threads : (name : List ℕ) → ParsesAs (name ∷ codes "wave" ∷ codes "--threads" ∷ []) (wave true)
-unfolding clap_on_literals asked faults
+unfolding sja_on_literals asked faults
 wave_in_threads name = record { taken = refl; asks = refl }
 
 -- `trace`
 pub trace_alone : (name : List ℕ) → ParsesAs (name ∷ codes "trace" ∷ []) (trace false)
-unfolding clap_on_literals asked faults
+unfolding sja_on_literals asked faults
 trace_alone name = record { taken = refl; asks = refl }
 
 -- `trace --threads`
 pub trace_in_threads : (name : List ℕ) → ParsesAs (name ∷ codes "trace" ∷ codes "--threads" ∷ []) (trace true)
-unfolding clap_on_literals asked faults
+unfolding sja_on_literals asked faults
 trace_in_threads name = record { taken = refl; asks = refl }
 
 -- `frames`
 pub frames_alone : (name : List ℕ) → ParsesAs (name ∷ codes "frames" ∷ []) (frames false)
-unfolding clap_on_literals asked faults
+unfolding sja_on_literals asked faults
 frames_alone name = record { taken = refl; asks = refl }
 
 -- `frames --threads`
 pub frames_in_threads : (name : List ℕ) → ParsesAs (name ∷ codes "frames" ∷ codes "--threads" ∷ []) (frames true)
-unfolding clap_on_literals asked faults
+unfolding sja_on_literals asked faults
 frames_in_threads name = record { taken = refl; asks = refl }
 
 -- `check`
 pub check_alone : (name : List ℕ) → ParsesAs (name ∷ codes "check" ∷ []) check
-unfolding clap_on_literals asked faults
+unfolding sja_on_literals asked faults
 check_alone name = record { taken = refl; asks = refl }
 
 -- `live`
 pub live_alone : (name : List ℕ) → ParsesAs (name ∷ codes "live" ∷ []) live
-unfolding clap_on_literals asked faults
+unfolding sja_on_literals asked faults
 live_alone name = record { taken = refl; asks = refl }
 
 -- `encode` and such a text, both together

@@ -1,72 +1,97 @@
 -- The command line of `sja`, as the parser's own description of commands (this project's own rule).
-use Rattle.std.specs.Prelude.{ℕ, codes, true, Some}
+use Rattle.std.specs.Prelude.{◌≡◌, ℕ, Result, IfOk, codes, true, false, Some}
 use Rattle.clap.specs.Lexer.{usize_max}
-use Rattle.clap.specs.Words.{App, Rule, Text, new_app, new_rule, with_rule, with_subcommand}
+use Rattle.clap.specs.Words.{App, Rule, Text, app_of, new_app, new_rule, rule_of, with_rule, with_subcommand}
+use Rattle.clap.specs.declared.builder.arg.Arg.{Arg}
+use Rattle.clap.specs.declared.builder.command.Command.{Command}
+use Rattle.clap.specs.declared.builder.command.Command.TheViews.{out-Command}
 use Rattle.clap.specs.declared.builder.action.ArgAction.TheVariants.{Append, Set, SetTrue}
 use Rattle.clap.specs.declared.builder.value_parser.ValueParser.TheVariants.{Unsigned}
 
+-- the parser reads this of the command that was made, where memory wasn't refused, and none of its arguments counts for
+-- commands of its own too
+unfoldable pub IsHeldAs : {E : Type 0} → Result Command E → App → Type 0
+IsHeldAs made app = IfOk made (λ command. (app_of command ≡ app) × ((out-Command command).has_globals ≡ false))
+
+-- it reads this of the argument, which doesn't count for commands below
+unfoldable pub IsReadAs : Arg → Rule → Type 0
+IsReadAs argument rule = (rule_of argument ≡ rule) × (argument.global ≡ false)
+
+-- a command of this name, which has no argument and no command of its own
+unfoldable pub bare_app : Text → App
+bare_app name = new_app name
+
+-- with one argument more
+unfoldable pub and_rule : App → Rule → App
+and_rule app rule = with_rule app rule
+
+-- with one command of its own more, which has none itself
+unfoldable pub and_app : App → App → App
+and_app app own = with_subcommand app own.top
+
 -- an argument without a flag, which must be given and takes one text
-abbrev pub text_rule : Text → Rule
+unfoldable pub text_rule : Text → Rule
 text_rule id = record (new_rule id) { required = true; action = Some Set }
 
 -- a command with one such argument
-abbrev pub text_app : Text → Text → App
-text_app name id = with_rule (new_app name) (text_rule id)
+unfoldable pub text_app : Text → Text → App
+text_app name id = and_rule (bare_app name) (text_rule id)
 
 -- `filter MODE ACR AMR MESSAGE`. That MODE is `single` or `dual` is judged after the parser
-abbrev pub filter_app : App
+unfoldable pub filter_app : App
 filter_app =
-    with_rule
-    (with_rule
-    (with_rule
-    (with_rule
-    (new_app (codes "filter"))
-    (text_rule (codes "MODE")))
+    and_rule
+    (and_rule
+    (and_rule
+    (text_app (codes "filter") (codes "MODE"))
     (text_rule (codes "ACR")))
     (text_rule (codes "AMR")))
     (text_rule (codes "MESSAGE"))
 
+-- `MESSAGE..`, one to eight messages
+unfoldable pub messages_rule : Rule
+messages_rule =
+    record (text_rule (codes "MESSAGE")) { range = Some (record { start_inclusive = 1; end_inclusive = 8 }) }
+
 -- `arbitrate MESSAGE..`, with one to eight messages
-abbrev pub arbitrate_app : App
-arbitrate_app =
-    with_rule (new_app (codes "arbitrate"))
-    (record (text_rule (codes "MESSAGE")) { range = Some (record { start_inclusive = 1; end_inclusive = 8 }) })
+unfoldable pub arbitrate_app : App
+arbitrate_app = and_rule (bare_app (codes "arbitrate")) messages_rule
 
 -- a command of which one subcommand has to be given, and which has a version: so it takes `--version` and `-V` itself
-abbrev pub empty_app : App
+unfoldable pub empty_app : App
 empty_app =
     let a = new_app (codes "sja") in
     record a { top = record a.top { subcommand_required = true; has_version = true } }
 
 -- the commands over one line: `encode MESSAGE` and `decode LINE`
-abbrev pub line_app : App
+unfoldable pub line_app : App
 line_app =
-    with_subcommand
-    (with_subcommand empty_app (text_app (codes "encode") (codes "MESSAGE")).top)
-    (text_app (codes "decode") (codes "LINE")).top
+    and_app
+    (and_app empty_app (text_app (codes "encode") (codes "MESSAGE")))
+    (text_app (codes "decode") (codes "LINE"))
 
 -- those and the commands over frames: `filter MODE ACR AMR MESSAGE` and `arbitrate MESSAGE..`
-abbrev pub frame_app : App
-frame_app = with_subcommand (with_subcommand line_app filter_app.top) arbitrate_app.top
+unfoldable pub frame_app : App
+frame_app = and_app (and_app line_app filter_app) arbitrate_app
 
 -- those and the command over a message's two forms: `message TEXT`
-abbrev pub notation_app : App
-notation_app = with_subcommand frame_app (text_app (codes "message") (codes "TEXT")).top
+unfoldable pub notation_app : App
+notation_app = and_app frame_app (text_app (codes "message") (codes "TEXT"))
 
 -- a flag of this name, which stands or doesn't
-abbrev pub flag_rule : Text → Rule
+unfoldable pub flag_rule : Text → Rule
 flag_rule name = record (new_rule name) { long = Some name; action = Some SetTrue }
 
 -- a command of this name, with or without `--threads`
-abbrev pub threads_app : Text → App
-threads_app name = with_rule (new_app name) (flag_rule (codes "threads"))
+unfoldable pub threads_app : Text → App
+threads_app name = and_rule (bare_app name) (flag_rule (codes "threads"))
 
 -- `live`, which has no arguments
-abbrev pub live_app : App
-live_app = new_app (codes "live")
+unfoldable pub live_app : App
+live_app = bare_app (codes "live")
 
 -- an option of this name, which takes a number in decimal digits, from the least to the most one
-abbrev pub number_rule : Text → ℕ → ℕ → Rule
+unfoldable pub number_rule : Text → ℕ → ℕ → Rule
 number_rule name least most = record (new_rule name) {
   long = Some name;
   action = Some Set;
@@ -75,96 +100,96 @@ number_rule name least most = record (new_rule name) {
 }
 
 -- `FILE..`, an argument without a flag, which takes any number of texts, or isn't given
-abbrev pub files_rule : Rule
+unfoldable pub files_rule : Rule
 files_rule = record (new_rule (codes "FILE")) {
   action = Some Append;
   range = Some (record { start_inclusive = 1; end_inclusive = usize_max });
 }
 
 -- `FILE`, an argument without a flag, which takes one text, or isn't given
-abbrev pub file_rule : Rule
+unfoldable pub file_rule : Rule
 file_rule = record (new_rule (codes "FILE")) { action = Some Set }
 
 -- `run FILE..`, with or without `--threads` and `--jobs N`
-abbrev pub run_app : App
-run_app = with_rule (with_rule (threads_app (codes "run")) files_rule) (number_rule (codes "jobs") 1 64)
+unfoldable pub run_app : App
+run_app = and_rule (and_rule (threads_app (codes "run")) files_rule) (number_rule (codes "jobs") 1 64)
 
 -- `check FILE..`, with or without `--jobs N`
-abbrev pub check_app : App
-check_app = with_rule (with_rule (new_app (codes "check")) files_rule) (number_rule (codes "jobs") 1 64)
+unfoldable pub check_app : App
+check_app = and_rule (and_rule (bare_app (codes "check")) files_rule) (number_rule (codes "jobs") 1 64)
 
 -- `trace FILE`, with or without `--threads`
-abbrev pub trace_app : App
-trace_app = with_rule (threads_app (codes "trace")) file_rule
+unfoldable pub trace_app : App
+trace_app = and_rule (threads_app (codes "trace")) file_rule
 
 -- an argument without a flag, which may be given and takes the number of a bit in decimal digits
-abbrev pub bit_rule : Text → Rule
+unfoldable pub bit_rule : Text → Rule
 bit_rule id = record (new_rule id) { action = Some Set; parser = Some (Unsigned 0 9999999) }
 
 -- `picture`, with the first and the last bit, or without, and with or without `--svg` and `--threads`
-abbrev pub picture_app : App
+unfoldable pub picture_app : App
 picture_app =
-    with_rule
-    (with_rule
-    (with_rule
-    (with_rule
-    (new_app (codes "picture"))
+    and_rule
+    (and_rule
+    (and_rule
+    (and_rule
+    (bare_app (codes "picture"))
     (bit_rule (codes "FROM")))
     (bit_rule (codes "TO")))
     (flag_rule (codes "svg")))
     (flag_rule (codes "threads"))
 
 -- `candump`, with or without `--errors` and `--threads`
-abbrev pub candump_app : App
+unfoldable pub candump_app : App
 candump_app =
-    with_rule (with_rule (new_app (codes "candump")) (flag_rule (codes "errors"))) (flag_rule (codes "threads"))
+    and_rule (and_rule (bare_app (codes "candump")) (flag_rule (codes "errors"))) (flag_rule (codes "threads"))
 
 -- `--plan K B`, which takes two of them, as many digits as the texts of strikes have
-abbrev pub strike_rule : Rule
+unfoldable pub strike_rule : Rule
 strike_rule = record (number_rule (codes "plan") 0 9999999) { value_names = 2 }
 
 -- `sweep`, with the node, the bits and the pairs of bits that are struck
-abbrev pub struck_app : App
+unfoldable pub struck_app : App
 struck_app =
-    with_rule
-    (with_rule
-    (with_rule
-    (with_rule
-    (new_app (codes "sweep"))
+    and_rule
+    (and_rule
+    (and_rule
+    (and_rule
+    (bare_app (codes "sweep"))
     (number_rule (codes "only") 0 7))
     (number_rule (codes "from") 0 9999999))
     (number_rule (codes "to") 0 9999999))
     (number_rule (codes "pairs") 0 9999999)
 
 -- with what is told of them, and whether so many are meant
-abbrev pub told_app : App
+unfoldable pub told_app : App
 told_app =
-    with_rule
-    (with_rule
-    (with_rule
+    and_rule
+    (and_rule
+    (and_rule
     struck_app
     (flag_rule (codes "changed")))
     (flag_rule (codes "rows")))
     (flag_rule (codes "yes"))
 
 -- with the number of threads, and `--plan K B`
-abbrev pub sweep_app : App
-sweep_app = with_rule (with_rule told_app (number_rule (codes "jobs") 1 64)) strike_rule
+unfoldable pub sweep_app : App
+sweep_app = and_rule (and_rule told_app (number_rule (codes "jobs") 1 64)) strike_rule
 
 -- those and the commands over the run of a plan: `run` and `wave`
-abbrev pub plan_app : App
+unfoldable pub plan_app : App
 plan_app =
-    with_subcommand (with_subcommand notation_app run_app.top) (threads_app (codes "wave")).top
+    and_app (and_app notation_app run_app) (threads_app (codes "wave"))
 
 -- those and the commands over what happened in it: `trace` and `frames`
-abbrev pub story_app : App
+unfoldable pub story_app : App
 story_app =
-    with_subcommand (with_subcommand plan_app trace_app.top) (threads_app (codes "frames")).top
+    and_app (and_app plan_app trace_app) (threads_app (codes "frames"))
 
 -- those and the commands that draw it and list what was received: `picture` and `candump`
-abbrev pub view_app : App
-view_app = with_subcommand (with_subcommand story_app picture_app.top) candump_app.top
+unfoldable pub view_app : App
+view_app = and_app (and_app story_app picture_app) candump_app
 
 -- the whole: those, `check`, `sweep` and `live`
-abbrev pub sja_app : App
-sja_app = with_subcommand (with_subcommand (with_subcommand view_app check_app.top) sweep_app.top) live_app.top
+unfoldable pub sja_app : App
+sja_app = and_app (and_app (and_app view_app check_app) sweep_app) live_app

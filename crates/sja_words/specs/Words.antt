@@ -1,12 +1,16 @@
 -- What words ask for (this project's own rule).
 use Rattle.std.specs.Prelude.{◌≡◌, ◌==◌, ◌&&◌, ◌∷◌}
 use Rattle.std.specs.Prelude.{ℕ, Bool, true, false, List, [], length, map, Option, Some, None, codes, option_map}
+use Rattle.std.specs.Prelude.{Result, Ok, Err}
 use Rattle.std.specs.Prelude.{if◌then◌else◌, nat_lt, nat_le, not, is_some, option_and_then, slice_get}
 use Rattle.std.specs.List.{list_any}
 use Rattle.std.specs.Str.{bytes_eq}
 use Rattle.std.specs.Str.Parse.{digits_value, without_leading_plus}
 use Rattle.clap.specs.ValueTests.{is_unsigned_in}
-use Rattle.clap.specs.Words.{Kinds, Row, Text, all_of, fault_of, first_of, subcommand_of}
+use Rattle.clap.specs.Words.{Kinds, Row, Text, all_of, fault_of, first_of, kind_of, subcommand_of, subcommand_rows_of}
+use Rattle.clap.specs.declared.error.Error.{Error}
+use Rattle.clap.specs.declared.error.kind.ErrorKind.TheVariants.{OutOfMemory}
+use Rattle.clap.specs.declared.parser.matches.ArgMatches.{ArgMatches}
 use Rattle.sja_words.specs.declared.task.Task.{Task}
 use Rattle.sja_words.specs.declared.task.Task.TheVariants.{Encode, Decode, Filter, Arbitrate, Message, Run, Wave}
 use Rattle.sja_words.specs.declared.task.Task.TheVariants.{Trace, Frames, Picture, Candump, Check, Sweep, StruckPlan}
@@ -272,3 +276,9 @@ asked words = request_in (subcommand_of sja_app words)
 pub record ParsesAs (words : List Text) (r : Request) : Type 0 where
   pub taken : faults words ≡ []
   pub asks : asked words ≡ Some r
+
+-- the parser's answer to these words: matches where it takes them, with what they ask for; an error where it refuses
+-- them, or where memory was refused
+unfoldable pub IsAnswer : List Text → Result ArgMatches Error → Type 0
+IsAnswer words (Ok matches) = (faults words ≡ []) × (request_in (subcommand_rows_of matches) ≡ asked words)
+IsAnswer words (Err error) = faults words ≡ [] → kind_of error ≡ OutOfMemory

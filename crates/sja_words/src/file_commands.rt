@@ -1,11 +1,11 @@
 //! The commands over plans that stand in files, or on the input, as the parser holds them: `run`, `check` and `trace`.
 
-ghost use Rattle.std.specs.Prelude.{◌≡◌, IfOk, codes, false};
-ghost use Rattle.clap.specs.Words.{app_of, rule_of};
-ghost use Rattle.clap.specs.declared.builder.command.Command.TheViews.{out-Command};
-ghost use Rattle.sja_words.specs.CommandLine.{check_app, file_rule, files_rule, number_rule, run_app, trace_app};
+ghost use Rattle.std.specs.Prelude.{codes};
+ghost use Rattle.sja_words.specs.CommandLine.{IsHeldAs, IsReadAs, check_app, file_rule, files_rule, number_rule};
+ghost use Rattle.sja_words.specs.CommandLine.{run_app, trace_app};
 
 use super::command::threads_command;
+use super::described::{bare_argument, bare_command, with_argument};
 use super::help::{CHECK_ABOUT, FILE_HELP, FILES_HELP, FILES_JOBS_HELP, RUN_ABOUT, TRACE_ABOUT};
 use super::sweep_command::number;
 use super::sweep_words::MOST_JOBS;
@@ -13,59 +13,52 @@ use clap::{Arg, ArgAction, Command};
 use std::alloc::{AllocError, Global};
 
 /// `FILE..`: any number of names, or none.
+#[tactic(auto, unfolding(crate::specs::CommandLine::files_rule, crate::specs::CommandLine::IsReadAs))]
 fn files<'a>(alloc: Global) -> Arg<'a>
-    ensures rule { rule_of result ≡ files_rule }
-    ensures local { result.global ≡ false }
+    ensures { IsReadAs result files_rule }
 {
-    Arg::new(alloc, "FILE")
+    bare_argument(alloc, "FILE", FILES_HELP)
         .action(ArgAction::Append)
         .num_args(1..)
-        .help(FILES_HELP)
 }
 
 /// `FILE`: one name, or none.
+#[tactic(auto, unfolding(crate::specs::CommandLine::file_rule, crate::specs::CommandLine::IsReadAs))]
 fn file<'a>(alloc: Global) -> Arg<'a>
-    ensures rule { rule_of result ≡ file_rule }
-    ensures local { result.global ≡ false }
+    ensures { IsReadAs result file_rule }
 {
-    Arg::new(alloc, "FILE")
-        .action(ArgAction::Set)
-        .help(FILE_HELP)
+    bare_argument(alloc, "FILE", FILE_HELP).action(ArgAction::Set)
 }
 
 /// `--jobs N`.
 fn jobs<'a>(alloc: Global) -> Arg<'a>
-    ensures rule { rule_of result ≡ number_rule (codes "jobs") 1 64 }
-    ensures local { result.global ≡ false }
+    ensures { IsReadAs result (number_rule (codes "jobs") 1 64) }
 {
     number(alloc, "jobs", "N", 1, MOST_JOBS, FILES_JOBS_HELP)
 }
 
 /// `run FILE..`, with or without `--threads` and `--jobs N`.
+#[tactic(auto, unfolding(crate::specs::CommandLine::run_app))]
 pub(crate) fn run_command<'a>(alloc: Global) -> Result<Command<'a>, AllocError>
-    ensures app { IfOk result (λ command. app_of command ≡ run_app) }
-    ensures local { IfOk result (λ command. (out-Command command).has_globals ≡ false) }
+    ensures { IsHeldAs result run_app }
 {
-    threads_command(alloc, "run", RUN_ABOUT)?
-        .arg(files(alloc))?
-        .arg(jobs(alloc))
+    let command = threads_command(alloc, "run", RUN_ABOUT);
+    with_argument(with_argument(command, files(alloc)), jobs(alloc))
 }
 
 /// `check FILE..`, with or without `--jobs N`.
+#[tactic(auto, unfolding(crate::specs::CommandLine::check_app))]
 pub(crate) fn check_command<'a>(alloc: Global) -> Result<Command<'a>, AllocError>
-    ensures app { IfOk result (λ command. app_of command ≡ check_app) }
-    ensures local { IfOk result (λ command. (out-Command command).has_globals ≡ false) }
+    ensures { IsHeldAs result check_app }
 {
-    Command::new(alloc, "check")
-        .about(CHECK_ABOUT)
-        .arg(files(alloc))?
-        .arg(jobs(alloc))
+    let command = bare_command(alloc, "check", CHECK_ABOUT);
+    with_argument(with_argument(command, files(alloc)), jobs(alloc))
 }
 
 /// `trace FILE`, with or without `--threads`.
+#[tactic(auto, unfolding(crate::specs::CommandLine::trace_app))]
 pub(crate) fn trace_command<'a>(alloc: Global) -> Result<Command<'a>, AllocError>
-    ensures app { IfOk result (λ command. app_of command ≡ trace_app) }
-    ensures local { IfOk result (λ command. (out-Command command).has_globals ≡ false) }
+    ensures { IsHeldAs result trace_app }
 {
-    threads_command(alloc, "trace", TRACE_ABOUT)?.arg(file(alloc))
+    with_argument(threads_command(alloc, "trace", TRACE_ABOUT), file(alloc))
 }

@@ -7,6 +7,7 @@
 #![tactic(auto)]
 
 mod command;
+mod described;
 mod file_commands;
 mod file_words;
 mod files_found;

@@ -1,15 +1,17 @@
 //! [`parse`]: the words of a command line as a task.
 
-ghost use Rattle.std.specs.Prelude.{◌≡◌, map, IfOk, IfErr};
-ghost use Rattle.sja_words.specs.Words.{Request, ParsesAs, request_of};
+ghost use Rattle.std.specs.Prelude.{◌≡◌, map, IfOk, IfErr, Some};
+ghost use Rattle.clap.specs.Words.{kind_of, subcommand_rows_of};
+ghost use Rattle.clap.specs.declared.error.kind.ErrorKind.TheVariants as kind;
+ghost use Rattle.sja_words.specs.Words.{IsAnswer, ParsesAs, Request, request_in, request_of};
 
 use super::command::{filter_command, sja_command};
 use super::found::task_of;
 use super::sweep_command::sweep_command;
 use super::task::Task;
 use super::words_fault::WordsFault;
-use clap::ArgMatches;
-use clap::error::ErrorKind;
+use clap::error::{Error, ErrorKind};
+use clap::{ArgMatches, Command};
 use std::alloc::{AllocError, Global};
 use std::convert::AsStr;
 
@@ -22,21 +24,54 @@ pub fn parse<'a, S: AsStr>(alloc: Global, words: &'a [S]) -> Result<Task<'a>, Wo
     ensures refused { (r : Request) → ParsesAs (map S.text words.entry.now) r
         → IfErr result (λ fault. fault ≡ WordsFault.OutOfMemory) }
 {
+    match answer_to(alloc, words)? {
+        Ok(matches) => task_in(alloc, shown_name(words), &matches),
+        Err(error) => Err(fault_in(alloc, &error)),
+    }
+}
+
+/// What the parser answers to these words.
+fn answer_to<'a, S: AsStr>(
+    alloc: Global,
+    words: &'a [S],
+) -> Result<Result<ArgMatches<'a>, Error>, AllocError>
+    ensures { IfOk result (λ answer. IsAnswer (map S.text words.entry.now) answer) }
+{
     let mut command = sja_command(alloc)?;
-    match command.try_get_matches_from_mut(words) {
-        Ok(matches) => {
-            let found = task_of(alloc, &matches)?;
-            match found {
-                Some(task) => Ok(task),
-                None => Err(WordsFault::Unparsed(refused_text(
-                    alloc,
-                    shown_name(words),
-                    &matches,
-                )?)),
-            }
-        }
-        Err(error) if error.kind() == ErrorKind::OutOfMemory => Err(WordsFault::OutOfMemory),
-        Err(error) => Err(WordsFault::Unparsed(error.to_string(alloc)?)),
+    Ok(command.try_get_matches_from_mut(words))
+}
+
+/// The task of words that the parser took, under the program's name `program`.
+fn task_in<'a>(
+    alloc: Global,
+    program: &str,
+    matches: &ArgMatches<'a>,
+) -> Result<Task<'a>, WordsFault>
+    ensures ok { IfOk result (λ task. request_in (subcommand_rows_of matches.now) ≡ Some (request_of task)) }
+    ensures refused { (r : Request) → request_in (subcommand_rows_of matches.now) ≡ Some r
+        → IfErr result (λ fault. fault ≡ WordsFault.OutOfMemory) }
+{
+    match task_of(alloc, matches)? {
+        Some(task) => Ok(task),
+        None => Err(unparsed(refused_text(alloc, program, matches))),
+    }
+}
+
+/// Why the parser refused words: with its own text, where memory wasn't refused.
+fn fault_in(alloc: Global, error: &Error) -> WordsFault
+    ensures { kind_of error.now ≡ kind.OutOfMemory → result ≡ WordsFault.OutOfMemory }
+{
+    match error.kind() {
+        ErrorKind::OutOfMemory => WordsFault::OutOfMemory,
+        _ => unparsed(error.to_string(alloc)),
+    }
+}
+
+/// That words give no task, with this text, where memory wasn't refused.
+fn unparsed(text: Result<String, AllocError>) -> WordsFault {
+    match text {
+        Ok(text) => WordsFault::Unparsed(text),
+        Err(_) => WordsFault::OutOfMemory,
     }
 }
 
@@ -56,23 +91,47 @@ fn refused_text<'a>(
 /// `sweep`.
 fn plan_text(alloc: Global, program: &str) -> Result<String, AllocError> {
     let name = format!(in alloc; "{program} sweep")?;
-    let mut command = sweep_command(alloc)?.bin_name(name.as_str())?;
-    let error = command.error(
+    let said = "'--plan <K> <B>' can't be used with another option";
+    text_of(
+        alloc,
+        sweep_command(alloc)?,
+        name.as_str(),
         ErrorKind::ArgumentConflict,
-        "'--plan <K> <B>' can't be used with another option",
-    )?;
-    error.to_string(alloc)
+        said,
+    )
 }
 
 /// What the parser would say, under the program's name `program`, of a MODE that is none: with the usage of `filter`.
 fn mode_text(alloc: Global, program: &str) -> Result<String, AllocError> {
     let name = format!(in alloc; "{program} filter")?;
-    let mut command = filter_command(alloc)?.bin_name(name.as_str())?;
-    let error = command.error(
+    let said = "MODE is neither 'single' nor 'dual'";
+    text_of(
+        alloc,
+        filter_command(alloc)?,
+        name.as_str(),
         ErrorKind::InvalidValue,
-        "MODE is neither 'single' nor 'dual'",
-    )?;
-    error.to_string(alloc)
+        said,
+    )
+}
+
+/// The text of such an error of a command that goes by this name.
+fn text_of<'a>(
+    alloc: Global,
+    command: Command<'a>,
+    name: &str,
+    kind: ErrorKind,
+    said: &str,
+) -> Result<String, AllocError> {
+    error_of(command.bin_name(name)?, kind, said)?.to_string(alloc)
+}
+
+/// The error, with the usage of the command.
+fn error_of<'a>(
+    mut command: Command<'a>,
+    kind: ErrorKind,
+    said: &str,
+) -> Result<Error, AllocError> {
+    command.error(kind, said)
 }
 
 /// The program's name as the parser shows it: what stands behind the last slash of the first word, or `sja` where
@@ -81,10 +140,14 @@ fn shown_name<S: AsStr>(words: &[S]) -> &str {
     let Some(first) = words.first() else {
         return "sja";
     };
-    let first = first.as_str();
-    let name = match first.rsplit_once('/') {
-        Some((_, behind)) => behind,
-        None => first,
-    };
+    let name = behind_slash(first.as_str());
     if name.is_empty() { "sja" } else { name }
+}
+
+/// What stands behind the last slash of a word.
+fn behind_slash(word: &str) -> &str {
+    match word.rsplit_once('/') {
+        Some((_, behind)) => behind,
+        None => word,
+    }
 }

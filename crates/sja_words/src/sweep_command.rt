@@ -1,11 +1,10 @@
 //! The command `sweep` as the parser holds it.
 
-ghost use Rattle.std.specs.Prelude.{◌≡◌, IfOk, false};
-ghost use Rattle.clap.specs.Words.{app_of, rule_of};
-ghost use Rattle.clap.specs.declared.builder.command.Command.TheViews.{out-Command};
-ghost use Rattle.sja_words.specs.CommandLine.{number_rule, strike_rule, struck_app, sweep_app, told_app};
+ghost use Rattle.sja_words.specs.CommandLine.{IsHeldAs, IsReadAs, number_rule, strike_rule, struck_app, sweep_app};
+ghost use Rattle.sja_words.specs.CommandLine.{told_app};
 
 use super::command::flag;
+use super::described::{bare_argument, bare_command, with_argument};
 use super::help::{
     CHANGED_HELP, FROM_HELP, JOBS_HELP, ONLY_HELP, PAIRS_HELP, PLAN_HELP, ROWS_HELP, TO_HELP,
     YES_HELP,
@@ -19,6 +18,7 @@ use std::alloc::{AllocError, Global};
 const STRIKE_NAMES: &[&str] = &["K", "B"];
 
 /// An option of this name, which takes a number from the least to the most one, with the line of help behind it.
+#[tactic(auto, unfolding(crate::specs::CommandLine::number_rule, crate::specs::CommandLine::IsReadAs))]
 pub(crate) fn number<'a>(
     alloc: Global,
     name: &'a str,
@@ -27,55 +27,59 @@ pub(crate) fn number<'a>(
     most: u32,
     help: &'a str,
 ) -> Arg<'a>
-    ensures rule { rule_of result ≡ number_rule name.entry.now least most }
-    ensures local { result.global ≡ false }
+    ensures { IsReadAs result (number_rule name.entry.now least most) }
 {
-    Arg::new(alloc, name)
+    bare_argument(alloc, name, help)
         .long(name)
         .action(ArgAction::Set)
         .value_name(shown)
         .value_parser(ValueParser::unsigned(u64::from(least), u64::from(most)))
-        .help(help)
+}
+
+/// An option of this name, which takes a number of at most seven digits, with the line of help behind it.
+fn long_number<'a>(alloc: Global, name: &'a str, shown: &'a str, help: &'a str) -> Arg<'a>
+    ensures { IsReadAs result (number_rule name.entry.now 0 9999999) }
+{
+    number(alloc, name, shown, 0, GREATEST_NUMBER, help)
 }
 
 /// `--plan K B`.
+#[tactic(auto, unfolding(crate::specs::CommandLine::strike_rule, crate::specs::CommandLine::IsReadAs))]
 fn strike<'a>(alloc: Global) -> Arg<'a>
-    ensures rule { rule_of result ≡ strike_rule }
-    ensures local { result.global ≡ false }
+    ensures { IsReadAs result strike_rule }
 {
     number(alloc, "plan", "K", 0, GREATEST_NUMBER, PLAN_HELP).value_names(STRIKE_NAMES)
 }
 
 /// `sweep`, with the node, the bits and the pairs of bits that are struck.
+#[tactic(auto, unfolding(crate::specs::CommandLine::struck_app))]
 fn struck_command<'a>(alloc: Global) -> Result<Command<'a>, AllocError>
-    ensures app { IfOk result (λ command. app_of command ≡ struck_app) }
-    ensures local { IfOk result (λ command. (out-Command command).has_globals ≡ false) }
+    ensures { IsHeldAs result struck_app }
 {
-    Command::new(alloc, "sweep")
-        .about("Print what each single bit error does to the run of the plan on standard input")
-        .arg(number(alloc, "only", "K", 0, LAST_NODE, ONLY_HELP))?
-        .arg(number(alloc, "from", "B", 0, GREATEST_NUMBER, FROM_HELP))?
-        .arg(number(alloc, "to", "B", 0, GREATEST_NUMBER, TO_HELP))?
-        .arg(number(alloc, "pairs", "D", 0, GREATEST_NUMBER, PAIRS_HELP))
+    let about = "Print what each single bit error does to the run of the plan on standard input";
+    let command = bare_command(alloc, "sweep", about);
+    let command = with_argument(command, number(alloc, "only", "K", 0, LAST_NODE, ONLY_HELP));
+    let command = with_argument(command, long_number(alloc, "from", "B", FROM_HELP));
+    let command = with_argument(command, long_number(alloc, "to", "B", TO_HELP));
+    with_argument(command, long_number(alloc, "pairs", "D", PAIRS_HELP))
 }
 
 /// With what is told of them, and whether so many are meant.
+#[tactic(auto, unfolding(crate::specs::CommandLine::told_app))]
 fn told_command<'a>(alloc: Global) -> Result<Command<'a>, AllocError>
-    ensures app { IfOk result (λ command. app_of command ≡ told_app) }
-    ensures local { IfOk result (λ command. (out-Command command).has_globals ≡ false) }
+    ensures { IsHeldAs result told_app }
 {
-    struck_command(alloc)?
-        .arg(flag(alloc, "changed", CHANGED_HELP))?
-        .arg(flag(alloc, "rows", ROWS_HELP))?
-        .arg(flag(alloc, "yes", YES_HELP))
+    let command = with_argument(struck_command(alloc), flag(alloc, "changed", CHANGED_HELP));
+    let command = with_argument(command, flag(alloc, "rows", ROWS_HELP));
+    with_argument(command, flag(alloc, "yes", YES_HELP))
 }
 
 /// With the number of threads, and `--plan K B`.
+#[tactic(auto, unfolding(crate::specs::CommandLine::sweep_app))]
 pub(crate) fn sweep_command<'a>(alloc: Global) -> Result<Command<'a>, AllocError>
-    ensures app { IfOk result (λ command. app_of command ≡ sweep_app) }
-    ensures local { IfOk result (λ command. (out-Command command).has_globals ≡ false) }
+    ensures { IsHeldAs result sweep_app }
 {
-    told_command(alloc)?
-        .arg(number(alloc, "jobs", "N", 1, MOST_JOBS, JOBS_HELP))?
-        .arg(strike(alloc))
+    let command = told_command(alloc);
+    let command = with_argument(command, number(alloc, "jobs", "N", 1, MOST_JOBS, JOBS_HELP));
+    with_argument(command, strike(alloc))
 }

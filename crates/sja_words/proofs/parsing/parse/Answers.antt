@@ -1,31 +1,19 @@
-use Rattle.std.proofs.Common.{◌≡◌, map, true, false, Some, None, sym, ap, ◌∙◌}
-use Rattle.std.specs.Prelude.{option_map}
-use Rattle.clap.specs.declared.error.kind.ErrorKind.TheVariants as kind
-use Rattle.sja_words.specs.Words.{request_of}
-use Rattle.sja_words.proofs.Parses.{asked_at, taken_at, refused_at}
+use Rattle.std.proofs.Common.{map}
+use Rattle.std.proofs.lemmas.Result.{IfOk-weaker}
+use Rattle.sja_words.proofs.Parses.{asked_request, refused_request, taken_request}
 use Rattle.sja_words.proofs.parsing.parse.Goals as goal
 
-pub returns-in-Some-clause-ok : goal.returns-in-Some-clause-ok
-returns-in-Some-clause-ok g c =
-    let words = map g.S.AsStr.text c.args.words.now in
-    let made = c.in_ok-command.ensures in
-    let asked = asked_at _ words c.in-Ok.matches made c.in-Ok.ensures.ok.2 in record {
-      taken = taken_at _ words c.in-Ok.matches made c.in-Ok.ensures.kinds;
-      asks = sym asked ∙ sym c.in_ok-found-in-Ok.ensures ∙ ap (option_map request_of) c.in-Some.is;
-    }
+pub returns-in-Ok-clause-ok : goal.returns-in-Ok-clause-ok
+returns-in-Ok-clause-ok g c =
+    IfOk-weaker _ _ _ (λ task found. taken_request (map g.S.AsStr.text c.args.words.now) c.in_ok-matches.field-0
+    c.in-Ok.matches _ c.in-Ok.is c.in_ok-matches.ensures found) c.task_in.ensures.ok
 
 pub returns-in-Ok-clause-refused : goal.returns-in-Ok-clause-refused
-returns-in-Ok-clause-refused g c = λ r parses.
-    let asked =
-    asked_at _ (map g.S.AsStr.text c.args.words.now) c.in-Ok.matches c.in_ok-command.ensures c.in-Ok.ensures.ok.2 in
-    let nothing = ap (option_map request_of) c.in-None.is in
-    let bad : None ≡ Some r = sym nothing ∙ c.in_ok-found-in-Ok.ensures ∙ asked ∙ parses.asks in
-    cc
+returns-in-Ok-clause-refused g c = λ r parses. c.task_in.ensures.refused r
+    (asked_request (map g.S.AsStr.text c.args.words.now) c.in_ok-matches.field-0 c.in-Ok.matches r c.in-Ok.is
+    c.in_ok-matches.ensures parses)
 
-pub returns-clause-refused : goal.returns-clause-refused
-returns-clause-refused g c = λ r parses.
-    let memory = refused_at _ (map g.S.AsStr.text c.args.words.now) c.in-Err.error c.in_ok-command.ensures
-    c.in-Err.ensures.kinds parses.taken in
-    let is : c.kind.result ≡ kind.OutOfMemory = c.kind.ensures ∙ memory in
-    let bad : true ≡ false = sym (rw is at c.eq.ensures) ∙ c.if-eq.false in
-    cc
+pub returns-in-Err-clause-refused : goal.returns-in-Err-clause-refused
+returns-in-Err-clause-refused g c = λ r parses. c.fault_in.ensures
+    (refused_request (map g.S.AsStr.text c.args.words.now) c.in_ok-matches.field-0 c.in-Err.error r c.in-Err.is
+    c.in_ok-matches.ensures parses)
